@@ -1,0 +1,98 @@
+//! LEB128 numbers at the front of bytes, by DWARF 5, section 7.6.
+ghost use Rattle.std.specs.Prelude.{◌≡◌, ◌<◌, ◌≤◌, ◌-◌, ◌^◌, ◌-ℤ◌, pos, IfSome, Some, None, if◌then◌else◌, nat_le, length, position};
+ghost use Rattle.std.specs.Option.{option_copied};
+ghost use Rattle.prof_bytes.specs.Leb.{is_last, leb_group, seven_bits, unsigned_of, signed_of, uleb_at, sleb_at, span};
+
+/// The most bytes that a number may have.
+const MOST_BYTES: usize = 10;
+
+fn last_place(bytes: &[u8]) -> Option<usize>
+    ensures place { result ≡ position is_last bytes.now }
+    ensures within { IfSome result (λ place. place < length bytes.now) }
+{
+    bytes.iter().position(|byte| *byte < 128)
+}
+
+fn group_front(bytes: &[u8]) -> Option<&[u8]>
+    ensures { option_copied result ≡ leb_group bytes.now }
+{
+    match last_place(bytes) {
+        Some(end) => Some(&bytes[..end + 1]),
+        None => None,
+    }
+}
+
+#[tactic(auto, using(crate::proofs::Spans::span_small))]
+fn seven_bits_of(group: &[u8]) -> u128
+    requires { length group.now ≤ 10 }
+    ensures value { result ≡ seven_bits group.now }
+    ensures bound { result < span group.now }
+{
+    match group {
+        [] => 0,
+        [byte, rest @ ..] => u128::from(*byte % 128) + 128 * seven_bits_of(rest),
+    }
+}
+
+fn unsigned(group: &[u8]) -> Option<(u64, usize)>
+    ensures { result ≡ unsigned_of group.now }
+{
+    if group.len() > MOST_BYTES {
+        return None;
+    }
+    let value = seven_bits_of(group);
+    if value >= 1 << 64 {
+        return None;
+    }
+    Some((value as u64, group.len()))
+}
+
+pub(crate) fn uleb_front(bytes: &[u8]) -> Option<(u64, usize)>
+    ensures { result ≡ uleb_at bytes.now }
+{
+    unsigned(group_front(bytes)?)
+}
+
+/// One more than the largest number that the bytes of the group hold.
+fn span_of(group: &[u8]) -> u128
+    requires { length group.now ≤ 10 }
+    ensures value { result ≡ span group.now }
+    ensures bound { result ≤ 2 ^ 70 }
+{
+    1 << (7 * group.len())
+}
+
+/// `value - span`, where that is negative and fits.
+fn below_zero(value: u128, span: u128) -> Option<i64>
+    requires { value < span }
+    ensures { result ≡ (if nat_le (span - value) (2 ^ 63) then Some (pos value -ℤ pos span) else None) }
+{
+    let magnitude = span - value;
+    if magnitude > 1 << 63 {
+        return None;
+    }
+    Some(-((magnitude - 1) as i64) - 1)
+}
+
+fn signed(group: &[u8]) -> Option<(i64, usize)>
+    ensures { result ≡ signed_of group.now }
+{
+    if group.len() > MOST_BYTES {
+        return None;
+    }
+    let value = seven_bits_of(group);
+    let span = span_of(group);
+    if 2 * value >= span {
+        return Some((below_zero(value, span)?, group.len()));
+    }
+    if value >= 1 << 63 {
+        return None;
+    }
+    Some((value as i64, group.len()))
+}
+
+pub(crate) fn sleb_front(bytes: &[u8]) -> Option<(i64, usize)>
+    ensures { result ≡ sleb_at bytes.now }
+{
+    signed(group_front(bytes)?)
+}

@@ -1,0 +1,21 @@
+//! Bytes: owned texts, numbers written as bytes, and a cursor that reads numbers back.
+//!
+//! It promises that each read gives exactly the number that the bytes spell, or nothing where the
+//! bytes run out, and that what was read gives the same bytes when it is written again. Numbers are
+//! little endian; LEB128 is that of DWARF 5, section 7.6. Below stands `byteorder` alone.
+#![tactic(auto)]
+
+mod cursor;
+mod fail;
+mod front;
+mod leb;
+mod number;
+mod text;
+
+pub use cursor::Cursor;
+pub use fail::{Fail, Memory};
+pub use number::{put_u32, put_u64};
+pub use text::Text;
+
+#[cfg(test)]
+mod tests;
