@@ -18,3 +18,6 @@ pub mod CalledRows
 pub mod Pieces
 pub mod NamesAgain
 pub mod ContextColumns
+pub mod NamesUsed
+pub mod Numbers
+pub mod PlaneSteps

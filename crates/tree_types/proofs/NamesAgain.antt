@@ -32,19 +32,19 @@ use Rattle.tree_types.proofs.Sorting.{has, has_itself, has_ascending, equal_from
 use Rattle.tree_types.proofs.Prefixes.{list_any-flat_map}
 use Rattle.tree_types.proofs.PathsAgain.{paths_alike, content_alike, table_alike}
 
-proc_order_total : IsTotalOrder proc_order
+pub proc_order_total : IsTotalOrder proc_order
 proc_order_total = on_total proc_words nat_list_cmp_total
 
 proc_same : (p q : ProcId) → Proc p ≡ Proc q → p ≡ q
 proc_same p q e = cc
 
-proc_order_tells : IsAntisymmetric proc_order
+pub proc_order_tells : IsAntisymmetric proc_order
 proc_order_tells p q e = proc_same p q (scope_order_tells (Proc p) (Proc q) e)
 
 abbrev file_words : FileId → List ℕ
 file_words f = f.0 ∷ f.1 ∷ []
 
-file_order_total : IsTotalOrder file_order
+pub file_order_total : IsTotalOrder file_order
 file_order_total = on_total file_words nat_list_cmp_total
 
 first_same : (a b c d : ℕ) → (a ∷ b ∷ []) ≡ (c ∷ d ∷ []) → a ≡ c
@@ -53,7 +53,7 @@ first_same a b c d e = cc
 second_same : (a b c d : ℕ) → (a ∷ b ∷ []) ≡ (c ∷ d ∷ []) → b ≡ d
 second_same a b c d e = cc
 
-file_order_tells : IsAntisymmetric file_order
+pub file_order_tells : IsAntisymmetric file_order
 file_order_tells f g e =
     let k : file_words f ≡ file_words g = slice_cmp-IsAntisymmetric nat_cmp-IsAntisymmetric (file_words f) (file_words g) e in
     λ i. (first_same f.0 f.1 g.0 g.1 k i, second_same f.0 f.1 g.0 g.1 k i)

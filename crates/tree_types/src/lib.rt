@@ -7,12 +7,15 @@
 //! and `prof_bytes`.
 #![tactic(auto)]
 
+mod build;
 mod content;
 mod laws;
+mod named;
 mod plain;
 mod planes;
 mod values;
 
+pub use build::content_of_paths;
 pub use content::{
     Content, ContextEntry, FileName, Kind, NO_PARENT, Names, Node, ProcName, ProfileEntry,
 };
@@ -20,6 +23,7 @@ pub use laws::{
     content_holds_its_paths, counts_decide, nodes_are_prefixes, order_does_not_matter,
     parents_stand_before, pieces_keep_the_paths, values_add_up,
 };
-pub use plain::{nodes_of, rest_after, value_of};
+pub use named::{files_of, procs_of};
+pub use plain::{node_list_of, nodes_of, rest_after, value_of};
 pub use planes::{ContextPlane, ProfilePlane};
 pub use values::{column_of, context_column_of};

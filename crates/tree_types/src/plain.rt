@@ -1,15 +1,16 @@
 //! Nodes and values by plain search: each answer walks the whole list of paths. Slow on purpose: it is
 //! what the definitions say, and what a faster form is compared with.
-ghost use Rattle.std.specs.Prelude.{◌≡◌, ℕ, ◌+◌, ◌*◌, ◌<◌, ◌≤◌, ◌^◌, ◌==◌, ◌&&◌, List, length, fold, insert, IfOk, IfNone, IfSome, OnOk, option_map, take, count_by};
+ghost use Rattle.std.specs.Prelude.{◌≡◌, ℕ, ◌+◌, ◌*◌, ◌<◌, ◌≤◌, ◌^◌, ◌==◌, ◌&&◌, List, length, fold, insert, IfOk, IfNone, IfSome, OnOk, option_map, map, take, count_by, position};
+ghost use Rattle.std.specs.Ordering.{is_eq};
 ghost use Rattle.scope_types.specs.Order.{path_order};
 ghost use Rattle.tree_types.specs.Ascending.{put, put_all};
 ghost use Rattle.tree_types.specs.Paths.{after, is_proc, prefixes, rest_passes};
-ghost use Rattle.tree_types.specs.Nodes.{nodes};
+ghost use Rattle.tree_types.specs.Nodes.{nodes, no_parent, number_of, own_scope, parent_number};
 ghost use Rattle.tree_types.specs.Values.{counts_for, count_below, value, within_frame};
 
-use crate::content::Kind;
+use crate::content::{Kind, NO_PARENT, Node};
 use prof_bytes::Listed;
-use scope_types::{HartPath, Scope, ScopePath, compare, compare_paths};
+use scope_types::{HartPath, RootKind, Scope, ScopePath, compare, compare_paths};
 use std::alloc::{AllocError, Global};
 use std::cmp::Ordering;
 
@@ -145,4 +146,57 @@ pub fn nodes_of(alloc: Global, paths: &[HartPath]) -> Result<Listed<ScopePath>, 
         put_prefixes(alloc, &mut found, p.path.scopes())?;
     }
     Ok(Listed::of(found))
+}
+
+/// The last scope of a node's path, which is the node's own.
+pub(crate) fn own_scope_of(n: &[Scope]) -> Scope
+    ensures { result ≡ own_scope n.now }
+{
+    match n {
+        [] => Scope::Root(RootKind::Thread),
+        [scope] => *scope,
+        [_, rest @ ..] => own_scope_of(rest),
+    }
+}
+
+fn place_in(tree: &[ScopePath], n: &[Scope]) -> Option<usize>
+    ensures place { result ≡ position (λ m. is_eq (path_order n.now m)) tree.now }
+    ensures within { IfSome result (λ place. place < length tree.now) }
+{
+    tree.iter()
+        .position(|m| compare_paths(n, m.scopes()).is_eq())
+}
+
+/// The number of a node, which is its place in the tree.
+#[tactic(auto, using(crate::proofs::Numbers::place_is_number), unfolding(crate::specs::Nodes::number_of))]
+fn number_in(tree: &[ScopePath], n: &[Scope]) -> usize
+    ensures number { result ≡ number_of tree.now n.now }
+    ensures within { result ≤ length tree.now }
+{
+    place_in(tree, n).unwrap_or(tree.len())
+}
+
+fn parent_of(tree: &[ScopePath], n: &[Scope]) -> u32
+    requires { length tree.now ≤ no_parent }
+    ensures { result ≡ parent_number tree.now n.now }
+{
+    if n.len() == 1 {
+        return NO_PARENT;
+    }
+    number_in(tree, &n[..n.len().saturating_sub(1)]) as u32
+}
+
+/// The nodes, each with its parent's number and its own scope.
+pub fn node_list_of(alloc: Global, tree: &[ScopePath]) -> Result<Listed<Node>, AllocError>
+    requires { length tree.now ≤ no_parent }
+    ensures { IfOk result (λ nodes. nodes ≡ map (λ n. record { parent = parent_number tree.now n; scope = own_scope n }) tree.now) }
+{
+    let mut nodes = Vec::new(alloc);
+    for n in tree {
+        nodes.push(Node {
+            parent: parent_of(tree, n.scopes()),
+            scope: own_scope_of(n.scopes()),
+        })?;
+    }
+    Ok(Listed::of(nodes))
 }
