@@ -11,7 +11,7 @@ use Rattle.elf_image.specs.Image.{Loaded}
 use Rattle.elf_image.specs.Reading.{image_of}
 use Rattle.tree_types.specs.Naming.{Naming}
 use Rattle.tree_types.specs.Database.{content_of}
-use Rattle.tree_types.specs.Spelling.{spelling}
+use Rattle.prof_db.specs.Spelling.{spelling}
 use Rattle.tree_types.specs.TopDown.{top_down}
 use Rattle.hpc_top.specs.declared.status.InputFault.{InputFault}
 use Rattle.hpc_top.specs.declared.status.InputFault.TheVariants.{Program, Unbuilt}

@@ -8,13 +8,13 @@ ghost use Rattle.hpc_top.specs.Made.{view};
 ghost use Rattle.hpc_top.specs.Profile.{nameless, product_from, profile_of, program, program_fault, slice_of, without_last_feed};
 
 use crate::numerals::number;
-use crate::prof_db::write_db;
 use crate::report::{OneHart, report};
 use crate::sample_clock::{Observed, RunEnd, observe};
 use crate::status::{InputFault, Made, Part};
 use crate::view_tables::top_down_table;
 use elf_image::{ElfFault, ElfRule, Image, read_image};
 use prof_bytes::{Fail, Listed, Memory, Text};
+use prof_db::write_db;
 use scope_types::{HartPath, ProcId, ScopePath};
 use std::alloc::Global;
 use std::thread::Threads;
