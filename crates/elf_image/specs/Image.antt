@@ -1,0 +1,71 @@
+-- What a program's file gives to be run and measured.
+use Rattle.std.specs.Prelude.{◌≡◌, ℕ, ◌+◌, ◌-◌, ◌*◌, ◌%◌, ◌^◌, ◌<◌, ◌≤◌, ◌==◌, IsTrue, List, [], length, All, AllPairs, Bool, ◌||◌, ◌&&◌, nat_le, nat_lt, find}
+use Rattle.std.specs.List.{list_any}
+use Rattle.std.specs.Option.{option_map_or}
+use Rattle.elf_image.specs.Fields.{same_bytes}
+use Rattle.elf_image.specs.declared.part.Segment.{Segment}
+use Rattle.elf_image.specs.declared.part.Function.{Function}
+use Rattle.elf_image.specs.declared.part.Section.{Section}
+
+-- a section's name and bytes
+pub record Named : Type 0 where
+  pub name : List ℕ
+  pub bytes : List ℕ
+
+-- a function symbol: where the function begins, how many bytes it has, what it is called
+pub record Called : Type 0 where
+  pub start : ℕ
+  pub size : ℕ
+  pub name : List ℕ
+
+-- a program as it is loaded: the file's bytes, where it begins to run, its segments and sections in file order, and its function symbols in symbol order
+pub record Loaded : Type 0 where
+  pub file : List ℕ
+  pub entry : ℕ
+  pub segments : List Segment
+  pub sections : List Named
+  pub functions : List Called
+
+-- what the code's values show of these
+abbrev pub named : Section → Named
+named s = record { name = s.name.now; bytes = s.bytes.now }
+
+abbrev pub called : Function → Called
+called f = record { start = f.start; size = f.size; name = f.name.now }
+
+-- where the addresses for stacks begin
+abbrev pub stacks_begin : ℕ
+stacks_begin = 0xF0000000
+
+abbrev pub in_segment : ℕ → Segment → Bool
+in_segment address s = nat_le s.start address && nat_lt address s.end
+
+abbrev pub in_function : ℕ → Called → Bool
+in_function address f = nat_le f.start address && nat_lt address (f.start + f.size)
+
+abbrev pub is_executable : Segment → Bool
+is_executable s = s.flags % 2 == 1
+
+-- a range counts where it is not empty and lies within one segment that can be executed
+abbrev pub counts : List Segment → ℕ → ℕ → Bool
+counts segments low high = nat_lt low high && list_any (λ s. is_executable s && nat_le s.start low && nat_le high s.end) segments
+
+-- the bytes of the first section of that name
+abbrev pub bytes_of_name : List Named → List ℕ → List ℕ
+bytes_of_name sections name = option_map_or (λ s. s.bytes) (find (λ s. same_bytes s.name name) sections) []
+
+-- a segment is not empty and lies below the stacks, and the bytes that it takes from the file are there
+pub record IsWithin (file : List ℕ) (s : Segment) : Type 0 where
+  pub some : s.start < s.end
+  pub low : s.end ≤ stacks_begin
+  pub filled : s.filled ≤ s.end - s.start
+  pub there : 0 < s.filled → s.offset + s.filled ≤ length file
+
+-- two segments share no address
+abbrev pub are_apart : Segment → Segment → Bool
+are_apart s t = nat_le s.end t.start || nat_le t.end s.start
+
+pub record IsLoaded (l : Loaded) : Type 0 where
+  pub within : All (IsWithin l.file) l.segments
+  pub apart : AllPairs (λ s t. IsTrue (are_apart s t)) l.segments
+  pub size : length l.file ≤ 2 ^ 26

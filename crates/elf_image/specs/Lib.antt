@@ -1,0 +1,5 @@
+pub mod Fields
+pub mod Image
+pub mod Headers
+pub mod Refusals
+pub mod Reading

@@ -1,0 +1,20 @@
+//! A program's file: ELF32 for RISC-V, by the System V ABI, chapters 4 and 5, and the RISC-V psABI.
+//!
+//! It promises that an image is exactly what the file's header fields say: segments, sections,
+//! function symbols and the entry; or else the first refusal, with its offset. Ranges of addresses
+//! are looked up by halving. Below stand `prof_bytes` and `byteorder`.
+#![tactic(auto)]
+
+mod fault;
+mod field;
+mod header;
+//mod image;
+mod part;
+mod program;
+mod section;
+mod symbol;
+mod texts;
+
+pub use fault::{ElfFault, ElfRule};
+//pub use image::{Image, read_image};
+pub use part::{Function, Segment};
