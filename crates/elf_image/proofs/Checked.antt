@@ -1,15 +1,16 @@
 -- What is known of a file whose headers were checked.
-use Rattle.std.proofs.Common.{◌≡◌, ℕ, zero, suc, ◌+◌, ◌*◌, ◌<◌, ◌≤◌, Bool, true, false, cond, not, List, [], ◌∷◌, length, get_or, map, Option, Some, None, Result, Ok, Err, refl, sym, ap, ◌∙◌, arith, lit<}
-use Rattle.std.specs.Prelude.{find, option_map, ◌||◌, ◌==◌, nat_le}
+use Rattle.std.proofs.Common.{◌≡◌, ℕ, zero, suc, ◌+◌, ◌*◌, ◌<◌, ◌≤◌, Bool, true, false, cond, not, List, [], ◌∷◌, length, get_or, map, Option, Some, None, Result, Ok, Err, refl, sym, ap, subst, ◌∙◌, arith, lit<}
+use Rattle.std.specs.Prelude.{find, option_map, ◌||◌, ◌==◌, nat_le, ◌&&◌}
 use Rattle.std.proofs.lemmas.Bool.Decides.{nat_tests}
 use Rattle.prof_bytes.specs.Outcome.{◌>>=◌}
+use Rattle.elf_image.specs.declared.header.SectionHeader.{SectionHeader}
 use Rattle.elf_image.specs.declared.fault.ElfFault.{ElfFault}
 use Rattle.elf_image.specs.declared.fault.ElfRule.{ElfRule}
-use Rattle.elf_image.specs.declared.fault.ElfRule.TheVariants.{NotElf, NotRiscv32Exec, CompressedCode, HeaderPlace}
+use Rattle.elf_image.specs.declared.fault.ElfRule.TheVariants.{NotElf, NotRiscv32Exec, CompressedCode, HeaderPlace, SectionPlace}
 use Rattle.elf_image.specs.Fields.{lies_within}
-use Rattle.elf_image.specs.Headers.{phoff, phnum, shoff, shnum}
-use Rattle.elf_image.specs.Refusals.{first_of, not_elf, not_riscv32_exec, compressed_code, header_tests, header_place}
-use Rattle.elf_image.specs.Reading.{refused_at, header_of}
+use Rattle.elf_image.specs.Headers.{phoff, phnum, shoff, shnum, section_headers, symbol_table, has_bytes}
+use Rattle.elf_image.specs.Refusals.{first_of, not_elf, not_riscv32_exec, compressed_code, header_tests, header_place, outside}
+use Rattle.elf_image.specs.Reading.{refused_at, header_of, sections_of}
 use Rattle.elf_image.proofs.Tables.{cond_none}
 
 -- a rule that refused nothing, and what came after it
@@ -21,7 +22,7 @@ pub passed_last : (rule : ElfRule) (place : Option ℕ) → refused_at rule plac
 passed_last rule None e = refl
 passed_last rule (Some p) e = absurd cc
 
-option_map_none : {X Y : Type 0} (f : X → Y) (o : Option X) → option_map f o ≡ None → o ≡ None
+pub option_map_none : {X Y : Type 0} (f : X → Y) (o : Option X) → option_map f o ≡ None → o ≡ None
 option_map_none f None e = refl
 option_map_none f (Some x) e = absurd cc
 
@@ -31,7 +32,7 @@ find_none p [] e i d lt = absurd (omega arith)
 find_none p (x ∷ xs) e zero d lt = (cond_none (p x) x (find p xs) e).0
 find_none p (x ∷ xs) e (suc i) d lt = find_none p xs (cond_none (p x) x (find p xs) e).1 i d (omega arith)
 
-not_false : (b : Bool) → not b ≡ false → b ≡ true
+pub not_false : (b : Bool) → not b ≡ false → b ≡ true
 not_false true e = refl
 not_false false e = absurd cc
 
@@ -58,3 +59,34 @@ programs_within file e some = within file (phoff file) (32 * phnum file) (header
 
 pub sections_within : (file : List ℕ) → header_of file ≡ Ok tt → 0 < shnum file → shoff file + 40 * shnum file ≤ length file
 sections_within file e some = within file (shoff file) (40 * shnum file) (headers_within file e).1 (omega arith)
+
+-- ---- the symbol table
+
+some_is : {X : Type 0} (a b : X) → Some a ≡ Some b → a ≡ b
+some_is a b e = cc
+
+find_both : {X : Type 0} (p q : X → Bool) (xs : List X) (x : X) → find p xs ≡ Some x → find q xs ≡ None → (p x ≡ true) × (q x ≡ false)
+find_both p q [] x found none = absurd cc
+find_both {X} p q (y ∷ ys) x found none =
+    let other = cond_none (q y) y (find q ys) none in
+    go (p y) refl other.0 found (λ e. find_both p q ys x e other.1)
+  where
+    go : (b : Bool) → p y ≡ b → q y ≡ false → cond b (Some y) (find p ys) ≡ Some x → (find p ys ≡ Some x → (p x ≡ true) × (q x ≡ false)) → (p x ≡ true) × (q x ≡ false)
+    go true is here e rest = let P : X → Type 0 = λ z. (p z ≡ true) × (q z ≡ false) in subst P (some_is y x e) (is, here)
+    go false is here e rest = rest e
+
+nothing_outside : (file : List ℕ) → sections_of file ≡ Ok tt → outside file (section_headers file) ≡ None
+unfolding sections_of
+nothing_outside file e = (passed SectionPlace (outside file (section_headers file)) _ tt e).0
+
+table_tests : (file : List ℕ) (h : SectionHeader) → (h.kind == 2) ≡ true → (has_bytes h && not (lies_within file h.offset h.size)) ≡ false → lies_within file h.offset h.size ≡ true
+table_tests file h kind inside = grind (arith, nat_tests)
+
+table_lies : (file : List ℕ) (table : SectionHeader) → symbol_table file ≡ Some table → outside file (section_headers file) ≡ None → lies_within file table.offset table.size ≡ true
+unfolding symbol_table outside
+table_lies file table found none =
+    let both = find_both (λ h. h.kind == 2) (λ h. has_bytes h && not (lies_within file h.offset h.size)) (section_headers file) table found (option_map_none (λ h. h.place) _ none) in
+    table_tests file table both.0 both.1
+
+pub table_within : (file : List ℕ) (table : SectionHeader) → symbol_table file ≡ Some table → sections_of file ≡ Ok tt → 0 < table.size → table.offset + table.size ≤ length file
+table_within file table found e some = within file table.offset table.size (table_lies file table found (nothing_outside file e)) some

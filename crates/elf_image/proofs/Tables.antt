@@ -1,6 +1,6 @@
 -- Tables of entries that stand one behind the other, as they are read.
 use Rattle.std.proofs.Common.{◌≡◌, ℕ, zero, suc, ◌+◌, ◌<◌, Bool, true, false, cond, List, [], ◌∷◌, ◌++◌, length, take, get_or, map, Option, Some, None, refl, sym, ap, ◌∙◌, arith}
-use Rattle.std.specs.Prelude.{find, filter}
+use Rattle.std.specs.Prelude.{find, filter, option_map}
 use Rattle.std.specs.List.{range_with_len}
 use Rattle.std.proofs.lemmas.List.{map_push, append-nil}
 use Rattle.std.proofs.lemmas.List.FromFn.{map-range_with_len_more, take-map-range_with_len, get_or-map-range_with_len, length-map-range_with_len, filter_of_map_range_with_len_more}
@@ -69,3 +69,11 @@ left_more {X} {Y} {Z} p g h f k ys x so_far is fails =
     let list : filter p (map f (range_with_len 0 (k + 1))) ≡ filter p (map f (range_with_len 0 k)) =
     filter_of_map_range_with_len_more p f 0 k k (omega arith) ∙ ap (λ (xs : List X). filter p (map f (range_with_len 0 k)) ++ xs) one ∙ append-nil (filter p (map f (range_with_len 0 k))) in
     so_far ∙ ap (λ (xs : List X). map h xs) (sym list)
+
+pub find_map : {X Y : Type 0} (p : Y → Bool) (f : X → Y) (xs : List X) → find p (map f xs) ≡ option_map f (find (λ x. p (f x)) xs)
+find_map p f [] = refl
+find_map {X} {Y} p f (x ∷ xs) = go (p (f x)) (find_map p f xs)
+  where
+    go : (b : Bool) → find p (map f xs) ≡ option_map f (find (λ x. p (f x)) xs) → cond b (Some (f x)) (find p (map f xs)) ≡ option_map f (cond b (Some x) (find (λ x. p (f x)) xs))
+    go true rest = refl
+    go false rest = rest

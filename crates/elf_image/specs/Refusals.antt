@@ -21,23 +21,23 @@ differs m n = not (m == n)
 -- it does not begin as every ELF file does, or has no room for the header
 unfoldable pub not_elf : List ℕ → Option ℕ
 not_elf file = first_of (
-  (differs (byte_at file 0) 0x7f, 0)
-  ∷ (differs (byte_at file 1) 0x45, 1)
-  ∷ (differs (byte_at file 2) 0x4c, 2)
-  ∷ (differs (byte_at file 3) 0x46, 3)
-  ∷ (nat_lt (length file) 52, length file)
-  ∷ [])
+    (differs (byte_at file 0) 0x7f, 0)
+    ∷ (differs (byte_at file 1) 0x45, 1)
+    ∷ (differs (byte_at file 2) 0x4c, 2)
+    ∷ (differs (byte_at file 3) 0x46, 3)
+    ∷ (nat_lt (length file) 52, length file)
+    ∷ [])
 
 -- class, data and version, type, machine, and version again
 unfoldable pub not_riscv32_exec : List ℕ → Option ℕ
 not_riscv32_exec file = first_of (
-  (differs (byte_at file 4) 1, 4)
-  ∷ (differs (byte_at file 5) 1, 5)
-  ∷ (differs (byte_at file 6) 1, 6)
-  ∷ (differs (half_at file 16) 2, 16)
-  ∷ (differs (half_at file 18) 243, 18)
-  ∷ (differs (word_at file 20) 1, 20)
-  ∷ [])
+    (differs (byte_at file 4) 1, 4)
+    ∷ (differs (byte_at file 5) 1, 5)
+    ∷ (differs (byte_at file 6) 1, 6)
+    ∷ (differs (half_at file 16) 2, 16)
+    ∷ (differs (half_at file 18) 243, 18)
+    ∷ (differs (word_at file 20) 1, 20)
+    ∷ [])
 
 -- the flag EF_RISCV_RVC
 unfoldable pub compressed_code : List ℕ → Option ℕ
@@ -121,10 +121,10 @@ is_text_table headers index = option_map_or (λ h. h.kind == 3) (slice_get heade
 -- the table's own fields
 unfoldable pub bad_table : List ℕ → SectionHeader → Option ℕ
 bad_table file table = first_of (
-  (differs table.entry_size 16, table.place)
-  ∷ (differs (table.size % 16) 0, table.place)
-  ∷ (not (is_text_table (section_headers file) table.link), table.place)
-  ∷ [])
+    (differs table.entry_size 16, table.place)
+    ∷ (differs (table.size % 16) 0, table.place)
+    ∷ (not (is_text_table (section_headers file) table.link), table.place)
+    ∷ [])
 
 unfoldable pub nameless_function : List ℕ → SectionHeader → Option ℕ
 nameless_function file table =

@@ -13,6 +13,7 @@ use prof_bytes::{Fail, Memory};
 use std::alloc::Global;
 
 const PROGRAM_HEADER_SIZE: u32 = 32;
+
 const SECTION_HEADER_SIZE: u32 = 40;
 
 /// The fields of a program header that are looked at, and its offset in the file.

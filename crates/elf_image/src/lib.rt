@@ -8,7 +8,7 @@
 mod fault;
 mod field;
 mod header;
-//mod image;
+mod image;
 mod part;
 mod program;
 mod section;
@@ -16,5 +16,5 @@ mod symbol;
 mod texts;
 
 pub use fault::{ElfFault, ElfRule};
-//pub use image::{Image, read_image};
+pub use image::{Image, read_image};
 pub use part::{Function, Segment};

@@ -40,10 +40,7 @@ pub(crate) fn loads(alloc: Global, file: &[u8]) -> Result<Vec<ProgramHeader>, Me
 fn overfilled(headers: &[ProgramHeader]) -> Option<u32>
     ensures { result ≡ overfilled headers.now }
 {
-    headers
-        .iter()
-        .find(|h| h.size < h.filled)
-        .map(|h| h.place)
+    headers.iter().find(|h| h.size < h.filled).map(|h| h.place)
 }
 
 #[tactic(auto, unfolding(crate::specs::Refusals::unfilled))]
@@ -115,7 +112,7 @@ fn segment_of(header: &ProgramHeader) -> Segment
 
 pub(crate) fn segments(alloc: Global, headers: &[ProgramHeader]) -> Result<Vec<Segment>, Memory>
     requires { All (λ h. h.start + h.size ≤ stacks_begin) headers.now }
-    ensures { IfOk result (λ segments. segments.items ≡ map segment_of headers.now) }
+    ensures { IfOk result (λ all. all.items ≡ map segment_of headers.now) }
 {
     let mut segments = Vec::new(alloc);
     for header in headers {

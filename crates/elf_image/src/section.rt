@@ -16,6 +16,7 @@ use prof_bytes::{Fail, Memory};
 use std::alloc::Global;
 
 const SHT_NULL: u32 = 0;
+
 const SHT_NOBITS: u32 = 8;
 
 fn is_section(header: &SectionHeader) -> bool

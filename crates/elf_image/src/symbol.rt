@@ -17,8 +17,11 @@ use prof_bytes::{Fail, Memory};
 use std::alloc::Global;
 
 const SHT_SYMTAB: u32 = 2;
+
 const SHT_STRTAB: u32 = 3;
+
 const SYMBOL_SIZE: u32 = 16;
+
 const STT_FUNC: u8 = 2;
 
 fn first_table(headers: &[SectionHeader]) -> Option<SectionHeader>
@@ -137,7 +140,12 @@ pub(crate) fn check_symbols(
     )
 }
 
-fn function_of<'a>(file: &[u8], names: &Texts<'a>, table: &SectionHeader, symbol: &Symbol) -> Function<'a>
+fn function_of<'a>(
+    file: &[u8],
+    names: &Texts<'a>,
+    table: &SectionHeader,
+    symbol: &Symbol,
+) -> Function<'a>
     requires { names.now ≡ bytes_of_index file.now table.now.link }
     ensures { called result ≡ function_of file.now table.now symbol.now }
 {

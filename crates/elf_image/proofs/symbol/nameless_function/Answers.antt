@@ -16,5 +16,5 @@ pub returns-then-is_nameless : goal.returns-then-is_nameless
 unfolding nameless_function
 returns-then-is_nameless c =
     let found = found_at (λ s. is_function c.args.loaded.now s && is_none (text_in c.args.names.now s.name)) (λ k. symbol_at c.args.file.now (c.args.table.now.offset + 16 * k)) c.loop-k.k (c.args.table.now.size / 16) c.symbol_at-symbol.result
-        c.loop-k.invariant c.loop-k-test.true c.symbol_at-symbol.ensures (sym c.is_nameless.ensures ∙ c.if-is_nameless.true) in
+    c.loop-k.invariant c.loop-k-test.true c.symbol_at-symbol.ensures (sym c.is_nameless.ensures ∙ c.if-is_nameless.true) in
     rw (← c.requires.loaded, ← c.requires.names, found) refl
