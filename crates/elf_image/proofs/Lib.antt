@@ -1,3 +1,4 @@
 pub mod Tables
 pub mod Checked
 pub mod Segments
+pub mod Steps

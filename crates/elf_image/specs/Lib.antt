@@ -3,3 +3,4 @@ pub mod Image
 pub mod Headers
 pub mod Refusals
 pub mod Reading
+pub mod Ranges
