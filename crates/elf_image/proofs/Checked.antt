@@ -62,7 +62,7 @@ sections_within file e some = within file (shoff file) (40 * shnum file) (header
 
 -- ---- the symbol table
 
-some_is : {X : Type 0} (a b : X) → Some a ≡ Some b → a ≡ b
+pub some_is : {X : Type 0} (a b : X) → Some a ≡ Some b → a ≡ b
 some_is a b e = cc
 
 find_both : {X : Type 0} (p q : X → Bool) (xs : List X) (x : X) → find p xs ≡ Some x → find q xs ≡ None → (p x ≡ true) × (q x ≡ false)

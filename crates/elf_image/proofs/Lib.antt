@@ -1,4 +1,6 @@
 pub mod Tables
 pub mod Checked
-pub mod Segments
+pub mod LoadHeaders
 pub mod Steps
+pub mod Counted
+pub mod Shared

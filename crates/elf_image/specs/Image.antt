@@ -3,6 +3,8 @@ use Rattle.std.specs.Prelude.{◌≡◌, ℕ, ◌+◌, ◌-◌, ◌*◌, ◌%◌
 use Rattle.std.specs.List.{list_any}
 use Rattle.std.specs.Option.{option_map_or}
 use Rattle.elf_image.specs.Fields.{same_bytes}
+use Rattle.elf_image.specs.Ranges.{holds}
+use Rattle.elf_image.specs.declared.ranges.AddressRange.{AddressRange}
 use Rattle.elf_image.specs.declared.part.Segment.{Segment}
 use Rattle.elf_image.specs.declared.part.Function.{Function}
 use Rattle.elf_image.specs.declared.part.Section.{Section}
@@ -33,15 +35,22 @@ named s = record { name = s.name.now; bytes = s.bytes.now }
 abbrev pub called : Function → Called
 called f = record { start = f.start; size = f.size; name = f.name.now }
 
+-- a segment's addresses
+abbrev pub range_of : Segment → AddressRange
+range_of s = record { start = s.start; end = s.end }
+
+abbrev pub function_range : Called → AddressRange
+function_range f = record { start = f.start; end = f.start + f.size }
+
 -- where the addresses for stacks begin
 abbrev pub stacks_begin : ℕ
 stacks_begin = 0xF0000000
 
 abbrev pub in_segment : ℕ → Segment → Bool
-in_segment address s = nat_le s.start address && nat_lt address s.end
+in_segment address s = holds address (range_of s)
 
 abbrev pub in_function : ℕ → Called → Bool
-in_function address f = nat_le f.start address && nat_lt address (f.start + f.size)
+in_function address f = holds address (function_range f)
 
 abbrev pub is_executable : Segment → Bool
 is_executable s = s.flags % 2 == 1

@@ -30,11 +30,16 @@ header_of file = do
   _ ← refused_at CompressedCode (compressed_code file)
   refused_at HeaderPlace (header_place file)
 
-unfoldable pub segments_of : List ℕ → Result (Unit {0}) ElfFault
-segments_of file = do
+-- each segment by itself, and then their addresses
+unfoldable pub each_segment_of : List ℕ → Result (Unit {0}) ElfFault
+each_segment_of file = do
   _ ← refused_at SegmentPlace (overfilled (loads file))
   _ ← refused_at SegmentPlace (unfilled file (loads file))
-  _ ← refused_at SegmentPlace (too_high (loads file))
+  refused_at SegmentPlace (too_high (loads file))
+
+unfoldable pub segments_of : List ℕ → Result (Unit {0}) ElfFault
+segments_of file = do
+  _ ← each_segment_of file
   refused_at SegmentPlace (shared (loads file))
 
 unfoldable pub sections_of : List ℕ → Result (Unit {0}) ElfFault

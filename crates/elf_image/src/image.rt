@@ -9,12 +9,13 @@ ghost use Rattle.elf_image.specs.Reading.{header_of, segments_of, sections_of, s
 
 use crate::fault::ElfFault;
 use crate::field::word_at;
-use crate::header::{SectionHeader, check_header, section_headers, shstrndx};
+use crate::functions::Functions;
+use crate::header::{check_header, section_headers};
 use crate::part::{Function, Section, Segment};
-use crate::program::{check_segments, loads, segments};
-use crate::section::{bytes_of_index, check_sections, sections};
-use crate::symbol::{check_symbols, counts, functions_of, symbol_table};
-use crate::texts::Texts;
+use crate::program::read_segments;
+use crate::section::read_sections;
+use crate::segments::Segments;
+use crate::symbol::read_functions;
 use prof_bytes::Fail;
 use std::alloc::Global;
 use std::marker::Model;
@@ -24,72 +25,20 @@ use std::marker::Model;
 pub struct Image<'a> {
     file: &'a [u8],
     entry: u32,
-    segments: Vec<Segment>,
+    segments: Segments,
     sections: Vec<Section<'a>>,
-    functions: Vec<Function<'a>>,
+    functions: Functions<'a>,
 }
 
 impl<'a> Model for Image<'a> {
     ghost use Rattle.std.specs.Prelude.{map};
-    ghost use Rattle.elf_image.specs.Image.{Loaded, IsLoaded, named, called};
+    ghost use Rattle.elf_image.specs.Image.{Loaded, IsLoaded, named};
 
     ghost Value = { Loaded };
 
-    ghost view = { λ image. record { file = image.file.now; entry = image.entry; segments = image.segments.items; sections = map named image.sections.items; functions = map called image.functions.items } };
+    ghost view = { λ image. record { file = image.file.now; entry = image.entry; segments = image.segments; sections = map named image.sections.items; functions = image.functions } };
 
-    ghost invariant = { λ image. IsLoaded (record { file = image.file.now; entry = image.entry; segments = image.segments.items; sections = map named image.sections.items; functions = map called image.functions.items }) };
-}
-
-/// The segments of the file, where their headers are as they must be.
-fn read_segments(alloc: Global, file: &[u8]) -> Result<Vec<Segment>, Fail<ElfFault>>
-    requires small { length file.now ≤ 2 ^ 26 }
-    requires checked { header_of file.now ≡ Ok tt }
-    ensures value { Gives (λ all. all.items) result (after (segments_of file.now) (segments file.now)) }
-    ensures within { IfOk result (λ all. All (IsWithin file.now) all.items) }
-    ensures apart { IfOk result (λ all. AllPairs (λ s t. IsTrue (are_apart s t)) all.items) }
-{
-    let headers = loads(alloc, file)?;
-    check_segments(file, &headers)?;
-    Ok(segments(alloc, &headers)?)
-}
-
-/// The sections of the file, where their headers are as they must be.
-fn read_sections<'a>(
-    alloc: Global,
-    file: &'a [u8],
-    headers: &[SectionHeader],
-) -> Result<Vec<Section<'a>>, Fail<ElfFault>>
-    requires { headers.now ≡ section_headers file.now }
-    ensures value { Gives (λ all. map named all.items) result (after (sections_of file.now) (sections file.now)) }
-    ensures checked { IfOk result (λ all. sections_of file.now ≡ Ok tt) }
-{
-    let names = Texts::of(bytes_of_index(file, headers, shstrndx(file) as usize));
-    check_sections(file, &names, headers)?;
-    Ok(sections(alloc, file, &names, headers)?)
-}
-
-/// The function symbols of the file, where its symbol table is as it must be.
-#[tactic(auto, unfolding(crate::specs::Headers::functions))]
-fn read_functions<'a>(
-    alloc: Global,
-    file: &'a [u8],
-    loaded: &[Segment],
-    headers: &[SectionHeader],
-) -> Result<Vec<Function<'a>>, Fail<ElfFault>>
-    requires small { length file.now ≤ 2 ^ 26 }
-    requires loaded { loaded.now ≡ segments file.now }
-    requires headers { headers.now ≡ section_headers file.now }
-    requires checked { sections_of file.now ≡ Ok tt }
-    ensures { Gives (λ all. map called all.items) result (after (symbols_in file.now (symbol_table file.now)) (functions file.now)) }
-{
-    match symbol_table(file, headers) {
-        Some(table) => {
-            let names = Texts::of(bytes_of_index(file, headers, table.link as usize));
-            check_symbols(file, loaded, headers, &names, &table)?;
-            Ok(functions_of(alloc, file, loaded, &names, &table)?)
-        }
-        None => Ok(Vec::new(alloc)),
-    }
+    ghost invariant = { λ image. IsLoaded (record { file = image.file.now; entry = image.entry; segments = image.segments; sections = map named image.sections.items; functions = image.functions }) };
 }
 
 /// The program that the file holds, or the first refusal. The file has at most 64 MiB.
@@ -127,15 +76,6 @@ fn section_named<'a>(sections: &[Section<'a>], name: &[u8]) -> &'a [u8]
     }
 }
 
-fn segment_at(segments: &[Segment], at: u32) -> Option<Segment>
-    ensures { result ≡ find (in_segment at) segments.now }
-{
-    segments
-        .iter()
-        .copied()
-        .find(|s| s.start <= at && at < s.end)
-}
-
 impl<'a> Image<'a> {
     /// The address at which the program begins to run.
     pub fn entry(&self) -> u32
@@ -170,7 +110,7 @@ impl<'a> Image<'a> {
     pub fn segment_at(&self, at: u32) -> Option<Segment>
         ensures { result ≡ find (in_segment at) self.now.segments }
     {
-        segment_at(&self.segments, at)
+        self.segments.at(at)
     }
 
     /// Whether the addresses from `low` up to `high` count: there are some, and they lie within one
@@ -178,7 +118,7 @@ impl<'a> Image<'a> {
     pub fn counts(&self, low: u32, high: u32) -> bool
         ensures { result ≡ counts self.now.segments low high }
     {
-        counts(&self.segments, low, u64::from(high))
+        self.segments.counts(low, u64::from(high))
     }
 
     /// The bytes of the first section of that name, and none where there is no such section or it has
@@ -194,5 +134,13 @@ impl<'a> Image<'a> {
         ensures { map called result.now ≡ self.now.functions }
     {
         self.functions.as_slice()
+    }
+
+    /// The first function symbol, in symbol order, that holds the address. Takes no memory, and time
+    /// as the logarithm of the number of symbols.
+    pub fn function_at(&self, pc: u32) -> Option<Function<'a>>
+        ensures { option_map called result ≡ find (in_function pc) self.now.functions }
+    {
+        self.functions.at(pc)
     }
 }

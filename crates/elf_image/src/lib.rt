@@ -7,12 +7,14 @@
 
 mod fault;
 mod field;
+mod functions;
 mod header;
 mod image;
 mod part;
 mod program;
 mod ranges;
 mod section;
+mod segments;
 mod symbol;
 mod texts;
 

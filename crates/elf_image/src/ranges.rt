@@ -187,9 +187,11 @@ impl FirstRange {
 
     /// Whether this range, which has that index, is the first that holds each of its addresses.
     pub fn is_first(&self, range: AddressRange, index: u32) -> bool
-        requires { range.start < range.end }
         ensures { MatchBool result (IsFirst self.now range.start range.end index) (IsNotFirst self.now range.start range.end index) }
     {
+        if range.end <= range.start {
+            return true;
+        }
         is_held(&self.steps, None, range.start, range.end, index)
     }
 }

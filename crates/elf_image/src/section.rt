@@ -5,7 +5,7 @@ ghost use Rattle.prof_bytes.specs.Outcome.{Gives};
 ghost use Rattle.elf_image.specs.Image.{named};
 ghost use Rattle.elf_image.specs.Headers.{shstrndx, is_section, has_bytes, bytes_of, bytes_of_index, section_headers, name_of, section_of, sections};
 ghost use Rattle.elf_image.specs.Refusals.{outside, nameless, is_read, is_read_name, is_compressed, compressed_section};
-ghost use Rattle.elf_image.specs.Reading.{sections_of};
+ghost use Rattle.elf_image.specs.Reading.{sections_of, after};
 
 use crate::fault::{ElfFault, ElfRule, refuse};
 use crate::field::lies_within;
@@ -135,7 +135,7 @@ fn compressed_section(file: &[u8], names: &Texts<'_>, headers: &[SectionHeader])
 }
 
 #[tactic(auto, unfolding(crate::specs::Reading::sections_of))]
-pub(crate) fn check_sections(
+fn check_sections(
     file: &[u8],
     names: &Texts<'_>,
     headers: &[SectionHeader],
@@ -166,7 +166,7 @@ fn section_of<'a>(file: &'a [u8], names: &Texts<'a>, header: &SectionHeader) -> 
 }
 
 #[tactic(auto, unfolding(crate::specs::Headers::sections))]
-pub(crate) fn sections<'a>(
+fn sections<'a>(
     alloc: Global,
     file: &'a [u8],
     names: &Texts<'a>,
@@ -183,4 +183,19 @@ pub(crate) fn sections<'a>(
         }
     }
     Ok(all)
+}
+
+/// The sections of the file, where their headers are as they must be.
+pub(crate) fn read_sections<'a>(
+    alloc: Global,
+    file: &'a [u8],
+    headers: &[SectionHeader],
+) -> Result<Vec<Section<'a>>, Fail<ElfFault>>
+    requires { headers.now ≡ section_headers file.now }
+    ensures value { Gives (λ all. map named all.items) result (after (sections_of file.now) (sections file.now)) }
+    ensures checked { IfOk result (λ all. sections_of file.now ≡ Ok tt) }
+{
+    let names = Texts::of(bytes_of_index(file, headers, shstrndx(file) as usize));
+    check_sections(file, &names, headers)?;
+    Ok(sections(alloc, file, &names, headers)?)
 }

@@ -1,17 +1,20 @@
 //! The symbol table, its function symbols, and what is refused there.
-ghost use Rattle.std.specs.Prelude.{◌≡◌, ◌+◌, ◌*◌, ◌/◌, ◌<◌, ◌≤◌, ◌^◌, ◌&&◌, ◌==◌, not, nat_lt, nat_le, is_none, IfOk, Ok, Some, None, length, map, option_map, find, filter};
+ghost use Rattle.std.specs.Prelude.{◌≡◌, ◌+◌, ◌*◌, ◌/◌, ◌<◌, ◌≤◌, ◌^◌, ◌&&◌, ◌==◌, not, nat_lt, nat_le, is_none, IfOk, Ok, Some, None, length, map, option_map, find, filter, IsTrue, All, AllPairs};
 ghost use Rattle.std.specs.List.{list_any, range_with_len};
 ghost use Rattle.std.specs.Option.{option_copied};
 ghost use Rattle.prof_bytes.specs.Outcome.{Gives};
 ghost use Rattle.elf_image.specs.Fields.{text_in};
-ghost use Rattle.elf_image.specs.Image.{called, counts, is_executable};
+ghost use Rattle.elf_image.specs.Image.{called, are_apart};
 ghost use Rattle.elf_image.specs.Headers.{section_headers, segments, bytes_of_index, symbol_table, symbol_at, symbols_of, is_function, symbol_name, function_of, functions_of, functions};
 ghost use Rattle.elf_image.specs.Refusals.{is_text_table, bad_table, nameless_function};
-ghost use Rattle.elf_image.specs.Reading.{symbols_in};
+ghost use Rattle.elf_image.specs.Reading.{sections_of, symbols_in, after};
 
 use crate::fault::{ElfFault, ElfRule, first_of, refuse};
+use crate::functions::Functions;
 use crate::header::{SectionHeader, Symbol, symbol_at};
-use crate::part::{Function, Segment};
+use crate::part::Function;
+use crate::section::bytes_of_index;
+use crate::segments::Segments;
 use crate::texts::Texts;
 use prof_bytes::{Fail, Memory};
 use std::alloc::Global;
@@ -31,7 +34,7 @@ fn first_table(headers: &[SectionHeader]) -> Option<SectionHeader>
 }
 
 #[tactic(auto, unfolding(crate::specs::Headers::symbol_table))]
-pub(crate) fn symbol_table(file: &[u8], headers: &[SectionHeader]) -> Option<SectionHeader>
+fn symbol_table(file: &[u8], headers: &[SectionHeader]) -> Option<SectionHeader>
     requires { headers.now ≡ section_headers file.now }
     ensures { result ≡ symbol_table file.now }
 {
@@ -59,39 +62,21 @@ fn bad_table(file: &[u8], headers: &[SectionHeader], table: &SectionHeader) -> O
     ])
 }
 
-/// Whether the segment can be executed and holds the addresses from `low` up to `high`.
-fn is_code(segment: &Segment, low: u32, high: u64) -> bool
-    ensures { result ≡ (is_executable segment.now && nat_le segment.now.start low && nat_le high segment.now.end) }
-{
-    segment.flags % 2 == 1 && segment.start <= low && high <= u64::from(segment.end)
-}
-
-fn some_code(segments: &[Segment], low: u32, high: u64) -> bool
-    ensures { result ≡ list_any (λ s. is_executable s && nat_le s.start low && nat_le high s.end) segments.now }
-{
-    segments.iter().any(|s| is_code(s, low, high))
-}
-
-/// Whether the addresses from `low` up to `high` count.
-pub(crate) fn counts(segments: &[Segment], low: u32, high: u64) -> bool
-    ensures { result ≡ counts segments.now low high }
-{
-    u64::from(low) < high && some_code(segments, low, high)
-}
-
-fn is_function(segments: &[Segment], symbol: &Symbol) -> bool
-    ensures { result ≡ is_function segments.now symbol.now }
+fn is_function(loaded: &Segments, symbol: &Symbol) -> bool
+    requires { AllPairs (λ s t. IsTrue (are_apart s t)) loaded.now }
+    ensures function { result ≡ is_function loaded.now symbol.now }
+    ensures fits { IsTrue result → symbol.now.start + symbol.now.size < 2 ^ 32 }
 {
     symbol.kind == STT_FUNC
         && symbol.section != 0
-        && counts(
-            segments,
+        && loaded.counts(
             symbol.start,
             u64::from(symbol.start) + u64::from(symbol.size),
         )
 }
 
-fn is_nameless(loaded: &[Segment], names: &Texts<'_>, symbol: &Symbol) -> bool
+fn is_nameless(loaded: &Segments, names: &Texts<'_>, symbol: &Symbol) -> bool
+    requires { AllPairs (λ s t. IsTrue (are_apart s t)) loaded.now }
     ensures { result ≡ (is_function loaded.now symbol.now && is_none (text_in names.now symbol.now.name)) }
 {
     is_function(loaded, symbol) && names.text_at(symbol.name).is_none()
@@ -101,11 +86,12 @@ fn is_nameless(loaded: &[Segment], names: &Texts<'_>, symbol: &Symbol) -> bool
 #[tactic(auto, unfolding(crate::specs::Refusals::nameless_function))]
 fn nameless_function(
     file: &[u8],
-    loaded: &[Segment],
+    loaded: &Segments,
     names: &Texts<'_>,
     table: &SectionHeader,
 ) -> Option<u32>
     requires loaded { loaded.now ≡ segments file.now }
+    requires apart { AllPairs (λ s t. IsTrue (are_apart s t)) loaded.now }
     requires names { names.now ≡ bytes_of_index file.now table.now.link }
     requires within { 0 < table.now.size → table.now.offset + table.now.size ≤ 2 ^ 26 }
     ensures { result ≡ nameless_function file.now table.now }
@@ -120,14 +106,15 @@ fn nameless_function(
 }
 
 #[tactic(auto, unfolding(crate::specs::Reading::symbols_in))]
-pub(crate) fn check_symbols(
+fn check_symbols(
     file: &[u8],
-    loaded: &[Segment],
+    loaded: &Segments,
     headers: &[SectionHeader],
     names: &Texts<'_>,
     table: &SectionHeader,
 ) -> Result<(), Fail<ElfFault>>
     requires loaded { loaded.now ≡ segments file.now }
+    requires apart { AllPairs (λ s t. IsTrue (are_apart s t)) loaded.now }
     requires headers { headers.now ≡ section_headers file.now }
     requires names { names.now ≡ bytes_of_index file.now table.now.link }
     requires within { 0 < table.now.size → table.now.offset + table.now.size ≤ 2 ^ 26 }
@@ -160,17 +147,20 @@ fn function_of<'a>(
 }
 
 /// The function symbols of the table, in symbol order.
-pub(crate) fn functions_of<'a>(
+fn functions_of<'a>(
     alloc: Global,
     file: &[u8],
-    loaded: &[Segment],
+    loaded: &Segments,
     names: &Texts<'a>,
     table: &SectionHeader,
 ) -> Result<Vec<Function<'a>>, Memory>
     requires loaded { loaded.now ≡ segments file.now }
+    requires apart { AllPairs (λ s t. IsTrue (are_apart s t)) loaded.now }
     requires names { names.now ≡ bytes_of_index file.now table.now.link }
     requires within { 0 < table.now.size → table.now.offset + table.now.size ≤ 2 ^ 26 }
-    ensures { IfOk result (λ all. map called all.items ≡ functions_of file.now (Some table.now)) }
+    ensures functions { IfOk result (λ all. map called all.items ≡ functions_of file.now (Some table.now)) }
+    ensures fit { IfOk result (λ all. All (λ f. f.start + f.size < 2 ^ 32) all.items) }
+    ensures few { IfOk result (λ all. length all.items < 2 ^ 32) }
 {
     let mut all = Vec::new(alloc);
     for k in 0..table.size / SYMBOL_SIZE {
@@ -180,4 +170,30 @@ pub(crate) fn functions_of<'a>(
         }
     }
     Ok(all)
+}
+
+/// The function symbols of the file, where its symbol table is as it must be.
+#[tactic(auto, unfolding(crate::specs::Headers::functions))]
+pub(crate) fn read_functions<'a>(
+    alloc: Global,
+    file: &'a [u8],
+    loaded: &Segments,
+    headers: &[SectionHeader],
+) -> Result<Functions<'a>, Fail<ElfFault>>
+    requires small { length file.now ≤ 2 ^ 26 }
+    requires loaded { loaded.now ≡ segments file.now }
+    requires apart { AllPairs (λ s t. IsTrue (are_apart s t)) loaded.now }
+    requires headers { headers.now ≡ section_headers file.now }
+    requires checked { sections_of file.now ≡ Ok tt }
+    ensures { Gives (λ all. all) result (after (symbols_in file.now (symbol_table file.now)) (functions file.now)) }
+{
+    match symbol_table(file, headers) {
+        Some(table) => {
+            let names = Texts::of(bytes_of_index(file, headers, table.link as usize));
+            check_symbols(file, loaded, headers, &names, &table)?;
+            let all = functions_of(alloc, file, loaded, &names, &table)?;
+            Ok(Functions::of(alloc, all)?)
+        }
+        None => Ok(Functions::of(alloc, Vec::new(alloc))?),
+    }
 }

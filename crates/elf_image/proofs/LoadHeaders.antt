@@ -1,18 +1,22 @@
 -- Segments whose headers were checked are not empty, lie below the stacks and share no address.
-use Rattle.std.proofs.Common.{◌≡◌, ℕ, zero, suc, ◌+◌, ◌-◌, ◌*◌, ◌<◌, ◌≤◌, Bool, true, false, cond, not, List, [], ◌∷◌, length, get_or, map, Option, None, Result, Ok, refl, sym, ap, subst, ◌∙◌, arith}
+use Rattle.std.proofs.Common.{inl, inr, ◌^◌, ◌≡◌, ℕ, zero, suc, ◌+◌, ◌-◌, ◌*◌, ◌<◌, ◌≤◌, Bool, true, false, cond, not, List, [], ◌∷◌, length, get_or, map, Option, None, Result, Ok, Err, refl, sym, ap, subst, ◌∙◌, arith}
 use Rattle.std.specs.Prelude.{filter, All, AllPairs, IsTrue, ◌||◌, ◌&&◌, nat_lt, nat_le, ◌==◌}
 use Rattle.std.specs.List.{list_any, range_with_len}
+use Rattle.std.proofs.lemmas.Bool.{cases_lt}
 use Rattle.std.proofs.lemmas.Bool.Decides.{nat_tests}
 use Rattle.std.proofs.lemmas.List.{get_or-map, length-map}
+use Rattle.std.proofs.lemmas.List.FromFn.{length-map-range_with_len}
 use Rattle.elf_image.specs.declared.header.ProgramHeader.{ProgramHeader}
 use Rattle.elf_image.specs.declared.part.Segment.{Segment}
+use Rattle.prof_bytes.specs.Outcome.{◌>>=◌}
+use Rattle.elf_image.specs.declared.fault.ElfFault.{ElfFault}
 use Rattle.elf_image.specs.declared.fault.ElfRule.TheVariants.{SegmentPlace}
 use Rattle.elf_image.specs.Fields.{lies_within, table_of}
 use Rattle.elf_image.specs.Image.{IsWithin, are_apart, stacks_begin}
 use Rattle.elf_image.specs.Headers.{program_header_at, phoff, phnum, program_headers, is_load, loads, segment_of, segments}
 use Rattle.elf_image.specs.Refusals.{share, shares_earlier, overfilled, unfilled, too_high, shared}
-use Rattle.elf_image.specs.Reading.{segments_of}
-use Rattle.elf_image.proofs.Checked.{passed, passed_last, option_map_none, find_none, within, not_false}
+use Rattle.elf_image.specs.Reading.{refused_at, header_of, each_segment_of, segments_of}
+use Rattle.elf_image.proofs.Checked.{passed, passed_last, option_map_none, find_none, within, not_false, programs_within}
 
 -- headers with ever higher places, from some place on
 abbrev IsAscending : ℕ → List ProgramHeader → Type 0
@@ -107,13 +111,24 @@ pub record Refused (file : List ℕ) : Type 0 where
   pub high : too_high (loads file) ≡ None
   pub shared : shared (loads file) ≡ None
 
+each_refused : (file : List ℕ) → each_segment_of file ≡ Ok tt → (overfilled (loads file) ≡ None) × (unfilled file (loads file) ≡ None) × (too_high (loads file) ≡ None)
+unfolding each_segment_of
+each_refused file e =
+    let a = passed SegmentPlace (overfilled (loads file)) _ tt e in
+    let b = passed SegmentPlace (unfilled file (loads file)) _ tt a.1 in
+    (a.0, b.0, passed_last SegmentPlace (too_high (loads file)) b.1)
+
+-- two checks, one after the other
+both_passed : (first next : Result (Unit {0}) ElfFault) → (first >>= λ _. next) ≡ Ok tt → (first ≡ Ok tt) × (next ≡ Ok tt)
+both_passed (Ok done) next e = (refl, e)
+both_passed (Err fault) next e = absurd cc
+
 nothing_refused : (file : List ℕ) → segments_of file ≡ Ok tt → Refused file
 unfolding segments_of
 nothing_refused file e =
-    let a = passed SegmentPlace (overfilled (loads file)) _ tt e in
-    let b = passed SegmentPlace (unfilled file (loads file)) _ tt a.1 in
-    let c = passed SegmentPlace (too_high (loads file)) _ tt b.1 in
-    record { over = a.0; unfilled = b.0; high = c.0; shared = passed_last SegmentPlace (shared (loads file)) c.1 }
+    let both = both_passed (each_segment_of file) (refused_at SegmentPlace (shared (loads file))) e in
+    let each = each_refused file both.0 in
+    record { over = each.0; unfilled = each.1; high = each.2; shared = passed_last SegmentPlace (shared (loads file)) both.1 }
 
 checked_at : (file : List ℕ) → segments_of file ≡ Ok tt → (i : ℕ) (d : ProgramHeader) → i < length (loads file) → Checked file (get_or (loads file) i d)
 checked_at file e i d lt =
@@ -148,8 +163,27 @@ segment_within file h c =
 all_low : (hs : List ProgramHeader) → too_high hs ≡ None → All (λ h. h.start + h.size ≤ stacks_begin) hs
 all_low hs e i d lt = ends_low (get_or hs i d) (none_high hs e i d lt)
 
-pub loads_low : (file : List ℕ) → segments_of file ≡ Ok tt → All (λ h. h.start + h.size ≤ stacks_begin) (loads file)
-loads_low file e = all_low (loads file) (nothing_refused file e).high
+pub loads_low : (file : List ℕ) → each_segment_of file ≡ Ok tt → All (λ h. h.start + h.size ≤ stacks_begin) (loads file)
+loads_low file e = all_low (loads file) (each_refused file e).2
+
+pub loads_take : (file : List ℕ) → All (λ h. 0 < h.size) (loads file)
+loads_take file i d lt = load_takes (get_or (loads file) i d) (are_loads file i d lt)
+
+pub loads_in_order : (file : List ℕ) → AllPairs (λ g h. g.place < h.place) (loads file)
+loads_in_order file i j d lt within = places_ascend _ (loads file) i j d (loads_ascend file) lt within
+
+-- there are as many headers as half a number counts, at most
+filter_shorter : (p : ProgramHeader → Bool) (hs : List ProgramHeader) → length (filter p hs) ≤ length hs
+filter_shorter p [] = omega arith
+filter_shorter p (h ∷ hs) = go (p h) (filter_shorter p hs)
+  where
+    go : (b : Bool) → length (filter p hs) ≤ length hs → length (cond b (h ∷ filter p hs) (filter p hs)) ≤ length (h ∷ hs)
+    go true le = omega arith
+    go false le = omega arith
+
+pub few_loads : (file : List ℕ) → length (loads file) ≤ phnum file
+unfolding loads program_headers
+few_loads file = omega (arith, filter_shorter is_load (map (λ k. program_header_at file (phoff file + 32 * k)) (range_with_len 0 (phnum file))), length-map-range_with_len (λ k. program_header_at file (phoff file + 32 * k)) 0 (phnum file))
 
 no_header : ProgramHeader
 no_header = record { place = 0; kind = 0; offset = 0; start = 0; filled = 0; size = 0; flags = 0 }
@@ -174,3 +208,21 @@ all_apart file e i j d lt within =
     let up : g.place < h.place = places_ascend _ (loads file) i j no_header (loads_ascend file) lt n in
     let tested = any_none (λ g. nat_lt g.place h.place && share g h) (loads file) i no_header (none_shared (loads file) r.shared j no_header n) m in
     rw (get_or-map segment_of (loads file) i no_header d m, get_or-map segment_of (loads file) j no_header d n) (apart_tests g h tested up)
+
+-- ---- for the one function that reads them
+
+pub loads_few : (file : List ℕ) → header_of file ≡ Ok tt → length file ≤ 2 ^ 26 → length (loads file) < 2 ^ 32
+loads_few file checked small =
+    let few = few_loads file in
+    elim (cases_lt 0 (phnum file)) [
+      | inl some ↦ let there = programs_within file checked some in omega arith
+      | inr none ↦ omega arith
+    ]
+
+pub both_checked : (file : List ℕ) → each_segment_of file ≡ Ok tt → refused_at SegmentPlace (shared (loads file)) ≡ Ok tt → segments_of file ≡ Ok tt
+unfolding segments_of
+both_checked file each last = rw (each, last) refl
+
+pub segments_are : (file : List ℕ) → map segment_of (loads file) ≡ segments file
+unfolding segments
+segments_are file = refl
