@@ -4,3 +4,4 @@ pub mod LoadHeaders
 pub mod Steps
 pub mod Counted
 pub mod Shared
+pub mod Ends

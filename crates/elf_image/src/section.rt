@@ -32,7 +32,8 @@ fn has_bytes(header: &SectionHeader) -> bool
 }
 
 fn bytes_of<'a>(file: &'a [u8], header: &SectionHeader) -> &'a [u8]
-    ensures { result.now ≡ bytes_of file.now header.now }
+    ensures bytes { result.now ≡ bytes_of file.now header.now }
+    ensures few { length result.now ≤ length file.now }
 {
     if !has_bytes(header) {
         return &[];
@@ -47,7 +48,8 @@ pub(crate) fn bytes_of_index<'a>(
     index: usize,
 ) -> &'a [u8]
     requires { headers.now ≡ section_headers file.now }
-    ensures { result.now ≡ bytes_of_index file.now index }
+    ensures bytes { result.now ≡ bytes_of_index file.now index }
+    ensures few { length result.now ≤ length file.now }
 {
     match headers.get(index) {
         Some(header) => bytes_of(file, header),
@@ -191,11 +193,15 @@ pub(crate) fn read_sections<'a>(
     file: &'a [u8],
     headers: &[SectionHeader],
 ) -> Result<Vec<Section<'a>>, Fail<ElfFault>>
-    requires { headers.now ≡ section_headers file.now }
+    requires small { length file.now ≤ 2 ^ 26 }
+    requires headers { headers.now ≡ section_headers file.now }
     ensures value { Gives (λ all. map named all.items) result (after (sections_of file.now) (sections file.now)) }
     ensures checked { IfOk result (λ all. sections_of file.now ≡ Ok tt) }
 {
-    let names = Texts::of(bytes_of_index(file, headers, shstrndx(file) as usize));
+    let names = Texts::of(
+        alloc,
+        bytes_of_index(file, headers, shstrndx(file) as usize),
+    )?;
     check_sections(file, &names, headers)?;
     Ok(sections(alloc, file, &names, headers)?)
 }

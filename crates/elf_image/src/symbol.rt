@@ -189,7 +189,7 @@ pub(crate) fn read_functions<'a>(
 {
     match symbol_table(file, headers) {
         Some(table) => {
-            let names = Texts::of(bytes_of_index(file, headers, table.link as usize));
+            let names = Texts::of(alloc, bytes_of_index(file, headers, table.link as usize))?;
             check_symbols(file, loaded, headers, &names, &table)?;
             let all = functions_of(alloc, file, loaded, &names, &table)?;
             Ok(Functions::of(alloc, all)?)

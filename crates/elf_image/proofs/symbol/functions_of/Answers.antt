@@ -16,15 +16,15 @@ pub loop-k-preserved : goal.loop-k-preserved
 loop-k-preserved c =
     elim c.if-is_function.branch [
       | then-is_function+in_ok-push w ↦ rw w.all-is (record {
-          functions = kept_more (is_function c.args.loaded.now) called (function_of c.args.file.now c.args.table.now) (λ k. symbol_at c.args.file.now (c.args.table.now.offset + 16 * k)) c.loop-k.k _ _ w.function_of.result c.symbol_at-symbol.result
+        functions = kept_more (is_function c.args.loaded.now) called (function_of c.args.file.now c.args.table.now) (λ k. symbol_at c.args.file.now (c.args.table.now.offset + 16 * k)) c.loop-k.k _ _ w.function_of.result c.symbol_at-symbol.result
             c.loop-k.invariant.functions c.symbol_at-symbol.ensures (sym c.is_function.ensures.function ∙ w.if-is_function.true) w.in_ok-push.ensures.items w.function_of.ensures;
-          fit = rw w.in_ok-push.ensures.items (All-push (λ f. f.start + f.size < 2 ^ 32) c.loop-k.all.items w.function_of.result c.loop-k.invariant.fit (ends_low w.function_of.result c.symbol_at-symbol.result (ap (λ (f : Called). f.start) w.function_of.ensures) (ap (λ (f : Called). f.size) w.function_of.ensures) (w.if-is_function.ensures.fits refl)));
-          few = let le = c.loop-k.invariant.few in let len = w.in_ok-push.ensures.len in omega arith;
-        })
+        fit = rw w.in_ok-push.ensures.items (All-push (λ f. f.start + f.size < 2 ^ 32) c.loop-k.all.items w.function_of.result c.loop-k.invariant.fit (ends_low w.function_of.result c.symbol_at-symbol.result (ap (λ (f : Called). f.start) w.function_of.ensures) (ap (λ (f : Called). f.size) w.function_of.ensures) (w.if-is_function.ensures.fits refl)));
+        few = let le = c.loop-k.invariant.few in let len = w.in_ok-push.ensures.len in omega arith;
+      })
       | else-is_function w ↦ rw w.all-is (record {
-          functions = left_more (is_function c.args.loaded.now) called (function_of c.args.file.now c.args.table.now) (λ k. symbol_at c.args.file.now (c.args.table.now.offset + 16 * k)) c.loop-k.k _ c.symbol_at-symbol.result
+        functions = left_more (is_function c.args.loaded.now) called (function_of c.args.file.now c.args.table.now) (λ k. symbol_at c.args.file.now (c.args.table.now.offset + 16 * k)) c.loop-k.k _ c.symbol_at-symbol.result
             c.loop-k.invariant.functions c.symbol_at-symbol.ensures (sym c.is_function.ensures.function ∙ w.if-is_function.false);
-          fit = c.loop-k.invariant.fit;
-          few = let le = c.loop-k.invariant.few in omega arith;
-        })
+        fit = c.loop-k.invariant.fit;
+        few = let le = c.loop-k.invariant.few in omega arith;
+      })
     ]
