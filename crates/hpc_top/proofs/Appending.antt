@@ -7,7 +7,6 @@ use Rattle.std.proofs.lemmas.List.Concat.{flat_map-append}
 use Rattle.prof_db.specs.Spelling.{word, words}
 use Rattle.tree_types.specs.TopDown.{address_digits, address_text}
 
-
 -- four bytes, one after the other
 pub four_more : (start a b c d : List ℕ) (w x y z : ℕ) → a ≡ start ++ w ∷ [] → b ≡ a ++ x ∷ [] → c ≡ b ++ y ∷ [] → d ≡ c ++ z ∷ [] → d ≡ start ++ w ∷ x ∷ y ∷ z ∷ []
 four_more start a b c d w x y z ea eb ec ed =
@@ -20,5 +19,3 @@ address_more address start a b c ea eb ec =
     let upper : List ℕ = address_digits address (7 ∷ 6 ∷ 5 ∷ 4 ∷ []) in
     let lower : List ℕ = address_digits address (3 ∷ 2 ∷ 1 ∷ 0 ∷ []) in
     ec ∙ ap (λ (l : List ℕ). l ++ lower) (eb ∙ ap (λ (l : List ℕ). l ++ upper) ea) ∙ append_assoc (start ++ codes "0x") upper lower ∙ append_assoc start (codes "0x") (upper ++ lower)
-
-

@@ -17,6 +17,7 @@ mod rv_hart;
 mod sample_clock;
 mod status;
 mod steps;
+mod straight;
 mod view_tables;
 mod words;
 
