@@ -82,17 +82,21 @@ fn fixed_numbers_and_texts(rt: HostRuntime) {
     assert_eq!(rt; cursor.place(), 27);
 }
 
+fn text_of_puts() -> &'static [u8] {
+    b"HPC\x04\x03\x02\x01\x05\0\0\0\0\0\0\0"
+}
+
 #[test]
 fn puts_append(rt: HostRuntime) -> Result<(), Fail> {
     let mut out = Vec::from_slice(rt.alloc(), b"HPC")?;
     put_u32(&mut out, 0x0102_0304).ok().ok_or("memory")?;
     put_u64(&mut out, 5).ok().ok_or("memory")?;
-    assert_eq!(rt;
-        out.as_slice(),
-        b"HPC\x04\x03\x02\x01\x05\0\0\0\0\0\0\0".as_slice()
-    );
+    assert_eq!(rt; out.as_slice(), text_of_puts());
     let text = Text::of(rt.alloc(), out.as_slice()).ok().ok_or("memory")?;
     assert_eq!(rt; text.bytes().len(), 15);
     assert_eq!(rt; Text::from_vec(text.into_vec()).bytes(), out.as_slice());
+    let list = Listed::of(out);
+    assert_eq!(rt; list.items().len(), 15);
+    assert_eq!(rt; list.into_vec().as_slice(), text_of_puts());
     Ok(())
 }

@@ -5,7 +5,7 @@ use Rattle.prof_devices.specs.declared.shelf.Fetch.{Fetch}
 use Rattle.prof_devices.specs.declared.shelf.Fetch.TheVariants as fetches
 use Rattle.prof_devices.specs.declared.shelf.Put.{Put}
 use Rattle.prof_devices.specs.declared.shelf.Put.TheVariants.{Done, Fault, Memory}
-use Rattle.prof_devices.specs.Files.{Files, file_of, Holds}
+use Rattle.prof_devices.specs.Files.{Files, file_of, bytes_of, Holds}
 use Rattle.prof_devices.specs.Outside.{Failures, ShelfState, SinkState, last_count}
 
 -- a count after one more: it stops at its type's end
@@ -97,6 +97,24 @@ pub record SureSinkState : Type 0 where
 
 abbrev pub sure_sink : SureSinkState → SinkState
 sure_sink s = record { tells = true; taken = s.taken; faults = 0; shortages = s.shortages }
+
+-- a fetch leaves the files, and fails never
+abbrev pub SureFetches : Files → Files → List ℕ → ℕ → Fetch → Type 0
+SureFetches old new name limit (fetches.Whole bytes) = (new ≡ old) × (bytes ≡ bytes_of old name) × (length bytes ≤ limit)
+SureFetches old new name limit fetches.TooLong = (new ≡ old) × (limit < length (bytes_of old name))
+SureFetches old new name limit fetches.Fault = ⊥
+SureFetches old new name limit fetches.Memory = new ≡ old
+
+-- a store is whole, or for want of memory nothing
+abbrev pub SureStores : Files → Files → List ℕ → List ℕ → Put → Type 0
+SureStores old new name bytes Done = Holds old new name bytes
+SureStores old new name bytes Fault = ⊥
+SureStores old new name bytes Memory = new ≡ old
+
+abbrev pub SurePuts : SureSinkState → SureSinkState → List ℕ → Put → Type 0
+SurePuts old new bytes Done = new ≡ record old { taken = old.taken ++ bytes }
+SurePuts old new bytes Fault = ⊥
+SurePuts old new bytes Memory = new ≡ record old { shortages = raised old.shortages }
 
 -- the parts of these calls behind the count
 

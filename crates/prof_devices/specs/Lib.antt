@@ -1,3 +1,4 @@
 pub mod Files
 pub mod Outside
 pub mod InMemory
+pub mod Edge

@@ -1,5 +1,6 @@
 ghost use Rattle.std.specs.Prelude.{◌≡◌, ◌≤◌, [], false};
-ghost use Rattle.prof_devices.specs.Outside.{last_count};
+ghost use Rattle.prof_devices.specs.Outside.{Fetched, Stored, last_count};
+ghost use Rattle.prof_devices.specs.Edge.{FolderFetches, FolderStores};
 ghost use Rattle.prof_devices.specs.InMemory.{failed_at, no_failures};
 
 use crate::shelf::{Fetch, Put, Shelf};
@@ -108,7 +109,10 @@ fn write_file<R: Files>(rt: &R, name: &[u8], bytes: &[u8]) -> Result<(), Ending>
 impl<'a, R: Files + AllocGlobal> Shelf for FolderShelf<'a, R> {
     ghost shown = { λ s. s };
 
-    fn fetch(&mut self, name: &[u8], limit: u64) -> Fetch {
+    fn fetch(&mut self, name: &[u8], limit: u64) -> Fetch
+        ensures answer { Fetched self.old self.new name.now limit result }
+        ensures exact { FolderFetches self.old self.new name.now limit result }
+    {
         let Ok(owned) = Text::of(self.rt.alloc(), name) else {
             return Fetch::Memory;
         };
@@ -123,7 +127,10 @@ impl<'a, R: Files + AllocGlobal> Shelf for FolderShelf<'a, R> {
         }
     }
 
-    fn store(&mut self, name: &[u8], bytes: &[u8]) -> Put {
+    fn store(&mut self, name: &[u8], bytes: &[u8]) -> Put
+        ensures answer { Stored self.old self.new name.now bytes.now result }
+        ensures exact { FolderStores self.old self.new name.now result }
+    {
         let Ok(owned) = Text::of(self.rt.alloc(), name) else {
             return Put::Memory;
         };

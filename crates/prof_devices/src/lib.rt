@@ -26,3 +26,8 @@ pub use shelf::{Fetch, Put, Shelf};
 pub use sink::Sink;
 pub use streams::{ErrSink, OutSink};
 pub use sure::{SureShelf, SureSink};
+
+#[cfg(test)]
+mod edge_tests;
+#[cfg(test)]
+mod tests;

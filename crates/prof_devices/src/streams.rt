@@ -1,5 +1,6 @@
 ghost use Rattle.std.specs.Prelude.{◌≡◌, ◌≤◌, [], false};
-ghost use Rattle.prof_devices.specs.Outside.{last_count};
+ghost use Rattle.prof_devices.specs.Outside.{Taken, last_count};
+ghost use Rattle.prof_devices.specs.Edge.{StreamPuts};
 ghost use Rattle.prof_devices.specs.InMemory.{raised};
 
 use crate::shelf::Put;
@@ -43,7 +44,10 @@ impl<'a, R> OutSink<'a, R> {
 impl<'a, R: Print> Sink for OutSink<'a, R> {
     ghost shown = { λ s. s };
 
-    fn put(&mut self, bytes: &[u8]) -> Put {
+    fn put(&mut self, bytes: &[u8]) -> Put
+        ensures answer { Taken self.old self.new bytes.now result }
+        ensures exact { StreamPuts self.old self.new result }
+    {
         match io::writer(self.rt).write_all(bytes) {
             Ok(()) => Put::Done,
             Err(_) => {
@@ -96,7 +100,10 @@ fn print_line<R: Eprint>(rt: &R, bytes: &[u8]) -> bool {
 impl<'a, R: Eprint> Sink for ErrSink<'a, R> {
     ghost shown = { λ s. s };
 
-    fn put(&mut self, bytes: &[u8]) -> Put {
+    fn put(&mut self, bytes: &[u8]) -> Put
+        ensures answer { Taken self.old self.new bytes.now result }
+        ensures exact { StreamPuts self.old self.new result }
+    {
         if print_line(self.rt, bytes) {
             return Put::Done;
         }

@@ -1,6 +1,7 @@
 ghost use Rattle.std.specs.Prelude.{◌≡◌, None, Some, MatchOption, []};
 ghost use Rattle.prof_devices.specs.Files.{Files, file_of};
-ghost use Rattle.prof_devices.specs.InMemory.{SureSinkState, sure_shelf, sure_sink};
+ghost use Rattle.prof_devices.specs.Outside.{Fetched, Stored, Taken};
+ghost use Rattle.prof_devices.specs.InMemory.{SureSinkState, SureFetches, SureStores, SurePuts, sure_shelf, sure_sink};
 
 use crate::named_files::{bytes_in, file_in, write_file};
 use crate::shelf::{Fetch, Put, Shelf};
@@ -41,7 +42,10 @@ impl SureShelf {
 impl Shelf for SureShelf {
     ghost shown = { sure_shelf };
 
-    fn fetch(&mut self, name: &[u8], limit: u64) -> Fetch {
+    fn fetch(&mut self, name: &[u8], limit: u64) -> Fetch
+        ensures answer { Fetched (sure_shelf self.old) (sure_shelf self.new) name.now limit result }
+        ensures exact { SureFetches self.old self.new name.now limit result }
+    {
         let bytes = bytes_in(self.files.as_slice(), name);
         if bytes.len() as u64 > limit {
             return Fetch::TooLong;
@@ -52,7 +56,10 @@ impl Shelf for SureShelf {
         }
     }
 
-    fn store(&mut self, name: &[u8], bytes: &[u8]) -> Put {
+    fn store(&mut self, name: &[u8], bytes: &[u8]) -> Put
+        ensures answer { Stored (sure_shelf self.old) (sure_shelf self.new) name.now bytes.now result }
+        ensures exact { SureStores self.old self.new name.now bytes.now result }
+    {
         let Ok(text) = Text::of(self.alloc, bytes) else {
             return Put::Memory;
         };
@@ -98,7 +105,10 @@ impl SureSink {
 impl Sink for SureSink {
     ghost shown = { sure_sink };
 
-    fn put(&mut self, bytes: &[u8]) -> Put {
+    fn put(&mut self, bytes: &[u8]) -> Put
+        ensures answer { Taken (sure_sink self.old) (sure_sink self.new) bytes.now result }
+        ensures exact { SurePuts self.old self.new bytes.now result }
+    {
         match self.bytes.extend_from_slice(bytes) {
             Ok(()) => Put::Done,
             Err(_) => {

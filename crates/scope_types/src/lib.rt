@@ -6,8 +6,13 @@
 //! repository.
 #![tactic(auto)]
 
+mod hash;
 mod path;
 mod scope;
 
+pub use hash::key;
 pub use path::{HartPath, ScopePath};
 pub use scope::{LineId, ProcId, RootKind, Scope, compare, compare_paths, order_laws};
+
+#[cfg(test)]
+mod tests;

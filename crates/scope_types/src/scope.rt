@@ -48,7 +48,7 @@ pub enum Scope {
 pub fn compare(a: &Scope, b: &Scope) -> Ordering
     ensures { result ≡ scope_order a.now b.now }
 {
-    a.cmp(b)
+    Ord::cmp(a, b)
 }
 
 /// Scopes and paths are totally ordered, and two that tie are one.

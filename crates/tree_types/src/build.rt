@@ -1,9 +1,9 @@
 //! The whole content of a list of call paths, by the plain bodies.
 ghost use Rattle.std.specs.Prelude.{◌≡◌, ◌<◌, ◌≤◌, ◌^◌, length, map, IfOk};
 ghost use Rattle.tree_types.specs.Nodes.{nodes, no_parent};
-ghost use Rattle.tree_types.specs.Planes.{profile_plane, context_of};
+ghost use Rattle.tree_types.specs.Planes.{profile_plane, context_plane, context_of};
 ghost use Rattle.tree_types.specs.Naming.{Naming};
-ghost use Rattle.tree_types.specs.Database.{content_of, names_used};
+ghost use Rattle.tree_types.specs.Database.{content_of, names_used, node_list};
 
 use crate::content::{Content, Names};
 use crate::plain::node_list_of;
@@ -51,8 +51,9 @@ fn contexts_of(
     Ok(ContextPlane::of(columns))
 }
 
-/// The content of a list of call paths whose nodes are `tree`, under these names. Slow on purpose: each
-/// value is counted over all paths.
+/// The content of a list of call paths whose nodes are `tree`, under these names. The period is in
+/// retired instructions; harts are numbered from 0, and paths of other harts make nodes and no values.
+/// Fails for want of memory alone. Slow on purpose: each value is counted over all paths.
 #[tactic(auto, unfolding(crate::specs::Database::content_of))]
 pub fn content_of_paths(
     alloc: Global,
@@ -65,7 +66,8 @@ pub fn content_of_paths(
     requires few { length paths.now ≤ 2 ^ 20 }
     requires nodes { tree.now ≡ nodes paths.now }
     requires numbers { length tree.now ≤ no_parent }
-    ensures { (naming : Naming) → names ≡ names_used naming paths.now → IfOk result (λ content. content ≡ content_of period harts naming paths.now) }
+    ensures parts { IfOk result (λ content. content ≡ record { period = period; harts = harts; names = names; nodes = node_list paths.now; profiles = profile_plane period harts paths.now; contexts = context_plane period harts paths.now }) }
+    ensures named { (naming : Naming) → names ≡ names_used naming paths.now → IfOk result (λ content. content ≡ content_of period harts naming paths.now) }
 {
     Ok(Content {
         period,

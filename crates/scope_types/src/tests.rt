@@ -1,0 +1,147 @@
+use super::*;
+use std::cmp::Ordering;
+
+fn row(table: u32, file: u32, line: u32) -> LineId {
+    LineId::Row { table, file, line }
+}
+
+/// Each scope stands before the next: by variant as written, then by field from left to right.
+const ASCENDING: [Scope; 21] = [
+    Scope::Root(RootKind::Thread),
+    Scope::Root(RootKind::Partial),
+    Scope::Proc(ProcId::Die(0)),
+    Scope::Proc(ProcId::Die(4_294_967_295)),
+    Scope::Proc(ProcId::Sym(0)),
+    Scope::Proc(ProcId::Sym(65_652)),
+    Scope::Proc(ProcId::Nameless),
+    Scope::Inline {
+        callee: ProcId::Die(1),
+        call: LineId::Row {
+            table: 0,
+            file: 1,
+            line: 9,
+        },
+    },
+    Scope::Inline {
+        callee: ProcId::Die(1),
+        call: LineId::Address(0),
+    },
+    Scope::Inline {
+        callee: ProcId::Die(2),
+        call: LineId::Row {
+            table: 0,
+            file: 1,
+            line: 8,
+        },
+    },
+    Scope::Inline {
+        callee: ProcId::Nameless,
+        call: LineId::Row {
+            table: 0,
+            file: 0,
+            line: 0,
+        },
+    },
+    Scope::Call(LineId::Row {
+        table: 0,
+        file: 1,
+        line: 9,
+    }),
+    Scope::Call(LineId::Row {
+        table: 0,
+        file: 2,
+        line: 1,
+    }),
+    Scope::Call(LineId::Row {
+        table: 1,
+        file: 0,
+        line: 0,
+    }),
+    Scope::Call(LineId::Row {
+        table: 1,
+        file: 0,
+        line: 1,
+    }),
+    Scope::Call(LineId::Address(4)),
+    Scope::Call(LineId::Address(5)),
+    Scope::Stmt(LineId::Row {
+        table: 0,
+        file: 0,
+        line: 0,
+    }),
+    Scope::Stmt(LineId::Row {
+        table: 0,
+        file: 0,
+        line: 1,
+    }),
+    Scope::Stmt(LineId::Address(0)),
+    Scope::Stmt(LineId::Address(4_294_967_295)),
+];
+
+#[test]
+fn each_scope_stands_before_the_next(rt: HostRuntime) {
+    let mut pairs = 0;
+    for (a, b) in ASCENDING.iter().zip(ASCENDING.iter().skip(1)) {
+        assert_eq!(rt; compare(a, b), Ordering::Less, "pair {pairs}");
+        assert_eq!(rt; compare(b, a), Ordering::Greater, "pair {pairs}");
+        assert_eq!(rt; compare(a, a), Ordering::Equal, "pair {pairs}");
+        pairs += 1;
+    }
+    assert_eq!(rt; pairs, 20);
+}
+
+#[test]
+fn a_prefix_stands_before_what_extends_it(rt: HostRuntime) {
+    let [root, partial, procedure, ..] = ASCENDING;
+    let statement = Scope::Stmt(LineId::Address(0));
+    let ascending: [&[Scope]; 6] = [
+        &[],
+        &[root],
+        &[root, procedure],
+        &[root, procedure, statement],
+        &[root, statement],
+        &[partial],
+    ];
+    for (a, b) in ascending.iter().zip(ascending.iter().skip(1)) {
+        assert_eq!(rt; compare_paths(a, b), Ordering::Less);
+        assert_eq!(rt; compare_paths(b, a), Ordering::Greater);
+        assert_eq!(rt; compare_paths(b, b), Ordering::Equal);
+    }
+}
+
+/// The keys are the rule of FNV-1a over the words of the scopes, computed by a calculator.
+#[test]
+fn keys_of_paths(rt: HostRuntime) {
+    let nameless = Scope::Proc(ProcId::Nameless);
+    let root = Scope::Root(RootKind::Thread);
+    for line in [LineId::Address(0), LineId::Address(65_652), row(0, 1, 7)] {
+        let found = key(&[root, nameless, Scope::Stmt(line)]);
+        assert_eq!(rt; found, 0x1f2f_1196);
+        assert_eq!(rt; found % 16, 6);
+    }
+    let inlined = Scope::Inline {
+        callee: ProcId::Sym(0x1_0074),
+        call: row(0x40, 1, 12),
+    };
+    let path = [
+        Scope::Root(RootKind::Partial),
+        Scope::Proc(ProcId::Die(0x2a)),
+        inlined,
+        Scope::Call(LineId::Address(0x1_0098)),
+        Scope::Stmt(LineId::Address(0)),
+    ];
+    assert_eq!(rt; key(&path), 0x789e_c6e1);
+}
+
+#[test]
+fn a_path_keeps_its_scopes(rt: HostRuntime) -> Result<(), std::test::Fail> {
+    let scopes = Vec::from_slice(rt.alloc(), &ASCENDING)?;
+    let path = HartPath {
+        hart: 3,
+        path: ScopePath::of(scopes),
+    };
+    assert_eq!(rt; path.hart, 3);
+    assert!(rt; path.path.scopes() == ASCENDING.as_slice());
+    order_laws();
+    Ok(())
+}
