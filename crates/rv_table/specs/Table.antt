@@ -16,8 +16,8 @@ pub data Beside : Type 0 where
 
 pub record Row : Type 0 where
   pub code : ℕ
-  beside : Beside
-  format : Format
+  pub beside : Beside
+  pub format : Format
   pub operation : Op
 
 abbrev pub row : ℕ → Beside → Format → Op → Row

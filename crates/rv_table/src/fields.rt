@@ -52,7 +52,11 @@ fn i_immediate(word: u32) -> u32
     ensures { result ≡ fields.i_immediate word }
 {
     let value = word >> 20;
-    if value < 0x800 { value } else { value + 0xffff_f000 }
+    if value < 0x800 {
+        value
+    } else {
+        value + 0xffff_f000
+    }
 }
 
 #[inline(always)]
@@ -60,7 +64,11 @@ fn s_immediate(word: u32) -> u32
     ensures { result ≡ fields.s_immediate word }
 {
     let value = (word >> 25) * 32 + ((word >> 7) & 0x1f);
-    if value < 0x800 { value } else { value + 0xffff_f000 }
+    if value < 0x800 {
+        value
+    } else {
+        value + 0xffff_f000
+    }
 }
 
 #[inline(always)]
@@ -71,7 +79,11 @@ fn b_immediate(word: u32) -> u32
         + ((word >> 7) & 1) * 2048
         + ((word >> 25) & 0x3f) * 32
         + ((word >> 8) & 0xf) * 2;
-    if value < 0x1000 { value } else { value + 0xffff_e000 }
+    if value < 0x1000 {
+        value
+    } else {
+        value + 0xffff_e000
+    }
 }
 
 #[inline(always)]
@@ -89,7 +101,11 @@ fn j_immediate(word: u32) -> u32
         + ((word >> 12) & 0xff) * 4096
         + ((word >> 20) & 1) * 2048
         + ((word >> 21) & 0x3ff) * 2;
-    if value < 0x10_0000 { value } else { value + 0xffe0_0000 }
+    if value < 0x10_0000 {
+        value
+    } else {
+        value + 0xffe0_0000
+    }
 }
 
 #[inline(always)]
