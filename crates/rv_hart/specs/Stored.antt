@@ -1,29 +1,29 @@
 -- How memory is kept: what was written in pages of 4 KiB, these in blocks of 1 MiB; and what was never
 -- written as the file has it.
-use Rattle.std.specs.Prelude.{◌≡◌, ℕ, ◌+◌, ◌-◌, ◌*◌, ◌/◌, ◌%◌, ◌^◌, ◌&&◌, Bool, true, List, [], Option, Some, None, option_and_then, unwrap_or, slice_get, nat_le}
+use Rattle.std.specs.Prelude.{◌≡◌, ℕ, ◌+◌, ◌-◌, ◌*◌, ◌/◌, ◌%◌, ◌^◌, ◌≤◌, ◌&&◌, Bool, true, List, [], Option, Some, None, option_and_then, unwrap_or, slice_get, nat_le}
 use Rattle.elf_image.specs.declared.image.Segment.{Segment}
 use Rattle.elf_image.specs.Image.{holds}
 use Rattle.rv_hart.specs.declared.kept.Page.{Page}
 use Rattle.rv_hart.specs.declared.kept.Kept.{Kept}
-use Rattle.rv_hart.specs.Memory.{Memory, first_byte, region_at, each_address}
+use Rattle.rv_hart.specs.declared.right.Right.{Right}
+use Rattle.rv_hart.specs.declared.right.Right.TheVariants.{Execute, Write, Read}
+use Rattle.rv_hart.specs.Memory.{Memory, first_byte, region_at, each_address, execute, write, read}
 
-abbrev pub page_size : ℕ
-page_size = 2 ^ 12
+-- a page by its number, if it was made
+abbrev pub page_numbered : Kept → ℕ → Option Page
+page_numbered kept number = option_and_then (λ block. slice_get block.items (number % 2 ^ 8)) (slice_get kept.blocks.items (number / 2 ^ 8))
 
-abbrev pub block_size : ℕ
-block_size = 2 ^ 20
-
--- the page of an address, if it was made
+-- the page of an address
 abbrev pub page_of : Kept → ℕ → Option Page
-page_of kept at = option_and_then (λ block. slice_get block.items (at / 2 ^ 12 % 2 ^ 8)) (slice_get kept.blocks.items (at / 2 ^ 20))
+page_of kept at = page_numbered kept (at / 2 ^ 12)
 
-abbrev pub byte_of : Option Page → ℕ → Option ℕ
-byte_of None place = None
-byte_of (Some page) place = slice_get page.bytes.items place
+abbrev pub bytes_of : Option Page → List ℕ
+bytes_of None = []
+bytes_of (Some page) = page.bytes.items
 
 -- what a page holds of an address
 abbrev pub held : Kept → ℕ → Option ℕ
-held kept at = byte_of (page_of kept at) (at % 2 ^ 12)
+held kept at = slice_get (bytes_of (page_of kept at)) (at % 2 ^ 12)
 
 -- the byte at an address: what its page holds, and else what it began with
 abbrev pub value : Kept → ℕ → ℕ
@@ -47,8 +47,15 @@ HasHome regions (Some page) = IsHome regions page.home
 -- what keeps a memory: regions that are apart, and pages that each know one region of theirs
 pub record IsKept (kept : Kept) : Type 0 where
   pub apart : AreApart kept.regions.items
-  pub homes : (at : ℕ) → HasHome kept.regions.items (page_of kept at)
+  pub homes : (number : ℕ) → HasHome kept.regions.items (page_numbered kept number)
+  pub low : (at : ℕ) → 2 ^ 32 ≤ at → region_at kept.regions.items at ≡ None
 
 -- the segment holds so many addresses from this one on
 abbrev pub covers_all : Segment → ℕ → ℕ → Bool
 covers_all segment at count = nat_le segment.start at && nat_le (at + count) segment.end
+
+-- the right as a bit of a region's flags
+abbrev pub bit_of : Right → ℕ
+bit_of Execute = execute
+bit_of Write = write
+bit_of Read = read

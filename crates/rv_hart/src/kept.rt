@@ -2,8 +2,8 @@
 ghost use Rattle.std.specs.Prelude.{◌≡◌, ◌==◌, ◌+◌, ◌<◌, ◌≤◌, ◌/◌, ◌%◌, ◌^◌, ℕ, Some, None, IfSome, IsTrue, length, map, slice_get, slice_index};
 ghost use Rattle.std.specs.List.{range_with_len};
 ghost use Rattle.std.specs.Option.{option_copied};
-ghost use Rattle.rv_hart.specs.Memory.{has, execute, read, write, region_at, first_byte, may};
-ghost use Rattle.rv_hart.specs.Stored.{page_of, byte_of, held, value, covers_all, IsHome};
+ghost use Rattle.rv_hart.specs.Memory.{region_at, first_byte};
+ghost use Rattle.rv_hart.specs.Stored.{page_of, bytes_of, held, value};
 
 use elf_image::Segment;
 
@@ -21,36 +21,6 @@ pub(crate) struct Kept<'a> {
     pub(crate) file: &'a [u8],
     pub(crate) regions: Vec<Segment>,
     pub(crate) blocks: Vec<Vec<Page>>,
-}
-
-/// Whether the segment holds so many addresses from `at` on.
-#[inline(always)]
-pub(crate) fn covers(segment: &Segment, at: u32, count: usize) -> bool
-    requires { count ≤ 4 }
-    ensures { result ≡ covers_all segment.now at count }
-{
-    segment.start <= at && at as usize + count <= segment.end as usize
-}
-
-#[inline(always)]
-pub(crate) fn is_executable(segment: &Segment) -> bool
-    ensures { result ≡ has execute segment.now }
-{
-    segment.flags & 1 == 1
-}
-
-#[inline(always)]
-pub(crate) fn is_writable(segment: &Segment) -> bool
-    ensures { result ≡ has write segment.now }
-{
-    (segment.flags >> 1) & 1 == 1
-}
-
-#[inline(always)]
-pub(crate) fn is_readable(segment: &Segment) -> bool
-    ensures { result ≡ has read segment.now }
-{
-    (segment.flags >> 2) & 1 == 1
 }
 
 /// The region that holds the address.
@@ -83,9 +53,21 @@ impl<'a> Kept<'a> {
     pub(crate) fn page(&self, at: u32) -> Option<&Page>
         ensures { option_copied result ≡ page_of self.now at }
     {
-        match element(self.blocks.as_slice(), (at >> 20) as usize) {
-            Some(block) => element(block.as_slice(), (at >> 12) as usize % 256),
+        let number = (at >> 12) as usize;
+        match element(self.blocks.as_slice(), number / 256) {
+            Some(block) => element(block.as_slice(), number % 256),
             None => None,
+        }
+    }
+
+    /// The bytes of the address's page, none where it was not made.
+    #[inline(always)]
+    pub(crate) fn page_bytes(&self, at: u32) -> &[u8]
+        ensures { result.now ≡ bytes_of (page_of self.now at) }
+    {
+        match self.page(at) {
+            Some(page) => page.bytes.as_slice(),
+            None => &[],
         }
     }
 
@@ -94,10 +76,7 @@ impl<'a> Kept<'a> {
     fn held(&self, at: u32) -> Option<u8>
         ensures { result ≡ held self.now at }
     {
-        match self.page(at) {
-            Some(page) => element(page.bytes.as_slice(), at as usize % 4096).copied(),
-            None => None,
-        }
+        element(self.page_bytes(at), at as usize % 4096).copied()
     }
 
     /// The byte that the address began with.

@@ -9,5 +9,7 @@
 mod compute;
 mod kept;
 mod outcome;
+mod read;
+mod right;
 
 pub use outcome::{Cause, Stepped};
