@@ -9,7 +9,7 @@ use Rattle.std.proofs.lemmas.List.FromFn.{get_or-map-range_with_len, length-map-
 use Rattle.std.proofs.Math.Nat.{lt_of_not-le}
 use Rattle.elf_image.specs.declared.image.Segment.{Segment}
 use Rattle.elf_image.specs.Image.{holds}
-use Rattle.rv_hart.specs.declared.kept.Page.{Page}
+use Rattle.rv_hart.specs.Pages.{Paged}
 use Rattle.rv_hart.specs.declared.kept.Kept.{Kept}
 use Rattle.rv_hart.specs.Memory.{region_at, first_byte, byte_in, has, may, grants}
 use Rattle.rv_hart.specs.Stored.{page_numbered, page_of, bytes_of, held, value, IsHome, covers_all}
@@ -50,7 +50,7 @@ place-same at i inside = omega arith
 -- what a page holds of an address in it
 pub held-page : (kept : Kept) (at i : ℕ) → at % 2 ^ 12 + i < 2 ^ 12 → held kept (at + i) ≡ slice_get (bytes_of (page_of kept at)) (at % 2 ^ 12 + i)
 held-page kept at i inside =
-    ap (λ (p : Option Page). slice_get (bytes_of p) ((at + i) % 2 ^ 12)) (page-same kept at i inside)
+    ap (λ (p : Option Paged). slice_get (bytes_of p) ((at + i) % 2 ^ 12)) (page-same kept at i inside)
     ∙ ap (slice_get (bytes_of (page_of kept at))) (place-same at i inside)
 
 -- the bytes of a page, from an address on

@@ -3,23 +3,23 @@
 use Rattle.std.specs.Prelude.{◌≡◌, ℕ, ◌+◌, ◌-◌, ◌*◌, ◌/◌, ◌%◌, ◌^◌, ◌≤◌, ◌&&◌, Bool, true, List, [], Option, Some, None, option_and_then, unwrap_or, slice_get, nat_le}
 use Rattle.elf_image.specs.declared.image.Segment.{Segment}
 use Rattle.elf_image.specs.Image.{holds}
-use Rattle.rv_hart.specs.declared.kept.Page.{Page}
 use Rattle.rv_hart.specs.declared.kept.Kept.{Kept}
 use Rattle.rv_hart.specs.declared.right.Right.{Right}
 use Rattle.rv_hart.specs.declared.right.Right.TheVariants.{Execute, Write, Read}
+use Rattle.rv_hart.specs.Pages.{Paged}
 use Rattle.rv_hart.specs.Memory.{Memory, first_byte, region_at, each_address, execute, write, read}
 
 -- a page by its number, if it was made
-abbrev pub page_numbered : Kept → ℕ → Option Page
-page_numbered kept number = option_and_then (λ block. slice_get block.items (number % 2 ^ 8)) (slice_get kept.blocks.items (number / 2 ^ 8))
+abbrev pub page_numbered : Kept → ℕ → Option Paged
+page_numbered kept number = option_and_then (λ block. slice_get block (number % 2 ^ 8)) (slice_get kept.blocks.items (number / 2 ^ 8))
 
 -- the page of an address
-abbrev pub page_of : Kept → ℕ → Option Page
+abbrev pub page_of : Kept → ℕ → Option Paged
 page_of kept at = page_numbered kept (at / 2 ^ 12)
 
-abbrev pub bytes_of : Option Page → List ℕ
+abbrev pub bytes_of : Option Paged → List ℕ
 bytes_of None = []
-bytes_of (Some page) = page.bytes.items
+bytes_of (Some page) = page.bytes
 
 -- what a page holds of an address
 abbrev pub held : Kept → ℕ → Option ℕ
@@ -40,7 +40,7 @@ IsHome regions home = (at : ℕ) → holds at home ≡ true → region_at region
 abbrev pub AreApart : List Segment → Type 0
 AreApart regions = (at : ℕ) (region : Segment) → region_at regions at ≡ Some region → IsHome regions region
 
-abbrev pub HasHome : List Segment → Option Page → Type 0
+abbrev pub HasHome : List Segment → Option Paged → Type 0
 HasHome regions None = Unit {0}
 HasHome regions (Some page) = IsHome regions page.home
 

@@ -5,22 +5,15 @@ ghost use Rattle.std.specs.Option.{option_copied};
 ghost use Rattle.rv_hart.specs.Memory.{region_at, first_byte};
 ghost use Rattle.rv_hart.specs.Stored.{page_of, bytes_of, held, value};
 
+use crate::page::{Block, Page};
 use elf_image::Segment;
 
-/// A page of 4 KiB that was written: its bytes, none where it was not made yet, and the region of
-/// the address for which it was made.
-#[derive(Drop)]
-pub(crate) struct Page {
-    pub(crate) home: Segment,
-    pub(crate) bytes: Vec<u8>,
-}
-
-/// The file, the regions, and what was written: blocks of 1 MiB, each empty or of 256 pages.
+/// The file, the regions, and what was written, in blocks of at most 256 pages.
 #[derive(Drop)]
 pub(crate) struct Kept<'a> {
     pub(crate) file: &'a [u8],
     pub(crate) regions: Vec<Segment>,
-    pub(crate) blocks: Vec<Vec<Page>>,
+    pub(crate) blocks: Vec<Block>,
 }
 
 /// The region that holds the address.
@@ -55,7 +48,7 @@ impl<'a> Kept<'a> {
     {
         let number = (at >> 12) as usize;
         match element(self.blocks.as_slice(), number / 256) {
-            Some(block) => element(block.as_slice(), number % 256),
+            Some(block) => block.page(number % 256),
             None => None,
         }
     }
@@ -66,7 +59,7 @@ impl<'a> Kept<'a> {
         ensures { result.now ≡ bytes_of (page_of self.now at) }
     {
         match self.page(at) {
-            Some(page) => page.bytes.as_slice(),
+            Some(page) => page.bytes(),
             None => &[],
         }
     }

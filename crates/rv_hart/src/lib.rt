@@ -9,6 +9,7 @@
 mod compute;
 mod kept;
 mod outcome;
+mod page;
 mod read;
 mod right;
 

@@ -113,8 +113,9 @@ impl<'a> Kept<'a> {
         ensures { IsHome self.now.regions.items result }
     {
         if let Some(page) = self.page(at) {
-            if covers(&page.home, at, count) {
-                return page.home;
+            let home = page.home();
+            if covers(&home, at, count) {
+                return home;
             }
         }
         self.region(at).unwrap_or(NOWHERE)
