@@ -1,22 +1,32 @@
 -- Bytes that stand together: in a page, or in the file's part of one region.
-use Rattle.std.proofs.Common.{◌≡◌, ℕ, zero, suc, ◌+◌, ◌-◌, ◌*◌, ◌/◌, ◌%◌, ◌^◌, ◌<◌, ◌≤◌, ◌&&◌, ◌⊎◌, inl, inr, Bool, true, false, cond, List, [], ◌∷◌, map, length, take, drop, slice_index, get_or, slice_get, Option, Some, None, IfSome, Bor, unwrap_or, nat_le, nat_lt, refl, sym, ap, subst, ◌∙◌, arith}
+use Rattle.std.proofs.Common.{◌≡◌, ℕ, zero, suc, ◌+◌, ◌-◌, ◌*◌, ◌/◌, ◌%◌, ◌^◌, ◌<◌, ◌≤◌, ◌&&◌, ◌⊎◌, inl, inr, Bool, true, false, cond, List, [], ◌∷◌, map, length, take, drop, slice_index, get_or, slice_get, Option, Some, None, IfSome, Bor, unwrap_or, nat_le, nat_lt, refl, sym, ap, ap₂, subst, ◌∙◌, arith}
 use Rattle.std.specs.List.{range_with_len, list_all}
 use Rattle.std.proofs.lemmas.List.{ext_get_or, get_or-drop, get_or-take, length-drop, length-take}
 use Rattle.std.proofs.lemmas.Bool.{and_parts}
 use Rattle.std.proofs.lemmas.Bool.Decides.{nat_tests}
-use Rattle.std.proofs.lemmas.Option.{slice_get-get_or}
+use Rattle.std.proofs.lemmas.Option.{unwrap_or-slice_get}
 use Rattle.std.proofs.lemmas.List.FromFn.{get_or-map-range_with_len, length-map-range_with_len}
 use Rattle.std.proofs.Math.Nat.{lt_of_not-le}
 use Rattle.elf_image.specs.declared.image.Segment.{Segment}
 use Rattle.elf_image.specs.Image.{holds}
-use Rattle.rv_hart.specs.Pages.{Paged}
+use Rattle.rv_hart.specs.Pages.{Paged, blank, page_at}
 use Rattle.rv_hart.specs.declared.kept.Kept.{Kept}
 use Rattle.rv_hart.specs.Memory.{region_at, first_byte, byte_in, has, may, grants}
-use Rattle.rv_hart.specs.Stored.{page_numbered, page_of, bytes_of, held, value, IsHome, covers_all}
+use Rattle.rv_hart.specs.Stored.{page_numbered, page_of, value, IsHome, covers_all}
 
 and_false : (a b : Bool) → b ≡ false → (a && b) ≡ false
 and_false true b fails = fails
 and_false false b fails = refl
+
+-- an element that a list has, whatever is read past its end
+get_or-any : (xs : List ℕ) (i d e : ℕ) → i < length xs → get_or xs i d ≡ get_or xs i e
+get_or-any [] i d e within = absurd (omega arith)
+get_or-any (x ∷ xs) zero d e within = refl
+get_or-any (x ∷ xs) (suc i) d e within = get_or-any xs i d e (omega arith)
+
+-- an element of a list, or the default past its end
+pub or_default : (pages : List Paged) (index : ℕ) (found : Option Paged) → found ≡ slice_get pages index → unwrap_or found blank ≡ page_at pages index
+or_default pages index found are = ap (λ (f : Option Paged). unwrap_or f blank) are ∙ unwrap_or-slice_get pages index blank
 
 -- a list that has each element of a function's in its place
 pub spelled : (xs : List ℕ) (f : ℕ → ℕ) (at count : ℕ) → length xs ≡ count → ((i : ℕ) → i < count → get_or xs i 0 ≡ f (at + i)) → xs ≡ map f (range_with_len at count)
@@ -47,31 +57,25 @@ page-same kept at i inside = ap (page_numbered kept) (let e : (at + i) / 2 ^ 12 
 pub place-same : (at i : ℕ) → at % 2 ^ 12 + i < 2 ^ 12 → (at + i) % 2 ^ 12 ≡ at % 2 ^ 12 + i
 place-same at i inside = omega arith
 
--- what a page holds of an address in it
-pub held-page : (kept : Kept) (at i : ℕ) → at % 2 ^ 12 + i < 2 ^ 12 → held kept (at + i) ≡ slice_get (bytes_of (page_of kept at)) (at % 2 ^ 12 + i)
-held-page kept at i inside =
-    ap (λ (p : Option Paged). slice_get (bytes_of p) ((at + i) % 2 ^ 12)) (page-same kept at i inside)
-    ∙ ap (slice_get (bytes_of (page_of kept at))) (place-same at i inside)
-
 -- the bytes of a page, from an address on
-pub near-page : (kept : Kept) (at count : ℕ) (bytes : List ℕ) → bytes ≡ bytes_of (page_of kept at) → at % 2 ^ 12 + count ≤ 2 ^ 12 → at % 2 ^ 12 + count ≤ length bytes → take count (drop (at % 2 ^ 12) bytes) ≡ map (value kept) (range_with_len at count)
+pub near-page : (kept : Kept) (at count : ℕ) (bytes : List ℕ) → bytes ≡ (page_of kept at).bytes → at % 2 ^ 12 + count ≤ 2 ^ 12 → at % 2 ^ 12 + count ≤ length bytes → take count (drop (at % 2 ^ 12) bytes) ≡ map (value kept) (range_with_len at count)
 near-page kept at count bytes are inside within =
     spelled (take count (drop (at % 2 ^ 12) bytes)) (value kept) at count (part-length bytes (at % 2 ^ 12) count within)
     (λ i few.
-        let held-here : held kept (at + i) ≡ Some (get_or bytes (at % 2 ^ 12 + i) 0) =
-        held-page kept at i (omega arith) ∙ ap (λ (b : List ℕ). slice_get b (at % 2 ^ 12 + i)) (sym are) ∙ slice_get-get_or bytes (at % 2 ^ 12 + i) 0 (omega arith) in
+        let first : ℕ = first_byte kept.file.now kept.regions.items (at + i) in
+        let here : (page_of kept (at + i)).bytes ≡ bytes = ap (λ (p : Paged). p.bytes) (page-same kept at i (omega arith)) ∙ sym are in
         part-get bytes (at % 2 ^ 12) count i few
-        ∙ sym (ap (λ (b : Option ℕ). unwrap_or b (first_byte kept.file.now kept.regions.items (at + i))) held-here))
+        ∙ get_or-any bytes (at % 2 ^ 12 + i) 0 first (omega arith)
+        ∙ sym (ap₂ (λ (b : List ℕ) (p : ℕ). get_or b p first) here (place-same at i (omega arith))))
 
 -- where a page was not made, the bytes are those that the region began with
-pub value-first : (kept : Kept) (home : Segment) (at count i : ℕ) → [] ≡ bytes_of (page_of kept at) → at % 2 ^ 12 + count ≤ 2 ^ 12 → IsHome kept.regions.items home → covers_all home at count ≡ true → i < count → value kept (at + i) ≡ byte_in kept.file.now (at + i) (Some home)
+pub value-first : (kept : Kept) (home : Segment) (at count i : ℕ) → [] ≡ (page_of kept at).bytes → at % 2 ^ 12 + count ≤ 2 ^ 12 → IsHome kept.regions.items home → covers_all home at count ≡ true → i < count → value kept (at + i) ≡ byte_in kept.file.now (at + i) (Some home)
 value-first kept home at count i none inside own covered few =
-    let unheld : held kept (at + i) ≡ None =
-    held-page kept at i (omega arith) ∙ ap (λ (b : List ℕ). slice_get b (at % 2 ^ 12 + i)) (sym none) in
-    ap (λ (b : Option ℕ). unwrap_or b (first_byte kept.file.now kept.regions.items (at + i))) unheld
+    let here : (page_of kept (at + i)).bytes ≡ [] = ap (λ (p : Paged). p.bytes) (page-same kept at i (omega arith)) ∙ sym none in
+    ap (λ (b : List ℕ). get_or b ((at + i) % 2 ^ 12) (first_byte kept.file.now kept.regions.items (at + i))) here
     ∙ ap (byte_in kept.file.now (at + i)) (covers-region kept.regions.items home at count i own covered few)
 
-pub near-first : (kept : Kept) (home : Segment) (at count : ℕ) (bytes : List ℕ) → [] ≡ bytes_of (page_of kept at) → at % 2 ^ 12 + count ≤ 2 ^ 12 → IsHome kept.regions.items home → covers_all home at count ≡ true → length bytes ≡ count → ((i : ℕ) → i < count → get_or bytes i 0 ≡ byte_in kept.file.now (at + i) (Some home)) → bytes ≡ map (value kept) (range_with_len at count)
+pub near-first : (kept : Kept) (home : Segment) (at count : ℕ) (bytes : List ℕ) → [] ≡ (page_of kept at).bytes → at % 2 ^ 12 + count ≤ 2 ^ 12 → IsHome kept.regions.items home → covers_all home at count ≡ true → length bytes ≡ count → ((i : ℕ) → i < count → get_or bytes i 0 ≡ byte_in kept.file.now (at + i) (Some home)) → bytes ≡ map (value kept) (range_with_len at count)
 near-first kept home at count bytes none inside own covered long each =
     spelled bytes (value kept) at count long (λ i few. each i few ∙ sym (value-first kept home at count i none inside own covered few))
 
@@ -114,7 +118,7 @@ granted-low regions right at low granted =
         cc)
 
 -- what the file's part gives, as what is kept gives it
-pub near-none : (kept : Kept) (home : Segment) (at count : ℕ) → [] ≡ bytes_of (page_of kept at) → at % 2 ^ 12 + count ≤ 2 ^ 12 → IsHome kept.regions.items home → covers_all home at count ≡ true → (found : Option (Bor (List ℕ))) → IfSome found (λ bytes. length bytes.now ≡ count) → IfSome found (λ bytes. (i : ℕ) → i < count → slice_index bytes.now i ≡ byte_in kept.file.now (at + i) (Some home)) → IfSome found (λ bytes. bytes.now ≡ map (value kept) (range_with_len at count))
+pub near-none : (kept : Kept) (home : Segment) (at count : ℕ) → [] ≡ (page_of kept at).bytes → at % 2 ^ 12 + count ≤ 2 ^ 12 → IsHome kept.regions.items home → covers_all home at count ≡ true → (found : Option (Bor (List ℕ))) → IfSome found (λ bytes. length bytes.now ≡ count) → IfSome found (λ bytes. (i : ℕ) → i < count → slice_index bytes.now i ≡ byte_in kept.file.now (at + i) (Some home)) → IfSome found (λ bytes. bytes.now ≡ map (value kept) (range_with_len at count))
 near-none kept home at count none inside own covered None long each = tt
 near-none kept home at count none inside own covered (Some bytes) long each =
     near-first kept home at count bytes.now none inside own covered long each

@@ -1,5 +1,6 @@
 -- Pages of memory and the blocks that they stand in.
-use Rattle.std.specs.Prelude.{ℕ, ◌+◌, List, [], ◌++◌, length, take, drop, slice_set, Option, Some, None, unwrap_or, slice_get}
+use Rattle.std.specs.Prelude.{ℕ, ◌+◌, ◌/◌, ◌%◌, ◌^◌, List, [], ◌++◌, length, take, drop}
+use Rattle.std.specs.List.{slice_index_or}
 use Rattle.elf_image.specs.declared.image.Segment.{Segment}
 
 -- a page: its bytes, none where it was not made, and the region for which it was made
@@ -22,5 +23,9 @@ spliced bytes place source = take place bytes ++ source ++ drop (place + length 
 abbrev pub with_bytes : Paged → ℕ → List ℕ → Paged
 with_bytes page place source = record { home = page.home; bytes = spliced page.bytes place source }
 
-abbrev pub page_or_blank : List Paged → ℕ → Paged
-page_or_blank block index = unwrap_or (slice_get block index) blank
+-- a page of a block by its place, and a page of blocks of 256 by its number; blank where there is none
+abbrev pub page_at : List Paged → ℕ → Paged
+page_at block index = slice_index_or block index blank
+
+abbrev pub page_in : List (List Paged) → ℕ → Paged
+page_in blocks number = page_at (slice_index_or blocks (number / 2 ^ 8) []) (number % 2 ^ 8)

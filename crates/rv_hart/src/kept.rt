@@ -1,9 +1,9 @@
 //! How memory is kept: pages for what was written, and the file for what was not.
-ghost use Rattle.std.specs.Prelude.{◌≡◌, ◌==◌, ◌+◌, ◌<◌, ◌≤◌, ◌/◌, ◌%◌, ◌^◌, ℕ, Some, None, IfSome, IsTrue, length, map, slice_get, slice_index};
-ghost use Rattle.std.specs.List.{range_with_len};
+ghost use Rattle.std.specs.Prelude.{◌≡◌, ◌<◌, ◌≤◌, IfSome, unwrap_or};
 ghost use Rattle.std.specs.Option.{option_copied};
 ghost use Rattle.rv_hart.specs.Memory.{region_at, first_byte};
-ghost use Rattle.rv_hart.specs.Stored.{page_of, bytes_of, held, value};
+ghost use Rattle.rv_hart.specs.Stored.{page_of, value};
+ghost use Rattle.rv_hart.specs.Pages.{blank};
 
 use crate::page::{Block, Page};
 use elf_image::Segment;
@@ -27,13 +27,6 @@ fn region_in(regions: &[Segment], at: u32) -> Option<Segment>
         .find(|region| region.start <= at && at < region.end)
 }
 
-#[inline(always)]
-fn element<T>(items: &[T], at: usize) -> Option<&T>
-    ensures { option_copied result ≡ slice_get items.now at }
-{
-    items.get(at)
-}
-
 impl<'a> Kept<'a> {
     pub(crate) fn region(&self, at: u32) -> Option<Segment>
         ensures found { result ≡ region_at self.now.regions.items at }
@@ -42,12 +35,13 @@ impl<'a> Kept<'a> {
         region_in(self.regions.as_slice(), at)
     }
 
+    /// The address's page, if there is a place for it.
     #[inline(always)]
     pub(crate) fn page(&self, at: u32) -> Option<&Page>
-        ensures { option_copied result ≡ page_of self.now at }
+        ensures { unwrap_or (option_copied result) blank ≡ page_of self.now at }
     {
         let number = (at >> 12) as usize;
-        match element(self.blocks.as_slice(), number / 256) {
+        match self.blocks.get(number / 256) {
             Some(block) => block.page(number % 256),
             None => None,
         }
@@ -56,20 +50,12 @@ impl<'a> Kept<'a> {
     /// The bytes of the address's page, none where it was not made.
     #[inline(always)]
     pub(crate) fn page_bytes(&self, at: u32) -> &[u8]
-        ensures { result.now ≡ bytes_of (page_of self.now at) }
+        ensures { result.now ≡ (page_of self.now at).bytes }
     {
         match self.page(at) {
             Some(page) => page.bytes(),
             None => &[],
         }
-    }
-
-    /// The byte that the address's page holds.
-    #[inline(always)]
-    fn held(&self, at: u32) -> Option<u8>
-        ensures { result ≡ held self.now at }
-    {
-        element(self.page_bytes(at), at as usize % 4096).copied()
     }
 
     /// The byte that the address began with.
@@ -89,8 +75,8 @@ impl<'a> Kept<'a> {
     pub(crate) fn byte(&self, at: u32) -> u8
         ensures { result ≡ value self.now at }
     {
-        match self.held(at) {
-            Some(byte) => byte,
+        match self.page_bytes(at).get(at as usize % 4096) {
+            Some(byte) => *byte,
             None => self.first(at),
         }
     }

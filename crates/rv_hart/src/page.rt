@@ -1,7 +1,7 @@
 //! Pages of 4 KiB for what was written, in blocks of 1 MiB.
-ghost use Rattle.std.specs.Prelude.{◌≡◌, ◌++◌, ◌∷◌, [], ◌+◌, ◌<◌, ◌≤◌, length, slice_get, slice_set, OnOk, OnErr};
+ghost use Rattle.std.specs.Prelude.{◌≡◌, ◌++◌, ◌∷◌, [], ◌+◌, ◌<◌, ◌≤◌, length, slice_get, slice_set, OnOk, OnErr, unwrap_or};
 ghost use Rattle.std.specs.Option.{option_copied};
-ghost use Rattle.rv_hart.specs.Pages.{blank, spliced, with_bytes, page_or_blank};
+ghost use Rattle.rv_hart.specs.Pages.{blank, spliced, with_bytes, page_at};
 
 use crate::right::NOWHERE;
 use elf_image::Segment;
@@ -91,7 +91,7 @@ impl Block {
 
     #[inline(always)]
     pub(crate) fn page(&self, index: usize) -> Option<&Page>
-        ensures { option_copied result ≡ slice_get self.now index }
+        ensures { unwrap_or (option_copied result) blank ≡ page_at self.now index }
     {
         page_in(self.pages.as_slice(), index)
     }
@@ -124,8 +124,8 @@ impl Block {
     #[inline(always)]
     pub(crate) fn put(&mut self, index: usize, place: usize, source: &[u8])
         requires index { index < length self.old }
-        requires place { place + length source.now ≤ length (page_or_blank self.old index).bytes }
-        ensures { self.new ≡ slice_set self.old index (with_bytes (page_or_blank self.old index) place source.now) }
+        requires place { place + length source.now ≤ length (page_at self.old index).bytes }
+        ensures { self.new ≡ slice_set self.old index (with_bytes (page_at self.old index) place source.now) }
     {
         let page = &mut self.pages[index];
         page.put(place, source);
@@ -133,8 +133,9 @@ impl Block {
 }
 
 #[inline(always)]
+#[tactic(auto, using(crate::proofs::Near::or_default))]
 fn page_in(pages: &[Page], index: usize) -> Option<&Page>
-    ensures { option_copied result ≡ slice_get pages.now index }
+    ensures { unwrap_or (option_copied result) blank ≡ page_at pages.now index }
 {
     pages.get(index)
 }

@@ -3,7 +3,7 @@ ghost use Rattle.std.specs.Prelude.{◌≡◌, ◌+◌, ◌-◌, ◌<◌, ◌≤
 ghost use Rattle.std.specs.List.{range_with_len, list_all};
 ghost use Rattle.prof_bytes.specs.Number.{number_in};
 ghost use Rattle.rv_hart.specs.Memory.{region_at, may, byte_in, is_size};
-ghost use Rattle.rv_hart.specs.Stored.{page_of, bytes_of, value, covers_all, IsHome, IsKept, bit_of};
+ghost use Rattle.rv_hart.specs.Stored.{value, covers_all, IsHome, IsKept, bit_of};
 
 use crate::kept::Kept;
 use crate::right::{NOWHERE, Right, covers, grants};
