@@ -19,7 +19,7 @@ and_false true b fails = fails
 and_false false b fails = refl
 
 -- an element that a list has, whatever is read past its end
-get_or-any : (xs : List ℕ) (i d e : ℕ) → i < length xs → get_or xs i d ≡ get_or xs i e
+pub get_or-any : (xs : List ℕ) (i d e : ℕ) → i < length xs → get_or xs i d ≡ get_or xs i e
 get_or-any [] i d e within = absurd (omega arith)
 get_or-any (x ∷ xs) zero d e within = refl
 get_or-any (x ∷ xs) (suc i) d e within = get_or-any xs i d e (omega arith)

@@ -6,6 +6,7 @@ ghost use Rattle.rv_hart.specs.Stored.{page_of, value};
 ghost use Rattle.rv_hart.specs.Pages.{blank};
 
 use crate::page::{Block, Page};
+use crate::right::NOWHERE;
 use elf_image::Segment;
 
 /// The file, the regions, and what was written, in blocks of at most 256 pages.
@@ -55,6 +56,17 @@ impl<'a> Kept<'a> {
         match self.page(at) {
             Some(page) => page.bytes(),
             None => &[],
+        }
+    }
+
+    /// The region for which the address's page was made.
+    #[inline(always)]
+    pub(crate) fn page_home(&self, at: u32) -> Segment
+        ensures { result ≡ (page_of self.now at).home }
+    {
+        match self.page(at) {
+            Some(page) => page.home(),
+            None => NOWHERE,
         }
     }
 

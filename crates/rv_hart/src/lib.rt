@@ -12,5 +12,6 @@ mod outcome;
 mod page;
 mod read;
 mod right;
+mod write;
 
 pub use outcome::{Cause, Stepped};
