@@ -6,6 +6,7 @@
 //! made when they are first written. Below stand the instruction table and the program's image.
 #![tactic(auto)]
 
+mod access;
 mod compute;
 mod kept;
 mod outcome;

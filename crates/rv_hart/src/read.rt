@@ -80,7 +80,7 @@ impl<'a> Kept<'a> {
 
     /// The number in so many bytes, one by one.
     #[cold]
-    fn number_apart(&self, at: u32, count: usize) -> u32
+    pub(crate) fn number_apart(&self, at: u32, count: usize) -> u32
         requires count { is_size count ≡ true }
         requires low { at + count ≤ 2 ^ 32 }
         ensures { result ≡ number_in count (map (value self.now) (range_with_len at count)) }

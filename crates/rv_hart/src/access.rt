@@ -1,0 +1,70 @@
+//! Loads and stores of what is kept.
+ghost use Rattle.std.specs.Prelude.{◌≡◌, ◌+◌, ◌<◌, ◌≤◌, ◌^◌, true, IfOk, OnErr, length};
+ghost use Rattle.rv_hart.specs.Memory.{is_size, loaded, stored, may_all, write};
+ghost use Rattle.rv_hart.specs.Stored.{memory_of, IsKept};
+
+use crate::kept::Kept;
+use crate::right::{Right, covers, grants};
+use prof_bytes::Memory;
+use std::alloc::Global;
+
+/// The number in so many bytes from `at` on, where each may be read.
+#[inline(always)]
+pub(crate) fn load(kept: &Kept, at: u32, count: usize) -> Option<u32>
+    requires kept { IsKept kept.now }
+    requires count { is_size count ≡ true }
+    ensures { result ≡ loaded (memory_of kept.now) at count }
+{
+    let home = kept.home(at, count);
+    if covers(&home, at, count) && grants(&home, Right::Read) {
+        return Some(kept.number(&home, at, count));
+    }
+    load_apart(kept, at, count)
+}
+
+/// The same where the bytes do not stand in one region.
+#[cold]
+fn load_apart(kept: &Kept, at: u32, count: usize) -> Option<u32>
+    requires kept { IsKept kept.now }
+    requires count { is_size count ≡ true }
+    ensures { result ≡ loaded (memory_of kept.now) at count }
+{
+    if !kept.all_granted(Right::Read, at, count) {
+        return None;
+    }
+    Some(kept.number_apart(at, count))
+}
+
+/// Writes the bytes from `at` on, where each may be written, and says whether.
+#[inline(always)]
+pub(crate) fn store(kept: &mut Kept, alloc: Global, at: u32, bytes: &[u8]) -> Result<bool, Memory>
+    requires { IsKept kept.old }
+    ensures rest { kept.new ≡ record kept.old { blocks = kept.new.blocks } }
+    ensures kept { IsKept kept.new }
+    ensures ok { IfOk result (λ answer. (answer, memory_of kept.new) ≡ stored (memory_of kept.old) at bytes.now) }
+    ensures err { OnErr result (memory_of kept.new ≡ memory_of kept.old) }
+    ensures writable { OnErr result (may_all write (memory_of kept.old) at (length bytes.now) ≡ true) }
+{
+    if !bytes.is_empty() && bytes.len() <= 4 && kept.write_near(at, bytes) {
+        return Ok(true);
+    }
+    store_apart(kept, alloc, at, bytes)
+}
+
+/// The same where pages may have to be made.
+#[cold]
+fn store_apart(kept: &mut Kept, alloc: Global, at: u32, bytes: &[u8]) -> Result<bool, Memory>
+    requires { IsKept kept.old }
+    ensures rest { kept.new ≡ record kept.old { blocks = kept.new.blocks } }
+    ensures kept { IsKept kept.new }
+    ensures ok { IfOk result (λ answer. (answer, memory_of kept.new) ≡ stored (memory_of kept.old) at bytes.now) }
+    ensures err { OnErr result (memory_of kept.new ≡ memory_of kept.old) }
+    ensures writable { OnErr result (may_all write (memory_of kept.old) at (length bytes.now) ≡ true) }
+{
+    if !kept.all_granted(Right::Write, at, bytes.len()) {
+        return Ok(false);
+    }
+    kept.make_all(alloc, at, bytes.len())?;
+    kept.put_all(at, bytes);
+    Ok(true)
+}
