@@ -8,7 +8,11 @@ use Rattle.rv_hart.specs.declared.kept.Kept.{Kept}
 use Rattle.rv_hart.specs.Memory.{Memory, each_address, byte_at, region_at, read, write, may, may_all, number_at, loaded, byte_after, written, stored}
 use Rattle.rv_hart.specs.Stored.{value, value_after, memory_of, IsKept}
 use Rattle.rv_hart.proofs.Bytes.{byte-each, each-same}
-use Rattle.rv_hart.proofs.Near.{spelled, all-each, granted-low}
+use Rattle.rv_hart.specs.Memory.{execute, has}
+use Rattle.rv_hart.specs.Step.{is_fetched_from, fetched_at}
+use Rattle.rv_hart.specs.Stored.{IsHome, covers_all}
+use Rattle.std.proofs.lemmas.Bool.{and_parts, eq-eqb}
+use Rattle.rv_hart.proofs.Near.{spelled, all-each, granted-low, covers-low}
 
 -- the byte at an address
 pub byte-kept : (kept : Kept) (at : ℕ) → at < 2 ^ 32 → byte_at (memory_of kept) at ≡ value kept at
@@ -70,3 +74,15 @@ after-same old mid at bytes values a = ap (cond (nat_le at a && nat_lt a (at + l
 -- what a change of the blocks leaves
 pub regions-same : (old new : Kept) → new ≡ record old { blocks = new.blocks } → old.regions.items ≡ new.regions.items
 regions-same old new rest = sym (ap (λ (k : Kept). k.regions.items) rest)
+
+fetch-low : (pc i : ℕ) → pc + 4 ≤ 2 ^ 32 → i < 4 → pc + i < 2 ^ 32
+fetch-low pc i end few = omega arith
+
+-- a fetch that may be made
+pub fetched-kept : (kept : Kept) (home : Segment) (pc : ℕ) → IsKept kept → IsHome kept.regions.items home → region_at kept.regions.items pc ≡ Some home → pc % 4 ≡ 0 → pc < 2 ^ 32 → has execute home ≡ true → covers_all home pc 4 ≡ true → fetched_at (memory_of kept) pc ≡ Some (number_in 4 (map (value kept) (range_with_len pc 4)))
+fetched-kept kept home pc is own found aligned small granted covered =
+    let end : pc + 4 ≤ 2 ^ 32 = covers-low kept.regions.items home pc 4 is.low own covered small in
+    let fetched : is_fetched_from pc (region_at kept.regions.items pc) ≡ true =
+    ap (is_fetched_from pc) found ∙ ap₂ (λ (a b : Bool). a && b) granted (and_parts _ _ covered).1 in
+    ap (λ (t : Bool). cond t (Some (number_at (memory_of kept) pc 4)) None) (ap₂ (λ (a b : Bool). a && b) (eq-eqb (pc % 4) 0 aligned) fetched)
+    ∙ ap (λ (b : List ℕ). Some (number_in 4 b)) (bytes-kept kept pc 4 (λ i few. fetch-low pc i end few))

@@ -111,9 +111,12 @@ is_fetched_from pc None = false
 is_fetched_from pc (Some region) = has execute region && nat_le (pc + 4) region.end
 
 -- the word at pc, where it may be fetched
+abbrev pub fetched_at : Memory → ℕ → Option ℕ
+fetched_at memory pc =
+    if pc % 4 == 0 && is_fetched_from pc (region_at memory.regions pc) then Some (number_at memory pc 4) else None
+
 abbrev pub fetched : State → Option ℕ
-fetched s =
-    if s.pc % 4 == 0 && is_fetched_from s.pc (region_at s.memory.regions s.pc) then Some (number_at s.memory s.pc 4) else None
+fetched s = fetched_at s.memory s.pc
 
 abbrev pub after_fetch : Option ℕ → State → State × Stepped
 after_fetch None s = trapped cause.Fetch s

@@ -1,10 +1,12 @@
 //! Loads and stores of what is kept.
-ghost use Rattle.std.specs.Prelude.{◌≡◌, ◌+◌, ◌<◌, ◌≤◌, ◌^◌, true, IfOk, OnErr, length};
-ghost use Rattle.rv_hart.specs.Memory.{is_size, loaded, stored, may_all, write};
-ghost use Rattle.rv_hart.specs.Stored.{memory_of, IsKept};
+ghost use Rattle.std.specs.Prelude.{◌≡◌, ◌≤◌, ◌%◌, true, IfOk, OnErr, length};
+ghost use Rattle.rv_hart.specs.Memory.{is_size, loaded, stored, may_all, region_at, write};
+ghost use Rattle.rv_hart.specs.Stored.{memory_of, IsKept, IsHome};
+ghost use Rattle.rv_hart.specs.Step.{fetched_at};
 
 use crate::kept::Kept;
 use crate::right::{Right, covers, grants};
+use elf_image::Segment;
 use prof_bytes::Memory;
 use std::alloc::Global;
 
@@ -67,4 +69,23 @@ fn store_apart(kept: &mut Kept, alloc: Global, at: u32, bytes: &[u8]) -> Result<
     kept.make_all(alloc, at, bytes.len())?;
     kept.put_all(at, bytes);
     Ok(true)
+}
+
+/// The word at a multiple of 4 that this region holds, where it may be fetched.
+#[inline(always)]
+pub(crate) fn fetch(kept: &Kept, home: &Segment, pc: u32) -> Option<u32>
+    requires kept { IsKept kept.now }
+    requires home { IsHome kept.now.regions.items home.now }
+    requires found { region_at kept.now.regions.items pc ≡ Some home.now }
+    requires start { home.now.start ≤ pc }
+    requires aligned { pc % 4 ≡ 0 }
+    ensures { result ≡ fetched_at (memory_of kept.now) pc }
+{
+    if !grants(home, Right::Execute) {
+        return None;
+    }
+    if !covers(home, pc, 4) {
+        return None;
+    }
+    Some(kept.number(home, pc, 4))
 }

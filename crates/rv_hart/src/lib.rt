@@ -8,11 +8,15 @@
 
 mod access;
 mod compute;
+mod hart;
 mod kept;
 mod outcome;
 mod page;
 mod read;
 mod right;
+mod space;
 mod write;
 
+pub use hart::Hart;
 pub use outcome::{Cause, Stepped};
+pub use space::Space;
