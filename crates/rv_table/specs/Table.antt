@@ -1,6 +1,6 @@
 -- The table of RV32IM (RISC-V unprivileged manual, "RV32/64G Instruction Set Listings"): which words
 -- have which instruction, and what a word decodes to.
-use Rattle.std.specs.Prelude.{ℕ, ◌==◌, ◌&&◌, Bool, true, List, [], ◌∷◌, Option, Some, None}
+use Rattle.std.specs.Prelude.{ℕ, ◌<◌, ◌==◌, ◌&&◌, Bool, true, List, [], ◌∷◌, Option, Some, None}
 use Rattle.std.specs.List.{find}
 use Rattle.rv_table.specs.declared.inst.Op.{Op}
 use Rattle.rv_table.specs.declared.inst.Op.TheVariants as ops
@@ -94,3 +94,9 @@ by_row word (Some row) = laid_out row.format row.operation word
 -- where the table has no row for it
 abbrev pub decoded : ℕ → Inst
 decoded word = by_row word (find (fits word) table)
+
+-- the numbers of the registers are those of registers
+pub record HasRegisters (inst : Inst) : Type 0 where
+  pub rd : inst.rd < 32
+  pub rs1 : inst.rs1 < 32
+  pub rs2 : inst.rs2 < 32

@@ -2,7 +2,7 @@
 ghost use Rattle.std.specs.Prelude.{◌≡◌};
 ghost use Rattle.rv_table.specs.Fields as fields;
 ghost use Rattle.rv_table.specs.Fields.{opcode, laid_out, bare};
-ghost use Rattle.rv_table.specs.Table.{decoded};
+ghost use Rattle.rv_table.specs.Table.{decoded, HasRegisters};
 
 use crate::fields::{
     b_type, funct3, funct7, i_type, j_type, opcode_of, r_type, s_type, shift_type, u_type,
@@ -171,6 +171,14 @@ fn system(word: u32) -> Inst
 /// The operation and the fields of any word, by the table of RV32IM.
 #[inline]
 pub fn decode(word: u32) -> Inst
+    ensures row { result ≡ decoded word }
+    ensures registers { HasRegisters result }
+{
+    row_of(word)
+}
+
+#[inline(always)]
+fn row_of(word: u32) -> Inst
     ensures { result ≡ decoded word }
 {
     match opcode_of(word) {
