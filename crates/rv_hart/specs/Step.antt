@@ -1,6 +1,6 @@
 -- One step of one hart: what the instruction at pc does to pc, registers and memory, or the trap that
 -- it meets (RISC-V unprivileged manual, "RV32I Base Integer Instruction Set").
-use Rattle.std.specs.Prelude.{◌≡◌, ℕ, ◌+◌, ◌-◌, ◌*◌, ◌/◌, ◌%◌, ◌^◌, ◌==◌, ◌&&◌, not, Bool, true, false, List, take, slice_index, slice_set, Option, Some, None, if◌then◌else◌, nat_le, nat_lt, int_lt}
+use Rattle.std.specs.Prelude.{◌≡◌, ℕ, ◌+◌, ◌-◌, ◌*◌, ◌/◌, ◌%◌, ◌^◌, ◌==◌, ◌&&◌, not, Bool, true, false, List, take, slice_index, slice_set, Option, Some, None, option_map, if◌then◌else◌, nat_le, nat_lt, int_lt}
 use Rattle.prof_bytes.specs.Number.{number_bytes}
 use Rattle.elf_image.specs.declared.image.Segment.{Segment}
 use Rattle.rv_table.specs.declared.inst.Op.{Op}
@@ -60,21 +60,22 @@ branches inst test s =
     let target = sum s.pc inst.imm in
     if not test then goes (sum s.pc 4) s else (if target % 4 == 0 then goes target s else trapped cause.Target s)
 
-abbrev pub takes : Inst → (ℕ → ℕ) → Option ℕ → State → State × Stepped
-takes inst extended None s = trapped cause.Load s
-takes inst extended (Some number) s = computes inst (extended number) s
+abbrev pub takes : Inst → Option ℕ → State → State × Stepped
+takes inst None s = trapped cause.Load s
+takes inst (Some number) s = computes inst number s
 
-abbrev pub loads : Inst → ℕ → (ℕ → ℕ) → State → State × Stepped
-loads inst size extended s = takes inst extended (loaded s.memory (sum (first inst s) inst.imm) size) s
+-- the address that a load or a store means, and the number there
+abbrev pub address : Inst → State → ℕ
+address inst s = sum (first inst s) inst.imm
+
+abbrev pub operand : Inst → ℕ → State → Option ℕ
+operand inst size s = loaded s.memory (address inst s) size
 
 abbrev pub puts : Bool × Memory → State → State × Stepped
 puts answer s = if answer.0 then (state (sum s.pc 4) s.registers answer.1, stepped.Retired) else trapped cause.Store s
 
 abbrev pub stores : Inst → ℕ → State → State × Stepped
-stores inst size s = puts (stored s.memory (sum (first inst s) inst.imm) (number_bytes size (second inst s))) s
-
-abbrev pub same : ℕ → ℕ
-same number = number
+stores inst size s = puts (stored s.memory (address inst s) (number_bytes size (second inst s))) s
 
 -- what the instruction does, by its operation
 abbrev pub done : Op → Inst → State → State × Stepped
@@ -89,11 +90,11 @@ done ops.Blt inst s = branches inst (int_lt (signed (first inst s)) (signed (sec
 done ops.Bge inst s = branches inst (not (int_lt (signed (first inst s)) (signed (second inst s)))) s
 done ops.Bltu inst s = branches inst (nat_lt (first inst s) (second inst s)) s
 done ops.Bgeu inst s = branches inst (not (nat_lt (first inst s) (second inst s))) s
-done ops.Lb inst s = loads inst 1 (sign_extended 8) s
-done ops.Lh inst s = loads inst 2 (sign_extended 16) s
-done ops.Lw inst s = loads inst 4 same s
-done ops.Lbu inst s = loads inst 1 same s
-done ops.Lhu inst s = loads inst 2 same s
+done ops.Lb inst s = takes inst (option_map (sign_extended 8) (operand inst 1 s)) s
+done ops.Lh inst s = takes inst (option_map (sign_extended 16) (operand inst 2 s)) s
+done ops.Lw inst s = takes inst (operand inst 4 s) s
+done ops.Lbu inst s = takes inst (operand inst 1 s) s
+done ops.Lhu inst s = takes inst (operand inst 2 s) s
 done ops.Sb inst s = stores inst 1 s
 done ops.Sh inst s = stores inst 2 s
 done ops.Sw inst s = stores inst 4 s

@@ -1,5 +1,5 @@
 //! Loads and stores of what is kept.
-ghost use Rattle.std.specs.Prelude.{◌≡◌, ◌≤◌, ◌%◌, true, IfOk, OnErr, length};
+ghost use Rattle.std.specs.Prelude.{◌≡◌, ◌<◌, ◌≤◌, ◌%◌, ◌*◌, ◌^◌, true, IfOk, IfSome, OnErr, length};
 ghost use Rattle.rv_hart.specs.Memory.{is_size, loaded, stored, may_all, region_at, write};
 ghost use Rattle.rv_hart.specs.Stored.{memory_of, IsKept, IsHome};
 ghost use Rattle.rv_hart.specs.Step.{fetched_at};
@@ -15,7 +15,8 @@ use std::alloc::Global;
 pub(crate) fn load(kept: &Kept, at: u32, count: usize) -> Option<u32>
     requires kept { IsKept kept.now }
     requires count { is_size count ≡ true }
-    ensures { result ≡ loaded (memory_of kept.now) at count }
+    ensures number { result ≡ loaded (memory_of kept.now) at count }
+    ensures fits { IfSome result (λ number. number < 2 ^ (8 * count)) }
 {
     let home = kept.home(at, count);
     if covers(&home, at, count) && grants(&home, Right::Read) {
@@ -29,7 +30,8 @@ pub(crate) fn load(kept: &Kept, at: u32, count: usize) -> Option<u32>
 fn load_apart(kept: &Kept, at: u32, count: usize) -> Option<u32>
     requires kept { IsKept kept.now }
     requires count { is_size count ≡ true }
-    ensures { result ≡ loaded (memory_of kept.now) at count }
+    ensures number { result ≡ loaded (memory_of kept.now) at count }
+    ensures fits { IfSome result (λ number. number < 2 ^ (8 * count)) }
 {
     if !kept.all_granted(Right::Read, at, count) {
         return None;

@@ -15,6 +15,7 @@ mod page;
 mod read;
 mod right;
 mod space;
+mod step;
 mod write;
 
 pub use hart::Hart;

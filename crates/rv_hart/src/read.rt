@@ -1,5 +1,5 @@
 //! Reading what is kept: numbers that stand together, and those that do not.
-ghost use Rattle.std.specs.Prelude.{◌≡◌, ◌+◌, ◌-◌, ◌<◌, ◌≤◌, ◌^◌, ℕ, true, IfSome, length, map, slice_index, Some};
+ghost use Rattle.std.specs.Prelude.{◌≡◌, ◌+◌, ◌<◌, ◌≤◌, ◌^◌, ◌*◌, ℕ, true, IfSome, length, map, slice_index, Some};
 ghost use Rattle.std.specs.List.{range_with_len, list_all};
 ghost use Rattle.prof_bytes.specs.Number.{number_in};
 ghost use Rattle.rv_hart.specs.Memory.{region_at, may, byte_in, is_size};
@@ -16,7 +16,8 @@ static ZEROS: [u8; 4] = [0; 4];
 #[inline(always)]
 pub(crate) fn number(bytes: &[u8]) -> u32
     requires { is_size (length bytes.now) ≡ true }
-    ensures { result ≡ number_in (length bytes.now) bytes.now }
+    ensures value { result ≡ number_in (length bytes.now) bytes.now }
+    ensures fits { result < 2 ^ (8 * length bytes.now) }
 {
     match bytes.len() {
         1 => u32::from(bytes[0]),
@@ -83,7 +84,8 @@ impl<'a> Kept<'a> {
     pub(crate) fn number_apart(&self, at: u32, count: usize) -> u32
         requires count { is_size count ≡ true }
         requires low { at + count ≤ 2 ^ 32 }
-        ensures { result ≡ number_in count (map (value self.now) (range_with_len at count)) }
+        ensures value { result ≡ number_in count (map (value self.now) (range_with_len at count)) }
+        ensures fits { result < 2 ^ (8 * count) }
     {
         let mut bytes = [0; 4];
         self.copy(at, &mut bytes[..count]);
@@ -97,7 +99,8 @@ impl<'a> Kept<'a> {
         requires home { IsHome self.now.regions.items home.now }
         requires covered { covers_all home.now at count ≡ true }
         requires count { is_size count ≡ true }
-        ensures { result ≡ number_in count (map (value self.now) (range_with_len at count)) }
+        ensures value { result ≡ number_in count (map (value self.now) (range_with_len at count)) }
+        ensures fits { result < 2 ^ (8 * count) }
     {
         match self.near(home, at, count) {
             Some(bytes) => number(bytes),

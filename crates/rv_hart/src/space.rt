@@ -1,4 +1,4 @@
-ghost use Rattle.std.specs.Prelude.{◌≡◌, ◌<◌, ◌≤◌, ◌++◌, map, true, IfOk, OnErr, length};
+ghost use Rattle.std.specs.Prelude.{◌≡◌, ◌<◌, ◌≤◌, ◌*◌, ◌^◌, ◌++◌, map, true, IfOk, IfSome, OnErr, length};
 ghost use Rattle.std.specs.List.{range_with_len};
 ghost use Rattle.rv_hart.specs.Memory.{is_size, loaded, stored, may_all, write, first_memory, stack_of};
 ghost use Rattle.rv_hart.specs.Step.{fetched_at};
@@ -85,7 +85,8 @@ impl<'a> Space<'a> {
     #[inline(always)]
     pub fn load(&self, at: u32, size: u32) -> Option<u32>
         requires { is_size size ≡ true }
-        ensures { result ≡ loaded self.now at size }
+        ensures number { result ≡ loaded self.now at size }
+        ensures fits { IfSome result (λ number. number < 2 ^ (8 * size)) }
     {
         access::load(&self.kept, at, size as usize)
     }
