@@ -15,9 +15,10 @@ mod page;
 mod read;
 mod right;
 mod space;
-mod step;
+mod execute;
 mod write;
 
 pub use hart::Hart;
 pub use outcome::{Cause, Stepped};
+pub use execute::step;
 pub use space::Space;

@@ -3,7 +3,7 @@ use Rattle.prof_bytes.specs.Number.{number_bytes}
 use Rattle.rv_hart.specs.Arithmetic.{sum}
 use Rattle.rv_hart.specs.Step.{state, address}
 use Rattle.rv_hart.proofs.Stores.{lowest, store-ok, store-err}
-use Rattle.rv_hart.proofs.step.store.Goals as goal
+use Rattle.rv_hart.proofs.execute.store.Goals as goal
 
 pub returns-clause-ok : goal.returns-clause-ok
 returns-clause-ok c =

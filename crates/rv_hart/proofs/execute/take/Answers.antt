@@ -1,6 +1,6 @@
 use Rattle.std.proofs.Common.{ℕ, Option, sym, ap, ◌∙◌}
 use Rattle.rv_hart.specs.Step.{state, takes}
-use Rattle.rv_hart.proofs.step.take.Goals as goal
+use Rattle.rv_hart.proofs.execute.take.Goals as goal
 
 pub returns-in-Some : goal.returns-in-Some
 returns-in-Some c m =

@@ -2,7 +2,7 @@ use Rattle.std.proofs.Common.{◌≡◌, sym, ap, ◌∙◌}
 use Rattle.rv_table.specs.declared.inst.Op.{Op}
 use Rattle.rv_hart.specs.Step.{state, done}
 use Rattle.rv_hart.proofs.Computes.{computes-done}
-use Rattle.rv_hart.proofs.step.carry_out.Goals as goal
+use Rattle.rv_hart.proofs.execute.carry_out.Goals as goal
 
 pub returns-in-Lui-clause-ok : goal.returns-in-Lui-clause-ok
 returns-in-Lui-clause-ok c =

@@ -2,7 +2,7 @@ use Rattle.std.proofs.Common.{◌≡◌, Bool, true, sym, ap, ◌∙◌}
 use Rattle.rv_hart.specs.Memory.{Memory}
 use Rattle.rv_hart.specs.Step.{state}
 use Rattle.rv_hart.proofs.Stores.{put-yes}
-use Rattle.rv_hart.proofs.step.put.Goals as goal
+use Rattle.rv_hart.proofs.execute.put.Goals as goal
 
 pub returns-in-Ok-true-clause-ok : goal.returns-in-Ok-true-clause-ok
 returns-in-Ok-true-clause-ok c =
