@@ -21,3 +21,4 @@ pub mod ContextColumns
 pub mod NamesUsed
 pub mod Numbers
 pub mod PlaneSteps
+pub mod Bounds

@@ -31,14 +31,14 @@ abbrev pub words : List ℕ → List ℕ
 words ns = flat_map word ns
 
 -- the length, and the bytes
-abbrev pub text : List ℕ → List ℕ
-text bytes = word (length bytes) ++ bytes
+abbrev pub text_bytes : List ℕ → List ℕ
+text_bytes bytes = word (length bytes) ++ bytes
 
-abbrev pub procedure : ProcName → List ℕ
-procedure p = words (proc_words p.id) ++ text p.name
+abbrev pub procedure_bytes : ProcName → List ℕ
+procedure_bytes p = words (proc_words p.id) ++ text_bytes p.name
 
-abbrev pub file : FileName → List ℕ
-file f = word f.table ++ word f.file ++ text f.name
+abbrev pub file_bytes : FileName → List ℕ
+file_bytes f = word f.table ++ word f.file ++ text_bytes f.name
 
 -- the places of a procedure and of a file in the lists of names
 abbrev pub proc_place : Names → ProcId → ℕ
@@ -58,8 +58,8 @@ scope_spelled names (Inline callee call) = 2 ∷ proc_place names callee ∷ lin
 scope_spelled names (Call line) = 3 ∷ line_spelled names line
 scope_spelled names (Stmt line) = 4 ∷ line_spelled names line
 
-abbrev pub node : Names → Node → List ℕ
-node names n = word n.parent ++ words (scope_spelled names n.scope)
+abbrev pub node_bytes : Names → Node → List ℕ
+node_bytes names n = word n.parent ++ words (scope_spelled names n.scope)
 
 abbrev pub kind_number : Kind → ℕ
 kind_number Exclusive = 0
@@ -76,14 +76,14 @@ context_entry e = word (kind_number e.kind) ++ word e.hart ++ long e.value
 abbrev pub counted : {X : Type 0} → (X → List ℕ) → List X → List ℕ
 counted spelled xs = word (length xs) ++ flat_map spelled xs
 
-abbrev pub head : Content → List ℕ
-head c = codes "HPCPROF1" ++ words (c.period ∷ c.harts ∷ length c.names.procs ∷ length c.names.files ∷ length c.nodes ∷ [])
+abbrev pub head_bytes : Content → List ℕ
+head_bytes c = codes "HPCPROF1" ++ words (c.period ∷ c.harts ∷ length c.names.procs ∷ length c.names.files ∷ length c.nodes ∷ [])
 
 unfoldable pub spelling : Content → List ℕ
 spelling c =
-    head c
-    ++ flat_map procedure c.names.procs
-    ++ flat_map file c.names.files
-    ++ flat_map (node c.names) c.nodes
+    head_bytes c
+    ++ flat_map procedure_bytes c.names.procs
+    ++ flat_map file_bytes c.names.files
+    ++ flat_map (node_bytes c.names) c.nodes
     ++ flat_map (counted profile_entry) c.profiles
     ++ flat_map (counted context_entry) c.contexts
