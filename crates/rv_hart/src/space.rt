@@ -8,6 +8,7 @@ use crate::kept::Kept;
 use crate::right::{NOWHERE, covers};
 use elf_image::{Image, Segment};
 use prof_bytes::Memory;
+use scope_types::Look;
 use std::alloc::Global;
 use std::marker::Model;
 
@@ -119,5 +120,13 @@ impl<'a> Space<'a> {
             }
         }
         access::fetch(&self.kept, &self.code, pc)
+    }
+}
+
+impl<'a> Look for Space<'a> {
+    ghost words = { λ memory at. loaded memory at 4 };
+
+    fn word(&self, at: u32) -> Option<u32> {
+        self.load(at, 4)
     }
 }
