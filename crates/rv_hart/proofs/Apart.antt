@@ -62,15 +62,15 @@ pairs-apart (x ∷ xs) pairs at r found =
         let here : Some x ≡ Some r = sym (ap (λ (t : Bool). cond t (Some x) (find (holds at) xs)) e) ∙ found in
         let same : x ≡ r = cc in
         λ b held.
-            let first : holds b x ≡ true = ap (holds b) same ∙ held in
-            ap (λ (t : Bool). cond t (Some x) (find (holds b) xs)) first ∙ here
+        let first : holds b x ≡ true = ap (holds b) same ∙ held in
+        ap (λ (t : Bool). cond t (Some x) (find (holds b) xs)) first ∙ here
     by_case false e tail =
         let later : find (holds at) xs ≡ Some r = sym (ap (λ (t : Bool). cond t (Some x) (find (holds at) xs)) e) ∙ found in
         λ b held.
-            let apart : IsTrue (are_apart x r) =
-            find-all (λ s. IsTrue (are_apart x s)) (holds at) xs r (λ k d few. pairs 0 (suc k) d (omega arith) (omega arith)) later in
-            ap (λ (t : Bool). cond t (Some x) (find (holds b) xs)) (apart-holds x r b apart held)
-            ∙ tail later b held
+        let apart : IsTrue (are_apart x r) =
+        find-all (λ s. IsTrue (are_apart x s)) (holds at) xs r (λ k d few. pairs 0 (suc k) d (omega arith) (omega arith)) later in
+        ap (λ (t : Bool). cond t (Some x) (find (holds b) xs)) (apart-holds x r b apart held)
+        ∙ tail later b held
 
 -- segments below the stacks, and so many stacks
 record IsStacked (count : ℕ) (xs : List Segment) : Type 0 where
@@ -87,12 +87,12 @@ push-each P (x ∷ xs) y all here (suc k) d few = push-each P xs y (λ j e less.
 -- a stack more
 stacked-more : (count : ℕ) (xs : List Segment) → IsStacked count xs → IsStacked (count + 1) (xs ++ stack_of count ∷ [])
 stacked-more count xs is = record {
-    pairs =
-    all_pairs_push (λ s t. IsTrue (are_apart s t)) xs (stack_of count) is.pairs
-    (λ k d few. true-or _ _ (le-leb (get_or xs k d).end (stack_of count).start (omega (arith, is.below k d few))));
-    below =
-    push-each (λ s. s.end ≤ stacks_begin + (count + 1) * 0x100000) xs (stack_of count)
-    (λ k d few. let before : (get_or xs k d).end ≤ stacks_begin + count * 0x100000 = is.below k d few in omega arith) (omega arith)
+  pairs =
+      all_pairs_push (λ s t. IsTrue (are_apart s t)) xs (stack_of count) is.pairs
+      (λ k d few. true-or _ _ (le-leb (get_or xs k d).end (stack_of count).start (omega (arith, is.below k d few))));
+  below =
+      push-each (λ s. s.end ≤ stacks_begin + (count + 1) * 0x100000) xs (stack_of count)
+      (λ k d few. let before : (get_or xs k d).end ≤ stacks_begin + count * 0x100000 = is.below k d few in omega arith) (omega arith);
 }
 
 pub stacks-more : (xs segments : List Segment) (hart : ℕ) (s : Segment) → xs ≡ segments ++ map stack_of (range_with_len 0 hart) → s ≡ stack_of hart → xs ++ s ∷ [] ≡ segments ++ map stack_of (range_with_len 0 (hart + 1))
@@ -104,8 +104,8 @@ stacks-more xs segments hart s are is =
 -- the program's segments, and no stack
 stacked-none : (program : Loaded) → IsLoaded program → IsStacked 0 program.segments
 stacked-none program is = record {
-    pairs = is.apart;
-    below = λ k d few. let low : (get_or program.segments k d).end ≤ stacks_begin = (is.within k d few).low in omega arith
+  pairs = is.apart;
+  below = λ k d few. let low : (get_or program.segments k d).end ≤ stacks_begin = (is.within k d few).low in omega arith;
 }
 
 stacked-all : (program : Loaded) (count : ℕ) → IsLoaded program → IsStacked count (regions_of program count)
@@ -127,10 +127,12 @@ of-kept kept program harts is few regions blocks =
     let stacked : IsStacked harts (regions_of program harts) = stacked-all program harts is in
     let high : (at : ℕ) → 2 ^ 32 ≤ at → (k : ℕ) (d : Segment) → k < length (regions_of program harts) → holds at (get_or (regions_of program harts) k d) ≡ false =
     λ at past k d within.
-        let below : (get_or (regions_of program harts) k d).end ≤ stacks_begin + harts * 0x100000 = stacked.below k d within in
-        ap₂ (λ (a b : Bool). a && b) refl (le-ltb at (get_or (regions_of program harts) k d).end (omega arith)) ∙ and-false (nat_le (get_or (regions_of program harts) k d).start at) in
-    (record {
+    let below : (get_or (regions_of program harts) k d).end ≤ stacks_begin + harts * 0x100000 = stacked.below k d within in
+    ap₂ (λ (a b : Bool). a && b) refl (le-ltb at (get_or (regions_of program harts) k d).end (omega arith)) ∙ and-false (nat_le (get_or (regions_of program harts) k d).start at) in (
+      record {
         apart = subst AreApart (sym regions) (pairs-apart (regions_of program harts) stacked.pairs);
         homes = λ number. subst (λ (b : List (List Paged)). IsHome kept.regions.items (page_in b number).home) (sym blocks) (nowhere-home kept.regions.items);
-        low = λ at past. ap (find (holds at)) regions ∙ find-none (holds at) (regions_of program harts) (high at past)
-    }, nowhere-home kept.regions.items)
+        low = λ at past. ap (find (holds at)) regions ∙ find-none (holds at) (regions_of program harts) (high at past);
+      },
+      nowhere-home kept.regions.items,
+    )

@@ -21,7 +21,7 @@ each-same f g same =
     ext_get_or 0 (map f (range_with_len 0 addresses)) (map g (range_with_len 0 addresses))
     (length-map-range_with_len f 0 addresses ∙ sym (length-map-range_with_len g 0 addresses))
     (λ i within.
-        let inside : i < addresses = omega (arith, length-map-range_with_len f 0 addresses) in
-        get_or-map-range_with_len f 0 addresses i i 0 inside (omega arith)
-        ∙ same i (omega (arith, addresses-is))
-        ∙ sym (get_or-map-range_with_len g 0 addresses i i 0 inside (omega arith)))
+    let inside : i < addresses = omega (arith, length-map-range_with_len f 0 addresses) in
+    get_or-map-range_with_len f 0 addresses i i 0 inside (omega arith)
+    ∙ same i (omega (arith, addresses-is))
+    ∙ sym (get_or-map-range_with_len g 0 addresses i i 0 inside (omega arith)))

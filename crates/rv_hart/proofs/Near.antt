@@ -33,8 +33,8 @@ pub spelled : (xs : List ℕ) (f : ℕ → ℕ) (at count : ℕ) → length xs �
 spelled xs f at count long each =
     ext_get_or 0 xs (map f (range_with_len at count)) (long ∙ sym (length-map-range_with_len f at count))
     (λ i within.
-        let inside : i < count = omega arith in
-        each i inside ∙ sym (get_or-map-range_with_len f at count i (at + i) 0 inside refl))
+    let inside : i < count = omega arith in
+    each i inside ∙ sym (get_or-map-range_with_len f at count i (at + i) 0 inside refl))
 
 -- so many elements of a list, from this place on
 pub part-get : (xs : List ℕ) (place count i : ℕ) → i < count → get_or (take count (drop place xs)) i 0 ≡ get_or xs (place + i) 0
@@ -62,11 +62,11 @@ pub near-page : (kept : Kept) (at count : ℕ) (bytes : List ℕ) → bytes ≡ 
 near-page kept at count bytes are inside within =
     spelled (take count (drop (at % 2 ^ 12) bytes)) (value kept) at count (part-length bytes (at % 2 ^ 12) count within)
     (λ i few.
-        let first : ℕ = first_byte kept.file.now kept.regions.items (at + i) in
-        let here : (page_of kept (at + i)).bytes ≡ bytes = ap (λ (p : Paged). p.bytes) (page-same kept at i (omega arith)) ∙ sym are in
-        part-get bytes (at % 2 ^ 12) count i few
-        ∙ get_or-any bytes (at % 2 ^ 12 + i) 0 first (omega arith)
-        ∙ sym (ap₂ (λ (b : List ℕ) (p : ℕ). get_or b p first) here (place-same at i (omega arith))))
+    let first : ℕ = first_byte kept.file.now kept.regions.items (at + i) in
+    let here : (page_of kept (at + i)).bytes ≡ bytes = ap (λ (p : Paged). p.bytes) (page-same kept at i (omega arith)) ∙ sym are in
+    part-get bytes (at % 2 ^ 12) count i few
+    ∙ get_or-any bytes (at % 2 ^ 12 + i) 0 first (omega arith)
+    ∙ sym (ap₂ (λ (b : List ℕ) (p : ℕ). get_or b p first) here (place-same at i (omega arith))))
 
 -- where a page was not made, the bytes are those that the region began with
 pub value-first : (kept : Kept) (home : Segment) (at count i : ℕ) → [] ≡ (page_of kept at).bytes → at % 2 ^ 12 + count ≤ 2 ^ 12 → IsHome kept.regions.items home → covers_all home at count ≡ true → i < count → value kept (at + i) ≡ byte_in kept.file.now (at + i) (Some home)
@@ -114,8 +114,8 @@ pub granted-low : (regions : List Segment) (right at : ℕ) → ((a : ℕ) → 2
 granted-low regions right at low granted =
     lt_of_not-le
     (λ (above : 2 ^ 32 ≤ at).
-        let clash : true ≡ false = sym granted ∙ ap (grants right) (low at above) in
-        cc)
+    let clash : true ≡ false = sym granted ∙ ap (grants right) (low at above) in
+    cc)
 
 -- what the file's part gives, as what is kept gives it
 pub near-none : (kept : Kept) (home : Segment) (at count : ℕ) → [] ≡ (page_of kept at).bytes → at % 2 ^ 12 + count ≤ 2 ^ 12 → IsHome kept.regions.items home → covers_all home at count ≡ true → (found : Option (Bor (List ℕ))) → IfSome found (λ bytes. length bytes.now ≡ count) → IfSome found (λ bytes. (i : ℕ) → i < count → slice_index bytes.now i ≡ byte_in kept.file.now (at + i) (Some home)) → IfSome found (λ bytes. bytes.now ≡ map (value kept) (range_with_len at count))
@@ -130,6 +130,6 @@ covers-low regions home at (suc count) low own covered small =
     let last : at + count < 2 ^ 32 =
     lt_of_not-le
     (λ (above : 2 ^ 32 ≤ at + count).
-        let clash : Some home ≡ None = sym (covers-region regions home at (suc count) count own covered (omega arith)) ∙ low (at + count) above in
-        cc) in
+    let clash : Some home ≡ None = sym (covers-region regions home at (suc count) count own covered (omega arith)) ∙ low (at + count) above in
+    cc) in
     omega arith

@@ -97,17 +97,20 @@ put-value old new at source firsts pages within page a = by_page (a / 2 ^ 12 == 
     in_page : a / 2 ^ 12 ≡ at / 2 ^ 12 → get_or (spliced (page_of old at).bytes (at % 2 ^ 12) source) (a % 2 ^ 12) (first_byte old.file.now old.regions.items a) ≡ value_after old at source a
     in_page same =
         elim (leb_tells at a) [
-        inl low ↦ (elim (leb_tells (suc a) (at + length source)) [
-        inl high ↦ inside same low.1 high.1
-        | inr high ↦ behind same (omega (arith, high.1)) ])
-        | inr low ↦ before same low.1 ]
+          | inl low ↦ (elim (leb_tells (suc a) (at + length source)) [
+            | inl high ↦ inside same low.1 high.1
+            | inr high ↦ behind same (omega (arith, high.1))
+          ])
+          | inr low ↦ before same low.1
+        ]
 
     elsewhere : (a / 2 ^ 12 == at / 2 ^ 12) ≡ false → value old a ≡ value_after old at source a
     elsewhere e =
         let other : a / 2 ^ 12 ≢ at / 2 ^ 12 = unequal (a / 2 ^ 12) (at / 2 ^ 12) e in
         elim (leb_tells at a) [
-        inl low ↦ sym (after-behind old at a source (omega (arith, low.1)))
-        | inr low ↦ sym (after-before old at a source low.1) ]
+          | inl low ↦ sym (after-behind old at a source (omega (arith, low.1)))
+          | inr low ↦ sym (after-before old at a source low.1)
+        ]
 
     by_page : (b : Bool) → (a / 2 ^ 12 == at / 2 ^ 12) ≡ b → value new a ≡ value_after old at source a
     by_page true e = given ∙ ap (λ (p : Paged). get_or p.bytes (a % 2 ^ 12) (first_byte old.file.now old.regions.items a)) (here true e) ∙ in_page (eqb-true (a / 2 ^ 12) (at / 2 ^ 12) e)
@@ -143,12 +146,15 @@ part-behind kept at a count source high few = after-behind kept at a (take count
 pub put-more : (old mid new : Kept) (at count byte : ℕ) (source : List ℕ) → count < length source → byte ≡ get_or source count 0 → ((a : ℕ) → value mid a ≡ value_after old at (take count source) a) → ((a : ℕ) → value new a ≡ value_after mid (at + count) (byte ∷ []) a) → (a : ℕ) → value new a ≡ value_after old at (take (count + 1) source) a
 put-more old mid new at count byte source few is before after a =
     elim (leb_tells at a) [
-    inl low ↦ (elim (leb_tells (suc a) (at + count)) [
-    inl high ↦ inside low.1 high.1
-    | inr high ↦ (elim (leb_tells (suc a) (at + count + 1)) [
-    inl last ↦ here high.1 last.1
-    | inr last ↦ behind (omega (arith, last.1)) ]) ])
-    | inr low ↦ below low.1 ]
+      | inl low ↦ (elim (leb_tells (suc a) (at + count)) [
+        | inl high ↦ inside low.1 high.1
+        | inr high ↦ (elim (leb_tells (suc a) (at + count + 1)) [
+          | inl last ↦ here high.1 last.1
+          | inr last ↦ behind (omega (arith, last.1))
+        ])
+      ])
+      | inr low ↦ below low.1
+    ]
   where
     below : a < at → value new a ≡ value_after old at (take (count + 1) source) a
     below low =

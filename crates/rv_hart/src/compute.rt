@@ -41,7 +41,9 @@ fn divide_signed(a: u32, b: u32) -> u32
     if b == 0 {
         return u32::MAX;
     }
-    a.cast_signed().wrapping_div(b.cast_signed()).cast_unsigned()
+    a.cast_signed()
+        .wrapping_div(b.cast_signed())
+        .cast_unsigned()
 }
 
 #[inline(always)]
@@ -58,7 +60,9 @@ fn rest_signed(a: u32, b: u32) -> u32
     if b == 0 {
         return a;
     }
-    a.cast_signed().wrapping_rem(b.cast_signed()).cast_unsigned()
+    a.cast_signed()
+        .wrapping_rem(b.cast_signed())
+        .cast_unsigned()
 }
 
 #[inline(always)]

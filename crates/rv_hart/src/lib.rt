@@ -8,6 +8,7 @@
 
 mod access;
 mod compute;
+mod execute;
 mod hart;
 mod kept;
 mod outcome;
@@ -15,10 +16,12 @@ mod page;
 mod read;
 mod right;
 mod space;
-mod execute;
 mod write;
 
+pub use execute::step;
 pub use hart::Hart;
 pub use outcome::{Cause, Stepped};
-pub use execute::step;
 pub use space::Space;
+
+#[cfg(test)]
+mod tests;

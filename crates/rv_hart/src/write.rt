@@ -86,7 +86,12 @@ impl<'a> Kept<'a> {
         let number = at >> 12;
         let home = self.region(at).unwrap_or(NOWHERE);
         let bytes = self.page_as_kept(alloc, number)?;
-        set_page(&mut self.blocks, alloc, number as usize, Page::new(home, bytes))?;
+        set_page(
+            &mut self.blocks,
+            alloc,
+            number as usize,
+            Page::new(home, bytes),
+        )?;
         Ok(())
     }
 

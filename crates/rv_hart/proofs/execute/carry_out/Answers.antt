@@ -21,27 +21,27 @@ returns-in_default-clause-ok c =
     c.set-in_default.ensures c.args.space.now
     ∙ computes-done c.args.inst.now (state c.args.hart.now.pc c.args.hart.now.regs c.args.space.now) c.read-a.result c.read-b.result c.compute.result
     (record {
-        illegal = c.in_default.not-Illegal;
-        lui = c.in_default.not-Lui;
-        auipc = c.in_default.not-Auipc;
-        jal = c.in_default.not-Jal;
-        jalr = c.in_default.not-Jalr;
-        beq = c.in_default.not-Beq;
-        bne = c.in_default.not-Bne;
-        blt = c.in_default.not-Blt;
-        bge = c.in_default.not-Bge;
-        bltu = c.in_default.not-Bltu;
-        bgeu = c.in_default.not-Bgeu;
-        lb = c.in_default.not-Lb;
-        lh = c.in_default.not-Lh;
-        lw = c.in_default.not-Lw;
-        lbu = c.in_default.not-Lbu;
-        lhu = c.in_default.not-Lhu;
-        sb = c.in_default.not-Sb;
-        sh = c.in_default.not-Sh;
-        sw = c.in_default.not-Sw;
-        fence = c.in_default.not-Fence;
-        ecall = c.in_default.not-Ecall;
-        ebreak = c.in_default.not-Ebreak
+      illegal = c.in_default.not-Illegal;
+      lui = c.in_default.not-Lui;
+      auipc = c.in_default.not-Auipc;
+      jal = c.in_default.not-Jal;
+      jalr = c.in_default.not-Jalr;
+      beq = c.in_default.not-Beq;
+      bne = c.in_default.not-Bne;
+      blt = c.in_default.not-Blt;
+      bge = c.in_default.not-Bge;
+      bltu = c.in_default.not-Bltu;
+      bgeu = c.in_default.not-Bgeu;
+      lb = c.in_default.not-Lb;
+      lh = c.in_default.not-Lh;
+      lw = c.in_default.not-Lw;
+      lbu = c.in_default.not-Lbu;
+      lhu = c.in_default.not-Lhu;
+      sb = c.in_default.not-Sb;
+      sh = c.in_default.not-Sh;
+      sw = c.in_default.not-Sw;
+      fence = c.in_default.not-Fence;
+      ecall = c.in_default.not-Ecall;
+      ebreak = c.in_default.not-Ebreak;
     })
     c.read-a.ensures c.read-b.ensures c.compute.ensures
