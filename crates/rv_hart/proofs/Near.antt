@@ -1,0 +1,135 @@
+-- Bytes that stand together: in a page, or in the file's part of one region.
+use Rattle.std.proofs.Common.{◌≡◌, ℕ, zero, suc, ◌+◌, ◌-◌, ◌*◌, ◌/◌, ◌%◌, ◌^◌, ◌<◌, ◌≤◌, ◌&&◌, ◌⊎◌, inl, inr, Bool, true, false, cond, List, [], ◌∷◌, map, length, take, drop, slice_index, get_or, slice_get, Option, Some, None, IfSome, Bor, unwrap_or, nat_le, nat_lt, refl, sym, ap, ap₂, subst, ◌∙◌, arith}
+use Rattle.std.specs.List.{range_with_len, list_all}
+use Rattle.std.proofs.lemmas.List.{ext_get_or, get_or-drop, get_or-take, length-drop, length-take}
+use Rattle.std.proofs.lemmas.Bool.{and_parts}
+use Rattle.std.proofs.lemmas.Bool.Decides.{nat_tests}
+use Rattle.std.proofs.lemmas.Option.{unwrap_or-slice_get}
+use Rattle.std.proofs.lemmas.List.FromFn.{get_or-map-range_with_len, length-map-range_with_len}
+use Rattle.std.proofs.Math.Nat.{lt_of_not-le}
+use Rattle.elf_image.specs.declared.part.Segment.{Segment}
+use Rattle.elf_image.specs.Image.{in_segment}
+use Rattle.rv_hart.specs.Pages.{Paged, blank, page_at}
+use Rattle.rv_hart.specs.declared.kept.Kept.{Kept}
+use Rattle.rv_hart.specs.Memory.{region_at, first_byte, byte_in, has, may, grants}
+use Rattle.rv_hart.specs.Stored.{page_numbered, page_of, value, IsHome, covers_all}
+
+and_false : (a b : Bool) → b ≡ false → (a && b) ≡ false
+and_false true b fails = fails
+and_false false b fails = refl
+
+-- an element that a list has, whatever is read past its end
+pub get_or-any : (xs : List ℕ) (i d e : ℕ) → i < length xs → get_or xs i d ≡ get_or xs i e
+get_or-any [] i d e within = absurd (omega arith)
+get_or-any (x ∷ xs) zero d e within = refl
+get_or-any (x ∷ xs) (suc i) d e within = get_or-any xs i d e (omega arith)
+
+-- an element of a list, or the default past its end
+pub or_default : (pages : List Paged) (index : ℕ) (found : Option Paged) → found ≡ slice_get pages index → unwrap_or found blank ≡ page_at pages index
+or_default pages index found are = ap (λ (f : Option Paged). unwrap_or f blank) are ∙ unwrap_or-slice_get pages index blank
+
+-- a list that has each element of a function's in its place
+pub spelled : (xs : List ℕ) (f : ℕ → ℕ) (at count : ℕ) → length xs ≡ count → ((i : ℕ) → i < count → get_or xs i 0 ≡ f (at + i)) → xs ≡ map f (range_with_len at count)
+spelled xs f at count long each =
+    ext_get_or 0 xs (map f (range_with_len at count)) (long ∙ sym (length-map-range_with_len f at count))
+    (λ i within.
+    let inside : i < count = omega arith in
+    each i inside ∙ sym (get_or-map-range_with_len f at count i (at + i) 0 inside refl))
+
+-- so many elements of a list, from this place on
+pub part-get : (xs : List ℕ) (place count i : ℕ) → i < count → get_or (take count (drop place xs)) i 0 ≡ get_or xs (place + i) 0
+part-get xs place count i inside = get_or-take count (drop place xs) i 0 inside ∙ get_or-drop place xs i 0
+
+pub part-length : (xs : List ℕ) (place count : ℕ) → place + count ≤ length xs → length (take count (drop place xs)) ≡ count
+part-length xs place count within = omega (arith, length-take count (drop place xs), length-drop place xs)
+
+-- the segment holds each address that it covers
+pub covers-holds : (home : Segment) (at count i : ℕ) → covers_all home at count ≡ true → i < count → in_segment (at + i) home ≡ true
+covers-holds home at count i covered inside = grind (arith, nat_tests)
+
+pub covers-region : (regions : List Segment) (home : Segment) (at count i : ℕ) → IsHome regions home → covers_all home at count ≡ true → i < count → region_at regions (at + i) ≡ Some home
+covers-region regions home at count i own covered inside = own (at + i) (covers-holds home at count i covered inside)
+
+-- addresses of one page
+pub page-same : (kept : Kept) (at i : ℕ) → at % 2 ^ 12 + i < 2 ^ 12 → page_of kept (at + i) ≡ page_of kept at
+page-same kept at i inside = ap (page_numbered kept) (let e : (at + i) / 2 ^ 12 ≡ at / 2 ^ 12 = omega arith in e)
+
+pub place-same : (at i : ℕ) → at % 2 ^ 12 + i < 2 ^ 12 → (at + i) % 2 ^ 12 ≡ at % 2 ^ 12 + i
+place-same at i inside = omega arith
+
+-- the bytes of a page, from an address on
+pub near-page : (kept : Kept) (at count : ℕ) (bytes : List ℕ) → bytes ≡ (page_of kept at).bytes → at % 2 ^ 12 + count ≤ 2 ^ 12 → at % 2 ^ 12 + count ≤ length bytes → take count (drop (at % 2 ^ 12) bytes) ≡ map (value kept) (range_with_len at count)
+near-page kept at count bytes are inside within =
+    spelled (take count (drop (at % 2 ^ 12) bytes)) (value kept) at count (part-length bytes (at % 2 ^ 12) count within)
+    (λ i few.
+    let first : ℕ = first_byte kept.file.now kept.regions.items (at + i) in
+    let here : (page_of kept (at + i)).bytes ≡ bytes = ap (λ (p : Paged). p.bytes) (page-same kept at i (omega arith)) ∙ sym are in
+    part-get bytes (at % 2 ^ 12) count i few
+    ∙ get_or-any bytes (at % 2 ^ 12 + i) 0 first (omega arith)
+    ∙ sym (ap₂ (λ (b : List ℕ) (p : ℕ). get_or b p first) here (place-same at i (omega arith))))
+
+-- where a page was not made, the bytes are those that the region began with
+pub value-first : (kept : Kept) (home : Segment) (at count i : ℕ) → [] ≡ (page_of kept at).bytes → at % 2 ^ 12 + count ≤ 2 ^ 12 → IsHome kept.regions.items home → covers_all home at count ≡ true → i < count → value kept (at + i) ≡ byte_in kept.file.now (at + i) (Some home)
+value-first kept home at count i none inside own covered few =
+    let here : (page_of kept (at + i)).bytes ≡ [] = ap (λ (p : Paged). p.bytes) (page-same kept at i (omega arith)) ∙ sym none in
+    ap (λ (b : List ℕ). get_or b ((at + i) % 2 ^ 12) (first_byte kept.file.now kept.regions.items (at + i))) here
+    ∙ ap (byte_in kept.file.now (at + i)) (covers-region kept.regions.items home at count i own covered few)
+
+pub near-first : (kept : Kept) (home : Segment) (at count : ℕ) (bytes : List ℕ) → [] ≡ (page_of kept at).bytes → at % 2 ^ 12 + count ≤ 2 ^ 12 → IsHome kept.regions.items home → covers_all home at count ≡ true → length bytes ≡ count → ((i : ℕ) → i < count → get_or bytes i 0 ≡ byte_in kept.file.now (at + i) (Some home)) → bytes ≡ map (value kept) (range_with_len at count)
+near-first kept home at count bytes none inside own covered long each =
+    spelled bytes (value kept) at count long (λ i few. each i few ∙ sym (value-first kept home at count i none inside own covered few))
+
+-- a test that holds of each address of a range
+pub all-range : (p : ℕ → Bool) (at count : ℕ) → ((i : ℕ) → i < count → p (at + i) ≡ true) → list_all p (range_with_len at count) ≡ true
+all-range p at zero each = refl
+all-range p at (suc count) each =
+    let first : p at ≡ true = subst (λ (a : ℕ). p a ≡ true) (omega arith) (each 0 (omega arith)) in
+    let others : list_all p (range_with_len (at + 1) count) ≡ true =
+    all-range p (at + 1) count (λ i few. subst (λ (a : ℕ). p a ≡ true) (omega arith) (each (suc i) (omega arith))) in
+    ap (λ (b : Bool). b && list_all p (range_with_len (at + 1) count)) first ∙ others
+
+pub all-not : (p : ℕ → Bool) (at count i : ℕ) → i < count → p (at + i) ≡ false → list_all p (range_with_len at count) ≡ false
+all-not p at zero i few fails = absurd (omega arith)
+all-not p at (suc count) zero few fails =
+    let first : p at ≡ false = subst (λ (a : ℕ). p a ≡ false) (omega arith) fails in
+    ap (λ (b : Bool). b && list_all p (range_with_len (at + 1) count)) first
+all-not p at (suc count) (suc i) few fails =
+    let rest : list_all p (range_with_len (at + 1) count) ≡ false =
+    all-not p (at + 1) count i (omega arith) (subst (λ (a : ℕ). p a ≡ false) (omega arith) fails) in
+    and_false (p at) (list_all p (range_with_len (at + 1) count)) rest
+
+pub all-each : (p : ℕ → Bool) (at count i : ℕ) → list_all p (range_with_len at count) ≡ true → i < count → p (at + i) ≡ true
+all-each p at zero i all few = absurd (omega arith)
+all-each p at (suc count) zero all few = subst (λ (a : ℕ). p a ≡ true) (omega arith) (and_parts _ _ all).0
+all-each p at (suc count) (suc i) all few =
+    subst (λ (a : ℕ). p a ≡ true) (omega arith) (all-each p (at + 1) count i (and_parts _ _ all).1 (omega arith))
+
+-- what a region grants, it grants each address that it covers
+pub all-granted : (regions : List Segment) (home : Segment) (right at count : ℕ) → IsHome regions home → covers_all home at count ≡ true → has right home ≡ true → list_all (may right regions) (range_with_len at count) ≡ true
+all-granted regions home right at count own covered granted =
+    all-range (may right regions) at count (λ i few. ap (grants right) (covers-region regions home at count i own covered few) ∙ granted)
+
+-- addresses with a right are below 2^32
+pub granted-low : (regions : List Segment) (right at : ℕ) → ((a : ℕ) → 2 ^ 32 ≤ a → region_at regions a ≡ None) → may right regions at ≡ true → at < 2 ^ 32
+granted-low regions right at low granted =
+    lt_of_not-le
+    (λ (above : 2 ^ 32 ≤ at).
+    let clash : true ≡ false = sym granted ∙ ap (grants right) (low at above) in
+    cc)
+
+-- what the file's part gives, as what is kept gives it
+pub near-none : (kept : Kept) (home : Segment) (at count : ℕ) → [] ≡ (page_of kept at).bytes → at % 2 ^ 12 + count ≤ 2 ^ 12 → IsHome kept.regions.items home → covers_all home at count ≡ true → (found : Option (Bor (List ℕ))) → IfSome found (λ bytes. length bytes.now ≡ count) → IfSome found (λ bytes. (i : ℕ) → i < count → slice_index bytes.now i ≡ byte_in kept.file.now (at + i) (Some home)) → IfSome found (λ bytes. bytes.now ≡ map (value kept) (range_with_len at count))
+near-none kept home at count none inside own covered None long each = tt
+near-none kept home at count none inside own covered (Some bytes) long each =
+    near-first kept home at count bytes.now none inside own covered long each
+
+-- a region ends at 2^32 or below
+pub covers-low : (regions : List Segment) (home : Segment) (at count : ℕ) → ((a : ℕ) → 2 ^ 32 ≤ a → region_at regions a ≡ None) → IsHome regions home → covers_all home at count ≡ true → at < 2 ^ 32 → at + count ≤ 2 ^ 32
+covers-low regions home at zero low own covered small = omega arith
+covers-low regions home at (suc count) low own covered small =
+    let last : at + count < 2 ^ 32 =
+    lt_of_not-le
+    (λ (above : 2 ^ 32 ≤ at + count).
+    let clash : Some home ≡ None = sym (covers-region regions home at (suc count) count own covered (omega arith)) ∙ low (at + count) above in
+    cc) in
+    omega arith

@@ -1,0 +1,185 @@
+-- What a page gives after bytes were put into it.
+use Rattle.std.proofs.Common.{◌≡◌, ◌≢◌, ◌==◌, ℕ, zero, suc, ◌+◌, ◌-◌, ◌*◌, ◌/◌, ◌%◌, ◌^◌, ◌<◌, ◌≤◌, ◌&&◌, ◌⊎◌, inl, inr, Bool, true, false, cond, List, [], ◌∷◌, ◌++◌, length, take, drop, get_or, nat_le, nat_lt, refl, sym, ap, ap₂, subst, ◌∙◌, arith}
+use Rattle.std.proofs.lemmas.List.{get_or_append_left, get_or-append-add, get_or-drop, get_or-take, length-take, length-drop, length-append}
+use Rattle.std.proofs.lemmas.Bool.{eqb-true, eq-eqb, le-leb, le-ltb}
+use Rattle.std.proofs.lemmas.Bool.Decides.{leb_tells}
+use Rattle.rv_hart.proofs.Near.{get_or-any}
+use Rattle.rv_hart.specs.declared.kept.Kept.{Kept}
+use Rattle.rv_hart.specs.Memory.{first_byte}
+use Rattle.rv_hart.specs.Pages.{Paged, spliced, with_bytes}
+use Rattle.rv_hart.specs.Stored.{page_numbered, page_of, value, value_after}
+
+pub spliced-length : (bytes : List ℕ) (place : ℕ) (source : List ℕ) → place + length source ≤ length bytes → length (spliced bytes place source) ≡ length bytes
+spliced-length bytes place source within =
+    omega (arith, length-append (take place bytes ++ source) (drop (place + length source) bytes), length-append (take place bytes) source, length-take place bytes, length-drop (place + length source) bytes)
+
+-- before the bytes, in them and behind them
+pub spliced-before : (bytes : List ℕ) (place : ℕ) (source : List ℕ) (k d : ℕ) → place + length source ≤ length bytes → k < place → get_or (spliced bytes place source) k d ≡ get_or bytes k d
+spliced-before bytes place source k d within before =
+    get_or_append_left (take place bytes ++ source) (drop (place + length source) bytes) d k (omega (arith, length-append (take place bytes) source, length-take place bytes))
+    ∙ get_or_append_left (take place bytes) source d k (omega (arith, length-take place bytes))
+    ∙ get_or-take place bytes k d before
+
+pub spliced-in : (bytes : List ℕ) (place : ℕ) (source : List ℕ) (k d : ℕ) → place + length source ≤ length bytes → k < length source → get_or (spliced bytes place source) (place + k) d ≡ get_or source k d
+spliced-in bytes place source k d within inside =
+    let long : length (take place bytes) ≡ place = omega (arith, length-take place bytes) in
+    get_or_append_left (take place bytes ++ source) (drop (place + length source) bytes) d (place + k) (omega (arith, length-append (take place bytes) source))
+    ∙ ap (λ (n : ℕ). get_or (take place bytes ++ source) (n + k) d) (sym long)
+    ∙ get_or-append-add (take place bytes) source k d
+
+pub spliced-behind : (bytes : List ℕ) (place : ℕ) (source : List ℕ) (k d : ℕ) → place + length source ≤ length bytes → get_or (spliced bytes place source) (place + length source + k) d ≡ get_or bytes (place + length source + k) d
+spliced-behind bytes place source k d within =
+    let long : length (take place bytes ++ source) ≡ place + length source = omega (arith, length-append (take place bytes) source, length-take place bytes) in
+    ap (λ (n : ℕ). get_or (spliced bytes place source) (n + k) d) (sym long)
+    ∙ get_or-append-add (take place bytes ++ source) (drop (place + length source) bytes) k d
+    ∙ get_or-drop (place + length source) bytes k d
+
+unequal : (a b : ℕ) → (a == b) ≡ false → a ≢ b
+unequal a b differ same = let clash : true ≡ false = sym (eq-eqb a b same) ∙ differ in cc
+
+le-ltb-suc : (at a : ℕ) → a < at → nat_le at a ≡ false
+le-ltb-suc at a before = elim (leb_tells at a) [ inl h ↦ absurd (omega (arith, h.1)) | inr h ↦ h.0 ]
+
+-- whether an address is one of those written
+test-in : (at a count : ℕ) → at ≤ a → a < at + count → (nat_le at a && nat_lt a (at + count)) ≡ true
+test-in at a count low high =
+    ap₂ (λ (x y : Bool). x && y) (le-leb at a low) (le-leb (suc a) (at + count) high)
+
+test-before : (at a count : ℕ) → a < at → (nat_le at a && nat_lt a (at + count)) ≡ false
+test-before at a count before = ap (λ (x : Bool). x && nat_lt a (at + count)) (le-ltb-suc at a before)
+
+test-behind : (at a count : ℕ) → at + count ≤ a → (nat_le at a && nat_lt a (at + count)) ≡ false
+test-behind at a count behind = ap₂ (λ (x y : Bool). x && y) (le-leb at a (omega arith)) (le-ltb a (at + count) behind)
+
+pub after-in : (kept : Kept) (at a : ℕ) (source : List ℕ) → at ≤ a → a < at + length source → value_after kept at source a ≡ get_or source (a - at) 0
+after-in kept at a source low high = ap (λ (t : Bool). cond t (get_or source (a - at) 0) (value kept a)) (test-in at a (length source) low high)
+
+pub after-before : (kept : Kept) (at a : ℕ) (source : List ℕ) → a < at → value_after kept at source a ≡ value kept a
+after-before kept at a source before = ap (λ (t : Bool). cond t (get_or source (a - at) 0) (value kept a)) (test-before at a (length source) before)
+
+pub after-behind : (kept : Kept) (at a : ℕ) (source : List ℕ) → at + length source ≤ a → value_after kept at source a ≡ value kept a
+after-behind kept at a source behind = ap (λ (t : Bool). cond t (get_or source (a - at) 0) (value kept a)) (test-behind at a (length source) behind)
+
+-- what a kept memory gives after bytes were put into one page
+pub put-value : (old new : Kept) (at : ℕ) (source : List ℕ) → ((a : ℕ) → first_byte new.file.now new.regions.items a ≡ first_byte old.file.now old.regions.items a) → ((n : ℕ) → page_numbered new n ≡ cond (n == at / 2 ^ 12) (with_bytes (page_of old at) (at % 2 ^ 12) source) (page_numbered old n)) → at % 2 ^ 12 + length source ≤ length (page_of old at).bytes → at % 2 ^ 12 + length source ≤ 2 ^ 12 → (a : ℕ) → value new a ≡ value_after old at source a
+put-value old new at source firsts pages within page a = by_page (a / 2 ^ 12 == at / 2 ^ 12) refl
+  where
+    given : value new a ≡ get_or (page_of new a).bytes (a % 2 ^ 12) (first_byte old.file.now old.regions.items a)
+    given = ap (get_or (page_of new a).bytes (a % 2 ^ 12)) (firsts a)
+
+    here : (b : Bool) → (a / 2 ^ 12 == at / 2 ^ 12) ≡ b → page_of new a ≡ cond b (with_bytes (page_of old at) (at % 2 ^ 12) source) (page_of old a)
+    here b e = pages (a / 2 ^ 12) ∙ ap (λ (t : Bool). cond t (with_bytes (page_of old at) (at % 2 ^ 12) source) (page_of old a)) e
+
+    same_old : a / 2 ^ 12 ≡ at / 2 ^ 12 → get_or (page_of old at).bytes (a % 2 ^ 12) (first_byte old.file.now old.regions.items a) ≡ value old a
+    same_old same = ap (λ (n : ℕ). get_or (page_numbered old n).bytes (a % 2 ^ 12) (first_byte old.file.now old.regions.items a)) (sym same)
+
+    inside : a / 2 ^ 12 ≡ at / 2 ^ 12 → at ≤ a → a < at + length source → get_or (spliced (page_of old at).bytes (at % 2 ^ 12) source) (a % 2 ^ 12) (first_byte old.file.now old.regions.items a) ≡ value_after old at source a
+    inside same low high =
+        ap (λ (k : ℕ). get_or (spliced (page_of old at).bytes (at % 2 ^ 12) source) k (first_byte old.file.now old.regions.items a)) (let e : a % 2 ^ 12 ≡ (at % 2 ^ 12) + (a - at) = omega arith in e)
+        ∙ spliced-in (page_of old at).bytes (at % 2 ^ 12) source (a - at) (first_byte old.file.now old.regions.items a) within (omega arith)
+        ∙ get_or-any source (a - at) (first_byte old.file.now old.regions.items a) 0 (omega arith)
+        ∙ sym (after-in old at a source low high)
+
+    behind : a / 2 ^ 12 ≡ at / 2 ^ 12 → at + length source ≤ a → get_or (spliced (page_of old at).bytes (at % 2 ^ 12) source) (a % 2 ^ 12) (first_byte old.file.now old.regions.items a) ≡ value_after old at source a
+    behind same high =
+        ap (λ (k : ℕ). get_or (spliced (page_of old at).bytes (at % 2 ^ 12) source) k (first_byte old.file.now old.regions.items a)) (let e : a % 2 ^ 12 ≡ (at % 2 ^ 12) + length source + (a % 2 ^ 12 - ((at % 2 ^ 12) + length source)) = omega arith in e)
+        ∙ spliced-behind (page_of old at).bytes (at % 2 ^ 12) source (a % 2 ^ 12 - ((at % 2 ^ 12) + length source)) (first_byte old.file.now old.regions.items a) within
+        ∙ ap (λ (k : ℕ). get_or (page_of old at).bytes k (first_byte old.file.now old.regions.items a)) (let e : (at % 2 ^ 12) + length source + (a % 2 ^ 12 - ((at % 2 ^ 12) + length source)) ≡ a % 2 ^ 12 = omega arith in e)
+        ∙ same_old same
+        ∙ sym (after-behind old at a source high)
+
+    before : a / 2 ^ 12 ≡ at / 2 ^ 12 → a < at → get_or (spliced (page_of old at).bytes (at % 2 ^ 12) source) (a % 2 ^ 12) (first_byte old.file.now old.regions.items a) ≡ value_after old at source a
+    before same low =
+        spliced-before (page_of old at).bytes (at % 2 ^ 12) source (a % 2 ^ 12) (first_byte old.file.now old.regions.items a) within (omega arith)
+        ∙ same_old same
+        ∙ sym (after-before old at a source low)
+
+    in_page : a / 2 ^ 12 ≡ at / 2 ^ 12 → get_or (spliced (page_of old at).bytes (at % 2 ^ 12) source) (a % 2 ^ 12) (first_byte old.file.now old.regions.items a) ≡ value_after old at source a
+    in_page same =
+        elim (leb_tells at a) [
+          | inl low ↦ (elim (leb_tells (suc a) (at + length source)) [
+            | inl high ↦ inside same low.1 high.1
+            | inr high ↦ behind same (omega (arith, high.1))
+          ])
+          | inr low ↦ before same low.1
+        ]
+
+    elsewhere : (a / 2 ^ 12 == at / 2 ^ 12) ≡ false → value old a ≡ value_after old at source a
+    elsewhere e =
+        let other : a / 2 ^ 12 ≢ at / 2 ^ 12 = unequal (a / 2 ^ 12) (at / 2 ^ 12) e in
+        elim (leb_tells at a) [
+          | inl low ↦ sym (after-behind old at a source (omega (arith, low.1)))
+          | inr low ↦ sym (after-before old at a source low.1)
+        ]
+
+    by_page : (b : Bool) → (a / 2 ^ 12 == at / 2 ^ 12) ≡ b → value new a ≡ value_after old at source a
+    by_page true e = given ∙ ap (λ (p : Paged). get_or p.bytes (a % 2 ^ 12) (first_byte old.file.now old.regions.items a)) (here true e) ∙ in_page (eqb-true (a / 2 ^ 12) (at / 2 ^ 12) e)
+    by_page false e = given ∙ ap (λ (p : Paged). get_or p.bytes (a % 2 ^ 12) (first_byte old.file.now old.regions.items a)) (here false e) ∙ elsewhere e
+
+-- what a kept memory gives after a page was made that holds what its addresses had
+pub make-value : (old new : Kept) (number : ℕ) (page : Paged) → ((a : ℕ) → first_byte new.file.now new.regions.items a ≡ first_byte old.file.now old.regions.items a) → ((n : ℕ) → page_numbered new n ≡ cond (n == number) page (page_numbered old n)) → length page.bytes ≡ 2 ^ 12 → ((i : ℕ) → i < 2 ^ 12 → get_or page.bytes i 0 ≡ value old (number * 2 ^ 12 + i)) → (a : ℕ) → value new a ≡ value old a
+make-value old new number page firsts pages long each a = by_page (a / 2 ^ 12 == number) refl
+  where
+    here : (b : Bool) → (a / 2 ^ 12 == number) ≡ b → value new a ≡ get_or (cond b page (page_of old a)).bytes (a % 2 ^ 12) (first_byte old.file.now old.regions.items a)
+    here b e =
+        ap (get_or (page_of new a).bytes (a % 2 ^ 12)) (firsts a)
+        ∙ ap (λ (p : Paged). get_or p.bytes (a % 2 ^ 12) (first_byte old.file.now old.regions.items a)) (pages (a / 2 ^ 12) ∙ ap (λ (t : Bool). cond t page (page_of old a)) e)
+
+    by_page : (b : Bool) → (a / 2 ^ 12 == number) ≡ b → value new a ≡ value old a
+    by_page true e =
+        let same : a / 2 ^ 12 ≡ number = eqb-true (a / 2 ^ 12) number e in
+        here true e
+        ∙ get_or-any page.bytes (a % 2 ^ 12) (first_byte old.file.now old.regions.items a) 0 (omega arith)
+        ∙ each (a % 2 ^ 12) (omega arith)
+        ∙ ap (value old) (let e : number * 2 ^ 12 + a % 2 ^ 12 ≡ a = omega arith in e)
+    by_page false e = here false e
+
+-- as many of the bytes as were put
+part-in : (kept : Kept) (at a count : ℕ) (source : List ℕ) → at ≤ a → a < at + count → count ≤ length source → value_after kept at (take count source) a ≡ get_or source (a - at) 0
+part-in kept at a count source low high few =
+    after-in kept at a (take count source) low (omega (arith, length-take count source)) ∙ get_or-take count source (a - at) 0 (omega arith)
+
+part-behind : (kept : Kept) (at a count : ℕ) (source : List ℕ) → at + count ≤ a → count ≤ length source → value_after kept at (take count source) a ≡ value kept a
+part-behind kept at a count source high few = after-behind kept at a (take count source) (omega (arith, length-take count source))
+
+-- one more byte
+pub put-more : (old mid new : Kept) (at count byte : ℕ) (source : List ℕ) → count < length source → byte ≡ get_or source count 0 → ((a : ℕ) → value mid a ≡ value_after old at (take count source) a) → ((a : ℕ) → value new a ≡ value_after mid (at + count) (byte ∷ []) a) → (a : ℕ) → value new a ≡ value_after old at (take (count + 1) source) a
+put-more old mid new at count byte source few is before after a =
+    elim (leb_tells at a) [
+      | inl low ↦ (elim (leb_tells (suc a) (at + count)) [
+        | inl high ↦ inside low.1 high.1
+        | inr high ↦ (elim (leb_tells (suc a) (at + count + 1)) [
+          | inl last ↦ here high.1 last.1
+          | inr last ↦ behind (omega (arith, last.1))
+        ])
+      ])
+      | inr low ↦ below low.1
+    ]
+  where
+    below : a < at → value new a ≡ value_after old at (take (count + 1) source) a
+    below low =
+        after a ∙ after-before mid (at + count) a (byte ∷ []) (omega arith) ∙ before a ∙ after-before old at a (take count source) low
+        ∙ sym (after-before old at a (take (count + 1) source) low)
+
+    inside : at ≤ a → a < at + count → value new a ≡ value_after old at (take (count + 1) source) a
+    inside low high =
+        after a ∙ after-before mid (at + count) a (byte ∷ []) high ∙ before a ∙ part-in old at a count source low high (omega arith)
+        ∙ sym (part-in old at a (count + 1) source low (omega arith) (omega arith))
+
+    here : at + count < suc a → a < at + count + 1 → value new a ≡ value_after old at (take (count + 1) source) a
+    here low high =
+        after a
+        ∙ after-in mid (at + count) a (byte ∷ []) (omega arith) (omega arith)
+        ∙ ap (λ (k : ℕ). get_or (byte ∷ []) k 0) (let e : a - (at + count) ≡ 0 = omega arith in e)
+        ∙ is
+        ∙ ap (λ (k : ℕ). get_or source k 0) (let e : count ≡ a - at = omega arith in e)
+        ∙ sym (part-in old at a (count + 1) source (omega arith) (omega arith) (omega arith))
+
+    behind : at + count + 1 ≤ a → value new a ≡ value_after old at (take (count + 1) source) a
+    behind high =
+        after a ∙ after-behind mid (at + count) a (byte ∷ []) (omega arith) ∙ before a ∙ part-behind old at a count source (omega arith) (omega arith)
+        ∙ sym (part-behind old at a (count + 1) source (omega arith) (omega arith))
+
+-- what stays over two changes of the blocks
+pub rest-again : (old mid new : Kept) → mid ≡ record old { blocks = mid.blocks } → new ≡ record mid { blocks = new.blocks } → new ≡ record old { blocks = new.blocks }
+rest-again old mid new before after = after ∙ ap (λ (k : Kept). record k { blocks = new.blocks }) before

@@ -1,0 +1,12 @@
+use Rattle.std.proofs.Common.{◌≡◌, ℕ, ◌+◌, ◌^◌, ◌≤◌, length, get_or, refl, sym, ap, subst, ◌∙◌, arith, rules}
+use Rattle.rv_hart.specs.Stored.{page_of}
+use Rattle.rv_hart.proofs.Set.{put-more, rest-again}
+use Rattle.rv_hart.proofs.kept.Kept.put_all.Goals as goal
+
+pub loop-place-preserved : goal.loop-place-preserved
+loop-place-preserved c = record {
+  rest = rest-again c.args.self.now c.loop-place.self c.put.new.self c.loop-place.invariant.rest c.put.ensures.rest;
+  kept = c.put.ensures.kept;
+  made = λ i few. subst (λ (n : ℕ). 2 ^ 12 ≤ n) (sym (c.put.ensures.lengths _)) (c.loop-place.invariant.made i few);
+  values = put-more c.args.self.now c.loop-place.self c.put.new.self c.args.at c.loop-place.place (get_or c.args.source.now c.loop-place.place 0) c.args.source.now c.loop-place-test.true refl c.loop-place.invariant.values c.put.ensures.values;
+}

@@ -1,0 +1,5 @@
+pub mod Memory
+pub mod Arithmetic
+pub mod Step
+pub mod Pages
+pub mod Stored

@@ -1,0 +1,111 @@
+//! What the operations on registers and immediates compute.
+ghost use Rattle.std.specs.Prelude.{◌≡◌, ◌*ℤ◌, pos};
+ghost use Rattle.rv_hart.specs.Arithmetic.{computed, signed, upper_word, quotient, quotient_signed, remainder, remainder_signed};
+
+use rv_table::Op;
+
+#[inline(always)]
+fn long_product(a: i32, b: i32) -> i64
+    ensures { result ≡ a *ℤ b }
+{
+    i64::from(a) * i64::from(b)
+}
+
+#[inline(always)]
+fn upper_signed(a: u32, b: u32) -> u32
+    ensures { result ≡ upper_word (signed a *ℤ signed b) }
+{
+    let product = long_product(a.cast_signed(), b.cast_signed());
+    (product.cast_unsigned() >> 32) as u32
+}
+
+#[inline(always)]
+fn upper_mixed(a: u32, b: u32) -> u32
+    ensures { result ≡ upper_word (signed a *ℤ pos b) }
+{
+    let product = i64::from(a.cast_signed()) * i64::from(b);
+    (product.cast_unsigned() >> 32) as u32
+}
+
+#[inline(always)]
+fn upper_unsigned(a: u32, b: u32) -> u32
+    ensures { result ≡ upper_word (pos a *ℤ pos b) }
+{
+    ((u64::from(a) * u64::from(b)) >> 32) as u32
+}
+
+#[inline(always)]
+fn divide_signed(a: u32, b: u32) -> u32
+    ensures { result ≡ quotient_signed a b }
+{
+    if b == 0 {
+        return u32::MAX;
+    }
+    a.cast_signed()
+        .wrapping_div(b.cast_signed())
+        .cast_unsigned()
+}
+
+#[inline(always)]
+fn divide(a: u32, b: u32) -> u32
+    ensures { result ≡ quotient a b }
+{
+    if b == 0 { u32::MAX } else { a / b }
+}
+
+#[inline(always)]
+fn rest_signed(a: u32, b: u32) -> u32
+    ensures { result ≡ remainder_signed a b }
+{
+    if b == 0 {
+        return a;
+    }
+    a.cast_signed()
+        .wrapping_rem(b.cast_signed())
+        .cast_unsigned()
+}
+
+#[inline(always)]
+fn rest(a: u32, b: u32) -> u32
+    ensures { result ≡ remainder a b }
+{
+    if b == 0 { a } else { a % b }
+}
+
+/// What the operation computes of its registers `a` and `b` and its immediate; 0 for operations that
+/// compute nothing.
+#[inline(always)]
+pub(crate) fn compute(op: Op, a: u32, b: u32, imm: u32) -> u32
+    ensures { result ≡ computed op a b imm }
+{
+    match op {
+        Op::Addi => a.wrapping_add(imm),
+        Op::Slti => u32::from(a.cast_signed() < imm.cast_signed()),
+        Op::Sltiu => u32::from(a < imm),
+        Op::Xori => a ^ imm,
+        Op::Ori => a | imm,
+        Op::Andi => a & imm,
+        Op::Slli => a.wrapping_shl(imm),
+        Op::Srli => a.wrapping_shr(imm),
+        Op::Srai => a.cast_signed().wrapping_shr(imm).cast_unsigned(),
+        Op::Add => a.wrapping_add(b),
+        Op::Sub => a.wrapping_sub(b),
+        Op::Sll => a.wrapping_shl(b),
+        Op::Slt => u32::from(a.cast_signed() < b.cast_signed()),
+        Op::Sltu => u32::from(a < b),
+        Op::Xor => a ^ b,
+        Op::Srl => a.wrapping_shr(b),
+        Op::Sra => a.cast_signed().wrapping_shr(b).cast_unsigned(),
+        Op::Or => a | b,
+        Op::And => a & b,
+        Op::Mul => a.wrapping_mul(b),
+        Op::Mulh => upper_signed(a, b),
+        Op::Mulhsu => upper_mixed(a, b),
+        Op::Mulhu => upper_unsigned(a, b),
+        Op::Div => divide_signed(a, b),
+        Op::Divu => divide(a, b),
+        Op::Rem => rest_signed(a, b),
+        Op::Remu => rest(a, b),
+        _ => 0,
+    }
+}

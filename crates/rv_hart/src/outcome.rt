@@ -1,0 +1,27 @@
+/// How one step ended.
+#[derive(Clone, Copy, Debug, PartialEq, Eq)]
+pub enum Stepped {
+    /// The instruction completed.
+    Retired,
+    /// The instruction is an environment call. Nothing has changed.
+    Ecall,
+    /// The instruction is a breakpoint. Nothing has changed.
+    Break,
+    /// The instruction trapped. Nothing has changed.
+    Trap(Cause),
+}
+
+/// Why an instruction trapped.
+#[derive(Clone, Copy, Debug, PartialEq, Eq)]
+pub enum Cause {
+    /// The word at pc is no instruction of RV32IM.
+    Illegal,
+    /// pc is no multiple of 4, or its four bytes do not lie in one segment that may be executed.
+    Fetch,
+    /// A byte that is loaded may not be read.
+    Load,
+    /// A byte that is stored may not be written.
+    Store,
+    /// A jump or a taken branch to an address that is no multiple of 4.
+    Target,
+}

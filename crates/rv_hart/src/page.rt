@@ -1,0 +1,141 @@
+//! Pages of 4 KiB for what was written, in blocks of 1 MiB.
+ghost use Rattle.std.specs.Prelude.{◌≡◌, ◌++◌, ◌∷◌, [], ◌+◌, ◌<◌, ◌≤◌, length, slice_get, slice_set, OnOk, OnErr, unwrap_or};
+ghost use Rattle.std.specs.Option.{option_copied};
+ghost use Rattle.rv_hart.specs.Pages.{blank, spliced, with_bytes, page_at};
+
+use crate::right::NOWHERE;
+use elf_image::Segment;
+use prof_bytes::Memory;
+use std::alloc::Global;
+use std::marker::Model;
+
+/// A page of 4 KiB that was written: its bytes, none where it was not made yet, and the region of
+/// the address for which it was made.
+#[derive(Drop)]
+pub(crate) struct Page {
+    home: Segment,
+    bytes: Vec<u8>,
+}
+
+impl Model for Page {
+    ghost use Rattle.rv_hart.specs.Pages.{Paged};
+
+    ghost Value = { Paged };
+
+    ghost view = { λ page. record { home = page.home; bytes = page.bytes.items } };
+}
+
+impl Page {
+    pub(crate) fn new(home: Segment, bytes: Vec<u8>) -> Page
+        ensures { result ≡ record { home = home; bytes = bytes.items } }
+    {
+        Page { home, bytes }
+    }
+
+    #[inline(always)]
+    pub(crate) fn home(&self) -> Segment
+        ensures { result ≡ self.now.home }
+    {
+        self.home
+    }
+
+    #[inline(always)]
+    pub(crate) fn bytes(&self) -> &[u8]
+        ensures { result.now ≡ self.now.bytes }
+    {
+        self.bytes.as_slice()
+    }
+
+    /// Puts other bytes from this place on.
+    #[inline(always)]
+    pub(crate) fn put(&mut self, place: usize, source: &[u8])
+        requires { place + length source.now ≤ length self.old.bytes }
+        ensures { self.new ≡ with_bytes self.old place source.now }
+    {
+        splice(&mut self.bytes, place, source);
+    }
+}
+
+#[inline(always)]
+fn splice(bytes: &mut Vec<u8>, place: usize, source: &[u8])
+    requires { place + length source.now ≤ length bytes.old.items }
+    ensures { bytes.new.items ≡ spliced bytes.old.items place source.now }
+{
+    bytes.as_mut_slice()[place..place + source.len()].copy_from_slice(source);
+}
+
+/// Pages that follow one another.
+#[derive(Drop)]
+pub(crate) struct Block {
+    pages: Vec<Page>,
+}
+
+impl Model for Block {
+    ghost use Rattle.std.specs.Prelude.{List};
+    ghost use Rattle.rv_hart.specs.Pages.{Paged};
+
+    ghost Value = { List Paged };
+
+    ghost view = { λ block. block.pages.items };
+}
+
+impl Block {
+    /// A block without pages.
+    pub(crate) fn new(alloc: Global) -> Block
+        ensures { result ≡ [] }
+    {
+        Block {
+            pages: Vec::new(alloc),
+        }
+    }
+
+    #[inline(always)]
+    pub(crate) fn page(&self, index: usize) -> Option<&Page>
+        ensures { unwrap_or (option_copied result) blank ≡ page_at self.now index }
+    {
+        page_in(self.pages.as_slice(), index)
+    }
+
+    pub(crate) fn len(&self) -> usize
+        ensures { result ≡ length self.now }
+    {
+        self.pages.len()
+    }
+
+    /// Appends a page that was not made.
+    pub(crate) fn lengthen(&mut self, alloc: Global) -> Result<(), Memory>
+        ensures ok { OnOk result (self.new ≡ self.old ++ blank ∷ []) }
+        ensures err { OnErr result (self.new ≡ self.old) }
+    {
+        let page = Page::new(NOWHERE, Vec::new(alloc));
+        self.pages.push(page)?;
+        Ok(())
+    }
+
+    /// Sets a page.
+    pub(crate) fn set(&mut self, index: usize, page: Page)
+        requires { index < length self.old }
+        ensures { self.new ≡ slice_set self.old index page }
+    {
+        self.pages[index] = page;
+    }
+
+    /// Puts other bytes into a page.
+    #[inline(always)]
+    pub(crate) fn put(&mut self, index: usize, place: usize, source: &[u8])
+        requires index { index < length self.old }
+        requires place { place + length source.now ≤ length (page_at self.old index).bytes }
+        ensures { self.new ≡ slice_set self.old index (with_bytes (page_at self.old index) place source.now) }
+    {
+        let page = &mut self.pages[index];
+        page.put(place, source);
+    }
+}
+
+#[inline(always)]
+#[tactic(auto, using(crate::proofs::Near::or_default))]
+fn page_in(pages: &[Page], index: usize) -> Option<&Page>
+    ensures { unwrap_or (option_copied result) blank ≡ page_at pages.now index }
+{
+    pages.get(index)
+}

@@ -1,0 +1,154 @@
+//! Reading what is kept: numbers that stand together, and those that do not.
+ghost use Rattle.std.specs.Prelude.{◌≡◌, ◌+◌, ◌<◌, ◌≤◌, ◌^◌, ◌*◌, ℕ, true, IfSome, length, map, slice_index, Some};
+ghost use Rattle.std.specs.List.{range_with_len, list_all};
+ghost use Rattle.prof_bytes.specs.Number.{number_in};
+ghost use Rattle.rv_hart.specs.Memory.{region_at, may, byte_in, is_size};
+ghost use Rattle.rv_hart.specs.Stored.{value, covers_all, IsHome, IsKept, bit_of};
+
+use crate::kept::Kept;
+use crate::right::{NOWHERE, Right, covers, grants};
+use byteorder::{ByteOrder, LittleEndian};
+use elf_image::Segment;
+
+static ZEROS: [u8; 4] = [0; 4];
+
+/// The number in 1, 2 or 4 bytes.
+#[inline(always)]
+pub(crate) fn number(bytes: &[u8]) -> u32
+    requires { is_size (length bytes.now) ≡ true }
+    ensures value { result ≡ number_in (length bytes.now) bytes.now }
+    ensures fits { result < 2 ^ (8 * length bytes.now) }
+{
+    match bytes.len() {
+        1 => u32::from(bytes[0]),
+        2 => u32::from(LittleEndian::read_u16(bytes)),
+        _ => LittleEndian::read_u32(bytes),
+    }
+}
+
+/// Bytes of a region that was never written there, where they stand together.
+#[inline(always)]
+fn near_in_file<'a>(file: &'a [u8], home: &Segment, at: u32, count: usize) -> Option<&'a [u8]>
+    requires covered { covers_all home.now at count ≡ true }
+    requires count { count ≤ 4 }
+    ensures length { IfSome result (λ bytes. length bytes.now ≡ count) }
+    ensures bytes { IfSome result (λ bytes. (i : ℕ) → i < count → slice_index bytes.now i ≡ byte_in file.now (at + i) (Some home.now)) }
+{
+    let depth = (at - home.start) as usize;
+    let filled = home.filled as usize;
+    if depth >= filled {
+        return Some(&ZEROS[..count]);
+    }
+    let place = home.offset as usize + depth;
+    if depth + count > filled || place + count > file.len() {
+        return None;
+    }
+    Some(&file[place..place + count])
+}
+
+impl<'a> Kept<'a> {
+    /// Bytes of a region from `at` on, where they stand together in a page or in the file.
+    #[inline(always)]
+    fn near(&self, home: &Segment, at: u32, count: usize) -> Option<&[u8]>
+        requires home { IsHome self.now.regions.items home.now }
+        requires covered { covers_all home.now at count ≡ true }
+        requires count { count ≤ 4 }
+        ensures { IfSome result (λ bytes. bytes.now ≡ map (value self.now) (range_with_len at count)) }
+    {
+        let place = at as usize % 4096;
+        if place + count > 4096 {
+            return None;
+        }
+        let bytes = self.page_bytes(at);
+        if bytes.is_empty() {
+            return near_in_file(self.file, home, at, count);
+        }
+        if place + count > bytes.len() {
+            return None;
+        }
+        Some(&bytes[place..place + count])
+    }
+
+    /// The bytes from `at` on, one by one.
+    fn copy(&self, at: u32, out: &mut [u8])
+        requires { at + length out.old ≤ 2 ^ 32 }
+        ensures { out.new ≡ map (value self.now) (range_with_len at (length out.old)) }
+    {
+        for (place, byte) in out.iter_mut().enumerate() {
+            *byte = self.byte(at + place as u32);
+        }
+    }
+
+    /// The number in so many bytes, one by one.
+    #[cold]
+    pub(crate) fn number_apart(&self, at: u32, count: usize) -> u32
+        requires count { is_size count ≡ true }
+        requires low { at + count ≤ 2 ^ 32 }
+        ensures value { result ≡ number_in count (map (value self.now) (range_with_len at count)) }
+        ensures fits { result < 2 ^ (8 * count) }
+    {
+        let mut bytes = [0; 4];
+        self.copy(at, &mut bytes[..count]);
+        number(&bytes[..count])
+    }
+
+    /// The number in so many bytes of one region.
+    #[inline(always)]
+    pub(crate) fn number(&self, home: &Segment, at: u32, count: usize) -> u32
+        requires kept { IsKept self.now }
+        requires home { IsHome self.now.regions.items home.now }
+        requires covered { covers_all home.now at count ≡ true }
+        requires count { is_size count ≡ true }
+        ensures value { result ≡ number_in count (map (value self.now) (range_with_len at count)) }
+        ensures fits { result < 2 ^ (8 * count) }
+    {
+        match self.near(home, at, count) {
+            Some(bytes) => number(bytes),
+            None => self.number_apart(at, count),
+        }
+    }
+
+    /// A region that holds so many addresses from `at` on, if there is one.
+    #[inline(always)]
+    pub(crate) fn home(&self, at: u32, count: usize) -> Segment
+        requires kept { IsKept self.now }
+        requires count { count ≤ 4 }
+        ensures { IsHome self.now.regions.items result }
+    {
+        if let Some(page) = self.page(at) {
+            let home = page.home();
+            if covers(&home, at, count) {
+                return home;
+            }
+        }
+        self.region(at).unwrap_or(NOWHERE)
+    }
+
+    /// Whether the address lies in a region with the right.
+    fn is_granted(&self, right: Right, at: usize) -> bool
+        requires { IsKept self.now }
+        ensures { result ≡ may (bit_of right) self.now.regions.items at }
+    {
+        match u32::try_from(at) {
+            Ok(at) => match self.region(at) {
+                Some(region) => grants(&region, right),
+                None => false,
+            },
+            Err(_) => false,
+        }
+    }
+
+    /// Whether each of so many addresses from `at` on lies in a region with the right.
+    pub(crate) fn all_granted(&self, right: Right, at: u32, count: usize) -> bool
+        requires kept { IsKept self.now }
+        requires count { count < 2 ^ 63 }
+        ensures { result ≡ list_all (may (bit_of right) self.now.regions.items) (range_with_len at count) }
+    {
+        for place in 0..count {
+            if !self.is_granted(right, at as usize + place) {
+                return false;
+            }
+        }
+        true
+    }
+}

@@ -1,0 +1,44 @@
+//! The rights of a region.
+ghost use Rattle.std.specs.Prelude.{◌≡◌, ◌≤◌};
+ghost use Rattle.rv_hart.specs.Memory.{has};
+ghost use Rattle.rv_hart.specs.Stored.{bit_of, covers_all};
+
+use elf_image::Segment;
+
+/// What may be done with the bytes of a region.
+#[derive(Clone, Copy, Debug, PartialEq, Eq)]
+pub(crate) enum Right {
+    Execute,
+    Write,
+    Read,
+}
+
+/// A segment without addresses.
+pub(crate) const NOWHERE: Segment = Segment {
+    start: 0,
+    end: 0,
+    flags: 0,
+    offset: 0,
+    filled: 0,
+};
+
+/// Whether the region has the right.
+#[inline(always)]
+pub(crate) fn grants(region: &Segment, right: Right) -> bool
+    ensures { result ≡ has (bit_of right) region.now }
+{
+    match right {
+        Right::Execute => region.flags % 2 == 1,
+        Right::Write => region.flags / 2 % 2 == 1,
+        Right::Read => region.flags / 4 % 2 == 1,
+    }
+}
+
+/// Whether the segment holds so many addresses from `at` on.
+#[inline(always)]
+pub(crate) fn covers(segment: &Segment, at: u32, count: usize) -> bool
+    requires { count ≤ 4 }
+    ensures { result ≡ covers_all segment.now at count }
+{
+    segment.start <= at && at as usize + count <= segment.end as usize
+}

@@ -1,0 +1,132 @@
+ghost use Rattle.std.specs.Prelude.{◌≡◌, ◌<◌, ◌≤◌, ◌*◌, ◌^◌, ◌++◌, map, true, IfOk, IfSome, OnErr, length};
+ghost use Rattle.std.specs.List.{range_with_len};
+ghost use Rattle.rv_hart.specs.Memory.{is_size, loaded, stored, may_all, write, first_memory, stack_of};
+ghost use Rattle.rv_hart.specs.Step.{fetched_at};
+
+use crate::access;
+use crate::kept::Kept;
+use crate::right::{NOWHERE, covers};
+use elf_image::{Image, Segment};
+use prof_bytes::Memory;
+use scope_types::Look;
+use std::alloc::Global;
+use std::marker::Model;
+
+/// The memory of a program that runs: its segments, and a stack of 512 KiB for each hart, which ends
+/// below `0xf0000000 + (hart + 1) * 0x100000`. Contracts see it whole, with a byte for each address.
+/// In the code a page of 4 KiB is made when it is first written; what was never written is read from
+/// the file, or is 0.
+#[derive(Drop)]
+pub struct Space<'a> {
+    alloc: Global,
+    kept: Kept<'a>,
+    code: Segment,
+}
+
+impl<'a> Model for Space<'a> {
+    ghost use Rattle.rv_hart.specs.Memory.{Memory};
+
+    ghost Value = { Memory };
+
+    ghost use Rattle.rv_hart.specs.Stored.{memory_of, IsKept, IsHome};
+
+    ghost view = { λ space. memory_of space.kept };
+
+    ghost invariant = { λ space. IsKept space.kept × IsHome space.kept.regions.items space.code };
+}
+
+/// The stack of a hart.
+fn stack(hart: u32) -> Segment
+    requires { hart < 64 }
+    ensures { result ≡ stack_of hart }
+{
+    let below = 0xf000_0000 + hart * 0x10_0000;
+    Segment {
+        start: below + 0x8_0000,
+        end: below + 0x10_0000,
+        flags: 6,
+        offset: 0,
+        filled: 0,
+    }
+}
+
+/// The program's segments and the stacks.
+fn regions(alloc: Global, segments: &[Segment], harts: u32) -> Result<Vec<Segment>, Memory>
+    requires { harts ≤ 64 }
+    ensures { IfOk result (λ regions. regions.items ≡ segments.now ++ map stack_of (range_with_len 0 harts)) }
+{
+    let mut regions = Vec::new(alloc);
+    regions.extend_from_slice(segments)?;
+    for hart in 0..harts {
+        regions.push(stack(hart))?;
+    }
+    Ok(regions)
+}
+
+impl<'a> Space<'a> {
+    /// The memory of a program that was loaded, for at most 64 harts.
+    pub fn of(alloc: Global, image: &Image<'a>, harts: u32) -> Result<Space<'a>, Memory>
+        requires { harts ≤ 64 }
+        ensures { IfOk result (λ space. space ≡ first_memory image.now harts) }
+    {
+        let kept = Kept {
+            file: image.bytes(),
+            regions: regions(alloc, image.segments(), harts)?,
+            blocks: Vec::new(alloc),
+        };
+        Ok(Space {
+            alloc,
+            kept,
+            code: NOWHERE,
+        })
+    }
+
+    /// The number in 1, 2 or 4 bytes from `at` on, the lowest first; `None` where one of these may not
+    /// be read.
+    #[inline(always)]
+    pub fn load(&self, at: u32, size: u32) -> Option<u32>
+        requires { is_size size ≡ true }
+        ensures number { result ≡ loaded self.now at size }
+        ensures fits { IfSome result (λ number. number < 2 ^ (8 * size)) }
+    {
+        access::load(&self.kept, at, size as usize)
+    }
+
+    /// Writes the bytes from `at` on, and answers true; or changes nothing and answers false, where one
+    /// of their addresses is 2^32 or above or may not be written.
+    #[inline(always)]
+    pub fn store(&mut self, at: u32, bytes: &[u8]) -> Result<bool, Memory>
+        ensures ok { IfOk result (λ answer. (answer, self.new) ≡ stored self.old at bytes.now) }
+        ensures err { OnErr result (self.new ≡ self.old) }
+        // Memory is wanted only where the bytes may be written.
+        ensures writable { OnErr result (may_all write self.old at (length bytes.now) ≡ true) }
+    {
+        access::store(&mut self.kept, self.alloc, at, bytes)
+    }
+
+    /// The word at pc, where it may be fetched.
+    #[inline(always)]
+    pub(crate) fn fetch(&mut self, pc: u32) -> Option<u32>
+        ensures same { self.new ≡ self.old }
+        ensures word { result ≡ fetched_at self.old pc }
+    {
+        if pc % 4 != 0 {
+            return None;
+        }
+        if !covers(&self.code, pc, 4) {
+            match self.kept.region(pc) {
+                Some(region) => self.code = region,
+                None => return None,
+            }
+        }
+        access::fetch(&self.kept, &self.code, pc)
+    }
+}
+
+impl<'a> Look for Space<'a> {
+    ghost words = { λ memory at. loaded memory at 4 };
+
+    fn word(&self, at: u32) -> Option<u32> {
+        self.load(at, 4)
+    }
+}
