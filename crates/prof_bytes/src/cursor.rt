@@ -36,6 +36,16 @@ impl<'a> Cursor<'a> {
         Cursor { bytes, place }
     }
 
+    /// A second cursor over the same bytes, at the same place, which moves by itself.
+    pub fn fork(&self) -> Cursor<'a>
+        ensures { result ≡ self.now }
+    {
+        Cursor {
+            bytes: self.bytes,
+            place: self.place,
+        }
+    }
+
     /// Where the next read begins, as an offset in the bytes.
     pub fn place(&self) -> usize
         ensures { result ≡ self.now.place }
