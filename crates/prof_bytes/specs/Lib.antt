@@ -1,3 +1,4 @@
 pub mod Number
 pub mod Leb
 pub mod Reading
+pub mod Outcome

@@ -1,4 +1,4 @@
-//! Bytes: owned texts, numbers written as bytes, and a cursor that reads numbers back.
+//! Bytes: owned texts and lists, numbers written as bytes, and a cursor that reads numbers back.
 //!
 //! It promises that each read gives exactly the number that the bytes spell, or nothing where the
 //! bytes run out, and that what was read gives the same bytes when it is written again. Numbers are
@@ -9,11 +9,13 @@ mod cursor;
 mod fail;
 mod front;
 mod leb;
+mod listed;
 mod number;
 mod text;
 
 pub use cursor::Cursor;
 pub use fail::{Fail, Memory};
+pub use listed::Listed;
 pub use number::{put_u32, put_u64};
 pub use text::Text;
 

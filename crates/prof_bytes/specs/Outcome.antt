@@ -1,0 +1,20 @@
+-- Values that bytes give, or the first fault in them; and what a call that may lack memory gives of these.
+use Rattle.std.specs.Prelude.{◌≡◌, Result, Ok, Err}
+use Rattle.prof_bytes.specs.declared.fail.Fail.{Fail}
+use Rattle.prof_bytes.specs.declared.fail.Fail.TheVariants as fails
+
+-- what comes next, unless there is a fault already
+infixl 10 ◌>>=◌
+abbrev pub ◌>>=◌ : {X Y F : Type 0} → Result X F → (X → Result Y F) → Result Y F
+(Ok x) >>= next = next x
+(Err fault) >>= next = Err fault
+
+-- the definition has just this fault, or there was no memory
+abbrev pub FailsBy : {Y F : Type 0} → Fail F → Result Y F → Type 0
+FailsBy (fails.Fault fault) wanted = wanted ≡ Err fault
+FailsBy fails.Memory wanted = Unit {0}
+
+-- a call gave what the definition gives, seen by `view`, unless there was no memory
+abbrev pub Gives : {X Y F : Type 0} → (X → Y) → Result X (Fail F) → Result Y F → Type 0
+Gives view (Ok x) wanted = wanted ≡ Ok (view x)
+Gives view (Err fail) wanted = FailsBy fail wanted

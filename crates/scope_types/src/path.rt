@@ -1,0 +1,42 @@
+ghost use Rattle.std.specs.Prelude.{◌≡◌};
+
+use crate::scope::Scope;
+use std::marker::Model;
+
+/// A call path, the outermost scope first. Contracts see it as the list of its scopes.
+#[derive(Debug, Drop)]
+pub struct ScopePath {
+    scopes: Vec<Scope>,
+}
+
+impl Model for ScopePath {
+    ghost use Rattle.std.specs.Prelude.{List};
+    ghost use Rattle.scope_types.specs.declared.scope.Scope.{Scope};
+
+    ghost Value = { List Scope };
+
+    ghost view = { λ path. path.scopes.items };
+}
+
+impl ScopePath {
+    /// The path of these scopes. Takes no memory.
+    pub fn of(scopes: Vec<Scope>) -> ScopePath
+        ensures { result ≡ scopes.items }
+    {
+        ScopePath { scopes }
+    }
+
+    /// The scopes, the outermost first.
+    pub fn scopes(&self) -> &[Scope]
+        ensures { result.now ≡ self.now }
+    {
+        self.scopes.as_slice()
+    }
+}
+
+/// A call path of a hart.
+#[derive(Debug, Drop)]
+pub struct HartPath {
+    pub hart: u32,
+    pub path: ScopePath,
+}

@@ -1,0 +1,20 @@
+-- The number of a node by its place.
+use Rattle.std.proofs.Common.{◌≡◌, ℕ, ◌+◌, ◌≤◌, Bool, true, false, cond, not, nat_lt, List, [], ◌∷◌, length, Option, Some, None, unwrap_or, refl, sym, arith}
+use Rattle.std.specs.Prelude.{position}
+use Rattle.std.specs.List.{position_or_len}
+use Rattle.std.proofs.lemmas.Bool.Decides.{nat_tests}
+
+within : {X : Type 0} (p : X → Bool) (xs : List X) → position_or_len p xs ≤ length xs
+within p [] = omega arith
+within p (x ∷ xs) =
+    elim (p x) as (λ b. cond (not b) (1 + position_or_len p xs) 0 ≤ length (x ∷ xs)) [
+      | true ↦ omega arith
+      | false ↦ let more = within p xs in omega arith
+    ]
+
+chosen : (b : Bool) (place len : ℕ) → nat_lt place len ≡ b → place ≤ len → unwrap_or (cond b (Some place) None) len ≡ place
+chosen true place len e le = refl
+chosen false place len e le = grind (arith, nat_tests)
+
+pub place_is_number : {X : Type 0} (p : X → Bool) (xs : List X) → unwrap_or (position p xs) (length xs) ≡ position_or_len p xs
+place_is_number p xs = chosen (nat_lt (position_or_len p xs) (length xs)) (position_or_len p xs) (length xs) refl (within p xs)

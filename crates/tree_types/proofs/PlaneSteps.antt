@@ -1,0 +1,11 @@
+-- A plane, a hart at a time.
+use Rattle.std.proofs.Common.{◌≡◌, ℕ, ◌+◌, List, [], ◌∷◌, ◌++◌, map, sym, zero-add}
+use Rattle.std.specs.List.{range_with_len}
+use Rattle.std.proofs.lemmas.List.FromFn.{map-range_with_len_more}
+use Rattle.scope_types.specs.declared.path.HartPath.{HartPath}
+use Rattle.tree_types.specs.declared.content.ProfileEntry.{ProfileEntry}
+use Rattle.tree_types.specs.Planes.{profile_of}
+use Rattle.tree_types.specs.Values.{harts_below}
+
+pub one_column_more : (period hart : ℕ) (ps : List HartPath) → map (profile_of period ps) (harts_below hart) ++ profile_of period ps hart ∷ [] ≡ map (profile_of period ps) (harts_below (hart + 1))
+one_column_more period hart ps = sym (map-range_with_len_more (profile_of period ps) 0 hart hart (zero-add hart))

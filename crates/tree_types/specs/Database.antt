@@ -1,0 +1,45 @@
+-- What a database holds of a list of call paths.
+use Rattle.std.specs.Prelude.{ℕ, List, map, [], ◌∷◌, if◌then◌else◌}
+use Rattle.std.specs.Ordering.{is_eq}
+use Rattle.scope_types.specs.declared.scope.ProcId.{ProcId}
+use Rattle.scope_types.specs.declared.path.HartPath.{HartPath}
+use Rattle.tree_types.specs.declared.content.Content.{Content}
+use Rattle.tree_types.specs.declared.content.Names.{Names}
+use Rattle.tree_types.specs.declared.content.Node.{Node}
+use Rattle.tree_types.specs.declared.content.FileName.{FileName}
+use Rattle.tree_types.specs.declared.content.ProcName.{ProcName}
+use Rattle.tree_types.specs.Nodes.{nodes, own_scope, parent_number}
+use Rattle.tree_types.specs.Planes.{profile_plane, context_plane}
+use Rattle.tree_types.specs.Naming.{Naming, proc_order, file_order, procs_used, files_used}
+
+abbrev pub node_list : List HartPath → List Node
+node_list paths = map (λ n. record { parent = parent_number (nodes paths) n; scope = own_scope n }) (nodes paths)
+
+abbrev pub names_used : Naming → List HartPath → Names
+names_used naming paths = record {
+  procs = map (λ id. record { id = id; name = naming.proc_name id }) (procs_used (nodes paths));
+  files = map (λ f. record { table = f.0; file = f.1; name = naming.file_name f.0 f.1 }) (files_used (nodes paths));
+}
+
+unfoldable pub content_of : ℕ → ℕ → Naming → List HartPath → Content
+content_of period harts naming paths = record {
+  period = period;
+  harts = harts;
+  names = names_used naming paths;
+  nodes = node_list paths;
+  profiles = profile_plane period harts paths;
+  contexts = context_plane period harts paths;
+}
+
+-- the name of the first entry for a procedure, and for a file
+abbrev pub proc_named : List ProcName → ProcId → List ℕ
+proc_named [] id = []
+proc_named (p ∷ ps) id = if is_eq (proc_order id p.id) then p.name else proc_named ps id
+
+abbrev pub file_named : List FileName → ℕ → ℕ → List ℕ
+file_named [] table file = []
+file_named (f ∷ fs) table file = if is_eq (file_order (table, file) (f.table, f.file)) then f.name else file_named fs table file
+
+-- how the names of a content call procedures and files
+abbrev pub naming_in : Names → Naming
+naming_in names = record { proc_name = proc_named names.procs; file_name = file_named names.files }

@@ -1,0 +1,72 @@
+use crate::planes::{ContextPlane, ProfilePlane};
+use prof_bytes::{Listed, Text};
+use scope_types::{ProcId, Scope};
+
+/// The parent of a root, in place of a node's number.
+pub const NO_PARENT: u32 = 4_294_967_295;
+
+/// A node of the calling context tree: the number of its parent, and its own scope.
+#[derive(Clone, Copy, Debug, PartialEq, Eq, Drop)]
+pub struct Node {
+    pub parent: u32,
+    pub scope: Scope,
+}
+
+/// What a value of a node sums: the samples that end there, those of them and below that stay within
+/// its procedure's frame, or all that pass there.
+#[derive(Clone, Copy, Debug, PartialEq, Eq, PartialOrd, Ord, Drop)]
+pub enum Kind {
+    Exclusive,
+    Frame,
+    Inclusive,
+}
+
+/// A value of a hart at a node, in retired instructions.
+#[derive(Clone, Copy, Debug, PartialEq, Eq, Drop)]
+pub struct ProfileEntry {
+    pub node: u32,
+    pub kind: Kind,
+    pub value: u64,
+}
+
+/// A value of a node for a hart, in retired instructions.
+#[derive(Clone, Copy, Debug, PartialEq, Eq, Drop)]
+pub struct ContextEntry {
+    pub kind: Kind,
+    pub hart: u32,
+    pub value: u64,
+}
+
+/// A procedure and its name.
+#[derive(Debug, Drop)]
+pub struct ProcName {
+    pub id: ProcId,
+    pub name: Text,
+}
+
+/// A file of a line table and its name.
+#[derive(Debug, Drop)]
+pub struct FileName {
+    pub table: u32,
+    pub file: u32,
+    pub name: Text,
+}
+
+/// The names of the procedures and files that the nodes' scopes use, ascending.
+#[derive(Debug, Drop)]
+pub struct Names {
+    pub procs: Listed<ProcName>,
+    pub files: Listed<FileName>,
+}
+
+/// What a database holds: the period in retired instructions, the number of harts, the names, the
+/// nodes in preorder, and the values other than 0 by hart and by node.
+#[derive(Debug, Drop)]
+pub struct Content {
+    pub period: u32,
+    pub harts: u32,
+    pub names: Names,
+    pub nodes: Listed<Node>,
+    pub profiles: ProfilePlane,
+    pub contexts: ContextPlane,
+}

@@ -1,0 +1,29 @@
+//! The calling context tree: its nodes and their values, the database's content, and the definitions
+//! of both over plain lists of call paths.
+//!
+//! It promises what the nodes, the values, the planes and the content of a list of call paths are,
+//! with their laws, and plain bodies that compute just that. Views and attribution are those of
+//! HPCToolkit's manual: exclusive and inclusive cost of a calling context. Below stand `scope_types`
+//! and `prof_bytes`.
+#![tactic(auto)]
+
+mod build;
+mod content;
+mod laws;
+mod named;
+mod plain;
+mod planes;
+mod values;
+
+pub use build::content_of_paths;
+pub use content::{
+    Content, ContextEntry, FileName, Kind, NO_PARENT, Names, Node, ProcName, ProfileEntry,
+};
+pub use laws::{
+    content_holds_its_paths, counts_decide, nodes_are_prefixes, order_does_not_matter,
+    parents_stand_before, pieces_keep_the_paths, values_add_up,
+};
+pub use named::{files_of, procs_of};
+pub use plain::{node_list_of, nodes_of, rest_after, value_of};
+pub use planes::{ContextPlane, ProfilePlane};
+pub use values::{column_of, context_column_of};

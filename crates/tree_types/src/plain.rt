@@ -1,0 +1,202 @@
+//! Nodes and values by plain search: each answer walks the whole list of paths. Slow on purpose: it is
+//! what the definitions say, and what a faster form is compared with.
+ghost use Rattle.std.specs.Prelude.{◌≡◌, ℕ, ◌+◌, ◌*◌, ◌<◌, ◌≤◌, ◌^◌, ◌==◌, ◌&&◌, List, length, fold, insert, IfOk, IfNone, IfSome, OnOk, option_map, map, take, count_by, position};
+ghost use Rattle.std.specs.Ordering.{is_eq};
+ghost use Rattle.scope_types.specs.Order.{path_order};
+ghost use Rattle.tree_types.specs.Ascending.{put, put_all};
+ghost use Rattle.tree_types.specs.Paths.{after, is_proc, prefixes, rest_passes};
+ghost use Rattle.tree_types.specs.Nodes.{nodes, no_parent, number_of, own_scope, parent_number};
+ghost use Rattle.tree_types.specs.Values.{counts_for, count_below, value, within_frame};
+
+use crate::content::{Kind, NO_PARENT, Node};
+use prof_bytes::Listed;
+use scope_types::{HartPath, RootKind, Scope, ScopePath, compare, compare_paths};
+use std::alloc::{AllocError, Global};
+use std::cmp::Ordering;
+
+/// What comes after n in the path, if n is a prefix of it.
+pub fn rest_after<'a>(n: &[Scope], path: &'a [Scope]) -> Option<&'a [Scope]>
+    ensures { option_map (λ r. r.now) result ≡ after n.now path.now }
+{
+    match n {
+        [] => Some(path),
+        [s, n @ ..] => match path {
+            [] => None,
+            [t, path @ ..] => {
+                if compare(s, t).is_eq() {
+                    rest_after(n, path)
+                } else {
+                    None
+                }
+            }
+        },
+    }
+}
+
+fn is_procedure(s: &Scope) -> bool
+    ensures { result ≡ is_proc s.now }
+{
+    matches!(s, Scope::Proc(_))
+}
+
+fn has_no_procedure(rest: &[Scope]) -> bool
+    ensures { result ≡ within_frame rest.now }
+{
+    for s in rest {
+        if is_procedure(s) {
+            return false;
+        }
+    }
+    true
+}
+
+/// Whether a path counts for a node that this comes after.
+fn counts(kind: Kind, rest: &[Scope]) -> bool
+    ensures { result ≡ counts_for kind rest.now }
+{
+    match kind {
+        Kind::Exclusive => rest.is_empty(),
+        Kind::Frame => has_no_procedure(rest),
+        Kind::Inclusive => true,
+    }
+}
+
+/// Whether a path of a hart counts for the node.
+fn path_counts(p: &HartPath, hart: u32, n: &[Scope], kind: Kind) -> bool
+    ensures { result ≡ ((p.now.hart == hart) && rest_passes (counts_for kind) (after n.now p.now.path)) }
+{
+    if p.hart != hart {
+        return false;
+    }
+    match rest_after(n, p.path.scopes()) {
+        None => false,
+        Some(rest) => counts(kind, rest),
+    }
+}
+
+/// A node's value for a hart: the period times the number of its paths that count.
+#[tactic(auto, unfolding(crate::specs::Values::count_below))]
+pub fn value_of(period: u32, paths: &[HartPath], hart: u32, n: &[Scope], kind: Kind) -> u64
+    requires { length paths.now ≤ 2 ^ 20 }
+    ensures { result ≡ value period paths.now hart n.now kind }
+{
+    let mut count: u64 = 0;
+    for p in paths {
+        if path_counts(p, hart, n, kind) {
+            count += 1;
+        }
+    }
+    u64::from(period) * count
+}
+
+/// Where a path is to be put, unless it stands there.
+fn place_for(found: &[ScopePath], path: &[Scope]) -> Option<usize>
+    ensures there { IfNone result (found.now ≡ put path_order path.now found.now) }
+    ensures place { IfSome result (λ k. (k ≤ length found.now) × (insert found.now k path.now ≡ put path_order path.now found.now)) }
+{
+    let mut k = 0;
+    while k < found.len() {
+        match compare_paths(path, found[k].scopes()) {
+            Ordering::Less => return Some(k),
+            Ordering::Equal => return None,
+            Ordering::Greater => k += 1,
+        }
+    }
+    Some(k)
+}
+
+/// Puts a path in its place, unless it stands there.
+fn put_path(found: &mut Vec<ScopePath>, path: ScopePath) -> Result<(), AllocError>
+    ensures { OnOk result (found.new.items ≡ put path_order path found.old.items) }
+{
+    if let Some(k) = place_for(found, path.scopes()) {
+        found.insert(k, path)?;
+    }
+    Ok(())
+}
+
+/// A path of its own.
+fn owned(alloc: Global, scopes: &[Scope]) -> Result<ScopePath, AllocError>
+    ensures { IfOk result (λ p. p ≡ scopes.now) }
+{
+    let mut all = Vec::new(alloc);
+    all.extend_from_slice(scopes)?;
+    Ok(ScopePath::of(all))
+}
+
+/// Puts each nonempty prefix of the path in its place.
+#[tactic(auto, using(crate::proofs::Putting::put_all_more, crate::proofs::Putting::put_all_none))]
+fn put_prefixes(alloc: Global, found: &mut Vec<ScopePath>, path: &[Scope]) -> Result<(), AllocError>
+    ensures { OnOk result (found.new.items ≡ put_all path_order found.old.items (prefixes path.now)) }
+{
+    for k in 0..path.len() {
+        let prefix = owned(alloc, &path[..k + 1])?;
+        put_path(found, prefix)?;
+    }
+    Ok(())
+}
+
+/// The nodes of the paths, in preorder.
+#[tactic(auto, using(crate::proofs::Putting::one_path_more, crate::proofs::Putting::all_paths, crate::proofs::Putting::no_path))]
+pub fn nodes_of(alloc: Global, paths: &[HartPath]) -> Result<Listed<ScopePath>, AllocError>
+    ensures { IfOk result (λ ns. ns ≡ nodes paths.now) }
+{
+    let mut found = Vec::new(alloc);
+    for p in paths {
+        put_prefixes(alloc, &mut found, p.path.scopes())?;
+    }
+    Ok(Listed::of(found))
+}
+
+/// The last scope of a node's path, which is the node's own.
+pub(crate) fn own_scope_of(n: &[Scope]) -> Scope
+    ensures { result ≡ own_scope n.now }
+{
+    match n {
+        [] => Scope::Root(RootKind::Thread),
+        [scope] => *scope,
+        [_, rest @ ..] => own_scope_of(rest),
+    }
+}
+
+fn place_in(tree: &[ScopePath], n: &[Scope]) -> Option<usize>
+    ensures place { result ≡ position (λ m. is_eq (path_order n.now m)) tree.now }
+    ensures within { IfSome result (λ place. place < length tree.now) }
+{
+    tree.iter()
+        .position(|m| compare_paths(n, m.scopes()).is_eq())
+}
+
+/// The number of a node, which is its place in the tree.
+#[tactic(auto, using(crate::proofs::Numbers::place_is_number), unfolding(crate::specs::Nodes::number_of))]
+fn number_in(tree: &[ScopePath], n: &[Scope]) -> usize
+    ensures number { result ≡ number_of tree.now n.now }
+    ensures within { result ≤ length tree.now }
+{
+    place_in(tree, n).unwrap_or(tree.len())
+}
+
+fn parent_of(tree: &[ScopePath], n: &[Scope]) -> u32
+    requires { length tree.now ≤ no_parent }
+    ensures { result ≡ parent_number tree.now n.now }
+{
+    if n.len() == 1 {
+        return NO_PARENT;
+    }
+    number_in(tree, &n[..n.len().saturating_sub(1)]) as u32
+}
+
+/// The nodes, each with its parent's number and its own scope.
+pub fn node_list_of(alloc: Global, tree: &[ScopePath]) -> Result<Listed<Node>, AllocError>
+    requires { length tree.now ≤ no_parent }
+    ensures { IfOk result (λ nodes. nodes ≡ map (λ n. record { parent = parent_number tree.now n; scope = own_scope n }) tree.now) }
+{
+    let mut nodes = Vec::new(alloc);
+    for n in tree {
+        nodes.push(Node {
+            parent: parent_of(tree, n.scopes()),
+            scope: own_scope_of(n.scopes()),
+        })?;
+    }
+    Ok(Listed::of(nodes))
+}

@@ -1,0 +1,131 @@
+//! The columns of the two planes, a value at a time.
+ghost use Rattle.std.specs.Prelude.{◌≡◌, ℕ, ◌+◌, ◌*◌, ◌<◌, ◌≤◌, ◌^◌, ◌++◌, ◌∷◌, [], ◌==◌, not, List, length, map, filter, OnOk, IfOk, slice_index_or};
+ghost use Rattle.std.specs.List.{flat_map, enumerate_from};
+ghost use Rattle.tree_types.specs.Nodes.{nodes};
+ghost use Rattle.tree_types.specs.Values.{value};
+ghost use Rattle.tree_types.specs.Planes.{profile_entry, context_entry, profile_of, context_of, kind_column, node_values, other_than_zero};
+ghost use Rattle.tree_types.specs.declared.content.Kind.TheVariants.{Exclusive, Frame, Inclusive};
+
+use crate::content::{ContextEntry, Kind, ProfileEntry};
+use crate::plain::value_of;
+use scope_types::{HartPath, Scope, ScopePath};
+use std::alloc::{AllocError, Global};
+
+fn put_value(out: &mut Vec<ProfileEntry>, e: ProfileEntry) -> Result<(), AllocError>
+    ensures { OnOk result (out.new.items ≡ out.old.items ++ other_than_zero (e ∷ [])) }
+{
+    if e.value != 0 {
+        out.push(e)?;
+    }
+    Ok(())
+}
+
+fn put_kind(
+    out: &mut Vec<ProfileEntry>,
+    period: u32,
+    paths: &[HartPath],
+    hart: u32,
+    number: u32,
+    n: &[Scope],
+    kind: Kind,
+) -> Result<(), AllocError>
+    requires { length paths.now ≤ 2 ^ 20 }
+    ensures { OnOk result (out.new.items ≡ out.old.items ++ other_than_zero (profile_entry number kind (value period paths.now hart n.now kind) ∷ [])) }
+{
+    let value = value_of(period, paths, hart, n, kind);
+    put_value(
+        out,
+        ProfileEntry {
+            node: number,
+            kind,
+            value,
+        },
+    )
+}
+
+/// The three values of a node.
+#[tactic(auto, using(crate::proofs::Columns::three_values))]
+fn put_node(
+    out: &mut Vec<ProfileEntry>,
+    period: u32,
+    paths: &[HartPath],
+    hart: u32,
+    number: u32,
+    n: &[Scope],
+) -> Result<(), AllocError>
+    requires { length paths.now ≤ 2 ^ 20 }
+    ensures { OnOk result (out.new.items ≡ out.old.items ++ other_than_zero (node_values period paths.now hart (number, n.now))) }
+{
+    put_kind(out, period, paths, hart, number, n, Kind::Exclusive)?;
+    put_kind(out, period, paths, hart, number, n, Kind::Frame)?;
+    put_kind(out, period, paths, hart, number, n, Kind::Inclusive)
+}
+
+/// The values of a hart other than 0, by node, then kind.
+#[tactic(auto, using(crate::proofs::Columns::one_node_more, crate::proofs::Columns::all_nodes))]
+pub fn column_of(
+    alloc: Global,
+    period: u32,
+    paths: &[HartPath],
+    hart: u32,
+    tree: &[ScopePath],
+) -> Result<Vec<ProfileEntry>, AllocError>
+    requires few { length paths.now ≤ 2 ^ 20 }
+    requires nodes { tree.now ≡ nodes paths.now }
+    requires numbers { length tree.now < 2 ^ 32 }
+    ensures { IfOk result (λ es. es.items ≡ profile_of period paths.now hart) }
+{
+    let mut out = Vec::new(alloc);
+    for i in 0..tree.len() {
+        put_node(&mut out, period, paths, hart, i as u32, tree[i].scopes())?;
+    }
+    Ok(out)
+}
+
+fn put_context_value(out: &mut Vec<ContextEntry>, e: ContextEntry) -> Result<(), AllocError>
+    ensures { OnOk result (out.new.items ≡ out.old.items ++ filter (λ e. not (e.value == 0)) (e ∷ [])) }
+{
+    if e.value != 0 {
+        out.push(e)?;
+    }
+    Ok(())
+}
+
+/// The values of one kind of a node, by hart.
+#[tactic(auto, using(crate::proofs::ContextColumns::one_hart_more, crate::proofs::ContextColumns::no_hart))]
+fn put_kind_by_hart(
+    out: &mut Vec<ContextEntry>,
+    period: u32,
+    harts: u32,
+    paths: &[HartPath],
+    n: &[Scope],
+    kind: Kind,
+) -> Result<(), AllocError>
+    requires { length paths.now ≤ 2 ^ 20 }
+    ensures { OnOk result (out.new.items ≡ out.old.items ++ kind_column period harts paths.now n.now kind) }
+{
+    for hart in 0..harts {
+        let value = value_of(period, paths, hart, n, kind);
+        put_context_value(out, ContextEntry { kind, hart, value })?;
+    }
+    Ok(())
+}
+
+/// The values of a node other than 0, by kind, then hart.
+#[tactic(auto, using(crate::proofs::ContextColumns::three_kinds))]
+pub fn context_column_of(
+    alloc: Global,
+    period: u32,
+    harts: u32,
+    paths: &[HartPath],
+    n: &[Scope],
+) -> Result<Vec<ContextEntry>, AllocError>
+    requires { length paths.now ≤ 2 ^ 20 }
+    ensures { IfOk result (λ es. es.items ≡ context_of period harts paths.now n.now) }
+{
+    let mut out = Vec::new(alloc);
+    put_kind_by_hart(&mut out, period, harts, paths, n, Kind::Exclusive)?;
+    put_kind_by_hart(&mut out, period, harts, paths, n, Kind::Frame)?;
+    put_kind_by_hart(&mut out, period, harts, paths, n, Kind::Inclusive)?;
+    Ok(out)
+}
