@@ -1,0 +1,5 @@
+pub mod Forms
+pub mod Fields
+pub mod Values
+pub mod Index
+pub mod Abbreviations
