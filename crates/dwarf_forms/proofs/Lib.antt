@@ -1,2 +1,3 @@
 pub mod Items
 pub mod Places
+pub mod Runs

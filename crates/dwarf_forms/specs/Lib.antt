@@ -3,3 +3,4 @@ pub mod Fields
 pub mod Values
 pub mod Index
 pub mod Abbreviations
+pub mod Runs

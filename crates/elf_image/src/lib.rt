@@ -5,9 +5,11 @@
 //! the code. Below stands `prof_bytes`.
 #![tactic(auto)]
 
+mod debug_parts;
 mod fault;
 mod image;
 mod straight;
 
+pub use debug_parts::DebugParts;
 pub use fault::{ElfFault, ElfRule};
 pub use image::{Image, Segment, read_image};
