@@ -4,3 +4,4 @@ pub mod Values
 pub mod Index
 pub mod Abbreviations
 pub mod Runs
+pub mod Sections

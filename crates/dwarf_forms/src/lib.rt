@@ -7,12 +7,14 @@
 
 mod declaration;
 mod read;
+mod section;
 mod shape;
 mod table;
 mod value;
 
 pub use declaration::{Abbrev, Abbrevs, BadTable, Spec, Specs};
 pub use read::read_value;
+pub use section::{cursor_at, text_in, wrapped};
 pub use table::read_abbrevs;
 pub use value::{FormFault, Value};
 

@@ -7,7 +7,8 @@ use Rattle.dwarf_forms.specs.Values.{Held, Number, Signed, Section, ListIndex}
 use Rattle.dwarf_info.specs.declared.ranges.RangeEntry.{RangeEntry}
 use Rattle.dwarf_info.specs.declared.ranges.RangeEntry.TheVariants.{Base, Bounds, Offsets}
 use Rattle.dwarf_info.specs.declared.ranges.Absent.{Absent}
-use Rattle.dwarf_info.specs.Sections.{Sections, word_in, element_in}
+use Rattle.dwarf_forms.specs.Sections.{wrapped}
+use Rattle.dwarf_info.specs.Sections.{Sections, element_in}
 use Rattle.dwarf_info.specs.Attributes.{address_value}
 use Rattle.dwarf_info.specs.Units.{Content}
 use Rattle.dwarf_info.specs.Queries.{Seen, seen, seen_value}
@@ -89,11 +90,6 @@ abbrev pub list_value : Sections → Option ℕ → Held → Option ℕ
 list_value sections base (Section n) = Some n
 list_value sections base (ListIndex i) = option_and_then (λ start. option_map (λ offset. start + offset) (element_in sections.rnglists base i)) base
 list_value sections base other = None
-
--- a signed number modulo 2^32
-abbrev pub wrapped : ℤ → ℕ
-wrapped (pos n) = n % 2 ^ 32
-wrapped (negsuc n) = 2 ^ 32 - 1 - n % 2 ^ 32
 
 -- DW_AT_high_pc is an address, or a number that is added to DW_AT_low_pc
 abbrev pub high_value : Sections → Option ℕ → ℕ → Held → Option ℕ

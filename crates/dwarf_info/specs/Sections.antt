@@ -1,7 +1,7 @@
 -- The sections of debug information as lists of bytes, and what stands at places in them.
 use Rattle.std.specs.Prelude.{ℕ, ◌+◌, ◌*◌, List, take, drop, Option, option_map, option_and_then}
 use Rattle.prof_bytes.specs.Number.{number_at}
-use Rattle.prof_bytes.specs.Reading.{At, text_at}
+use Rattle.prof_bytes.specs.Reading.{At}
 use Rattle.elf_image.specs.declared.debug_parts.DebugParts.{DebugParts}
 
 pub record Sections : Type 0 where
@@ -31,10 +31,6 @@ word_in section place = option_map (λ r. r.0) (number_at 4 (drop place section)
 -- the same of the element with an index behind a base
 abbrev pub element_in : List ℕ → Option ℕ → ℕ → Option ℕ
 element_in section base index = option_and_then (λ start. word_in section (start + 4 * index)) base
-
--- the text at a place of a section, up to its 0 byte
-abbrev pub text_in : List ℕ → ℕ → Option (List ℕ)
-text_in section place = option_map (λ r. r.0) (text_at (drop place section))
 
 -- the bytes up to an end, with the places that they have in the section
 abbrev pub up_to : ℕ → List ℕ → ℕ → At

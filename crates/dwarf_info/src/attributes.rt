@@ -1,22 +1,11 @@
 //! What the values of attributes mean.
 ghost use Rattle.std.specs.Prelude.{◌≡◌, ◌^◌, Some, None, nat_le, nat_lt, length, if◌then◌else◌, option_copied, take, option_and_then, option_map};
 ghost use Rattle.dwarf_forms.specs.Values.{held};
-ghost use Rattle.dwarf_info.specs.Sections.{sections_of, word_in, element_in, text_in, up_to};
+ghost use Rattle.dwarf_info.specs.Sections.{sections_of, word_in, element_in, up_to};
 ghost use Rattle.dwarf_info.specs.Attributes.{section_value, small_value, text_value, address_value};
 
-use dwarf_forms::Value;
+use dwarf_forms::{Value, cursor_at, text_in};
 use elf_image::DebugParts;
-use prof_bytes::Cursor;
-
-/// A cursor at a place of bytes, if it lies in them.
-pub(crate) fn cursor_at(bytes: &[u8], place: usize) -> Option<Cursor<'_>>
-    ensures { result ≡ (if nat_le place (length bytes.now) then Some (record { whole = bytes.now; place = place }) else None) }
-{
-    if place > bytes.len() {
-        return None;
-    }
-    Some(Cursor::at(bytes, place))
-}
 
 /// The bytes before an end.
 pub(crate) fn front(bytes: &[u8], end: u32) -> &[u8]
@@ -47,14 +36,6 @@ pub(crate) fn element_in(section: &[u8], base: Option<u32>, index: u64) -> Optio
         return None;
     }
     word_in(section, place as usize)
-}
-
-#[tactic(auto, using(crate::proofs::Past::no_text_past))]
-fn text_in(section: &[u8], place: u32) -> Option<&[u8]>
-    ensures { option_copied result ≡ text_in section.now place }
-{
-    let mut cursor = cursor_at(section, place as usize)?;
-    cursor.cstr()
 }
 
 pub(crate) fn section_value(value: Value<'_>) -> Option<u32>

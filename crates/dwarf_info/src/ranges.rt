@@ -5,10 +5,10 @@ ghost use Rattle.dwarf_forms.specs.Fields.{GivesAt, list_from, uleb_from, number
 ghost use Rattle.dwarf_forms.specs.Values.{held};
 ghost use Rattle.dwarf_info.specs.declared.ranges.RangeEntry.TheVariants.{Base, Bounds, Offsets};
 ghost use Rattle.dwarf_info.specs.Sections.{sections_of};
-ghost use Rattle.dwarf_info.specs.Ranges.{absent, plus, indexed_from, both, single, with_length, kind_from, range_entry_from, ranges_by, base_by, wrapped, high_value, list_value, listed, range_list_from, ranges_at};
+ghost use Rattle.dwarf_info.specs.Ranges.{absent, plus, indexed_from, both, single, with_length, kind_from, range_entry_from, ranges_by, base_by, high_value, list_value, listed, range_list_from, ranges_at};
 
-use crate::attributes::{address_value, cursor_at, element_in};
-use dwarf_forms::Value;
+use crate::attributes::{address_value, element_in};
+use dwarf_forms::{Value, cursor_at, wrapped};
 use elf_image::DebugParts;
 use prof_bytes::{Cursor, Memory};
 use std::alloc::Global;
@@ -136,16 +136,6 @@ pub(crate) fn list_value(
     }
 }
 
-fn wrapped(number: i64) -> u64
-    ensures { result ≡ wrapped number }
-{
-    if number < 0 {
-        let below = -(number + 1);
-        return u64::from(u32::MAX) - below as u64 % (1 << 32);
-    }
-    number as u64 % (1 << 32)
-}
-
 pub(crate) fn high_value(
     sections: &DebugParts<'_>,
     addr: Option<u32>,
@@ -156,7 +146,7 @@ pub(crate) fn high_value(
 {
     match value {
         Value::Number(number) => Some(plus(low, number)),
-        Value::Signed(number) => Some(plus(low, wrapped(number))),
+        Value::Signed(number) => Some(plus(low, u64::from(wrapped(number)))),
         _ => address_value(sections, addr, value),
     }
 }

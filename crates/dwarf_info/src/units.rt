@@ -16,14 +16,14 @@ ghost use Rattle.dwarf_info.specs.Attributes.{address_value};
 ghost use Rattle.dwarf_info.specs.Units.{first_values, section_of, unit_read, first_offset, body_of, read_unit, unit_from, units_of, entries_in};
 ghost use Rattle.dwarf_info.specs.Tables.{AreTables, KeepTables, HaveTables};
 
-use crate::attributes::{address_value, cursor_at, front, section_value};
+use crate::attributes::{address_value, front, section_value};
 use crate::entries::{push_some, read_entries};
 use crate::entry::{InfoEntry, UnitRead};
 use crate::fault::InfoFault;
 use crate::head::{Head, extent, headed, offset_of};
 use crate::tables::know_table;
 use crate::values::entry_value;
-use dwarf_forms::{Abbrevs, BadTable, Value};
+use dwarf_forms::{Abbrevs, BadTable, Value, cursor_at};
 use elf_image::DebugParts;
 use prof_bytes::{Cursor, Fail};
 use std::alloc::Global;
