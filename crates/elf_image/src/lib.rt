@@ -5,6 +5,7 @@
 //! are looked up by halving. Below stand `prof_bytes` and `byteorder`.
 #![tactic(auto)]
 
+mod debug_parts;
 mod fault;
 mod field;
 mod functions;
@@ -18,6 +19,7 @@ mod segments;
 mod symbol;
 mod texts;
 
+pub use debug_parts::DebugParts;
 pub use fault::{ElfFault, ElfRule};
 pub use image::{Image, read_image};
 pub use part::{Function, Segment};

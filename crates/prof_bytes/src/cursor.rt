@@ -36,6 +36,32 @@ impl<'a> Cursor<'a> {
         Cursor { bytes, place }
     }
 
+    /// A second cursor over the same bytes, at the same place, which moves by itself.
+    pub fn fork(&self) -> Cursor<'a>
+        ensures { result ≡ self.now }
+    {
+        Cursor {
+            bytes: self.bytes,
+            place: self.place,
+        }
+    }
+
+    /// A second cursor at the same place, over the bytes before `end` alone.
+    pub fn until(&self, end: usize) -> Cursor<'a>
+        requires { self.now.place ≤ end }
+        ensures { result ≡ record { whole = take end self.now.whole; place = self.now.place } }
+    {
+        let bytes = if end < self.bytes.len() {
+            &self.bytes[..end]
+        } else {
+            self.bytes
+        };
+        Cursor {
+            bytes,
+            place: self.place,
+        }
+    }
+
     /// Where the next read begins, as an offset in the bytes.
     pub fn place(&self) -> usize
         ensures { result ≡ self.now.place }

@@ -1,0 +1,9 @@
+-- Past the end of a section nothing stands.
+use Rattle.std.proofs.Common.{◌≡◌, ℕ, ◌<◌, List, [], drop, length, Option, None, refl, ap, ◌∙◌, arith}
+use Rattle.std.proofs.Math.ListN.{drop_of_length-le}
+use Rattle.std.specs.Prelude.{option_map}
+use Rattle.prof_bytes.specs.Reading.{text_at}
+use Rattle.dwarf_forms.specs.Sections.{text_in}
+
+pub no_text_past : (section : List ℕ) (place : ℕ) → length section < place → text_in section place ≡ None
+no_text_past section place past = ap (λ (bytes : List ℕ). option_map (λ r. r.0) (text_at bytes)) (drop_of_length-le section (omega arith)) ∙ refl

@@ -1,0 +1,47 @@
+-- The first place of a code in a list that grows.
+use Rattle.std.proofs.Common.{◌≡◌, ℕ, ◌+◌, ◌≤◌, Bool, true, false, not, cond, eqb, eq-eqb, inl, inr, List, [], ◌∷◌, ◌++◌, length, Option, Some, None, refl, sym, ap, ◌∙◌, arith, length-append}
+use Rattle.std.specs.Prelude.{find, position, slice_get, nat_lt}
+use Rattle.std.specs.List.{position_or_len}
+use Rattle.std.proofs.lemmas.List.Folds.{find_at, position_or_len_push}
+use Rattle.std.proofs.lemmas.Option.{slice_get_past}
+use Rattle.std.specs.Option.{option_or}
+use Rattle.std.proofs.lemmas.List.Sums.{prefix_len-le-length}
+use Rattle.std.proofs.lemmas.Bool.{cases_lt, ltb-false, lt-ltb, le-ltb, ne_eqb}
+
+some_is : {X : Type 0} (b : Bool) (x y : X) → cond b (Some x) None ≡ Some y → (b ≡ true) × (x ≡ y)
+some_is true x y e = (refl, cc)
+some_is false x y e = absurd cc
+
+none_is : {X : Type 0} (b : Bool) (x : X) → cond b (Some x) None ≡ None → b ≡ false
+none_is true x e = absurd cc
+none_is false x e = refl
+
+pub find_there : {X : Type 0} (p : X → Bool) (xs : List X) (i : ℕ) → position p xs ≡ Some i → find p xs ≡ slice_get xs i
+find_there p xs i e = find_at p xs ∙ ap (slice_get xs) (some_is _ _ _ e).1
+
+pub find_nowhere : {X : Type 0} (p : X → Bool) (xs : List X) → position p xs ≡ None → find p xs ≡ None
+find_nowhere p xs e = find_at p xs ∙ slice_get_past xs _ (ltb-false _ _ (none_is _ _ e))
+
+after_push : (n m : ℕ) (last : Bool) → n ≤ m
+    → (let k = cond (eqb n m) (m + cond last 0 1) n in cond (nat_lt k (m + 1)) (Some k) None) ≡ option_or (cond (nat_lt n m) (Some n) None) (cond last (Some m) None)
+after_push n m last le =
+    elim (cases_lt n m) [
+      | inl lt ↦ rw (ne_eqb n m (λ e. omega arith), lt-ltb n m lt, lt-ltb n (m + 1) (omega arith)) refl
+      | inr ge ↦
+          let e : n ≡ m = omega arith in
+          rw (e, eq-eqb m m refl, le-ltb m m (omega arith))
+          (elim last as (λ b. cond (nat_lt (m + cond b 0 1) (m + 1)) (Some (m + cond b 0 1)) None ≡ cond b (Some m) None) [
+            | true ↦ rw (lt-ltb (m + 0) (m + 1) (omega arith)) (ap Some (omega arith))
+            | false ↦ rw (le-ltb (m + 1) (m + 1) (omega arith)) refl
+          ])
+    ]
+
+-- a list that grows by one: a code that had a place keeps it, the new element's code has the last
+pub position_push : {X : Type 0} (p : X → Bool) (xs : List X) (y : X) → position p (xs ++ y ∷ []) ≡ option_or (position p xs) (cond (p y) (Some (length xs)) None)
+position_push p xs y =
+    let grown : length (xs ++ y ∷ []) ≡ length xs + 1 = length-append xs (y ∷ []) in
+    rw (position_or_len_push p xs y, grown) (after_push (position_or_len p xs) (length xs) (p y) (prefix_len-le-length (λ x. not (p x)) xs))
+
+pub index_push : {X : Type 0} (p : X → Bool) (xs : List X) (y : X) (m : ℕ) (old new : Option ℕ) → length xs ≡ m → old ≡ position p xs → new ≡ option_or old (cond (p y) (Some m) None) → new ≡ position p (xs ++ y ∷ [])
+index_push p xs y m old new long was is =
+    is ∙ ap (λ (o : Option ℕ). option_or o (cond (p y) (Some m) None)) was ∙ ap (λ (k : ℕ). option_or (position p xs) (cond (p y) (Some k) None)) (sym long) ∙ sym (position_push p xs y)

@@ -1,0 +1,110 @@
+//! Declarations of entries, and tables of them.
+ghost use Rattle.std.specs.Prelude.{◌≡◌, ◌==◌, find, option_copied, slice_get};
+ghost use Rattle.dwarf_forms.specs.Index.{IsIndex};
+
+use std::collections::HashMap;
+use std::marker::Model;
+
+/// The bytes of an abbreviation table run out before its closing 0, or a number in it is wider than
+/// 64 bits.
+#[derive(Clone, Copy, Debug, PartialEq, Eq)]
+pub struct BadTable;
+
+/// One attribute of a declaration.
+#[derive(Clone, Copy, Debug, PartialEq, Eq)]
+pub struct Spec {
+    /// The attribute's code.
+    pub attribute: u64,
+    /// The form of its value.
+    pub form: u64,
+    /// The constant that `DW_FORM_implicit_const` keeps here; 0 for every other form.
+    pub implicit: i64,
+}
+
+/// The attributes of a declaration, in order. Contracts see them as a list.
+#[derive(Debug, Drop)]
+pub struct Specs {
+    items: Vec<Spec>,
+}
+
+impl Model for Specs {
+    ghost use Rattle.std.specs.Prelude.{List};
+    ghost use Rattle.dwarf_forms.specs.declared.declaration.Spec.{Spec};
+
+    ghost Value = { List Spec };
+
+    ghost view = { λ specs. specs.items.items };
+}
+
+impl Specs {
+    /// These attributes. Takes no memory.
+    pub fn from_vec(items: Vec<Spec>) -> Specs
+        ensures { result ≡ items.items }
+    {
+        Specs { items }
+    }
+
+    /// The attributes.
+    pub fn as_slice(&self) -> &[Spec]
+        ensures { result.now ≡ self.now }
+    {
+        self.items.as_slice()
+    }
+}
+
+/// What an abbreviation table declares under one code.
+#[derive(Debug, Drop)]
+pub struct Abbrev {
+    /// The code by which an entry names the declaration, 1 or more.
+    pub code: u64,
+    /// The tag of such an entry.
+    pub tag: u64,
+    /// Whether entries of the next level follow it.
+    pub children: bool,
+    /// Its attributes.
+    pub specs: Specs,
+}
+
+/// An abbreviation table: its declarations in order. Contracts see them as a list.
+#[derive(Drop)]
+pub struct Abbrevs {
+    items: Vec<Abbrev>,
+    places: HashMap<u64, usize>,
+}
+
+impl Model for Abbrevs {
+    ghost use Rattle.std.specs.Prelude.{List};
+    ghost use Rattle.dwarf_forms.specs.declared.declaration.Abbrev.{Abbrev};
+    ghost use Rattle.dwarf_forms.specs.Index.{IsIndex};
+
+    ghost Value = { List Abbrev };
+
+    ghost view = { λ table. table.items.items };
+
+    ghost invariant = { λ table. IsIndex table.items.items table.places };
+}
+
+fn element(items: &[Abbrev], place: usize) -> Option<&Abbrev>
+    ensures { option_copied result ≡ slice_get items.now place }
+{
+    items.get(place)
+}
+
+impl Abbrevs {
+    pub(crate) fn of(items: Vec<Abbrev>, places: HashMap<u64, usize>) -> Abbrevs
+        requires { IsIndex items.items places }
+        ensures { result ≡ items.items }
+    {
+        Abbrevs { items, places }
+    }
+
+    /// The first declaration of a code, in time that does not grow with the table.
+    pub fn find(&self, code: u64) -> Option<&Abbrev>
+        ensures { option_copied result ≡ find (λ declared. declared.code == code) self.now }
+    {
+        match self.places.get(&code) {
+            Some(place) => element(self.items.as_slice(), *place),
+            None => None,
+        }
+    }
+}

@@ -1,0 +1,228 @@
+//! The bytes of each form are those of DWARF 5, section 7.5.6; the values are read off them by hand. The
+//! abbreviation table is that of a program of two functions by `clang -g`, with the declarations that
+//! `llvm-dwarfdump --debug-abbrev` prints.
+use super::*;
+use prof_bytes::{Cursor, Fail};
+
+/// A form, bytes, the value that stands in them, and how many they are.
+const FORMS: [(u64, &[u8], Value<'static>, usize); 20] = [
+    (0x01, &[0, 0, 1, 0], Value::Address(0x10000), 4),
+    (0x03, &[2, 0, 7, 8, 9], Value::Bytes(&[7, 8]), 4),
+    (0x04, &[1, 0, 0, 0, 7], Value::Bytes(&[7]), 5),
+    (0x09, &[0x81, 0, 7], Value::Bytes(&[7]), 3),
+    (0x0a, &[0, 7], Value::Bytes(&[]), 1),
+    (0x18, &[2, 0x91, 0x7c], Value::Bytes(&[0x91, 0x7c]), 3),
+    (0x0b, &[0xff], Value::Number(255), 1),
+    (0x05, &[1, 2], Value::Number(0x201), 2),
+    (0x06, &[1, 2, 3, 4], Value::Number(0x0403_0201), 4),
+    (
+        0x07,
+        &[1, 0, 0, 0, 0, 0, 0, 0x80],
+        Value::Number(0x8000_0000_0000_0001),
+        8,
+    ),
+    (
+        0x1e,
+        &[1, 2, 3, 4, 5, 6, 7, 8, 9, 10, 11, 12, 13, 14, 15, 16, 17],
+        Value::Bytes(&[1, 2, 3, 4, 5, 6, 7, 8, 9, 10, 11, 12, 13, 14, 15, 16]),
+        16,
+    ),
+    (0x0d, &[0x7f], Value::Signed(-1), 1),
+    (0x0f, &[0xe5, 0x8e, 0x26], Value::Number(624_485), 3),
+    (0x0c, &[2], Value::Flag(true), 1),
+    (0x0c, &[0], Value::Flag(false), 1),
+    (0x19, &[], Value::Flag(true), 0),
+    (0x21, &[5], Value::Signed(-3), 0),
+    (0x08, &[0x61, 0, 0x62], Value::Name(&[0x61]), 2),
+    (0x16, &[0x0b, 9], Value::Number(9), 2),
+    (0x16, &[0x85, 0, 1, 2], Value::Number(0x201), 4),
+];
+
+/// The forms that are numbers with another meaning: the form, the value of bytes that begin with a 5
+/// and zeros, and how many bytes.
+const MEANINGS: [(u64, Value<'static>, usize); 27] = [
+    (0x0e, Value::StrAt(5), 4),
+    (0x1f, Value::LineStrAt(5), 4),
+    (0x17, Value::Section(5), 4),
+    (0x10, Value::InfoRef(5), 4),
+    (0x11, Value::UnitRef(5), 1),
+    (0x12, Value::UnitRef(5), 2),
+    (0x13, Value::UnitRef(5), 4),
+    (0x14, Value::UnitRef(5), 8),
+    (0x15, Value::UnitRef(5), 1),
+    (0x1a, Value::StrIndex(5), 1),
+    (0x25, Value::StrIndex(5), 1),
+    (0x26, Value::StrIndex(5), 2),
+    (0x27, Value::StrIndex(5), 3),
+    (0x28, Value::StrIndex(5), 4),
+    (0x1b, Value::AddrIndex(5), 1),
+    (0x29, Value::AddrIndex(5), 1),
+    (0x2a, Value::AddrIndex(5), 2),
+    (0x2b, Value::AddrIndex(5), 3),
+    (0x2c, Value::AddrIndex(5), 4),
+    (0x23, Value::ListIndex(5), 1),
+    (0x22, Value::Passed, 1),
+    (0x1c, Value::Passed, 4),
+    (0x1d, Value::Passed, 4),
+    (0x20, Value::Passed, 8),
+    (0x24, Value::Passed, 8),
+    (0x0f, Value::Number(5), 1),
+    (0x0d, Value::Signed(5), 1),
+];
+
+fn same(a: &Value<'_>, b: &Value<'_>) -> bool {
+    match (*a, *b) {
+        (Value::Address(x), Value::Address(y))
+        | (Value::StrAt(x), Value::StrAt(y))
+        | (Value::LineStrAt(x), Value::LineStrAt(y))
+        | (Value::InfoRef(x), Value::InfoRef(y))
+        | (Value::Section(x), Value::Section(y)) => x == y,
+        (Value::Number(x), Value::Number(y))
+        | (Value::StrIndex(x), Value::StrIndex(y))
+        | (Value::AddrIndex(x), Value::AddrIndex(y))
+        | (Value::UnitRef(x), Value::UnitRef(y))
+        | (Value::ListIndex(x), Value::ListIndex(y)) => x == y,
+        (Value::Signed(x), Value::Signed(y)) => x == y,
+        (Value::Bytes(x), Value::Bytes(y)) | (Value::Name(x), Value::Name(y)) => x == y,
+        (Value::Flag(x), Value::Flag(y)) => x == y,
+        (Value::Passed, Value::Passed) => true,
+        _ => false,
+    }
+}
+
+fn reads(bytes: &[u8], form: u64, wanted: &Value<'_>, count: usize) -> bool {
+    let mut cursor = Cursor::at(bytes, 0);
+    match read_value(&mut cursor, form, -3) {
+        Ok(value) => same(&value, wanted) && cursor.place() == count,
+        Err(_) => false,
+    }
+}
+
+#[test]
+fn each_form(rt: HostRuntime) {
+    for (form, bytes, value, count) in &FORMS {
+        assert!(rt; reads(bytes, *form, value, *count), "form {form}");
+    }
+    for (form, value, count) in &MEANINGS {
+        assert!(rt;
+            reads(&[5, 0, 0, 0, 0, 0, 0, 0, 0], *form, value, *count),
+            "form {form}"
+        );
+    }
+}
+
+/// A form, bytes in which it has no value, and why.
+const REFUSED: [(u64, &[u8], FormFault); 12] = [
+    (0x02, &[1, 2, 3, 4], FormFault::Unknown),
+    (0x00, &[1], FormFault::Unknown),
+    (0x2d, &[1], FormFault::Unknown),
+    (0x16, &[0x21, 1], FormFault::Unknown),
+    (0x16, &[0x16, 0x0b, 1], FormFault::Unknown),
+    (0x16, &[0x02], FormFault::Unknown),
+    (0x16, &[0x80], FormFault::Short),
+    (0x16, &[0x06, 1, 2, 3], FormFault::Short),
+    (0x06, &[1, 2, 3], FormFault::Short),
+    (0x0a, &[3, 1, 2], FormFault::Short),
+    (0x08, &[0x61, 0x62], FormFault::Short),
+    (
+        0x0f,
+        &[0x80, 0x80, 0x80, 0x80, 0x80, 0x80, 0x80, 0x80, 0x80, 2],
+        FormFault::Short,
+    ),
+];
+
+#[test]
+fn each_refusal(rt: HostRuntime) {
+    for (form, bytes, fault) in &REFUSED {
+        let mut cursor = Cursor::at(bytes, 0);
+        assert!(rt;
+            matches!(read_value(&mut cursor, *form, 0), Err(found) if found == *fault),
+            "form {form}"
+        );
+        assert_eq!(rt; cursor.place(), 0);
+    }
+}
+
+/// The bytes of `.debug_abbrev` by clang 14.
+const ABBREV: [u8; 204] = [
+    0x01, 0x11, 0x01, 0x25, 0x25, 0x13, 0x05, 0x03, 0x25, 0x72, 0x17, 0x10, 0x17, 0x1b, 0x25, 0x11,
+    0x1b, 0x12, 0x06, 0x73, 0x17, 0x8c, 0x01, 0x17, 0x00, 0x00, 0x02, 0x2e, 0x01, 0x03, 0x25, 0x3a,
+    0x0b, 0x3b, 0x0b, 0x27, 0x19, 0x49, 0x13, 0x20, 0x21, 0x01, 0x00, 0x00, 0x03, 0x05, 0x00, 0x03,
+    0x25, 0x3a, 0x0b, 0x3b, 0x0b, 0x49, 0x13, 0x00, 0x00, 0x04, 0x24, 0x00, 0x03, 0x25, 0x3e, 0x0b,
+    0x0b, 0x0b, 0x00, 0x00, 0x05, 0x2e, 0x01, 0x11, 0x1b, 0x12, 0x06, 0x40, 0x18, 0x7a, 0x19, 0x03,
+    0x25, 0x3a, 0x0b, 0x3b, 0x0b, 0x27, 0x19, 0x49, 0x13, 0x3f, 0x19, 0x00, 0x00, 0x06, 0x05, 0x00,
+    0x02, 0x22, 0x03, 0x25, 0x3a, 0x0b, 0x3b, 0x0b, 0x49, 0x13, 0x00, 0x00, 0x07, 0x1d, 0x01, 0x31,
+    0x13, 0x11, 0x1b, 0x12, 0x06, 0x58, 0x0b, 0x59, 0x0b, 0x57, 0x0b, 0x00, 0x00, 0x08, 0x05, 0x00,
+    0x02, 0x18, 0x31, 0x13, 0x00, 0x00, 0x09, 0x2e, 0x01, 0x11, 0x1b, 0x12, 0x06, 0x40, 0x18, 0x7a,
+    0x19, 0x03, 0x25, 0x3a, 0x0b, 0x3b, 0x0b, 0x27, 0x19, 0x3f, 0x19, 0x00, 0x00, 0x0a, 0x34, 0x00,
+    0x02, 0x18, 0x03, 0x25, 0x3a, 0x0b, 0x3b, 0x0b, 0x49, 0x13, 0x00, 0x00, 0x0b, 0x0b, 0x01, 0x11,
+    0x1b, 0x12, 0x06, 0x00, 0x00, 0x0c, 0x34, 0x00, 0x02, 0x22, 0x03, 0x25, 0x3a, 0x0b, 0x3b, 0x0b,
+    0x49, 0x13, 0x00, 0x00, 0x0d, 0x35, 0x00, 0x49, 0x13, 0x00, 0x00, 0x00,
+];
+
+/// Of some codes the tag, whether children follow, how many attributes, and the last of these.
+const DECLARED: [(u64, u64, bool, usize, (u64, u64, i64)); 7] = [
+    (1, 0x11, true, 10, (0x8c, 0x17, 0)),
+    (2, 0x2e, true, 6, (0x20, 0x21, 1)),
+    (4, 0x24, false, 3, (0x0b, 0x0b, 0)),
+    (7, 0x1d, true, 6, (0x57, 0x0b, 0)),
+    (9, 0x2e, true, 9, (0x3f, 0x19, 0)),
+    (11, 0x0b, true, 2, (0x12, 0x06, 0)),
+    (13, 0x35, false, 1, (0x49, 0x13, 0)),
+];
+
+fn last_of(specs: &[Spec]) -> (u64, u64, i64) {
+    match specs {
+        [.., last] => (last.attribute, last.form, last.implicit),
+        [] => (0, 0, 0),
+    }
+}
+
+#[test]
+fn declarations_of_a_program(rt: HostRuntime) {
+    let read = read_abbrevs(rt.alloc(), &ABBREV, 0);
+    assert!(rt; read.is_ok());
+    if let Ok(table) = read {
+        for (code, tag, children, count, last) in &DECLARED {
+            let found = table.find(*code);
+            assert!(rt; found.is_some(), "code {code}");
+            if let Some(declared) = found {
+                assert_eq!(rt;
+                    (declared.code, declared.tag, declared.children),
+                    (*code, *tag, *children)
+                );
+                assert_eq!(rt; declared.specs.as_slice().len(), *count);
+                assert_eq!(rt; last_of(declared.specs.as_slice()), *last);
+            }
+        }
+        assert!(rt; table.find(14).is_none());
+        assert!(rt; table.find(0).is_none());
+    }
+}
+
+/// Tables, an offset in them, and the tag that code 1 has there; `None` where the table is not whole.
+const TABLES: [(&[u8], u32, Option<u64>); 9] = [
+    (&[1, 0x11, 0, 0x10, 0x17, 0, 0, 0], 0, Some(0x11)),
+    (&[1, 0x11, 0, 0x10, 0x17, 0, 0, 0], 8, None),
+    (&[1, 0x11, 0, 0x10, 0x17, 0, 0, 0], 9, None),
+    (&[1, 0x11, 0, 0x10, 0x17, 0, 0], 0, None),
+    (&[1, 0x11, 0, 0, 0, 1, 0x2e, 0, 0, 0, 0], 0, Some(0x11)),
+    (&[9, 9, 1, 0x11, 7, 0, 0, 0], 2, Some(0x11)),
+    (&[1, 0x11, 0, 3, 0x21, 0x80, 0, 0, 0], 0, None),
+    (&[1, 0x11, 0, 3, 0x21, 0, 0, 0, 0], 0, Some(0x11)),
+    (&[1, 0x11, 0, 0, 5, 0, 0, 0], 0, Some(0x11)),
+];
+
+#[test]
+fn tables_by_their_offset(rt: HostRuntime) {
+    for (bytes, offset, wanted) in &TABLES {
+        let tag = match read_abbrevs(rt.alloc(), bytes, *offset) {
+            Ok(table) => table.find(1).map(|declared| declared.tag),
+            Err(fail) => {
+                assert!(rt; matches!(fail, Fail::Fault(BadTable)));
+                None
+            }
+        };
+        assert_eq!(rt; tag, *wanted);
+    }
+}

@@ -1,0 +1,43 @@
+/// Why a value could not be read.
+#[derive(Clone, Copy, Debug, PartialEq, Eq)]
+pub enum FormFault {
+    /// The form is not one of DWARF 5 that stands in a compiled program.
+    Unknown,
+    /// The bytes run out before the value's end, or a number is wider than 64 bits.
+    Short,
+}
+
+/// An attribute's value, as its form gives it. Indices and offsets are not followed.
+#[derive(Clone, Copy, Debug)]
+pub enum Value<'a> {
+    /// An address of the program.
+    Address(u32),
+    /// An unsigned constant.
+    Number(u64),
+    /// A signed constant.
+    Signed(i64),
+    /// A block, an expression, or a constant of sixteen bytes.
+    Bytes(&'a [u8]),
+    /// A text that stands in place, without its closing 0.
+    Name(&'a [u8]),
+    /// A flag.
+    Flag(bool),
+    /// An offset in `.debug_str`.
+    StrAt(u32),
+    /// An offset in `.debug_line_str`.
+    LineStrAt(u32),
+    /// An index into the unit's part of `.debug_str_offsets`.
+    StrIndex(u64),
+    /// An index into the unit's part of `.debug_addr`.
+    AddrIndex(u64),
+    /// An entry, as an offset from the start of its unit.
+    UnitRef(u64),
+    /// An entry, as an offset in `.debug_info`.
+    InfoRef(u32),
+    /// An offset in the section that the attribute names.
+    Section(u32),
+    /// An index into the unit's part of `.debug_rnglists`.
+    ListIndex(u64),
+    /// A value of which only the length counts: it leads to another file, a type unit, or a location list.
+    Passed,
+}

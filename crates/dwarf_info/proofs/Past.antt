@@ -1,0 +1,21 @@
+-- Past the end of a section nothing stands.
+use Rattle.std.proofs.Common.{◌≡◌, ℕ, ◌<◌, List, [], drop, take, length, Option, None, refl, ap, ◌∙◌, arith}
+use Rattle.std.proofs.Math.ListN.{drop_of_length-le}
+use Rattle.std.specs.Prelude.{option_map}
+use Rattle.prof_bytes.specs.Number.{number_at}
+use Rattle.prof_bytes.specs.Reading.{At, left_of, reading}
+use Rattle.prof_bytes.specs.Leb.{uleb_at}
+use Rattle.dwarf_forms.specs.Fields.{or_fault}
+use Rattle.dwarf_forms.specs.declared.declaration.Abbrev.{Abbrev}
+use Rattle.dwarf_forms.specs.declared.value.FormFault.TheVariants.{Short}
+use Rattle.dwarf_info.specs.Values.{value_of, entry_values, values_or_none}
+use Rattle.dwarf_info.specs.Sections.{word_in, up_to}
+
+pub no_word_past : (section : List ℕ) (place : ℕ) → length section < place → word_in section place ≡ None
+no_word_past section place past = ap (λ (bytes : List ℕ). option_map (λ r. r.0) (number_at 4 bytes)) (drop_of_length-le section (omega arith)) ∙ refl
+
+pub no_value_past : (attribute : ℕ) (declared : List Abbrev) (end : ℕ) (section : List ℕ) (place : ℕ) → length (take end section) < place → value_of attribute (entry_values declared (up_to end section place)) ≡ None
+no_value_past attribute declared end section place past =
+    let at : At = up_to end section place in
+    let none : left_of at ≡ [] = drop_of_length-le (take end section) (omega arith) in
+    ap (λ (bytes : List ℕ). value_of attribute (values_or_none declared (or_fault Short (reading at (uleb_at bytes))))) none ∙ refl

@@ -1,0 +1,10 @@
+pub mod Sections
+pub mod Values
+pub mod Attributes
+pub mod Entries
+pub mod Heads
+pub mod Units
+pub mod Tables
+pub mod Queries
+pub mod Ranges
+pub mod Parts

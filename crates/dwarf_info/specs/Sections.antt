@@ -1,0 +1,37 @@
+-- The sections of debug information as lists of bytes, and what stands at places in them.
+use Rattle.std.specs.Prelude.{ℕ, ◌+◌, ◌*◌, List, take, drop, Option, option_map, option_and_then}
+use Rattle.prof_bytes.specs.Number.{number_at}
+use Rattle.prof_bytes.specs.Reading.{At}
+use Rattle.elf_image.specs.declared.debug_parts.DebugParts.{DebugParts}
+
+pub record Sections : Type 0 where
+  pub info : List ℕ
+  pub abbrev_bytes : List ℕ
+  pub str_bytes : List ℕ
+  pub line_str : List ℕ
+  pub str_offsets : List ℕ
+  pub addr : List ℕ
+  pub rnglists : List ℕ
+
+abbrev pub sections_of : DebugParts → Sections
+sections_of parts = record {
+  info = parts.info.now;
+  abbrev_bytes = parts.«abbrev».now;
+  str_bytes = parts.str_bytes.now;
+  line_str = parts.line_str.now;
+  str_offsets = parts.str_offsets.now;
+  addr = parts.addr.now;
+  rnglists = parts.rnglists.now;
+}
+
+-- the number of four bytes at a place of a section; nothing where it is not whole there
+abbrev pub word_in : List ℕ → ℕ → Option ℕ
+word_in section place = option_map (λ r. r.0) (number_at 4 (drop place section))
+
+-- the same of the element with an index behind a base
+abbrev pub element_in : List ℕ → Option ℕ → ℕ → Option ℕ
+element_in section base index = option_and_then (λ start. word_in section (start + 4 * index)) base
+
+-- the bytes up to an end, with the places that they have in the section
+abbrev pub up_to : ℕ → List ℕ → ℕ → At
+up_to end section place = record { whole = take end section; place = place }

@@ -1,0 +1,30 @@
+//! Debug information: the units and entries of `.debug_info` by DWARF 5, with names, links, call
+//! places and address ranges.
+//!
+//! It promises that the entries are the flat list that the section's bytes give, or the first fault in
+//! section order, and that each attribute that is asked for is what its form, its offset and its base
+//! give, or absent. The standard is DWARF 5, chapters 2, 3 and 7. Below stand `dwarf_forms`,
+//! `elf_image` and `prof_bytes`.
+#![tactic(auto)]
+
+mod attributes;
+mod entries;
+mod entry;
+mod fault;
+mod head;
+mod info;
+mod pairs;
+mod places;
+mod ranges;
+mod tables;
+mod units;
+mod values;
+
+pub use elf_image::DebugParts;
+pub use entry::{InfoEntry, Unit};
+pub use fault::InfoFault;
+pub use info::{Info, read_info};
+pub use pairs::Ranges;
+
+#[cfg(test)]
+mod tests;

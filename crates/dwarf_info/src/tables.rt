@@ -1,0 +1,30 @@
+//! The abbreviation tables that units name, each read once.
+ghost use Rattle.std.specs.Prelude.{◌≡◌, IfOk, IfErr};
+ghost use Rattle.prof_bytes.specs.Outcome.{FailsBy};
+ghost use Rattle.dwarf_forms.specs.Abbreviations.{table_at};
+ghost use Rattle.dwarf_info.specs.Tables.{AreTables, KeepTables};
+
+use dwarf_forms::{Abbrevs, BadTable, read_abbrevs};
+use prof_bytes::Fail;
+use std::alloc::Global;
+use std::collections::HashMap;
+
+/// Reads the table at an offset, unless it is there already.
+pub(crate) fn know_table(
+    alloc: Global,
+    tables: &mut HashMap<u32, Abbrevs>,
+    section: &[u8],
+    offset: u32,
+) -> Result<(), Fail<BadTable>>
+    requires { AreTables section.now tables.old }
+    ensures are { IfOk result (λ _. AreTables section.now tables.new) }
+    ensures keep { IfOk result (λ _. KeepTables tables.old tables.new) }
+    ensures bad { IfErr result (λ fail. FailsBy fail (table_at section.now offset)) }
+{
+    if tables.contains_key(&offset) {
+        return Ok(());
+    }
+    let table = read_abbrevs(alloc, section, offset)?;
+    tables.insert(offset, table)?;
+    Ok(())
+}

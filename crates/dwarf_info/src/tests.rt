@@ -1,0 +1,323 @@
+//! Two programs by gcc and clang are compared with what `llvm-dwarfdump --debug-info` prints of them; the
+//! numbers of files and lines of calls are those of `readelf --debug-dump=info`. Faults and absences
+//! are small units put together by hand after DWARF 5, chapter 7.
+use super::*;
+use elf_image::DebugParts;
+use std::alloc::{AllocError, Global};
+use std::process::Abort;
+use std::test::Fail;
+
+mod clang_program;
+mod gcc_program;
+mod lists;
+mod names;
+
+/// What a subprogram or an inlined subroutine is to be.
+struct Row {
+    offset: u32,
+    depth: u32,
+    tag: u64,
+    name: &'static [u8],
+    link: Option<u32>,
+    call: (Option<u32>, Option<u32>),
+    ranges: &'static [(u32, u32)],
+}
+
+/// A unit of two entries, and what is asked of the second.
+struct Case {
+    what: &'static str,
+    bytes: &'static [u8],
+    name: Option<&'static [u8]>,
+    link: Option<u32>,
+    call: (Option<u32>, Option<u32>),
+    ranges: &'static [(u32, u32)],
+}
+
+const GCC: DebugParts<'static> = DebugParts {
+    info: &gcc_program::INFO,
+    abbrev: &gcc_program::ABBREV,
+    str_bytes: &gcc_program::STR,
+    line_str: &gcc_program::LINE_STR,
+    str_offsets: &gcc_program::STR_OFFSETS,
+    addr: &gcc_program::ADDR,
+    rnglists: &gcc_program::RNGLISTS,
+};
+
+const CLANG: DebugParts<'static> = DebugParts {
+    info: &clang_program::INFO,
+    abbrev: &clang_program::ABBREV,
+    str_bytes: &clang_program::STR,
+    line_str: &clang_program::LINE_STR,
+    str_offsets: &clang_program::STR_OFFSETS,
+    addr: &clang_program::ADDR,
+    rnglists: &clang_program::RNGLISTS,
+};
+
+fn offset_of(info: &Info<'_>, entry: u32) -> Option<u32> {
+    info.entries().get(entry as usize).map(|e| e.offset)
+}
+
+/// The entry at the row's offset is what the row says.
+fn is_row<R: Abort + AllocGlobal>(rt: &R, info: &Info<'_>, row: &Row) -> bool {
+    let count = info.entries().len();
+    for i in 0..count {
+        let Ok(number) = u32::try_from(i) else {
+            return false;
+        };
+        let entry = info.entries()[i];
+        if entry.offset == row.offset {
+            let Ok(ranges) = info.ranges(rt.alloc(), number) else {
+                return false;
+            };
+            let link = match info.link(number) {
+                Some(target) => offset_of(info, target),
+                None => None,
+            };
+            return (entry.depth, entry.tag) == (row.depth, row.tag)
+                && info.name(number).unwrap_or(b"") == row.name
+                && link == row.link
+                && info.call(number) == row.call
+                && ranges.pairs() == row.ranges;
+        }
+    }
+    false
+}
+
+fn compare<R: Abort + AllocGlobal>(
+    rt: &R,
+    parts: DebugParts<'_>,
+    tags: &[(u64, usize)],
+    rows: &[Row],
+) {
+    let read = read_info(rt.alloc(), parts);
+    assert!(rt; read.is_ok());
+    if let Ok(info) = read {
+        let mut total = 0usize;
+        for (tag, count) in tags {
+            let found = info.entries().iter().filter(|e| e.tag == *tag).count();
+            assert_eq!(rt; found, *count, "tag {tag}");
+            total = total.saturating_add(found);
+        }
+        assert_eq!(rt; info.entries().len(), total);
+        for row in rows {
+            let offset = row.offset;
+            assert!(rt; is_row(rt, &info, row), "entry at {offset}");
+        }
+    }
+}
+
+#[test]
+fn a_program_by_gcc(rt: HostRuntime) {
+    compare(&rt, GCC, &gcc_program::TAGS, &gcc_program::ROWS);
+}
+
+#[test]
+fn a_program_by_clang(rt: HostRuntime) {
+    compare(&rt, CLANG, &clang_program::TAGS, &clang_program::ROWS);
+}
+
+/// The bytes of a case's section, which stand behind its letter.
+fn part(alloc: Global, text: &[u8], letter: u8) -> Result<Vec<u8>, AllocError> {
+    let mut out = Vec::new(alloc);
+    let mut here = false;
+    let mut high = None;
+    for byte in text {
+        match *byte {
+            b'A'..=b'Z' => here = *byte == letter,
+            b' ' => {}
+            digit if here => match high {
+                None => high = Some(digit_of(digit)),
+                Some(first) => {
+                    out.push(first.wrapping_mul(16).wrapping_add(digit_of(digit)))?;
+                    high = None;
+                }
+            },
+            _ => {}
+        }
+    }
+    Ok(out)
+}
+
+fn digit_of(byte: u8) -> u8 {
+    match byte {
+        b'0'..=b'9' => byte - b'0',
+        b'a'..=b'f' => byte - b'a' + 10,
+        _ => 0,
+    }
+}
+
+/// The last entry is what the case says.
+fn is_case(alloc: Global, info: &Info<'_>, case: &Case) -> bool {
+    let count = info.entries().len();
+    if count == 0 {
+        return false;
+    }
+    let Ok(last) = u32::try_from(count - 1) else {
+        return false;
+    };
+    let Ok(ranges) = info.ranges(alloc, last) else {
+        return false;
+    };
+    info.name(last) == case.name
+        && info.link(last) == case.link
+        && info.call(last) == case.call
+        && ranges.pairs() == case.ranges
+}
+
+fn case_holds(alloc: Global, case: &Case) -> Result<bool, AllocError> {
+    let info = part(alloc, case.bytes, b'I')?;
+    let abbrev = part(alloc, case.bytes, b'A')?;
+    let str_bytes = part(alloc, case.bytes, b'S')?;
+    let line_str = part(alloc, case.bytes, b'L')?;
+    let str_offsets = part(alloc, case.bytes, b'O')?;
+    let addr = part(alloc, case.bytes, b'D')?;
+    let rnglists = part(alloc, case.bytes, b'R')?;
+    let parts = DebugParts {
+        info: &info,
+        abbrev: &abbrev,
+        str_bytes: &str_bytes,
+        line_str: &line_str,
+        str_offsets: &str_offsets,
+        addr: &addr,
+        rnglists: &rnglists,
+    };
+    match read_info(alloc, parts) {
+        Ok(read) => Ok(is_case(alloc, &read, case)),
+        Err(_) => Ok(false),
+    }
+}
+
+#[test]
+fn attributes_and_their_absence(rt: HostRuntime) -> Result<(), Fail> {
+    for case in &names::CASES {
+        let what = case.what;
+        assert!(rt; case_holds(rt.alloc(), case)?, "{what}");
+    }
+    for case in &lists::CASES {
+        let what = case.what;
+        assert!(rt; case_holds(rt.alloc(), case)?, "{what}");
+    }
+    Ok(())
+}
+
+/// Sections, and the fault in them.
+const FAULTS: [(&[u8], InfoFault); 19] = [
+    (b"I010203 A00", InfoFault::BadUnit { offset: 0 }),
+    (
+        b"Iffffffff0500010400000000 0100000000 A00",
+        InfoFault::BadUnit { offset: 0 },
+    ),
+    (
+        b"I0e0000000500010400000000 0100000000 A0111001017000000",
+        InfoFault::BadUnit { offset: 0 },
+    ),
+    (b"I010000000500 A00", InfoFault::BadUnit { offset: 0 }),
+    (b"I020000000500 A00", InfoFault::BadUnit { offset: 0 }),
+    (b"I020000000100 A00", InfoFault::BadUnit { offset: 0 }),
+    (b"I020000000600 A00", InfoFault::BadUnit { offset: 0 }),
+    (
+        b"I080000000500010400000000 0100 A00",
+        InfoFault::BadUnit { offset: 12 },
+    ),
+    (
+        b"I070000000500010400000000 A00",
+        InfoFault::BadUnit { offset: 0 },
+    ),
+    (
+        b"I080000000500070400000000 A00",
+        InfoFault::BadUnit { offset: 0 },
+    ),
+    (
+        b"I080000000500010800000000 A00",
+        InfoFault::BadUnit { offset: 0 },
+    ),
+    (
+        b"I080000000500040800000000 A00",
+        InfoFault::SplitUnit { offset: 0 },
+    ),
+    (
+        b"I0d0000000500040400000000 0100000000 A0111001017000000",
+        InfoFault::SplitUnit { offset: 0 },
+    ),
+    (b"I03000000050004 A00", InfoFault::BadUnit { offset: 0 }),
+    (
+        b"I080000000500010401000000 A00",
+        InfoFault::BadAbbrev { offset: 0 },
+    ),
+    (
+        b"I0d0000000500010400000000 0100000000 A0211001017000000",
+        InfoFault::BadAbbrev { offset: 12 },
+    ),
+    (
+        b"I0d0000000500010400000000 0100000000 A0111001002000000",
+        InfoFault::UnknownForm { offset: 12 },
+    ),
+    (
+        b"I0c0000000500010400000000 01000000 A0111001017000000",
+        InfoFault::BadUnit { offset: 12 },
+    ),
+    (
+        b"I0c0000000500010400000000 80808080 A0111001017000000",
+        InfoFault::BadUnit { offset: 12 },
+    ),
+];
+
+fn read_hex(alloc: Global, bytes: &[u8]) -> Result<Vec<(u32, u32)>, prof_bytes::Fail<InfoFault>> {
+    let info = part(alloc, bytes, b'I')?;
+    let abbrev = part(alloc, bytes, b'A')?;
+    let parts = DebugParts {
+        info: &info,
+        abbrev: &abbrev,
+        str_bytes: &[],
+        line_str: &[],
+        str_offsets: &[],
+        addr: &[],
+        rnglists: &[],
+    };
+    let read = read_info(alloc, parts)?;
+    let mut seen = Vec::new(alloc);
+    for entry in read.entries() {
+        seen.push((entry.offset, entry.depth))?;
+    }
+    for unit in read.units() {
+        seen.push((unit.offset, unit.table.unwrap_or(u32::MAX)))?;
+    }
+    Ok(seen)
+}
+
+#[test]
+fn the_first_fault(rt: HostRuntime) {
+    for (bytes, fault) in &FAULTS {
+        let offset = *fault;
+        assert!(rt;
+            matches!(read_hex(rt.alloc(), bytes), Err(prof_bytes::Fail::Fault(found)) if found == *fault),
+            "{offset:?}"
+        );
+    }
+}
+
+/// Sections, and the offset and depth of each entry, then the offset and line table of each unit.
+const SHAPES: [(&[u8], &[(u32, u32)]); 4] = [
+    // Levels by null entries, one before the first entry, one too many, and a level that is not closed.
+    (
+        b"I130000000500010400000000 00010101000100000000 01 A012e01000000",
+        &[(13, 0), (14, 1), (15, 2), (17, 2), (22, 0), (0, u32::MAX)],
+    ),
+    // Units of the versions 4 and 2 and a type unit stand before a unit with a line table.
+    (
+        b"I07000000040000000000 04 0200000002 00 03000000050002 0d0000000500010400000000 0109000000 A0111001017000000",
+        &[(36, 0), (24, 9)],
+    ),
+    // A partial unit without entries.
+    (b"I080000000500030400000000 A00", &[(0, u32::MAX)]),
+    (b"A00", &[]),
+];
+
+#[test]
+fn entries_and_units(rt: HostRuntime) -> Result<(), Fail> {
+    for (bytes, wanted) in &SHAPES {
+        let seen = read_hex(rt.alloc(), bytes).ok().ok_or("a fault")?;
+        assert_eq!(rt; seen.as_slice(), *wanted);
+    }
+    Ok(())
+}
