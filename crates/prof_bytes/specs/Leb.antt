@@ -22,6 +22,7 @@ span group = 128 ^ length group
 abbrev pub fits_unsigned : List ℕ → Bool
 fits_unsigned group = nat_le (length group) 10 && nat_lt (seven_bits group) (2 ^ 64)
 
+-- the unsigned number of a group, and how many bytes it has
 abbrev pub unsigned_of : List ℕ → Option (ℕ × ℕ)
 unsigned_of group = if fits_unsigned group then Some (seven_bits group, length group) else None
 
@@ -33,6 +34,7 @@ uleb_at bytes = option_and_then unsigned_of (leb_group bytes)
 abbrev pub is_negative : List ℕ → Bool
 is_negative group = nat_le (span group) (2 * seven_bits group)
 
+-- the number that it stands for
 abbrev pub signed_value : List ℕ → ℤ
 signed_value group = if is_negative group then pos (seven_bits group) -ℤ pos (span group) else pos (seven_bits group)
 
@@ -42,6 +44,7 @@ fits_signed group =
     nat_le (length group) 10
     && (if is_negative group then nat_le (span group - seven_bits group) (2 ^ 63) else nat_lt (seven_bits group) (2 ^ 63))
 
+-- the signed number of a group, and how many bytes it has
 abbrev pub signed_of : List ℕ → Option (ℤ × ℕ)
 signed_of group = if fits_signed group then Some (signed_value group, length group) else None
 

@@ -2,6 +2,7 @@
 use Rattle.std.specs.Prelude.{◌≡◌, ◌≢◌, ℕ, ◌⊎◌, List, [], ◌∷◌, take, Option, Some, None, Bool, if◌then◌else◌, unwrap_or, nat_eq}
 use Rattle.std.specs.Cmp.Lexicographic.{pointwise}
 
+-- names and bytes
 abbrev pub Files : Type 0
 Files = List (List ℕ × List ℕ)
 

@@ -12,9 +12,11 @@ use Rattle.prof_devices.specs.Outside.{Failures, ShelfState, SinkState, last_cou
 abbrev pub raised : ℕ → ℕ
 raised count = min (count + 1) last_count
 
+-- one failure more, at this file
 abbrev pub failed_at : Failures → List ℕ → Failures
 failed_at failures name = record { count = raised failures.count; name = name }
 
+-- nothing has failed yet
 abbrev pub no_failures : Failures
 no_failures = record { count = 0; name = [] }
 
@@ -27,6 +29,7 @@ pub record MemoryShelf : Type 0 where
   pub kept : ℕ
   pub calls : ℕ
 
+-- what it shows as a shelf: it tells its files
 abbrev pub shown_shelf : MemoryShelf → ShelfState
 shown_shelf s = record { tells = true; files = s.files; reads = s.reads; stores = s.stores }
 
@@ -38,6 +41,7 @@ is_failing failing calls = list_any (λ number. number == raised calls) failing
 abbrev pub counted : MemoryShelf → MemoryShelf
 counted s = record s { calls = raised s.calls }
 
+-- one more call, which was a fetch that failed
 abbrev pub failed_read : MemoryShelf → List ℕ → MemoryShelf
 failed_read s name = record (counted s) { reads = failed_at s.reads name }
 
@@ -46,6 +50,7 @@ abbrev pub FetchFails : MemoryShelf → List ℕ → Bool → Type 0
 FetchFails s name true = Unit {0}
 FetchFails s name false = file_of s.files name ≡ None
 
+-- a fetch from memory, answer by answer
 abbrev pub MemoryFetches : MemoryShelf → MemoryShelf → List ℕ → ℕ → Fetch → Type 0
 MemoryFetches old new name limit (fetches.Whole bytes) =
     (is_failing old.failing old.calls ≡ false) × (new ≡ counted old) × (file_of old.files name ≡ Some bytes) × (length bytes ≤ limit)
@@ -55,6 +60,7 @@ MemoryFetches old new name limit fetches.Fault =
     FetchFails old name (is_failing old.failing old.calls) × (new ≡ failed_read old name)
 MemoryFetches old new name limit fetches.Memory = new ≡ counted old
 
+-- a store to memory: one that is to fail keeps a front
 abbrev pub MemoryStores : MemoryShelf → MemoryShelf → List ℕ → List ℕ → Put → Type 0
 MemoryStores old new name bytes Done =
     (is_failing old.failing old.calls ≡ false) × (new ≡ record (counted old) { files = new.files }) × Holds old.files new.files name bytes
@@ -73,12 +79,15 @@ pub record MemorySink : Type 0 where
   pub kept : ℕ
   pub calls : ℕ
 
+-- what it shows as a sink: it tells its bytes
 abbrev pub shown_sink : MemorySink → SinkState
 shown_sink s = record { tells = true; taken = s.taken; faults = s.faults; shortages = s.shortages }
 
+-- one more call
 abbrev pub counted_put : MemorySink → MemorySink
 counted_put s = record s { calls = raised s.calls }
 
+-- a put to memory: one that is to fail keeps a front
 abbrev pub MemoryPuts : MemorySink → MemorySink → List ℕ → Put → Type 0
 MemoryPuts old new bytes Done =
     (is_failing old.failing old.calls ≡ false) × (new ≡ record (counted_put old) { taken = old.taken ++ bytes })
@@ -91,10 +100,12 @@ MemoryPuts old new bytes Memory = new ≡ record (counted_put old) { shortages =
 abbrev pub sure_shelf : Files → ShelfState
 sure_shelf files = record { tells = true; files = files; reads = no_failures; stores = no_failures }
 
+-- the bytes taken, and how often memory was short
 pub record SureSinkState : Type 0 where
   pub taken : List ℕ
   pub shortages : ℕ
 
+-- what it shows as a sink
 abbrev pub sure_sink : SureSinkState → SinkState
 sure_sink s = record { tells = true; taken = s.taken; faults = 0; shortages = s.shortages }
 
@@ -111,6 +122,7 @@ SureStores old new name bytes Done = Holds old new name bytes
 SureStores old new name bytes Fault = ⊥
 SureStores old new name bytes Memory = new ≡ old
 
+-- a put is whole, or for want of memory nothing
 abbrev pub SurePuts : SureSinkState → SureSinkState → List ℕ → Put → Type 0
 SurePuts old new bytes Done = new ≡ record old { taken = old.taken ++ bytes }
 SurePuts old new bytes Fault = ⊥
@@ -132,6 +144,7 @@ FrontStored old new name bytes Fault =
     (new ≡ record old { files = new.files; stores = failed_at old.stores name }) × Holds old.files new.files name (take old.kept bytes)
 FrontStored old new name bytes Memory = new ≡ old
 
+-- a put fails and keeps a front
 abbrev pub FrontPut : MemorySink → MemorySink → List ℕ → Put → Type 0
 FrontPut old new bytes Done = ⊥
 FrontPut old new bytes Fault = new ≡ record old { taken = old.taken ++ take old.kept bytes; faults = raised old.faults }

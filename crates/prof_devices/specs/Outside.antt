@@ -71,10 +71,11 @@ Stored old new name bytes Fault =
     Writes old new name × Fails old.stores new.stores name × (IsTrue old.tells → HoldsPart old.files new.files name bytes)
 Stored old new name bytes Memory = Writes old new name × (IsTrue old.tells → HoldsPart old.files new.files name bytes)
 
--- bytes were added: all of them, or a front of them
+-- all of the bytes were added
 abbrev pub Appends : List ℕ → List ℕ → List ℕ → Type 0
 Appends old new bytes = new ≡ old ++ bytes
 
+-- a front of the bytes was added
 abbrev pub AppendsPart : List ℕ → List ℕ → List ℕ → Type 0
 AppendsPart old new bytes = (n : ℕ) × (new ≡ old ++ take n bytes)
 

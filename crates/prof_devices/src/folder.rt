@@ -11,7 +11,8 @@ use std::rt::Files;
 use std::{fs, io};
 
 /// The files of the current folder, and of every other folder that a name leads to. A name is UTF-8 text.
-/// It tells no content.
+/// It tells no content. A file that cannot be opened is a fault, and so is a name that is no UTF-8 text; a
+/// fetch reads at most `limit + 1` bytes.
 #[derive(Drop)]
 pub struct FolderShelf<'a, R> {
     rt: &'a R,

@@ -6,17 +6,24 @@ use prof_bytes::Text;
 /// that no memory was found.
 #[derive(Debug, Drop)]
 pub enum Fetch {
+    /// The bytes of the file, at most as many as the limit.
     Whole(Text),
+    /// The file has more bytes than the limit.
     TooLong,
+    /// The device failed, and counts it.
     Fault,
+    /// No memory was found.
     Memory,
 }
 
 /// What a store or a put answers: all was taken, the device failed, or no memory was found.
 #[derive(Clone, Copy, Debug, PartialEq, Eq)]
 pub enum Put {
+    /// All bytes were taken.
     Done,
+    /// The device failed, and counts it. A front of the bytes may have been taken.
     Fault,
+    /// No memory was found.
     Memory,
 }
 

@@ -34,7 +34,7 @@ impl ScopePath {
     }
 }
 
-/// A call path of a hart.
+/// A call path of a hart, by the hart's number from 0.
 #[derive(Debug, Drop)]
 pub struct HartPath {
     pub hart: u32,

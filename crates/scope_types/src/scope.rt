@@ -28,13 +28,16 @@ pub enum ProcId {
 pub enum LineId {
     /// The offset of the line table, the number of the file in it, and the line.
     Row { table: u32, file: u32, line: u32 },
+    /// The address of an instruction.
     Address(u32),
 }
 
 /// One scope of a calling context, as in the views of HPCToolkit's manual.
 #[derive(Clone, Copy, Debug, PartialEq, Eq, PartialOrd, Ord, Hash, Drop)]
 pub enum Scope {
+    /// The first scope of each path.
     Root(RootKind),
+    /// A procedure's frame.
     Proc(ProcId),
     /// An inlined procedure, and the line that calls it.
     Inline { callee: ProcId, call: LineId },

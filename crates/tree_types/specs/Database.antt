@@ -12,15 +12,18 @@ use Rattle.tree_types.specs.Nodes.{nodes, own_scope, parent_number}
 use Rattle.tree_types.specs.Planes.{profile_plane, context_plane}
 use Rattle.tree_types.specs.Naming.{Naming, proc_order, file_order, procs_used, files_used}
 
+-- the nodes in preorder, each with its parent's number and its own scope
 abbrev pub node_list : List HartPath → List Node
 node_list paths = map (λ n. record { parent = parent_number (nodes paths) n; scope = own_scope n }) (nodes paths)
 
+-- the names of the procedures and files that the nodes' scopes use, ascending
 abbrev pub names_used : Naming → List HartPath → Names
 names_used naming paths = record {
   procs = map (λ id. record { id = id; name = naming.proc_name id }) (procs_used (nodes paths));
   files = map (λ f. record { table = f.0; file = f.1; name = naming.file_name f.0 f.1 }) (files_used (nodes paths));
 }
 
+-- period, harts, names, paths: the whole content
 unfoldable pub content_of : ℕ → ℕ → Naming → List HartPath → Content
 content_of period harts naming paths = record {
   period = period;

@@ -1,4 +1,4 @@
--- The values other than 0, by hart and by node.
+-- The values other than 0, twice: by hart (profile-major) and by node (context-major), the two planes of HPCToolkit's databases.
 use Rattle.std.specs.Prelude.{ℕ, ◌==◌, not, List, [], ◌∷◌, map, filter}
 use Rattle.std.specs.List.{flat_map, enumerate_from}
 use Rattle.scope_types.specs.declared.path.HartPath.{HartPath}
@@ -10,12 +10,15 @@ use Rattle.tree_types.specs.Paths.{Path}
 use Rattle.tree_types.specs.Nodes.{nodes}
 use Rattle.tree_types.specs.Values.{value, harts_below}
 
+-- the kinds of values, in the order in which both planes have them
 abbrev pub kinds : List Kind
 kinds = Exclusive ∷ Frame ∷ Inclusive ∷ []
 
+-- an entry of a hart's column: a node's number, a kind, a value
 abbrev pub profile_entry : ℕ → Kind → ℕ → ProfileEntry
 profile_entry number kind amount = record { node = number; kind = kind; value = amount }
 
+-- an entry of a node's column: a kind, a hart, a value
 abbrev pub context_entry : Kind → ℕ → ℕ → ContextEntry
 context_entry kind hart amount = record { kind = kind; hart = hart; value = amount }
 
@@ -23,6 +26,7 @@ context_entry kind hart amount = record { kind = kind; hart = hart; value = amou
 abbrev pub node_values : ℕ → List HartPath → ℕ → ℕ × Path → List ProfileEntry
 node_values period paths hart n = map (λ kind. profile_entry n.0 kind (value period paths hart n.1 kind)) kinds
 
+-- the entries whose value is not 0, in their order
 abbrev pub other_than_zero : List ProfileEntry → List ProfileEntry
 other_than_zero es = filter (λ e. not (e.value == 0)) es
 

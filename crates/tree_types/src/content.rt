@@ -5,7 +5,8 @@ use scope_types::{ProcId, Scope};
 /// The parent of a root, in place of a node's number.
 pub const NO_PARENT: u32 = 4_294_967_295;
 
-/// A node of the calling context tree: the number of its parent, and its own scope.
+/// A node of the calling context tree: the number of its parent, which is smaller than its own, or
+/// [`NO_PARENT`]; and its own scope, which is the last of its path.
 #[derive(Clone, Copy, Debug, PartialEq, Eq, Drop)]
 pub struct Node {
     pub parent: u32,
@@ -21,7 +22,7 @@ pub enum Kind {
     Inclusive,
 }
 
-/// A value of a hart at a node, in retired instructions.
+/// A value of a hart at a node: the node's number in preorder, and the value in retired instructions.
 #[derive(Clone, Copy, Debug, PartialEq, Eq, Drop)]
 pub struct ProfileEntry {
     pub node: u32,
@@ -29,7 +30,7 @@ pub struct ProfileEntry {
     pub value: u64,
 }
 
-/// A value of a node for a hart, in retired instructions.
+/// A value of a node for a hart: the hart's number, and the value in retired instructions.
 #[derive(Clone, Copy, Debug, PartialEq, Eq, Drop)]
 pub struct ContextEntry {
     pub kind: Kind,
@@ -44,7 +45,7 @@ pub struct ProcName {
     pub name: Text,
 }
 
-/// A file of a line table and its name.
+/// A file and its name: the offset of its line table in `.debug_line`, and its number in that table.
 #[derive(Debug, Drop)]
 pub struct FileName {
     pub table: u32,

@@ -74,7 +74,8 @@ fn path_counts(p: &HartPath, hart: u32, n: &[Scope], kind: Kind) -> bool
     }
 }
 
-/// A node's value for a hart: the period times the number of its paths that count.
+/// A node's value for a hart, in retired instructions: the period times the number of its paths that
+/// count. One walk over all paths.
 #[tactic(auto, using(crate::proofs::Bounds::small_product), unfolding(crate::specs::Values::count_below))]
 pub fn value_of(period: u32, paths: &[HartPath], hart: u32, n: &[Scope], kind: Kind) -> u64
     requires { length paths.now ≤ 2 ^ 20 }
@@ -137,7 +138,7 @@ fn put_prefixes(alloc: Global, found: &mut Vec<ScopePath>, path: &[Scope]) -> Re
     Ok(())
 }
 
-/// The nodes of the paths, in preorder.
+/// The nodes of the paths, in preorder. Fails for want of memory alone.
 #[tactic(auto, using(crate::proofs::Putting::one_path_more, crate::proofs::Putting::all_paths, crate::proofs::Putting::no_path))]
 pub fn nodes_of(alloc: Global, paths: &[HartPath]) -> Result<Listed<ScopePath>, AllocError>
     ensures { IfOk result (λ ns. ns ≡ nodes paths.now) }
@@ -149,7 +150,8 @@ pub fn nodes_of(alloc: Global, paths: &[HartPath]) -> Result<Listed<ScopePath>, 
     Ok(Listed::of(found))
 }
 
-/// The last scope of a node's path, which is the node's own.
+/// The last scope of a node's path, which is the node's own. An empty path, which no node has, gives a
+/// thread's root.
 pub fn own_scope_of(n: &[Scope]) -> Scope
     ensures { result ≡ own_scope n.now }
 {
@@ -187,7 +189,7 @@ fn parent_of(tree: &[ScopePath], n: &[Scope]) -> u32
     number_in(tree, &n[..n.len().saturating_sub(1)]) as u32
 }
 
-/// The nodes, each with its parent's number and its own scope.
+/// The nodes, each with its parent's number and its own scope. Fails for want of memory alone.
 pub fn node_list_of(alloc: Global, tree: &[ScopePath]) -> Result<Listed<Node>, AllocError>
     requires { length tree.now ≤ no_parent }
     ensures { IfOk result (λ nodes. nodes ≡ map (λ n. record { parent = parent_number tree.now n; scope = own_scope n }) tree.now) }

@@ -61,7 +61,7 @@ fn put_node(
     put_kind(out, period, paths, hart, number, n, Kind::Inclusive)
 }
 
-/// The values of a hart other than 0, by node, then kind.
+/// The values of a hart other than 0, by node, then kind. Fails for want of memory alone.
 #[tactic(auto, using(crate::proofs::Columns::one_node_more, crate::proofs::Columns::all_nodes))]
 pub fn column_of(
     alloc: Global,
@@ -111,7 +111,7 @@ fn put_kind_by_hart(
     Ok(())
 }
 
-/// The values of a node other than 0, by kind, then hart.
+/// The values of a node other than 0, by kind, then hart. Fails for want of memory alone.
 #[tactic(auto, using(crate::proofs::ContextColumns::three_kinds))]
 pub fn context_column_of(
     alloc: Global,
