@@ -3,6 +3,7 @@ use elf_image::read_image;
 use prof_bytes::{Memory, put_u32};
 use scope_types::Look;
 use std::alloc::Global;
+use std::process::Abort;
 use std::test::Fail;
 
 mod tables;
@@ -55,7 +56,8 @@ fn computed_results(rt: HostRuntime) -> Result<(), Fail> {
         assert_eq!(rt; step(&mut hart, &mut space)?, Stepped::Retired);
         pc = pc.wrapping_add(4);
         assert_eq!(rt; hart.pc, pc);
-        assert_eq!(rt; hart.regs[7], *x7, "x7 after {word} on {x5} and {x6}");
+        let x7_after = hart.regs[7];
+        assert_eq!(rt; x7_after, *x7, "x7 after {word} on {x5} and {x6}");
     }
     Ok(())
 }
@@ -86,6 +88,48 @@ fn branches_both_ways(rt: HostRuntime) -> Result<(), Fail> {
     Ok(())
 }
 
+/// Each load finds the pattern's bytes.
+fn check_loads(rt: &impl Abort, space: &mut Space, data: u32) -> Result<(), Memory> {
+    let _ = space.store(data, &PATTERN)?;
+    let mut pc = CODE;
+    for (word, x7) in &LOADS {
+        let mut hart = hart_at(pc, data, 0);
+        let stepped = step(&mut hart, space)?;
+        assert!(rt; stepped == Stepped::Retired);
+        let x7_after = hart.regs[7];
+        assert_eq!(rt; x7_after, *x7, "x7 after {word}");
+        pc = pc.wrapping_add(4);
+    }
+    Ok(())
+}
+
+/// The four words from an address on, where they may be loaded.
+fn four_words(space: &Space, at: u32) -> Option<[u32; 4]> {
+    Some([
+        space.word(at)?,
+        space.word(at.wrapping_add(4))?,
+        space.word(at.wrapping_add(8))?,
+        space.word(at.wrapping_add(12))?,
+    ])
+}
+
+/// Each store changes the pattern's bytes as it should, and no others.
+fn check_stores(rt: &impl Abort, space: &mut Space, data: u32) -> Result<(), Memory> {
+    let mut pc = CODE.wrapping_add(104);
+    for (word, after) in &STORES {
+        let _ = space.store(data, &PATTERN)?;
+        let mut hart = hart_at(pc, data, 0xa1b2_c3d4);
+        let stepped = step(&mut hart, space)?;
+        assert!(rt; stepped == Stepped::Retired);
+        assert!(rt;
+            four_words(space, data) == Some(*after),
+            "memory after {word}"
+        );
+        pc = pc.wrapping_add(4);
+    }
+    Ok(())
+}
+
 #[test]
 fn loads_and_stores(rt: HostRuntime) -> Result<(), Fail> {
     let mut file = program(rt.alloc(), 164)?;
@@ -99,29 +143,10 @@ fn loads_and_stores(rt: HostRuntime) -> Result<(), Fail> {
     let image = read_image(rt.alloc(), file.as_slice())?;
     let mut space = Space::of(rt.alloc(), &image, 1)?;
     // In the midst of a page, and over the end of one.
-    for data in [STACK, STACK + 0xff9] {
-        let mut pc = CODE;
-        assert!(rt; space.store(data, &PATTERN)?);
-        for (word, x7) in &LOADS {
-            let mut hart = hart_at(pc, data, 0);
-            assert_eq!(rt; step(&mut hart, &mut space)?, Stepped::Retired);
-            assert_eq!(rt; hart.regs[7], *x7, "x7 after {word}");
-            pc = pc.wrapping_add(4);
-        }
-        for (word, after) in &STORES {
-            assert!(rt; space.store(data, &PATTERN)?);
-            let mut hart = hart_at(pc, data, 0xa1b2_c3d4);
-            assert_eq!(rt; step(&mut hart, &mut space)?, Stepped::Retired);
-            let words = [
-                space.load(data, 4).ok_or("word 0")?,
-                space.load(data + 4, 4).ok_or("word 1")?,
-                space.load(data + 8, 4).ok_or("word 2")?,
-                space.load(data + 12, 4).ok_or("word 3")?,
-            ];
-            assert_eq!(rt; words, *after, "memory after {word}");
-            pc = pc.wrapping_add(4);
-        }
-    }
+    check_loads(&rt, &mut space, STACK)?;
+    check_stores(&rt, &mut space, STACK)?;
+    check_loads(&rt, &mut space, STACK + 0xff9)?;
+    check_stores(&rt, &mut space, STACK + 0xff9)?;
     Ok(())
 }
 
@@ -164,6 +189,32 @@ const UNCHANGED: [(u32, u32, Stepped); 13] = [
 /// Instructions with x0 as their target; qemu-riscv32 gives 0 for it after each.
 const INTO_X0: [u32; 4] = [0x0062_8033, 0x1234_5037, 0x0012_8013, 0x0262_8033];
 
+fn check_jumps(rt: &impl Abort, space: &mut Space) -> Result<(), Memory> {
+    let mut pc = CODE;
+    for (word, x5, by) in &JUMPS {
+        let mut hart = hart_at(pc, *x5, 0);
+        let stepped = step(&mut hart, space)?;
+        assert!(rt; stepped == Stepped::Retired);
+        assert_eq!(rt; hart.pc, pc.wrapping_add(*by), "pc after {word}");
+        pc = pc.wrapping_add(4);
+    }
+    Ok(())
+}
+
+fn check_jumps_by_register(rt: &impl Abort, space: &mut Space) -> Result<(), Memory> {
+    let mut pc = CODE.wrapping_add(28);
+    for (word, x5, target) in &JUMPS_BY_REGISTER {
+        let mut hart = hart_at(pc, *x5, 0);
+        let stepped = step(&mut hart, space)?;
+        assert!(rt; stepped == Stepped::Retired);
+        assert_eq!(rt; hart.pc, *target, "pc after {word}");
+        pc = pc.wrapping_add(4);
+        let x7_after = hart.regs[7];
+        assert_eq!(rt; x7_after, pc);
+    }
+    Ok(())
+}
+
 #[test]
 fn jumps(rt: HostRuntime) -> Result<(), Fail> {
     let mut file = program(rt.alloc(), 40)?;
@@ -176,19 +227,49 @@ fn jumps(rt: HostRuntime) -> Result<(), Fail> {
     assert_eq!(rt; file.len(), 124);
     let image = read_image(rt.alloc(), file.as_slice())?;
     let mut space = Space::of(rt.alloc(), &image, 1)?;
+    check_jumps(&rt, &mut space)?;
+    check_jumps_by_register(&rt, &mut space)?;
+    Ok(())
+}
+
+fn check_unchanged(rt: &impl Abort, space: &mut Space) -> Result<(), Memory> {
     let mut pc = CODE;
-    for (word, x5, by) in &JUMPS {
-        let mut hart = hart_at(pc, *x5, 0);
-        assert_eq!(rt; step(&mut hart, &mut space)?, Stepped::Retired);
-        assert_eq!(rt; hart.pc, pc.wrapping_add(*by), "pc after {word}");
+    for (word, x5, end) in &UNCHANGED {
+        let mut hart = hart_at(pc, *x5, 7);
+        let before = hart.regs;
+        let stepped = step(&mut hart, space)?;
+        assert_eq!(rt; stepped, *end, "end of {word}");
+        assert_eq!(rt; hart.pc, pc);
+        let after = hart.regs;
+        assert!(rt; after == before);
         pc = pc.wrapping_add(4);
     }
-    for (word, x5, target) in &JUMPS_BY_REGISTER {
-        let mut hart = hart_at(pc, *x5, 0);
-        assert_eq!(rt; step(&mut hart, &mut space)?, Stepped::Retired);
-        assert_eq!(rt; hart.pc, *target, "pc after {word}");
+    Ok(())
+}
+
+fn check_into_x0(rt: &impl Abort, space: &mut Space) -> Result<(), Memory> {
+    let mut pc = CODE.wrapping_add(52);
+    for word in &INTO_X0 {
+        let mut hart = hart_at(pc, 3, 5);
+        let before = hart.regs;
+        let stepped = step(&mut hart, space)?;
+        assert_eq!(rt; stepped, Stepped::Retired, "end of {word}");
+        let after = hart.regs;
+        assert!(rt; after == before);
         pc = pc.wrapping_add(4);
-        assert_eq!(rt; hart.regs[7], pc);
+    }
+    Ok(())
+}
+
+/// Behind the code, at an address that is no multiple of 4, outside of all regions, and in a stack.
+const NOT_FETCHED: [u32; 5] = [0x1_0044, 0x1_0002, 0, STACK, 0xffff_fffc];
+
+fn check_fetches(rt: &impl Abort, space: &mut Space) -> Result<(), Memory> {
+    for pc in &NOT_FETCHED {
+        let mut hart = hart_at(*pc, 0, 0);
+        let stepped = step(&mut hart, space)?;
+        assert_eq!(rt; stepped, Stepped::Trap(Cause::Fetch), "fetch at {pc}");
+        assert_eq!(rt; hart.pc, *pc);
     }
     Ok(())
 }
@@ -205,70 +286,95 @@ fn nothing_changes(rt: HostRuntime) -> Result<(), Fail> {
     assert_eq!(rt; file.len(), 152);
     let image = read_image(rt.alloc(), file.as_slice())?;
     let mut space = Space::of(rt.alloc(), &image, 1)?;
-    let mut pc = CODE;
-    for (word, x5, end) in &UNCHANGED {
-        let mut hart = hart_at(pc, *x5, 7);
-        let before = hart.regs;
-        assert_eq!(rt; step(&mut hart, &mut space)?, *end, "end of {word}");
-        assert_eq!(rt; hart.pc, pc);
-        assert_eq!(rt; hart.regs, before);
-        pc = pc.wrapping_add(4);
-    }
-    for word in &INTO_X0 {
-        let mut hart = hart_at(pc, 3, 5);
-        let before = hart.regs;
-        assert_eq!(rt;
-            step(&mut hart, &mut space)?,
-            Stepped::Retired,
-            "end of {word}"
-        );
-        assert_eq!(rt; hart.regs, before);
-        pc = pc.wrapping_add(4);
-    }
-    for pc in [pc, CODE + 2, 0, STACK, 0xffff_fffc] {
-        let mut hart = hart_at(pc, 0, 0);
-        assert_eq!(rt;
-            step(&mut hart, &mut space)?,
-            Stepped::Trap(Cause::Fetch),
-            "fetch at {pc}"
-        );
-        assert_eq!(rt; hart.pc, pc);
-    }
+    check_unchanged(&rt, &mut space)?;
+    check_into_x0(&rt, &mut space)?;
+    check_fetches(&rt, &mut space)?;
     Ok(())
 }
 
-#[test]
-fn memory_of_a_program(rt: HostRuntime) -> Result<(), Fail> {
-    // Nineteen times addi x10, x10, 1, and an exit.
-    let mut file = program(rt.alloc(), 84)?;
+/// Nineteen times `addi x10, x10, 1`, and an exit.
+fn counting(alloc: Global) -> Result<Vec<u8>, Memory> {
+    let mut file = program(alloc, 84)?;
     for _ in 0..19 {
         put_u32(&mut file, 0x0015_0513)?;
     }
     put_u32(&mut file, 0x05d0_0893)?;
     put_u32(&mut file, 0x0000_0073)?;
+    Ok(file)
+}
+
+fn check_words(rt: &impl Abort, space: &Space, wanted: &[(u32, Option<u32>)]) {
+    for (at, word) in wanted {
+        assert_eq!(rt; space.word(*at), *word, "word at {at}");
+    }
+}
+
+fn check_puts(
+    rt: &impl Abort,
+    space: &mut Space,
+    wanted: &[(u32, &[u8], bool)],
+) -> Result<(), Memory> {
+    for (at, bytes, answer) in wanted {
+        let stored = space.store(*at, bytes)?;
+        assert_eq!(rt; stored, *answer, "store at {at}");
+    }
+    Ok(())
+}
+
+/// Stores into the memory of one hart, and whether they are made.
+const PUTS: [(u32, &[u8], bool); 5] = [
+    (0x1_0000, &[7], false),
+    (0xf00f_fff0, &[7], true),
+    (0xf00f_fffd, &[1, 2, 3, 4], false),
+    (0xffff_ffff, &[1, 2], false),
+    (0xffff_ffff, &[], true),
+];
+
+/// Words after these, and at the ends of the code, of the stack and of the address space.
+const WORDS: [(u32, Option<u32>); 10] = [
+    (0x1_0001, Some(0x1300_1505)),
+    (0x1_0050, Some(0x73)),
+    (0x1_0051, None),
+    (0xffff, None),
+    (0xf00f_fff0, Some(7)),
+    (0xf00f_ffef, Some(0x700)),
+    (0xf00f_fffc, Some(0)),
+    (0xf00f_fffd, None),
+    (0xf007_ffff, None),
+    (0xffff_fffe, None),
+];
+
+#[test]
+fn memory_of_a_program(rt: HostRuntime) -> Result<(), Fail> {
+    let file = counting(rt.alloc())?;
     assert_eq!(rt; file.len(), 168);
     let image = read_image(rt.alloc(), file.as_slice())?;
     let mut space = Space::of(rt.alloc(), &image, 1)?;
-    assert_eq!(rt; space.load(0x1_0001, 4), Some(0x1300_1505));
-    assert_eq!(rt; space.store(0x1_0000, &[7])?, false);
-    assert_eq!(rt; space.store(0xf00f_fff0, &[7])?, true);
+    check_puts(&rt, &mut space, &PUTS)?;
+    check_words(&rt, &space, &WORDS);
     assert_eq!(rt; space.load(0xf00f_fff0, 1), Some(7));
-    assert_eq!(rt; space.word(0xf00f_ffef), Some(0x0000_0700));
-    // The ends of the code, of the stack and of the address space.
-    assert_eq!(rt; space.load(0x1_0050, 4), Some(0x73));
     assert_eq!(rt; space.load(0x1_0053, 2), None);
-    assert_eq!(rt; space.word(0xf00f_fffd), None);
-    assert_eq!(rt; space.load(0xf007_ffff, 2), None);
-    assert_eq!(rt; space.load(0xffff_ffff, 4), None);
-    assert_eq!(rt; space.store(0xf00f_fffd, &[1, 2, 3, 4])?, false);
-    assert_eq!(rt; space.load(0xf00f_fffc, 4), Some(0));
-    assert_eq!(rt; space.store(0xffff_ffff, &[1, 2])?, false);
-    assert_eq!(rt; space.store(0xffff_ffff, &[])?, true);
-    // The last of 64 stacks, and none behind it.
+    Ok(())
+}
+
+/// Stores into the last of 64 stacks and behind it.
+const LAST_PUTS: [(u32, &[u8], bool); 3] = [
+    (0xf3ff_fffc, &[1, 2, 3, 4], true),
+    (0xf3ff_fffd, &[5, 6, 7, 8], false),
+    (0xf408_0000, &[9], false),
+];
+
+#[test]
+fn the_last_stack(rt: HostRuntime) -> Result<(), Fail> {
+    let file = counting(rt.alloc())?;
+    assert_eq!(rt; file.len(), 168);
+    let image = read_image(rt.alloc(), file.as_slice())?;
     let mut space = Space::of(rt.alloc(), &image, 64)?;
-    assert_eq!(rt; space.store(0xf3ff_fffc, &[1, 2, 3, 4])?, true);
-    assert_eq!(rt; space.load(0xf3ff_fffc, 4), Some(0x0403_0201));
-    assert_eq!(rt; space.store(0xf3ff_fffd, &[1, 2, 3, 4])?, false);
-    assert_eq!(rt; space.load(0xf408_0000, 1), None);
+    check_puts(&rt, &mut space, &LAST_PUTS)?;
+    check_words(
+        &rt,
+        &space,
+        &[(0xf3ff_fffc, Some(0x0403_0201)), (0xf400_0000, None)],
+    );
     Ok(())
 }
