@@ -12,3 +12,4 @@ pub mod Made
 pub mod Steps
 pub mod Wanted
 pub mod Observed
+pub mod Straight

@@ -1,6 +1,6 @@
 -- The machine, as far as it is built: a hart that adds immediates and exits (RISC-V unprivileged manual, RV32I, section 2.4; the exit is the environment call 93).
 use Rattle.std.specs.Prelude.{ℕ, zero, suc, ◌+◌, ◌-◌, ◌*◌, ◌/◌, ◌%◌, ◌^◌, List, [], ◌∷◌, ◌++◌, slice_index, slice_set, replicate, find, Bool, true, false, Option, Some, None, if◌then◌else◌, nat_lt, nat_le, ◌==◌, ◌&&◌, bit_and}
-use Rattle.elf_image.specs.declared.image.Segment.{Segment}
+use Rattle.elf_image.specs.declared.part.Segment.{Segment}
 use Rattle.elf_image.specs.Image.{Loaded}
 use Rattle.hpc_top.specs.declared.rv_hart.Hart.{Hart}
 use Rattle.hpc_top.specs.declared.rv_hart.Stepped.{Stepped}

@@ -21,7 +21,13 @@ file_text kinds.Schedule = codes "schedule"
 
 abbrev pub rule_text : ElfRule → List ℕ
 rule_text rules.NotElf = codes "NotElf"
-rule_text rules.Unbuilt = codes "Unbuilt"
+rule_text rules.NotRiscv32Exec = codes "NotRiscv32Exec"
+rule_text rules.CompressedCode = codes "CompressedCode"
+rule_text rules.HeaderPlace = codes "HeaderPlace"
+rule_text rules.SegmentPlace = codes "SegmentPlace"
+rule_text rules.SectionPlace = codes "SectionPlace"
+rule_text rules.CompressedSection = codes "CompressedSection"
+rule_text rules.SymbolPlace = codes "SymbolPlace"
 
 abbrev pub part_text : Part → List ℕ
 part_text parts.Schedule = codes "schedule"

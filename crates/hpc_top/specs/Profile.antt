@@ -1,5 +1,5 @@
 -- The main job as a function of its files: what is stored and what is put, or the first refusal.
-use Rattle.std.specs.Prelude.{◌≡◌, ℕ, ◌-◌, List, [], ◌∷◌, length, take, drop, Bool, Option, Some, None, Result, Ok, Err, if◌then◌else◌, ◌==◌, ◌&&◌, nat_lt, nat_eq, codes, slice_index}
+use Rattle.std.specs.Prelude.{◌≡◌, ℕ, ◌-◌, List, [], ◌∷◌, length, take, drop, Bool, true, false, Option, Some, None, Result, Ok, Err, if◌then◌else◌, ◌==◌, ◌&&◌, nat_lt, nat_eq, codes, slice_index}
 use Rattle.std.specs.Cmp.Lexicographic.{pointwise}
 use Rattle.prof_bytes.specs.Outcome.{◌>>=◌}
 use Rattle.scope_types.specs.declared.path.HartPath.{HartPath}
@@ -11,7 +11,7 @@ use Rattle.elf_image.specs.Image.{Loaded}
 use Rattle.elf_image.specs.Reading.{image_of}
 use Rattle.tree_types.specs.Naming.{Naming}
 use Rattle.tree_types.specs.Database.{content_of}
-use Rattle.tree_types.specs.Spelling.{spelling}
+use Rattle.prof_db.specs.Spelling.{spelling}
 use Rattle.tree_types.specs.TopDown.{top_down}
 use Rattle.hpc_top.specs.declared.status.InputFault.{InputFault}
 use Rattle.hpc_top.specs.declared.status.InputFault.TheVariants.{Program, Unbuilt}
@@ -19,6 +19,7 @@ use Rattle.hpc_top.specs.declared.status.Part.TheVariants as parts
 use Rattle.hpc_top.specs.declared.sample_clock.RunEnd.{RunEnd}
 use Rattle.hpc_top.specs.declared.sample_clock.RunEnd.TheVariants as ends
 use Rattle.hpc_top.specs.Numerals.{number_of}
+use Rattle.hpc_top.specs.Straight.{first_difference, straight_header}
 use Rattle.hpc_top.specs.Samples.{Run, run_of, sample_paths, retired_count}
 use Rattle.hpc_top.specs.Report.{HartLine, report_of}
 
@@ -41,6 +42,10 @@ abbrev pub slice_of : List ℕ → Option ℕ
 slice_of schedule =
     if pointwise nat_eq (take 10 schedule) schedule_head then number_of 1 1048576 (without_last_feed (drop 10 schedule)) else None
 
+abbrev pub is_not_elf : ElfRule → Bool
+is_not_elf rules.NotElf = true
+is_not_elf _ = false
+
 abbrev pub scheduled : Option ℕ → Result ℕ InputFault
 scheduled (Some count) = Ok count
 scheduled None = Err (Unbuilt parts.Schedule 0)
@@ -48,13 +53,18 @@ scheduled None = Err (Unbuilt parts.Schedule 0)
 abbrev pub no_input : List ℕ → Result (Unit {0}) InputFault
 no_input input = if length input == 0 then Ok tt else Err (Unbuilt parts.Input 0)
 
-abbrev pub program_fault : ElfRule → ℕ → InputFault
-program_fault rules.NotElf offset = Program (record { rule = rules.NotElf; offset = offset })
-program_fault rules.Unbuilt offset = Unbuilt parts.Program offset
+-- a program that is not of the form that is taken
+abbrev pub unless_other : Option ℕ → Result Loaded InputFault → Result Loaded InputFault
+unless_other (Some place) image = Err (Unbuilt parts.Program place)
+unless_other None image = image
 
-abbrev pub program : Result Loaded ElfFault → Result Loaded InputFault
-program (Ok image) = Ok image
-program (Err fault) = Err (program_fault fault.rule fault.offset)
+-- a file that is no ELF file is refused before its form is looked at, and what else is wrong with it behind
+abbrev pub program_from : Result Loaded ElfFault → Option ℕ → Result Loaded InputFault
+program_from (Ok image) place = unless_other place (Ok image)
+program_from (Err fault) place = if is_not_elf fault.rule then Err (Program fault) else unless_other place (Err (Program fault))
+
+abbrev pub program : List ℕ → Result Loaded InputFault
+program elf = program_from (image_of elf) (first_difference (straight_header (length elf)) elf)
 
 -- a run that met no instruction that is not built
 abbrev pub built : RunEnd → Run → Result Run InputFault
@@ -86,6 +96,6 @@ unfoldable pub profile_of : List ℕ → List ℕ → List ℕ → ℕ → Resul
 profile_of elf input schedule period = do
   count ← scheduled (slice_of schedule)
   _ ← no_input input
-  image ← program (image_of elf)
+  image ← program elf
   run ← built (run_of image count).end (run_of image count)
   Ok (product_of period run)

@@ -1,20 +1,20 @@
 //! The main job over bytes: a program, its input and a schedule to a database and a report.
-ghost use Rattle.std.specs.Prelude.{◌≡◌, ◌≤◌, ◌^◌, ◌<◌, length, map, IfOk, IfSome};
+ghost use Rattle.std.specs.Prelude.{◌≡◌, ◌≤◌, ◌^◌, ◌<◌, Err, length, map, IfOk, IfSome};
 ghost use Rattle.prof_bytes.specs.Outcome.{Gives};
-ghost use Rattle.elf_image.specs.Reading.{image_of};
 ghost use Rattle.tree_types.specs.Nodes.{nodes, no_parent};
 ghost use Rattle.tree_types.specs.Database.{names_used};
 ghost use Rattle.hpc_top.specs.Made.{view};
-ghost use Rattle.hpc_top.specs.Profile.{nameless, product_from, profile_of, program, program_fault, slice_of, without_last_feed};
+ghost use Rattle.hpc_top.specs.Profile.{is_not_elf, nameless, product_from, profile_of, program, program_from, slice_of, without_last_feed};
 
 use crate::numerals::number;
-use crate::prof_db::write_db;
 use crate::report::{OneHart, report};
 use crate::sample_clock::{Observed, RunEnd, observe};
 use crate::status::{InputFault, Made, Part};
+use crate::straight::form_difference;
 use crate::view_tables::top_down_table;
 use elf_image::{ElfFault, ElfRule, Image, read_image};
 use prof_bytes::{Fail, Listed, Memory, Text};
+use prof_db::write_db;
 use scope_types::{HartPath, ProcId, ScopePath};
 use std::alloc::Global;
 use std::thread::Threads;
@@ -62,25 +62,34 @@ fn slice(schedule: &[u8]) -> Option<u32>
     number(before_last_feed(rest), 1, 1_048_576)
 }
 
-fn program_refusal(fault: ElfFault) -> InputFault
-    ensures { result ≡ program_fault fault.rule fault.offset }
+/// Why a file is refused that is no program: a file that is no ELF file first, then another form.
+fn refusal(place: Option<usize>, fault: ElfFault) -> InputFault
+    ensures { Err result ≡ program_from (Err fault) place }
 {
-    match fault.rule {
-        ElfRule::NotElf => InputFault::Program(fault),
-        ElfRule::Unbuilt => unbuilt(Part::Program, u64::from(fault.offset)),
+    match place {
+        Some(place) if !is_no_elf(fault.rule) => unbuilt(Part::Program, place as u64),
+        _ => InputFault::Program(fault),
     }
 }
 
 /// The program, or the refusal of its file.
 fn program_of(alloc: Global, elf: &[u8]) -> Result<Image<'_>, Fail<InputFault>>
     requires { length elf.now ≤ 2 ^ 26 }
-    ensures { Gives (λ image. image) result (program (image_of elf.now)) }
+    ensures { Gives (λ image. image) result (program elf.now) }
 {
-    match read_image(alloc, elf) {
-        Ok(image) => Ok(image),
-        Err(Fail::Fault(fault)) => Err(Fail::Fault(program_refusal(fault))),
-        Err(Fail::Memory) => Err(Fail::Memory),
+    let place = form_difference(alloc, elf)?;
+    match (read_image(alloc, elf), place) {
+        (Ok(image), None) => Ok(image),
+        (Ok(_), Some(place)) => Err(Fail::Fault(unbuilt(Part::Program, place as u64))),
+        (Err(Fail::Fault(fault)), place) => Err(Fail::Fault(refusal(place, fault))),
+        (Err(Fail::Memory), _) => Err(Fail::Memory),
     }
+}
+
+fn is_no_elf(rule: ElfRule) -> bool
+    ensures { result ≡ is_not_elf rule }
+{
+    matches!(rule, ElfRule::NotElf)
 }
 
 fn named_procs(alloc: Global, ids: &[ProcId]) -> Result<Listed<ProcName>, Memory>

@@ -39,7 +39,13 @@ fn rule_name(rule: ElfRule) -> &'static str
 {
     match rule {
         ElfRule::NotElf => "NotElf",
-        ElfRule::Unbuilt => "Unbuilt",
+        ElfRule::NotRiscv32Exec => "NotRiscv32Exec",
+        ElfRule::CompressedCode => "CompressedCode",
+        ElfRule::HeaderPlace => "HeaderPlace",
+        ElfRule::SegmentPlace => "SegmentPlace",
+        ElfRule::SectionPlace => "SectionPlace",
+        ElfRule::CompressedSection => "CompressedSection",
+        ElfRule::SymbolPlace => "SymbolPlace",
     }
 }
 

@@ -5,12 +5,10 @@ pub mod NodeLaws
 pub mod ValueLaws
 pub mod Totals
 pub mod Parents
-pub mod FourSamples
 pub mod FourRows
 pub mod TwentyRows
 pub mod Putting
 pub mod InlinedRows
-pub mod TwentySamples
 pub mod Columns
 pub mod TreePaths
 pub mod PathsAgain

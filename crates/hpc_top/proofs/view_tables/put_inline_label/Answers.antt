@@ -1,7 +1,7 @@
 use Rattle.std.specs.Prelude.{codes}
 use Rattle.tree_types.specs.TopDown.{place}
 use Rattle.hpc_top.specs.Profile.{nameless}
-use Rattle.hpc_top.proofs.Appending.{two_parts}
+use Rattle.prof_bytes.proofs.Appending.{two_parts}
 use Rattle.hpc_top.proofs.view_tables.put_inline_label.Goals as goal
 
 pub returns : goal.returns

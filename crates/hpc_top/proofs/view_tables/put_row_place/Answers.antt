@@ -1,6 +1,6 @@
 use Rattle.std.proofs.Common.{◌∙◌, ap, ℕ, ◌++◌}
 use Rattle.std.specs.Prelude.{codes, decimal}
-use Rattle.hpc_top.proofs.Appending.{two_parts}
+use Rattle.prof_bytes.proofs.Appending.{two_parts}
 use Rattle.hpc_top.proofs.view_tables.put_row_place.Goals as goal
 
 pub returns : goal.returns

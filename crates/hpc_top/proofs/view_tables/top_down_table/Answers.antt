@@ -2,7 +2,7 @@ use Rattle.std.proofs.Common.{◌∙◌, ap, ◌++◌}
 use Rattle.tree_types.specs.Paths.{Path}
 use Rattle.tree_types.specs.TopDown.{header, node_row}
 use Rattle.hpc_top.specs.Profile.{nameless}
-use Rattle.hpc_top.proofs.Appending.{append_more}
+use Rattle.prof_bytes.proofs.Appending.{append_more}
 use Rattle.hpc_top.proofs.TableRows.{all_rows}
 use Rattle.hpc_top.proofs.view_tables.top_down_table.Goals as goal
 

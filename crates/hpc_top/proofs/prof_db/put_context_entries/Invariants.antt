@@ -1,7 +1,0 @@
-use Rattle.std.proofs.Common.{◌≡◌, ◌++◌, take}
-use Rattle.std.specs.List.{flat_map}
-use Rattle.tree_types.specs.Spelling.{context_entry}
-use Rattle.hpc_top.proofs.prof_db.put_context_entries.Given as goal
-
-abbrev pub invariant-loop-e : goal.invariant-loop-e
-invariant-loop-e l = l.out.items ≡ l.fn.out.items ++ flat_map context_entry (take l.e-index l.entries)

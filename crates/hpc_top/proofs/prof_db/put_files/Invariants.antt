@@ -1,7 +1,0 @@
-use Rattle.std.proofs.Common.{◌≡◌, ◌++◌, take}
-use Rattle.std.specs.List.{flat_map}
-use Rattle.tree_types.specs.Spelling.{file_bytes}
-use Rattle.hpc_top.proofs.prof_db.put_files.Given as goal
-
-abbrev pub invariant-loop-f : goal.invariant-loop-f
-invariant-loop-f l = l.out.items ≡ l.fn.out.items ++ flat_map file_bytes (take l.f-index l.files)

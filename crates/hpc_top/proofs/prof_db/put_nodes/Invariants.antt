@@ -1,7 +1,0 @@
-use Rattle.std.proofs.Common.{◌≡◌, ◌++◌, take}
-use Rattle.std.specs.List.{flat_map}
-use Rattle.tree_types.specs.Spelling.{node_bytes}
-use Rattle.hpc_top.proofs.prof_db.put_nodes.Given as goal
-
-abbrev pub invariant-loop-n : goal.invariant-loop-n
-invariant-loop-n l = l.out.items ≡ l.fn.out.items ++ flat_map (node_bytes l.names) (take l.n-index l.nodes)

@@ -1,7 +1,0 @@
-use Rattle.std.proofs.Common.{◌≡◌, ◌++◌, take}
-use Rattle.std.specs.List.{flat_map}
-use Rattle.tree_types.specs.Spelling.{procedure_bytes}
-use Rattle.hpc_top.proofs.prof_db.put_procs.Given as goal
-
-abbrev pub invariant-loop-p : goal.invariant-loop-p
-invariant-loop-p l = l.out.items ≡ l.fn.out.items ++ flat_map procedure_bytes (take l.p-index l.procs)
