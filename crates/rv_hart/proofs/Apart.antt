@@ -6,8 +6,8 @@ use Rattle.std.proofs.lemmas.Bool.Decides.{leb_tells}
 use Rattle.std.proofs.Math.Bool.{and-false}
 use Rattle.std.proofs.lemmas.List.FromFn.{map-range_with_len_more}
 use Rattle.std.proofs.lemmas.List.Quantifiers.{all_pairs_push}
-use Rattle.elf_image.specs.declared.image.Segment.{Segment}
-use Rattle.elf_image.specs.Image.{Loaded, IsLoaded, IsWithin, holds, are_apart, stacks_begin}
+use Rattle.elf_image.specs.declared.part.Segment.{Segment}
+use Rattle.elf_image.specs.Image.{Loaded, IsLoaded, IsWithin, in_segment, are_apart, stacks_begin}
 use Rattle.rv_hart.specs.declared.kept.Kept.{Kept}
 use Rattle.rv_hart.specs.Memory.{Memory, region_at, regions_of, stack_of, first_byte, first_memory, each_address}
 use Rattle.rv_hart.specs.Pages.{Paged, nowhere, page_in}
@@ -33,7 +33,7 @@ find-all P p (x ∷ xs) r all found = by_case (p x) refl (find-all P p xs r (λ 
     by_case false e later = later (sym (ap (λ (t : Bool). cond t (Some x) (find p xs)) e) ∙ found)
 
 -- an address of one segment is in none that is apart from it
-apart-holds : (s t : Segment) (at : ℕ) → IsTrue (are_apart s t) → holds at t ≡ true → holds at s ≡ false
+apart-holds : (s t : Segment) (at : ℕ) → IsTrue (are_apart s t) → in_segment at t ≡ true → in_segment at s ≡ false
 apart-holds s t at apart held =
     let within : (nat_le t.start at ≡ true) × (nat_lt at t.end ≡ true) = and_parts _ _ held in
     let low : t.start ≤ at = leb-true t.start at within.0 in
@@ -42,7 +42,7 @@ apart-holds s t at apart held =
     (λ e. ap₂ (λ (a b : Bool). a && b) refl (le-ltb at s.end (omega (arith, leb-true s.end t.start e))) ∙ and-false (nat_le s.start at))
     (λ e. ap (λ (a : Bool). a && nat_lt at s.end) (lt-leb s.start at (omega (arith, leb-true t.end s.start e))))
   where
-    either : (a b : Bool) → (a || b) ≡ true → (a ≡ true → holds at s ≡ false) → (b ≡ true → holds at s ≡ false) → holds at s ≡ false
+    either : (a b : Bool) → (a || b) ≡ true → (a ≡ true → in_segment at s ≡ false) → (b ≡ true → in_segment at s ≡ false) → in_segment at s ≡ false
     either true b one left right = left refl
     either false b one left right = right one
 
@@ -55,21 +55,21 @@ find-none p (x ∷ xs) none =
 pub pairs-apart : (xs : List Segment) → AllPairs (λ s t. IsTrue (are_apart s t)) xs → AreApart xs
 pairs-apart [] pairs at r found = absurd cc
 pairs-apart (x ∷ xs) pairs at r found =
-    by_case (holds at x) refl (pairs-apart xs (λ i j d before few. pairs (suc i) (suc j) d (omega arith) (omega arith)) at r)
+    by_case (in_segment at x) refl (pairs-apart xs (λ i j d before few. pairs (suc i) (suc j) d (omega arith) (omega arith)) at r)
   where
-    by_case : (b : Bool) → holds at x ≡ b → (find (holds at) xs ≡ Some r → IsHome xs r) → IsHome (x ∷ xs) r
+    by_case : (b : Bool) → in_segment at x ≡ b → (find (in_segment at) xs ≡ Some r → IsHome xs r) → IsHome (x ∷ xs) r
     by_case true e tail =
-        let here : Some x ≡ Some r = sym (ap (λ (t : Bool). cond t (Some x) (find (holds at) xs)) e) ∙ found in
+        let here : Some x ≡ Some r = sym (ap (λ (t : Bool). cond t (Some x) (find (in_segment at) xs)) e) ∙ found in
         let same : x ≡ r = cc in
         λ b held.
-        let first : holds b x ≡ true = ap (holds b) same ∙ held in
-        ap (λ (t : Bool). cond t (Some x) (find (holds b) xs)) first ∙ here
+        let first : in_segment b x ≡ true = ap (in_segment b) same ∙ held in
+        ap (λ (t : Bool). cond t (Some x) (find (in_segment b) xs)) first ∙ here
     by_case false e tail =
-        let later : find (holds at) xs ≡ Some r = sym (ap (λ (t : Bool). cond t (Some x) (find (holds at) xs)) e) ∙ found in
+        let later : find (in_segment at) xs ≡ Some r = sym (ap (λ (t : Bool). cond t (Some x) (find (in_segment at) xs)) e) ∙ found in
         λ b held.
         let apart : IsTrue (are_apart x r) =
-        find-all (λ s. IsTrue (are_apart x s)) (holds at) xs r (λ k d few. pairs 0 (suc k) d (omega arith) (omega arith)) later in
-        ap (λ (t : Bool). cond t (Some x) (find (holds b) xs)) (apart-holds x r b apart held)
+        find-all (λ s. IsTrue (are_apart x s)) (in_segment at) xs r (λ k d few. pairs 0 (suc k) d (omega arith) (omega arith)) later in
+        ap (λ (t : Bool). cond t (Some x) (find (in_segment b) xs)) (apart-holds x r b apart held)
         ∙ tail later b held
 
 -- segments below the stacks, and so many stacks
@@ -117,22 +117,22 @@ stacked-all program (suc count) is =
 
 nowhere-home : (regions : List Segment) → IsHome regions nowhere
 nowhere-home regions at held =
-    let none : holds at nowhere ≡ false = ap₂ (λ (a b : Bool). a && b) refl (le-ltb at 0 (omega arith)) ∙ and-false (nat_le 0 at) in
+    let none : in_segment at nowhere ≡ false = ap₂ (λ (a b : Bool). a && b) refl (le-ltb at 0 (omega arith)) ∙ and-false (nat_le 0 at) in
     let clash : true ≡ false = sym held ∙ none in
     absurd cc
 
 -- what a program's memory begins as
-pub of-kept : (kept : Kept) (program : Loaded) (harts : ℕ) → IsLoaded program → harts ≤ 64 → kept.regions.items ≡ regions_of program harts → kept.blocks.items ≡ [] → IsKept kept × IsHome kept.regions.items nowhere
+pub of-kept : (kept : Kept) (program : Loaded) (harts : ℕ) → IsLoaded program → harts ≤ 64 → kept.regions ≡ regions_of program harts → kept.blocks.items ≡ [] → IsKept kept × IsHome kept.regions nowhere
 of-kept kept program harts is few regions blocks =
     let stacked : IsStacked harts (regions_of program harts) = stacked-all program harts is in
-    let high : (at : ℕ) → 2 ^ 32 ≤ at → (k : ℕ) (d : Segment) → k < length (regions_of program harts) → holds at (get_or (regions_of program harts) k d) ≡ false =
+    let high : (at : ℕ) → 2 ^ 32 ≤ at → (k : ℕ) (d : Segment) → k < length (regions_of program harts) → in_segment at (get_or (regions_of program harts) k d) ≡ false =
     λ at past k d within.
     let below : (get_or (regions_of program harts) k d).end ≤ stacks_begin + harts * 0x100000 = stacked.below k d within in
     ap₂ (λ (a b : Bool). a && b) refl (le-ltb at (get_or (regions_of program harts) k d).end (omega arith)) ∙ and-false (nat_le (get_or (regions_of program harts) k d).start at) in (
       record {
         apart = subst AreApart (sym regions) (pairs-apart (regions_of program harts) stacked.pairs);
-        homes = λ number. subst (λ (b : List (List Paged)). IsHome kept.regions.items (page_in b number).home) (sym blocks) (nowhere-home kept.regions.items);
-        low = λ at past. ap (find (holds at)) regions ∙ find-none (holds at) (regions_of program harts) (high at past);
+        homes = λ number. subst (λ (b : List (List Paged)). IsHome kept.regions (page_in b number).home) (sym blocks) (nowhere-home kept.regions);
+        low = λ at past. ap (find (in_segment at)) regions ∙ find-none (in_segment at) (regions_of program harts) (high at past);
       },
-      nowhere-home kept.regions.items,
+      nowhere-home kept.regions,
     )

@@ -3,8 +3,8 @@
 use Rattle.std.specs.Prelude.{◌≡◌, ℕ, zero, suc, ◌+◌, ◌-◌, ◌*◌, ◌/◌, ◌%◌, ◌^◌, ◌==◌, ◌&&◌, ◌||◌, Bool, true, false, List, [], ◌∷◌, ◌++◌, map, length, slice_index, Option, Some, None, if◌then◌else◌, nat_lt, nat_le, refl}
 use Rattle.std.specs.List.{find, range_with_len, list_all}
 use Rattle.prof_bytes.specs.Number.{number_in}
-use Rattle.elf_image.specs.declared.image.Segment.{Segment}
-use Rattle.elf_image.specs.Image.{Loaded, holds, stacks_begin}
+use Rattle.elf_image.specs.declared.part.Segment.{Segment}
+use Rattle.elf_image.specs.Image.{Loaded, in_segment, stacks_begin}
 
 -- how many addresses there are
 unfoldable pub addresses : ℕ
@@ -36,7 +36,7 @@ abbrev pub has : ℕ → Segment → Bool
 has right region = region.flags / right % 2 == 1
 
 abbrev pub region_at : List Segment → ℕ → Option Segment
-region_at regions at = find (holds at) regions
+region_at regions at = find (in_segment at) regions
 
 abbrev pub grants : ℕ → Option Segment → Bool
 grants right None = false

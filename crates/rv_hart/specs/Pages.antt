@@ -1,7 +1,7 @@
 -- Pages of memory and the blocks that they stand in.
 use Rattle.std.specs.Prelude.{ℕ, ◌+◌, ◌/◌, ◌%◌, ◌^◌, List, [], ◌++◌, length, take, drop}
 use Rattle.std.specs.List.{slice_index_or}
-use Rattle.elf_image.specs.declared.image.Segment.{Segment}
+use Rattle.elf_image.specs.declared.part.Segment.{Segment}
 
 -- a page: its bytes, none where it was not made, and the region for which it was made
 pub record Paged : Type 0 where

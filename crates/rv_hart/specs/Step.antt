@@ -2,7 +2,7 @@
 -- it meets (RISC-V unprivileged manual, "RV32I Base Integer Instruction Set").
 use Rattle.std.specs.Prelude.{◌≡◌, ℕ, ◌+◌, ◌-◌, ◌*◌, ◌/◌, ◌%◌, ◌^◌, ◌==◌, ◌&&◌, not, Bool, true, false, List, take, slice_index, slice_set, Option, Some, None, option_map, if◌then◌else◌, nat_le, nat_lt, int_lt}
 use Rattle.prof_bytes.specs.Number.{number_bytes}
-use Rattle.elf_image.specs.declared.image.Segment.{Segment}
+use Rattle.elf_image.specs.declared.part.Segment.{Segment}
 use Rattle.rv_table.specs.declared.inst.Op.{Op}
 use Rattle.rv_table.specs.declared.inst.Op.TheVariants as ops
 use Rattle.rv_table.specs.declared.inst.Inst.{Inst}

@@ -2,8 +2,8 @@
 -- written as the file has it.
 use Rattle.std.specs.Prelude.{◌≡◌, ℕ, ◌+◌, ◌-◌, ◌/◌, ◌%◌, ◌^◌, ◌≤◌, ◌&&◌, Bool, true, List, length, slice_index, Some, None, if◌then◌else◌, nat_le, nat_lt}
 use Rattle.std.specs.List.{slice_index_or}
-use Rattle.elf_image.specs.declared.image.Segment.{Segment}
-use Rattle.elf_image.specs.Image.{holds}
+use Rattle.elf_image.specs.declared.part.Segment.{Segment}
+use Rattle.elf_image.specs.Image.{in_segment}
 use Rattle.rv_hart.specs.declared.kept.Kept.{Kept}
 use Rattle.rv_hart.specs.declared.right.Right.{Right}
 use Rattle.rv_hart.specs.declared.right.Right.TheVariants.{Execute, Write, Read}
@@ -19,7 +19,7 @@ page_of kept at = page_numbered kept (at / 2 ^ 12)
 
 -- the byte at an address: what its page holds, and else what it began with
 abbrev pub value : Kept → ℕ → ℕ
-value kept at = slice_index_or (page_of kept at).bytes (at % 2 ^ 12) (first_byte kept.file.now kept.regions.items at)
+value kept at = slice_index_or (page_of kept at).bytes (at % 2 ^ 12) (first_byte kept.file.now kept.regions at)
 
 -- the same after these bytes were put in from another address on
 abbrev pub value_after : Kept → ℕ → List ℕ → ℕ → ℕ
@@ -27,11 +27,11 @@ value_after kept start bytes at =
     if nat_le start at && nat_lt at (start + length bytes) then slice_index bytes (at - start) else value kept at
 
 abbrev pub memory_of : Kept → Memory
-memory_of kept = record { regions = kept.regions.items; bytes = each_address (value kept) }
+memory_of kept = record { regions = kept.regions; bytes = each_address (value kept) }
 
 -- each address that this segment holds has it as its region
 abbrev pub IsHome : List Segment → Segment → Type 0
-IsHome regions home = (at : ℕ) → holds at home ≡ true → region_at regions at ≡ Some home
+IsHome regions home = (at : ℕ) → in_segment at home ≡ true → region_at regions at ≡ Some home
 
 -- an address that has a region shares it with all others that the region holds
 abbrev pub AreApart : List Segment → Type 0
@@ -39,9 +39,9 @@ AreApart regions = (at : ℕ) (region : Segment) → region_at regions at ≡ So
 
 -- what keeps a memory: regions that are apart, and pages that each know one region of theirs
 pub record IsKept (kept : Kept) : Type 0 where
-  pub apart : AreApart kept.regions.items
-  pub homes : (number : ℕ) → IsHome kept.regions.items (page_numbered kept number).home
-  pub low : (at : ℕ) → 2 ^ 32 ≤ at → region_at kept.regions.items at ≡ None
+  pub apart : AreApart kept.regions
+  pub homes : (number : ℕ) → IsHome kept.regions (page_numbered kept number).home
+  pub low : (at : ℕ) → 2 ^ 32 ≤ at → region_at kept.regions at ≡ None
 
 -- the segment holds so many addresses from this one on
 abbrev pub covers_all : Segment → ℕ → ℕ → Bool

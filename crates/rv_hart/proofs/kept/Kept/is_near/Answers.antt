@@ -1,5 +1,5 @@
 use Rattle.std.proofs.Common.{◌≡◌, Bool, true, List, refl, sym, ap, subst, ◌∙◌}
-use Rattle.elf_image.specs.declared.image.Segment.{Segment}
+use Rattle.elf_image.specs.declared.part.Segment.{Segment}
 use Rattle.rv_hart.specs.Memory.{write}
 use Rattle.rv_hart.specs.Stored.{page_of, IsHome, covers_all}
 use Rattle.rv_hart.proofs.Near.{all-granted}
@@ -8,6 +8,6 @@ use Rattle.rv_hart.proofs.kept.Kept.is_near.Goals as goal
 pub returns-clause-granted : goal.returns-clause-granted
 returns-clause-granted c given =
     let covered : true ≡ covers_all c.page_home-home.result c.args.at c.args.count = c.if-not-covers.ensures in
-    let own : IsHome c.args.self.now.regions.items c.page_home-home.result =
-    subst (λ (home : Segment). IsHome c.args.self.now.regions.items home) (sym c.page_home-home.ensures) (c.requires.kept.homes _) in
-    all-granted c.args.self.now.regions.items c.page_home-home.result write c.args.at c.args.count own (sym covered) (sym c.grants.ensures ∙ given)
+    let own : IsHome c.args.self.now.regions c.page_home-home.result =
+    subst (λ (home : Segment). IsHome c.args.self.now.regions home) (sym c.page_home-home.ensures) (c.requires.kept.homes _) in
+    all-granted c.args.self.now.regions c.page_home-home.result write c.args.at c.args.count own (sym covered) (sym c.grants.ensures ∙ given)
