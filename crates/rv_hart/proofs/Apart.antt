@@ -122,7 +122,7 @@ nowhere-home regions at held =
     absurd cc
 
 -- what a program's memory begins as
-pub of-kept : (kept : Kept) (program : Loaded) (harts : ℕ) → IsLoaded program → harts ≤ 64 → kept.regions.items ≡ regions_of program harts → kept.blocks.items ≡ [] → IsKept kept × IsHome kept.regions.items nowhere
+pub of-kept : (kept : Kept) (program : Loaded) (harts : ℕ) → IsLoaded program → harts ≤ 64 → kept.regions ≡ regions_of program harts → kept.blocks.items ≡ [] → IsKept kept × IsHome kept.regions nowhere
 of-kept kept program harts is few regions blocks =
     let stacked : IsStacked harts (regions_of program harts) = stacked-all program harts is in
     let high : (at : ℕ) → 2 ^ 32 ≤ at → (k : ℕ) (d : Segment) → k < length (regions_of program harts) → in_segment at (get_or (regions_of program harts) k d) ≡ false =
@@ -131,8 +131,8 @@ of-kept kept program harts is few regions blocks =
     ap₂ (λ (a b : Bool). a && b) refl (le-ltb at (get_or (regions_of program harts) k d).end (omega arith)) ∙ and-false (nat_le (get_or (regions_of program harts) k d).start at) in (
       record {
         apart = subst AreApart (sym regions) (pairs-apart (regions_of program harts) stacked.pairs);
-        homes = λ number. subst (λ (b : List (List Paged)). IsHome kept.regions.items (page_in b number).home) (sym blocks) (nowhere-home kept.regions.items);
+        homes = λ number. subst (λ (b : List (List Paged)). IsHome kept.regions (page_in b number).home) (sym blocks) (nowhere-home kept.regions);
         low = λ at past. ap (find (in_segment at)) regions ∙ find-none (in_segment at) (regions_of program harts) (high at past);
       },
-      nowhere-home kept.regions.items,
+      nowhere-home kept.regions,
     )

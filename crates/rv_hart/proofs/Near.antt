@@ -2,7 +2,7 @@
 use Rattle.std.proofs.Common.{◌≡◌, ℕ, zero, suc, ◌+◌, ◌-◌, ◌*◌, ◌/◌, ◌%◌, ◌^◌, ◌<◌, ◌≤◌, ◌&&◌, ◌⊎◌, inl, inr, Bool, true, false, cond, List, [], ◌∷◌, map, length, take, drop, slice_index, get_or, slice_get, Option, Some, None, IfSome, Bor, unwrap_or, nat_le, nat_lt, refl, sym, ap, ap₂, subst, ◌∙◌, arith}
 use Rattle.std.specs.List.{range_with_len, list_all}
 use Rattle.std.proofs.lemmas.List.{ext_get_or, get_or-drop, get_or-take, length-drop, length-take}
-use Rattle.std.proofs.lemmas.Bool.{and_parts}
+use Rattle.std.proofs.lemmas.Bool.{and_parts, leb-true, ltb-true}
 use Rattle.std.proofs.lemmas.Bool.Decides.{nat_tests}
 use Rattle.std.proofs.lemmas.Option.{unwrap_or-slice_get}
 use Rattle.std.proofs.lemmas.List.FromFn.{get_or-map-range_with_len, length-map-range_with_len}
@@ -62,20 +62,20 @@ pub near-page : (kept : Kept) (at count : ℕ) (bytes : List ℕ) → bytes ≡ 
 near-page kept at count bytes are inside within =
     spelled (take count (drop (at % 2 ^ 12) bytes)) (value kept) at count (part-length bytes (at % 2 ^ 12) count within)
     (λ i few.
-    let first : ℕ = first_byte kept.file.now kept.regions.items (at + i) in
+    let first : ℕ = first_byte kept.file.now kept.regions (at + i) in
     let here : (page_of kept (at + i)).bytes ≡ bytes = ap (λ (p : Paged). p.bytes) (page-same kept at i (omega arith)) ∙ sym are in
     part-get bytes (at % 2 ^ 12) count i few
     ∙ get_or-any bytes (at % 2 ^ 12 + i) 0 first (omega arith)
     ∙ sym (ap₂ (λ (b : List ℕ) (p : ℕ). get_or b p first) here (place-same at i (omega arith))))
 
 -- where a page was not made, the bytes are those that the region began with
-pub value-first : (kept : Kept) (home : Segment) (at count i : ℕ) → [] ≡ (page_of kept at).bytes → at % 2 ^ 12 + count ≤ 2 ^ 12 → IsHome kept.regions.items home → covers_all home at count ≡ true → i < count → value kept (at + i) ≡ byte_in kept.file.now (at + i) (Some home)
+pub value-first : (kept : Kept) (home : Segment) (at count i : ℕ) → [] ≡ (page_of kept at).bytes → at % 2 ^ 12 + count ≤ 2 ^ 12 → IsHome kept.regions home → covers_all home at count ≡ true → i < count → value kept (at + i) ≡ byte_in kept.file.now (at + i) (Some home)
 value-first kept home at count i none inside own covered few =
     let here : (page_of kept (at + i)).bytes ≡ [] = ap (λ (p : Paged). p.bytes) (page-same kept at i (omega arith)) ∙ sym none in
-    ap (λ (b : List ℕ). get_or b ((at + i) % 2 ^ 12) (first_byte kept.file.now kept.regions.items (at + i))) here
-    ∙ ap (byte_in kept.file.now (at + i)) (covers-region kept.regions.items home at count i own covered few)
+    ap (λ (b : List ℕ). get_or b ((at + i) % 2 ^ 12) (first_byte kept.file.now kept.regions (at + i))) here
+    ∙ ap (byte_in kept.file.now (at + i)) (covers-region kept.regions home at count i own covered few)
 
-pub near-first : (kept : Kept) (home : Segment) (at count : ℕ) (bytes : List ℕ) → [] ≡ (page_of kept at).bytes → at % 2 ^ 12 + count ≤ 2 ^ 12 → IsHome kept.regions.items home → covers_all home at count ≡ true → length bytes ≡ count → ((i : ℕ) → i < count → get_or bytes i 0 ≡ byte_in kept.file.now (at + i) (Some home)) → bytes ≡ map (value kept) (range_with_len at count)
+pub near-first : (kept : Kept) (home : Segment) (at count : ℕ) (bytes : List ℕ) → [] ≡ (page_of kept at).bytes → at % 2 ^ 12 + count ≤ 2 ^ 12 → IsHome kept.regions home → covers_all home at count ≡ true → length bytes ≡ count → ((i : ℕ) → i < count → get_or bytes i 0 ≡ byte_in kept.file.now (at + i) (Some home)) → bytes ≡ map (value kept) (range_with_len at count)
 near-first kept home at count bytes none inside own covered long each =
     spelled bytes (value kept) at count long (λ i few. each i few ∙ sym (value-first kept home at count i none inside own covered few))
 
@@ -118,7 +118,7 @@ granted-low regions right at low granted =
     cc)
 
 -- what the file's part gives, as what is kept gives it
-pub near-none : (kept : Kept) (home : Segment) (at count : ℕ) → [] ≡ (page_of kept at).bytes → at % 2 ^ 12 + count ≤ 2 ^ 12 → IsHome kept.regions.items home → covers_all home at count ≡ true → (found : Option (Bor (List ℕ))) → IfSome found (λ bytes. length bytes.now ≡ count) → IfSome found (λ bytes. (i : ℕ) → i < count → slice_index bytes.now i ≡ byte_in kept.file.now (at + i) (Some home)) → IfSome found (λ bytes. bytes.now ≡ map (value kept) (range_with_len at count))
+pub near-none : (kept : Kept) (home : Segment) (at count : ℕ) → [] ≡ (page_of kept at).bytes → at % 2 ^ 12 + count ≤ 2 ^ 12 → IsHome kept.regions home → covers_all home at count ≡ true → (found : Option (Bor (List ℕ))) → IfSome found (λ bytes. length bytes.now ≡ count) → IfSome found (λ bytes. (i : ℕ) → i < count → slice_index bytes.now i ≡ byte_in kept.file.now (at + i) (Some home)) → IfSome found (λ bytes. bytes.now ≡ map (value kept) (range_with_len at count))
 near-none kept home at count none inside own covered None long each = tt
 near-none kept home at count none inside own covered (Some bytes) long each =
     near-first kept home at count bytes.now none inside own covered long each
@@ -133,3 +133,21 @@ covers-low regions home at (suc count) low own covered small =
     let clash : Some home ≡ None = sym (covers-region regions home at (suc count) count own covered (omega arith)) ∙ low (at + count) above in
     cc) in
     omega arith
+
+-- a region that was found holds the address
+found-holds : (at : ℕ) (regions : List Segment) (region : Segment) → region_at regions at ≡ Some region → in_segment at region ≡ true
+found-holds at [] region found = absurd cc
+found-holds at (x ∷ xs) region found = by_case (in_segment at x) refl (found-holds at xs region)
+  where
+    by_case : (b : Bool) → in_segment at x ≡ b → (region_at xs at ≡ Some region → in_segment at region ≡ true) → in_segment at region ≡ true
+    by_case true e later =
+        let here : Some x ≡ Some region = sym (ap (λ (t : Bool). cond t (Some x) (region_at xs at)) e) ∙ found in
+        let same : x ≡ region = cc in
+        ap (in_segment at) (sym same) ∙ e
+    by_case false e later = later (sym (ap (λ (t : Bool). cond t (Some x) (region_at xs at)) e) ∙ found)
+
+pub found-within : (at : ℕ) (regions : List Segment) (found : Option Segment) → found ≡ region_at regions at → IfSome found (λ r. (r.start ≤ at) × (at < r.end))
+found-within at regions None is = tt
+found-within at regions (Some r) is =
+    let tests : (nat_le r.start at ≡ true) × (nat_lt at r.end ≡ true) = and_parts _ _ (found-holds at regions r (sym is)) in
+    (leb-true r.start at tests.0, ltb-true at r.end tests.1)

@@ -61,40 +61,40 @@ pub after-behind : (kept : Kept) (at a : ℕ) (source : List ℕ) → at + lengt
 after-behind kept at a source behind = ap (λ (t : Bool). cond t (get_or source (a - at) 0) (value kept a)) (test-behind at a (length source) behind)
 
 -- what a kept memory gives after bytes were put into one page
-pub put-value : (old new : Kept) (at : ℕ) (source : List ℕ) → ((a : ℕ) → first_byte new.file.now new.regions.items a ≡ first_byte old.file.now old.regions.items a) → ((n : ℕ) → page_numbered new n ≡ cond (n == at / 2 ^ 12) (with_bytes (page_of old at) (at % 2 ^ 12) source) (page_numbered old n)) → at % 2 ^ 12 + length source ≤ length (page_of old at).bytes → at % 2 ^ 12 + length source ≤ 2 ^ 12 → (a : ℕ) → value new a ≡ value_after old at source a
+pub put-value : (old new : Kept) (at : ℕ) (source : List ℕ) → ((a : ℕ) → first_byte new.file.now new.regions a ≡ first_byte old.file.now old.regions a) → ((n : ℕ) → page_numbered new n ≡ cond (n == at / 2 ^ 12) (with_bytes (page_of old at) (at % 2 ^ 12) source) (page_numbered old n)) → at % 2 ^ 12 + length source ≤ length (page_of old at).bytes → at % 2 ^ 12 + length source ≤ 2 ^ 12 → (a : ℕ) → value new a ≡ value_after old at source a
 put-value old new at source firsts pages within page a = by_page (a / 2 ^ 12 == at / 2 ^ 12) refl
   where
-    given : value new a ≡ get_or (page_of new a).bytes (a % 2 ^ 12) (first_byte old.file.now old.regions.items a)
+    given : value new a ≡ get_or (page_of new a).bytes (a % 2 ^ 12) (first_byte old.file.now old.regions a)
     given = ap (get_or (page_of new a).bytes (a % 2 ^ 12)) (firsts a)
 
     here : (b : Bool) → (a / 2 ^ 12 == at / 2 ^ 12) ≡ b → page_of new a ≡ cond b (with_bytes (page_of old at) (at % 2 ^ 12) source) (page_of old a)
     here b e = pages (a / 2 ^ 12) ∙ ap (λ (t : Bool). cond t (with_bytes (page_of old at) (at % 2 ^ 12) source) (page_of old a)) e
 
-    same_old : a / 2 ^ 12 ≡ at / 2 ^ 12 → get_or (page_of old at).bytes (a % 2 ^ 12) (first_byte old.file.now old.regions.items a) ≡ value old a
-    same_old same = ap (λ (n : ℕ). get_or (page_numbered old n).bytes (a % 2 ^ 12) (first_byte old.file.now old.regions.items a)) (sym same)
+    same_old : a / 2 ^ 12 ≡ at / 2 ^ 12 → get_or (page_of old at).bytes (a % 2 ^ 12) (first_byte old.file.now old.regions a) ≡ value old a
+    same_old same = ap (λ (n : ℕ). get_or (page_numbered old n).bytes (a % 2 ^ 12) (first_byte old.file.now old.regions a)) (sym same)
 
-    inside : a / 2 ^ 12 ≡ at / 2 ^ 12 → at ≤ a → a < at + length source → get_or (spliced (page_of old at).bytes (at % 2 ^ 12) source) (a % 2 ^ 12) (first_byte old.file.now old.regions.items a) ≡ value_after old at source a
+    inside : a / 2 ^ 12 ≡ at / 2 ^ 12 → at ≤ a → a < at + length source → get_or (spliced (page_of old at).bytes (at % 2 ^ 12) source) (a % 2 ^ 12) (first_byte old.file.now old.regions a) ≡ value_after old at source a
     inside same low high =
-        ap (λ (k : ℕ). get_or (spliced (page_of old at).bytes (at % 2 ^ 12) source) k (first_byte old.file.now old.regions.items a)) (let e : a % 2 ^ 12 ≡ (at % 2 ^ 12) + (a - at) = omega arith in e)
-        ∙ spliced-in (page_of old at).bytes (at % 2 ^ 12) source (a - at) (first_byte old.file.now old.regions.items a) within (omega arith)
-        ∙ get_or-any source (a - at) (first_byte old.file.now old.regions.items a) 0 (omega arith)
+        ap (λ (k : ℕ). get_or (spliced (page_of old at).bytes (at % 2 ^ 12) source) k (first_byte old.file.now old.regions a)) (let e : a % 2 ^ 12 ≡ (at % 2 ^ 12) + (a - at) = omega arith in e)
+        ∙ spliced-in (page_of old at).bytes (at % 2 ^ 12) source (a - at) (first_byte old.file.now old.regions a) within (omega arith)
+        ∙ get_or-any source (a - at) (first_byte old.file.now old.regions a) 0 (omega arith)
         ∙ sym (after-in old at a source low high)
 
-    behind : a / 2 ^ 12 ≡ at / 2 ^ 12 → at + length source ≤ a → get_or (spliced (page_of old at).bytes (at % 2 ^ 12) source) (a % 2 ^ 12) (first_byte old.file.now old.regions.items a) ≡ value_after old at source a
+    behind : a / 2 ^ 12 ≡ at / 2 ^ 12 → at + length source ≤ a → get_or (spliced (page_of old at).bytes (at % 2 ^ 12) source) (a % 2 ^ 12) (first_byte old.file.now old.regions a) ≡ value_after old at source a
     behind same high =
-        ap (λ (k : ℕ). get_or (spliced (page_of old at).bytes (at % 2 ^ 12) source) k (first_byte old.file.now old.regions.items a)) (let e : a % 2 ^ 12 ≡ (at % 2 ^ 12) + length source + (a % 2 ^ 12 - ((at % 2 ^ 12) + length source)) = omega arith in e)
-        ∙ spliced-behind (page_of old at).bytes (at % 2 ^ 12) source (a % 2 ^ 12 - ((at % 2 ^ 12) + length source)) (first_byte old.file.now old.regions.items a) within
-        ∙ ap (λ (k : ℕ). get_or (page_of old at).bytes k (first_byte old.file.now old.regions.items a)) (let e : (at % 2 ^ 12) + length source + (a % 2 ^ 12 - ((at % 2 ^ 12) + length source)) ≡ a % 2 ^ 12 = omega arith in e)
+        ap (λ (k : ℕ). get_or (spliced (page_of old at).bytes (at % 2 ^ 12) source) k (first_byte old.file.now old.regions a)) (let e : a % 2 ^ 12 ≡ (at % 2 ^ 12) + length source + (a % 2 ^ 12 - ((at % 2 ^ 12) + length source)) = omega arith in e)
+        ∙ spliced-behind (page_of old at).bytes (at % 2 ^ 12) source (a % 2 ^ 12 - ((at % 2 ^ 12) + length source)) (first_byte old.file.now old.regions a) within
+        ∙ ap (λ (k : ℕ). get_or (page_of old at).bytes k (first_byte old.file.now old.regions a)) (let e : (at % 2 ^ 12) + length source + (a % 2 ^ 12 - ((at % 2 ^ 12) + length source)) ≡ a % 2 ^ 12 = omega arith in e)
         ∙ same_old same
         ∙ sym (after-behind old at a source high)
 
-    before : a / 2 ^ 12 ≡ at / 2 ^ 12 → a < at → get_or (spliced (page_of old at).bytes (at % 2 ^ 12) source) (a % 2 ^ 12) (first_byte old.file.now old.regions.items a) ≡ value_after old at source a
+    before : a / 2 ^ 12 ≡ at / 2 ^ 12 → a < at → get_or (spliced (page_of old at).bytes (at % 2 ^ 12) source) (a % 2 ^ 12) (first_byte old.file.now old.regions a) ≡ value_after old at source a
     before same low =
-        spliced-before (page_of old at).bytes (at % 2 ^ 12) source (a % 2 ^ 12) (first_byte old.file.now old.regions.items a) within (omega arith)
+        spliced-before (page_of old at).bytes (at % 2 ^ 12) source (a % 2 ^ 12) (first_byte old.file.now old.regions a) within (omega arith)
         ∙ same_old same
         ∙ sym (after-before old at a source low)
 
-    in_page : a / 2 ^ 12 ≡ at / 2 ^ 12 → get_or (spliced (page_of old at).bytes (at % 2 ^ 12) source) (a % 2 ^ 12) (first_byte old.file.now old.regions.items a) ≡ value_after old at source a
+    in_page : a / 2 ^ 12 ≡ at / 2 ^ 12 → get_or (spliced (page_of old at).bytes (at % 2 ^ 12) source) (a % 2 ^ 12) (first_byte old.file.now old.regions a) ≡ value_after old at source a
     in_page same =
         elim (leb_tells at a) [
           | inl low ↦ (elim (leb_tells (suc a) (at + length source)) [
@@ -113,23 +113,23 @@ put-value old new at source firsts pages within page a = by_page (a / 2 ^ 12 == 
         ]
 
     by_page : (b : Bool) → (a / 2 ^ 12 == at / 2 ^ 12) ≡ b → value new a ≡ value_after old at source a
-    by_page true e = given ∙ ap (λ (p : Paged). get_or p.bytes (a % 2 ^ 12) (first_byte old.file.now old.regions.items a)) (here true e) ∙ in_page (eqb-true (a / 2 ^ 12) (at / 2 ^ 12) e)
-    by_page false e = given ∙ ap (λ (p : Paged). get_or p.bytes (a % 2 ^ 12) (first_byte old.file.now old.regions.items a)) (here false e) ∙ elsewhere e
+    by_page true e = given ∙ ap (λ (p : Paged). get_or p.bytes (a % 2 ^ 12) (first_byte old.file.now old.regions a)) (here true e) ∙ in_page (eqb-true (a / 2 ^ 12) (at / 2 ^ 12) e)
+    by_page false e = given ∙ ap (λ (p : Paged). get_or p.bytes (a % 2 ^ 12) (first_byte old.file.now old.regions a)) (here false e) ∙ elsewhere e
 
 -- what a kept memory gives after a page was made that holds what its addresses had
-pub make-value : (old new : Kept) (number : ℕ) (page : Paged) → ((a : ℕ) → first_byte new.file.now new.regions.items a ≡ first_byte old.file.now old.regions.items a) → ((n : ℕ) → page_numbered new n ≡ cond (n == number) page (page_numbered old n)) → length page.bytes ≡ 2 ^ 12 → ((i : ℕ) → i < 2 ^ 12 → get_or page.bytes i 0 ≡ value old (number * 2 ^ 12 + i)) → (a : ℕ) → value new a ≡ value old a
+pub make-value : (old new : Kept) (number : ℕ) (page : Paged) → ((a : ℕ) → first_byte new.file.now new.regions a ≡ first_byte old.file.now old.regions a) → ((n : ℕ) → page_numbered new n ≡ cond (n == number) page (page_numbered old n)) → length page.bytes ≡ 2 ^ 12 → ((i : ℕ) → i < 2 ^ 12 → get_or page.bytes i 0 ≡ value old (number * 2 ^ 12 + i)) → (a : ℕ) → value new a ≡ value old a
 make-value old new number page firsts pages long each a = by_page (a / 2 ^ 12 == number) refl
   where
-    here : (b : Bool) → (a / 2 ^ 12 == number) ≡ b → value new a ≡ get_or (cond b page (page_of old a)).bytes (a % 2 ^ 12) (first_byte old.file.now old.regions.items a)
+    here : (b : Bool) → (a / 2 ^ 12 == number) ≡ b → value new a ≡ get_or (cond b page (page_of old a)).bytes (a % 2 ^ 12) (first_byte old.file.now old.regions a)
     here b e =
         ap (get_or (page_of new a).bytes (a % 2 ^ 12)) (firsts a)
-        ∙ ap (λ (p : Paged). get_or p.bytes (a % 2 ^ 12) (first_byte old.file.now old.regions.items a)) (pages (a / 2 ^ 12) ∙ ap (λ (t : Bool). cond t page (page_of old a)) e)
+        ∙ ap (λ (p : Paged). get_or p.bytes (a % 2 ^ 12) (first_byte old.file.now old.regions a)) (pages (a / 2 ^ 12) ∙ ap (λ (t : Bool). cond t page (page_of old a)) e)
 
     by_page : (b : Bool) → (a / 2 ^ 12 == number) ≡ b → value new a ≡ value old a
     by_page true e =
         let same : a / 2 ^ 12 ≡ number = eqb-true (a / 2 ^ 12) number e in
         here true e
-        ∙ get_or-any page.bytes (a % 2 ^ 12) (first_byte old.file.now old.regions.items a) 0 (omega arith)
+        ∙ get_or-any page.bytes (a % 2 ^ 12) (first_byte old.file.now old.regions a) 0 (omega arith)
         ∙ each (a % 2 ^ 12) (omega arith)
         ∙ ap (value old) (let e : number * 2 ^ 12 + a % 2 ^ 12 ≡ a = omega arith in e)
     by_page false e = here false e

@@ -25,9 +25,9 @@ bytes-kept kept at count low =
     (λ i few. get_or-map-range_with_len (byte_at (memory_of kept)) at count i (at + i) 0 few refl ∙ byte-kept kept (at + i) (low i few))
 
 -- bytes that may be used end at 2^32 or below
-pub granted-end : (kept : Kept) (right at count : ℕ) → IsKept kept → list_all (may right kept.regions.items) (range_with_len at count) ≡ true → (i : ℕ) → i < count → at + i < 2 ^ 32
+pub granted-end : (kept : Kept) (right at count : ℕ) → IsKept kept → list_all (may right kept.regions) (range_with_len at count) ≡ true → (i : ℕ) → i < count → at + i < 2 ^ 32
 granted-end kept right at count is all i few =
-    granted-low kept.regions.items right (at + i) is.low (all-each (may right kept.regions.items) at count i all few)
+    granted-low kept.regions right (at + i) is.low (all-each (may right kept.regions) at count i all few)
 
 -- a load that may be made
 pub loaded-kept : (kept : Kept) (at count : ℕ) → IsKept kept → may_all read (memory_of kept) at count ≡ true → loaded (memory_of kept) at count ≡ Some (number_in count (map (value kept) (range_with_len at count)))
@@ -39,13 +39,13 @@ pub loaded-not : (kept : Kept) (at count : ℕ) → may_all read (memory_of kept
 loaded-not kept at count all = ap (λ (t : Bool). cond t (Some (number_at (memory_of kept) at count)) None) all
 
 -- memory after bytes were written
-pub written-kept : (old new : Kept) (at : ℕ) (bytes : List ℕ) → old.regions.items ≡ new.regions.items → ((a : ℕ) → value new a ≡ value_after old at bytes a) → memory_of new ≡ written (memory_of old) at bytes
+pub written-kept : (old new : Kept) (at : ℕ) (bytes : List ℕ) → old.regions ≡ new.regions → ((a : ℕ) → value new a ≡ value_after old at bytes a) → memory_of new ≡ written (memory_of old) at bytes
 written-kept old new at bytes same values =
     ap₂ (λ (r : List Segment) (b : List ℕ). let m : Memory = record { regions = r; bytes = b } in m) (sym same)
     (each-same (value new) (byte_after (memory_of old) at bytes)
     (λ a low. values a ∙ ap (cond (nat_le at a && nat_lt a (at + length bytes)) (slice_index bytes (a - at))) (sym (byte-kept old a low))))
 
-pub stored-kept : (old new : Kept) (at : ℕ) (bytes : List ℕ) → old.regions.items ≡ new.regions.items → may_all write (memory_of old) at (length bytes) ≡ true → ((a : ℕ) → value new a ≡ value_after old at bytes a) → (true, memory_of new) ≡ stored (memory_of old) at bytes
+pub stored-kept : (old new : Kept) (at : ℕ) (bytes : List ℕ) → old.regions ≡ new.regions → may_all write (memory_of old) at (length bytes) ≡ true → ((a : ℕ) → value new a ≡ value_after old at bytes a) → (true, memory_of new) ≡ stored (memory_of old) at bytes
 stored-kept old new at bytes same all values =
     let after : Bool × Memory = (true, written (memory_of old) at bytes) in
     ap (λ (m : Memory). let q : Bool × Memory = (true, m) in q) (written-kept old new at bytes same values)
@@ -56,12 +56,12 @@ stored-not old at bytes all =
     let after : Bool × Memory = (true, written (memory_of old) at bytes) in
     sym (ap (λ (t : Bool). cond t after (false, memory_of old)) all)
 
-pub same-kept : (old new : Kept) → old.regions.items ≡ new.regions.items → ((a : ℕ) → value new a ≡ value old a) → memory_of new ≡ memory_of old
+pub same-kept : (old new : Kept) → old.regions ≡ new.regions → ((a : ℕ) → value new a ≡ value old a) → memory_of new ≡ memory_of old
 same-kept old new same values =
     ap₂ (λ (r : List Segment) (b : List ℕ). let m : Memory = record { regions = r; bytes = b } in m) (sym same)
     (each-same (value new) (value old) (λ a low. values a))
 
-pub granted-whole : (kept : Kept) (right at count : ℕ) → IsKept kept → list_all (may right kept.regions.items) (range_with_len at count) ≡ true → at < 2 ^ 32 → at + count ≤ 2 ^ 32
+pub granted-whole : (kept : Kept) (right at count : ℕ) → IsKept kept → list_all (may right kept.regions) (range_with_len at count) ≡ true → at < 2 ^ 32 → at + count ≤ 2 ^ 32
 granted-whole kept right at zero is all small = omega arith
 granted-whole kept right at (suc count) is all small =
     let last : at + count < 2 ^ 32 = granted-end kept right at (suc count) is all count (omega arith) in
@@ -72,17 +72,17 @@ pub after-same : (old mid : Kept) (at : ℕ) (bytes : List ℕ) → ((a : ℕ) �
 after-same old mid at bytes values a = ap (cond (nat_le at a && nat_lt a (at + length bytes)) (slice_index bytes (a - at))) (values a)
 
 -- what a change of the blocks leaves
-pub regions-same : (old new : Kept) → new ≡ record old { blocks = new.blocks } → old.regions.items ≡ new.regions.items
-regions-same old new rest = sym (ap (λ (k : Kept). k.regions.items) rest)
+pub regions-same : (old new : Kept) → new ≡ record old { blocks = new.blocks } → old.regions ≡ new.regions
+regions-same old new rest = sym (ap (λ (k : Kept). k.regions) rest)
 
 fetch-low : (pc i : ℕ) → pc + 4 ≤ 2 ^ 32 → i < 4 → pc + i < 2 ^ 32
 fetch-low pc i end few = omega arith
 
 -- a fetch that may be made
-pub fetched-kept : (kept : Kept) (home : Segment) (pc : ℕ) → IsKept kept → IsHome kept.regions.items home → region_at kept.regions.items pc ≡ Some home → pc % 4 ≡ 0 → pc < 2 ^ 32 → has execute home ≡ true → covers_all home pc 4 ≡ true → fetched_at (memory_of kept) pc ≡ Some (number_in 4 (map (value kept) (range_with_len pc 4)))
+pub fetched-kept : (kept : Kept) (home : Segment) (pc : ℕ) → IsKept kept → IsHome kept.regions home → region_at kept.regions pc ≡ Some home → pc % 4 ≡ 0 → pc < 2 ^ 32 → has execute home ≡ true → covers_all home pc 4 ≡ true → fetched_at (memory_of kept) pc ≡ Some (number_in 4 (map (value kept) (range_with_len pc 4)))
 fetched-kept kept home pc is own found aligned small granted covered =
-    let end : pc + 4 ≤ 2 ^ 32 = covers-low kept.regions.items home pc 4 is.low own covered small in
-    let fetched : is_fetched_from pc (region_at kept.regions.items pc) ≡ true =
+    let end : pc + 4 ≤ 2 ^ 32 = covers-low kept.regions home pc 4 is.low own covered small in
+    let fetched : is_fetched_from pc (region_at kept.regions pc) ≡ true =
     ap (is_fetched_from pc) found ∙ ap₂ (λ (a b : Bool). a && b) granted (and_parts _ _ covered).1 in
     ap (λ (t : Bool). cond t (Some (number_at (memory_of kept) pc 4)) None) (ap₂ (λ (a b : Bool). a && b) (eq-eqb (pc % 4) 0 aligned) fetched)
     ∙ ap (λ (b : List ℕ). Some (number_in 4 b)) (bytes-kept kept pc 4 (λ i few. fetch-low pc i end few))

@@ -19,7 +19,7 @@ page_of kept at = page_numbered kept (at / 2 ^ 12)
 
 -- the byte at an address: what its page holds, and else what it began with
 abbrev pub value : Kept → ℕ → ℕ
-value kept at = slice_index_or (page_of kept at).bytes (at % 2 ^ 12) (first_byte kept.file.now kept.regions.items at)
+value kept at = slice_index_or (page_of kept at).bytes (at % 2 ^ 12) (first_byte kept.file.now kept.regions at)
 
 -- the same after these bytes were put in from another address on
 abbrev pub value_after : Kept → ℕ → List ℕ → ℕ → ℕ
@@ -27,7 +27,7 @@ value_after kept start bytes at =
     if nat_le start at && nat_lt at (start + length bytes) then slice_index bytes (at - start) else value kept at
 
 abbrev pub memory_of : Kept → Memory
-memory_of kept = record { regions = kept.regions.items; bytes = each_address (value kept) }
+memory_of kept = record { regions = kept.regions; bytes = each_address (value kept) }
 
 -- each address that this segment holds has it as its region
 abbrev pub IsHome : List Segment → Segment → Type 0
@@ -39,9 +39,9 @@ AreApart regions = (at : ℕ) (region : Segment) → region_at regions at ≡ So
 
 -- what keeps a memory: regions that are apart, and pages that each know one region of theirs
 pub record IsKept (kept : Kept) : Type 0 where
-  pub apart : AreApart kept.regions.items
-  pub homes : (number : ℕ) → IsHome kept.regions.items (page_numbered kept number).home
-  pub low : (at : ℕ) → 2 ^ 32 ≤ at → region_at kept.regions.items at ≡ None
+  pub apart : AreApart kept.regions
+  pub homes : (number : ℕ) → IsHome kept.regions (page_numbered kept number).home
+  pub low : (at : ℕ) → 2 ^ 32 ≤ at → region_at kept.regions at ≡ None
 
 -- the segment holds so many addresses from this one on
 abbrev pub covers_all : Segment → ℕ → ℕ → Bool

@@ -77,8 +77,8 @@ fn store_apart(kept: &mut Kept, alloc: Global, at: u32, bytes: &[u8]) -> Result<
 #[inline(always)]
 pub(crate) fn fetch(kept: &Kept, home: &Segment, pc: u32) -> Option<u32>
     requires kept { IsKept kept.now }
-    requires home { IsHome kept.now.regions.items home.now }
-    requires found { region_at kept.now.regions.items pc ≡ Some home.now }
+    requires home { IsHome kept.now.regions home.now }
+    requires found { region_at kept.now.regions pc ≡ Some home.now }
     requires start { home.now.start ≤ pc }
     requires aligned { pc % 4 ≡ 0 }
     ensures { result ≡ fetched_at (memory_of kept.now) pc }

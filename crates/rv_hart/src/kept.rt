@@ -6,6 +6,7 @@ ghost use Rattle.rv_hart.specs.Stored.{page_of, value};
 ghost use Rattle.rv_hart.specs.Pages.{blank};
 
 use crate::page::{Block, Page};
+use crate::regions::Regions;
 use crate::right::NOWHERE;
 use elf_image::Segment;
 
@@ -13,27 +14,16 @@ use elf_image::Segment;
 #[derive(Drop)]
 pub(crate) struct Kept<'a> {
     pub(crate) file: &'a [u8],
-    pub(crate) regions: Vec<Segment>,
+    pub(crate) regions: Regions,
     pub(crate) blocks: Vec<Block>,
-}
-
-/// The region that holds the address.
-fn region_in(regions: &[Segment], at: u32) -> Option<Segment>
-    ensures found { result ≡ region_at regions.now at }
-    ensures within { IfSome result (λ region. (region.start ≤ at) × (at < region.end)) }
-{
-    regions
-        .iter()
-        .copied()
-        .find(|region| region.start <= at && at < region.end)
 }
 
 impl<'a> Kept<'a> {
     pub(crate) fn region(&self, at: u32) -> Option<Segment>
-        ensures found { result ≡ region_at self.now.regions.items at }
+        ensures found { result ≡ region_at self.now.regions at }
         ensures within { IfSome result (λ region. (region.start ≤ at) × (at < region.end)) }
     {
-        region_in(self.regions.as_slice(), at)
+        self.regions.at(at)
     }
 
     /// The address's page, if there is a place for it.
@@ -72,7 +62,7 @@ impl<'a> Kept<'a> {
 
     /// The byte that the address began with.
     pub(crate) fn first(&self, at: u32) -> u8
-        ensures { result ≡ first_byte self.now.file.now self.now.regions.items at }
+        ensures { result ≡ first_byte self.now.file.now self.now.regions at }
     {
         match self.region(at) {
             Some(region) if at - region.start < region.filled => {

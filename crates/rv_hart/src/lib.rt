@@ -14,6 +14,7 @@ mod kept;
 mod outcome;
 mod page;
 mod read;
+mod regions;
 mod right;
 mod space;
 mod write;

@@ -50,7 +50,7 @@ impl<'a> Kept<'a> {
     /// Bytes of a region from `at` on, where they stand together in a page or in the file.
     #[inline(always)]
     fn near(&self, home: &Segment, at: u32, count: usize) -> Option<&[u8]>
-        requires home { IsHome self.now.regions.items home.now }
+        requires home { IsHome self.now.regions home.now }
         requires covered { covers_all home.now at count ≡ true }
         requires count { count ≤ 4 }
         ensures { IfSome result (λ bytes. bytes.now ≡ map (value self.now) (range_with_len at count)) }
@@ -96,7 +96,7 @@ impl<'a> Kept<'a> {
     #[inline(always)]
     pub(crate) fn number(&self, home: &Segment, at: u32, count: usize) -> u32
         requires kept { IsKept self.now }
-        requires home { IsHome self.now.regions.items home.now }
+        requires home { IsHome self.now.regions home.now }
         requires covered { covers_all home.now at count ≡ true }
         requires count { is_size count ≡ true }
         ensures value { result ≡ number_in count (map (value self.now) (range_with_len at count)) }
@@ -113,7 +113,7 @@ impl<'a> Kept<'a> {
     pub(crate) fn home(&self, at: u32, count: usize) -> Segment
         requires kept { IsKept self.now }
         requires count { count ≤ 4 }
-        ensures { IsHome self.now.regions.items result }
+        ensures { IsHome self.now.regions result }
     {
         if let Some(page) = self.page(at) {
             let home = page.home();
@@ -127,7 +127,7 @@ impl<'a> Kept<'a> {
     /// Whether the address lies in a region with the right.
     fn is_granted(&self, right: Right, at: usize) -> bool
         requires { IsKept self.now }
-        ensures { result ≡ may (bit_of right) self.now.regions.items at }
+        ensures { result ≡ may (bit_of right) self.now.regions at }
     {
         match u32::try_from(at) {
             Ok(at) => match self.region(at) {
@@ -142,7 +142,7 @@ impl<'a> Kept<'a> {
     pub(crate) fn all_granted(&self, right: Right, at: u32, count: usize) -> bool
         requires kept { IsKept self.now }
         requires count { count < 2 ^ 63 }
-        ensures { result ≡ list_all (may (bit_of right) self.now.regions.items) (range_with_len at count) }
+        ensures { result ≡ list_all (may (bit_of right) self.now.regions) (range_with_len at count) }
     {
         for place in 0..count {
             if !self.is_granted(right, at as usize + place) {

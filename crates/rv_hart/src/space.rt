@@ -5,6 +5,7 @@ ghost use Rattle.rv_hart.specs.Step.{fetched_at};
 
 use crate::access;
 use crate::kept::Kept;
+use crate::regions::Regions;
 use crate::right::{NOWHERE, covers};
 use elf_image::{Image, Segment};
 use prof_bytes::Memory;
@@ -32,7 +33,7 @@ impl<'a> Model for Space<'a> {
 
     ghost view = { λ space. memory_of space.kept };
 
-    ghost invariant = { λ space. IsKept space.kept × IsHome space.kept.regions.items space.code };
+    ghost invariant = { λ space. IsKept space.kept × IsHome space.kept.regions space.code };
 }
 
 /// The stack of a hart.
@@ -51,7 +52,7 @@ fn stack(hart: u32) -> Segment
 }
 
 /// The program's segments and the stacks.
-fn regions(alloc: Global, segments: &[Segment], harts: u32) -> Result<Vec<Segment>, Memory>
+fn listed(alloc: Global, segments: &[Segment], harts: u32) -> Result<Vec<Segment>, Memory>
     requires { harts ≤ 64 }
     ensures { IfOk result (λ regions. regions.items ≡ segments.now ++ map stack_of (range_with_len 0 harts)) }
 {
@@ -71,7 +72,7 @@ impl<'a> Space<'a> {
     {
         let kept = Kept {
             file: image.bytes(),
-            regions: regions(alloc, image.segments(), harts)?,
+            regions: Regions::of(alloc, listed(alloc, image.segments(), harts)?)?,
             blocks: Vec::new(alloc),
         };
         Ok(Space {

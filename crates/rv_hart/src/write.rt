@@ -119,7 +119,7 @@ impl<'a> Kept<'a> {
         ensures no { result ≡ false → self.new ≡ self.old }
         ensures rest { self.new ≡ record self.old { blocks = self.new.blocks } }
         ensures kept { IsKept self.new }
-        ensures granted { result ≡ true → list_all (may write self.old.regions.items) (range_with_len at (length source.now)) ≡ true }
+        ensures granted { result ≡ true → list_all (may write self.old.regions) (range_with_len at (length source.now)) ≡ true }
         ensures values { result ≡ true → (a : ℕ) → value self.new a ≡ value_after self.old at source.now a }
     {
         if !self.is_near(at, source.len()) {
@@ -136,7 +136,7 @@ impl<'a> Kept<'a> {
         requires count { count ≤ 4 }
         ensures page { result ≡ true → at % 2 ^ 12 + count ≤ 2 ^ 12 }
         ensures within { result ≡ true → at % 2 ^ 12 + count ≤ length (page_of self.now at).bytes }
-        ensures granted { result ≡ true → list_all (may write self.now.regions.items) (range_with_len at count) ≡ true }
+        ensures granted { result ≡ true → list_all (may write self.now.regions) (range_with_len at count) ≡ true }
     {
         let end = at as usize % 4096 + count;
         if end > 4096 || end > self.page_bytes(at).len() {

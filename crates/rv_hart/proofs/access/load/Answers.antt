@@ -9,4 +9,4 @@ returns-then-grants-clause-number c =
     ap (λ (n : ℕ). Some n) c.number.ensures.value
     ∙ sym
     (loaded-kept c.args.kept.now c.args.at c.args.count c.requires.kept
-    (all-granted c.args.kept.now.regions.items c.home-home.result read c.args.at c.args.count c.home-home.ensures (sym c.covers.ensures ∙ c.if-covers.true) (sym c.grants.ensures ∙ c.if-grants.true)))
+    (all-granted c.args.kept.now.regions c.home-home.result read c.args.at c.args.count c.home-home.ensures (sym c.covers.ensures ∙ c.if-covers.true) (sym c.grants.ensures ∙ c.if-grants.true)))

@@ -4,4 +4,4 @@ use Rattle.rv_hart.specs.Stored.{bit_of}
 use Rattle.rv_hart.proofs.kept.Kept.all_granted.Given as goal
 
 abbrev pub invariant-loop-place : goal.invariant-loop-place
-invariant-loop-place l = (i : ℕ) → i < l.place → may (bit_of l.right) l.self.regions.items (l.at + i) ≡ true
+invariant-loop-place l = (i : ℕ) → i < l.place → may (bit_of l.right) l.self.regions (l.at + i) ≡ true

@@ -8,6 +8,6 @@ use Rattle.rv_hart.proofs.kept.Kept.is_near.Goals as goal
 pub returns-clause-granted : goal.returns-clause-granted
 returns-clause-granted c given =
     let covered : true ≡ covers_all c.page_home-home.result c.args.at c.args.count = c.if-not-covers.ensures in
-    let own : IsHome c.args.self.now.regions.items c.page_home-home.result =
-    subst (λ (home : Segment). IsHome c.args.self.now.regions.items home) (sym c.page_home-home.ensures) (c.requires.kept.homes _) in
-    all-granted c.args.self.now.regions.items c.page_home-home.result write c.args.at c.args.count own (sym covered) (sym c.grants.ensures ∙ given)
+    let own : IsHome c.args.self.now.regions c.page_home-home.result =
+    subst (λ (home : Segment). IsHome c.args.self.now.regions home) (sym c.page_home-home.ensures) (c.requires.kept.homes _) in
+    all-granted c.args.self.now.regions c.page_home-home.result write c.args.at c.args.count own (sym covered) (sym c.grants.ensures ∙ given)

@@ -7,6 +7,6 @@ use Rattle.rv_hart.proofs.space.Space.of.Goals as goal
 
 pub invariant_of-result : goal.invariant_of-result
 invariant_of-result c =
-    of-kept (record { file = c.bytes.result; regions = c.in_ok-regions.field-0; blocks = c.new.result }) c.args.image.now c.args.harts c.segments.ensures.loaded c.requires
-    (c.in_ok-regions.ensures ∙ ap (λ (s : List Segment). s ++ map stack_of (range_with_len 0 c.args.harts)) c.segments.ensures.segments)
+    of-kept (record { file = c.bytes.result; regions = c.in_ok-of.field-0; blocks = c.new.result }) c.args.image.now c.args.harts c.segments.ensures.loaded c.requires
+    (c.in_ok-of.ensures ∙ c.in_ok-listed.ensures ∙ ap (λ (s : List Segment). s ++ map stack_of (range_with_len 0 c.args.harts)) c.segments.ensures.value)
     c.new.ensures.items

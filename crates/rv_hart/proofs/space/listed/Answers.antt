@@ -1,6 +1,6 @@
 use Rattle.rv_hart.proofs.Apart.{stacks-more}
 use Rattle.std.proofs.Common.{◌∙◌}
-use Rattle.rv_hart.proofs.space.regions.Goals as goal
+use Rattle.rv_hart.proofs.space.listed.Goals as goal
 
 pub loop-hart-preserved : goal.loop-hart-preserved
 loop-hart-preserved c =
