@@ -1,5 +1,5 @@
 -- What one instruction does to the counts of all harts.
-use Rattle.std.proofs.Common.{◌≡◌, ◌≢◌, ℕ, zero, suc, ◌+◌, ◌<◌, ◌==◌, ◌||◌, Bool, true, false, cond, List, [], ◌∷◌, map, length, take, min, slice_set, refl, sym, ap, subst, ◌∙◌, arith, rules}
+use Rattle.std.proofs.Common.{◌≡◌, ◌≢◌, ℕ, zero, suc, ◌+◌, ◌<◌, ◌==◌, ◌||◌, Bool, true, false, cond, List, [], ◌∷◌, map, length, take, min, slice_set, refl, sym, ap, ap₂, subst, ◌∙◌, arith, rules}
 use Rattle.std.proofs.lemmas.List.{get_or-set_same, get_or-set_other}
 use Rattle.std.proofs.Math.ListN.{length-set}
 use Rattle.rv_hart.specs.Memory.{Memory, stored}
@@ -37,7 +37,7 @@ group-counts status (h ∷ harts) (suc hart) = group-counts status harts hart
 
 group-length : (status : ℕ) (harts : List HartState) → length (map (grouped status) harts) ≡ length harts
 group-length status [] = refl
-group-length status (h ∷ harts) = ap (λ (n : ℕ). n + 1) (group-length status harts)
+group-length status (h ∷ harts) = ap (λ (n : ℕ). suc n) (group-length status harts)
 
 -- reads and writes change no hart
 read-harts : (count : ℕ) (answer : Bool × Memory) (s : MachineState) → (read_into count answer s).state.harts ≡ s.harts
@@ -107,3 +107,14 @@ unfolding acts
 acts-count hart s within =
     let r : State × Stepped = step_of (step_state (hart_of s hart) s.memory) in
     steps-count hart s r.0 r.1 within (not-retired hart s)
+
+-- what was done to a machine, by how its step ended
+pub acts-as : (hart : ℕ) (s new : MachineState) (how : Stepped) → new ≡ stepped_machine hart (step_of (step_state (hart_of s hart) s.memory)) s → how ≡ (step_of (step_state (hart_of s hart) s.memory)).1 → acts_by how hart new ≡ acts hart s
+unfolding acts
+acts-as hart s new how is ends = ap₂ (λ (h : Stepped) (n : MachineState). acts_by h hart n) ends is
+
+pub same-as : (hart : ℕ) (s new : MachineState) (how : Stepped) → new ≡ stepped_machine hart (step_of (step_state (hart_of s hart) s.memory)) s → how ≡ (step_of (step_state (hart_of s hart) s.memory)).1 → (how ≡ stepped.Retired → ⊥) → new ≡ s
+same-as hart s new how is ends other = is ∙ not-retired hart s (λ e. other (ends ∙ e))
+
+pub counts-of : (hart : ℕ) (s new : MachineState) (is_retired : Bool) → record { state = new; retired = is_retired } ≡ acts hart s → hart < length s.harts → Counts hart is_retired s new
+counts-of hart s new is_retired done within = subst (λ (a : Acted). Counts hart a.retired s a.state) (sym done) (acts-count hart s within)

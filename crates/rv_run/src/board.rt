@@ -3,7 +3,7 @@ ghost use Rattle.std.specs.Prelude.{◌≡◌, ◌<◌, ◌≤◌, ◌^◌, ◌-
 ghost use Rattle.std.specs.List.{range_with_len};
 ghost use Rattle.rv_hart.specs.Step.{step_of};
 ghost use Rattle.rv_run.specs.State.{first_hart, first_state, hart_of, step_state};
-ghost use Rattle.rv_run.specs.Calls.{reads, writes, calls, completes, ends_by, ends_all, only_answers};
+ghost use Rattle.rv_run.specs.Calls.{reads, writes, calls, completes, grouped, ends_by, ends_all, only_answers};
 ghost use Rattle.rv_run.specs.Run.{acts, stepped_machine};
 
 use crate::hart::{Core, HartEnd};
@@ -53,6 +53,16 @@ fn first_cores(alloc: Global, entry: u32, harts: u32) -> Result<Vec<Core>, Memor
         cores.push(Core::first(entry, hart, harts))?;
     }
     Ok(cores)
+}
+
+/// Ends the harts that run.
+fn finish_each(cores: &mut [Core], status: u32)
+    ensures { cores.new ≡ map (grouped status) cores.old }
+{
+    for place in 0..cores.len() {
+        let core = &mut cores[place];
+        core.finish_with_group(status);
+    }
 }
 
 impl<'a> Board<'a> {
@@ -166,9 +176,7 @@ impl<'a> Board<'a> {
     fn finish_all(&mut self, status: u32)
         ensures { self.new ≡ (ends_all status self.old).state }
     {
-        for core in self.cores.as_mut_slice() {
-            core.finish_with_group(status);
-        }
+        finish_each(self.cores.as_mut_slice(), status);
     }
 
     /// Does an environment call, and says whether it retired.

@@ -1,5 +1,5 @@
 //! The lines of a text, one after another.
-ghost use Rattle.std.specs.Prelude.{◌≡◌, ◌==◌, ◌≤◌, ◌^◌, [], None, length, position};
+ghost use Rattle.std.specs.Prelude.{◌≡◌, ◌==◌, ◌<◌, ◌≤◌, ◌^◌, [], IfSome, None, length, position};
 ghost use Rattle.rv_run.specs.Schedule.{is_passed_over, lines, telling};
 ghost use Rattle.rv_run.specs.Reading.{all_lines, to_read, first_of, rest_of, line_told};
 
@@ -74,11 +74,13 @@ impl<'a> Lines<'a> {
         ensures line { line_told result ≡ first_of (to_read self.old) }
         ensures rest { to_read self.new ≡ rest_of (to_read self.old) }
         ensures all { all_lines self.new ≡ all_lines self.old }
+        ensures less { IfSome result (λ _. length self.new.rest < length self.old.rest) }
+        ensures end { result ≡ None → self.new.rest ≡ [] }
     {
-        let left = &self.bytes[self.place..];
-        if left.is_empty() {
+        if self.place == self.bytes.len() {
             return None;
         }
+        let left = &self.bytes[self.place..];
         self.done += 1;
         match line_end(left) {
             Some(end) => {
@@ -103,13 +105,14 @@ impl<'a> Lines<'a> {
         ensures line { line_told result ≡ first_of (telling (to_read self.old)) }
         ensures rest { telling (to_read self.new) ≡ rest_of (telling (to_read self.old)) }
         ensures all { all_lines self.new ≡ all_lines self.old }
+        ensures less { IfSome result (λ _. length (telling (to_read self.new)) < length (telling (to_read self.old))) }
         ensures end { result ≡ None → self.new.rest ≡ [] }
     {
-        while let Some(line) = self.next_line() {
-            if !is_comment(line.bytes) {
-                return Some(line);
+        loop {
+            match self.next_line() {
+                Some(line) if is_comment(line.bytes) => {}
+                other => return other,
             }
         }
-        None
     }
 }

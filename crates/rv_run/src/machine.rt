@@ -75,7 +75,9 @@ impl<'a> Machine<'a> {
         ensures few { IfSome result (λ due. due.ordinal ≤ most_instructions) }
         ensures end { result ≡ None → to_come self.now ≡ finished self.now.state }
     {
-        let slice = self.turns.first()?;
+        let Some(slice) = self.turns.first() else {
+            return None;
+        };
         let core = self.board.core(slice.hart);
         Some(Due {
             hart: slice.hart,

@@ -1,5 +1,6 @@
 //! What a program writes: bytes of its memory.
 ghost use Rattle.std.specs.Prelude.{◌≡◌, ◌+◌, ◌≤◌, ◌^◌, true, IfOk};
+ghost use Rattle.rv_hart.specs.Memory.{byte_at, may, read};
 ghost use Rattle.rv_run.specs.Calls.{all_readable, bytes_at};
 
 use prof_bytes::Memory;
@@ -22,6 +23,17 @@ pub(crate) fn are_readable(space: &Space<'_>, at: u32, count: u32) -> bool
     true
 }
 
+/// The byte at an address that may be read.
+fn byte(space: &Space<'_>, at: u32) -> u8
+    requires { may read space.now.regions at ≡ true }
+    ensures { result ≡ byte_at space.now at }
+{
+    match space.load(at, 1) {
+        Some(number) => number as u8,
+        None => 0,
+    }
+}
+
 /// The bytes from `at` on, which may be read.
 pub(crate) fn copied(space: &Space<'_>, alloc: Global, at: u32, count: u32) -> Result<Vec<u8>, Memory>
     requires { all_readable space.now at count ≡ true }
@@ -29,8 +41,7 @@ pub(crate) fn copied(space: &Space<'_>, alloc: Global, at: u32, count: u32) -> R
 {
     let mut bytes = Vec::new(alloc);
     for place in 0..count {
-        let byte = space.load(at + place, 1).unwrap_or(0);
-        bytes.push(byte as u8)?;
+        bytes.push(byte(space, at + place))?;
     }
     Ok(bytes)
 }

@@ -1,6 +1,7 @@
 //! The slices of a schedule that are left.
-ghost use Rattle.std.specs.Prelude.{◌≡◌, ◌<◌, ◌≤◌, drop, length};
+ghost use Rattle.std.specs.Prelude.{◌≡◌, ◌&&◌, ◌<◌, ◌≤◌, drop, length, nat_lt};
 ghost use Rattle.rv_run.specs.Reading.{first_of, rest_of};
+ghost use Rattle.rv_run.specs.State.{hart_of, is_running};
 ghost use Rattle.rv_run.specs.Run.{run_slices};
 ghost use Rattle.rv_run.specs.Told.{AreOf, HaveRoom, StandsAt, count_of_first, less};
 
@@ -36,6 +37,15 @@ fn count_at(slices: &[Slice], place: usize) -> u32
         Some(slice) => slice.count,
         None => 0,
     }
+}
+
+/// Whether the slice has an instruction left that its hart can do.
+#[inline(always)]
+fn can_go_on(board: &Board<'_>, slice: Slice) -> bool
+    requires { slice.hart < length board.now.harts }
+    ensures { result ≡ (nat_lt 0 slice.count && is_running (hart_of board.now slice.hart)) }
+{
+    slice.count > 0 && board.core(slice.hart).is_running()
 }
 
 impl Turns {
@@ -91,7 +101,7 @@ impl Turns {
         ensures stands { StandsAt board.now self.new }
     {
         while let Some(slice) = self.first() {
-            if slice.count > 0 && board.core(slice.hart).is_running() {
+            if can_go_on(board, slice) {
                 return;
             }
             self.drop_first();
