@@ -1,0 +1,6 @@
+pub mod Unchanged
+pub mod Counting
+pub mod DigitSteps
+pub mod Slices
+pub mod Lining
+pub mod Ranges

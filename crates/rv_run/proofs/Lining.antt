@@ -1,0 +1,146 @@
+-- The first line of a text, and the lines that tell something.
+use Rattle.std.proofs.Common.{◌≡◌, ℕ, zero, suc, ◌+◌, ◌<◌, ◌≤◌, ◌==◌, Bool, true, false, not, cond, List, [], ◌∷◌, ◌++◌, length, take, drop, get_or, filter, Option, Some, None, Result, Ok, Err, append_assoc, append-nil, refl, sym, ap, subst, ◌∙◌, arith, add-one, inl, inr, lt-ltb}
+use Rattle.std.specs.List.{All, position, position_or_len}
+use Rattle.std.proofs.lemmas.Bool.{cases_lt}
+use Rattle.std.proofs.lemmas.List.Elements.{All-push}
+use Rattle.std.proofs.lemmas.List.Sums.{fails_before_first}
+use Rattle.std.proofs.lemmas.List.Quantifiers.{position-Some}
+use Rattle.prof_bytes.specs.Outcome.{◌>>=◌}
+use Rattle.rv_run.specs.declared.schedule.Slice.{Slice}
+use Rattle.rv_run.specs.declared.schedule.ScheduleFault.{ScheduleFault}
+use Rattle.rv_run.specs.Schedule.{lines, with_first, Numbered, numbered, tells, telling, is_passed_over, before, or_fault, slice_in, slices_of}
+use Rattle.rv_run.specs.Reading.{first_of, rest_of}
+
+abbrev is_feed : ℕ → Bool
+is_feed byte = byte == 10
+
+-- a line that ends in a line feed
+cut : (bytes : List ℕ) (end : ℕ) → end < length bytes → is_feed (get_or bytes end 0) ≡ true → ((k : ℕ) → k < end → is_feed (get_or bytes k 0) ≡ false)
+    → lines bytes ≡ take end bytes ∷ lines (drop (suc end) bytes)
+unfolding lines
+cut [] end within feed others = absurd (omega arith)
+cut (byte ∷ rest) zero within feed others = ap (λ (b : Bool). cond b ([] ∷ lines rest) (with_first byte (lines rest))) feed
+cut (byte ∷ rest) (suc end) within feed others =
+    ap (λ (b : Bool). cond b ([] ∷ lines rest) (with_first byte (lines rest))) (others 0 (omega arith))
+    ∙ ap (with_first byte) (cut rest end (omega arith) feed (λ k less. others (suc k) (omega arith)))
+
+-- the last line, where nothing ends it
+last : (bytes : List ℕ) → ((k : ℕ) → k < length bytes → is_feed (get_or bytes k 0) ≡ false) → 0 < length bytes → lines bytes ≡ bytes ∷ []
+unfolding lines
+last [] others some = absurd (omega arith)
+last (byte ∷ []) others some = ap (λ (b : Bool). cond b ([] ∷ []) (with_first byte [])) (others 0 (omega arith))
+last (byte ∷ next ∷ rest) others some =
+    ap (λ (b : Bool). cond b ([] ∷ lines (next ∷ rest)) (with_first byte (lines (next ∷ rest)))) (others 0 (omega arith))
+    ∙ ap (with_first byte) (last (next ∷ rest) (λ k less. others (suc k) (omega arith)) (omega arith))
+
+drop_nil : (n : ℕ) → drop {A = ℕ} n [] ≡ []
+drop_nil zero = refl
+drop_nil (suc n) = refl
+
+drop_drop : (bytes : List ℕ) (place end : ℕ) → drop (suc end) (drop place bytes) ≡ drop (place + suc end) bytes
+drop_drop bytes zero end = ap (λ (n : ℕ). drop n bytes) (let e : suc end ≡ 0 + suc end = omega arith in e)
+drop_drop [] (suc place) end = sym (drop_nil (suc place + suc end))
+drop_drop (byte ∷ rest) (suc place) end = drop_drop rest place end ∙ ap (λ (n : ℕ). drop n (byte ∷ rest)) (let e : suc (place + suc end) ≡ suc place + suc end = omega arith in e)
+
+pub lines-cut : (bytes : List ℕ) (place end : ℕ) → position is_feed (drop place bytes) ≡ Some end
+    → lines (drop place bytes) ≡ take end (drop place bytes) ∷ lines (drop (place + (end + 1)) bytes)
+lines-cut bytes place end found =
+    let at : (end < length (drop place bytes)) × (is_feed (get_or (drop place bytes) end 0) ≡ true) × ((k : ℕ) → k < end → is_feed (get_or (drop place bytes) k 0) ≡ false) = position-Some is_feed (drop place bytes) end 0 found in
+    cut (drop place bytes) end at.0 at.1 at.2
+    ∙ ap (λ (rest : List ℕ). take end (drop place bytes) ∷ lines rest) (drop_drop bytes place end ∙ ap (λ (n : ℕ). drop (place + n) bytes) (let e : suc end ≡ end + 1 = omega arith in e))
+
+none-passes : (p : ℕ → Bool) (xs : List ℕ) → position p xs ≡ None → (k : ℕ) → k < length xs → p (get_or xs k 0) ≡ false
+none-passes p xs none k less =
+    elim (cases_lt (position_or_len p xs) (length xs)) [
+        | inl inside ↦ absurd (let e : Some (position_or_len p xs) ≡ None = rw (lt-ltb (position_or_len p xs) (length xs) inside) at none in cc)
+        | inr past ↦ fails_before_first p xs k 0 (omega arith)
+    ]
+
+drop_all : (bytes : List ℕ) → drop (length bytes) bytes ≡ []
+drop_all [] = refl
+drop_all (byte ∷ rest) = drop_all rest
+
+left-some : (bytes : List ℕ) (place : ℕ) → place < length bytes → 0 < length (drop place bytes)
+left-some [] place within = absurd (omega arith)
+left-some (byte ∷ rest) zero within = omega arith
+left-some (byte ∷ rest) (suc place) within = left-some rest place (omega arith)
+
+pub lines-none : (bytes : List ℕ) (place : ℕ) → place ≡ length bytes → lines (drop place bytes) ≡ []
+unfolding lines
+lines-none bytes place end = ap (λ (n : ℕ). lines (drop n bytes)) end ∙ ap lines (drop_all bytes)
+
+pub lines-last : (bytes : List ℕ) (place : ℕ) → position is_feed (drop place bytes) ≡ None → place < length bytes → lines (drop place bytes) ≡ drop place bytes ∷ lines (drop (length bytes) bytes)
+lines-last bytes place none within =
+    last (drop place bytes) (none-passes is_feed (drop place bytes) none) (left-some bytes place within)
+    ∙ ap (λ (rest : List (List ℕ)). drop place bytes ∷ rest) (sym (lines-none bytes (length bytes) refl))
+
+-- the same, where the bytes that are left are given as they are
+pub left-cut : (bytes left : List ℕ) (place end : ℕ) → left ≡ drop place bytes → position is_feed left ≡ Some end → lines (drop place bytes) ≡ take end left ∷ lines (drop (place + (end + 1)) bytes)
+left-cut bytes left place end is found =
+    lines-cut bytes place end (sym (ap (position is_feed) is) ∙ found) ∙ ap (λ (xs : List ℕ). take end xs ∷ lines (drop (place + (end + 1)) bytes)) (sym is)
+
+pub left-last : (bytes left : List ℕ) (place : ℕ) → left ≡ drop place bytes → position is_feed left ≡ None → place < length bytes → lines (drop place bytes) ≡ left ∷ lines (drop (length bytes) bytes)
+left-last bytes left place is none within =
+    lines-last bytes place (sym (ap (position is_feed) is) ∙ none) within ∙ ap (λ (xs : List ℕ). xs ∷ lines (drop (length bytes) bytes)) (sym is)
+
+-- a text whose next line is this one, with these after it; and one that has none
+numbered-length : (first : ℕ) (all : List (List ℕ)) → length (numbered first all) ≡ length all
+unfolding numbered
+numbered-length first [] = refl
+numbered-length first (line ∷ rest) = ap (λ (n : ℕ). suc n) (numbered-length (first + 1) rest)
+
+pub line-first : (done : ℕ) (rest : List (List ℕ)) (line : List ℕ) (more : List (List ℕ)) → rest ≡ line ∷ more → Some (record { number = done + 1; bytes = line }) ≡ first_of (numbered (done + 1) rest)
+unfolding numbered
+line-first done rest line more is = ap (λ (ls : List (List ℕ)). first_of (numbered (done + 1) ls)) (sym is)
+
+pub line-rest : (done : ℕ) (rest : List (List ℕ)) (line : List ℕ) (more : List (List ℕ)) → rest ≡ line ∷ more → numbered (done + 1 + 1) more ≡ rest_of (numbered (done + 1) rest)
+unfolding numbered
+line-rest done rest line more is = ap (λ (ls : List (List ℕ)). rest_of (numbered (done + 1) ls)) (sym is)
+
+pub none-first : (done : ℕ) (rest : List (List ℕ)) → rest ≡ [] → None ≡ first_of (numbered (done + 1) rest)
+unfolding numbered
+none-first done rest is = ap (λ (ls : List (List ℕ)). first_of (numbered (done + 1) ls)) (sym is)
+
+pub none-rest : (done : ℕ) (rest : List (List ℕ)) → rest ≡ [] → numbered (done + 1) rest ≡ rest_of (numbered (done + 1) rest)
+unfolding numbered
+none-rest done rest is = ap (numbered (done + 1)) is ∙ ap (λ (ls : List (List ℕ)). rest_of (numbered (done + 1) ls)) (sym is)
+
+pub telling-yes : (line : Numbered) (rest : List Numbered) → is_passed_over line.bytes ≡ false → telling (line ∷ rest) ≡ line ∷ telling rest
+telling-yes line rest e = ap (λ (b : Bool). cond (not b) (line ∷ telling rest) (telling rest)) e
+
+pub telling-no : (line : Numbered) (rest : List Numbered) → is_passed_over line.bytes ≡ true → telling (line ∷ rest) ≡ telling rest
+telling-no line rest e = ap (λ (b : Bool). cond (not b) (line ∷ telling rest) (telling rest)) e
+
+-- slices that were read, and those of the lines that are left
+pub before-before : (xs ys : List Slice) (rest : Result (List Slice) ScheduleFault) → before xs (before ys rest) ≡ before (xs ++ ys) rest
+before-before xs ys (Ok more) = ap (λ (all : List Slice). Ok all) (sym (append_assoc xs ys more))
+before-before xs ys (Err fault) = refl
+
+pub read-one : (harts used : ℕ) (left rest : List Numbered) (line : Numbered) (slice : Slice) → Some line ≡ first_of left → rest ≡ rest_of left → slice_in harts used line.bytes ≡ Some slice
+    → slices_of harts used left ≡ before (slice ∷ []) (slices_of harts (used + slice.count) rest)
+unfolding slices_of
+read-one harts used [] rest line slice first more is = absurd cc
+read-one harts used (x ∷ xs) rest line slice first more is =
+    let same : line ≡ x = cc in
+    ap (λ (found : Option Slice). or_fault x.number found >>= (λ (s : Slice). before (s ∷ []) (slices_of harts (used + s.count) xs))) (ap (λ (l : Numbered). slice_in harts used l.bytes) (sym same) ∙ is)
+    ∙ ap (λ (ls : List Numbered). before (slice ∷ []) (slices_of harts (used + slice.count) ls)) (sym more)
+
+pub read-bad : (harts used : ℕ) (left : List Numbered) (line : Numbered) → Some line ≡ first_of left → slice_in harts used line.bytes ≡ None → slices_of harts used left ≡ Err (record { line = line.number })
+unfolding slices_of
+read-bad harts used [] line first bad = absurd cc
+read-bad harts used (x ∷ xs) line first bad =
+    let same : line ≡ x = cc in
+    ap (λ (found : Option Slice). or_fault x.number found >>= (λ (s : Slice). before (s ∷ []) (slices_of harts (used + s.count) xs))) (ap (λ (l : Numbered). slice_in harts used l.bytes) (sym same) ∙ bad)
+    ∙ ap (λ (l : Numbered). Err (record { line = l.number })) (sym same)
+
+pub read-end : (harts used : ℕ) (left : List Numbered) (slices : List Slice) → None ≡ first_of left → before slices (slices_of harts used left) ≡ Ok slices
+unfolding slices_of
+read-end harts used [] slices none = ap (λ (all : List Slice). Ok all) (append-nil slices)
+read-end harts used (x ∷ xs) slices none = absurd cc
+
+pub starts : (rest : Result (List Slice) ScheduleFault) → rest ≡ before [] rest
+starts (Ok more) = refl
+starts (Err fault) = refl
+
+pub fit-more : (P : Slice → Type 0) (slices : List Slice) (slice : Slice) (more : List Slice) → more ≡ slices ++ slice ∷ [] → All P slices → P slice → All P more
+fit-more P slices slice more is all one = subst (λ (xs : List Slice). All P xs) (sym is) (All-push P slices slice all one)

@@ -1,0 +1,141 @@
+-- Addresses one after another.
+use Rattle.std.proofs.Common.{◌≡◌, ◌⊎◌, inl, inr, ℕ, zero, suc, ◌+◌, ◌^◌, ◌<◌, ◌≤◌, ◌&&◌, Bool, true, false, cond, List, [], ◌∷◌, ◌++◌, length, map, take, drop, get_or, slice_set, Option, Some, None, nat_le, refl, sym, ap, ap₂, subst, ◌∙◌, arith}
+use Rattle.std.specs.Option.{is_some}
+use Rattle.std.specs.List.{All, range_with_len, list_all}
+use Rattle.std.proofs.lemmas.Bool.{and_parts, leb-true, le-leb}
+use Rattle.std.proofs.lemmas.Bool.Decides.{eqb_tells}
+use Rattle.std.proofs.lemmas.List.Folds.{list_all_at}
+use Rattle.std.proofs.lemmas.List.FromFn.{get_or-range_with_len, length-range_with_len, length-map-range_with_len, map-range_with_len_more}
+use Rattle.rv_hart.proofs.Near.{all-range}
+use Rattle.std.proofs.lemmas.List.Sums.{AllPass-from_list_all}
+use Rattle.rv_hart.specs.Memory.{Memory, may, may_all, read, loaded, byte_at, number_at}
+use Rattle.elf_image.specs.Image.{Loaded}
+use Rattle.rv_run.specs.declared.schedule.Slice.{Slice}
+use Rattle.rv_run.specs.Schedule.{Scheduled, IsSchedule, IsSlice}
+use Rattle.rv_run.specs.State.{HartState, MachineState, hart_in, first_hart, first_state, is_running}
+use Rattle.rv_run.specs.Calls.{all_readable, bytes_at}
+use Rattle.rv_run.specs.Told.{Progress, IsFresh, IsReady, StandsAt}
+
+pub one-byte : (memory : Memory) (at : ℕ) → number_at memory at 1 ≡ byte_at memory at
+one-byte memory at = let e : byte_at memory at + 0 ≡ byte_at memory at = omega arith in e
+
+pub one-unreadable : (memory : Memory) (at count place : ℕ) → place < count → may read memory.regions (at + place) ≡ false → may_all read memory at count ≡ false
+one-unreadable memory at count place within unreadable =
+    list_all_at (may read memory.regions) (range_with_len at count) place 0 (omega (arith, length-range_with_len at count))
+    (ap (may read memory.regions) (get_or-range_with_len at count place 0 within) ∙ unreadable)
+
+-- a load of one byte
+loads : (memory : Memory) (at : ℕ) → loaded memory at 1 ≡ cond (may read memory.regions at && true) (Some (number_at memory at 1)) None
+loads memory at = refl
+
+pub loads-none : (memory : Memory) (at : ℕ) → is_some (loaded memory at 1) ≡ false → may read memory.regions at ≡ false
+loads-none memory at none = by_case (may read memory.regions at) none
+  where
+    by_case : (b : Bool) → is_some (cond (b && true) (Some (number_at memory at 1)) None) ≡ false → b ≡ false
+    by_case true e = absurd cc
+    by_case false e = refl
+
+pub loads-some : (memory : Memory) (at : ℕ) → is_some (loaded memory at 1) ≡ true → may read memory.regions at ≡ true
+loads-some memory at some = by_case (may read memory.regions at) some
+  where
+    by_case : (b : Bool) → is_some (cond (b && true) (Some (number_at memory at 1)) None) ≡ true → b ≡ true
+    by_case true e = refl
+    by_case false e = absurd cc
+
+pub loads-readable : (memory : Memory) (at : ℕ) → may read memory.regions at ≡ true → loaded memory at 1 ≡ Some (byte_at memory at)
+loads-readable memory at can = ap (λ (b : Bool). cond (b && true) (Some (number_at memory at 1)) None) can ∙ ap (λ (n : ℕ). Some n) (one-byte memory at)
+
+pub each-readable : (memory : Memory) (at count place : ℕ) → may_all read memory at count ≡ true → place < count → may read memory.regions (at + place) ≡ true
+each-readable memory at count place all less =
+    sym (ap (may read memory.regions) (get_or-range_with_len at count place 0 less))
+    ∙ AllPass-from_list_all (may read memory.regions) (range_with_len at count) all place 0 (omega (arith, length-range_with_len at count))
+
+pub one-more-readable : (memory : Memory) (at place : ℕ) → may_all read memory at place ≡ true → may read memory.regions (at + place) ≡ true → may_all read memory at (place + 1) ≡ true
+one-more-readable memory at place so_far here = all-range (may read memory.regions) at (place + 1) each
+  where
+    each : (i : ℕ) → i < place + 1 → may read memory.regions (at + i) ≡ true
+    each i less =
+        elim (eqb_tells i place) [ inl h ↦ ap (λ (n : ℕ). may read memory.regions (at + n)) h.1 ∙ here | inr h ↦ each-readable memory at place i so_far (omega (arith, h.1)) ]
+
+pub fewer-readable : (memory : Memory) (at count few : ℕ) → few ≤ count → all_readable memory at count ≡ true → all_readable memory at few ≡ true
+fewer-readable memory at count few less all =
+    let parts : (nat_le (at + count) (2 ^ 32) ≡ true) × (may_all read memory at count ≡ true) = and_parts _ _ all in
+    let low : at + count ≤ 2 ^ 32 = leb-true (at + count) (2 ^ 32) parts.0 in
+    ap₂ (λ (a b : Bool). a && b) (le-leb (at + few) (2 ^ 32) (omega arith))
+    (all-range (may read memory.regions) at few (λ i l. each-readable memory at count i parts.1 (omega arith)))
+
+pub readable-each : (memory : Memory) (at count place : ℕ) → all_readable memory at count ≡ true → place < count → may read memory.regions (at + place) ≡ true
+readable-each memory at count place all less =
+    let parts : (nat_le (at + count) (2 ^ 32) ≡ true) × (may_all read memory at count ≡ true) = and_parts _ _ all in
+    each-readable memory at count place parts.1 less
+
+pub readable-low : (memory : Memory) (at count : ℕ) → all_readable memory at count ≡ true → at + count ≤ 2 ^ 32
+readable-low memory at count all =
+    let parts : (nat_le (at + count) (2 ^ 32) ≡ true) × (may_all read memory at count ≡ true) = and_parts _ _ all in
+    leb-true (at + count) (2 ^ 32) parts.0
+
+-- a byte more that was copied
+pub copied-more : (memory : Memory) (at place : ℕ) (bytes : List ℕ) (byte : ℕ) → bytes ≡ bytes_at memory at place → byte ≡ byte_at memory (at + place) → bytes ++ byte ∷ [] ≡ bytes_at memory at (place + 1)
+copied-more memory at place bytes byte so_far is =
+    ap₂ (λ (xs : List ℕ) (b : ℕ). xs ++ b ∷ []) so_far is ∙ sym (map-range_with_len_more (byte_at memory) at place (at + place) refl)
+
+-- harts one after another
+pub firsts-more : (entry harts hart : ℕ) (cores : List HartState) (core : HartState) → cores ≡ map (first_hart entry harts) (range_with_len 0 hart) → core ≡ first_hart entry harts hart → cores ++ core ∷ [] ≡ map (first_hart entry harts) (range_with_len 0 (hart + 1))
+firsts-more entry harts hart cores core so_far is =
+    ap₂ (λ (xs : List HartState) (x : HartState). xs ++ x ∷ []) so_far is ∙ sym (map-range_with_len_more (first_hart entry harts) 0 hart hart (omega arith))
+
+first-retired : (entry harts : ℕ) (numbers : List ℕ) (hart : ℕ) → (hart_in (map (first_hart entry harts) numbers) hart).retired ≡ 0
+first-retired entry harts [] hart = refl
+first-retired entry harts (n ∷ numbers) zero = refl
+first-retired entry harts (n ∷ numbers) (suc hart) = first-retired entry harts numbers hart
+
+first-running : (entry harts : ℕ) (numbers : List ℕ) (hart : ℕ) → is_running (hart_in (map (first_hart entry harts) numbers) hart) ≡ true
+first-running entry harts [] hart = refl
+first-running entry harts (n ∷ numbers) zero = refl
+first-running entry harts (n ∷ numbers) (suc hart) = first-running entry harts numbers hart
+
+first-length : (entry harts : ℕ) → length (map (first_hart entry harts) (range_with_len 0 harts)) ≡ harts
+first-length entry harts = length-map-range_with_len (first_hart entry harts) 0 harts
+
+pub fresh-start : (program : Loaded) (harts : ℕ) (input : List ℕ) → harts ≤ 16 → IsFresh (first_state program harts input)
+fresh-start program harts input few =
+    record { few = omega (arith, first-length program.entry harts); none = λ hart. first-retired program.entry harts (range_with_len 0 harts) hart }
+
+pub ready-start : (program : Loaded) (schedule : Scheduled) (input : List ℕ) → IsSchedule schedule → IsReady (record { state = first_state program schedule.harts input; left = schedule.slices })
+ready-start program schedule input is =
+    record {
+        harts = λ k d few. subst (λ (n : ℕ). (get_or schedule.slices k d).hart < n) (sym (first-length program.entry schedule.harts)) (is.slices k d few).hart;
+        room = λ hart. omega (arith, is.instructions, first-retired program.entry schedule.harts (range_with_len 0 schedule.harts) hart);
+        stands = at schedule.slices is.slices
+    }
+  where
+    at : (slices : List Slice) → All (IsSlice schedule.harts) slices → StandsAt (first_state program schedule.harts input) slices
+    at [] all = tt
+    at (slice ∷ rest) all = ((all 0 slice (omega arith)).count, first-running program.entry schedule.harts (range_with_len 0 schedule.harts) slice.hart)
+
+-- each hart that runs ends, one after another
+pub grouped-one : (f : HartState → HartState) (harts : List HartState) (i : ℕ) (d : HartState) → i < length harts → slice_set (map f (take i harts) ++ drop i harts) i (f (get_or (map f (take i harts) ++ drop i harts) i d)) ≡ map f (take (suc i) harts) ++ drop (suc i) harts
+grouped-one f [] i d less = absurd (omega arith)
+grouped-one f (h ∷ harts) zero d less = refl
+grouped-one f (h ∷ harts) (suc i) d less = ap (λ (hs : List HartState). f h ∷ hs) (grouped-one f harts i d (omega arith))
+
+pub grouped-all : (f : HartState → HartState) (harts : List HartState) → map f (take (length harts) harts) ++ drop (length harts) harts ≡ map f harts
+grouped-all f [] = refl
+grouped-all f (h ∷ harts) = ap (λ (hs : List HartState). f h ∷ hs) (grouped-all f harts)
+
+pub grouped-step : (f : HartState → HartState) (start harts : List HartState) (i : ℕ) (old new : HartState) → harts ≡ map f (take i start) ++ drop i start → i < length start → old ≡ get_or harts i old → new ≡ f old
+    → slice_set harts i new ≡ map f (take (i + 1) start) ++ drop (i + 1) start
+grouped-step f start harts i old new so_far less is made =
+    ap (slice_set harts i) (made ∙ ap f is)
+    ∙ ap (λ (hs : List HartState). slice_set hs i (f (get_or hs i old))) so_far
+    ∙ grouped-one f start i old less
+    ∙ ap (λ (n : ℕ). map f (take n start) ++ drop n start) (let e : suc i ≡ i + 1 = omega arith in e)
+
+pub ready-is : (program : Loaded) (schedule : Scheduled) (input : List ℕ) (harts : ℕ) (board : MachineState) (left : List Slice) → IsSchedule schedule → harts ≡ schedule.harts → board ≡ first_state program harts input → left ≡ schedule.slices
+    → IsReady (record { state = board; left = left })
+ready-is program schedule input harts board left is few state slices =
+    subst (λ (p : Progress). IsReady p) (ap₂ (λ (s : MachineState) (l : List Slice). record { state = s; left = l }) (sym (state ∙ ap (λ (n : ℕ). first_state program n input) few)) (sym slices)) (ready-start program schedule input is)
+
+pub fresh-is : (program : Loaded) (schedule : Scheduled) (input : List ℕ) (harts : ℕ) (board : MachineState) → IsSchedule schedule → harts ≡ schedule.harts → board ≡ first_state program harts input → IsFresh board
+fresh-is program schedule input harts board is few state =
+    subst (λ (s : MachineState). IsFresh s) (sym (state ∙ ap (λ (n : ℕ). first_state program n input) few)) (fresh-start program schedule.harts input is.few)

@@ -1,0 +1,179 @@
+-- The slices that are left, and the run that they give.
+use Rattle.std.proofs.Common.{◌≡◌, ◌≢◌, ◌⊎◌, inl, inr, ℕ, zero, suc, ◌+◌, ◌-◌, ◌<◌, ◌≤◌, ◌&&◌, nat_lt, Bool, true, false, cond, List, [], ◌∷◌, ◌++◌, map, length, drop, sum, sum_by, Option, Some, None, refl, sym, ap, ap₂, subst, ◌∙◌, arith, add-one, lt-ltb}
+use Rattle.std.specs.List.{All}
+use Rattle.std.proofs.lemmas.List.Sums.{sum_by-cons, sum_by-append, sum-map}
+use Rattle.std.proofs.lemmas.Bool.Decides.{eqb_tells}
+use Rattle.rv_run.specs.declared.schedule.Slice.{Slice}
+use Rattle.rv_run.specs.declared.machine.Due.{Due}
+use Rattle.rv_run.specs.Reading.{first_of, rest_of}
+use Rattle.rv_run.specs.Schedule.{instructions, count_of, most_instructions}
+use Rattle.rv_run.specs.State.{MachineState, hart_of, is_running}
+use Rattle.rv_run.specs.Calls.{Acted}
+use Rattle.rv_run.specs.Run.{Instant, Run, acts, after, next_instant, finished, preceded, joined, run_slice, run_slices}
+use Rattle.rv_run.specs.Told.{Counts, plus_one, with_left, count_of_first, less, AreOf, HaveRoom, IsNext, StandsAt, due_of, first_due, WentOn}
+
+whole : (slices : List Slice) → with_left (count_of_first slices) slices ≡ slices
+whole [] = refl
+whole (slice ∷ rest) = refl
+
+drop_suc : (slices : List Slice) (place left : ℕ) → place < length slices → with_left (count_of_first (drop (suc place) slices)) (drop (suc place) slices) ≡ rest_of (with_left left (drop place slices))
+drop_suc [] place left within = absurd (omega arith)
+drop_suc (slice ∷ rest) zero left within = whole rest
+drop_suc (slice ∷ rest) (suc place) left within = drop_suc rest place left (omega arith)
+
+pub dropped : (slices : List Slice) (place left : ℕ) → place < length slices → with_left (count_of_first (drop (place + 1) slices)) (drop (place + 1) slices) ≡ rest_of (with_left left (drop place slices))
+dropped slices place left within = rw add-one (drop_suc slices place left within)
+
+pub ended : (s : MachineState) (left : List Slice) → first_of left ≡ None → run_slices left s ≡ finished s
+unfolding run_slices
+ended s [] none = refl
+ended s (slice ∷ rest) none = absurd cc
+
+-- the first instruction of the first slice, and the rest of the run
+one : (s : MachineState) (hart count : ℕ) (rest : List Slice) → 0 < count → is_running (hart_of s hart) ≡ true
+    → joined (run_slice count hart s) (run_slices rest) ≡ preceded (next_instant hart s ∷ []) (joined (run_slice (count - 1) hart (after hart s)) (run_slices rest))
+unfolding run_slice
+one s hart zero rest some runs = absurd (omega arith)
+one s hart (suc count) rest some runs =
+    ap (λ (b : Bool). joined (cond b (preceded (next_instant hart s ∷ []) (run_slice count hart (after hart s))) (finished s)) (run_slices rest)) runs
+    ∙ ap (λ (n : ℕ). preceded (next_instant hart s ∷ []) (joined (run_slice n hart (after hart s)) (run_slices rest))) (let e : count ≡ suc count - 1 = omega arith in e)
+
+-- what is due of slices that stand at their next instruction
+pub record IsDue (s : MachineState) (left : List Slice) (due : Due) : Type 0 where
+  pub some : 0 < count_of_first left
+  pub first_due_is : due ≡ due_of (next_instant due.hart s)
+  pub run : run_slices left s ≡ preceded (next_instant due.hart s ∷ []) (run_slices (less 1 left) (after due.hart s))
+  pub first_is : first_of left ≡ Some (record { hart = due.hart; count = count_of_first left })
+
+first-run : (s : MachineState) (slice : Slice) (rest : List Slice) → IsNext s slice → run_slices (slice ∷ rest) s ≡ preceded (next_instant slice.hart s ∷ []) (run_slices (less 1 (slice ∷ rest)) (after slice.hart s))
+unfolding run_slices
+first-run s slice rest next = one s slice.hart slice.count rest next.0 next.1
+
+pub due-first : (s : MachineState) (left : List Slice) (slice : Slice) → StandsAt s left → first_of left ≡ Some slice → Some (due_of (next_instant slice.hart s)) ≡ first_due (run_slices left s).instants
+due-first s [] slice stands first = absurd cc
+due-first s (x ∷ rest) slice stands first =
+    let same : x ≡ slice = cc in
+    ap (λ (y : Slice). Some (due_of (next_instant y.hart s))) (sym same)
+    ∙ ap (λ (r : Run). first_due r.instants) (sym (first-run s x rest stands))
+
+pub due-is : (s : MachineState) (left : List Slice) (due : Due) → StandsAt s left → Some due ≡ first_due (run_slices left s).instants → IsDue s left due
+unfolding run_slices
+due-is s [] due stands told = absurd (let e : Some due ≡ None = told in cc)
+due-is s (x ∷ rest) due stands told =
+    let here : Some due ≡ Some (due_of (next_instant x.hart s)) = told ∙ ap (λ (r : Run). first_due r.instants) (first-run s x rest stands) in
+    let same : due ≡ due_of (next_instant x.hart s) = cc in
+    let hart : x.hart ≡ due.hart = sym (ap (λ (d : Due). d.hart) same) in
+    record {
+        some = stands.0;
+        first_due_is = same ∙ ap (λ (h : ℕ). due_of (next_instant h s)) hart;
+        run = first-run s x rest stands ∙ ap (λ (h : ℕ). preceded (next_instant h s ∷ []) (run_slices (less 1 (x ∷ rest)) (after h s))) hart;
+        first_is = ap (λ (h : ℕ). Some (record { hart = h; count = x.count })) hart
+    }
+
+-- a slice in which nothing is left to do
+no_slice : (s : MachineState) (hart count : ℕ) → (count ≡ 0) ⊎ (is_running (hart_of s hart) ≡ false) → run_slice count hart s ≡ finished s
+unfolding run_slice
+no_slice s hart zero nothing = refl
+no_slice s hart (suc count) (inl none) = absurd (omega arith)
+no_slice s hart (suc count) (inr ended) = ap (λ (b : Bool). cond b (preceded (next_instant hart s ∷ []) (run_slice count hart (after hart s))) (finished s)) ended
+
+pub passed-over : (s : MachineState) (left : List Slice) (slice : Slice) → first_of left ≡ Some slice → (slice.count ≡ 0) ⊎ (is_running (hart_of s slice.hart) ≡ false) → run_slices (rest_of left) s ≡ run_slices left s
+unfolding run_slices
+passed-over s [] slice first nothing = absurd cc
+passed-over s (x ∷ rest) slice first nothing =
+    let same : slice ≡ x = cc in
+    sym (ap (λ (r : Run). joined r (run_slices rest)) (no_slice s x.hart x.count (subst (λ (y : Slice). (y.count ≡ 0) ⊎ (is_running (hart_of s y.hart) ≡ false)) same nothing)))
+
+pub stands-at : (s : MachineState) (left : List Slice) (slice : Slice) → first_of left ≡ Some slice → 0 < slice.count → is_running (hart_of s slice.hart) ≡ true → StandsAt s left
+stands-at s [] slice first some runs = absurd cc
+stands-at s (x ∷ rest) slice first some runs =
+    let same : slice ≡ x = cc in
+    subst (λ (y : Slice). (0 < y.count) × (is_running (hart_of s y.hart) ≡ true)) same (some, runs)
+
+pub stands-none : (s : MachineState) (left : List Slice) → first_of left ≡ None → StandsAt s left
+stands-none s [] none = tt
+stands-none s (x ∷ rest) none = absurd cc
+
+count-cons : (slice : Slice) (rest : List Slice) → instructions (slice ∷ rest) ≡ slice.count + instructions rest
+count-cons slice rest = sum-map count_of (slice ∷ rest) ∙ sum_by-cons count_of slice rest ∙ ap (λ (n : ℕ). slice.count + n) (sym (sum-map count_of rest))
+
+pub fewer : (left : List Slice) → instructions (rest_of left) ≤ instructions left
+fewer [] = omega arith
+fewer (slice ∷ rest) = omega (arith, count-cons slice rest)
+
+pub rest-are-of : (harts : ℕ) (left : List Slice) → AreOf harts left → AreOf harts (rest_of left)
+rest-are-of harts [] all = all
+rest-are-of harts (slice ∷ rest) all = λ k d few. all (suc k) d (omega arith)
+
+pub room-rest : (s : MachineState) (left : List Slice) → HaveRoom s left → HaveRoom s (rest_of left)
+room-rest s left room hart = omega (arith, fewer left, room hart)
+
+pub first-of-hart : (harts : ℕ) (left : List Slice) (slice : Slice) → AreOf harts left → first_of left ≡ Some slice → slice.hart < harts
+first-of-hart harts [] slice all first = absurd cc
+first-of-hart harts (x ∷ rest) slice all first =
+    let same : x ≡ slice = cc in
+    subst (λ (y : Slice). y.hart < harts) same (all 0 x (omega arith))
+
+pub shorter : (left : List Slice) (slice : Slice) → first_of left ≡ Some slice → length (rest_of left) < length left
+shorter [] slice first = absurd cc
+shorter (x ∷ rest) slice first = omega arith
+
+-- one instruction less
+pub less-are-of : (harts count : ℕ) (left : List Slice) → AreOf harts left → AreOf harts (less count left)
+less-are-of harts count [] all = all
+less-are-of harts count (slice ∷ rest) all = later
+  where
+    later : AreOf harts (less count (slice ∷ rest))
+    later zero d few = all zero slice (omega arith)
+    later (suc k) d few = all (suc k) d (omega arith)
+
+pub less-by : (count : ℕ) (left : List Slice) → count ≤ count_of_first left → instructions (less count left) + count ≡ instructions left
+less-by count [] few = omega arith
+less-by count (slice ∷ rest) few = omega (arith, count-cons slice rest, count-cons (record slice { count = slice.count - count }) rest)
+
+at_most : (is_retired : Bool) (count : ℕ) → plus_one is_retired count ≤ count + 1
+at_most true count = omega arith
+at_most false count = omega arith
+
+pub room-less : (s new : MachineState) (left : List Slice) (hart : ℕ) (is_retired : Bool) → 1 ≤ count_of_first left → HaveRoom s left → Counts hart is_retired s new → HaveRoom new (less 1 left)
+room-less s new left hart is_retired some room counts other =
+    elim (eqb_tells other hart) [ inl h ↦ same h.1 | inr h ↦ apart h.1 ]
+  where
+    same : other ≡ hart → (hart_of new other).retired + instructions (less 1 left) ≤ most_instructions
+    same e =
+        let own : (hart_of new other).retired ≡ plus_one is_retired (hart_of s hart).retired = ap (λ (h : ℕ). (hart_of new h).retired) e ∙ counts.own in
+        omega (arith, own, at_most is_retired (hart_of s hart).retired, less-by 1 left some, room hart)
+    apart : other ≢ hart → (hart_of new other).retired + instructions (less 1 left) ≤ most_instructions
+    apart ne = omega (arith, counts.others other ne, less-by 1 left some, room other)
+
+abbrev sum_by-of : List Slice → ℕ
+sum_by-of xs = sum_by count_of xs
+
+pub one-more : (slices : List Slice) (slice : Slice) → instructions (slices ++ slice ∷ []) ≡ instructions slices + slice.count
+one-more slices slice =
+    sum-map count_of (slices ++ slice ∷ [])
+    ∙ sum_by-append count_of slices (slice ∷ [])
+    ∙ ap (λ (n : ℕ). n + sum_by-of (slice ∷ [])) (sym (sum-map count_of slices))
+    ∙ (let e : sum_by-of (slice ∷ []) ≡ slice.count = sum_by-cons count_of slice [] ∙ omega arith in ap (λ (n : ℕ). instructions slices + n) e)
+
+-- a slice that has nothing left, or whose hart has ended
+pub cannot : (count : ℕ) (b : Bool) → (nat_lt 0 count && b) ≡ false → (count ≡ 0) ⊎ (b ≡ false)
+cannot zero b e = inl refl
+cannot (suc count) b e = inr (ap (λ (a : Bool). a && b) (sym (lt-ltb 0 (suc count) (omega arith))) ∙ e)
+
+some-left : (left : List Slice) → 0 < count_of_first left → 0 < instructions left
+some-left [] some = absurd (omega arith)
+some-left (slice ∷ rest) some = omega (arith, count-cons slice rest)
+
+pub room-for : (s : MachineState) (left : List Slice) (hart : ℕ) → HaveRoom s left → 0 < count_of_first left → (hart_of s hart).retired < most_instructions
+room-for s left hart room some = omega (arith, room hart, some-left left some)
+
+-- the machine went on by one instruction
+pub went-on : (s new : MachineState) (left less_left settled : List Slice) (due : Due) (is_retired : Bool) → IsDue s left due → record { state = new; retired = is_retired } ≡ acts due.hart s → less_left ≡ less 1 left
+    → run_slices settled new ≡ run_slices less_left new → WentOn (record { hart = due.hart; ordinal = due.ordinal; pc = due.pc; retired = is_retired }) (record { state = s; left = left }) (record { state = new; left = settled })
+went-on s new left less_left settled due is_retired is done taken run =
+    record {
+        told = ap₂ (λ (d : Due) (b : Bool). record { hart = d.hart; ordinal = d.ordinal; pc = d.pc; retired = b }) is.first_due_is (ap (λ (a : Acted). a.retired) done);
+        run = is.run ∙ ap (preceded (next_instant due.hart s ∷ [])) (sym (run ∙ ap₂ (λ (l : List Slice) (t : MachineState). run_slices l t) taken (ap (λ (a : Acted). a.state) done)));
+        state = ap (λ (a : Acted). a.state) done
+    }

@@ -1,0 +1,11 @@
+use Rattle.std.proofs.Common.{◌∙◌}
+use Rattle.rv_run.proofs.Ranges.{ready-is, fresh-is}
+use Rattle.rv_run.proofs.machine.Machine.start.Goals as goal
+
+pub invariant_of-result : goal.invariant_of-result
+invariant_of-result c =
+    ready-is c.args.image.now c.args.schedule c.args.input.now c.harts.result c.in_ok-board.board c.of-turns.result c.harts.ensures.schedule c.harts.ensures.harts c.in_ok-board.ensures (c.of-turns.ensures ∙ c.into_slices.ensures)
+
+pub returns-clause-fresh : goal.returns-clause-fresh
+returns-clause-fresh c =
+    fresh-is c.args.image.now c.args.schedule c.args.input.now c.harts.result c.in_ok-board.board c.harts.ensures.schedule c.harts.ensures.harts c.in_ok-board.ensures

@@ -1,0 +1,113 @@
+-- The text of a schedule: how many harts there are, and which of them runs for how many instructions,
+-- slice by slice.
+use Rattle.std.specs.Prelude.{◌≡◌, ℕ, ◌+◌, ◌-◌, ◌<◌, ◌≤◌, ◌==◌, ◌||◌, Bool, true, false, not, List, [], ◌∷◌, ◌++◌, map, filter, length, take, drop, position, sum, Option, Some, None, Result, Ok, Err, if◌then◌else◌, nat_eq, All}
+use Rattle.std.specs.List.{starts_with}
+use Rattle.prof_bytes.specs.Outcome.{◌>>=◌}
+use Rattle.rv_run.specs.declared.schedule.Slice.{Slice}
+use Rattle.rv_run.specs.declared.schedule.ScheduleFault.{ScheduleFault}
+use Rattle.rv_run.specs.Numerals.{number_of}
+
+-- the number of harts, and the slices in order
+pub record Scheduled : Type 0 where
+  pub harts : ℕ
+  pub slices : List Slice
+
+-- how many harts there may be, and how many instructions all slices together may retire
+abbrev pub most_harts : ℕ
+most_harts = 16
+
+abbrev pub most_instructions : ℕ
+most_instructions = 4294967295
+
+abbrev pub with_first : ℕ → List (List ℕ) → List (List ℕ)
+with_first byte [] = (byte ∷ []) ∷ []
+with_first byte (line ∷ rest) = (byte ∷ line) ∷ rest
+
+-- the bytes cut at line feeds; a last empty piece is no line
+unfoldable pub lines : List ℕ → List (List ℕ)
+lines [] = []
+lines (byte ∷ rest) = if byte == 10 then [] ∷ lines rest else with_first byte (lines rest)
+
+-- a line and its number
+pub record Numbered : Type 0 where
+  pub number : ℕ
+  pub bytes : List ℕ
+
+unfoldable pub numbered : ℕ → List (List ℕ) → List Numbered
+numbered first [] = []
+numbered first (line ∷ rest) = record { number = first; bytes = line } ∷ numbered (first + 1) rest
+
+-- empty lines and those that begin with `#` are passed over
+abbrev pub is_passed_over : List ℕ → Bool
+is_passed_over [] = true
+is_passed_over (byte ∷ rest) = byte == 35
+
+abbrev pub tells : Numbered → Bool
+tells line = not (is_passed_over line.bytes)
+
+abbrev pub telling : List Numbered → List Numbered
+telling all = filter tells all
+
+-- `harts ` in ASCII
+abbrev pub harts_word : List ℕ
+harts_word = 104 ∷ 97 ∷ 114 ∷ 116 ∷ 115 ∷ 32 ∷ []
+
+-- the line `harts N`
+abbrev pub harts_in : List ℕ → Option ℕ
+harts_in line = if starts_with nat_eq line harts_word then number_of 1 most_harts (drop 6 line) else None
+
+abbrev pub slice_by : Option ℕ → Option ℕ → Option Slice
+slice_by (Some hart) (Some count) = Some (record { hart = hart; count = count })
+slice_by _ _ = None
+
+abbrev pub slice_cut : ℕ → ℕ → List ℕ → Option ℕ → Option Slice
+slice_cut harts used line None = None
+slice_cut harts used line (Some space) =
+    slice_by (number_of 0 (harts - 1) (take space line)) (number_of 1 (most_instructions - used) (drop (space + 1) line))
+
+-- the line `H C`, with one space, where the slices before it have so many instructions: C is at most
+-- what they leave of the most that there may be
+abbrev pub slice_in : ℕ → ℕ → List ℕ → Option Slice
+slice_in harts used line = slice_cut harts used line (position (λ byte. byte == 32) line)
+
+-- the value that a line has, or the fault that it is
+abbrev pub or_fault : {X : Type 0} → ℕ → Option X → Result X ScheduleFault
+or_fault line None = Err (record { line = line })
+or_fault line (Some x) = Ok x
+
+abbrev pub before : List Slice → Result (List Slice) ScheduleFault → Result (List Slice) ScheduleFault
+before slices rest = rest >>= λ more. Ok (slices ++ more)
+
+-- every line is a slice
+unfoldable pub slices_of : ℕ → ℕ → List Numbered → Result (List Slice) ScheduleFault
+slices_of harts used [] = Ok []
+slices_of harts used (line ∷ rest) =
+    or_fault line.number (slice_in harts used line.bytes) >>= λ slice. before (slice ∷ []) (slices_of harts (used + slice.count) rest)
+
+-- the first line is that of the harts. Where there is none, the fault is at the end of all lines
+abbrev pub schedule_in : ℕ → List Numbered → Result Scheduled ScheduleFault
+schedule_in end [] = Err (record { line = end })
+schedule_in end (first ∷ rest) =
+    or_fault first.number (harts_in first.bytes) >>= λ harts. slices_of harts 0 rest >>= λ slices. Ok (record { harts = harts; slices = slices })
+
+-- the schedule that the bytes tell, or its first bad line; lines count from 1
+abbrev pub schedule_of : List ℕ → Result Scheduled ScheduleFault
+schedule_of bytes = schedule_in (length (lines bytes) + 1) (telling (numbered 1 (lines bytes)))
+
+abbrev pub count_of : Slice → ℕ
+count_of slice = slice.count
+
+-- how many instructions the slices have
+abbrev pub instructions : List Slice → ℕ
+instructions slices = sum (map count_of slices)
+
+-- a slice of one of so many harts, which is not empty
+pub record IsSlice (harts : ℕ) (slice : Slice) : Type 0 where
+  pub hart : slice.hart < harts
+  pub count : 0 < slice.count
+
+pub record IsSchedule (s : Scheduled) : Type 0 where
+  pub some : 0 < s.harts
+  pub few : s.harts ≤ most_harts
+  pub slices : All (IsSlice s.harts) s.slices
+  pub instructions : instructions s.slices ≤ most_instructions

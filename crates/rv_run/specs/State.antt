@@ -1,0 +1,72 @@
+-- The state of a machine of harts (RISC-V unprivileged manual, "RISC-V Software Execution Environments
+-- and Harts"): the memory that they share, each hart, the input that was not read, and the output.
+use Rattle.std.specs.Prelude.{◌≡◌, ℕ, ◌+◌, ◌-◌, ◌*◌, ◌==◌, Bool, true, false, List, [], ◌∷◌, map, length, slice_set, if◌then◌else◌}
+use Rattle.std.specs.List.{range_with_len, slice_index_or}
+use Rattle.elf_image.specs.Image.{Loaded}
+use Rattle.rv_hart.specs.Memory.{Memory, first_memory, stack_of}
+use Rattle.rv_hart.specs.Step.{State, state}
+use Rattle.rv_hart.specs.declared.outcome.Stepped.{Stepped}
+use Rattle.rv_hart.specs.declared.outcome.Stepped.TheVariants as stepped
+use Rattle.rv_run.specs.declared.hart.HartEnd.{HartEnd}
+use Rattle.rv_run.specs.declared.hart.HartEnd.TheVariants as ends
+
+-- a hart: its pc, its registers, how many instructions it retired, and how it stands
+pub record HartState : Type 0 where
+  pub pc : ℕ
+  pub registers : List ℕ
+  pub retired : ℕ
+  pub end : HartEnd
+
+pub record MachineState : Type 0 where
+  pub memory : Memory
+  pub harts : List HartState
+  pub input : List ℕ
+  pub output : List ℕ
+
+-- what there is where there is no hart
+abbrev pub no_hart : HartState
+no_hart = record { pc = 0; registers = []; retired = 0; end = ends.Running }
+
+abbrev pub hart_in : List HartState → ℕ → HartState
+hart_in harts hart = slice_index_or harts hart no_hart
+
+abbrev pub hart_of : MachineState → ℕ → HartState
+hart_of s hart = hart_in s.harts hart
+
+abbrev pub with_hart : ℕ → HartState → MachineState → MachineState
+with_hart hart new s = record s { harts = slice_set s.harts hart new }
+
+abbrev pub runs : HartEnd → Bool
+runs ends.Running = true
+runs _ = false
+
+abbrev pub is_running : HartState → Bool
+is_running hart = runs hart.end
+
+-- what a hart's step begins with
+abbrev pub step_state : HartState → Memory → State
+step_state hart memory = state hart.pc hart.registers memory
+
+abbrev pub counted : Stepped → ℕ → ℕ
+counted stepped.Retired retired = retired + 1
+counted _ retired = retired
+
+-- the hart after a step, which is counted if the instruction retired
+abbrev pub stepped_hart : HartState → State × Stepped → HartState
+stepped_hart hart step = record { pc = step.0.pc; registers = step.0.registers; retired = counted step.1 hart.retired; end = hart.end }
+
+-- x2 is 16 below the end of the hart's stack, x10 is the number of the hart, and x11 how many there
+-- are; all other registers are 0
+abbrev pub first_register : ℕ → ℕ → ℕ → ℕ
+first_register harts hart register =
+    if register == 2 then (stack_of hart).end - 16 else (if register == 10 then hart else (if register == 11 then harts else 0))
+
+-- a hart begins at the program's entry
+abbrev pub first_hart : ℕ → ℕ → ℕ → HartState
+first_hart entry harts hart =
+    record { pc = entry; registers = map (first_register harts hart) (range_with_len 0 32); retired = 0; end = ends.Running }
+
+-- how a machine of so many harts begins to run a program with this input
+abbrev pub first_state : Loaded → ℕ → List ℕ → MachineState
+first_state program harts input =
+    record { memory = first_memory program harts; harts = map (first_hart program.entry harts) (range_with_len 0 harts); input = input; output = [] }

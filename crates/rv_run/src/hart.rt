@@ -1,0 +1,144 @@
+//! One hart of a machine: what it computes with, how far it came, and how it stands.
+ghost use Rattle.std.specs.Prelude.{◌≡◌, ◌<◌, ◌^◌, IfOk, OnErr};
+ghost use Rattle.rv_hart.specs.Step.{step_of, register};
+ghost use Rattle.rv_run.specs.State.{first_hart, is_running, step_state, stepped_hart};
+ghost use Rattle.rv_run.specs.Calls.{with_answer, with_end, grouped};
+
+use prof_bytes::Memory;
+use rv_hart::{Cause, Hart, Space, Stepped, step};
+use std::marker::Model;
+
+/// How a hart stands.
+#[derive(Clone, Copy, Debug, PartialEq, Eq)]
+pub enum HartEnd {
+    /// It has not ended.
+    Running,
+    /// It ended by its own exit, with this status.
+    Exit(u32),
+    /// It ended by an exit of the whole group, its own or another hart's, with this status.
+    Group(u32),
+    /// Its instruction at this pc trapped.
+    Trap { cause: Cause, pc: u32 },
+    /// It came to a breakpoint at this pc.
+    Break { pc: u32 },
+}
+
+#[derive(Drop)]
+pub(crate) struct Core {
+    hart: Hart,
+    retired: u64,
+    end: HartEnd,
+}
+
+impl Model for Core {
+    ghost use Rattle.rv_run.specs.State.{HartState};
+
+    ghost Value = { HartState };
+
+    ghost view = { λ core. record { pc = core.hart.pc; registers = core.hart.regs; retired = core.retired; end = core.end } };
+}
+
+impl Core {
+    /// A hart before its first instruction.
+    pub(crate) fn first(entry: u32, hart: u32, harts: u32) -> Core
+        requires { hart < 64 }
+        ensures { result ≡ first_hart entry harts hart }
+    {
+        let mut regs = [0; 32];
+        regs[2] = 0xf000_0000 + hart * 0x10_0000 + 0xf_fff0;
+        regs[10] = hart;
+        regs[11] = harts;
+        Core {
+            hart: Hart { pc: entry, regs },
+            retired: 0,
+            end: HartEnd::Running,
+        }
+    }
+
+    #[inline(always)]
+    pub(crate) fn pc(&self) -> u32
+        ensures { result ≡ self.now.pc }
+    {
+        self.hart.pc
+    }
+
+    #[inline(always)]
+    pub(crate) fn registers(&self) -> &[u32; 32]
+        ensures { result.now ≡ self.now.registers }
+    {
+        &self.hart.regs
+    }
+
+    #[inline(always)]
+    pub(crate) fn retired(&self) -> u64
+        ensures { result ≡ self.now.retired }
+    {
+        self.retired
+    }
+
+    #[inline(always)]
+    pub(crate) fn end(&self) -> HartEnd
+        ensures { result ≡ self.now.end }
+    {
+        self.end
+    }
+
+    #[inline(always)]
+    pub(crate) fn is_running(&self) -> bool
+        ensures { result ≡ is_running self.now }
+    {
+        matches!(self.end, HartEnd::Running)
+    }
+
+    /// What the register of this number holds.
+    pub(crate) fn register(&self, number: usize) -> u32
+        requires some { 0 < number }
+        requires number { number < 32 }
+        ensures { result ≡ register self.now.registers number }
+    {
+        self.hart.regs[number]
+    }
+
+    /// Does one instruction, and counts it if it retired.
+    #[inline(always)]
+    pub(crate) fn step(&mut self, space: &mut Space<'_>) -> Result<Stepped, Memory>
+        requires { self.old.retired < 2 ^ 32 }
+        ensures hart { IfOk result (λ stepped. self.new ≡ stepped_hart self.old (step_of (step_state self.old space.old))) }
+        ensures space { IfOk result (λ stepped. space.new ≡ (step_of (step_state self.old space.old)).0.memory) }
+        ensures how { IfOk result (λ stepped. stepped ≡ (step_of (step_state self.old space.old)).1) }
+        ensures err { OnErr result (self.new ≡ self.old) }
+        ensures err_space { OnErr result (space.new ≡ space.old) }
+    {
+        let stepped = step(&mut self.hart, space)?;
+        if stepped == Stepped::Retired {
+            self.retired += 1;
+        }
+        Ok(stepped)
+    }
+
+    /// Completes an environment call with this answer.
+    pub(crate) fn answer(&mut self, answer: u32)
+        requires { self.old.retired < 2 ^ 32 }
+        ensures { self.new ≡ with_answer answer self.old }
+    {
+        self.hart.regs[10] = answer;
+        self.hart.pc = self.hart.pc.wrapping_add(4);
+        self.retired += 1;
+    }
+
+    /// Ends.
+    pub(crate) fn finish(&mut self, end: HartEnd)
+        ensures { self.new ≡ with_end end self.old }
+    {
+        self.end = end;
+    }
+
+    /// Ends with the group, unless it has ended.
+    pub(crate) fn finish_with_group(&mut self, status: u32)
+        ensures { self.new ≡ grouped status self.old }
+    {
+        if self.is_running() {
+            self.end = HartEnd::Group(status);
+        }
+    }
+}

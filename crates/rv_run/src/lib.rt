@@ -1,0 +1,22 @@
+//! The run of a program on several harts, under a schedule.
+//!
+//! It promises that a machine carries out exactly the instructions of the run, in its order: the slices
+//! of the schedule one after another, with the environment calls that read, write and exit. Harts are
+//! those of the RISC-V unprivileged manual; the calls have the numbers and answers of Linux for RISC-V.
+//! Below stand one step of one hart, the program's image, and the bytes.
+#![tactic(auto)]
+
+mod board;
+mod hart;
+mod lines;
+mod machine;
+mod numerals;
+mod output;
+mod schedule;
+mod turns;
+
+pub use hart::HartEnd;
+pub use machine::{Due, Machine, Moment};
+pub use numerals::number;
+pub use schedule::{Schedule, ScheduleFault, Slice, read_schedule};
+

@@ -1,0 +1,118 @@
+//! The lines of a text, one after another.
+ghost use Rattle.std.specs.Prelude.{◌≡◌, ◌==◌, ◌<◌, ◌≤◌, ◌^◌, [], IfSome, None, length, position};
+ghost use Rattle.rv_run.specs.Schedule.{is_passed_over, lines, telling};
+ghost use Rattle.rv_run.specs.Reading.{all_lines, to_read, first_of, rest_of, line_told};
+
+use std::marker::Model;
+
+/// A line without its line feed, and its number, from 1.
+#[derive(Clone, Copy, Debug)]
+pub(crate) struct Line<'a> {
+    pub(crate) number: u32,
+    pub(crate) bytes: &'a [u8],
+}
+
+/// The lines of a text that are still to be read.
+#[derive(Debug, Drop)]
+pub(crate) struct Lines<'a> {
+    bytes: &'a [u8],
+    place: usize,
+    done: u32,
+}
+
+impl<'a> Model for Lines<'a> {
+    ghost use Rattle.std.specs.Prelude.{◌≤◌, ◌+◌, ◌^◌, drop, length};
+    ghost use Rattle.rv_run.specs.Schedule.{lines};
+    ghost use Rattle.rv_run.specs.Reading.{Unread, IsWithin};
+
+    ghost Value = { Unread };
+
+    ghost view = { λ l. record { done = l.done; rest = lines (drop l.place l.bytes.now) } };
+
+    ghost invariant = { λ l. IsWithin l.bytes.now l.place l.done };
+}
+
+fn is_comment(line: &[u8]) -> bool
+    ensures { result ≡ is_passed_over line.now }
+{
+    match line {
+        [] => true,
+        [first, ..] => *first == b'#',
+    }
+}
+
+/// The place of the first line feed, or the end.
+fn line_end(bytes: &[u8]) -> Option<usize>
+    ensures { result ≡ position (λ byte. byte == 10) bytes.now }
+{
+    bytes.iter().position(|byte| *byte == 10)
+}
+
+impl<'a> Lines<'a> {
+    /// All lines of the text.
+    pub(crate) fn of(bytes: &'a [u8]) -> Lines<'a>
+        requires { length bytes.now ≤ 2 ^ 22 }
+        ensures { result ≡ record { done = 0; rest = lines bytes.now } }
+    {
+        Lines {
+            bytes,
+            place: 0,
+            done: 0,
+        }
+    }
+
+    /// How many lines were read.
+    pub(crate) fn done(&self) -> u32
+        ensures done { result ≡ self.now.done }
+        ensures few { result ≤ 2 ^ 22 }
+    {
+        self.done
+    }
+
+    /// The next line, if there is one.
+    fn next_line(&mut self) -> Option<Line<'a>>
+        ensures line { line_told result ≡ first_of (to_read self.old) }
+        ensures rest { to_read self.new ≡ rest_of (to_read self.old) }
+        ensures all { all_lines self.new ≡ all_lines self.old }
+        ensures less { IfSome result (λ _. length self.new.rest < length self.old.rest) }
+        ensures end { result ≡ None → self.new.rest ≡ [] }
+    {
+        if self.place == self.bytes.len() {
+            return None;
+        }
+        let left = &self.bytes[self.place..];
+        self.done += 1;
+        match line_end(left) {
+            Some(end) => {
+                self.place += end + 1;
+                Some(Line {
+                    number: self.done,
+                    bytes: &left[..end],
+                })
+            }
+            None => {
+                self.place = self.bytes.len();
+                Some(Line {
+                    number: self.done,
+                    bytes: left,
+                })
+            }
+        }
+    }
+
+    /// The next line that is not passed over, if there is one.
+    pub(crate) fn next_telling(&mut self) -> Option<Line<'a>>
+        ensures line { line_told result ≡ first_of (telling (to_read self.old)) }
+        ensures rest { telling (to_read self.new) ≡ rest_of (telling (to_read self.old)) }
+        ensures all { all_lines self.new ≡ all_lines self.old }
+        ensures less { IfSome result (λ _. length (telling (to_read self.new)) < length (telling (to_read self.old))) }
+        ensures end { result ≡ None → self.new.rest ≡ [] }
+    {
+        loop {
+            match self.next_line() {
+                Some(line) if is_comment(line.bytes) => {}
+                other => return other,
+            }
+        }
+    }
+}

@@ -1,0 +1,154 @@
+//! The machine that a program runs on.
+ghost use Rattle.std.specs.Prelude.{◌≡◌, ◌<◌, ◌≤◌, IfOk, IfSome, OnErr, None, length};
+ghost use Rattle.rv_run.specs.Schedule.{most_instructions};
+ghost use Rattle.rv_run.specs.State.{first_state, hart_of};
+ghost use Rattle.rv_run.specs.Run.{finished};
+ghost use Rattle.rv_run.specs.Told.{IsFresh, Went, CountsBy, first_due, to_come};
+
+use crate::board::Board;
+use crate::hart::HartEnd;
+use crate::schedule::Schedule;
+use crate::turns::Turns;
+use elf_image::Image;
+use prof_bytes::Memory;
+use rv_hart::Space;
+use std::alloc::Global;
+use std::marker::Model;
+
+/// One instruction that was carried out: the hart, its number among those that the hart retires, from
+/// 1, the address, and whether it retired. If it did not, the number is the one that it would have had.
+#[derive(Clone, Copy, Debug, PartialEq, Eq)]
+pub struct Moment {
+    pub hart: u32,
+    pub ordinal: u64,
+    pub pc: u32,
+    pub retired: bool,
+}
+
+/// The next instruction: the hart, its address, and the number that it gets if it retires.
+#[derive(Clone, Copy, Debug, PartialEq, Eq)]
+pub struct Due {
+    pub hart: u32,
+    pub pc: u32,
+    pub ordinal: u64,
+}
+
+/// A program that runs under a schedule, in the middle of its run. Contracts see how it stands and
+/// which slices are left, and so the rest of its run.
+#[derive(Drop)]
+pub struct Machine<'a> {
+    board: Board<'a>,
+    turns: Turns,
+}
+
+impl<'a> Model for Machine<'a> {
+    ghost use Rattle.rv_run.specs.Told.{Progress, IsReady};
+
+    ghost Value = { Progress };
+
+    ghost view = { λ machine. record { state = machine.board; left = machine.turns } };
+
+    ghost invariant = { λ machine. IsReady (record { state = machine.board; left = machine.turns }) };
+}
+
+impl<'a> Machine<'a> {
+    /// The machine before the first instruction. `input` is what the program can read.
+    pub fn start(
+        alloc: Global,
+        image: &Image<'a>,
+        schedule: Schedule,
+        input: &[u8],
+    ) -> Result<Machine<'a>, Memory>
+        ensures fresh { IfOk result (λ machine. IsFresh machine.state) }
+        ensures machine { IfOk result (λ machine. machine ≡ record { state = first_state image.now schedule.harts input.now; left = schedule.slices }) }
+    {
+        let board = Board::first(alloc, image, schedule.harts(), input)?;
+        let turns = Turns::of(schedule.into_slices());
+        Ok(Machine { board, turns })
+    }
+
+    /// The next instruction; `None` exactly where the run has ended. Takes no memory.
+    #[inline(always)]
+    pub fn due(&self) -> Option<Due>
+        ensures due { result ≡ first_due (to_come self.now).instants }
+        ensures hart { IfSome result (λ due. due.hart < length self.now.state.harts) }
+        ensures few { IfSome result (λ due. due.ordinal ≤ most_instructions) }
+        ensures end { result ≡ None → to_come self.now ≡ finished self.now.state }
+    {
+        let Some(slice) = self.turns.first() else {
+            return None;
+        };
+        let core = self.board.core(slice.hart);
+        Some(Due {
+            hart: slice.hart,
+            pc: core.pc(),
+            ordinal: core.retired() + 1,
+        })
+    }
+
+    /// Carries out the next instruction; `None` exactly where the run has ended. After `Memory` the
+    /// machine stands as before.
+    pub fn next(&mut self) -> Result<Option<Moment>, Memory>
+        ensures ok { IfOk result (λ moment. Went moment self.old self.new) }
+        ensures counts { IfOk result (λ moment. CountsBy moment self.old.state self.new.state) }
+        ensures err { OnErr result (self.new ≡ self.old) }
+    {
+        let Some(due) = self.due() else {
+            return Ok(None);
+        };
+        let retired = self.board.act(due.hart)?;
+        self.turns.take_off(1);
+        self.turns.settle(&self.board);
+        Ok(Some(Moment {
+            hart: due.hart,
+            ordinal: due.ordinal,
+            pc: due.pc,
+            retired,
+        }))
+    }
+
+    /// The memory as it stands.
+    pub fn space(&self) -> &Space<'a>
+        ensures { result.now ≡ self.now.state.memory }
+    {
+        self.board.space()
+    }
+
+    /// What the program wrote, at most 1,048,576 bytes.
+    pub fn output(&self) -> &[u8]
+        ensures { result.now ≡ self.now.state.output }
+    {
+        self.board.output()
+    }
+
+    /// The number of harts.
+    pub fn harts(&self) -> usize
+        ensures { result ≡ length self.now.state.harts }
+    {
+        self.board.harts()
+    }
+
+    /// The registers x0 to x31 of a hart.
+    pub fn regs(&self, hart: u32) -> &[u32; 32]
+        requires { hart < length self.now.state.harts }
+        ensures { result.now ≡ (hart_of self.now.state hart).registers }
+    {
+        self.board.core(hart).registers()
+    }
+
+    /// How many instructions a hart retired.
+    pub fn retired(&self, hart: u32) -> u64
+        requires { hart < length self.now.state.harts }
+        ensures { result ≡ (hart_of self.now.state hart).retired }
+    {
+        self.board.core(hart).retired()
+    }
+
+    /// How a hart stands.
+    pub fn end(&self, hart: u32) -> HartEnd
+        requires { hart < length self.now.state.harts }
+        ensures { result ≡ (hart_of self.now.state hart).end }
+    {
+        self.board.core(hart).end()
+    }
+}

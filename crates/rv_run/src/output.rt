@@ -1,0 +1,47 @@
+//! What a program writes: bytes of its memory.
+ghost use Rattle.std.specs.Prelude.{◌≡◌, ◌+◌, ◌≤◌, ◌^◌, true, IfOk};
+ghost use Rattle.rv_hart.specs.Memory.{byte_at, may, read};
+ghost use Rattle.rv_run.specs.Calls.{all_readable, bytes_at};
+
+use prof_bytes::Memory;
+use rv_hart::Space;
+use std::alloc::Global;
+
+/// Whether each of so many addresses from `at` on is below 2^32 and may be read. It takes time in
+/// proportion to their number.
+pub(crate) fn are_readable(space: &Space<'_>, at: u32, count: u32) -> bool
+    ensures { result ≡ all_readable space.now at count }
+{
+    if u64::from(at) + u64::from(count) > 1 << 32 {
+        return false;
+    }
+    for place in 0..count {
+        if space.load(at + place, 1).is_none() {
+            return false;
+        }
+    }
+    true
+}
+
+/// The byte at an address that may be read.
+fn byte(space: &Space<'_>, at: u32) -> u8
+    requires { may read space.now.regions at ≡ true }
+    ensures { result ≡ byte_at space.now at }
+{
+    match space.load(at, 1) {
+        Some(number) => number as u8,
+        None => 0,
+    }
+}
+
+/// The bytes from `at` on, which may be read.
+pub(crate) fn copied(space: &Space<'_>, alloc: Global, at: u32, count: u32) -> Result<Vec<u8>, Memory>
+    requires { all_readable space.now at count ≡ true }
+    ensures { IfOk result (λ bytes. bytes.items ≡ bytes_at space.now at count) }
+{
+    let mut bytes = Vec::new(alloc);
+    for place in 0..count {
+        bytes.push(byte(space, at + place))?;
+    }
+    Ok(bytes)
+}
