@@ -104,6 +104,7 @@ impl<'a> Kept<'a> {
         requires within { at % 2 ^ 12 + length source.now ≤ length (page_of self.old at).bytes }
         requires page { at % 2 ^ 12 + length source.now ≤ 2 ^ 12 }
         requires some { 0 < length source.now }
+        requires granted { (i : ℕ) → i < length source.now → may write self.old.regions (at + i) ≡ true }
         ensures rest { self.new ≡ record self.old { blocks = self.new.blocks } }
         ensures kept { IsKept self.new }
         ensures values { (a : ℕ) → value self.new a ≡ value_after self.old at source.now a }
@@ -170,6 +171,7 @@ impl<'a> Kept<'a> {
     pub(crate) fn put_all(&mut self, at: u32, source: &[u8])
         requires kept { IsKept self.old }
         requires low { at + length source.now ≤ 2 ^ 32 }
+        requires granted { (i : ℕ) → i < length source.now → may write self.old.regions (at + i) ≡ true }
         requires made { (i : ℕ) → i < length source.now → 2 ^ 12 ≤ length (page_of self.old (at + i)).bytes }
         ensures rest { self.new ≡ record self.old { blocks = self.new.blocks } }
         ensures kept { IsKept self.new }
