@@ -158,5 +158,5 @@ near-intact kept home at count is own covered fixed None long each = tt
 near-intact kept home at count is own covered fixed (Some bytes) long each =
     spelled bytes.now (value kept) at count long
     (λ i few.
-        let found : region_at kept.regions (at + i) ≡ Some home = covers-region kept.regions home at count i own covered few in
-        each i few ∙ sym (is.intact (at + i) (ap (grants write) found ∙ fixed) ∙ ap (byte_in kept.file.now (at + i)) found))
+    let found : region_at kept.regions (at + i) ≡ Some home = covers-region kept.regions home at count i own covered few in
+    each i few ∙ sym (is.intact (at + i) (ap (grants write) found ∙ fixed) ∙ ap (byte_in kept.file.now (at + i)) found))

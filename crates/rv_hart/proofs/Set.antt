@@ -190,14 +190,16 @@ pub put-intact : (old new : Kept) (at : ℕ) (source : List ℕ) → ((a : ℕ) 
 put-intact old new at source intact granted values a fixed =
     values a
     ∙ (elim (leb_tells at a) [
-    inl low ↦ (elim (leb_tells (suc a) (at + length source)) [
-    inl high ↦
-    (let same : at + (a - at) ≡ a = omega (arith, low.1) in
-    let writable : may write old.regions a ≡ true = ap (may write old.regions) (sym same) ∙ granted (a - at) (omega (arith, low.1, high.1)) in
-    let clash : true ≡ false = sym writable ∙ fixed in
-    absurd cc)
-    | inr high ↦ after-behind old at a source (omega (arith, high.1)) ∙ intact a fixed ])
-    | inr low ↦ after-before old at a source low.1 ∙ intact a fixed ])
+      | inl low ↦ (elim (leb_tells (suc a) (at + length source)) [
+        | inl high ↦
+            (let same : at + (a - at) ≡ a = omega (arith, low.1) in
+            let writable : may write old.regions a ≡ true = ap (may write old.regions) (sym same) ∙ granted (a - at) (omega (arith, low.1, high.1)) in
+            let clash : true ≡ false = sym writable ∙ fixed in
+            absurd cc)
+        | inr high ↦ after-behind old at a source (omega (arith, high.1)) ∙ intact a fixed
+      ])
+      | inr low ↦ after-before old at a source low.1 ∙ intact a fixed
+    ])
 
 -- pages keep the regions for which they were made
 pub put-homes : (regions : List Segment) (old new : ℕ → Paged) (number place : ℕ) (source : List ℕ) → ((n : ℕ) → new n ≡ cond (n == number) (with_bytes (old number) place source) (old n)) → ((n : ℕ) → IsHome regions (old n).home) → (n : ℕ) → IsHome regions (new n).home
