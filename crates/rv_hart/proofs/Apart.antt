@@ -1,5 +1,5 @@
 -- The regions of a program and its stacks share no address.
-use Rattle.std.proofs.Common.{◌≡◌, ℕ, zero, suc, ◌+◌, ◌*◌, ◌^◌, ◌<◌, ◌≤◌, ◌&&◌, ◌||◌, ◌⊎◌, inl, inr, Bool, true, false, cond, List, [], ◌∷◌, ◌++◌, map, length, get_or, Option, Some, None, IsTrue, nat_le, nat_lt, refl, sym, ap, ap₂, subst, ◌∙◌, append_assoc, append-nil, arith, rules}
+use Rattle.std.proofs.Common.{◌≡◌, ℕ, zero, suc, ◌+◌, ◌*◌, ◌/◌, ◌%◌, ◌^◌, ◌<◌, ◌≤◌, ◌&&◌, ◌||◌, ◌⊎◌, inl, inr, Bool, true, false, cond, List, [], ◌∷◌, ◌++◌, map, length, get_or, Option, Some, None, IsTrue, nat_le, nat_lt, refl, sym, ap, ap₂, subst, ◌∙◌, append_assoc, append-nil, arith, rules}
 use Rattle.std.specs.List.{All, AllPairs, find, range_with_len}
 use Rattle.std.proofs.lemmas.Bool.{and_parts, le-leb, le-ltb, leb-true, ltb-true}
 use Rattle.std.proofs.lemmas.Bool.Decides.{leb_tells}
@@ -132,6 +132,7 @@ of-kept kept program harts is few regions blocks =
       record {
         apart = subst AreApart (sym regions) (pairs-apart (regions_of program harts) stacked.pairs);
         homes = λ number. subst (λ (b : List (List Paged)). IsHome kept.regions (page_in b number).home) (sym blocks) (nowhere-home kept.regions);
+        intact = λ at fixed. ap (λ (b : List (List Paged)). get_or (page_in b (at / 2 ^ 12)).bytes (at % 2 ^ 12) (first_byte kept.file.now kept.regions at)) blocks;
         low = λ at past. ap (find (in_segment at)) regions ∙ find-none (in_segment at) (regions_of program harts) (high at past);
       },
       nowhere-home kept.regions,

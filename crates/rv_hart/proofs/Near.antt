@@ -11,8 +11,8 @@ use Rattle.elf_image.specs.declared.part.Segment.{Segment}
 use Rattle.elf_image.specs.Image.{in_segment}
 use Rattle.rv_hart.specs.Pages.{Paged, blank, page_at}
 use Rattle.rv_hart.specs.declared.kept.Kept.{Kept}
-use Rattle.rv_hart.specs.Memory.{region_at, first_byte, byte_in, has, may, grants}
-use Rattle.rv_hart.specs.Stored.{page_numbered, page_of, value, IsHome, covers_all}
+use Rattle.rv_hart.specs.Memory.{region_at, first_byte, byte_in, has, may, grants, write}
+use Rattle.rv_hart.specs.Stored.{page_numbered, page_of, value, IsHome, IsKept, covers_all}
 
 and_false : (a b : Bool) → b ≡ false → (a && b) ≡ false
 and_false true b fails = fails
@@ -151,3 +151,12 @@ found-within at regions None is = tt
 found-within at regions (Some r) is =
     let tests : (nat_le r.start at ≡ true) × (nat_lt at r.end ≡ true) = and_parts _ _ (found-holds at regions r (sym is)) in
     (leb-true r.start at tests.0, ltb-true at r.end tests.1)
+
+-- where a region can't be written, its bytes are those that it began with
+pub near-intact : (kept : Kept) (home : Segment) (at count : ℕ) → IsKept kept → IsHome kept.regions home → covers_all home at count ≡ true → has write home ≡ false → (found : Option (Bor (List ℕ))) → IfSome found (λ bytes. length bytes.now ≡ count) → IfSome found (λ bytes. (i : ℕ) → i < count → slice_index bytes.now i ≡ byte_in kept.file.now (at + i) (Some home)) → IfSome found (λ bytes. bytes.now ≡ map (value kept) (range_with_len at count))
+near-intact kept home at count is own covered fixed None long each = tt
+near-intact kept home at count is own covered fixed (Some bytes) long each =
+    spelled bytes.now (value kept) at count long
+    (λ i few.
+    let found : region_at kept.regions (at + i) ≡ Some home = covers-region kept.regions home at count i own covered few in
+    each i few ∙ sym (is.intact (at + i) (ap (grants write) found ∙ fixed) ∙ ap (byte_in kept.file.now (at + i)) found))

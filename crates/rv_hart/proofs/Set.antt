@@ -5,9 +5,10 @@ use Rattle.std.proofs.lemmas.Bool.{eqb-true, eq-eqb, le-leb, le-ltb}
 use Rattle.std.proofs.lemmas.Bool.Decides.{leb_tells}
 use Rattle.rv_hart.proofs.Near.{get_or-any}
 use Rattle.rv_hart.specs.declared.kept.Kept.{Kept}
-use Rattle.rv_hart.specs.Memory.{first_byte}
+use Rattle.rv_hart.specs.Memory.{first_byte, may, write}
 use Rattle.rv_hart.specs.Pages.{Paged, spliced, with_bytes}
-use Rattle.rv_hart.specs.Stored.{page_numbered, page_of, value, value_after}
+use Rattle.elf_image.specs.declared.part.Segment.{Segment}
+use Rattle.rv_hart.specs.Stored.{IsHome, page_numbered, page_of, value, value_after}
 
 pub spliced-length : (bytes : List ℕ) (place : ℕ) (source : List ℕ) → place + length source ≤ length bytes → length (spliced bytes place source) ≡ length bytes
 spliced-length bytes place source within =
@@ -183,3 +184,33 @@ put-more old mid new at count byte source few is before after a =
 -- what stays over two changes of the blocks
 pub rest-again : (old mid new : Kept) → mid ≡ record old { blocks = mid.blocks } → new ≡ record mid { blocks = new.blocks } → new ≡ record old { blocks = new.blocks }
 rest-again old mid new before after = after ∙ ap (λ (k : Kept). record k { blocks = new.blocks }) before
+
+-- bytes that are put where they may be written leave all others as they began
+pub put-intact : (old new : Kept) (at : ℕ) (source : List ℕ) → ((a : ℕ) → may write old.regions a ≡ false → value old a ≡ first_byte old.file.now old.regions a) → ((i : ℕ) → i < length source → may write old.regions (at + i) ≡ true) → ((a : ℕ) → value new a ≡ value_after old at source a) → (a : ℕ) → may write old.regions a ≡ false → value new a ≡ first_byte old.file.now old.regions a
+put-intact old new at source intact granted values a fixed =
+    values a
+    ∙ (elim (leb_tells at a) [
+      | inl low ↦ (elim (leb_tells (suc a) (at + length source)) [
+        | inl high ↦
+            (let same : at + (a - at) ≡ a = omega (arith, low.1) in
+            let writable : may write old.regions a ≡ true = ap (may write old.regions) (sym same) ∙ granted (a - at) (omega (arith, low.1, high.1)) in
+            let clash : true ≡ false = sym writable ∙ fixed in
+            absurd cc)
+        | inr high ↦ after-behind old at a source (omega (arith, high.1)) ∙ intact a fixed
+      ])
+      | inr low ↦ after-before old at a source low.1 ∙ intact a fixed
+    ])
+
+-- pages keep the regions for which they were made
+pub put-homes : (regions : List Segment) (old new : ℕ → Paged) (number place : ℕ) (source : List ℕ) → ((n : ℕ) → new n ≡ cond (n == number) (with_bytes (old number) place source) (old n)) → ((n : ℕ) → IsHome regions (old n).home) → (n : ℕ) → IsHome regions (new n).home
+put-homes regions old new number place source pages homes n =
+    subst (λ (p : Paged). IsHome regions p.home) (sym (pages n)) (by_case (n == number))
+  where
+    by_case : (b : Bool) → IsHome regions (cond b (with_bytes (old number) place source) (old n)).home
+    by_case true = homes number
+    by_case false = homes n
+
+-- the right to one byte, after a change of the blocks
+pub granted-one : (old new : Kept) (at i : ℕ) → new ≡ record old { blocks = new.blocks } → may write old.regions at ≡ true → i < 1 → may write new.regions (at + i) ≡ true
+granted-one old new at i rest granted few =
+    ap (λ (k : Kept). may write k.regions (at + i)) rest ∙ ap (may write old.regions) (let same : at + i ≡ at = omega arith in same) ∙ granted

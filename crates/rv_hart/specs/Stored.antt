@@ -1,6 +1,6 @@
 -- How memory is kept: what was written in pages of 4 KiB, these in blocks of 1 MiB; and what was never
 -- written as the file has it.
-use Rattle.std.specs.Prelude.{◌≡◌, ℕ, ◌+◌, ◌-◌, ◌/◌, ◌%◌, ◌^◌, ◌≤◌, ◌&&◌, Bool, true, List, length, slice_index, Some, None, if◌then◌else◌, nat_le, nat_lt}
+use Rattle.std.specs.Prelude.{◌≡◌, ℕ, ◌+◌, ◌-◌, ◌/◌, ◌%◌, ◌^◌, ◌≤◌, ◌&&◌, Bool, true, false, List, length, slice_index, Some, None, if◌then◌else◌, nat_le, nat_lt}
 use Rattle.std.specs.List.{slice_index_or}
 use Rattle.elf_image.specs.declared.part.Segment.{Segment}
 use Rattle.elf_image.specs.Image.{in_segment}
@@ -8,7 +8,7 @@ use Rattle.rv_hart.specs.declared.kept.Kept.{Kept}
 use Rattle.rv_hart.specs.declared.right.Right.{Right}
 use Rattle.rv_hart.specs.declared.right.Right.TheVariants.{Execute, Write, Read}
 use Rattle.rv_hart.specs.Pages.{Paged, page_in}
-use Rattle.rv_hart.specs.Memory.{Memory, first_byte, region_at, each_address, execute, write, read}
+use Rattle.rv_hart.specs.Memory.{Memory, first_byte, region_at, each_address, may, execute, write, read}
 
 -- a page by its number, and the page of an address
 abbrev pub page_numbered : Kept → ℕ → Paged
@@ -37,11 +37,13 @@ IsHome regions home = (at : ℕ) → in_segment at home ≡ true → region_at r
 abbrev pub AreApart : List Segment → Type 0
 AreApart regions = (at : ℕ) (region : Segment) → region_at regions at ≡ Some region → IsHome regions region
 
--- what keeps a memory: regions that are apart, and pages that each know one region of theirs
+-- what keeps a memory: regions that are apart and below 2^32, pages that each know one region of
+-- theirs, and bytes as they began where nothing can be written
 pub record IsKept (kept : Kept) : Type 0 where
   pub apart : AreApart kept.regions
   pub homes : (number : ℕ) → IsHome kept.regions (page_numbered kept number).home
   pub low : (at : ℕ) → 2 ^ 32 ≤ at → region_at kept.regions at ≡ None
+  pub intact : (at : ℕ) → may write kept.regions at ≡ false → value kept at ≡ first_byte kept.file.now kept.regions at
 
 -- the segment holds so many addresses from this one on
 abbrev pub covers_all : Segment → ℕ → ℕ → Bool

@@ -1,8 +1,8 @@
 //! How memory is kept: pages for what was written, and the file for what was not.
 ghost use Rattle.std.specs.Prelude.{◌≡◌, ◌<◌, ◌≤◌, IfSome, unwrap_or};
 ghost use Rattle.std.specs.Option.{option_copied};
-ghost use Rattle.rv_hart.specs.Memory.{region_at, first_byte};
-ghost use Rattle.rv_hart.specs.Stored.{page_of, value};
+ghost use Rattle.rv_hart.specs.Memory.{region_at, first_byte, byte_in};
+ghost use Rattle.rv_hart.specs.Stored.{page_of, value, IsHome};
 ghost use Rattle.rv_hart.specs.Pages.{blank};
 
 use crate::page::{Block, Page};
@@ -16,6 +16,20 @@ pub(crate) struct Kept<'a> {
     pub(crate) file: &'a [u8],
     pub(crate) regions: Regions,
     pub(crate) blocks: Vec<Block>,
+}
+
+/// The byte that an address of the region begins with.
+#[inline(always)]
+fn first_in(file: &[u8], region: &Segment, at: u32) -> u8
+    requires { region.now.start ≤ at }
+    ensures { result ≡ byte_in file.now at (Some region.now) }
+{
+    let depth = at - region.start;
+    if depth >= region.filled {
+        return 0;
+    }
+    let place = region.offset as usize + depth as usize;
+    file.get(place).copied().unwrap_or(0)
 }
 
 impl<'a> Kept<'a> {
@@ -60,16 +74,30 @@ impl<'a> Kept<'a> {
         }
     }
 
-    /// The byte that the address began with.
-    pub(crate) fn first(&self, at: u32) -> u8
+    /// The byte that the address began with. It is found at once where this region holds it.
+    #[inline(always)]
+    fn first(&self, home: &Segment, at: u32) -> u8
+        requires { IsHome self.now.regions home.now }
         ensures { result ≡ first_byte self.now.file.now self.now.regions at }
     {
+        if home.start <= at && at < home.end {
+            return first_in(self.file, home, at);
+        }
         match self.region(at) {
-            Some(region) if at - region.start < region.filled => {
-                let place = region.offset as usize + (at - region.start) as usize;
-                self.file.get(place).copied().unwrap_or(0)
-            }
-            _ => 0,
+            Some(region) => first_in(self.file, &region, at),
+            None => 0,
+        }
+    }
+
+    /// The byte at the address. Where it was not written, it is found at once if this region holds it.
+    #[inline(always)]
+    pub(crate) fn byte_near(&self, home: &Segment, at: u32) -> u8
+        requires { IsHome self.now.regions home.now }
+        ensures { result ≡ value self.now at }
+    {
+        match self.page_bytes(at).get(at as usize % 4096) {
+            Some(byte) => *byte,
+            None => self.first(home, at),
         }
     }
 
@@ -77,9 +105,6 @@ impl<'a> Kept<'a> {
     pub(crate) fn byte(&self, at: u32) -> u8
         ensures { result ≡ value self.now at }
     {
-        match self.page_bytes(at).get(at as usize % 4096) {
-            Some(byte) => *byte,
-            None => self.first(at),
-        }
+        self.byte_near(&NOWHERE, at)
     }
 }

@@ -50,11 +50,15 @@ impl<'a> Kept<'a> {
     /// Bytes of a region from `at` on, where they stand together in a page or in the file.
     #[inline(always)]
     fn near(&self, home: &Segment, at: u32, count: usize) -> Option<&[u8]>
+        requires kept { IsKept self.now }
         requires home { IsHome self.now.regions home.now }
         requires covered { covers_all home.now at count ≡ true }
         requires count { count ≤ 4 }
         ensures { IfSome result (λ bytes. bytes.now ≡ map (value self.now) (range_with_len at count)) }
     {
+        if !grants(home, Right::Write) {
+            return near_in_file(self.file, home, at, count);
+        }
         let place = at as usize % 4096;
         if place + count > 4096 {
             return None;

@@ -378,3 +378,58 @@ fn the_last_stack(rt: HostRuntime) -> Result<(), Fail> {
     );
     Ok(())
 }
+
+/// A program of four segments, as readelf shows them: code at 0x10000 (`addi x7, x0, 5`, `ecall`); in
+/// the same page, with no gap, 8 bytes to read and write that begin as aa bb cc dd, and 4 to write
+/// alone; and 0xeffd0000 bytes of zeros at 0x20000 with all three rights.
+const SEGMENTS: [u8; 192] = [
+    127, 69, 76, 70, 1, 1, 1, 0, 0, 0, 0, 0, 0, 0, 0, 0, 2, 0, 243, 0, 1, 0, 0, 0, 0, 0, 1, 0, 52,
+    0, 0, 0, 0, 0, 0, 0, 0, 0, 0, 0, 52, 0, 32, 0, 4, 0, 40, 0, 0, 0, 0, 0, 1, 0, 0, 0, 180, 0, 0,
+    0, 0, 0, 1, 0, 0, 0, 1, 0, 8, 0, 0, 0, 8, 0, 0, 0, 5, 0, 0, 0, 4, 0, 0, 0, 1, 0, 0, 0, 188, 0,
+    0, 0, 8, 0, 1, 0, 8, 0, 1, 0, 4, 0, 0, 0, 8, 0, 0, 0, 6, 0, 0, 0, 4, 0, 0, 0, 1, 0, 0, 0, 0, 0,
+    0, 0, 16, 0, 1, 0, 16, 0, 1, 0, 0, 0, 0, 0, 4, 0, 0, 0, 2, 0, 0, 0, 4, 0, 0, 0, 1, 0, 0, 0, 0,
+    0, 0, 0, 0, 0, 2, 0, 0, 0, 2, 0, 0, 0, 0, 0, 0, 0, 253, 239, 7, 0, 0, 0, 4, 0, 0, 0, 147, 3,
+    80, 0, 115, 0, 0, 0, 170, 187, 204, 221,
+];
+
+/// Stores over the ends of segments.
+const SEGMENT_PUTS: [(u32, &[u8], bool); 5] = [
+    (0x1_0006, &[1, 2, 3, 4], false),
+    (0x1_000e, &[1, 2, 3, 4], true),
+    (0x1_0011, &[1, 2, 3, 4], false),
+    (0x20_0000, &[0x93, 0x03, 0x50, 0x00], true), // addi x7, x0, 5
+    (0xeffe_fffd, &[1, 2, 3, 4], false),
+];
+
+/// Words over the ends of segments, after these.
+const SEGMENT_WORDS: [(u32, Option<u32>); 7] = [
+    (0x1_0000, Some(0x0050_0393)),
+    (0x1_0006, Some(0xbbaa_0000)),
+    (0x1_0008, Some(0xddcc_bbaa)),
+    (0x1_000c, Some(0x0201_0000)),
+    (0x1_000e, None),
+    (0x20_0000, Some(0x0050_0393)),
+    (0xeffe_fffc, Some(0)),
+];
+
+/// Runs the one instruction at this pc.
+fn run_at(space: &mut Space, pc: u32) -> Result<(Stepped, u32), Memory> {
+    let mut hart = hart_at(pc, 0, 0);
+    let stepped = step(&mut hart, space)?;
+    let x7 = hart.regs[7];
+    Ok((stepped, x7))
+}
+
+#[test]
+fn segments_that_share_a_page(rt: HostRuntime) -> Result<(), Fail> {
+    let image = read_image(rt.alloc(), &SEGMENTS)?;
+    let mut space = Space::of(rt.alloc(), &image, 1)?;
+    check_puts(&rt, &mut space, &SEGMENT_PUTS)?;
+    check_words(&rt, &space, &SEGMENT_WORDS);
+    assert!(rt; run_at(&mut space, 0x1_0000)? == (Stepped::Retired, 5));
+    assert!(rt; run_at(&mut space, 0x1_0004)?.0 == Stepped::Ecall);
+    assert!(rt; run_at(&mut space, 0x1_0008)?.0 == Stepped::Trap(Cause::Fetch));
+    assert!(rt; run_at(&mut space, 0x20_0000)? == (Stepped::Retired, 5));
+    assert!(rt; run_at(&mut space, 0x20_0004)?.0 == Stepped::Trap(Cause::Illegal));
+    Ok(())
+}

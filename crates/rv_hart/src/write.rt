@@ -3,11 +3,12 @@ ghost use Rattle.std.specs.Prelude.{◌≡◌, ◌==◌, [], ◌+◌, ◌*◌, �
 ghost use Rattle.std.specs.List.{slice_index_or, range_with_len, list_all};
 ghost use Rattle.rv_hart.specs.Memory.{may, write};
 ghost use Rattle.rv_hart.specs.Pages.{page_at, page_in, with_bytes};
-ghost use Rattle.rv_hart.specs.Stored.{page_numbered, page_of, value, value_after, IsKept};
+ghost use Rattle.rv_hart.specs.Stored.{page_numbered, page_of, value, value_after, IsHome, IsKept};
 
 use crate::kept::Kept;
 use crate::page::{Block, Page};
 use crate::right::{NOWHERE, Right, covers, grants};
+use elf_image::Segment;
 use prof_bytes::Memory;
 use std::alloc::Global;
 
@@ -59,14 +60,15 @@ fn put_in(blocks: &mut Vec<Block>, at: u32, source: &[u8])
 
 impl<'a> Kept<'a> {
     /// The bytes of a page as they stand.
-    fn page_as_kept(&self, alloc: Global, number: u32) -> Result<Vec<u8>, Memory>
-        requires { number < 2 ^ 20 }
+    fn page_as_kept(&self, alloc: Global, home: &Segment, number: u32) -> Result<Vec<u8>, Memory>
+        requires home { IsHome self.now.regions home.now }
+        requires number { number < 2 ^ 20 }
         ensures long { IfOk result (λ bytes. length bytes.items ≡ 2 ^ 12) }
         ensures bytes { IfOk result (λ bytes. (i : ℕ) → i < 2 ^ 12 → slice_index bytes.items i ≡ value self.now (number * 2 ^ 12 + i)) }
     {
         let mut bytes = Vec::new(alloc);
         for place in 0..4096u32 {
-            bytes.push(self.byte(number * 4096 + place))?;
+            bytes.push(self.byte_near(home, number * 4096 + place))?;
         }
         Ok(bytes)
     }
@@ -85,7 +87,7 @@ impl<'a> Kept<'a> {
         }
         let number = at >> 12;
         let home = self.region(at).unwrap_or(NOWHERE);
-        let bytes = self.page_as_kept(alloc, number)?;
+        let bytes = self.page_as_kept(alloc, &home, number)?;
         set_page(
             &mut self.blocks,
             alloc,
@@ -102,6 +104,7 @@ impl<'a> Kept<'a> {
         requires within { at % 2 ^ 12 + length source.now ≤ length (page_of self.old at).bytes }
         requires page { at % 2 ^ 12 + length source.now ≤ 2 ^ 12 }
         requires some { 0 < length source.now }
+        requires granted { (i : ℕ) → i < length source.now → may write self.old.regions (at + i) ≡ true }
         ensures rest { self.new ≡ record self.old { blocks = self.new.blocks } }
         ensures kept { IsKept self.new }
         ensures values { (a : ℕ) → value self.new a ≡ value_after self.old at source.now a }
@@ -168,6 +171,7 @@ impl<'a> Kept<'a> {
     pub(crate) fn put_all(&mut self, at: u32, source: &[u8])
         requires kept { IsKept self.old }
         requires low { at + length source.now ≤ 2 ^ 32 }
+        requires granted { (i : ℕ) → i < length source.now → may write self.old.regions (at + i) ≡ true }
         requires made { (i : ℕ) → i < length source.now → 2 ^ 12 ≤ length (page_of self.old (at + i)).bytes }
         ensures rest { self.new ≡ record self.old { blocks = self.new.blocks } }
         ensures kept { IsKept self.new }

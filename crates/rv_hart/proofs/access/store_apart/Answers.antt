@@ -1,6 +1,8 @@
-use Rattle.std.proofs.Common.{◌≡◌, ℕ, List, sym, ap, ◌∙◌}
+use Rattle.std.proofs.Common.{◌≡◌, ℕ, ◌+◌, List, sym, ap, ◌∙◌}
 use Rattle.std.proofs.Common.{length}
-use Rattle.rv_hart.specs.Memory.{write}
+use Rattle.rv_hart.specs.Memory.{may, write}
+use Rattle.rv_hart.specs.declared.kept.Kept.{Kept}
+use Rattle.rv_hart.proofs.Near.{all-each}
 use Rattle.rv_hart.proofs.Whole.{granted-whole, stored-kept, after-same, regions-same}
 use Rattle.rv_hart.proofs.access.store_apart.Goals as goal
 
@@ -18,3 +20,8 @@ returns-clause-ok c =
     (regions-same c.args.kept.now c.make_all.new.self c.in_ok-make_all.ensures.rest ∙ regions-same c.make_all.new.self c.put_all.new.self c.put_all.ensures.rest)
     (sym c.all_granted.ensures ∙ c.if-not-all_granted.false)
     (λ a. c.put_all.ensures.values a ∙ after-same c.args.kept.now c.make_all.new.self c.args.at c.args.bytes.now c.in_ok-make_all.ensures.values a)
+
+pub put_all-requires-clause-granted : goal.put_all-requires-clause-granted
+put_all-requires-clause-granted c i few =
+    ap (λ (k : Kept). may write k.regions (c.args.at + i)) c.in_ok-make_all.ensures.rest
+    ∙ all-each (may write c.args.kept.now.regions) c.args.at (length c.args.bytes.now) i (sym c.all_granted.ensures ∙ c.if-not-all_granted.false) few
