@@ -22,3 +22,6 @@ pub use fault::{ElfFault, ElfRule};
 pub use image::{Image, read_image};
 pub use part::{Function, Segment};
 pub use ranges::{AddressRange, FirstRange};
+
+#[cfg(test)]
+mod tests;
