@@ -7,14 +7,18 @@ use Rattle.cfi_table.specs.declared.rules.Cfa.{Cfa}
 use Rattle.cfi_table.specs.declared.rules.Cfa.TheVariants as cfas
 use Rattle.cfi_table.specs.declared.kinds.Kind.{Kind}
 use Rattle.cfi_table.specs.declared.kinds.Kind.TheVariants as kinds
-use Rattle.cfi_table.specs.Rules.{State, execute, step, is_past, run, run_all}
+use Rattle.cfi_table.specs.declared.rules.Rule.TheVariants as rules
+use Rattle.cfi_table.specs.declared.machine.Remembered.{Remembered}
+use Rattle.std.specs.List.{slice_set}
+use Rattle.cfi_table.specs.Rules.{State, rule_at, with_rule, with_cfa, with_register, with_offset, with_source, with_remembered, execute, step, is_past, continued, run, run_all}
 use Rattle.cfi_table.specs.Taking.{is_empty}
-use Rattle.cfi_table.specs.Kinds.{KindState, step_kinds, continued_kinds, run_kinds}
+use Rattle.cfi_table.specs.Kinds.{KindState, kind_of, remembered_kinds, kinds_of, seen_end, to_register, to_new_register, to_new_offset, to_source, to_remembered, step_kinds, continued_kinds, run_kinds}
 use Rattle.cfi_table.specs.declared.instruction.Instruction.{Instruction}
+use Rattle.cfi_table.specs.declared.instruction.Instruction.TheVariants.{Nothing, Advance, SetLocation, SetRule, Copy, Restore, Remember, RestoreState, SetCfa, SetCfaRegister, SetCfaOffset, CfaExpression}
 use Rattle.cfi_table.specs.Instructions.{instruction_at}
 use Rattle.cfi_table.specs.Kinds.{execute_kinds}
 use Rattle.cfi_table.specs.Taking.{◌>>=◌}
-use Rattle.std.specs.Prelude.{◌==◌, MatchBool}
+use Rattle.std.specs.Prelude.{◌==◌, MatchBool, nat_lt, option_map}
 use Rattle.std.proofs.lemmas.Bool.Decides.{nat_tests}
 use Rattle.cfi_table.proofs.Moves.{instruction_moves}
 
@@ -117,7 +121,7 @@ unfolding run
 run_more m limit initial f at next s t some is within = rw (some_left _ some, is, within) refl
 
 pub run_past : (m : ℕ) (limit : Option ℕ) (initial : List Rule) (f : Factors) (at next : At) (s t : State) → 0 < length (left_of at) → step initial f at s ≡ Some (t, next) → is_past limit t.location ≡ true
-    → run (suc m) limit initial f at s ≡ (s, None)
+    → run (suc m) limit initial f at s ≡ (t, None)
 unfolding run
 run_past m limit initial f at next s t some is past = rw (some_left _ some, is, past) refl
 
@@ -165,8 +169,8 @@ rules_turn limit initial f at0 at next s0 s t some is within kept =
 pub rules_smaller : (initial : List Rule) (f : Factors) (at next : At) (s t : State) → 0 < length (left_of at) → step initial f at s ≡ Some (t, next) → length (left_of next) < length (left_of at)
 rules_smaller initial f at next s t some is = let moves = rules_move initial f at next s t is in left_shorter at next moves.0 moves.1 some
 
--- the run ends with the rules that stand before the step: it moves past the limit, or is at fault
-pub rules_stop : (limit : Option ℕ) (initial : List Rule) (f : Factors) (at0 at next : At) (s0 s t : State) → 0 < length (left_of at) → step initial f at s ≡ Some (t, next) → is_past limit t.location ≡ true → KeepsRules limit initial f at0 at s0 s → s ≡ (run_all limit initial f at0 s0).0
+-- the run ends: a step moves past the limit, or is at fault
+pub rules_stop : (limit : Option ℕ) (initial : List Rule) (f : Factors) (at0 at next : At) (s0 s t : State) → 0 < length (left_of at) → step initial f at s ≡ Some (t, next) → is_past limit t.location ≡ true → KeepsRules limit initial f at0 at s0 s → t ≡ (run_all limit initial f at0 s0).0
 rules_stop limit initial f at0 at next s0 s t some is past kept =
     let enough = kept.enough in
     let one : kept.count ≡ suc (kept.count - 1) = omega arith in
@@ -183,7 +187,96 @@ rules_done limit initial f at0 at s0 s none kept = ap (λ (r : State × Option �
 
 -- ---- the kinds say where the rules are at fault
 
-kind_of : Cfa → Kind
-kind_of cfas.Missing = kinds.Missing
-kind_of (cfas.Register register offset) = kinds.Register
-kind_of cfas.Expression = kinds.Expression
+-- registers below 32 alone have rules
+with_rule_kinds : (register : ℕ) (rule : Rule) (s : State) → kinds_of (with_rule register rule s) ≡ kinds_of s
+with_rule_kinds register rule s = go (nat_lt register 32)
+  where
+    go : (b : Bool) → kinds_of (cond b (record s { regs = slice_set s.regs register rule }) s) ≡ kinds_of s
+    go true = refl
+    go false = refl
+
+with_cfa_kinds : (register offset : ℕ) (s : State) → option_map kinds_of (with_cfa register offset s) ≡ to_register register (kinds_of s)
+with_cfa_kinds register offset s = go (nat_lt register 32)
+  where
+    go : (b : Bool) → option_map kinds_of (cond b (Some (record s { cfa = cfas.Register register offset })) None) ≡ cond b (Some (record (kinds_of s) { now = kinds.Register })) None
+    go true = refl
+    go false = refl
+
+with_source_kinds : (register source : ℕ) (s : State) → option_map kinds_of (with_source register source s) ≡ to_source register source (kinds_of s)
+with_source_kinds register source s = go (nat_lt register 32) (nat_lt source 32)
+  where
+    go : (b d : Bool) → option_map kinds_of (cond b (cond d (Some (with_rule register (rules.Copy source) s)) None) (Some s)) ≡ cond b (cond d (Some (kinds_of s)) None) (Some (kinds_of s))
+    go true true = ap (λ (k : KindState). Some k) (with_rule_kinds register (rules.Copy source) s)
+    go true false = refl
+    go false d = refl
+
+with_register_kinds : (register : ℕ) (c : Cfa) (s : State) → option_map kinds_of (with_register register c s) ≡ to_new_register register (kind_of c) (kinds_of s)
+with_register_kinds register cfas.Missing s = with_cfa_kinds register 0 s
+with_register_kinds register (cfas.Register old offset) s = with_cfa_kinds register offset s
+with_register_kinds register cfas.Expression s = refl
+
+with_offset_kinds : (offset : ℕ) (s : State) (c : Cfa) → s.cfa ≡ c → option_map kinds_of (with_offset offset c s) ≡ to_new_offset (kind_of c) (kinds_of s)
+with_offset_kinds offset s cfas.Missing e = refl
+with_offset_kinds offset s (cfas.Register register old) e = ap (λ (k : Kind). Some (record { now = k; remembered = remembered_kinds s.remembered })) (sym (ap kind_of e))
+with_offset_kinds offset s cfas.Expression e = refl
+
+with_remembered_kinds : (rs : List Remembered) (s : State) → option_map kinds_of (with_remembered rs s) ≡ to_remembered (remembered_kinds rs) (kinds_of s)
+with_remembered_kinds [] s = refl
+with_remembered_kinds (r ∷ older) s = refl
+
+execute_as_kinds : (initial : List Rule) (i : Instruction) (s : State) → option_map kinds_of (execute initial i s) ≡ execute_kinds i (kinds_of s)
+execute_as_kinds initial Nothing s = refl
+execute_as_kinds initial (Advance delta) s = refl
+execute_as_kinds initial (SetLocation address) s = refl
+execute_as_kinds initial (SetRule register rule) s = ap (λ (k : KindState). Some k) (with_rule_kinds register rule s)
+execute_as_kinds initial (Copy register source) s = with_source_kinds register source s
+execute_as_kinds initial (Restore register) s = ap (λ (k : KindState). Some k) (with_rule_kinds register (rule_at initial register) s)
+execute_as_kinds initial Remember s = refl
+execute_as_kinds initial RestoreState s = with_remembered_kinds s.remembered s
+execute_as_kinds initial (SetCfa register offset) s = with_cfa_kinds register offset s
+execute_as_kinds initial (SetCfaRegister register) s = with_register_kinds register s.cfa s
+execute_as_kinds initial (SetCfaOffset offset) s = with_offset_kinds offset s s.cfa refl
+execute_as_kinds initial CfaExpression s = refl
+
+abbrev seen : State × At → KindState × At
+seen t = (kinds_of t.0, t.1)
+
+step_as_kinds : (initial : List Rule) (f : Factors) (at : At) (s : State) → option_map seen (step initial f at s) ≡ step_kinds f at (kinds_of s)
+unfolding step step_kinds
+step_as_kinds initial f at s = decoded (instruction_at f at)
+  where
+    behind : At → State → Option (State × At)
+    behind at t = Some (t, at)
+
+    behind_kinds : At → KindState → Option (KindState × At)
+    behind_kinds at k = Some (k, at)
+
+    executed : (next : At) (o : Option State) → option_map seen (o >>= behind next) ≡ (option_map kinds_of o >>= behind_kinds next)
+    executed next None = refl
+    executed next (Some t) = refl
+
+    decoded : (o : Option (Instruction × At)) → option_map seen (o >>= λ i. execute initial i.0 s >>= behind i.1) ≡ (o >>= λ i. execute_kinds i.0 (kinds_of s) >>= behind_kinds i.1)
+    decoded None = refl
+    decoded (Some i) = executed i.1 (execute initial i.0 s) ∙ ap (λ (o : Option KindState). o >>= behind_kinds i.1) (execute_as_kinds initial i.0 s)
+
+-- the kinds of a run's end, and its fault
+pub run_as_kinds : (n : ℕ) (initial : List Rule) (f : Factors) (at : At) (s : State) → seen_end (run n None initial f at s) ≡ run_kinds n f at (kinds_of s)
+unfolding run run_kinds
+run_as_kinds zero initial f at s = refl
+run_as_kinds (suc n) initial f at s = go (is_empty (left_of at)) (step initial f at s) (step_kinds f at (kinds_of s)) (step_as_kinds initial f at s) (λ next t. run_as_kinds n initial f next t)
+  where
+    again : At → State → State × Option ℕ
+    again next t = run n None initial f next t
+
+    again_kinds : At → KindState → KindState × Option ℕ
+    again_kinds next k = run_kinds n f next k
+
+    steps : (o : Option (State × At)) → ((next : At) (t : State) → seen_end (run n None initial f next t) ≡ run_kinds n f next (kinds_of t))
+        → seen_end (continued None s at again o) ≡ continued_kinds (kinds_of s) at again_kinds (option_map seen o)
+    steps None same = refl
+    steps (Some t) same = same t.1 t.0
+
+    go : (b : Bool) (o : Option (State × At)) (p : Option (KindState × At)) → option_map seen o ≡ p → ((next : At) (t : State) → seen_end (run n None initial f next t) ≡ run_kinds n f next (kinds_of t))
+        → seen_end (cond b (s, None) (continued None s at again o)) ≡ cond b (kinds_of s, None) (continued_kinds (kinds_of s) at again_kinds p)
+    go true o p e same = refl
+    go false o p e same = steps o same ∙ ap (λ (q : Option (KindState × At)). continued_kinds (kinds_of s) at again_kinds q) e

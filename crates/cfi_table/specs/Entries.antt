@@ -1,7 +1,7 @@
 -- The entries of `.debug_frame` and their fields (DWARF 5, section 6.4.1).
-use Rattle.std.specs.Prelude.{ℕ, zero, suc, ◌+◌, ◌==◌, ◌||◌, ◌&&◌, not, Bool, nat_lt, nat_le, List, [], ◌∷◌, length, drop, Option, Some, None, option_map, if◌then◌else◌}
+use Rattle.std.specs.Prelude.{ℕ, ℤ, zero, suc, ◌+◌, ◌-◌, ◌≤◌, ◌==◌, ◌||◌, ◌&&◌, not, Bool, nat_lt, nat_le, List, [], ◌∷◌, length, drop, Option, Some, None, option_map, if◌then◌else◌}
 use Rattle.prof_bytes.specs.Number.{number_at}
-use Rattle.prof_bytes.specs.Reading.{At}
+use Rattle.prof_bytes.specs.Reading.{At, left_of}
 use Rattle.cfi_table.specs.declared.instruction.Factors.{Factors}
 use Rattle.cfi_table.specs.declared.entry.Entry.{Entry}
 use Rattle.cfi_table.specs.declared.cie.Cie.{Cie}
@@ -52,37 +52,48 @@ cie_mark = 0xffffffff
 abbrev pub register_from : ℕ → At → Option (ℕ × At)
 register_from version at = if version == 1 then byte_from at else unsigned_from at
 
-unfoldable pub cie_from_factors : ℕ → At → Option (Option Cie)
-cie_from_factors version at = do
+-- the instructions are the bytes that are left, up to the entry's end
+abbrev pub cie_with : ℕ → ℕ → ℤ → ℕ → At → Option Cie
+cie_with end code scale register at =
+    if nat_lt register 32 then Some (record {
+      factors = record { code_alignment = word_of code; data_alignment = word_of_signed scale };
+      return_register = register;
+      from = end - length (left_of at);
+      end = end;
+    }) else None
+
+unfoldable pub cie_from_factors : ℕ → ℕ → At → Option (Option Cie)
+cie_from_factors end version at = do
   code ← unsigned_from at
   scale ← signed_from code.1
   register ← register_from version scale.1
-  Some (if nat_lt 31 register.0 then None else Some (record {
-    factors = record { code_alignment = word_of code.0; data_alignment = word_of_signed scale.0 };
-    return_register = register.0;
-    from = register.1.place;
-    end = length register.1.whole;
-  }))
+  Some (cie_with end code.0 scale.0 register.0 register.1)
 
--- version 4 has the sizes of an address, which is 4 here, and of a segment selector, of which there is none
-unfoldable pub cie_from_sizes : ℕ → At → Option (Option Cie)
-cie_from_sizes version at =
+-- a segment selector's size is 0
+unfoldable pub cie_from_segment : ℕ → ℕ → At → Option (Option Cie)
+cie_from_segment end version at = do
+  segment ← byte_from at
+  if segment.0 == 0 then cie_from_factors end version segment.1 else Some None
+
+-- version 4 has the sizes of an address, which is 4 here, and of a segment selector
+unfoldable pub cie_from_sizes : ℕ → ℕ → At → Option (Option Cie)
+cie_from_sizes end version at =
     if version == 4 then (do
       address ← byte_from at
-      if address.0 == 4 then (do
-        segment ← byte_from address.1
-        if segment.0 == 0 then cie_from_factors version segment.1 else Some None)
-      else Some None)
-    else cie_from_factors version at
+      if address.0 == 4 then cie_from_segment end version address.1 else Some None)
+    else cie_from_factors end version at
 
--- versions 1, 3 and 4 without augmentation are read
-unfoldable pub cie_from : At → Option (Option Cie)
-cie_from at = do
+-- no augmentation is read
+unfoldable pub cie_from_augmentation : ℕ → ℕ → At → Option (Option Cie)
+cie_from_augmentation end version at = do
+  augmentation ← text_from at
+  if is_empty augmentation.0 then cie_from_sizes end version augmentation.1 else Some None
+
+-- versions 1, 3 and 4 are read
+unfoldable pub cie_from : ℕ → At → Option (Option Cie)
+cie_from end at = do
   version ← byte_from at
-  if version.0 == 1 || version.0 == 3 || version.0 == 4 then (do
-    augmentation ← text_from version.1
-    if is_empty augmentation.0 then cie_from_sizes version.0 augmentation.1 else Some None)
-  else Some None
+  if version.0 == 1 || version.0 == 3 || version.0 == 4 then cie_from_augmentation end version.0 version.1 else Some None
 
 abbrev pub form_of : Option (Option Cie) → CieForm
 form_of None = forms.Broken
@@ -90,11 +101,28 @@ form_of (Some None) = forms.PassedOver
 form_of (Some (Some cie)) = forms.Usable cie
 
 unfoldable pub cie_form : List ℕ → Entry → CieForm
-cie_form section e = form_of (cie_from (part section (e.offset + 8) e.end))
+cie_form section e = form_of (cie_from e.end (part section (e.offset + 8) e.end))
 
 -- an FDE's fields behind its CIE's offset: the first address, the number of addresses, and where its instructions begin
-unfoldable pub fde_from : At → Option (ℕ × ℕ × ℕ)
-fde_from at = do
+unfoldable pub fde_from : ℕ → At → Option (ℕ × ℕ × ℕ)
+fde_from end at = do
   start ← word_from at
   size ← word_from start.1
-  Some (start.0, size.0, size.1.place)
+  Some (start.0, size.0, end - length (left_of size.1))
+
+-- ---- where things lie
+
+-- an entry's length and its bytes lie in the section
+pub record IsPlaced (section : List ℕ) (e : Entry) : Type 0 where
+  pub order : e.offset + 4 ≤ e.end
+  pub within : e.end ≤ length section
+
+-- a CIE's instructions lie in the section
+pub record IsCieIn (section : List ℕ) (cie : Cie) : Type 0 where
+  pub order : cie.from ≤ cie.end
+  pub within : cie.end ≤ length section
+
+abbrev pub IsFormIn : List ℕ → CieForm → Type 0
+IsFormIn section forms.Broken = Unit {0}
+IsFormIn section forms.PassedOver = Unit {0}
+IsFormIn section (forms.Usable cie) = IsCieIn section cie

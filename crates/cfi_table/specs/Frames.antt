@@ -1,5 +1,5 @@
 -- A section's call frames: the first fault, and the rules at an address (DWARF 5, section 6.4).
-use Rattle.std.specs.Prelude.{ℕ, ◌+◌, ◌==◌, ◌&&◌, Bool, false, nat_lt, nat_le, min, List, [], ◌∷◌, map, find, Option, Some, None, is_none, is_some, option_map, Result, Ok, Err, if◌then◌else◌}
+use Rattle.std.specs.Prelude.{ℕ, ◌+◌, ◌^◌, ◌≤◌, ◌<◌, length, ◌==◌, ◌&&◌, Bool, false, nat_lt, nat_le, min, List, [], ◌∷◌, map, find, Option, Some, None, is_none, is_some, option_map, Result, Ok, Err, if◌then◌else◌}
 use Rattle.std.specs.List.{filter_map}
 use Rattle.std.specs.Option.{option_or}
 use Rattle.elf_image.specs.declared.part.Segment.{Segment}
@@ -13,7 +13,7 @@ use Rattle.cfi_table.specs.declared.frames.FrameFault.{FrameFault}
 use Rattle.cfi_table.specs.declared.rules.Rules.{Rules}
 use Rattle.cfi_table.specs.Taking.{part}
 use Rattle.cfi_table.specs.Rules.{State, no_rules, kept_all, run_all}
-use Rattle.cfi_table.specs.Entries.{chain_of, id_of, cie_mark, cie_form, fde_from}
+use Rattle.cfi_table.specs.Entries.{chain_of, id_of, cie_mark, cie_form, fde_from, IsCieIn}
 
 -- the rules after a CIE's instructions, and its first fault
 unfoldable pub after_cie : List ℕ → Cie → State × Option ℕ
@@ -54,9 +54,9 @@ fault_of_fields e None = Some e.offset
 fault_of_fields e (Some fields) = None
 
 abbrev pub fault_by_form : List ℕ → Entry → CieForm → Option ℕ
-fault_by_form section e forms.Broken = fault_of_fields e (fde_from (part section (e.offset + 8) e.end))
+fault_by_form section e forms.Broken = fault_of_fields e (fde_from e.end (part section (e.offset + 8) e.end))
 fault_by_form section e forms.PassedOver = None
-fault_by_form section e (forms.Usable cie) = fault_of_rules section e cie (fde_from (part section (e.offset + 8) e.end))
+fault_by_form section e (forms.Usable cie) = fault_of_rules section e cie (fde_from e.end (part section (e.offset + 8) e.end))
 
 abbrev pub fault_of_fde : List ℕ → Entry → Option Entry → Option ℕ
 fault_of_fde section e None = Some e.offset
@@ -85,7 +85,7 @@ fde_by_fields segments e cie (Some fields) =
 abbrev pub fde_by_form : List ℕ → List Segment → Entry → CieForm → Option Fde
 fde_by_form section segments e forms.Broken = None
 fde_by_form section segments e forms.PassedOver = None
-fde_by_form section segments e (forms.Usable cie) = fde_by_fields segments e cie (fde_from (part section (e.offset + 8) e.end))
+fde_by_form section segments e (forms.Usable cie) = fde_by_fields segments e cie (fde_from e.end (part section (e.offset + 8) e.end))
 
 abbrev pub fde_by_cie : List ℕ → List Segment → Entry → Option Entry → Option Fde
 fde_by_cie section segments e None = None
@@ -98,6 +98,13 @@ fde_by_id section entries segments e (Some id) = if id == cie_mark then None els
 -- an entry as an FDE whose range counts
 unfoldable pub fde_of : List ℕ → List Entry → List Segment → Entry → Option Fde
 fde_of section entries segments e = fde_by_id section entries segments e (id_of section e)
+
+-- an FDE's instructions and its CIE's lie in the section, and its addresses are below 2^32
+pub record IsFdeIn (section : List ℕ) (fde : Fde) : Type 0 where
+  pub order : fde.from ≤ fde.end
+  pub within : fde.end ≤ length section
+  pub cie : IsCieIn section fde.cie
+  pub low : fde.start + fde.size < 2 ^ 32
 
 -- ---- the section
 

@@ -4,10 +4,14 @@ use Rattle.prof_bytes.specs.Reading.{At, left_of}
 use Rattle.cfi_table.specs.declared.instruction.Instruction.{Instruction}
 use Rattle.cfi_table.specs.declared.instruction.Instruction.TheVariants.{Nothing, Advance, SetLocation, SetRule, Copy, Restore, Remember, RestoreState, SetCfa, SetCfaRegister, SetCfaOffset, CfaExpression}
 use Rattle.cfi_table.specs.declared.instruction.Factors.{Factors}
+use Rattle.cfi_table.specs.declared.rules.Cfa.{Cfa}
+use Rattle.cfi_table.specs.declared.rules.Cfa.TheVariants as cfas
+use Rattle.cfi_table.specs.declared.machine.Remembered.{Remembered}
 use Rattle.cfi_table.specs.declared.kinds.Kind.{Kind}
 use Rattle.cfi_table.specs.declared.kinds.Kind.TheVariants as kinds
 use Rattle.cfi_table.specs.Taking.{◌>>=◌, is_empty}
 use Rattle.cfi_table.specs.Instructions.{instruction_at}
+use Rattle.cfi_table.specs.Rules.{State}
 
 -- the kind of the CFA's rule, and the kinds that were remembered, the latest first
 pub record KindState : Type 0 where
@@ -63,3 +67,20 @@ continued_kinds k at again (Some j) = again j.1 j.0
 unfoldable pub run_kinds : ℕ → Factors → At → KindState → KindState × Option ℕ
 run_kinds zero f at k = (k, None)
 run_kinds (suc n) f at k = if is_empty (left_of at) then (k, None) else continued_kinds k at (λ next j. run_kinds n f next j) (step_kinds f at k)
+
+-- ---- the kinds of rules
+
+abbrev pub kind_of : Cfa → Kind
+kind_of cfas.Missing = kinds.Missing
+kind_of (cfas.Register register offset) = kinds.Register
+kind_of cfas.Expression = kinds.Expression
+
+abbrev pub remembered_kinds : List Remembered → List Kind
+remembered_kinds [] = []
+remembered_kinds (r ∷ older) = kind_of r.cfa ∷ remembered_kinds older
+
+abbrev pub kinds_of : State → KindState
+kinds_of s = record { now = kind_of s.cfa; remembered = remembered_kinds s.remembered }
+
+abbrev pub seen_end : State × Option ℕ → KindState × Option ℕ
+seen_end r = (kinds_of r.0, r.1)

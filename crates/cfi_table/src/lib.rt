@@ -6,10 +6,10 @@
 //! `elf_image`.
 #![tactic(auto)]
 
-//mod cie;
-//mod entry;
-//mod fde;
-//mod frames;
+mod cie;
+mod entry;
+mod fde;
+mod frames;
 mod instruction;
 mod kinds;
 mod machine;

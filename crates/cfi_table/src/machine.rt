@@ -128,10 +128,10 @@ impl Machine {
         }
     }
 
-    /// Carries out an instruction, where `initial` are the rules after the CIE's. False where it is at
+    /// Carries out an instruction, where `defaults` are the rules after the CIE's. False where it is at
     /// fault.
-    fn execute(&mut self, initial: &[Rule; 32], instruction: Instruction) -> Result<bool, Memory>
-        ensures { IfOk result (λ done. MatchBool done (execute initial.now instruction self.old ≡ Some self.new) ((execute initial.now instruction self.old ≡ None) × (self.new ≡ self.old))) }
+    fn execute(&mut self, defaults: &[Rule; 32], instruction: Instruction) -> Result<bool, Memory>
+        ensures { IfOk result (λ done. MatchBool done (execute defaults.now instruction self.old ≡ Some self.new) ((execute defaults.now instruction self.old ≡ None) × (self.new ≡ self.old))) }
     {
         match instruction {
             Instruction::Nothing => {}
@@ -141,7 +141,7 @@ impl Machine {
             Instruction::Copy { register, source } => {
                 return Ok(self.copy_register(register, source));
             }
-            Instruction::Restore(register) => self.restore(initial, register),
+            Instruction::Restore(register) => self.restore(defaults, register),
             Instruction::Remember => self.remember()?,
             Instruction::RestoreState => return Ok(self.restore_state()),
             Instruction::SetCfa { register, offset } => {
@@ -154,11 +154,11 @@ impl Machine {
         Ok(true)
     }
 
-    fn restore(&mut self, initial: &[Rule; 32], register: u64)
-        ensures { self.new ≡ with_rule register (rule_at initial.now register) self.old }
+    fn restore(&mut self, defaults: &[Rule; 32], register: u64)
+        ensures { self.new ≡ with_rule register (rule_at defaults.now register) self.old }
     {
         if register < 32 {
-            self.set_rule(register, initial[register as usize]);
+            self.set_rule(register, defaults[register as usize]);
         }
     }
 
@@ -166,15 +166,65 @@ impl Machine {
     #[tactic(auto, unfolding(crate::specs::Rules::step))]
     fn step(
         &mut self,
-        initial: &[Rule; 32],
+        defaults: &[Rule; 32],
         factors: &Factors,
         cursor: &mut Cursor<'_>,
     ) -> Result<bool, Memory>
-        ensures { IfOk result (λ done. MatchBool done (step initial.now factors.now cursor.old self.old ≡ Some (self.new, cursor.new)) ((step initial.now factors.now cursor.old self.old ≡ None) × (self.new ≡ self.old))) }
+        ensures { IfOk result (λ done. MatchBool done (step defaults.now factors.now cursor.old self.old ≡ Some (self.new, cursor.new)) ((step defaults.now factors.now cursor.old self.old ≡ None) × (self.new ≡ self.old))) }
     {
         match instruction_at(factors, cursor) {
-            Some(instruction) => self.execute(initial, instruction),
+            Some(instruction) => self.execute(defaults, instruction),
             None => Ok(false),
         }
+    }
+
+    /// Runs the instructions from the cursor on, up to the first that moves the location past the
+    /// limit. It stops at one that is at fault.
+    pub(crate) fn run(
+        &mut self,
+        limit: Option<u32>,
+        defaults: &[Rule; 32],
+        factors: &Factors,
+        cursor: &mut Cursor<'_>,
+    ) -> Result<(), Memory>
+        ensures { IfOk result (λ done. self.new ≡ (run_all limit defaults.now factors.now cursor.old self.old).0) }
+    {
+        while cursor.left() > 0 {
+            if !self.step(defaults, factors, cursor)? {
+                return Ok(());
+            }
+            if is_past(limit, self.location) {
+                return Ok(());
+            }
+        }
+        Ok(())
+    }
+
+    pub(crate) fn regs(&self) -> [Rule; 32]
+        ensures { result ≡ self.now.regs }
+    {
+        self.regs
+    }
+
+    pub(crate) fn cfa(&self) -> Cfa
+        ensures { result ≡ self.now.cfa }
+    {
+        self.cfa
+    }
+
+    /// Goes on from this address.
+    pub(crate) fn go_to(&mut self, address: u32)
+        ensures { self.new ≡ record self.old { location = address } }
+    {
+        self.location = address;
+    }
+}
+
+fn is_past(limit: Option<u32>, location: u32) -> bool
+    ensures { result ≡ is_past limit location }
+{
+    match limit {
+        Some(address) => address < location,
+        None => false,
     }
 }
