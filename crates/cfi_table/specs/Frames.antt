@@ -1,7 +1,8 @@
 -- A section's call frames: the first fault, and the rules at an address (DWARF 5, section 6.4).
-use Rattle.std.specs.Prelude.{ℕ, ◌+◌, ◌^◌, ◌≤◌, ◌<◌, length, ◌==◌, ◌&&◌, Bool, false, nat_lt, nat_le, min, List, [], ◌∷◌, map, find, Option, Some, None, is_none, is_some, option_map, Result, Ok, Err, if◌then◌else◌}
+use Rattle.std.specs.Prelude.{◌≡◌, All, ℕ, ◌+◌, ◌^◌, ◌≤◌, ◌<◌, length, ◌==◌, ◌&&◌, Bool, false, nat_lt, nat_le, min, List, [], ◌∷◌, map, find, Option, Some, None, is_none, is_some, option_map, Result, Ok, Err, if◌then◌else◌}
 use Rattle.std.specs.List.{filter_map}
 use Rattle.std.specs.Option.{option_or}
+use Rattle.elf_image.specs.declared.ranges.AddressRange.{AddressRange}
 use Rattle.elf_image.specs.declared.part.Segment.{Segment}
 use Rattle.elf_image.specs.Image.{counts}
 use Rattle.cfi_table.specs.declared.entry.Entry.{Entry}
@@ -147,3 +148,14 @@ lesser m (Some n) = Some (min m n)
 abbrev pub least_above : ℕ → List ℕ → Option ℕ
 least_above low [] = None
 least_above low (n ∷ numbers) = if nat_lt low n then lesser n (least_above low numbers) else least_above low numbers
+
+-- ---- a table of the frames
+
+abbrev pub range_of : Fde → AddressRange
+range_of fde = record { start = fde.start; end = fde.start + fde.size }
+
+-- what a table of the frames keeps
+pub record IsTable (section : List ℕ) (fdes : List Fde) (ranges : List AddressRange) : Type 0 where
+  pub small : length section < 2 ^ 31
+  pub placed : All (IsFdeIn section) fdes
+  pub table : ranges ≡ map range_of fdes

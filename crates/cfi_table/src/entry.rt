@@ -57,6 +57,7 @@ pub(crate) fn id_of(section: &[u8], entry: &Entry) -> Option<u32>
 pub(crate) fn chain_of(alloc: Global, section: &[u8]) -> Result<(Vec<Entry>, Option<u32>), Memory>
     requires { length section.now < 2 ^ 31 }
     ensures chain { IfOk result (λ found. (found.0.items, found.1) ≡ chain_of section.now) }
+    ensures few { IfOk result (λ found. length found.0.items ≤ length section.now) }
     ensures within { IfOk result (λ found. All (IsPlaced section.now) found.0.items) }
 {
     let mut entries = Vec::new(alloc);

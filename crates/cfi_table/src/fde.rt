@@ -247,6 +247,7 @@ pub(crate) fn fdes_of(
 ) -> Result<Vec<Fde>, Memory>
     requires { All (IsPlaced section.now) entries.now }
     ensures fdes { IfOk result (λ fdes. fdes.items ≡ filter_map (fde_of section.now entries.now image.now.segments) entries.now) }
+    ensures few { IfOk result (λ fdes. length fdes.items ≤ length entries.now) }
     ensures within { IfOk result (λ fdes. All (IsFdeIn section.now) fdes.items) }
 {
     let mut fdes = Vec::new(alloc);

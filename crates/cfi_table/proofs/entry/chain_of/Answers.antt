@@ -12,6 +12,7 @@ loop-at-preserved-in-Some-eq0 c =
     record {
       order = let fits = c.in-Some-eq0.ensures.fits in let none = c.in-Some-eq0.field-0-test in omega arith;
       chain = passes_over c.args.section.now c.loop-at.at c.loop-at.entries.items c.loop-at-test.true is c.loop-at.invariant.chain;
+      few = let le = c.loop-at.invariant.few in omega arith;
       within = c.loop-at.invariant.within;
     }
 
@@ -23,6 +24,7 @@ loop-at-preserved c =
     record {
       order = omega arith;
       chain = goes_on c.args.section.now c.loop-at.at c.in-Some.size c.loop-at.entries.items c.push.new.self.items c.loop-at-test.true is (omega arith) c.in_ok-push-in-Some.ensures.items c.loop-at.invariant.chain;
+      few = let le = c.loop-at.invariant.few in let len = c.in_ok-push-in-Some.ensures.len in omega arith;
       within = rw c.in_ok-push-in-Some.ensures.items (All-push (IsPlaced c.args.section.now) c.loop-at.entries.items (entry_of c.loop-at.at c.in-Some.size) c.loop-at.invariant.within (record { order = omega arith; within = omega arith }));
     }
 

@@ -8,6 +8,7 @@ abbrev pub invariant-loop-at : goal.invariant-loop-at
 invariant-loop-at l = record {
   order : l.at ≤ length l.section;
   chain : KeepsChain l.section l.at l.entries.items;
+  few : length l.entries.items ≤ l.at;
   within : All (IsPlaced l.section) l.entries.items;
 }
 
