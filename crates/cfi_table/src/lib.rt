@@ -15,5 +15,8 @@ mod kinds;
 mod machine;
 mod rules;
 
-//pub use frames::{FrameFault, FrameTable, read_frames};
+pub use frames::{FrameFault, FrameTable, read_frames};
 pub use rules::{Cfa, Rule, Rules};
+
+#[cfg(test)]
+mod tests;

@@ -126,7 +126,8 @@ impl<'a> Image<'a> {
         ensures counts { result ≡ counts self.now.segments start (start + size) }
         ensures low { IsTrue result → start + size < 2 ^ 32 }
     {
-        self.segments.counts(start, u64::from(start) + u64::from(size))
+        self.segments
+            .counts(start, u64::from(start) + u64::from(size))
     }
 
     /// The bytes of the first section of that name, and none where there is no such section or it has
