@@ -121,6 +121,15 @@ impl<'a> Image<'a> {
         self.segments.counts(low, u64::from(high))
     }
 
+    /// Whether so many addresses from `start` on count. Their end is then below 2^32.
+    pub fn counts_from(&self, start: u32, size: u32) -> bool
+        ensures counts { result ≡ counts self.now.segments start (start + size) }
+        ensures low { IsTrue result → start + size < 2 ^ 32 }
+    {
+        self.segments
+            .counts(start, u64::from(start) + u64::from(size))
+    }
+
     /// The bytes of the first section of that name, and none where there is no such section or it has
     /// no bytes in the file.
     pub fn section(&self, name: &[u8]) -> &'a [u8]

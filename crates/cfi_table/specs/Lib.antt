@@ -1,0 +1,6 @@
+pub mod Taking
+pub mod Entries
+pub mod Instructions
+pub mod Rules
+pub mod Kinds
+pub mod Frames

@@ -1,0 +1,298 @@
+use super::*;
+use elf_image::{Image, read_image};
+use prof_bytes::Memory;
+use std::alloc::{AllocError, Global};
+use std::fmt::Write;
+use std::test::Fail;
+
+mod sections;
+
+/// A program of one segment, executable, from 0x10000 up to 0x11000, and nothing in it.
+fn program() -> &'static [u8] {
+    b"\
+    7f454c460101010000000000000000000200f300010000000000010034000000000000000000000034002000\
+    01002800000000000100000054000000000001000000010000000000001000000500000004000000"
+}
+
+fn digit(letter: u8) -> u8 {
+    match letter {
+        b'0'..=b'9' => letter - b'0',
+        b'a'..=b'f' => letter - b'a' + 10,
+        _ => 0,
+    }
+}
+
+/// The bytes that two hexadecimal digits each stand for.
+fn bytes_of(alloc: Global, hex: &[u8]) -> Result<Vec<u8>, AllocError> {
+    let mut bytes = Vec::new(alloc);
+    let mut high = None;
+    for letter in hex {
+        match high {
+            None => high = Some(digit(*letter)),
+            Some(first) => {
+                bytes.push((first % 16) * 16 + digit(*letter) % 16)?;
+                high = None;
+            }
+        }
+    }
+    Ok(bytes)
+}
+
+fn number(digits: &[u8], base: u32) -> u32 {
+    let mut number = 0u32;
+    for letter in digits {
+        number = number
+            .wrapping_mul(base)
+            .wrapping_add(u32::from(digit(*letter)));
+    }
+    number
+}
+
+/// What stands before the mark and what behind it.
+fn cut(text: &[u8], mark: u8) -> (&[u8], &[u8]) {
+    for (place, byte) in text.iter().enumerate() {
+        if *byte == mark {
+            return (&text[..place], &text[place + 1..]);
+        }
+    }
+    (text, &[])
+}
+
+/// Changes one byte, as `13=63` says.
+fn change(section: &mut Vec<u8>, word: &[u8]) {
+    let (place, value) = cut(word, b'=');
+    if let Some(byte) = section.get_mut(number(place, 10) as usize) {
+        *byte = (number(value, 10) % 256) as u8;
+    }
+}
+
+fn changed(alloc: Global, hex: &[u8], words: &[u8]) -> Result<Vec<u8>, AllocError> {
+    let mut section = bytes_of(alloc, hex)?;
+    let mut words = words;
+    for _ in 0..9 {
+        let (word, rest) = cut(words, b' ');
+        if !word.is_empty() {
+            change(&mut section, word);
+        }
+        words = rest;
+    }
+    Ok(section)
+}
+
+fn frames(
+    alloc: Global,
+    section: &[u8],
+    image: &Image<'_>,
+) -> Result<FrameTable, prof_bytes::Fail<FrameFault>> {
+    if section.len() >= 1 << 31 {
+        return Err(prof_bytes::Fail::Memory);
+    }
+    read_frames(alloc, section, image)
+}
+
+fn with_offset(out: &mut String, letter: &str, offset: u32) -> Result<(), AllocError> {
+    if offset < 1 << 31 {
+        write!(out, "{letter}+{offset}")
+    } else {
+        write!(out, "{letter}-{}", 0u32.wrapping_sub(offset))
+    }
+}
+
+fn cfa(out: &mut String, cfa: Cfa) -> Result<(), AllocError> {
+    match cfa {
+        Cfa::Missing => out.push_str("none"),
+        Cfa::Register { reg, offset } => {
+            write!(out, "{reg}")?;
+            with_offset(out, "", offset)
+        }
+        Cfa::Expression => out.push_str("exp"),
+    }
+}
+
+fn rule(out: &mut String, register: usize, rule: Rule) -> Result<(), AllocError> {
+    if rule == Rule::Kept || rule == Rule::Undefined {
+        return Ok(());
+    }
+    write!(out, " {register}=")?;
+    match rule {
+        Rule::Saved(offset) => with_offset(out, "c", offset),
+        Rule::Sum(offset) => with_offset(out, "v", offset),
+        Rule::Copy(source) => write!(out, "r{source}"),
+        _ => out.push_str("exp"),
+    }
+}
+
+/// The rules at an address, as the rows have them.
+fn shown(alloc: Global, table: &FrameTable, pc: u32) -> Result<String, Memory> {
+    let mut out = String::new(alloc);
+    if let Some(rules) = table.rules_at(pc)? {
+        cfa(&mut out, rules.cfa)?;
+        for (register, one) in rules.regs.iter().enumerate() {
+            rule(&mut out, register, *one)?;
+        }
+    }
+    Ok(out)
+}
+
+/// Whether the row, as `10010-10014 2+16 1=c-4`, says what stands at each of its addresses.
+fn row_holds(alloc: Global, table: &FrameTable, row: &[u8]) -> Result<bool, Memory> {
+    let (range, rules) = cut(row, b' ');
+    let (low, high) = cut(range, b'-');
+    let (low, high) = (number(low, 16), number(high, 16));
+    for step in 0..high.wrapping_sub(low) / 4 {
+        let pc = low.wrapping_add(step.wrapping_mul(4));
+        if shown(alloc, table, pc)?.as_str().as_bytes() != rules {
+            return Ok(false);
+        }
+    }
+    Ok(low < high)
+}
+
+/// The number, from 1, of the first row that does not hold, and 0 where all do.
+fn failing(alloc: Global, table: &FrameTable, rows: &[u8]) -> Result<u32, Memory> {
+    let mut rows = rows;
+    for number in 1..999 {
+        let (row, rest) = cut(rows, b'\n');
+        if row.is_empty() {
+            return Ok(0);
+        }
+        if !row_holds(alloc, table, row)? {
+            return Ok(number);
+        }
+        rows = rest;
+    }
+    Ok(999)
+}
+
+fn image_of(alloc: Global, file: &[u8]) -> Result<Image<'_>, Memory> {
+    if file.len() > 1 << 26 {
+        return Err(Memory);
+    }
+    read_image(alloc, file).ok().ok_or(Memory)
+}
+
+fn first_failing(alloc: Global, hex: &[u8], rows: &[u8]) -> Result<u32, Memory> {
+    let file = bytes_of(alloc, program())?;
+    let image = image_of(alloc, &file)?;
+    let section = bytes_of(alloc, hex)?;
+    let table = frames(alloc, &section, &image).ok().ok_or(Memory)?;
+    failing(alloc, &table, rows)
+}
+
+#[test]
+fn rules_of_gcc(rt: HostRuntime) -> Result<(), Fail> {
+    let row = first_failing(rt.alloc(), sections::gcc(), sections::gcc_rules());
+    assert_eq!(rt; row.ok().ok_or("memory")?, 0);
+    Ok(())
+}
+
+#[test]
+fn rules_of_clang(rt: HostRuntime) -> Result<(), Fail> {
+    let row = first_failing(rt.alloc(), sections::clang(), sections::clang_rules());
+    assert_eq!(rt; row.ok().ok_or("memory")?, 0);
+    Ok(())
+}
+
+#[test]
+fn rules_of_every_directive(rt: HostRuntime) -> Result<(), Fail> {
+    let row = first_failing(
+        rt.alloc(),
+        sections::directives(),
+        sections::directives_rules(),
+    );
+    assert_eq!(rt; row.ok().ok_or("memory")?, 0);
+    Ok(())
+}
+
+/// Changes of single bytes of the section, and what is answered: the first fault's offset, or the
+/// number of the FDE that holds 0x10010 and its rules at 0x10018.
+fn fault_rows() -> &'static [u8] {
+    b"\
+    > 16 2+16 1=c-4\n\
+    13=63 > fault 13\n\
+    13=63 39=11 > fault 13\n\
+    16=255 17=255 18=255 19=255 > fault 16\n\
+    0=255 > fault 0\n\
+    0=240 1=255 2=255 3=255 > fault 0\n\
+    13=13 > 16 2+16 1=c-4\n\
+    13=14 14=0 15=0 > fault 13\n\
+    8=2 > none\n\
+    8=1 > 16 2+16 1=c-4\n\
+    8=5 > none\n\
+    8=4 > none\n\
+    9=122 > none\n\
+    9=122 15=1 > fault 0\n\
+    12=32 > none\n\
+    20=1 > fault 16\n\
+    20=16 > fault 16\n\
+    16=4 > fault 16\n\
+    16=2 > fault 16\n\
+    14=32 > fault 13\n\
+    13=15 > fault 13\n\
+    13=15 14=1 > fault 33\n\
+    13=15 14=1 33=13 > fault 33\n\
+    33=10 > fault 34\n\
+    39=11 > fault 39\n\
+    38=10 39=11 > 16 2+16 1=c-4\n\
+    36=9 37=1 38=32 > fault 36\n\
+    36=9 37=32 38=32 > 16 2+16\n\
+    36=9 37=1 38=5 39=0 > 16 2+16 1=r5\n\
+    43=46 > fault 43\n\
+    43=129 > fault 43\n\
+    43=11 > fault 43\n\
+    27=240 > none\n\
+    29=16 > none\n\
+    28=0 > none"
+}
+
+fn answer(alloc: Global, section: &[u8], image: &Image<'_>) -> Result<String, Memory> {
+    let table = match frames(alloc, section, image) {
+        Ok(table) => table,
+        Err(prof_bytes::Fail::Memory) => return Err(Memory),
+        Err(prof_bytes::Fail::Fault(fault)) => {
+            return Ok(format!(in alloc; "fault {}", fault.offset)?);
+        }
+    };
+    match table.fde_at(0x10010) {
+        Some(offset) => {
+            let rules = shown(alloc, &table, 0x10018)?;
+            Ok(format!(in alloc; "{offset} {}", rules.as_str())?)
+        }
+        None => Ok(String::from_str(alloc, "none")?),
+    }
+}
+
+fn fault_row_holds(alloc: Global, image: &Image<'_>, row: &[u8]) -> Result<bool, Memory> {
+    let (changes, expected) = cut(row, b'>');
+    let section = changed(alloc, sections::recursive(), changes)?;
+    let found = answer(alloc, &section, image)?;
+    Ok(cut(expected, b' ').1 == found.as_str().as_bytes())
+}
+
+fn failing_change(alloc: Global, rows: &[u8]) -> Result<u32, Memory> {
+    let file = bytes_of(alloc, program())?;
+    let image = image_of(alloc, &file)?;
+    let mut rows = rows;
+    for number in 1..99 {
+        let (row, rest) = cut(rows, b'\n');
+        if row.is_empty() {
+            return Ok(0);
+        }
+        if !fault_row_holds(alloc, &image, row)? {
+            return Ok(number);
+        }
+        rows = rest;
+    }
+    Ok(99)
+}
+
+#[test]
+fn faults_by_their_places(rt: HostRuntime) -> Result<(), Fail> {
+    assert_eq!(rt;
+        failing_change(rt.alloc(), fault_rows())
+            .ok()
+            .ok_or("memory")?,
+        0
+    );
+    Ok(())
+}
