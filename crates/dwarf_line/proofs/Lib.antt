@@ -1,0 +1,3 @@
+pub mod CountedItems
+pub mod FirstFields
+pub mod Operands
