@@ -16,12 +16,12 @@ pub record Header : Type 0 where
   pub files : List Named
   pub program : At
 
--- where a table ends, and the rest of it behind its length
-abbrev pub extent_from : LineFault → At → Result (ℕ × At) LineFault
+-- the rest of a table behind its length, up to its end
+abbrev pub extent_from : LineFault → At → Result At LineFault
 extent_from fault at =
     number_from fault 4 at >>= (λ size.
     if nat_le 0xfffffff0 size.0 || nat_lt (length (left_of size.1)) size.0 then Err fault
-    else Ok (size.1.place + size.0, record { whole = take (size.1.place + size.0) at.whole; place = size.1.place }))
+    else Ok (record { whole = take (size.1.place + size.0) at.whole; place = size.1.place }))
 
 -- addresses of four bytes and no segments
 abbrev pub is_flat : ℕ → ℕ → Bool
@@ -44,19 +44,18 @@ params_from fault at =
     then Ok (record { minimum = minimum.0; line_base = base.0; line_range = range.0; opcode_base = opcodes.0 }, opcodes.1)
     else Err fault))))))
 
--- the lengths, directories and files behind the parameters; `begin` is where the program begins
-abbrev pub begun : LineFault → ℕ → At → Params → List ℕ → List Named → List Named → Result Header LineFault
-begun fault begin at params lengths directories files =
-    if nat_lt (length at.whole) begin then Err fault
-    else Ok (record { params = params; lengths = lengths; directories = directories; files = files; program = record { whole = at.whole; place = begin } })
+-- the program begins so many bytes behind the header's length
+abbrev pub program_from : LineFault → ℕ → At → Result At LineFault
+program_from fault size at = bytes_from fault size at >>= (λ header. Ok header.1)
 
-unfoldable pub rest_from : Texts → LineFault → ℕ → At → Result Header LineFault
-rest_from texts fault begin at =
+-- the parameters, and the lengths, directories and files behind them
+unfoldable pub rest_from : Texts → LineFault → At → At → Result Header LineFault
+rest_from texts fault program at =
     params_from fault at >>= (λ params.
     bytes_from fault (params.0.opcode_base - 1) params.1 >>= (λ lengths.
     names_from texts fault lengths.1 >>= (λ directories.
     names_from texts fault directories.1 >>= (λ files.
-    begun fault begin at params.0 lengths.0 directories.0 files.0))))
+    Ok (record { params = params.0; lengths = lengths.0; directories = directories.0; files = files.0; program = program })))))
 
 -- a header of version 5 behind the version
 unfoldable pub version5_from : Texts → LineFault → At → Result Header LineFault
@@ -64,7 +63,7 @@ version5_from texts fault at =
     number_from fault 1 at >>= (λ address.
     number_from fault 1 address.1 >>= (λ segment.
     number_from fault 4 segment.1 >>= (λ size.
-    if is_flat address.0 segment.0 then rest_from texts fault (size.1.place + size.0) size.1 else Err fault)))
+    if is_flat address.0 segment.0 then program_from fault size.0 size.1 >>= (λ program. rest_from texts fault program size.1) else Err fault)))
 
 abbrev pub by_version : Texts → LineFault → ℕ → At → Result (Option Header) LineFault
 by_version texts fault version at =
@@ -75,5 +74,5 @@ by_version texts fault version at =
 unfoldable pub header_from : Texts → LineFault → At → Result (Option Header) LineFault
 header_from texts fault at =
     extent_from fault at >>= (λ extent.
-    number_from fault 2 extent.1 >>= (λ version.
+    number_from fault 2 extent >>= (λ version.
     by_version texts fault version.0 version.1))

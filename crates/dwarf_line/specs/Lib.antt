@@ -7,3 +7,6 @@ pub mod Sequences
 pub mod Lines
 pub mod Views
 pub mod Moves
+pub mod Best
+pub mod Runs
+pub mod Tables

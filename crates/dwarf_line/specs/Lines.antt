@@ -44,6 +44,10 @@ tables_of line texts segments [] = Ok []
 tables_of line texts segments (offset ∷ offsets) =
     table_of line texts segments offset >>= (λ table. tables_of line texts segments offsets >>= (λ others. Ok (table ++ others)))
 
+-- the names of the tables and the sequences that count, behind those of earlier tables
+abbrev pub lined : List TableNames → List Sequence → Result (List TableRead) LineFault → Result (List TableNames × List Sequence) LineFault
+lined tables sequences read = read >>= (λ reads. Ok (tables ++ map (λ t. t.names) reads, sequences ++ flat_map (λ t. t.sequences) reads))
+
 -- line tables that were read
 pub record Lines : Type 0 where
   pub tables : List TableNames
@@ -51,6 +55,10 @@ pub record Lines : Type 0 where
 
 abbrev pub lines_of : List TableRead → Lines
 lines_of tables = record { tables = map (λ t. t.names) tables; sequences = flat_map (λ t. t.sequences) tables }
+
+-- the line tables at offsets
+abbrev pub lines_at : List ℕ → Texts → List Segment → List ℕ → Result Lines LineFault
+lines_at line texts segments offsets = tables_of line texts segments offsets >>= (λ reads. Ok (lines_of reads))
 
 abbrev pub table_with : List TableNames → ℕ → Option TableNames
 table_with tables offset = find (λ t. t.offset == offset) tables

@@ -14,9 +14,13 @@ sequences_from table before (row ∷ rows) =
     if row.end_sequence then record { table = table; rows = before; end = row.address } ∷ sequences_from table [] rows
     else sequences_from table (before ++ row ∷ []) rows
 
+-- a segment that is executed holds a range
+abbrev pub is_within : ℕ → ℕ → Segment → Bool
+is_within start end s = (s.flags % 2 == 1) && nat_le s.start start && nat_le end s.end
+
 -- a range counts where it is not empty and lies within one segment that is executed
 abbrev pub is_counted : List Segment → ℕ → ℕ → Bool
-is_counted segments start end = nat_lt start end && list_any (λ s. (s.flags % 2 == 1) && nat_le s.start start && nat_le end s.end) segments
+is_counted segments start end = nat_lt start end && list_any (is_within start end) segments
 
 -- a sequence goes from its first row's address to its end
 abbrev pub is_counted_from : List Segment → ℕ → List MatrixRow → Bool

@@ -7,9 +7,12 @@
 
 mod fault;
 mod header;
+mod lines;
 mod names;
 mod program;
 mod registers;
+mod run;
 mod sequence;
 
 pub use fault::LineFault;
+pub use lines::{LineTable, read_lines};

@@ -7,7 +7,7 @@ ghost use Rattle.dwarf_forms.specs.Values.{held};
 ghost use Rattle.dwarf_line.specs.Counted.{counted_from};
 ghost use Rattle.dwarf_line.specs.Names.{is_stored, checked, format_from, content_of, path_of, directory_of, named_from, entries_from, names_from};
 ghost use Rattle.dwarf_line.specs.Views.{texts_of, named, firsts_of, IsLike};
-ghost use Rattle.dwarf_line.specs.Fields.{first_fields};
+ghost use Rattle.dwarf_line.specs.Fields.{first_fields, named_first, counted_names};
 
 use crate::fault::LineFault;
 use dwarf_forms::{Value, is_value_form, read_value, text_in};
@@ -140,4 +140,81 @@ fn directory_of(value: Option<Value<'_>>, fault: LineFault) -> Result<Option<u64
         Some(Value::Number(number)) => Ok(Some(number)),
         Some(_) => Err(fault),
     }
+}
+
+fn entry_of<'a>(
+    sections: &DebugParts<'a>,
+    firsts: Firsts<'a>,
+    fault: LineFault,
+) -> Result<Entry<'a>, LineFault>
+    ensures { IsLike named result (named_first (texts_of sections.now) fault (firsts_of firsts.entry)) }
+{
+    let path = path_of(sections, firsts.path, fault)?;
+    let directory = directory_of(firsts.directory, fault)?;
+    Ok(Entry { path, directory })
+}
+
+/// An entry by its formats.
+#[tactic(auto, using(crate::proofs::NamedEntries::named_by_first))]
+fn read_entry<'a>(
+    sections: &DebugParts<'a>,
+    cursor: &mut Cursor<'a>,
+    formats: &[Format],
+    fault: LineFault,
+) -> Result<Entry<'a>, LineFault>
+    ensures { GivesAt named result cursor.new (named_from (texts_of sections.now) fault formats.now cursor.old) }
+{
+    let firsts = fields(cursor, formats, fault)?;
+    entry_of(sections, firsts, fault)
+}
+
+fn entries<'a>(
+    alloc: Global,
+    sections: &DebugParts<'a>,
+    cursor: &mut Cursor<'a>,
+    formats: &[Format],
+    fault: LineFault,
+) -> Result<Vec<Entry<'a>>, Fail<LineFault>>
+    ensures { GivesFrom (λ v. map named v.items) result cursor.new (counted_names (texts_of sections.now) fault formats.now cursor.old) }
+{
+    let count = cursor.uleb().ok_or(Fail::Fault(fault))?;
+    if count > cursor.left() as u64 {
+        return Err(Fail::Fault(fault));
+    }
+    entries_by(alloc, sections, cursor, (formats, count), fault)
+}
+
+fn entries_by<'a>(
+    alloc: Global,
+    sections: &DebugParts<'a>,
+    cursor: &mut Cursor<'a>,
+    counted: (&[Format], u64),
+    fault: LineFault,
+) -> Result<Vec<Entry<'a>>, Fail<LineFault>>
+    ensures { GivesFrom (λ v. map named v.items) result cursor.new (counted_from (named_from (texts_of sections.now) fault counted.entry.0.now) counted.entry.1 cursor.old) }
+{
+    let (formats, count) = counted;
+    let mut names = Vec::new(alloc);
+    for _ in 0..count {
+        match read_entry(sections, cursor, formats, fault) {
+            Err(found) => return Err(Fail::Fault(found)),
+            Ok(name) => names.push(name)?,
+        }
+    }
+    Ok(names)
+}
+
+/// A list of directories or files: the formats, and as many entries as are counted.
+#[tactic(auto, unfolding(crate::specs::Names::names_from))]
+pub(crate) fn read_names<'a>(
+    alloc: Global,
+    sections: &DebugParts<'a>,
+    cursor: &mut Cursor<'a>,
+    fault: LineFault,
+) -> Result<Vec<Entry<'a>>, Fail<LineFault>>
+    ensures { GivesFrom (λ v. map named v.items) result cursor.new (names_from (texts_of sections.now) fault cursor.old) }
+{
+    let kinds = cursor.u8().ok_or(Fail::Fault(fault))?;
+    let formats = formats(alloc, cursor, kinds, fault)?;
+    entries(alloc, sections, cursor, formats.as_slice(), fault)
 }
