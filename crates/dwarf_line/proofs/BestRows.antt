@@ -40,17 +40,17 @@ best_push at rows y =
     let g = greatest at rows in
     elim (leb_tells y.address at) [
       | inl here ↦ elim (leb_tells g y.address) [
-          | inl up ↦
+        | inl up ↦
             let gp : greatest at (rows ++ y ∷ []) ≡ y.address = greatest_push at rows y ∙ rw here.0 (omega (arith, up.1)) in
             let rp : row_at at (rows ++ y ∷ []) ≡ Some y = row_push at rows y y.address gp ∙ rw (eq-eqb y.address y.address refl, here.0) refl in
             rw (here.0, up.0) (sym (made at (rows ++ y ∷ []) y.address (Some y) gp rp))
-          | inr down ↦
+        | inr down ↦
             let gp : greatest at (rows ++ y ∷ []) ≡ g = greatest_push at rows y ∙ rw here.0 (omega (arith, down.1)) in
             let rp : row_at at (rows ++ y ∷ []) ≡ row_at at rows = row_push at rows y g gp ∙ rw (ne_eqb y.address g (λ e. omega (arith, down.1))) refl in
             rw (here.0, down.0) (sym (made at (rows ++ y ∷ []) g (row_at at rows) gp rp))
-        ]
+      ]
       | inr past ↦
-        let gp : greatest at (rows ++ y ∷ []) ≡ g = greatest_push at rows y ∙ rw past.0 refl in
-        let rp : row_at at (rows ++ y ∷ []) ≡ row_at at rows = row_push at rows y g gp ∙ rw (past.0, and-false (y.address == g)) refl in
-        rw past.0 (sym (made at (rows ++ y ∷ []) g (row_at at rows) gp rp))
+          let gp : greatest at (rows ++ y ∷ []) ≡ g = greatest_push at rows y ∙ rw past.0 refl in
+          let rp : row_at at (rows ++ y ∷ []) ≡ row_at at rows = row_push at rows y g gp ∙ rw (past.0, and-false (y.address == g)) refl in
+          rw past.0 (sym (made at (rows ++ y ∷ []) g (row_at at rows) gp rp))
     ]

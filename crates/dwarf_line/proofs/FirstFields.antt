@@ -26,7 +26,7 @@ abbrev pub as_first : ℕ → Held → First
 as_first content value = record {
   path = if content == 1 then Some value else None;
   directory = if content == 2 then Some value else None;
-  }
+}
 
 pub nothing_first : (read : Result (First × At) LineFault) → after_firsts no_first read ≡ read
 nothing_first (Ok r) = refl

@@ -63,21 +63,22 @@ lined_ok b = Ok b
 reads_of : (names : List TableNames) (sequences new : List Sequence) (got : List TableNames) (read : Result (List TableRead) LineFault)
     → lined [] sequences read ≡ Ok (both got new) → (reads : List TableRead) × (read ≡ Ok reads) × (got ≡ map (λ t. t.names) reads) × (new ≡ sequences ++ flat_map (λ t. t.sequences) reads)
 reads_of names sequences new got (Ok reads) e = (reads, refl, ap (λ (r : Result Both LineFault). first_in r) (sym e), ap (λ (r : Result Both LineFault). second_in r) (sym e))
-    where
-      first_in : Result Both LineFault → List TableNames
-      first_in (Ok b) = b.0
-      first_in (Err f) = []
-      second_in : Result Both LineFault → List Sequence
-      second_in (Ok b) = b.1
-      second_in (Err f) = []
+  where
+    first_in : Result Both LineFault → List TableNames
+    first_in (Ok b) = b.0
+    first_in (Err f) = []
+
+    second_in : Result Both LineFault → List Sequence
+    second_in (Ok b) = b.1
+    second_in (Err f) = []
 reads_of names sequences new got (Err f) e = absurd cc
 
 regroup : (names : List TableNames) (sequences : List Sequence) (reads : List TableRead) (rest : Result (List TableRead) LineFault)
     → lined names sequences (rest >>= λ others. Ok (reads ++ others)) ≡ lined (names ++ map (λ t. t.names) reads) (sequences ++ flat_map (λ t. t.sequences) reads) rest
 regroup names sequences reads (Ok others) =
     ap₂ (λ (n : List TableNames) (q : List Sequence). Ok (both n q))
-      (ap (λ (n : List TableNames). names ++ n) (map-append (λ (t : TableRead). t.names) reads others) ∙ sym (append_assoc names (map (λ t. t.names) reads) (map (λ t. t.names) others)))
-      (ap (λ (q : List Sequence). sequences ++ q) (flat_map-append (λ (t : TableRead). t.sequences) reads others) ∙ sym (append_assoc sequences (flat_map (λ t. t.sequences) reads) (flat_map (λ t. t.sequences) others)))
+    (ap (λ (n : List TableNames). names ++ n) (map-append (λ (t : TableRead). t.names) reads others) ∙ sym (append_assoc names (map (λ t. t.names) reads) (map (λ t. t.names) others)))
+    (ap (λ (q : List Sequence). sequences ++ q) (flat_map-append (λ (t : TableRead). t.sequences) reads others) ∙ sym (append_assoc sequences (flat_map (λ t. t.sequences) reads) (flat_map (λ t. t.sequences) others)))
 regroup names sequences reads (Err f) = refl
 
 more_by : (names got : List TableNames) (sequences new : List Sequence) (reads : List TableRead) (one rest : Result (List TableRead) LineFault)
@@ -99,10 +100,10 @@ pub fails_here : (fail : Fail LineFault) (line : List ℕ) (texts : Texts) (segm
 unfolding tables_of
 fails_here fails.Memory line texts segments names sequences offset offsets e = tt
 fails_here (fails.Fault fault) line texts segments names sequences offset offsets e = fails_next fault names sequences (table_of line texts segments offset) (tables_of line texts segments offsets) e
-    where
-      fails_next : (g : LineFault) (n : List TableNames) (q : List Sequence) (one rest : Result (List TableRead) LineFault) → lined [] q one ≡ Err g → lined n q (one >>= (λ table. rest >>= (λ others. Ok (table ++ others)))) ≡ Err g
-      fails_next g n q (Ok t) rest h = absurd cc
-      fails_next g n q (Err f) rest h = cc
+  where
+    fails_next : (g : LineFault) (n : List TableNames) (q : List Sequence) (one rest : Result (List TableRead) LineFault) → lined [] q one ≡ Err g → lined n q (one >>= (λ table. rest >>= (λ others. Ok (table ++ others)))) ≡ Err g
+    fails_next g n q (Ok t) rest h = absurd cc
+    fails_next g n q (Err f) rest h = cc
 
 pub none_left : (line : List ℕ) (texts : Texts) (segments : List Segment) (names : List TableNames) (sequences : List Sequence) → lined names sequences (tables_of line texts segments []) ≡ Ok (both names sequences)
 unfolding tables_of
@@ -124,7 +125,7 @@ pub lines_fail : (fail : Fail LineFault) (line : List ℕ) (texts : Texts) (segm
     → FailsBy fail (lined [] [] (tables_of line texts segments offsets)) → FailsBy fail (lines_at line texts segments offsets)
 lines_fail fails.Memory line texts segments offsets e = tt
 lines_fail (fails.Fault fault) line texts segments offsets e = failed (tables_of line texts segments offsets) e
-    where
-      failed : (read : Result (List TableRead) LineFault) → lined [] [] read ≡ Err fault → (read >>= (λ reads. Ok (lines_of reads))) ≡ Err fault
-      failed (Ok reads) h = absurd cc
-      failed (Err f) h = cc
+  where
+    failed : (read : Result (List TableRead) LineFault) → lined [] [] read ≡ Err fault → (read >>= (λ reads. Ok (lines_of reads))) ≡ Err fault
+    failed (Ok reads) h = absurd cc
+    failed (Err f) h = cc

@@ -30,7 +30,7 @@ headed segments offset (Some header) =
     Ok (record {
       names = record { offset = offset; directories = header.directories; files = header.files };
       sequences = filter (counts segments) (sequences_from offset [] rows);
-      } ∷ []))
+    } ∷ []))
 
 -- the table at an offset; nothing where it is of an earlier version
 unfoldable pub table_of : List ℕ → Texts → List Segment → ℕ → Result (List TableRead) LineFault

@@ -72,21 +72,21 @@ passed fault count regs at = operands_from fault count at >>= (λ after. changed
 -- the standard opcodes
 abbrev pub standard : Params → List ℕ → LineFault → ℕ → Registers → At → Moved
 standard params lengths fault opcode regs at =
-    if opcode == 1 then added regs at                                                                       -- DW_LNS_copy
-    else (if opcode == 2 then by_uleb fault (λ n. at_address (n * params.minimum) regs) at                  -- DW_LNS_advance_pc
-    else (if opcode == 3 then sleb_from fault at >>= (λ z. changed (at_line (wrapped z.0) regs) z.1)        -- DW_LNS_advance_line
-    else (if opcode == 4 then set_file fault regs at                                                        -- DW_LNS_set_file
-    else (if opcode == 8 then changed (at_address (address_advance params (255 - params.opcode_base)) regs) at -- DW_LNS_const_add_pc
-    else (if opcode == 9 then number_from fault 2 at >>= (λ n. changed (at_address n.0 regs) n.1)           -- DW_LNS_fixed_advance_pc
-    else (if (opcode == 5) || (opcode == 12) then passed fault 1 regs at                                    -- DW_LNS_set_column, DW_LNS_set_isa
-    else (if (opcode == 6) || (opcode == 7) || (opcode == 10) || (opcode == 11) then changed regs at        -- flags that are not kept
+    if opcode == 1 then added regs at  -- DW_LNS_copy
+    else (if opcode == 2 then by_uleb fault (λ n. at_address (n * params.minimum) regs) at  -- DW_LNS_advance_pc
+    else (if opcode == 3 then sleb_from fault at >>= (λ z. changed (at_line (wrapped z.0) regs) z.1)  -- DW_LNS_advance_line
+    else (if opcode == 4 then set_file fault regs at  -- DW_LNS_set_file
+    else (if opcode == 8 then changed (at_address (address_advance params (255 - params.opcode_base)) regs) at  -- DW_LNS_const_add_pc
+    else (if opcode == 9 then number_from fault 2 at >>= (λ n. changed (at_address n.0 regs) n.1)  -- DW_LNS_fixed_advance_pc
+    else (if (opcode == 5) || (opcode == 12) then passed fault 1 regs at  -- DW_LNS_set_column, DW_LNS_set_isa
+    else (if (opcode == 6) || (opcode == 7) || (opcode == 10) || (opcode == 11) then changed regs at  -- flags that are not kept
     else passed fault (slice_index lengths (opcode - 1)) regs at)))))))
 
 -- the extended opcodes, by their bytes
 abbrev pub extended : LineFault → List ℕ → Registers → At → Moved
 extended fault body regs at =
-    if slice_index body 0 == 1 then Ok (end_of regs ∷ [], start, at)                                        -- DW_LNE_end_sequence
-    else (if slice_index body 0 == 2 then                                                                   -- DW_LNE_set_address
+    if slice_index body 0 == 1 then Ok (end_of regs ∷ [], start, at)  -- DW_LNE_end_sequence
+    else (if slice_index body 0 == 2 then  -- DW_LNE_set_address
     (if length body == 5 then changed (record { address = number_in 4 (drop 1 body); file = regs.file; line = regs.line }) at else Err fault)
     else changed regs at)
 

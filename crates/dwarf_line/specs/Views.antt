@@ -30,4 +30,4 @@ header_of h = record {
   directories = map named h.directories.items;
   files = map named h.files.items;
   program = h.program;
-  }
+}

@@ -16,3 +16,6 @@ mod sequence;
 
 pub use fault::LineFault;
 pub use lines::{LineTable, read_lines};
+
+#[cfg(test)]
+mod tests;

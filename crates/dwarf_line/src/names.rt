@@ -16,7 +16,9 @@ use prof_bytes::{Cursor, Fail};
 use std::alloc::Global;
 
 const EMPTY: &[u8] = b"";
+
 const PATH: u64 = 1;
+
 const DIRECTORY_INDEX: u64 = 2;
 
 /// A kind of content, and the form of its values.

@@ -115,11 +115,7 @@ fn special(params: Params, adjusted: u8, regs: Registers, cursor: &Cursor<'_>) -
     (Some(row_of(next)), next)
 }
 
-fn set_file(
-    regs: Registers,
-    cursor: &mut Cursor<'_>,
-    fault: LineFault,
-) -> Result<Move, LineFault>
+fn set_file(regs: Registers, cursor: &mut Cursor<'_>, fault: LineFault) -> Result<Move, LineFault>
     ensures { Moves result cursor.new (set_file fault regs cursor.old) }
 {
     let number = cursor.uleb().ok_or(fault)?;
@@ -201,10 +197,7 @@ fn standard(
         4 => return set_file(regs, cursor, fault),
         5 | 12 => return passed(regs, cursor, 1, fault),
         6 | 7 | 10 | 11 => regs,
-        8 => at_address(
-            regs,
-            address_advance(params, 255 - params.opcode_base),
-        ),
+        8 => at_address(regs, address_advance(params, 255 - params.opcode_base)),
         9 => at_address(regs, u128::from(cursor.u16().ok_or(fault)?)),
         _ => {
             let count = operand_count(lengths, opcode);

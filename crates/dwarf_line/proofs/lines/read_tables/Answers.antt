@@ -12,7 +12,7 @@ pub returns-in-Err : goal.returns-in-Err
 returns-in-Err c =
     let split : c.loop-offset.rest.now ≡ c.in-Some.offset.now ∷ c.in-Some.others.now = grind (arith, common_steps) in
     rw (← c.loop-offset.invariant, split)
-      (fails_here c.in-Err.fail c.args.line.now (texts_of c.args.sections.now) c.args.segments.now (map names_of c.loop-offset.tables.items) c.loop-offset.sequences.items c.in-Some.offset.now c.in-Some.others.now c.in-Err.ensures)
+    (fails_here c.in-Err.fail c.args.line.now (texts_of c.args.sections.now) c.args.segments.now (map names_of c.loop-offset.tables.items) c.loop-offset.sequences.items c.in-Some.offset.now c.in-Some.others.now c.in-Err.ensures)
 
 pub loop-offset-preserved : goal.loop-offset-preserved
 loop-offset-preserved c =

@@ -15,7 +15,7 @@ pub loop-preserved : goal.loop-preserved
 loop-preserved c =
     let item = named_from (texts_of c.args.sections.now) c.args.fault c.args.counted.0.now in
     rw (c.in_ok-push-in-Ok.ensures.items, map_push named c.loop.names.items c.in-Ok.name)
-      (goes_on item (map named c.loop.names.items) c.args.counted.1 c.loop.counter c.loop.cursor c.read_entry.new.cursor (named c.in-Ok.name) (counted_from item c.args.counted.1 c.args.cursor.now) c.loop-test.true c.in-Ok.ensures c.loop.invariant)
+    (goes_on item (map named c.loop.names.items) c.args.counted.1 c.loop.counter c.loop.cursor c.read_entry.new.cursor (named c.in-Ok.name) (counted_from item c.args.counted.1 c.args.cursor.now) c.loop-test.true c.in-Ok.ensures c.loop.invariant)
 
 pub returns : goal.returns
 returns c =

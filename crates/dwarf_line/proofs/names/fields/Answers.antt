@@ -14,16 +14,16 @@ returns-in-Err c =
     sym c.loop-format.invariant
     ∙ ap (λ (fs : List Format). after_firsts (firsts_of c.loop-format.firsts) (first_fields c.args.fault fs c.loop-format.cursor)) split
     ∙ stops_here c.args.fault (firsts_of c.loop-format.firsts) c.in-Some.format.now c.in-Some.others.now c.in-Err.field-0 c.loop-format.cursor
-        (was_refused (value_from c.in-Some.format.now.form (pos 0) c.loop-format.cursor) c.in-Err.field-0 c.loop-format.cursor c.read_value.new.cursor c.in-Err.ensures)
+    (was_refused (value_from c.in-Some.format.now.form (pos 0) c.loop-format.cursor) c.in-Err.field-0 c.loop-format.cursor c.read_value.new.cursor c.in-Err.ensures)
 
 pub loop-format-preserved : goal.loop-format-preserved
 loop-format-preserved c =
     let split : c.loop-format.rest.now ≡ c.in-Some.format.now ∷ c.in-Some.others.now = grind (arith, common_steps) in
     let noted : firsts_of c.noted-firsts.result ≡ before_first (firsts_of c.loop-format.firsts) (as_first c.in-Some.format.now.content (held c.in-Ok.value)) =
-      ap₂ (λ (p d : Option Held). record { path = p; directory = d }) c.noted-firsts.ensures.path c.noted-firsts.ensures.directory in
+    ap₂ (λ (p d : Option Held). record { path = p; directory = d }) c.noted-firsts.ensures.path c.noted-firsts.ensures.directory in
     ap (λ (f : First). after_firsts f (first_fields c.args.fault c.in-Some.others.now c.read_value.new.cursor)) noted
     ∙ sym (one_more c.args.fault (firsts_of c.loop-format.firsts) c.in-Some.format.now c.in-Some.others.now (held c.in-Ok.value) c.loop-format.cursor c.read_value.new.cursor
-        (was_read (value_from c.in-Some.format.now.form (pos 0) c.loop-format.cursor) (held c.in-Ok.value) c.loop-format.cursor c.read_value.new.cursor c.in-Ok.ensures))
+    (was_read (value_from c.in-Some.format.now.form (pos 0) c.loop-format.cursor) (held c.in-Ok.value) c.loop-format.cursor c.read_value.new.cursor c.in-Ok.ensures))
     ∙ ap (λ (fs : List Format). after_firsts (firsts_of c.loop-format.firsts) (first_fields c.args.fault fs c.loop-format.cursor)) (sym split)
     ∙ c.loop-format.invariant
 
