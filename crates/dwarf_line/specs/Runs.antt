@@ -1,7 +1,7 @@
 -- The sequences that are kept while rows come.
 use Rattle.std.specs.Prelude.{◌≡◌, ℕ, List, [], ◌∷◌, ◌++◌, filter, fold, Result, Ok, if◌then◌else◌}
 use Rattle.prof_bytes.specs.Outcome.{◌>>=◌}
-use Rattle.elf_image.specs.declared.image.Segment.{Segment}
+use Rattle.elf_image.specs.declared.part.Segment.{Segment}
 use Rattle.dwarf_line.specs.declared.fault.LineFault.{LineFault}
 use Rattle.dwarf_line.specs.declared.registers.MatrixRow.{MatrixRow}
 use Rattle.dwarf_line.specs.declared.sequence.Sequence.{Sequence}

@@ -1,7 +1,8 @@
 -- Sequences of the matrix, and the row in force at an address. DWARF 5, section 6.2.
 use Rattle.std.specs.Prelude.{ℕ, ◌%◌, ◌==◌, ◌&&◌, Bool, false, nat_lt, nat_le, max, List, [], ◌∷◌, ◌++◌, map, filter, find, fold, reverse, Option, Some, None, option_map, option_and_then, if◌then◌else◌}
 use Rattle.std.specs.List.{list_any}
-use Rattle.elf_image.specs.declared.image.Segment.{Segment}
+use Rattle.elf_image.specs.declared.part.Segment.{Segment}
+use Rattle.elf_image.specs.Image.{is_executable, counts as range_counts}
 use Rattle.scope_types.specs.declared.scope.LineId.{LineId}
 use Rattle.scope_types.specs.declared.scope.LineId.TheVariants as lines
 use Rattle.dwarf_line.specs.declared.registers.MatrixRow.{MatrixRow}
@@ -16,16 +17,12 @@ sequences_from table before (row ∷ rows) =
 
 -- a segment that is executed holds a range
 abbrev pub is_within : ℕ → ℕ → Segment → Bool
-is_within start end s = (s.flags % 2 == 1) && nat_le s.start start && nat_le end s.end
-
--- a range counts where it is not empty and lies within one segment that is executed
-abbrev pub is_counted : List Segment → ℕ → ℕ → Bool
-is_counted segments start end = nat_lt start end && list_any (is_within start end) segments
+is_within start end s = is_executable s && nat_le s.start start && nat_le end s.end
 
 -- a sequence goes from its first row's address to its end
 abbrev pub is_counted_from : List Segment → ℕ → List MatrixRow → Bool
 is_counted_from segments end [] = false
-is_counted_from segments end (first ∷ rows) = is_counted segments first.address end
+is_counted_from segments end (first ∷ rows) = range_counts segments first.address end
 
 abbrev pub counts : List Segment → Sequence → Bool
 counts segments q = is_counted_from segments q.end q.rows

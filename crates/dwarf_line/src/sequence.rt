@@ -1,6 +1,7 @@
 //! Sequences of rows, and the row in force at an address.
 ghost use Rattle.std.specs.Prelude.{◌≡◌, ◌++◌, ◌∷◌, [], IfOk, OnOk, Some, None, option_map, option_copied, find, length};
-ghost use Rattle.dwarf_line.specs.Sequences.{is_within, is_counted, is_counted_from, holds_from, holds, row_at, line_at};
+ghost use Rattle.elf_image.specs.Image.{counts as range_counts};
+ghost use Rattle.dwarf_line.specs.Sequences.{is_within, is_counted_from, holds_from, holds, row_at, line_at};
 ghost use Rattle.dwarf_line.specs.Best.{better};
 
 use crate::registers::MatrixRow;
@@ -53,7 +54,7 @@ fn is_within(segment: &Segment, start: u32, end: u32) -> bool
 
 /// Whether a range is not empty and lies within one segment that is executed.
 fn is_counted(segments: &[Segment], start: u32, end: u32) -> bool
-    ensures { result ≡ is_counted segments.now start end }
+    ensures { result ≡ range_counts segments.now start end }
 {
     if start >= end {
         return false;

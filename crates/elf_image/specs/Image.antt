@@ -1,16 +1,67 @@
 -- What a program's file gives to be run and measured.
-use Rattle.std.specs.Prelude.{◌≡◌, ℕ, ◌+◌, ◌-◌, ◌^◌, ◌<◌, ◌≤◌, IsTrue, List, length, All, AllPairs, Bool, ◌||◌, ◌&&◌, nat_le, nat_lt}
-use Rattle.elf_image.specs.declared.image.Segment.{Segment}
+use Rattle.std.specs.Prelude.{◌≡◌, ℕ, ◌+◌, ◌-◌, ◌*◌, ◌%◌, ◌^◌, ◌<◌, ◌≤◌, ◌==◌, IsTrue, List, [], length, All, AllPairs, Bool, ◌||◌, ◌&&◌, nat_le, nat_lt, find}
+use Rattle.std.specs.List.{list_any}
+use Rattle.std.specs.Option.{option_map_or}
+use Rattle.elf_image.specs.Fields.{same_bytes}
+use Rattle.elf_image.specs.Ranges.{holds}
+use Rattle.elf_image.specs.declared.ranges.AddressRange.{AddressRange}
+use Rattle.elf_image.specs.declared.part.Segment.{Segment}
+use Rattle.elf_image.specs.declared.part.Function.{Function}
+use Rattle.elf_image.specs.declared.part.Section.{Section}
 
--- a program as it is loaded: the file's bytes, where it begins to run, and its segments in file order
+-- a section's name and bytes
+pub record Named : Type 0 where
+  pub name : List ℕ
+  pub bytes : List ℕ
+
+-- a function symbol: where the function begins, how many bytes it has, what it is called
+pub record Called : Type 0 where
+  pub start : ℕ
+  pub size : ℕ
+  pub name : List ℕ
+
+-- a program as it is loaded: the file's bytes, where it begins to run, its segments and sections in file order, and its function symbols in symbol order
 pub record Loaded : Type 0 where
   pub file : List ℕ
   pub entry : ℕ
   pub segments : List Segment
+  pub sections : List Named
+  pub functions : List Called
+
+-- what the code's values show of these
+abbrev pub named : Section → Named
+named s = record { name = s.name.now; bytes = s.bytes.now }
+
+abbrev pub called : Function → Called
+called f = record { start = f.start; size = f.size; name = f.name.now }
+
+-- a segment's addresses
+abbrev pub range_of : Segment → AddressRange
+range_of s = record { start = s.start; end = s.end }
+
+abbrev pub function_range : Called → AddressRange
+function_range f = record { start = f.start; end = f.start + f.size }
 
 -- where the addresses for stacks begin
 abbrev pub stacks_begin : ℕ
 stacks_begin = 0xF0000000
+
+abbrev pub in_segment : ℕ → Segment → Bool
+in_segment address s = holds address (range_of s)
+
+abbrev pub in_function : ℕ → Called → Bool
+in_function address f = holds address (function_range f)
+
+abbrev pub is_executable : Segment → Bool
+is_executable s = s.flags % 2 == 1
+
+-- a range counts where it is not empty and lies within one segment that can be executed
+abbrev pub counts : List Segment → ℕ → ℕ → Bool
+counts segments low high = nat_lt low high && list_any (λ s. is_executable s && nat_le s.start low && nat_le high s.end) segments
+
+-- the bytes of the first section of that name
+abbrev pub bytes_of_name : List Named → List ℕ → List ℕ
+bytes_of_name sections name = option_map_or (λ s. s.bytes) (find (λ s. same_bytes s.name name) sections) []
 
 -- a segment is not empty and lies below the stacks, and the bytes that it takes from the file are there
 pub record IsWithin (file : List ℕ) (s : Segment) : Type 0 where
@@ -18,10 +69,6 @@ pub record IsWithin (file : List ℕ) (s : Segment) : Type 0 where
   pub low : s.end ≤ stacks_begin
   pub filled : s.filled ≤ s.end - s.start
   pub there : 0 < s.filled → s.offset + s.filled ≤ length file
-
--- whether the segment holds the address
-abbrev pub holds : ℕ → Segment → Bool
-holds at s = nat_le s.start at && nat_lt at s.end
 
 -- two segments share no address
 abbrev pub are_apart : Segment → Segment → Bool

@@ -1,2 +1,7 @@
+pub mod Fields
+pub mod Texts
+pub mod Ranges
 pub mod Image
+pub mod Headers
+pub mod Refusals
 pub mod Reading

@@ -1,83 +1,68 @@
--- The program's file as its bytes say it (System V ABI, chapters 4 and 5), or the first refusal.
-use Rattle.std.specs.Prelude.{ℕ, zero, ◌+◌, ◌-◌, ◌==◌, List, [], ◌∷◌, ◌++◌, length, replicate, Option, Some, None, option_map, Result, Ok, Err, if◌then◌else◌, nat_lt}
-use Rattle.std.specs.List.{flat_map}
-use Rattle.prof_bytes.specs.Number.{number_bytes}
-use Rattle.elf_image.specs.declared.image.Segment.{Segment}
+-- The program that a file holds, or the first refusal, in the order of the rules.
+use Rattle.std.specs.Prelude.{ℕ, List, Option, Some, None, Result, Ok, Err}
+use Rattle.prof_bytes.specs.Outcome.{◌>>=◌}
 use Rattle.elf_image.specs.declared.fault.ElfFault.{ElfFault}
 use Rattle.elf_image.specs.declared.fault.ElfRule.{ElfRule}
-use Rattle.elf_image.specs.declared.fault.ElfRule.TheVariants.{NotElf, Unbuilt}
+use Rattle.elf_image.specs.declared.fault.ElfRule.TheVariants.{NotElf, NotRiscv32Exec, CompressedCode, HeaderPlace, SegmentPlace, SectionPlace, CompressedSection, SymbolPlace}
+use Rattle.elf_image.specs.Fields.{word_at}
 use Rattle.elf_image.specs.Image.{Loaded}
+use Rattle.elf_image.specs.Headers.{loads, segments, section_headers, sections, symbol_table, functions}
+use Rattle.elf_image.specs.declared.header.SectionHeader.{SectionHeader}
+use Rattle.elf_image.specs.Refusals.{not_elf, not_riscv32_exec, compressed_code, header_place, overfilled, unfilled, too_high, shared, outside, nameless, compressed_section, bad_table, nameless_function}
 
--- the first place at which the bytes are not as wanted: another byte, or their end
-abbrev pub first_difference : List ℕ → List ℕ → Option ℕ
-first_difference [] bytes = None
-first_difference (want ∷ wanted) [] = Some 0
-first_difference (want ∷ wanted) (byte ∷ bytes) =
-    if byte == want then option_map (λ place. place + 1) (first_difference wanted bytes) else Some 0
-
-abbrev pub magic : List ℕ
-magic = 0x7f ∷ 0x45 ∷ 0x4c ∷ 0x46 ∷ []
-
-abbrev pub header_length : ℕ
-header_length = 52
-
--- where the one program header of a straight program stands, and where its code begins
-abbrev pub code_offset : ℕ
-code_offset = 84
-
-abbrev pub code_start : ℕ
-code_start = 0x10000
-
-abbrev pub halves : List ℕ → List ℕ
-halves numbers = flat_map (number_bytes 2) numbers
-
-abbrev pub words : List ℕ → List ℕ
-words numbers = flat_map (number_bytes 4) numbers
-
--- the header of a 32-bit little endian RISC-V program for execution, with one program header right behind it and no sections
-abbrev pub file_header : List ℕ
-file_header =
-    magic ++ 1 ∷ 1 ∷ 1 ∷ replicate 9 0
-    ++ halves (2 ∷ 243 ∷ [])
-    ++ words (1 ∷ code_start ∷ header_length ∷ 0 ∷ 0 ∷ [])
-    ++ halves (header_length ∷ 32 ∷ 1 ∷ 40 ∷ 0 ∷ 0 ∷ [])
-
--- one segment that is loaded, read and executed, and takes the rest of the file
-abbrev pub program_header : ℕ → List ℕ
-program_header code = words (1 ∷ code_offset ∷ code_start ∷ code_start ∷ code ∷ code ∷ 5 ∷ 4 ∷ [])
-
--- what the first 84 bytes of a straight program of this length are
-abbrev pub straight_header : ℕ → List ℕ
-straight_header length = file_header ++ program_header (length - code_offset)
-
-abbrev pub fault_at : ElfRule → ℕ → ElfFault
-fault_at rule place = record { rule = rule; offset = place }
-
--- a refusal, else the next one
-abbrev pub or_next : Option ElfFault → Option ElfFault → Option ElfFault
-or_next (Some fault) next = Some fault
-or_next None next = next
-
-abbrev pub too_short : List ℕ → Option ElfFault
-too_short file = if nat_lt (length file) header_length then Some (fault_at NotElf (length file)) else None
-
--- it begins as every ELF file does and has room for the header; and it has the form of a straight program
-abbrev pub refusal_of : List ℕ → Option ElfFault
-refusal_of file =
-    or_next (option_map (fault_at NotElf) (first_difference magic file))
-    (or_next (too_short file) (option_map (fault_at Unbuilt) (first_difference (straight_header (length file)) file)))
-
-abbrev pub code_segments : ℕ → List Segment
-code_segments zero = []
-code_segments code = record { start = code_start; end = code_start + code; flags = 5; offset = code_offset; filled = code } ∷ []
+abbrev pub refused_at : ElfRule → Option ℕ → Result (Unit {0}) ElfFault
+refused_at rule None = Ok tt
+refused_at rule (Some place) = Err (record { rule = rule; offset = place })
 
 abbrev pub loaded : List ℕ → Loaded
-loaded file = record { file = file; entry = code_start; segments = code_segments (length file - code_offset) }
+loaded file = record {
+  file = file;
+  entry = word_at file 24;
+  segments = segments file;
+  sections = sections file;
+  functions = functions file;
+}
 
-abbrev pub unless : Option ElfFault → Loaded → Result Loaded ElfFault
-unless (Some fault) image = Err fault
-unless None image = Ok image
+unfoldable pub header_of : List ℕ → Result (Unit {0}) ElfFault
+header_of file = do
+  _ ← refused_at NotElf (not_elf file)
+  _ ← refused_at NotRiscv32Exec (not_riscv32_exec file)
+  _ ← refused_at CompressedCode (compressed_code file)
+  refused_at HeaderPlace (header_place file)
 
--- the program that the file holds, or the first refusal
+-- each segment by itself, and then their addresses
+unfoldable pub each_segment_of : List ℕ → Result (Unit {0}) ElfFault
+each_segment_of file = do
+  _ ← refused_at SegmentPlace (overfilled (loads file))
+  _ ← refused_at SegmentPlace (unfilled file (loads file))
+  refused_at SegmentPlace (too_high (loads file))
+
+unfoldable pub segments_of : List ℕ → Result (Unit {0}) ElfFault
+segments_of file = do
+  _ ← each_segment_of file
+  refused_at SegmentPlace (shared (loads file))
+
+unfoldable pub sections_of : List ℕ → Result (Unit {0}) ElfFault
+sections_of file = do
+  _ ← refused_at SectionPlace (outside file (section_headers file))
+  _ ← refused_at SectionPlace (nameless file (section_headers file))
+  refused_at CompressedSection (compressed_section file (section_headers file))
+
+abbrev pub symbols_in : List ℕ → Option SectionHeader → Result (Unit {0}) ElfFault
+symbols_in file None = Ok tt
+symbols_in file (Some table) = do
+  _ ← refused_at SymbolPlace (bad_table file table)
+  refused_at SymbolPlace (nameless_function file table)
+
 unfoldable pub image_of : List ℕ → Result Loaded ElfFault
-image_of file = unless (refusal_of file) (loaded file)
+image_of file = do
+  _ ← header_of file
+  _ ← segments_of file
+  _ ← sections_of file
+  _ ← symbols_in file (symbol_table file)
+  Ok (loaded file)
+
+-- the value, where the checks before it found nothing
+abbrev pub after : {X : Type 0} → Result (Unit {0}) ElfFault → X → Result X ElfFault
+after (Ok done) value = Ok value
+after (Err fault) value = Err fault

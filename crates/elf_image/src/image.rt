@@ -1,42 +1,79 @@
-ghost use Rattle.std.specs.Prelude.{◌≡◌, ◌≤◌, ◌^◌, length, find};
+ghost use Rattle.std.specs.Prelude.{◌≡◌, ◌+◌, ◌≤◌, ◌<◌, ◌^◌, ◌&&◌, IfOk, Ok, nat_le, nat_lt, length, find, map, option_map, All, AllPairs, IsTrue};
+ghost use Rattle.std.specs.List.{list_any};
+ghost use Rattle.std.specs.Option.{option_copied};
+ghost use Rattle.elf_image.specs.Fields.{same_bytes};
 ghost use Rattle.prof_bytes.specs.Outcome.{Gives};
-ghost use Rattle.elf_image.specs.Image.{IsLoaded, holds};
-ghost use Rattle.elf_image.specs.Reading.{image_of};
+ghost use Rattle.elf_image.specs.Image.{IsLoaded, IsWithin, are_apart, named, called, in_segment, in_function, counts, bytes_of_name};
+ghost use Rattle.elf_image.specs.Headers.{segments, section_headers, sections, symbol_table, functions};
+ghost use Rattle.elf_image.specs.Reading.{header_of, segments_of, sections_of, symbols_in, image_of, after};
 
 use crate::fault::ElfFault;
-use crate::straight::{CODE_OFFSET, CODE_START, refusal, segments_of};
+use crate::field::word_at;
+use crate::functions::Functions;
+use crate::header::{check_header, section_headers};
+use crate::part::{Function, Section, Segment};
+use crate::program::read_segments;
+use crate::section::read_sections;
+use crate::segments::Segments;
+use crate::symbol::read_functions;
 use prof_bytes::Fail;
 use std::alloc::Global;
 use std::marker::Model;
-
-/// A part of the file that is loaded: the addresses from `start` up to `end`, the rights in `flags`
-/// (1 execute, 2 write, 4 read), and the `filled` bytes from `offset` on in the file. Bytes past
-/// these are 0.
-#[derive(Clone, Copy, Debug, PartialEq, Eq)]
-pub struct Segment {
-    pub start: u32,
-    pub end: u32,
-    pub flags: u32,
-    pub offset: u32,
-    pub filled: u32,
-}
 
 /// A program that was read. It lends the file's bytes.
 #[derive(Debug, Drop)]
 pub struct Image<'a> {
     file: &'a [u8],
     entry: u32,
-    segments: Vec<Segment>,
+    segments: Segments,
+    sections: Vec<Section<'a>>,
+    functions: Functions<'a>,
 }
 
 impl<'a> Model for Image<'a> {
-    ghost use Rattle.elf_image.specs.Image.{Loaded, IsLoaded};
+    ghost use Rattle.std.specs.Prelude.{map};
+    ghost use Rattle.elf_image.specs.Image.{Loaded, IsLoaded, named};
 
     ghost Value = { Loaded };
 
-    ghost view = { λ image. record { file = image.file.now; entry = image.entry; segments = image.segments.items } };
+    ghost view = { λ image. record { file = image.file.now; entry = image.entry; segments = image.segments; sections = map named image.sections.items; functions = image.functions } };
 
-    ghost invariant = { λ image. IsLoaded (record { file = image.file.now; entry = image.entry; segments = image.segments.items }) };
+    ghost invariant = { λ image. IsLoaded (record { file = image.file.now; entry = image.entry; segments = image.segments; sections = map named image.sections.items; functions = image.functions }) };
+}
+
+/// The program that the file holds, or the first refusal. The file has at most 64 MiB.
+#[tactic(auto, unfolding(crate::specs::Reading::image_of))]
+pub fn read_image(alloc: Global, file: &[u8]) -> Result<Image<'_>, Fail<ElfFault>>
+    requires { length file.now ≤ 2 ^ 26 }
+    ensures { Gives (λ image. image) result (image_of file.now) }
+{
+    check_header(file)?;
+    let segments = read_segments(alloc, file)?;
+    let headers = section_headers(alloc, file)?;
+    let sections = read_sections(alloc, file, &headers)?;
+    let functions = read_functions(alloc, file, &segments, &headers)?;
+    Ok(Image {
+        file,
+        entry: word_at(file, 24),
+        segments,
+        sections,
+        functions,
+    })
+}
+
+fn find_section<'s, 'a>(sections: &'s [Section<'a>], name: &[u8]) -> Option<&'s Section<'a>>
+    ensures { option_copied result ≡ find (λ s. same_bytes s.name.now name.now) sections.now }
+{
+    sections.iter().find(|s| s.name == name)
+}
+
+fn section_named<'a>(sections: &[Section<'a>], name: &[u8]) -> &'a [u8]
+    ensures { result.now ≡ bytes_of_name (map named sections.now) name.now }
+{
+    match find_section(sections, name) {
+        Some(section) => section.bytes,
+        None => &[],
+    }
 }
 
 impl<'a> Image<'a> {
@@ -47,23 +84,23 @@ impl<'a> Image<'a> {
         self.entry
     }
 
-    /// The length of the file in bytes.
+    /// How many bytes the file has.
     pub fn length(&self) -> u32
         ensures { result ≡ length self.now.file }
     {
         self.file.len() as u32
     }
 
-    /// The bytes of the file.
+    /// The file's bytes.
     pub fn bytes(&self) -> &'a [u8]
         ensures { result.now ≡ self.now.file }
     {
         self.file
     }
 
-    /// What is loaded, in the order of the file. No two share an address, and none is empty.
+    /// The segments, in the order of their headers.
     pub fn segments(&self) -> &[Segment]
-        ensures segments { result.now ≡ self.now.segments }
+        ensures value { result.now ≡ self.now.segments }
         ensures loaded { IsLoaded self.now }
     {
         self.segments.as_slice()
@@ -71,34 +108,39 @@ impl<'a> Image<'a> {
 
     /// The segment that holds the address.
     pub fn segment_at(&self, at: u32) -> Option<Segment>
-        ensures { result ≡ find (holds at) self.now.segments }
+        ensures { result ≡ find (in_segment at) self.now.segments }
     {
-        segment_in(self.segments.as_slice(), at)
+        self.segments.at(at)
     }
-}
 
-fn segment_in(segments: &[Segment], at: u32) -> Option<Segment>
-    ensures { result ≡ find (holds at) segments.now }
-{
-    segments
-        .iter()
-        .copied()
-        .find(|segment| segment.start <= at && at < segment.end)
-}
-
-/// The program that the file holds, or the first refusal. A file has at most 64 MiB.
-#[tactic(auto, unfolding(crate::specs::Reading::image_of))]
-pub fn read_image(alloc: Global, file: &[u8]) -> Result<Image<'_>, Fail<ElfFault>>
-    requires { length file.now ≤ 2 ^ 26 }
-    ensures { Gives (λ image. image) result (image_of file.now) }
-{
-    if let Some(fault) = refusal(alloc, file)? {
-        return Err(Fail::Fault(fault));
+    /// Whether the addresses from `low` up to `high` count: there are some, and they lie within one
+    /// segment that can be executed.
+    pub fn counts(&self, low: u32, high: u32) -> bool
+        ensures { result ≡ counts self.now.segments low high }
+    {
+        self.segments.counts(low, u64::from(high))
     }
-    let code = file.len().saturating_sub(CODE_OFFSET) as u32;
-    Ok(Image {
-        file,
-        entry: CODE_START,
-        segments: segments_of(alloc, code)?,
-    })
+
+    /// The bytes of the first section of that name, and none where there is no such section or it has
+    /// no bytes in the file.
+    pub fn section(&self, name: &[u8]) -> &'a [u8]
+        ensures { result.now ≡ bytes_of_name self.now.sections name.now }
+    {
+        section_named(&self.sections, name)
+    }
+
+    /// The function symbols whose ranges count, in symbol order.
+    pub fn functions(&self) -> &[Function<'a>]
+        ensures { map called result.now ≡ self.now.functions }
+    {
+        self.functions.as_slice()
+    }
+
+    /// The first function symbol, in symbol order, that holds the address. Takes no memory, and time
+    /// as the logarithm of the number of symbols.
+    pub fn function_at(&self, pc: u32) -> Option<Function<'a>>
+        ensures { option_map called result ≡ find (in_function pc) self.now.functions }
+    {
+        self.functions.at(pc)
+    }
 }

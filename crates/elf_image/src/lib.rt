@@ -1,15 +1,26 @@
-//! A program's file: ELF32 for RISC-V, by the System V ABI, chapters 4 and 5.
+//! A program's file: ELF32 for RISC-V, by the System V ABI, chapters 4 and 5, and the RISC-V psABI.
 //!
-//! It promises that the image is exactly what the file's fields say, or the first refusal with its
-//! offset. Today it takes the form of a straight program alone: the header, one program header, and
-//! the code. Below stands `prof_bytes`.
+//! It promises that an image is exactly what the file's header fields say: segments, sections,
+//! function symbols and the entry; or else the first refusal, with its offset. Ranges of addresses
+//! are looked up by halving. Below stand `prof_bytes` and `byteorder`.
 #![tactic(auto)]
 
 mod debug_parts;
 mod fault;
+mod field;
+mod functions;
+mod header;
 mod image;
-mod straight;
+mod part;
+mod program;
+mod ranges;
+mod section;
+mod segments;
+mod symbol;
+mod texts;
 
 pub use debug_parts::DebugParts;
 pub use fault::{ElfFault, ElfRule};
-pub use image::{Image, Segment, read_image};
+pub use image::{Image, read_image};
+pub use part::{Function, Segment};
+pub use ranges::{AddressRange, FirstRange};

@@ -5,12 +5,10 @@ pub mod NodeLaws
 pub mod ValueLaws
 pub mod Totals
 pub mod Parents
-pub mod FourSamples
 pub mod FourRows
 pub mod TwentyRows
 pub mod Putting
 pub mod InlinedRows
-pub mod TwentySamples
 pub mod Columns
 pub mod TreePaths
 pub mod PathsAgain
@@ -21,3 +19,4 @@ pub mod ContextColumns
 pub mod NamesUsed
 pub mod Numbers
 pub mod PlaneSteps
+pub mod Bounds

@@ -75,10 +75,11 @@ fn path_counts(p: &HartPath, hart: u32, n: &[Scope], kind: Kind) -> bool
 }
 
 /// A node's value for a hart: the period times the number of its paths that count.
-#[tactic(auto, unfolding(crate::specs::Values::count_below))]
+#[tactic(auto, using(crate::proofs::Bounds::small_product), unfolding(crate::specs::Values::count_below))]
 pub fn value_of(period: u32, paths: &[HartPath], hart: u32, n: &[Scope], kind: Kind) -> u64
     requires { length paths.now ≤ 2 ^ 20 }
-    ensures { result ≡ value period paths.now hart n.now kind }
+    ensures value { result ≡ value period paths.now hart n.now kind }
+    ensures small { result < 2 ^ 52 }
 {
     let mut count: u64 = 0;
     for p in paths {
@@ -149,7 +150,7 @@ pub fn nodes_of(alloc: Global, paths: &[HartPath]) -> Result<Listed<ScopePath>, 
 }
 
 /// The last scope of a node's path, which is the node's own.
-pub(crate) fn own_scope_of(n: &[Scope]) -> Scope
+pub fn own_scope_of(n: &[Scope]) -> Scope
     ensures { result ≡ own_scope n.now }
 {
     match n {

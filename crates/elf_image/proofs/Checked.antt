@@ -1,0 +1,92 @@
+-- What is known of a file whose headers were checked.
+use Rattle.std.proofs.Common.{◌≡◌, ℕ, zero, suc, ◌+◌, ◌*◌, ◌<◌, ◌≤◌, Bool, true, false, cond, not, List, [], ◌∷◌, length, get_or, map, Option, Some, None, Result, Ok, Err, refl, sym, ap, subst, ◌∙◌, arith, lit<}
+use Rattle.std.specs.Prelude.{find, option_map, ◌||◌, ◌==◌, nat_le, ◌&&◌}
+use Rattle.std.proofs.lemmas.Bool.Decides.{nat_tests}
+use Rattle.prof_bytes.specs.Outcome.{◌>>=◌}
+use Rattle.elf_image.specs.declared.header.SectionHeader.{SectionHeader}
+use Rattle.elf_image.specs.declared.fault.ElfFault.{ElfFault}
+use Rattle.elf_image.specs.declared.fault.ElfRule.{ElfRule}
+use Rattle.elf_image.specs.declared.fault.ElfRule.TheVariants.{NotElf, NotRiscv32Exec, CompressedCode, HeaderPlace, SectionPlace}
+use Rattle.elf_image.specs.Fields.{lies_within}
+use Rattle.elf_image.specs.Headers.{phoff, phnum, shoff, shnum, section_headers, symbol_table, has_bytes}
+use Rattle.elf_image.specs.Refusals.{first_of, not_elf, not_riscv32_exec, compressed_code, header_tests, header_place, outside}
+use Rattle.elf_image.specs.Reading.{refused_at, header_of, sections_of}
+use Rattle.elf_image.proofs.Tables.{cond_none}
+
+-- a rule that refused nothing, and what came after it
+pub passed : {Y : Type 0} (rule : ElfRule) (place : Option ℕ) (next : Unit {0} → Result Y ElfFault) (y : Y) → (refused_at rule place >>= next) ≡ Ok y → (place ≡ None) × (next tt ≡ Ok y)
+passed rule None next y e = (refl, e)
+passed rule (Some p) next y e = absurd cc
+
+pub passed_last : (rule : ElfRule) (place : Option ℕ) → refused_at rule place ≡ Ok tt → place ≡ None
+passed_last rule None e = refl
+passed_last rule (Some p) e = absurd cc
+
+pub option_map_none : {X Y : Type 0} (f : X → Y) (o : Option X) → option_map f o ≡ None → o ≡ None
+option_map_none f None e = refl
+option_map_none f (Some x) e = absurd cc
+
+-- no element passes the test
+pub find_none : {X : Type 0} (p : X → Bool) (xs : List X) → find p xs ≡ None → (i : ℕ) (d : X) → i < length xs → p (get_or xs i d) ≡ false
+find_none p [] e i d lt = absurd (omega arith)
+find_none p (x ∷ xs) e zero d lt = (cond_none (p x) x (find p xs) e).0
+find_none p (x ∷ xs) e (suc i) d lt = find_none p xs (cond_none (p x) x (find p xs) e).1 i d (omega arith)
+
+pub not_false : (b : Bool) → not b ≡ false → b ≡ true
+not_false true e = refl
+not_false false e = absurd cc
+
+pub within : (file : List ℕ) (offset size : ℕ) → lies_within file offset size ≡ true → 0 < size → offset + size ≤ length file
+within file offset size e some = grind (arith, nat_tests)
+
+headers_lie : (file : List ℕ) → header_place file ≡ None → (lies_within file (phoff file) (32 * phnum file) ≡ true) × (lies_within file (shoff file) (40 * shnum file) ≡ true)
+unfolding header_place
+headers_lie file none =
+    let tests : List (Bool × ℕ) = header_tests file in
+    let all = find_none (λ t. t.0) tests (option_map_none (λ t. t.1) (find (λ t. t.0) tests) none) in
+    (not_false _ (all 1 (true, 0) (lit< tt)), not_false _ (all 3 (true, 0) (lit< tt)))
+
+headers_within : (file : List ℕ) → header_of file ≡ Ok tt → (lies_within file (phoff file) (32 * phnum file) ≡ true) × (lies_within file (shoff file) (40 * shnum file) ≡ true)
+unfolding header_of
+headers_within file e =
+    let a = passed NotElf (not_elf file) _ tt e in
+    let b = passed NotRiscv32Exec (not_riscv32_exec file) _ tt a.1 in
+    let c = passed CompressedCode (compressed_code file) _ tt b.1 in
+    headers_lie file (passed_last HeaderPlace (header_place file) c.1)
+
+pub programs_within : (file : List ℕ) → header_of file ≡ Ok tt → 0 < phnum file → phoff file + 32 * phnum file ≤ length file
+programs_within file e some = within file (phoff file) (32 * phnum file) (headers_within file e).0 (omega arith)
+
+pub sections_within : (file : List ℕ) → header_of file ≡ Ok tt → 0 < shnum file → shoff file + 40 * shnum file ≤ length file
+sections_within file e some = within file (shoff file) (40 * shnum file) (headers_within file e).1 (omega arith)
+
+-- ---- the symbol table
+
+pub some_is : {X : Type 0} (a b : X) → Some a ≡ Some b → a ≡ b
+some_is a b e = cc
+
+find_both : {X : Type 0} (p q : X → Bool) (xs : List X) (x : X) → find p xs ≡ Some x → find q xs ≡ None → (p x ≡ true) × (q x ≡ false)
+find_both p q [] x found none = absurd cc
+find_both {X} p q (y ∷ ys) x found none =
+    let other = cond_none (q y) y (find q ys) none in
+    go (p y) refl other.0 found (λ e. find_both p q ys x e other.1)
+  where
+    go : (b : Bool) → p y ≡ b → q y ≡ false → cond b (Some y) (find p ys) ≡ Some x → (find p ys ≡ Some x → (p x ≡ true) × (q x ≡ false)) → (p x ≡ true) × (q x ≡ false)
+    go true is here e rest = let P : X → Type 0 = λ z. (p z ≡ true) × (q z ≡ false) in subst P (some_is y x e) (is, here)
+    go false is here e rest = rest e
+
+nothing_outside : (file : List ℕ) → sections_of file ≡ Ok tt → outside file (section_headers file) ≡ None
+unfolding sections_of
+nothing_outside file e = (passed SectionPlace (outside file (section_headers file)) _ tt e).0
+
+table_tests : (file : List ℕ) (h : SectionHeader) → (h.kind == 2) ≡ true → (has_bytes h && not (lies_within file h.offset h.size)) ≡ false → lies_within file h.offset h.size ≡ true
+table_tests file h kind inside = grind (arith, nat_tests)
+
+table_lies : (file : List ℕ) (table : SectionHeader) → symbol_table file ≡ Some table → outside file (section_headers file) ≡ None → lies_within file table.offset table.size ≡ true
+unfolding symbol_table outside
+table_lies file table found none =
+    let both = find_both (λ h. h.kind == 2) (λ h. has_bytes h && not (lies_within file h.offset h.size)) (section_headers file) table found (option_map_none (λ h. h.place) _ none) in
+    table_tests file table both.0 both.1
+
+pub table_within : (file : List ℕ) (table : SectionHeader) → symbol_table file ≡ Some table → sections_of file ≡ Ok tt → 0 < table.size → table.offset + table.size ≤ length file
+table_within file table found e some = within file table.offset table.size (table_lies file table found (nothing_outside file e)) some

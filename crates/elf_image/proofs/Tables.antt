@@ -1,0 +1,122 @@
+-- Tables of entries that stand one behind the other, as they are read.
+use Rattle.std.proofs.Common.{◌≡◌, ℕ, zero, suc, ◌+◌, ◌<◌, ◌≤◌, inl, inr, Bool, true, false, cond, List, [], ◌∷◌, ◌++◌, length, take, get_or, map, Option, Some, None, refl, sym, ap, ◌∙◌, arith}
+use Rattle.std.specs.Prelude.{find, filter, option_map, position, slice_get, nat_lt}
+use Rattle.std.specs.Option.{option_and_then}
+use Rattle.std.specs.List.{range_with_len, position_from, position_or_len}
+use Rattle.std.proofs.lemmas.Bool.Decides.{leb_tells}
+use Rattle.std.proofs.lemmas.List.Folds.{find_at as find_at_place}
+use Rattle.std.proofs.lemmas.Iterator.Adapters.{position_from-zero}
+use Rattle.std.proofs.lemmas.List.{map_push, append-nil, take_more}
+use Rattle.std.proofs.lemmas.List.FromFn.{map-range_with_len_more, take-map-range_with_len, get_or-map-range_with_len, length-map-range_with_len, filter_of_map_range_with_len_more}
+
+pub table_more : {X : Type 0} (f : ℕ → X) (n : ℕ) (xs ys : List X) (x : X) → xs ≡ map f (range_with_len 0 n) → ys ≡ xs ++ x ∷ [] → x ≡ f n → ys ≡ map f (range_with_len 0 (n + 1))
+table_more {X} f n xs ys x so_far pushed made =
+    let front : xs ++ x ∷ [] ≡ map f (range_with_len 0 n) ++ x ∷ [] = ap (λ (zs : List X). zs ++ x ∷ []) so_far in
+    let back : map f (range_with_len 0 n) ++ x ∷ [] ≡ map f (range_with_len 0 n) ++ f n ∷ [] = ap (λ (z : X). map f (range_with_len 0 n) ++ z ∷ []) made in
+    pushed ∙ front ∙ back ∙ sym (map-range_with_len_more f 0 n n (omega arith))
+
+-- ---- the first entry that passes a test
+
+pub cond_none : {X : Type 0} (b : Bool) (x : X) (r : Option X) → cond b (Some x) r ≡ None → (b ≡ false) × (r ≡ None)
+cond_none true x r e = absurd cc
+cond_none false x r e = (refl, e)
+
+pub find_past : {X : Type 0} (p : X → Bool) (xs ys : List X) → find p xs ≡ None → find p (xs ++ ys) ≡ find p ys
+find_past p [] ys e = refl
+find_past p (x ∷ xs) ys e = let h = cond_none (p x) x (find p xs) e in rw h.0 (find_past p xs ys h.1)
+
+pub find_at : {X : Type 0} (p : X → Bool) (xs : List X) (k : ℕ) (d : X) → find p (take k xs) ≡ None → k < length xs → p (get_or xs k d) ≡ true → find p xs ≡ Some (get_or xs k d)
+find_at p [] k d none lt passes = absurd (omega arith)
+find_at p (x ∷ xs) zero d none lt passes = rw passes refl
+find_at p (x ∷ xs) (suc k) d none lt passes =
+    let h = cond_none (p x) x (find p (take k xs)) none in
+    rw h.0 (find_at p xs k d h.1 (omega arith) passes)
+
+pub found_at : {X : Type 0} (p : X → Bool) (f : ℕ → X) (k n : ℕ) (x : X) → find p (map f (range_with_len 0 k)) ≡ None → k < n → x ≡ f k → p x ≡ true → find p (map f (range_with_len 0 n)) ≡ Some x
+found_at {X} p f k n x none lt is passes =
+    let all : List X = map f (range_with_len 0 n) in
+    let here : get_or all k x ≡ x = get_or-map-range_with_len f 0 n k k x lt (omega arith) ∙ sym is in
+    let front : find p (take k all) ≡ None = ap (λ (xs : List X). find p xs) (take-map-range_with_len f 0 n k (omega arith)) ∙ none in
+    let there : p (get_or all k x) ≡ true = ap (λ (y : X). p y) here ∙ passes in
+    let within : k < length all = omega (arith, length-map-range_with_len f 0 n) in
+    find_at p all k x front within there ∙ ap (λ (y : X). Some y) here
+
+pub none_more : {X : Type 0} (p : X → Bool) (f : ℕ → X) (k : ℕ) (x : X) → find p (map f (range_with_len 0 k)) ≡ None → x ≡ f k → p x ≡ false → find p (map f (range_with_len 0 (k + 1))) ≡ None
+none_more {X} p f k x none is fails =
+    let not_here : p (f k) ≡ false = ap (λ (y : X). p y) (sym is) ∙ fails in
+    ap (λ (xs : List X). find p xs) (map-range_with_len_more f 0 k k (omega arith))
+    ∙ find_past p (map f (range_with_len 0 k)) (f k ∷ []) none
+    ∙ rw not_here refl
+
+-- ---- the entries that pass a test, as they are made
+
+pub kept_more : {X Y Z : Type 0} (p : X → Bool) (g : Y → Z) (h : X → Z) (f : ℕ → X) (k : ℕ) (ys zs : List Y) (y : Y) (x : X)
+    → map g ys ≡ map h (filter p (map f (range_with_len 0 k))) → x ≡ f k → p x ≡ true → zs ≡ ys ++ y ∷ [] → g y ≡ h x
+    → map g zs ≡ map h (filter p (map f (range_with_len 0 (k + 1))))
+kept_more {X} {Y} {Z} p g h f k ys zs y x so_far is passes pushed made =
+    let here : p (f k) ≡ true = ap (λ (z : X). p z) (sym is) ∙ passes in
+    let one : cond (p (f k)) (f k ∷ []) [] ≡ f k ∷ [] = rw here refl in
+    let list : filter p (map f (range_with_len 0 (k + 1))) ≡ filter p (map f (range_with_len 0 k)) ++ f k ∷ [] =
+    filter_of_map_range_with_len_more p f 0 k k (omega arith) ∙ ap (λ (xs : List X). filter p (map f (range_with_len 0 k)) ++ xs) one in
+    ap (λ (xs : List Y). map g xs) pushed ∙ map_push g ys y
+    ∙ ap (λ (xs : List Z). xs ++ g y ∷ []) so_far
+    ∙ ap (λ (z : Z). map h (filter p (map f (range_with_len 0 k))) ++ z ∷ []) (made ∙ ap (λ (z : X). h z) is)
+    ∙ sym (map_push h (filter p (map f (range_with_len 0 k))) (f k))
+    ∙ ap (λ (xs : List X). map h xs) (sym list)
+
+pub left_more : {X Y Z : Type 0} (p : X → Bool) (g : Y → Z) (h : X → Z) (f : ℕ → X) (k : ℕ) (ys : List Y) (x : X)
+    → map g ys ≡ map h (filter p (map f (range_with_len 0 k))) → x ≡ f k → p x ≡ false
+    → map g ys ≡ map h (filter p (map f (range_with_len 0 (k + 1))))
+left_more {X} {Y} {Z} p g h f k ys x so_far is fails =
+    let here : p (f k) ≡ false = ap (λ (z : X). p z) (sym is) ∙ fails in
+    let one : cond (p (f k)) (f k ∷ []) [] ≡ [] = rw here refl in
+    let list : filter p (map f (range_with_len 0 (k + 1))) ≡ filter p (map f (range_with_len 0 k)) =
+    filter_of_map_range_with_len_more p f 0 k k (omega arith) ∙ ap (λ (xs : List X). filter p (map f (range_with_len 0 k)) ++ xs) one ∙ append-nil (filter p (map f (range_with_len 0 k))) in
+    so_far ∙ ap (λ (xs : List X). map h xs) (sym list)
+
+pub find_map : {X Y : Type 0} (p : Y → Bool) (f : X → Y) (xs : List X) → find p (map f xs) ≡ option_map f (find (λ x. p (f x)) xs)
+find_map p f [] = refl
+find_map {X} {Y} p f (x ∷ xs) = go (p (f x)) (find_map p f xs)
+  where
+    go : (b : Bool) → find p (map f xs) ≡ option_map f (find (λ x. p (f x)) xs) → cond b (Some (f x)) (find p (map f xs)) ≡ option_map f (cond b (Some x) (find (λ x. p (f x)) xs))
+    go true rest = refl
+    go false rest = rest
+
+-- ---- the first element, by its index
+
+slice_get_past : {X : Type 0} (xs : List X) (i : ℕ) → length xs ≤ i → slice_get xs i ≡ None
+slice_get_past [] i le = refl
+slice_get_past (x ∷ xs) zero le = absurd (omega arith)
+slice_get_past (x ∷ xs) (suc i) le = slice_get_past xs i (omega arith)
+
+pub find_of_place : {X : Type 0} (p : X → Bool) (xs : List X) → find p xs ≡ option_and_then (λ i. slice_get xs i) (position p xs)
+find_of_place {X} p xs = go (position_or_len p xs) (find_at_place p xs)
+  where
+    go : (i : ℕ) → find p xs ≡ slice_get xs i → find p xs ≡ option_and_then (λ i. slice_get xs i) (cond (nat_lt i (length xs)) (Some i) None)
+    go i e = elim (leb_tells (suc i) (length xs)) [
+      | inl lt ↦ rw lt.0 e
+      | inr ge ↦ rw ge.0 (e ∙ slice_get_past xs i (let le : length xs < suc i = ge.1 in omega arith))
+    ]
+
+-- a test of what the elements give finds them at the same places
+pub position_map : {X Y : Type 0} (p : Y → Bool) (f : X → Y) (i : ℕ) (xs : List X) → position_from p i (map f xs) ≡ position_from (λ x. p (f x)) i xs
+position_map p f i [] = refl
+position_map p f i (x ∷ xs) = ap (λ (o : Option ℕ). cond (p (f x)) (Some i) o) (position_map p f (i + 1) xs)
+
+pub find_by_table : {X Y : Type 0} (p : Y → Bool) (f : X → Y) (xs : List X) → find (λ x. p (f x)) xs ≡ option_and_then (λ i. slice_get xs i) (position p (map f xs))
+find_by_table p f xs =
+    find_of_place (λ x. p (f x)) xs ∙ ap (λ (o : Option ℕ). option_and_then (λ i. slice_get xs i) o)
+    (position_from-zero (λ x. p (f x)) xs ∙ sym (position_map p f 0 xs) ∙ sym (position_from-zero p (map f xs)))
+
+slice_get_of_map : {X Y : Type 0} (f : X → Y) (xs : List X) (i : ℕ) → option_map f (slice_get xs i) ≡ slice_get (map f xs) i
+slice_get_of_map f [] i = refl
+slice_get_of_map f (x ∷ xs) zero = refl
+slice_get_of_map f (x ∷ xs) (suc i) = slice_get_of_map f xs i
+
+pub slice_get_map : {X Y : Type 0} (f : X → Y) (xs : List X) (o : Option ℕ) → option_map f (option_and_then (λ i. slice_get xs i) o) ≡ option_and_then (λ i. slice_get (map f xs) i) o
+slice_get_map f xs None = refl
+slice_get_map f xs (Some i) = slice_get_of_map f xs i
+
+pub find_take_more : {X : Type 0} (p : X → Bool) (xs : List X) (k : ℕ) (d : X) → find p (take k xs) ≡ None → k < length xs → p (get_or xs k d) ≡ false → find p (take (k + 1) xs) ≡ None
+find_take_more {X} p xs k d none lt fails =
+    ap (λ (zs : List X). find p zs) (take_more xs k d lt) ∙ find_past p (take k xs) (get_or xs k d ∷ []) none ∙ rw fails refl

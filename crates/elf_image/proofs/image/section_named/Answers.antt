@@ -1,0 +1,21 @@
+use Rattle.std.proofs.Common.{◌≡◌, ap, ◌∙◌, refl, sym, List, ℕ, [], Option, map}
+use Rattle.std.specs.Prelude.{find, option_map}
+use Rattle.std.specs.Option.{option_map_or}
+use Rattle.elf_image.specs.declared.part.Section.{Section}
+use Rattle.elf_image.specs.Fields.{same_bytes}
+use Rattle.elf_image.specs.Image.{Named, named, bytes_of_name}
+use Rattle.elf_image.proofs.Tables.{find_map}
+use Rattle.elf_image.proofs.image.section_named.Goals as goal
+
+abbrev bytes_in : Option Named → List ℕ
+bytes_in o = option_map_or (λ s. s.bytes) o []
+
+-- the bytes of what was found among the code's sections
+bytes_found : (sections : List Section) (name : List ℕ) (o : Option Section) → o ≡ find (λ s. same_bytes s.name.now name) sections → bytes_in (option_map named o) ≡ bytes_of_name (map named sections) name
+bytes_found sections name o is = ap (λ (o : Option Section). bytes_in (option_map named o)) is ∙ sym (ap bytes_in (find_map (λ s. same_bytes s.name name) named sections))
+
+pub returns-in-Some : goal.returns-in-Some
+returns-in-Some c = bytes_found c.args.sections.now c.args.name.now _ c.in-Some.ensures
+
+pub returns-in-None : goal.returns-in-None
+returns-in-None c = bytes_found c.args.sections.now c.args.name.now _ c.in-None.ensures

@@ -1,0 +1,31 @@
+use Rattle.std.proofs.Common.{◌≡◌, ℕ, ◌+◌, ◌/◌, ◌++◌, List, length, take, drop, Option, None, Result, Ok, Err, ap, ◌∙◌, refl, sym, arith, length-take, take-append-drop}
+use Rattle.std.specs.Prelude.{IfOk}
+use Rattle.std.specs.Global.{Vec}
+use Rattle.std.specs.Option.{option_or}
+use Rattle.std.specs.List.{position_from}
+use Rattle.elf_image.specs.declared.ranges.AddressRange.{AddressRange}
+use Rattle.elf_image.specs.declared.ranges.Step.{Step}
+use Rattle.elf_image.specs.Ranges.{holds, value_at}
+use Rattle.elf_image.proofs.Steps.{position_append}
+use Rattle.elf_image.proofs.ranges.+steps_of.Goals as goal
+
+-- two halves of a list of ranges, laid over one another
+halves : {E : Type 0} (r : Result (Vec Step) E) (upper lower : List Step) (number : ℕ) (front back whole : List AddressRange)
+    → ((address : ℕ) → value_at None upper address ≡ position_from (holds address) number front)
+    → ((address : ℕ) → value_at None lower address ≡ position_from (holds address) (number + length front) back)
+    → front ++ back ≡ whole
+    → IfOk r (λ steps. (address : ℕ) → value_at None steps.items address ≡ option_or (value_at None upper address) (value_at None lower address))
+    → IfOk r (λ steps. (address : ℕ) → value_at None steps.items address ≡ position_from (holds address) number whole)
+halves (Ok steps) upper lower number front back whole u l parts laid = λ address.
+    laid address
+    ∙ ap (λ (o : Option ℕ). option_or o (value_at None lower address)) (u address)
+    ∙ ap (λ (o : Option ℕ). option_or (position_from (holds address) number front) o) (l address)
+    ∙ sym (position_append (holds address) number front back)
+    ∙ ap (λ (rs : List AddressRange). position_from (holds address) number rs) parts
+halves (Err e) upper lower number front back whole u l parts laid = tt
+
+pub returns-in_ok-lower-in_default-clause-holders : goal.returns-in_ok-lower-in_default-clause-holders
+returns-in_ok-lower-in_default-clause-holders t c =
+    halves c.overlay.result c.deref.result.now c.deref-in_default.result.now c.args.number c.split_at.result.0.now c.split_at.result.1.now c.args.ranges.now
+    (rw c.deref.ensures.value c.in_ok-upper-in_default.ensures.holders) (rw c.deref-in_default.ensures.value c.in_ok-lower-in_default.ensures.holders)
+    (rw (c.split_at.ensures.front, c.split_at.ensures.back) (take-append-drop (length c.args.ranges.now / 2) c.args.ranges.now)) c.overlay.ensures.holders

@@ -1,0 +1,8 @@
+use Rattle.std.proofs.Common.{◌≡◌, ◌∙◌, sym}
+use Rattle.elf_image.specs.Ranges.{holds}
+use Rattle.elf_image.specs.Image.{range_of}
+use Rattle.elf_image.proofs.Tables.{find_by_table}
+use Rattle.elf_image.proofs.segments.Segments.at.Goals as goal
+
+pub returns : goal.returns
+returns c = rw (c.segment_of_index.ensures, c.first.ensures, c.deref.ensures.value, c.self.invariant, ← c.self.view_is) (sym (find_by_table (holds c.args.address) range_of c.self.inside.items.items))

@@ -1,0 +1,140 @@
+//! Segments, and what is refused in their headers.
+ghost use Rattle.std.specs.Prelude.{◌≡◌, ◌+◌, ◌*◌, ◌<◌, ◌≤◌, ◌^◌, IsTrue, IfOk, Ok, length, map, All, AllPairs, option_map, find};
+ghost use Rattle.prof_bytes.specs.Outcome.{Gives};
+ghost use Rattle.elf_image.specs.Image.{IsWithin, are_apart, stacks_begin};
+ghost use Rattle.elf_image.specs.Headers.{is_load, loads, segment_of, segments};
+ghost use Rattle.elf_image.specs.Refusals.{overfilled, unfilled, too_high, shared};
+ghost use Rattle.elf_image.specs.Reading.{header_of, each_segment_of, segments_of, after};
+
+use crate::fault::{ElfFault, ElfRule, refuse};
+use crate::field::lies_within;
+use crate::header::{ProgramHeader, program_headers};
+use crate::part::Segment;
+use crate::ranges::AddressRange;
+use crate::segments::Segments;
+use prof_bytes::{Fail, Memory};
+use std::alloc::Global;
+
+/// The header type of a segment that is loaded.
+const PT_LOAD: u32 = 1;
+
+/// Where the addresses for stacks begin.
+const STACKS_BEGIN: u64 = 0xf000_0000;
+
+fn is_load(header: &ProgramHeader) -> bool
+    ensures { result ≡ is_load header.now }
+{
+    header.kind == PT_LOAD && header.size > 0
+}
+
+#[tactic(auto, unfolding(crate::specs::Headers::loads))]
+pub(crate) fn loads(alloc: Global, file: &[u8]) -> Result<Vec<ProgramHeader>, Memory>
+    requires small { length file.now ≤ 2 ^ 26 }
+    requires checked { header_of file.now ≡ Ok tt }
+    ensures { IfOk result (λ headers. headers.items ≡ loads file.now) }
+{
+    let headers = program_headers(alloc, file)?;
+    let loads = headers.iter().copied().filter(is_load).collect(alloc)?;
+    Ok(loads)
+}
+
+#[tactic(auto, unfolding(crate::specs::Refusals::overfilled))]
+fn overfilled(headers: &[ProgramHeader]) -> Option<u32>
+    ensures { result ≡ overfilled headers.now }
+{
+    headers.iter().find(|h| h.size < h.filled).map(|h| h.place)
+}
+
+#[tactic(auto, unfolding(crate::specs::Refusals::unfilled))]
+fn unfilled(file: &[u8], headers: &[ProgramHeader]) -> Option<u32>
+    ensures { result ≡ unfilled file.now headers.now }
+{
+    headers
+        .iter()
+        .find(|h| !lies_within(file, h.offset, h.filled))
+        .map(|h| h.place)
+}
+
+#[tactic(auto, unfolding(crate::specs::Refusals::too_high))]
+fn too_high(headers: &[ProgramHeader]) -> Option<u32>
+    ensures { result ≡ too_high headers.now }
+{
+    headers
+        .iter()
+        .find(|h| STACKS_BEGIN < u64::from(h.start) + u64::from(h.size))
+        .map(|h| h.place)
+}
+
+/// The tests of each segment's header by itself.
+#[tactic(auto, unfolding(crate::specs::Reading::each_segment_of))]
+fn check_each(file: &[u8], headers: &[ProgramHeader]) -> Result<(), Fail<ElfFault>>
+    requires { headers.now ≡ loads file.now }
+    ensures { Gives (λ done. done) result (each_segment_of file.now) }
+{
+    refuse(ElfRule::SegmentPlace, overfilled(headers))?;
+    refuse(ElfRule::SegmentPlace, unfilled(file, headers))?;
+    refuse(ElfRule::SegmentPlace, too_high(headers))
+}
+
+fn segment_of(header: &ProgramHeader) -> Segment
+    requires { header.now.start + header.now.size ≤ stacks_begin }
+    ensures { result ≡ segment_of header.now }
+{
+    Segment {
+        start: header.start,
+        end: header.start + header.size,
+        flags: header.flags,
+        offset: header.offset,
+        filled: header.filled,
+    }
+}
+
+fn segments_of(alloc: Global, headers: &[ProgramHeader]) -> Result<Vec<Segment>, Memory>
+    requires { All (λ h. h.start + h.size ≤ stacks_begin) headers.now }
+    ensures { IfOk result (λ all. all.items ≡ map segment_of headers.now) }
+{
+    let mut segments = Vec::new(alloc);
+    for header in headers {
+        segments.push(segment_of(header))?;
+    }
+    Ok(segments)
+}
+
+/// The first header whose addresses an earlier one has too: its segment is not the first that holds
+/// each of them.
+#[tactic(auto, unfolding(crate::specs::Refusals::shared))]
+fn shared(headers: &[ProgramHeader], loaded: &Segments) -> Option<u32>
+    requires loaded { loaded.now ≡ map segment_of headers.now }
+    requires low { All (λ h. h.start + h.size ≤ stacks_begin) headers.now }
+    requires some { All (λ h. 0 < h.size) headers.now }
+    requires ascending { AllPairs (λ g h. g.place < h.place) headers.now }
+    requires few { length headers.now < 2 ^ 32 }
+    ensures { result ≡ shared headers.now }
+{
+    for (index, header) in headers.iter().enumerate() {
+        let range = AddressRange {
+            start: header.start,
+            end: header.start + header.size,
+        };
+        if !loaded.is_first(range, index as u32) {
+            return Some(header.place);
+        }
+    }
+    None
+}
+
+/// The segments of the file, where their headers are as they must be.
+#[tactic(auto, unfolding(crate::specs::Reading::segments_of))]
+pub(crate) fn read_segments(alloc: Global, file: &[u8]) -> Result<Segments, Fail<ElfFault>>
+    requires small { length file.now ≤ 2 ^ 26 }
+    requires checked { header_of file.now ≡ Ok tt }
+    ensures value { Gives (λ all. all) result (after (segments_of file.now) (segments file.now)) }
+    ensures within { IfOk result (λ all. All (IsWithin file.now) all) }
+    ensures apart { IfOk result (λ all. AllPairs (λ s t. IsTrue (are_apart s t)) all) }
+{
+    let headers = loads(alloc, file)?;
+    check_each(file, &headers)?;
+    let segments = Segments::of(alloc, segments_of(alloc, &headers)?)?;
+    refuse(ElfRule::SegmentPlace, shared(&headers, &segments))?;
+    Ok(segments)
+}

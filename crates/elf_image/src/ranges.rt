@@ -1,0 +1,197 @@
+//! Which of many ranges of addresses holds an address: the first of them, found by halving.
+ghost use Rattle.std.specs.Prelude.{◌≡◌, ◌≢◌, ℕ, MatchBool, ◌+◌, ◌<◌, ◌≤◌, ◌^◌, IfOk, Some, None, length, position, if◌then◌else◌};
+ghost use Rattle.std.specs.List.{position_from};
+ghost use Rattle.std.specs.Option.{option_or};
+ghost use Rattle.elf_image.specs.Ranges.{holds, value_at, IsAscending, AllHeld, SomeElse, IsFirst, IsNotFirst, next_start, past};
+
+use prof_bytes::Memory;
+use std::alloc::Global;
+use std::marker::Model;
+
+/// The addresses from `start` up to `end`, without `end` itself. It is empty where `end` is not
+/// above `start`.
+#[derive(Clone, Copy, Debug, PartialEq, Eq)]
+pub struct AddressRange {
+    pub start: u32,
+    pub end: u32,
+}
+
+/// Who holds the addresses from `start` up to the next step.
+#[derive(Clone, Copy, Debug)]
+struct Step {
+    start: u32,
+    holder: Option<u32>,
+}
+
+/// For each address the first of many ranges that holds it. Ranges may nest and overlap. Contracts
+/// see the list of the ranges.
+#[derive(Debug, Drop)]
+pub struct FirstRange {
+    ranges: Vec<AddressRange>,
+    steps: Vec<Step>,
+}
+
+impl Model for FirstRange {
+    ghost use Rattle.std.specs.Prelude.{List};
+    ghost use Rattle.elf_image.specs.declared.ranges.AddressRange.{AddressRange};
+    ghost use Rattle.elf_image.specs.Ranges.{IsTableOf};
+
+    ghost Value = { List AddressRange };
+
+    ghost view = { λ table. table.ranges.items };
+
+    ghost invariant = { λ table. IsTableOf table.ranges.items table.steps.items };
+}
+
+/// The holder at the address, where `before` holds those below the first step.
+fn holder_at(steps: &[Step], before: Option<u32>, address: u32) -> Option<u32>
+    requires { IsAscending 0 steps.now }
+    ensures { result ≡ value_at before steps.now address }
+{
+    if steps.is_empty() {
+        return before;
+    }
+    let middle = steps.len() / 2;
+    let step = steps[middle];
+    if address < step.start {
+        return holder_at(&steps[..middle], before, address);
+    }
+    holder_at(&steps[middle + 1..], step.holder, address)
+}
+
+fn is_holder(holder: Option<u32>, number: u32) -> bool
+    ensures { MatchBool result (holder ≡ Some number) (holder ≢ Some number) }
+{
+    match holder {
+        Some(other) => other == number,
+        None => false,
+    }
+}
+
+/// Whether all addresses from `low` up to `high` have the holder `number`.
+fn is_held(steps: &[Step], before: Option<u32>, low: u32, high: u32, number: u32) -> bool
+    requires ascending { IsAscending 0 steps.now }
+    requires some { low < high }
+    ensures { MatchBool result (AllHeld before steps.now low high number) (SomeElse before steps.now low high number) }
+{
+    if steps.is_empty() {
+        return is_holder(before, number);
+    }
+    let middle = steps.len() / 2;
+    let step = steps[middle];
+    if high <= step.start {
+        return is_held(&steps[..middle], before, low, high, number);
+    }
+    if step.start <= low {
+        return is_held(&steps[middle + 1..], step.holder, low, high, number);
+    }
+    is_held(&steps[..middle], before, low, step.start, number)
+        && is_held(&steps[middle + 1..], step.holder, step.start, high, number)
+}
+
+fn next_start(first: &[Step], second: &[Step]) -> Option<u32>
+    ensures { result ≡ next_start first.now second.now }
+{
+    match (first, second) {
+        ([], []) => None,
+        ([], [b, ..]) => Some(b.start),
+        ([a, ..], []) => Some(a.start),
+        ([a, ..], [b, ..]) => Some(a.start.min(b.start)),
+    }
+}
+
+/// Past the step that begins there, if one does: the holder then, and the steps left.
+fn past(start: u32, holder: Option<u32>, steps: &[Step]) -> (Option<u32>, &[Step])
+    ensures { (result.0, result.1.now) ≡ past start holder steps.now }
+{
+    match steps {
+        [step, rest @ ..] if step.start == start => (step.holder, rest),
+        _ => (holder, steps),
+    }
+}
+
+/// Two tables in one: the first one's holder, and the second's where the first has none.
+fn overlay(alloc: Global, upper: &[Step], lower: &[Step]) -> Result<Vec<Step>, Memory>
+    requires upper { IsAscending 0 upper.now }
+    requires lower { IsAscending 0 lower.now }
+    ensures ascending { IfOk result (λ steps. IsAscending 0 steps.items) }
+    ensures holders { IfOk result (λ steps. (address : ℕ) → value_at None steps.items address ≡ option_or (value_at None upper.now address) (value_at None lower.now address)) }
+{
+    let mut steps = Vec::new(alloc);
+    let (mut upper_left, mut lower_left) = (upper, lower);
+    let (mut upper_holder, mut lower_holder) = (None, None);
+    while let Some(start) = next_start(upper_left, lower_left) {
+        (upper_holder, upper_left) = past(start, upper_holder, upper_left);
+        (lower_holder, lower_left) = past(start, lower_holder, lower_left);
+        let holder = upper_holder.or(lower_holder);
+        steps.push(Step { start, holder })?;
+    }
+    Ok(steps)
+}
+
+fn one_range(alloc: Global, range: AddressRange, holder: u32) -> Result<Vec<Step>, Memory>
+    ensures ascending { IfOk result (λ steps. IsAscending 0 steps.items) }
+    ensures holders { IfOk result (λ steps. (address : ℕ) → value_at None steps.items address ≡ (if holds address range then Some holder else None)) }
+{
+    let mut steps = Vec::new(alloc);
+    if range.start < range.end {
+        let holder = Some(holder);
+        steps.push(Step {
+            start: range.start,
+            holder,
+        })?;
+        steps.push(Step {
+            start: range.end,
+            holder: None,
+        })?;
+    }
+    Ok(steps)
+}
+
+/// The table of the ranges, the first of which has this number. Each half of the list is a table of
+/// its own, so the work grows as n log n.
+fn steps_of(alloc: Global, ranges: &[AddressRange], number: u32) -> Result<Vec<Step>, Memory>
+    requires { number + length ranges.now < 2 ^ 32 }
+    ensures ascending { IfOk result (λ steps. IsAscending 0 steps.items) }
+    ensures holders { IfOk result (λ steps. (address : ℕ) → value_at None steps.items address ≡ position_from (holds address) number ranges.now) }
+{
+    match ranges {
+        [] => Ok(Vec::new(alloc)),
+        [range] => one_range(alloc, *range, number),
+        _ => {
+            let (front, back) = ranges.split_at(ranges.len() / 2);
+            let upper = steps_of(alloc, front, number)?;
+            let lower = steps_of(alloc, back, number + front.len() as u32)?;
+            overlay(alloc, &upper, &lower)
+        }
+    }
+}
+
+impl FirstRange {
+    /// The table of these ranges. Its size grows with their number, and the time to make it as
+    /// n log n.
+    pub fn of(alloc: Global, ranges: Vec<AddressRange>) -> Result<FirstRange, Memory>
+        requires { length ranges.items < 2 ^ 32 }
+        ensures { IfOk result (λ table. table ≡ ranges.items) }
+    {
+        let steps = steps_of(alloc, &ranges, 0)?;
+        Ok(FirstRange { ranges, steps })
+    }
+
+    /// The index of the first range that holds the address. Takes no memory, and time as log n.
+    pub fn first(&self, address: u32) -> Option<u32>
+        ensures { result ≡ position (holds address) self.now }
+    {
+        holder_at(&self.steps, None, address)
+    }
+
+    /// Whether this range, which has that index, is the first that holds each of its addresses.
+    pub fn is_first(&self, range: AddressRange, index: u32) -> bool
+        ensures { MatchBool result (IsFirst self.now range.start range.end index) (IsNotFirst self.now range.start range.end index) }
+    {
+        if range.end <= range.start {
+            return true;
+        }
+        is_held(&self.steps, None, range.start, range.end, index)
+    }
+}

@@ -1,0 +1,207 @@
+//! Sections, their names, and what is refused in their headers.
+ghost use Rattle.std.specs.Prelude.{◌≡◌, ◌+◌, ◌*◌, ◌<◌, ◌≤◌, ◌^◌, IfOk, Ok, length, map, option_map, find, filter, is_none, ◌&&◌};
+ghost use Rattle.std.specs.Option.{option_copied};
+ghost use Rattle.prof_bytes.specs.Outcome.{Gives};
+ghost use Rattle.elf_image.specs.Image.{named};
+ghost use Rattle.elf_image.specs.Headers.{shstrndx, is_section, has_bytes, bytes_of, bytes_of_index, section_headers, name_of, section_of, sections};
+ghost use Rattle.elf_image.specs.Refusals.{outside, nameless, is_read, is_read_name, is_compressed, compressed_section};
+ghost use Rattle.elf_image.specs.Reading.{sections_of, after};
+
+use crate::fault::{ElfFault, ElfRule, refuse};
+use crate::field::lies_within;
+use crate::header::{SectionHeader, shstrndx};
+use crate::part::Section;
+use crate::texts::{Texts, behind, front};
+use prof_bytes::{Fail, Memory};
+use std::alloc::Global;
+
+const SHT_NULL: u32 = 0;
+
+const SHT_NOBITS: u32 = 8;
+
+fn is_section(header: &SectionHeader) -> bool
+    ensures { result ≡ is_section header.now }
+{
+    header.kind != SHT_NULL
+}
+
+fn has_bytes(header: &SectionHeader) -> bool
+    ensures { result ≡ has_bytes header.now }
+{
+    header.kind != SHT_NULL && header.kind != SHT_NOBITS
+}
+
+fn bytes_of<'a>(file: &'a [u8], header: &SectionHeader) -> &'a [u8]
+    ensures bytes { result.now ≡ bytes_of file.now header.now }
+    ensures few { length result.now ≤ length file.now }
+{
+    if !has_bytes(header) {
+        return &[];
+    }
+    front(behind(file, header.offset as usize), header.size as usize)
+}
+
+/// The bytes of the section with that index, and none where there is no such section.
+pub(crate) fn bytes_of_index<'a>(
+    file: &'a [u8],
+    headers: &[SectionHeader],
+    index: usize,
+) -> &'a [u8]
+    requires { headers.now ≡ section_headers file.now }
+    ensures bytes { result.now ≡ bytes_of_index file.now index }
+    ensures few { length result.now ≤ length file.now }
+{
+    match headers.get(index) {
+        Some(header) => bytes_of(file, header),
+        None => &[],
+    }
+}
+
+/// A section's name; all names are empty where no section has names.
+#[tactic(auto, unfolding(crate::specs::Headers::name_of))]
+fn name_of<'a>(file: &[u8], names: &Texts<'a>, header: &SectionHeader) -> Option<&'a [u8]>
+    requires { names.now ≡ bytes_of_index file.now (shstrndx file.now) }
+    ensures { option_copied result ≡ name_of file.now header.now }
+{
+    if shstrndx(file) == 0 {
+        return Some(&[]);
+    }
+    names.text_at(header.name)
+}
+
+#[tactic(auto, unfolding(crate::specs::Refusals::outside))]
+fn outside(file: &[u8], headers: &[SectionHeader]) -> Option<u32>
+    ensures { result ≡ outside file.now headers.now }
+{
+    headers
+        .iter()
+        .find(|h| has_bytes(h) && !lies_within(file, h.offset, h.size))
+        .map(|h| h.place)
+}
+
+fn is_nameless(file: &[u8], names: &Texts<'_>, header: &SectionHeader) -> bool
+    requires { names.now ≡ bytes_of_index file.now (shstrndx file.now) }
+    ensures { result ≡ (is_section header.now && is_none (name_of file.now header.now)) }
+{
+    is_section(header) && name_of(file, names, header).is_none()
+}
+
+#[tactic(auto, unfolding(crate::specs::Refusals::nameless))]
+fn nameless(file: &[u8], names: &Texts<'_>, headers: &[SectionHeader]) -> Option<u32>
+    requires { names.now ≡ bytes_of_index file.now (shstrndx file.now) }
+    ensures { result ≡ nameless file.now headers.now }
+{
+    headers
+        .iter()
+        .find(|h| is_nameless(file, names, h))
+        .map(|h| h.place)
+}
+
+/// Whether a section of that name is read when a program is measured.
+#[tactic(auto, unfolding(crate::specs::Refusals::is_read_name))]
+fn is_read_name(name: &[u8]) -> bool
+    ensures { result ≡ is_read_name name.now }
+{
+    name == b".debug_info".as_slice()
+        || name == b".debug_abbrev".as_slice()
+        || name == b".debug_line".as_slice()
+        || name == b".debug_str".as_slice()
+        || name == b".debug_line_str".as_slice()
+        || name == b".debug_str_offsets".as_slice()
+        || name == b".debug_addr".as_slice()
+        || name == b".debug_rnglists".as_slice()
+        || name == b".debug_frame".as_slice()
+}
+
+fn is_compressed(file: &[u8], names: &Texts<'_>, header: &SectionHeader) -> bool
+    requires { names.now ≡ bytes_of_index file.now (shstrndx file.now) }
+    ensures { result ≡ (is_section header.now && is_compressed header.now && is_read (name_of file.now header.now)) }
+{
+    is_section(header)
+        && (header.flags >> 11) & 1 == 1
+        && match name_of(file, names, header) {
+            Some(name) => is_read_name(name),
+            None => false,
+        }
+}
+
+#[tactic(auto, unfolding(crate::specs::Refusals::compressed_section))]
+fn compressed_section(file: &[u8], names: &Texts<'_>, headers: &[SectionHeader]) -> Option<u32>
+    requires { names.now ≡ bytes_of_index file.now (shstrndx file.now) }
+    ensures { result ≡ compressed_section file.now headers.now }
+{
+    headers
+        .iter()
+        .find(|h| is_compressed(file, names, h))
+        .map(|h| h.place)
+}
+
+#[tactic(auto, unfolding(crate::specs::Reading::sections_of))]
+fn check_sections(
+    file: &[u8],
+    names: &Texts<'_>,
+    headers: &[SectionHeader],
+) -> Result<(), Fail<ElfFault>>
+    requires names { names.now ≡ bytes_of_index file.now (shstrndx file.now) }
+    requires headers { headers.now ≡ section_headers file.now }
+    ensures { Gives (λ done. done) result (sections_of file.now) }
+{
+    refuse(ElfRule::SectionPlace, outside(file, headers))?;
+    refuse(ElfRule::SectionPlace, nameless(file, names, headers))?;
+    refuse(
+        ElfRule::CompressedSection,
+        compressed_section(file, names, headers),
+    )
+}
+
+fn section_of<'a>(file: &'a [u8], names: &Texts<'a>, header: &SectionHeader) -> Section<'a>
+    requires { names.now ≡ bytes_of_index file.now (shstrndx file.now) }
+    ensures { named result ≡ section_of file.now header.now }
+{
+    Section {
+        name: match name_of(file, names, header) {
+            Some(name) => name,
+            None => &[],
+        },
+        bytes: bytes_of(file, header),
+    }
+}
+
+#[tactic(auto, unfolding(crate::specs::Headers::sections))]
+fn sections<'a>(
+    alloc: Global,
+    file: &'a [u8],
+    names: &Texts<'a>,
+    headers: &[SectionHeader],
+) -> Result<Vec<Section<'a>>, Memory>
+    requires names { names.now ≡ bytes_of_index file.now (shstrndx file.now) }
+    requires headers { headers.now ≡ section_headers file.now }
+    ensures { IfOk result (λ all. map named all.items ≡ sections file.now) }
+{
+    let mut all = Vec::new(alloc);
+    for header in headers {
+        if is_section(header) {
+            all.push(section_of(file, names, header))?;
+        }
+    }
+    Ok(all)
+}
+
+/// The sections of the file, where their headers are as they must be.
+pub(crate) fn read_sections<'a>(
+    alloc: Global,
+    file: &'a [u8],
+    headers: &[SectionHeader],
+) -> Result<Vec<Section<'a>>, Fail<ElfFault>>
+    requires small { length file.now ≤ 2 ^ 26 }
+    requires headers { headers.now ≡ section_headers file.now }
+    ensures value { Gives (λ all. map named all.items) result (after (sections_of file.now) (sections file.now)) }
+    ensures checked { IfOk result (λ all. sections_of file.now ≡ Ok tt) }
+{
+    let names = Texts::of(
+        alloc,
+        bytes_of_index(file, headers, shstrndx(file) as usize),
+    )?;
+    check_sections(file, &names, headers)?;
+    Ok(sections(alloc, file, &names, headers)?)
+}

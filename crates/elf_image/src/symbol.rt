@@ -1,0 +1,199 @@
+//! The symbol table, its function symbols, and what is refused there.
+ghost use Rattle.std.specs.Prelude.{◌≡◌, ◌+◌, ◌*◌, ◌/◌, ◌<◌, ◌≤◌, ◌^◌, ◌&&◌, ◌==◌, not, nat_lt, nat_le, is_none, IfOk, Ok, Some, None, length, map, option_map, find, filter, IsTrue, All, AllPairs};
+ghost use Rattle.std.specs.List.{list_any, range_with_len};
+ghost use Rattle.std.specs.Option.{option_copied};
+ghost use Rattle.prof_bytes.specs.Outcome.{Gives};
+ghost use Rattle.elf_image.specs.Fields.{text_in};
+ghost use Rattle.elf_image.specs.Image.{called, are_apart};
+ghost use Rattle.elf_image.specs.Headers.{section_headers, segments, bytes_of_index, symbol_table, symbol_at, symbols_of, is_function, symbol_name, function_of, functions_of, functions};
+ghost use Rattle.elf_image.specs.Refusals.{is_text_table, bad_table, nameless_function};
+ghost use Rattle.elf_image.specs.Reading.{sections_of, symbols_in, after};
+
+use crate::fault::{ElfFault, ElfRule, first_of, refuse};
+use crate::functions::Functions;
+use crate::header::{SectionHeader, Symbol, symbol_at};
+use crate::part::Function;
+use crate::section::bytes_of_index;
+use crate::segments::Segments;
+use crate::texts::Texts;
+use prof_bytes::{Fail, Memory};
+use std::alloc::Global;
+
+const SHT_SYMTAB: u32 = 2;
+
+const SHT_STRTAB: u32 = 3;
+
+const SYMBOL_SIZE: u32 = 16;
+
+const STT_FUNC: u8 = 2;
+
+fn first_table(headers: &[SectionHeader]) -> Option<SectionHeader>
+    ensures { result ≡ find (λ h. h.kind == 2) headers.now }
+{
+    headers.iter().copied().find(|h| h.kind == SHT_SYMTAB)
+}
+
+#[tactic(auto, unfolding(crate::specs::Headers::symbol_table))]
+fn symbol_table(file: &[u8], headers: &[SectionHeader]) -> Option<SectionHeader>
+    requires { headers.now ≡ section_headers file.now }
+    ensures { result ≡ symbol_table file.now }
+{
+    first_table(headers)
+}
+
+fn is_text_table(headers: &[SectionHeader], index: u32) -> bool
+    ensures { result ≡ is_text_table headers.now index }
+{
+    match headers.get(index as usize) {
+        Some(header) => header.kind == SHT_STRTAB,
+        None => false,
+    }
+}
+
+#[tactic(auto, unfolding(crate::specs::Refusals::bad_table))]
+fn bad_table(file: &[u8], headers: &[SectionHeader], table: &SectionHeader) -> Option<u32>
+    requires { headers.now ≡ section_headers file.now }
+    ensures { result ≡ bad_table file.now table.now }
+{
+    first_of(&[
+        (table.entry_size != SYMBOL_SIZE, table.place),
+        (table.size % SYMBOL_SIZE != 0, table.place),
+        (!is_text_table(headers, table.link), table.place),
+    ])
+}
+
+fn is_function(loaded: &Segments, symbol: &Symbol) -> bool
+    requires { AllPairs (λ s t. IsTrue (are_apart s t)) loaded.now }
+    ensures function { result ≡ is_function loaded.now symbol.now }
+    ensures fits { IsTrue result → symbol.now.start + symbol.now.size < 2 ^ 32 }
+{
+    symbol.kind == STT_FUNC
+        && symbol.section != 0
+        && loaded.counts(
+            symbol.start,
+            u64::from(symbol.start) + u64::from(symbol.size),
+        )
+}
+
+fn is_nameless(loaded: &Segments, names: &Texts<'_>, symbol: &Symbol) -> bool
+    requires { AllPairs (λ s t. IsTrue (are_apart s t)) loaded.now }
+    ensures { result ≡ (is_function loaded.now symbol.now && is_none (text_in names.now symbol.now.name)) }
+{
+    is_function(loaded, symbol) && names.text_at(symbol.name).is_none()
+}
+
+/// The place of the first function symbol whose name does not end.
+#[tactic(auto, unfolding(crate::specs::Refusals::nameless_function))]
+fn nameless_function(
+    file: &[u8],
+    loaded: &Segments,
+    names: &Texts<'_>,
+    table: &SectionHeader,
+) -> Option<u32>
+    requires loaded { loaded.now ≡ segments file.now }
+    requires apart { AllPairs (λ s t. IsTrue (are_apart s t)) loaded.now }
+    requires names { names.now ≡ bytes_of_index file.now table.now.link }
+    requires within { 0 < table.now.size → table.now.offset + table.now.size ≤ 2 ^ 26 }
+    ensures { result ≡ nameless_function file.now table.now }
+{
+    for k in 0..table.size / SYMBOL_SIZE {
+        let symbol = symbol_at(file, table.offset + SYMBOL_SIZE * k);
+        if is_nameless(loaded, names, &symbol) {
+            return Some(symbol.place);
+        }
+    }
+    None
+}
+
+#[tactic(auto, unfolding(crate::specs::Reading::symbols_in))]
+fn check_symbols(
+    file: &[u8],
+    loaded: &Segments,
+    headers: &[SectionHeader],
+    names: &Texts<'_>,
+    table: &SectionHeader,
+) -> Result<(), Fail<ElfFault>>
+    requires loaded { loaded.now ≡ segments file.now }
+    requires apart { AllPairs (λ s t. IsTrue (are_apart s t)) loaded.now }
+    requires headers { headers.now ≡ section_headers file.now }
+    requires names { names.now ≡ bytes_of_index file.now table.now.link }
+    requires within { 0 < table.now.size → table.now.offset + table.now.size ≤ 2 ^ 26 }
+    ensures { Gives (λ done. done) result (symbols_in file.now (Some table.now)) }
+{
+    refuse(ElfRule::SymbolPlace, bad_table(file, headers, table))?;
+    refuse(
+        ElfRule::SymbolPlace,
+        nameless_function(file, loaded, names, table),
+    )
+}
+
+fn function_of<'a>(
+    file: &[u8],
+    names: &Texts<'a>,
+    table: &SectionHeader,
+    symbol: &Symbol,
+) -> Function<'a>
+    requires { names.now ≡ bytes_of_index file.now table.now.link }
+    ensures { called result ≡ function_of file.now table.now symbol.now }
+{
+    Function {
+        start: symbol.start,
+        size: symbol.size,
+        name: match names.text_at(symbol.name) {
+            Some(name) => name,
+            None => &[],
+        },
+    }
+}
+
+/// The function symbols of the table, in symbol order.
+fn functions_of<'a>(
+    alloc: Global,
+    file: &[u8],
+    loaded: &Segments,
+    names: &Texts<'a>,
+    table: &SectionHeader,
+) -> Result<Vec<Function<'a>>, Memory>
+    requires loaded { loaded.now ≡ segments file.now }
+    requires apart { AllPairs (λ s t. IsTrue (are_apart s t)) loaded.now }
+    requires names { names.now ≡ bytes_of_index file.now table.now.link }
+    requires within { 0 < table.now.size → table.now.offset + table.now.size ≤ 2 ^ 26 }
+    ensures functions { IfOk result (λ all. map called all.items ≡ functions_of file.now (Some table.now)) }
+    ensures fit { IfOk result (λ all. All (λ f. f.start + f.size < 2 ^ 32) all.items) }
+    ensures few { IfOk result (λ all. length all.items < 2 ^ 32) }
+{
+    let mut all = Vec::new(alloc);
+    for k in 0..table.size / SYMBOL_SIZE {
+        let symbol = symbol_at(file, table.offset + SYMBOL_SIZE * k);
+        if is_function(loaded, &symbol) {
+            all.push(function_of(file, names, table, &symbol))?;
+        }
+    }
+    Ok(all)
+}
+
+/// The function symbols of the file, where its symbol table is as it must be.
+#[tactic(auto, unfolding(crate::specs::Headers::functions))]
+pub(crate) fn read_functions<'a>(
+    alloc: Global,
+    file: &'a [u8],
+    loaded: &Segments,
+    headers: &[SectionHeader],
+) -> Result<Functions<'a>, Fail<ElfFault>>
+    requires small { length file.now ≤ 2 ^ 26 }
+    requires loaded { loaded.now ≡ segments file.now }
+    requires apart { AllPairs (λ s t. IsTrue (are_apart s t)) loaded.now }
+    requires headers { headers.now ≡ section_headers file.now }
+    requires checked { sections_of file.now ≡ Ok tt }
+    ensures { Gives (λ all. all) result (after (symbols_in file.now (symbol_table file.now)) (functions file.now)) }
+{
+    match symbol_table(file, headers) {
+        Some(table) => {
+            let names = Texts::of(alloc, bytes_of_index(file, headers, table.link as usize))?;
+            check_symbols(file, loaded, headers, &names, &table)?;
+            let all = functions_of(alloc, file, loaded, &names, &table)?;
+            Ok(Functions::of(alloc, all)?)
+        }
+        None => Ok(Functions::of(alloc, Vec::new(alloc))?),
+    }
+}

@@ -1,0 +1,9 @@
+pub mod Complete
+pub mod Line
+pub mod Observing
+pub mod Fetching
+pub mod Found
+pub mod Appending
+pub mod TableRows
+pub mod OverHarts
+pub mod DigitSteps

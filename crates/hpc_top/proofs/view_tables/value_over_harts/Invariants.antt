@@ -1,0 +1,6 @@
+use Rattle.std.proofs.Common.{◌≡◌, ◌*◌, ◌^◌, ◌≤◌}
+use Rattle.tree_types.specs.TopDown.{over_harts}
+use Rattle.hpc_top.proofs.view_tables.value_over_harts.Given as goal
+
+abbrev pub invariant-loop-hart : goal.invariant-loop-hart
+invariant-loop-hart l = (l.sum ≡ over_harts l.period l.hart l.paths l.n l.kind) × (l.sum ≤ l.hart * 2 ^ 52)

@@ -1,0 +1,15 @@
+pub mod Numerals
+pub mod Words
+pub mod Machine
+pub mod Samples
+pub mod Report
+pub mod Profile
+pub mod Task
+pub mod Outcome
+pub mod Message
+pub mod Stop
+pub mod Made
+pub mod Steps
+pub mod Wanted
+pub mod Observed
+pub mod Straight

@@ -1,0 +1,78 @@
+-- The one line on the stream of errors.
+use Rattle.std.specs.Prelude.{◌≡◌, ℕ, ◌⊎◌, List, [], ◌++◌, IsTrue, codes, decimal}
+use Rattle.elf_image.specs.declared.fault.ElfRule.{ElfRule}
+use Rattle.elf_image.specs.declared.fault.ElfRule.TheVariants as rules
+use Rattle.prof_devices.specs.Outside.{SinkState, Rose, Appends, AppendsPart}
+use Rattle.hpc_top.specs.declared.status.FileKind.{FileKind}
+use Rattle.hpc_top.specs.declared.status.FileKind.TheVariants as kinds
+use Rattle.hpc_top.specs.declared.status.InputFault.{InputFault}
+use Rattle.hpc_top.specs.declared.status.InputFault.TheVariants.{TooLong, Program, Unbuilt}
+use Rattle.hpc_top.specs.declared.status.Part.{Part}
+use Rattle.hpc_top.specs.declared.status.Part.TheVariants as parts
+use Rattle.hpc_top.specs.declared.status.Place.{Place}
+use Rattle.hpc_top.specs.declared.status.Place.TheVariants.{Read, Store, Print}
+use Rattle.hpc_top.specs.declared.status.Status.{Status}
+use Rattle.hpc_top.specs.declared.status.Status.TheVariants.{Done, Usage, Input, Device, Memory}
+
+abbrev pub file_text : FileKind → List ℕ
+file_text kinds.Program = codes "program"
+file_text kinds.Input = codes "input"
+file_text kinds.Schedule = codes "schedule"
+
+abbrev pub rule_text : ElfRule → List ℕ
+rule_text rules.NotElf = codes "NotElf"
+rule_text rules.NotRiscv32Exec = codes "NotRiscv32Exec"
+rule_text rules.CompressedCode = codes "CompressedCode"
+rule_text rules.HeaderPlace = codes "HeaderPlace"
+rule_text rules.SegmentPlace = codes "SegmentPlace"
+rule_text rules.SectionPlace = codes "SectionPlace"
+rule_text rules.CompressedSection = codes "CompressedSection"
+rule_text rules.SymbolPlace = codes "SymbolPlace"
+
+abbrev pub part_text : Part → List ℕ
+part_text parts.Schedule = codes "schedule"
+part_text parts.Input = codes "input"
+part_text parts.Program = codes "program"
+part_text parts.Moment = codes "moment"
+
+abbrev pub fault_text : InputFault → List ℕ
+fault_text (TooLong file limit) = file_text file ++ codes " longer than " ++ decimal limit ++ codes " bytes"
+fault_text (Program fault) = codes "program " ++ rule_text fault.rule ++ codes " at " ++ decimal fault.offset
+fault_text (Unbuilt part at) = codes "unbuilt " ++ part_text part ++ codes " at " ++ decimal at
+
+abbrev pub place_text : Place → List ℕ
+place_text Read = codes "device read"
+place_text Store = codes "device store"
+place_text Print = codes "device print"
+
+-- the forms of words, also of those commands that are not built yet
+abbrev pub usage_text : List ℕ
+usage_text = codes "usage: hpc profile ELF INPUT SCHEDULE PERIOD WORKERS DB | run ELF INPUT SCHEDULE PERIOD MEASURE | prof ELF MEASURE WORKERS DB | struct ELF | view DB top|callers|flat | drill NUMBER WORKERS\n"
+
+-- the line of an answer
+abbrev pub line_of : Status → List ℕ
+line_of Done = []
+line_of Usage = usage_text
+line_of (Input fault) = codes "hpc: " ++ fault_text fault ++ codes "\n"
+line_of (Device place) = codes "hpc: " ++ place_text place ++ codes "\n"
+line_of Memory = codes "hpc: memory\n"
+
+-- a front of the line was put, and the whole of it unless a count rose
+pub record PutsLine (err err' : SinkState) (line : List ℕ) : Type 0 where
+  pub part : IsTrue err.tells → AppendsPart err.taken err'.taken line
+  pub whole : IsTrue err.tells → ¬ Rose err.faults err'.faults → ¬ Rose err.shortages err'.shortages → Appends err.taken err'.taken line
+
+abbrev pub Says : SinkState → SinkState → Status → Type 0
+Says err err' Done = err' ≡ err
+Says err err' Usage = PutsLine err err' (line_of Usage)
+Says err err' (Input fault) = PutsLine err err' (line_of (Input fault))
+Says err err' (Device place) = PutsLine err err' (line_of (Device place))
+Says err err' Memory = PutsLine err err' (line_of Memory)
+
+-- the answer stays, or it wasn't Done and is Memory now
+abbrev pub StaysOrMemory : Status → Status → Type 0
+StaysOrMemory Done after = after ≡ Done
+StaysOrMemory Usage after = (after ≡ Usage) ⊎ (after ≡ Memory)
+StaysOrMemory (Input fault) after = (after ≡ Input fault) ⊎ (after ≡ Memory)
+StaysOrMemory (Device place) after = (after ≡ Device place) ⊎ (after ≡ Memory)
+StaysOrMemory Memory after = after ≡ Memory

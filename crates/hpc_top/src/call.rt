@@ -1,0 +1,184 @@
+//! The top call: the words, the command, and its answer.
+ghost use Rattle.std.specs.Prelude.{◌≡◌, ◌≢◌, ◌⊎◌, [], ◌∷◌, IsNone, IfNone, IfSome, IsTrue, Err, length, map};
+ghost use Rattle.std.specs.Option.{option_copied};
+ghost use Rattle.prof_devices.specs.Outside.{Rose};
+ghost use Rattle.hpc_top.specs.declared.status.InputFault.{InputFault};
+ghost use Rattle.hpc_top.specs.Words.{Profile, request_of, view_asked, view_profile};
+ghost use Rattle.hpc_top.specs.Task.{profile_files, task_of, verdict};
+ghost use Rattle.hpc_top.specs.Wanted.{view_want};
+ghost use Rattle.hpc_top.specs.Outcome.{Outcome, Answers, Completes, Finished};
+ghost use Rattle.hpc_top.specs.Steps.{Prepares};
+ghost use Rattle.hpc_top.specs.Stop.{answer_of};
+ghost use Rattle.hpc_top.specs.Message.{Says};
+
+use crate::main_job::{Job, profile};
+use crate::message::tell;
+use crate::request::{ProfileWords, Request};
+use crate::status::{FileKind, Made, Place, Status, Stop, status_of};
+use crate::steps::{Want, deliver, fetch_all};
+use crate::words::read_words;
+use prof_bytes::Text;
+use prof_devices::{Gate, Shelf, Sink};
+use std::thread::Threads;
+
+/// The most bytes of a program, an input and a schedule.
+const PROGRAM_LIMIT: u64 = 67_108_864;
+
+const INPUT_LIMIT: u64 = 1_048_576;
+
+const SCHEDULE_LIMIT: u64 = 4_194_304;
+
+/// The files that `profile` fetches, in this order.
+fn profile_wants(words: ProfileWords<'_>) -> [Want<'_>; 3]
+    ensures { map view_want result ≡ profile_files (view_profile words.entry) }
+{
+    [
+        Want {
+            file: FileKind::Program,
+            name: words.elf,
+            limit: PROGRAM_LIMIT,
+        },
+        Want {
+            file: FileKind::Input,
+            name: words.input,
+            limit: INPUT_LIMIT,
+        },
+        Want {
+            file: FileKind::Schedule,
+            name: words.schedule,
+            limit: SCHEDULE_LIMIT,
+        },
+    ]
+}
+
+/// The texts, where there are three.
+fn three(texts: &[Text]) -> Option<(&[u8], &[u8], &[u8])>
+    ensures found { IfSome result (λ r. texts.now ≡ r.0.now ∷ r.1.now ∷ r.2.now ∷ []) }
+    ensures other { IfNone result (length texts.now ≢ 3) }
+{
+    match texts {
+        [first, second, third] => Some((first.bytes(), second.bytes(), third.bytes())),
+        _ => None,
+    }
+}
+
+/// What `profile` makes of its files.
+fn prepare_profile<R: Threads + Sync + AllocGlobal, F: Shelf>(
+    rt: &R,
+    words: ProfileWords<'_>,
+    shelf: &mut F,
+) -> Result<Made, Stop>
+    ensures { Prepares (task_of (Profile (view_profile words.entry))) (F.shown shelf.old) (F.shown shelf.new) result }
+{
+    let wants = profile_wants(words);
+    let texts = fetch_all(rt.alloc(), shelf, &wants)?;
+    let Some((elf, input, schedule)) = three(texts.items()) else {
+        unreachable!();
+    };
+    let job = Job {
+        elf,
+        input,
+        schedule,
+        period: words.period,
+        workers: words.workers,
+    };
+    Ok(profile(rt, &job)?)
+}
+
+fn prepare<R: Threads + Sync + AllocGlobal, F: Shelf>(
+    rt: &R,
+    request: Request<'_>,
+    shelf: &mut F,
+) -> Result<Made, Stop>
+    ensures { Prepares (task_of (view_asked request.entry)) (F.shown shelf.old) (F.shown shelf.new) result }
+{
+    match request {
+        Request::Profile(words) => prepare_profile(rt, words, shelf),
+    }
+}
+
+fn stored_name(request: Request<'_>) -> Option<&[u8]>
+    ensures { option_copied result ≡ (task_of (view_asked request.entry)).stores }
+{
+    match request {
+        Request::Profile(words) => Some(words.database),
+    }
+}
+
+fn carry_out<R: Threads + Sync + AllocGlobal, F: Shelf, O: Sink>(
+    rt: &R,
+    request: Request<'_>,
+    shelf: &mut F,
+    out: &mut O,
+) -> Result<(), Stop>
+    ensures { Outcome (task_of (view_asked request.entry)) (F.shown shelf.old) (F.shown shelf.new) (O.shown out.old) (O.shown out.new) (answer_of result) }
+{
+    let made = prepare(rt, request, shelf)?;
+    deliver(shelf, out, stored_name(request), &made)
+}
+
+fn answer<R: Threads + Sync + AllocGlobal, F: Shelf, O: Sink>(
+    rt: &R,
+    words: &[Text],
+    shelf: &mut F,
+    out: &mut O,
+) -> Status
+    ensures answer { Answers (request_of words.now) (F.shown shelf.old) (F.shown shelf.new) (O.shown out.old) (O.shown out.new) result }
+    ensures untouched { IsNone (request_of words.now) → (shelf.new ≡ shelf.old) × (out.new ≡ out.old) }
+{
+    match read_words(words) {
+        Some(request) => status_of(carry_out(rt, request, shelf, out)),
+        None => Status::Usage,
+    }
+}
+
+fn respond<R: Threads + Sync + AllocGlobal, F: Shelf, O: Sink, E: Sink>(
+    rt: &R,
+    words: &[Text],
+    shelf: &mut F,
+    out: &mut O,
+    err: &mut E,
+) -> Status
+    ensures answer { Answers (request_of words.now) (F.shown shelf.old) (F.shown shelf.new) (O.shown out.old) (O.shown out.new) result }
+    ensures line { Says (E.shown err.old) (E.shown err.new) result }
+    ensures untouched { IsNone (request_of words.now) → (shelf.new ≡ shelf.old) × (out.new ≡ out.old) }
+{
+    let status = answer(rt, words, shelf, out);
+    tell(rt.alloc(), status, err)
+}
+
+/// All that the program does: what its words ask for, over the files of `shelf`, with the report on
+/// `out` and a line on `err` for every answer but `Done`. Merging is not by threads yet, so that `gate`
+/// is not passed.
+pub fn hpc_main<R: Threads + Sync + AllocGlobal, F: Shelf, O: Sink, E: Sink, G: Gate>(
+    rt: &R,
+    words: &[Text],
+    shelf: &mut F,
+    out: &mut O,
+    err: &mut E,
+    _gate: &G,
+) -> Status
+    // When each answer comes, and what it leaves of the files and the output.
+    ensures answer { Answers (request_of words.now)
+        (F.shown shelf.old) (F.shown shelf.new) (O.shown out.old) (O.shown out.new) result }
+    // Where the files are told and accepted and no device failed, it is `Done`, unless memory ran out.
+    ensures complete { Completes (request_of words.now)
+        (F.shown shelf.old) (F.shown shelf.new) (O.shown out.old) (O.shown out.new) result }
+    // The one line of each answer but `Done`, which leaves `err` as it was.
+    ensures line { Says (E.shown err.old) (E.shown err.new) result }
+    // Words without a form: no device is called.
+    ensures untouched { IsNone (request_of words.now) → (shelf.new ≡ shelf.old) × (out.new ≡ out.old) }
+    // The words alone decide on `Usage`.
+    ensures usage { result ≡ Status.Usage → IsNone (request_of words.now) }
+    ensures usage_only { IsNone (request_of words.now) → (result ≡ Status.Usage) ⊎ (result ≡ Status.Memory) }
+    // The headline: after `Done` the database and the report are the definitions', and all other files stay.
+    ensures done { result ≡ Status.Done → IfSome (request_of words.now) (λ asked. Finished (task_of asked)
+        (F.shown shelf.old) (F.shown shelf.new) (O.shown out.old) (O.shown out.new)) }
+    // A refusal of the files is the verdict on them.
+    ensures input { (fault : InputFault) → result ≡ Status.Input fault → IfSome (request_of words.now) (λ asked.
+        IsTrue (F.shown shelf.old).tells → verdict (task_of asked) (F.shown shelf.old).files ≡ Err fault) }
+    // A device's failure rose in this call.
+    ensures read { result ≡ Status.Device Place.Read → Rose (F.shown shelf.old).reads.count (F.shown shelf.new).reads.count }
+{
+    respond(rt, words, shelf, out, err)
+}

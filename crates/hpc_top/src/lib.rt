@@ -1,0 +1,29 @@
+//! The top call: what the program does with its words, its files and its streams.
+//!
+//! It promises that what `profile` stores and prints is byte for byte what the definitions make of the
+//! files, that each refusal comes exactly where they have it, and what stands after every other
+//! answer. The modules `rv_hart`, `sample_clock` and `view_tables` are layers on their way
+//! to crates of their own: today's machine adds immediates and exits. Below stand the crates for files
+//! and streams, programs, scopes and the tree.
+#![tactic(auto)]
+
+mod call;
+mod main_job;
+mod message;
+mod numerals;
+mod report;
+mod request;
+mod rv_hart;
+mod sample_clock;
+mod status;
+mod steps;
+mod straight;
+mod view_tables;
+mod words;
+
+pub use call::hpc_main;
+pub use main_job::{Job, profile};
+pub use status::{FileKind, InputFault, Made, Part, Place, Status};
+
+#[cfg(test)]
+mod tests;

@@ -1,0 +1,122 @@
+ghost use Rattle.std.specs.Prelude.{◌≡◌, Some, IfOk, string_bytes};
+ghost use Rattle.hpc_top.specs.Message.{fault_text, file_text, part_text, place_text, rule_text, line_of, PutsLine, Says, StaysOrMemory};
+
+use crate::status::{FileKind, InputFault, Part, Place, Status};
+use elf_image::ElfRule;
+use prof_bytes::Memory;
+use prof_devices::{Put, Sink};
+use std::alloc::Global;
+use std::fmt;
+
+impl fmt::Display for FileKind {
+    ghost output = { λ file. Some (file_text file) };
+
+    fn fmt<W: fmt::Write>(&self, f: &mut fmt::Formatter<W>) -> fmt::Result {
+        match self {
+            FileKind::Program => write!(f, "program"),
+            FileKind::Input => write!(f, "input"),
+            FileKind::Schedule => write!(f, "schedule"),
+        }
+    }
+}
+
+impl fmt::Display for Part {
+    ghost output = { λ part. Some (part_text part) };
+
+    fn fmt<W: fmt::Write>(&self, f: &mut fmt::Formatter<W>) -> fmt::Result {
+        match self {
+            Part::Schedule => write!(f, "schedule"),
+            Part::Input => write!(f, "input"),
+            Part::Program => write!(f, "program"),
+            Part::Moment => write!(f, "moment"),
+        }
+    }
+}
+
+/// The name of a rule, as it is printed.
+fn rule_name(rule: ElfRule) -> &'static str
+    ensures { result.now ≡ rule_text rule }
+{
+    match rule {
+        ElfRule::NotElf => "NotElf",
+        ElfRule::NotRiscv32Exec => "NotRiscv32Exec",
+        ElfRule::CompressedCode => "CompressedCode",
+        ElfRule::HeaderPlace => "HeaderPlace",
+        ElfRule::SegmentPlace => "SegmentPlace",
+        ElfRule::SectionPlace => "SectionPlace",
+        ElfRule::CompressedSection => "CompressedSection",
+        ElfRule::SymbolPlace => "SymbolPlace",
+    }
+}
+
+impl fmt::Display for InputFault {
+    ghost output = { λ fault. Some (fault_text fault) };
+
+    fn fmt<W: fmt::Write>(&self, f: &mut fmt::Formatter<W>) -> fmt::Result {
+        match self {
+            InputFault::TooLong { file, limit } => write!(f, "{file} longer than {limit} bytes"),
+            InputFault::Program(fault) => {
+                let rule = rule_name(fault.rule);
+                let offset = fault.offset;
+                write!(f, "program {rule} at {offset}")
+            }
+            InputFault::Unbuilt { part, at } => write!(f, "unbuilt {part} at {at}"),
+        }
+    }
+}
+
+impl fmt::Display for Place {
+    ghost output = { λ place. Some (place_text place) };
+
+    fn fmt<W: fmt::Write>(&self, f: &mut fmt::Formatter<W>) -> fmt::Result {
+        match self {
+            Place::Read => write!(f, "device read"),
+            Place::Store => write!(f, "device store"),
+            Place::Print => write!(f, "device print"),
+        }
+    }
+}
+
+/// Puts a line. A failure changes nothing in the answer.
+fn put_line<E: Sink>(err: &mut E, line: &[u8])
+    ensures { PutsLine (E.shown err.old) (E.shown err.new) line.now }
+{
+    let _: Put = err.put(line);
+}
+
+/// The forms of words, also of those commands that are not built yet.
+const USAGE: &str =
+    "usage: hpc profile ELF INPUT SCHEDULE PERIOD WORKERS DB | run ELF INPUT SCHEDULE PERIOD MEASURE | prof ELF MEASURE WORKERS DB | struct ELF | view DB top|callers|flat | drill NUMBER WORKERS\n";
+
+fn line(alloc: Global, status: Status) -> Result<String, Memory>
+    ensures { IfOk result (λ line. string_bytes line ≡ line_of status) }
+{
+    match status {
+        Status::Done => Ok(String::new(alloc)),
+        Status::Usage => Ok(String::from_str(alloc, USAGE)?),
+        Status::Input(fault) => Ok(format!(in alloc; "hpc: {fault}\n")?),
+        Status::Device(place) => Ok(format!(in alloc; "hpc: {place}\n")?),
+        Status::Memory => Ok(format!(in alloc; "hpc: memory\n")?),
+    }
+}
+
+/// Puts the line of an answer that is not `Done`. Where there is no memory for the line, the answer is `Memory`,
+/// whose own line takes none.
+pub fn tell<E: Sink>(alloc: Global, status: Status, err: &mut E) -> Status
+    ensures answer { StaysOrMemory status result }
+    ensures line { Says (E.shown err.old) (E.shown err.new) result }
+{
+    match status {
+        Status::Done => Status::Done,
+        _ => match line(alloc, status) {
+            Ok(text) => {
+                put_line(err, text.as_bytes());
+                status
+            }
+            Err(_) => {
+                put_line(err, b"hpc: memory\n");
+                Status::Memory
+            }
+        },
+    }
+}

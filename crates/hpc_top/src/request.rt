@@ -1,0 +1,20 @@
+//! The commands with their words.
+ghost use Rattle.std.specs.Prelude.{◌<◌};
+
+/// The words of `profile ELF INPUT SCHEDULE PERIOD WORKERS DB`.
+#[derive(Clone, Copy)]
+pub struct ProfileWords<'a> {
+    pub elf: &'a [u8],
+    pub input: &'a [u8],
+    pub schedule: &'a [u8],
+    pub period: u32,
+    pub workers: u32,
+    pub database: &'a [u8],
+    pub ghost some_period: { 0 < period },
+}
+
+/// A command with its words.
+#[derive(Clone, Copy)]
+pub enum Request<'a> {
+    Profile(ProfileWords<'a>),
+}

@@ -1,0 +1,115 @@
+ghost use Rattle.std.specs.Prelude.{◌≡◌};
+ghost use Rattle.hpc_top.specs.Stop.{IsStopOf, answer_of};
+ghost use Rattle.hpc_top.specs.declared.status.Stop.TheVariants as stops;
+
+use elf_image::ElfFault;
+use prof_bytes::{Fail, Memory, Text};
+use std::alloc::{AllocError, AllocFailed};
+
+/// The files that commands fetch.
+#[derive(Clone, Copy, Debug, PartialEq, Eq)]
+pub enum FileKind {
+    Program,
+    Input,
+    Schedule,
+}
+
+/// The parts of what is to be built.
+#[derive(Clone, Copy, Debug, PartialEq, Eq)]
+pub enum Part {
+    Schedule,
+    Input,
+    Program,
+    Moment,
+}
+
+/// What is refused in the files, and where.
+#[derive(Clone, Copy, Debug, PartialEq, Eq)]
+pub enum InputFault {
+    /// The file has more bytes than its limit.
+    TooLong { file: FileKind, limit: u64 },
+    /// The program's file breaks a rule, at an offset in it.
+    Program(ElfFault),
+    /// The files need a part that is not built yet, at a place in the file or at an address.
+    Unbuilt { part: Part, at: u64 },
+}
+
+/// Which device failed: a read or a store of a file, or the output.
+#[derive(Clone, Copy, Debug, PartialEq, Eq)]
+pub enum Place {
+    Read,
+    Store,
+    Print,
+}
+
+/// What the program answers.
+#[derive(Clone, Copy, Debug, PartialEq, Eq)]
+pub enum Status {
+    Done,
+    Usage,
+    Input(InputFault),
+    Device(Place),
+    Memory,
+}
+
+/// What a command makes: a database, and the report on it.
+#[derive(Debug, Drop)]
+pub struct Made {
+    pub database: Text,
+    pub report: Text,
+}
+
+/// Why a command stops early.
+#[derive(Clone, Copy, Debug, PartialEq, Eq)]
+pub enum Stop {
+    Input(InputFault),
+    Device(Place),
+    Memory,
+}
+
+impl From<Memory> for Stop {
+    ghost from_gives = { λ _ stop. stop ≡ stops.Memory };
+
+    fn from(_: Memory) -> Stop {
+        Stop::Memory
+    }
+}
+
+impl From<AllocError> for Stop {
+    ghost from_gives = { λ _ stop. stop ≡ stops.Memory };
+
+    fn from(_: AllocError) -> Stop {
+        Stop::Memory
+    }
+}
+
+impl<T: Drop> From<AllocFailed<T>> for Stop {
+    ghost from_gives = { λ _ stop. stop ≡ stops.Memory };
+
+    fn from(_: AllocFailed<T>) -> Stop {
+        Stop::Memory
+    }
+}
+
+impl From<Fail<InputFault>> for Stop {
+    ghost from_gives = { λ fail stop. IsStopOf fail stop };
+
+    fn from(fail: Fail<InputFault>) -> Stop {
+        match fail {
+            Fail::Fault(fault) => Stop::Input(fault),
+            Fail::Memory => Stop::Memory,
+        }
+    }
+}
+
+/// The answer of a command that came to its end, or stopped.
+pub fn status_of(end: Result<(), Stop>) -> Status
+    ensures { result ≡ answer_of end }
+{
+    match end {
+        Ok(()) => Status::Done,
+        Err(Stop::Input(fault)) => Status::Input(fault),
+        Err(Stop::Device(place)) => Status::Device(place),
+        Err(Stop::Memory) => Status::Memory,
+    }
+}

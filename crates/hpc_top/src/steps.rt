@@ -1,0 +1,78 @@
+//! The steps of every command: its fetches, and the store and the put at its end.
+ghost use Rattle.std.specs.Prelude.{◌≡◌, map};
+ghost use Rattle.std.specs.Option.{option_copied};
+ghost use Rattle.hpc_top.specs.Made.{view};
+ghost use Rattle.hpc_top.specs.Steps.{Fetches, FetchesAll, PutsText, Delivers};
+ghost use Rattle.hpc_top.specs.Wanted.{view_want};
+
+use crate::status::{FileKind, InputFault, Made, Place, Stop};
+use prof_bytes::{Listed, Text};
+use prof_devices::{Fetch, Put, Shelf, Sink};
+use std::alloc::Global;
+
+/// A file to be fetched, and the most bytes that it may have.
+#[derive(Clone, Copy)]
+pub struct Want<'a> {
+    pub file: FileKind,
+    pub name: &'a [u8],
+    pub limit: u64,
+}
+
+/// One file of a command, or why the command stops here.
+fn fetch_file<F: Shelf>(shelf: &mut F, want: &Want<'_>) -> Result<Text, Stop>
+    ensures { Fetches (F.shown shelf.old) (F.shown shelf.new) (view_want want.now) result }
+{
+    let file = want.file;
+    let limit = want.limit;
+    match shelf.fetch(want.name, limit) {
+        Fetch::Whole(text) if text.bytes().len() as u64 <= limit => Ok(text),
+        Fetch::Whole(_) | Fetch::TooLong => Err(Stop::Input(InputFault::TooLong { file, limit })),
+        Fetch::Fault => Err(Stop::Device(Place::Read)),
+        Fetch::Memory => Err(Stop::Memory),
+    }
+}
+
+/// The files of a command in their order, or why it stops.
+pub fn fetch_all<F: Shelf>(
+    alloc: Global,
+    shelf: &mut F,
+    wants: &[Want<'_>],
+) -> Result<Listed<Text>, Stop>
+    ensures { FetchesAll (F.shown shelf.old) (F.shown shelf.new) (map view_want wants.now) result }
+{
+    let mut texts = Vec::new(alloc);
+    for want in wants {
+        let text = fetch_file(shelf, want)?;
+        texts.push(text)?;
+    }
+    Ok(Listed::of(texts))
+}
+
+fn put_text<O: Sink>(out: &mut O, text: &Text) -> Result<(), Stop>
+    ensures { PutsText (O.shown out.old) (O.shown out.new) text.now result }
+{
+    match out.put(text.bytes()) {
+        Put::Done => Ok(()),
+        Put::Fault => Err(Stop::Device(Place::Print)),
+        Put::Memory => Err(Stop::Memory),
+    }
+}
+
+/// Stores the database, where the command has a file for it, and then puts the report.
+pub fn deliver<F: Shelf, O: Sink>(
+    shelf: &mut F,
+    out: &mut O,
+    name: Option<&[u8]>,
+    made: &Made,
+) -> Result<(), Stop>
+    ensures { Delivers (F.shown shelf.old) (F.shown shelf.new) (O.shown out.old) (O.shown out.new) (option_copied name.entry) (view made.now) result }
+{
+    let Some(name) = name else {
+        return put_text(out, &made.report);
+    };
+    match shelf.store(name, made.database.bytes()) {
+        Put::Done => put_text(out, &made.report),
+        Put::Fault => Err(Stop::Device(Place::Store)),
+        Put::Memory => Err(Stop::Memory),
+    }
+}

@@ -1,0 +1,14 @@
+-- A database in parts.
+use Rattle.std.proofs.Common.{◌≡◌, ℕ, List, [], ◌++◌, sym, ap, ◌∙◌, append_assoc}
+use Rattle.std.proofs.lemmas.List.Concat.{flat_map-append}
+use Rattle.prof_db.specs.Spelling.{word, words}
+
+-- words in two parts
+pub words_parts : (start a b : List ℕ) (front back : List ℕ) → a ≡ start ++ words front → b ≡ a ++ words back → b ≡ start ++ words (front ++ back)
+words_parts start a b front back ea eb =
+    eb ∙ ap (λ (l : List ℕ). l ++ words back) ea ∙ append_assoc start (words front) (words back) ∙ ap (λ (l : List ℕ). start ++ l) (sym (flat_map-append word front back))
+
+-- a database in its six parts
+pub six_parts : (p q r s t u a b c d e f : List ℕ) → a ≡ [] ++ p → b ≡ a ++ q → c ≡ b ++ r → d ≡ c ++ s → e ≡ d ++ t → f ≡ e ++ u → f ≡ p ++ q ++ r ++ s ++ t ++ u
+six_parts p q r s t u a b c d e f ea eb ec ed ee ef =
+    ef ∙ ap (λ (l : List ℕ). l ++ u) (ee ∙ ap (λ (l : List ℕ). l ++ t) (ed ∙ ap (λ (l : List ℕ). l ++ s) (ec ∙ ap (λ (l : List ℕ). l ++ r) (eb ∙ ap (λ (l : List ℕ). l ++ q) ea))))

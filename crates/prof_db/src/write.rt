@@ -1,0 +1,311 @@
+//! A database as bytes.
+ghost use Rattle.std.specs.Prelude.{◌≡◌, ◌<◌, ◌≤◌, ◌^◌, ◌++◌, length, IfOk, IfSome, OnOk, ◌∷◌, [], position};
+ghost use Rattle.std.specs.List.{flat_map, position_or_len};
+ghost use Rattle.std.specs.Ordering.{is_eq};
+ghost use Rattle.scope_types.specs.Words.{kind_words, proc_words};
+ghost use Rattle.tree_types.specs.Naming.{proc_order, file_order};
+ghost use Rattle.prof_db.specs.Spelling.{words, text_bytes, procedure_bytes, file_bytes, node_bytes, kind_number, line_spelled, scope_spelled, proc_place, file_place, profile_entry, context_entry, counted, head_bytes, spelling};
+
+use prof_bytes::{Listed, Memory, Text, put_u32, put_u64};
+use scope_types::{LineId, ProcId, RootKind, Scope};
+use std::alloc::Global;
+use tree_types::{
+    Content, ContextEntry, ContextPlane, FileName, Kind, Names, Node, ProcName, ProfileEntry,
+    ProfilePlane,
+};
+
+/// A count as it is written. What has more than 2^32 - 1 elements is more than memory holds.
+fn count(length: usize) -> Result<u32, Memory>
+    ensures { IfOk result (λ count. count ≡ length) }
+{
+    match u32::try_from(length) {
+        Ok(count) => Ok(count),
+        Err(_) => Err(Memory),
+    }
+}
+
+fn put_words(out: &mut Vec<u8>, numbers: &[u32]) -> Result<(), Memory>
+    ensures { OnOk result (out.new.items ≡ out.old.items ++ words numbers.now) }
+{
+    for number in numbers {
+        put_u32(out, *number)?;
+    }
+    Ok(())
+}
+
+fn put_text(out: &mut Vec<u8>, name: &Text) -> Result<(), Memory>
+    ensures { OnOk result (out.new.items ≡ out.old.items ++ text_bytes name.now) }
+{
+    put_u32(out, count(name.bytes().len())?)?;
+    out.extend_from_slice(name.bytes())?;
+    Ok(())
+}
+
+fn put_proc_id(out: &mut Vec<u8>, id: ProcId) -> Result<(), Memory>
+    ensures { OnOk result (out.new.items ≡ out.old.items ++ words (proc_words id)) }
+{
+    let (kind, number) = match id {
+        ProcId::Die(offset) => (0, offset),
+        ProcId::Sym(address) => (1, address),
+        ProcId::Nameless => (2, 0),
+    };
+    put_u32(out, kind)?;
+    put_u32(out, number)
+}
+
+fn put_proc(out: &mut Vec<u8>, p: &ProcName) -> Result<(), Memory>
+    ensures { OnOk result (out.new.items ≡ out.old.items ++ procedure_bytes p.now) }
+{
+    put_proc_id(out, p.id)?;
+    put_text(out, &p.name)
+}
+
+fn put_procs(out: &mut Vec<u8>, procs: &[ProcName]) -> Result<(), Memory>
+    ensures { OnOk result (out.new.items ≡ out.old.items ++ flat_map procedure_bytes procs.now) }
+{
+    for p in procs {
+        put_proc(out, p)?;
+    }
+    Ok(())
+}
+
+fn put_file(out: &mut Vec<u8>, f: &FileName) -> Result<(), Memory>
+    ensures { OnOk result (out.new.items ≡ out.old.items ++ file_bytes f.now) }
+{
+    put_u32(out, f.table)?;
+    put_u32(out, f.file)?;
+    put_text(out, &f.name)
+}
+
+fn put_files(out: &mut Vec<u8>, files: &[FileName]) -> Result<(), Memory>
+    ensures { OnOk result (out.new.items ≡ out.old.items ++ flat_map file_bytes files.now) }
+{
+    for f in files {
+        put_file(out, f)?;
+    }
+    Ok(())
+}
+
+fn same_proc(a: ProcId, b: ProcId) -> bool
+    ensures { result ≡ is_eq (proc_order a b) }
+{
+    a.cmp(&b).is_eq()
+}
+
+fn same_file(a: (u32, u32), b: (u32, u32)) -> bool
+    ensures { result ≡ is_eq (file_order a b) }
+{
+    a.cmp(&b).is_eq()
+}
+
+fn find_proc(procs: &[ProcName], id: ProcId) -> Option<usize>
+    ensures { result ≡ position (λ p. is_eq (proc_order id p.id)) procs.now }
+{
+    procs.iter().position(|p| same_proc(id, p.id))
+}
+
+/// The place of a procedure in the list of names.
+#[tactic(auto, using(tree_types::proofs::Numbers::place_is_number))]
+fn proc_place_of(names: &Names, id: ProcId) -> Result<u32, Memory>
+    ensures { IfOk result (λ at. at ≡ proc_place names.now id) }
+{
+    let procs = names.procs.items();
+    count(find_proc(procs, id).unwrap_or(procs.len()))
+}
+
+fn find_file(files: &[FileName], table: u32, number: u32) -> Option<usize>
+    ensures { result ≡ position (λ f. is_eq (file_order (table, number) (f.table, f.file))) files.now }
+{
+    files
+        .iter()
+        .position(|f| same_file((table, number), (f.table, f.file)))
+}
+
+/// The place of a file in the list of names.
+#[tactic(auto, using(tree_types::proofs::Numbers::place_is_number))]
+fn file_place_of(names: &Names, table: u32, number: u32) -> Result<u32, Memory>
+    ensures { IfOk result (λ at. at ≡ file_place names.now table number) }
+{
+    let files = names.files.items();
+    count(find_file(files, table, number).unwrap_or(files.len()))
+}
+
+fn put_line(out: &mut Vec<u8>, names: &Names, line: LineId) -> Result<(), Memory>
+    ensures { OnOk result (out.new.items ≡ out.old.items ++ words (line_spelled names.now line)) }
+{
+    match line {
+        LineId::Row { table, file, line } => {
+            let place = file_place_of(names, table, file)?;
+            put_words(out, &[0, place, line])
+        }
+        LineId::Address(address) => put_words(out, &[1, address]),
+    }
+}
+
+fn root_word(kind: RootKind) -> u32
+    ensures { result ∷ [] ≡ kind_words kind }
+{
+    match kind {
+        RootKind::Thread => 0,
+        RootKind::Partial => 1,
+    }
+}
+
+#[tactic(auto, using(crate::proofs::Writing::words_parts))]
+fn put_inline(out: &mut Vec<u8>, names: &Names, callee: ProcId, call: LineId) -> Result<(), Memory>
+    ensures { OnOk result (out.new.items ≡ out.old.items ++ words (scope_spelled names.now (Scope.Inline callee call))) }
+{
+    let place = proc_place_of(names, callee)?;
+    put_words(out, &[2, place])?;
+    put_line(out, names, call)?;
+    Ok(())
+}
+
+#[tactic(auto, using(crate::proofs::Writing::words_parts))]
+fn put_scope(out: &mut Vec<u8>, names: &Names, scope: Scope) -> Result<(), Memory>
+    ensures { OnOk result (out.new.items ≡ out.old.items ++ words (scope_spelled names.now scope)) }
+{
+    match scope {
+        Scope::Root(kind) => put_words(out, &[0, root_word(kind)]),
+        Scope::Proc(id) => {
+            let place = proc_place_of(names, id)?;
+            put_words(out, &[1, place])
+        }
+        Scope::Inline { callee, call } => put_inline(out, names, callee, call),
+        Scope::Call(line) => {
+            put_u32(out, 3)?;
+            put_line(out, names, line)?;
+            Ok(())
+        }
+        Scope::Stmt(line) => {
+            put_u32(out, 4)?;
+            put_line(out, names, line)?;
+            Ok(())
+        }
+    }
+}
+
+fn put_node(out: &mut Vec<u8>, names: &Names, n: &Node) -> Result<(), Memory>
+    ensures { OnOk result (out.new.items ≡ out.old.items ++ node_bytes names.now n.now) }
+{
+    put_u32(out, n.parent)?;
+    put_scope(out, names, n.scope)?;
+    Ok(())
+}
+
+fn put_nodes(out: &mut Vec<u8>, names: &Names, nodes: &[Node]) -> Result<(), Memory>
+    ensures { OnOk result (out.new.items ≡ out.old.items ++ flat_map (node_bytes names.now) nodes.now) }
+{
+    for n in nodes {
+        put_node(out, names, n)?;
+    }
+    Ok(())
+}
+
+fn kind_word(kind: Kind) -> u32
+    ensures { result ≡ kind_number kind }
+{
+    match kind {
+        Kind::Exclusive => 0,
+        Kind::Frame => 1,
+        Kind::Inclusive => 2,
+    }
+}
+
+fn put_profile_entry(out: &mut Vec<u8>, e: &ProfileEntry) -> Result<(), Memory>
+    ensures { OnOk result (out.new.items ≡ out.old.items ++ profile_entry e.now) }
+{
+    put_u32(out, e.node)?;
+    put_u32(out, kind_word(e.kind))?;
+    put_u64(out, e.value)?;
+    Ok(())
+}
+
+fn put_context_entry(out: &mut Vec<u8>, e: &ContextEntry) -> Result<(), Memory>
+    ensures { OnOk result (out.new.items ≡ out.old.items ++ context_entry e.now) }
+{
+    put_u32(out, kind_word(e.kind))?;
+    put_u32(out, e.hart)?;
+    put_u64(out, e.value)?;
+    Ok(())
+}
+
+fn put_profile_entries(out: &mut Vec<u8>, entries: &[ProfileEntry]) -> Result<(), Memory>
+    ensures { OnOk result (out.new.items ≡ out.old.items ++ flat_map profile_entry entries.now) }
+{
+    for e in entries {
+        put_profile_entry(out, e)?;
+    }
+    Ok(())
+}
+
+fn put_context_entries(out: &mut Vec<u8>, entries: &[ContextEntry]) -> Result<(), Memory>
+    ensures { OnOk result (out.new.items ≡ out.old.items ++ flat_map context_entry entries.now) }
+{
+    for e in entries {
+        put_context_entry(out, e)?;
+    }
+    Ok(())
+}
+
+fn put_profile_column(out: &mut Vec<u8>, entries: &[ProfileEntry]) -> Result<(), Memory>
+    ensures { OnOk result (out.new.items ≡ out.old.items ++ counted profile_entry entries.now) }
+{
+    put_u32(out, count(entries.len())?)?;
+    put_profile_entries(out, entries)?;
+    Ok(())
+}
+
+fn put_context_column(out: &mut Vec<u8>, entries: &[ContextEntry]) -> Result<(), Memory>
+    ensures { OnOk result (out.new.items ≡ out.old.items ++ counted context_entry entries.now) }
+{
+    put_u32(out, count(entries.len())?)?;
+    put_context_entries(out, entries)?;
+    Ok(())
+}
+
+fn put_profiles(out: &mut Vec<u8>, columns: &[Listed<ProfileEntry>]) -> Result<(), Memory>
+    ensures { OnOk result (out.new.items ≡ out.old.items ++ flat_map (counted profile_entry) columns.now) }
+{
+    for column in columns {
+        put_profile_column(out, column.items())?;
+    }
+    Ok(())
+}
+
+fn put_contexts(out: &mut Vec<u8>, columns: &[Listed<ContextEntry>]) -> Result<(), Memory>
+    ensures { OnOk result (out.new.items ≡ out.old.items ++ flat_map (counted context_entry) columns.now) }
+{
+    for column in columns {
+        put_context_column(out, column.items())?;
+    }
+    Ok(())
+}
+
+fn put_head(out: &mut Vec<u8>, content: &Content) -> Result<(), Memory>
+    ensures { OnOk result (out.new.items ≡ out.old.items ++ head_bytes content.now) }
+{
+    let procs = count(content.names.procs.items().len())?;
+    let files = count(content.names.files.items().len())?;
+    let nodes = count(content.nodes.items().len())?;
+    out.extend_from_slice(b"HPCPROF1")?;
+    put_words(out, &[content.period, content.harts, procs, files, nodes])?;
+    Ok(())
+}
+
+/// The bytes of a database with this content. Each name is looked for in the whole list of names: slow on
+/// purpose, until the list is looked up by its order.
+#[tactic(auto, using(crate::proofs::Writing::six_parts), unfolding(crate::specs::Spelling::spelling))]
+pub fn write_db(alloc: Global, content: &Content) -> Result<Text, Memory>
+    ensures { IfOk result (λ text. text ≡ spelling content.now) }
+{
+    let names = &content.names;
+    let mut out = Vec::new(alloc);
+    put_head(&mut out, content)?;
+    put_procs(&mut out, names.procs.items())?;
+    put_files(&mut out, names.files.items())?;
+    put_nodes(&mut out, names, content.nodes.items())?;
+    put_profiles(&mut out, content.profiles.columns())?;
+    put_contexts(&mut out, content.contexts.columns())?;
+    Ok(Text::from_vec(out))
+}

@@ -1,0 +1,120 @@
+-- The devices over memory, exactly: which calls fail, and what they leave.
+use Rattle.std.specs.Prelude.{◌≡◌, ℕ, ◌+◌, ◌==◌, ◌<◌, ◌≤◌, List, [], ◌++◌, length, take, min, Bool, true, false, Option, Some, None}
+use Rattle.std.specs.List.{list_any}
+use Rattle.prof_devices.specs.declared.shelf.Fetch.{Fetch}
+use Rattle.prof_devices.specs.declared.shelf.Fetch.TheVariants as fetches
+use Rattle.prof_devices.specs.declared.shelf.Put.{Put}
+use Rattle.prof_devices.specs.declared.shelf.Put.TheVariants.{Done, Fault, Memory}
+use Rattle.prof_devices.specs.Files.{Files, file_of, Holds}
+use Rattle.prof_devices.specs.Outside.{Failures, ShelfState, SinkState, last_count}
+
+-- a count after one more: it stops at its type's end
+abbrev pub raised : ℕ → ℕ
+raised count = min (count + 1) last_count
+
+abbrev pub failed_at : Failures → List ℕ → Failures
+failed_at failures name = record { count = raised failures.count; name = name }
+
+abbrev pub no_failures : Failures
+no_failures = record { count = 0; name = [] }
+
+-- a shelf over memory: its files and failures, the numbers of the calls that are to fail, how many bytes a failing store keeps, and how many calls there were
+pub record MemoryShelf : Type 0 where
+  pub files : Files
+  pub reads : Failures
+  pub stores : Failures
+  pub failing : List ℕ
+  pub kept : ℕ
+  pub calls : ℕ
+
+abbrev pub shown_shelf : MemoryShelf → ShelfState
+shown_shelf s = record { tells = true; files = s.files; reads = s.reads; stores = s.stores }
+
+-- whether the next call fails: calls are numbered from 1
+abbrev pub is_failing : List ℕ → ℕ → Bool
+is_failing failing calls = list_any (λ number. number == raised calls) failing
+
+-- one more call
+abbrev pub counted : MemoryShelf → MemoryShelf
+counted s = record s { calls = raised s.calls }
+
+abbrev pub failed_read : MemoryShelf → List ℕ → MemoryShelf
+failed_read s name = record (counted s) { reads = failed_at s.reads name }
+
+-- a fetch fails where it is to, and where no file has the name
+abbrev pub FetchFails : MemoryShelf → List ℕ → Bool → Type 0
+FetchFails s name true = Unit {0}
+FetchFails s name false = file_of s.files name ≡ None
+
+abbrev pub MemoryFetches : MemoryShelf → MemoryShelf → List ℕ → ℕ → Fetch → Type 0
+MemoryFetches old new name limit (fetches.Whole bytes) =
+    (is_failing old.failing old.calls ≡ false) × (new ≡ counted old) × (file_of old.files name ≡ Some bytes) × (length bytes ≤ limit)
+MemoryFetches old new name limit fetches.TooLong =
+    (is_failing old.failing old.calls ≡ false) × (new ≡ counted old) × (bytes : List ℕ) × (file_of old.files name ≡ Some bytes) × (limit < length bytes)
+MemoryFetches old new name limit fetches.Fault =
+    FetchFails old name (is_failing old.failing old.calls) × (new ≡ failed_read old name)
+MemoryFetches old new name limit fetches.Memory = new ≡ counted old
+
+abbrev pub MemoryStores : MemoryShelf → MemoryShelf → List ℕ → List ℕ → Put → Type 0
+MemoryStores old new name bytes Done =
+    (is_failing old.failing old.calls ≡ false) × (new ≡ record (counted old) { files = new.files }) × Holds old.files new.files name bytes
+MemoryStores old new name bytes Fault =
+    (is_failing old.failing old.calls ≡ true)
+    × (new ≡ record (counted old) { files = new.files; stores = failed_at old.stores name })
+    × Holds old.files new.files name (take old.kept bytes)
+MemoryStores old new name bytes Memory = new ≡ counted old
+
+-- a sink over memory, in the same way
+pub record MemorySink : Type 0 where
+  pub taken : List ℕ
+  pub faults : ℕ
+  pub shortages : ℕ
+  pub failing : List ℕ
+  pub kept : ℕ
+  pub calls : ℕ
+
+abbrev pub shown_sink : MemorySink → SinkState
+shown_sink s = record { tells = true; taken = s.taken; faults = s.faults; shortages = s.shortages }
+
+abbrev pub counted_put : MemorySink → MemorySink
+counted_put s = record s { calls = raised s.calls }
+
+abbrev pub MemoryPuts : MemorySink → MemorySink → List ℕ → Put → Type 0
+MemoryPuts old new bytes Done =
+    (is_failing old.failing old.calls ≡ false) × (new ≡ record (counted_put old) { taken = old.taken ++ bytes })
+MemoryPuts old new bytes Fault =
+    (is_failing old.failing old.calls ≡ true)
+    × (new ≡ record (counted_put old) { taken = old.taken ++ take old.kept bytes; faults = raised old.faults })
+MemoryPuts old new bytes Memory = new ≡ record (counted_put old) { shortages = raised old.shortages }
+
+-- a shelf and a sink that never fail
+abbrev pub sure_shelf : Files → ShelfState
+sure_shelf files = record { tells = true; files = files; reads = no_failures; stores = no_failures }
+
+pub record SureSinkState : Type 0 where
+  pub taken : List ℕ
+  pub shortages : ℕ
+
+abbrev pub sure_sink : SureSinkState → SinkState
+sure_sink s = record { tells = true; taken = s.taken; faults = 0; shortages = s.shortages }
+
+-- the parts of these calls behind the count
+
+-- a file is read, and the shelf is as before but for a name that no file has
+abbrev pub FileRead : MemoryShelf → MemoryShelf → List ℕ → ℕ → Fetch → Type 0
+FileRead old new name limit (fetches.Whole bytes) = (new ≡ old) × (file_of old.files name ≡ Some bytes) × (length bytes ≤ limit)
+FileRead old new name limit fetches.TooLong = (new ≡ old) × (bytes : List ℕ) × (file_of old.files name ≡ Some bytes) × (limit < length bytes)
+FileRead old new name limit fetches.Fault = (file_of old.files name ≡ None) × (new ≡ record old { reads = failed_at old.reads name })
+FileRead old new name limit fetches.Memory = new ≡ old
+
+-- a store fails and keeps a front
+abbrev pub FrontStored : MemoryShelf → MemoryShelf → List ℕ → List ℕ → Put → Type 0
+FrontStored old new name bytes Done = ⊥
+FrontStored old new name bytes Fault =
+    (new ≡ record old { files = new.files; stores = failed_at old.stores name }) × Holds old.files new.files name (take old.kept bytes)
+FrontStored old new name bytes Memory = new ≡ old
+
+abbrev pub FrontPut : MemorySink → MemorySink → List ℕ → Put → Type 0
+FrontPut old new bytes Done = ⊥
+FrontPut old new bytes Fault = new ≡ record old { taken = old.taken ++ take old.kept bytes; faults = raised old.faults }
+FrontPut old new bytes Memory = new ≡ record old { shortages = raised old.shortages }

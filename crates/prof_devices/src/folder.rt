@@ -1,0 +1,139 @@
+ghost use Rattle.std.specs.Prelude.{◌≡◌, ◌≤◌, [], false};
+ghost use Rattle.prof_devices.specs.Outside.{last_count};
+ghost use Rattle.prof_devices.specs.InMemory.{failed_at, no_failures};
+
+use crate::shelf::{Fetch, Put, Shelf};
+use prof_bytes::Text;
+use std::io::{ErrorKind, Read};
+use std::marker::Model;
+use std::rt::Files;
+use std::{fs, io};
+
+/// The files of the current folder, and of every other folder that a name leads to. A name is UTF-8 text.
+/// It tells no content.
+#[derive(Drop)]
+pub struct FolderShelf<'a, R> {
+    rt: &'a R,
+    read_faults: u64,
+    read_failed: Text,
+    store_faults: u64,
+    store_failed: Text,
+}
+
+impl<'a, R> Model for FolderShelf<'a, R> {
+    ghost use Rattle.std.specs.Prelude.{[], false};
+    ghost use Rattle.prof_devices.specs.Outside.{ShelfState};
+
+    ghost Value = { ShelfState };
+
+    ghost view = { λ s. record { tells = false; files = []; reads = record { count = s.read_faults; name = s.read_failed }; stores = record { count = s.store_faults; name = s.store_failed } } };
+}
+
+impl<'a, R> FolderShelf<'a, R> {
+    /// The current folder's files. Nothing has failed yet.
+    pub fn of(rt: &'a R) -> FolderShelf<'a, R>
+    where
+        R: AllocGlobal,
+        ensures { result ≡ record { tells = false; files = []; reads = no_failures; stores = no_failures } }
+    {
+        FolderShelf {
+            rt,
+            read_faults: 0,
+            read_failed: Text::from_vec(Vec::new(rt.alloc())),
+            store_faults: 0,
+            store_failed: Text::from_vec(Vec::new(rt.alloc())),
+        }
+    }
+
+    fn fail_read(&mut self, name: Text)
+        ensures state { self.new ≡ record self.old { reads = failed_at self.old.reads name } }
+        ensures counts { self.old.reads.count ≤ last_count }
+    {
+        self.read_faults = self.read_faults.saturating_add(1);
+        self.read_failed = name;
+    }
+
+    fn fail_store(&mut self, name: Text)
+        ensures state { self.new ≡ record self.old { stores = failed_at self.old.stores name } }
+        ensures counts { self.old.stores.count ≤ last_count }
+    {
+        self.store_faults = self.store_faults.saturating_add(1);
+        self.store_failed = name;
+    }
+}
+
+/// How a call on the system ended, without its value.
+#[derive(Clone, Copy, Debug, PartialEq, Eq)]
+enum Ending {
+    Failed,
+    NoMemory,
+}
+
+fn ending_of(error: &io::Error) -> Ending {
+    if error.kind() == ErrorKind::OutOfMemory {
+        Ending::NoMemory
+    } else {
+        Ending::Failed
+    }
+}
+
+/// At most `limit + 1` bytes of the file.
+fn front_of<R: Files + AllocGlobal>(rt: &R, name: &str, limit: u64) -> io::Result<Vec<u8>> {
+    let mut bytes = Vec::new(rt.alloc());
+    let mut front = fs::open(rt, name)?.take(limit.saturating_add(1));
+    front.read_to_end(&mut bytes)?;
+    Ok(bytes)
+}
+
+fn read_file<R: Files + AllocGlobal>(rt: &R, name: &[u8], limit: u64) -> Result<Vec<u8>, Ending> {
+    let Ok(name) = str::from_utf8(name) else {
+        return Err(Ending::Failed);
+    };
+    match front_of(rt, name, limit) {
+        Ok(bytes) => Ok(bytes),
+        Err(error) => Err(ending_of(&error)),
+    }
+}
+
+fn write_file<R: Files>(rt: &R, name: &[u8], bytes: &[u8]) -> Result<(), Ending> {
+    let Ok(name) = str::from_utf8(name) else {
+        return Err(Ending::Failed);
+    };
+    match fs::write(rt, name, bytes) {
+        Ok(()) => Ok(()),
+        Err(error) => Err(ending_of(&error)),
+    }
+}
+
+impl<'a, R: Files + AllocGlobal> Shelf for FolderShelf<'a, R> {
+    ghost shown = { λ s. s };
+
+    fn fetch(&mut self, name: &[u8], limit: u64) -> Fetch {
+        let Ok(owned) = Text::of(self.rt.alloc(), name) else {
+            return Fetch::Memory;
+        };
+        match read_file(self.rt, name, limit) {
+            Ok(bytes) if bytes.len() as u64 > limit => Fetch::TooLong,
+            Ok(bytes) => Fetch::Whole(Text::from_vec(bytes)),
+            Err(Ending::NoMemory) => Fetch::Memory,
+            Err(Ending::Failed) => {
+                self.fail_read(owned);
+                Fetch::Fault
+            }
+        }
+    }
+
+    fn store(&mut self, name: &[u8], bytes: &[u8]) -> Put {
+        let Ok(owned) = Text::of(self.rt.alloc(), name) else {
+            return Put::Memory;
+        };
+        match write_file(self.rt, name, bytes) {
+            Ok(()) => Put::Done,
+            Err(Ending::NoMemory) => Put::Memory,
+            Err(Ending::Failed) => {
+                self.fail_store(owned);
+                Put::Fault
+            }
+        }
+    }
+}

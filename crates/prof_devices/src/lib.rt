@@ -1,0 +1,28 @@
+//! The outside of the program: named files and streams of bytes, as traits whose contracts say what
+//! each call may do, and the devices that meet them.
+//!
+//! It promises that a failure is answered only where a count of failures rose, that nothing but the
+//! named file or the stream changes, and that what stands after a failure is a front of what was to be
+//! written. The devices over memory tell what they hold, and fail where they are told to; those over a
+//! folder and over the process's streams tell nothing, and are the trusted edge. Below stands
+//! `prof_bytes`.
+#![tactic(auto)]
+
+mod folder;
+mod gate;
+mod memory_shelf;
+mod memory_sink;
+mod named_files;
+mod shelf;
+mod sink;
+mod streams;
+mod sure;
+
+pub use folder::FolderShelf;
+pub use gate::{Gate, OpenGate};
+pub use memory_shelf::MemShelf;
+pub use memory_sink::MemSink;
+pub use shelf::{Fetch, Put, Shelf};
+pub use sink::Sink;
+pub use streams::{ErrSink, OutSink};
+pub use sure::{SureShelf, SureSink};

@@ -1,0 +1,36 @@
+ghost use Rattle.prof_devices.specs.Outside.{ShelfState, Fetched, Stored};
+
+use prof_bytes::Text;
+
+/// What a fetch answers: the whole file, that it is longer than the limit, that the device failed, or
+/// that no memory was found.
+#[derive(Debug, Drop)]
+pub enum Fetch {
+    Whole(Text),
+    TooLong,
+    Fault,
+    Memory,
+}
+
+/// What a store or a put answers: all was taken, the device failed, or no memory was found.
+#[derive(Clone, Copy, Debug, PartialEq, Eq)]
+pub enum Put {
+    Done,
+    Fault,
+    Memory,
+}
+
+/// Named files on some device.
+pub trait Shelf {
+    /// What the shelf shows: its files, where it tells them, and its failures so far.
+    ghost shown: { Self → ShelfState };
+
+    /// The bytes of the file with this name, where they are at most `limit`. Changes no file.
+    fn fetch(&mut self, name: &[u8], limit: u64) -> Fetch
+        ensures answer { Fetched (shown self.old) (shown self.new) name.now limit result };
+
+    /// Makes these bytes the file of this name. After a failure the file holds a front of them, or is as
+    /// it was.
+    fn store(&mut self, name: &[u8], bytes: &[u8]) -> Put
+        ensures answer { Stored (shown self.old) (shown self.new) name.now bytes.now result };
+}

@@ -1,0 +1,106 @@
+ghost use Rattle.std.specs.Prelude.{◌≡◌, ◌≤◌, [], false};
+ghost use Rattle.prof_devices.specs.Outside.{last_count};
+ghost use Rattle.prof_devices.specs.InMemory.{raised};
+
+use crate::shelf::Put;
+use crate::sink::Sink;
+use std::io;
+use std::io::Write;
+use std::marker::Model;
+
+/// The process's standard output. It tells no content.
+#[derive(Drop)]
+pub struct OutSink<'a, R> {
+    rt: &'a R,
+    faults: u64,
+}
+
+impl<'a, R> Model for OutSink<'a, R> {
+    ghost use Rattle.std.specs.Prelude.{[], false};
+    ghost use Rattle.prof_devices.specs.Outside.{SinkState};
+
+    ghost Value = { SinkState };
+
+    ghost view = { λ s. record { tells = false; taken = []; faults = s.faults; shortages = 0 } };
+}
+
+impl<'a, R> OutSink<'a, R> {
+    /// Standard output. Nothing has failed yet.
+    pub fn of(rt: &'a R) -> OutSink<'a, R>
+        ensures { result ≡ record { tells = false; taken = []; faults = 0; shortages = 0 } }
+    {
+        OutSink { rt, faults: 0 }
+    }
+
+    fn fail(&mut self)
+        ensures state { self.new ≡ record self.old { faults = raised self.old.faults } }
+        ensures counts { self.old.faults ≤ last_count }
+    {
+        self.faults = self.faults.saturating_add(1);
+    }
+}
+
+impl<'a, R: Print> Sink for OutSink<'a, R> {
+    ghost shown = { λ s. s };
+
+    fn put(&mut self, bytes: &[u8]) -> Put {
+        match io::writer(self.rt).write_all(bytes) {
+            Ok(()) => Put::Done,
+            Err(_) => {
+                self.fail();
+                Put::Fault
+            }
+        }
+    }
+}
+
+/// The process's standard error, for lines of UTF-8 text: other bytes are a fault. It tells no content.
+#[derive(Drop)]
+pub struct ErrSink<'a, R> {
+    rt: &'a R,
+    faults: u64,
+}
+
+impl<'a, R> Model for ErrSink<'a, R> {
+    ghost use Rattle.std.specs.Prelude.{[], false};
+    ghost use Rattle.prof_devices.specs.Outside.{SinkState};
+
+    ghost Value = { SinkState };
+
+    ghost view = { λ s. record { tells = false; taken = []; faults = s.faults; shortages = 0 } };
+}
+
+impl<'a, R> ErrSink<'a, R> {
+    /// Standard error. Nothing has failed yet.
+    pub fn of(rt: &'a R) -> ErrSink<'a, R>
+        ensures { result ≡ record { tells = false; taken = []; faults = 0; shortages = 0 } }
+    {
+        ErrSink { rt, faults: 0 }
+    }
+
+    fn fail(&mut self)
+        ensures state { self.new ≡ record self.old { faults = raised self.old.faults } }
+        ensures counts { self.old.faults ≤ last_count }
+    {
+        self.faults = self.faults.saturating_add(1);
+    }
+}
+
+fn print_line<R: Eprint>(rt: &R, bytes: &[u8]) -> bool {
+    match str::from_utf8(bytes) {
+        Ok(text) => rt.eprint(text).is_ok(),
+        Err(_) => false,
+    }
+}
+
+impl<'a, R: Eprint> Sink for ErrSink<'a, R> {
+    ghost shown = { λ s. s };
+
+    fn put(&mut self, bytes: &[u8]) -> Put {
+        if print_line(self.rt, bytes) {
+            return Put::Done;
+        }
+        self.fail();
+        Put::Fault
+    }
+}
