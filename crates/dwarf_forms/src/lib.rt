@@ -15,6 +15,7 @@ mod value;
 pub use declaration::{Abbrev, Abbrevs, BadTable, Spec, Specs};
 pub use read::read_value;
 pub use section::{cursor_at, text_in, wrapped};
+pub use shape::is_value_form;
 pub use table::read_abbrevs;
 pub use value::{FormFault, Value};
 

@@ -1,5 +1,5 @@
 //! How the bytes of each form are laid out.
-ghost use Rattle.std.specs.Prelude.{◌≡◌};
+ghost use Rattle.std.specs.Prelude.{◌≡◌, ◌==◌, ◌&&◌, not, is_some};
 ghost use Rattle.dwarf_forms.specs.Forms.{shape_of};
 
 /// How many bytes a number takes.
@@ -101,4 +101,12 @@ pub(crate) fn shape_of(form: u64) -> Option<Shape>
         0x2c => Some(Shape::Wide(Width::Four, Kind::AddrIndex)),
         _ => None,
     }
+}
+
+/// Whether values of this form stand in place by themselves: it is one of DWARF 5, neither
+/// `DW_FORM_indirect` nor `DW_FORM_implicit_const`.
+pub fn is_value_form(form: u64) -> bool
+    ensures { result ≡ (is_some (shape_of form) && not (form == 0x21)) }
+{
+    shape_of(form).is_some() && form != 0x21
 }

@@ -1,0 +1,7 @@
+pub mod CountedItems
+pub mod FirstFields
+pub mod Operands
+pub mod NamedEntries
+pub mod BestRows
+pub mod KeptRows
+pub mod TableLists

@@ -1,0 +1,8 @@
+-- The tables that are held, without where they lie in memory.
+use Rattle.std.specs.Prelude.{map}
+use Rattle.dwarf_line.specs.declared.lines.Table.{Table}
+use Rattle.dwarf_line.specs.Views.{named}
+use Rattle.dwarf_line.specs.Lines.{TableNames}
+
+abbrev pub names_of : Table → TableNames
+names_of table = record { offset = table.offset; directories = map named table.directories.items; files = map named table.files.items }

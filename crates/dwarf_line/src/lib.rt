@@ -1,0 +1,21 @@
+//! Line tables: the rows of line number programs and the names of files, by DWARF 5, section 6.2.
+//!
+//! It promises that the line of an address is that of the row in force there, over the whole matrix of
+//! every table, or the first fault in ascending order of tables. Below stand `dwarf_forms`,
+//! `elf_image`, `scope_types` and `prof_bytes`.
+#![tactic(auto)]
+
+mod fault;
+mod header;
+mod lines;
+mod names;
+mod program;
+mod registers;
+mod run;
+mod sequence;
+
+pub use fault::LineFault;
+pub use lines::{LineTable, read_lines};
+
+#[cfg(test)]
+mod tests;
