@@ -1,9 +1,10 @@
 -- What a clock gives of the samples of a run that is under way.
-use Rattle.std.specs.Prelude.{◌≡◌, ℕ, ◌+◌, ◌≤◌, ◌<◌, ◌%◌, ◌⊎◌, true, List, [], ◌∷◌, length, slice_index, filter, Option, Some, None, Result, Ok, Err}
+use Rattle.std.specs.Prelude.{◌≡◌, ℕ, ◌+◌, ◌≤◌, ◌<◌, ◌%◌, ◌⊎◌, true, Bool, List, [], ◌∷◌, length, slice_index, filter, Option, Some, None, Result, Ok, Err}
 use Rattle.prof_bytes.specs.declared.fail.Fail.{Fail}
 use Rattle.prof_bytes.specs.declared.fail.Fail.TheVariants as fails
 use Rattle.rv_run.specs.State.{hart_of}
-use Rattle.rv_run.specs.Run.{Instant, finished, preceded}
+use Rattle.rv_run.specs.declared.machine.Due.{Due}
+use Rattle.rv_run.specs.Run.{Instant, instant, finished, preceded}
 use Rattle.rv_run.specs.Told.{Progress, to_come}
 use Rattle.sample_clock.specs.declared.clock.Sample.{Sample}
 use Rattle.sample_clock.specs.declared.clock.Came.{Came}
@@ -92,10 +93,15 @@ pub record IsClock (s : Sampling) (next : List ℕ) : Type 0 where
   pub nexts : (hart : ℕ) → hart < length s.machine.state.harts → IsNext s.period (hart_of s.machine.state hart).retired (slice_index next hart)
   pub met_few : s.met ≤ most_samples + 1
 
--- an instruction was carried out that is sampled, and not counted yet
-abbrev pub met_once : Sampling → Sampling
-met_once s = record s { met = s.met + 1 }
+-- the instruction that was due was carried out, and retired or not
+pub record CarriedOut (due : Due) (is_retired : Bool) (old new : Sampling) : Type 0 where
+  pub run : to_come old.machine ≡ preceded (instant due.hart old.machine.state is_retired ∷ []) (to_come new.machine)
+  pub ordinal_is : due.ordinal ≡ (hart_of old.machine.state due.hart).retired + 1
+  pub pc_is : due.pc ≡ (hart_of old.machine.state due.hart).pc
+  pub period : new.period ≡ old.period
+  pub met : new.met ≡ old.met
 
+-- an instruction was carried out that is sampled, and not counted yet
 pub record CameSampled (path_of : Paths) (sample : Sample) (old new : Sampling) : Type 0 where
   pub instant : Instant
   pub run : to_come old.machine ≡ preceded (instant ∷ []) (to_come new.machine)
