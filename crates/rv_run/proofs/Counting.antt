@@ -19,12 +19,12 @@ with-counts : (hart : ℕ) (s : MachineState) (harts : List HartState) (new : Ha
     → (after : MachineState) → after.harts ≡ slice_set harts hart new → Counts hart retired s after
 with-counts hart s harts new retired within same is after set_to =
     record {
-        own = ap (λ (hs : List HartState). (hart_in hs hart).retired) set_to ∙ ap (λ (h : HartState). h.retired) (get_or-set_same harts hart new no_hart within) ∙ is;
-        others = λ other apart.
-            ap (λ (hs : List HartState). (hart_in hs other).retired) set_to
-            ∙ ap (λ (h : HartState). h.retired) (get_or-set_other harts hart other new no_hart apart)
-            ∙ ap (λ (hs : List HartState). (hart_in hs other).retired) same;
-        harts = ap length set_to ∙ length-set harts hart new ∙ ap length same
+      own = ap (λ (hs : List HartState). (hart_in hs hart).retired) set_to ∙ ap (λ (h : HartState). h.retired) (get_or-set_same harts hart new no_hart within) ∙ is;
+      others = λ other apart.
+          ap (λ (hs : List HartState). (hart_in hs other).retired) set_to
+          ∙ ap (λ (h : HartState). h.retired) (get_or-set_other harts hart other new no_hart apart)
+          ∙ ap (λ (hs : List HartState). (hart_in hs other).retired) same;
+      harts = ap length set_to ∙ length-set harts hart new ∙ ap length same;
     }
 
 group-one : (status : ℕ) (h : HartState) → (grouped status h).retired ≡ h.retired
@@ -43,8 +43,6 @@ group-length status (h ∷ harts) = ap (λ (n : ℕ). suc n) (group-length statu
 read-harts : (count : ℕ) (answer : Bool × Memory) (s : MachineState) → (read_into count answer s).state.harts ≡ s.harts
 read-harts count (true, m) s = refl
 read-harts count (false, m) s = refl
-
-
 
 completes-counts : (hart : ℕ) (s : MachineState) (answered : Answered) → hart < length s.harts → answered.state.harts ≡ s.harts → Counts hart true s (completes hart answered).state
 completes-counts hart s answered within same =

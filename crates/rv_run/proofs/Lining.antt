@@ -52,8 +52,8 @@ lines-cut bytes place end found =
 none-passes : (p : ℕ → Bool) (xs : List ℕ) → position p xs ≡ None → (k : ℕ) → k < length xs → p (get_or xs k 0) ≡ false
 none-passes p xs none k less =
     elim (cases_lt (position_or_len p xs) (length xs)) [
-        | inl inside ↦ absurd (let e : Some (position_or_len p xs) ≡ None = rw (lt-ltb (position_or_len p xs) (length xs) inside) at none in cc)
-        | inr past ↦ fails_before_first p xs k 0 (omega arith)
+      | inl inside ↦ absurd (let e : Some (position_or_len p xs) ≡ None = rw (lt-ltb (position_or_len p xs) (length xs) inside) at none in cc)
+      | inr past ↦ fails_before_first p xs k 0 (omega arith)
     ]
 
 drop_all : (bytes : List ℕ) → drop (length bytes) bytes ≡ []

@@ -104,9 +104,9 @@ fresh-start program harts input few =
 pub ready-start : (program : Loaded) (schedule : Scheduled) (input : List ℕ) → IsSchedule schedule → IsReady (record { state = first_state program schedule.harts input; left = schedule.slices })
 ready-start program schedule input is =
     record {
-        harts = λ k d few. subst (λ (n : ℕ). (get_or schedule.slices k d).hart < n) (sym (first-length program.entry schedule.harts)) (is.slices k d few).hart;
-        room = λ hart. omega (arith, is.instructions, first-retired program.entry schedule.harts (range_with_len 0 schedule.harts) hart);
-        stands = at schedule.slices is.slices
+      harts = λ k d few. subst (λ (n : ℕ). (get_or schedule.slices k d).hart < n) (sym (first-length program.entry schedule.harts)) (is.slices k d few).hart;
+      room = λ hart. omega (arith, is.instructions, first-retired program.entry schedule.harts (range_with_len 0 schedule.harts) hart);
+      stands = at schedule.slices is.slices;
     }
   where
     at : (slices : List Slice) → All (IsSlice schedule.harts) slices → StandsAt (first_state program schedule.harts input) slices

@@ -64,10 +64,10 @@ due-is s (x ∷ rest) due stands told =
     let same : due ≡ due_of (next_instant x.hart s) = cc in
     let hart : x.hart ≡ due.hart = sym (ap (λ (d : Due). d.hart) same) in
     record {
-        some = stands.0;
-        first_due_is = same ∙ ap (λ (h : ℕ). due_of (next_instant h s)) hart;
-        run = first-run s x rest stands ∙ ap (λ (h : ℕ). preceded (next_instant h s ∷ []) (run_slices (less 1 (x ∷ rest)) (after h s))) hart;
-        first_is = ap (λ (h : ℕ). Some (record { hart = h; count = x.count })) hart
+      some = stands.0;
+      first_due_is = same ∙ ap (λ (h : ℕ). due_of (next_instant h s)) hart;
+      run = first-run s x rest stands ∙ ap (λ (h : ℕ). preceded (next_instant h s ∷ []) (run_slices (less 1 (x ∷ rest)) (after h s))) hart;
+      first_is = ap (λ (h : ℕ). Some (record { hart = h; count = x.count })) hart;
     }
 
 -- a slice in which nothing is left to do
@@ -143,6 +143,7 @@ room-less s new left hart is_retired some room counts other =
     same e =
         let own : (hart_of new other).retired ≡ plus_one is_retired (hart_of s hart).retired = ap (λ (h : ℕ). (hart_of new h).retired) e ∙ counts.own in
         omega (arith, own, at_most is_retired (hart_of s hart).retired, less-by 1 left some, room hart)
+
     apart : other ≢ hart → (hart_of new other).retired + instructions (less 1 left) ≤ most_instructions
     apart ne = omega (arith, counts.others other ne, less-by 1 left some, room other)
 
@@ -173,7 +174,7 @@ pub went-on : (s new : MachineState) (left less_left settled : List Slice) (due 
     → run_slices settled new ≡ run_slices less_left new → WentOn (record { hart = due.hart; ordinal = due.ordinal; pc = due.pc; retired = is_retired }) (record { state = s; left = left }) (record { state = new; left = settled })
 went-on s new left less_left settled due is_retired is done taken run =
     record {
-        told = ap₂ (λ (d : Due) (b : Bool). record { hart = d.hart; ordinal = d.ordinal; pc = d.pc; retired = b }) is.first_due_is (ap (λ (a : Acted). a.retired) done);
-        run = is.run ∙ ap (preceded (next_instant due.hart s ∷ [])) (sym (run ∙ ap₂ (λ (l : List Slice) (t : MachineState). run_slices l t) taken (ap (λ (a : Acted). a.state) done)));
-        state = ap (λ (a : Acted). a.state) done
+      told = ap₂ (λ (d : Due) (b : Bool). record { hart = d.hart; ordinal = d.ordinal; pc = d.pc; retired = b }) is.first_due_is (ap (λ (a : Acted). a.retired) done);
+      run = is.run ∙ ap (preceded (next_instant due.hart s ∷ [])) (sym (run ∙ ap₂ (λ (l : List Slice) (t : MachineState). run_slices l t) taken (ap (λ (a : Acted). a.state) done)));
+      state = ap (λ (a : Acted). a.state) done;
     }

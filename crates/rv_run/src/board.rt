@@ -16,7 +16,9 @@ use std::marker::Model;
 
 /// Answers of environment calls: a bad file descriptor, a bad address, and a call that there is not.
 const BAD_DESCRIPTOR: u32 = 0xffff_fff7;
+
 const BAD_ADDRESS: u32 = 0xffff_fff2;
+
 const NO_CALL: u32 = 0xffff_ffda;
 
 /// How many bytes a program may write.

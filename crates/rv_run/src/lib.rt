@@ -20,3 +20,5 @@ pub use machine::{Due, Machine, Moment};
 pub use numerals::number;
 pub use schedule::{Schedule, ScheduleFault, Slice, read_schedule};
 
+#[cfg(test)]
+mod tests;

@@ -35,7 +35,12 @@ fn byte(space: &Space<'_>, at: u32) -> u8
 }
 
 /// The bytes from `at` on, which may be read.
-pub(crate) fn copied(space: &Space<'_>, alloc: Global, at: u32, count: u32) -> Result<Vec<u8>, Memory>
+pub(crate) fn copied(
+    space: &Space<'_>,
+    alloc: Global,
+    at: u32,
+    count: u32,
+) -> Result<Vec<u8>, Memory>
     requires { all_readable space.now at count ≡ true }
     ensures { IfOk result (λ bytes. bytes.items ≡ bytes_at space.now at count) }
 {

@@ -12,21 +12,21 @@ pub returns-in_default-slice_line-clause-slices : goal.returns-in_default-slice_
 returns-in_default-slice_line-clause-slices c =
     c.loop-line.invariant.so_far
     ∙ ap (before c.loop-line.slices.items)
-        (read-bad c.args.harts c.loop-line.used (telling (to_read c.loop-line.lines)) (numbered_line c.in-Some.line) c.in-Some.ensures.line (sym c.slice_line.ensures.slice ∙ c.in_default-slice_line.is))
+    (read-bad c.args.harts c.loop-line.used (telling (to_read c.loop-line.lines)) (numbered_line c.in-Some.line) c.in-Some.ensures.line (sym c.slice_line.ensures.slice ∙ c.in_default-slice_line.is))
 
 pub loop-line-preserved : goal.loop-line-preserved
 loop-line-preserved c =
     let rest : Result (List Slice) ScheduleFault = slices_of c.args.harts (c.loop-line.used + c.in-Some-slice_line.slice.count) (telling (to_read c.next_telling.new.self)) in
     record {
-        so_far =
-            c.loop-line.invariant.so_far
-            ∙ ap (before c.loop-line.slices.items)
-                (read-one c.args.harts c.loop-line.used (telling (to_read c.loop-line.lines)) (telling (to_read c.next_telling.new.self)) (numbered_line c.in-Some.line) c.in-Some-slice_line.slice
-                    c.in-Some.ensures.line c.next_telling.ensures.rest (sym c.slice_line.ensures.slice ∙ c.in-Some-slice_line.is))
-            ∙ before-before c.loop-line.slices.items (c.in-Some-slice_line.slice ∷ []) rest
-            ∙ ap (λ (xs : List Slice). before xs rest) (sym c.in_ok-push.ensures.items);
-        fit = fit-more (IsSlice c.args.harts) c.loop-line.slices.items c.in-Some-slice_line.slice c.push.new.self.items c.in_ok-push.ensures.items c.loop-line.invariant.fit c.in-Some-slice_line.ensures.fits;
-        sum = ap instructions c.in_ok-push.ensures.items ∙ one-more c.loop-line.slices.items c.in-Some-slice_line.slice ∙ ap (λ (n : ℕ). n + c.in-Some-slice_line.slice.count) c.loop-line.invariant.sum
+      so_far =
+          c.loop-line.invariant.so_far
+          ∙ ap (before c.loop-line.slices.items)
+          (read-one c.args.harts c.loop-line.used (telling (to_read c.loop-line.lines)) (telling (to_read c.next_telling.new.self)) (numbered_line c.in-Some.line) c.in-Some-slice_line.slice
+          c.in-Some.ensures.line c.next_telling.ensures.rest (sym c.slice_line.ensures.slice ∙ c.in-Some-slice_line.is))
+          ∙ before-before c.loop-line.slices.items (c.in-Some-slice_line.slice ∷ []) rest
+          ∙ ap (λ (xs : List Slice). before xs rest) (sym c.in_ok-push.ensures.items);
+      fit = fit-more (IsSlice c.args.harts) c.loop-line.slices.items c.in-Some-slice_line.slice c.push.new.self.items c.in_ok-push.ensures.items c.loop-line.invariant.fit c.in-Some-slice_line.ensures.fits;
+      sum = ap instructions c.in_ok-push.ensures.items ∙ one-more c.loop-line.slices.items c.in-Some-slice_line.slice ∙ ap (λ (n : ℕ). n + c.in-Some-slice_line.slice.count) c.loop-line.invariant.sum;
     }
 
 pub returns-clause-slices : goal.returns-clause-slices

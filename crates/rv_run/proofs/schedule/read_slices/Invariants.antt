@@ -7,9 +7,9 @@ use Rattle.rv_run.proofs.schedule.read_slices.Given as goal
 abbrev pub invariant-loop-line : goal.invariant-loop-line
 invariant-loop-line l =
     record {
-        so_far : slices_of l.harts 0 (telling (to_read l.fn.lines)) ≡ before l.slices.items (slices_of l.harts l.used (telling (to_read l.lines)));
-        fit : All (IsSlice l.harts) l.slices.items;
-        sum : instructions l.slices.items ≡ l.used
+      so_far : slices_of l.harts 0 (telling (to_read l.fn.lines)) ≡ before l.slices.items (slices_of l.harts l.used (telling (to_read l.lines)));
+      fit : All (IsSlice l.harts) l.slices.items;
+      sum : instructions l.slices.items ≡ l.used;
     }
 
 abbrev pub decreases-loop-line : goal.decreases-loop-line

@@ -32,13 +32,13 @@ returns-in-Some-clause-rest c =
 pub returns-in-Some-clause-all : goal.returns-in-Some-clause-all
 returns-in-Some-clause-all c =
     let cut : lines (drop c.self.inside.place c.self.inside.bytes.now) ≡ take c.in-Some.end (take (length c.self.inside.bytes.now - c.self.inside.place) (drop c.self.inside.place c.self.inside.bytes.now)) ∷ lines (drop (c.self.inside.place + (c.in-Some.end + 1)) c.self.inside.bytes.now) =
-        left-cut c.self.inside.bytes.now (take (length c.self.inside.bytes.now - c.self.inside.place) (drop c.self.inside.place c.self.inside.bytes.now)) c.self.inside.place c.in-Some.end (take_rest c.self.inside.bytes.now c.self.inside.place) (sym c.line_end.ensures ∙ c.in-Some.is) in
+    left-cut c.self.inside.bytes.now (take (length c.self.inside.bytes.now - c.self.inside.place) (drop c.self.inside.place c.self.inside.bytes.now)) c.self.inside.place c.in-Some.end (take_rest c.self.inside.bytes.now c.self.inside.place) (sym c.line_end.ensures ∙ c.in-Some.is) in
     rw (← c.self.view_is) (omega (arith, ap length cut))
 
 pub returns-in-Some-clause-less : goal.returns-in-Some-clause-less
 returns-in-Some-clause-less c =
     let cut : lines (drop c.self.inside.place c.self.inside.bytes.now) ≡ take c.in-Some.end (take (length c.self.inside.bytes.now - c.self.inside.place) (drop c.self.inside.place c.self.inside.bytes.now)) ∷ lines (drop (c.self.inside.place + (c.in-Some.end + 1)) c.self.inside.bytes.now) =
-        left-cut c.self.inside.bytes.now (take (length c.self.inside.bytes.now - c.self.inside.place) (drop c.self.inside.place c.self.inside.bytes.now)) c.self.inside.place c.in-Some.end (take_rest c.self.inside.bytes.now c.self.inside.place) (sym c.line_end.ensures ∙ c.in-Some.is) in
+    left-cut c.self.inside.bytes.now (take (length c.self.inside.bytes.now - c.self.inside.place) (drop c.self.inside.place c.self.inside.bytes.now)) c.self.inside.place c.in-Some.end (take_rest c.self.inside.bytes.now c.self.inside.place) (sym c.line_end.ensures ∙ c.in-Some.is) in
     rw (← c.self.view_is) (omega (arith, ap length cut))
 
 pub returns-in-None-clause-line : goal.returns-in-None-clause-line
@@ -58,11 +58,11 @@ returns-in-None-clause-rest c =
 pub returns-in-None-clause-all : goal.returns-in-None-clause-all
 returns-in-None-clause-all c =
     let cut : lines (drop c.self.inside.place c.self.inside.bytes.now) ≡ take (length c.self.inside.bytes.now - c.self.inside.place) (drop c.self.inside.place c.self.inside.bytes.now) ∷ lines (drop (length c.self.inside.bytes.now) c.self.inside.bytes.now) =
-        left-last c.self.inside.bytes.now (take (length c.self.inside.bytes.now - c.self.inside.place) (drop c.self.inside.place c.self.inside.bytes.now)) c.self.inside.place (take_rest c.self.inside.bytes.now c.self.inside.place) (sym c.line_end.ensures ∙ c.in-None.is) (omega arith) in
+    left-last c.self.inside.bytes.now (take (length c.self.inside.bytes.now - c.self.inside.place) (drop c.self.inside.place c.self.inside.bytes.now)) c.self.inside.place (take_rest c.self.inside.bytes.now c.self.inside.place) (sym c.line_end.ensures ∙ c.in-None.is) (omega arith) in
     rw (← c.self.view_is) (omega (arith, ap length cut))
 
 pub returns-in-None-clause-less : goal.returns-in-None-clause-less
 returns-in-None-clause-less c =
     let cut : lines (drop c.self.inside.place c.self.inside.bytes.now) ≡ take (length c.self.inside.bytes.now - c.self.inside.place) (drop c.self.inside.place c.self.inside.bytes.now) ∷ lines (drop (length c.self.inside.bytes.now) c.self.inside.bytes.now) =
-        left-last c.self.inside.bytes.now (take (length c.self.inside.bytes.now - c.self.inside.place) (drop c.self.inside.place c.self.inside.bytes.now)) c.self.inside.place (take_rest c.self.inside.bytes.now c.self.inside.place) (sym c.line_end.ensures ∙ c.in-None.is) (omega arith) in
+    left-last c.self.inside.bytes.now (take (length c.self.inside.bytes.now - c.self.inside.place) (drop c.self.inside.place c.self.inside.bytes.now)) c.self.inside.place (take_rest c.self.inside.bytes.now c.self.inside.place) (sym c.line_end.ensures ∙ c.in-None.is) (omega arith) in
     rw (← c.self.view_is) (omega (arith, ap length cut))

@@ -9,11 +9,11 @@ use Rattle.rv_run.proofs.turns.Turns.settle.Goals as goal
 pub loop-slice-preserved : goal.loop-slice-preserved
 loop-slice-preserved c =
     record {
-        run =
-            ap (λ (l : List Slice). run_slices l c.args.board.now) c.drop_first.ensures
-            ∙ passed-over c.args.board.now c.loop-slice.self c.in-Some.slice (sym c.first.ensures ∙ c.in-Some.is)
-                (cannot c.in-Some.slice.count (is_running (hart_of c.args.board.now c.in-Some.slice.hart)) (sym c.can_go_on.ensures ∙ c.if-can_go_on.false))
-            ∙ c.loop-slice.invariant.run;
-        harts = subst (AreOf (length c.args.board.now.harts)) (sym c.drop_first.ensures) (rest-are-of (length c.args.board.now.harts) c.loop-slice.self c.loop-slice.invariant.harts);
-        room = λ given. subst (HaveRoom c.args.board.now) (sym c.drop_first.ensures) (room-rest c.args.board.now c.loop-slice.self (c.loop-slice.invariant.room given))
+      run =
+          ap (λ (l : List Slice). run_slices l c.args.board.now) c.drop_first.ensures
+          ∙ passed-over c.args.board.now c.loop-slice.self c.in-Some.slice (sym c.first.ensures ∙ c.in-Some.is)
+          (cannot c.in-Some.slice.count (is_running (hart_of c.args.board.now c.in-Some.slice.hart)) (sym c.can_go_on.ensures ∙ c.if-can_go_on.false))
+          ∙ c.loop-slice.invariant.run;
+      harts = subst (AreOf (length c.args.board.now.harts)) (sym c.drop_first.ensures) (rest-are-of (length c.args.board.now.harts) c.loop-slice.self c.loop-slice.invariant.harts);
+      room = λ given. subst (HaveRoom c.args.board.now) (sym c.drop_first.ensures) (room-rest c.args.board.now c.loop-slice.self (c.loop-slice.invariant.room given));
     }

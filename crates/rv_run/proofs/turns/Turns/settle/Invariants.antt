@@ -6,9 +6,9 @@ use Rattle.rv_run.proofs.turns.Turns.settle.Given as goal
 abbrev pub invariant-loop-slice : goal.invariant-loop-slice
 invariant-loop-slice l =
     record {
-        run : run_slices l.self l.board ≡ run_slices l.fn.self l.board;
-        harts : AreOf (length l.board.harts) l.self;
-        room : HaveRoom l.board l.fn.self → HaveRoom l.board l.self
+      run : run_slices l.self l.board ≡ run_slices l.fn.self l.board;
+      harts : AreOf (length l.board.harts) l.self;
+      room : HaveRoom l.board l.fn.self → HaveRoom l.board l.self;
     }
 
 abbrev pub decreases-loop-slice : goal.decreases-loop-slice

@@ -1,0 +1,299 @@
+-- Samples that are met, and instructions that are not sampled.
+use Rattle.std.proofs.Common.{◌≡◌, ◌≢◌, ◌⊎◌, inl, inr, ℕ, zero, suc, ◌+◌, ◌%◌, ◌<◌, ◌≤◌, ◌==◌, ◌&&◌, Bool, true, false, not, cond, List, [], ◌∷◌, ◌++◌, map, length, filter, get_or, replicate, slice_set, Option, Some, None, refl, sym, ap, ap₂, subst, ◌∙◌, append_assoc, arith}
+use Rattle.std.proofs.lemmas.Bool.{ne_eqb}
+use Rattle.std.proofs.Common.{eq-eqb}
+use Rattle.std.proofs.lemmas.Bool.Decides.{eqb_tells}
+use Rattle.std.proofs.lemmas.List.{get_or-set_same, get_or-set_other, get_or-replicate}
+use Rattle.std.proofs.lemmas.List.Elements.{filter-append}
+use Rattle.std.proofs.Math.ListN.{length-set}
+use Rattle.std.proofs.Math.Nat.{mod_self}
+use Rattle.rv_run.specs.State.{MachineState, hart_of}
+use Rattle.rv_run.specs.Run.{Instant, Run, finished, preceded, next_instant, instant, acts}
+use Rattle.rv_run.specs.declared.machine.Moment.{Moment}
+use Rattle.rv_run.specs.declared.machine.Due.{Due}
+use Rattle.rv_run.specs.Told.{Progress, to_come, WentOn, Counts, plus_one, due_of, first_due, IsFresh}
+use Rattle.sample_clock.specs.declared.clock.Sample.{Sample}
+use Rattle.sample_clock.specs.Samples.{Paths, is_sampled, sample_of, samples, words_of, most_samples}
+use Rattle.sample_clock.specs.Clock.{Sampling, samples_to_come, IsNext, IsClock, CarriedOut, CameSampled, CameUnsampled, CameEnd, Unsampled, Met, Given, MetNow, IsOver, Lacks}
+use Rattle.sample_clock.proofs.Periods.{next-multiple, no-multiple}
+
+pub not-sampled : (period : ℕ) (i : Instant) → is_sampled period i ≡ false → filter (is_sampled period) (i ∷ []) ≡ []
+not-sampled period i is = ap (λ (b : Bool). cond b (i ∷ []) []) is
+
+pub sampled-by : (period : ℕ) (i : Instant) → i.moment.retired ≡ true → i.moment.ordinal % period ≡ 0 → is_sampled period i ≡ true
+sampled-by period i retired multiple = ap₂ (λ (a b : Bool). a && b) retired (eq-eqb (i.moment.ordinal % period) 0 multiple)
+
+pub unretired : (period : ℕ) (i : Instant) → i.moment.retired ≡ false → is_sampled period i ≡ false
+unretired period i retired = ap (λ (a : Bool). a && (i.moment.ordinal % period == 0)) retired
+
+pub not-due : (period : ℕ) (i : Instant) → i.moment.ordinal % period ≢ 0 → is_sampled period i ≡ false
+not-due period i other = by_case i.moment.retired
+  where
+    by_case : (b : Bool) → (b && (i.moment.ordinal % period == 0)) ≡ false
+    by_case true = ne_eqb (i.moment.ordinal % period) 0 other
+    by_case false = refl
+
+-- the next samples, where a machine went on and one hart's next sample changed or not
+at_least : (b : Bool) (n : ℕ) → n ≤ plus_one b n
+at_least true n = omega arith
+at_least false n = omega arith
+
+pub clock-kept : (period met : ℕ) (old new : Progress) (next : List ℕ) (hart : ℕ) (retired : Bool) → IsClock (record { machine = old; period = period; met = met }) next → Counts hart retired old.state new.state
+    → (hart_of new.state hart).retired < get_or next hart 0 → IsClock (record { machine = new; period = period; met = met }) next
+clock-kept period met old new next hart retired clock counts below =
+    record {
+      some = clock.some;
+      harts = omega (arith, clock.harts, counts.harts);
+      nexts = λ other within. elim (eqb_tells other hart) [ inl h ↦ same other within h.1 | inr h ↦ apart other within h.1 ];
+      met_few = clock.met_few;
+    }
+  where
+    apart : (other : ℕ) → other < length new.state.harts → other ≢ hart → IsNext period (hart_of new.state other).retired (get_or next other 0)
+    apart other within ne =
+        let was : IsNext period (hart_of old.state other).retired (get_or next other 0) = clock.nexts other (omega (arith, counts.harts)) in
+        subst (λ (n : ℕ). IsNext period n (get_or next other 0)) (sym (counts.others other ne)) was
+
+    same : (other : ℕ) → other < length new.state.harts → other ≡ hart → IsNext period (hart_of new.state other).retired (get_or next other 0)
+    same other within e =
+        let was : IsNext period (hart_of old.state hart).retired (get_or next hart 0) = clock.nexts hart (omega (arith, counts.harts)) in
+        subst (λ (h : ℕ). IsNext period (hart_of new.state h).retired (get_or next h 0)) (sym e)
+        (record { multiple = was.multiple; above = below; least = omega (arith, was.least, counts.own, at_least retired (hart_of old.state hart).retired) })
+
+pub clock-sampled : (period met : ℕ) (old new : Progress) (next : List ℕ) (hart ordinal : ℕ) → IsClock (record { machine = old; period = period; met = met }) next → Counts hart true old.state new.state
+    → hart < length old.state.harts → (hart_of new.state hart).retired ≡ ordinal → ordinal % period ≡ 0 → IsClock (record { machine = new; period = period; met = met }) (slice_set next hart (ordinal + period))
+clock-sampled period met old new next hart ordinal clock counts in_harts is multiple =
+    record {
+      some = clock.some;
+      harts = omega (arith, clock.harts, counts.harts, length-set next hart (ordinal + period));
+      nexts = λ other within. elim (eqb_tells other hart) [ inl h ↦ same other h.1 | inr h ↦ apart other within h.1 ];
+      met_few = clock.met_few;
+    }
+  where
+    apart : (other : ℕ) → other < length new.state.harts → other ≢ hart → IsNext period (hart_of new.state other).retired (get_or (slice_set next hart (ordinal + period)) other 0)
+    apart other within ne =
+        let was : IsNext period (hart_of old.state other).retired (get_or next other 0) = clock.nexts other (omega (arith, counts.harts)) in
+        subst (λ (n : ℕ). IsNext period n (get_or (slice_set next hart (ordinal + period)) other 0)) (sym (counts.others other ne))
+        (subst (λ (n : ℕ). IsNext period (hart_of old.state other).retired n) (sym (get_or-set_other next hart other (ordinal + period) 0 ne)) was)
+
+    same : (other : ℕ) → other ≡ hart → IsNext period (hart_of new.state other).retired (get_or (slice_set next hart (ordinal + period)) other 0)
+    same other e =
+        let some : 0 < period = clock.some in
+        let long : length old.state.harts ≤ length next = clock.harts in
+        subst (λ (h : ℕ). IsNext period (hart_of new.state h).retired (get_or (slice_set next hart (ordinal + period)) h 0)) (sym e)
+        (subst (λ (n : ℕ). IsNext period (hart_of new.state hart).retired n) (sym (get_or-set_same next hart (ordinal + period) 0 (omega arith)))
+        (record { multiple = next-multiple period ordinal multiple; above = omega (arith, is); least = omega (arith, is) }))
+
+-- runs put together
+pub preceded-twice : (xs ys : List Instant) (run : Run) → preceded xs (preceded ys run) ≡ preceded (xs ++ ys) run
+preceded-twice xs ys run = ap (λ (all : List Instant). record { instants = all; final = run.final }) (sym (append_assoc xs ys run.instants))
+
+pub none-twice : (p : Instant → Bool) (xs ys : List Instant) → filter p xs ≡ [] → filter p ys ≡ [] → filter p (xs ++ ys) ≡ []
+none-twice p xs ys none also = filter-append p xs ys ∙ ap₂ (λ (a b : List Instant). a ++ b) none also
+
+-- the samples of instructions of which none is sampled, and of what comes after them
+pub samples-after : (path_of : Paths) (period : ℕ) (passed rest : List Instant) → filter (is_sampled period) passed ≡ [] → samples path_of period (passed ++ rest) ≡ samples path_of period rest
+samples-after path_of period passed rest none =
+    ap (map (sample_of path_of)) (filter-append (is_sampled period) passed rest ∙ ap (λ (a : List Instant). a ++ filter (is_sampled period) rest) none)
+
+pub samples-first : (path_of : Paths) (period : ℕ) (i : Instant) (rest : List Instant) → is_sampled period i ≡ true → samples path_of period (i ∷ rest) ≡ sample_of path_of i ∷ samples path_of period rest
+samples-first path_of period i rest is = ap (λ (b : Bool). map (sample_of path_of) (cond b (i ∷ filter (is_sampled period) rest) (filter (is_sampled period) rest))) is
+
+pub clock-start : (machine : Progress) (period : ℕ) → 0 < period → IsFresh machine.state → IsClock (record { machine = machine; period = period; met = 0 }) (replicate 16 period)
+clock-start machine period some fresh =
+    record {
+      some = some;
+      harts = fresh.few;
+      nexts = λ hart within.
+          let first : get_or (replicate 16 period) hart 0 ≡ period = get_or-replicate 16 hart period 0 (omega (arith, fresh.few)) in
+          let none : (hart_of machine.state hart).retired ≡ 0 = fresh.none hart in
+          record { multiple = ap (λ (n : ℕ). n % period) first ∙ mod_self period; above = omega arith; least = omega arith };
+      met_few = omega arith;
+    }
+
+-- what was due is what was carried out
+pub due-went : (due : Due) (moment : Moment) (old new : Progress) → Some due ≡ first_due (to_come old).instants → WentOn moment old new → due ≡ due_of (next_instant moment.hart old.state)
+due-went due moment old new told went =
+    let here : Some due ≡ Some (due_of (next_instant moment.hart old.state)) = told ∙ ap (λ (r : Run). first_due r.instants) went.run in
+    cc
+
+pub carried : (period met : ℕ) (due : Due) (moment : Moment) (old new : Progress) → Some due ≡ first_due (to_come old).instants → WentOn moment old new
+    → CarriedOut due moment.retired (record { machine = old; period = period; met = met }) (record { machine = new; period = period; met = met })
+carried period met due moment old new told went =
+    let same : due ≡ due_of (next_instant moment.hart old.state) = due-went due moment old new told went in
+    let hart : due.hart ≡ moment.hart = ap (λ (d : Due). d.hart) same in
+    record {
+      run = went.run ∙ ap₂ (λ (h : ℕ) (b : Bool). preceded (instant h old.state b ∷ []) (to_come new)) (sym hart) (sym (ap (λ (m : Moment). m.retired) went.told));
+      ordinal_is = ap (λ (d : Due). d.ordinal) same ∙ ap (λ (h : ℕ). (hart_of old.state h).retired + 1) (sym hart);
+      pc_is = ap (λ (d : Due). d.pc) same ∙ ap (λ (h : ℕ). (hart_of old.state h).pc) (sym hart);
+      period = refl;
+      met = refl;
+    }
+
+pub clock-carried : (period met : ℕ) (old new : Progress) (next : List ℕ) (due : Due) (moment : Moment) → IsClock (record { machine = old; period = period; met = met }) next → Some due ≡ first_due (to_come old).instants → WentOn moment old new
+    → Counts moment.hart moment.retired old.state new.state → moment.retired ≡ true → due.hart < length old.state.harts → due.ordinal % period ≡ 0
+    → IsClock (record { machine = new; period = period; met = met }) (slice_set next due.hart (due.ordinal + period))
+clock-carried period met old new next due moment clock told went counts retired within multiple =
+    let same : due ≡ due_of (next_instant moment.hart old.state) = due-went due moment old new told went in
+    let hart : moment.hart ≡ due.hart = sym (ap (λ (d : Due). d.hart) same) in
+    let counted : Counts due.hart true old.state new.state = subst (λ (b : Bool). Counts due.hart b old.state new.state) retired (subst (λ (h : ℕ). Counts h moment.retired old.state new.state) hart counts) in
+    clock-sampled period met old new next due.hart due.ordinal clock counted within
+    (counted.own ∙ sym (ap (λ (d : Due). d.ordinal) same ∙ ap (λ (h : ℕ). (hart_of old.state h).retired + 1) hart)) multiple
+
+-- nothing was sampled where the instruction did not retire
+pub clock-unretired : (period met : ℕ) (old new : Progress) (next : List ℕ) (due : Due) (moment : Moment) → IsClock (record { machine = old; period = period; met = met }) next → Some due ≡ first_due (to_come old).instants → WentOn moment old new
+    → Counts moment.hart moment.retired old.state new.state → moment.retired ≡ false → due.hart < length old.state.harts
+    → IsClock (record { machine = new; period = period; met = met }) next
+clock-unretired period met old new next due moment clock told went counts retired within =
+    let same : due ≡ due_of (next_instant moment.hart old.state) = due-went due moment old new told went in
+    let hart : moment.hart ≡ due.hart = sym (ap (λ (d : Due). d.hart) same) in
+    let counted : Counts due.hart false old.state new.state = subst (λ (b : Bool). Counts due.hart b old.state new.state) retired (subst (λ (h : ℕ). Counts h moment.retired old.state new.state) hart counts) in
+    let was : IsNext period (hart_of old.state due.hart).retired (get_or next due.hart 0) = clock.nexts due.hart within in
+    clock-kept period met old new next due.hart false clock counted (omega (arith, counted.own, was.above))
+
+pub came-unretired : (due : Due) (old new : Sampling) → CarriedOut due false old new → CameUnsampled old new
+came-unretired due old new done =
+    record {
+      passed = instant due.hart old.machine.state false ∷ [];
+      some = omega arith;
+      run = done.run;
+      none = not-sampled old.period (instant due.hart old.machine.state false) (unretired old.period (instant due.hart old.machine.state false) refl);
+      period = done.period;
+      met = done.met;
+    }
+
+pub came-sampled : (path_of : Paths) (due : Due) (sample : Sample) (old new : Sampling) → CarriedOut due true old new → due.ordinal % old.period ≡ 0
+    → sample ≡ sample_of path_of (instant due.hart old.machine.state true) → CameSampled path_of sample old new
+came-sampled path_of due sample old new done multiple told =
+    record {
+      instant = instant due.hart old.machine.state true;
+      run = done.run;
+      sampled = sampled-by old.period (instant due.hart old.machine.state true) refl (sym (ap (λ (n : ℕ). n % old.period) done.ordinal_is) ∙ multiple);
+      told = told;
+      period = done.period;
+      met = done.met;
+    }
+
+-- an instruction whose ordinal is not that of the next sample
+below-next : (period : ℕ) (s : MachineState) (hart next ordinal : ℕ) → IsNext period (hart_of s hart).retired next → ordinal ≡ (hart_of s hart).retired + 1 → ordinal ≢ next → (ordinal < next) × (ordinal % period ≢ 0)
+below-next period s hart next ordinal is at other =
+    let low : ordinal < next = strictly ordinal next (omega (arith, is.above, at)) other in
+    (low, no-multiple period next ordinal is.multiple low (omega (arith, is.least, at)))
+  where
+    strictly : (a b : ℕ) → a ≤ b → a ≢ b → a < b
+    strictly a b le ne = omega arith
+
+pub came-other : (period met : ℕ) (old new : Progress) (next : List ℕ) (due : Due) (moment : Moment) → IsClock (record { machine = old; period = period; met = met }) next → Some due ≡ first_due (to_come old).instants → WentOn moment old new
+    → due.hart < length old.state.harts → due.ordinal ≢ get_or next due.hart 0
+    → CameUnsampled (record { machine = old; period = period; met = met }) (record { machine = new; period = period; met = met })
+came-other period met old new next due moment clock told went within other =
+    let same : due ≡ due_of (next_instant moment.hart old.state) = due-went due moment old new told went in
+    let hart : moment.hart ≡ due.hart = sym (ap (λ (d : Due). d.hart) same) in
+    let at : due.ordinal ≡ (hart_of old.state due.hart).retired + 1 = ap (λ (d : Due). d.ordinal) same ∙ ap (λ (h : ℕ). (hart_of old.state h).retired + 1) hart in
+    let below : (due.ordinal < get_or next due.hart 0) × (due.ordinal % period ≢ 0) = below-next period old.state due.hart (get_or next due.hart 0) due.ordinal (clock.nexts due.hart within) at other in
+    let i : Instant = next_instant moment.hart old.state in
+    record {
+      passed = next_instant moment.hart old.state ∷ [];
+      some = omega arith;
+      run = went.run;
+      none = not-sampled period (next_instant moment.hart old.state) (not-due period (next_instant moment.hart old.state) (λ e. below.1 (ap (λ (d : Due). d.ordinal % period) same ∙ e)));
+      period = refl;
+      met = refl;
+    }
+
+pub clock-other : (period met : ℕ) (old new : Progress) (next : List ℕ) (due : Due) (moment : Moment) → IsClock (record { machine = old; period = period; met = met }) next → Some due ≡ first_due (to_come old).instants → WentOn moment old new
+    → Counts moment.hart moment.retired old.state new.state → due.hart < length old.state.harts → due.ordinal ≢ get_or next due.hart 0
+    → IsClock (record { machine = new; period = period; met = met }) next
+clock-other period met old new next due moment clock told went counts within other =
+    let same : due ≡ due_of (next_instant moment.hart old.state) = due-went due moment old new told went in
+    let hart : moment.hart ≡ due.hart = sym (ap (λ (d : Due). d.hart) same) in
+    let at : due.ordinal ≡ (hart_of old.state due.hart).retired + 1 = ap (λ (d : Due). d.ordinal) same ∙ ap (λ (h : ℕ). (hart_of old.state h).retired + 1) hart in
+    let below : (due.ordinal < get_or next due.hart 0) × (due.ordinal % period ≢ 0) = below-next period old.state due.hart (get_or next due.hart 0) due.ordinal (clock.nexts due.hart within) at other in
+    let counted : Counts due.hart moment.retired old.state new.state = subst (λ (h : ℕ). Counts h moment.retired old.state new.state) hart counts in
+    clock-kept period met old new next due.hart moment.retired clock counted (omega (arith, counted.own, at_most moment.retired (hart_of old.state due.hart).retired, below.0, at))
+  where
+    at_most : (b : Bool) (n : ℕ) → plus_one b n ≤ n + 1
+    at_most true n = omega arith
+    at_most false n = omega arith
+
+-- what came before, and what came now
+pub unsampled-more : (a b c : Sampling) → Unsampled a b → CameUnsampled b c → Unsampled a c
+unsampled-more a b c was now =
+    record {
+      passed = was.passed ++ now.passed;
+      run = was.run ∙ ap (preceded was.passed) now.run ∙ preceded-twice was.passed now.passed (to_come c.machine);
+      none = none-twice (is_sampled a.period) was.passed now.passed was.none (ap (λ (n : ℕ). filter (is_sampled n) now.passed) (sym was.period) ∙ now.none);
+      period = now.period ∙ was.period;
+      met = now.met ∙ was.met;
+      few = was.few;
+    }
+
+pub met-by : (path_of : Paths) (sample : Sample) (a b c d : Sampling) → Unsampled a b → CameSampled path_of sample b c → d ≡ record c { met = c.met + 1 } → Met a d
+met-by path_of sample a b c d was now is =
+    record {
+      passed = was.passed;
+      instant = now.instant;
+      run = was.run ∙ ap (preceded was.passed) now.run ∙ ap (λ (s : Sampling). preceded was.passed (preceded (now.instant ∷ []) (to_come s.machine))) (sym is);
+      none = was.none;
+      sampled = ap (λ (n : ℕ). is_sampled n now.instant) (sym was.period) ∙ now.sampled;
+      period = ap (λ (s : Sampling). s.period) is ∙ now.period ∙ was.period;
+      met = ap (λ (s : Sampling). s.met) is ∙ ap (λ (n : ℕ). n + 1) (now.met ∙ was.met);
+    }
+
+met-samples : (path_of : Paths) (a d : Sampling) (m : Met a d) → samples_to_come path_of a ≡ sample_of path_of m.instant ∷ samples_to_come path_of d
+met-samples path_of a d m =
+    ap (λ (r : Run). samples path_of a.period r.instants) m.run
+    ∙ samples-after path_of a.period m.passed (m.instant ∷ (to_come d.machine).instants) m.none
+    ∙ samples-first path_of a.period m.instant (to_come d.machine).instants m.sampled
+    ∙ ap (λ (n : ℕ). sample_of path_of m.instant ∷ samples path_of n (to_come d.machine).instants) (sym m.period)
+
+pub given-by : (path_of : Paths) (sample : Sample) (a b c d : Sampling) → Unsampled a b → CameSampled path_of sample b c → d ≡ record c { met = c.met + 1 } → d.met ≤ most_samples → Given path_of sample a d
+unfolding met-by
+given-by path_of sample a b c d was now is few =
+    record {
+      meets = met-by path_of sample a b c d was now is;
+      told = now.told;
+      to_come = met-samples path_of a d (met-by path_of sample a b c d was now is) ∙ ap (λ (s : Sample). s ∷ samples_to_come path_of d) (sym now.told);
+      few = few;
+    }
+
+pub met-now : (path_of : Paths) (sample : Sample) (a b c d : Sampling) → Unsampled a b → CameSampled path_of sample b c → d ≡ record c { met = c.met + 1 } → most_samples < d.met → MetNow a d
+unfolding met-by
+met-now path_of sample a b c d was now is over =
+    let m : Met a d = met-by path_of sample a b c d was now is in
+    record { full = omega (arith, was.few, m.met); meets = met-by path_of sample a b c d was now is }
+
+unsampled-samples : (path_of : Paths) (a b : Sampling) → Unsampled a b → samples_to_come path_of a ≡ samples_to_come path_of b
+unsampled-samples path_of a b was =
+    ap (λ (r : Run). samples path_of a.period r.instants) was.run
+    ∙ samples-after path_of a.period was.passed (to_come b.machine).instants was.none
+    ∙ ap (λ (n : ℕ). samples path_of n (to_come b.machine).instants) (sym was.period)
+
+pub over-by : (path_of : Paths) (a b c : Sampling) → Unsampled a b → CameEnd b c → IsOver path_of a c
+over-by path_of a b c was end =
+    let now : Unsampled a c = subst (λ (s : Sampling). Unsampled a s) (sym end.same) was in
+    let ended : to_come c.machine ≡ finished c.machine.state = subst (λ (s : Sampling). to_come s.machine ≡ finished s.machine.state) (sym end.same) end.ended in
+    record {
+      passes = subst (λ (s : Sampling). Unsampled a s) (sym end.same) was;
+      none = unsampled-samples path_of a c now ∙ ap (λ (r : Run). samples path_of c.period r.instants) ended;
+      ended = ended;
+    }
+
+pub lacks-by : (path_of : Paths) (a b c : Sampling) → Unsampled a b → c ≡ b → Lacks path_of a c
+lacks-by path_of a b c was same =
+    let now : Unsampled a c = subst (λ (s : Sampling). Unsampled a s) (sym same) was in
+    record { passes = subst (λ (s : Sampling). Unsampled a s) (sym same) was; to_come = sym (unsampled-samples path_of a c now) }
+
+pub unsampled-last : (a b : Sampling) → Unsampled a b → (to_come b.machine).final ≡ (to_come a.machine).final
+unsampled-last a b was = sym (ap (λ (r : Run). r.final) was.run)
+
+pub met-last : (path_of : Paths) (sample : Sample) (a b c d : Sampling) → Unsampled a b → CameSampled path_of sample b c → d ≡ record c { met = c.met + 1 } → (to_come d.machine).final ≡ (to_come a.machine).final
+met-last path_of sample a b c d was now is =
+    let m : Met a d = met-by path_of sample a b c d was now is in
+    sym (ap (λ (r : Run). r.final) m.run)
+
+pub unsampled-first : (a : Sampling) → a.met ≤ most_samples → Unsampled a a
+unsampled-first a few = record { passed = []; run = refl; none = refl; period = refl; met = refl; few = few }
+
+pub was-true : (b : Bool) → not b ≡ false → b ≡ true
+was-true true e = refl
+was-true false e = absurd cc
