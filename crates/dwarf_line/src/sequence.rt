@@ -1,44 +1,15 @@
 //! Sequences of rows, and the row in force at an address.
 ghost use Rattle.std.specs.Prelude.{◌≡◌, ◌++◌, ◌∷◌, [], IfOk, OnOk, Some, None, option_map, option_and_then, option_copied, find, slice_get, map, length, ◌<◌, ◌^◌};
 ghost use Rattle.elf_image.specs.Image.{counts as range_counts};
-ghost use Rattle.dwarf_line.specs.Sequences.{is_within, is_counted_from, span_by, span_of, holds, row_at, line_at};
-ghost use Rattle.dwarf_line.specs.Best.{better};
+ghost use Rattle.dwarf_line.specs.Sequences.{is_within, is_counted_from, span_by, span_of, holds, line_at};
 
 use crate::registers::MatrixRow;
+use crate::rows::Rows;
 use elf_image::{AddressRange, FirstRange, Segment};
 use prof_bytes::Memory;
 use scope_types::LineId;
 use std::alloc::Global;
 use std::marker::Model;
-
-/// The rows of a sequence. Contracts see them as a list.
-#[derive(Debug, Drop)]
-pub(crate) struct Rows {
-    items: Vec<MatrixRow>,
-}
-
-impl Model for Rows {
-    ghost use Rattle.std.specs.Prelude.{List};
-    ghost use Rattle.dwarf_line.specs.declared.registers.MatrixRow.{MatrixRow};
-
-    ghost Value = { List MatrixRow };
-
-    ghost view = { λ rows. rows.items.items };
-}
-
-impl Rows {
-    pub(crate) fn from_vec(items: Vec<MatrixRow>) -> Rows
-        ensures { result ≡ items.items }
-    {
-        Rows { items }
-    }
-
-    pub(crate) fn as_slice(&self) -> &[MatrixRow]
-        ensures { result.now ≡ self.now }
-    {
-        self.items.as_slice()
-    }
-}
 
 /// A sequence of a table: its rows, and the address at its end.
 #[derive(Debug, Drop)]
@@ -91,39 +62,6 @@ fn span_by(end: u32, rows: &[MatrixRow]) -> AddressRange
         },
         None => AddressRange { start: 0, end: 0 },
     }
-}
-
-/// The greatest address so far, and the last row at it.
-#[derive(Clone, Copy)]
-struct Best {
-    greatest: u32,
-    found: Option<MatrixRow>,
-}
-
-fn better(at: u32, best: Best, row: MatrixRow) -> Best
-    ensures { result ≡ better at best row }
-{
-    if row.address <= at && best.greatest <= row.address {
-        return Best {
-            greatest: row.address,
-            found: Some(row),
-        };
-    }
-    best
-}
-
-/// The last row at the greatest address that is at most `at`.
-fn row_at(at: u32, rows: &[MatrixRow]) -> Option<MatrixRow>
-    ensures { result ≡ row_at at rows.now }
-{
-    let mut best = Best {
-        greatest: 0,
-        found: None,
-    };
-    for row in rows {
-        best = better(at, best, *row);
-    }
-    best.found
 }
 
 fn spans_of(alloc: Global, sequences: &[Sequence]) -> Result<Vec<AddressRange>, Memory>
@@ -182,13 +120,13 @@ impl Sequences {
         sequence_of_index(self.items.as_slice(), self.spans.first(address))
     }
 
-    /// The line of the row in force at an address. The sequence is found by halving; in it the rows are
-    /// looked through.
+    /// The line of the row in force at an address, in time as the logarithm of the sequences and of the
+    /// rows of the one that holds it; where a sequence's addresses fall, its rows are looked through.
     pub(crate) fn line_at(&self, at: u32) -> Option<LineId>
         ensures { result ≡ line_at self.now at }
     {
         let sequence = self.at(at)?;
-        let row = row_at(at, sequence.rows.as_slice())?;
+        let row = sequence.rows.row_at(at)?;
         Some(LineId::Row {
             table: sequence.table,
             file: row.file,
