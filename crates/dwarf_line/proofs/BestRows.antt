@@ -8,7 +8,7 @@ use Rattle.std.proofs.lemmas.List.{map-append, reverse-append, append-nil}
 use Rattle.std.proofs.lemmas.List.Elements.{filter-append}
 use Rattle.std.proofs.lemmas.List.Sums.{fold-append}
 use Rattle.dwarf_line.specs.declared.registers.MatrixRow.{MatrixRow}
-use Rattle.dwarf_line.specs.declared.sequence.Best.{Best}
+use Rattle.dwarf_line.specs.declared.rows.Best.{Best}
 use Rattle.dwarf_line.specs.Sequences.{greatest, row_at}
 use Rattle.dwarf_line.specs.Best.{better}
 

@@ -5,3 +5,4 @@ pub mod NamedEntries
 pub mod BestRows
 pub mod KeptRows
 pub mod TableLists
+pub mod HalvedRows

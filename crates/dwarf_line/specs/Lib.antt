@@ -10,3 +10,4 @@ pub mod Moves
 pub mod Best
 pub mod Runs
 pub mod Tables
+pub mod Rising

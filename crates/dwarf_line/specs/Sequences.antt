@@ -2,6 +2,8 @@
 use Rattle.std.specs.Prelude.{ℕ, ◌%◌, ◌==◌, ◌&&◌, Bool, false, nat_lt, nat_le, max, List, [], ◌∷◌, ◌++◌, map, filter, find, fold, reverse, Option, Some, None, option_map, option_and_then, if◌then◌else◌}
 use Rattle.std.specs.List.{list_any}
 use Rattle.elf_image.specs.declared.part.Segment.{Segment}
+use Rattle.elf_image.specs.declared.ranges.AddressRange.{AddressRange}
+use Rattle.elf_image.specs.Ranges.{holds as range_holds}
 use Rattle.elf_image.specs.Image.{is_executable, counts as range_counts}
 use Rattle.scope_types.specs.declared.scope.LineId.{LineId}
 use Rattle.scope_types.specs.declared.scope.LineId.TheVariants as lines
@@ -27,12 +29,15 @@ is_counted_from segments end (first ∷ rows) = range_counts segments first.addr
 abbrev pub counts : List Segment → Sequence → Bool
 counts segments q = is_counted_from segments q.end q.rows
 
-abbrev pub holds_from : ℕ → ℕ → List MatrixRow → Bool
-holds_from at end [] = false
-holds_from at end (first ∷ rows) = nat_le first.address at && nat_lt at end
+abbrev pub span_by : ℕ → List MatrixRow → AddressRange
+span_by end [] = record { start = 0; end = 0 }
+span_by end (first ∷ rows) = record { start = first.address; end = end }
+
+abbrev pub span_of : Sequence → AddressRange
+span_of q = span_by q.end q.rows
 
 abbrev pub holds : ℕ → Sequence → Bool
-holds at q = holds_from at q.end q.rows
+holds at q = range_holds at (span_of q)
 
 -- the greatest address of a row that is at most `at`
 abbrev pub greatest : ℕ → List MatrixRow → ℕ

@@ -11,6 +11,7 @@ mod lines;
 mod names;
 mod program;
 mod registers;
+mod rows;
 mod run;
 mod sequence;
 

@@ -11,7 +11,7 @@ use crate::fault::LineFault;
 use crate::header::{Header, read_header};
 use crate::names::Entry;
 use crate::run::{Frame, run};
-use crate::sequence::{Sequence, line_at};
+use crate::sequence::{Sequence, Sequences};
 use dwarf_forms::cursor_at;
 use elf_image::{DebugParts, Image, Segment};
 use prof_bytes::{Fail, Memory, Text};
@@ -34,7 +34,7 @@ pub(crate) struct Table<'a> {
 #[derive(Drop)]
 pub struct LineTable<'a> {
     tables: Vec<Table<'a>>,
-    sequences: Vec<Sequence>,
+    sequences: Sequences,
 }
 
 impl<'a> Model for LineTable<'a> {
@@ -44,7 +44,7 @@ impl<'a> Model for LineTable<'a> {
 
     ghost Value = { Lines };
 
-    ghost view = { λ lines. record { tables = map names_of lines.tables.items; sequences = lines.sequences.items } };
+    ghost view = { λ lines. record { tables = map names_of lines.tables.items; sequences = lines.sequences } };
 }
 
 impl<'a> LineTable<'a> {
@@ -59,7 +59,7 @@ impl<'a> LineTable<'a> {
     pub fn row_at(&self, pc: u32) -> Option<LineId>
         ensures { result ≡ line_at self.now.sequences pc }
     {
-        line_at(self.sequences.as_slice(), pc)
+        self.sequences.line_at(pc)
     }
 
     /// The name of a file of a table, of at most 4,096 bytes.
@@ -230,5 +230,6 @@ pub fn read_lines<'a>(
         offsets,
         &mut sequences,
     )?;
+    let sequences = Sequences::of(alloc, sequences)?;
     Ok(LineTable { tables, sequences })
 }

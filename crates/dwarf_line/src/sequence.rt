@@ -1,42 +1,15 @@
 //! Sequences of rows, and the row in force at an address.
-ghost use Rattle.std.specs.Prelude.{◌≡◌, ◌++◌, ◌∷◌, [], IfOk, OnOk, Some, None, option_map, option_copied, find, length};
+ghost use Rattle.std.specs.Prelude.{◌≡◌, ◌++◌, ◌∷◌, [], IfOk, OnOk, Some, None, option_map, option_and_then, option_copied, find, slice_get, map, length, ◌<◌, ◌^◌};
 ghost use Rattle.elf_image.specs.Image.{counts as range_counts};
-ghost use Rattle.dwarf_line.specs.Sequences.{is_within, is_counted_from, holds_from, holds, row_at, line_at};
-ghost use Rattle.dwarf_line.specs.Best.{better};
+ghost use Rattle.dwarf_line.specs.Sequences.{is_within, is_counted_from, span_by, span_of, holds, line_at};
 
 use crate::registers::MatrixRow;
-use elf_image::Segment;
+use crate::rows::Rows;
+use elf_image::{AddressRange, FirstRange, Segment};
+use prof_bytes::Memory;
 use scope_types::LineId;
+use std::alloc::Global;
 use std::marker::Model;
-
-/// The rows of a sequence. Contracts see them as a list.
-#[derive(Debug, Drop)]
-pub(crate) struct Rows {
-    items: Vec<MatrixRow>,
-}
-
-impl Model for Rows {
-    ghost use Rattle.std.specs.Prelude.{List};
-    ghost use Rattle.dwarf_line.specs.declared.registers.MatrixRow.{MatrixRow};
-
-    ghost Value = { List MatrixRow };
-
-    ghost view = { λ rows. rows.items.items };
-}
-
-impl Rows {
-    pub(crate) fn from_vec(items: Vec<MatrixRow>) -> Rows
-        ensures { result ≡ items.items }
-    {
-        Rows { items }
-    }
-
-    pub(crate) fn as_slice(&self) -> &[MatrixRow]
-        ensures { result.now ≡ self.now }
-    {
-        self.items.as_slice()
-    }
-}
 
 /// A sequence of a table: its rows, and the address at its end.
 #[derive(Debug, Drop)]
@@ -79,66 +52,85 @@ pub(crate) fn is_counted_from(segments: &[Segment], end: u32, rows: &[MatrixRow]
     }
 }
 
-fn holds_from(at: u32, end: u32, rows: &[MatrixRow]) -> bool
-    ensures { result ≡ holds_from at end rows.now }
+fn span_by(end: u32, rows: &[MatrixRow]) -> AddressRange
+    ensures { result ≡ span_by end rows.now }
 {
     match rows.first() {
-        Some(first) => first.address <= at && at < end,
-        None => false,
+        Some(first) => AddressRange {
+            start: first.address,
+            end,
+        },
+        None => AddressRange { start: 0, end: 0 },
     }
 }
 
-/// The greatest address so far, and the last row at it.
-#[derive(Clone, Copy)]
-struct Best {
-    greatest: u32,
-    found: Option<MatrixRow>,
-}
-
-fn better(at: u32, best: Best, row: MatrixRow) -> Best
-    ensures { result ≡ better at best row }
+fn spans_of(alloc: Global, sequences: &[Sequence]) -> Result<Vec<AddressRange>, Memory>
+    ensures { IfOk result (λ spans. spans.items ≡ map span_of sequences.now) }
 {
-    if row.address <= at && best.greatest <= row.address {
-        return Best {
-            greatest: row.address,
-            found: Some(row),
-        };
+    let mut spans = Vec::new(alloc);
+    for sequence in sequences {
+        spans.push(span_by(sequence.end, sequence.rows.as_slice()))?;
     }
-    best
+    Ok(spans)
 }
 
-/// The last row at the greatest address that is at most `at`.
-fn row_at(at: u32, rows: &[MatrixRow]) -> Option<MatrixRow>
-    ensures { result ≡ row_at at rows.now }
+/// Sequences in order, and which of them is the first that holds an address.
+#[derive(Drop)]
+pub(crate) struct Sequences {
+    items: Vec<Sequence>,
+    spans: FirstRange,
+}
+
+impl Model for Sequences {
+    ghost use Rattle.std.specs.Prelude.{◌≡◌, List, map};
+    ghost use Rattle.dwarf_line.specs.declared.sequence.Sequence.{Sequence};
+    ghost use Rattle.dwarf_line.specs.Sequences.{span_of};
+
+    ghost Value = { List Sequence };
+
+    ghost view = { λ sequences. sequences.items.items };
+
+    ghost invariant = { λ sequences. sequences.spans ≡ map span_of sequences.items.items };
+}
+
+fn sequence_of_index(sequences: &[Sequence], index: Option<u32>) -> Option<&Sequence>
+    ensures { option_copied result ≡ option_and_then (λ i. slice_get sequences.now i) index }
 {
-    let mut best = Best {
-        greatest: 0,
-        found: None,
-    };
-    for row in rows {
-        best = better(at, best, *row);
+    match index {
+        Some(index) => sequences.get(index as usize),
+        None => None,
     }
-    best.found
 }
 
-fn sequence_at(sequences: &[Sequence], at: u32) -> Option<&Sequence>
-    ensures { option_copied result ≡ find (holds at) sequences.now }
-{
-    sequences
-        .iter()
-        .find(|q| holds_from(at, q.end, q.rows.as_slice()))
-}
+impl Sequences {
+    pub(crate) fn of(alloc: Global, items: Vec<Sequence>) -> Result<Sequences, Memory>
+        ensures { IfOk result (λ sequences. sequences ≡ items.items) }
+    {
+        if items.len() >= 1 << 32 {
+            return Err(Memory);
+        }
+        let spans = FirstRange::of(alloc, spans_of(alloc, items.as_slice())?)?;
+        Ok(Sequences { items, spans })
+    }
 
-/// The line of the row in force at an address. Linear in the sequences, and in the rows of the one that
-/// holds the address.
-pub(crate) fn line_at(sequences: &[Sequence], at: u32) -> Option<LineId>
-    ensures { result ≡ line_at sequences.now at }
-{
-    let sequence = sequence_at(sequences, at)?;
-    let row = row_at(at, sequence.rows.as_slice())?;
-    Some(LineId::Row {
-        table: sequence.table,
-        file: row.file,
-        line: row.line,
-    })
+    /// The first sequence that holds the address.
+    fn at(&self, address: u32) -> Option<&Sequence>
+        ensures { option_copied result ≡ find (holds address) self.now }
+    {
+        sequence_of_index(self.items.as_slice(), self.spans.first(address))
+    }
+
+    /// The line of the row in force at an address, in time as the logarithm of the sequences and of the
+    /// rows of the one that holds it; where a sequence's addresses fall, its rows are looked through.
+    pub(crate) fn line_at(&self, at: u32) -> Option<LineId>
+        ensures { result ≡ line_at self.now at }
+    {
+        let sequence = self.at(at)?;
+        let row = sequence.rows.row_at(at)?;
+        Some(LineId::Row {
+            table: sequence.table,
+            file: row.file,
+            line: row.line,
+        })
+    }
 }

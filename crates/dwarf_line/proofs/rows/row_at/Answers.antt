@@ -1,10 +1,10 @@
 use Rattle.std.proofs.Common.{◌≡◌, ◌∙◌, ◌+◌, take, get_or, sym, ap, false}
 use Rattle.std.proofs.lemmas.List.{take_more}
 use Rattle.dwarf_line.specs.declared.registers.MatrixRow.{MatrixRow}
-use Rattle.dwarf_line.specs.declared.sequence.Best.{Best}
+use Rattle.dwarf_line.specs.declared.rows.Best.{Best}
 use Rattle.dwarf_line.specs.Best.{better}
 use Rattle.dwarf_line.proofs.BestRows.{best_of, best_push}
-use Rattle.dwarf_line.proofs.sequence.row_at.Goals as goal
+use Rattle.dwarf_line.proofs.rows.row_at.Goals as goal
 
 pub loop-row-preserved : goal.loop-row-preserved
 loop-row-preserved c =

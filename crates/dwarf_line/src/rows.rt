@@ -1,0 +1,130 @@
+//! The rows of a sequence, and the one in force at an address.
+ghost use Rattle.std.specs.Prelude.{◌≡◌, ◌≤◌, ◌<◌, true, length};
+ghost use Rattle.dwarf_line.specs.Best.{better};
+ghost use Rattle.dwarf_line.specs.Rising.{Rises, IsSplit, address_at};
+ghost use Rattle.dwarf_line.specs.Sequences.{row_at};
+
+use crate::registers::MatrixRow;
+use std::marker::Model;
+
+/// The rows of a sequence. Contracts see them as a list.
+#[derive(Debug, Drop)]
+pub(crate) struct Rows {
+    items: Vec<MatrixRow>,
+    rising: bool,
+}
+
+impl Model for Rows {
+    ghost use Rattle.std.specs.Prelude.{◌≡◌, true, List};
+    ghost use Rattle.dwarf_line.specs.declared.registers.MatrixRow.{MatrixRow};
+    ghost use Rattle.dwarf_line.specs.Rising.{Rises};
+
+    ghost Value = { List MatrixRow };
+
+    ghost view = { λ rows. rows.items.items };
+
+    ghost invariant = { λ rows. rows.rising ≡ true → Rises rows.items.items };
+}
+
+/// Whether no address is below one before it.
+fn is_rising(rows: &[MatrixRow]) -> bool
+    ensures { result ≡ true → Rises rows.now }
+{
+    let mut last = 0;
+    for row in rows {
+        if row.address < last {
+            return false;
+        }
+        last = row.address;
+    }
+    true
+}
+
+/// How many of the rows, which rise, are at most at an address.
+fn count_up_to(at: u32, rows: &[MatrixRow]) -> usize
+    requires { Rises rows.now }
+    ensures { IsSplit at rows.now result }
+{
+    let mut low = 0;
+    let mut high = rows.len();
+    while low < high {
+        let middle = low + (high - low) / 2;
+        if rows[middle].address <= at {
+            low = middle + 1;
+        } else {
+            high = middle;
+        }
+    }
+    low
+}
+
+/// The row in force among rows that rise.
+fn halved(at: u32, rows: &[MatrixRow]) -> Option<MatrixRow>
+    requires { Rises rows.now }
+    ensures { result ≡ row_at at rows.now }
+{
+    let count = count_up_to(at, rows);
+    if count == 0 {
+        return None;
+    }
+    Some(rows[count - 1])
+}
+
+impl Rows {
+    pub(crate) fn from_vec(items: Vec<MatrixRow>) -> Rows
+        ensures { result ≡ items.items }
+    {
+        let rising = is_rising(items.as_slice());
+        Rows { items, rising }
+    }
+
+    pub(crate) fn as_slice(&self) -> &[MatrixRow]
+        ensures { result.now ≡ self.now }
+    {
+        self.items.as_slice()
+    }
+
+    /// The row in force at an address: by halving where the addresses of the rows rise, else by a look
+    /// at each row.
+    pub(crate) fn row_at(&self, at: u32) -> Option<MatrixRow>
+        ensures { result ≡ row_at at self.now }
+    {
+        if self.rising {
+            return halved(at, self.items.as_slice());
+        }
+        row_at(at, self.items.as_slice())
+    }
+}
+
+/// The greatest address so far, and the last row at it.
+#[derive(Clone, Copy)]
+struct Best {
+    greatest: u32,
+    found: Option<MatrixRow>,
+}
+
+fn better(at: u32, best: Best, row: MatrixRow) -> Best
+    ensures { result ≡ better at best row }
+{
+    if row.address <= at && best.greatest <= row.address {
+        return Best {
+            greatest: row.address,
+            found: Some(row),
+        };
+    }
+    best
+}
+
+/// The last row at the greatest address that is at most `at`.
+fn row_at(at: u32, rows: &[MatrixRow]) -> Option<MatrixRow>
+    ensures { result ≡ row_at at rows.now }
+{
+    let mut best = Best {
+        greatest: 0,
+        found: None,
+    };
+    for row in rows {
+        best = better(at, best, *row);
+    }
+    best.found
+}
