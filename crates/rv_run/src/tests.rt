@@ -233,7 +233,7 @@ fn writes_of_memory(rt: HostRuntime) -> Result<(), Failed> {
         words.extend_from_slice(&CALLER)?;
         words.extend_from_slice(&given)?;
         let file = guest(rt.alloc(), words.as_slice())?;
-        let code = file.as_slice().get(84 + from..84 + to);
+        let code = file.as_slice().get(from..to);
         assert_eq!(rt; code, Some(after.output.as_slice()));
     }
     Ok(())

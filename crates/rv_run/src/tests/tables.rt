@@ -24,21 +24,22 @@ pub(super) const READS: [(u32, u32, u32, u32, Option<u32>); 16] = [
     (0, 0xffff_fffe, 4, 0xffff_fff2, None),
 ];
 
-/// Writes: x10 to x12, what x10 holds after it, and which of the code's bytes were written.
+/// Writes: x10 to x12, what x10 holds after it, and which bytes of the file were written; the code
+/// begins at 84.
 pub(super) const WRITES: [(u32, u32, u32, u32, usize, usize); 13] = [
-    (1, 0x0001_0000, 4, 4, 0, 4),
-    (2, 0x0001_0002, 5, 5, 2, 7),
-    (0, 0x0001_0000, 4, 0xffff_fff7, 0, 0),
-    (3, 0, 4, 0xffff_fff7, 0, 0),
-    (3, 0, 0, 0xffff_fff7, 0, 0),
-    (1, 0, 0, 0, 0, 0),
-    (1, 0, 1, 0xffff_fff2, 0, 0),
-    (1, 0x0001_0000, 44, 44, 0, 44),
-    (1, 0x0001_0000, 45, 0xffff_fff2, 0, 0),
-    (1, 0x0001_0000, 0xffff_ffff, 0xffff_fff2, 0, 0),
-    (1, 0xf00f_fffd, 4, 0xffff_fff2, 0, 0),
-    (1, 0xffff_ffff, 2, 0xffff_fff2, 0, 0),
-    (1, 0x0001_0028, 4, 4, 40, 44),
+    (1, 0x0001_0000, 4, 4, 84, 88),
+    (2, 0x0001_0002, 5, 5, 86, 91),
+    (0, 0x0001_0000, 4, 0xffff_fff7, 84, 84),
+    (3, 0, 4, 0xffff_fff7, 84, 84),
+    (3, 0, 0, 0xffff_fff7, 84, 84),
+    (1, 0, 0, 0, 84, 84),
+    (1, 0, 1, 0xffff_fff2, 84, 84),
+    (1, 0x0001_0000, 44, 44, 84, 128),
+    (1, 0x0001_0000, 45, 0xffff_fff2, 84, 84),
+    (1, 0x0001_0000, 0xffff_ffff, 0xffff_fff2, 84, 84),
+    (1, 0xf00f_fffd, 4, 0xffff_fff2, 84, 84),
+    (1, 0xffff_ffff, 2, 0xffff_fff2, 84, 84),
+    (1, 0x0001_0028, 4, 4, 124, 128),
 ];
 
 /// Other calls: x17 and x10, what x10 holds after it, how many instructions of six retired, and how the
