@@ -2,12 +2,13 @@ use super::*;
 use elf_image::read_image;
 use prof_bytes::{Fail, Memory, put_u32};
 use std::alloc::Global;
-use std::process::Abort;
 use std::test::Fail as Failed;
 
 mod tables;
+mod texts;
 
-use tables::{CALLS, Call, ENDS, FAULTS, MOMENTS, OUTPUTS, SCHEDULES};
+use tables::{ENDS, MOMENTS, OTHERS, OUTPUTS, READS, WRITES};
+use texts::{FAULTS, SCHEDULES};
 
 /// An ELF header and the first words of one program header, by the System V ABI: a program whose
 /// code is loaded from offset 84 at 0x10000.
@@ -110,7 +111,7 @@ const ADDER: [u32; 21] = [
 fn guest(alloc: Global, words: &[u32]) -> Result<Vec<u8>, Memory> {
     let mut file = Vec::new(alloc);
     file.extend_from_slice(&HEAD)?;
-    let code = (words.len() as u32).wrapping_mul(4);
+    let code = u32::try_from(words.len()).unwrap_or(0).wrapping_mul(4);
     for word in [code, code, 5, 4] {
         put_u32(&mut file, word)?;
     }
@@ -169,40 +170,82 @@ fn schedules_as_they_are_told(rt: HostRuntime) -> Result<(), Failed> {
             continue;
         };
         assert_eq!(rt; told.harts(), *harts, "in {text:?}");
-        assert_eq!(rt; told.slices(), *slices, "in {text:?}");
+        assert_eq!(rt; told.slices().len(), slices.len(), "in {text:?}");
+        for ((hart, count), slice) in slices.iter().zip(told.slices()) {
+            assert_eq!(rt; (slice.hart, slice.count), (*hart, *count), "in {text:?}");
+        }
     }
     Ok(())
 }
 
-/// What a call answers, and what it moved.
-fn check_call(rt: &impl Abort, alloc: Global, call: &Call) -> Result<(), Failed> {
+/// How hart 0 stands after six instructions of the caller, what was written, and the word at the address.
+#[derive(Drop)]
+struct After {
+    x10: Option<u32>,
+    standing: Option<(u64, HartEnd)>,
+    output: Vec<u8>,
+    word: Option<u32>,
+}
+
+/// Makes a call with these in x17 and x10 to x12, and with the input `abcdef`.
+fn after_call(alloc: Global, given: [u32; 4]) -> Result<After, Failed> {
     let mut words = Vec::new(alloc);
     words.extend_from_slice(&CALLER)?;
-    words.extend_from_slice(&[call.number, call.a, call.b, call.c])?;
+    words.extend_from_slice(&given)?;
     let file = guest(alloc, words.as_slice())?;
     if file.len() > 1 << 26 {
-        return Ok(());
+        return Err(Failed::from(Memory));
     }
     let image = read_image(alloc, file.as_slice())?;
     let told = schedule(alloc, b"harts 1\n0 6")?;
     let mut machine = Machine::start(alloc, &image, told, b"abcdef")?;
-    carry_out(&mut machine, 6)?;
-    assert_eq!(rt; machine.next()?, None);
-    assert_eq!(rt; x10(&machine, 0), Some(call.answer), "{call:?}");
-    assert_eq!(rt;
-        standing(&machine, 0),
-        Some((call.retired, call.end)),
-        "{call:?}"
-    );
-    assert_eq!(rt; machine.output(), call.output, "{call:?}");
-    assert_eq!(rt; machine.space().load(call.b, 4), call.word, "{call:?}");
+    carry_out(&mut machine, 7)?;
+    let mut output = Vec::new(alloc);
+    output.extend_from_slice(machine.output())?;
+    Ok(After {
+        x10: x10(&machine, 0),
+        standing: standing(&machine, 0),
+        output,
+        word: machine.space().load(given[2], 4),
+    })
+}
+
+#[test]
+fn reads_of_the_input(rt: HostRuntime) -> Result<(), Failed> {
+    for (descriptor, at, count, answer, word) in READS {
+        let after = after_call(rt.alloc(), [63, descriptor, at, count])?;
+        assert_eq!(rt; after.x10, Some(answer), "{descriptor} {at} {count}");
+        assert_eq!(rt; after.word, word, "{descriptor} {at} {count}");
+        assert_eq!(rt; after.standing, Some((6, HartEnd::Running)));
+        assert!(rt; after.output.is_empty());
+    }
     Ok(())
 }
 
 #[test]
-fn environment_calls(rt: HostRuntime) -> Result<(), Failed> {
-    for call in &CALLS {
-        check_call(&rt, rt.alloc(), call)?;
+fn writes_of_memory(rt: HostRuntime) -> Result<(), Failed> {
+    for (descriptor, at, count, answer, from, to) in WRITES {
+        let given = [64, descriptor, at, count];
+        let after = after_call(rt.alloc(), given)?;
+        assert_eq!(rt; after.x10, Some(answer), "{descriptor} {at} {count}");
+        assert_eq!(rt; after.standing, Some((6, HartEnd::Running)));
+        let mut words = Vec::new(rt.alloc());
+        words.extend_from_slice(&CALLER)?;
+        words.extend_from_slice(&given)?;
+        let file = guest(rt.alloc(), words.as_slice())?;
+        let code = file.as_slice().get(from..to);
+        assert_eq!(rt; code, Some(after.output.as_slice()));
+    }
+    Ok(())
+}
+
+#[test]
+fn exits_and_unknown_calls(rt: HostRuntime) -> Result<(), Failed> {
+    for (number, a, answer, retired, end) in OTHERS {
+        let after = after_call(rt.alloc(), [number, a, 0, 0])?;
+        assert_eq!(rt; after.x10, Some(answer), "{number} {a}");
+        assert_eq!(rt; after.standing, Some((retired, end)), "{number} {a}");
+        assert!(rt; after.output.is_empty());
     }
     Ok(())
 }

@@ -10,3 +10,6 @@
 mod clock;
 
 pub use clock::{Sample, Samples, TooManySamples};
+
+#[cfg(test)]
+mod tests;
