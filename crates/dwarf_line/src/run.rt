@@ -29,13 +29,13 @@ fn close(
     alloc: Global,
     frame: Frame<'_>,
     sequences: &mut Vec<Sequence>,
-    open: &mut Vec<MatrixRow>,
+    current: &mut Vec<MatrixRow>,
     end: u32,
 ) -> Result<(), Memory>
-    ensures open { IfOk result (λ _. open.new.items ≡ []) }
-    ensures kept { IfOk result (λ _. sequences.new.items ≡ closed frame.entry.segments.now frame.entry.table sequences.old.items open.old.items end) }
+    ensures current { IfOk result (λ _. current.new.items ≡ []) }
+    ensures kept { IfOk result (λ _. sequences.new.items ≡ closed frame.entry.segments.now frame.entry.table sequences.old.items current.old.items end) }
 {
-    let items = mem::replace(open, Vec::new(alloc));
+    let items = mem::replace(current, Vec::new(alloc));
     if is_counted_from(frame.segments, end, items.as_slice()) {
         let sequence = Sequence {
             table: frame.table,
@@ -47,20 +47,20 @@ fn close(
     Ok(())
 }
 
-/// Adds a row to the open sequence, or closes it.
+/// Adds a row to the current sequence, or closes it.
 fn add_row(
     alloc: Global,
     frame: Frame<'_>,
     sequences: &mut Vec<Sequence>,
-    open: &mut Vec<MatrixRow>,
+    current: &mut Vec<MatrixRow>,
     row: MatrixRow,
 ) -> Result<(), Memory>
-    ensures { IfOk result (λ _. IsKept sequences.new.items open.new.items (with_row frame.entry.segments.now frame.entry.table (record { sequences = sequences.old.items; before = open.old.items }) row)) }
+    ensures { IfOk result (λ _. IsKept sequences.new.items current.new.items (with_row frame.entry.segments.now frame.entry.table (record { sequences = sequences.old.items; before = current.old.items }) row)) }
 {
     if row.end_sequence {
-        return close(alloc, frame, sequences, open, row.address);
+        return close(alloc, frame, sequences, current, row.address);
     }
-    open.push(row)?;
+    current.push(row)?;
     Ok(())
 }
 
@@ -68,13 +68,13 @@ fn add_some(
     alloc: Global,
     frame: Frame<'_>,
     sequences: &mut Vec<Sequence>,
-    open: &mut Vec<MatrixRow>,
+    current: &mut Vec<MatrixRow>,
     row: Option<MatrixRow>,
 ) -> Result<(), Memory>
-    ensures { IfOk result (λ _. IsKept sequences.new.items open.new.items (with_rows frame.entry.segments.now frame.entry.table (record { sequences = sequences.old.items; before = open.old.items }) (option_to_list row))) }
+    ensures { IfOk result (λ _. IsKept sequences.new.items current.new.items (with_rows frame.entry.segments.now frame.entry.table (record { sequences = sequences.old.items; before = current.old.items }) (option_to_list row))) }
 {
     match row {
-        Some(row) => add_row(alloc, frame, sequences, open, row),
+        Some(row) => add_row(alloc, frame, sequences, current, row),
         None => Ok(()),
     }
 }
@@ -91,7 +91,7 @@ pub(crate) fn run(
     requires { 0 < params.line_range }
     ensures { Gives (λ _. sequences.new.items) result (kept_from frame.entry.segments.now frame.entry.table sequences.old.items [] (matrix_from params lengths.now cursor.old)) }
 {
-    let mut open = Vec::new(alloc);
+    let mut current = Vec::new(alloc);
     let mut regs = start();
     let room = cursor.left();
     for _ in 0..room {
@@ -105,7 +105,7 @@ pub(crate) fn run(
         match read_opcode(params, lengths, regs, cursor, offset) {
             Err(fault) => return Err(Fail::Fault(fault)),
             Ok((row, next)) => {
-                add_some(alloc, frame, sequences, &mut open, row)?;
+                add_some(alloc, frame, sequences, &mut current, row)?;
                 regs = next;
             }
         }
