@@ -4,3 +4,4 @@ pub mod DigitSteps
 pub mod Slices
 pub mod Lining
 pub mod Ranges
+pub mod Passing

@@ -5,7 +5,7 @@ use Rattle.rv_run.specs.declared.machine.Moment.{Moment}
 use Rattle.rv_run.specs.declared.machine.Due.{Due}
 use Rattle.rv_run.specs.Schedule.{instructions, most_harts, most_instructions}
 use Rattle.rv_run.specs.State.{HartState, MachineState, hart_of, is_running}
-use Rattle.rv_run.specs.Run.{Instant, Run, finished, preceded, next_instant, after, run_slices}
+use Rattle.rv_run.specs.Run.{Instant, Run, finished, preceded, next_instant, after, acts, run_slice, run_slices}
 
 -- a machine in the middle of its run: how it stands, and the slices that are left, of which the first
 -- may be what is left of one
@@ -58,21 +58,39 @@ pub record IsFresh (s : MachineState) : Type 0 where
   pub few : length s.harts ≤ most_harts
   pub none : (hart : ℕ) → (hart_of s hart).retired ≡ 0
 
--- an instruction of this hart that retired, with an ordinal from one up to another
+-- an instruction of this hart, with an ordinal from one up to another
 pub record IsBetween (hart from to : ℕ) (i : Instant) : Type 0 where
   pub own : i.moment.hart ≡ hart
   pub low : from ≤ i.moment.ordinal
   pub high : i.moment.ordinal ≤ to
 
--- some instructions of the hart were carried out, so many at most, and all of them retired
+-- some instructions of the hart were carried out, one at least and so many at most
 pub record Passed (hart most : ℕ) (old new : Progress) : Type 0 where
   pub passed : List Instant
+  pub some : 0 < length passed
   pub run : to_come old ≡ preceded passed (to_come new)
   pub between : All (IsBetween hart ((hart_of old.state hart).retired + 1) ((hart_of old.state hart).retired + most)) passed
-  pub count : (hart_of new.state hart).retired ≡ (hart_of old.state hart).retired + length passed
-  pub few : length passed ≤ most
+  pub least : (hart_of old.state hart).retired ≤ (hart_of new.state hart).retired
+  pub few : (hart_of new.state hart).retired ≤ (hart_of old.state hart).retired + most
   pub others : (other : ℕ) → ¬ (other ≡ hart) → (hart_of new.state other).retired ≡ (hart_of old.state other).retired
   pub harts : length new.state.harts ≡ length old.state.harts
+
+-- so many instructions of one hart were carried out, each of which retired by itself
+pub record Passing (hart many : ℕ) (old new : MachineState) : Type 0 where
+  pub passed : List Instant
+  pub long : length passed ≡ many
+  pub runs : (more : ℕ) → run_slice (many + more) hart old ≡ preceded passed (run_slice more hart new)
+  pub between : All (IsBetween hart ((hart_of old hart).retired + 1) ((hart_of old hart).retired + many)) passed
+  pub count : (hart_of new hart).retired ≡ (hart_of old hart).retired + many
+  pub others : (other : ℕ) → ¬ (other ≡ hart) → (hart_of new other).retired ≡ (hart_of old other).retired
+  pub harts : length new.harts ≡ length old.harts
+  pub running : is_running (hart_of new hart) ≡ true
+  pub none : many ≡ 0 → new ≡ old
+
+-- one instruction that retired by itself, or nothing
+abbrev pub Plain : ℕ → Bool → MachineState → MachineState → Type 0
+Plain hart true old new = (record { state = new; retired = true } ≡ acts hart old) × ((hart_of new hart).end ≡ (hart_of old hart).end)
+Plain hart false old new = new ≡ old
 
 -- slices of which the first has so many instructions
 abbrev pub with_left : ℕ → List Slice → List Slice

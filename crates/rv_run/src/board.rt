@@ -1,10 +1,11 @@
 //! The harts of a machine, the memory that they share, and what they read and write.
-ghost use Rattle.std.specs.Prelude.{◌≡◌, ◌<◌, ◌≤◌, ◌^◌, ◌-◌, IfOk, OnErr, length, map};
+ghost use Rattle.std.specs.Prelude.{◌≡◌, ◌+◌, true, ◌<◌, ◌≤◌, ◌^◌, ◌-◌, IfOk, OnErr, length, map};
 ghost use Rattle.std.specs.List.{range_with_len};
 ghost use Rattle.rv_hart.specs.Step.{step_of};
-ghost use Rattle.rv_run.specs.State.{first_hart, first_state, hart_of, step_state};
+ghost use Rattle.rv_run.specs.State.{first_hart, first_state, hart_of, is_running, step_state};
 ghost use Rattle.rv_run.specs.Calls.{reads, writes, calls, completes, grouped, ends_by, ends_all, only_answers};
 ghost use Rattle.rv_run.specs.Run.{acts, stepped_machine};
+ghost use Rattle.rv_run.specs.Told.{Passing, Plain};
 
 use crate::hart::{Core, HartEnd};
 use crate::output::{are_readable, copied};
@@ -221,6 +222,39 @@ impl<'a> Board<'a> {
     {
         let core = &mut self.cores[hart as usize];
         core.step(&mut self.space)
+    }
+
+    /// Does the next instruction of the hart if it retires by itself, and says whether. If not, nothing
+    /// is done.
+    #[inline(always)]
+    fn step_plain(&mut self, hart: u32) -> bool
+        requires hart { hart < length self.old.harts }
+        requires room { (hart_of self.old hart).retired < 2 ^ 32 }
+        ensures { Plain hart result self.old self.new }
+    {
+        match self.step(hart) {
+            Ok(Stepped::Retired) => true,
+            Ok(Stepped::Ecall) => false,
+            Ok(Stepped::Break) => false,
+            Ok(Stepped::Trap(_)) => false,
+            Err(_) => false,
+        }
+    }
+
+    /// Does instructions of the hart as long as they retire by themselves, up to so many, and says how
+    /// many. It stops before an environment call, a breakpoint, a trap, and where no memory is found.
+    pub(crate) fn pass(&mut self, hart: u32, most: u32) -> u32
+        requires hart { hart < length self.old.harts }
+        requires running { is_running (hart_of self.old hart) ≡ true }
+        requires room { (hart_of self.old hart).retired + most < 2 ^ 32 }
+        ensures passed { Passing hart result self.old self.new }
+        ensures few { result ≤ most }
+    {
+        let mut count = 0;
+        while count < most && self.step_plain(hart) {
+            count += 1;
+        }
+        count
     }
 
     /// Does the next instruction of the hart, and says whether it retired.

@@ -1,9 +1,9 @@
 //! The machine that a program runs on.
-ghost use Rattle.std.specs.Prelude.{◌≡◌, ◌<◌, ◌≤◌, IfOk, IfSome, OnErr, None, length};
+ghost use Rattle.std.specs.Prelude.{◌≡◌, ◌+◌, ◌<◌, ◌≤◌, IfOk, IfSome, OnErr, None, Some, length};
 ghost use Rattle.rv_run.specs.Schedule.{most_instructions};
 ghost use Rattle.rv_run.specs.State.{first_state, hart_of};
 ghost use Rattle.rv_run.specs.Run.{finished};
-ghost use Rattle.rv_run.specs.Told.{IsFresh, Went, CountsBy, first_due, to_come};
+ghost use Rattle.rv_run.specs.Told.{IsFresh, Passed, Went, CountsBy, first_due, to_come};
 
 use crate::board::Board;
 use crate::hart::HartEnd;
@@ -73,6 +73,7 @@ impl<'a> Machine<'a> {
         ensures due { result ≡ first_due (to_come self.now).instants }
         ensures hart { IfSome result (λ due. due.hart < length self.now.state.harts) }
         ensures few { IfSome result (λ due. due.ordinal ≤ most_instructions) }
+        ensures ordinal { IfSome result (λ due. due.ordinal ≡ (hart_of self.now.state due.hart).retired + 1) }
         ensures end { result ≡ None → to_come self.now ≡ finished self.now.state }
     {
         let Some(slice) = self.turns.first() else {
@@ -105,6 +106,30 @@ impl<'a> Machine<'a> {
             pc: due.pc,
             retired,
         }))
+    }
+
+    /// Carries out instructions of the hart that is due, one at least and `most` at most. It stops where
+    /// its slice ends, and beside an instruction that does not retire by itself. After `Memory` the
+    /// machine stands as before.
+    pub fn pass(&mut self, due: &Due, most: u32) -> Result<(), Memory>
+        requires due { Some due.now ≡ first_due (to_come self.old).instants }
+        requires some { 0 < most }
+        ensures ok { IfOk result (λ _. Passed due.now.hart most self.old self.new) }
+        ensures err { OnErr result (self.new ≡ self.old) }
+    {
+        let Some(slice) = self.turns.first() else {
+            return Ok(());
+        };
+        let count = self.board.pass(slice.hart, most.min(slice.count));
+        if count == 0 {
+            let Some(_) = self.next()? else {
+                return Ok(());
+            };
+            return Ok(());
+        }
+        self.turns.take_off(count);
+        self.turns.settle(&self.board);
+        Ok(())
     }
 
     /// The memory as it stands.

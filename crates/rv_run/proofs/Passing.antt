@@ -1,0 +1,169 @@
+-- Instructions that retire by themselves, one after another.
+use Rattle.std.proofs.Common.{◌≡◌, ◌≢◌, ◌⊎◌, inl, inr, ℕ, zero, suc, ◌+◌, ◌-◌, ◌<◌, ◌≤◌, Bool, true, false, cond, List, [], ◌∷◌, ◌++◌, length, slice_set, Option, Some, None, length-append, refl, sym, ap, ap₂, subst, ◌∙◌, append_assoc, arith, rules}
+use Rattle.std.specs.List.{All}
+use Rattle.std.proofs.lemmas.List.{get_or-set_same}
+use Rattle.std.proofs.lemmas.List.Elements.{All-push}
+use Rattle.std.proofs.lemmas.Bool.Decides.{eqb_tells}
+use Rattle.rv_hart.specs.Step.{State, step_of}
+use Rattle.rv_hart.specs.declared.outcome.Stepped.{Stepped}
+use Rattle.rv_hart.specs.declared.outcome.Stepped.TheVariants as stepped
+use Rattle.rv_run.specs.declared.hart.HartEnd.{HartEnd}
+use Rattle.rv_run.specs.declared.schedule.Slice.{Slice}
+use Rattle.rv_run.specs.declared.machine.Due.{Due}
+use Rattle.rv_run.specs.declared.machine.Moment.{Moment}
+use Rattle.rv_run.specs.Reading.{first_of}
+use Rattle.rv_run.specs.Schedule.{instructions, most_instructions}
+use Rattle.rv_run.specs.State.{HartState, MachineState, hart_in, hart_of, no_hart, runs, is_running, step_state, stepped_hart}
+use Rattle.rv_run.specs.Calls.{Acted}
+use Rattle.rv_run.specs.Run.{Instant, Run, acts, after, instant, next_instant, finished, preceded, joined, run_slice, run_slices, stepped_machine}
+use Rattle.rv_run.specs.Told.{Progress, Counts, IsBetween, Passing, Plain, Passed, WentOn, plus_one, to_come, less, with_left, count_of_first, AreOf, HaveRoom, StandsAt, due_of, first_due}
+use Rattle.rv_run.proofs.Counting.{acts-as, counts-of}
+use Rattle.rv_run.proofs.Slices.{IsDue, less-by}
+
+preceded-twice : (xs ys : List Instant) (run : Run) → preceded xs (preceded ys run) ≡ preceded (xs ++ ys) run
+preceded-twice xs ys run = ap (λ (all : List Instant). record { instants = all; final = run.final }) (sym (append_assoc xs ys run.instants))
+
+-- a step keeps how the hart stands
+pub step-plain : (hart : ℕ) (s new : MachineState) (how : Stepped) → hart < length s.harts → new ≡ stepped_machine hart (step_of (step_state (hart_of s hart) s.memory)) s
+    → how ≡ (step_of (step_state (hart_of s hart) s.memory)).1 → how ≡ stepped.Retired → Plain hart true s new
+step-plain hart s new how within is ends retired =
+    let r : State × Stepped = step_of (step_state (hart_of s hart) s.memory) in (
+      subst (λ (h : Stepped). how ≡ h → record { state = new; retired = true } ≡ acts hart s) refl (λ _. acts-as hart s new stepped.Retired is (sym retired ∙ ends)) refl,
+      ap (λ (m : MachineState). (hart_of m hart).end) is
+          ∙ ap (λ (h : HartState). h.end) (get_or-set_same s.harts hart (stepped_hart (hart_of s hart) (step_of (step_state (hart_of s hart) s.memory))) no_hart within),
+    )
+
+pub passing-first : (hart : ℕ) (s : MachineState) → is_running (hart_of s hart) ≡ true → Passing hart 0 s s
+passing-first hart s running =
+    record {
+      passed = [];
+      long = refl;
+      runs = λ more. ap (λ (n : ℕ). run_slice n hart s) (let e : 0 + more ≡ more = omega arith in e);
+      between = λ k d few. absurd (omega arith);
+      count = omega arith;
+      others = λ other apart. refl;
+      harts = refl;
+      running = running;
+      none = λ e. refl;
+    }
+
+one-slice : (s : MachineState) (hart more : ℕ) → is_running (hart_of s hart) ≡ true → run_slice (suc more) hart s ≡ preceded (next_instant hart s ∷ []) (run_slice more hart (after hart s))
+unfolding run_slice
+one-slice s hart more running = ap (λ (b : Bool). cond b (preceded (next_instant hart s ∷ []) (run_slice more hart (after hart s))) (finished s)) running
+
+wider : (hart from to wide : ℕ) (all : List Instant) → to ≤ wide → All (IsBetween hart from to) all → All (IsBetween hart from wide) all
+wider hart from to wide all le between = λ k d few. record { own = (between k d few).own; low = (between k d few).low; high = omega (arith, le, (between k d few).high) }
+
+pub passing-more : (hart many : ℕ) (a b c : MachineState) → Passing hart many a b → Plain hart true b c → hart < length a.harts → Passing hart (many + 1) a c
+passing-more hart many a b c was now within =
+    let counts : Counts hart true b c = counts-of hart b c true now.0 (omega (arith, was.harts)) in
+    let i : Instant = next_instant hart b in
+    record {
+      passed = was.passed ++ next_instant hart b ∷ [];
+      long = length-append was.passed (next_instant hart b ∷ []) ∙ ap (λ (n : ℕ). n + 1) was.long;
+      runs = λ more.
+          ap (λ (n : ℕ). run_slice n hart a) (let e : many + 1 + more ≡ many + suc more = omega arith in e)
+          ∙ was.runs (suc more)
+          ∙ ap (preceded was.passed) (one-slice b hart more was.running ∙ ap (λ (s : MachineState). preceded (next_instant hart b ∷ []) (run_slice more hart s)) (sym (ap (λ (x : Acted). x.state) now.0)))
+          ∙ preceded-twice was.passed (next_instant hart b ∷ []) (run_slice more hart c);
+      between =
+          All-push (IsBetween hart ((hart_of a hart).retired + 1) ((hart_of a hart).retired + (many + 1))) was.passed (next_instant hart b)
+          (wider hart ((hart_of a hart).retired + 1) ((hart_of a hart).retired + many) ((hart_of a hart).retired + (many + 1)) was.passed (omega arith) was.between)
+          (record { own = refl; low = omega (arith, was.count); high = omega (arith, was.count) });
+      count = omega (arith, counts.own, was.count);
+      others = λ other apart. counts.others other apart ∙ was.others other apart;
+      harts = counts.harts ∙ was.harts;
+      running = ap runs now.1 ∙ was.running;
+      none = λ e. absurd (omega arith);
+    }
+
+joined-preceded : (xs : List Instant) (run : Run) (rest : MachineState → Run) → joined (preceded xs run) rest ≡ preceded xs (joined run rest)
+joined-preceded xs run rest = ap (λ (all : List Instant). record { instants = all; final = (rest run.final).final }) (append_assoc xs run.instants (rest run.final).instants)
+
+-- what was done of the first slice, and what is left of all
+passed-slices : (hart many : ℕ) (s new : MachineState) (left : List Slice) (p : Passing hart many s new) → first_of left ≡ Some (record { hart = hart; count = count_of_first left }) → many ≤ count_of_first left
+    → run_slices left s ≡ preceded p.passed (run_slices (less many left) new)
+unfolding run_slices
+passed-slices hart many s new [] p first few = absurd (let e : None ≡ Some (record { hart = hart; count = count_of_first [] }) = first in cc)
+passed-slices hart many s new (slice ∷ rest) p first few =
+    let same : slice ≡ record { hart = hart; count = slice.count } = cc in
+    let of_hart : slice.hart ≡ hart = ap (λ (x : Slice). x.hart) same in
+    ap (λ (h : ℕ). joined (run_slice slice.count h s) (run_slices rest)) of_hart
+    ∙ ap (λ (n : ℕ). joined (run_slice n hart s) (run_slices rest)) (let e : slice.count ≡ many + (slice.count - many) = omega (arith, few) in e)
+    ∙ ap (λ (r : Run). joined r (run_slices rest)) (p.runs (slice.count - many))
+    ∙ joined-preceded p.passed (run_slice (slice.count - many) hart new) (run_slices rest)
+    ∙ ap (λ (h : ℕ). preceded p.passed (joined (run_slice (slice.count - many) h new) (run_slices rest))) (sym of_hart)
+
+pub passed-many : (hart many most : ℕ) (s new : MachineState) (left less_left settled : List Slice) → Passing hart many s new → first_of left ≡ Some (record { hart = hart; count = count_of_first left }) → 0 < many → many ≤ most → many ≤ count_of_first left
+    → less_left ≡ less many left → run_slices settled new ≡ run_slices less_left new → Passed hart most (record { state = s; left = left }) (record { state = new; left = settled })
+passed-many hart many most s new left less_left settled p first some few within taken run =
+    record {
+      passed = p.passed;
+      some = omega (arith, p.long);
+      run = passed-slices hart many s new left p first within ∙ ap (preceded p.passed) (sym (run ∙ ap (λ (l : List Slice). run_slices l new) taken));
+      between = wider hart ((hart_of s hart).retired + 1) ((hart_of s hart).retired + many) ((hart_of s hart).retired + most) p.passed (omega arith) p.between;
+      least = omega (arith, p.count);
+      few = omega (arith, p.count);
+      others = p.others;
+      harts = p.harts;
+    }
+
+-- one instruction, whatever it did
+at_least : (b : Bool) (n : ℕ) → n ≤ plus_one b n
+at_least true n = omega arith
+at_least false n = omega arith
+
+at_most : (b : Bool) (n : ℕ) → plus_one b n ≤ n + 1
+at_most true n = omega arith
+at_most false n = omega arith
+
+pub passed-one : (hart most : ℕ) (moment : Moment) (old new : Progress) → WentOn moment old new → Counts moment.hart moment.retired old.state new.state → moment.hart ≡ hart → 0 < most → Passed hart most old new
+passed-one hart most moment old new went counts same some =
+    subst (λ (h : ℕ). Passed h most old new) same
+    (record {
+      passed = next_instant moment.hart old.state ∷ [];
+      some = omega arith;
+      run = went.run;
+      between = one;
+      least = omega (arith, counts.own, at_least moment.retired (hart_of old.state moment.hart).retired);
+      few = omega (arith, counts.own, at_most moment.retired (hart_of old.state moment.hart).retired);
+      others = counts.others;
+      harts = counts.harts;
+    })
+  where
+    one : All (IsBetween moment.hart ((hart_of old.state moment.hart).retired + 1) ((hart_of old.state moment.hart).retired + most)) (next_instant moment.hart old.state ∷ [])
+    one zero d few = record { own = refl; low = omega arith; high = omega arith }
+    one (suc k) d few = absurd (omega arith)
+
+pub room-passed : (s new : MachineState) (left : List Slice) (hart many : ℕ) → many ≤ count_of_first left → HaveRoom s left → Passing hart many s new → HaveRoom new (less many left)
+room-passed s new left hart many few room p other =
+    elim (eqb_tells other hart) [ inl h ↦ same h.1 | inr h ↦ apart h.1 ]
+  where
+    same : other ≡ hart → (hart_of new other).retired + instructions (less many left) ≤ most_instructions
+    same e =
+        let own : (hart_of new other).retired ≡ (hart_of s hart).retired + many = ap (λ (h : ℕ). (hart_of new h).retired) e ∙ p.count in
+        omega (arith, own, less-by many left few, room hart)
+
+    apart : other ≢ hart → (hart_of new other).retired + instructions (less many left) ≤ most_instructions
+    apart ne = omega (arith, p.others other ne, less-by many left few, room other)
+
+pub first-count : (left : List Slice) (slice : Slice) → first_of left ≡ Some slice → count_of_first left ≡ slice.count
+first-count [] slice first = absurd cc
+first-count (x ∷ rest) slice first =
+    let same : x ≡ slice = cc in
+    ap (λ (y : Slice). y.count) same
+
+pub first-whole : (left : List Slice) (slice : Slice) → first_of left ≡ Some slice → first_of left ≡ Some (record { hart = slice.hart; count = count_of_first left })
+first-whole left slice first = first ∙ ap (λ (n : ℕ). Some (record { hart = slice.hart; count = n })) (sym (first-count left slice first))
+
+pub went-hart : (due : Due) (moment : Moment) (old new : Progress) → Some due ≡ first_due (to_come old).instants → WentOn moment old new → moment.hart ≡ due.hart
+went-hart due moment old new told went =
+    let here : Some due ≡ Some (due_of (next_instant moment.hart old.state)) = told ∙ ap (λ (r : Run). first_due r.instants) went.run in
+    let same : due ≡ due_of (next_instant moment.hart old.state) = cc in
+    sym (ap (λ (d : Due). d.hart) same)
+
+pub slice-hart : (s : MachineState) (left : List Slice) (due : Due) (slice : Slice) → IsDue s left due → first_of left ≡ Some slice → slice.hart ≡ due.hart
+slice-hart s left due slice is first =
+    let here : Some slice ≡ Some (record { hart = due.hart; count = count_of_first left }) = sym first ∙ is.first_is in
+    let same : slice ≡ record { hart = due.hart; count = count_of_first left } = cc in
+    ap (λ (x : Slice). x.hart) same
