@@ -1,5 +1,6 @@
 -- Samples that are met, and instructions that are not sampled.
-use Rattle.std.proofs.Common.{◌≡◌, ◌≢◌, ◌⊎◌, inl, inr, ℕ, zero, suc, ◌+◌, ◌%◌, ◌<◌, ◌≤◌, ◌==◌, ◌&&◌, Bool, true, false, not, cond, List, [], ◌∷◌, ◌++◌, map, length, filter, get_or, replicate, slice_set, Option, Some, None, refl, sym, ap, ap₂, subst, ◌∙◌, append_assoc, arith}
+use Rattle.std.proofs.Common.{◌≡◌, ◌≢◌, ◌⊎◌, inl, inr, ℕ, zero, suc, ◌+◌, ◌-◌, ◌%◌, ◌<◌, ◌≤◌, ◌==◌, ◌&&◌, Bool, true, false, not, cond, List, [], ◌∷◌, ◌++◌, map, length, filter, get_or, replicate, slice_set, Option, Some, None, refl, sym, ap, ap₂, subst, ◌∙◌, append_assoc, arith, rules, Fits, w32, ◌^◌}
+use Rattle.std.specs.List.{All}
 use Rattle.std.proofs.lemmas.Bool.{ne_eqb}
 use Rattle.std.proofs.Common.{eq-eqb}
 use Rattle.std.proofs.lemmas.Bool.Decides.{eqb_tells}
@@ -11,7 +12,7 @@ use Rattle.rv_run.specs.State.{MachineState, hart_of}
 use Rattle.rv_run.specs.Run.{Instant, Run, finished, preceded, next_instant, instant, acts}
 use Rattle.rv_run.specs.declared.machine.Moment.{Moment}
 use Rattle.rv_run.specs.declared.machine.Due.{Due}
-use Rattle.rv_run.specs.Told.{Progress, to_come, WentOn, Counts, plus_one, due_of, first_due, IsFresh}
+use Rattle.rv_run.specs.Told.{Progress, to_come, WentOn, Counts, plus_one, due_of, first_due, IsFresh, IsBetween, Passed}
 use Rattle.sample_clock.specs.declared.clock.Sample.{Sample}
 use Rattle.sample_clock.specs.Samples.{Paths, is_sampled, sample_of, samples, words_of, most_samples}
 use Rattle.sample_clock.specs.Clock.{Sampling, samples_to_come, IsNext, IsClock, CarriedOut, CameSampled, CameUnsampled, CameEnd, Unsampled, Met, Given, MetNow, IsOver, Lacks}
@@ -43,6 +44,7 @@ pub clock-kept : (period met : ℕ) (old new : Progress) (next : List ℕ) (hart
 clock-kept period met old new next hart retired clock counts below =
     record {
       some = clock.some;
+      fits = clock.fits;
       harts = omega (arith, clock.harts, counts.harts);
       nexts = λ other within. elim (eqb_tells other hart) [ inl h ↦ same other within h.1 | inr h ↦ apart other within h.1 ];
       met_few = clock.met_few;
@@ -64,6 +66,7 @@ pub clock-sampled : (period met : ℕ) (old new : Progress) (next : List ℕ) (h
 clock-sampled period met old new next hart ordinal clock counts in_harts is multiple =
     record {
       some = clock.some;
+      fits = clock.fits;
       harts = omega (arith, clock.harts, counts.harts, length-set next hart (ordinal + period));
       nexts = λ other within. elim (eqb_tells other hart) [ inl h ↦ same other h.1 | inr h ↦ apart other within h.1 ];
       met_few = clock.met_few;
@@ -98,10 +101,11 @@ samples-after path_of period passed rest none =
 pub samples-first : (path_of : Paths) (period : ℕ) (i : Instant) (rest : List Instant) → is_sampled period i ≡ true → samples path_of period (i ∷ rest) ≡ sample_of path_of i ∷ samples path_of period rest
 samples-first path_of period i rest is = ap (λ (b : Bool). map (sample_of path_of) (cond b (i ∷ filter (is_sampled period) rest) (filter (is_sampled period) rest))) is
 
-pub clock-start : (machine : Progress) (period : ℕ) → 0 < period → IsFresh machine.state → IsClock (record { machine = machine; period = period; met = 0 }) (replicate 16 period)
-clock-start machine period some fresh =
+pub clock-start : (machine : Progress) (period : ℕ) → 0 < period → period < 2 ^ 32 → IsFresh machine.state → IsClock (record { machine = machine; period = period; met = 0 }) (replicate 16 period)
+clock-start machine period some fits fresh =
     record {
       some = some;
+      fits = fits;
       harts = fresh.few;
       nexts = λ hart within.
           let first : get_or (replicate 16 period) hart 0 ≡ period = get_or-replicate 16 hart period 0 (omega (arith, fresh.few)) in
@@ -172,48 +176,6 @@ came-sampled path_of due sample old new done multiple told =
       period = done.period;
       met = done.met;
     }
-
--- an instruction whose ordinal is not that of the next sample
-below-next : (period : ℕ) (s : MachineState) (hart next ordinal : ℕ) → IsNext period (hart_of s hart).retired next → ordinal ≡ (hart_of s hart).retired + 1 → ordinal ≢ next → (ordinal < next) × (ordinal % period ≢ 0)
-below-next period s hart next ordinal is at other =
-    let low : ordinal < next = strictly ordinal next (omega (arith, is.above, at)) other in
-    (low, no-multiple period next ordinal is.multiple low (omega (arith, is.least, at)))
-  where
-    strictly : (a b : ℕ) → a ≤ b → a ≢ b → a < b
-    strictly a b le ne = omega arith
-
-pub came-other : (period met : ℕ) (old new : Progress) (next : List ℕ) (due : Due) (moment : Moment) → IsClock (record { machine = old; period = period; met = met }) next → Some due ≡ first_due (to_come old).instants → WentOn moment old new
-    → due.hart < length old.state.harts → due.ordinal ≢ get_or next due.hart 0
-    → CameUnsampled (record { machine = old; period = period; met = met }) (record { machine = new; period = period; met = met })
-came-other period met old new next due moment clock told went within other =
-    let same : due ≡ due_of (next_instant moment.hart old.state) = due-went due moment old new told went in
-    let hart : moment.hart ≡ due.hart = sym (ap (λ (d : Due). d.hart) same) in
-    let at : due.ordinal ≡ (hart_of old.state due.hart).retired + 1 = ap (λ (d : Due). d.ordinal) same ∙ ap (λ (h : ℕ). (hart_of old.state h).retired + 1) hart in
-    let below : (due.ordinal < get_or next due.hart 0) × (due.ordinal % period ≢ 0) = below-next period old.state due.hart (get_or next due.hart 0) due.ordinal (clock.nexts due.hart within) at other in
-    let i : Instant = next_instant moment.hart old.state in
-    record {
-      passed = next_instant moment.hart old.state ∷ [];
-      some = omega arith;
-      run = went.run;
-      none = not-sampled period (next_instant moment.hart old.state) (not-due period (next_instant moment.hart old.state) (λ e. below.1 (ap (λ (d : Due). d.ordinal % period) same ∙ e)));
-      period = refl;
-      met = refl;
-    }
-
-pub clock-other : (period met : ℕ) (old new : Progress) (next : List ℕ) (due : Due) (moment : Moment) → IsClock (record { machine = old; period = period; met = met }) next → Some due ≡ first_due (to_come old).instants → WentOn moment old new
-    → Counts moment.hart moment.retired old.state new.state → due.hart < length old.state.harts → due.ordinal ≢ get_or next due.hart 0
-    → IsClock (record { machine = new; period = period; met = met }) next
-clock-other period met old new next due moment clock told went counts within other =
-    let same : due ≡ due_of (next_instant moment.hart old.state) = due-went due moment old new told went in
-    let hart : moment.hart ≡ due.hart = sym (ap (λ (d : Due). d.hart) same) in
-    let at : due.ordinal ≡ (hart_of old.state due.hart).retired + 1 = ap (λ (d : Due). d.ordinal) same ∙ ap (λ (h : ℕ). (hart_of old.state h).retired + 1) hart in
-    let below : (due.ordinal < get_or next due.hart 0) × (due.ordinal % period ≢ 0) = below-next period old.state due.hart (get_or next due.hart 0) due.ordinal (clock.nexts due.hart within) at other in
-    let counted : Counts due.hart moment.retired old.state new.state = subst (λ (h : ℕ). Counts h moment.retired old.state new.state) hart counts in
-    clock-kept period met old new next due.hart moment.retired clock counted (omega (arith, counted.own, at_most moment.retired (hart_of old.state due.hart).retired, below.0, at))
-  where
-    at_most : (b : Bool) (n : ℕ) → plus_one b n ≤ n + 1
-    at_most true n = omega arith
-    at_most false n = omega arith
 
 -- what came before, and what came now
 pub unsampled-more : (a b c : Sampling) → Unsampled a b → CameUnsampled b c → Unsampled a c
@@ -297,3 +259,60 @@ unsampled-first a few = record { passed = []; run = refl; none = refl; period = 
 pub was-true : (b : Bool) → not b ≡ false → b ≡ true
 was-true true e = refl
 was-true false e = absurd cc
+
+-- instructions between one that is sampled and the next
+pub none-between : (period hart from to next : ℕ) (all : List Instant) → next % period ≡ 0 → to < next → next < from + period → All (IsBetween hart from to) all → filter (is_sampled period) all ≡ []
+none-between period hart from to next [] multiple low high between = refl
+none-between period hart from to next (i ∷ rest) multiple low high between =
+    let first : IsBetween hart from to i = between 0 i (omega arith) in
+    ap (λ (b : Bool). cond b (i ∷ filter (is_sampled period) rest) (filter (is_sampled period) rest))
+    (not-due period i (no-multiple period next i.moment.ordinal multiple (omega (arith, first.high)) (omega (arith, first.low))))
+    ∙ none-between period hart from to next rest multiple low high (λ k d few. between (suc k) d (omega arith))
+
+-- the ordinal that is due is not above that of the hart's next sample, and by less than a period below it
+pub due-below : (period met : ℕ) (old : Progress) (next : List ℕ) (due : Due) → IsClock (record { machine = old; period = period; met = met }) next → due.ordinal ≡ (hart_of old.state due.hart).retired + 1 → due.hart < length old.state.harts
+    → (due.ordinal ≤ get_or next due.hart 0) × (get_or next due.hart 0 < due.ordinal + period)
+due-below period met old next due clock at within =
+    let is : IsNext period (hart_of old.state due.hart).retired (get_or next due.hart 0) = clock.nexts due.hart within in
+    (omega (arith, is.above), omega (arith, is.least))
+
+pub came-passed : (period met most : ℕ) (old new : Progress) (next : List ℕ) (due : Due) → IsClock (record { machine = old; period = period; met = met }) next → due.ordinal ≡ (hart_of old.state due.hart).retired + 1
+    → due.hart < length old.state.harts → most ≡ get_or next due.hart 0 - due.ordinal → 0 < most → Passed due.hart most old new
+    → CameUnsampled (record { machine = old; period = period; met = met }) (record { machine = new; period = period; met = met })
+came-passed period met most old new next due clock at within is some went =
+    let of_hart : IsNext period (hart_of old.state due.hart).retired (get_or next due.hart 0) = clock.nexts due.hart within in
+    record {
+      passed = went.passed;
+      some = went.some;
+      run = went.run;
+      none =
+          none-between period due.hart ((hart_of old.state due.hart).retired + 1) ((hart_of old.state due.hart).retired + most) (get_or next due.hart 0) went.passed of_hart.multiple
+          (omega (arith, is, at, of_hart.above)) (omega (arith, of_hart.least)) went.between;
+      period = refl;
+      met = refl;
+    }
+
+pub clock-passed : (period met most : ℕ) (old new : Progress) (next : List ℕ) (due : Due) → IsClock (record { machine = old; period = period; met = met }) next → due.ordinal ≡ (hart_of old.state due.hart).retired + 1
+    → due.hart < length old.state.harts → most ≡ get_or next due.hart 0 - due.ordinal → 0 < most → Passed due.hart most old new → IsClock (record { machine = new; period = period; met = met }) next
+clock-passed period met most old new next due clock at within is some went =
+    record {
+      some = clock.some;
+      fits = clock.fits;
+      harts = omega (arith, clock.harts, went.harts);
+      nexts = λ other less. elim (eqb_tells other due.hart) [ inl h ↦ same other h.1 | inr h ↦ apart other less h.1 ];
+      met_few = clock.met_few;
+    }
+  where
+    apart : (other : ℕ) → other < length new.state.harts → other ≢ due.hart → IsNext period (hart_of new.state other).retired (get_or next other 0)
+    apart other less ne =
+        let was : IsNext period (hart_of old.state other).retired (get_or next other 0) = clock.nexts other (omega (arith, went.harts)) in
+        subst (λ (n : ℕ). IsNext period n (get_or next other 0)) (sym (went.others other ne)) was
+
+    same : (other : ℕ) → other ≡ due.hart → IsNext period (hart_of new.state other).retired (get_or next other 0)
+    same other e =
+        let was : IsNext period (hart_of old.state due.hart).retired (get_or next due.hart 0) = clock.nexts due.hart within in
+        subst (λ (h : ℕ). IsNext period (hart_of new.state h).retired (get_or next h 0)) (sym e)
+        (record { multiple = was.multiple; above = omega (arith, is, at, was.above, went.few); least = omega (arith, was.least, went.least) })
+
+pub word-fits : (n : ℕ) → n < 2 ^ 32 → Fits w32 n
+word-fits n less = search rules

@@ -1,5 +1,5 @@
 -- What a clock gives of the samples of a run that is under way.
-use Rattle.std.specs.Prelude.{◌≡◌, ℕ, ◌+◌, ◌≤◌, ◌<◌, ◌%◌, ◌⊎◌, true, Bool, List, [], ◌∷◌, length, slice_index, filter, Option, Some, None, Result, Ok, Err}
+use Rattle.std.specs.Prelude.{◌≡◌, ℕ, ◌+◌, ◌≤◌, ◌<◌, ◌%◌, ◌^◌, ◌⊎◌, true, Bool, List, [], ◌∷◌, length, slice_index, filter, Option, Some, None, Result, Ok, Err}
 use Rattle.prof_bytes.specs.declared.fail.Fail.{Fail}
 use Rattle.prof_bytes.specs.declared.fail.Fail.TheVariants as fails
 use Rattle.rv_run.specs.State.{hart_of}
@@ -89,6 +89,7 @@ pub record IsNext (period retired next : ℕ) : Type 0 where
 
 pub record IsClock (s : Sampling) (next : List ℕ) : Type 0 where
   pub some : 0 < s.period
+  pub fits : s.period < 2 ^ 32
   pub harts : length s.machine.state.harts ≤ length next
   pub nexts : (hart : ℕ) → hart < length s.machine.state.harts → IsNext s.period (hart_of s.machine.state hart).retired (slice_index next hart)
   pub met_few : s.met ≤ most_samples + 1

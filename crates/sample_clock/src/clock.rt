@@ -129,12 +129,11 @@ impl<'a> Samples<'a> {
         let Some(due) = self.machine.due() else {
             return Ok(Came::End);
         };
-        if due.ordinal == self.next[due.hart as usize] {
+        let until = self.next[due.hart as usize] - due.ordinal;
+        if until == 0 {
             return self.sample(&due, unwinder);
         }
-        let Some(_) = self.machine.next()? else {
-            return Ok(Came::End);
-        };
+        self.machine.pass(&due, until as u32)?;
         Ok(Came::Unsampled)
     }
 

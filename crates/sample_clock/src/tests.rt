@@ -80,7 +80,11 @@ const SAMPLED: [(&[u32], &[u8], u32, &[(u32, u64, u32, u32)]); 6] = [
         &[0x0005_0463, 0, 0x05d0_0893, 0x0000_0073],
         b"harts 2\n0 9\n1 9",
         1,
-        &[(0, 1, 0x1_0000, 0), (0, 2, 0x1_0008, 0), (1, 1, 0x1_0000, 1)],
+        &[
+            (0, 1, 0x1_0000, 0),
+            (0, 2, 0x1_0008, 0),
+            (1, 1, 0x1_0000, 1),
+        ],
     ),
     // The third instruction is an exit: it does not retire, and is not sampled.
     (
@@ -116,10 +120,20 @@ fn samples_in_their_order(rt: HostRuntime) -> Result<(), Failed> {
                 assert!(rt; false, "{text:?} lacks a sample");
                 continue;
             };
-            assert_eq!(rt; (sample.hart, sample.ordinal), (*hart, *ordinal), "{text:?}");
-            assert_eq!(rt; sample.path.frames(), &[Frame { pc: *pc }, Frame { pc: *x10 }]);
+            assert_eq!(rt;
+                (sample.hart, sample.ordinal),
+                (*hart, *ordinal),
+                "{text:?}"
+            );
+            assert_eq!(rt;
+                sample.path.frames(),
+                &[Frame { pc: *pc }, Frame { pc: *x10 }]
+            );
         }
-        assert!(rt; samples.next(&probe)?.is_none(), "{text:?} has another sample");
+        assert!(rt;
+            samples.next(&probe)?.is_none(),
+            "{text:?} has another sample"
+        );
         assert!(rt; samples.machine().due().is_none(), "{text:?} has not ended");
     }
     Ok(())

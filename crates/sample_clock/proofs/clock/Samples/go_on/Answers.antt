@@ -1,15 +1,18 @@
-use Rattle.std.proofs.Common.{◌≡◌, ◌<◌, ℕ, Option, Some, length, sym, ap, subst, ◌∙◌}
-use Rattle.rv_run.specs.declared.machine.Moment.{Moment}
-use Rattle.rv_run.specs.Told.{Went, first_due, to_come}
+use Rattle.std.proofs.Common.{◌≡◌, ◌+◌, ◌-◌, ◌^◌, ◌<◌, ◌≤◌, ℕ, length, get_or, refl, sym, ap, subst, ◌∙◌, arith}
+use Rattle.rv_run.specs.State.{hart_of}
 use Rattle.sample_clock.specs.Clock.{Sampling, CameUnsampled}
-use Rattle.sample_clock.proofs.Meeting.{came-other}
+use Rattle.sample_clock.proofs.Meeting.{came-passed, due-below, word-fits}
 use Rattle.sample_clock.proofs.clock.Samples.go_on.Goals as goal
+
+pub overflow_cast-until-2 : goal.overflow_cast-until-2
+overflow_cast-until-2 g c =
+    let next : ℕ = get_or c.self.inside.next c.in-Some.due.hart 0 in
+    let below : (c.in-Some.due.ordinal ≤ get_or c.self.inside.next c.in-Some.due.hart 0) × (get_or c.self.inside.next c.in-Some.due.hart 0 < c.in-Some.due.ordinal + c.self.inside.period) =
+    due-below c.self.inside.period c.self.inside.met c.self.inside.machine c.self.inside.next c.in-Some.due c.self.invariant c.in-Some.ensures.ordinal c.in-Some.ensures.hart in
+    word-fits (get_or c.self.inside.next c.in-Some.due.hart 0 - c.in-Some.due.ordinal) (omega (arith, below.0, below.1, c.self.invariant.fits))
 
 pub returns : goal.returns
 returns g c =
-    subst (λ (s : Sampling). CameUnsampled s (record { machine = c.next.new.self; period = c.self.inside.period; met = c.self.inside.met })) c.self.view_is
-    (came-other c.self.inside.period c.self.inside.met c.self.inside.machine c.next.new.self c.self.inside.next c.in-Some.due c.in-Some-2.field-0 c.self.invariant
-    (sym c.in-Some.is ∙ c.due.ensures.due)
-    (subst (λ (m : Option Moment). Went m c.self.inside.machine c.next.new.self) c.in-Some-2.is c.in_ok-next.ensures.ok)
-    c.in-Some.ensures.hart
-    c.if-due-self.false)
+    subst (λ (s : Sampling). CameUnsampled s (record { machine = c.pass.new.self; period = c.self.inside.period; met = c.self.inside.met })) c.self.view_is
+    (came-passed c.self.inside.period c.self.inside.met (get_or c.self.inside.next c.in-Some.due.hart 0 - c.in-Some.due.ordinal) c.self.inside.machine c.pass.new.self c.self.inside.next c.in-Some.due c.self.invariant
+    c.in-Some.ensures.ordinal c.in-Some.ensures.hart refl (omega arith) c.in_ok-pass.ensures.ok)
