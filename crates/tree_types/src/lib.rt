@@ -27,6 +27,3 @@ pub use named::{files_of, procs_of};
 pub use plain::{node_list_of, nodes_of, own_scope_of, rest_after, value_of};
 pub use planes::{ContextPlane, ProfilePlane};
 pub use values::{column_of, context_column_of};
-
-#[cfg(test)]
-mod tests;
