@@ -1,6 +1,6 @@
 -- What is known of a file whose headers were checked.
-use Rattle.std.proofs.Common.{◌≡◌, ℕ, zero, suc, ◌+◌, ◌*◌, ◌<◌, ◌≤◌, Bool, true, false, cond, not, List, [], ◌∷◌, length, get_or, map, Option, Some, None, Result, Ok, Err, refl, sym, ap, subst, ◌∙◌, arith, lit<}
-use Rattle.std.specs.Prelude.{find, option_map, ◌||◌, ◌==◌, nat_le, ◌&&◌}
+use Rattle.std.proofs.Common.{◌≡◌, ℕ, zero, suc, ◌+◌, ◌*◌, ◌<◌, ◌≤◌, Bool, true, false, cond, not, List, [], ◌∷◌, length, get_or, Option, Some, None, Result, Ok, refl, subst, arith, lit<}
+use Rattle.std.specs.Prelude.{find, option_map, ◌==◌, ◌&&◌}
 use Rattle.std.proofs.lemmas.Bool.Decides.{nat_tests}
 use Rattle.prof_bytes.specs.Outcome.{◌>>=◌}
 use Rattle.elf_image.specs.declared.header.SectionHeader.{SectionHeader}
@@ -9,7 +9,7 @@ use Rattle.elf_image.specs.declared.fault.ElfRule.{ElfRule}
 use Rattle.elf_image.specs.declared.fault.ElfRule.TheVariants.{NotElf, NotRiscv32Exec, CompressedCode, HeaderPlace, SectionPlace}
 use Rattle.elf_image.specs.Fields.{lies_within}
 use Rattle.elf_image.specs.Headers.{phoff, phnum, shoff, shnum, section_headers, symbol_table, has_bytes}
-use Rattle.elf_image.specs.Refusals.{first_of, not_elf, not_riscv32_exec, compressed_code, header_tests, header_place, outside}
+use Rattle.elf_image.specs.Refusals.{not_elf, not_riscv32_exec, compressed_code, header_tests, header_place, outside}
 use Rattle.elf_image.specs.Reading.{refused_at, header_of, sections_of}
 use Rattle.elf_image.proofs.Tables.{cond_none}
 

@@ -1,12 +1,11 @@
 -- Where the first 0 byte stands: in the block of a place, or behind it.
-use Rattle.std.proofs.Common.{◌≡◌, ℕ, zero, suc, ◌+◌, ◌-◌, ◌*◌, ◌/◌, ◌<◌, ◌≤◌, Bool, true, false, cond, not, min, List, [], ◌∷◌, length, get_or, take, drop, Option, Some, None, refl, sym, ap, ◌∙◌, arith, add-one, length-take, length-drop, inl, inr}
-use Rattle.std.specs.Prelude.{position, option_map, ◌==◌, nat_lt}
+use Rattle.std.proofs.Common.{◌≡◌, ℕ, zero, suc, ◌+◌, ◌-◌, ◌<◌, ◌≤◌, Bool, true, false, cond, not, List, [], ◌∷◌, length, get_or, take, drop, Some, None, refl, ap, arith, length-take, length-drop}
+use Rattle.std.specs.Prelude.{nat_lt}
 use Rattle.std.specs.List.{position_or_len}
-use Rattle.std.proofs.lemmas.Bool.{cases_lt}
 use Rattle.std.proofs.lemmas.Bool.Decides.{nat_tests}
 use Rattle.std.proofs.lemmas.List.{drop_all}
 use Rattle.elf_image.specs.Fields.{is_zero, text_in}
-use Rattle.elf_image.specs.Texts.{first_zero, block, blocks}
+use Rattle.elf_image.specs.Texts.{first_zero}
 
 pub pol_at : {X : Type 0} (p : X → Bool) (xs : List X) (k : ℕ) (d : X) → position_or_len p (take k xs) ≡ k → k < length xs → p (get_or xs k d) ≡ true → position_or_len p xs ≡ k
 pol_at p [] k d e lt passes = absurd (omega arith)

@@ -1,7 +1,6 @@
 pub mod Tables
 pub mod Checked
 pub mod LoadHeaders
-pub mod Steps
 pub mod Counted
 pub mod Shared
 pub mod Ends

@@ -1,17 +1,16 @@
 -- Segments whose headers were checked are not empty, lie below the stacks and share no address.
-use Rattle.std.proofs.Common.{inl, inr, ◌^◌, ◌≡◌, ℕ, zero, suc, ◌+◌, ◌-◌, ◌*◌, ◌<◌, ◌≤◌, Bool, true, false, cond, not, List, [], ◌∷◌, length, get_or, map, Option, None, Result, Ok, Err, refl, sym, ap, subst, ◌∙◌, arith}
-use Rattle.std.specs.Prelude.{filter, All, AllPairs, IsTrue, ◌||◌, ◌&&◌, nat_lt, nat_le, ◌==◌}
+use Rattle.std.proofs.Common.{inl, inr, ◌^◌, ◌≡◌, ℕ, zero, suc, ◌+◌, ◌*◌, ◌<◌, ◌≤◌, Bool, true, false, cond, not, List, [], ◌∷◌, length, get_or, map, None, Result, Ok, Err, refl, arith}
+use Rattle.std.specs.Prelude.{filter, All, AllPairs, IsTrue, ◌||◌, ◌&&◌, nat_lt}
 use Rattle.std.specs.List.{list_any, range_with_len}
 use Rattle.std.proofs.lemmas.Bool.{cases_lt}
 use Rattle.std.proofs.lemmas.Bool.Decides.{nat_tests}
 use Rattle.std.proofs.lemmas.List.{get_or-map, length-map}
 use Rattle.std.proofs.lemmas.List.FromFn.{length-map-range_with_len}
 use Rattle.elf_image.specs.declared.header.ProgramHeader.{ProgramHeader}
-use Rattle.elf_image.specs.declared.part.Segment.{Segment}
 use Rattle.prof_bytes.specs.Outcome.{◌>>=◌}
 use Rattle.elf_image.specs.declared.fault.ElfFault.{ElfFault}
 use Rattle.elf_image.specs.declared.fault.ElfRule.TheVariants.{SegmentPlace}
-use Rattle.elf_image.specs.Fields.{lies_within, table_of}
+use Rattle.elf_image.specs.Fields.{lies_within}
 use Rattle.elf_image.specs.Image.{IsWithin, are_apart, stacks_begin}
 use Rattle.elf_image.specs.Headers.{program_header_at, phoff, phnum, program_headers, is_load, loads, segment_of, segments}
 use Rattle.elf_image.specs.Refusals.{share, shares_earlier, overfilled, unfilled, too_high, shared}

@@ -1,21 +1,19 @@
 -- A segment shares an address with an earlier one exactly where it is not the first that holds each of its addresses.
-use Rattle.std.proofs.Common.{◌≡◌, ℕ, zero, suc, ◌+◌, ◌-◌, ◌<◌, ◌≤◌, ◌≢◌, Bool, true, false, cond, not, max, List, [], ◌∷◌, length, get_or, take, map, Option, Some, None, refl, sym, ap, subst, ◌∙◌, arith, inl, inr}
-use Rattle.std.specs.Prelude.{find, position, All, AllPairs, MatchBool, ◌&&◌, nat_lt, nat_le, ◌⊎◌}
-use Rattle.std.specs.List.{list_any, position_from}
+use Rattle.std.proofs.Common.{◌≡◌, ℕ, zero, suc, ◌+◌, ◌-◌, ◌<◌, ◌≤◌, ◌≢◌, Bool, true, false, cond, not, max, List, [], ◌∷◌, length, get_or, map, Some, refl, sym, ap, ◌∙◌, arith, inl, inr}
+use Rattle.std.specs.Prelude.{position, All, AllPairs, MatchBool, ◌&&◌, nat_lt}
+use Rattle.std.specs.List.{position_from}
 use Rattle.std.proofs.lemmas.Bool.{cases_lt}
 use Rattle.std.proofs.lemmas.Bool.Decides.{nat_tests}
-use Rattle.std.proofs.lemmas.List.{get_or-map, length-map, get_or_default}
+use Rattle.std.proofs.lemmas.List.{get_or_default}
 use Rattle.std.proofs.lemmas.List.Folds.{list_any_at, list_any_none}
 use Rattle.std.proofs.lemmas.Iterator.Adapters.{position_from-zero}
 use Rattle.elf_image.specs.declared.header.ProgramHeader.{ProgramHeader}
-use Rattle.elf_image.specs.declared.part.Segment.{Segment}
-use Rattle.elf_image.specs.declared.ranges.AddressRange.{AddressRange}
-use Rattle.elf_image.specs.Ranges.{holds, IsFirst, IsNotFirst}
+use Rattle.address_ranges.specs.Ranges.{holds, IsFirst, IsNotFirst}
 use Rattle.elf_image.specs.Image.{range_of}
 use Rattle.elf_image.specs.Headers.{segment_of}
 use Rattle.elf_image.specs.Refusals.{share, shares_earlier}
 use Rattle.elf_image.proofs.Counted.{not_true}
-use Rattle.elf_image.proofs.Tables.{position_map}
+use Rattle.address_ranges.proofs.Places.{position_map}
 
 some_same : (a b : ℕ) → Some a ≡ Some b → a ≡ b
 some_same a b e = cc

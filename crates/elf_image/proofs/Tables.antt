@@ -1,11 +1,8 @@
 -- Tables of entries that stand one behind the other, as they are read.
 use Rattle.std.proofs.Common.{◌≡◌, ℕ, zero, suc, ◌+◌, ◌<◌, ◌≤◌, inl, inr, Bool, true, false, cond, List, [], ◌∷◌, ◌++◌, length, take, get_or, map, Option, Some, None, refl, sym, ap, ◌∙◌, arith}
-use Rattle.std.specs.Prelude.{find, filter, option_map, position, slice_get, nat_lt}
+use Rattle.std.specs.Prelude.{All, IfSome, find, filter, option_map, position, slice_get, nat_lt}
 use Rattle.std.specs.Option.{option_and_then}
-use Rattle.std.specs.List.{range_with_len, position_from, position_or_len}
-use Rattle.std.proofs.lemmas.Bool.Decides.{leb_tells}
-use Rattle.std.proofs.lemmas.List.Folds.{find_at as find_at_place}
-use Rattle.std.proofs.lemmas.Iterator.Adapters.{position_from-zero}
+use Rattle.std.specs.List.{range_with_len}
 use Rattle.std.proofs.lemmas.List.{map_push, append-nil, take_more}
 use Rattle.std.proofs.lemmas.List.FromFn.{map-range_with_len_more, take-map-range_with_len, get_or-map-range_with_len, length-map-range_with_len, filter_of_map_range_with_len_more}
 
@@ -82,31 +79,7 @@ find_map {X} {Y} p f (x ∷ xs) = go (p (f x)) (find_map p f xs)
     go true rest = refl
     go false rest = rest
 
--- ---- the first element, by its index
-
-slice_get_past : {X : Type 0} (xs : List X) (i : ℕ) → length xs ≤ i → slice_get xs i ≡ None
-slice_get_past [] i le = refl
-slice_get_past (x ∷ xs) zero le = absurd (omega arith)
-slice_get_past (x ∷ xs) (suc i) le = slice_get_past xs i (omega arith)
-
-pub find_of_place : {X : Type 0} (p : X → Bool) (xs : List X) → find p xs ≡ option_and_then (λ i. slice_get xs i) (position p xs)
-find_of_place {X} p xs = go (position_or_len p xs) (find_at_place p xs)
-  where
-    go : (i : ℕ) → find p xs ≡ slice_get xs i → find p xs ≡ option_and_then (λ i. slice_get xs i) (cond (nat_lt i (length xs)) (Some i) None)
-    go i e = elim (leb_tells (suc i) (length xs)) [
-      | inl lt ↦ rw lt.0 e
-      | inr ge ↦ rw ge.0 (e ∙ slice_get_past xs i (let le : length xs < suc i = ge.1 in omega arith))
-    ]
-
--- a test of what the elements give finds them at the same places
-pub position_map : {X Y : Type 0} (p : Y → Bool) (f : X → Y) (i : ℕ) (xs : List X) → position_from p i (map f xs) ≡ position_from (λ x. p (f x)) i xs
-position_map p f i [] = refl
-position_map p f i (x ∷ xs) = ap (λ (o : Option ℕ). cond (p (f x)) (Some i) o) (position_map p f (i + 1) xs)
-
-pub find_by_table : {X Y : Type 0} (p : Y → Bool) (f : X → Y) (xs : List X) → find (λ x. p (f x)) xs ≡ option_and_then (λ i. slice_get xs i) (position p (map f xs))
-find_by_table p f xs =
-    find_of_place (λ x. p (f x)) xs ∙ ap (λ (o : Option ℕ). option_and_then (λ i. slice_get xs i) o)
-    (position_from-zero (λ x. p (f x)) xs ∙ sym (position_map p f 0 xs) ∙ sym (position_from-zero p (map f xs)))
+-- ---- elements by their index
 
 slice_get_of_map : {X Y : Type 0} (f : X → Y) (xs : List X) (i : ℕ) → option_map f (slice_get xs i) ≡ slice_get (map f xs) i
 slice_get_of_map f [] i = refl
@@ -120,3 +93,14 @@ slice_get_map f xs (Some i) = slice_get_of_map f xs i
 pub find_take_more : {X : Type 0} (p : X → Bool) (xs : List X) (k : ℕ) (d : X) → find p (take k xs) ≡ None → k < length xs → p (get_or xs k d) ≡ false → find p (take (k + 1) xs) ≡ None
 find_take_more {X} p xs k d none lt fails =
     ap (λ (zs : List X). find p zs) (take_more xs k d lt) ∙ find_past p (take k xs) (get_or xs k d ∷ []) none ∙ rw fails refl
+
+-- ---- what holds of all holds of the one with a number
+
+at_index : {X : Type 0} (P : X → Type 0) (xs : List X) (i : ℕ) → All P xs → IfSome (slice_get xs i) P
+at_index P [] i all = tt
+at_index P (x ∷ xs) zero all = all 0 x (omega arith)
+at_index P (x ∷ xs) (suc i) all = at_index P xs i (λ k d lt. all (suc k) d (omega arith))
+
+pub holds_at : {X : Type 0} (P : X → Type 0) (xs : List X) (o : Option ℕ) → All P xs → IfSome (option_and_then (λ i. slice_get xs i) o) P
+holds_at P xs None all = tt
+holds_at P xs (Some i) all = at_index P xs i all

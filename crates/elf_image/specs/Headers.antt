@@ -1,12 +1,12 @@
 -- The headers of a file and its symbols, each field looked up in the whole file (System V ABI, chapters 4 and 5).
-use Rattle.std.specs.Prelude.{ℕ, ◌+◌, ◌/◌, ◌%◌, ◌==◌, ◌≡◌, Bool, not, ◌&&◌, nat_lt, List, [], filter, map, Option, Some, None, unwrap_or, take, drop, find, if◌then◌else◌, ◌||◌, slice_get}
+use Rattle.std.specs.Prelude.{ℕ, ◌+◌, ◌/◌, ◌%◌, ◌==◌, Bool, not, ◌&&◌, nat_lt, List, [], filter, map, Option, Some, None, unwrap_or, take, drop, find, if◌then◌else◌, slice_get}
 use Rattle.std.specs.Option.{option_map_or}
 use Rattle.elf_image.specs.declared.part.Segment.{Segment}
 use Rattle.elf_image.specs.declared.header.ProgramHeader.{ProgramHeader}
 use Rattle.elf_image.specs.declared.header.SectionHeader.{SectionHeader}
 use Rattle.elf_image.specs.declared.header.Symbol.{Symbol}
 use Rattle.elf_image.specs.Fields.{byte_at, half_at, word_at, table_of, text_in}
-use Rattle.elf_image.specs.Image.{Named, Called, Loaded, counts}
+use Rattle.elf_image.specs.Image.{Named, Called, counts}
 
 -- a program header of 32 bytes
 abbrev pub program_header_at : List ℕ → ℕ → ProgramHeader

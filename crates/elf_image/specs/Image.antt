@@ -1,10 +1,10 @@
 -- What a program's file gives to be run and measured.
-use Rattle.std.specs.Prelude.{◌≡◌, ℕ, ◌+◌, ◌-◌, ◌*◌, ◌%◌, ◌^◌, ◌<◌, ◌≤◌, ◌==◌, IsTrue, List, [], length, All, AllPairs, Bool, ◌||◌, ◌&&◌, nat_le, nat_lt, find}
+use Rattle.std.specs.Prelude.{◌≡◌, ℕ, ◌+◌, ◌-◌, ◌*◌, ◌%◌, ◌^◌, ◌<◌, ◌≤◌, ◌==◌, IsTrue, List, [], length, All, AllPairs, Bool, ◌||◌, ◌&&◌, nat_le, nat_lt, find, map}
 use Rattle.std.specs.List.{list_any}
 use Rattle.std.specs.Option.{option_map_or}
 use Rattle.elf_image.specs.Fields.{same_bytes}
-use Rattle.elf_image.specs.Ranges.{holds}
-use Rattle.elf_image.specs.declared.ranges.AddressRange.{AddressRange}
+use Rattle.address_ranges.specs.Ranges.{holds}
+use Rattle.address_ranges.specs.declared.ranges.AddressRange.{AddressRange}
 use Rattle.elf_image.specs.declared.part.Segment.{Segment}
 use Rattle.elf_image.specs.declared.part.Function.{Function}
 use Rattle.elf_image.specs.declared.part.Section.{Section}
@@ -51,6 +51,11 @@ in_segment address s = holds address (range_of s)
 
 abbrev pub in_function : ℕ → Called → Bool
 in_function address f = holds address (function_range f)
+
+-- the function symbols of a program as the code keeps them, with a table of their ranges
+pub record AreFunctions (functions : List Function) (ranges : List AddressRange) : Type 0 where
+  pub table : ranges ≡ map function_range (map called functions)
+  pub low : All (λ f. f.start + f.size < 2 ^ 32) functions
 
 abbrev pub is_executable : Segment → Bool
 is_executable s = s.flags % 2 == 1

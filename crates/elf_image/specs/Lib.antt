@@ -1,6 +1,5 @@
 pub mod Fields
 pub mod Texts
-pub mod Ranges
 pub mod Image
 pub mod Headers
 pub mod Refusals

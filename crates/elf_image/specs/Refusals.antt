@@ -1,14 +1,13 @@
 -- What is refused in a file: for each rule the offset of the first place at which it is broken, if there is one. Within a rule each test is
 -- made of all headers, in file order, before the next one.
-use Rattle.std.specs.Prelude.{ℕ, ◌+◌, ◌*◌, ◌%◌, ◌/◌, ◌==◌, Bool, false, not, ◌&&◌, ◌||◌, nat_lt, nat_le, List, [], ◌∷◌, length, find, Option, Some, None, option_map, is_none, slice_get, if◌then◌else◌, codes}
+use Rattle.std.specs.Prelude.{ℕ, ◌+◌, ◌*◌, ◌%◌, ◌/◌, ◌==◌, Bool, false, not, ◌&&◌, nat_lt, nat_le, List, [], ◌∷◌, length, find, Option, Some, None, option_map, is_none, slice_get, codes}
 use Rattle.std.specs.List.{list_any}
-use Rattle.std.specs.Option.{option_or, option_map_or}
+use Rattle.std.specs.Option.{option_map_or}
 use Rattle.elf_image.specs.declared.header.ProgramHeader.{ProgramHeader}
 use Rattle.elf_image.specs.declared.header.SectionHeader.{SectionHeader}
-use Rattle.elf_image.specs.declared.header.Symbol.{Symbol}
 use Rattle.elf_image.specs.Fields.{byte_at, half_at, word_at, lies_within, same_bytes}
 use Rattle.elf_image.specs.Image.{stacks_begin}
-use Rattle.elf_image.specs.Headers.{phoff, phnum, shoff, shnum, shstrndx, program_headers, section_headers, loads, segments, is_section, has_bytes, name_of, symbol_table, symbols_of, is_function, symbol_name}
+use Rattle.elf_image.specs.Headers.{phoff, phnum, shoff, shnum, shstrndx, section_headers, segments, is_section, has_bytes, name_of, symbols_of, is_function, symbol_name}
 
 -- the offset of the first test that holds
 abbrev pub first_of : List (Bool × ℕ) → Option ℕ

@@ -1,5 +1,5 @@
 -- Where texts end: the first 0 byte from each block of a section on.
-use Rattle.std.specs.Prelude.{◌≡◌, ℕ, ◌+◌, ◌-◌, ◌*◌, ◌/◌, ◌<◌, ◌≤◌, List, length, drop, slice_index}
+use Rattle.std.specs.Prelude.{◌≡◌, ℕ, ◌+◌, ◌-◌, ◌*◌, ◌/◌, ◌<◌, List, length, drop, slice_index}
 use Rattle.std.specs.List.{position_or_len}
 use Rattle.elf_image.specs.Fields.{is_zero}
 

@@ -1,10 +1,10 @@
 //! The function symbols of a program, and which of them is the first that holds an address.
-ghost use Rattle.std.specs.Prelude.{◌≡◌, ◌+◌, ◌<◌, ◌^◌, IfOk, All, length, map, find, option_map, slice_get};
+ghost use Rattle.std.specs.Prelude.{◌≡◌, ◌+◌, ◌<◌, ◌^◌, IfOk, IfSome, All, length, map, find, option_map, slice_get};
 ghost use Rattle.std.specs.Option.{option_and_then};
 ghost use Rattle.elf_image.specs.Image.{called, function_range, in_function};
 
 use crate::part::Function;
-use crate::ranges::{AddressRange, FirstRange};
+use address_ranges::{AddressRange, FirstRange};
 use prof_bytes::Memory;
 use std::alloc::Global;
 use std::marker::Model;
@@ -16,14 +16,14 @@ pub(crate) struct Functions<'a> {
 }
 
 impl<'a> Model for Functions<'a> {
-    ghost use Rattle.std.specs.Prelude.{◌≡◌, List, map};
-    ghost use Rattle.elf_image.specs.Image.{Called, called, function_range};
+    ghost use Rattle.std.specs.Prelude.{List, map};
+    ghost use Rattle.elf_image.specs.Image.{Called, called, AreFunctions};
 
     ghost Value = { List Called };
 
     ghost view = { λ functions. map called functions.items.items };
 
-    ghost invariant = { λ functions. functions.table ≡ map function_range (map called functions.items.items) };
+    ghost invariant = { λ functions. AreFunctions functions.items.items functions.table };
 }
 
 fn ranges_of(alloc: Global, functions: &[Function<'_>]) -> Result<Vec<AddressRange>, Memory>
@@ -67,7 +67,8 @@ impl<'a> Functions<'a> {
 
     /// The first function symbol that holds the address.
     pub(crate) fn at(&self, address: u32) -> Option<Function<'a>>
-        ensures { option_map called result ≡ find (in_function address) self.now }
+        ensures function { option_map called result ≡ find (in_function address) self.now }
+        ensures low { IfSome result (λ f. f.start + f.size < 2 ^ 32) }
     {
         function_of_index(&self.items, self.table.first(address))
     }

@@ -1,4 +1,4 @@
-ghost use Rattle.std.specs.Prelude.{◌≡◌, ◌+◌, ◌≤◌, ◌<◌, ◌^◌, ◌&&◌, IfOk, Ok, nat_le, nat_lt, length, find, map, option_map, All, AllPairs, IsTrue};
+ghost use Rattle.std.specs.Prelude.{◌≡◌, ◌+◌, ◌≤◌, ◌<◌, ◌^◌, ◌&&◌, IfOk, IfSome, Ok, nat_le, nat_lt, length, find, map, option_map, All, AllPairs, IsTrue};
 ghost use Rattle.std.specs.List.{list_any};
 ghost use Rattle.std.specs.Option.{option_copied};
 ghost use Rattle.elf_image.specs.Fields.{same_bytes};
@@ -146,9 +146,10 @@ impl<'a> Image<'a> {
     }
 
     /// The first function symbol, in symbol order, that holds the address. Takes no memory, and time
-    /// as the logarithm of the number of symbols.
+    /// as the logarithm of the number of symbols. Its end is below 2^32.
     pub fn function_at(&self, pc: u32) -> Option<Function<'a>>
-        ensures { option_map called result ≡ find (in_function pc) self.now.functions }
+        ensures function { option_map called result ≡ find (in_function pc) self.now.functions }
+        ensures low { IfSome result (λ f. f.start + f.size < 2 ^ 32) }
     {
         self.functions.at(pc)
     }

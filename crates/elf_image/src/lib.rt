@@ -2,7 +2,7 @@
 //!
 //! It promises that an image is exactly what the file's header fields say: segments, sections,
 //! function symbols and the entry; or else the first refusal, with its offset. Ranges of addresses
-//! are looked up by halving. Below stand `prof_bytes` and `byteorder`.
+//! are looked up by halving. Below stand `address_ranges`, `prof_bytes` and `byteorder`.
 #![tactic(auto)]
 
 mod debug_parts;
@@ -13,17 +13,16 @@ mod header;
 mod image;
 mod part;
 mod program;
-mod ranges;
 mod section;
 mod segments;
 mod symbol;
 mod texts;
 
+pub use address_ranges::{AddressRange, FirstRange};
 pub use debug_parts::DebugParts;
 pub use fault::{ElfFault, ElfRule};
 pub use image::{Image, read_image};
 pub use part::{Function, Segment};
-pub use ranges::{AddressRange, FirstRange};
 
 #[cfg(test)]
 mod tests;

@@ -10,8 +10,8 @@ use crate::fault::{ElfFault, ElfRule, refuse};
 use crate::field::lies_within;
 use crate::header::{ProgramHeader, program_headers};
 use crate::part::Segment;
-use crate::ranges::AddressRange;
 use crate::segments::Segments;
+use address_ranges::AddressRange;
 use prof_bytes::{Fail, Memory};
 use std::alloc::Global;
 

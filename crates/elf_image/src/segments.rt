@@ -1,11 +1,11 @@
 //! The segments of a program, and which of them holds an address.
 ghost use Rattle.std.specs.Prelude.{◌≡◌, ◌+◌, ◌<◌, ◌^◌, ◌&&◌, IfOk, IsTrue, MatchBool, AllPairs, nat_le, length, map, find, slice_get};
 ghost use Rattle.std.specs.Option.{option_and_then};
-ghost use Rattle.elf_image.specs.Ranges.{IsFirst, IsNotFirst};
+ghost use Rattle.address_ranges.specs.Ranges.{IsFirst, IsNotFirst};
 ghost use Rattle.elf_image.specs.Image.{range_of, in_segment, is_executable, are_apart, counts};
 
 use crate::part::Segment;
-use crate::ranges::{AddressRange, FirstRange};
+use address_ranges::{AddressRange, FirstRange};
 use prof_bytes::Memory;
 use std::alloc::Global;
 use std::marker::Model;

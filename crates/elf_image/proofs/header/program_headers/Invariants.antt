@@ -1,6 +1,6 @@
 use Rattle.std.proofs.Common.{◌≡◌, ◌+◌, ◌*◌, map}
 use Rattle.std.specs.List.{range_with_len}
-use Rattle.elf_image.specs.Headers.{phoff, program_header_at}
+use Rattle.elf_image.specs.Headers.{program_header_at}
 use Rattle.elf_image.proofs.header.program_headers.Given as goal
 
 abbrev pub invariant-loop-k : goal.invariant-loop-k

@@ -1,4 +1,4 @@
-use Rattle.std.proofs.Common.{◌≡◌, ap, ◌∙◌, refl, sym, List, ℕ, [], Option, map}
+use Rattle.std.proofs.Common.{◌≡◌, ap, ◌∙◌, sym, List, ℕ, [], Option, map}
 use Rattle.std.specs.Prelude.{find, option_map}
 use Rattle.std.specs.Option.{option_map_or}
 use Rattle.elf_image.specs.declared.part.Section.{Section}

@@ -1,10 +1,5 @@
-use Rattle.std.proofs.Common.{◌≡◌, ℕ, ◌+◌, Bool, true, false, not, List, length, get_or, take, map, Option, Some, ap, refl, sym, subst, ◌∙◌, arith}
-use Rattle.std.specs.Prelude.{find, option_map, MatchBool}
+use Rattle.std.proofs.Common.{not, ap, refl, ◌∙◌}
 use Rattle.elf_image.specs.declared.header.ProgramHeader.{ProgramHeader}
-use Rattle.elf_image.specs.declared.part.Segment.{Segment}
-use Rattle.elf_image.specs.Ranges.{IsFirst, IsNotFirst}
-use Rattle.elf_image.specs.Image.{range_of}
-use Rattle.elf_image.specs.Headers.{segment_of}
 use Rattle.elf_image.specs.Refusals.{shares_earlier, shared}
 use Rattle.elf_image.proofs.Tables.{find_at, find_take_more}
 use Rattle.elf_image.proofs.Shared.{alone}

@@ -1,5 +1,4 @@
-use Rattle.std.proofs.Common.{◌+◌, ◌*◌, ◌<◌, ◌^◌, ◌≡◌, List, ◌∷◌, ◌++◌, [], length, ap, refl, sym, ◌∙◌, arith, length-append}
-use Rattle.std.specs.Prelude.{All}
+use Rattle.std.proofs.Common.{◌+◌, ◌*◌, ◌<◌, ◌^◌, ◌≡◌, ap, refl, sym, ◌∙◌, arith}
 use Rattle.std.proofs.lemmas.List.Elements.{All-push}
 use Rattle.elf_image.specs.declared.part.Function.{Function}
 use Rattle.elf_image.specs.declared.header.Symbol.{Symbol}

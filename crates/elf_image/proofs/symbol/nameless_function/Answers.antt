@@ -1,6 +1,5 @@
-use Rattle.std.proofs.Common.{◌+◌, ◌*◌, ◌/◌, ◌&&◌, ap, ◌∙◌, sym, refl}
-use Rattle.std.specs.Prelude.{is_none, option_map}
-use Rattle.elf_image.specs.declared.header.Symbol.{Symbol}
+use Rattle.std.proofs.Common.{◌+◌, ◌*◌, ◌/◌, ◌&&◌, ◌∙◌, sym, refl}
+use Rattle.std.specs.Prelude.{is_none}
 use Rattle.elf_image.specs.Fields.{text_in}
 use Rattle.elf_image.specs.Headers.{symbol_at, is_function}
 use Rattle.elf_image.specs.Refusals.{nameless_function}

@@ -1,4 +1,4 @@
-use Rattle.std.proofs.Common.{◌≡◌, ◌+◌, ◌*◌, ◌&&◌, Option, None}
+use Rattle.std.proofs.Common.{◌≡◌, ◌+◌, ◌*◌, ◌&&◌, None}
 use Rattle.std.specs.Prelude.{find, map, is_none}
 use Rattle.std.specs.List.{range_with_len}
 use Rattle.elf_image.specs.Fields.{text_in}

@@ -1,5 +1,4 @@
-use Rattle.std.proofs.Common.{◌≡◌, ap, ◌∙◌, refl, sym, arith}
-use Rattle.elf_image.specs.Headers.{functions, symbol_table}
+use Rattle.std.proofs.Common.{sym, arith}
 use Rattle.elf_image.proofs.Checked.{table_within}
 use Rattle.elf_image.proofs.symbol.read_functions.Goals as goal
 

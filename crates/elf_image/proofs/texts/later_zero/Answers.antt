@@ -1,5 +1,4 @@
-use Rattle.std.proofs.Common.{◌≡◌, ℕ, ◌+◌, ◌*◌, ◌/◌, ◌≤◌, length, min, arith}
-use Rattle.elf_image.specs.Texts.{block}
+use Rattle.std.proofs.Common.{arith}
 use Rattle.elf_image.proofs.Ends.{zero_at_end}
 use Rattle.elf_image.proofs.texts.later_zero.Goals as goal
 

@@ -1,5 +1,4 @@
-use Rattle.std.proofs.Common.{◌≡◌, sym, true, arith}
-use Rattle.std.specs.Prelude.{◌==◌}
+use Rattle.std.proofs.Common.{sym, arith}
 use Rattle.std.proofs.lemmas.Bool.Decides.{nat_tests}
 use Rattle.elf_image.specs.Fields.{is_zero}
 use Rattle.elf_image.proofs.Ends.{pol_at}

@@ -1,4 +1,4 @@
-use Rattle.std.proofs.Common.{◌≡◌, ◌∙◌, sym, arith}
+use Rattle.std.proofs.Common.{◌∙◌, arith}
 use Rattle.elf_image.proofs.Counted.{some_counts, none_counts}
 use Rattle.elf_image.proofs.segments.Segments.counts.Goals as goal
 

@@ -1,4 +1,3 @@
-use Rattle.std.proofs.Common.{◌≡◌, ◌-◌, arith}
 use Rattle.elf_image.proofs.Ends.{text_is, text_is_not}
 use Rattle.elf_image.proofs.texts.Texts.text_at.Goals as goal
 

@@ -1,8 +1,8 @@
 use Rattle.std.proofs.Common.{◌≡◌, ◌∙◌, sym, ap, ℕ, Option, List}
 use Rattle.std.specs.Prelude.{position}
 use Rattle.std.proofs.lemmas.Iterator.Adapters.{position_from-zero}
-use Rattle.elf_image.specs.Ranges.{holds}
-use Rattle.elf_image.proofs.ranges.FirstRange.first.Goals as goal
+use Rattle.address_ranges.specs.Ranges.{holds}
+use Rattle.address_ranges.proofs.ranges.FirstRange.first.Goals as goal
 
 pub returns : goal.returns
 returns c = rw (c.holder_at.ensures, c.deref.ensures.value, c.self.invariant.holders c.args.address, ← c.self.view_is) (sym (position_from-zero (holds c.args.address) c.self.inside.ranges.items))

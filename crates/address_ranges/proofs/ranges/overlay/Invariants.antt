@@ -1,6 +1,6 @@
 use Rattle.std.proofs.Common.{◌≡◌, ◌+◌, ◌-◌, ◌≤◌, ◌++◌, length, Option, None}
-use Rattle.elf_image.proofs.Steps.{merged}
-use Rattle.elf_image.proofs.ranges.overlay.Given as goal
+use Rattle.address_ranges.proofs.Steps.{merged}
+use Rattle.address_ranges.proofs.ranges.overlay.Given as goal
 
 abbrev pub invariant-loop-start : goal.invariant-loop-start
 invariant-loop-start l = record {

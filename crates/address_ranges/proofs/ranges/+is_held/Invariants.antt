@@ -1,5 +1,5 @@
 use Rattle.std.proofs.Common.{length}
-use Rattle.elf_image.proofs.ranges.+is_held.Given as goal
+use Rattle.address_ranges.proofs.ranges.+is_held.Given as goal
 
 abbrev pub decreases-is_held : goal.decreases-is_held
 decreases-is_held l = length l.steps.now

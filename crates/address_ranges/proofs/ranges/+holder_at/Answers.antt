@@ -1,6 +1,6 @@
 use Rattle.std.proofs.Common.{rules, ◌≡◌, ℕ, ◌+◌, ◌/◌, ◌<◌, length, None, ◌∙◌, sym, arith}
-use Rattle.elf_image.proofs.Steps.{some_steps, take_ascends, front_value, back_whole, back_ascends}
-use Rattle.elf_image.proofs.ranges.+holder_at.Goals as goal
+use Rattle.address_ranges.proofs.Steps.{some_steps, take_ascends, front_value, back_whole, back_ascends}
+use Rattle.address_ranges.proofs.ranges.+holder_at.Goals as goal
 
 pub holder_at-requires : goal.holder_at-requires
 holder_at-requires t c =

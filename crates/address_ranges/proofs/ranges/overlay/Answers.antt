@@ -1,10 +1,10 @@
 use Rattle.std.proofs.Common.{◌≡◌, ℕ, ◌+◌, ◌-◌, ◌≤◌, ◌++◌, List, [], ◌∷◌, length, Option, None, Some, ap, ◌∙◌, refl, sym, subst, arith}
 use Rattle.std.proofs.lemmas.List.{append-nil, length-append}
 use Rattle.std.specs.Option.{option_or}
-use Rattle.elf_image.specs.declared.ranges.Step.{Step}
-use Rattle.elf_image.specs.Ranges.{past, value_at, next_start, IsAscending}
-use Rattle.elf_image.proofs.Steps.{merged, merged_value, merged_ascends, merged_more, merged_end, one_less}
-use Rattle.elf_image.proofs.ranges.overlay.Goals as goal
+use Rattle.address_ranges.specs.declared.ranges.Step.{Step}
+use Rattle.address_ranges.specs.Ranges.{past, value_at, next_start, IsAscending}
+use Rattle.address_ranges.proofs.Steps.{merged, merged_value, merged_ascends, merged_more, merged_end, one_less}
+use Rattle.address_ranges.proofs.ranges.overlay.Goals as goal
 
 -- one turn of the loop, over plain lists
 turn : (start : ℕ) (x y h x' y' : Option ℕ) (xs ys xs' ys' all bll front front' : List Step)

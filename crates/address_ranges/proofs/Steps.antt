@@ -6,9 +6,9 @@ use Rattle.std.specs.List.{position_from}
 use Rattle.std.proofs.lemmas.Bool.{cases_lt, ltb-false, le-ltb}
 use Rattle.std.proofs.lemmas.Bool.Decides.{nat_tests, leb_tells, eqb_tells}
 use Rattle.std.proofs.lemmas.Iterator.Adapters.{position_from-zero}
-use Rattle.elf_image.specs.declared.ranges.AddressRange.{AddressRange}
-use Rattle.elf_image.specs.declared.ranges.Step.{Step}
-use Rattle.elf_image.specs.Ranges.{holds, value_at, IsAscending, IsTableOf, AllHeld, SomeElse, IsFirst, IsNotFirst, next_start, past}
+use Rattle.address_ranges.specs.declared.ranges.AddressRange.{AddressRange}
+use Rattle.address_ranges.specs.declared.ranges.Step.{Step}
+use Rattle.address_ranges.specs.Ranges.{holds, value_at, IsAscending, IsTableOf, AllHeld, SomeElse, IsFirst, IsNotFirst, next_start, past}
 
 pub from_lower : (a b : ℕ) (steps : List Step) → a ≤ b → IsAscending b steps → IsAscending a steps
 from_lower a b [] le up = tt

@@ -1,8 +1,8 @@
-//! Which of many ranges of addresses holds an address: the first of them, found by halving.
+//! Ranges, and tables of steps over them.
 ghost use Rattle.std.specs.Prelude.{◌≡◌, ◌≢◌, ℕ, MatchBool, ◌+◌, ◌<◌, ◌≤◌, ◌^◌, IfOk, Some, None, length, position, if◌then◌else◌};
 ghost use Rattle.std.specs.List.{position_from};
 ghost use Rattle.std.specs.Option.{option_or};
-ghost use Rattle.elf_image.specs.Ranges.{holds, value_at, IsAscending, AllHeld, SomeElse, IsFirst, IsNotFirst, next_start, past};
+ghost use Rattle.address_ranges.specs.Ranges.{holds, value_at, IsAscending, AllHeld, SomeElse, IsFirst, IsNotFirst, next_start, past};
 
 use prof_bytes::Memory;
 use std::alloc::Global;
@@ -33,8 +33,8 @@ pub struct FirstRange {
 
 impl Model for FirstRange {
     ghost use Rattle.std.specs.Prelude.{List};
-    ghost use Rattle.elf_image.specs.declared.ranges.AddressRange.{AddressRange};
-    ghost use Rattle.elf_image.specs.Ranges.{IsTableOf};
+    ghost use Rattle.address_ranges.specs.declared.ranges.AddressRange.{AddressRange};
+    ghost use Rattle.address_ranges.specs.Ranges.{IsTableOf};
 
     ghost Value = { List AddressRange };
 

@@ -3,11 +3,11 @@ use Rattle.std.specs.Prelude.{IfOk}
 use Rattle.std.specs.Global.{Vec}
 use Rattle.std.specs.Option.{option_or}
 use Rattle.std.specs.List.{position_from}
-use Rattle.elf_image.specs.declared.ranges.AddressRange.{AddressRange}
-use Rattle.elf_image.specs.declared.ranges.Step.{Step}
-use Rattle.elf_image.specs.Ranges.{holds, value_at}
-use Rattle.elf_image.proofs.Steps.{position_append}
-use Rattle.elf_image.proofs.ranges.+steps_of.Goals as goal
+use Rattle.address_ranges.specs.declared.ranges.AddressRange.{AddressRange}
+use Rattle.address_ranges.specs.declared.ranges.Step.{Step}
+use Rattle.address_ranges.specs.Ranges.{holds, value_at}
+use Rattle.address_ranges.proofs.Steps.{position_append}
+use Rattle.address_ranges.proofs.ranges.+steps_of.Goals as goal
 
 -- two halves of a list of ranges, laid over one another
 halves : {E : Type 0} (r : Result (Vec Step) E) (upper lower : List Step) (number : ℕ) (front back whole : List AddressRange)

@@ -1,8 +1,8 @@
 -- Ranges of addresses, and steps: a table that says for each address who holds it.
 use Rattle.std.specs.Prelude.{◌≡◌, ◌≢◌, ℕ, ◌+◌, ◌≤◌, ◌<◌, position, ◌&&◌, ◌==◌, Bool, nat_le, nat_lt, min, List, [], ◌∷◌, Option, Some, None, if◌then◌else◌}
 use Rattle.std.specs.List.{position_from}
-use Rattle.elf_image.specs.declared.ranges.AddressRange.{AddressRange}
-use Rattle.elf_image.specs.declared.ranges.Step.{Step}
+use Rattle.address_ranges.specs.declared.ranges.AddressRange.{AddressRange}
+use Rattle.address_ranges.specs.declared.ranges.Step.{Step}
 
 -- from start up to end, without the end itself
 abbrev pub holds : ℕ → AddressRange → Bool

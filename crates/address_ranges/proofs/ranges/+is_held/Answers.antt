@@ -1,6 +1,6 @@
 use Rattle.std.proofs.Common.{rules, ◌≡◌, ℕ, ◌+◌, ◌-◌, ◌/◌, ◌<◌, ◌≤◌, length, get_or, take, drop, true, false, None, ◌∙◌, sym, arith}
-use Rattle.elf_image.proofs.Steps.{some_steps, take_ascends, front_value, back_whole, back_ascends, held_like, held_joined, else_wider}
-use Rattle.elf_image.proofs.ranges.+is_held.Goals as goal
+use Rattle.address_ranges.proofs.Steps.{some_steps, take_ascends, front_value, back_whole, back_ascends, held_like, held_joined, else_wider}
+use Rattle.address_ranges.proofs.ranges.+is_held.Goals as goal
 
 pub is_held-requires : goal.is_held-requires
 is_held-requires t c =

@@ -1,5 +1,5 @@
 use Rattle.std.proofs.Common.{length}
-use Rattle.elf_image.proofs.ranges.+steps_of.Given as goal
+use Rattle.address_ranges.proofs.ranges.+steps_of.Given as goal
 
 abbrev pub decreases-steps_of : goal.decreases-steps_of
 decreases-steps_of l = length l.ranges.now
