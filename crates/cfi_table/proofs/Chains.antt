@@ -1,10 +1,10 @@
 -- A chain of entries, one more at a time.
-use Rattle.std.proofs.Common.{◌≡◌, ℕ, zero, suc, ◌+◌, ◌-◌, ◌≤◌, ◌<◌, Bool, true, false, cond, List, [], ◌∷◌, ◌++◌, length, Option, Some, None, refl, sym, ap, ◌∙◌, append_assoc, arith}
+use Rattle.std.proofs.Common.{◌≡◌, ℕ, zero, suc, ◌+◌, ◌-◌, ◌≤◌, ◌<◌, true, false, List, [], ◌∷◌, ◌++◌, length, Option, Some, None, refl, sym, ap, ◌∙◌, append_assoc, arith}
 use Rattle.std.specs.Prelude.{◌==◌, nat_le}
 use Rattle.std.proofs.lemmas.Bool.Decides.{nat_tests}
 use Rattle.std.proofs.lemmas.List.{append-nil}
 use Rattle.cfi_table.specs.declared.entry.Entry.{Entry}
-use Rattle.cfi_table.specs.Entries.{size_at, entry_of, chained, link, chain, chain_of}
+use Rattle.cfi_table.specs.Entries.{size_at, entry_of, chained, chain, chain_of}
 
 -- entries before those of a chain
 abbrev pub behind : List Entry → List Entry × Option ℕ → List Entry × Option ℕ

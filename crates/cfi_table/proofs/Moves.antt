@@ -1,5 +1,5 @@
 -- Each instruction takes at least one byte, and leaves the bytes as they are.
-use Rattle.std.proofs.Common.{◌≡◌, ℕ, ◌+◌, ◌/◌, ◌%◌, ◌≤◌, ◌<◌, Bool, true, false, cond, List, length, take, drop, Option, Some, None, refl, ap, subst, ◌∙◌, arith}
+use Rattle.std.proofs.Common.{◌≡◌, ℕ, ◌+◌, ◌/◌, ◌%◌, ◌≤◌, ◌<◌, Bool, true, false, cond, List, length, Option, Some, None, refl, subst, ◌∙◌, arith}
 use Rattle.std.specs.Prelude.{IfSome, ◌==◌, nat_lt}
 use Rattle.prof_bytes.specs.Reading.{At, left_of, reading, bytes_at}
 use Rattle.prof_bytes.specs.Number.{number_at, number_in}
@@ -7,7 +7,7 @@ use Rattle.prof_bytes.specs.Leb.{uleb_at, sleb_at}
 use Rattle.cfi_table.specs.declared.instruction.Instruction.{Instruction}
 use Rattle.cfi_table.specs.declared.instruction.Factors.{Factors}
 use Rattle.cfi_table.specs.Taking.{◌>>=◌, taken, byte_from, half_from, word_from, unsigned_from, signed_from, block_from}
-use Rattle.cfi_table.specs.Instructions.{plain, factored, factored_signed, advance, cfa_of, rule_of, has_rule, register_then, other_of, instruction_of, instruction_at}
+use Rattle.cfi_table.specs.Instructions.{plain, factored, factored_signed, cfa_of, rule_of, has_rule, register_then, other_of, instruction_of, instruction_at}
 
 pub record Moves (at next : At) : Type 0 where
   pub whole : next.whole ≡ at.whole

@@ -1,5 +1,5 @@
 -- Runs of instructions, one more at a time.
-use Rattle.std.proofs.Common.{◌≡◌, ℕ, zero, suc, ◌+◌, ◌-◌, ◌≤◌, ◌<◌, Bool, true, false, cond, List, [], ◌∷◌, length, length-drop, map, Option, Some, None, refl, sym, ap, ◌∙◌, arith}
+use Rattle.std.proofs.Common.{◌≡◌, ℕ, zero, suc, ◌-◌, ◌≤◌, ◌<◌, Bool, true, false, cond, List, [], ◌∷◌, length, length-drop, Option, Some, None, refl, sym, ap, ◌∙◌, arith}
 use Rattle.prof_bytes.specs.Reading.{At, left_of}
 use Rattle.cfi_table.specs.declared.instruction.Factors.{Factors}
 use Rattle.cfi_table.specs.declared.rules.Rule.{Rule}
@@ -8,9 +8,8 @@ use Rattle.cfi_table.specs.declared.rules.Cfa.TheVariants as cfas
 use Rattle.cfi_table.specs.declared.kinds.Kind.{Kind}
 use Rattle.cfi_table.specs.declared.kinds.Kind.TheVariants as kinds
 use Rattle.cfi_table.specs.declared.rules.Rule.TheVariants as rules
-use Rattle.cfi_table.specs.declared.machine.Remembered.{Remembered}
 use Rattle.std.specs.List.{slice_set}
-use Rattle.cfi_table.specs.Rules.{State, rule_at, with_rule, with_cfa, with_register, with_offset, with_source, with_remembered, execute, step, is_past, continued, run, run_all}
+use Rattle.cfi_table.specs.Rules.{State, Remembered, rule_at, with_rule, with_cfa, with_register, with_offset, with_source, with_remembered, execute, step, is_past, continued, run, run_all}
 use Rattle.cfi_table.specs.Taking.{is_empty}
 use Rattle.cfi_table.specs.Kinds.{KindState, kind_of, remembered_kinds, kinds_of, seen_end, to_register, to_new_register, to_new_offset, to_source, to_remembered, step_kinds, continued_kinds, run_kinds}
 use Rattle.cfi_table.specs.declared.instruction.Instruction.{Instruction}

@@ -1,8 +1,7 @@
 -- The entries of `.debug_frame` and their fields (DWARF 5, section 6.4.1).
-use Rattle.std.specs.Prelude.{ℕ, ℤ, zero, suc, ◌+◌, ◌-◌, ◌≤◌, ◌==◌, ◌||◌, ◌&&◌, not, Bool, nat_lt, nat_le, List, [], ◌∷◌, length, drop, Option, Some, None, option_map, if◌then◌else◌}
+use Rattle.std.specs.Prelude.{ℕ, ℤ, zero, suc, ◌+◌, ◌-◌, ◌≤◌, ◌==◌, ◌||◌, nat_lt, nat_le, List, [], ◌∷◌, length, drop, Option, Some, None, option_map, if◌then◌else◌}
 use Rattle.prof_bytes.specs.Number.{number_at}
 use Rattle.prof_bytes.specs.Reading.{At, left_of}
-use Rattle.cfi_table.specs.declared.instruction.Factors.{Factors}
 use Rattle.cfi_table.specs.declared.entry.Entry.{Entry}
 use Rattle.cfi_table.specs.declared.cie.Cie.{Cie}
 use Rattle.cfi_table.specs.declared.cie.CieForm.{CieForm}
@@ -111,6 +110,11 @@ fde_from end at = do
   Some (start.0, size.0, end - length (left_of size.1))
 
 -- ---- where things lie
+
+-- each number is above the one before it
+abbrev pub AreRising : ℕ → List ℕ → Type 0
+AreRising low [] = Unit {0}
+AreRising low (n ∷ numbers) = (low ≤ n) × AreRising (n + 1) numbers
 
 -- an entry's length and its bytes lie in the section
 pub record IsPlaced (section : List ℕ) (e : Entry) : Type 0 where

@@ -1,8 +1,8 @@
 -- A section's call frames: the first fault, and the rules at an address (DWARF 5, section 6.4).
-use Rattle.std.specs.Prelude.{◌≡◌, All, ℕ, ◌+◌, ◌^◌, ◌≤◌, ◌<◌, length, ◌==◌, ◌&&◌, Bool, false, nat_lt, nat_le, min, List, [], ◌∷◌, map, find, Option, Some, None, is_none, is_some, option_map, Result, Ok, Err, if◌then◌else◌}
+use Rattle.std.specs.Prelude.{◌≡◌, All, ℕ, ◌+◌, ◌-◌, ◌^◌, ◌≤◌, ◌<◌, length, ◌==◌, ◌&&◌, Bool, false, nat_lt, nat_le, min, List, [], ◌∷◌, map, find, Option, Some, None, is_some, Result, Ok, Err, if◌then◌else◌}
 use Rattle.std.specs.List.{filter_map}
 use Rattle.std.specs.Option.{option_or}
-use Rattle.elf_image.specs.declared.ranges.AddressRange.{AddressRange}
+use Rattle.address_ranges.specs.declared.ranges.AddressRange.{AddressRange}
 use Rattle.elf_image.specs.declared.part.Segment.{Segment}
 use Rattle.elf_image.specs.Image.{counts}
 use Rattle.cfi_table.specs.declared.entry.Entry.{Entry}
@@ -28,12 +28,15 @@ after_fde limit section cie start from end =
 
 -- ---- faults
 
+abbrev pub is_mark : Option ℕ → Bool
+is_mark None = false
+is_mark (Some id) = id == cie_mark
+
+abbrev pub is_cie : List ℕ → Entry → Bool
+is_cie section e = is_mark (id_of section e)
+
 abbrev pub is_cie_at : List ℕ → ℕ → Entry → Bool
-is_cie_at section offset e = e.offset == offset && is_cie (id_of section e)
-  where
-    is_cie : Option ℕ → Bool
-    is_cie None = false
-    is_cie (Some id) = id == cie_mark
+is_cie_at section offset e = e.offset == offset && is_cie section e
 
 -- the CIE with that offset
 unfoldable pub cie_of : List ℕ → List Entry → ℕ → Option Entry
@@ -139,6 +142,10 @@ unfoldable pub rules_of : List ℕ → ℕ → Fde → Rules
 rules_of section address fde =
     let s = (after_fde (Some address) section fde.cie fde.start fde.from fde.end).0 in
     record { cfa = s.cfa; regs = s.regs; return_register = fde.cie.return_register }
+
+-- how many bytes its instructions and its CIE's have
+abbrev pub instruction_bytes : Fde → ℕ
+instruction_bytes fde = (fde.end - fde.from) + (fde.cie.end - fde.cie.from)
 
 abbrev pub lesser : ℕ → Option ℕ → Option ℕ
 lesser m None = Some m

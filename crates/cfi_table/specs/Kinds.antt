@@ -1,22 +1,25 @@
 -- Which instruction is at fault depends on the kinds of the CFA's rules alone, now and as they were remembered.
-use Rattle.std.specs.Prelude.{ℕ, zero, suc, Bool, nat_lt, List, [], ◌∷◌, length, Option, Some, None, if◌then◌else◌}
+use Rattle.std.specs.Prelude.{ℕ, zero, suc, nat_lt, List, [], ◌∷◌, Option, Some, None, if◌then◌else◌}
 use Rattle.prof_bytes.specs.Reading.{At, left_of}
 use Rattle.cfi_table.specs.declared.instruction.Instruction.{Instruction}
 use Rattle.cfi_table.specs.declared.instruction.Instruction.TheVariants.{Nothing, Advance, SetLocation, SetRule, Copy, Restore, Remember, RestoreState, SetCfa, SetCfaRegister, SetCfaOffset, CfaExpression}
 use Rattle.cfi_table.specs.declared.instruction.Factors.{Factors}
 use Rattle.cfi_table.specs.declared.rules.Cfa.{Cfa}
 use Rattle.cfi_table.specs.declared.rules.Cfa.TheVariants as cfas
-use Rattle.cfi_table.specs.declared.machine.Remembered.{Remembered}
 use Rattle.cfi_table.specs.declared.kinds.Kind.{Kind}
 use Rattle.cfi_table.specs.declared.kinds.Kind.TheVariants as kinds
 use Rattle.cfi_table.specs.Taking.{◌>>=◌, is_empty}
 use Rattle.cfi_table.specs.Instructions.{instruction_at}
-use Rattle.cfi_table.specs.Rules.{State}
+use Rattle.cfi_table.specs.Rules.{State, Remembered}
 
 -- the kind of the CFA's rule, and the kinds that were remembered, the latest first
 pub record KindState : Type 0 where
   pub now : Kind
   pub remembered : List Kind
+
+-- no rule is in force
+abbrev pub no_kinds : KindState
+no_kinds = record { now = kinds.Missing; remembered = [] }
 
 abbrev pub to_register : ℕ → KindState → Option KindState
 to_register register k = if nat_lt register 32 then Some (record k { now = kinds.Register }) else None

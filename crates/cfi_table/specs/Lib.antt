@@ -4,3 +4,5 @@ pub mod Instructions
 pub mod Rules
 pub mod Kinds
 pub mod Frames
+pub mod Cies
+pub mod Undoing

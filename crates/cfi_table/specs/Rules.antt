@@ -10,9 +10,13 @@ use Rattle.cfi_table.specs.declared.rules.Cfa.{Cfa}
 use Rattle.cfi_table.specs.declared.rules.Cfa.TheVariants as cfas
 use Rattle.cfi_table.specs.declared.rules.Rule.{Rule}
 use Rattle.cfi_table.specs.declared.rules.Rule.TheVariants as rules
-use Rattle.cfi_table.specs.declared.machine.Remembered.{Remembered}
 use Rattle.cfi_table.specs.Taking.{◌>>=◌, is_empty}
 use Rattle.cfi_table.specs.Instructions.{instruction_at}
+
+-- the rules that remember_state keeps
+pub record Remembered : Type 0 where
+  pub cfa : Cfa
+  pub regs : List Rule
 
 -- the location, the rules there, and the rules that were remembered, the latest first
 pub record State : Type 0 where

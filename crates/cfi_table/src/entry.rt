@@ -1,9 +1,9 @@
 //! The chain of a section's entries.
-ghost use Rattle.std.specs.Prelude.{◌≡◌, ◌+◌, ◌<◌, ◌≤◌, ◌^◌, Some, None, IfOk, IfSome, All, length, drop, option_map};
+ghost use Rattle.std.specs.Prelude.{◌≡◌, ◌+◌, ◌<◌, ◌≤◌, ◌^◌, Some, None, IfOk, IfSome, All, length, drop, map, option_map};
 ghost use Rattle.prof_bytes.specs.Number.{number_at};
 ghost use Rattle.prof_bytes.specs.Reading.{left_of};
 ghost use Rattle.cfi_table.specs.Taking.{part, word_from};
-ghost use Rattle.cfi_table.specs.Entries.{size_at, fitting, chain_of, id_of, IsPlaced};
+ghost use Rattle.cfi_table.specs.Entries.{size_at, fitting, chain_of, id_of, AreRising, IsPlaced};
 
 use prof_bytes::{Cursor, Memory};
 use std::alloc::Global;
@@ -59,6 +59,7 @@ pub(crate) fn chain_of(alloc: Global, section: &[u8]) -> Result<(Vec<Entry>, Opt
     ensures chain { IfOk result (λ found. (found.0.items, found.1) ≡ chain_of section.now) }
     ensures few { IfOk result (λ found. length found.0.items ≤ length section.now) }
     ensures within { IfOk result (λ found. All (IsPlaced section.now) found.0.items) }
+    ensures order { IfOk result (λ found. AreRising 0 (map (λ e. e.offset) found.0.items)) }
 {
     let mut entries = Vec::new(alloc);
     let mut at = 0;

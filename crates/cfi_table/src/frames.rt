@@ -1,9 +1,10 @@
 //! A section's call frames, and the rules at an address.
 ghost use Rattle.std.specs.Prelude.{◌≡◌, ◌+◌, ◌<◌, ◌≤◌, ◌^◌, Some, None, IfOk, IfSome, All, length, map, option_map, slice_get};
-ghost use Rattle.std.specs.Option.{option_and_then};
+ghost use Rattle.std.specs.Option.{option_and_then, option_map_or};
 ghost use Rattle.prof_bytes.specs.Outcome.{Gives};
-ghost use Rattle.cfi_table.specs.Frames.{frames_of, fde_at, rules_of, least_above, lesser, range_of, IsFdeIn};
+ghost use Rattle.cfi_table.specs.Frames.{frames_of, fde_at, rules_of, instruction_bytes, least_above, lesser, range_of, IsFdeIn};
 
+use crate::cies::cies_of;
 use crate::entry::{chain_of, part};
 use crate::fde::{Fde, fdes_of, first_fault};
 use crate::machine::Machine;
@@ -63,11 +64,12 @@ pub fn read_frames(
     ensures { Gives (λ table. table) result (frames_of bytes.now image.now.segments) }
 {
     let (entries, broken) = chain_of(alloc, bytes)?;
-    let fault = first_fault(alloc, bytes, &entries)?;
+    let cies = cies_of(alloc, bytes, &entries)?;
+    let fault = first_fault(alloc, bytes, &entries, &cies)?;
     if let Some(offset) = fault.or(broken) {
         return Err(Fail::Fault(FrameFault { offset }));
     }
-    let fdes = fdes_of(alloc, bytes, &entries, image)?;
+    let fdes = fdes_of(alloc, bytes, &entries, &cies, image)?;
     let ranges = FirstRange::of(alloc, ranges_of(alloc, &fdes)?)?;
     let section = Vec::from_slice(alloc, bytes)?;
     Ok(FrameTable {
@@ -80,10 +82,7 @@ pub fn read_frames(
 fn fde_of_index(fdes: &[Fde], index: Option<u32>) -> Option<Fde>
     ensures { result ≡ option_and_then (λ i. slice_get fdes.now i) index }
 {
-    match index {
-        Some(index) => fdes.get(index as usize).copied(),
-        None => None,
-    }
+    fdes.get(index? as usize).copied()
 }
 
 /// The rules at an address of the FDE: its CIE's instructions are run, and then its own up to the
@@ -143,10 +142,7 @@ impl FrameTable {
     pub fn fde_at(&self, pc: u32) -> Option<u32>
         ensures { result ≡ option_map (λ fde. fde.offset) (fde_at self.now pc) }
     {
-        match self.holder(pc) {
-            Some(fde) => Some(fde.offset),
-            None => None,
-        }
+        Some(self.holder(pc)?.offset)
     }
 
     /// The least start above `low` of an FDE whose range counts.
@@ -156,17 +152,26 @@ impl FrameTable {
         least_start_above(&self.fdes, low)
     }
 
+    /// How many bytes the instructions have from which the rules at an address are made, at most; 0 where
+    /// no FDE holds it.
+    pub fn instruction_bytes(&self, pc: u32) -> u64
+        ensures { result ≡ option_map_or instruction_bytes (fde_at self.now pc) 0 }
+    {
+        match self.holder(pc) {
+            Some(fde) => u64::from(fde.end - fde.from) + u64::from(fde.cie.end - fde.cie.from),
+            None => 0,
+        }
+    }
+
     /// The rules at an address, by the first FDE that holds it. The instructions are run from the
     /// start, in time as they have bytes.
     pub fn rules_at(&self, pc: u32) -> Result<Option<Rules>, Memory>
         ensures { IfOk result (λ rules. rules ≡ option_map (rules_of self.now.section pc) (fde_at self.now pc)) }
     {
-        match self.holder(pc) {
-            Some(fde) => {
-                let alloc = *self.section.allocator();
-                Ok(Some(rules_of(alloc, &self.section, &fde, pc)?))
-            }
-            None => Ok(None),
-        }
+        let Some(fde) = self.holder(pc) else {
+            return Ok(None);
+        };
+        let alloc = *self.section.allocator();
+        Ok(Some(rules_of(alloc, &self.section, &fde, pc)?))
     }
 }

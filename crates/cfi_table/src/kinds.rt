@@ -4,6 +4,7 @@ ghost use Rattle.prof_bytes.specs.Reading.{left_of};
 ghost use Rattle.cfi_table.specs.Kinds.{to_register, to_remembered, execute_kinds, step_kinds, run_kinds};
 
 use crate::instruction::{Factors, Instruction, instruction_at};
+use crate::kind_stack::KindStack;
 use prof_bytes::{Cursor, Memory};
 use std::alloc::Global;
 use std::marker::Model;
@@ -16,30 +17,37 @@ pub(crate) enum Kind {
     Expression,
 }
 
-/// The kind in force, and those that were remembered, a byte each, the latest last.
+/// The kind in force, and those that were remembered.
 #[derive(Debug, Drop)]
-pub(crate) struct Kinds {
+pub(crate) struct Kinds<'a> {
     now: Kind,
-    remembered: Vec<Kind>,
+    remembered: KindStack<'a>,
 }
 
-impl Model for Kinds {
-    ghost use Rattle.std.specs.Prelude.{reverse};
+impl<'a> Model for Kinds<'a> {
     ghost use Rattle.cfi_table.specs.Kinds.{KindState};
 
     ghost Value = { KindState };
 
-    ghost view = { λ kinds. record { now = kinds.now; remembered = reverse kinds.remembered.items } };
+    ghost view = { λ kinds. record { now = kinds.now; remembered = kinds.remembered } };
 }
 
-impl Kinds {
-    pub(crate) fn none(alloc: Global) -> Kinds
-        ensures { result ≡ record { now = Kind.Missing; remembered = [] } }
+impl<'a> Kinds<'a> {
+    /// The kind in force and those that were remembered before, the latest last.
+    pub(crate) fn after(alloc: Global, now: Kind, remembered: &'a [Kind]) -> Kinds<'a>
+        ensures { result ≡ record { now = now; remembered = reverse remembered.now } }
     {
         Kinds {
-            now: Kind::Missing,
-            remembered: Vec::new(alloc),
+            now,
+            remembered: KindStack::over(alloc, remembered),
         }
+    }
+
+    /// The kind in force, and those that are remembered, the latest last.
+    pub(crate) fn end(&self, alloc: Global) -> Result<(Kind, Vec<Kind>), Memory>
+        ensures { IfOk result (λ end. record { now = end.0; remembered = reverse end.1.items } ≡ self.entry.now) }
+    {
+        Ok((self.now, self.remembered.all(alloc)?))
     }
 
     /// The CFA is a register and an offset from now on. False where there is no such register.
@@ -51,13 +59,6 @@ impl Kinds {
         }
         self.now = Kind::Register;
         true
-    }
-
-    fn remember(&mut self) -> Result<(), Memory>
-        ensures { IfOk result (λ done. self.new ≡ record self.old { remembered = self.old.now ∷ self.old.remembered }) }
-    {
-        self.remembered.push(self.now)?;
-        Ok(())
     }
 
     fn restore(&mut self) -> bool
@@ -78,7 +79,7 @@ impl Kinds {
     {
         match instruction {
             Instruction::Remember => {
-                self.remember()?;
+                self.remembered.push(self.now)?;
                 Ok(true)
             }
             Instruction::RestoreState => Ok(self.restore()),

@@ -7,12 +7,15 @@
 #![tactic(auto)]
 
 mod cie;
+mod cies;
 mod entry;
 mod fde;
 mod frames;
 mod instruction;
+mod kind_stack;
 mod kinds;
 mod machine;
+mod register_rules;
 mod rules;
 
 pub use frames::{FrameFault, FrameTable, read_frames};

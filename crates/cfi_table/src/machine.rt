@@ -1,39 +1,30 @@
 //! The rules as call frame instructions change them.
-ghost use Rattle.std.specs.Prelude.{◌≡◌, ◌<◌, ◌^◌, [], ◌∷◌, None, Some, IfOk, MatchBool, length, reverse};
+ghost use Rattle.std.specs.Prelude.{◌≡◌, ◌<◌, ◌^◌, [], ◌∷◌, None, Some, IfOk, MatchBool, length};
 ghost use Rattle.std.specs.List.{slice_set};
 ghost use Rattle.prof_bytes.specs.Reading.{left_of};
 ghost use Rattle.cfi_table.specs.Rules.{no_rules, kept_all, rule_at, with_rule, with_cfa, with_register, with_offset, with_source, with_remembered, execute, step, is_past, run_all};
 
 use crate::instruction::{Factors, Instruction, instruction_at};
+use crate::register_rules::RegisterRules;
 use crate::rules::{Cfa, Rule};
 use prof_bytes::{Cursor, Memory};
 use std::alloc::Global;
 use std::marker::Model;
 
-/// The rules that remember_state kept.
-#[derive(Clone, Copy, Debug)]
-pub(crate) struct Remembered {
-    pub(crate) cfa: Cfa,
-    pub(crate) regs: [Rule; 32],
-}
-
-/// The location, the rules there, and those that were remembered, the latest last. Each state that is
-/// remembered takes a copy of the rules.
+/// The location, the rules there, and those that were remembered, the latest first.
 #[derive(Debug, Drop)]
 pub(crate) struct Machine {
     location: u32,
     cfa: Cfa,
-    regs: [Rule; 32],
-    remembered: Vec<Remembered>,
+    rules: RegisterRules,
 }
 
 impl Model for Machine {
-    ghost use Rattle.std.specs.Prelude.{reverse};
     ghost use Rattle.cfi_table.specs.Rules.{State};
 
     ghost Value = { State };
 
-    ghost view = { λ machine. record { location = machine.location; cfa = machine.cfa; regs = machine.regs; remembered = reverse machine.remembered.items } };
+    ghost view = { λ machine. record { location = machine.location; cfa = machine.cfa; regs = machine.rules.regs; remembered = machine.rules.remembered } };
 }
 
 impl Machine {
@@ -43,17 +34,14 @@ impl Machine {
         Machine {
             location: 0,
             cfa: Cfa::Missing,
-            regs: [Rule::Kept; 32],
-            remembered: Vec::new(alloc),
+            rules: RegisterRules::kept(alloc),
         }
     }
 
-    fn set_rule(&mut self, register: u64, rule: Rule)
-        ensures { self.new ≡ with_rule register rule self.old }
+    fn set_rule(&mut self, register: u64, rule: Rule) -> Result<(), Memory>
+        ensures { IfOk result (λ done. self.new ≡ with_rule register rule self.old) }
     {
-        if register < 32 {
-            self.regs[register as usize] = rule;
-        }
+        self.rules.set(register, rule)
     }
 
     fn set_cfa(&mut self, register: u64, offset: u32) -> bool
@@ -91,37 +79,25 @@ impl Machine {
         }
     }
 
-    fn copy_register(&mut self, register: u64, source: u64) -> bool
-        ensures { MatchBool result (with_source register source self.old ≡ Some self.new) ((with_source register source self.old ≡ None) × (self.new ≡ self.old)) }
+    fn copy_register(&mut self, register: u64, source: u64) -> Result<bool, Memory>
+        ensures { IfOk result (λ done. MatchBool done (with_source register source self.old ≡ Some self.new) ((with_source register source self.old ≡ None) × (self.new ≡ self.old))) }
     {
         if register >= 32 {
-            return true;
+            return Ok(true);
         }
         if source >= 32 {
-            return false;
+            return Ok(false);
         }
-        self.set_rule(register, Rule::Copy(source as u8));
-        true
-    }
-
-    fn remember(&mut self) -> Result<(), Memory>
-        ensures { IfOk result (λ done. self.new ≡ record self.old { remembered = record { cfa = self.old.cfa; regs = self.old.regs } ∷ self.old.remembered }) }
-    {
-        self.remembered.push(Remembered {
-            cfa: self.cfa,
-            regs: self.regs,
-        })?;
-        Ok(())
+        self.set_rule(register, Rule::Copy(source as u8))?;
+        Ok(true)
     }
 
     fn restore_state(&mut self) -> bool
         ensures { MatchBool result (with_remembered self.old.remembered self.old ≡ Some self.new) ((with_remembered self.old.remembered self.old ≡ None) × (self.new ≡ self.old)) }
     {
-        match self.remembered.pop() {
-            Some(state) => {
-                let Remembered { cfa, regs } = state;
+        match self.rules.restore() {
+            Some(cfa) => {
                 self.cfa = cfa;
-                self.regs = regs;
                 true
             }
             None => false,
@@ -137,12 +113,16 @@ impl Machine {
             Instruction::Nothing => {}
             Instruction::Advance(delta) => self.location = self.location.wrapping_add(delta),
             Instruction::SetLocation(address) => self.location = address,
-            Instruction::SetRule { register, rule } => self.set_rule(register, rule),
+            Instruction::SetRule { register, rule } => self.set_rule(register, rule)?,
             Instruction::Copy { register, source } => {
-                return Ok(self.copy_register(register, source));
+                return self.copy_register(register, source);
             }
-            Instruction::Restore(register) => self.restore(defaults, register),
-            Instruction::Remember => self.remember()?,
+            Instruction::Restore(register) => {
+                if register < 32 {
+                    self.set_rule(register, defaults[register as usize])?;
+                }
+            }
+            Instruction::Remember => self.rules.remember(self.cfa)?,
             Instruction::RestoreState => return Ok(self.restore_state()),
             Instruction::SetCfa { register, offset } => {
                 return Ok(self.set_cfa(register, offset));
@@ -152,14 +132,6 @@ impl Machine {
             Instruction::CfaExpression => self.cfa = Cfa::Expression,
         }
         Ok(true)
-    }
-
-    fn restore(&mut self, defaults: &[Rule; 32], register: u64)
-        ensures { self.new ≡ with_rule register (rule_at defaults.now register) self.old }
-    {
-        if register < 32 {
-            self.set_rule(register, defaults[register as usize]);
-        }
     }
 
     /// Carries out the instruction at the cursor. False where it is at fault.
@@ -203,7 +175,7 @@ impl Machine {
     pub(crate) fn regs(&self) -> [Rule; 32]
         ensures { result ≡ self.now.regs }
     {
-        self.regs
+        self.rules.regs()
     }
 
     pub(crate) fn cfa(&self) -> Cfa
@@ -223,8 +195,5 @@ impl Machine {
 fn is_past(limit: Option<u32>, location: u32) -> bool
     ensures { result ≡ is_past limit location }
 {
-    match limit {
-        Some(address) => address < location,
-        None => false,
-    }
+    matches!(limit, Some(address) if address < location)
 }

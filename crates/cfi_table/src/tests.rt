@@ -296,3 +296,26 @@ fn faults_by_their_places(rt: HostRuntime) -> Result<(), Fail> {
     );
     Ok(())
 }
+
+/// Addresses, and how many bytes the rules there are made from: 3 of the CIE and 12 of the FDE.
+const BYTES: [(u32, u64); 5] = [
+    (0, 0),
+    (0x1_000f, 0),
+    (0x1_0010, 15),
+    (0x1_002f, 15),
+    (0x1_0030, 0),
+];
+
+#[test]
+fn bytes_of_instructions(rt: HostRuntime) -> Result<(), Fail> {
+    let file = bytes_of(rt.alloc(), program())?;
+    let image = image_of(rt.alloc(), &file)?;
+    let section = bytes_of(rt.alloc(), sections::recursive())?;
+    let Ok(table) = frames(rt.alloc(), &section, &image) else {
+        return Err(Fail::from(Memory));
+    };
+    for (pc, bytes) in &BYTES {
+        assert_eq!(rt; table.instruction_bytes(*pc), *bytes, "at {pc:x}");
+    }
+    Ok(())
+}

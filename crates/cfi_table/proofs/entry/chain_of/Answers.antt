@@ -1,9 +1,9 @@
-use Rattle.std.proofs.Common.{◌≡◌, ℕ, ◌+◌, ◌<◌, ◌≤◌, length, Option, Some, ap, sym, ◌∙◌, arith}
-use Rattle.std.specs.Prelude.{All}
+use Rattle.std.proofs.Common.{◌≡◌, ℕ, List, length, map, Option, Some, None, ap, sym, ◌∙◌, arith}
 use Rattle.std.proofs.lemmas.List.Elements.{All-push}
 use Rattle.cfi_table.specs.declared.entry.Entry.{Entry}
-use Rattle.cfi_table.specs.Entries.{size_at, entry_of, IsPlaced}
+use Rattle.cfi_table.specs.Entries.{size_at, entry_of, chain_of, AreRising, IsPlaced}
 use Rattle.cfi_table.proofs.Chains.{passes_over, goes_on, stops, ends}
+use Rattle.cfi_table.proofs.KnownCies.{chain_rises}
 use Rattle.cfi_table.proofs.entry.chain_of.Goals as goal
 
 pub loop-at-preserved-in-Some-eq0 : goal.loop-at-preserved-in-Some-eq0
@@ -33,3 +33,12 @@ returns-in-None-clause-chain c = stops c.args.section.now c.loop-at.at c.loop-at
 
 pub returns-clause-chain : goal.returns-clause-chain
 returns-clause-chain c = ends c.args.section.now c.loop-at.at c.loop-at.entries.items c.loop-at-test.false c.loop-at.invariant.chain
+
+in_order : (section : List ℕ) (found : List Entry × Option ℕ) → found ≡ chain_of section → AreRising 0 (map (λ e. e.offset) found.0)
+in_order section found is = rw is (chain_rises (length section) section 0)
+
+pub returns-in-None-clause-order : goal.returns-in-None-clause-order
+returns-in-None-clause-order c = in_order c.args.section.now (c.loop-at.entries.items, Some c.loop-at.at) (stops c.args.section.now c.loop-at.at c.loop-at.entries.items c.loop-at-test.true (sym c.in-None.ensures.size) c.loop-at.invariant.chain)
+
+pub returns-clause-order : goal.returns-clause-order
+returns-clause-order c = in_order c.args.section.now (c.loop-at.entries.items, None) (ends c.args.section.now c.loop-at.at c.loop-at.entries.items c.loop-at-test.false c.loop-at.invariant.chain)

@@ -1,4 +1,4 @@
-use Rattle.std.proofs.Common.{◌≡◌, ℕ, ◌+◌, ◌-◌, ◌≤◌, length}
+use Rattle.std.proofs.Common.{◌-◌, ◌≤◌, length}
 use Rattle.std.specs.Prelude.{All}
 use Rattle.cfi_table.specs.Entries.{IsPlaced}
 use Rattle.cfi_table.proofs.Chains.{KeepsChain}

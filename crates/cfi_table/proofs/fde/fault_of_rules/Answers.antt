@@ -1,6 +1,6 @@
-use Rattle.std.proofs.Common.{◌≡◌, ℕ, false, cond, List, length, Option, None, refl, sym, ap, ◌∙◌}
+use Rattle.std.proofs.Common.{◌≡◌, ℕ, false, cond, List, length, Option, None, sym, ap, ◌∙◌}
 use Rattle.std.specs.Prelude.{is_some}
-use Rattle.prof_bytes.specs.Reading.{At, left_of}
+use Rattle.prof_bytes.specs.Reading.{left_of}
 use Rattle.cfi_table.specs.declared.cie.Cie.{Cie}
 use Rattle.cfi_table.specs.Taking.{part}
 use Rattle.cfi_table.specs.Rules.{State, run}
@@ -25,6 +25,6 @@ judged section cie from end start k l f place before none ran =
     rw clear fault
 
 pub returns : goal.returns
-returns c start =
-    judged c.args.section.now c.args.cie.now c.args.from c.args.entry.now.end start c.in_ok-kinds.kinds c.run.new.self c.in_ok-kinds.fault c.in_ok-place.place
-    c.in_ok-kinds.ensures (sym c.is_some.ensures ∙ c.if-is_some.false) (rw c.part-cursor.ensures at c.in_ok-place.ensures)
+returns c cie start same before =
+    judged c.args.section.now cie c.args.from c.args.entry.now.end start c.after-kinds.result c.run.new.self c.args.known.now.fault c.in_ok-place.place
+    (rw (c.after-kinds.ensures, c.deref.ensures.value) before) (sym c.is_some.ensures ∙ c.if-is_some.false) (rw (c.part-cursor.ensures, same) at c.in_ok-place.ensures)

@@ -1,7 +1,6 @@
-use Rattle.std.proofs.Common.{◌≡◌, ℕ, zero, suc, ◌+◌, ◌<◌, Bool, true, false, List, [], ◌∷◌, length, get_or, take, map, Option, Some, None, refl, sym, ap, ◌∙◌, arith}
+use Rattle.std.proofs.Common.{◌≡◌, ℕ, zero, suc, ◌+◌, ◌<◌, true, false, List, [], ◌∷◌, length, get_or, take, map, Option, Some, None, refl, sym, ap, ◌∙◌, arith}
 use Rattle.std.specs.Prelude.{is_some}
 use Rattle.std.specs.Option.{option_or}
-use Rattle.cfi_table.specs.declared.entry.Entry.{Entry}
 use Rattle.cfi_table.specs.Frames.{fault_of, first_some}
 use Rattle.cfi_table.proofs.fde.first_fault.Goals as goal
 
@@ -28,9 +27,9 @@ no_fault_more g (x ∷ xs) (suc k) d o none lt is clear =
 
 pub returns-then-is_some : goal.returns-then-is_some
 returns-then-is_some c =
-    fault_here (fault_of c.args.section.now c.args.entries.now) c.args.entries.now c.loop-entry.entry-index (record { offset = 0; end = 0 }) c.in_ok-fault.fault c.loop-entry.invariant c.loop-entry-test.true c.in_ok-fault.ensures (sym c.is_some.ensures ∙ c.if-is_some.true)
+    fault_here (fault_of c.args.section.now c.args.entries.now) c.args.entries.now c.loop-entry.entry-index (record { offset = 0; end = 0 }) c.in_ok-fault.fault c.loop-entry.invariant c.loop-entry-test.true (c.in_ok-fault.ensures c.args.entries.now c.requires.cies) (sym c.is_some.ensures ∙ c.if-is_some.true)
 
 pub loop-entry-preserved : goal.loop-entry-preserved
 loop-entry-preserved c =
     ap (λ (n : ℕ). first_some (map (fault_of c.args.section.now c.args.entries.now) (take n c.args.entries.now))) (let e : c.loop-entry.entry-index + 1 ≡ suc c.loop-entry.entry-index = omega arith in e)
-    ∙ no_fault_more (fault_of c.args.section.now c.args.entries.now) c.args.entries.now c.loop-entry.entry-index (record { offset = 0; end = 0 }) c.in_ok-fault.fault c.loop-entry.invariant c.loop-entry-test.true c.in_ok-fault.ensures (sym c.is_some.ensures ∙ c.if-is_some.false)
+    ∙ no_fault_more (fault_of c.args.section.now c.args.entries.now) c.args.entries.now c.loop-entry.entry-index (record { offset = 0; end = 0 }) c.in_ok-fault.fault c.loop-entry.invariant c.loop-entry-test.true (c.in_ok-fault.ensures c.args.entries.now c.requires.cies) (sym c.is_some.ensures ∙ c.if-is_some.false)

@@ -1,4 +1,4 @@
-use Rattle.std.proofs.Common.{◌≡◌, refl, sym, ap, ◌∙◌}
+use Rattle.std.proofs.Common.{refl}
 use Rattle.cfi_table.specs.Frames.{rules_of, after_fde, after_cie}
 use Rattle.cfi_table.proofs.frames.rules_of.Goals as goal
 

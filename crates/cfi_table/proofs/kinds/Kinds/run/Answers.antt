@@ -1,4 +1,4 @@
-use Rattle.std.proofs.Common.{◌≡◌, ◌<◌, length, refl, sym, ap, ◌∙◌, arith, true, false}
+use Rattle.std.proofs.Common.{length, refl, arith}
 use Rattle.prof_bytes.specs.Reading.{left_of}
 use Rattle.cfi_table.proofs.Runs.{kinds_turn, kinds_smaller, kinds_stop, kinds_done, made_true, made_false}
 use Rattle.cfi_table.proofs.kinds.Kinds.run.Goals as goal

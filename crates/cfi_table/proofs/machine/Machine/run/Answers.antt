@@ -1,4 +1,4 @@
-use Rattle.std.proofs.Common.{◌≡◌, ◌<◌, length, refl, sym, ap, ◌∙◌, arith, true, false}
+use Rattle.std.proofs.Common.{◌≡◌, length, refl, sym, ap, ◌∙◌, arith, true, false}
 use Rattle.prof_bytes.specs.Reading.{left_of}
 use Rattle.cfi_table.specs.Rules.{State, is_past}
 use Rattle.cfi_table.proofs.Runs.{rules_turn, rules_smaller, rules_stop, rules_fault, rules_done, made_true, made_false}
