@@ -1,6 +1,6 @@
 //! Two programs by gcc and clang are compared with what `llvm-dwarfdump --debug-info` prints of them; the
-//! numbers of files and lines of calls are those of `readelf --debug-dump=info`. Faults and absences
-//! are small units put together by hand after DWARF 5, chapter 7.
+//! numbers of files and lines of calls are those of `readelf --debug-dump=info`. A worked program, faults
+//! and absences are small units put together by hand after DWARF 5, chapter 7.
 use super::*;
 use elf_image::DebugParts;
 use std::alloc::{AllocError, Global};
@@ -11,6 +11,7 @@ mod clang_program;
 mod gcc_program;
 mod lists;
 mod names;
+mod worked;
 
 /// What a subprogram or an inlined subroutine is to be.
 struct Row {
@@ -116,6 +117,24 @@ fn a_program_by_clang(rt: HostRuntime) {
     compare(&rt, CLANG, &clang_program::TAGS, &clang_program::ROWS);
 }
 
+#[test]
+fn a_worked_program(rt: HostRuntime) -> Result<(), Fail> {
+    let info = part(rt.alloc(), worked::sections(), b'I')?;
+    let abbrev = part(rt.alloc(), worked::sections(), b'A')?;
+    let rnglists = part(rt.alloc(), worked::sections(), b'R')?;
+    let parts = DebugParts {
+        info: &info,
+        abbrev: &abbrev,
+        str_bytes: &[],
+        line_str: &[],
+        str_offsets: &[],
+        addr: &[],
+        rnglists: &rnglists,
+    };
+    compare(&rt, parts, &worked::TAGS, &worked::ROWS);
+    Ok(())
+}
+
 /// The bytes of a case's section, which stand behind its letter.
 fn part(alloc: Global, text: &[u8], letter: u8) -> Result<Vec<u8>, AllocError> {
     let mut out = Vec::new(alloc);
@@ -208,7 +227,11 @@ const FAULTS: [(&[u8], InfoFault); 19] = [
         InfoFault::BadUnit { offset: 0 },
     ),
     (
-        b"I0e0000000500010400000000 0100000000 A0111001017000000",
+        b"\
+        I480000000500010400000000010000000002696e6e65720001026f757465720001036d61696e0000\
+        0001005400000004190000000c000000000305110000002400010008000000000b0000\
+        A01110110170000022e000308200b0000032e010308110112060000041d0131135517580b590b0000\
+        051d00311311011206580b590b000000",
         InfoFault::BadUnit { offset: 0 },
     ),
     (b"I010000000500 A00", InfoFault::BadUnit { offset: 0 }),
@@ -297,16 +320,21 @@ fn the_first_fault(rt: HostRuntime) {
 }
 
 /// Sections, and the offset and depth of each entry, then the offset and line table of each unit.
-const SHAPES: [(&[u8], &[(u32, u32)]); 4] = [
+const SHAPES: [(&[u8], &[(u32, u32)]); 5] = [
     // Levels by null entries, one before the first entry, one too many, and a level that is not closed.
     (
         b"I130000000500010400000000 00010101000100000000 01 A012e01000000",
         &[(13, 0), (14, 1), (15, 2), (17, 2), (22, 0), (0, u32::MAX)],
     ),
-    // Units of the versions 4 and 2 and a type unit stand before a unit with a line table.
+    // A unit of version 4 stands before a unit with a line table.
     (
-        b"I07000000040000000000 04 0200000002 00 03000000050002 0d0000000500010400000000 0109000000 A0111001017000000",
-        &[(36, 0), (24, 9)],
+        b"I0700000004000000000004 0d0000000500010400000000 0100000000 A0111001017000000",
+        &[(23, 0), (11, 0)],
+    ),
+    // A unit of version 2 and a type unit stand before one.
+    (
+        b"I020000000200 03000000050002 0d0000000500010400000000 0109000000 A0111001017000000",
+        &[(25, 0), (13, 9)],
     ),
     // A partial unit without entries.
     (b"I080000000500030400000000 A00", &[(0, u32::MAX)]),

@@ -3,9 +3,6 @@ use Rattle.std.proofs.Common.{◌≡◌, ℕ, suc, ◌-◌, ◌+◌, ◌≤◌, 
 use Rattle.std.specs.Prelude.{filter}
 use Rattle.std.proofs.lemmas.List.{append-nil}
 use Rattle.prof_bytes.specs.Reading.{At}
-use Rattle.prof_bytes.specs.Outcome.{◌>>=◌, FailsBy}
-use Rattle.prof_bytes.specs.declared.fail.Fail.{Fail}
-use Rattle.prof_bytes.specs.declared.fail.Fail.TheVariants as fails
 use Rattle.elf_image.specs.declared.part.Segment.{Segment}
 use Rattle.dwarf_forms.specs.Runs.{Step, is_end, before, run_from}
 use Rattle.dwarf_line.specs.declared.fault.LineFault.{LineFault}
@@ -13,7 +10,7 @@ use Rattle.dwarf_line.specs.declared.registers.Registers.{Registers}
 use Rattle.dwarf_line.specs.declared.registers.MatrixRow.{MatrixRow}
 use Rattle.dwarf_line.specs.declared.sequence.Sequence.{Sequence}
 use Rattle.dwarf_line.specs.Sequences.{sequences_from, counts, is_counted_from}
-use Rattle.dwarf_line.specs.Runs.{Kept, closed, with_row, with_rows, kept_from}
+use Rattle.dwarf_line.specs.Runs.{Kept, with_row, with_rows, kept_from}
 
 abbrev pub sequences_after : List Segment → ℕ → Kept → List MatrixRow → List Sequence
 sequences_after segments table kept rows = kept.sequences ++ filter (counts segments) (sequences_from table kept.before rows)

@@ -5,4 +5,5 @@ pub mod NamedEntries
 pub mod BestRows
 pub mod KeptRows
 pub mod TableLists
+pub mod PlacedTables
 pub mod HalvedRows

@@ -1,5 +1,5 @@
 -- Operands that are passed over one by one.
-use Rattle.std.proofs.Common.{◌≡◌, ℕ, suc, ◌-◌, ◌+◌, ◌≤◌, ◌<◌, Result, Ok, Err, refl, sym, ap, ◌∙◌, arith}
+use Rattle.std.proofs.Common.{◌≡◌, ℕ, suc, ◌-◌, ◌+◌, ◌≤◌, ◌<◌, Ok, Err, refl, arith}
 use Rattle.prof_bytes.specs.Reading.{At}
 use Rattle.dwarf_forms.specs.Fields.{uleb_from}
 use Rattle.dwarf_line.specs.declared.fault.LineFault.{LineFault}

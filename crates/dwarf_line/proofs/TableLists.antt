@@ -1,6 +1,6 @@
 -- Tables, and what is held of them.
-use Rattle.std.proofs.Common.{◌≡◌, ◌==◌, ℕ, Bool, true, false, cond, List, [], ◌∷◌, ◌++◌, map, Option, Some, None, Result, Ok, Err, refl, sym, ap, ap₂, ◌∙◌, append_assoc, Bor}
-use Rattle.std.specs.Prelude.{find, filter, option_map, option_copied}
+use Rattle.std.proofs.Common.{◌≡◌, ℕ, List, [], ◌∷◌, ◌++◌, map, Some, Result, Ok, Err, refl, sym, ap, ap₂, ◌∙◌, append_assoc}
+use Rattle.std.specs.Prelude.{filter}
 use Rattle.std.specs.List.{flat_map}
 use Rattle.std.proofs.lemmas.List.{append-nil, map-append}
 use Rattle.std.proofs.lemmas.Grind.{flat_map-append}
@@ -11,28 +11,12 @@ use Rattle.elf_image.specs.declared.part.Segment.{Segment}
 use Rattle.dwarf_line.specs.declared.fault.LineFault.{LineFault}
 use Rattle.dwarf_line.specs.declared.sequence.Sequence.{Sequence}
 use Rattle.dwarf_line.specs.declared.registers.MatrixRow.{MatrixRow}
-use Rattle.dwarf_line.specs.declared.lines.Table.{Table}
 use Rattle.dwarf_line.specs.Names.{Texts}
 use Rattle.dwarf_line.specs.Headers.{Header}
 use Rattle.dwarf_line.specs.Programs.{matrix_from}
 use Rattle.dwarf_line.specs.Runs.{kept_from}
 use Rattle.dwarf_line.specs.Sequences.{sequences_from, counts}
-use Rattle.dwarf_line.specs.Lines.{TableNames, TableRead, headed, lined, table_of, tables_of, table_with, lines_of, lines_at}
-use Rattle.dwarf_line.specs.Tables.{names_of}
-
-found_names : (offset : ℕ) (t : Table) (rest : Option Table) (b : Bool) → option_map names_of (cond b (Some t) rest) ≡ cond b (Some (names_of t)) (option_map names_of rest)
-found_names offset t rest true = refl
-found_names offset t rest false = refl
-
-pub find_names : (offset : ℕ) (ts : List Table) → option_map names_of (find (λ t. t.offset == offset) ts) ≡ table_with (map names_of ts) offset
-find_names offset [] = refl
-find_names offset (t ∷ ts) =
-    found_names offset t (find (λ u. u.offset == offset) ts) (t.offset == offset)
-    ∙ ap (λ (o : Option TableNames). cond (t.offset == offset) (Some (names_of t)) o) (find_names offset ts)
-
-pub map_copied : (o : Option (Bor Table)) → option_map (λ t. names_of t.now) o ≡ option_map names_of (option_copied o)
-map_copied None = refl
-map_copied (Some t) = refl
+use Rattle.dwarf_line.specs.Lines.{TableNames, TableRead, headed, lined, table_of, tables_of, lines_of, lines_at}
 
 -- one table's sequences behind earlier ones
 abbrev Both : Type 0

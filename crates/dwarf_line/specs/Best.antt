@@ -1,5 +1,5 @@
 -- The best of the rows that were seen, one row after the other.
-use Rattle.std.specs.Prelude.{ℕ, ◌&&◌, nat_le, Option, Some, if◌then◌else◌}
+use Rattle.std.specs.Prelude.{ℕ, ◌&&◌, nat_le, Some, if◌then◌else◌}
 use Rattle.dwarf_line.specs.declared.registers.MatrixRow.{MatrixRow}
 use Rattle.dwarf_line.specs.declared.rows.Best.{Best}
 

@@ -1,11 +1,9 @@
 -- The line tables at some offsets. DWARF 5, section 6.2.
-use Rattle.std.specs.Prelude.{ℕ, ◌==◌, ◌||◌, nat_lt, List, [], ◌∷◌, ◌++◌, length, take, find, filter, is_some, map, slice_get, slice_index, Bool, Option, Some, None, option_map, option_and_then, unwrap_or, Result, Ok, Err, codes, if◌then◌else◌}
+use Rattle.std.specs.Prelude.{ℕ, ◌==◌, ◌||◌, nat_lt, List, [], ◌∷◌, ◌++◌, length, take, find, filter, map, slice_get, slice_index, Option, Some, None, option_map, option_and_then, unwrap_or, Result, Ok, Err, codes, if◌then◌else◌}
 use Rattle.std.specs.List.{flat_map}
-use Rattle.prof_bytes.specs.Reading.{At}
 use Rattle.prof_bytes.specs.Outcome.{◌>>=◌}
 use Rattle.elf_image.specs.declared.part.Segment.{Segment}
 use Rattle.dwarf_line.specs.declared.fault.LineFault.{LineFault}
-use Rattle.dwarf_line.specs.declared.registers.MatrixRow.{MatrixRow}
 use Rattle.dwarf_line.specs.declared.sequence.Sequence.{Sequence}
 use Rattle.dwarf_line.specs.Names.{Texts, Named}
 use Rattle.dwarf_line.specs.Headers.{Header, header_from}

@@ -1,7 +1,7 @@
 -- The line number program: each opcode changes the registers and may add a row to the matrix. DWARF 5, sections 6.2.2 and 6.2.5.
 use Rattle.std.specs.Prelude.{ℕ, zero, suc, ◌+◌, ◌-◌, ◌*◌, ◌/◌, ◌%◌, ◌^◌, ◌==◌, ◌||◌, true, false, nat_lt, nat_le, List, [], ◌∷◌, length, drop, slice_index, Result, Ok, Err, if◌then◌else◌}
 use Rattle.prof_bytes.specs.Number.{number_in}
-use Rattle.prof_bytes.specs.Reading.{At, left_of}
+use Rattle.prof_bytes.specs.Reading.{At}
 use Rattle.prof_bytes.specs.Outcome.{◌>>=◌}
 use Rattle.dwarf_forms.specs.Fields.{number_from, uleb_from, sleb_from, bytes_from}
 use Rattle.dwarf_forms.specs.Runs.{Step, run_to_end}

@@ -1,9 +1,8 @@
 -- Sequences of the matrix, and the row in force at an address. DWARF 5, section 6.2.
-use Rattle.std.specs.Prelude.{ℕ, ◌%◌, ◌==◌, ◌&&◌, Bool, false, nat_lt, nat_le, max, List, [], ◌∷◌, ◌++◌, map, filter, find, fold, reverse, Option, Some, None, option_map, option_and_then, if◌then◌else◌}
-use Rattle.std.specs.List.{list_any}
+use Rattle.std.specs.Prelude.{ℕ, ◌==◌, ◌&&◌, Bool, false, nat_le, max, List, [], ◌∷◌, ◌++◌, map, filter, find, fold, reverse, Option, option_map, option_and_then, if◌then◌else◌}
 use Rattle.elf_image.specs.declared.part.Segment.{Segment}
-use Rattle.elf_image.specs.declared.ranges.AddressRange.{AddressRange}
-use Rattle.elf_image.specs.Ranges.{holds as range_holds}
+use Rattle.address_ranges.specs.declared.ranges.AddressRange.{AddressRange}
+use Rattle.address_ranges.specs.Ranges.{holds as range_holds}
 use Rattle.elf_image.specs.Image.{is_executable, counts as range_counts}
 use Rattle.scope_types.specs.declared.scope.LineId.{LineId}
 use Rattle.scope_types.specs.declared.scope.LineId.TheVariants as lines

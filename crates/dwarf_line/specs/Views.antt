@@ -1,5 +1,5 @@
 -- What the code holds, without where it lies in memory.
-use Rattle.std.specs.Prelude.{◌≡◌, ℕ, List, Option, map, option_map, Result, Ok, Err}
+use Rattle.std.specs.Prelude.{◌≡◌, map, option_map, Result, Ok, Err}
 use Rattle.dwarf_forms.specs.Values.{held}
 use Rattle.dwarf_line.specs.declared.names.Firsts.{Firsts}
 use Rattle.dwarf_line.specs.Fields.{First}

@@ -14,6 +14,7 @@ mod registers;
 mod rows;
 mod run;
 mod sequence;
+mod tables;
 
 pub use fault::LineFault;
 pub use lines::{LineTable, read_lines};

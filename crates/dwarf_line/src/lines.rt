@@ -1,5 +1,5 @@
 //! The line tables at some offsets, and what is asked of them.
-ghost use Rattle.std.specs.Prelude.{◌≡◌, ◌==◌, ◌++◌, ◌<◌, option_to_list, ◌∷◌, [], IfOk, OnOk, Some, None, is_some, map, option_map, option_copied, option_and_then, slice_get, length, take, find, unwrap_or};
+ghost use Rattle.std.specs.Prelude.{◌≡◌, ◌++◌, ◌<◌, option_to_list, ◌∷◌, [], IfOk, OnOk, Some, None, is_some, map, option_map, option_and_then, slice_get, length, take, unwrap_or};
 ghost use Rattle.std.specs.List.{flat_map};
 ghost use Rattle.prof_bytes.specs.Outcome.{Gives};
 ghost use Rattle.dwarf_line.specs.Views.{texts_of, named, header_of};
@@ -12,6 +12,7 @@ use crate::header::{Header, read_header};
 use crate::names::Entry;
 use crate::run::{Frame, run};
 use crate::sequence::{Sequence, Sequences};
+use crate::tables::{Table, Tables};
 use dwarf_forms::cursor_at;
 use elf_image::{DebugParts, Image, Segment};
 use prof_bytes::{Fail, Memory, Text};
@@ -22,37 +23,28 @@ use std::marker::Model;
 /// The most bytes of a name.
 const NAME_LIMIT: usize = 4096;
 
-/// The directories and files of a table of version 5.
-#[derive(Drop)]
-pub(crate) struct Table<'a> {
-    pub(crate) offset: u32,
-    pub(crate) directories: Vec<Entry<'a>>,
-    pub(crate) files: Vec<Entry<'a>>,
-}
-
 /// Line tables that were read. They lend the sections' bytes.
 #[derive(Drop)]
 pub struct LineTable<'a> {
-    tables: Vec<Table<'a>>,
+    tables: Tables<'a>,
     sequences: Sequences,
 }
 
 impl<'a> Model for LineTable<'a> {
-    ghost use Rattle.std.specs.Prelude.{map};
     ghost use Rattle.dwarf_line.specs.Lines.{Lines};
-    ghost use Rattle.dwarf_line.specs.Tables.{names_of};
 
     ghost Value = { Lines };
 
-    ghost view = { λ lines. record { tables = map names_of lines.tables.items; sequences = lines.sequences } };
+    ghost view = { λ lines. record { tables = lines.tables; sequences = lines.sequences } };
 }
 
 impl<'a> LineTable<'a> {
-    /// Whether a table of version 5 was read at this offset.
+    /// Whether a table of version 5 was read at this offset. Takes no memory, and time as the logarithm
+    /// of the tables.
     pub fn has_table(&self, table: u32) -> bool
         ensures { result ≡ is_some (table_with self.now.tables table) }
     {
-        table_with(self.tables.as_slice(), table).is_some()
+        self.tables.at(table).is_some()
     }
 
     /// The line of the row in force at an address. Takes no memory.
@@ -62,27 +54,16 @@ impl<'a> LineTable<'a> {
         self.sequences.line_at(pc)
     }
 
-    /// The name of a file of a table, of at most 4,096 bytes.
+    /// The name of a file of a table, of at most 4,096 bytes. The table is found in time as the logarithm
+    /// of the tables.
     pub fn file_name(&self, alloc: Global, table: u32, file: u32) -> Result<Text, Memory>
         ensures { IfOk result (λ name. name ≡ file_name_of self.now.tables table file) }
     {
-        match table_with(self.tables.as_slice(), table) {
+        match self.tables.at(table) {
             Some(found) => name_in(alloc, found, file),
             None => Text::of(alloc, b"<unknown file>"),
         }
     }
-}
-
-fn first_with<'t, 'a>(tables: &'t [Table<'a>], offset: u32) -> Option<&'t Table<'a>>
-    ensures { option_copied result ≡ find (λ t. t.offset == offset) tables.now }
-{
-    tables.iter().find(|table| table.offset == offset)
-}
-
-fn table_with<'t, 'a>(tables: &'t [Table<'a>], offset: u32) -> Option<&'t Table<'a>>
-    ensures { option_map (λ t. names_of t.now) result ≡ table_with (map names_of tables.now) offset }
-{
-    first_with(tables, offset)
 }
 
 fn directory_path<'a>(directories: &[Entry<'a>], number: Option<u64>) -> &'a [u8]
@@ -231,5 +212,6 @@ pub fn read_lines<'a>(
         &mut sequences,
     )?;
     let sequences = Sequences::of(alloc, sequences)?;
+    let tables = Tables::of(alloc, tables)?;
     Ok(LineTable { tables, sequences })
 }

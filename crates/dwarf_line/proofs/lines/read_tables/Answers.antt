@@ -1,7 +1,6 @@
-use Rattle.std.proofs.Common.{◌≡◌, ◌∙◌, ◌∷◌, ◌++◌, [], ℕ, List, map, option_to_list, sym, ap, arith}
+use Rattle.std.proofs.Common.{◌≡◌, ◌∙◌, ◌∷◌, [], ℕ, List, map, option_to_list, sym, ap, arith}
 use Rattle.std.specs.Prelude.{option_map}
 use Rattle.std.proofs.lemmas.Grind.{common_steps}
-use Rattle.prof_bytes.specs.Outcome.{FailsBy}
 use Rattle.dwarf_line.specs.Lines.{TableNames, lined, tables_of}
 use Rattle.dwarf_line.specs.Tables.{names_of}
 use Rattle.dwarf_line.specs.Views.{texts_of}

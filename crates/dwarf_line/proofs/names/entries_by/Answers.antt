@@ -1,4 +1,4 @@
-use Rattle.std.proofs.Common.{◌≡◌, ◌∙◌, sym, map}
+use Rattle.std.proofs.Common.{map}
 use Rattle.std.proofs.lemmas.List.{map_push}
 use Rattle.dwarf_line.specs.Counted.{counted_from}
 use Rattle.dwarf_line.specs.Names.{named_from}

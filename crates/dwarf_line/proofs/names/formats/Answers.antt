@@ -1,4 +1,3 @@
-use Rattle.std.proofs.Common.{◌≡◌, ◌∙◌, sym}
 use Rattle.dwarf_line.specs.Counted.{counted_from}
 use Rattle.dwarf_line.specs.Names.{format_from}
 use Rattle.dwarf_line.proofs.CountedItems.{goes_on, is_done, fails_at}

@@ -1,4 +1,4 @@
-use Rattle.std.proofs.Common.{◌≡◌, ◌∙◌, ℕ, Option, sym, ap}
+use Rattle.std.proofs.Common.{◌∙◌, ℕ, Option, sym, ap}
 use Rattle.prof_bytes.specs.Reading.{At}
 use Rattle.dwarf_forms.specs.Fields.{or_fault}
 use Rattle.dwarf_line.proofs.Operands.{passes_one, stops, all_passed}

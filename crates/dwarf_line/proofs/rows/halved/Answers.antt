@@ -1,4 +1,4 @@
-use Rattle.std.proofs.Common.{◌≡◌, ◌<◌, arith}
+use Rattle.std.proofs.Common.{arith}
 use Rattle.dwarf_line.proofs.HalvedRows.{none_in_force, last_in_force}
 use Rattle.dwarf_line.proofs.rows.halved.Goals as goal
 

@@ -1,4 +1,4 @@
-use Rattle.std.proofs.Common.{◌≡◌, ◌∙◌, ◌+◌, take, get_or, sym, ap, false}
+use Rattle.std.proofs.Common.{◌∙◌, take, get_or, sym, ap, false}
 use Rattle.std.proofs.lemmas.List.{take_more}
 use Rattle.dwarf_line.specs.declared.registers.MatrixRow.{MatrixRow}
 use Rattle.dwarf_line.specs.declared.rows.Best.{Best}

@@ -1,9 +1,7 @@
-use Rattle.std.proofs.Common.{◌≡◌, ◌∙◌, [], List, option_to_list, sym, ap, ap₂, rules}
+use Rattle.std.proofs.Common.{[], option_to_list, rules}
 use Rattle.dwarf_forms.specs.Runs.{run_from}
-use Rattle.dwarf_line.specs.declared.registers.MatrixRow.{MatrixRow}
-use Rattle.dwarf_line.specs.declared.sequence.Sequence.{Sequence}
 use Rattle.dwarf_line.specs.Programs.{opcode_from, start}
-use Rattle.dwarf_line.specs.Runs.{Kept, with_rows, kept_from}
+use Rattle.dwarf_line.specs.Runs.{Kept, kept_from}
 use Rattle.dwarf_line.proofs.KeptRows.{goes_on, is_done, is_spent, fails_at}
 use Rattle.dwarf_line.proofs.run.run.Goals as goal
 

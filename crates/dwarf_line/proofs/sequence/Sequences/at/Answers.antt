@@ -1,8 +1,6 @@
-use Rattle.std.proofs.Common.{◌≡◌, List, map, sym}
-use Rattle.std.specs.Prelude.{find, position, slice_get}
-use Rattle.std.specs.Option.{option_and_then}
-use Rattle.elf_image.specs.Ranges.{holds as range_holds}
-use Rattle.elf_image.proofs.Tables.{find_by_table}
+use Rattle.std.proofs.Common.{sym}
+use Rattle.address_ranges.specs.Ranges.{holds as range_holds}
+use Rattle.address_ranges.proofs.Places.{find_by_table}
 use Rattle.dwarf_line.specs.Sequences.{span_of}
 use Rattle.dwarf_line.proofs.sequence.Sequences.at.Goals as goal
 
