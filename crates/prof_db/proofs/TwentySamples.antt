@@ -1,6 +1,6 @@
 -- The database and the table of a program of twenty statements, each of its four samples at another one.
 use Rattle.std.proofs.Common.{◌≡◌, ℕ, List, [], ◌∷◌, codes, length, refl}
-use Rattle.scope_types.specs.declared.path.HartPath.{HartPath}
+use Rattle.scope_types.specs.CallPaths.{HartPath}
 use Rattle.scope_types.specs.declared.scope.RootKind.TheVariants.{Thread}
 use Rattle.scope_types.specs.declared.scope.ProcId.TheVariants.{Nameless}
 use Rattle.scope_types.specs.declared.scope.LineId.TheVariants.{Address}

@@ -1,5 +1,5 @@
 -- Raw paths, as an unwinder finds them (HPCToolkit's manual, "Call Path Profiling").
-use Rattle.std.specs.Prelude.{ℕ, List, Option, ◌≤◌, length}
+use Rattle.std.specs.Prelude.{ℕ, List, ◌≤◌, length}
 use Rattle.scope_types.specs.declared.frame.Frame.{Frame}
 use Rattle.scope_types.specs.declared.frame.End.{End}
 

@@ -15,7 +15,7 @@ mod scope;
 pub use frame::{End, Frame, PartialCause, RawPath};
 pub use hash::key;
 pub use look::{Look, Unwind};
-pub use path::{HartPath, ScopePath};
+pub use path::{Entry, ScopePath};
 pub use scope::{LineId, ProcId, RootKind, Scope, compare, compare_paths, order_laws};
 
 #[cfg(test)]

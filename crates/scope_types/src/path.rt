@@ -34,9 +34,10 @@ impl ScopePath {
     }
 }
 
-/// A call path of a hart, by the hart's number from 0.
+/// A call path of a hart, by the hart's number from 0, and how many samples have it.
 #[derive(Debug, Drop)]
-pub struct HartPath {
+pub struct Entry {
     pub hart: u32,
+    pub count: u32,
     pub path: ScopePath,
 }

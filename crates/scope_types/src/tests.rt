@@ -134,12 +134,8 @@ fn keys_of_paths(rt: HostRuntime) {
 #[test]
 fn a_path_keeps_its_scopes(rt: HostRuntime) -> Result<(), std::test::Fail> {
     let scopes = Vec::from_slice(rt.alloc(), &ASCENDING)?;
-    let path = HartPath {
-        hart: 3,
-        path: ScopePath::of(scopes),
-    };
-    assert_eq!(rt; path.hart, 3);
-    assert!(rt; path.path.scopes() == ASCENDING.as_slice());
+    let path = ScopePath::of(scopes);
+    assert!(rt; path.scopes() == ASCENDING.as_slice());
     order_laws();
     Ok(())
 }

@@ -20,3 +20,4 @@ pub mod NamesUsed
 pub mod Numbers
 pub mod PlaneSteps
 pub mod Bounds
+pub mod Entries

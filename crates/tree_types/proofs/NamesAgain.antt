@@ -7,7 +7,7 @@ use Rattle.std.specs.Ordering.{eq_by_cmp}
 use Rattle.std.proofs.lemmas.Cmp.{on_total, nat_list_cmp_total}
 use Rattle.std.proofs.lemmas.List.Folds.{list_any_at}
 use Rattle.std.proofs.lemmas.List.Elements.{recursion_from_All, All-contains_itself}
-use Rattle.scope_types.specs.declared.path.HartPath.{HartPath}
+use Rattle.scope_types.specs.CallPaths.{HartPath}
 use Rattle.scope_types.specs.declared.scope.RootKind.TheVariants.{Thread, Partial}
 use Rattle.scope_types.specs.declared.scope.ProcId.{ProcId}
 use Rattle.scope_types.specs.declared.scope.LineId.{LineId}
@@ -145,7 +145,7 @@ row_with period harts ps n text =
     let inclusive = over_harts period harts ps n Inclusive in
     row (decimal inclusive) (percent inclusive (period * length ps)) (decimal (over_harts period harts ps n Frame)) (length n - 1) text
 
-own_names_table : (period harts : ℕ) (naming : Naming) (ps : List HartPath) → top_down period harts (naming_in (names_used naming ps)) ps ≡ top_down period harts naming ps
+pub own_names_table : (period harts : ℕ) (naming : Naming) (ps : List HartPath) → top_down period harts (naming_in (names_used naming ps)) ps ≡ top_down period harts naming ps
 unfolding top_down
 own_names_table period harts naming ps =
     let own : Naming = naming_in (names_used naming ps) in

@@ -1,15 +1,14 @@
 -- What a loop that collects the names that nodes use has made so far.
 use Rattle.std.proofs.Common.{◌≡◌, ℕ, ◌+◌, ◌<◌, ◌≤◌, List, [], ◌∷◌, ◌++◌, length, get_or, take, Ordering, refl, sym, ap, ◌∙◌, append-nil, take_all}
 use Rattle.std.specs.Cmp.{IsTotalOrder}
-use Rattle.std.specs.FinMap.{IsAntisymmetric, nat_cmp-IsAntisymmetric, slice_cmp-IsAntisymmetric}
+use Rattle.std.specs.FinMap.{IsAntisymmetric}
 use Rattle.std.specs.List.{flat_map}
 use Rattle.std.proofs.lemmas.List.{take_more}
 use Rattle.std.proofs.lemmas.List.Concat.{flat_map-append}
-use Rattle.scope_types.specs.declared.scope.ProcId.{ProcId}
 use Rattle.tree_types.specs.Ascending.{put_all, ascending}
 use Rattle.tree_types.specs.Paths.{Path}
 use Rattle.tree_types.specs.Nodes.{own_scope}
-use Rattle.tree_types.specs.Naming.{FileId, proc_order, file_order, scope_procs, scope_files, procs_used, files_used}
+use Rattle.tree_types.specs.Naming.{proc_order, file_order, scope_procs, scope_files, procs_used, files_used}
 use Rattle.tree_types.proofs.NamesAgain.{proc_order_total, proc_order_tells, file_order_total, file_order_tells}
 use Rattle.tree_types.proofs.Putting.{put_all_ascending}
 

@@ -1,9 +1,7 @@
 -- A plane, a hart at a time.
 use Rattle.std.proofs.Common.{◌≡◌, ℕ, ◌+◌, List, [], ◌∷◌, ◌++◌, map, sym, zero-add}
-use Rattle.std.specs.List.{range_with_len}
 use Rattle.std.proofs.lemmas.List.FromFn.{map-range_with_len_more}
-use Rattle.scope_types.specs.declared.path.HartPath.{HartPath}
-use Rattle.tree_types.specs.declared.content.ProfileEntry.{ProfileEntry}
+use Rattle.scope_types.specs.CallPaths.{HartPath}
 use Rattle.tree_types.specs.Planes.{profile_of}
 use Rattle.tree_types.specs.Values.{harts_below}
 

@@ -2,7 +2,7 @@
 use Rattle.std.specs.Prelude.{ℕ, List, map, [], ◌∷◌, if◌then◌else◌}
 use Rattle.std.specs.Ordering.{is_eq}
 use Rattle.scope_types.specs.declared.scope.ProcId.{ProcId}
-use Rattle.scope_types.specs.declared.path.HartPath.{HartPath}
+use Rattle.scope_types.specs.CallPaths.{HartPath}
 use Rattle.tree_types.specs.declared.content.Content.{Content}
 use Rattle.tree_types.specs.declared.content.Names.{Names}
 use Rattle.tree_types.specs.declared.content.Node.{Node}

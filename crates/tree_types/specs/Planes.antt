@@ -1,7 +1,7 @@
 -- The values other than 0, twice: by hart (profile-major) and by node (context-major), the two planes of HPCToolkit's databases.
 use Rattle.std.specs.Prelude.{ℕ, ◌==◌, not, List, [], ◌∷◌, map, filter}
 use Rattle.std.specs.List.{flat_map, enumerate_from}
-use Rattle.scope_types.specs.declared.path.HartPath.{HartPath}
+use Rattle.scope_types.specs.CallPaths.{HartPath}
 use Rattle.tree_types.specs.declared.content.Kind.{Kind}
 use Rattle.tree_types.specs.declared.content.Kind.TheVariants.{Exclusive, Frame, Inclusive}
 use Rattle.tree_types.specs.declared.content.ProfileEntry.{ProfileEntry}

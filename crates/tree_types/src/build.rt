@@ -1,5 +1,6 @@
 //! The whole content of a list of call paths, by the plain bodies.
 ghost use Rattle.std.specs.Prelude.{◌≡◌, ◌<◌, ◌≤◌, ◌^◌, length, map, IfOk};
+ghost use Rattle.scope_types.specs.CallPaths.{each_path};
 ghost use Rattle.tree_types.specs.Nodes.{nodes, no_parent};
 ghost use Rattle.tree_types.specs.Planes.{profile_plane, context_plane, context_of};
 ghost use Rattle.tree_types.specs.Naming.{Naming};
@@ -10,7 +11,7 @@ use crate::plain::node_list_of;
 use crate::planes::{ContextPlane, ProfilePlane};
 use crate::values::{column_of, context_column_of};
 use prof_bytes::Listed;
-use scope_types::{HartPath, ScopePath};
+use scope_types::{Entry, ScopePath};
 use std::alloc::{AllocError, Global};
 
 #[tactic(auto, using(crate::proofs::PlaneSteps::one_column_more))]
@@ -18,17 +19,17 @@ fn profiles_of(
     alloc: Global,
     period: u32,
     harts: u32,
-    paths: &[HartPath],
+    entries: &[Entry],
     tree: &[ScopePath],
 ) -> Result<ProfilePlane, AllocError>
-    requires few { length paths.now ≤ 2 ^ 20 }
-    requires nodes { tree.now ≡ nodes paths.now }
+    requires few { length (each_path entries.now) ≤ 2 ^ 20 }
+    requires nodes { tree.now ≡ nodes (each_path entries.now) }
     requires numbers { length tree.now ≤ no_parent }
-    ensures { IfOk result (λ plane. plane ≡ profile_plane period harts paths.now) }
+    ensures { IfOk result (λ plane. plane ≡ profile_plane period harts (each_path entries.now)) }
 {
     let mut columns = Vec::new(alloc);
     for hart in 0..harts {
-        columns.push(Listed::of(column_of(alloc, period, paths, hart, tree)?))?;
+        columns.push(Listed::of(column_of(alloc, period, entries, hart, tree)?))?;
     }
     Ok(ProfilePlane::of(columns))
 }
@@ -37,15 +38,15 @@ fn contexts_of(
     alloc: Global,
     period: u32,
     harts: u32,
-    paths: &[HartPath],
+    entries: &[Entry],
     tree: &[ScopePath],
 ) -> Result<ContextPlane, AllocError>
-    requires { length paths.now ≤ 2 ^ 20 }
-    ensures { IfOk result (λ plane. plane ≡ map (context_of period harts paths.now) tree.now) }
+    requires { length (each_path entries.now) ≤ 2 ^ 20 }
+    ensures { IfOk result (λ plane. plane ≡ map (context_of period harts (each_path entries.now)) tree.now) }
 {
     let mut columns = Vec::new(alloc);
     for n in tree {
-        let column = context_column_of(alloc, period, harts, paths, n.scopes())?;
+        let column = context_column_of(alloc, period, harts, entries, n.scopes())?;
         columns.push(Listed::of(column))?;
     }
     Ok(ContextPlane::of(columns))
@@ -60,21 +61,21 @@ pub fn content_of_paths(
     period: u32,
     harts: u32,
     names: Names,
-    paths: &[HartPath],
+    entries: &[Entry],
     tree: &[ScopePath],
 ) -> Result<Content, AllocError>
-    requires few { length paths.now ≤ 2 ^ 20 }
-    requires nodes { tree.now ≡ nodes paths.now }
+    requires few { length (each_path entries.now) ≤ 2 ^ 20 }
+    requires nodes { tree.now ≡ nodes (each_path entries.now) }
     requires numbers { length tree.now ≤ no_parent }
-    ensures parts { IfOk result (λ content. content ≡ record { period = period; harts = harts; names = names; nodes = node_list paths.now; profiles = profile_plane period harts paths.now; contexts = context_plane period harts paths.now }) }
-    ensures named { (naming : Naming) → names ≡ names_used naming paths.now → IfOk result (λ content. content ≡ content_of period harts naming paths.now) }
+    ensures parts { IfOk result (λ content. content ≡ record { period = period; harts = harts; names = names; nodes = node_list (each_path entries.now); profiles = profile_plane period harts (each_path entries.now); contexts = context_plane period harts (each_path entries.now) }) }
+    ensures named { (naming : Naming) → names ≡ names_used naming (each_path entries.now) → IfOk result (λ content. content ≡ content_of period harts naming (each_path entries.now)) }
 {
     Ok(Content {
         period,
         harts,
         names,
         nodes: node_list_of(alloc, tree)?,
-        profiles: profiles_of(alloc, period, harts, paths, tree)?,
-        contexts: contexts_of(alloc, period, harts, paths, tree)?,
+        profiles: profiles_of(alloc, period, harts, entries, tree)?,
+        contexts: contexts_of(alloc, period, harts, entries, tree)?,
     })
 }

@@ -24,6 +24,6 @@ pub use laws::{
     parents_stand_before, pieces_keep_the_paths, values_add_up,
 };
 pub use named::{files_of, procs_of};
-pub use plain::{node_list_of, nodes_of, own_scope_of, rest_after, value_of};
+pub use plain::{node_list_of, nodes_of, own_scope_of, rest_after, total_of, value_of};
 pub use planes::{ContextPlane, ProfilePlane};
 pub use values::{column_of, context_column_of};

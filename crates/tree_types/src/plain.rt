@@ -1,8 +1,9 @@
-//! Nodes and values by plain search: each answer walks the whole list of paths. Slow on purpose: it is
+//! Nodes and values by plain search: each answer walks the whole list of entries. Slow on purpose: it is
 //! what the definitions say, and what a faster form is compared with.
 ghost use Rattle.std.specs.Prelude.{◌≡◌, ℕ, ◌+◌, ◌*◌, ◌<◌, ◌≤◌, ◌^◌, ◌==◌, ◌&&◌, List, length, fold, insert, IfOk, IfNone, IfSome, OnOk, option_map, map, take, count_by, position};
 ghost use Rattle.std.specs.Ordering.{is_eq};
 ghost use Rattle.scope_types.specs.Order.{path_order};
+ghost use Rattle.scope_types.specs.CallPaths.{each_path};
 ghost use Rattle.tree_types.specs.Ascending.{put, put_all};
 ghost use Rattle.tree_types.specs.Paths.{after, is_proc, prefixes, rest_passes};
 ghost use Rattle.tree_types.specs.Nodes.{nodes, no_parent, number_of, own_scope, parent_number};
@@ -10,7 +11,7 @@ ghost use Rattle.tree_types.specs.Values.{counts_for, count_below, value, within
 
 use crate::content::{Kind, NO_PARENT, Node};
 use prof_bytes::Listed;
-use scope_types::{HartPath, RootKind, Scope, ScopePath, compare, compare_paths};
+use scope_types::{Entry, RootKind, Scope, ScopePath, compare, compare_paths};
 use std::alloc::{AllocError, Global};
 use std::cmp::Ordering;
 
@@ -61,31 +62,44 @@ fn counts(kind: Kind, rest: &[Scope]) -> bool
     }
 }
 
-/// Whether a path of a hart counts for the node.
-fn path_counts(p: &HartPath, hart: u32, n: &[Scope], kind: Kind) -> bool
-    ensures { result ≡ ((p.now.hart == hart) && rest_passes (counts_for kind) (after n.now p.now.path)) }
+/// Whether the paths of an entry count for the node and the hart.
+fn entry_counts(e: &Entry, hart: u32, n: &[Scope], kind: Kind) -> bool
+    ensures { result ≡ ((e.now.hart == hart) && rest_passes (counts_for kind) (after n.now e.now.path)) }
 {
-    if p.hart != hart {
+    if e.hart != hart {
         return false;
     }
-    match rest_after(n, p.path.scopes()) {
+    match rest_after(n, e.path.scopes()) {
         None => false,
         Some(rest) => counts(kind, rest),
     }
 }
 
+/// How many paths the entries have together.
+#[tactic(auto, using(crate::proofs::Entries::total_steps))]
+pub fn total_of(entries: &[Entry]) -> u64
+    requires { length (each_path entries.now) < 2 ^ 63 }
+    ensures { result ≡ length (each_path entries.now) }
+{
+    let mut count: u64 = 0;
+    for e in entries {
+        count += u64::from(e.count);
+    }
+    count
+}
+
 /// A node's value for a hart, in retired instructions: the period times the number of its paths that
-/// count. One walk over all paths.
-#[tactic(auto, using(crate::proofs::Bounds::small_product), unfolding(crate::specs::Values::count_below))]
-pub fn value_of(period: u32, paths: &[HartPath], hart: u32, n: &[Scope], kind: Kind) -> u64
-    requires { length paths.now ≤ 2 ^ 20 }
-    ensures value { result ≡ value period paths.now hart n.now kind }
+/// count. One walk over all entries.
+#[tactic(auto, using(crate::proofs::Bounds::small_product, crate::proofs::Entries::count_steps))]
+pub fn value_of(period: u32, entries: &[Entry], hart: u32, n: &[Scope], kind: Kind) -> u64
+    requires { length (each_path entries.now) ≤ 2 ^ 20 }
+    ensures value { result ≡ value period (each_path entries.now) hart n.now kind }
     ensures small { result < 2 ^ 52 }
 {
     let mut count: u64 = 0;
-    for p in paths {
-        if path_counts(p, hart, n, kind) {
-            count += 1;
+    for e in entries {
+        if entry_counts(e, hart, n, kind) {
+            count += u64::from(e.count);
         }
     }
     u64::from(period) * count
@@ -139,13 +153,15 @@ fn put_prefixes(alloc: Global, found: &mut Vec<ScopePath>, path: &[Scope]) -> Re
 }
 
 /// The nodes of the paths, in preorder. Fails for want of memory alone.
-#[tactic(auto, using(crate::proofs::Putting::one_path_more, crate::proofs::Putting::all_paths, crate::proofs::Putting::no_path))]
-pub fn nodes_of(alloc: Global, paths: &[HartPath]) -> Result<Listed<ScopePath>, AllocError>
-    ensures { IfOk result (λ ns. ns ≡ nodes paths.now) }
+#[tactic(auto, using(crate::proofs::Entries::node_steps))]
+pub fn nodes_of(alloc: Global, entries: &[Entry]) -> Result<Listed<ScopePath>, AllocError>
+    ensures { IfOk result (λ ns. ns ≡ nodes (each_path entries.now)) }
 {
     let mut found = Vec::new(alloc);
-    for p in paths {
-        put_prefixes(alloc, &mut found, p.path.scopes())?;
+    for e in entries {
+        if e.count > 0 {
+            put_prefixes(alloc, &mut found, e.path.scopes())?;
+        }
     }
     Ok(Listed::of(found))
 }

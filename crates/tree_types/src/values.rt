@@ -1,6 +1,7 @@
 //! The columns of the two planes, a value at a time.
 ghost use Rattle.std.specs.Prelude.{◌≡◌, ℕ, ◌+◌, ◌*◌, ◌<◌, ◌≤◌, ◌^◌, ◌++◌, ◌∷◌, [], ◌==◌, not, List, length, map, filter, OnOk, IfOk, slice_index_or};
 ghost use Rattle.std.specs.List.{flat_map, enumerate_from};
+ghost use Rattle.scope_types.specs.CallPaths.{each_path};
 ghost use Rattle.tree_types.specs.Nodes.{nodes};
 ghost use Rattle.tree_types.specs.Values.{value};
 ghost use Rattle.tree_types.specs.Planes.{profile_entry, context_entry, profile_of, context_of, kind_column, node_values, other_than_zero};
@@ -8,7 +9,7 @@ ghost use Rattle.tree_types.specs.declared.content.Kind.TheVariants.{Exclusive, 
 
 use crate::content::{ContextEntry, Kind, ProfileEntry};
 use crate::plain::value_of;
-use scope_types::{HartPath, Scope, ScopePath};
+use scope_types::{Entry, Scope, ScopePath};
 use std::alloc::{AllocError, Global};
 
 fn put_value(out: &mut Vec<ProfileEntry>, e: ProfileEntry) -> Result<(), AllocError>
@@ -23,16 +24,16 @@ fn put_value(out: &mut Vec<ProfileEntry>, e: ProfileEntry) -> Result<(), AllocEr
 fn put_kind(
     out: &mut Vec<ProfileEntry>,
     period: u32,
-    paths: &[HartPath],
+    entries: &[Entry],
     hart: u32,
     number: u32,
     n: &[Scope],
     kind: Kind,
 ) -> Result<(), AllocError>
-    requires { length paths.now ≤ 2 ^ 20 }
-    ensures { OnOk result (out.new.items ≡ out.old.items ++ other_than_zero (profile_entry number kind (value period paths.now hart n.now kind) ∷ [])) }
+    requires { length (each_path entries.now) ≤ 2 ^ 20 }
+    ensures { OnOk result (out.new.items ≡ out.old.items ++ other_than_zero (profile_entry number kind (value period (each_path entries.now) hart n.now kind) ∷ [])) }
 {
-    let value = value_of(period, paths, hart, n, kind);
+    let value = value_of(period, entries, hart, n, kind);
     put_value(
         out,
         ProfileEntry {
@@ -48,17 +49,17 @@ fn put_kind(
 fn put_node(
     out: &mut Vec<ProfileEntry>,
     period: u32,
-    paths: &[HartPath],
+    entries: &[Entry],
     hart: u32,
     number: u32,
     n: &[Scope],
 ) -> Result<(), AllocError>
-    requires { length paths.now ≤ 2 ^ 20 }
-    ensures { OnOk result (out.new.items ≡ out.old.items ++ other_than_zero (node_values period paths.now hart (number, n.now))) }
+    requires { length (each_path entries.now) ≤ 2 ^ 20 }
+    ensures { OnOk result (out.new.items ≡ out.old.items ++ other_than_zero (node_values period (each_path entries.now) hart (number, n.now))) }
 {
-    put_kind(out, period, paths, hart, number, n, Kind::Exclusive)?;
-    put_kind(out, period, paths, hart, number, n, Kind::Frame)?;
-    put_kind(out, period, paths, hart, number, n, Kind::Inclusive)
+    put_kind(out, period, entries, hart, number, n, Kind::Exclusive)?;
+    put_kind(out, period, entries, hart, number, n, Kind::Frame)?;
+    put_kind(out, period, entries, hart, number, n, Kind::Inclusive)
 }
 
 /// The values of a hart other than 0, by node, then kind. Fails for want of memory alone.
@@ -66,18 +67,18 @@ fn put_node(
 pub fn column_of(
     alloc: Global,
     period: u32,
-    paths: &[HartPath],
+    entries: &[Entry],
     hart: u32,
     tree: &[ScopePath],
 ) -> Result<Vec<ProfileEntry>, AllocError>
-    requires few { length paths.now ≤ 2 ^ 20 }
-    requires nodes { tree.now ≡ nodes paths.now }
+    requires few { length (each_path entries.now) ≤ 2 ^ 20 }
+    requires nodes { tree.now ≡ nodes (each_path entries.now) }
     requires numbers { length tree.now < 2 ^ 32 }
-    ensures { IfOk result (λ es. es.items ≡ profile_of period paths.now hart) }
+    ensures { IfOk result (λ es. es.items ≡ profile_of period (each_path entries.now) hart) }
 {
     let mut out = Vec::new(alloc);
     for i in 0..tree.len() {
-        put_node(&mut out, period, paths, hart, i as u32, tree[i].scopes())?;
+        put_node(&mut out, period, entries, hart, i as u32, tree[i].scopes())?;
     }
     Ok(out)
 }
@@ -97,15 +98,15 @@ fn put_kind_by_hart(
     out: &mut Vec<ContextEntry>,
     period: u32,
     harts: u32,
-    paths: &[HartPath],
+    entries: &[Entry],
     n: &[Scope],
     kind: Kind,
 ) -> Result<(), AllocError>
-    requires { length paths.now ≤ 2 ^ 20 }
-    ensures { OnOk result (out.new.items ≡ out.old.items ++ kind_column period harts paths.now n.now kind) }
+    requires { length (each_path entries.now) ≤ 2 ^ 20 }
+    ensures { OnOk result (out.new.items ≡ out.old.items ++ kind_column period harts (each_path entries.now) n.now kind) }
 {
     for hart in 0..harts {
-        let value = value_of(period, paths, hart, n, kind);
+        let value = value_of(period, entries, hart, n, kind);
         put_context_value(out, ContextEntry { kind, hart, value })?;
     }
     Ok(())
@@ -117,15 +118,15 @@ pub fn context_column_of(
     alloc: Global,
     period: u32,
     harts: u32,
-    paths: &[HartPath],
+    entries: &[Entry],
     n: &[Scope],
 ) -> Result<Vec<ContextEntry>, AllocError>
-    requires { length paths.now ≤ 2 ^ 20 }
-    ensures { IfOk result (λ es. es.items ≡ context_of period harts paths.now n.now) }
+    requires { length (each_path entries.now) ≤ 2 ^ 20 }
+    ensures { IfOk result (λ es. es.items ≡ context_of period harts (each_path entries.now) n.now) }
 {
     let mut out = Vec::new(alloc);
-    put_kind_by_hart(&mut out, period, harts, paths, n, Kind::Exclusive)?;
-    put_kind_by_hart(&mut out, period, harts, paths, n, Kind::Frame)?;
-    put_kind_by_hart(&mut out, period, harts, paths, n, Kind::Inclusive)?;
+    put_kind_by_hart(&mut out, period, harts, entries, n, Kind::Exclusive)?;
+    put_kind_by_hart(&mut out, period, harts, entries, n, Kind::Frame)?;
+    put_kind_by_hart(&mut out, period, harts, entries, n, Kind::Inclusive)?;
     Ok(out)
 }

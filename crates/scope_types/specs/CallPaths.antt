@@ -1,0 +1,18 @@
+-- The call paths of samples, and how a list of them is kept: each path once with its count.
+use Rattle.std.specs.Prelude.{ℕ, List, replicate}
+use Rattle.std.specs.List.{flat_map}
+use Rattle.scope_types.specs.declared.scope.Scope.{Scope}
+use Rattle.scope_types.specs.declared.path.Entry.{Entry}
+
+-- the call path of one sample of a hart
+pub record HartPath : Type 0 where
+  pub hart : ℕ
+  pub path : List Scope
+
+-- the path of an entry
+abbrev pub path_of : Entry → HartPath
+path_of e = record { hart = e.hart; path = e.path }
+
+-- each path as often as its entry says
+unfoldable pub each_path : List Entry → List HartPath
+each_path entries = flat_map (λ e. replicate e.count (path_of e)) entries
