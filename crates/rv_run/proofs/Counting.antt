@@ -1,5 +1,5 @@
 -- What one instruction does to the counts of all harts.
-use Rattle.std.proofs.Common.{◌≡◌, ◌≢◌, ℕ, zero, suc, ◌+◌, ◌<◌, ◌==◌, ◌||◌, Bool, true, false, cond, List, [], ◌∷◌, map, length, take, min, slice_set, refl, sym, ap, ap₂, subst, ◌∙◌, arith, rules}
+use Rattle.std.proofs.Common.{◌≡◌, ℕ, zero, suc, ◌+◌, ◌<◌, ◌==◌, ◌||◌, Bool, true, false, cond, List, [], ◌∷◌, map, length, take, min, slice_set, refl, sym, ap, ap₂, subst, ◌∙◌}
 use Rattle.std.proofs.lemmas.List.{get_or-set_same, get_or-set_other}
 use Rattle.std.proofs.Math.ListN.{length-set}
 use Rattle.rv_hart.specs.Memory.{Memory, stored}
@@ -8,8 +8,8 @@ use Rattle.rv_hart.specs.declared.outcome.Stepped.{Stepped}
 use Rattle.rv_hart.specs.declared.outcome.Stepped.TheVariants as stepped
 use Rattle.rv_run.specs.declared.hart.HartEnd.{HartEnd}
 use Rattle.rv_run.specs.declared.hart.HartEnd.TheVariants as ends
-use Rattle.rv_run.specs.State.{HartState, MachineState, hart_in, hart_of, with_hart, no_hart, is_running, step_state, stepped_hart}
-use Rattle.rv_run.specs.Calls.{Acted, Answered, reads, writes, calls, called, completes, ends_by, ends_all, grouped, with_answer, with_end, only_answers, all_readable, writes_out, taken, read_into, no_call, bad_descriptor, bad_address, holds_in}
+use Rattle.rv_run.specs.State.{HartState, MachineState, hart_in, hart_of, no_hart, is_running, step_state, stepped_hart}
+use Rattle.rv_run.specs.Calls.{Acted, Answered, reads, writes, called, completes, ends_by, ends_all, grouped, with_answer, with_end, only_answers, all_readable, writes_out, taken, read_into, no_call, bad_descriptor, bad_address, holds_in}
 use Rattle.rv_run.specs.Run.{acts, acts_by, acts_after, stepped_machine}
 use Rattle.rv_run.specs.Told.{Counts, plus_one}
 use Rattle.rv_run.proofs.Unchanged.{not-retired}

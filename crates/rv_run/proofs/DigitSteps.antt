@@ -1,5 +1,5 @@
 -- The value of digits read so far, where what is too large counts as one bound.
-use Rattle.std.proofs.Common.{◌≡◌, ℕ, ◌+◌, ◌-◌, ◌*◌, ◌^◌, ◌<◌, ◌≤◌, List, length, get_or, take, min, fold, refl, sym, ap, ◌∙◌, arith, take_all}
+use Rattle.std.proofs.Common.{◌≡◌, ℕ, ◌+◌, ◌-◌, ◌*◌, ◌^◌, ◌<◌, ◌≤◌, List, length, get_or, take, min, sym, ap, ◌∙◌, arith, take_all}
 use Rattle.std.proofs.lemmas.List.Sums.{fold_more}
 use Rattle.rv_run.specs.Numerals.{next_digit, numeral_value}
 

@@ -5,3 +5,4 @@ pub mod Slices
 pub mod Lining
 pub mod Ranges
 pub mod Passing
+pub mod Ending

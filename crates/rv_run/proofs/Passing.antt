@@ -1,5 +1,5 @@
 -- Instructions that retire by themselves, one after another.
-use Rattle.std.proofs.Common.{◌≡◌, ◌≢◌, ◌⊎◌, inl, inr, ℕ, zero, suc, ◌+◌, ◌-◌, ◌<◌, ◌≤◌, Bool, true, false, cond, List, [], ◌∷◌, ◌++◌, length, slice_set, Option, Some, None, length-append, refl, sym, ap, ap₂, subst, ◌∙◌, append_assoc, arith, rules}
+use Rattle.std.proofs.Common.{◌≡◌, ◌≢◌, inl, inr, ℕ, zero, suc, ◌+◌, ◌-◌, ◌<◌, ◌≤◌, Bool, true, false, cond, List, [], ◌∷◌, ◌++◌, length, Some, None, length-append, refl, sym, ap, subst, ◌∙◌, append_assoc, arith}
 use Rattle.std.specs.List.{All}
 use Rattle.std.proofs.lemmas.List.{get_or-set_same}
 use Rattle.std.proofs.lemmas.List.Elements.{All-push}
@@ -7,25 +7,28 @@ use Rattle.std.proofs.lemmas.Bool.Decides.{eqb_tells}
 use Rattle.rv_hart.specs.Step.{State, step_of}
 use Rattle.rv_hart.specs.declared.outcome.Stepped.{Stepped}
 use Rattle.rv_hart.specs.declared.outcome.Stepped.TheVariants as stepped
-use Rattle.rv_run.specs.declared.hart.HartEnd.{HartEnd}
 use Rattle.rv_run.specs.declared.schedule.Slice.{Slice}
 use Rattle.rv_run.specs.declared.machine.Due.{Due}
 use Rattle.rv_run.specs.declared.machine.Moment.{Moment}
 use Rattle.rv_run.specs.Reading.{first_of}
 use Rattle.rv_run.specs.Schedule.{instructions, most_instructions}
-use Rattle.rv_run.specs.State.{HartState, MachineState, hart_in, hart_of, no_hart, runs, is_running, step_state, stepped_hart}
+use Rattle.rv_run.specs.State.{HartState, MachineState, hart_of, no_hart, runs, is_running, step_state, stepped_hart}
 use Rattle.rv_run.specs.Calls.{Acted}
-use Rattle.rv_run.specs.Run.{Instant, Run, acts, after, instant, next_instant, finished, preceded, joined, run_slice, run_slices, stepped_machine}
-use Rattle.rv_run.specs.Told.{Progress, Counts, IsBetween, Passing, Plain, Passed, WentOn, plus_one, to_come, less, with_left, count_of_first, AreOf, HaveRoom, StandsAt, due_of, first_due}
+use Rattle.rv_run.specs.Run.{Instant, Run, acts, after, next_instant, finished, preceded, joined, run_slice, run_slices, stepped_machine}
+use Rattle.rv_run.specs.Told.{Progress, Counts, IsBetween, Passing, Passed, WentOn, plus_one, to_come, less, count_of_first, HaveRoom, due_of, first_due}
 use Rattle.rv_run.proofs.Counting.{acts-as, counts-of}
 use Rattle.rv_run.proofs.Slices.{IsDue, less-by}
 
 preceded-twice : (xs ys : List Instant) (run : Run) → preceded xs (preceded ys run) ≡ preceded (xs ++ ys) run
 preceded-twice xs ys run = ap (λ (all : List Instant). record { instants = all; final = run.final }) (sym (append_assoc xs ys run.instants))
 
--- a step keeps how the hart stands
+-- one instruction that retired by itself
+abbrev pub Plain : ℕ → MachineState → MachineState → Type 0
+Plain hart old new = (record { state = new; retired = true } ≡ acts hart old) × ((hart_of new hart).end ≡ (hart_of old hart).end)
+
+-- a step that retired is one, and keeps how the hart stands
 pub step-plain : (hart : ℕ) (s new : MachineState) (how : Stepped) → hart < length s.harts → new ≡ stepped_machine hart (step_of (step_state (hart_of s hart) s.memory)) s
-    → how ≡ (step_of (step_state (hart_of s hart) s.memory)).1 → how ≡ stepped.Retired → Plain hart true s new
+    → how ≡ (step_of (step_state (hart_of s hart) s.memory)).1 → how ≡ stepped.Retired → Plain hart s new
 step-plain hart s new how within is ends retired =
     let r : State × Stepped = step_of (step_state (hart_of s hart) s.memory) in (
       subst (λ (h : Stepped). how ≡ h → record { state = new; retired = true } ≡ acts hart s) refl (λ _. acts-as hart s new stepped.Retired is (sym retired ∙ ends)) refl,
@@ -54,7 +57,7 @@ one-slice s hart more running = ap (λ (b : Bool). cond b (preceded (next_instan
 wider : (hart from to wide : ℕ) (all : List Instant) → to ≤ wide → All (IsBetween hart from to) all → All (IsBetween hart from wide) all
 wider hart from to wide all le between = λ k d few. record { own = (between k d few).own; low = (between k d few).low; high = omega (arith, le, (between k d few).high) }
 
-pub passing-more : (hart many : ℕ) (a b c : MachineState) → Passing hart many a b → Plain hart true b c → hart < length a.harts → Passing hart (many + 1) a c
+pub passing-more : (hart many : ℕ) (a b c : MachineState) → Passing hart many a b → Plain hart b c → hart < length a.harts → Passing hart (many + 1) a c
 passing-more hart many a b c was now within =
     let counts : Counts hart true b c = counts-of hart b c true now.0 (omega (arith, was.harts)) in
     let i : Instant = next_instant hart b in

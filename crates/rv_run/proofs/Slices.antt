@@ -1,6 +1,5 @@
 -- The slices that are left, and the run that they give.
-use Rattle.std.proofs.Common.{◌≡◌, ◌≢◌, ◌⊎◌, inl, inr, ℕ, zero, suc, ◌+◌, ◌-◌, ◌<◌, ◌≤◌, ◌&&◌, nat_lt, Bool, true, false, cond, List, [], ◌∷◌, ◌++◌, map, length, drop, sum, sum_by, Option, Some, None, refl, sym, ap, ap₂, subst, ◌∙◌, arith, add-one, lt-ltb}
-use Rattle.std.specs.List.{All}
+use Rattle.std.proofs.Common.{◌≡◌, ◌≢◌, ◌⊎◌, inl, inr, ℕ, zero, suc, ◌+◌, ◌-◌, ◌<◌, ◌≤◌, ◌&&◌, nat_lt, Bool, true, false, cond, List, [], ◌∷◌, ◌++◌, length, drop, sum_by, Some, None, refl, sym, ap, ap₂, subst, ◌∙◌, arith, add-one, lt-ltb}
 use Rattle.std.proofs.lemmas.List.Sums.{sum_by-cons, sum_by-append, sum-map}
 use Rattle.std.proofs.lemmas.Bool.Decides.{eqb_tells}
 use Rattle.rv_run.specs.declared.schedule.Slice.{Slice}
@@ -9,7 +8,7 @@ use Rattle.rv_run.specs.Reading.{first_of, rest_of}
 use Rattle.rv_run.specs.Schedule.{instructions, count_of, most_instructions}
 use Rattle.rv_run.specs.State.{MachineState, hart_of, is_running}
 use Rattle.rv_run.specs.Calls.{Acted}
-use Rattle.rv_run.specs.Run.{Instant, Run, acts, after, next_instant, finished, preceded, joined, run_slice, run_slices}
+use Rattle.rv_run.specs.Run.{Run, acts, after, next_instant, finished, preceded, joined, run_slice, run_slices}
 use Rattle.rv_run.specs.Told.{Counts, plus_one, with_left, count_of_first, less, AreOf, HaveRoom, IsNext, StandsAt, due_of, first_due, WentOn}
 
 whole : (slices : List Slice) → with_left (count_of_first slices) slices ≡ slices

@@ -1,5 +1,5 @@
 -- A step that does not retire changes nothing.
-use Rattle.std.proofs.Common.{◌≡◌, ℕ, ◌%◌, ◌==◌, ◌*◌, ◌/◌, Bool, true, false, not, cond, List, Option, Some, None, option_map, nat_lt, int_lt, slice_set, refl, sym, ap, ◌∙◌}
+use Rattle.std.proofs.Common.{◌≡◌, ℕ, ◌%◌, ◌==◌, ◌*◌, ◌/◌, Bool, true, false, not, cond, List, Option, Some, None, option_map, nat_lt, int_lt, refl, ap, ◌∙◌}
 use Rattle.std.proofs.lemmas.List.{set-get_or}
 use Rattle.rv_table.specs.declared.inst.Op.{Op}
 use Rattle.rv_table.specs.declared.inst.Op.TheVariants as ops
@@ -11,7 +11,7 @@ use Rattle.rv_hart.specs.declared.outcome.Stepped.TheVariants as stepped
 use Rattle.rv_hart.specs.declared.outcome.Cause.TheVariants as cause
 use Rattle.rv_hart.specs.Arithmetic.{sum, signed}
 use Rattle.rv_hart.specs.Memory.{Memory, stored}
-use Rattle.rv_hart.specs.Step.{State, first, second, address, operand, trapped, retired, jumps, goes, branches, computes, takes, puts, stores, done, carried_out, fetched, after_fetch, step_of}
+use Rattle.rv_hart.specs.Step.{State, first, second, address, operand, trapped, retired, jumps, goes, branches, takes, puts, done, fetched, after_fetch, step_of}
 use Rattle.prof_bytes.specs.Number.{number_bytes}
 use Rattle.rv_run.specs.State.{HartState, MachineState, hart_of, no_hart, step_state}
 use Rattle.rv_run.specs.Run.{stepped_machine}

@@ -1,7 +1,7 @@
 -- Environment calls (RISC-V unprivileged manual, "Environment Call and Breakpoints"; the numbers and
 -- the negative answers are those of Linux for RISC-V): the number is in x17, what it is given in x10
 -- to x12, and the answer goes into x10, modulo 2^32.
-use Rattle.std.specs.Prelude.{◌≡◌, ℕ, ◌+◌, ◌-◌, ◌^◌, ◌==◌, ◌||◌, ◌&&◌, nat_le, Bool, true, false, List, [], ◌∷◌, ◌++◌, map, length, take, drop, slice_index, min, if◌then◌else◌}
+use Rattle.std.specs.Prelude.{ℕ, ◌+◌, ◌-◌, ◌^◌, ◌==◌, ◌||◌, ◌&&◌, nat_le, Bool, true, false, List, ◌++◌, map, length, take, drop, min, if◌then◌else◌}
 use Rattle.std.specs.List.{range_with_len}
 use Rattle.rv_hart.specs.Arithmetic.{sum}
 use Rattle.rv_hart.specs.Memory.{Memory, may_all, byte_at, stored, read}

@@ -1,7 +1,7 @@
 -- What is still to be read of a text, line by line.
 use Rattle.std.specs.Prelude.{ℕ, ◌+◌, ◌≤◌, ◌^◌, List, [], ◌∷◌, length, Option, Some, None, option_map}
 use Rattle.rv_run.specs.declared.lines.Line.{Line}
-use Rattle.rv_run.specs.Schedule.{Numbered, numbered, telling}
+use Rattle.rv_run.specs.Schedule.{Numbered, numbered}
 
 -- how many lines were read, and the lines that were not
 pub record Unread : Type 0 where

@@ -1,6 +1,6 @@
 -- The run of a program under a schedule, as the list of its instructions in order, each with the state
 -- before it; and the state of the machine after them.
-use Rattle.std.specs.Prelude.{◌≡◌, ℕ, zero, suc, ◌+◌, Bool, true, false, List, [], ◌∷◌, ◌++◌, map, if◌then◌else◌}
+use Rattle.std.specs.Prelude.{ℕ, zero, suc, ◌+◌, Bool, true, List, [], ◌∷◌, ◌++◌, if◌then◌else◌}
 use Rattle.elf_image.specs.Image.{Loaded}
 use Rattle.rv_hart.specs.Memory.{Memory}
 use Rattle.rv_hart.specs.Step.{State, step_of}
@@ -10,7 +10,7 @@ use Rattle.rv_run.specs.declared.hart.HartEnd.TheVariants as ends
 use Rattle.rv_run.specs.declared.schedule.Slice.{Slice}
 use Rattle.rv_run.specs.declared.machine.Moment.{Moment}
 use Rattle.rv_run.specs.Schedule.{Scheduled}
-use Rattle.rv_run.specs.State.{HartState, MachineState, hart_of, with_hart, is_running, first_state, step_state, stepped_hart}
+use Rattle.rv_run.specs.State.{MachineState, hart_of, with_hart, is_running, first_state, step_state, stepped_hart}
 use Rattle.rv_run.specs.Calls.{Acted, calls, ends_by}
 
 -- one instruction of one hart, and the registers and the memory before it

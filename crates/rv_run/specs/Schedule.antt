@@ -1,6 +1,6 @@
 -- The text of a schedule: how many harts there are, and which of them runs for how many instructions,
 -- slice by slice.
-use Rattle.std.specs.Prelude.{◌≡◌, ℕ, ◌+◌, ◌-◌, ◌<◌, ◌≤◌, ◌==◌, ◌||◌, Bool, true, false, not, List, [], ◌∷◌, ◌++◌, map, filter, length, take, drop, position, sum, Option, Some, None, Result, Ok, Err, if◌then◌else◌, nat_eq, All}
+use Rattle.std.specs.Prelude.{ℕ, ◌+◌, ◌-◌, ◌<◌, ◌≤◌, ◌==◌, Bool, true, not, List, [], ◌∷◌, ◌++◌, map, filter, length, take, drop, position, sum, Option, Some, None, Result, Ok, Err, if◌then◌else◌, nat_eq, All}
 use Rattle.std.specs.List.{starts_with}
 use Rattle.prof_bytes.specs.Outcome.{◌>>=◌}
 use Rattle.rv_run.specs.declared.schedule.Slice.{Slice}

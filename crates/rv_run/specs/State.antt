@@ -1,6 +1,6 @@
 -- The state of a machine of harts (RISC-V unprivileged manual, "RISC-V Software Execution Environments
 -- and Harts"): the memory that they share, each hart, the input that was not read, and the output.
-use Rattle.std.specs.Prelude.{◌≡◌, ℕ, ◌+◌, ◌-◌, ◌*◌, ◌==◌, Bool, true, false, List, [], ◌∷◌, map, length, slice_set, if◌then◌else◌}
+use Rattle.std.specs.Prelude.{ℕ, ◌+◌, ◌-◌, ◌==◌, Bool, true, false, List, [], map, slice_set, if◌then◌else◌}
 use Rattle.std.specs.List.{range_with_len, slice_index_or}
 use Rattle.elf_image.specs.Image.{Loaded}
 use Rattle.rv_hart.specs.Memory.{Memory, first_memory, stack_of}

@@ -4,8 +4,8 @@ use Rattle.rv_run.specs.declared.schedule.Slice.{Slice}
 use Rattle.rv_run.specs.declared.machine.Moment.{Moment}
 use Rattle.rv_run.specs.declared.machine.Due.{Due}
 use Rattle.rv_run.specs.Schedule.{instructions, most_harts, most_instructions}
-use Rattle.rv_run.specs.State.{HartState, MachineState, hart_of, is_running}
-use Rattle.rv_run.specs.Run.{Instant, Run, finished, preceded, next_instant, after, acts, run_slice, run_slices}
+use Rattle.rv_run.specs.State.{MachineState, hart_of, is_running}
+use Rattle.rv_run.specs.Run.{Instant, Run, finished, preceded, next_instant, after, run_slice, run_slices}
 
 -- a machine in the middle of its run: how it stands, and the slices that are left, of which the first
 -- may be what is left of one
@@ -86,11 +86,6 @@ pub record Passing (hart many : ℕ) (old new : MachineState) : Type 0 where
   pub harts : length new.harts ≡ length old.harts
   pub running : is_running (hart_of new hart) ≡ true
   pub none : many ≡ 0 → new ≡ old
-
--- one instruction that retired by itself, or nothing
-abbrev pub Plain : ℕ → Bool → MachineState → MachineState → Type 0
-Plain hart true old new = (record { state = new; retired = true } ≡ acts hart old) × ((hart_of new hart).end ≡ (hart_of old hart).end)
-Plain hart false old new = new ≡ old
 
 -- slices of which the first has so many instructions
 abbrev pub with_left : ℕ → List Slice → List Slice

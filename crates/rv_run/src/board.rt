@@ -1,11 +1,11 @@
 //! The harts of a machine, the memory that they share, and what they read and write.
-ghost use Rattle.std.specs.Prelude.{◌≡◌, ◌+◌, true, ◌<◌, ◌≤◌, ◌^◌, ◌-◌, IfOk, OnErr, length, map};
+ghost use Rattle.std.specs.Prelude.{◌≡◌, ◌≢◌, ◌+◌, true, false, ◌<◌, ◌≤◌, ◌^◌, ◌-◌, IfOk, OnErr, length, map};
 ghost use Rattle.std.specs.List.{range_with_len};
 ghost use Rattle.rv_hart.specs.Step.{step_of};
 ghost use Rattle.rv_run.specs.State.{first_hart, first_state, hart_of, is_running, step_state};
 ghost use Rattle.rv_run.specs.Calls.{reads, writes, calls, completes, grouped, ends_by, ends_all, only_answers};
 ghost use Rattle.rv_run.specs.Run.{acts, stepped_machine};
-ghost use Rattle.rv_run.specs.Told.{Passing, Plain};
+ghost use Rattle.rv_run.specs.Told.{Passing};
 
 use crate::hart::{Core, HartEnd};
 use crate::output::{are_readable, copied};
@@ -66,6 +66,15 @@ fn finish_each(cores: &mut [Core], status: u32)
         let core = &mut cores[place];
         core.finish_with_group(status);
     }
+}
+
+/// Whether a step retired its instruction.
+#[inline(always)]
+fn has_retired(stepped: Stepped) -> bool
+    ensures yes { result ≡ true → stepped ≡ Stepped.Retired }
+    ensures no { result ≡ false → stepped ≢ Stepped.Retired }
+{
+    matches!(stepped, Stepped::Retired)
 }
 
 impl<'a> Board<'a> {
@@ -224,21 +233,46 @@ impl<'a> Board<'a> {
         core.step(&mut self.space)
     }
 
-    /// Does the next instruction of the hart if it retires by itself, and says whether. If not, nothing
-    /// is done.
-    #[inline(always)]
-    fn step_plain(&mut self, hart: u32) -> bool
+    /// Does instructions of the hart as long as they retire by themselves, up to so many. It says how
+    /// many retired, and how the last step ended. All steps of a machine are done here, so that the
+    /// loop holds a copy of one step's code, and no call.
+    #[inline(never)]
+    fn steps(&mut self, hart: u32, most: u32) -> (u32, Result<Stepped, Memory>)
+        requires some { 0 < most }
         requires hart { hart < length self.old.harts }
-        requires room { (hart_of self.old hart).retired < 2 ^ 32 }
-        ensures { Plain hart result self.old self.new }
+        requires room { (hart_of self.old hart).retired + most < 2 ^ 32 }
+        ensures passed { is_running (hart_of self.old hart) ≡ true → Passing hart result.0 self.old self.new }
+        ensures few { result.0 ≤ most }
+        ensures ok { most ≡ 1 → IfOk result.1 (λ stepped. self.new ≡ stepped_machine hart (step_of (step_state (hart_of self.old hart) self.old.memory)) self.old) }
+        ensures how { most ≡ 1 → IfOk result.1 (λ stepped. stepped ≡ (step_of (step_state (hart_of self.old hart) self.old.memory)).1) }
+        ensures err { most ≡ 1 → OnErr result.1 (self.new ≡ self.old) }
     {
-        match self.step(hart) {
-            Ok(Stepped::Retired) => true,
-            Ok(Stepped::Ecall) => false,
-            Ok(Stepped::Break) => false,
-            Ok(Stepped::Trap(_)) => false,
-            Err(_) => false,
+        let mut count = 0;
+        loop {
+            let stepped = match self.step(hart) {
+                Ok(stepped) => stepped,
+                Err(error) => return (count, Err(error)),
+            };
+            if !has_retired(stepped) {
+                return (count, Ok(stepped));
+            }
+            count += 1;
+            if count == most {
+                return (count, Ok(stepped));
+            }
         }
+    }
+
+    /// Does one step of the hart.
+    fn step_once(&mut self, hart: u32) -> Result<Stepped, Memory>
+        requires hart { hart < length self.old.harts }
+        requires room { (hart_of self.old hart).retired < 2 ^ 32 - 1 }
+        ensures ok { IfOk result (λ stepped. self.new ≡ stepped_machine hart (step_of (step_state (hart_of self.old hart) self.old.memory)) self.old) }
+        ensures how { IfOk result (λ stepped. stepped ≡ (step_of (step_state (hart_of self.old hart) self.old.memory)).1) }
+        ensures err { OnErr result (self.new ≡ self.old) }
+    {
+        let (_, last) = self.steps(hart, 1);
+        last
     }
 
     /// Does instructions of the hart as long as they retire by themselves, up to so many, and says how
@@ -250,10 +284,10 @@ impl<'a> Board<'a> {
         ensures passed { Passing hart result self.old self.new }
         ensures few { result ≤ most }
     {
-        let mut count = 0;
-        while count < most && self.step_plain(hart) {
-            count += 1;
+        if most == 0 {
+            return 0;
         }
+        let (count, _) = self.steps(hart, most);
         count
     }
 
@@ -264,7 +298,7 @@ impl<'a> Board<'a> {
         ensures ok { IfOk result (λ retired. record { state = self.new; retired = retired } ≡ acts hart self.old) }
         ensures err { OnErr result (self.new ≡ self.old) }
     {
-        match self.step(hart)? {
+        match self.step_once(hart)? {
             Stepped::Retired => Ok(true),
             Stepped::Ecall => self.call(hart),
             Stepped::Break => {

@@ -146,9 +146,11 @@ impl<'a> Machine<'a> {
         self.board.output()
     }
 
-    /// The number of harts.
+    /// The number of harts, which is the same through the whole run.
+    #[tactic(auto, using(crate::proofs::Ending::harts_stay))]
     pub fn harts(&self) -> usize
-        ensures { result ≡ length self.now.state.harts }
+        ensures harts { result ≡ length self.now.state.harts }
+        ensures at_end { result ≡ length (to_come self.now).final.harts }
     {
         self.board.harts()
     }

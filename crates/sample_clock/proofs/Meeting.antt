@@ -1,5 +1,5 @@
 -- Samples that are met, and instructions that are not sampled.
-use Rattle.std.proofs.Common.{◌≡◌, ◌≢◌, ◌⊎◌, inl, inr, ℕ, zero, suc, ◌+◌, ◌-◌, ◌%◌, ◌<◌, ◌≤◌, ◌==◌, ◌&&◌, Bool, true, false, not, cond, List, [], ◌∷◌, ◌++◌, map, length, filter, get_or, replicate, slice_set, Option, Some, None, refl, sym, ap, ap₂, subst, ◌∙◌, append_assoc, arith, rules, Fits, w32, ◌^◌}
+use Rattle.std.proofs.Common.{◌≡◌, ◌≢◌, inl, inr, ℕ, suc, ◌+◌, ◌-◌, ◌%◌, ◌<◌, ◌≤◌, ◌==◌, ◌&&◌, Bool, true, false, not, cond, List, [], ◌∷◌, ◌++◌, map, length, filter, get_or, replicate, slice_set, Some, refl, sym, ap, ap₂, subst, ◌∙◌, append_assoc, arith, rules, Fits, w32, ◌^◌}
 use Rattle.std.specs.List.{All}
 use Rattle.std.proofs.lemmas.Bool.{ne_eqb}
 use Rattle.std.proofs.Common.{eq-eqb}
@@ -8,13 +8,13 @@ use Rattle.std.proofs.lemmas.List.{get_or-set_same, get_or-set_other, get_or-rep
 use Rattle.std.proofs.lemmas.List.Elements.{filter-append}
 use Rattle.std.proofs.Math.ListN.{length-set}
 use Rattle.std.proofs.Math.Nat.{mod_self}
-use Rattle.rv_run.specs.State.{MachineState, hart_of}
-use Rattle.rv_run.specs.Run.{Instant, Run, finished, preceded, next_instant, instant, acts}
+use Rattle.rv_run.specs.State.{hart_of}
+use Rattle.rv_run.specs.Run.{Instant, Run, finished, preceded, next_instant, instant}
 use Rattle.rv_run.specs.declared.machine.Moment.{Moment}
 use Rattle.rv_run.specs.declared.machine.Due.{Due}
 use Rattle.rv_run.specs.Told.{Progress, to_come, WentOn, Counts, plus_one, due_of, first_due, IsFresh, IsBetween, Passed}
 use Rattle.sample_clock.specs.declared.clock.Sample.{Sample}
-use Rattle.sample_clock.specs.Samples.{Paths, is_sampled, sample_of, samples, words_of, most_samples}
+use Rattle.sample_clock.specs.Samples.{Paths, is_sampled, sample_of, samples, most_samples}
 use Rattle.sample_clock.specs.Clock.{Sampling, samples_to_come, IsNext, IsClock, CarriedOut, CameSampled, CameUnsampled, CameEnd, Unsampled, Met, Given, MetNow, IsOver, Lacks}
 use Rattle.sample_clock.proofs.Periods.{next-multiple, no-multiple}
 
@@ -201,7 +201,7 @@ met-by path_of sample a b c d was now is =
       met = ap (λ (s : Sampling). s.met) is ∙ ap (λ (n : ℕ). n + 1) (now.met ∙ was.met);
     }
 
-met-samples : (path_of : Paths) (a d : Sampling) (m : Met a d) → samples_to_come path_of a ≡ sample_of path_of m.instant ∷ samples_to_come path_of d
+pub met-samples : (path_of : Paths) (a d : Sampling) (m : Met a d) → samples_to_come path_of a ≡ sample_of path_of m.instant ∷ samples_to_come path_of d
 met-samples path_of a d m =
     ap (λ (r : Run). samples path_of a.period r.instants) m.run
     ∙ samples-after path_of a.period m.passed (m.instant ∷ (to_come d.machine).instants) m.none

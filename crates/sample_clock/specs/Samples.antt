@@ -1,6 +1,6 @@
 -- Samples of a run: those of its instructions that retired and whose ordinal in their hart is a multiple
 -- of the period, each with the call path of the state before it (HPCToolkit's manual, "Sampling").
-use Rattle.std.specs.Prelude.{◌≡◌, ℕ, ◌%◌, ◌==◌, ◌&&◌, Bool, List, Option, map, filter}
+use Rattle.std.specs.Prelude.{ℕ, ◌%◌, ◌==◌, ◌&&◌, Bool, List, Option, map, filter}
 use Rattle.scope_types.specs.Raw.{Raw}
 use Rattle.rv_hart.specs.Memory.{Memory, loaded}
 use Rattle.rv_run.specs.Run.{Instant}

@@ -1,7 +1,7 @@
-use Rattle.std.proofs.Common.{◌≡◌, ◌+◌, ◌^◌, ◌≤◌, ◌&&◌, Bool, true, false, nat_le, Some, None, sym, ap, ◌∙◌, arith, rules}
+use Rattle.std.proofs.Common.{◌≡◌, ◌+◌, ◌^◌, ◌&&◌, Bool, false, nat_le, sym, ap, ◌∙◌}
 use Rattle.std.proofs.Math.Bool.{and-false}
 use Rattle.std.specs.Option.{is_some}
-use Rattle.rv_hart.specs.Memory.{may, may_all, read, loaded}
+use Rattle.rv_hart.specs.Memory.{may, read}
 use Rattle.rv_run.proofs.Ranges.{one-unreadable, one-more-readable, loads-none, loads-some}
 use Rattle.rv_run.proofs.output.are_readable.Goals as goal
 

@@ -1,5 +1,4 @@
-use Rattle.std.proofs.Common.{◌≡◌, ◌+◌, ℕ, List, [], ◌∷◌, Result, sym, ap, subst, ◌∙◌}
-use Rattle.std.specs.List.{All}
+use Rattle.std.proofs.Common.{◌+◌, ℕ, List, [], ◌∷◌, Result, sym, ap, ◌∙◌}
 use Rattle.rv_run.specs.declared.schedule.Slice.{Slice}
 use Rattle.rv_run.specs.declared.schedule.ScheduleFault.{ScheduleFault}
 use Rattle.rv_run.specs.Schedule.{before, slices_of, telling, instructions, IsSlice}

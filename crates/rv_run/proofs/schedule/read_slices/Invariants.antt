@@ -1,6 +1,6 @@
-use Rattle.std.proofs.Common.{◌≡◌, ◌≤◌, length}
+use Rattle.std.proofs.Common.{◌≡◌, length}
 use Rattle.std.specs.List.{All}
-use Rattle.rv_run.specs.Schedule.{telling, slices_of, before, IsSlice, instructions, most_instructions}
+use Rattle.rv_run.specs.Schedule.{telling, slices_of, before, IsSlice, instructions}
 use Rattle.rv_run.specs.Reading.{to_read}
 use Rattle.rv_run.proofs.schedule.read_slices.Given as goal
 

@@ -1,7 +1,7 @@
 use Rattle.std.proofs.Common.{◌≡◌, ◌∙◌, sym}
-use Rattle.elf_image.specs.Ranges.{holds}
+use Rattle.address_ranges.specs.Ranges.{holds}
 use Rattle.elf_image.specs.Image.{range_of}
-use Rattle.elf_image.proofs.Tables.{find_by_table}
+use Rattle.address_ranges.proofs.Places.{find_by_table}
 use Rattle.rv_hart.proofs.regions.Regions.at.Goals as goal
 
 pub returns : goal.returns

@@ -1,4 +1,4 @@
-use Rattle.std.proofs.Common.{◌≡◌, sym, ◌∙◌, arith}
+use Rattle.std.proofs.Common.{sym, ◌∙◌, arith}
 use Rattle.rv_run.proofs.Ranges.{fewer-readable}
 use Rattle.rv_run.proofs.board.Board.write.Goals as goal
 

@@ -1,4 +1,4 @@
-use Rattle.std.proofs.Common.{◌≡◌, ◌+◌, ℕ, Some, sym, ap, ap₂, ◌∙◌}
+use Rattle.std.proofs.Common.{◌+◌, ℕ, Some, sym, ap, ap₂, ◌∙◌}
 use Rattle.rv_run.specs.State.{HartState}
 use Rattle.rv_run.specs.Run.{Run}
 use Rattle.rv_run.specs.Told.{Progress, first_due, to_come}

@@ -1,5 +1,4 @@
-use Rattle.std.proofs.Common.{◌≡◌, ◌+◌, ◌-◌, ◌^◌, ◌<◌, ◌≤◌, ℕ, length, get_or, refl, sym, ap, subst, ◌∙◌, arith}
-use Rattle.rv_run.specs.State.{hart_of}
+use Rattle.std.proofs.Common.{◌+◌, ◌-◌, ◌<◌, ◌≤◌, ℕ, get_or, refl, subst, arith}
 use Rattle.sample_clock.specs.Clock.{Sampling, CameUnsampled}
 use Rattle.sample_clock.proofs.Meeting.{came-passed, due-below, word-fits}
 use Rattle.sample_clock.proofs.clock.Samples.go_on.Goals as goal

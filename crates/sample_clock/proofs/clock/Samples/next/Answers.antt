@@ -1,8 +1,7 @@
-use Rattle.std.proofs.Common.{◌≡◌, ◌+◌, Ok, subst, sym, ap, ◌∙◌}
+use Rattle.std.proofs.Common.{◌+◌, Ok, subst, ap}
 use Rattle.sample_clock.specs.declared.clock.Came.{Came}
-use Rattle.sample_clock.specs.Samples.{Paths}
 use Rattle.sample_clock.specs.Clock.{Sampling, CameNext}
-use Rattle.sample_clock.proofs.Meeting.{unsampled-more, given-by, met-now, over-by, lacks-by, unsampled-last, met-last}
+use Rattle.sample_clock.proofs.Meeting.{unsampled-more, given-by}
 use Rattle.sample_clock.proofs.clock.Samples.next.Goals as goal
 
 pub loop-sample-preserved : goal.loop-sample-preserved

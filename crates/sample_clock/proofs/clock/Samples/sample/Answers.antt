@@ -1,4 +1,4 @@
-use Rattle.std.proofs.Common.{Bool, false, subst}
+use Rattle.std.proofs.Common.{Bool, subst}
 use Rattle.sample_clock.specs.Clock.{CarriedOut}
 use Rattle.sample_clock.proofs.Meeting.{came-unretired}
 use Rattle.sample_clock.proofs.clock.Samples.sample.Goals as goal

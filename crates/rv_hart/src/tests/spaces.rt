@@ -1,0 +1,64 @@
+//! Stores into memories of programs, and whether they are made; and words that stand there after them.
+
+/// Stores into the memory of one hart, and whether they are made.
+pub(super) const PUTS: [(u32, &[u8], bool); 5] = [
+    (0x1_0000, &[7], false),
+    (0xf00f_fff0, &[7], true),
+    (0xf00f_fffd, &[1, 2, 3, 4], false),
+    (0xffff_ffff, &[1, 2], false),
+    (0xffff_ffff, &[], true),
+];
+
+/// Words after these, and at the ends of the code, of the stack and of the address space.
+pub(super) const WORDS: [(u32, Option<u32>); 10] = [
+    (0x1_0001, Some(0x1300_1505)),
+    (0x1_0050, Some(0x73)),
+    (0x1_0051, None),
+    (0xffff, None),
+    (0xf00f_fff0, Some(7)),
+    (0xf00f_ffef, Some(0x700)),
+    (0xf00f_fffc, Some(0)),
+    (0xf00f_fffd, None),
+    (0xf007_ffff, None),
+    (0xffff_fffe, None),
+];
+
+/// Stores into the last of 64 stacks and behind it.
+pub(super) const LAST_PUTS: [(u32, &[u8], bool); 3] = [
+    (0xf3ff_fffc, &[1, 2, 3, 4], true),
+    (0xf3ff_fffd, &[5, 6, 7, 8], false),
+    (0xf408_0000, &[9], false),
+];
+
+/// A program of four segments, as readelf shows them: code at 0x10000 (`addi x7, x0, 5`, `ecall`); in
+/// the same page, with no gap, 8 bytes to read and write that begin as aa bb cc dd, and 4 to write
+/// alone; and 0xeffd0000 bytes of zeros at 0x20000 with all three rights.
+pub(super) const SEGMENTS: [u8; 192] = [
+    127, 69, 76, 70, 1, 1, 1, 0, 0, 0, 0, 0, 0, 0, 0, 0, 2, 0, 243, 0, 1, 0, 0, 0, 0, 0, 1, 0, 52,
+    0, 0, 0, 0, 0, 0, 0, 0, 0, 0, 0, 52, 0, 32, 0, 4, 0, 40, 0, 0, 0, 0, 0, 1, 0, 0, 0, 180, 0, 0,
+    0, 0, 0, 1, 0, 0, 0, 1, 0, 8, 0, 0, 0, 8, 0, 0, 0, 5, 0, 0, 0, 4, 0, 0, 0, 1, 0, 0, 0, 188, 0,
+    0, 0, 8, 0, 1, 0, 8, 0, 1, 0, 4, 0, 0, 0, 8, 0, 0, 0, 6, 0, 0, 0, 4, 0, 0, 0, 1, 0, 0, 0, 0, 0,
+    0, 0, 16, 0, 1, 0, 16, 0, 1, 0, 0, 0, 0, 0, 4, 0, 0, 0, 2, 0, 0, 0, 4, 0, 0, 0, 1, 0, 0, 0, 0,
+    0, 0, 0, 0, 0, 2, 0, 0, 0, 2, 0, 0, 0, 0, 0, 0, 0, 253, 239, 7, 0, 0, 0, 4, 0, 0, 0, 147, 3,
+    80, 0, 115, 0, 0, 0, 170, 187, 204, 221,
+];
+
+/// Stores over the ends of segments.
+pub(super) const SEGMENT_PUTS: [(u32, &[u8], bool); 5] = [
+    (0x1_0006, &[1, 2, 3, 4], false),
+    (0x1_000e, &[1, 2, 3, 4], true),
+    (0x1_0011, &[1, 2, 3, 4], false),
+    (0x20_0000, &[0x93, 0x03, 0x50, 0x00], true), // addi x7, x0, 5
+    (0xeffe_fffd, &[1, 2, 3, 4], false),
+];
+
+/// Words over the ends of segments, after these.
+pub(super) const SEGMENT_WORDS: [(u32, Option<u32>); 7] = [
+    (0x1_0000, Some(0x0050_0393)),
+    (0x1_0006, Some(0xbbaa_0000)),
+    (0x1_0008, Some(0xddcc_bbaa)),
+    (0x1_000c, Some(0x0201_0000)),
+    (0x1_000e, None),
+    (0x20_0000, Some(0x0050_0393)),
+    (0xeffe_fffc, Some(0)),
+];

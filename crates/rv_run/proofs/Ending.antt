@@ -1,0 +1,29 @@
+-- The harts at the end of a run are those at its start.
+use Rattle.std.proofs.Common.{◌≡◌, ℕ, zero, suc, ◌<◌, true, false, cond, List, [], ◌∷◌, length, refl, sym, subst, ◌∙◌, arith}
+use Rattle.std.specs.List.{AllByRecursion}
+use Rattle.std.proofs.lemmas.List.Elements.{recursion_from_All}
+use Rattle.rv_run.specs.declared.schedule.Slice.{Slice}
+use Rattle.rv_run.specs.State.{MachineState, hart_of, is_running}
+use Rattle.rv_run.specs.Run.{finished, preceded, next_instant, after, run_slice, run_slices}
+use Rattle.rv_run.specs.Told.{AreOf}
+use Rattle.rv_run.proofs.Counting.{acts-count}
+
+after_slice : (count hart : ℕ) (s : MachineState) → hart < length s.harts → length (run_slice count hart s).final.harts ≡ length s.harts
+unfolding run_slice
+after_slice zero hart s within = refl
+after_slice (suc count) hart s within =
+    let same : length (after hart s).harts ≡ length s.harts = (acts-count hart s within).harts in
+    elim (is_running (hart_of s hart)) as (λ b. length (cond b (preceded (next_instant hart s ∷ []) (run_slice count hart (after hart s))) (finished s)).final.harts ≡ length s.harts) [
+      | true ↦ after_slice count hart (after hart s) (omega (arith, within, same)) ∙ same
+      | false ↦ refl
+    ]
+
+after_slices : (slices : List Slice) (s : MachineState) → AllByRecursion (λ slice. slice.hart < length s.harts) slices → length (run_slices slices s).final.harts ≡ length s.harts
+unfolding run_slices
+after_slices [] s all = refl
+after_slices (slice ∷ rest) s all =
+    let same : length (run_slice slice.count slice.hart s).final.harts ≡ length s.harts = after_slice slice.count slice.hart s all.0 in
+    after_slices rest (run_slice slice.count slice.hart s).final (subst (λ (n : ℕ). AllByRecursion (λ slice. slice.hart < n) rest) (sym same) all.1) ∙ same
+
+pub harts_stay : (slices : List Slice) (s : MachineState) → AreOf (length s.harts) slices → length (run_slices slices s).final.harts ≡ length s.harts
+harts_stay slices s all = after_slices slices s (recursion_from_All (λ (slice : Slice). slice.hart < length s.harts) slices all)
