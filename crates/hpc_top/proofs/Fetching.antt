@@ -1,12 +1,12 @@
 -- Files fetched one after the other.
-use Rattle.std.proofs.Common.{◌≡◌, ℕ, suc, zero, ◌+◌, ◌<◌, ◌≤◌, List, [], ◌∷◌, ◌++◌, length, get_or, map, take, drop, refl, sym, ap, subst, ◌∙◌, arith, append-nil, append_assoc, Result, Ok, Err, IsTrue, take_all, add-one}
+use Rattle.std.proofs.Common.{◌≡◌, ℕ, suc, ◌+◌, ◌<◌, ◌≤◌, List, [], ◌∷◌, ◌++◌, length, get_or, map, take, drop, refl, sym, ap, subst, ◌∙◌, arith, Result, Ok, Err, IsTrue}
 use Rattle.std.specs.Prelude.{Contains}
 use Rattle.std.proofs.lemmas.List.{take_more, take-append-drop, length-map, get_or-map}
 use Rattle.std.proofs.lemmas.List.Elements.{Contains-get_or}
 use Rattle.std.proofs.Math.Seq.{drop-cons}
 use Rattle.prof_bytes.specs.Outcome.{◌>>=◌}
 use Rattle.prof_devices.specs.Files.{Files}
-use Rattle.prof_devices.specs.Outside.{ShelfState, Rose}
+use Rattle.prof_devices.specs.Outside.{ShelfState}
 use Rattle.hpc_top.specs.declared.status.InputFault.{InputFault}
 use Rattle.hpc_top.specs.declared.status.Stop.{Stop}
 use Rattle.hpc_top.specs.declared.status.Stop.TheVariants.{Input, Device, Memory}
@@ -14,7 +14,7 @@ use Rattle.hpc_top.specs.declared.status.Place.TheVariants.{Read, Store, Print}
 use Rattle.hpc_top.specs.declared.steps.Want.{Want}
 use Rattle.hpc_top.specs.Wanted.{view_want}
 use Rattle.hpc_top.specs.Task.{Wanted, within, contents}
-use Rattle.hpc_top.specs.Steps.{Looked, FailedAt, FetchStops, Fetches, AreWithin}
+use Rattle.hpc_top.specs.Steps.{Looked, FetchStops, AreWithin}
 
 pub looked_same : (s : ShelfState) → Looked s s
 looked_same s = record { tells = refl; files = refl; stores = refl; reads = omega arith }

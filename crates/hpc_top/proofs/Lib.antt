@@ -1,9 +1,14 @@
 pub mod Complete
 pub mod Line
-pub mod Observing
 pub mod Fetching
-pub mod Found
 pub mod Appending
 pub mod TableRows
 pub mod OverHarts
-pub mod DigitSteps
+pub mod Lines
+pub mod Counted
+pub mod Products
+pub mod Scopes
+pub mod Frames
+pub mod Collecting
+pub mod Entries
+pub mod NamesFound

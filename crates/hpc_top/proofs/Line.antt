@@ -1,5 +1,5 @@
 -- What a put of a line leaves.
-use Rattle.std.proofs.Common.{arith, ℕ, ◌++◌, List, length, ap, sym, ◌∙◌}
+use Rattle.std.proofs.Common.{ℕ, ◌++◌, List, length, ap, sym, ◌∙◌}
 use Rattle.std.proofs.Math.Seq.{take-length}
 use Rattle.prof_devices.specs.Outside.{SinkState, Taken}
 use Rattle.prof_devices.specs.declared.shelf.Put.{Put}

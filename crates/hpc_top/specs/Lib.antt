@@ -1,7 +1,6 @@
-pub mod Numerals
 pub mod Words
-pub mod Machine
 pub mod Samples
+pub mod PathCounts
 pub mod Report
 pub mod Profile
 pub mod Task
@@ -11,5 +10,3 @@ pub mod Stop
 pub mod Made
 pub mod Steps
 pub mod Wanted
-pub mod Observed
-pub mod Straight

@@ -6,7 +6,7 @@ use Rattle.prof_devices.specs.Outside.{SinkState, Rose, Appends, AppendsPart}
 use Rattle.hpc_top.specs.declared.status.FileKind.{FileKind}
 use Rattle.hpc_top.specs.declared.status.FileKind.TheVariants as kinds
 use Rattle.hpc_top.specs.declared.status.InputFault.{InputFault}
-use Rattle.hpc_top.specs.declared.status.InputFault.TheVariants.{TooLong, Program, Unbuilt}
+use Rattle.hpc_top.specs.declared.status.InputFault.TheVariants.{TooLong, Schedule, Program, Frames, Unbuilt, TooManySamples, TooManyFrames, TooManyScopes}
 use Rattle.hpc_top.specs.declared.status.Part.{Part}
 use Rattle.hpc_top.specs.declared.status.Part.TheVariants as parts
 use Rattle.hpc_top.specs.declared.status.Place.{Place}
@@ -30,15 +30,17 @@ rule_text rules.CompressedSection = codes "CompressedSection"
 rule_text rules.SymbolPlace = codes "SymbolPlace"
 
 abbrev pub part_text : Part → List ℕ
-part_text parts.Schedule = codes "schedule"
-part_text parts.Input = codes "input"
-part_text parts.Program = codes "program"
-part_text parts.Moment = codes "moment"
+part_text parts.Entries = codes "entries"
 
 abbrev pub fault_text : InputFault → List ℕ
 fault_text (TooLong file limit) = file_text file ++ codes " longer than " ++ decimal limit ++ codes " bytes"
+fault_text (Schedule line) = codes "schedule line " ++ decimal line
 fault_text (Program fault) = codes "program " ++ rule_text fault.rule ++ codes " at " ++ decimal fault.offset
+fault_text (Frames offset) = codes "frames at " ++ decimal offset
 fault_text (Unbuilt part at) = codes "unbuilt " ++ part_text part ++ codes " at " ++ decimal at
+fault_text TooManySamples = codes "more than 1048576 samples"
+fault_text TooManyFrames = codes "more than 4194304 frames"
+fault_text TooManyScopes = codes "more than 8388608 scopes"
 
 abbrev pub place_text : Place → List ℕ
 place_text Read = codes "device read"

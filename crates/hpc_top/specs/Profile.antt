@@ -1,27 +1,31 @@
 -- The main job as a function of its files: what is stored and what is put, or the first refusal.
-use Rattle.std.specs.Prelude.{◌≡◌, ℕ, ◌-◌, List, [], ◌∷◌, length, take, drop, Bool, true, false, Option, Some, None, Result, Ok, Err, if◌then◌else◌, ◌==◌, ◌&&◌, nat_lt, nat_eq, codes, slice_index}
-use Rattle.std.specs.Cmp.Lexicographic.{pointwise}
+use Rattle.std.specs.Prelude.{ℕ, List, length, map, take, count_by, find, Option, Some, None, Result, Ok, Err, if◌then◌else◌, ◌==◌, codes}
 use Rattle.prof_bytes.specs.Outcome.{◌>>=◌}
-use Rattle.scope_types.specs.declared.path.HartPath.{HartPath}
-use Rattle.scope_types.specs.declared.scope.ProcId.{ProcId}
+use Rattle.scope_types.specs.CallPaths.{HartPath}
 use Rattle.elf_image.specs.declared.fault.ElfFault.{ElfFault}
-use Rattle.elf_image.specs.declared.fault.ElfRule.{ElfRule}
-use Rattle.elf_image.specs.declared.fault.ElfRule.TheVariants as rules
-use Rattle.elf_image.specs.Image.{Loaded}
+use Rattle.elf_image.specs.Image.{Called, Loaded, bytes_of_name}
 use Rattle.elf_image.specs.Reading.{image_of}
+use Rattle.cfi_table.specs.declared.frames.FrameFault.{FrameFault}
+use Rattle.cfi_table.specs.Frames.{frames_of, Frames as Described}
+use Rattle.cfi_unwind.specs.Path.{unwinding_of, path_of as unwound_by}
+use Rattle.scope_types.specs.declared.scope.ProcId.{ProcId}
+use Rattle.scope_types.specs.declared.scope.ProcId.TheVariants as procs
+use Rattle.sample_clock.specs.Samples.{Paths}
+use Rattle.rv_run.specs.declared.schedule.ScheduleFault.{ScheduleFault}
+use Rattle.rv_run.specs.Schedule.{Scheduled, schedule_of}
+use Rattle.rv_run.specs.State.{MachineState, hart_of}
+use Rattle.rv_run.specs.Run.{Run, run_of}
 use Rattle.tree_types.specs.Naming.{Naming}
 use Rattle.tree_types.specs.Database.{content_of}
-use Rattle.prof_db.specs.Spelling.{spelling}
 use Rattle.tree_types.specs.TopDown.{top_down}
+use Rattle.tree_types.specs.Values.{harts_below}
+use Rattle.prof_db.specs.Spelling.{spelling}
 use Rattle.hpc_top.specs.declared.status.InputFault.{InputFault}
-use Rattle.hpc_top.specs.declared.status.InputFault.TheVariants.{Program, Unbuilt}
+use Rattle.hpc_top.specs.declared.status.InputFault.TheVariants.{Schedule, Program, Frames, Unbuilt}
 use Rattle.hpc_top.specs.declared.status.Part.TheVariants as parts
-use Rattle.hpc_top.specs.declared.sample_clock.RunEnd.{RunEnd}
-use Rattle.hpc_top.specs.declared.sample_clock.RunEnd.TheVariants as ends
-use Rattle.hpc_top.specs.Numerals.{number_of}
-use Rattle.hpc_top.specs.Straight.{first_difference, straight_header}
-use Rattle.hpc_top.specs.Samples.{Run, run_of, sample_paths, retired_count}
-use Rattle.hpc_top.specs.Report.{HartLine, report_of}
+use Rattle.hpc_top.specs.Samples.{sample_path, sampled, few_scopes}
+use Rattle.hpc_top.specs.declared.report.HartLine.{HartLine}
+use Rattle.hpc_top.specs.Report.{report_of, total_line}
 
 -- what is stored, where the command stores a file, and what is put
 pub record Product : Type 0 where
@@ -30,72 +34,85 @@ pub record Product : Type 0 where
 
 -- ---- the files
 
--- the last line feed may be absent
-abbrev pub without_last_feed : List ℕ → List ℕ
-without_last_feed bytes = if nat_lt 0 (length bytes) && slice_index bytes (length bytes - 1) == 10 then take (length bytes - 1) bytes else bytes
+abbrev pub scheduled_from : Result Scheduled ScheduleFault → Result Scheduled InputFault
+scheduled_from (Ok schedule) = Ok schedule
+scheduled_from (Err fault) = Err (Schedule fault.line)
 
-abbrev pub schedule_head : List ℕ
-schedule_head = codes "harts 1\n0 "
+abbrev pub scheduled : List ℕ → Result Scheduled InputFault
+scheduled bytes = scheduled_from (schedule_of bytes)
 
--- the schedule of one hart and one slice, of 1 to 1,048,576 instructions
-abbrev pub slice_of : List ℕ → Option ℕ
-slice_of schedule =
-    if pointwise nat_eq (take 10 schedule) schedule_head then number_of 1 1048576 (without_last_feed (drop 10 schedule)) else None
-
-abbrev pub is_not_elf : ElfRule → Bool
-is_not_elf rules.NotElf = true
-is_not_elf _ = false
-
-abbrev pub scheduled : Option ℕ → Result ℕ InputFault
-scheduled (Some count) = Ok count
-scheduled None = Err (Unbuilt parts.Schedule 0)
-
-abbrev pub no_input : List ℕ → Result (Unit {0}) InputFault
-no_input input = if length input == 0 then Ok tt else Err (Unbuilt parts.Input 0)
-
--- a program that is not of the form that is taken
-abbrev pub unless_other : Option ℕ → Result Loaded InputFault → Result Loaded InputFault
-unless_other (Some place) image = Err (Unbuilt parts.Program place)
-unless_other None image = image
-
--- a file that is no ELF file is refused before its form is looked at, and what else is wrong with it behind
-abbrev pub program_from : Result Loaded ElfFault → Option ℕ → Result Loaded InputFault
-program_from (Ok image) place = unless_other place (Ok image)
-program_from (Err fault) place = if is_not_elf fault.rule then Err (Program fault) else unless_other place (Err (Program fault))
+abbrev pub program_from : Result Loaded ElfFault → Result Loaded InputFault
+program_from (Ok image) = Ok image
+program_from (Err fault) = Err (Program fault)
 
 abbrev pub program : List ℕ → Result Loaded InputFault
-program elf = program_from (image_of elf) (first_difference (straight_header (length elf)) elf)
+program elf = program_from (image_of elf)
 
--- a run that met no instruction that is not built
-abbrev pub built : RunEnd → Run → Result Run InputFault
-built (ends.UnbuiltAt pc) run = Err (Unbuilt parts.Moment pc)
-built ends.Running run = Ok run
-built (ends.Exit status) run = Ok run
+-- the call frame information
+abbrev pub frames_from : Result Described FrameFault → Result Described InputFault
+frames_from (Ok described) = Ok described
+frames_from (Err fault) = Err (Frames fault.offset)
+
+abbrev pub frame_information : Loaded → Result Described InputFault
+frame_information image = frames_from (frames_of (bytes_of_name image.sections (codes ".debug_frame")) image.segments)
+
+-- a program with debug information is not taken yet
+abbrev pub no_entries : Loaded → Result (Unit {0}) InputFault
+no_entries image = if length (bytes_of_name image.sections (codes ".debug_info")) == 0 then Ok tt else Err (Unbuilt parts.Entries 0)
+
+-- ---- names
+
+abbrev pub most_name : ℕ
+most_name = 4096
+
+-- a function symbol's name, cut
+abbrev pub symbol_name : Option Called → List ℕ
+symbol_name (Some function) = take most_name function.name
+symbol_name None = codes "<unnamed>"
+
+-- a procedure is called as the first function symbol that starts where it does
+abbrev pub proc_name_in : Loaded → ProcId → List ℕ
+proc_name_in image (procs.Sym start) = symbol_name (find (λ function. function.start == start) image.functions)
+proc_name_in image (procs.Die offset) = codes "<unnamed>"
+proc_name_in image procs.Nameless = codes "<unknown procedure>"
+
+-- how procedures and files are called, where no line is known
+abbrev pub naming_of : Loaded → Naming
+naming_of image = record { proc_name = proc_name_in image; file_name = λ table file. codes "<unknown file>" }
 
 -- ---- the product
 
--- how procedures and files are called where no symbol and no line is known
-abbrev pub nameless : Naming
-nameless = record { proc_name = λ id. codes "<unknown procedure>"; file_name = λ table file. codes "<unknown file>" }
+-- how many of the paths are a hart's
+abbrev pub samples_of : List HartPath → ℕ → ℕ
+samples_of paths hart = count_by (λ p. p.hart == hart) paths
 
-abbrev pub hart_lines : List HartPath → ℕ → RunEnd → List HartLine
-hart_lines paths retired end = record { retired = retired; samples = length paths; end = end } ∷ []
+abbrev pub hart_line_of : List HartPath → MachineState → ℕ → HartLine
+hart_line_of paths final hart =
+    let state = hart_of final hart in
+    record { retired = state.retired; samples = samples_of paths hart; end = state.end }
 
--- of the expanded call paths of the samples, the instructions retired, and how the hart stands
-abbrev pub product_from : ℕ → List HartPath → ℕ → RunEnd → Product
-product_from period paths retired end = record {
-  database = spelling (content_of period 1 nameless paths);
-  text = report_of [] period (hart_lines paths retired end) (top_down period 1 nameless paths);
+abbrev pub hart_lines : ℕ → List HartPath → MachineState → List HartLine
+hart_lines harts paths final = map (hart_line_of paths final) (harts_below harts)
+
+-- of the call paths of the samples, and the machine at the end of the run
+abbrev pub product_from : ℕ → ℕ → Naming → List HartPath → MachineState → Product
+product_from period harts naming paths final = record {
+  database = spelling (content_of period harts naming paths);
+  text = report_of final.output (total_line harts period (length paths)) (hart_lines harts paths final) (top_down period harts naming paths);
 }
 
-abbrev pub product_of : ℕ → Run → Product
-product_of period run = product_from period (sample_paths period run.moments) (retired_count run.moments) run.end
+-- of the samples of a run, unless there are too many of them, their frames or their scopes
+abbrev pub product_of : Paths → ℕ → ℕ → Loaded → Run → Result Product InputFault
+product_of path_of period harts image run = do
+  samples ← sampled path_of period run
+  samples ← few_scopes image samples
+  Ok (product_from period harts (naming_of image) (map (sample_path image) samples) run.final)
 
 -- the product of a program, an input and a schedule, or the first of their refusals
 unfoldable pub profile_of : List ℕ → List ℕ → List ℕ → ℕ → Result Product InputFault
 profile_of elf input schedule period = do
-  count ← scheduled (slice_of schedule)
-  _ ← no_input input
+  schedule ← scheduled schedule
   image ← program elf
-  run ← built (run_of image count).end (run_of image count)
-  Ok (product_of period run)
+  described ← frame_information image
+  _ ← no_entries image
+  product_of (unwound_by (unwinding_of described image)) period schedule.harts image (run_of image schedule input)

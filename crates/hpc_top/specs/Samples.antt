@@ -1,74 +1,120 @@
--- The run as a list of moments, and the samples as those of them that are due.
-use Rattle.std.specs.Prelude.{ℕ, zero, suc, ◌+◌, ◌%◌, List, [], ◌∷◌, map, filter, count_by, Bool, true, false, ◌==◌, ◌&&◌}
-use Rattle.scope_types.specs.declared.path.HartPath.{HartPath}
-use Rattle.scope_types.specs.declared.scope.RootKind.TheVariants.{Thread}
-use Rattle.scope_types.specs.declared.scope.ProcId.TheVariants.{Nameless}
+-- The samples of a run as call paths (HPCToolkit's manual, "Call Path Profiling").
+use Rattle.std.specs.Prelude.{ℕ, zero, suc, List, [], ◌∷◌, ◌++◌, map, length, take, fold, sum_by, Bool, Option, Some, None, Result, Ok, Err, if◌then◌else◌, nat_lt, nat_eq, find}
+use Rattle.std.specs.List.{list_any}
+use Rattle.std.specs.Cmp.Lexicographic.{pointwise}
+use Rattle.scope_types.specs.declared.frame.Frame.{Frame}
+use Rattle.scope_types.specs.declared.frame.End.{End}
+use Rattle.scope_types.specs.declared.frame.End.TheVariants.{Whole, Partial as Stopped}
+use Rattle.scope_types.specs.declared.frame.PartialCause.{PartialCause}
+use Rattle.scope_types.specs.declared.frame.PartialCause.TheVariants.{NoFde, NoCfa, Expression, Unmapped, Depth}
+use Rattle.scope_types.specs.declared.scope.RootKind.{RootKind}
+use Rattle.scope_types.specs.declared.scope.RootKind.TheVariants.{Thread, Partial}
+use Rattle.scope_types.specs.declared.scope.ProcId.{ProcId}
+use Rattle.scope_types.specs.declared.scope.ProcId.TheVariants.{Nameless, Sym}
 use Rattle.scope_types.specs.declared.scope.LineId.TheVariants.{Address}
+use Rattle.scope_types.specs.CallPaths.{HartPath}
 use Rattle.scope_types.specs.Expansion.{FoundAt, expansion}
-use Rattle.elf_image.specs.Image.{Loaded}
-use Rattle.hpc_top.specs.declared.rv_hart.Hart.{Hart}
-use Rattle.hpc_top.specs.declared.rv_hart.Stepped.{Stepped}
-use Rattle.hpc_top.specs.declared.rv_hart.Stepped.TheVariants.{Retired, Exited, Unbuilt}
-use Rattle.hpc_top.specs.declared.sample_clock.RunEnd.{RunEnd}
-use Rattle.hpc_top.specs.declared.sample_clock.RunEnd.TheVariants as ends
-use Rattle.hpc_top.specs.Machine.{stepped, beginning}
+use Rattle.elf_image.specs.Image.{Called, Loaded, in_function}
+use Rattle.sample_clock.specs.declared.clock.Sample.{Sample}
+use Rattle.sample_clock.specs.Samples.{Paths, samples, most_samples}
+use Rattle.rv_run.specs.Run.{Run}
+use Rattle.hpc_top.specs.declared.status.InputFault.{InputFault}
+use Rattle.hpc_top.specs.declared.status.InputFault.TheVariants.{TooManySamples, TooManyFrames, TooManyScopes}
 
--- one instruction of a hart: its ordinal among those that the hart retires, its pc, and whether it retired
-pub record Moment : Type 0 where
-  pub hart : ℕ
-  pub ordinal : ℕ
-  pub pc : ℕ
-  pub retired : Bool
+-- ---- call paths
 
--- the moments in order, and how the hart stands after them
-pub record Run : Type 0 where
-  pub moments : List Moment
-  pub end : RunEnd
+-- a function symbol's procedure
+abbrev pub procedure_of : Option Called → ProcId
+procedure_of (Some function) = Sym function.start
+procedure_of None = Nameless
 
-abbrev pub moment : ℕ → ℕ → Bool → Moment
-moment ordinal pc retired = record { hart = 0; ordinal = ordinal; pc = pc; retired = retired }
+-- the procedure at an address, by the first function symbol that holds it
+abbrev pub procedure_at : Loaded → ℕ → ProcId
+procedure_at image address = procedure_of (find (in_function address) image.functions)
 
-abbrev pub then_run : Moment → Run → Run
-then_run m run = record { moments = m ∷ run.moments; end = run.end }
+-- what the symbols say of an address; no inlines and no line are known
+abbrev pub found_at : Loaded → ℕ → FoundAt
+found_at image address = record { procedure = procedure_at image address; inlines = []; line = Address address }
 
--- a slice of so many instructions, of which the first has this ordinal and does this step
-unfoldable pub run_from : Loaded → ℕ → ℕ → Hart → Stepped × Hart → Run
-run_from image zero ordinal before step = record { moments = []; end = ends.Running }
-run_from image (suc count) ordinal before (Retired, after) =
-    then_run (moment ordinal before.pc true) (run_from image count (ordinal + 1) after (stepped image after))
-run_from image (suc count) ordinal before (Exited status, after) =
-    record { moments = moment ordinal before.pc false ∷ []; end = ends.Exit status }
-run_from image (suc count) ordinal before (Unbuilt, after) = record { moments = []; end = ends.UnbuiltAt before.pc }
+-- a path that ends whole begins at a thread's root, and any other among the partial ones
+abbrev pub root_of : End → RootKind
+root_of Whole = Thread
+root_of (Stopped cause) = Partial
 
--- the run of hart 0 for so many instructions
-abbrev pub run_of : Loaded → ℕ → Run
-run_of image count = run_from image count 1 (beginning image) (stepped image (beginning image))
+abbrev pub pc_of : Frame → ℕ
+pc_of frame = frame.pc
 
-abbrev pub is_retired : Moment → Bool
-is_retired m = m.retired
+-- the call path of a sample
+abbrev pub sample_path : Loaded → Sample → HartPath
+sample_path image s = record { hart = s.hart; path = expansion (found_at image) (root_of s.path.end) (map pc_of s.path.frames) }
 
--- how many instructions were retired
-abbrev pub retired_count : List Moment → ℕ
-retired_count moments = count_by is_retired moments
+-- ---- distinct paths
 
--- a moment is sampled if it retired, and its ordinal is a multiple of the period
-abbrev pub is_sampled : ℕ → Moment → Bool
-is_sampled period m = m.retired && m.ordinal % period == 0
+-- how a path ends, as a number
+abbrev pub cause_word : PartialCause → ℕ
+cause_word NoFde = 1
+cause_word NoCfa = 2
+cause_word Expression = 3
+cause_word Unmapped = 4
+cause_word Depth = 5
 
-abbrev pub samples : ℕ → List Moment → List Moment
-samples period moments = filter (is_sampled period) moments
+abbrev pub end_word : End → ℕ
+end_word Whole = 0
+end_word (Stopped cause) = cause_word cause
 
--- no procedure, no inlines and no line are known of any address
-abbrev pub nothing_known : ℕ → FoundAt
-nothing_known address = record { procedure = Nameless; inlines = []; line = Address address }
+-- a raw path of a hart as words: the hart, how the path ends, and the program counters, innermost first
+abbrev pub sample_words : Sample → List ℕ
+sample_words s = s.hart ∷ end_word s.path.end ∷ map pc_of s.path.frames
 
--- the call path of a frame: that frame alone, ended whole
-abbrev pub path_at : ℕ → ℕ → HartPath
-path_at hart pc = record { hart = hart; path = expansion nothing_known Thread (pc ∷ []) }
+abbrev pub is_among : List (List ℕ) → List ℕ → Bool
+is_among seen words = list_any (λ w. pointwise nat_eq words w) seen
 
-abbrev pub sample_path : Moment → HartPath
-sample_path m = path_at m.hart m.pc
+abbrev pub seen_with : List (List ℕ) → List ℕ → List (List ℕ)
+seen_with seen words = if is_among seen words then seen else seen ++ words ∷ []
 
--- the expanded call paths of the samples, in order
-abbrev pub sample_paths : ℕ → List Moment → List HartPath
-sample_paths period moments = map sample_path (samples period moments)
+-- each once, in the order in which they are first met
+abbrev pub distinct : List (List ℕ) → List (List ℕ)
+distinct all = fold seen_with [] all
+
+-- the frames of such a path
+abbrev pub word_frames : List ℕ → ℕ
+word_frames (hart ∷ end ∷ pcs) = length pcs
+word_frames words = 0
+
+-- the scopes of its call path
+abbrev pub root_from : ℕ → RootKind
+root_from zero = Thread
+root_from (suc n) = Partial
+
+abbrev pub words_path : Loaded → List ℕ → HartPath
+words_path image (hart ∷ end ∷ pcs) = record { hart = hart; path = expansion (found_at image) (root_from end) pcs }
+words_path image words = record { hart = 0; path = [] }
+
+-- how many frames and scopes there are over the distinct paths of samples
+abbrev pub frame_count : List Sample → ℕ
+frame_count all = sum_by word_frames (distinct (map sample_words all))
+
+abbrev pub scope_count : Loaded → List Sample → ℕ
+scope_count image all = sum_by (λ words. length (words_path image words).path) (distinct (map sample_words all))
+
+-- how many of them there may be
+abbrev pub most_path_frames : ℕ
+most_path_frames = 4194304
+
+abbrev pub most_path_scopes : ℕ
+most_path_scopes = 8388608
+
+-- ---- the samples that are taken
+
+-- the first of the two limits that the run meets: too many frames, or too many samples
+abbrev pub few_samples : List Sample → Result (List Sample) InputFault
+few_samples all =
+    if nat_lt most_path_frames (frame_count (take most_samples all)) then Err TooManyFrames
+    else if nat_lt most_samples (length all) then Err TooManySamples
+    else Ok all
+
+abbrev pub few_scopes : Loaded → List Sample → Result (List Sample) InputFault
+few_scopes image all = if nat_lt most_path_scopes (scope_count image all) then Err TooManyScopes else Ok all
+
+abbrev pub sampled : Paths → ℕ → Run → Result (List Sample) InputFault
+sampled path_of period run = few_samples (samples path_of period run.instants)

@@ -1,7 +1,7 @@
 -- What the steps of a command do: its fetches, what is made of them, and the store and the put at its end.
 use Rattle.std.specs.Prelude.{◌≡◌, ℕ, ◌≤◌, ◌⊎◌, List, [], ◌∷◌, length, Option, Some, Result, Ok, Err, IsTrue, Contains, map}
 use Rattle.prof_bytes.specs.declared.text.Text.{Text}
-use Rattle.prof_devices.specs.Outside.{ShelfState, SinkState, Fails, Rose, Appends, AppendsPart}
+use Rattle.prof_devices.specs.Outside.{ShelfState, SinkState, Rose, Appends, AppendsPart}
 use Rattle.hpc_top.specs.declared.status.InputFault.{InputFault}
 use Rattle.hpc_top.specs.declared.status.Stop.{Stop}
 use Rattle.hpc_top.specs.declared.status.Stop.TheVariants.{Input, Device, Memory}

@@ -1,5 +1,5 @@
 -- A command as data: the files that it fetches, the file that it stores, and what it makes of their contents.
-use Rattle.std.specs.Prelude.{ℕ, List, [], ◌∷◌, length, map, Option, Some, None, Result, Ok, Err, if◌then◌else◌, nat_lt}
+use Rattle.std.specs.Prelude.{ℕ, List, [], ◌∷◌, length, map, Option, Some, Result, Ok, Err, if◌then◌else◌, nat_lt}
 use Rattle.prof_bytes.specs.Outcome.{◌>>=◌}
 use Rattle.prof_devices.specs.Files.{Files, bytes_of}
 use Rattle.hpc_top.specs.declared.status.FileKind.{FileKind}

@@ -6,7 +6,7 @@ use Rattle.hpc_top.specs.declared.request.Request as declared
 use Rattle.hpc_top.specs.declared.request.Request.TheVariants as requests
 use Rattle.hpc_top.specs.declared.words.Command.{Command}
 use Rattle.hpc_top.specs.declared.words.Command.TheVariants as commands
-use Rattle.hpc_top.specs.Numerals.{number_of}
+use Rattle.rv_run.specs.Numerals.{number_of}
 
 -- the words of `profile ELF INPUT SCHEDULE PERIOD WORKERS DB`
 pub record ProfileNames : Type 0 where

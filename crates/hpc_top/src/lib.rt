@@ -2,22 +2,22 @@
 //!
 //! It promises that what `profile` stores and prints is byte for byte what the definitions make of the
 //! files, that each refusal comes exactly where they have it, and what stands after every other
-//! answer. The modules `rv_hart`, `sample_clock` and `view_tables` are layers on their way
-//! to crates of their own: today's machine adds immediates and exits. Below stand the crates for files
-//! and streams, programs, scopes and the tree.
+//! answer. The modules `path_counts`, `expand` and `view_tables` are layers on their way to crates of their own.
+//! Below stand the crates for files and streams, programs, the machine and its samples, scopes and the
+//! tree.
 #![tactic(auto)]
 
 mod call;
+mod expand;
 mod main_job;
 mod message;
-mod numerals;
+mod names;
+mod path_counts;
 mod report;
 mod request;
-mod rv_hart;
-mod sample_clock;
 mod status;
 mod steps;
-mod straight;
+mod text;
 mod view_tables;
 mod words;
 

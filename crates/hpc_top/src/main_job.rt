@@ -1,26 +1,35 @@
 //! The main job over bytes: a program, its input and a schedule to a database and a report.
-ghost use Rattle.std.specs.Prelude.{◌≡◌, ◌≤◌, ◌^◌, ◌<◌, Err, length, map, IfOk, IfSome};
+ghost use Rattle.std.specs.Prelude.{◌≡◌, ◌≤◌, ◌^◌, ◌<◌, ◌+◌, ◌*◌, length, nat_lt, IfOk};
 ghost use Rattle.prof_bytes.specs.Outcome.{Gives};
+ghost use Rattle.scope_types.specs.CallPaths.{each_path};
+ghost use Rattle.rv_run.specs.Run.{run_of};
+ghost use Rattle.cfi_unwind.specs.Path.{path_of as unwound_by};
 ghost use Rattle.tree_types.specs.Nodes.{nodes, no_parent};
-ghost use Rattle.tree_types.specs.Database.{names_used};
 ghost use Rattle.hpc_top.specs.Made.{view};
-ghost use Rattle.hpc_top.specs.Profile.{is_not_elf, nameless, product_from, profile_of, program, program_from, slice_of, without_last_feed};
+ghost use Rattle.hpc_top.specs.Samples.{most_path_scopes};
+ghost use Rattle.hpc_top.specs.PathCounts.{words_in};
+ghost use Rattle.hpc_top.specs.Profile.{frame_information, naming_of, no_entries, product_from, product_of, profile_of, program, scheduled};
 
-use crate::numerals::number;
-use crate::report::{OneHart, report};
-use crate::sample_clock::{Observed, RunEnd, observe};
+use crate::expand::entries_of;
+use crate::names::names_of;
+use crate::path_counts::{PathCounts, collect};
+use crate::report::report;
 use crate::status::{InputFault, Made, Part};
-use crate::straight::form_difference;
 use crate::view_tables::top_down_table;
-use elf_image::{ElfFault, ElfRule, Image, read_image};
-use prof_bytes::{Fail, Listed, Memory, Text};
+use cfi_table::{FrameTable, read_frames};
+use cfi_unwind::Unwinder;
+use elf_image::{Image, read_image};
+use prof_bytes::{Fail, Listed, Memory};
 use prof_db::write_db;
-use scope_types::{HartPath, ProcId, ScopePath};
+use rv_run::{Machine, Schedule, read_schedule};
+use sample_clock::Samples;
+use scope_types::{Entry, ScopePath};
 use std::alloc::Global;
 use std::thread::Threads;
-use tree_types::{
-    FileName, NO_PARENT, Names, ProcName, content_of_paths, files_of, nodes_of, procs_of,
-};
+use tree_types::{NO_PARENT, content_of_paths, nodes_of};
+
+/// The most scopes that the distinct call paths may have together.
+const MOST_SCOPES: u64 = 8_388_608;
 
 /// A program, its input and schedule, the period in retired instructions, and the number of workers
 /// that merge.
@@ -33,42 +42,15 @@ pub struct Job<'a> {
     pub workers: u32,
 }
 
-const SCHEDULE_HEAD: &[u8; 10] = b"harts 1\n0 ";
-
-fn unbuilt(part: Part, at: u64) -> InputFault
-    ensures { result ≡ InputFault.Unbuilt part at }
+/// The schedule, or its first bad line.
+fn schedule_of(alloc: Global, bytes: &[u8]) -> Result<Schedule, Fail<InputFault>>
+    requires { length bytes.now ≤ 2 ^ 22 }
+    ensures { Gives (λ schedule. schedule) result (scheduled bytes.now) }
 {
-    InputFault::Unbuilt { part, at }
-}
-
-fn before_last_feed(bytes: &[u8]) -> &[u8]
-    ensures { result.now ≡ without_last_feed bytes.now }
-{
-    match bytes {
-        [front @ .., b'\n'] => front,
-        _ => bytes,
-    }
-}
-
-/// How many instructions the one slice of the schedule has.
-fn slice(schedule: &[u8]) -> Option<u32>
-    ensures slice { result ≡ slice_of schedule.now }
-    ensures few { IfSome result (λ count. count ≤ 2 ^ 20) }
-{
-    let (head, rest) = schedule.split_at(schedule.len().min(SCHEDULE_HEAD.len()));
-    if head != SCHEDULE_HEAD.as_slice() {
-        return None;
-    }
-    number(before_last_feed(rest), 1, 1_048_576)
-}
-
-/// Why a file is refused that is no program: a file that is no ELF file first, then another form.
-fn refusal(place: Option<usize>, fault: ElfFault) -> InputFault
-    ensures { Err result ≡ program_from (Err fault) place }
-{
-    match place {
-        Some(place) if !is_no_elf(fault.rule) => unbuilt(Part::Program, place as u64),
-        _ => InputFault::Program(fault),
+    match read_schedule(alloc, bytes) {
+        Ok(schedule) => Ok(schedule),
+        Err(Fail::Fault(fault)) => Err(Fail::Fault(InputFault::Schedule { line: fault.line })),
+        Err(Fail::Memory) => Err(Fail::Memory),
     }
 }
 
@@ -77,122 +59,149 @@ fn program_of(alloc: Global, elf: &[u8]) -> Result<Image<'_>, Fail<InputFault>>
     requires { length elf.now ≤ 2 ^ 26 }
     ensures { Gives (λ image. image) result (program elf.now) }
 {
-    let place = form_difference(alloc, elf)?;
-    match (read_image(alloc, elf), place) {
-        (Ok(image), None) => Ok(image),
-        (Ok(_), Some(place)) => Err(Fail::Fault(unbuilt(Part::Program, place as u64))),
-        (Err(Fail::Fault(fault)), place) => Err(Fail::Fault(refusal(place, fault))),
-        (Err(Fail::Memory), _) => Err(Fail::Memory),
+    match read_image(alloc, elf) {
+        Ok(image) => Ok(image),
+        Err(Fail::Fault(fault)) => Err(Fail::Fault(InputFault::Program(fault))),
+        Err(Fail::Memory) => Err(Fail::Memory),
     }
 }
 
-fn is_no_elf(rule: ElfRule) -> bool
-    ensures { result ≡ is_not_elf rule }
+/// The call frame information of a program, or its first fault. A section of 2^31 bytes, which no file
+/// within its limit has, is more than memory holds.
+fn frames_of(alloc: Global, image: &Image<'_>) -> Result<FrameTable, Fail<InputFault>>
+    ensures { Gives (λ table. table) result (frame_information image.now) }
 {
-    matches!(rule, ElfRule::NotElf)
-}
-
-fn named_procs(alloc: Global, ids: &[ProcId]) -> Result<Listed<ProcName>, Memory>
-    ensures { IfOk result (λ procs. procs ≡ map (λ id. record { id = id; name = nameless.proc_name id }) ids.now) }
-{
-    let mut procs = Vec::new(alloc);
-    for id in ids {
-        let name = Text::of(alloc, b"<unknown procedure>")?;
-        procs.push(ProcName { id: *id, name })?;
+    let bytes = image.section(b".debug_frame");
+    if bytes.len() >= 1 << 31 {
+        return Err(Fail::Memory);
     }
-    Ok(Listed::of(procs))
-}
-
-fn named_files(alloc: Global, files: &[(u32, u32)]) -> Result<Listed<FileName>, Memory>
-    ensures { IfOk result (λ named. named ≡ map (λ f. record { table = f.0; file = f.1; name = nameless.file_name f.0 f.1 }) files.now) }
-{
-    let mut named = Vec::new(alloc);
-    for (table, file) in files {
-        let name = Text::of(alloc, b"<unknown file>")?;
-        named.push(FileName {
-            table: *table,
-            file: *file,
-            name,
-        })?;
+    match read_frames(alloc, bytes, image) {
+        Ok(table) => Ok(table),
+        Err(Fail::Fault(fault)) => {
+            let offset = fault.offset;
+            Err(Fail::Fault(InputFault::Frames { offset }))
+        }
+        Err(Fail::Memory) => Err(Fail::Memory),
     }
-    Ok(Listed::of(named))
 }
 
-/// The names that the nodes' scopes use, where no symbol and no line is known.
-fn names_of(alloc: Global, tree: &[ScopePath], paths: &[HartPath]) -> Result<Names, Memory>
-    requires { tree.now ≡ nodes paths.now }
-    ensures { IfOk result (λ names. names ≡ names_used nameless paths.now) }
+/// Refuses a program with debug information.
+fn check_no_entries(image: &Image<'_>) -> Result<(), Fail<InputFault>>
+    ensures { Gives (λ _. tt) result (no_entries image.now) }
 {
-    let procs = procs_of(alloc, tree)?;
-    let files = files_of(alloc, tree)?;
-    Ok(Names {
-        procs: named_procs(alloc, procs.items())?,
-        files: named_files(alloc, files.items())?,
-    })
+    if image.section(b".debug_info").is_empty() {
+        return Ok(());
+    }
+    Err(Fail::Fault(InputFault::Unbuilt {
+        part: Part::Entries,
+        at: 0,
+    }))
 }
 
 /// The nodes of the paths. More than their numbers can tell apart are more than memory holds.
-fn tree_of(alloc: Global, paths: &[HartPath]) -> Result<Listed<ScopePath>, Memory>
-    ensures nodes { IfOk result (λ tree. tree ≡ nodes paths.now) }
+fn tree_of(alloc: Global, entries: &[Entry]) -> Result<Listed<ScopePath>, Memory>
+    ensures nodes { IfOk result (λ tree. tree ≡ nodes (each_path entries.now)) }
     ensures numbers { IfOk result (λ tree. length tree ≤ no_parent) }
 {
-    let tree = nodes_of(alloc, paths)?;
+    let tree = nodes_of(alloc, entries)?;
     if tree.items().len() > NO_PARENT as usize {
         return Err(Memory);
     }
     Ok(tree)
 }
 
-/// The database and the report of what was observed of a run.
-fn made_of(alloc: Global, period: u32, observed: &Observed) -> Result<Made, Memory>
-    requires few { length observed.now.paths ≤ 2 ^ 20 }
+/// The database and the report of samples, and of the machine at the end of its run.
+#[tactic(auto, using(crate::proofs::Products::table_named))]
+fn made_of(
+    alloc: Global,
+    period: u32,
+    harts: u32,
+    image: &Image<'_>,
+    entries: &[Entry],
+    machine: &Machine<'_>,
+) -> Result<Made, Memory>
+    requires few { length (each_path entries.now) ≤ 2 ^ 20 }
     requires period { 0 < period }
-    ensures { IfOk result (λ made. view made ≡ product_from period observed.now.paths observed.now.retired observed.now.end) }
+    requires harts { harts ≡ length machine.now.state.harts }
+    ensures { IfOk result (λ made. view made ≡ product_from period harts (naming_of image.now) (each_path entries.now) machine.now.state) }
 {
-    let paths = observed.paths.items();
-    let tree = tree_of(alloc, paths)?;
-    let names = names_of(alloc, tree.items(), paths)?;
-    let content = content_of_paths(alloc, period, 1, names, paths, tree.items())?;
-    let table = top_down_table(alloc, period, 1, paths, tree.items())?;
-    let hart = OneHart {
-        retired: observed.retired,
-        samples: paths.len() as u32,
-        end: observed.end,
-    };
+    let tree = tree_of(alloc, entries)?;
+    let names = names_of(alloc, image, tree.items(), entries)?;
+    let table = top_down_table(alloc, period, harts, &names, entries, tree.items())?;
+    let content = content_of_paths(alloc, period, harts, names, entries, tree.items())?;
     Ok(Made {
         database: write_db(alloc, &content)?,
-        report: report(alloc, period, hart, table.as_slice())?,
+        report: report(alloc, period, harts, entries, machine, table.as_slice())?,
     })
+}
+
+/// Whether distinct paths of so many frames have more scopes than they may: a root each, and for each
+/// frame a procedure and an address.
+#[tactic(auto, using(crate::proofs::Scopes::scope_steps))]
+fn has_many_scopes(found: &PathCounts) -> bool
+    requires { found.now.frames < 2 ^ 32 }
+    ensures { result ≡ nat_lt most_path_scopes (length (words_in found.now.counts.entries) + 2 * found.now.frames) }
+{
+    found.counts.len() as u64 + 2 * found.frames > MOST_SCOPES
+}
+
+/// What is stored and printed of a program's run under a schedule, unless it has too many samples,
+/// frames or scopes.
+#[tactic(auto, using(crate::proofs::Products::counted_few))]
+fn run_job(
+    alloc: Global,
+    job: &Job<'_>,
+    image: &Image<'_>,
+    unwinder: &Unwinder<'_>,
+    schedule: Schedule,
+) -> Result<Made, Fail<InputFault>>
+    requires period { 0 < job.now.period }
+    ensures { Gives view result (product_of (unwound_by unwinder.now) job.now.period schedule.harts image.now (run_of image.now schedule job.now.input.now)) }
+{
+    let harts = schedule.harts();
+    let machine = Machine::start(alloc, image, schedule, job.input)?;
+    // Called for its clause that as many harts stand at the end of the run, which the proof cites.
+    let _all = machine.harts();
+    let mut samples = Samples::start(machine, job.period);
+    let found = collect(alloc, &mut samples, unwinder)?;
+    if has_many_scopes(&found) {
+        return Err(Fail::Fault(InputFault::TooManyScopes));
+    }
+    let entries = entries_of(alloc, image, &found.counts)?;
+    Ok(made_of(
+        alloc,
+        job.period,
+        harts,
+        image,
+        entries.items(),
+        samples.machine(),
+    )?)
 }
 
 /// What is stored and printed of a job, or the first refusal of its files.
 #[tactic(auto, unfolding(crate::specs::Profile::profile_of))]
 fn make(alloc: Global, job: &Job<'_>) -> Result<Made, Fail<InputFault>>
     requires program { length job.now.elf.now ≤ 2 ^ 26 }
+    requires schedule { length job.now.schedule.now ≤ 2 ^ 22 }
     requires period { 0 < job.now.period }
     ensures { Gives view result (profile_of job.now.elf.now job.now.input.now job.now.schedule.now job.now.period) }
 {
-    let Some(count) = slice(job.schedule) else {
-        return Err(Fail::Fault(unbuilt(Part::Schedule, 0)));
-    };
-    if !job.input.is_empty() {
-        return Err(Fail::Fault(unbuilt(Part::Input, 0)));
-    }
+    let schedule = schedule_of(alloc, job.schedule)?;
     let image = program_of(alloc, job.elf)?;
-    let observed = observe(alloc, &image, count, job.period)?;
-    if let RunEnd::UnbuiltAt(pc) = observed.end {
-        return Err(Fail::Fault(unbuilt(Part::Moment, u64::from(pc))));
-    }
-    Ok(made_of(alloc, job.period, &observed)?)
+    let table = frames_of(alloc, &image)?;
+    check_no_entries(&image)?;
+    let unwinder = Unwinder::of(alloc, &table, &image);
+    run_job(alloc, job, &image, &unwinder, schedule)
 }
 
 /// The database and the report of a job, or the first refusal of its files. The program has at most
-/// 64 MiB, and the period is above 0.
+/// 64 MiB, the schedule at most 4 MiB, and the period is above 0.
 pub fn profile<R: Threads + Sync + AllocGlobal>(
     rt: &R,
     job: &Job<'_>,
 ) -> Result<Made, Fail<InputFault>>
     requires program { length job.now.elf.now ≤ 2 ^ 26 }
+    requires schedule { length job.now.schedule.now ≤ 2 ^ 22 }
     requires period { 0 < job.now.period }
     ensures { Gives view result (profile_of job.now.elf.now job.now.input.now job.now.schedule.now job.now.period) }
 {

@@ -25,10 +25,7 @@ impl fmt::Display for Part {
 
     fn fmt<W: fmt::Write>(&self, f: &mut fmt::Formatter<W>) -> fmt::Result {
         match self {
-            Part::Schedule => write!(f, "schedule"),
-            Part::Input => write!(f, "input"),
-            Part::Program => write!(f, "program"),
-            Part::Moment => write!(f, "moment"),
+            Part::Entries => write!(f, "entries"),
         }
     }
 }
@@ -55,12 +52,17 @@ impl fmt::Display for InputFault {
     fn fmt<W: fmt::Write>(&self, f: &mut fmt::Formatter<W>) -> fmt::Result {
         match self {
             InputFault::TooLong { file, limit } => write!(f, "{file} longer than {limit} bytes"),
+            InputFault::Schedule { line } => write!(f, "schedule line {line}"),
             InputFault::Program(fault) => {
                 let rule = rule_name(fault.rule);
                 let offset = fault.offset;
                 write!(f, "program {rule} at {offset}")
             }
+            InputFault::Frames { offset } => write!(f, "frames at {offset}"),
             InputFault::Unbuilt { part, at } => write!(f, "unbuilt {part} at {at}"),
+            InputFault::TooManySamples => write!(f, "more than 1048576 samples"),
+            InputFault::TooManyFrames => write!(f, "more than 4194304 frames"),
+            InputFault::TooManyScopes => write!(f, "more than 8388608 scopes"),
         }
     }
 }

@@ -1,60 +1,163 @@
 //! The report of a run as text.
-ghost use Rattle.std.specs.Prelude.{◌≡◌, Some, [], ◌∷◌, IfOk, string_bytes};
-ghost use Rattle.hpc_top.specs.Report.{end_text, hart_line, one_line, report_of, total_line};
+ghost use Rattle.std.specs.Prelude.{◌≡◌, ◌<◌, ◌≤◌, ◌^◌, ◌++◌, ◌*◌, length, codes, decimal, IfOk, OnOk};
+ghost use Rattle.std.specs.List.{flat_map, enumerate_from};
+ghost use Rattle.scope_types.specs.CallPaths.{each_path};
+ghost use Rattle.hpc_top.specs.Report.{cause_text, closed, end_text, hart_line, report_of, total_line};
+ghost use Rattle.hpc_top.specs.Profile.{hart_line_of, hart_lines, samples_of};
 
-use crate::sample_clock::RunEnd;
+use crate::text::{put_address, put_decimal};
 use prof_bytes::{Memory, Text};
+use rv_hart::Cause;
+use rv_run::{HartEnd, Machine};
+use scope_types::Entry;
 use std::alloc::Global;
-use std::fmt;
+use tree_types::{Kind, total_of, value_of};
 
-impl fmt::Display for RunEnd {
-    ghost output = { λ end. Some (end_text end) };
+/// What a hart did: the instructions that it retired, the samples taken, and how it stands.
+#[derive(Clone, Copy, Debug)]
+pub struct HartLine {
+    pub retired: u64,
+    pub samples: u64,
+    pub end: HartEnd,
+}
 
-    fn fmt<W: fmt::Write>(&self, f: &mut fmt::Formatter<W>) -> fmt::Result {
-        match self {
-            RunEnd::Running => write!(f, "stopped"),
-            RunEnd::Exit(status) => write!(f, "exit {status}"),
-            RunEnd::UnbuiltAt(_) => write!(f, "stopped"),
+fn cause_name(cause: Cause) -> &'static str
+    ensures { result.now ≡ cause_text cause }
+{
+    match cause {
+        Cause::Illegal => "illegal",
+        Cause::Fetch => "fetch",
+        Cause::Load => "load",
+        Cause::Store => "store",
+        Cause::Target => "target",
+    }
+}
+
+fn put_words(out: &mut Vec<u8>, words: &str) -> Result<(), Memory>
+    ensures { OnOk result (out.new.items ≡ out.old.items ++ words.now) }
+{
+    out.extend_from_slice(words.as_bytes())?;
+    Ok(())
+}
+
+/// A word, and a number behind it.
+fn put_count(out: &mut Vec<u8>, word: &str, number: u64) -> Result<(), Memory>
+    ensures { OnOk result (out.new.items ≡ out.old.items ++ word.now ++ decimal number) }
+{
+    put_words(out, word)?;
+    put_decimal(out, number)
+}
+
+fn put_trap(out: &mut Vec<u8>, cause: Cause, pc: u32) -> Result<(), Memory>
+    ensures { OnOk result (out.new.items ≡ out.old.items ++ end_text (HartEnd.Trap cause pc)) }
+{
+    put_words(out, "trap ")?;
+    put_words(out, cause_name(cause))?;
+    put_words(out, " at ")?;
+    put_address(out, pc)
+}
+
+/// How a hart stands.
+fn put_end(out: &mut Vec<u8>, end: HartEnd) -> Result<(), Memory>
+    ensures { OnOk result (out.new.items ≡ out.old.items ++ end_text end) }
+{
+    match end {
+        HartEnd::Running => put_words(out, "stopped"),
+        HartEnd::Exit(status) => put_count(out, "exit ", u64::from(status)),
+        HartEnd::Group(status) => put_count(out, "group ", u64::from(status)),
+        HartEnd::Trap { cause, pc } => put_trap(out, cause, pc),
+        HartEnd::Break { pc } => {
+            put_words(out, "break at ")?;
+            put_address(out, pc)
         }
     }
 }
 
-/// What is said of the one hart of a run.
-#[derive(Clone, Copy, Debug)]
-pub struct OneHart {
-    pub retired: u32,
-    pub samples: u32,
-    pub end: RunEnd,
+/// The guest's output, and a line feed where it is not empty and does not end in one.
+fn put_output(out: &mut Vec<u8>, output: &[u8]) -> Result<(), Memory>
+    ensures { OnOk result (out.new.items ≡ out.old.items ++ closed output.now) }
+{
+    out.extend_from_slice(output)?;
+    match output {
+        [] | [.., b'\n'] => {}
+        _ => out.push(b'\n')?,
+    }
+    Ok(())
 }
 
-fn total_line_of(alloc: Global, period: u32, hart: OneHart) -> Result<String, Memory>
-    ensures { IfOk result (λ text. string_bytes text ≡ total_line period (one_line hart ∷ [])) }
+fn put_total_line(out: &mut Vec<u8>, harts: u32, period: u32, samples: u64) -> Result<(), Memory>
+    requires { samples ≤ 2 ^ 20 }
+    ensures { OnOk result (out.new.items ≡ out.old.items ++ total_line harts period samples) }
 {
-    let harts = 1u32;
-    let samples = hart.samples;
-    let total = u64::from(period) * u64::from(samples);
-    Ok(format!(in alloc; "harts {harts} period {period} samples {samples} total {total}\n")?)
+    put_count(out, "harts ", u64::from(harts))?;
+    put_count(out, " period ", u64::from(period))?;
+    put_count(out, " samples ", samples)?;
+    put_count(out, " total ", u64::from(period) * samples)?;
+    out.push(b'\n')?;
+    Ok(())
 }
 
-fn hart_line_of(alloc: Global, hart: OneHart) -> Result<String, Memory>
-    ensures { IfOk result (λ text. string_bytes text ≡ hart_line (0, one_line hart)) }
+fn put_hart_line(out: &mut Vec<u8>, hart: u32, line: HartLine) -> Result<(), Memory>
+    ensures { OnOk result (out.new.items ≡ out.old.items ++ hart_line (hart, line)) }
 {
-    let number = 0u32;
-    let retired = hart.retired;
-    let samples = hart.samples;
-    let end = hart.end;
-    Ok(format!(in alloc; "hart {number} retired {retired} samples {samples} end {end}\n")?)
+    put_count(out, "hart ", u64::from(hart))?;
+    put_count(out, " retired ", line.retired)?;
+    put_count(out, " samples ", line.samples)?;
+    put_words(out, " end ")?;
+    put_end(out, line.end)?;
+    out.push(b'\n')?;
+    Ok(())
 }
 
-/// The report of a run of one hart without output, with this table.
-pub fn report(alloc: Global, period: u32, hart: OneHart, table: &[u8]) -> Result<Text, Memory>
-    ensures { IfOk result (λ text. text ≡ report_of [] period (one_line hart ∷ []) table.now) }
+/// How many samples a hart has.
+#[tactic(auto, using(crate::proofs::Lines::all_of_hart))]
+fn samples_in(entries: &[Entry], hart: u32) -> u64
+    requires { length (each_path entries.now) ≤ 2 ^ 20 }
+    ensures { result ≡ samples_of (each_path entries.now) hart }
 {
-    let total = total_line_of(alloc, period, hart)?;
-    let line = hart_line_of(alloc, hart)?;
+    value_of(1, entries, hart, &[], Kind::Inclusive)
+}
+
+/// A line for each hart.
+#[tactic(auto, using(crate::proofs::Lines::line_steps))]
+fn put_hart_lines(
+    out: &mut Vec<u8>,
+    harts: u32,
+    entries: &[Entry],
+    machine: &Machine<'_>,
+) -> Result<(), Memory>
+    requires few { length (each_path entries.now) ≤ 2 ^ 20 }
+    requires harts { harts ≡ length machine.now.state.harts }
+    ensures { OnOk result (out.new.items ≡ out.old.items ++ flat_map hart_line (enumerate_from 0 (hart_lines harts (each_path entries.now) machine.now.state))) }
+{
+    for hart in 0..harts {
+        let line = HartLine {
+            retired: machine.retired(hart),
+            samples: samples_in(entries, hart),
+            end: machine.end(hart),
+        };
+        put_hart_line(out, hart, line)?;
+    }
+    Ok(())
+}
+
+/// The report of samples and of the machine at the end of its run, with this table.
+pub fn report(
+    alloc: Global,
+    period: u32,
+    harts: u32,
+    entries: &[Entry],
+    machine: &Machine<'_>,
+    table: &[u8],
+) -> Result<Text, Memory>
+    requires few { length (each_path entries.now) ≤ 2 ^ 20 }
+    requires harts { harts ≡ length machine.now.state.harts }
+    ensures { IfOk result (λ text. text ≡ report_of machine.now.state.output (total_line harts period (length (each_path entries.now))) (hart_lines harts (each_path entries.now) machine.now.state) table.now) }
+{
     let mut bytes = Vec::new(alloc);
-    bytes.extend_from_slice(total.as_bytes())?;
-    bytes.extend_from_slice(line.as_bytes())?;
+    put_output(&mut bytes, machine.output())?;
+    put_total_line(&mut bytes, harts, period, total_of(entries))?;
+    put_hart_lines(&mut bytes, harts, entries, machine)?;
     bytes.extend_from_slice(table)?;
     Ok(Text::from_vec(bytes))
 }

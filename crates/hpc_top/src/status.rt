@@ -17,10 +17,7 @@ pub enum FileKind {
 /// The parts of what is to be built.
 #[derive(Clone, Copy, Debug, PartialEq, Eq)]
 pub enum Part {
-    Schedule,
-    Input,
-    Program,
-    Moment,
+    Entries,
 }
 
 /// What is refused in the files, and where.
@@ -28,10 +25,20 @@ pub enum Part {
 pub enum InputFault {
     /// The file has more bytes than its limit.
     TooLong { file: FileKind, limit: u64 },
+    /// The first bad line of the schedule, from 1; the number of lines plus 1 where none tells the harts.
+    Schedule { line: u32 },
     /// The program's file breaks a rule, at an offset in it.
     Program(ElfFault),
-    /// The files need a part that is not built yet, at a place in the file or at an address.
+    /// The call frame information breaks a rule, at an offset in `.debug_frame`.
+    Frames { offset: u32 },
+    /// The files need a part that is not built yet, at a place in its section.
     Unbuilt { part: Part, at: u64 },
+    /// The run has more than 1,048,576 samples.
+    TooManySamples,
+    /// The distinct call paths of the samples have more than 4,194,304 frames together.
+    TooManyFrames,
+    /// The distinct call paths of the samples have more than 8,388,608 scopes together.
+    TooManyScopes,
 }
 
 /// Which device failed: a read or a store of a file, or the output.

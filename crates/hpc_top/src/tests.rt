@@ -1,16 +1,20 @@
 use super::*;
-use elf_image::{ElfFault, ElfRule};
 use prof_devices::{MemShelf, MemSink, OpenGate, SureShelf, SureSink};
 use std::alloc::Global;
 use std::process::Abort;
 use std::test::Fail;
 use std::thread::Threads;
 
+mod refusals;
+mod unwound;
 mod worked;
 
+use refusals::{Case, REFUSALS};
+use unwound::{AT_ITS_START, LAST_CALL, MOVED_FRAME, RECURSION, SEVEN_FRAMES};
 use worked::{
-    ADDING, BRANCHING, CUT_SHORT, EMPTY_DATABASE, FIRST_OF_TWENTY, FOUR_SAMPLES, NO_SAMPLES,
-    database_of_four, files, program, text, words_of,
+    ADDING, BRANCHING, CUT_SHORT, ECHO, ECHOED, EMPTY_DATABASE, FOUR_SAMPLES, GROUP, GROUP_ENDS,
+    NO_SAMPLES, ONE_TRAPS, TWENTY_SAMPLES, TWO_HARTS, database_of_four, files, program, text,
+    words_of,
 };
 
 fn is(found: Option<&[u8]>, wanted: &[u8]) -> bool {
@@ -19,190 +23,6 @@ fn is(found: Option<&[u8]>, wanted: &[u8]) -> bool {
         None => false,
     }
 }
-
-struct Case {
-    name: &'static str,
-    words: &'static str,
-    schedule: &'static [u8],
-    /// How many bytes of the adding program are kept, and a byte of it that is another.
-    cut: usize,
-    changed: (usize, u8),
-    input: &'static [u8],
-    status: Status,
-    line: &'static str,
-}
-
-const CASE: Case = Case {
-    name: "",
-    words: "profile p i s 5 1 d",
-    schedule: b"harts 1\n0 100000\n",
-    cut: 168,
-    changed: (0, 0x7f),
-    input: b"",
-    status: Status::Usage,
-    line: "",
-};
-
-/// What is refused in the words and in the files, by its place, with the line on standard error.
-const REFUSALS: [Case; 20] = [
-    Case {
-        name: "no words",
-        words: "",
-        status: Status::Usage,
-        ..CASE
-    },
-    Case {
-        name: "a view that is none",
-        words: "view d sideways",
-        ..CASE
-    },
-    Case {
-        name: "a period of 0",
-        words: "profile p i s 0 1 d",
-        ..CASE
-    },
-    Case {
-        name: "a period past 32 bits",
-        words: "profile p i s 4294967296 1 d",
-        ..CASE
-    },
-    Case {
-        name: "a period with a zero in front",
-        words: "profile p i s 05 1 d",
-        ..CASE
-    },
-    Case {
-        name: "no worker",
-        words: "profile p i s 5 0 d",
-        ..CASE
-    },
-    Case {
-        name: "seventeen workers",
-        words: "profile p i s 5 17 d",
-        ..CASE
-    },
-    Case {
-        name: "a word too many",
-        words: "profile p i s 5 1 d d",
-        ..CASE
-    },
-    Case {
-        name: "a drill's number with a zero in front",
-        words: "drill 01 1",
-        ..CASE
-    },
-    Case {
-        name: "two harts",
-        schedule: b"harts 2\n0 5\n",
-        status: Status::Input(InputFault::Unbuilt {
-            part: Part::Schedule,
-            at: 0,
-        }),
-        line: "hpc: unbuilt schedule at 0\n",
-        ..CASE
-    },
-    Case {
-        name: "a slice past its limit",
-        schedule: b"harts 1\n0 1048577\n",
-        status: Status::Input(InputFault::Unbuilt {
-            part: Part::Schedule,
-            at: 0,
-        }),
-        line: "hpc: unbuilt schedule at 0\n",
-        ..CASE
-    },
-    Case {
-        name: "two line feeds at the end",
-        schedule: b"harts 1\n0 5\n\n",
-        status: Status::Input(InputFault::Unbuilt {
-            part: Part::Schedule,
-            at: 0,
-        }),
-        line: "hpc: unbuilt schedule at 0\n",
-        ..CASE
-    },
-    Case {
-        name: "an input",
-        input: b"x",
-        status: Status::Input(InputFault::Unbuilt {
-            part: Part::Input,
-            at: 0,
-        }),
-        line: "hpc: unbuilt input at 0\n",
-        ..CASE
-    },
-    Case {
-        name: "cut to 51 bytes",
-        cut: 51,
-        status: Status::Input(InputFault::Program(ElfFault {
-            rule: ElfRule::NotElf,
-            offset: 51,
-        })),
-        line: "hpc: program NotElf at 51\n",
-        ..CASE
-    },
-    Case {
-        name: "another magic number",
-        changed: (2, 0),
-        status: Status::Input(InputFault::Program(ElfFault {
-            rule: ElfRule::NotElf,
-            offset: 2,
-        })),
-        line: "hpc: program NotElf at 2\n",
-        ..CASE
-    },
-    Case {
-        name: "compressed code",
-        changed: (36, 1),
-        status: Status::Input(InputFault::Unbuilt {
-            part: Part::Program,
-            at: 36,
-        }),
-        line: "hpc: unbuilt program at 36\n",
-        ..CASE
-    },
-    Case {
-        name: "sections",
-        changed: (32, 132),
-        status: Status::Input(InputFault::Unbuilt {
-            part: Part::Program,
-            at: 32,
-        }),
-        line: "hpc: unbuilt program at 32\n",
-        ..CASE
-    },
-    Case {
-        name: "a header cut short, whose lengths are 0",
-        cut: 70,
-        changed: (68, 0),
-        status: Status::Input(InputFault::Unbuilt {
-            part: Part::Program,
-            at: 70,
-        }),
-        line: "hpc: unbuilt program at 70\n",
-        ..CASE
-    },
-    Case {
-        name: "another length of the code",
-        changed: (68, 80),
-        status: Status::Input(InputFault::Unbuilt {
-            part: Part::Program,
-            at: 68,
-        }),
-        line: "hpc: unbuilt program at 68\n",
-        ..CASE
-    },
-    Case {
-        name: "an instruction that is not built",
-        changed: (84, 0x33),
-        status: Status::Input(InputFault::Unbuilt {
-            part: Part::Moment,
-            at: 65536,
-        }),
-        line: "hpc: unbuilt moment at 65536\n",
-        ..CASE
-    },
-];
 
 const USAGE: &str =
     "usage: hpc profile ELF INPUT SCHEDULE PERIOD WORKERS DB | run ELF INPUT SCHEDULE PERIOD MEASURE | prof ELF MEASURE WORKERS DB | struct ELF | view DB top|callers|flat | drill NUMBER WORKERS\n";
@@ -216,7 +36,11 @@ fn line_of(case: &Case) -> &'static str {
 }
 
 fn changed_program(alloc: Global, case: &Case) -> Result<Vec<u8>, Fail> {
-    let mut file = program(alloc, &ADDING)?;
+    let mut file = if case.file.is_empty() {
+        program(alloc, &ADDING)?
+    } else {
+        Vec::from_slice(alloc, case.file)?
+    };
     let (at, byte) = case.changed;
     if at < file.len() {
         file[at] = byte;
@@ -256,43 +80,81 @@ fn refusals_by_their_places(rt: HostRuntime) -> Result<(), Fail> {
     Ok(())
 }
 
+#[derive(Clone, Copy)]
 struct Run {
-    period: &'static str,
+    code: &'static [u32],
+    input: &'static [u8],
     schedule: &'static [u8],
+    period: &'static str,
     report: &'static str,
 }
 
-const RUNS: [Run; 4] = [
-    Run {
-        period: "5",
-        schedule: b"harts 1\n0 100000\n",
-        report: FOUR_SAMPLES,
-    },
+const RUN: Run = Run {
+    code: &ADDING,
+    input: b"",
+    schedule: b"harts 1\n0 100000\n",
+    period: "5",
+    report: FOUR_SAMPLES,
+};
+
+const RUNS: [Run; 8] = [
+    RUN,
     Run {
         period: "21",
         schedule: b"harts 1\n0 100000",
         report: NO_SAMPLES,
+        ..RUN
     },
     Run {
         period: "1",
-        schedule: b"harts 1\n0 100000\n",
-        report: FIRST_OF_TWENTY,
+        report: TWENTY_SAMPLES,
+        ..RUN
     },
     Run {
-        period: "5",
         schedule: b"harts 1\n0 7\n",
         report: CUT_SHORT,
+        ..RUN
+    },
+    Run {
+        schedule: b"harts 2\n0 7\n1 3\n",
+        report: TWO_HARTS,
+        ..RUN
+    },
+    Run {
+        code: &BRANCHING,
+        schedule: b"harts 2\n0 9\n1 9\n",
+        period: "1",
+        report: ONE_TRAPS,
+        ..RUN
+    },
+    Run {
+        code: &GROUP,
+        schedule: b"harts 2\n0 1\n1 2\n0 5\n",
+        period: "1",
+        report: GROUP_ENDS,
+        ..RUN
+    },
+    Run {
+        code: &ECHO,
+        input: b"hi",
+        report: ECHOED,
+        ..RUN
     },
 ];
 
-fn reports(rt: &(impl Abort + Threads + Sync + AllocGlobal), run: &Run) -> Result<(), Fail> {
+fn reported(
+    rt: &(impl Abort + Threads + Sync + AllocGlobal),
+    run: &Run,
+    period: &'static str,
+) -> Result<SureSink, Fail> {
     let alloc = rt.alloc();
-    let elf = program(alloc, &ADDING)?;
-    let mut shelf = SureShelf::of(alloc, files(alloc, elf.as_slice(), b"", run.schedule)?);
+    let elf = program(alloc, run.code)?;
+    let files = files(alloc, elf.as_slice(), run.input, run.schedule)?;
+    let mut shelf = SureShelf::of(alloc, files);
     let mut out = SureSink::new(alloc);
     let mut err = SureSink::new(alloc);
     let mut words = words_of(alloc, "profile p i s")?;
-    for word in [run.period, "1", "d"] {
+    for word in [period, "1", "d"] {
         words.push(text(alloc, word.as_bytes())?)?;
     }
     let status = hpc_main(
@@ -303,20 +165,96 @@ fn reports(rt: &(impl Abort + Threads + Sync + AllocGlobal), run: &Run) -> Resul
         &mut err,
         &OpenGate,
     );
-    assert_eq!(rt; status, Status::Done, "period {}", run.period);
-    assert!(rt;
-        out.taken().starts_with(run.report.as_bytes()),
-        "period {}",
-        run.period
-    );
-    assert!(rt; err.taken().is_empty(), "period {}", run.period);
-    Ok(())
+    assert_eq!(rt; status, Status::Done, "period {}", period);
+    assert!(rt; err.taken().is_empty(), "period {}", period);
+    Ok(out)
 }
 
 #[test]
 fn reports_of_runs(rt: HostRuntime) -> Result<(), Fail> {
     for run in &RUNS {
-        reports(&rt, run)?;
+        let out = reported(&rt, run, run.period)?;
+        assert_eq!(rt; out.taken(), run.report.as_bytes(), "period {}", run.period);
+    }
+    Ok(())
+}
+
+/// A program's words, and the line on its one hart: how a hart ends otherwise.
+const ENDS: [(&[u32], &str); 6] = [
+    (
+        &[0x0010_0073],
+        "retired 0 samples 0 end break at 0x00010000",
+    ),
+    (
+        &[0x0000_2283],
+        "retired 0 samples 0 end trap load at 0x00010000",
+    ),
+    (
+        &[0x0050_2023],
+        "retired 0 samples 0 end trap store at 0x00010000",
+    ),
+    (
+        &[0x0020_0067],
+        "retired 0 samples 0 end trap target at 0x00010000",
+    ),
+    (
+        &[0x0000_0067],
+        "retired 1 samples 0 end trap fetch at 0x00000000",
+    ),
+    (&[0x0000_006f], "retired 9 samples 0 end stopped"),
+];
+
+#[test]
+fn other_ends_of_a_hart(rt: HostRuntime) -> Result<(), Fail> {
+    for (code, line) in ENDS {
+        let run = Run {
+            code,
+            schedule: b"harts 1\n0 9\n",
+            ..RUN
+        };
+        let out = reported(&rt, &run, "4294967295")?;
+        let mut wanted = Vec::from_slice(
+            rt.alloc(),
+            b"harts 1 period 4294967295 samples 0 total 0\nhart 0 ",
+        )?;
+        wanted.extend_from_slice(line.as_bytes())?;
+        wanted.extend_from_slice(b"\n       inclusive      %            frame  scope\n")?;
+        assert_eq!(rt; out.taken(), wanted.as_slice(), "{}", line);
+    }
+    Ok(())
+}
+
+/// A program with call frame information, its schedule and period, and the report.
+const UNWOUND: [(&[u8], &[u8], u32, &str); 3] = [
+    (RECURSION, b"harts 1\n0 1000\n", 31, SEVEN_FRAMES),
+    (RECURSION, b"harts 1\n0 4\n", 1, MOVED_FRAME),
+    (LAST_CALL, b"harts 1\n0 5\n", 5, AT_ITS_START),
+];
+
+fn report_of(
+    rt: &(impl Abort + Threads + Sync + AllocGlobal),
+    elf: &[u8],
+    schedule: &[u8],
+    period: u32,
+) -> Result<Made, Fail> {
+    if elf.len() > 1000 || schedule.len() > 1000 || period == 0 {
+        return Err("not a job".into());
+    }
+    let job = Job {
+        elf,
+        input: b"",
+        schedule,
+        period,
+        workers: 1,
+    };
+    Ok(profile(rt, &job).ok().ok_or("refused")?)
+}
+
+#[test]
+fn call_paths_of_programs(rt: HostRuntime) -> Result<(), Fail> {
+    for (elf, schedule, period, report) in UNWOUND {
+        let made = report_of(&rt, elf, schedule, period)?;
+        assert_eq!(rt; made.report.bytes(), report.as_bytes());
     }
     Ok(())
 }
@@ -402,30 +340,5 @@ fn no_sample_gives_the_empty_database(rt: HostRuntime) -> Result<(), Fail> {
     let made = profile(&rt, &job).ok().ok_or("refused")?;
     assert_eq!(rt; made.database.bytes(), EMPTY_DATABASE);
     assert_eq!(rt; made.report.bytes(), NO_SAMPLES.as_bytes());
-    Ok(())
-}
-
-#[test]
-fn a_branch_is_not_built(rt: HostRuntime) -> Result<(), Fail> {
-    let alloc = rt.alloc();
-    let elf = program(alloc, &BRANCHING)?;
-    assert_eq!(rt; elf.len(), 100);
-    let job = Job {
-        elf: elf.as_slice(),
-        input: b"",
-        schedule: b"harts 1\n0 9\n",
-        period: 1,
-        workers: 1,
-    };
-    match profile(&rt, &job) {
-        Err(prof_bytes::Fail::Fault(fault)) => {
-            let wanted = InputFault::Unbuilt {
-                part: Part::Moment,
-                at: 65536,
-            };
-            assert_eq!(rt; fault, wanted);
-        }
-        _ => return Err("not refused".into()),
-    }
     Ok(())
 }

@@ -1,16 +1,20 @@
 //! The top-down table as text. Each value is counted over all paths: slow on purpose, until this is a
 //! crate of its own that reads the planes.
-ghost use Rattle.std.specs.Prelude.{◌≡◌, ◌<◌, ◌≤◌, ◌^◌, ◌+◌, ◌*◌, ◌++◌, ◌∷◌, [], length, codes, decimal, OnOk, IfOk};
+ghost use Rattle.std.specs.Prelude.{◌≡◌, ◌<◌, ◌≤◌, ◌^◌, ◌+◌, ◌*◌, ◌++◌, ◌∷◌, [], length, codes, decimal, find, OnOk, IfOk};
+ghost use Rattle.scope_types.specs.CallPaths.{each_path};
 ghost use Rattle.tree_types.specs.Nodes.{nodes};
 ghost use Rattle.tree_types.specs.Values.{value};
-ghost use Rattle.tree_types.specs.TopDown.{address_digits, address_text, header, hex_digit, label, node_row, over_harts, percent, place, printed, right, row, spaces, top_down};
-ghost use Rattle.hpc_top.specs.Profile.{nameless};
+ghost use Rattle.std.specs.Option.{option_copied};
+ghost use Rattle.std.specs.Ordering.{is_eq};
+ghost use Rattle.tree_types.specs.Naming.{file_order, proc_order};
+ghost use Rattle.tree_types.specs.Database.{file_named, naming_in, proc_named};
+ghost use Rattle.tree_types.specs.TopDown.{header, label, node_row, over_harts, percent, place, printed, right, row, spaces, top_down};
 
-use itoa::Buffer;
+use crate::text::{put_address, put_decimal};
 use prof_bytes::Memory;
-use scope_types::{HartPath, LineId, ProcId, RootKind, Scope, ScopePath};
+use scope_types::{Entry, LineId, ProcId, RootKind, Scope, ScopePath};
 use std::alloc::Global;
-use tree_types::{Kind, own_scope_of, value_of};
+use tree_types::{FileName, Kind, Names, ProcName, own_scope_of, total_of, value_of};
 
 fn put_spaces(out: &mut Vec<u8>, count: usize) -> Result<(), Memory>
     ensures { OnOk result (out.new.items ≡ out.old.items ++ spaces count) }
@@ -29,14 +33,6 @@ fn put_right(out: &mut Vec<u8>, width: usize, bytes: &[u8]) -> Result<(), Memory
     Ok(())
 }
 
-fn put_decimal(out: &mut Vec<u8>, number: u64) -> Result<(), Memory>
-    ensures { OnOk result (out.new.items ≡ out.old.items ++ decimal number) }
-{
-    let mut buffer = Buffer::new();
-    out.extend_from_slice(buffer.format(number).as_bytes())?;
-    Ok(())
-}
-
 fn decimal_of(alloc: Global, number: u64) -> Result<Vec<u8>, Memory>
     ensures { IfOk result (λ text. text.items ≡ decimal number) }
 {
@@ -48,7 +44,7 @@ fn decimal_of(alloc: Global, number: u64) -> Result<Vec<u8>, Memory>
 /// The share of a total that is not 0, in tenths of a percent, rounded down.
 fn percent_of(alloc: Global, part: u64, total: u64) -> Result<Vec<u8>, Memory>
     requires some { 0 < total }
-    requires small { part < 2 ^ 54 }
+    requires small { part ≤ 2 ^ 52 }
     ensures { IfOk result (λ text. text.items ≡ percent part total) }
 {
     let tenths = part * 1000 / total;
@@ -87,109 +83,126 @@ fn put_header(out: &mut Vec<u8>) -> Result<(), Memory>
     put_row(out, b"inclusive", b"%", b"frame", 0, b"scope")
 }
 
-fn put_hex_digit(out: &mut Vec<u8>, digit: u32) -> Result<(), Memory>
-    requires { digit < 16 }
-    ensures { OnOk result (out.new.items ≡ out.old.items ++ hex_digit digit ∷ []) }
+/// A name as it is printed: bytes below 32 and 127 as a question mark.
+fn put_printed(out: &mut Vec<u8>, name: &[u8]) -> Result<(), Memory>
+    ensures { OnOk result (out.new.items ≡ out.old.items ++ printed name.now) }
 {
-    let byte = if digit < 10 { 48 + digit } else { 87 + digit };
-    out.push(byte as u8)?;
+    for byte in name {
+        let is_plain = *byte >= 32 && *byte != 127;
+        out.push(if is_plain { *byte } else { b'?' })?;
+    }
     Ok(())
 }
 
-/// The upper four of the eight hexadecimal digits.
-#[tactic(auto, using(crate::proofs::Appending::four_more))]
-fn put_upper_digits(out: &mut Vec<u8>, address: u32) -> Result<(), Memory>
-    ensures { OnOk result (out.new.items ≡ out.old.items ++ address_digits address (7 ∷ 6 ∷ 5 ∷ 4 ∷ [])) }
+fn proc_named_so(procs: &[ProcName], id: ProcId) -> Option<&ProcName>
+    ensures { option_copied result ≡ find (λ p. is_eq (proc_order id p.id)) procs.now }
 {
-    put_hex_digit(out, address / 0x1000_0000 % 16)?;
-    put_hex_digit(out, address / 0x0100_0000 % 16)?;
-    put_hex_digit(out, address / 0x0010_0000 % 16)?;
-    put_hex_digit(out, address / 0x0001_0000 % 16)
+    procs.iter().find(|named| id.cmp(&named.id).is_eq())
 }
 
-/// The lower four of them.
-#[tactic(auto, using(crate::proofs::Appending::four_more))]
-fn put_lower_digits(out: &mut Vec<u8>, address: u32) -> Result<(), Memory>
-    ensures { OnOk result (out.new.items ≡ out.old.items ++ address_digits address (3 ∷ 2 ∷ 1 ∷ 0 ∷ [])) }
+/// The name of a procedure; none where the names don't have it.
+#[tactic(auto, using(crate::proofs::NamesFound::proc_steps))]
+fn proc_name(names: &Names, id: ProcId) -> &[u8]
+    ensures { result.now ≡ proc_named names.now.procs id }
 {
-    put_hex_digit(out, address / 0x1000 % 16)?;
-    put_hex_digit(out, address / 0x0100 % 16)?;
-    put_hex_digit(out, address / 0x0010 % 16)?;
-    put_hex_digit(out, address % 16)
+    match proc_named_so(names.procs.items(), id) {
+        Some(named) => named.name.bytes(),
+        None => &[],
+    }
 }
 
-#[tactic(auto, using(crate::proofs::Appending::address_more))]
-fn put_address(out: &mut Vec<u8>, address: u32) -> Result<(), Memory>
-    ensures { OnOk result (out.new.items ≡ out.old.items ++ address_text address) }
+fn file_named_so(files: &[FileName], file: (u32, u32)) -> Option<&FileName>
+    ensures { option_copied result ≡ find (λ f. is_eq (file_order file (f.table, f.file))) files.now }
 {
-    out.extend_from_slice(b"0x")?;
-    put_upper_digits(out, address)?;
-    put_lower_digits(out, address)
+    files
+        .iter()
+        .find(|named| file.cmp(&(named.table, named.file)).is_eq())
 }
 
-/// A line of a file that has no name.
-fn put_row_place(out: &mut Vec<u8>, table: u32, file: u32, line: u32) -> Result<(), Memory>
-    ensures { OnOk result (out.new.items ≡ out.old.items ++ place nameless (LineId.Row table file line)) }
+/// The name of a file; none where the names don't have it.
+#[tactic(auto, using(crate::proofs::NamesFound::file_steps))]
+fn file_name(names: &Names, file: (u32, u32)) -> &[u8]
+    ensures { result.now ≡ file_named names.now.files file.0 file.1 }
 {
-    out.extend_from_slice(b"<unknown file>:")?;
-    put_decimal(out, u64::from(line))?;
-    Ok(())
+    match file_named_so(names.files.items(), file) {
+        Some(named) => named.name.bytes(),
+        None => &[],
+    }
 }
 
-/// A place in the source text where no file's name is known, or an address.
-fn put_place(out: &mut Vec<u8>, line: LineId) -> Result<(), Memory>
-    ensures { OnOk result (out.new.items ≡ out.old.items ++ place nameless line) }
+/// A line of a file.
+fn put_row_place(
+    out: &mut Vec<u8>,
+    names: &Names,
+    file: (u32, u32),
+    line: u32,
+) -> Result<(), Memory>
+    ensures { OnOk result (out.new.items ≡ out.old.items ++ place (naming_in names.now) (LineId.Row file.0 file.1 line)) }
+{
+    put_printed(out, file_name(names, file))?;
+    out.extend_from_slice(b":")?;
+    put_decimal(out, u64::from(line))
+}
+
+/// A place in the source text, or an address.
+fn put_place(out: &mut Vec<u8>, names: &Names, line: LineId) -> Result<(), Memory>
+    ensures { OnOk result (out.new.items ≡ out.old.items ++ place (naming_in names.now) line) }
 {
     match line {
-        LineId::Row { table, file, line } => put_row_place(out, table, file, line),
+        LineId::Row { table, file, line } => put_row_place(out, names, (table, file), line),
         LineId::Address(address) => put_address(out, address),
     }
 }
 
-fn put_inline_label(out: &mut Vec<u8>, callee: ProcId, call: LineId) -> Result<(), Memory>
-    ensures { OnOk result (out.new.items ≡ out.old.items ++ label nameless (Scope.Inline callee call)) }
+fn put_inline_label(
+    out: &mut Vec<u8>,
+    names: &Names,
+    callee: ProcId,
+    call: LineId,
+) -> Result<(), Memory>
+    ensures { OnOk result (out.new.items ≡ out.old.items ++ label (naming_in names.now) (Scope.Inline callee call)) }
 {
-    out.extend_from_slice(b"[I] <unknown procedure> called at ")?;
-    put_place(out, call)?;
-    Ok(())
+    out.extend_from_slice(b"[I] ")?;
+    put_printed(out, proc_name(names, callee))?;
+    out.extend_from_slice(b" called at ")?;
+    put_place(out, names, call)
 }
 
-/// The label of a scope where no names are known.
-fn put_label(out: &mut Vec<u8>, scope: Scope) -> Result<(), Memory>
-    ensures { OnOk result (out.new.items ≡ out.old.items ++ label nameless scope) }
+/// The label of a scope under these names.
+fn put_label(out: &mut Vec<u8>, names: &Names, scope: Scope) -> Result<(), Memory>
+    ensures { OnOk result (out.new.items ≡ out.old.items ++ label (naming_in names.now) scope) }
 {
     match scope {
         Scope::Root(RootKind::Thread) => Ok(out.extend_from_slice(b"<thread root>")?),
         Scope::Root(RootKind::Partial) => Ok(out.extend_from_slice(b"<partial call paths>")?),
-        Scope::Proc(_) => Ok(out.extend_from_slice(b"<unknown procedure>")?),
-        Scope::Inline { callee, call } => put_inline_label(out, callee, call),
+        Scope::Proc(id) => put_printed(out, proc_name(names, id)),
+        Scope::Inline { callee, call } => put_inline_label(out, names, callee, call),
         Scope::Call(line) => {
             out.extend_from_slice(b"call at ")?;
-            put_place(out, line)
+            put_place(out, names, line)
         }
-        Scope::Stmt(line) => put_place(out, line),
+        Scope::Stmt(line) => put_place(out, names, line),
     }
 }
 
-fn label_of(alloc: Global, scope: Scope) -> Result<Vec<u8>, Memory>
-    ensures { IfOk result (λ text. text.items ≡ label nameless scope) }
+fn label_of(alloc: Global, names: &Names, scope: Scope) -> Result<Vec<u8>, Memory>
+    ensures { IfOk result (λ text. text.items ≡ label (naming_in names.now) scope) }
 {
     let mut text = Vec::new(alloc);
-    put_label(&mut text, scope)?;
+    put_label(&mut text, names, scope)?;
     Ok(text)
 }
 
 /// A value of a node, summed over the harts.
-#[tactic(auto, using(crate::proofs::OverHarts::one_hart_more))]
-fn value_over_harts(period: u32, harts: u32, paths: &[HartPath], n: &[Scope], kind: Kind) -> u64
-    requires few { length paths.now ≤ 2 ^ 20 }
-    requires harts { harts ≤ 3 }
-    ensures value { result ≡ over_harts period harts paths.now n.now kind }
-    ensures small { result < 2 ^ 54 }
+#[tactic(auto, using(crate::proofs::OverHarts::harts_steps))]
+fn value_over_harts(period: u32, harts: u32, entries: &[Entry], n: &[Scope], kind: Kind) -> u64
+    requires few { length (each_path entries.now) ≤ 2 ^ 20 }
+    ensures value { result ≡ over_harts period harts (each_path entries.now) n.now kind }
+    ensures small { result ≤ 2 ^ 52 }
 {
     let mut sum: u64 = 0;
     for hart in 0..harts {
-        sum += value_of(period, paths, hart, n, kind);
+        sum += value_of(period, entries, hart, n, kind);
     }
     sum
 }
@@ -199,23 +212,23 @@ fn put_node_row(
     out: &mut Vec<u8>,
     period: u32,
     harts: u32,
-    paths: &[HartPath],
+    names: &Names,
+    entries: &[Entry],
     n: &[Scope],
 ) -> Result<(), Memory>
-    requires few { length paths.now ≤ 2 ^ 20 }
-    requires some { 0 < length paths.now }
-    requires harts { harts ≤ 3 }
+    requires few { length (each_path entries.now) ≤ 2 ^ 20 }
+    requires some { 0 < length (each_path entries.now) }
     requires period { 0 < period }
     requires level { length n.now < 2 ^ 62 }
-    ensures { OnOk result (out.new.items ≡ out.old.items ++ node_row period harts nameless paths.now n.now) }
+    ensures { OnOk result (out.new.items ≡ out.old.items ++ node_row period harts (naming_in names.now) (each_path entries.now) n.now) }
 {
-    let inclusive = value_over_harts(period, harts, paths, n, Kind::Inclusive);
-    let frame = value_over_harts(period, harts, paths, n, Kind::Frame);
-    let total = u64::from(period) * paths.len() as u64;
+    let inclusive = value_over_harts(period, harts, entries, n, Kind::Inclusive);
+    let frame = value_over_harts(period, harts, entries, n, Kind::Frame);
+    let total = u64::from(period) * total_of(entries);
     let share = percent_of(alloc, inclusive, total)?;
     let first = decimal_of(alloc, inclusive)?;
     let third = decimal_of(alloc, frame)?;
-    let label = label_of(alloc, own_scope_of(n))?;
+    let label = label_of(alloc, names, own_scope_of(n))?;
     let level = n.len().saturating_sub(1);
     put_row(
         out,
@@ -227,28 +240,28 @@ fn put_node_row(
     )
 }
 
-/// The top-down table of call paths that have no names, whose nodes are `tree`.
+/// The top-down table of call paths under these names, whose nodes are `tree`.
 #[tactic(auto, using(crate::proofs::TableRows::table_steps))]
 pub fn top_down_table(
     alloc: Global,
     period: u32,
     harts: u32,
-    paths: &[HartPath],
+    names: &Names,
+    entries: &[Entry],
     tree: &[ScopePath],
 ) -> Result<Vec<u8>, Memory>
-    requires few { length paths.now ≤ 2 ^ 20 }
-    requires nodes { tree.now ≡ nodes paths.now }
-    requires harts { harts ≤ 3 }
+    requires few { length (each_path entries.now) ≤ 2 ^ 20 }
+    requires nodes { tree.now ≡ nodes (each_path entries.now) }
     requires period { 0 < period }
-    ensures { IfOk result (λ text. text.items ≡ top_down period harts nameless paths.now) }
+    ensures { IfOk result (λ text. text.items ≡ top_down period harts (naming_in names.now) (each_path entries.now)) }
 {
     let mut out = Vec::new(alloc);
     put_header(&mut out)?;
-    if paths.is_empty() {
+    if total_of(entries) == 0 {
         return Ok(out);
     }
     for n in tree {
-        put_node_row(alloc, &mut out, period, harts, paths, n.scopes())?;
+        put_node_row(alloc, &mut out, period, harts, names, entries, n.scopes())?;
     }
     Ok(out)
 }

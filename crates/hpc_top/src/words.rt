@@ -3,9 +3,9 @@ ghost use Rattle.std.specs.Prelude.{◌≡◌};
 ghost use Rattle.std.specs.Option.{option_copied};
 ghost use Rattle.hpc_top.specs.Words.{command_of, file_name, profile_words, request_of, view_profiles, view_request};
 
-use crate::numerals::number;
 use crate::request::{ProfileWords, Request};
 use prof_bytes::Text;
+use rv_run::number;
 
 /// The most workers that are built, and the largest period.
 const MOST_WORKERS: u32 = 1;

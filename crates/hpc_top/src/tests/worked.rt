@@ -33,6 +33,25 @@ pub(super) const ADDING: [u32; 21] = [
 /// A branch, an illegal word, and an exit.
 pub(super) const BRANCHING: [u32; 4] = [0x0005_0463, 0, 0x05d0_0893, 0x0000_0073];
 
+/// Reads up to 16 bytes onto the stack, writes them, and exits with 3.
+pub(super) const ECHO: [u32; 12] = [
+    0x0000_0513,
+    0x0001_0593,
+    0x0100_0613,
+    0x03f0_0893,
+    0x0000_0073,
+    0x0005_0613,
+    0x0010_0513,
+    0x0400_0893,
+    0x0000_0073,
+    0x0030_0513,
+    0x05d0_0893,
+    0x0000_0073,
+];
+
+/// Ends all harts with the hart's number as the status.
+pub(super) const GROUP: [u32; 2] = [0x05e0_0893, 0x0000_0073];
+
 const PROGRAM_HEADER: &[u8] = b"\x01\0\0\0\x54\0\0\0\0\0\x01\0\0\0\x01\0";
 
 const FILE_HEADER: &[u8] =
@@ -76,13 +95,32 @@ hart 0 retired 20 samples 0 end exit 19
        inclusive      %            frame  scope
 ";
 
-pub(super) const FIRST_OF_TWENTY: &str = "\
+pub(super) const TWENTY_SAMPLES: &str = "\
 harts 1 period 1 samples 20 total 20
 hart 0 retired 20 samples 20 end exit 19
        inclusive      %            frame  scope
               20  100.0                0  <thread root>
               20  100.0               20    <unknown procedure>
                1    5.0                1      0x00010000
+               1    5.0                1      0x00010004
+               1    5.0                1      0x00010008
+               1    5.0                1      0x0001000c
+               1    5.0                1      0x00010010
+               1    5.0                1      0x00010014
+               1    5.0                1      0x00010018
+               1    5.0                1      0x0001001c
+               1    5.0                1      0x00010020
+               1    5.0                1      0x00010024
+               1    5.0                1      0x00010028
+               1    5.0                1      0x0001002c
+               1    5.0                1      0x00010030
+               1    5.0                1      0x00010034
+               1    5.0                1      0x00010038
+               1    5.0                1      0x0001003c
+               1    5.0                1      0x00010040
+               1    5.0                1      0x00010044
+               1    5.0                1      0x00010048
+               1    5.0                1      0x0001004c
 ";
 
 pub(super) const CUT_SHORT: &str = "\
@@ -92,6 +130,52 @@ hart 0 retired 7 samples 1 end stopped
                5  100.0                0  <thread root>
                5  100.0                5    <unknown procedure>
                5  100.0                5      0x00010010
+";
+
+/// Ordinals are counted by hart.
+pub(super) const TWO_HARTS: &str = "\
+harts 2 period 5 samples 1 total 5
+hart 0 retired 7 samples 1 end stopped
+hart 1 retired 3 samples 0 end stopped
+       inclusive      %            frame  scope
+               5  100.0                0  <thread root>
+               5  100.0                5    <unknown procedure>
+               5  100.0                5      0x00010010
+";
+
+/// A trap ends one hart alone.
+pub(super) const ONE_TRAPS: &str = "\
+harts 2 period 1 samples 3 total 3
+hart 0 retired 2 samples 2 end exit 0
+hart 1 retired 1 samples 1 end trap illegal at 0x00010004
+       inclusive      %            frame  scope
+               3  100.0                0  <thread root>
+               3  100.0                3    <unknown procedure>
+               2   66.6                2      0x00010000
+               1   33.3                1      0x00010008
+";
+
+/// An exit of the group by hart 1 ends hart 0 too.
+pub(super) const GROUP_ENDS: &str = "\
+harts 2 period 1 samples 2 total 2
+hart 0 retired 1 samples 1 end group 1
+hart 1 retired 1 samples 1 end group 1
+       inclusive      %            frame  scope
+               2  100.0                0  <thread root>
+               2  100.0                2    <unknown procedure>
+               2  100.0                2      0x00010000
+";
+
+/// What the guest wrote has no line feed at its end, and gets one.
+pub(super) const ECHOED: &str = "\
+hi
+harts 1 period 5 samples 2 total 10
+hart 0 retired 11 samples 2 end exit 3
+       inclusive      %            frame  scope
+              10  100.0                0  <thread root>
+              10  100.0               10    <unknown procedure>
+               5   50.0                5      0x00010010
+               5   50.0                5      0x00010024
 ";
 
 /// The database of the four samples, of 655 bytes, in its parts.

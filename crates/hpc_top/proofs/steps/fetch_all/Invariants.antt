@@ -1,4 +1,4 @@
-use Rattle.std.proofs.Common.{◌≡◌, Ok, length, map, take, IsTrue}
+use Rattle.std.proofs.Common.{◌≡◌, Ok, map, take, IsTrue}
 use Rattle.hpc_top.specs.Wanted.{view_want}
 use Rattle.hpc_top.specs.Task.{contents}
 use Rattle.hpc_top.specs.Steps.{Looked, AreWithin}

@@ -1,13 +1,14 @@
 use Rattle.std.proofs.Common.{◌∙◌, ap, ◌++◌}
+use Rattle.scope_types.specs.CallPaths.{each_path}
 use Rattle.tree_types.specs.Paths.{Path}
 use Rattle.tree_types.specs.TopDown.{header, node_row}
-use Rattle.hpc_top.specs.Profile.{nameless}
+use Rattle.tree_types.specs.Database.{naming_in}
 use Rattle.prof_bytes.proofs.Appending.{append_more}
 use Rattle.hpc_top.proofs.TableRows.{all_rows}
 use Rattle.hpc_top.proofs.view_tables.top_down_table.Goals as goal
 
 pub loop-n-preserved : goal.loop-n-preserved
-loop-n-preserved c = append_more (node_row c.args.period c.args.harts nameless c.args.paths.now) header _ _ c.args.tree.now c.loop-n.n-index _ c.loop-n-test.true c.n-item.is c.loop-n.invariant (c.in_ok-put_node_row.ensures ∙ ap (λ (n : Path). c.loop-n.out.items ++ node_row c.args.period c.args.harts nameless c.args.paths.now n) c.scopes.ensures)
+loop-n-preserved c = append_more (node_row c.args.period c.args.harts (naming_in c.args.names.now) (each_path c.args.entries.now)) header _ _ c.args.tree.now c.loop-n.n-index _ c.loop-n-test.true c.n-item.is c.loop-n.invariant (c.in_ok-put_node_row.ensures ∙ ap (λ (n : Path). c.loop-n.out.items ++ node_row c.args.period c.args.harts (naming_in c.args.names.now) (each_path c.args.entries.now) n) c.scopes.ensures)
 
 pub returns : goal.returns
-returns c = c.loop-n.invariant ∙ all_rows c.args.period c.args.harts c.args.paths.now c.args.tree.now c.loop-n.n-index c.requires.nodes c.loop-n-test.false
+returns c = c.loop-n.invariant ∙ all_rows c.args.period c.args.harts (naming_in c.args.names.now) (each_path c.args.entries.now) c.args.tree.now c.loop-n.n-index c.requires.nodes c.loop-n-test.false

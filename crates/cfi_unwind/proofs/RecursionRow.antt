@@ -1,0 +1,41 @@
+-- The call path of a program whose procedure `f` calls itself, at the sixth of its calls.
+use Rattle.std.proofs.Common.{◌≡◌, ℕ, ◌==◌, if◌then◌else◌, List, [], ◌∷◌, replicate, Option, Some, Ok, codes, refl}
+use Rattle.scope_types.specs.declared.frame.End.TheVariants.{Whole}
+use Rattle.elf_image.specs.declared.part.Segment.{Segment}
+use Rattle.elf_image.specs.Image.{Loaded}
+use Rattle.cfi_table.specs.Instructions.{cfa_of, factored, factored_signed, instruction_at, instruction_of, other_of, plain, register_then, rule_of}
+use Rattle.cfi_table.specs.Rules.{run, step}
+use Rattle.cfi_table.specs.Entries.{chain, cie_form, cie_from, cie_from_augmentation, cie_from_factors, cie_from_segment, cie_from_sizes, fde_from, id_of, size_at}
+use Rattle.cfi_table.specs.Frames.{Frames, after_cie, after_fde, cie_of, fault_of, fde_of, frames_of, rules_of}
+use Rattle.cfi_unwind.specs.Region.{entry_region}
+use Rattle.cfi_unwind.specs.Caller.{caller_of, recovered_all}
+use Rattle.cfi_unwind.specs.Path.{path_from, path_of, unwinding_of}
+
+-- one CIE, by which the CFA is x2; and one FDE: from its second instruction on the CFA is x2 and 16, from its third on x1 is saved 4 below it
+abbrev section : List ℕ
+section = 0xc ∷ 0x0 ∷ 0x0 ∷ 0x0 ∷ 0xff ∷ 0xff ∷ 0xff ∷ 0xff ∷ 0x3 ∷ 0x0 ∷ 0x1 ∷ 0x7c ∷ 0x1 ∷ 0xc ∷ 0x2 ∷ 0x0 ∷ 0x18 ∷ 0x0 ∷ 0x0 ∷ 0x0 ∷ 0x0 ∷ 0x0 ∷ 0x0 ∷ 0x0 ∷ 0x10 ∷ 0x0 ∷ 0x1 ∷ 0x0 ∷ 0x20 ∷ 0x0 ∷ 0x0 ∷ 0x0 ∷ 0x44 ∷ 0xe ∷ 0x10 ∷ 0x44 ∷ 0x81 ∷ 0x1 ∷ 0x50 ∷ 0xc1 ∷ 0x44 ∷ 0xe ∷ 0x0 ∷ 0x0 ∷ []
+
+abbrev segments : List Segment
+segments = record { start = 0x10000; end = 0x10030; flags = 5; offset = 84; filled = 48 } ∷ []
+
+abbrev image : Loaded
+image = record { file = []; entry = 0x10000; segments = segments; sections = []; functions = record { start = 0x10000; size = 16; name = codes "_start" } ∷ record { start = 0x10010; size = 32; name = codes "f" } ∷ [] }
+
+abbrev frames : Frames
+frames = record { section = section; fdes = record { offset = 16; start = 0x10010; size = 32; from = 32; end = 44; cie = record { factors = record { code_alignment = 1; data_alignment = 0xfffffffc }; return_register = 1; from = 13; end = 16 } } ∷ [] }
+
+-- x1 and x2 before the instruction
+abbrev registers : List ℕ
+registers = 0 ∷ 0x10024 ∷ 0xf00fff90 ∷ replicate 29 0
+
+-- each call returns into `f`, and the outermost into `_start`
+abbrev words : ℕ → Option ℕ
+words at = if at == 0xf00fffec then Some 0x10008 else Some 0x10024
+
+pub frames_of_recursion : frames_of section segments ≡ Ok frames
+unfolding cfa_of factored factored_signed instruction_at instruction_of other_of plain register_then rule_of run step chain cie_form cie_from cie_from_augmentation cie_from_factors cie_from_segment cie_from_sizes fde_from id_of size_at after_cie after_fde cie_of fault_of fde_of frames_of
+frames_of_recursion = refl
+
+pub path_of_recursion : path_of (unwinding_of frames image) 0x10024 registers words ≡ record { end = Whole; frames = record { pc = 0x10024 } ∷ record { pc = 0x10020 } ∷ record { pc = 0x10020 } ∷ record { pc = 0x10020 } ∷ record { pc = 0x10020 } ∷ record { pc = 0x10020 } ∷ record { pc = 0x10004 } ∷ [] }
+unfolding cfa_of factored instruction_at instruction_of other_of plain rule_of run step after_cie after_fde rules_of entry_region caller_of recovered_all path_from
+path_of_recursion = refl

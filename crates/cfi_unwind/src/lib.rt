@@ -1,0 +1,20 @@
+//! Unwinding: the call path of an instruction, by the rules of call frame information.
+//!
+//! It promises that a path is exactly what the rules say, frame by frame, from the pc, the registers
+//! and the memory before an instruction, up to the program's first procedure or the frame whose caller
+//! can't be found, with the cause. It follows DWARF 5, section 6.4, and the RISC-V psABI's numbers of
+//! registers. Below stand `cfi_table` and `elf_image`.
+#![tactic(auto)]
+
+mod caller;
+mod index;
+mod laws;
+mod prepared;
+mod region;
+mod unwinder;
+
+pub use laws::paths_are_chains;
+pub use unwinder::Unwinder;
+
+#[cfg(test)]
+mod tests;

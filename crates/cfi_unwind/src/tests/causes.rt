@@ -1,0 +1,253 @@
+//! How paths end, and what a caller's registers are. The instructions of the entries are encoded by
+//! hand by DWARF 5, section 7.24.
+use super::*;
+use End::{Partial, Whole};
+use PartialCause::{Expression, NoCfa, NoFde, Unmapped};
+
+/// One CIE, with code alignment 1, data alignment -4 and return register x1, with these instructions,
+/// and one FDE, for the addresses from 0x10010 up to 0x10030, without any.
+pub(super) fn section_of(alloc: Global, instructions: &[u8]) -> Result<Vec<u8>, Memory> {
+    let mut bytes = Vec::new(alloc);
+    put_u32(
+        &mut bytes,
+        u32::try_from(instructions.len())
+            .unwrap_or(0)
+            .wrapping_add(9),
+    )?;
+    bytes.extend_from_slice(&[0xff, 0xff, 0xff, 0xff, 3, 0, 1, 0x7c, 1])?;
+    bytes.extend_from_slice(instructions)?;
+    for word in [12, 0, 0x1_0010, 32] {
+        put_u32(&mut bytes, word)?;
+    }
+    Ok(bytes)
+}
+
+/// The path of the instruction at 0x10010 in a program of these call frame instructions.
+fn path_in(
+    alloc: Global,
+    image: &Image<'_>,
+    instructions: &[u8],
+    values: &[(usize, u32)],
+    words: &[(u32, u32)],
+) -> Result<RawPath, Fail> {
+    let section = section_of(alloc, instructions)?;
+    let table = table_of(alloc, &section, image)?;
+    let unwinder = Unwinder::of(alloc, &table, image);
+    Ok(unwinder.path(0x1_0010, &registers(values), &Words { words })?)
+}
+
+/// Instructions, and how the path of one frame ends, where x1 is 0x10008 and x2 is 0xf00ffff0.
+pub(super) const ENDS: [(&str, &[u8], End); 17] = [
+    ("no return address", &[0x0c, 2, 0, 0x07, 1], Whole),
+    ("none, before an expression", &[0x07, 1, 0x10, 5, 0], Whole),
+    ("none, before a missing CFA", &[0x07, 1], Whole),
+    ("a CFA of an expression", &[0x0f, 0], Partial(Expression)),
+    (
+        "x5 is an expression",
+        &[0x0c, 2, 0, 0x10, 5, 0],
+        Partial(Expression),
+    ),
+    (
+        "x0 is an expression",
+        &[0x0c, 2, 0, 0x10, 0, 0],
+        Partial(Expression),
+    ),
+    (
+        "x2 is an expression",
+        &[0x0c, 2, 0, 0x16, 2, 0],
+        Partial(Expression),
+    ),
+    (
+        "x31 is an expression",
+        &[0x0c, 2, 0, 0x16, 31, 0],
+        Partial(Expression),
+    ),
+    (
+        "an expression, before a missing CFA",
+        &[0x10, 5, 0],
+        Partial(Expression),
+    ),
+    (
+        "an expression, before memory",
+        &[0x0c, 2, 0, 0x85, 1, 0x10, 6, 0],
+        Partial(Expression),
+    ),
+    ("no CFA", &[], Partial(NoCfa)),
+    ("no CFA, before memory", &[0x81, 1], Partial(NoCfa)),
+    (
+        "x1 is not in memory",
+        &[0x0c, 2, 0, 0x81, 1],
+        Partial(Unmapped),
+    ),
+    (
+        "x0 is not in memory",
+        &[0x0c, 2, 0, 0x80, 1],
+        Partial(Unmapped),
+    ),
+    (
+        "x2 is not in memory",
+        &[0x0c, 2, 0, 0x82, 1],
+        Partial(Unmapped),
+    ),
+    (
+        "x31 is not in memory",
+        &[0x0c, 2, 0, 0x9f, 1],
+        Partial(Unmapped),
+    ),
+    (
+        "not in memory, before a return to 0",
+        &[0x0c, 2, 0, 0x09, 1, 0, 0x85, 1],
+        Partial(Unmapped),
+    ),
+];
+
+#[test]
+fn a_path_ends_by_the_first_test_that_holds(rt: HostRuntime) -> Result<(), Fail> {
+    let file = program(rt.alloc(), RECURSION, &[])?;
+    let image = image_of(rt.alloc(), &file)?;
+    for (name, instructions, end) in &ENDS {
+        let values = [(1, 0x1_0008), (2, 0xf00f_fff0)];
+        let path = path_in(rt.alloc(), &image, instructions, &values, &[])?;
+        assert_eq!(rt; path.end(), *end, "{name}");
+        assert_eq!(rt;
+            path.frames(),
+            [Frame { pc: 0x1_0010 }].as_slice(),
+            "{name}"
+        );
+    }
+    Ok(())
+}
+
+/// Instructions, registers and words of memory; how the path of the instruction at 0x10010 ends, and its
+/// frames.
+pub(super) const CALLERS: [(&str, &[u8], &[(usize, u32)], &[(u32, u32)], End, &[u32]); 13] = [
+    (
+        "x1 keeps its value, and a rule of x40 is passed over",
+        &[0x0c, 2, 0, 0x10, 40, 0],
+        &[(1, 0x1_0008)],
+        &[],
+        Whole,
+        &[0x1_0010, 0x1_0004],
+    ),
+    (
+        "the caller has no frame description",
+        &[0x0c, 2, 0],
+        &[(1, 0x1_0034)],
+        &[],
+        Partial(NoFde),
+        &[0x1_0010, 0x1_0030],
+    ),
+    (
+        "a return to 1",
+        &[0x0c, 2, 0],
+        &[(1, 1)],
+        &[],
+        Partial(NoFde),
+        &[0x1_0010, 0xffff_fffd],
+    ),
+    ("a return to 0", &[0x0c, 2, 0], &[], &[], Whole, &[0x1_0010]),
+    (
+        "a return to a 0 in memory",
+        &[0x0c, 2, 0, 0x81, 1],
+        &[(2, 0xf00f_fff0)],
+        &[(0xf00f_ffec, 0)],
+        Whole,
+        &[0x1_0010],
+    ),
+    (
+        "a CFA past 2^32",
+        &[0x0c, 2, 16, 0x81, 1],
+        &[(2, 0xffff_fff8)],
+        &[(4, 0x1_0008)],
+        Whole,
+        &[0x1_0010, 0x1_0004],
+    ),
+    (
+        "x1 is 4 below the CFA, which is x8",
+        &[0x0c, 8, 0, 0x14, 1, 1],
+        &[(8, 0x1_0010)],
+        &[],
+        Whole,
+        &[0x1_0010, 0x1_0008],
+    ),
+    (
+        "x1 is in x5",
+        &[0x0c, 2, 0, 0x09, 1, 5],
+        &[(1, 0x2_0000), (5, 0x1_0008)],
+        &[],
+        Whole,
+        &[0x1_0010, 0x1_0004],
+    ),
+    (
+        "x5 is not kept, and is 0 in the caller",
+        &[0x0c, 2, 0, 0x09, 1, 5, 0x07, 5],
+        &[(5, 0x1_0018)],
+        &[],
+        Whole,
+        &[0x1_0010, 0x1_0014],
+    ),
+    (
+        "x0 is 0 in the caller",
+        &[0x0c, 2, 0, 0x09, 1, 0],
+        &[(0, 0x1_0018)],
+        &[],
+        Whole,
+        &[0x1_0010, 0x1_0014],
+    ),
+    (
+        "x2 is the CFA in the caller",
+        &[0x0c, 2, 16, 0x09, 1, 2],
+        &[(2, 0x1_0018)],
+        &[],
+        Partial(NoFde),
+        &[0x1_0010, 0x1_0014, 0x1_0024, 0x1_0034],
+    ),
+    (
+        "x2 is the CFA in the caller, also where it is saved",
+        &[0x0c, 2, 16, 0x09, 1, 2, 0x82, 1],
+        &[(2, 0x1_0018)],
+        &[(0x1_0024, 7), (0x1_0034, 7), (0x1_0044, 7)],
+        Partial(NoFde),
+        &[0x1_0010, 0x1_0014, 0x1_0024, 0x1_0034],
+    ),
+    (
+        "x8 is saved, and the caller's CFA is by it",
+        &[0x0c, 8, 0, 0x81, 1, 0x88, 2],
+        &[(8, 0xf00f_ffe0)],
+        &[
+            (0xf00f_ffdc, 0x1_0018),
+            (0xf00f_ffd8, 0xf00f_fff0),
+            (0xf00f_ffec, 0x1_0008),
+            (0xf00f_ffe8, 0),
+        ],
+        Whole,
+        &[0x1_0010, 0x1_0014, 0x1_0004],
+    ),
+];
+
+#[test]
+fn a_caller_has_its_registers_by_the_rules(rt: HostRuntime) -> Result<(), Fail> {
+    let file = program(rt.alloc(), RECURSION, &[])?;
+    let image = image_of(rt.alloc(), &file)?;
+    for (name, instructions, values, words, end, frames) in &CALLERS {
+        let path = path_in(rt.alloc(), &image, instructions, values, words)?;
+        assert_eq!(rt; path.end(), *end, "{name}");
+        assert_eq!(rt; path.frames().len(), frames.len(), "{name}");
+        for (frame, wanted) in path.frames().iter().zip(*frames) {
+            assert_eq!(rt; frame.pc, *wanted, "{name}");
+        }
+    }
+    Ok(())
+}
+
+#[test]
+fn an_instruction_that_no_frame_description_holds(rt: HostRuntime) -> Result<(), Fail> {
+    let file = program(rt.alloc(), RECURSION, &[])?;
+    let image = image_of(rt.alloc(), &file)?;
+    let table = table_of(rt.alloc(), image.section(b".debug_frame"), &image)?;
+    let unwinder = Unwinder::of(rt.alloc(), &table, &image);
+    let path = unwinder.path(0x1_0030, &registers(&[]), &Recursion)?;
+    assert_eq!(rt; path.end(), Partial(NoFde));
+    assert_eq!(rt; path.frames(), [Frame { pc: 0x1_0030 }].as_slice());
+    Ok(())
+}

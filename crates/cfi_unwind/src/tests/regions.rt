@@ -1,0 +1,49 @@
+//! Where the first procedure lies.
+use super::*;
+
+/// Changes of the program, and its entry region.
+const REGIONS: [(&[(usize, u8)], (u32, u32)); 11] = [
+    // The function symbol that holds the entry; also where the entry is not its first address.
+    (&[], (0x1_0000, 0x1_0010)),
+    (&[(24, 0x0c)], (0x1_0000, 0x1_0010)),
+    (&[(24, 0x10)], (0x1_0010, 0x1_0030)),
+    // Two function symbols hold it: the first.
+    (&[(24, 0x10), (200, 0x30)], (0x1_0000, 0x1_0030)),
+    // None does: up to the next function symbol, which begins before the next frame description.
+    (
+        &[(204, 0x11), (156, 0x14), (160, 0x1c)],
+        (0x1_0000, 0x1_0010),
+    ),
+    // No function symbols: up to the next frame description.
+    (
+        &[(204, 0x11), (220, 0x11), (156, 0x14), (160, 0x1c)],
+        (0x1_0000, 0x1_0014),
+    ),
+    // That one's end is past the segment's, and it does not count: up to the segment's end.
+    (
+        &[(204, 0x11), (220, 0x11), (156, 0x14)],
+        (0x1_0000, 0x1_0030),
+    ),
+    // A start at the entry is none above it.
+    (
+        &[(24, 0x10), (204, 0x11), (220, 0x11)],
+        (0x1_0010, 0x1_0030),
+    ),
+    (&[(24, 0x14), (216, 0x04)], (0x1_0014, 0x1_0030)),
+    // The entry lies in no segment, or in one that is not executable.
+    (&[(25, 0x01)], (0x1_0100, 0x1_0100)),
+    (&[(76, 4)], (0x1_0000, 0x1_0000)),
+];
+
+#[test]
+fn the_entry_region(rt: HostRuntime) -> Result<(), Fail> {
+    let alloc = rt.alloc();
+    for (changes, wanted) in &REGIONS {
+        let file = program(alloc, RECURSION, changes)?;
+        let image = image_of(alloc, &file)?;
+        let table = table_of(alloc, image.section(b".debug_frame"), &image)?;
+        let unwinder = Unwinder::of(alloc, &table, &image);
+        assert_eq!(rt; unwinder.entry_region(), *wanted, "{changes:?}");
+    }
+    Ok(())
+}

@@ -1,0 +1,116 @@
+//! The call path of an instruction.
+ghost use Rattle.std.specs.Prelude.{◌≡◌, IfOk};
+ghost use Rattle.cfi_unwind.specs.Caller.{rules_at, caller_if, caller_of};
+ghost use Rattle.cfi_unwind.specs.Prepared.{after};
+ghost use Rattle.cfi_unwind.specs.Path.{path_of, unwinding_of};
+
+use crate::caller::caller_to;
+use crate::index::Index;
+use crate::region::entry_region;
+use cfi_table::FrameTable;
+use elf_image::Image;
+use prof_bytes::Memory;
+use scope_types::{End, Frame, Look, PartialCause, RawPath, Unwind};
+use std::alloc::Global;
+use std::marker::Model;
+
+/// What finds the call paths of a program's instructions, by its call frame information.
+#[derive(Debug, Drop)]
+pub struct Unwinder<'a> {
+    alloc: Global,
+    table: &'a FrameTable,
+    region: (u32, u32),
+    index: Index,
+}
+
+impl<'a> Model for Unwinder<'a> {
+    ghost use Rattle.cfi_unwind.specs.Caller.{Unwinding};
+    ghost use Rattle.cfi_unwind.specs.Index.{IsIndex};
+
+    ghost Value = { Unwinding };
+
+    ghost view = { λ unwinder. record { frames = unwinder.table.now; region = unwinder.region } };
+
+    ghost invariant = { λ unwinder. IsIndex unwinder.table.now unwinder.index };
+}
+
+impl<'a> Unwinder<'a> {
+    /// The unwinder of a program, by its frames and its image; the allocator is that of the paths'
+    /// frames, and of the steps that are made ready here for the addresses of the program's code. Where
+    /// there is no memory for these, paths are found in more time. Takes time as the program has code,
+    /// function symbols and frame descriptions.
+    pub fn of(alloc: Global, table: &'a FrameTable, image: &Image<'_>) -> Unwinder<'a>
+        ensures { result ≡ unwinding_of table.now image.now }
+    {
+        let region = entry_region(table, image);
+        let index = Index::of(alloc, table, image);
+        Unwinder {
+            alloc,
+            table,
+            region,
+            index,
+        }
+    }
+
+    /// The addresses of the program's first procedure, from the first up to the second. A path ends
+    /// whole there.
+    pub fn entry_region(&self) -> (u32, u32)
+        ensures { result ≡ self.now.region }
+    {
+        self.region
+    }
+
+    /// The same as `next` at each address, by the rules as they are made anew there.
+    #[inline(never)]
+    fn next_anew<L: Look>(
+        &self,
+        memory: &L,
+        pc: u32,
+        registers: &mut [u32; 32],
+    ) -> Result<Result<u32, End>, Memory>
+        ensures { IfOk result (λ next. after next registers.new ≡ caller_if (L.words memory.now) registers.old (rules_at self.now.frames pc)) }
+    {
+        match self.table.rules_at(pc)? {
+            Some(rules) => Ok(caller_to(memory, registers, &rules)),
+            None => Ok(Err(End::Partial(PartialCause::NoFde))),
+        }
+    }
+
+    /// Goes to the caller of the activation at `pc` with these registers: its pc, and its registers in
+    /// place of those here. Or how the path ends, where the registers are then of no use.
+    #[tactic(auto, unfolding(crate::specs::Caller::caller_of))]
+    fn next<L: Look>(
+        &self,
+        memory: &L,
+        pc: u32,
+        registers: &mut [u32; 32],
+    ) -> Result<Result<u32, End>, Memory>
+        ensures { IfOk result (λ next. after next registers.new ≡ caller_of self.now (L.words memory.now) (record { pc = pc; registers = registers.old })) }
+    {
+        if self.region.0 <= pc && pc < self.region.1 {
+            return Ok(Err(End::Whole));
+        }
+        match self.index.at(pc) {
+            Some(step) => Ok(step.go(memory, registers)),
+            None => self.next_anew(memory, pc, registers),
+        }
+    }
+}
+
+impl<'a> Unwind for Unwinder<'a> {
+    ghost path_of = { path_of };
+
+    fn path<L: Look>(&self, pc: u32, regs: &[u32; 32], memory: &L) -> Result<RawPath, Memory> {
+        let mut frames = Vec::new(self.alloc);
+        let mut here = pc;
+        let mut registers = *regs;
+        for _ in 0..512usize {
+            frames.push(Frame { pc: here })?;
+            match self.next(memory, here, &mut registers)? {
+                Ok(caller) => here = caller,
+                Err(end) => return Ok(RawPath::of(end, frames)),
+            }
+        }
+        Ok(RawPath::of(End::Partial(PartialCause::Depth), frames))
+    }
+}
