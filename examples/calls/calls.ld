@@ -1,0 +1,18 @@
+/* One segment that is executed and one that is written, from 0x10000 on. */
+ENTRY(_start)
+PHDRS
+{
+    code PT_LOAD FLAGS(5);
+    data PT_LOAD FLAGS(6);
+}
+SECTIONS
+{
+    . = 0x10000;
+    .text : { *(.text.start) *(.text .text.*) } :code
+    .rodata : { *(.rodata .rodata.* .srodata .srodata.*) } :code
+    . = ALIGN(0x1000);
+    .data : { *(.data .data.*) } :data
+    __global_pointer$ = . + 0x800;
+    .sdata : { *(.sdata .sdata.*) } :data
+    .bss : { *(.sbss .sbss.* .bss .bss.* COMMON) } :data
+}
