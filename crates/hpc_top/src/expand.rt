@@ -32,12 +32,7 @@ fn procedure_of(image: &Image<'_>, pc: u32) -> ProcId
 }
 
 /// The scopes of a frame: its procedure, and the call or the statement at its address.
-fn put_frame(
-    image: &Image<'_>,
-    scopes: &mut Vec<Scope>,
-    pc: u32,
-    last: Scope,
-) -> Result<(), Memory>
+fn put_frame(image: &Image<'_>, scopes: &mut Vec<Scope>, pc: u32, last: Scope) -> Result<(), Memory>
     ensures { OnOk result (scopes.new.items ≡ scopes.old.items ++ Scope.Proc (procedure_at image.now pc) ∷ last ∷ []) }
 {
     scopes.push(Scope::Proc(procedure_of(image, pc)))?;
@@ -69,12 +64,7 @@ fn expand(
     Ok(ScopePath::of(scopes))
 }
 
-fn entry_of(
-    alloc: Global,
-    image: &Image<'_>,
-    words: &[u32],
-    count: u32,
-) -> Result<Entry, Memory>
+fn entry_of(alloc: Global, image: &Image<'_>, words: &[u32], count: u32) -> Result<Entry, Memory>
     ensures path { IfOk result (λ e. path_of e ≡ words_path image.now words.now) }
     ensures count { IfOk result (λ e. e.count ≡ count) }
 {

@@ -52,11 +52,7 @@ fn proc_name<'a>(image: &Image<'a>, id: ProcId) -> &'a [u8]
     }
 }
 
-fn named_procs(
-    alloc: Global,
-    image: &Image<'_>,
-    ids: &[ProcId],
-) -> Result<Listed<ProcName>, Memory>
+fn named_procs(alloc: Global, image: &Image<'_>, ids: &[ProcId]) -> Result<Listed<ProcName>, Memory>
     ensures { IfOk result (λ procs. procs ≡ map (λ id. record { id = id; name = (naming_of image.now).proc_name id }) ids.now) }
 {
     let mut procs = Vec::new(alloc);
