@@ -1,5 +1,6 @@
 -- The samples that were taken so far, their counted paths and the frames of these.
-use Rattle.std.proofs.Common.{◌≡◌, inl, inr, ℕ, zero, suc, ◌+◌, ◌-◌, ◌<◌, ◌≤◌, ◌^◌, Bool, true, false, cond, nat_lt, List, [], ◌∷◌, ◌++◌, length, map, take, fold, count_by, sum_by, Vec, Option, Some, None, Result, Ok, Err, refl, sym, ap, subst, ◌∙◌, arith, append-nil, append_assoc, take_all}
+use Rattle.std.proofs.Common.{◌≡◌, inl, inr, ℕ, zero, suc, ◌+◌, ◌-◌, ◌<◌, ◌≤◌, ◌^◌, Bool, true, false, cond, not, ◌&&◌, ◌||◌, nat_eq, nat_lt, List, [], ◌∷◌, ◌++◌, length, map, take, fold, filter, count_by, sum_by, Vec, Option, Some, None, Result, Ok, Err, refl, sym, ap, ap₂, subst, ◌∙◌, arith, append-nil, append_assoc, take_all}
+use Rattle.std.specs.Cmp.Lexicographic.{pointwise, bytes_decides}
 use Rattle.std.proofs.lemmas.Bool.Decides.{nat_tests}
 use Rattle.std.proofs.lemmas.List.{length-append, length-map, map-append, take-append-le}
 use Rattle.std.proofs.lemmas.List.Sums.{sum_by-append, sum_by-cons, fold-append}
@@ -15,8 +16,8 @@ use Rattle.tree_types.proofs.Counting.{one, count_by-cons}
 use Rattle.hpc_top.specs.declared.path_counts.PathCounts.{PathCounts}
 use Rattle.hpc_top.specs.declared.status.InputFault.{InputFault}
 use Rattle.hpc_top.specs.declared.status.InputFault.TheVariants.{TooManySamples, TooManyFrames}
-use Rattle.hpc_top.specs.Samples.{sample_words, is_among, seen_with, distinct, word_frames, frame_count, most_path_frames, few_samples}
-use Rattle.hpc_top.specs.PathCounts.{Counted, AreCounted, IsCounted, AllCollected, Takes, Ends, Exceeds, Goes, Stops, Refuses, each_words, words_in, frames_added}
+use Rattle.hpc_top.specs.Samples.{pc_of, sample_words, has_path_of, distinct, frame_count, most_path_frames, few_samples}
+use Rattle.hpc_top.specs.PathCounts.{Counted, AreCounted, IsCounted, AllCollected, Takes, Ends, Exceeds, Goes, Stops, Refuses, is_among, seen_with, word_frames, each_words, words_in, frames_added}
 use Rattle.hpc_top.proofs.Counted.{count-append}
 
 all_true : {X : Type 0} (xs : List X) → count_by (λ x. true) xs ≡ length xs
@@ -25,9 +26,89 @@ all_true {X} (x ∷ xs) = let first = count_by-cons (λ (x : X). true) x xs in l
 
 -- ---- distinct paths
 
--- one path more
-distinct_more : (ws : List (List ℕ)) (w : List ℕ) → distinct (ws ++ w ∷ []) ≡ seen_with (distinct ws) w
-distinct_more ws w = fold-append seen_with [] ws (w ∷ [])
+abbrev words_of : List Sample → List (List ℕ)
+words_of all = map sample_words all
+
+-- the words that were met, each once
+abbrev met_words : List Sample → List (List ℕ)
+met_words all = fold seen_with [] (words_of all)
+
+-- one sample more
+met_more : (done : List Sample) (s : Sample) → met_words (done ++ s ∷ []) ≡ seen_with (met_words done) (sample_words s)
+met_more done s = ap (fold seen_with []) (map-append sample_words done (s ∷ [])) ∙ fold-append seen_with [] (words_of done) (sample_words s ∷ [])
+
+filter_twice : {X : Type 0} (p q r : X → Bool) → ((x : X) → r x ≡ (q x && p x)) → (xs : List X) → filter p (filter q xs) ≡ filter r xs
+filter_twice p q r is [] = refl
+filter_twice {X} p q r is (x ∷ xs) =
+    let rest : filter p (filter q xs) ≡ filter r xs = filter_twice p q r is xs in
+    elim (q x) as (λ b. r x ≡ (b && p x) → filter p (cond b (x ∷ filter q xs) (filter q xs)) ≡ cond (r x) (x ∷ filter r xs) (filter r xs)) [
+      | true ↦ λ e. ap₂ (λ (b : Bool) (l : List X). cond b (x ∷ l) l) (sym e) rest
+      | false ↦ λ e. rest ∙ ap (λ (b : Bool). cond b (x ∷ filter r xs) (filter r xs)) (sym e)
+    ] (is x)
+
+filter_all : {X : Type 0} (xs : List X) → filter (λ x. true) xs ≡ xs
+filter_all [] = refl
+filter_all {X} (x ∷ xs) = ap (λ (l : List X). x ∷ l) (filter_all xs)
+
+among_more : (seen : List (List ℕ)) (w v : List ℕ) → is_among (seen ++ w ∷ []) v ≡ (is_among seen v || pointwise nat_eq v w)
+among_more [] w v = or_false (pointwise nat_eq v w)
+  where
+    or_false : (b : Bool) → (b || false) ≡ b
+    or_false true = refl
+    or_false false = refl
+among_more (u ∷ seen) w v =
+    elim (pointwise nat_eq v u) as (λ b. (b || is_among (seen ++ w ∷ []) v) ≡ ((b || is_among seen v) || pointwise nat_eq v w)) [ true ↦ refl | false ↦ among_more seen w v ]
+
+abbrev is_new : List (List ℕ) → Sample → Bool
+is_new seen s = not (is_among seen (sample_words s))
+
+-- words are met where a sample has them that is the first to do so
+met_from : (seen : List (List ℕ)) (all : List Sample) → fold seen_with seen (words_of all) ≡ seen ++ words_of (filter (is_new seen) (distinct all))
+met_from seen [] = sym (append-nil seen)
+met_from seen (s ∷ all) =
+    elim (is_among seen (sample_words s)) as (λ b. is_among seen (sample_words s) ≡ b
+    → fold seen_with (cond b seen (seen ++ sample_words s ∷ [])) (words_of all) ≡ seen ++ words_of (cond (not b) (s ∷ filter (is_new seen) others) (filter (is_new seen) others))) [
+      | true ↦ λ old. met_from seen all ∙ ap (λ (l : List Sample). seen ++ words_of l) (sym (filter_twice (is_new seen) (λ t. not (has_path_of s t)) (is_new seen) (no_other old) (distinct all)))
+      | false ↦ λ new.
+          met_from (seen ++ sample_words s ∷ []) all ∙ append_assoc seen (sample_words s ∷ []) (words_of (filter (is_new (seen ++ sample_words s ∷ [])) (distinct all)))
+          ∙ ap (λ (l : List Sample). seen ++ sample_words s ∷ words_of l) (sym (filter_twice (is_new seen) (λ t. not (has_path_of s t)) (is_new (seen ++ sample_words s ∷ [])) both (distinct all)))
+    ] refl
+  where
+    others : List Sample
+    others = filter (λ t. not (has_path_of s t)) (distinct all)
+
+    no_other : is_among seen (sample_words s) ≡ true → (t : Sample) → is_new seen t ≡ (not (has_path_of s t) && is_new seen t)
+    no_other old t =
+        elim (has_path_of s t) as (λ b. has_path_of s t ≡ b → is_new seen t ≡ (not b && is_new seen t)) [
+          | true ↦ λ same. ap (λ (w : List ℕ). not (is_among seen w)) ((bytes_decides (sample_words t) (sample_words s)).0 same) ∙ ap not old
+          | false ↦ λ apart. refl
+        ] refl
+
+    not_or : (a b : Bool) → not (a || b) ≡ (not b && not a)
+    not_or true true = refl
+    not_or true false = refl
+    not_or false true = refl
+    not_or false false = refl
+
+    both : (t : Sample) → is_new (seen ++ sample_words s ∷ []) t ≡ (not (has_path_of s t) && is_new seen t)
+    both t = ap not (among_more seen (sample_words s) (sample_words t)) ∙ not_or (is_among seen (sample_words t)) (has_path_of s t)
+
+met_distinct : (all : List Sample) → met_words all ≡ words_of (distinct all)
+met_distinct all = met_from [] all ∙ ap words_of (filter_all (distinct all))
+
+-- ---- their frames
+
+frames_told : (ss : List Sample) → sum_by word_frames (words_of ss) ≡ sum_by (λ s. length s.path.frames) ss
+frames_told [] = refl
+frames_told (s ∷ ss) =
+    let words = sum_by-cons word_frames (sample_words s) (words_of ss) in
+    let samples = sum_by-cons (λ (t : Sample). length t.path.frames) s ss in
+    let long = length-map s.path.frames pc_of in
+    let rest = frames_told ss in
+    omega (arith, words, samples, long, rest)
+
+frames_met : (all : List Sample) → sum_by word_frames (met_words all) ≡ frame_count all
+frames_met all = ap (sum_by word_frames) (met_distinct all) ∙ frames_told (distinct all)
 
 frames_with : (seen : List (List ℕ)) (w : List ℕ) → sum_by word_frames (seen_with seen w) ≡ sum_by word_frames seen + frames_added seen w
 frames_with seen w =
@@ -44,18 +125,19 @@ frames_grow (w ∷ ws) seen =
     let first = frames_with seen w in
     omega (arith, rest, first)
 
-abbrev words_of : List Sample → List (List ℕ)
-words_of all = map sample_words all
-
-frame_count_more : (done : List Sample) (s : Sample) → frame_count (done ++ s ∷ []) ≡ frame_count done + frames_added (distinct (words_of done)) (sample_words s)
+frame_count_more : (done : List Sample) (s : Sample) → frame_count (done ++ s ∷ []) ≡ frame_count done + frames_added (met_words done) (sample_words s)
 frame_count_more done s =
-    ap (λ (ws : List (List ℕ)). sum_by word_frames (distinct ws)) (map-append sample_words done (s ∷ []))
-    ∙ ap (sum_by word_frames) (distinct_more (words_of done) (sample_words s)) ∙ frames_with (distinct (words_of done)) (sample_words s)
+    sym (frames_met (done ++ s ∷ [])) ∙ ap (sum_by word_frames) (met_more done s) ∙ frames_with (met_words done) (sample_words s)
+    ∙ ap (λ (n : ℕ). n + frames_added (met_words done) (sample_words s)) (frames_met done)
 
 frame_count_grows : (done rest : List Sample) → frame_count done ≤ frame_count (done ++ rest)
 frame_count_grows done rest =
-    subst (λ (n : ℕ). frame_count done ≤ n) (sym (ap (λ (ws : List (List ℕ)). sum_by word_frames (distinct ws)) (map-append sample_words done rest)
-    ∙ ap (sum_by word_frames) (fold-append seen_with [] (words_of done) (words_of rest)))) (frames_grow (words_of rest) (distinct (words_of done)))
+    let grown : sum_by word_frames (met_words (done ++ rest)) ≡ sum_by word_frames (fold seen_with (met_words done) (words_of rest)) =
+    ap (λ (ws : List (List ℕ)). sum_by word_frames (fold seen_with [] ws)) (map-append sample_words done rest) ∙ ap (sum_by word_frames) (fold-append seen_with [] (words_of done) (words_of rest)) in
+    let grows = frames_grow (words_of rest) (met_words done) in
+    let few = frames_met done in
+    let many = frames_met (done ++ rest) in
+    omega (arith, grown, grows, few, many)
 
 -- ---- the limits
 
@@ -85,7 +167,7 @@ pub record SoFar {A : Type 0} (path_of : Paths) (start now : Sampling) (counted 
   pub few : length done ≤ most_samples
   pub at_end : (to_come now.machine).final ≡ (to_come start.machine).final
   pub counts : AreCounted counted (map sample_words done)
-  pub kept : words_in counted ≡ distinct (map sample_words done)
+  pub kept : words_in counted ≡ met_words done
   pub many : frames ≡ frame_count done
   pub fits : frames ≤ most_path_frames
 
@@ -106,8 +188,8 @@ pub added_so_far : {A : Type 0} (path_of : Paths) (start old new : Sampling) (co
     → added ≡ frames_added (words_in counted) words.items → frames + added ≡ frame_count (sofar.done ++ takes.sample ∷ [])
 added_so_far path_of start old new counted frames added words sofar takes is =
     let more = frame_count_more sofar.done takes.sample in
-    let same : added ≡ frames_added (distinct (map sample_words sofar.done)) (sample_words takes.sample) =
-    is ∙ ap (λ (seen : List (List ℕ)). frames_added seen words.items) sofar.kept ∙ ap (frames_added (distinct (map sample_words sofar.done))) takes.told in
+    let same : added ≡ frames_added (met_words sofar.done) (sample_words takes.sample) =
+    is ∙ ap (λ (seen : List (List ℕ)). frames_added seen words.items) sofar.kept ∙ ap (frames_added (met_words sofar.done)) takes.told in
     let was = sofar.many in
     omega (arith, more, same, was)
 
@@ -135,8 +217,7 @@ so_far_more path_of start old new counted counted' frames added words sofar take
             omega (arith, now, before, first, added, single);
       };
       kept =
-          once.kept ∙ ap (λ (seen : List (List ℕ)). seen_with seen words.items) sofar.kept ∙ ap (seen_with (distinct (map sample_words sofar.done))) takes.told
-          ∙ sym (distinct_more (map sample_words sofar.done) (sample_words sample)) ∙ ap distinct (sym (map-append sample_words sofar.done (sample ∷ [])));
+          once.kept ∙ ap (λ (seen : List (List ℕ)). seen_with seen words.items) sofar.kept ∙ ap (seen_with (met_words sofar.done)) takes.told ∙ sym (met_more sofar.done sample);
       many = added_so_far path_of start old new counted frames added words sofar takes is;
       fits = fits;
     }
@@ -174,7 +255,7 @@ so_far_over path_of start old new found sofar ends =
     record {
       few = subst (λ (l : List Sample). few_samples l ≡ Ok l) (sym all) few;
       counts = record { same = λ t. sofar.counts.same t ∙ ap (λ (l : List Sample). count_by t (map sample_words l)) (sym all) };
-      words = sofar.kept ∙ ap (λ (l : List Sample). distinct (map sample_words l)) (sym all);
+      paths = ap length (sofar.kept ∙ met_distinct sofar.done) ∙ length-map (distinct sofar.done) sample_words ∙ ap (λ (l : List Sample). length (distinct l)) (sym all);
       frames = sofar.many ∙ ap frame_count (sym all);
       fits = sofar.fits;
       ended = sym (ap (λ (r : Run). r.final) ends.over.ended) ∙ ends.last ∙ sofar.at_end;

@@ -5,8 +5,7 @@ use Rattle.std.proofs.lemmas.List.Concat.{flat_map-append}
 use Rattle.elf_image.specs.Image.{Loaded}
 use Rattle.scope_types.specs.declared.path.Entry.{Entry}
 use Rattle.scope_types.specs.CallPaths.{HartPath, path_of, each_path}
-use Rattle.hpc_top.specs.Samples.{words_path}
-use Rattle.hpc_top.specs.PathCounts.{Counted, each_words}
+use Rattle.hpc_top.specs.PathCounts.{Counted, words_path, each_words}
 
 entries_parts : (es : List Entry) (e : Entry) → each_path (es ++ e ∷ []) ≡ each_path es ++ replicate e.count (path_of e)
 unfolding each_path

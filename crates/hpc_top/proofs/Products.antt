@@ -33,8 +33,8 @@ use Rattle.hpc_top.specs.declared.path_counts.PathCounts.{PathCounts}
 use Rattle.hpc_top.specs.declared.report.HartLine.{HartLine}
 use Rattle.hpc_top.specs.declared.status.InputFault.{InputFault}
 use Rattle.hpc_top.specs.declared.status.InputFault.TheVariants.{TooManySamples, TooManyFrames, TooManyScopes}
-use Rattle.hpc_top.specs.Samples.{found_at, root_of, root_from, pc_of, end_word, sample_path, sample_words, words_path, distinct, frame_count, scope_count, most_path_frames, most_path_scopes, few_samples, few_scopes}
-use Rattle.hpc_top.specs.PathCounts.{Counted, AreCounted, AllCollected, each_words, words_in}
+use Rattle.hpc_top.specs.Samples.{found_at, root_of, pc_of, end_word, sample_path, sample_words, distinct, frame_count, scope_count, most_path_frames, most_path_scopes, few_samples, few_scopes}
+use Rattle.hpc_top.specs.PathCounts.{Counted, AreCounted, AllCollected, root_from, words_path, each_words, words_in}
 use Rattle.hpc_top.specs.Report.{report_of, total_line}
 use Rattle.hpc_top.specs.Profile.{Product, naming_of, hart_line_of, hart_lines, product_from, product_of}
 use Rattle.hpc_top.proofs.Scopes.{scope_total}
@@ -147,7 +147,7 @@ module _ (path_of : Paths) (period harts : ℕ) (image : Loaded) (schedule : Sch
   refused_scopes found new collected many =
       let whole : List Sample = samples_to_come path_of old in
       let total : length (words_in found.counts.entries) + 2 * found.frames ≡ scope_count image whole =
-      ap (λ (ws : List (List ℕ)). length ws + 2 * found.frames) collected.words ∙ ap (λ (n : ℕ). length (distinct (map sample_words whole)) + 2 * n) collected.frames ∙ sym (scope_total image whole) in
+      ap (λ (n : ℕ). n + 2 * found.frames) collected.paths ∙ ap (λ (n : ℕ). length (distinct whole) + 2 * n) collected.frames ∙ sym (scope_total image whole) in
       ap (λ (r : Result (List Sample) InputFault). r >>= made_from period harts image (run_of image schedule input).final) (ap few_samples (sym all) ∙ collected.few)
       ∙ ap (λ (b : Bool). cond b (Err TooManyScopes) (Ok whole) >>= λ all. Ok (product_from period harts (naming_of image) (map (sample_path image) all) (run_of image schedule input).final))
       (ap (nat_lt most_path_scopes) (sym total) ∙ many)
@@ -159,7 +159,7 @@ module _ (path_of : Paths) (period harts : ℕ) (image : Loaded) (schedule : Sch
   whole_job found new ps final made collected few paths ended is_made =
       let whole : List Sample = samples_to_come path_of old in
       let total : length (words_in found.counts.entries) + 2 * found.frames ≡ scope_count image whole =
-      ap (λ (ws : List (List ℕ)). length ws + 2 * found.frames) collected.words ∙ ap (λ (n : ℕ). length (distinct (map sample_words whole)) + 2 * n) collected.frames ∙ sym (scope_total image whole) in
+      ap (λ (n : ℕ). n + 2 * found.frames) collected.paths ∙ ap (λ (n : ℕ). length (distinct whole) + 2 * n) collected.frames ∙ sym (scope_total image whole) in
       let at_end : final ≡ (run_of image schedule input).final = ended ∙ collected.ended ∙ ap (λ (r : Run). r.final) run in
       ap (λ (r : Result (List Sample) InputFault). r >>= made_from period harts image (run_of image schedule input).final) (ap few_samples (sym all) ∙ collected.few)
       ∙ ap (λ (b : Bool). cond b (Err TooManyScopes) (Ok whole) >>= λ all. Ok (product_from period harts (naming_of image) (map (sample_path image) all) (run_of image schedule input).final))

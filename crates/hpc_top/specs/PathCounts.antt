@@ -1,8 +1,7 @@
 -- The distinct raw paths of samples with their counts, as the code keeps them: a path as words.
-use Rattle.std.specs.Prelude.{◌≡◌, ◌⊎◌, ◌≤◌, ℕ, List, ◌∷◌, map, replicate, count_by, unwrap_or, nat_eq, Bool, Vec, Option, Some, None, Result, Ok, Err, if◌then◌else◌}
-use Rattle.std.specs.List.{flat_map}
+use Rattle.std.specs.Prelude.{◌≡◌, ◌⊎◌, ◌≤◌, ℕ, zero, suc, List, [], ◌∷◌, ◌++◌, length, map, replicate, count_by, nat_eq, Bool, Vec, Option, Some, None, Result, Ok, Err, if◌then◌else◌}
+use Rattle.std.specs.List.{flat_map, list_any}
 use Rattle.std.specs.Cmp.Lexicographic.{pointwise}
-use Rattle.std.specs.Map.{lookup}
 use Rattle.prof_bytes.specs.declared.fail.Fail.{Fail}
 use Rattle.prof_bytes.specs.declared.fail.Fail.TheVariants as fails
 use Rattle.rv_run.specs.Told.{to_come}
@@ -12,7 +11,41 @@ use Rattle.sample_clock.specs.Clock.{Sampling, samples_to_come, Given, IsOver, M
 use Rattle.hpc_top.specs.declared.path_counts.PathCounts.{PathCounts}
 use Rattle.hpc_top.specs.declared.status.InputFault.{InputFault}
 use Rattle.hpc_top.specs.declared.status.InputFault.TheVariants.{TooManySamples}
-use Rattle.hpc_top.specs.Samples.{sample_words, is_among, seen_with, distinct, word_frames, frame_count, most_path_frames, few_samples}
+use Rattle.scope_types.specs.declared.scope.RootKind.{RootKind}
+use Rattle.scope_types.specs.declared.scope.RootKind.TheVariants.{Thread, Partial}
+use Rattle.scope_types.specs.CallPaths.{HartPath}
+use Rattle.scope_types.specs.Expansion.{expansion}
+use Rattle.elf_image.specs.Image.{Loaded}
+use Rattle.hpc_top.specs.Samples.{found_at, sample_words, distinct, frame_count, most_path_frames, few_samples}
+
+-- ---- words of raw paths
+
+abbrev pub is_among : List (List ℕ) → List ℕ → Bool
+is_among seen words = list_any (λ w. pointwise nat_eq words w) seen
+
+-- with these words last, unless they were met before
+abbrev pub seen_with : List (List ℕ) → List ℕ → List (List ℕ)
+seen_with seen words = if is_among seen words then seen else seen ++ words ∷ []
+
+-- the frames of the path of these words
+abbrev pub word_frames : List ℕ → ℕ
+word_frames (hart ∷ end ∷ pcs) = length pcs
+word_frames words = 0
+
+-- how many frames words add to those that were met
+abbrev pub frames_added : List (List ℕ) → List ℕ → ℕ
+frames_added seen words = if is_among seen words then 0 else word_frames words
+
+abbrev pub root_from : ℕ → RootKind
+root_from zero = Thread
+root_from (suc n) = Partial
+
+-- the call path of these words
+abbrev pub words_path : Loaded → List ℕ → HartPath
+words_path image (hart ∷ end ∷ pcs) = record { hart = hart; path = expansion (found_at image) (root_from end) pcs }
+words_path image words = record { hart = 0; path = [] }
+
+-- ---- words that are counted
 
 -- words, each with the number of samples that have them
 abbrev pub Counted : Type 0 → Type 0
@@ -21,10 +54,6 @@ Counted A = List (Vec ℕ A × ℕ)
 -- each as often as it is counted
 unfoldable pub each_words : {A : Type 0} → Counted A → List (List ℕ)
 each_words counted = flat_map (λ c. replicate c.1 c.0.items) counted
-
--- how often words are counted
-abbrev pub count_in : {A : Type 0} → List ℕ → Counted A → ℕ
-count_in words counted = unwrap_or (lookup (λ k. pointwise nat_eq words k.items) counted) 0
 
 -- the same words, each as often, in any order: each test passes as many
 pub record AreCounted {A : Type 0} (counted : Counted A) (words : List (List ℕ)) : Type 0 where
@@ -39,9 +68,7 @@ pub record IsCounted {A : Type 0} (old new : Counted A) (words : List ℕ) : Typ
   pub same : (t : List ℕ → Bool) → count_by t (each_words new) ≡ count_by t (words ∷ each_words old)
   pub kept : words_in new ≡ seen_with (words_in old) words
 
--- how many frames a path adds to those that were met
-abbrev pub frames_added : List (List ℕ) → List ℕ → ℕ
-frames_added seen words = if is_among seen words then 0 else word_frames words
+-- ---- taking samples
 
 -- the next sample was taken, and these are its words
 pub record Takes {A : Type 0} (path_of : Paths) (words : Vec ℕ A) (old new : Sampling) : Type 0 where
@@ -73,7 +100,7 @@ Goes path_of (Err fail) old new = Stops fail old new
 pub record AllCollected (path_of : Paths) (found : PathCounts) (old new : Sampling) : Type 0 where
   pub few : few_samples (samples_to_come path_of old) ≡ Ok (samples_to_come path_of old)
   pub counts : AreCounted found.counts.entries (map sample_words (samples_to_come path_of old))
-  pub words : words_in found.counts.entries ≡ distinct (map sample_words (samples_to_come path_of old))
+  pub paths : length (words_in found.counts.entries) ≡ length (distinct (samples_to_come path_of old))
   pub frames : found.frames ≡ frame_count (samples_to_come path_of old)
   pub fits : found.frames ≤ most_path_frames
   pub ended : new.machine.state ≡ (to_come old.machine).final

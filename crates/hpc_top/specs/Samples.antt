@@ -1,6 +1,5 @@
 -- The samples of a run as call paths (HPCToolkit's manual, "Call Path Profiling").
-use Rattle.std.specs.Prelude.{ℕ, zero, suc, List, [], ◌∷◌, ◌++◌, map, length, take, fold, sum_by, Bool, Option, Some, None, Result, Ok, Err, if◌then◌else◌, nat_lt, nat_eq, find}
-use Rattle.std.specs.List.{list_any}
+use Rattle.std.specs.Prelude.{ℕ, List, [], ◌∷◌, map, length, take, filter, sum_by, Bool, not, Option, Some, None, Result, Ok, Err, if◌then◌else◌, nat_lt, nat_eq, find}
 use Rattle.std.specs.Cmp.Lexicographic.{pointwise}
 use Rattle.scope_types.specs.declared.frame.Frame.{Frame}
 use Rattle.scope_types.specs.declared.frame.End.{End}
@@ -66,36 +65,21 @@ end_word (Stopped cause) = cause_word cause
 abbrev pub sample_words : Sample → List ℕ
 sample_words s = s.hart ∷ end_word s.path.end ∷ map pc_of s.path.frames
 
-abbrev pub is_among : List (List ℕ) → List ℕ → Bool
-is_among seen words = list_any (λ w. pointwise nat_eq words w) seen
+-- whether two samples have the same raw path on the same hart
+abbrev pub has_path_of : Sample → Sample → Bool
+has_path_of s t = pointwise nat_eq (sample_words t) (sample_words s)
 
-abbrev pub seen_with : List (List ℕ) → List ℕ → List (List ℕ)
-seen_with seen words = if is_among seen words then seen else seen ++ words ∷ []
+-- for each raw path of a hart the first sample that has it
+abbrev pub distinct : List Sample → List Sample
+distinct [] = []
+distinct (s ∷ all) = s ∷ filter (λ t. not (has_path_of s t)) (distinct all)
 
--- each once, in the order in which they are first met
-abbrev pub distinct : List (List ℕ) → List (List ℕ)
-distinct all = fold seen_with [] all
-
--- the frames of such a path
-abbrev pub word_frames : List ℕ → ℕ
-word_frames (hart ∷ end ∷ pcs) = length pcs
-word_frames words = 0
-
--- the scopes of its call path
-abbrev pub root_from : ℕ → RootKind
-root_from zero = Thread
-root_from (suc n) = Partial
-
-abbrev pub words_path : Loaded → List ℕ → HartPath
-words_path image (hart ∷ end ∷ pcs) = record { hart = hart; path = expansion (found_at image) (root_from end) pcs }
-words_path image words = record { hart = 0; path = [] }
-
--- how many frames and scopes there are over the distinct paths of samples
+-- how many frames and scopes the distinct paths of samples have together
 abbrev pub frame_count : List Sample → ℕ
-frame_count all = sum_by word_frames (distinct (map sample_words all))
+frame_count all = sum_by (λ s. length s.path.frames) (distinct all)
 
 abbrev pub scope_count : Loaded → List Sample → ℕ
-scope_count image all = sum_by (λ words. length (words_path image words).path) (distinct (map sample_words all))
+scope_count image all = sum_by (λ s. length (sample_path image s).path) (distinct all)
 
 -- how many of them there may be
 abbrev pub most_path_frames : ℕ

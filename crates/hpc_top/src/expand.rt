@@ -2,8 +2,8 @@
 ghost use Rattle.std.specs.Prelude.{◌≡◌, ◌++◌, ◌∷◌, [], map, IfOk, OnOk};
 ghost use Rattle.scope_types.specs.CallPaths.{each_path, path_of};
 ghost use Rattle.scope_types.specs.Expansion.{expansion};
-ghost use Rattle.hpc_top.specs.Samples.{found_at, procedure_at, root_from, words_path};
-ghost use Rattle.hpc_top.specs.PathCounts.{each_words};
+ghost use Rattle.hpc_top.specs.Samples.{found_at, procedure_at};
+ghost use Rattle.hpc_top.specs.PathCounts.{each_words, root_from, words_path};
 
 use elf_image::Image;
 use indexmap::IndexMap;

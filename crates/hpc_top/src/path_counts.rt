@@ -3,7 +3,7 @@
 //! ends, and its program counters, innermost first. A table by hashing finds it.
 ghost use Rattle.std.specs.Prelude.{◌≡◌, ◌<◌, ◌-◌, ◌^◌, length, IfOk, OnOk};
 ghost use Rattle.hpc_top.specs.Samples.{cause_word, end_word, sample_words};
-ghost use Rattle.hpc_top.specs.PathCounts.{Collects, Goes, IsCounted, count_in, each_words, frames_added, words_in};
+ghost use Rattle.hpc_top.specs.PathCounts.{Collects, Goes, IsCounted, each_words, frames_added, words_in};
 
 use crate::status::InputFault;
 use indexmap::IndexMap;
@@ -57,37 +57,25 @@ fn words_of(alloc: Global, sample: &Sample) -> Result<Vec<u32>, Memory>
     Ok(words)
 }
 
-/// How often the words were counted.
-fn count_of(counts: &IndexMap<Vec<u32>, u32>, words: &[u32]) -> u32
-    ensures { result ≡ count_in words.now counts.now.entries }
-{
-    match counts.get(words) {
-        Some(count) => *count,
-        None => 0,
-    }
-}
-
-/// How many frames the words' path adds: none where it was met before.
-#[tactic(auto, using(crate::proofs::Counted::adding_steps))]
-fn new_frames(counts: &IndexMap<Vec<u32>, u32>, words: &[u32]) -> u64
-    ensures new { result ≡ frames_added (words_in counts.now.entries) words.now }
-    ensures few { result < 2 ^ 61 }
-{
-    if counts.contains_key(words) {
-        return 0;
-    }
-    words.len().saturating_sub(2) as u64
-}
-
-/// Counts the words once more.
+/// Counts the words once more, and tells how many frames they add: none where they were met before.
 #[tactic(auto, using(crate::proofs::Counted::counting_steps))]
-fn count_path(counts: &mut IndexMap<Vec<u32>, u32>, words: Vec<u32>) -> Result<(), Memory>
+fn count_path(counts: &mut IndexMap<Vec<u32>, u32>, words: Vec<u32>) -> Result<u64, Memory>
     requires { length (each_words counts.old.entries) < 2 ^ 32 - 1 }
-    ensures { OnOk result (IsCounted counts.old.entries counts.new.entries words.items) }
+    ensures counted { OnOk result (IsCounted counts.old.entries counts.new.entries words.items) }
+    ensures frames { IfOk result (λ added. added ≡ frames_added (words_in counts.old.entries) words.items) }
+    ensures few { IfOk result (λ added. added < 2 ^ 61) }
 {
-    let count = count_of(counts, words.as_slice());
-    counts.insert(words, count + 1)?;
-    Ok(())
+    match counts.get_mut(words.as_slice()) {
+        Some(count) => {
+            *count += 1;
+            Ok(0)
+        }
+        None => {
+            let frames = words.len().saturating_sub(2) as u64;
+            counts.insert(words, 1)?;
+            Ok(frames)
+        }
+    }
 }
 
 /// The next sample's words; `None` where the run has ended.
@@ -121,11 +109,10 @@ pub fn collect<U: Unwind>(
     loop {
         match next_words(alloc, samples, unwinder) {
             Ok(Some(words)) => {
-                frames += new_frames(&counts, words.as_slice());
+                frames += count_path(&mut counts, words)?;
                 if frames > MOST_FRAMES {
                     return Err(Fail::Fault(InputFault::TooManyFrames));
                 }
-                count_path(&mut counts, words)?;
             }
             Ok(None) => return Ok(PathCounts { counts, frames }),
             Err(fail) => return Err(fail),

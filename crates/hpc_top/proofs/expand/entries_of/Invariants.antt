@@ -1,7 +1,6 @@
 use Rattle.std.proofs.Common.{◌≡◌, map, take}
 use Rattle.scope_types.specs.CallPaths.{each_path}
-use Rattle.hpc_top.specs.Samples.{words_path}
-use Rattle.hpc_top.specs.PathCounts.{each_words}
+use Rattle.hpc_top.specs.PathCounts.{words_path, each_words}
 use Rattle.hpc_top.proofs.expand.entries_of.Given as goal
 
 abbrev pub invariant-loop-place : goal.invariant-loop-place

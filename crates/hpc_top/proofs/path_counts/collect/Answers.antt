@@ -1,12 +1,10 @@
-use Rattle.std.proofs.Common.{◌∙◌, ap, List, ℕ}
-use Rattle.hpc_top.specs.PathCounts.{frames_added, words_in}
 use Rattle.hpc_top.proofs.Collecting.{so_far_small, so_far_exceeds, so_far_over, so_far_stops, takes_by, ends_by}
 use Rattle.hpc_top.proofs.path_counts.collect.Goals as goal
 
 pub returns-then-frames-gt-MOST_FRAMES : goal.returns-then-frames-gt-MOST_FRAMES
 returns-then-frames-gt-MOST_FRAMES g c =
-    so_far_exceeds _ c.args.samples.now c.loop-words.samples _ c.loop-words.counts.entries c.loop-words.frames c.new_frames-frames.result c.in-Ok-Some.words c.loop-words.invariant (takes_by _ c.in-Ok-Some.field-0 c.in-Ok-Some.words _ _ c.in-Ok-Some.field-0-is c.in-Ok-Some.ensures)
-    (c.new_frames-frames.ensures.new ∙ ap (λ (words : List ℕ). frames_added (words_in c.loop-words.counts.entries) words) c.as_slice.ensures.value) c.if-frames-gt-MOST_FRAMES.true
+    so_far_exceeds _ c.args.samples.now c.loop-words.samples _ c.loop-words.counts.entries c.loop-words.frames c.in_ok-frames-in-Ok-Some.field-0 c.in-Ok-Some.words c.loop-words.invariant
+    (takes_by _ c.in-Ok-Some.field-0 c.in-Ok-Some.words _ _ c.in-Ok-Some.field-0-is c.in-Ok-Some.ensures) c.in_ok-frames-in-Ok-Some.ensures.frames c.if-frames-gt-MOST_FRAMES.true
 
 pub count_path-requires : goal.count_path-requires
 count_path-requires g c = so_far_small _ _ _ _ _ c.loop-words.invariant
