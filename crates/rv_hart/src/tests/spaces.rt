@@ -1,5 +1,7 @@
 //! Stores into memories of programs, and whether they are made; and words that stand there after them.
 
+use super::*;
+
 /// Stores into the memory of one hart, and whether they are made.
 pub(super) const PUTS: [(u32, &[u8], bool); 5] = [
     (0x1_0000, &[7], false),
@@ -28,6 +30,12 @@ pub(super) const LAST_PUTS: [(u32, &[u8], bool); 3] = [
     (0xf3ff_fffc, &[1, 2, 3, 4], true),
     (0xf3ff_fffd, &[5, 6, 7, 8], false),
     (0xf408_0000, &[9], false),
+];
+
+/// Words after these, in the last stack and behind it.
+pub(super) const LAST_WORDS: [(u32, Option<u32>); 2] = [
+    (0xf3ff_fffc, Some(0x0403_0201)),
+    (0xf400_0000, None),
 ];
 
 /// A program of four segments, as readelf shows them: code at 0x10000 (`addi x7, x0, 5`, `ecall`); in
@@ -61,4 +69,14 @@ pub(super) const SEGMENT_WORDS: [(u32, Option<u32>); 7] = [
     (0x1_000e, None),
     (0x20_0000, Some(0x0050_0393)),
     (0xeffe_fffc, Some(0)),
+];
+
+/// Steps at the addresses of segments, after these: how each ends, and x7 after it, which holds
+/// 0x55aa55aa before it.
+pub(super) const SEGMENT_STEPS: [(u32, Stepped, u32); 5] = [
+    (0x1_0000, Stepped::Retired, 5),
+    (0x1_0004, Stepped::Ecall, 0x55aa_55aa),
+    (0x1_0008, Stepped::Trap(Cause::Fetch), 0x55aa_55aa),
+    (0x20_0000, Stepped::Retired, 5),
+    (0x20_0004, Stepped::Trap(Cause::Illegal), 0x55aa_55aa),
 ];
