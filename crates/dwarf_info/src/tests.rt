@@ -4,7 +4,6 @@
 use super::*;
 use elf_image::DebugParts;
 use std::alloc::{AllocError, Global};
-use std::process::Abort;
 use std::test::Fail;
 
 mod clang_program;
@@ -59,7 +58,7 @@ fn offset_of(info: &Info<'_>, entry: u32) -> Option<u32> {
 }
 
 /// The entry at the row's offset is what the row says.
-fn is_row<R: Abort + AllocGlobal>(rt: &R, info: &Info<'_>, row: &Row) -> bool {
+fn is_row(alloc: Global, info: &Info<'_>, row: &Row) -> bool {
     let count = info.entries().len();
     for i in 0..count {
         let Ok(number) = u32::try_from(i) else {
@@ -67,7 +66,7 @@ fn is_row<R: Abort + AllocGlobal>(rt: &R, info: &Info<'_>, row: &Row) -> bool {
         };
         let entry = info.entries()[i];
         if entry.offset == row.offset {
-            let Ok(ranges) = info.ranges(rt.alloc(), number) else {
+            let Ok(ranges) = info.ranges(alloc, number) else {
                 return false;
             };
             let link = match info.link(number) {
@@ -84,44 +83,61 @@ fn is_row<R: Abort + AllocGlobal>(rt: &R, info: &Info<'_>, row: &Row) -> bool {
     false
 }
 
-fn compare<R: Abort + AllocGlobal>(
-    rt: &R,
+/// Whether there are just as many entries of each tag.
+fn are_counted(info: &Info<'_>, tags: &[(u64, usize)]) -> bool {
+    let mut total = 0usize;
+    for (tag, count) in tags {
+        let found = info.entries().iter().filter(|e| e.tag == *tag).count();
+        if found != *count {
+            return false;
+        }
+        total = total.saturating_add(found);
+    }
+    info.entries().len() == total
+}
+
+/// The offset of the first row whose entry is another one; 4294967295 where the entries are not read, or
+/// there are others than these by their tags.
+fn other_entry(
+    alloc: Global,
     parts: DebugParts<'_>,
     tags: &[(u64, usize)],
     rows: &[Row],
-) {
-    let read = read_info(rt.alloc(), parts);
-    assert!(rt; read.is_ok());
-    if let Ok(info) = read {
-        let mut total = 0usize;
-        for (tag, count) in tags {
-            let found = info.entries().iter().filter(|e| e.tag == *tag).count();
-            assert_eq!(rt; found, *count, "tag {tag}");
-            total = total.saturating_add(found);
+) -> Option<u32> {
+    match read_info(alloc, parts) {
+        Ok(info) if are_counted(&info, tags) => {
+            for row in rows {
+                if !is_row(alloc, &info, row) {
+                    return Some(row.offset);
+                }
+            }
+            None
         }
-        assert_eq!(rt; info.entries().len(), total);
-        for row in rows {
-            let offset = row.offset;
-            assert!(rt; is_row(rt, &info, row), "entry at {offset}");
-        }
+        _ => Some(u32::MAX),
     }
 }
 
 #[test]
 fn a_program_by_gcc(rt: HostRuntime) {
-    compare(&rt, GCC, &gcc_program::TAGS, &gcc_program::ROWS);
+    let other = other_entry(rt.alloc(), GCC, &gcc_program::TAGS, &gcc_program::ROWS);
+    assert_eq!(rt; other, None);
 }
 
 #[test]
 fn a_program_by_clang(rt: HostRuntime) {
-    compare(&rt, CLANG, &clang_program::TAGS, &clang_program::ROWS);
+    let other = other_entry(
+        rt.alloc(),
+        CLANG,
+        &clang_program::TAGS,
+        &clang_program::ROWS,
+    );
+    assert_eq!(rt; other, None);
 }
 
-#[test]
-fn a_worked_program(rt: HostRuntime) -> Result<(), Fail> {
-    let info = part(rt.alloc(), worked::sections(), b'I')?;
-    let abbrev = part(rt.alloc(), worked::sections(), b'A')?;
-    let rnglists = part(rt.alloc(), worked::sections(), b'R')?;
+fn other_worked_entry(alloc: Global) -> Result<Option<u32>, AllocError> {
+    let info = part(alloc, worked::sections(), b'I')?;
+    let abbrev = part(alloc, worked::sections(), b'A')?;
+    let rnglists = part(alloc, worked::sections(), b'R')?;
     let parts = DebugParts {
         info: &info,
         abbrev: &abbrev,
@@ -131,7 +147,12 @@ fn a_worked_program(rt: HostRuntime) -> Result<(), Fail> {
         addr: &[],
         rnglists: &rnglists,
     };
-    compare(&rt, parts, &worked::TAGS, &worked::ROWS);
+    Ok(other_entry(alloc, parts, &worked::TAGS, &worked::ROWS))
+}
+
+#[test]
+fn a_worked_program(rt: HostRuntime) -> Result<(), Fail> {
+    assert_eq!(rt; other_worked_entry(rt.alloc())?, None);
     Ok(())
 }
 
@@ -206,16 +227,20 @@ fn case_holds(alloc: Global, case: &Case) -> Result<bool, AllocError> {
     }
 }
 
+/// The first case that does not hold.
+fn failing_case(alloc: Global, cases: &[Case]) -> Result<Option<&'static str>, AllocError> {
+    for case in cases {
+        if !case_holds(alloc, case)? {
+            return Ok(Some(case.what));
+        }
+    }
+    Ok(None)
+}
+
 #[test]
 fn attributes_and_their_absence(rt: HostRuntime) -> Result<(), Fail> {
-    for case in &names::CASES {
-        let what = case.what;
-        assert!(rt; case_holds(rt.alloc(), case)?, "{what}");
-    }
-    for case in &lists::CASES {
-        let what = case.what;
-        assert!(rt; case_holds(rt.alloc(), case)?, "{what}");
-    }
+    assert_eq!(rt; failing_case(rt.alloc(), &names::CASES)?, None);
+    assert_eq!(rt; failing_case(rt.alloc(), &lists::CASES)?, None);
     Ok(())
 }
 
@@ -308,15 +333,20 @@ fn read_hex(alloc: Global, bytes: &[u8]) -> Result<Vec<(u32, u32)>, prof_bytes::
     Ok(seen)
 }
 
+/// The place in the table of the first sections that have another fault.
+fn other_fault(alloc: Global) -> Option<usize> {
+    for (place, (bytes, fault)) in FAULTS.iter().enumerate() {
+        match read_hex(alloc, bytes) {
+            Err(prof_bytes::Fail::Fault(found)) if found == *fault => {}
+            _ => return Some(place),
+        }
+    }
+    None
+}
+
 #[test]
 fn the_first_fault(rt: HostRuntime) {
-    for (bytes, fault) in &FAULTS {
-        let offset = *fault;
-        assert!(rt;
-            matches!(read_hex(rt.alloc(), bytes), Err(prof_bytes::Fail::Fault(found)) if found == *fault),
-            "{offset:?}"
-        );
-    }
+    assert_eq!(rt; other_fault(rt.alloc()), None);
 }
 
 /// Sections, and the offset and depth of each entry, then the offset and line table of each unit.
@@ -341,11 +371,18 @@ const SHAPES: [(&[u8], &[(u32, u32)]); 5] = [
     (b"A00", &[]),
 ];
 
-#[test]
-fn entries_and_units(rt: HostRuntime) -> Result<(), Fail> {
-    for (bytes, wanted) in &SHAPES {
-        let seen = read_hex(rt.alloc(), bytes).ok().ok_or("a fault")?;
-        assert_eq!(rt; seen.as_slice(), *wanted);
+/// The place in the table of the first sections that have other entries or units.
+fn other_shape(alloc: Global) -> Option<usize> {
+    for (place, (bytes, wanted)) in SHAPES.iter().enumerate() {
+        match read_hex(alloc, bytes) {
+            Ok(seen) if seen.as_slice() == *wanted => {}
+            _ => return Some(place),
+        }
     }
-    Ok(())
+    None
+}
+
+#[test]
+fn entries_and_units(rt: HostRuntime) {
+    assert_eq!(rt; other_shape(rt.alloc()), None);
 }
