@@ -4,7 +4,7 @@ use super::*;
 use cfi_table::{FrameTable, read_frames};
 use elf_image::{Image, read_image};
 use prof_bytes::{Memory, put_u32};
-use scope_types::{End, Frame, Look, PartialCause, RawPath, Unwind};
+use scope_types::{End, Look, PartialCause, RawPath, Unwind};
 use std::alloc::Global;
 use std::test::Fail;
 
@@ -50,18 +50,26 @@ fn program(alloc: Global, hex: &[u8], changes: &[(usize, u8)]) -> Result<Vec<u8>
     Ok(file)
 }
 
-fn image_of(alloc: Global, file: &[u8]) -> Result<Image<'_>, Fail> {
+/// The image of a program that can be read.
+fn image_of(alloc: Global, file: &[u8]) -> Result<Image<'_>, Memory> {
     if file.len() > 1 << 26 {
-        return Err(Fail::from(Memory));
+        return Err(Memory);
     }
-    Ok(read_image(alloc, file)?)
+    match read_image(alloc, file) {
+        Ok(image) => Ok(image),
+        Err(_) => Err(Memory),
+    }
 }
 
-fn table_of(alloc: Global, section: &[u8], image: &Image<'_>) -> Result<FrameTable, Fail> {
+/// The frames of a section that can be read.
+fn table_of(alloc: Global, section: &[u8], image: &Image<'_>) -> Result<FrameTable, Memory> {
     if section.len() >= 1 << 31 {
-        return Err(Fail::from(Memory));
+        return Err(Memory);
     }
-    Ok(read_frames(alloc, section, image)?)
+    match read_frames(alloc, section, image) {
+        Ok(table) => Ok(table),
+        Err(_) => Err(Memory),
+    }
 }
 
 /// Memory in which some words can be loaded.
@@ -111,6 +119,107 @@ fn registers(values: &[(usize, u32)]) -> [u32; 32] {
     registers
 }
 
+/// Whether a path ends so, and has frames of these pcs and no others.
+fn is_path(path: &RawPath, end: End, pcs: &[u32]) -> bool {
+    if path.end() != end || path.frames().len() != pcs.len() {
+        return false;
+    }
+    for (frame, pc) in path.frames().iter().zip(pcs) {
+        if frame.pc != *pc {
+            return false;
+        }
+    }
+    true
+}
+
+/// What is asked of the unwinder of a program.
+#[derive(Clone, Copy)]
+enum Unwinding {
+    RecursionPaths,
+    Depths,
+    LastCall,
+    OutsideFrames,
+    Region(u32, u32),
+}
+
+/// What is asked of a program.
+#[derive(Clone, Copy)]
+enum Question {
+    OfUnwinder(Unwinding),
+    Ends,
+    Callers,
+    Ready(bool),
+    StepsToCallers,
+    StepsToEnds,
+}
+
+/// The place of the first row that is otherwise than a table says.
+fn other_in_unwinder(
+    unwinder: &Unwinder<'_>,
+    unwinding: Unwinding,
+) -> Result<Option<usize>, Memory> {
+    match unwinding {
+        Unwinding::RecursionPaths => other_recursion_path(unwinder),
+        Unwinding::Depths => other_depth(unwinder),
+        Unwinding::LastCall => other_last_call(unwinder),
+        Unwinding::OutsideFrames => causes::other_outside_frames(unwinder),
+        Unwinding::Region(start, end) => Ok(first_unless(unwinder.entry_region() == (start, end))),
+    }
+}
+
+/// The place of the first row that is otherwise than a table says, by the unwinder of a program.
+fn other_by_unwinder(
+    alloc: Global,
+    image: &Image<'_>,
+    unwinding: Unwinding,
+) -> Result<Option<usize>, Memory> {
+    let table = table_of(alloc, image.section(b".debug_frame"), image)?;
+    other_in_unwinder(&Unwinder::of(alloc, &table, image), unwinding)
+}
+
+/// The place of the first row that is otherwise than a table says, in a program's image.
+fn other_in_image(
+    alloc: Global,
+    image: &Image<'_>,
+    question: Question,
+) -> Result<Option<usize>, Memory> {
+    match question {
+        Question::OfUnwinder(unwinding) => other_by_unwinder(alloc, image, unwinding),
+        Question::Ends => causes::other_end(alloc, image),
+        Question::Callers => causes::other_caller(alloc, image),
+        Question::Ready(is_there) => steps::other_ready(alloc, image, is_there),
+        Question::StepsToCallers => steps::other_step_to_caller(alloc, image),
+        Question::StepsToEnds => steps::other_step_to_end(alloc, image),
+    }
+}
+
+/// The place of the first row that is otherwise than a table says, in a program of which some bytes are
+/// others.
+fn other_row(
+    alloc: Global,
+    hex: &[u8],
+    changes: &[(usize, u8)],
+    question: Question,
+) -> Result<Option<usize>, Memory> {
+    let file = program(alloc, hex, changes)?;
+    let image = image_of(alloc, &file)?;
+    other_in_image(alloc, &image, question)
+}
+
+/// The same in a program as it is, of its unwinder.
+fn other_unwinding(
+    alloc: Global,
+    hex: &[u8],
+    unwinding: Unwinding,
+) -> Result<Option<usize>, Memory> {
+    other_row(alloc, hex, &[], Question::OfUnwinder(unwinding))
+}
+
+/// The first place, unless it holds.
+fn first_unless(holds: bool) -> Option<usize> {
+    if holds { None } else { Some(0) }
+}
+
 /// Instructions of the recursion: their addresses, x1 and x2 before them, and their paths. The stack
 /// pointer is 0xf00ffff0 at the start.
 const RECURSION_PATHS: [(u32, u32, u32, &[u32]); 7] = [
@@ -132,21 +241,21 @@ const RECURSION_PATHS: [(u32, u32, u32, &[u32]); 7] = [
     (0x1_002c, 0x1_0008, 0xf00f_fff0, &[0x1_002c, 0x1_0004]),
 ];
 
-#[test]
-fn recursion_is_unwound_at_each_of_its_instructions(rt: HostRuntime) -> Result<(), Fail> {
-    let alloc = rt.alloc();
-    let file = program(alloc, RECURSION, &[])?;
-    let image = image_of(alloc, &file)?;
-    let table = table_of(alloc, image.section(b".debug_frame"), &image)?;
-    let unwinder = Unwinder::of(alloc, &table, &image);
-    for (pc, x1, x2, wanted) in &RECURSION_PATHS {
+/// The place of the first of these instructions that has another path.
+fn other_recursion_path(unwinder: &Unwinder<'_>) -> Result<Option<usize>, Memory> {
+    for (place, (pc, x1, x2, wanted)) in RECURSION_PATHS.iter().enumerate() {
         let path = unwinder.path(*pc, &registers(&[(1, *x1), (2, *x2)]), &Recursion)?;
-        assert_eq!(rt; path.end(), End::Whole, "at {pc:x}");
-        assert_eq!(rt; path.frames().len(), wanted.len(), "at {pc:x}");
-        for (frame, wanted) in path.frames().iter().zip(*wanted) {
-            assert_eq!(rt; frame.pc, *wanted, "at {pc:x}");
+        if !is_path(&path, End::Whole, wanted) {
+            return Ok(Some(place));
         }
     }
+    Ok(None)
+}
+
+#[test]
+fn recursion_is_unwound_at_each_of_its_instructions(rt: HostRuntime) -> Result<(), Fail> {
+    let other = other_unwinding(rt.alloc(), RECURSION, Unwinding::RecursionPaths)?;
+    assert_eq!(rt; other, None);
     Ok(())
 }
 
@@ -159,31 +268,27 @@ const DEPTHS: [(u32, usize, End); 5] = [
     (600, 512, End::Partial(PartialCause::Depth)),
 ];
 
-#[test]
-fn a_path_has_512_frames_at_most(rt: HostRuntime) -> Result<(), Fail> {
-    let alloc = rt.alloc();
-    let file = program(alloc, RECURSION, &[])?;
-    let image = image_of(alloc, &file)?;
-    let table = table_of(alloc, image.section(b".debug_frame"), &image)?;
-    let unwinder = Unwinder::of(alloc, &table, &image);
-    for (calls, frames, end) in &DEPTHS {
+/// The place of the first of these numbers of calls that has another path.
+fn other_depth(unwinder: &Unwinder<'_>) -> Result<Option<usize>, Memory> {
+    for (place, (calls, frames, end)) in DEPTHS.iter().enumerate() {
         let x2 = 0xf00f_fff0u32.wrapping_sub(calls.wrapping_mul(16));
         let path = unwinder.path(0x1_0024, &registers(&[(1, 0x1_0024), (2, x2)]), &Recursion)?;
-        assert_eq!(rt; path.end(), *end, "{calls} calls");
-        assert_eq!(rt; path.frames().len(), *frames, "{calls} calls");
+        if path.end() != *end || path.frames().len() != *frames {
+            return Ok(Some(place));
+        }
     }
-    Ok(())
+    Ok(None)
 }
 
 #[test]
-fn a_call_that_is_a_procedures_last_instruction_is_looked_up_there(
-    rt: HostRuntime,
-) -> Result<(), Fail> {
-    let alloc = rt.alloc();
-    let file = program(alloc, LAST_CALL, &[])?;
-    let image = image_of(alloc, &file)?;
-    let table = table_of(alloc, image.section(b".debug_frame"), &image)?;
-    let unwinder = Unwinder::of(alloc, &table, &image);
+fn a_path_has_512_frames_at_most(rt: HostRuntime) -> Result<(), Fail> {
+    let other = other_unwinding(rt.alloc(), RECURSION, Unwinding::Depths)?;
+    assert_eq!(rt; other, None);
+    Ok(())
+}
+
+/// The first place, unless the path of `h` goes through the last instruction of `g`.
+fn other_last_call(unwinder: &Unwinder<'_>) -> Result<Option<usize>, Memory> {
     let memory = Words {
         words: &[(0xf00f_ffec, 0x1_0004)],
     };
@@ -192,15 +297,15 @@ fn a_call_that_is_a_procedures_last_instruction_is_looked_up_there(
         &registers(&[(1, 0x1_0018), (2, 0xf00f_ffe0)]),
         &memory,
     )?;
-    assert_eq!(rt; path.end(), End::Whole);
-    assert_eq!(rt;
-        path.frames(),
-        [
-            Frame { pc: 0x1_0018 },
-            Frame { pc: 0x1_0014 },
-            Frame { pc: 0x1_0000 }
-        ]
-        .as_slice()
-    );
+    let wanted = [0x1_0018, 0x1_0014, 0x1_0000];
+    Ok(first_unless(is_path(&path, End::Whole, &wanted)))
+}
+
+#[test]
+fn a_call_that_is_a_procedures_last_instruction_is_looked_up_there(
+    rt: HostRuntime,
+) -> Result<(), Fail> {
+    let other = other_unwinding(rt.alloc(), LAST_CALL, Unwinding::LastCall)?;
+    assert_eq!(rt; other, None);
     Ok(())
 }

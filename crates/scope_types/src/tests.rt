@@ -78,19 +78,50 @@ const ASCENDING: [Scope; 21] = [
     Scope::Stmt(LineId::Address(4_294_967_295)),
 ];
 
+/// Whether the first scope is less than the second, the second greater, and the first equal to itself.
+fn stands_before(a: &Scope, b: &Scope) -> bool {
+    compare(a, b) == Ordering::Less
+        && compare(b, a) == Ordering::Greater
+        && compare(a, a) == Ordering::Equal
+}
+
+/// The place of the first scope that the one before it does not stand before.
+fn other_scope(scopes: &[Scope]) -> Option<usize> {
+    for place in 1..scopes.len() {
+        if !stands_before(&scopes[place - 1], &scopes[place]) {
+            return Some(place);
+        }
+    }
+    None
+}
+
 #[test]
 fn each_scope_stands_before_the_next(rt: HostRuntime) {
-    let pairs = ASCENDING.iter().zip(ASCENDING.iter().skip(1));
-    for (place, (a, b)) in pairs.enumerate() {
-        assert_eq!(rt; compare(a, b), Ordering::Less, "at {place}");
-        assert_eq!(rt; compare(b, a), Ordering::Greater, "at {place}");
-        assert_eq!(rt; compare(a, a), Ordering::Equal, "at {place}");
+    assert_eq!(rt; other_scope(&ASCENDING), None);
+}
+
+/// Whether the first path is less than the second, the second greater and equal to itself.
+fn path_stands_before(a: &[Scope], b: &[Scope]) -> bool {
+    compare_paths(a, b) == Ordering::Less
+        && compare_paths(b, a) == Ordering::Greater
+        && compare_paths(b, b) == Ordering::Equal
+}
+
+/// The place of the first path that the one before it does not stand before.
+fn other_path(paths: &[&[Scope]]) -> Option<usize> {
+    for place in 1..paths.len() {
+        if !path_stands_before(paths[place - 1], paths[place]) {
+            return Some(place);
+        }
     }
+    None
 }
 
 #[test]
 fn a_prefix_stands_before_what_extends_it(rt: HostRuntime) {
-    let [root, partial, procedure, ..] = ASCENDING;
+    let root = Scope::Root(RootKind::Thread);
+    let partial = Scope::Root(RootKind::Partial);
+    let procedure = Scope::Proc(ProcId::Die(0));
     let statement = Scope::Stmt(LineId::Address(0));
     let ascending: [&[Scope]; 6] = [
         &[],
@@ -100,11 +131,7 @@ fn a_prefix_stands_before_what_extends_it(rt: HostRuntime) {
         &[root, statement],
         &[partial],
     ];
-    for (a, b) in ascending.iter().zip(ascending.iter().skip(1)) {
-        assert_eq!(rt; compare_paths(a, b), Ordering::Less);
-        assert_eq!(rt; compare_paths(b, a), Ordering::Greater);
-        assert_eq!(rt; compare_paths(b, b), Ordering::Equal);
-    }
+    assert_eq!(rt; other_path(&ascending), None);
 }
 
 /// The keys are the rule of FNV-1a over the words of the scopes, computed by a calculator.

@@ -29,11 +29,11 @@ fn path_in(
     instructions: &[u8],
     values: &[(usize, u32)],
     words: &[(u32, u32)],
-) -> Result<RawPath, Fail> {
+) -> Result<RawPath, Memory> {
     let section = section_of(alloc, instructions)?;
     let table = table_of(alloc, &section, image)?;
     let unwinder = Unwinder::of(alloc, &table, image);
-    Ok(unwinder.path(0x1_0010, &registers(values), &Words { words })?)
+    unwinder.path(0x1_0010, &registers(values), &Words { words })
 }
 
 /// Instructions, and how the path of one frame ends, where x1 is 0x10008 and x2 is 0xf00ffff0.
@@ -101,20 +101,22 @@ pub(super) const ENDS: [(&str, &[u8], End); 17] = [
     ),
 ];
 
+/// The place of the first of these instructions whose path ends otherwise, or has other frames.
+pub(super) fn other_end(alloc: Global, image: &Image<'_>) -> Result<Option<usize>, Memory> {
+    let values = [(1, 0x1_0008), (2, 0xf00f_fff0)];
+    for (place, (_, instructions, end)) in ENDS.iter().enumerate() {
+        let path = path_in(alloc, image, instructions, &values, &[])?;
+        if !is_path(&path, *end, &[0x1_0010]) {
+            return Ok(Some(place));
+        }
+    }
+    Ok(None)
+}
+
 #[test]
 fn a_path_ends_by_the_first_test_that_holds(rt: HostRuntime) -> Result<(), Fail> {
-    let file = program(rt.alloc(), RECURSION, &[])?;
-    let image = image_of(rt.alloc(), &file)?;
-    for (name, instructions, end) in &ENDS {
-        let values = [(1, 0x1_0008), (2, 0xf00f_fff0)];
-        let path = path_in(rt.alloc(), &image, instructions, &values, &[])?;
-        assert_eq!(rt; path.end(), *end, "{name}");
-        assert_eq!(rt;
-            path.frames(),
-            [Frame { pc: 0x1_0010 }].as_slice(),
-            "{name}"
-        );
-    }
+    let other = other_row(rt.alloc(), RECURSION, &[], Question::Ends)?;
+    assert_eq!(rt; other, None);
     Ok(())
 }
 
@@ -225,29 +227,33 @@ pub(super) const CALLERS: [(&str, &[u8], &[(usize, u32)], &[(u32, u32)], End, &[
     ),
 ];
 
-#[test]
-fn a_caller_has_its_registers_by_the_rules(rt: HostRuntime) -> Result<(), Fail> {
-    let file = program(rt.alloc(), RECURSION, &[])?;
-    let image = image_of(rt.alloc(), &file)?;
-    for (name, instructions, values, words, end, frames) in &CALLERS {
-        let path = path_in(rt.alloc(), &image, instructions, values, words)?;
-        assert_eq!(rt; path.end(), *end, "{name}");
-        assert_eq!(rt; path.frames().len(), frames.len(), "{name}");
-        for (frame, wanted) in path.frames().iter().zip(*frames) {
-            assert_eq!(rt; frame.pc, *wanted, "{name}");
+/// The place of the first of these instructions whose path ends otherwise, or has other frames.
+pub(super) fn other_caller(alloc: Global, image: &Image<'_>) -> Result<Option<usize>, Memory> {
+    for (place, (_, instructions, values, words, end, frames)) in CALLERS.iter().enumerate() {
+        let path = path_in(alloc, image, instructions, values, words)?;
+        if !is_path(&path, *end, frames) {
+            return Ok(Some(place));
         }
     }
+    Ok(None)
+}
+
+#[test]
+fn a_caller_has_its_registers_by_the_rules(rt: HostRuntime) -> Result<(), Fail> {
+    let other = other_row(rt.alloc(), RECURSION, &[], Question::Callers)?;
+    assert_eq!(rt; other, None);
     Ok(())
+}
+
+/// The first place, unless the path of the address after the last procedure ends there.
+pub(super) fn other_outside_frames(unwinder: &Unwinder<'_>) -> Result<Option<usize>, Memory> {
+    let path = unwinder.path(0x1_0030, &registers(&[]), &Recursion)?;
+    Ok(first_unless(is_path(&path, Partial(NoFde), &[0x1_0030])))
 }
 
 #[test]
 fn an_instruction_that_no_frame_description_holds(rt: HostRuntime) -> Result<(), Fail> {
-    let file = program(rt.alloc(), RECURSION, &[])?;
-    let image = image_of(rt.alloc(), &file)?;
-    let table = table_of(rt.alloc(), image.section(b".debug_frame"), &image)?;
-    let unwinder = Unwinder::of(rt.alloc(), &table, &image);
-    let path = unwinder.path(0x1_0030, &registers(&[]), &Recursion)?;
-    assert_eq!(rt; path.end(), Partial(NoFde));
-    assert_eq!(rt; path.frames(), [Frame { pc: 0x1_0030 }].as_slice());
+    let other = other_unwinding(rt.alloc(), RECURSION, Unwinding::OutsideFrames)?;
+    assert_eq!(rt; other, None);
     Ok(())
 }

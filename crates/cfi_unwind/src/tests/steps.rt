@@ -4,6 +4,8 @@ use super::causes::{CALLERS, ENDS, section_of};
 use super::*;
 use crate::caller::caller_to;
 use crate::index::Index;
+use crate::prepared::Step;
+use cfi_table::Rules;
 
 /// Addresses, and whether there is a step.
 const READY: [(u32, bool); 9] = [
@@ -26,69 +28,111 @@ const SEGMENTS: [(&[(usize, u8)], bool); 3] = [
     (&[(76, 4)], false),
 ];
 
-#[test]
-fn steps_are_ready_in_an_executable_segment(rt: HostRuntime) -> Result<(), Fail> {
-    let alloc = rt.alloc();
-    for (changes, is_there) in &SEGMENTS {
-        let file = program(alloc, RECURSION, changes)?;
-        let image = image_of(alloc, &file)?;
-        let table = table_of(alloc, image.section(b".debug_frame"), &image)?;
-        let index = Index::of(alloc, &table, &image);
-        for (pc, ready) in &READY {
-            assert_eq!(rt; index.at(*pc).is_some(), *ready && *is_there, "at {pc:x}");
+/// The place of the first of these addresses that has no step and should, or has one and should not.
+fn other_in_index(index: &Index, is_there: bool) -> Option<usize> {
+    for (place, (pc, ready)) in READY.iter().enumerate() {
+        if index.at(*pc).is_some() != (*ready && is_there) {
+            return Some(place);
         }
     }
+    None
+}
+
+/// The same in a program.
+pub(super) fn other_ready(
+    alloc: Global,
+    image: &Image<'_>,
+    is_there: bool,
+) -> Result<Option<usize>, Memory> {
+    let table = table_of(alloc, image.section(b".debug_frame"), image)?;
+    Ok(other_in_index(&Index::of(alloc, &table, image), is_there))
+}
+
+/// The place of the first address that is otherwise, in the first program of these changes that has one.
+fn other_in_segments(alloc: Global) -> Result<Option<usize>, Memory> {
+    for (changes, is_there) in &SEGMENTS {
+        let other = other_row(alloc, RECURSION, changes, Question::Ready(*is_there))?;
+        if other.is_some() {
+            return Ok(other);
+        }
+    }
+    Ok(None)
+}
+
+#[test]
+fn steps_are_ready_in_an_executable_segment(rt: HostRuntime) -> Result<(), Fail> {
+    assert_eq!(rt; other_in_segments(rt.alloc())?, None);
     Ok(())
 }
 
-/// What is found at 0x10010 with the step that is ready, and by the rules as they are made anew: the
-/// caller's pc and registers, or how the path ends.
-type Found = (Result<u32, End>, [u32; 32]);
+/// What a step and the rules both find of these registers: the caller's pc, or how the path ends.
+/// Nothing where they find different things, or different registers of the caller.
+fn found_by(
+    step: &Step,
+    rules: &Rules,
+    values: &[(usize, u32)],
+    memory: &Words<'_>,
+) -> Option<Result<u32, End>> {
+    let mut ready = registers(values);
+    let mut anew = registers(values);
+    let found = step.go(memory, &mut ready);
+    if found != caller_to(memory, &mut anew, rules) {
+        return None;
+    }
+    if found.is_ok() && ready.as_slice() != anew.as_slice() {
+        return None;
+    }
+    Some(found)
+}
 
+/// What is found at 0x10010 both with the step that is ready and by the rules as they are made anew.
+/// Nothing where these differ, or one of them is not there.
 fn found_both(
     alloc: Global,
     image: &Image<'_>,
     instructions: &[u8],
     values: &[(usize, u32)],
     words: &[(u32, u32)],
-) -> Result<Option<(Found, Found)>, Fail> {
+) -> Result<Option<Result<u32, End>>, Memory> {
     let section = section_of(alloc, instructions)?;
     let table = table_of(alloc, &section, image)?;
+    let rules = table.rules_at(0x1_0010)?;
     let index = Index::of(alloc, &table, image);
-    let memory = Words { words };
-    let mut ready = registers(values);
-    let mut anew = registers(values);
-    match (index.at(0x1_0010), table.rules_at(0x1_0010)?) {
-        (Some(step), Some(rules)) => {
-            let by_step = step.go(&memory, &mut ready);
-            let by_rules = caller_to(&memory, &mut anew, &rules);
-            Ok(Some(((by_step, ready), (by_rules, anew))))
-        }
+    match (index.at(0x1_0010), rules) {
+        (Some(step), Some(rules)) => Ok(found_by(step, &rules, values, &Words { words })),
         _ => Ok(None),
     }
 }
 
-#[test]
-fn a_step_does_what_the_rules_say(rt: HostRuntime) -> Result<(), Fail> {
-    let file = program(rt.alloc(), RECURSION, &[])?;
-    let image = image_of(rt.alloc(), &file)?;
-    for (name, instructions, values, words, _, _) in &CALLERS {
-        let Some((ready, anew)) = found_both(rt.alloc(), &image, instructions, values, words)?
-        else {
-            return Err(Fail::from(Memory));
-        };
-        assert_eq!(rt; ready.0, anew.0, "{name}");
-        if ready.0.is_ok() {
-            assert_eq!(rt; ready.1.as_slice(), anew.1.as_slice(), "{name}");
+/// The place of the first of the callers' rows whose step finds something else than its rules.
+pub(super) fn other_step_to_caller(
+    alloc: Global,
+    image: &Image<'_>,
+) -> Result<Option<usize>, Memory> {
+    for (place, (_, instructions, values, words, _, _)) in CALLERS.iter().enumerate() {
+        if found_both(alloc, image, instructions, values, words)?.is_none() {
+            return Ok(Some(place));
         }
     }
-    for (name, instructions, end) in &ENDS {
-        let values = [(1, 0x1_0008), (2, 0xf00f_fff0)];
-        let Some((ready, anew)) = found_both(rt.alloc(), &image, instructions, &values, &[])? else {
-            return Err(Fail::from(Memory));
-        };
-        assert_eq!(rt; ready.0, Err(*end), "{name}");
-        assert_eq!(rt; anew.0, Err(*end), "{name}");
+    Ok(None)
+}
+
+/// The place of the first of the ends' rows whose step or whose rules find something else.
+pub(super) fn other_step_to_end(alloc: Global, image: &Image<'_>) -> Result<Option<usize>, Memory> {
+    let values = [(1, 0x1_0008), (2, 0xf00f_fff0)];
+    for (place, (_, instructions, end)) in ENDS.iter().enumerate() {
+        if found_both(alloc, image, instructions, &values, &[])? != Some(Err(*end)) {
+            return Ok(Some(place));
+        }
     }
+    Ok(None)
+}
+
+#[test]
+fn a_step_does_what_the_rules_say(rt: HostRuntime) -> Result<(), Fail> {
+    let to_caller = other_row(rt.alloc(), RECURSION, &[], Question::StepsToCallers)?;
+    assert_eq!(rt; to_caller, None);
+    let to_end = other_row(rt.alloc(), RECURSION, &[], Question::StepsToEnds)?;
+    assert_eq!(rt; to_end, None);
     Ok(())
 }
