@@ -121,11 +121,66 @@ fn guest(alloc: Global, words: &[u32]) -> Result<Vec<u8>, Memory> {
     Ok(file)
 }
 
-fn schedule(alloc: Global, text: &[u8]) -> Result<Schedule, Fail<ScheduleFault>> {
+/// The schedule that a text tells; a text that is refused is an error.
+fn schedule(alloc: Global, text: &[u8]) -> Result<Schedule, Memory> {
     if text.len() > 1 << 22 {
-        return Err(Fail::Memory);
+        return Err(Memory);
     }
-    read_schedule(alloc, text)
+    match read_schedule(alloc, text) {
+        Ok(told) => Ok(told),
+        Err(_) => Err(Memory),
+    }
+}
+
+/// The first bad line of a schedule's text; `None` where it is taken.
+fn bad_line(alloc: Global, text: &[u8]) -> Result<Option<u32>, Memory> {
+    if text.len() > 1 << 22 {
+        return Err(Memory);
+    }
+    match read_schedule(alloc, text) {
+        Ok(_) => Ok(None),
+        Err(Fail::Fault(fault)) => Ok(Some(fault.line)),
+        Err(Fail::Memory) => Err(Memory),
+    }
+}
+
+/// The place of the first text that has another bad line than its row says.
+fn other_fault(alloc: Global) -> Result<Option<usize>, Memory> {
+    for (place, (text, line)) in FAULTS.iter().enumerate() {
+        if bad_line(alloc, text)? != Some(*line) {
+            return Ok(Some(place));
+        }
+    }
+    Ok(None)
+}
+
+/// Whether slices have these harts and counts.
+fn same_slices(told: &[Slice], wanted: &[(u32, u32)]) -> bool {
+    if told.len() != wanted.len() {
+        return false;
+    }
+    for (slice, (hart, count)) in told.iter().zip(wanted) {
+        if slice.hart != *hart || slice.count != *count {
+            return false;
+        }
+    }
+    true
+}
+
+/// Whether a text tells so many harts and these slices.
+fn tells(alloc: Global, text: &[u8], harts: u32, slices: &[(u32, u32)]) -> Result<bool, Memory> {
+    let told = schedule(alloc, text)?;
+    Ok(told.harts() == harts && same_slices(told.slices(), slices))
+}
+
+/// The place of the first text that tells another schedule than its row says.
+fn other_schedule(alloc: Global) -> Result<Option<usize>, Memory> {
+    for (place, (text, harts, slices)) in SCHEDULES.iter().enumerate() {
+        if !tells(alloc, text, *harts, slices)? {
+            return Ok(Some(place));
+        }
+    }
+    Ok(None)
 }
 
 /// Carries out so many instructions of a run.
@@ -136,209 +191,372 @@ fn carry_out(machine: &mut Machine<'_>, count: u32) -> Result<(), Memory> {
     Ok(())
 }
 
-fn standing(machine: &Machine<'_>, hart: u32) -> Option<(u64, HartEnd)> {
+/// Whether a hart has retired so many instructions and stands like this.
+fn stands(machine: &Machine<'_>, hart: u32, retired: u64, end: HartEnd) -> bool {
     if hart as usize >= machine.harts() {
-        return None;
+        return false;
     }
-    Some((machine.retired(hart), machine.end(hart)))
+    machine.retired(hart) == retired && machine.end(hart) == end
 }
 
-fn x10(machine: &Machine<'_>, hart: u32) -> Option<u32> {
-    if hart as usize >= machine.harts() {
+/// No place where it is so, and else this one.
+fn unless(is_so: bool, place: usize) -> Option<usize> {
+    if is_so {
         return None;
     }
-    let regs = *machine.regs(hart);
+    Some(place)
+}
+
+/// What x10 of hart 0 holds.
+fn x10(machine: &Machine<'_>) -> Option<u32> {
+    if machine.harts() == 0 {
+        return None;
+    }
+    let regs = *machine.regs(0);
     Some(regs[10])
+}
+
+/// What a program has to do.
+#[derive(Clone, Copy)]
+enum Wanted {
+    /// The call leaves this in x10 and this word at the address.
+    Read {
+        x10: u32,
+        at: u32,
+        word: Option<u32>,
+    },
+    /// The call leaves this in x10 and writes these bytes of the file.
+    Write {
+        x10: u32,
+        from: usize,
+        to: usize,
+    },
+    /// The call leaves this in x10, and hart 0 stands like this.
+    Other {
+        x10: u32,
+        retired: u64,
+        end: HartEnd,
+    },
+    /// Outputs as in their table.
+    Outputs,
+    /// Moments as in their table.
+    Moments,
+    /// Hart 1 stands like this after 30 instructions.
+    End {
+        retired: u64,
+        end: HartEnd,
+    },
+    /// Harts 0 and 1 end by the exit of all, and hart 2 by its own.
+    Group,
+    /// Each hart finds what the other put in the shared word.
+    Shared,
+}
+
+/// Whether a call leaves this in x10, and hart 0 stands like this.
+fn answers(machine: &Machine<'_>, answer: u32, retired: u64, end: HartEnd) -> bool {
+    x10(machine) == Some(answer) && stands(machine, 0, retired, end)
+}
+
+/// Whether a call leaves this in x10 and this word at the address, and writes nothing.
+fn reads(machine: &Machine<'_>, answer: u32, at: u32, word: Option<u32>) -> bool {
+    answers(machine, answer, 6, HartEnd::Running)
+        && machine.space().load(at, 4) == word
+        && machine.output().is_empty()
+}
+
+/// Whether a call leaves this in x10 and writes these bytes.
+fn writes(machine: &Machine<'_>, answer: u32, bytes: Option<&[u8]>) -> bool {
+    answers(machine, answer, 6, HartEnd::Running) && bytes == Some(machine.output())
+}
+
+/// Whether a call leaves this in x10 and writes nothing, and hart 0 stands like this.
+fn exits(machine: &Machine<'_>, answer: u32, retired: u64, end: HartEnd) -> bool {
+    answers(machine, answer, retired, end) && machine.output().is_empty()
+}
+
+/// The place of the first row of outputs that a run does otherwise.
+fn other_output(machine: &mut Machine<'_>) -> Result<Option<usize>, Memory> {
+    for (place, (count, answer, length)) in OUTPUTS.iter().enumerate() {
+        carry_out(machine, *count)?;
+        if x10(machine) != Some(*answer) || machine.output().len() != *length {
+            return Ok(Some(place));
+        }
+    }
+    Ok(None)
+}
+
+/// Whether this is due, and comes next.
+fn comes(machine: &mut Machine<'_>, moment: Moment) -> Result<bool, Memory> {
+    let due = Due {
+        hart: moment.hart,
+        pc: moment.pc,
+        ordinal: moment.ordinal,
+    };
+    Ok(machine.due() == Some(due) && machine.next()? == Some(moment))
+}
+
+/// Whether a run has ended.
+fn has_ended(machine: &mut Machine<'_>) -> Result<bool, Memory> {
+    Ok(machine.due().is_none() && machine.next()?.is_none())
+}
+
+/// Whether a run has ended, and its harts stand as they do after the moments of their table.
+fn ends_after_moments(machine: &mut Machine<'_>) -> Result<bool, Memory> {
+    Ok(
+        has_ended(machine)?
+            && stands(machine, 0, 20, HartEnd::Exit(19))
+            && stands(machine, 1, 4, HartEnd::Running),
+    )
+}
+
+/// The place of the first moment that comes otherwise, or the number of all where the end is otherwise.
+fn other_moment(machine: &mut Machine<'_>) -> Result<Option<usize>, Memory> {
+    for (place, (hart, ordinal, pc, retired)) in MOMENTS.iter().enumerate() {
+        let moment = Moment {
+            hart: *hart,
+            ordinal: *ordinal,
+            pc: *pc,
+            retired: *retired,
+        };
+        if !comes(machine, moment)? {
+            return Ok(Some(place));
+        }
+    }
+    Ok(unless(ends_after_moments(machine)?, MOMENTS.len()))
+}
+
+/// Whether all harts have ended, two of them by the exit of all.
+fn ends_as_group(machine: &mut Machine<'_>) -> Result<bool, Memory> {
+    carry_out(machine, 14)?;
+    Ok(
+        machine.next()?.is_none()
+            && stands(machine, 0, 3, HartEnd::Group(5))
+            && stands(machine, 1, 4, HartEnd::Group(5))
+            && stands(machine, 2, 5, HartEnd::Exit(9)),
+    )
+}
+
+/// Whether so many instructions more leave this in the shared word.
+fn shares(machine: &mut Machine<'_>, count: u32, word: u32) -> Result<bool, Memory> {
+    carry_out(machine, count)?;
+    Ok(machine.space().load(0xf008_0000, 4) == Some(word))
+}
+
+/// Whether each hart finds in the shared word what the other put there, up to the end of the run.
+fn shares_as_told(machine: &mut Machine<'_>) -> Result<bool, Memory> {
+    Ok(shares(machine, 23, 0x122)? && shares(machine, 3, 0x121)? && machine.next()?.is_none())
+}
+
+/// The place of the first thing wanted that a machine on this file does otherwise; 0 where one is wanted
+/// alone.
+fn other_in(
+    machine: &mut Machine<'_>,
+    file: &[u8],
+    wanted: Wanted,
+) -> Result<Option<usize>, Memory> {
+    match wanted {
+        Wanted::Read { x10, at, word } => {
+            carry_out(machine, 7)?;
+            Ok(unless(reads(machine, x10, at, word), 0))
+        }
+        Wanted::Write { x10, from, to } => {
+            carry_out(machine, 7)?;
+            Ok(unless(writes(machine, x10, file.get(from..to)), 0))
+        }
+        Wanted::Other { x10, retired, end } => {
+            carry_out(machine, 7)?;
+            Ok(unless(exits(machine, x10, retired, end), 0))
+        }
+        Wanted::Outputs => other_output(machine),
+        Wanted::Moments => other_moment(machine),
+        Wanted::End { retired, end } => {
+            carry_out(machine, 30)?;
+            Ok(unless(stands(machine, 1, retired, end), 0))
+        }
+        Wanted::Group => Ok(unless(ends_as_group(machine)?, 0)),
+        Wanted::Shared => Ok(unless(shares_as_told(machine)?, 0)),
+    }
+}
+
+/// The place of the first thing wanted that the program in a file does otherwise, under the schedule of a
+/// text and with this input.
+fn other_in_file(
+    alloc: Global,
+    file: &[u8],
+    text: &[u8],
+    input: &[u8],
+    wanted: Wanted,
+) -> Result<Option<usize>, Memory> {
+    if file.len() > 1 << 26 {
+        return Err(Memory);
+    }
+    match read_image(alloc, file) {
+        Ok(image) => {
+            let told = schedule(alloc, text)?;
+            let mut machine = Machine::start(alloc, &image, told, input)?;
+            other_in(&mut machine, file, wanted)
+        }
+        Err(_) => Err(Memory),
+    }
+}
+
+/// The place of the first thing wanted that a program of these words does otherwise, under the schedule of
+/// a text.
+fn other_in_program(
+    alloc: Global,
+    words: &[u32],
+    text: &[u8],
+    wanted: Wanted,
+) -> Result<Option<usize>, Memory> {
+    let file = guest(alloc, words)?;
+    other_in_file(alloc, file.as_slice(), text, b"", wanted)
+}
+
+/// The file of a program that makes a call with these in x17 and x10 to x12.
+fn caller(alloc: Global, given: &[u32; 4]) -> Result<Vec<u8>, Memory> {
+    let mut words = Vec::new(alloc);
+    words.extend_from_slice(&CALLER)?;
+    words.extend_from_slice(given)?;
+    guest(alloc, words.as_slice())
+}
+
+/// The place of the first thing wanted that a call does otherwise, with these in x17 and x10 to x12 and the
+/// input `abcdef`.
+fn other_in_call(alloc: Global, given: [u32; 4], wanted: Wanted) -> Result<Option<usize>, Memory> {
+    let file = caller(alloc, &given)?;
+    other_in_file(alloc, file.as_slice(), b"harts 1\n0 6", b"abcdef", wanted)
+}
+
+/// The place of the first read that does something else than its row says.
+fn other_read(alloc: Global) -> Result<Option<usize>, Memory> {
+    for (place, (descriptor, at, count, answer, word)) in READS.iter().enumerate() {
+        let wanted = Wanted::Read {
+            x10: *answer,
+            at: *at,
+            word: *word,
+        };
+        if other_in_call(alloc, [63, *descriptor, *at, *count], wanted)?.is_some() {
+            return Ok(Some(place));
+        }
+    }
+    Ok(None)
+}
+
+/// The place of the first write that does something else than its row says.
+fn other_write(alloc: Global) -> Result<Option<usize>, Memory> {
+    for (place, (descriptor, at, count, answer, from, to)) in WRITES.iter().enumerate() {
+        let wanted = Wanted::Write {
+            x10: *answer,
+            from: *from,
+            to: *to,
+        };
+        if other_in_call(alloc, [64, *descriptor, *at, *count], wanted)?.is_some() {
+            return Ok(Some(place));
+        }
+    }
+    Ok(None)
+}
+
+/// The place of the first other call that does something else than its row says.
+fn other_call(alloc: Global) -> Result<Option<usize>, Memory> {
+    for (place, (number, a, answer, retired, end)) in OTHERS.iter().enumerate() {
+        let wanted = Wanted::Other {
+            x10: *answer,
+            retired: *retired,
+            end: *end,
+        };
+        if other_in_call(alloc, [*number, *a, 0, 0], wanted)?.is_some() {
+            return Ok(Some(place));
+        }
+    }
+    Ok(None)
+}
+
+/// The place of the first program whose hart 1 ends otherwise than its row says.
+fn other_end(alloc: Global) -> Result<Option<usize>, Memory> {
+    for (place, (words, retired, end)) in ENDS.iter().enumerate() {
+        let wanted = Wanted::End {
+            retired: *retired,
+            end: *end,
+        };
+        if other_in_program(alloc, words, b"harts 2\n1 9\n0 9\n1 9", wanted)?.is_some() {
+            return Ok(Some(place));
+        }
+    }
+    Ok(None)
 }
 
 #[test]
 fn bad_lines_of_schedules(rt: HostRuntime) -> Result<(), Failed> {
-    for (text, line) in &FAULTS {
-        match schedule(rt.alloc(), text) {
-            Err(Fail::Fault(fault)) => assert_eq!(rt; fault.line, *line, "in {text:?}"),
-            _ => assert!(rt; false, "{text:?} is taken"),
-        }
-    }
+    assert_eq!(rt; other_fault(rt.alloc())?, None);
     Ok(())
 }
 
 #[test]
 fn schedules_as_they_are_told(rt: HostRuntime) -> Result<(), Failed> {
-    for (text, harts, slices) in &SCHEDULES {
-        let Ok(told) = schedule(rt.alloc(), text) else {
-            assert!(rt; false, "{text:?} is refused");
-            continue;
-        };
-        assert_eq!(rt; told.harts(), *harts, "in {text:?}");
-        assert_eq!(rt; told.slices().len(), slices.len(), "in {text:?}");
-        for ((hart, count), slice) in slices.iter().zip(told.slices()) {
-            assert_eq!(rt; (slice.hart, slice.count), (*hart, *count), "in {text:?}");
-        }
-    }
+    assert_eq!(rt; other_schedule(rt.alloc())?, None);
     Ok(())
-}
-
-/// How hart 0 stands after six instructions of the caller, what was written, and the word at the address.
-#[derive(Drop)]
-struct After {
-    x10: Option<u32>,
-    standing: Option<(u64, HartEnd)>,
-    output: Vec<u8>,
-    word: Option<u32>,
-}
-
-/// Makes a call with these in x17 and x10 to x12, and with the input `abcdef`.
-fn after_call(alloc: Global, given: [u32; 4]) -> Result<After, Failed> {
-    let mut words = Vec::new(alloc);
-    words.extend_from_slice(&CALLER)?;
-    words.extend_from_slice(&given)?;
-    let file = guest(alloc, words.as_slice())?;
-    if file.len() > 1 << 26 {
-        return Err(Failed::from(Memory));
-    }
-    let image = read_image(alloc, file.as_slice())?;
-    let told = schedule(alloc, b"harts 1\n0 6")?;
-    let mut machine = Machine::start(alloc, &image, told, b"abcdef")?;
-    carry_out(&mut machine, 7)?;
-    let mut output = Vec::new(alloc);
-    output.extend_from_slice(machine.output())?;
-    Ok(After {
-        x10: x10(&machine, 0),
-        standing: standing(&machine, 0),
-        output,
-        word: machine.space().load(given[2], 4),
-    })
 }
 
 #[test]
 fn reads_of_the_input(rt: HostRuntime) -> Result<(), Failed> {
-    for (descriptor, at, count, answer, word) in READS {
-        let after = after_call(rt.alloc(), [63, descriptor, at, count])?;
-        assert_eq!(rt; after.x10, Some(answer), "{descriptor} {at} {count}");
-        assert_eq!(rt; after.word, word, "{descriptor} {at} {count}");
-        assert_eq!(rt; after.standing, Some((6, HartEnd::Running)));
-        assert!(rt; after.output.is_empty());
-    }
+    assert_eq!(rt; other_read(rt.alloc())?, None);
     Ok(())
 }
 
 #[test]
 fn writes_of_memory(rt: HostRuntime) -> Result<(), Failed> {
-    for (descriptor, at, count, answer, from, to) in WRITES {
-        let given = [64, descriptor, at, count];
-        let after = after_call(rt.alloc(), given)?;
-        assert_eq!(rt; after.x10, Some(answer), "{descriptor} {at} {count}");
-        assert_eq!(rt; after.standing, Some((6, HartEnd::Running)));
-        let mut words = Vec::new(rt.alloc());
-        words.extend_from_slice(&CALLER)?;
-        words.extend_from_slice(&given)?;
-        let file = guest(rt.alloc(), words.as_slice())?;
-        let code = file.as_slice().get(from..to);
-        assert_eq!(rt; code, Some(after.output.as_slice()));
-    }
+    assert_eq!(rt; other_write(rt.alloc())?, None);
     Ok(())
 }
 
 #[test]
 fn exits_and_unknown_calls(rt: HostRuntime) -> Result<(), Failed> {
-    for (number, a, answer, retired, end) in OTHERS {
-        let after = after_call(rt.alloc(), [number, a, 0, 0])?;
-        assert_eq!(rt; after.x10, Some(answer), "{number} {a}");
-        assert_eq!(rt; after.standing, Some((retired, end)), "{number} {a}");
-        assert!(rt; after.output.is_empty());
-    }
+    assert_eq!(rt; other_call(rt.alloc())?, None);
     Ok(())
 }
 
 #[test]
 fn output_within_its_limit(rt: HostRuntime) -> Result<(), Failed> {
-    let file = guest(rt.alloc(), &WRITER)?;
-    if file.len() > 1 << 26 {
-        return Ok(());
-    }
-    let image = read_image(rt.alloc(), file.as_slice())?;
-    let told = schedule(rt.alloc(), b"harts 1\n0 100")?;
-    let mut machine = Machine::start(rt.alloc(), &image, told, b"")?;
-    for (count, answer, length) in OUTPUTS {
-        carry_out(&mut machine, count)?;
-        assert_eq!(rt; x10(&machine, 0), Some(answer));
-        assert_eq!(rt; machine.output().len(), length);
-    }
+    assert_eq!(rt;
+        other_in_program(rt.alloc(), &WRITER, b"harts 1\n0 100", Wanted::Outputs)?,
+        None
+    );
     Ok(())
 }
 
 #[test]
 fn moments_in_their_order(rt: HostRuntime) -> Result<(), Failed> {
-    let file = guest(rt.alloc(), &ADDER)?;
-    if file.len() > 1 << 26 {
-        return Ok(());
-    }
-    let image = read_image(rt.alloc(), file.as_slice())?;
-    let told = schedule(rt.alloc(), b"harts 2\n0 3\n1 2\n0 17\n1 1\n0 9\n1 1\n")?;
-    let mut machine = Machine::start(rt.alloc(), &image, told, b"")?;
-    for (hart, ordinal, pc, retired) in MOMENTS {
-        let moment = Moment {
-            hart,
-            ordinal,
-            pc,
-            retired,
-        };
-        assert_eq!(rt; machine.due(), Some(Due { hart, pc, ordinal }));
-        assert_eq!(rt; machine.next()?, Some(moment));
-    }
-    assert_eq!(rt; machine.due(), None);
-    assert_eq!(rt; machine.next()?, None);
-    assert_eq!(rt; standing(&machine, 0), Some((20, HartEnd::Exit(19))));
-    assert_eq!(rt; standing(&machine, 1), Some((4, HartEnd::Running)));
+    let text = b"harts 2\n0 3\n1 2\n0 17\n1 1\n0 9\n1 1\n";
+    assert_eq!(rt;
+        other_in_program(rt.alloc(), &ADDER, text, Wanted::Moments)?,
+        None
+    );
     Ok(())
 }
 
 #[test]
 fn ends_of_harts(rt: HostRuntime) -> Result<(), Failed> {
-    for (words, retired, end) in &ENDS {
-        let file = guest(rt.alloc(), words)?;
-        if file.len() > 1 << 26 {
-            return Ok(());
-        }
-        let image = read_image(rt.alloc(), file.as_slice())?;
-        let told = schedule(rt.alloc(), b"harts 2\n1 9\n0 9\n1 9")?;
-        let mut machine = Machine::start(rt.alloc(), &image, told, b"")?;
-        carry_out(&mut machine, 30)?;
-        assert_eq!(rt; standing(&machine, 1), Some((*retired, *end)), "{words:?}");
-    }
+    assert_eq!(rt; other_end(rt.alloc())?, None);
     Ok(())
 }
 
 #[test]
 fn exit_of_all_harts(rt: HostRuntime) -> Result<(), Failed> {
-    let file = guest(rt.alloc(), &GROUP)?;
-    if file.len() > 1 << 26 {
-        return Ok(());
-    }
-    let image = read_image(rt.alloc(), file.as_slice())?;
-    let told = schedule(rt.alloc(), b"harts 3\n1 4\n2 9\n0 9\n1 9\n2 9\n0 9")?;
-    let mut machine = Machine::start(rt.alloc(), &image, told, b"")?;
-    carry_out(&mut machine, 14)?;
-    assert_eq!(rt; machine.next()?, None);
-    assert_eq!(rt; standing(&machine, 0), Some((3, HartEnd::Group(5))));
-    assert_eq!(rt; standing(&machine, 1), Some((4, HartEnd::Group(5))));
-    assert_eq!(rt; standing(&machine, 2), Some((5, HartEnd::Exit(9))));
+    let text = b"harts 3\n1 4\n2 9\n0 9\n1 9\n2 9\n0 9";
+    assert_eq!(rt;
+        other_in_program(rt.alloc(), &GROUP, text, Wanted::Group)?,
+        None
+    );
     Ok(())
 }
 
 #[test]
 fn two_harts_on_one_word(rt: HostRuntime) -> Result<(), Failed> {
-    let file = guest(rt.alloc(), &SHARED)?;
-    if file.len() > 1 << 26 {
-        return Ok(());
-    }
-    let image = read_image(rt.alloc(), file.as_slice())?;
-    let told = schedule(rt.alloc(), b"harts 2\n0 7\n1 7\n0 3\n1 6\n0 3")?;
-    let mut machine = Machine::start(rt.alloc(), &image, told, b"")?;
-    carry_out(&mut machine, 23)?;
-    assert_eq!(rt; machine.space().load(0xf008_0000, 4), Some(0x122));
-    carry_out(&mut machine, 3)?;
-    assert_eq!(rt; machine.space().load(0xf008_0000, 4), Some(0x121));
-    assert_eq!(rt; machine.next()?, None);
+    let text = b"harts 2\n0 7\n1 7\n0 3\n1 6\n0 3";
+    assert_eq!(rt;
+        other_in_program(rt.alloc(), &SHARED, text, Wanted::Shared)?,
+        None
+    );
     Ok(())
 }
