@@ -134,6 +134,12 @@ fn shown(alloc: Global, table: &FrameTable, pc: u32) -> Result<String, Memory> {
     Ok(out)
 }
 
+/// Whether these are the rules at an address.
+fn rules_are(alloc: Global, table: &FrameTable, pc: u32, rules: &[u8]) -> Result<bool, Memory> {
+    let found = shown(alloc, table, pc)?;
+    Ok(found.as_str().as_bytes() == rules)
+}
+
 /// Whether the row, as `10010-10014 2+16 1=c-4`, says what stands at each of its addresses.
 fn row_holds(alloc: Global, table: &FrameTable, row: &[u8]) -> Result<bool, Memory> {
     let (range, rules) = cut(row, b' ');
@@ -141,67 +147,41 @@ fn row_holds(alloc: Global, table: &FrameTable, row: &[u8]) -> Result<bool, Memo
     let (low, high) = (number(low, 16), number(high, 16));
     for step in 0..high.wrapping_sub(low) / 4 {
         let pc = low.wrapping_add(step.wrapping_mul(4));
-        if shown(alloc, table, pc)?.as_str().as_bytes() != rules {
+        if !rules_are(alloc, table, pc, rules)? {
             return Ok(false);
         }
     }
     Ok(low < high)
 }
 
-/// The number, from 1, of the first row that does not hold, and 0 where all do.
-fn failing(alloc: Global, table: &FrameTable, rows: &[u8]) -> Result<u32, Memory> {
+/// The number, from 1, of the first row that does not hold.
+fn failing(alloc: Global, table: &FrameTable, rows: &[u8]) -> Result<Option<u32>, Memory> {
     let mut rows = rows;
     for number in 1..999 {
         let (row, rest) = cut(rows, b'\n');
         if row.is_empty() {
-            return Ok(0);
+            return Ok(None);
         }
         if !row_holds(alloc, table, row)? {
-            return Ok(number);
+            return Ok(Some(number));
         }
         rows = rest;
     }
-    Ok(999)
+    Ok(Some(999))
 }
 
-fn image_of(alloc: Global, file: &[u8]) -> Result<Image<'_>, Memory> {
-    if file.len() > 1 << 26 {
-        return Err(Memory);
-    }
-    read_image(alloc, file).ok().ok_or(Memory)
-}
-
-fn first_failing(alloc: Global, hex: &[u8], rows: &[u8]) -> Result<u32, Memory> {
-    let file = bytes_of(alloc, program())?;
-    let image = image_of(alloc, &file)?;
+/// The number of the first row that does not hold of a section of the program.
+fn failing_rules(
+    alloc: Global,
+    image: &Image<'_>,
+    hex: &[u8],
+    rows: &[u8],
+) -> Result<Option<u32>, Memory> {
     let section = bytes_of(alloc, hex)?;
-    let table = frames(alloc, &section, &image).ok().ok_or(Memory)?;
-    failing(alloc, &table, rows)
-}
-
-#[test]
-fn rules_of_gcc(rt: HostRuntime) -> Result<(), Fail> {
-    let row = first_failing(rt.alloc(), sections::gcc(), sections::gcc_rules());
-    assert_eq!(rt; row.ok().ok_or("memory")?, 0);
-    Ok(())
-}
-
-#[test]
-fn rules_of_clang(rt: HostRuntime) -> Result<(), Fail> {
-    let row = first_failing(rt.alloc(), sections::clang(), sections::clang_rules());
-    assert_eq!(rt; row.ok().ok_or("memory")?, 0);
-    Ok(())
-}
-
-#[test]
-fn rules_of_every_directive(rt: HostRuntime) -> Result<(), Fail> {
-    let row = first_failing(
-        rt.alloc(),
-        sections::directives(),
-        sections::directives_rules(),
-    );
-    assert_eq!(rt; row.ok().ok_or("memory")?, 0);
-    Ok(())
+    match frames(alloc, &section, image) {
+        Ok(table) => failing(alloc, &table, rows),
+        Err(_) => Err(Memory),
+    }
 }
 
 /// Changes of single bytes of the section, and what is answered: the first fault's offset, or the
@@ -245,56 +225,56 @@ fn fault_rows() -> &'static [u8] {
     28=0 > none"
 }
 
-fn answer(alloc: Global, section: &[u8], image: &Image<'_>) -> Result<String, Memory> {
-    let table = match frames(alloc, section, image) {
-        Ok(table) => table,
-        Err(prof_bytes::Fail::Memory) => return Err(Memory),
-        Err(prof_bytes::Fail::Fault(fault)) => {
-            return Ok(format!(in alloc; "fault {}", fault.offset)?);
-        }
-    };
+/// The FDE that holds 0x10010 with the rules at 0x10018, as text.
+fn answer_of(alloc: Global, table: &FrameTable) -> Result<String, Memory> {
     match table.fde_at(0x10010) {
         Some(offset) => {
-            let rules = shown(alloc, &table, 0x10018)?;
+            let rules = shown(alloc, table, 0x10018)?;
             Ok(format!(in alloc; "{offset} {}", rules.as_str())?)
         }
         None => Ok(String::from_str(alloc, "none")?),
     }
 }
 
+fn answer(alloc: Global, section: &[u8], image: &Image<'_>) -> Result<String, Memory> {
+    match frames(alloc, section, image) {
+        Ok(table) => answer_of(alloc, &table),
+        Err(prof_bytes::Fail::Memory) => Err(Memory),
+        Err(prof_bytes::Fail::Fault(fault)) => Ok(format!(in alloc; "fault {}", fault.offset)?),
+    }
+}
+
+/// Whether a section is answered with this text.
+fn answer_is(
+    alloc: Global,
+    image: &Image<'_>,
+    section: &[u8],
+    wanted: &[u8],
+) -> Result<bool, Memory> {
+    let found = answer(alloc, section, image)?;
+    Ok(found.as_str().as_bytes() == wanted)
+}
+
 fn fault_row_holds(alloc: Global, image: &Image<'_>, row: &[u8]) -> Result<bool, Memory> {
     let (changes, expected) = cut(row, b'>');
     let section = changed(alloc, sections::recursive(), changes)?;
-    let found = answer(alloc, &section, image)?;
-    Ok(cut(expected, b' ').1 == found.as_str().as_bytes())
+    answer_is(alloc, image, &section, cut(expected, b' ').1)
 }
 
-fn failing_change(alloc: Global, rows: &[u8]) -> Result<u32, Memory> {
-    let file = bytes_of(alloc, program())?;
-    let image = image_of(alloc, &file)?;
+/// The number, from 1, of the first change that is answered in another way.
+fn failing_change(alloc: Global, image: &Image<'_>, rows: &[u8]) -> Result<Option<u32>, Memory> {
     let mut rows = rows;
     for number in 1..99 {
         let (row, rest) = cut(rows, b'\n');
         if row.is_empty() {
-            return Ok(0);
+            return Ok(None);
         }
-        if !fault_row_holds(alloc, &image, row)? {
-            return Ok(number);
+        if !fault_row_holds(alloc, image, row)? {
+            return Ok(Some(number));
         }
         rows = rest;
     }
-    Ok(99)
-}
-
-#[test]
-fn faults_by_their_places(rt: HostRuntime) -> Result<(), Fail> {
-    assert_eq!(rt;
-        failing_change(rt.alloc(), fault_rows())
-            .ok()
-            .ok_or("memory")?,
-        0
-    );
-    Ok(())
+    Ok(Some(99))
 }
 
 /// Addresses, and how many bytes the rules there are made from: 3 of the CIE and 12 of the FDE.
@@ -306,16 +286,94 @@ const BYTES: [(u32, u64); 5] = [
     (0x1_0030, 0),
 ];
 
+/// The first of the addresses whose rules are made from another number of bytes.
+fn other_bytes(table: &FrameTable) -> Option<u32> {
+    for (pc, bytes) in &BYTES {
+        if table.instruction_bytes(*pc) != *bytes {
+            return Some(*pc);
+        }
+    }
+    None
+}
+
+/// The first address of the recursive program whose rules are made from another number of bytes.
+fn failing_bytes(alloc: Global, image: &Image<'_>) -> Result<Option<u32>, Memory> {
+    let section = bytes_of(alloc, sections::recursive())?;
+    match frames(alloc, &section, image) {
+        Ok(table) => Ok(other_bytes(&table)),
+        Err(_) => Err(Memory),
+    }
+}
+
+/// The rows that are asked of the program.
+#[derive(Clone, Copy)]
+enum Rows {
+    Gcc,
+    Clang,
+    Directives,
+    Faults,
+    Bytes,
+}
+
+/// The number or the address of the first row that does not hold of the program.
+fn failing_of(alloc: Global, image: &Image<'_>, rows: Rows) -> Result<Option<u32>, Memory> {
+    match rows {
+        Rows::Gcc => failing_rules(alloc, image, sections::gcc(), sections::gcc_rules()),
+        Rows::Clang => failing_rules(alloc, image, sections::clang(), sections::clang_rules()),
+        Rows::Directives => failing_rules(
+            alloc,
+            image,
+            sections::directives(),
+            sections::directives_rules(),
+        ),
+        Rows::Faults => failing_change(alloc, image, fault_rows()),
+        Rows::Bytes => failing_bytes(alloc, image),
+    }
+}
+
+/// The number or the address of the first row that does not hold of the program in this file.
+fn failing_in(alloc: Global, file: &[u8], rows: Rows) -> Result<Option<u32>, Memory> {
+    if file.len() > 1 << 26 {
+        return Err(Memory);
+    }
+    match read_image(alloc, file) {
+        Ok(image) => failing_of(alloc, &image, rows),
+        Err(_) => Err(Memory),
+    }
+}
+
+/// The number or the address of the first row that does not hold.
+fn first_failing(alloc: Global, rows: Rows) -> Result<Option<u32>, Memory> {
+    let file = bytes_of(alloc, program())?;
+    failing_in(alloc, &file, rows)
+}
+
+#[test]
+fn rules_of_gcc(rt: HostRuntime) -> Result<(), Fail> {
+    assert_eq!(rt; first_failing(rt.alloc(), Rows::Gcc)?, None);
+    Ok(())
+}
+
+#[test]
+fn rules_of_clang(rt: HostRuntime) -> Result<(), Fail> {
+    assert_eq!(rt; first_failing(rt.alloc(), Rows::Clang)?, None);
+    Ok(())
+}
+
+#[test]
+fn rules_of_every_directive(rt: HostRuntime) -> Result<(), Fail> {
+    assert_eq!(rt; first_failing(rt.alloc(), Rows::Directives)?, None);
+    Ok(())
+}
+
+#[test]
+fn faults_by_their_places(rt: HostRuntime) -> Result<(), Fail> {
+    assert_eq!(rt; first_failing(rt.alloc(), Rows::Faults)?, None);
+    Ok(())
+}
+
 #[test]
 fn bytes_of_instructions(rt: HostRuntime) -> Result<(), Fail> {
-    let file = bytes_of(rt.alloc(), program())?;
-    let image = image_of(rt.alloc(), &file)?;
-    let section = bytes_of(rt.alloc(), sections::recursive())?;
-    let Ok(table) = frames(rt.alloc(), &section, &image) else {
-        return Err(Fail::from(Memory));
-    };
-    for (pc, bytes) in &BYTES {
-        assert_eq!(rt; table.instruction_bytes(*pc), *bytes, "at {pc:x}");
-    }
+    assert_eq!(rt; first_failing(rt.alloc(), Rows::Bytes)?, None);
     Ok(())
 }

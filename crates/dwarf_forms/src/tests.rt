@@ -2,7 +2,9 @@
 //! abbreviation table is that of a program of two functions by `clang -g`, with the declarations that
 //! `llvm-dwarfdump --debug-abbrev` prints.
 use super::*;
-use prof_bytes::{Cursor, Fail};
+use prof_bytes::{Cursor, Memory};
+use std::alloc::Global;
+use std::test::Fail;
 
 /// A form, bytes, the value that stands in them, and how many they are.
 const FORMS: [(u64, &[u8], Value<'static>, usize); 20] = [
@@ -98,17 +100,30 @@ fn reads(bytes: &[u8], form: u64, wanted: &Value<'_>, count: usize) -> bool {
     }
 }
 
-#[test]
-fn each_form(rt: HostRuntime) {
+/// The first form in whose bytes another value is read.
+fn other_value() -> Option<u64> {
     for (form, bytes, value, count) in &FORMS {
-        assert!(rt; reads(bytes, *form, value, *count), "form {form}");
+        if !reads(bytes, *form, value, *count) {
+            return Some(*form);
+        }
     }
+    None
+}
+
+/// The first form whose number is read with another meaning.
+fn other_meaning() -> Option<u64> {
     for (form, value, count) in &MEANINGS {
-        assert!(rt;
-            reads(&[5, 0, 0, 0, 0, 0, 0, 0, 0], *form, value, *count),
-            "form {form}"
-        );
+        if !reads(&[5, 0, 0, 0, 0, 0, 0, 0, 0], *form, value, *count) {
+            return Some(*form);
+        }
     }
+    None
+}
+
+#[test]
+fn each_form(rt: HostRuntime) -> Result<(), Fail> {
+    assert_eq!(rt; other_value().or(other_meaning()), None);
+    Ok(())
 }
 
 /// A form, bytes in which it has no value, and why.
@@ -131,16 +146,29 @@ const REFUSED: [(u64, &[u8], FormFault); 12] = [
     ),
 ];
 
-#[test]
-fn each_refusal(rt: HostRuntime) {
-    for (form, bytes, fault) in &REFUSED {
-        let mut cursor = Cursor::at(bytes, 0);
-        assert!(rt;
-            matches!(read_value(&mut cursor, *form, 0), Err(found) if found == *fault),
-            "form {form}"
-        );
-        assert_eq!(rt; cursor.place(), 0);
+/// Whether the form is refused so in these bytes, and nothing read of them.
+fn refuses(bytes: &[u8], form: u64, fault: FormFault) -> bool {
+    let mut cursor = Cursor::at(bytes, 0);
+    match read_value(&mut cursor, form, 0) {
+        Ok(_) => false,
+        Err(found) => found == fault && cursor.place() == 0,
     }
+}
+
+/// The first form that is not refused so.
+fn other_refusal() -> Option<u64> {
+    for (form, bytes, fault) in &REFUSED {
+        if !refuses(bytes, *form, *fault) {
+            return Some(*form);
+        }
+    }
+    None
+}
+
+#[test]
+fn each_refusal(rt: HostRuntime) -> Result<(), Fail> {
+    assert_eq!(rt; other_refusal(), None);
+    Ok(())
 }
 
 /// The bytes of `.debug_abbrev` by clang 14.
@@ -178,26 +206,45 @@ fn last_of(specs: &[Spec]) -> (u64, u64, i64) {
     }
 }
 
-#[test]
-fn declarations_of_a_program(rt: HostRuntime) {
-    let read = read_abbrevs(rt.alloc(), &ABBREV, 0);
-    assert!(rt; read.is_ok());
-    if let Ok(table) = read {
-        for (code, tag, children, count, last) in &DECLARED {
-            let found = table.find(*code);
-            assert!(rt; found.is_some(), "code {code}");
-            if let Some(declared) = found {
-                assert_eq!(rt;
-                    (declared.code, declared.tag, declared.children),
-                    (*code, *tag, *children)
-                );
-                assert_eq!(rt; declared.specs.as_slice().len(), *count);
-                assert_eq!(rt; last_of(declared.specs.as_slice()), *last);
-            }
+/// Whether a code's declaration is that of the row.
+fn is_declared(declared: &Abbrev, row: &(u64, u64, bool, usize, (u64, u64, i64))) -> bool {
+    let (code, tag, children, count, last) = row;
+    let specs = declared.specs.as_slice();
+    declared.code == *code
+        && declared.tag == *tag
+        && declared.children == *children
+        && specs.len() == *count
+        && last_of(specs) == *last
+}
+
+/// The first code that is declared in another way, or that is declared and should not be.
+fn other_declaration(table: &Abbrevs) -> Option<u64> {
+    for row in &DECLARED {
+        match table.find(row.0) {
+            Some(declared) if is_declared(declared, row) => {}
+            _ => return Some(row.0),
         }
-        assert!(rt; table.find(14).is_none());
-        assert!(rt; table.find(0).is_none());
     }
+    for code in [14, 0] {
+        if table.find(code).is_some() {
+            return Some(code);
+        }
+    }
+    None
+}
+
+/// The first code that the program's table declares in another way.
+fn other_in_program(alloc: Global) -> Result<Option<u64>, Memory> {
+    match read_abbrevs(alloc, &ABBREV, 0) {
+        Ok(table) => Ok(other_declaration(&table)),
+        Err(_) => Err(Memory),
+    }
+}
+
+#[test]
+fn declarations_of_a_program(rt: HostRuntime) -> Result<(), Fail> {
+    assert_eq!(rt; other_in_program(rt.alloc())?, None);
+    Ok(())
 }
 
 /// Tables, an offset in them, and the tag that code 1 has there; `None` where the table is not whole.
@@ -213,16 +260,31 @@ const TABLES: [(&[u8], u32, Option<u64>); 9] = [
     (&[1, 0x11, 0, 0, 5, 0, 0, 0], 0, Some(0x11)),
 ];
 
-#[test]
-fn tables_by_their_offset(rt: HostRuntime) {
-    for (bytes, offset, wanted) in &TABLES {
-        let tag = match read_abbrevs(rt.alloc(), bytes, *offset) {
-            Ok(table) => table.find(1).map(|declared| declared.tag),
-            Err(fail) => {
-                assert!(rt; matches!(fail, Fail::Fault(BadTable)));
-                None
-            }
-        };
-        assert_eq!(rt; tag, *wanted);
+fn tag_of(table: &Abbrevs) -> Option<u64> {
+    table.find(1).map(|declared| declared.tag)
+}
+
+/// The tag that code 1 has in the table at the offset, where that is whole.
+fn tag_at(alloc: Global, bytes: &[u8], offset: u32) -> Result<Option<u64>, Memory> {
+    match read_abbrevs(alloc, bytes, offset) {
+        Ok(table) => Ok(tag_of(&table)),
+        Err(prof_bytes::Fail::Fault(BadTable)) => Ok(None),
+        Err(prof_bytes::Fail::Memory) => Err(Memory),
     }
+}
+
+/// The place of the first table in which code 1 has another tag.
+fn other_tag(alloc: Global) -> Result<Option<usize>, Memory> {
+    for (place, (bytes, offset, wanted)) in TABLES.iter().enumerate() {
+        if tag_at(alloc, bytes, *offset)? != *wanted {
+            return Ok(Some(place));
+        }
+    }
+    Ok(None)
+}
+
+#[test]
+fn tables_by_their_offset(rt: HostRuntime) -> Result<(), Fail> {
+    assert_eq!(rt; other_tag(rt.alloc())?, None);
+    Ok(())
 }

@@ -84,28 +84,33 @@ fn answer(alloc: Global, file: &[u8]) -> Result<String, Memory> {
     }
 }
 
+/// Whether a file is answered with this text.
+fn answer_is(alloc: Global, file: &[u8], wanted: &[u8]) -> Result<bool, Memory> {
+    let found = answer(alloc, file)?;
+    Ok(found.as_str().as_bytes() == wanted)
+}
+
 /// Whether the file with the changes before the mark gives the answer behind it.
 fn holds(alloc: Global, hex: &[u8], row: &[u8]) -> Result<bool, Memory> {
     let (changes, expected) = cut(row, b'>');
     let file = changed(alloc, hex, changes)?;
-    let found = answer(alloc, &file)?;
-    Ok(cut(expected, b' ').1 == found.as_str().as_bytes())
+    answer_is(alloc, &file, cut(expected, b' ').1)
 }
 
-/// The number, from 1, of the first row that does not hold, and 0 where all do.
-fn failing(alloc: Global, hex: &[u8], rows: &[u8]) -> Result<u32, Memory> {
+/// The number, from 1, of the first row that does not hold.
+fn failing(alloc: Global, hex: &[u8], rows: &[u8]) -> Result<Option<u32>, Memory> {
     let mut rows = rows;
     for number in 1..99 {
         let (row, rest) = cut(rows, b'\n');
         if row.is_empty() {
-            return Ok(0);
+            return Ok(None);
         }
         if !holds(alloc, hex, row)? {
-            return Ok(number);
+            return Ok(Some(number));
         }
         rows = rest;
     }
-    Ok(99)
+    Ok(Some(99))
 }
 
 /// Changes of single bytes, and the rule that is broken then, by the table of the rules and the order in
@@ -139,8 +144,10 @@ fn header_rows() -> &'static [u8] {
 
 #[test]
 fn the_header_is_refused(rt: HostRuntime) -> Result<(), Fail> {
-    let row = failing(rt.alloc(), files::straight(), header_rows());
-    assert_eq!(rt; row.ok().ok_or("memory")?, 0);
+    assert_eq!(rt;
+        failing(rt.alloc(), files::straight(), header_rows())?,
+        None
+    );
     Ok(())
 }
 
@@ -167,8 +174,10 @@ fn segment_rows() -> &'static [u8] {
 
 #[test]
 fn segments_are_refused(rt: HostRuntime) -> Result<(), Fail> {
-    let row = failing(rt.alloc(), files::segments(), segment_rows());
-    assert_eq!(rt; row.ok().ok_or("memory")?, 0);
+    assert_eq!(rt;
+        failing(rt.alloc(), files::segments(), segment_rows())?,
+        None
+    );
     Ok(())
 }
 
@@ -205,8 +214,7 @@ fn section_rows() -> &'static [u8] {
 
 #[test]
 fn sections_are_refused(rt: HostRuntime) -> Result<(), Fail> {
-    let row = failing(rt.alloc(), files::names(), section_rows());
-    assert_eq!(rt; row.ok().ok_or("memory")?, 0);
+    assert_eq!(rt; failing(rt.alloc(), files::names(), section_rows())?, None);
     Ok(())
 }
 
@@ -231,33 +239,50 @@ fn symbol_rows() -> &'static [u8] {
 
 #[test]
 fn symbols_are_refused(rt: HostRuntime) -> Result<(), Fail> {
-    let row = failing(rt.alloc(), files::recursive(), symbol_rows());
-    assert_eq!(rt; row.ok().ok_or("memory")?, 0);
+    assert_eq!(rt;
+        failing(rt.alloc(), files::recursive(), symbol_rows())?,
+        None
+    );
     Ok(())
 }
 
-/// Each front of the file that is shorter than its header is refused at its end.
-fn short_ones_hold(alloc: Global) -> Result<bool, Memory> {
-    let file = bytes_of(alloc, files::straight())?;
+/// Whether a front of a file is refused at its end.
+fn ends_at(alloc: Global, front: &[u8], length: usize) -> Result<bool, Memory> {
+    let expected = format!(in alloc; "NotElf {length}")?;
+    answer_is(alloc, front, expected.as_str().as_bytes())
+}
+
+/// The length of the first front of the file that is shorter than its header and not refused at its end.
+fn other_front(alloc: Global, file: &[u8]) -> Result<Option<usize>, Memory> {
     for length in 0..52usize {
-        let expected = format!(in alloc; "NotElf {length}")?;
-        if let Some(front) = file.get(..length) {
-            if answer(alloc, front)?.as_str() != expected.as_str() {
-                return Ok(false);
-            }
+        let front = file.get(..length).unwrap_or(&[]);
+        if !ends_at(alloc, front, length)? {
+            return Ok(Some(length));
         }
     }
-    Ok(true)
+    Ok(None)
+}
+
+/// The length of the first short front of the straight program that is not refused at its end.
+fn other_short_file(alloc: Global) -> Result<Option<usize>, Memory> {
+    let file = bytes_of(alloc, files::straight())?;
+    other_front(alloc, &file)
+}
+
+/// Whether a file that ends within its section headers is refused by their place.
+fn cut_sections_are_refused(alloc: Global) -> Result<bool, Memory> {
+    let file = bytes_of(alloc, files::recursive())?;
+    answer_is(alloc, file.get(..473).unwrap_or(&[]), b"HeaderPlace 32")
 }
 
 #[test]
 fn short_files_are_refused(rt: HostRuntime) -> Result<(), Fail> {
-    assert!(rt; short_ones_hold(rt.alloc()).ok().ok_or("memory")?);
-    let file = bytes_of(rt.alloc(), files::recursive())?;
-    let found = answer(rt.alloc(), file.get(..473).unwrap_or(&[]));
-    assert_eq!(rt; found.ok().ok_or("memory")?.as_str(), "HeaderPlace 32");
-    let row = failing(rt.alloc(), files::overlap(), b"> SegmentPlace 116");
-    assert_eq!(rt; row.ok().ok_or("memory")?, 0);
+    assert_eq!(rt; other_short_file(rt.alloc())?, None);
+    assert!(rt; cut_sections_are_refused(rt.alloc())?);
+    assert_eq!(rt;
+        failing(rt.alloc(), files::overlap(), b"> SegmentPlace 116")?,
+        None
+    );
     Ok(())
 }
 
@@ -268,9 +293,8 @@ fn name(out: &mut String, bytes: &[u8]) -> Result<(), AllocError> {
     out.push_str("\n")
 }
 
-/// What the image has, a line each.
-fn listed(alloc: Global, image: &Image<'_>) -> Result<String, Memory> {
-    let mut out = format!(in alloc; "entry {:x} length {}\n", image.entry(), image.length())?;
+/// Writes each segment.
+fn segments(out: &mut String, image: &Image<'_>) -> Result<(), AllocError> {
     for s in image.segments() {
         write!(
             out,
@@ -278,99 +302,49 @@ fn listed(alloc: Global, image: &Image<'_>) -> Result<String, Memory> {
             s.start, s.end, s.flags, s.offset, s.filled
         )?;
     }
-    for f in image.functions() {
-        write!(out, "{:x} {} ", f.start, f.size)?;
-        name(&mut out, f.name)?;
-    }
-    Ok(out)
+    Ok(())
 }
 
-fn sizes(alloc: Global, image: &Image<'_>) -> Result<String, Memory> {
-    let mut out = String::new(alloc);
+/// Writes each function.
+fn functions(out: &mut String, image: &Image<'_>) -> Result<(), AllocError> {
+    for f in image.functions() {
+        write!(out, "{:x} {} ", f.start, f.size)?;
+        name(out, f.name)?;
+    }
+    Ok(())
+}
+
+/// Writes the sizes of sections.
+fn sizes(out: &mut String, image: &Image<'_>) -> Result<(), AllocError> {
     let names: [&[u8]; 5] = [b".text", b".data", b".bss", b".debug_frame", b".debug_info"];
     for name in &names {
         write!(out, "{} ", image.section(name).len())?;
     }
-    Ok(out)
+    Ok(())
 }
 
 /// The functions at these addresses.
-fn functions_at(alloc: Global, image: &Image<'_>, places: &[u32]) -> Result<String, Memory> {
-    let mut out = String::new(alloc);
+fn functions_at(out: &mut String, image: &Image<'_>, places: &[u32]) -> Result<(), AllocError> {
     for pc in places {
         match image.function_at(*pc) {
-            Some(function) => name(&mut out, function.name)?,
+            Some(function) => name(out, function.name)?,
             None => out.push_str("none\n")?,
         }
     }
-    Ok(out)
-}
-
-/// The three texts of a file, one behind the other.
-fn shown(alloc: Global, hex: &[u8], changes: &[u8], places: &[u32]) -> Result<String, Memory> {
-    let file = changed(alloc, hex, changes)?;
-    if file.len() > 1 << 26 {
-        return Err(Memory);
-    }
-    let image = read_image(alloc, &file).ok().ok_or(Memory)?;
-    let mut out = listed(alloc, &image)?;
-    out.push_str(sizes(alloc, &image)?.as_str())?;
-    out.push_str(functions_at(alloc, &image, places)?.as_str())?;
-    Ok(out)
-}
-
-/// What readelf says of the headers, the sizes of the sections and the function symbols.
-#[test]
-fn files_of_gnu_ld_and_lld(rt: HostRuntime) -> Result<(), Fail> {
-    let gnu = shown(
-        rt.alloc(),
-        files::gnu(),
-        b"",
-        &[0xffff, 0x1000f, 0x10010, 0x10024],
-    );
-    assert_eq!(rt;
-        gnu.ok().ok_or("memory")?.as_str(),
-        "entry 10000 length 792\nff60 10024 5 0 c4\n10030 10050 6 c4 c\n10010 20 sum\n10000 16 _start\n36 12 0 80 0 none\n_start\nsum\nnone\n"
-    );
-    let lld = shown(rt.alloc(), files::lld(), b"", &[0x100e3, 0x100f7, 0x100f8]);
-    assert_eq!(rt;
-        lld.ok().ok_or("memory")?.as_str(),
-        "entry 100e4 length 772\n10000 100d4 4 0 d4\n100e4 1010c 5 d4 28\n1011c 1013c 6 fc c\n100e4 20 _start\n100f8 20 sum\n40 12 0 68 0 none\n_start\nsum\n"
-    );
     Ok(())
 }
 
-/// The first in symbol order holds an address, also where functions nest.
-#[test]
-fn nested_functions(rt: HostRuntime) -> Result<(), Fail> {
-    let outer = shown(
-        rt.alloc(),
-        files::recursive(),
-        b"200=48",
-        &[0x10014, 0x10030],
-    );
-    let outer = outer.ok().ok_or("memory")?;
-    assert!(rt; outer.as_str().ends_with("0 0 0 44 0 _start\nnone\n"));
-    let changes = b"196=16 200=8 212=0 216=48";
-    let inner = shown(
-        rt.alloc(),
-        files::recursive(),
-        changes,
-        &[0x1000c, 0x10014, 0x10018],
-    );
-    let inner = inner.ok().ok_or("memory")?;
-    assert!(rt; inner.as_str().ends_with("0 0 0 44 0 f\n_start\nf\n"));
-    Ok(())
+/// What the image has, a line each, and behind it the sizes and the functions at these addresses.
+fn texts(out: &mut String, image: &Image<'_>, places: &[u32]) -> Result<(), AllocError> {
+    write!(out, "entry {:x} length {}\n", image.entry(), image.length())?;
+    segments(out, image)?;
+    functions(out, image)?;
+    sizes(out, image)?;
+    functions_at(out, image, places)
 }
 
-/// Which of the ranges count: two segments that touch, and one that cannot be executed.
-fn counted(alloc: Global) -> Result<String, Memory> {
-    let file = changed(alloc, files::segments(), b"188=8 190=3 204=5")?;
-    if file.len() > 1 << 26 {
-        return Err(Memory);
-    }
-    let image = read_image(alloc, &file).ok().ok_or(Memory)?;
-    let mut out = String::new(alloc);
+/// Which of the ranges count.
+fn counts(out: &mut String, image: &Image<'_>) -> Result<(), AllocError> {
     for (low, high) in [
         (0x30000, 0x30008),
         (0x30008, 0x30018),
@@ -384,15 +358,131 @@ fn counted(alloc: Global) -> Result<String, Memory> {
         write!(out, "{} ", image.counts(low, high))?;
     }
     let far = image.counts_from(0xffff_ffff, 2);
-    write!(out, "{far} {}", image.segment_at(0x30018).is_none())?;
-    Ok(out)
+    write!(out, "{far} {}", image.segment_at(0x30018).is_none())
+}
+
+/// What is written of an image: all its texts, their end, or which ranges count.
+#[derive(Clone, Copy)]
+enum Wanted {
+    Texts(&'static str),
+    End(&'static str),
+    Counts(&'static str),
+}
+
+/// Writes what is asked of an image.
+fn written(
+    out: &mut String,
+    image: &Image<'_>,
+    places: &[u32],
+    wanted: Wanted,
+) -> Result<(), AllocError> {
+    match wanted {
+        Wanted::Texts(_) | Wanted::End(_) => texts(out, image, places),
+        Wanted::Counts(_) => counts(out, image),
+    }
+}
+
+/// Whether a text is what is wanted.
+fn is_wanted(text: &str, wanted: Wanted) -> bool {
+    match wanted {
+        Wanted::Texts(whole) | Wanted::Counts(whole) => text == whole,
+        Wanted::End(end) => text.ends_with(end),
+    }
+}
+
+/// Whether what is written of the image is what is wanted.
+fn image_shows(
+    alloc: Global,
+    image: &Image<'_>,
+    places: &[u32],
+    wanted: Wanted,
+) -> Result<bool, Memory> {
+    let mut out = String::new(alloc);
+    written(&mut out, image, places, wanted)?;
+    Ok(is_wanted(out.as_str(), wanted))
+}
+
+/// Whether what is written of the file's image is what is wanted.
+fn file_shows(alloc: Global, file: &[u8], places: &[u32], wanted: Wanted) -> Result<bool, Memory> {
+    if file.len() > 1 << 26 {
+        return Err(Memory);
+    }
+    match read_image(alloc, file) {
+        Ok(image) => image_shows(alloc, &image, places, wanted),
+        Err(_) => Err(Memory),
+    }
+}
+
+/// Whether what is written of the file with these changes is what is wanted.
+fn shows(
+    alloc: Global,
+    hex: &[u8],
+    changes: &[u8],
+    places: &[u32],
+    wanted: Wanted,
+) -> Result<bool, Memory> {
+    let file = changed(alloc, hex, changes)?;
+    file_shows(alloc, &file, places, wanted)
+}
+
+/// Whether the file of GNU ld shows what readelf says of it.
+fn gnu_shows(alloc: Global) -> Result<bool, Memory> {
+    let wanted = Wanted::Texts(
+        "entry 10000 length 792\nff60 10024 5 0 c4\n10030 10050 6 c4 c\n10010 20 sum\n10000 16 _start\n36 12 0 80 0 none\n_start\nsum\nnone\n",
+    );
+    let places = [0xffff, 0x1000f, 0x10010, 0x10024];
+    shows(alloc, files::gnu(), b"", &places, wanted)
+}
+
+/// Whether the file of lld shows what readelf says of it.
+fn lld_shows(alloc: Global) -> Result<bool, Memory> {
+    let wanted = Wanted::Texts(
+        "entry 100e4 length 772\n10000 100d4 4 0 d4\n100e4 1010c 5 d4 28\n1011c 1013c 6 fc c\n100e4 20 _start\n100f8 20 sum\n40 12 0 68 0 none\n_start\nsum\n",
+    );
+    let places = [0x100e3, 0x100f7, 0x100f8];
+    shows(alloc, files::lld(), b"", &places, wanted)
+}
+
+/// What readelf says of the headers, the sizes of the sections and the function symbols.
+#[test]
+fn files_of_gnu_ld_and_lld(rt: HostRuntime) -> Result<(), Fail> {
+    assert!(rt; gnu_shows(rt.alloc())?);
+    assert!(rt; lld_shows(rt.alloc())?);
+    Ok(())
+}
+
+/// Whether the addresses in the outer function alone, and behind both, have their functions.
+fn outer_shows(alloc: Global) -> Result<bool, Memory> {
+    let wanted = Wanted::End("0 0 0 44 0 _start\nnone\n");
+    let places = [0x10014, 0x10030];
+    shows(alloc, files::recursive(), b"200=48", &places, wanted)
+}
+
+/// Whether the addresses before, in and behind the inner function have their functions.
+fn inner_shows(alloc: Global) -> Result<bool, Memory> {
+    let changes = b"196=16 200=8 212=0 216=48";
+    let wanted = Wanted::End("0 0 0 44 0 f\n_start\nf\n");
+    let places = [0x1000c, 0x10014, 0x10018];
+    shows(alloc, files::recursive(), changes, &places, wanted)
+}
+
+/// The first in symbol order holds an address, also where functions nest.
+#[test]
+fn nested_functions(rt: HostRuntime) -> Result<(), Fail> {
+    assert!(rt; outer_shows(rt.alloc())?);
+    assert!(rt; inner_shows(rt.alloc())?);
+    Ok(())
+}
+
+/// Whether the ranges count that should: of two segments that touch, and of one that cannot be executed.
+fn counted(alloc: Global) -> Result<bool, Memory> {
+    let changes = b"188=8 190=3 204=5";
+    let wanted = Wanted::Counts("true true false false false false false false false true");
+    shows(alloc, files::segments(), changes, &[], wanted)
 }
 
 #[test]
 fn ranges_that_count(rt: HostRuntime) -> Result<(), Fail> {
-    assert_eq!(rt;
-        counted(rt.alloc()).ok().ok_or("memory")?.as_str(),
-        "true true false false false false false false false true"
-    );
+    assert!(rt; counted(rt.alloc())?);
     Ok(())
 }
