@@ -8,6 +8,3 @@
 mod ranges;
 
 pub use ranges::{AddressRange, FirstRange};
-
-#[cfg(test)]
-mod tests;

@@ -20,6 +20,3 @@ mod rules;
 
 pub use frames::{FrameFault, FrameTable, read_frames};
 pub use rules::{Cfa, Rule, Rules};
-
-#[cfg(test)]
-mod tests;

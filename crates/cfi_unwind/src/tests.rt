@@ -1,311 +1,68 @@
-ghost use Rattle.std.specs.Prelude.{◌==◌, ◌||◌, if◌then◌else◌, nat_lt, find, option_map, Some, None};
-
-use super::*;
-use cfi_table::{FrameTable, read_frames};
-use elf_image::{Image, read_image};
-use prof_bytes::{Memory, put_u32};
-use scope_types::{End, Look, PartialCause, RawPath, Unwind};
+//! For which addresses a step is made ready. No contract speaks of it, since no path depends on it.
+use crate::index::Index;
+use cfi_table::read_frames;
+use elf_image::read_image;
 use std::alloc::Global;
 use std::test::Fail;
 
-mod causes;
-mod programs;
-mod regions;
-mod steps;
-
-use programs::{LAST_CALL, RECURSION};
-
-fn digit(letter: u8) -> u8 {
-    match letter {
-        b'0'..=b'9' => letter - b'0',
-        b'a'..=b'f' => letter - b'a' + 10,
-        _ => 0,
-    }
-}
-
-/// The bytes that two hexadecimal digits each stand for.
-fn bytes_of(alloc: Global, hex: &[u8]) -> Result<Vec<u8>, Memory> {
-    let mut bytes = Vec::new(alloc);
-    let mut high = None;
-    for letter in hex {
-        match high {
-            None => high = Some(digit(*letter)),
-            Some(first) => {
-                bytes.push((first % 16) * 16 + digit(*letter) % 16)?;
-                high = None;
-            }
-        }
-    }
-    Ok(bytes)
-}
-
-/// A program's bytes, of which some are others.
-fn program(alloc: Global, hex: &[u8], changes: &[(usize, u8)]) -> Result<Vec<u8>, Memory> {
-    let mut file = bytes_of(alloc, hex)?;
-    for (place, value) in changes {
-        if let Some(byte) = file.get_mut(*place) {
-            *byte = *value;
-        }
-    }
-    Ok(file)
-}
-
-/// The image of a program that can be read.
-fn image_of(alloc: Global, file: &[u8]) -> Result<Image<'_>, Memory> {
-    if file.len() > 1 << 26 {
-        return Err(Memory);
-    }
-    match read_image(alloc, file) {
-        Ok(image) => Ok(image),
-        Err(_) => Err(Memory),
-    }
-}
-
-/// The frames of a section that can be read.
-fn table_of(alloc: Global, section: &[u8], image: &Image<'_>) -> Result<FrameTable, Memory> {
-    if section.len() >= 1 << 31 {
-        return Err(Memory);
-    }
-    match read_frames(alloc, section, image) {
-        Ok(table) => Ok(table),
-        Err(_) => Err(Memory),
-    }
-}
-
-/// Memory in which some words can be loaded.
-#[derive(Clone, Copy)]
-struct Words<'a> {
-    words: &'a [(u32, u32)],
-}
-
-impl Look for Words<'_> {
-    ghost words = { λ memory at. option_map (λ w. w.1) (find (λ w. w.0 == at) memory.words.now) };
-
-    fn word(&self, at: u32) -> Option<u32> {
-        match self.words.iter().find(|w| w.0 == at) {
-            Some(word) => Some(word.1),
-            None => None,
-        }
-    }
-}
-
-/// A stack in which each call returns into `f`, but the outermost, which returns into `_start`.
-#[derive(Clone, Copy)]
-struct Recursion;
-
-impl Look for Recursion {
-    ghost words = { λ _ at. if nat_lt at 0xf0080000 || nat_lt 0xf00fffec at then None else if at == 0xf00fffec then Some 0x10008 else Some 0x10024 };
-
-    fn word(&self, at: u32) -> Option<u32> {
-        if at < 0xf008_0000 || 0xf00f_ffec < at {
-            return None;
-        }
-        if at == 0xf00f_ffec {
-            Some(0x1_0008)
-        } else {
-            Some(0x1_0024)
-        }
-    }
-}
-
-/// Registers x0 to x31, of which some have a value.
-fn registers(values: &[(usize, u32)]) -> [u32; 32] {
-    let mut registers = [0; 32];
-    for (number, value) in values {
-        if let Some(register) = registers.get_mut(*number) {
-            *register = *value;
-        }
-    }
-    registers
-}
-
-/// Whether a path ends so, and has frames of these pcs and no others.
-fn is_path(path: &RawPath, end: End, pcs: &[u32]) -> bool {
-    if path.end() != end || path.frames().len() != pcs.len() {
-        return false;
-    }
-    for (frame, pc) in path.frames().iter().zip(pcs) {
-        if frame.pc != *pc {
-            return false;
-        }
-    }
-    true
-}
-
-/// What is asked of the unwinder of a program.
-#[derive(Clone, Copy)]
-enum Unwinding {
-    RecursionPaths,
-    Depths,
-    LastCall,
-    OutsideFrames,
-    Region(u32, u32),
-}
-
-/// What is asked of a program.
-#[derive(Clone, Copy)]
-enum Question {
-    OfUnwinder(Unwinding),
-    Ends,
-    Callers,
-    Ready(bool),
-    StepsToCallers,
-    StepsToEnds,
-}
-
-/// The place of the first row that is otherwise than a table says.
-fn other_in_unwinder(
-    unwinder: &Unwinder<'_>,
-    unwinding: Unwinding,
-) -> Result<Option<usize>, Memory> {
-    match unwinding {
-        Unwinding::RecursionPaths => other_recursion_path(unwinder),
-        Unwinding::Depths => other_depth(unwinder),
-        Unwinding::LastCall => other_last_call(unwinder),
-        Unwinding::OutsideFrames => causes::other_outside_frames(unwinder),
-        Unwinding::Region(start, end) => Ok(first_unless(unwinder.entry_region() == (start, end))),
-    }
-}
-
-/// The place of the first row that is otherwise than a table says, by the unwinder of a program.
-fn other_by_unwinder(
-    alloc: Global,
-    image: &Image<'_>,
-    unwinding: Unwinding,
-) -> Result<Option<usize>, Memory> {
-    let table = table_of(alloc, image.section(b".debug_frame"), image)?;
-    other_in_unwinder(&Unwinder::of(alloc, &table, image), unwinding)
-}
-
-/// The place of the first row that is otherwise than a table says, in a program's image.
-fn other_in_image(
-    alloc: Global,
-    image: &Image<'_>,
-    question: Question,
-) -> Result<Option<usize>, Memory> {
-    match question {
-        Question::OfUnwinder(unwinding) => other_by_unwinder(alloc, image, unwinding),
-        Question::Ends => causes::other_end(alloc, image),
-        Question::Callers => causes::other_caller(alloc, image),
-        Question::Ready(is_there) => steps::other_ready(alloc, image, is_there),
-        Question::StepsToCallers => steps::other_step_to_caller(alloc, image),
-        Question::StepsToEnds => steps::other_step_to_end(alloc, image),
-    }
-}
-
-/// The place of the first row that is otherwise than a table says, in a program of which some bytes are
-/// others.
-fn other_row(
-    alloc: Global,
-    hex: &[u8],
-    changes: &[(usize, u8)],
-    question: Question,
-) -> Result<Option<usize>, Memory> {
-    let file = program(alloc, hex, changes)?;
-    let image = image_of(alloc, &file)?;
-    other_in_image(alloc, &image, question)
-}
-
-/// The same in a program as it is, of its unwinder.
-fn other_unwinding(
-    alloc: Global,
-    hex: &[u8],
-    unwinding: Unwinding,
-) -> Result<Option<usize>, Memory> {
-    other_row(alloc, hex, &[], Question::OfUnwinder(unwinding))
-}
-
-/// The first place, unless it holds.
-fn first_unless(holds: bool) -> Option<usize> {
-    if holds { None } else { Some(0) }
-}
-
-/// Instructions of the recursion: their addresses, x1 and x2 before them, and their paths. The stack
-/// pointer is 0xf00ffff0 at the start.
-const RECURSION_PATHS: [(u32, u32, u32, &[u32]); 7] = [
-    (0x1_0000, 0, 0xf00f_fff0, &[0x1_0000]),
-    (0x1_0004, 0, 0xf00f_fff0, &[0x1_0004]),
-    // Before the stack pointer moves, right after it, and after x1 is saved.
-    (0x1_0010, 0x1_0008, 0xf00f_fff0, &[0x1_0010, 0x1_0004]),
-    (0x1_0014, 0x1_0008, 0xf00f_ffe0, &[0x1_0014, 0x1_0004]),
-    (0x1_0018, 0x1_0008, 0xf00f_ffe0, &[0x1_0018, 0x1_0004]),
-    (
-        0x1_0024,
-        0x1_0024,
-        0xf00f_ff90,
-        &[
-            0x1_0024, 0x1_0020, 0x1_0020, 0x1_0020, 0x1_0020, 0x1_0020, 0x1_0004,
-        ],
-    ),
-    // x1 is loaded, and the stack pointer is back.
-    (0x1_002c, 0x1_0008, 0xf00f_fff0, &[0x1_002c, 0x1_0004]),
+/// A program with 48 bytes of zeros from 0x10000 on, executable, and the entry at 0x10000.
+const PROGRAM: [u8; 84] = [
+    127, 69, 76, 70, 1, 1, 1, 0, 0, 0, 0, 0, 0, 0, 0, 0, 2, 0, 243, 0, 1, 0, 0, 0, 0, 0, 1, 0, 52,
+    0, 0, 0, 0, 0, 0, 0, 0, 0, 0, 0, 52, 0, 32, 0, 1, 0, 40, 0, 0, 0, 0, 0, 1, 0, 0, 0, 84, 0, 0,
+    0, 0, 0, 1, 0, 0, 0, 1, 0, 0, 0, 0, 0, 48, 0, 0, 0, 5, 0, 0, 0, 4, 0, 0, 0,
 ];
 
-/// The place of the first of these instructions that has another path.
-fn other_recursion_path(unwinder: &Unwinder<'_>) -> Result<Option<usize>, Memory> {
-    for (place, (pc, x1, x2, wanted)) in RECURSION_PATHS.iter().enumerate() {
-        let path = unwinder.path(*pc, &registers(&[(1, *x1), (2, *x2)]), &Recursion)?;
-        if !is_path(&path, End::Whole, wanted) {
-            return Ok(Some(place));
-        }
-    }
-    Ok(None)
+/// What GNU as makes for a procedure from 0x10010 up to 0x10030 that moves the stack pointer down by 16
+/// and saves x1.
+fn frames() -> &'static [u8] {
+    b"\x0c\0\0\0\xff\xff\xff\xff\x03\0\x01\x7c\x01\x0c\x02\0\
+    \x18\0\0\0\0\0\0\0\x10\0\x01\0\x20\0\0\0\x44\x0e\x10\x44\x81\x01\x50\xc1\x44\x0e\0\0"
 }
 
-#[test]
-fn recursion_is_unwound_at_each_of_its_instructions(rt: HostRuntime) -> Result<(), Fail> {
-    let other = other_unwinding(rt.alloc(), RECURSION, Unwinding::RecursionPaths)?;
-    assert_eq!(rt; other, None);
-    Ok(())
-}
-
-/// How many calls of `f` there are, and the path: how many frames, and how it ends.
-const DEPTHS: [(u32, usize, End); 5] = [
-    (1, 2, End::Whole),
-    (510, 511, End::Whole),
-    (511, 512, End::Whole),
-    (512, 512, End::Partial(PartialCause::Depth)),
-    (600, 512, End::Partial(PartialCause::Depth)),
+/// A byte of the program that is another, an address, and whether a step is ready there.
+const READY: [(usize, u8, u32, bool); 12] = [
+    (76, 5, 0, false),
+    (76, 5, 0xfffc, false),
+    (76, 5, 0x1_0000, true),
+    (76, 5, 0x1_0002, false),
+    (76, 5, 0x1_0010, true),
+    (76, 5, 0x1_002c, true),
+    (76, 5, 0x1_002f, false),
+    (76, 5, 0x1_0030, false),
+    (76, 5, 0xffff_fffc, false),
+    // The entry lies in no segment.
+    (25, 1, 0x1_0010, true),
+    // The segment is not executable.
+    (76, 4, 0x1_0000, false),
+    (76, 4, 0x1_0010, false),
 ];
 
-/// The place of the first of these numbers of calls that has another path.
-fn other_depth(unwinder: &Unwinder<'_>) -> Result<Option<usize>, Memory> {
-    for (place, (calls, frames, end)) in DEPTHS.iter().enumerate() {
-        let x2 = 0xf00f_fff0u32.wrapping_sub(calls.wrapping_mul(16));
-        let path = unwinder.path(0x1_0024, &registers(&[(1, 0x1_0024), (2, x2)]), &Recursion)?;
-        if path.end() != *end || path.frames().len() != *frames {
-            return Ok(Some(place));
+/// Whether a step is ready at an address, in a program that can be read.
+fn is_ready(alloc: Global, file: &[u8], section: &[u8], pc: u32) -> Option<bool> {
+    if file.len() > 1 << 26 || section.len() >= 1 << 31 {
+        return None;
+    }
+    let image = read_image(alloc, file).ok()?;
+    let table = read_frames(alloc, section, &image).ok()?;
+    Some(Index::of(alloc, &table, &image).at(pc).is_some())
+}
+
+/// The first address that is otherwise, by its place in the table.
+fn other_address(alloc: Global) -> Option<usize> {
+    for (place, (at, byte, pc, ready)) in READY.iter().enumerate() {
+        let mut file = PROGRAM;
+        if let Some(changed) = file.get_mut(*at) {
+            *changed = *byte;
+        }
+        if is_ready(alloc, &file, frames(), *pc) != Some(*ready) {
+            return Some(place);
         }
     }
-    Ok(None)
+    None
 }
 
 #[test]
-fn a_path_has_512_frames_at_most(rt: HostRuntime) -> Result<(), Fail> {
-    let other = other_unwinding(rt.alloc(), RECURSION, Unwinding::Depths)?;
-    assert_eq!(rt; other, None);
-    Ok(())
-}
-
-/// The first place, unless the path of `h` goes through the last instruction of `g`.
-fn other_last_call(unwinder: &Unwinder<'_>) -> Result<Option<usize>, Memory> {
-    let memory = Words {
-        words: &[(0xf00f_ffec, 0x1_0004)],
-    };
-    let path = unwinder.path(
-        0x1_0018,
-        &registers(&[(1, 0x1_0018), (2, 0xf00f_ffe0)]),
-        &memory,
-    )?;
-    let wanted = [0x1_0018, 0x1_0014, 0x1_0000];
-    Ok(first_unless(is_path(&path, End::Whole, &wanted)))
-}
-
-#[test]
-fn a_call_that_is_a_procedures_last_instruction_is_looked_up_there(
-    rt: HostRuntime,
-) -> Result<(), Fail> {
-    let other = other_unwinding(rt.alloc(), LAST_CALL, Unwinding::LastCall)?;
-    assert_eq!(rt; other, None);
+fn steps_are_ready_in_an_executable_segment(rt: HostRuntime) -> Result<(), Fail> {
+    assert_eq!(rt; other_address(rt.alloc()), None);
     Ok(())
 }

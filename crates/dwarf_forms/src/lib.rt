@@ -18,6 +18,3 @@ pub use section::{cursor_at, text_in, wrapped};
 pub use shape::is_value_form;
 pub use table::read_abbrevs;
 pub use value::{FormFault, Value};
-
-#[cfg(test)]
-mod tests;

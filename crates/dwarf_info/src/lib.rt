@@ -25,6 +25,3 @@ pub use entry::{InfoEntry, Unit};
 pub use fault::InfoFault;
 pub use info::{Info, read_info};
 pub use pairs::Ranges;
-
-#[cfg(test)]
-mod tests;

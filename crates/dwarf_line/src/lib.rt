@@ -18,6 +18,3 @@ mod tables;
 
 pub use fault::LineFault;
 pub use lines::{LineTable, read_lines};
-
-#[cfg(test)]
-mod tests;

@@ -23,6 +23,3 @@ pub use debug_parts::DebugParts;
 pub use fault::{ElfFault, ElfRule};
 pub use image::{Image, read_image};
 pub use part::{Function, Segment};
-
-#[cfg(test)]
-mod tests;

@@ -24,6 +24,3 @@ mod words;
 pub use call::hpc_main;
 pub use main_job::{Job, profile};
 pub use status::{FileKind, InputFault, Made, Part, Place, Status};
-
-#[cfg(test)]
-mod tests;

@@ -18,6 +18,3 @@ pub use fail::{Fail, Memory};
 pub use listed::Listed;
 pub use number::{put_u32, put_u64};
 pub use text::Text;
-
-#[cfg(test)]
-mod tests;

@@ -26,8 +26,3 @@ pub use shelf::{Fetch, Put, Shelf};
 pub use sink::Sink;
 pub use streams::{ErrSink, OutSink};
 pub use sure::{SureShelf, SureSink};
-
-#[cfg(test)]
-mod edge_tests;
-#[cfg(test)]
-mod tests;

@@ -23,6 +23,3 @@ pub use execute::step;
 pub use hart::Hart;
 pub use outcome::{Cause, Stepped};
 pub use space::Space;
-
-#[cfg(test)]
-mod tests;

@@ -19,6 +19,3 @@ pub use hart::HartEnd;
 pub use machine::{Due, Machine, Moment};
 pub use numerals::number;
 pub use schedule::{Schedule, ScheduleFault, Slice, read_schedule};
-
-#[cfg(test)]
-mod tests;

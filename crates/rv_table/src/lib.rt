@@ -11,6 +11,3 @@ mod rows;
 
 pub use inst::{Inst, Op};
 pub use rows::decode;
-
-#[cfg(test)]
-mod tests;

@@ -10,6 +10,3 @@
 mod clock;
 
 pub use clock::{Sample, Samples, TooManySamples};
-
-#[cfg(test)]
-mod tests;

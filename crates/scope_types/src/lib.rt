@@ -17,6 +17,3 @@ pub use hash::key;
 pub use look::{Look, Unwind};
 pub use path::{Entry, ScopePath};
 pub use scope::{LineId, ProcId, RootKind, Scope, compare, compare_paths, order_laws};
-
-#[cfg(test)]
-mod tests;

@@ -1,75 +1,11 @@
-use super::*;
+use crate::rows::{bytes_of, changed, cut};
+use elf_image::{Image, read_image};
 use prof_bytes::Memory;
 use std::alloc::{AllocError, Global};
 use std::fmt::Write;
 use std::test::Fail;
 
 mod files;
-
-fn digit(letter: u8) -> u8 {
-    match letter {
-        b'0'..=b'9' => letter - b'0',
-        b'a'..=b'f' => letter - b'a' + 10,
-        _ => 0,
-    }
-}
-
-/// The bytes that two hexadecimal digits each stand for.
-fn bytes_of(alloc: Global, hex: &[u8]) -> Result<Vec<u8>, AllocError> {
-    let mut bytes = Vec::new(alloc);
-    let mut high = None;
-    for letter in hex {
-        match high {
-            None => high = Some(digit(*letter)),
-            Some(first) => {
-                bytes.push((first % 16) * 16 + digit(*letter) % 16)?;
-                high = None;
-            }
-        }
-    }
-    Ok(bytes)
-}
-
-fn number(digits: &[u8]) -> usize {
-    let mut number = 0usize;
-    for digit in digits {
-        number = number
-            .wrapping_mul(10)
-            .wrapping_add(usize::from(digit.wrapping_sub(b'0')));
-    }
-    number
-}
-
-/// What stands before the mark and what behind it.
-fn cut(text: &[u8], mark: u8) -> (&[u8], &[u8]) {
-    for (place, byte) in text.iter().enumerate() {
-        if *byte == mark {
-            return (&text[..place], &text[place + 1..]);
-        }
-    }
-    (text, &[])
-}
-
-/// Changes one byte, as `36=1` says.
-fn change(file: &mut Vec<u8>, word: &[u8]) {
-    let (place, value) = cut(word, b'=');
-    if let Some(byte) = file.get_mut(number(place)) {
-        *byte = (number(value) % 256) as u8;
-    }
-}
-
-fn changed(alloc: Global, hex: &[u8], words: &[u8]) -> Result<Vec<u8>, AllocError> {
-    let mut file = bytes_of(alloc, hex)?;
-    let mut words = words;
-    for _ in 0..9 {
-        let (word, rest) = cut(words, b' ');
-        if !word.is_empty() {
-            change(&mut file, word);
-        }
-        words = rest;
-    }
-    Ok(file)
-}
 
 fn answer(alloc: Global, file: &[u8]) -> Result<String, Memory> {
     if file.len() > 1 << 26 {

@@ -1,21 +1,14 @@
 ghost use Rattle.std.specs.Prelude.{[], ◌∷◌, slice_index};
 ghost use Rattle.scope_types.specs.declared.frame.End.TheVariants.{Whole};
 
-use super::*;
+use crate::guests::{guest, schedule};
 use elf_image::read_image;
-use prof_bytes::{Memory, put_u32};
-use rv_run::{Machine, Schedule, read_schedule};
+use prof_bytes::Memory;
+use rv_run::Machine;
+use sample_clock::{Sample, Samples};
 use scope_types::{End, Frame, Look, RawPath, Unwind};
 use std::alloc::Global;
 use std::test::Fail as Failed;
-
-/// An ELF header and the first words of one program header, by the System V ABI: a program whose
-/// code is loaded from offset 84 at 0x10000.
-const HEAD: [u8; 68] = [
-    127, 69, 76, 70, 1, 1, 1, 0, 0, 0, 0, 0, 0, 0, 0, 0, 2, 0, 243, 0, 1, 0, 0, 0, 0, 0, 1, 0, 52,
-    0, 0, 0, 0, 0, 0, 0, 0, 0, 0, 0, 52, 0, 32, 0, 1, 0, 40, 0, 0, 0, 0, 0, 1, 0, 0, 0, 84, 0, 0,
-    0, 0, 0, 1, 0, 0, 0, 1, 0,
-];
 
 /// A path of two frames: the pc, and what x10 holds.
 #[derive(Drop)]
@@ -31,31 +24,6 @@ impl Unwind for Probe {
         frames.push(Frame { pc })?;
         frames.push(Frame { pc: regs[10] })?;
         Ok(RawPath::of(End::Whole, frames))
-    }
-}
-
-/// The file of a program of these words.
-fn guest(alloc: Global, words: &[u32]) -> Result<Vec<u8>, Memory> {
-    let mut file = Vec::new(alloc);
-    file.extend_from_slice(&HEAD)?;
-    let code = u32::try_from(words.len()).unwrap_or(0).wrapping_mul(4);
-    for word in [code, code, 5, 4] {
-        put_u32(&mut file, word)?;
-    }
-    for word in words {
-        put_u32(&mut file, *word)?;
-    }
-    Ok(file)
-}
-
-/// The schedule that a text tells; a text that is refused is an error.
-fn schedule(alloc: Global, text: &[u8]) -> Result<Schedule, Memory> {
-    if text.len() > 1 << 22 {
-        return Err(Memory);
-    }
-    match read_schedule(alloc, text) {
-        Ok(told) => Ok(told),
-        Err(_) => Err(Memory),
     }
 }
 

@@ -1,7 +1,8 @@
 //! The rows of two programs by gcc and clang are those that `llvm-dwarfdump --debug-line` prints, and agree
 //! with `addr2line`, at every instruction. Other tables are put together by hand after DWARF 5, section 6.2.
 //! A text stands for bytes, two hexadecimal digits each, or has a case on each line.
-use super::*;
+use crate::rows::{bytes_of, cut, number};
+use dwarf_line::{LineTable, read_lines};
 use elf_image::{DebugParts, Image, read_image};
 use scope_types::LineId;
 use std::alloc::{AllocError, Global};
@@ -11,49 +12,6 @@ mod by_hand;
 mod clang_lines;
 mod gcc_lines;
 mod worked;
-
-fn digit(letter: u8) -> u8 {
-    match letter {
-        b'0'..=b'9' => letter - b'0',
-        b'a'..=b'f' => letter - b'a' + 10,
-        _ => 0,
-    }
-}
-
-fn bytes_of(alloc: Global, hex: &[u8]) -> Result<Vec<u8>, AllocError> {
-    let mut bytes = Vec::new(alloc);
-    let mut high = None;
-    for letter in hex {
-        match high {
-            None => high = Some(digit(*letter)),
-            Some(first) => {
-                bytes.push((first % 16) * 16 + digit(*letter) % 16)?;
-                high = None;
-            }
-        }
-    }
-    Ok(bytes)
-}
-
-fn number(digits: &[u8], base: u32) -> u32 {
-    let mut number = 0u32;
-    for letter in digits {
-        number = number
-            .wrapping_mul(base)
-            .wrapping_add(u32::from(digit(*letter)));
-    }
-    number
-}
-
-/// What stands before the mark and what behind it.
-fn cut(text: &[u8], mark: u8) -> (&[u8], &[u8]) {
-    for (place, byte) in text.iter().enumerate() {
-        if *byte == mark {
-            return (&text[..place], &text[place + 1..]);
-        }
-    }
-    (text, &[])
-}
 
 fn parts<'a>(str_bytes: &'a [u8], line_str: &'a [u8]) -> DebugParts<'a> {
     DebugParts {

@@ -6,7 +6,7 @@ use PartialCause::{Expression, NoCfa, NoFde, Unmapped};
 
 /// One CIE, with code alignment 1, data alignment -4 and return register x1, with these instructions,
 /// and one FDE, for the addresses from 0x10010 up to 0x10030, without any.
-pub(super) fn section_of(alloc: Global, instructions: &[u8]) -> Result<Vec<u8>, Memory> {
+fn section_of(alloc: Global, instructions: &[u8]) -> Result<Vec<u8>, Memory> {
     let mut bytes = Vec::new(alloc);
     put_u32(
         &mut bytes,
@@ -37,7 +37,7 @@ fn path_in(
 }
 
 /// Instructions, and how the path of one frame ends, where x1 is 0x10008 and x2 is 0xf00ffff0.
-pub(super) const ENDS: [(&str, &[u8], End); 17] = [
+const ENDS: [(&str, &[u8], End); 17] = [
     ("no return address", &[0x0c, 2, 0, 0x07, 1], Whole),
     ("none, before an expression", &[0x07, 1, 0x10, 5, 0], Whole),
     ("none, before a missing CFA", &[0x07, 1], Whole),
@@ -122,7 +122,7 @@ fn a_path_ends_by_the_first_test_that_holds(rt: HostRuntime) -> Result<(), Fail>
 
 /// Instructions, registers and words of memory; how the path of the instruction at 0x10010 ends, and its
 /// frames.
-pub(super) const CALLERS: [(&str, &[u8], &[(usize, u32)], &[(u32, u32)], End, &[u32]); 13] = [
+const CALLERS: [(&str, &[u8], &[(usize, u32)], &[(u32, u32)], End, &[u32]); 13] = [
     (
         "x1 keeps its value, and a rule of x40 is passed over",
         &[0x0c, 2, 0, 0x10, 40, 0],

@@ -1,6 +1,7 @@
-use super::*;
+use crate::guests::before_code;
 use elf_image::read_image;
 use prof_bytes::{Memory, put_u32};
+use rv_hart::{Cause, Hart, Space, Stepped, step};
 use scope_types::Look;
 use std::alloc::Global;
 use std::test::Fail;
@@ -13,27 +14,9 @@ use spaces::{
 };
 use tables::{BRANCHES, COMPUTED, LOADS, PATTERN, STORES};
 
-/// An ELF header and the first words of one program header, by the System V ABI: a program whose
-/// code is loaded from offset 84 at 0x10000.
-const HEAD: [u8; 68] = [
-    127, 69, 76, 70, 1, 1, 1, 0, 0, 0, 0, 0, 0, 0, 0, 0, 2, 0, 243, 0, 1, 0, 0, 0, 0, 0, 1, 0, 52,
-    0, 0, 0, 0, 0, 0, 0, 0, 0, 0, 0, 52, 0, 32, 0, 1, 0, 40, 0, 0, 0, 0, 0, 1, 0, 0, 0, 84, 0, 0,
-    0, 0, 0, 1, 0, 0, 0, 1, 0,
-];
-
 const CODE: u32 = 0x1_0000;
 
 const STACK: u32 = 0xf008_0000;
-
-/// The file of a program of so many bytes of code, up to where the code begins.
-fn program(alloc: Global, code: u32) -> Result<Vec<u8>, Memory> {
-    let mut file = Vec::new(alloc);
-    file.extend_from_slice(&HEAD)?;
-    for word in [code, code, 5, 4] {
-        put_u32(&mut file, word)?;
-    }
-    Ok(file)
-}
 
 /// A hart at this pc with these in x5 and x6, and 0x55aa55aa in x7.
 fn hart_at(pc: u32, x5: u32, x6: u32) -> Hart {
@@ -86,7 +69,7 @@ fn unmet_in(space: &mut Space, trial: Trial) -> Result<Option<u32>, Memory> {
 }
 
 fn computed_program(alloc: Global) -> Result<Vec<u8>, Memory> {
-    let mut file = program(alloc, 640)?;
+    let mut file = before_code(alloc, 640)?;
     for (word, _, _, _) in &COMPUTED {
         put_u32(&mut file, *word)?;
     }
@@ -117,7 +100,7 @@ fn computed_results(rt: HostRuntime) -> Result<(), Fail> {
 }
 
 fn branches_program(alloc: Global) -> Result<Vec<u8>, Memory> {
-    let mut file = program(alloc, 120)?;
+    let mut file = before_code(alloc, 120)?;
     for (word, _, _, _) in &BRANCHES {
         put_u32(&mut file, *word)?;
     }
@@ -156,7 +139,7 @@ fn branches_both_ways(rt: HostRuntime) -> Result<(), Fail> {
 }
 
 fn loads_and_stores_program(alloc: Global) -> Result<Vec<u8>, Memory> {
-    let mut file = program(alloc, 164)?;
+    let mut file = before_code(alloc, 164)?;
     for (word, _) in &LOADS {
         put_u32(&mut file, *word)?;
     }
@@ -271,7 +254,7 @@ const UNCHANGED: [(u32, u32, Stepped); 13] = [
 const INTO_X0: [u32; 4] = [0x0062_8033, 0x1234_5037, 0x0012_8013, 0x0262_8033];
 
 fn jumps_program(alloc: Global) -> Result<Vec<u8>, Memory> {
-    let mut file = program(alloc, 40)?;
+    let mut file = before_code(alloc, 40)?;
     for (word, _, _) in &JUMPS {
         put_u32(&mut file, *word)?;
     }
@@ -322,7 +305,7 @@ fn jumps(rt: HostRuntime) -> Result<(), Fail> {
 }
 
 fn unchanged_program(alloc: Global) -> Result<Vec<u8>, Memory> {
-    let mut file = program(alloc, 68)?;
+    let mut file = before_code(alloc, 68)?;
     for (word, _, _) in &UNCHANGED {
         put_u32(&mut file, *word)?;
     }
@@ -397,7 +380,7 @@ fn nothing_changes(rt: HostRuntime) -> Result<(), Fail> {
 
 /// Nineteen times `addi x10, x10, 1`, and an exit.
 fn counting(alloc: Global) -> Result<Vec<u8>, Memory> {
-    let mut file = program(alloc, 84)?;
+    let mut file = before_code(alloc, 84)?;
     for _ in 0..19 {
         put_u32(&mut file, 0x0015_0513)?;
     }

@@ -1,7 +1,8 @@
 //! Two programs by gcc and clang are compared with what `llvm-dwarfdump --debug-info` prints of them; the
 //! numbers of files and lines of calls are those of `readelf --debug-dump=info`. A worked program, faults
 //! and absences are small units put together by hand after DWARF 5, chapter 7.
-use super::*;
+use crate::rows::digit;
+use dwarf_info::{Info, InfoFault, read_info};
 use elf_image::DebugParts;
 use std::alloc::{AllocError, Global};
 use std::test::Fail;
@@ -165,10 +166,10 @@ fn part(alloc: Global, text: &[u8], letter: u8) -> Result<Vec<u8>, AllocError> {
         match *byte {
             b'A'..=b'Z' => here = *byte == letter,
             b' ' => {}
-            digit if here => match high {
-                None => high = Some(digit_of(digit)),
+            letter if here => match high {
+                None => high = Some(digit(letter)),
                 Some(first) => {
-                    out.push(first.wrapping_mul(16).wrapping_add(digit_of(digit)))?;
+                    out.push(first.wrapping_mul(16).wrapping_add(digit(letter)))?;
                     high = None;
                 }
             },
@@ -176,14 +177,6 @@ fn part(alloc: Global, text: &[u8], letter: u8) -> Result<Vec<u8>, AllocError> {
         }
     }
     Ok(out)
-}
-
-fn digit_of(byte: u8) -> u8 {
-    match byte {
-        b'0'..=b'9' => byte - b'0',
-        b'a'..=b'f' => byte - b'a' + 10,
-        _ => 0,
-    }
 }
 
 /// The last entry is what the case says.

@@ -1,4 +1,5 @@
-use super::*;
+use crate::rows::{bytes_of, changed, cut, number};
+use cfi_table::{Cfa, FrameFault, FrameTable, Rule, read_frames};
 use elf_image::{Image, read_image};
 use prof_bytes::Memory;
 use std::alloc::{AllocError, Global};
@@ -12,71 +13,6 @@ fn program() -> &'static [u8] {
     b"\
     7f454c460101010000000000000000000200f300010000000000010034000000000000000000000034002000\
     01002800000000000100000054000000000001000000010000000000001000000500000004000000"
-}
-
-fn digit(letter: u8) -> u8 {
-    match letter {
-        b'0'..=b'9' => letter - b'0',
-        b'a'..=b'f' => letter - b'a' + 10,
-        _ => 0,
-    }
-}
-
-/// The bytes that two hexadecimal digits each stand for.
-fn bytes_of(alloc: Global, hex: &[u8]) -> Result<Vec<u8>, AllocError> {
-    let mut bytes = Vec::new(alloc);
-    let mut high = None;
-    for letter in hex {
-        match high {
-            None => high = Some(digit(*letter)),
-            Some(first) => {
-                bytes.push((first % 16) * 16 + digit(*letter) % 16)?;
-                high = None;
-            }
-        }
-    }
-    Ok(bytes)
-}
-
-fn number(digits: &[u8], base: u32) -> u32 {
-    let mut number = 0u32;
-    for letter in digits {
-        number = number
-            .wrapping_mul(base)
-            .wrapping_add(u32::from(digit(*letter)));
-    }
-    number
-}
-
-/// What stands before the mark and what behind it.
-fn cut(text: &[u8], mark: u8) -> (&[u8], &[u8]) {
-    for (place, byte) in text.iter().enumerate() {
-        if *byte == mark {
-            return (&text[..place], &text[place + 1..]);
-        }
-    }
-    (text, &[])
-}
-
-/// Changes one byte, as `13=63` says.
-fn change(section: &mut Vec<u8>, word: &[u8]) {
-    let (place, value) = cut(word, b'=');
-    if let Some(byte) = section.get_mut(number(place, 10) as usize) {
-        *byte = (number(value, 10) % 256) as u8;
-    }
-}
-
-fn changed(alloc: Global, hex: &[u8], words: &[u8]) -> Result<Vec<u8>, AllocError> {
-    let mut section = bytes_of(alloc, hex)?;
-    let mut words = words;
-    for _ in 0..9 {
-        let (word, rest) = cut(words, b' ');
-        if !word.is_empty() {
-            change(&mut section, word);
-        }
-        words = rest;
-    }
-    Ok(section)
 }
 
 fn frames(

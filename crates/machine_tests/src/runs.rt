@@ -1,6 +1,7 @@
-use super::*;
+use crate::guests::{guest, schedule};
 use elf_image::read_image;
-use prof_bytes::{Fail, Memory, put_u32};
+use prof_bytes::{Fail, Memory};
+use rv_run::{Due, HartEnd, Machine, Moment, Slice, number, read_schedule};
 use std::alloc::Global;
 use std::test::Fail as Failed;
 
@@ -9,14 +10,6 @@ mod texts;
 
 use tables::{ENDS, MOMENTS, OTHERS, OUTPUTS, READS, WRITES};
 use texts::{FAULTS, SCHEDULES};
-
-/// An ELF header and the first words of one program header, by the System V ABI: a program whose
-/// code is loaded from offset 84 at 0x10000.
-const HEAD: [u8; 68] = [
-    127, 69, 76, 70, 1, 1, 1, 0, 0, 0, 0, 0, 0, 0, 0, 0, 2, 0, 243, 0, 1, 0, 0, 0, 0, 0, 1, 0, 52,
-    0, 0, 0, 0, 0, 0, 0, 0, 0, 0, 0, 52, 0, 32, 0, 1, 0, 40, 0, 0, 0, 0, 0, 1, 0, 0, 0, 84, 0, 0,
-    0, 0, 0, 1, 0, 0, 0, 1, 0,
-];
 
 /// Loads x17 and x10 to x12 from the four words behind its seven, makes an environment call, and
 /// breaks. The words of all guests are those that the GNU assembler 2.40 makes.
@@ -106,31 +99,6 @@ const ADDER: [u32; 21] = [
     0x05d0_0893,
     0x0000_0073,
 ];
-
-/// The file of a program of these words.
-fn guest(alloc: Global, words: &[u32]) -> Result<Vec<u8>, Memory> {
-    let mut file = Vec::new(alloc);
-    file.extend_from_slice(&HEAD)?;
-    let code = u32::try_from(words.len()).unwrap_or(0).wrapping_mul(4);
-    for word in [code, code, 5, 4] {
-        put_u32(&mut file, word)?;
-    }
-    for word in words {
-        put_u32(&mut file, *word)?;
-    }
-    Ok(file)
-}
-
-/// The schedule that a text tells; a text that is refused is an error.
-fn schedule(alloc: Global, text: &[u8]) -> Result<Schedule, Memory> {
-    if text.len() > 1 << 22 {
-        return Err(Memory);
-    }
-    match read_schedule(alloc, text) {
-        Ok(told) => Ok(told),
-        Err(_) => Err(Memory),
-    }
-}
 
 /// The first bad line of a schedule's text; `None` where it is taken.
 fn bad_line(alloc: Global, text: &[u8]) -> Result<Option<u32>, Memory> {

@@ -1,5 +1,5 @@
-use super::*;
 use prof_bytes::{Memory, Text};
+use prof_devices::{Fetch, MemShelf, MemSink, OpenGate, Put, SureShelf, SureSink};
 use std::alloc::Global;
 use std::test::Fail;
 

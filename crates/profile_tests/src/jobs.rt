@@ -1,4 +1,4 @@
-use super::*;
+use hpc_top::{Job, Place, Status, hpc_main, profile};
 use prof_devices::{MemShelf, MemSink, OpenGate, SureShelf, SureSink};
 use std::alloc::Global;
 use std::test::Fail;

@@ -1,4 +1,4 @@
-use super::*;
+use rv_table::{Op, decode};
 
 /// A word, its operation, and its fields rd, rs1, rs2 and the immediate. The words are those that
 /// the GNU assembler 2.40 (`as -march=rv32im`) makes of instructions with these operands: each

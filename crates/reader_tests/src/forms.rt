@@ -1,7 +1,7 @@
 //! The bytes of each form are those of DWARF 5, section 7.5.6; the values are read off them by hand. The
 //! abbreviation table is that of a program of two functions by `clang -g`, with the declarations that
 //! `llvm-dwarfdump --debug-abbrev` prints.
-use super::*;
+use dwarf_forms::{Abbrev, Abbrevs, BadTable, FormFault, Spec, Value, read_abbrevs, read_value};
 use prof_bytes::{Cursor, Memory};
 use std::alloc::Global;
 use std::test::Fail;

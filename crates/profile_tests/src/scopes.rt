@@ -1,4 +1,6 @@
-use super::*;
+use scope_types::{
+    LineId, ProcId, RootKind, Scope, ScopePath, compare, compare_paths, key, order_laws,
+};
 use std::cmp::Ordering;
 
 fn row(table: u32, file: u32, line: u32) -> LineId {

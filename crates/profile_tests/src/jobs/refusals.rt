@@ -1,7 +1,7 @@
 //! What is refused in the words and in the files, by its place.
 use super::unwound::{RECURSION, WITH_ENTRIES};
-use crate::{InputFault, Part, Status};
 use elf_image::{ElfFault, ElfRule};
+use hpc_top::{InputFault, Part, Status};
 
 /// A call that is refused: the words, what differs in the files, the answer and its line.
 pub(super) struct Case {

@@ -1,4 +1,4 @@
-use super::*;
+use prof_bytes::{Cursor, Listed, Text, put_u32, put_u64};
 use std::test::Fail;
 
 /// Reads of numbers of variable length: the bytes, the value, how many bytes it took. The values are

@@ -1,4 +1,4 @@
-use super::*;
+use address_ranges::{AddressRange, FirstRange};
 use std::test::Fail;
 
 #[test]

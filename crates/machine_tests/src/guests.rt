@@ -1,0 +1,43 @@
+//! Programs of a few instructions, and the schedules that they are run under.
+use prof_bytes::{Memory, put_u32};
+use rv_run::{Schedule, read_schedule};
+use std::alloc::Global;
+
+/// An ELF header and the first words of one program header, by the System V ABI: a program whose
+/// code is loaded from offset 84 at 0x10000.
+const HEAD: [u8; 68] = [
+    127, 69, 76, 70, 1, 1, 1, 0, 0, 0, 0, 0, 0, 0, 0, 0, 2, 0, 243, 0, 1, 0, 0, 0, 0, 0, 1, 0, 52,
+    0, 0, 0, 0, 0, 0, 0, 0, 0, 0, 0, 52, 0, 32, 0, 1, 0, 40, 0, 0, 0, 0, 0, 1, 0, 0, 0, 84, 0, 0,
+    0, 0, 0, 1, 0, 0, 0, 1, 0,
+];
+
+/// The file of a program of so many bytes of code, up to where the code begins.
+pub(crate) fn before_code(alloc: Global, code: u32) -> Result<Vec<u8>, Memory> {
+    let mut file = Vec::new(alloc);
+    file.extend_from_slice(&HEAD)?;
+    for word in [code, code, 5, 4] {
+        put_u32(&mut file, word)?;
+    }
+    Ok(file)
+}
+
+/// The file of a program of these words.
+pub(crate) fn guest(alloc: Global, words: &[u32]) -> Result<Vec<u8>, Memory> {
+    let code = u32::try_from(words.len()).unwrap_or(0).wrapping_mul(4);
+    let mut file = before_code(alloc, code)?;
+    for word in words {
+        put_u32(&mut file, *word)?;
+    }
+    Ok(file)
+}
+
+/// The schedule that a text tells; a text that is refused is an error.
+pub(crate) fn schedule(alloc: Global, text: &[u8]) -> Result<Schedule, Memory> {
+    if text.len() > 1 << 22 {
+        return Err(Memory);
+    }
+    match read_schedule(alloc, text) {
+        Ok(told) => Ok(told),
+        Err(_) => Err(Memory),
+    }
+}

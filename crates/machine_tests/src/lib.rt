@@ -1,0 +1,17 @@
+//! Tests of the machine: instructions, one step of a hart, runs under a schedule, and samples.
+//!
+//! It has no code of its own: a crate with tests is proved twice, and these prove none of the machine
+//! again. The expected values come from the GNU assembler, from qemu, and from the manual. Below stand
+//! the crates of the machine.
+#![tactic(auto)]
+
+#[cfg(test)]
+mod guests;
+#[cfg(test)]
+mod instructions;
+#[cfg(test)]
+mod runs;
+#[cfg(test)]
+mod samples;
+#[cfg(test)]
+mod steps;

@@ -1,0 +1,15 @@
+//! Tests of the whole: scopes, devices, and the top call with its reports, databases and refusals.
+//!
+//! It has no code of its own: a crate with tests is proved twice, and these prove none of the crates
+//! below again. The expected values are written by hand from the formats. Below stand the top call and
+//! the devices that it is run over.
+#![tactic(auto)]
+
+#[cfg(test)]
+mod devices;
+#[cfg(test)]
+mod edges;
+#[cfg(test)]
+mod jobs;
+#[cfg(test)]
+mod scopes;

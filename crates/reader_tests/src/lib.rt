@@ -1,0 +1,25 @@
+//! Tests of the readers: numbers in bytes, programs, call frame information and debug information.
+//!
+//! It has no code of its own: a crate with tests is proved twice, and these prove none of the readers
+//! again. The expected values come from other tools (readelf, nm, gcc, clang, binutils, LLVM) and from
+//! the standards' examples. Below stand all crates that read a program's file.
+#![tactic(auto)]
+
+#[cfg(test)]
+mod bytes;
+#[cfg(test)]
+mod entries;
+#[cfg(test)]
+mod forms;
+#[cfg(test)]
+mod frames;
+#[cfg(test)]
+mod images;
+#[cfg(test)]
+mod lines;
+#[cfg(test)]
+mod places;
+#[cfg(test)]
+mod rows;
+#[cfg(test)]
+mod unwinding;

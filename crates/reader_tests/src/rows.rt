@@ -1,0 +1,70 @@
+//! Rows of tests as text: bytes in hexadecimal, numbers, fields behind a mark, and changes of single bytes.
+use std::alloc::{AllocError, Global};
+
+/// What a digit stands for; 0 for any other letter.
+pub(crate) fn digit(letter: u8) -> u8 {
+    match letter {
+        b'0'..=b'9' => letter - b'0',
+        b'a'..=b'f' => letter - b'a' + 10,
+        _ => 0,
+    }
+}
+
+/// The bytes that two hexadecimal digits each stand for.
+pub(crate) fn bytes_of(alloc: Global, hex: &[u8]) -> Result<Vec<u8>, AllocError> {
+    let mut bytes = Vec::new(alloc);
+    let mut high = None;
+    for letter in hex {
+        match high {
+            None => high = Some(digit(*letter)),
+            Some(first) => {
+                bytes.push((first % 16) * 16 + digit(*letter) % 16)?;
+                high = None;
+            }
+        }
+    }
+    Ok(bytes)
+}
+
+/// A number by its digits in this base.
+pub(crate) fn number(digits: &[u8], base: u32) -> u32 {
+    let mut number = 0u32;
+    for letter in digits {
+        number = number
+            .wrapping_mul(base)
+            .wrapping_add(u32::from(digit(*letter)));
+    }
+    number
+}
+
+/// What stands before the mark and what behind it.
+pub(crate) fn cut(text: &[u8], mark: u8) -> (&[u8], &[u8]) {
+    for (place, byte) in text.iter().enumerate() {
+        if *byte == mark {
+            return (&text[..place], &text[place + 1..]);
+        }
+    }
+    (text, &[])
+}
+
+/// Changes one byte, as `36=1` says.
+fn change(bytes: &mut Vec<u8>, word: &[u8]) {
+    let (place, value) = cut(word, b'=');
+    if let Some(byte) = bytes.get_mut(number(place, 10) as usize) {
+        *byte = (number(value, 10) % 256) as u8;
+    }
+}
+
+/// The bytes of these digits with up to nine changes, as `0=0 3=102` says.
+pub(crate) fn changed(alloc: Global, hex: &[u8], words: &[u8]) -> Result<Vec<u8>, AllocError> {
+    let mut bytes = bytes_of(alloc, hex)?;
+    let mut words = words;
+    for _ in 0..9 {
+        let (word, rest) = cut(words, b' ');
+        if !word.is_empty() {
+            change(&mut bytes, word);
+        }
+        words = rest;
+    }
+    Ok(bytes)
+}
