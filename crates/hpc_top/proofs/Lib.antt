@@ -1,9 +1,6 @@
 pub mod Complete
 pub mod Line
 pub mod Fetching
-pub mod Appending
-pub mod TableRows
-pub mod OverHarts
 pub mod Lines
 pub mod Counted
 pub mod Products
@@ -11,4 +8,4 @@ pub mod Scopes
 pub mod Frames
 pub mod Collecting
 pub mod Entries
-pub mod NamesFound
+pub mod SymbolsFound

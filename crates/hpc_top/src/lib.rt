@@ -17,8 +17,6 @@ mod report;
 mod request;
 mod status;
 mod steps;
-mod text;
-mod view_tables;
 mod words;
 
 pub use call::hpc_main;

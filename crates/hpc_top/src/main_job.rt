@@ -15,7 +15,6 @@ use crate::names::names_of;
 use crate::path_counts::{PathCounts, collect};
 use crate::report::report;
 use crate::status::{InputFault, Made, Part};
-use crate::view_tables::top_down_table;
 use cfi_table::{FrameTable, read_frames};
 use cfi_unwind::Unwinder;
 use elf_image::{Image, read_image};
@@ -27,6 +26,7 @@ use scope_types::{Entry, ScopePath};
 use std::alloc::Global;
 use std::thread::Threads;
 use tree_types::{NO_PARENT, content_of_paths, nodes_of};
+use view_tables::top_down_table;
 
 /// The most scopes that the distinct call paths may have together.
 const MOST_SCOPES: u64 = 8_388_608;

@@ -32,7 +32,7 @@ fn front(bytes: &[u8], count: usize) -> &[u8]
     &bytes[..count]
 }
 
-#[tactic(auto, using(crate::proofs::NamesFound::symbol_steps))]
+#[tactic(auto, using(crate::proofs::SymbolsFound::symbol_steps))]
 fn symbol_name<'a>(image: &Image<'a>, start: u32) -> &'a [u8]
     ensures { result.now ≡ proc_name_in image.now (ProcId.Sym start) }
 {

@@ -5,13 +5,13 @@ ghost use Rattle.scope_types.specs.CallPaths.{each_path};
 ghost use Rattle.hpc_top.specs.Report.{cause_text, closed, end_text, hart_line, report_of, total_line};
 ghost use Rattle.hpc_top.specs.Profile.{hart_line_of, hart_lines, samples_of};
 
-use crate::text::{put_address, put_decimal};
 use prof_bytes::{Memory, Text};
 use rv_hart::Cause;
 use rv_run::{HartEnd, Machine};
 use scope_types::Entry;
 use std::alloc::Global;
 use tree_types::{Kind, total_of, value_of};
+use view_tables::{put_address, put_decimal};
 
 /// What a hart did: the instructions that it retired, the samples taken, and how it stands.
 #[derive(Clone, Copy, Debug)]

@@ -1,5 +1,7 @@
 use prof_bytes::{Memory, Text};
-use prof_devices::{Fetch, MemShelf, MemSink, OpenGate, Put, SureShelf, SureSink};
+use prof_devices::{
+    Fetch, Gate, MemShelf, MemSink, OpenGate, Put, Shelf, Sink, SureShelf, SureSink,
+};
 use std::alloc::Global;
 use std::test::Fail;
 

@@ -1,5 +1,5 @@
 //! The devices over a folder and over streams, which no contract can tie to what the system does.
-use prof_devices::{ErrSink, Fetch, FolderShelf, OutSink, Put};
+use prof_devices::{ErrSink, Fetch, FolderShelf, OutSink, Put, Shelf, Sink};
 use std::alloc::Global;
 use std::fmt::Display;
 use std::io::ErrorKind;

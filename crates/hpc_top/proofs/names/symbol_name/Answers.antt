@@ -1,6 +1,6 @@
 use Rattle.std.proofs.Common.{◌∙◌, sym}
 use Rattle.std.specs.Option.{option_copied}
-use Rattle.hpc_top.proofs.NamesFound.{symbol_is}
+use Rattle.hpc_top.proofs.SymbolsFound.{symbol_is}
 use Rattle.hpc_top.proofs.names.symbol_name.Goals as goal
 
 pub returns-in-Some : goal.returns-in-Some

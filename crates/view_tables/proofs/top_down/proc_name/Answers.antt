@@ -2,8 +2,8 @@ use Rattle.std.proofs.Common.{◌∙◌, sym, ap, List}
 use Rattle.std.specs.Option.{option_copied}
 use Rattle.tree_types.specs.declared.content.ProcName.{ProcName}
 use Rattle.tree_types.specs.Database.{proc_named}
-use Rattle.hpc_top.proofs.NamesFound.{proc_is, proc_none}
-use Rattle.hpc_top.proofs.view_tables.proc_name.Goals as goal
+use Rattle.view_tables.proofs.NamesFound.{proc_is, proc_none}
+use Rattle.view_tables.proofs.top_down.proc_name.Goals as goal
 
 pub returns-in-Some : goal.returns-in-Some
 returns-in-Some c =

@@ -1,14 +1,10 @@
 -- Names that are looked for in a list.
-use Rattle.std.proofs.Common.{◌≡◌, ℕ, true, false, cond, List, [], ◌∷◌, Option, Some, None, is_eq, find, map, take, option_map, codes, ◌==◌, refl, sym, ◌∙◌}
-use Rattle.elf_image.specs.declared.part.Function.{Function}
-use Rattle.elf_image.specs.Image.{Called, Loaded, called}
-use Rattle.elf_image.proofs.Tables.{find_map}
+use Rattle.std.proofs.Common.{◌≡◌, ℕ, true, false, cond, List, [], ◌∷◌, Option, Some, None, is_eq, find, refl, sym, ◌∙◌}
 use Rattle.scope_types.specs.declared.scope.ProcId.{ProcId}
 use Rattle.tree_types.specs.declared.content.ProcName.{ProcName}
 use Rattle.tree_types.specs.declared.content.FileName.{FileName}
 use Rattle.tree_types.specs.Naming.{proc_order, file_order}
 use Rattle.tree_types.specs.Database.{proc_named, file_named}
-use Rattle.hpc_top.specs.Profile.{most_name, symbol_name}
 
 abbrev pub proc_name_or_none : Option ProcName → List ℕ
 proc_name_or_none (Some p) = p.name
@@ -40,18 +36,6 @@ file_is fs file f found = (λ i. file_name_or_none (sym found i)) ∙ file_by_fi
 pub file_none : (fs : List FileName) (file : ℕ × ℕ) → find (λ f. is_eq (file_order file (f.table, f.file))) fs ≡ None → [] ≡ file_named fs file.0 file.1
 file_none fs file found = (λ i. file_name_or_none (sym found i)) ∙ file_by_find fs file.0 file.1
 
--- ---- the program's symbols
-
-pub symbol_is : (image : Loaded) (fs : List Function) (start : ℕ) (f : Function) → map called fs ≡ image.functions → find (λ function. function.start == start) fs ≡ Some f → take most_name f.name.now ≡ symbol_name (find (λ function. function.start == start) image.functions)
-symbol_is image fs start f seen found =
-    (λ i. symbol_name (option_map called (sym found i))) ∙ (λ i. symbol_name (sym (find_map (λ (c : Called). c.start == start) called fs) i)) ∙ (λ i. symbol_name (find (λ (c : Called). c.start == start) (seen i)))
-
-pub symbol_none : (image : Loaded) (fs : List Function) (start : ℕ) → map called fs ≡ image.functions → find (λ function. function.start == start) fs ≡ None → codes "<unnamed>" ≡ symbol_name (find (λ function. function.start == start) image.functions)
-symbol_none image fs start seen found =
-    (λ i. symbol_name (option_map called (sym found i))) ∙ (λ i. symbol_name (sym (find_map (λ (c : Called). c.start == start) called fs) i)) ∙ (λ i. symbol_name (find (λ (c : Called). c.start == start) (seen i)))
-
 pub ruleset proc_steps = (proc_is, proc_none)
 
 pub ruleset file_steps = (file_is, file_none)
-
-pub ruleset symbol_steps = (symbol_is, symbol_none)

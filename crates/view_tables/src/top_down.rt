@@ -1,5 +1,5 @@
-//! The top-down table as text. Each value is counted over all paths: slow on purpose, until this is a
-//! crate of its own that reads the planes.
+//! The top-down table as text. Each value is counted over all paths: plain, and slow where there are many
+//! thousands of them.
 ghost use Rattle.std.specs.Prelude.{◌≡◌, ◌<◌, ◌≤◌, ◌^◌, ◌+◌, ◌*◌, ◌++◌, ◌∷◌, [], length, codes, decimal, find, OnOk, IfOk};
 ghost use Rattle.scope_types.specs.CallPaths.{each_path};
 ghost use Rattle.tree_types.specs.Nodes.{nodes};

@@ -1,0 +1,4 @@
+pub mod Appending
+pub mod OverHarts
+pub mod NamesFound
+pub mod TableRows
