@@ -2,7 +2,7 @@
 //!
 //! It promises that what `profile` stores and prints is byte for byte what the definitions make of the
 //! files, that each refusal comes exactly where they have it, and what stands after every other
-//! answer. The modules `path_counts`, `expand` and `view_tables` are layers on their way to crates of their own.
+//! answer. The modules `path_counts` and `expand` are layers on their way to crates of their own.
 //! Below stand the crates for files and streams, programs, the machine and its samples, scopes and the
 //! tree.
 #![tactic(auto)]
