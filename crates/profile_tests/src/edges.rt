@@ -1,5 +1,6 @@
 //! The devices over a folder and over streams, which no contract can tie to what the system does.
-use prof_devices::{ErrSink, Fetch, FolderShelf, OutSink, Put, Shelf, Sink};
+use crate::calls::{Call, other_answer};
+use prof_devices::{ErrSink, FolderShelf, OutSink, Put, Shelf, Sink};
 use std::alloc::Global;
 use std::fmt::Display;
 use std::io::ErrorKind;
@@ -43,34 +44,63 @@ impl<'a> Eprint for Awaits<'a> {
     }
 }
 
+/// What the streams await, what is put, and the answers of the output and of the stream of errors, which
+/// takes text alone.
+const PUTS: [(&[u8], &[u8], Put, Put); 5] = [
+    (b"one line\n", b"one line\n", Put::Done, Put::Done),
+    (b"one line\n", b"one line", Put::Fault, Put::Fault),
+    (b"one line\n", b"one line\n\n", Put::Fault, Put::Fault),
+    (b"one line\n", b"\xff", Put::Fault, Put::Fault),
+    (b"\xff", b"\xff", Put::Done, Put::Fault),
+];
+
+/// The place of the first put that is answered otherwise.
+fn other_put(alloc: Global) -> Option<usize> {
+    for (place, (bytes, put, out, err)) in PUTS.iter().enumerate() {
+        let awaits = Awaits { alloc, bytes };
+        if OutSink::of(&awaits).put(put) != *out || ErrSink::of(&awaits).put(put) != *err {
+            return Some(place);
+        }
+    }
+    None
+}
+
 #[test]
 fn streams_take_just_the_bytes(rt: HostRuntime) {
-    let awaits = Awaits {
-        alloc: rt.alloc(),
-        bytes: b"one line\n",
-    };
-    assert_eq!(rt; OutSink::of(&awaits).put(b"one line\n"), Put::Done);
-    assert_eq!(rt; ErrSink::of(&awaits).put(b"one line\n"), Put::Done);
-    for other in [b"one line".as_slice(), b"one line\n\n", b"\xff"] {
-        assert_eq!(rt; OutSink::of(&awaits).put(other), Put::Fault);
-        assert_eq!(rt; ErrSink::of(&awaits).put(other), Put::Fault);
-    }
-    let any = Awaits {
-        alloc: rt.alloc(),
-        bytes: b"\xff",
-    };
-    assert_eq!(rt; OutSink::of(&any).put(b"\xff"), Put::Done);
-    assert_eq!(rt; ErrSink::of(&any).put(b"\xff"), Put::Fault);
+    assert_eq!(rt; other_put(rt.alloc()), None);
     assert_eq!(rt; OutSink::of(&rt).put(b""), Put::Done);
     assert_eq!(rt; ErrSink::of(&rt).put(b""), Put::Done);
 }
 
-/// Whether the answer is the whole file with these bytes.
-fn is_whole(answer: &Fetch, bytes: &[u8]) -> bool {
-    match answer {
-        Fetch::Whole(text) => text.bytes() == bytes,
-        Fetch::TooLong | Fetch::Fault | Fetch::Memory => false,
-    }
+/// The place of the first call that is answered otherwise: a name that nobody has yet, files that are
+/// stored over one another, and limits.
+fn other_with_file<F: Shelf>(shelf: &mut F, name: &[u8]) -> Option<usize> {
+    let calls = [
+        Call::NotFetched(name, 8),
+        Call::Stored(name, b"longer than 4"),
+        Call::Stored(name, b"\xff\0\nd"),
+        Call::Fetched(name, 4, b"\xff\0\nd"),
+        Call::Fetched(name, 5, b"\xff\0\nd"),
+        Call::Fetched(name, u64::MAX, b"\xff\0\nd"),
+        Call::TooLong(name, 3),
+        Call::TooLong(name, 0),
+    ];
+    other_answer(shelf, &calls)
+}
+
+/// The same once the file is gone, for a name that is no text, and below a folder that is not there.
+fn other_without_file<'a, F: Shelf>(
+    shelf: &mut F,
+    name: &'a [u8],
+    below: &'a [u8],
+) -> Option<usize> {
+    let calls = [
+        Call::NotFetched(name, 4),
+        Call::NotFetched(b"\xff", 4),
+        Call::NotStored(b"\xff", b"bytes"),
+        Call::NotStored(below, b"bytes"),
+    ];
+    other_answer(shelf, &calls)
 }
 
 #[test]
@@ -78,27 +108,12 @@ fn files_of_a_folder(rt: HostRuntime) -> Result<(), Fail> {
     let folder = env::temp_dir(&rt)?;
     let number = process::id(rt.process());
     let name = format!(in rt.alloc(); "{}/prof_devices_{number}", folder.display())?;
-    let mut shelf = FolderShelf::of(&rt);
-    assert!(rt; matches!(shelf.fetch(name.as_bytes(), 8), Fetch::Fault));
-    assert_eq!(rt; shelf.store(name.as_bytes(), b"longer than 4"), Put::Done);
-    assert_eq!(rt; shelf.store(name.as_bytes(), b"\xff\0\nd"), Put::Done);
-    let answers = [
-        shelf.fetch(name.as_bytes(), 4),
-        shelf.fetch(name.as_bytes(), 5),
-        shelf.fetch(name.as_bytes(), u64::MAX),
-    ];
-    let short = shelf.fetch(name.as_bytes(), 3);
-    let empty = shelf.fetch(name.as_bytes(), 0);
-    fs::remove_file(&rt, name.as_str())?;
-    for answer in &answers {
-        assert!(rt; is_whole(answer, b"\xff\0\nd"));
-    }
-    assert!(rt; matches!(short, Fetch::TooLong));
-    assert!(rt; matches!(empty, Fetch::TooLong));
-    assert!(rt; matches!(shelf.fetch(name.as_bytes(), 4), Fetch::Fault));
-    assert!(rt; matches!(shelf.fetch(b"\xff", 4), Fetch::Fault));
-    assert_eq!(rt; shelf.store(b"\xff", b"bytes"), Put::Fault);
     let below = format!(in rt.alloc(); "{name}/missing")?;
-    assert_eq!(rt; shelf.store(below.as_bytes(), b"bytes"), Put::Fault);
+    let mut shelf = FolderShelf::of(&rt);
+    let other = other_with_file(&mut shelf, name.as_bytes());
+    fs::remove_file(&rt, name.as_str())?;
+    assert_eq!(rt; other, None);
+    let other = other_without_file(&mut shelf, name.as_bytes(), below.as_bytes());
+    assert_eq!(rt; other, None);
     Ok(())
 }

@@ -1,5 +1,5 @@
 use hpc_top::{Job, Place, Status, hpc_main, profile};
-use prof_devices::{MemShelf, MemSink, OpenGate, SureShelf, SureSink};
+use prof_devices::{MemShelf, MemSink, OpenGate, Shelf, Sink, SureShelf, SureSink};
 use std::alloc::Global;
 use std::test::Fail;
 use std::thread::Threads;
@@ -48,23 +48,32 @@ fn changed_program(alloc: Global, case: &Case) -> Result<Vec<u8>, Fail> {
     Ok(file)
 }
 
+/// The answer to these words over these devices.
+fn answer<F: Shelf, O: Sink, E: Sink>(
+    rt: &(impl Threads + Sync + AllocGlobal),
+    line: &str,
+    shelf: &mut F,
+    out: &mut O,
+    err: &mut E,
+) -> Result<Status, Fail> {
+    let words = words_of(rt.alloc(), line)?;
+    Ok(hpc_main(rt, words.as_slice(), shelf, out, err, &OpenGate))
+}
+
+/// The files of a case on a shelf that does not fail.
+fn shelf_of(alloc: Global, case: &Case) -> Result<MemShelf, Fail> {
+    let elf = changed_program(alloc, case)?;
+    let files = files(alloc, elf.as_slice(), case.input, case.schedule)?;
+    Ok(MemShelf::of(alloc, files, Vec::new(alloc), 0))
+}
+
 /// Whether the answer and the line are the case's, and nothing is stored or printed.
 fn is_refused(rt: &(impl Threads + Sync + AllocGlobal), case: &Case) -> Result<bool, Fail> {
     let alloc = rt.alloc();
-    let elf = changed_program(alloc, case)?;
-    let files = files(alloc, elf.as_slice(), case.input, case.schedule)?;
-    let mut shelf = MemShelf::of(alloc, files, Vec::new(alloc), 0);
+    let mut shelf = shelf_of(alloc, case)?;
     let mut out = MemSink::of(alloc, Vec::new(alloc), 0);
     let mut err = MemSink::of(alloc, Vec::new(alloc), 0);
-    let words = words_of(alloc, case.words)?;
-    let status = hpc_main(
-        rt,
-        words.as_slice(),
-        &mut shelf,
-        &mut out,
-        &mut err,
-        &OpenGate,
-    );
+    let status = answer(rt, case.words, &mut shelf, &mut out, &mut err)?;
     Ok(
         status == case.status
             && is(shelf.file(b"d"), b"before")
@@ -151,6 +160,13 @@ const RUNS: [Run; 8] = [
     },
 ];
 
+/// The files of a run on a shelf that never fails.
+fn sure_shelf(alloc: Global, run: &Run) -> Result<SureShelf, Fail> {
+    let elf = program(alloc, run.code)?;
+    let files = files(alloc, elf.as_slice(), run.input, run.schedule)?;
+    Ok(SureShelf::of(alloc, files))
+}
+
 /// Whether a run is done, with just this report and nothing on standard error.
 fn is_reported(
     rt: &(impl Threads + Sync + AllocGlobal),
@@ -159,23 +175,11 @@ fn is_reported(
     report: &[u8],
 ) -> Result<bool, Fail> {
     let alloc = rt.alloc();
-    let elf = program(alloc, run.code)?;
-    let files = files(alloc, elf.as_slice(), run.input, run.schedule)?;
-    let mut shelf = SureShelf::of(alloc, files);
+    let mut shelf = sure_shelf(alloc, run)?;
     let mut out = SureSink::new(alloc);
     let mut err = SureSink::new(alloc);
-    let mut words = words_of(alloc, "profile p i s")?;
-    for word in [period, "1", "d"] {
-        words.push(text(alloc, word.as_bytes())?)?;
-    }
-    let status = hpc_main(
-        rt,
-        words.as_slice(),
-        &mut shelf,
-        &mut out,
-        &mut err,
-        &OpenGate,
-    );
+    let line = format!(in alloc; "profile p i s {period} 1 d")?;
+    let status = answer(rt, line.as_str(), &mut shelf, &mut out, &mut err)?;
     Ok(status == Status::Done && err.taken().is_empty() && out.taken() == report)
 }
 
@@ -305,16 +309,74 @@ fn call_paths_of_programs(rt: HostRuntime) -> Result<(), Fail> {
     Ok(())
 }
 
-/// Which call of the shelf fails (0: none), which of the output, how many bytes a failing one keeps, and
-/// what the answer, the lengths of the database and of the report are then.
-const FAILURES: [(u64, u64, usize, Status, usize, usize); 7] = [
-    (0, 0, 0, Status::Done, 655, 472),
-    (1, 0, 3, Status::Device(Place::Read), 6, 0),
-    (2, 0, 0, Status::Device(Place::Read), 6, 0),
-    (3, 0, 0, Status::Device(Place::Read), 6, 0),
-    (4, 0, 10, Status::Device(Place::Store), 10, 0),
-    (4, 0, 0, Status::Device(Place::Store), 0, 0),
-    (0, 1, 7, Status::Device(Place::Print), 655, 7),
+/// A run in which one call fails.
+#[derive(Clone, Copy)]
+struct Failure {
+    /// Which call of the shelf fails, and which of the output; 0 for none.
+    shelf_call: u64,
+    print_call: u64,
+    /// How many bytes a call that fails keeps.
+    kept: usize,
+    /// The answer, and how many bytes the file and the output have then.
+    status: Status,
+    stored: usize,
+    printed: usize,
+}
+
+const NO_FAILURE: Failure = Failure {
+    shelf_call: 0,
+    print_call: 0,
+    kept: 0,
+    status: Status::Done,
+    stored: 655,
+    printed: 472,
+};
+
+/// A call that reads fails: the file that stood before stays.
+const NOT_READ: Failure = Failure {
+    status: Status::Device(Place::Read),
+    stored: 6,
+    printed: 0,
+    ..NO_FAILURE
+};
+
+const FAILURES: [Failure; 7] = [
+    NO_FAILURE,
+    Failure {
+        shelf_call: 1,
+        kept: 3,
+        ..NOT_READ
+    },
+    Failure {
+        shelf_call: 2,
+        ..NOT_READ
+    },
+    Failure {
+        shelf_call: 3,
+        ..NOT_READ
+    },
+    Failure {
+        shelf_call: 4,
+        kept: 10,
+        status: Status::Device(Place::Store),
+        stored: 10,
+        printed: 0,
+        ..NO_FAILURE
+    },
+    Failure {
+        shelf_call: 4,
+        status: Status::Device(Place::Store),
+        stored: 0,
+        printed: 0,
+        ..NO_FAILURE
+    },
+    Failure {
+        print_call: 1,
+        kept: 7,
+        status: Status::Device(Place::Print),
+        printed: 7,
+        ..NO_FAILURE
+    },
 ];
 
 fn is_front(found: Option<&[u8]>, whole: &[u8], length: usize) -> bool {
@@ -324,52 +386,52 @@ fn is_front(found: Option<&[u8]>, whole: &[u8], length: usize) -> bool {
     }
 }
 
+/// The adding program's files on a shelf of which one call fails.
+fn failing_shelf(alloc: Global, failure: &Failure) -> Result<MemShelf, Fail> {
+    let elf = program(alloc, &ADDING)?;
+    let files = files(alloc, elf.as_slice(), b"", b"harts 1\n0 100000\n")?;
+    let failing = Vec::from_slice(alloc, &[failure.shelf_call])?;
+    Ok(MemShelf::of(alloc, files, failing, failure.kept))
+}
+
+fn failing_sink(alloc: Global, failure: &Failure) -> Result<MemSink, Fail> {
+    let failing = Vec::from_slice(alloc, &[failure.print_call])?;
+    Ok(MemSink::of(alloc, failing, failure.kept))
+}
+
+/// Whether so many bytes of the database stand in its file; 6 are those that stood there before.
+fn is_stored(shelf: &MemShelf, database: &[u8], length: usize) -> bool {
+    let expected = if length == 6 { b"before" } else { database };
+    is_front(shelf.file(b"d"), expected, length)
+}
+
+fn is_printed(out: &MemSink, length: usize) -> bool {
+    is_front(Some(out.taken()), FOUR_SAMPLES.as_bytes(), length)
+}
+
 /// Whether the answer and what is stored and printed are those of this failure.
 fn is_failure(
     rt: &(impl Threads + Sync + AllocGlobal),
-    (shelf_call, print_call, kept, status, stored, printed): (
-        u64,
-        u64,
-        usize,
-        Status,
-        usize,
-        usize,
-    ),
+    failure: &Failure,
+    database: &[u8],
 ) -> Result<bool, Fail> {
-    let alloc = rt.alloc();
-    let elf = program(alloc, &ADDING)?;
-    let files = files(alloc, elf.as_slice(), b"", b"harts 1\n0 100000\n")?;
-    let mut shelf = MemShelf::of(alloc, files, Vec::from_slice(alloc, &[shelf_call])?, kept);
-    let mut out = MemSink::of(alloc, Vec::from_slice(alloc, &[print_call])?, kept);
-    let mut err = MemSink::of(alloc, Vec::new(alloc), 0);
-    let words = words_of(alloc, "profile p i s 5 1 d")?;
-    let found = hpc_main(
-        rt,
-        words.as_slice(),
-        &mut shelf,
-        &mut out,
-        &mut err,
-        &OpenGate,
-    );
-    let whole = database_of_four(alloc)?;
-    let before: &[u8] = b"before";
-    let expected = if stored == 6 {
-        before
-    } else {
-        whole.as_slice()
-    };
+    let mut shelf = failing_shelf(rt.alloc(), failure)?;
+    let mut out = failing_sink(rt.alloc(), failure)?;
+    let mut err = MemSink::of(rt.alloc(), Vec::new(rt.alloc()), 0);
+    let status = answer(rt, "profile p i s 5 1 d", &mut shelf, &mut out, &mut err)?;
     Ok(
-        found == status
-            && is_front(shelf.file(b"d"), expected, stored)
-            && is_front(Some(out.taken()), FOUR_SAMPLES.as_bytes(), printed),
+        status == failure.status
+            && is_stored(&shelf, database, failure.stored)
+            && is_printed(&out, failure.printed),
     )
 }
 
 /// The first answer that is another one.
 fn other_failure(rt: &(impl Threads + Sync + AllocGlobal)) -> Result<Option<Status>, Fail> {
-    for failure in FAILURES {
-        if !is_failure(rt, failure)? {
-            return Ok(Some(failure.3));
+    let database = database_of_four(rt.alloc())?;
+    for failure in &FAILURES {
+        if !is_failure(rt, failure, database.as_slice())? {
+            return Ok(Some(failure.status));
         }
     }
     Ok(None)
