@@ -5,7 +5,7 @@ use std::alloc::Global;
 
 /// An ELF header and the first words of one program header, by the System V ABI: a program whose
 /// code is loaded from offset 84 at 0x10000.
-const HEAD: [u8; 68] = [
+static HEAD: [u8; 68] = [
     127, 69, 76, 70, 1, 1, 1, 0, 0, 0, 0, 0, 0, 0, 0, 0, 2, 0, 243, 0, 1, 0, 0, 0, 0, 0, 1, 0, 52,
     0, 0, 0, 0, 0, 0, 0, 0, 0, 0, 0, 52, 0, 32, 0, 1, 0, 40, 0, 0, 0, 0, 0, 1, 0, 0, 0, 84, 0, 0,
     0, 0, 0, 1, 0, 0, 0, 1, 0,

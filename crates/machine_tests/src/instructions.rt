@@ -4,7 +4,7 @@ use rv_table::{Op, decode};
 /// the GNU assembler 2.40 (`as -march=rv32im`) makes of instructions with these operands: each
 /// instruction at the ends of its immediate's range and at the first and last registers. The last line
 /// is a FENCE with fields that the manual reserves and wants ignored.
-const KNOWN: [(u32, Op, u8, u8, u8, u32); 162] = [
+static KNOWN: [(u32, Op, u8, u8, u8, u32); 162] = [
     (0x010f_8033, Op::Add, 0, 31, 16, 0),
     (0x01e0_8fb3, Op::Add, 31, 1, 30, 0),
     (0x0194_8a33, Op::Add, 20, 9, 25, 0),
@@ -172,7 +172,7 @@ const KNOWN: [(u32, Op, u8, u8, u8, u32); 162] = [
 /// Words for which GNU objdump 2.40 knows no instruction of RV32IM, each opcode and each funct3 and
 /// funct7 beside the known ones among them; words whose low two bits are not 11; and in the last line
 /// shifts by 32 and more and the returns and waits of privileged code, which the manual keeps out.
-const UNKNOWN: [u32; 116] = [
+static UNKNOWN: [u32; 116] = [
     0x0073_12e7,
     0x0073_128f,
     0x0073_22e7,

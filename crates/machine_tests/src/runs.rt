@@ -13,7 +13,7 @@ use texts::{FAULTS, SCHEDULES};
 
 /// Loads x17 and x10 to x12 from the four words behind its seven, makes an environment call, and
 /// breaks. The words of all guests are those that the GNU assembler 2.40 makes.
-const CALLER: [u32; 7] = [
+static CALLER: [u32; 7] = [
     0x0000_0297,
     0x01c2_a883,
     0x0202_a503,
@@ -24,7 +24,7 @@ const CALLER: [u32; 7] = [
 ];
 
 /// Writes 524,288 bytes, 524,286, 4 and 4, all from where its stack begins.
-const WRITER: [u32; 22] = [
+static WRITER: [u32; 22] = [
     0x0000_0297,
     0x0442_a883,
     0x0482_a583,
@@ -50,7 +50,7 @@ const WRITER: [u32; 22] = [
 ];
 
 /// Hart 0 makes exit_group with 5, hart 2 exits with 9, and others loop.
-const GROUP: [u32; 10] = [
+static GROUP: [u32; 10] = [
     0x0005_1863,
     0x05e0_0893,
     0x0050_0513,
@@ -65,7 +65,7 @@ const GROUP: [u32; 10] = [
 
 /// Again and again takes one word, shifts it by 4, adds one more than the hart's number, and puts it
 /// back: `lui`, and then `lw`, `slli`, `addi`, `add`, `sw`, `jal`.
-const SHARED: [u32; 7] = [
+static SHARED: [u32; 7] = [
     0xf008_0337,
     0x0003_2383,
     0x0043_9393,
@@ -76,7 +76,7 @@ const SHARED: [u32; 7] = [
 ];
 
 /// Adds 1 to x10 nineteen times, and exits.
-const ADDER: [u32; 21] = [
+static ADDER: [u32; 21] = [
     0x0015_0513,
     0x0015_0513,
     0x0015_0513,

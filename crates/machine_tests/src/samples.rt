@@ -29,7 +29,7 @@ impl Unwind for Probe {
 
 /// Programs, schedules, periods, and their samples: hart, ordinal, pc, and x10 before. The words are
 /// those that the GNU assembler 2.40 makes.
-const SAMPLED: [(&[u32], &[u8], u32, &[(u32, u64, u32, u32)]); 6] = [
+static SAMPLED: [(&[u32], &[u8], u32, &[(u32, u64, u32, u32)]); 6] = [
     // Adds 1 to x10 again and again: ordinals are those of each hart.
     (
         &[0x0015_0513, 0x0015_0513, 0xff9f_f06f],

@@ -216,7 +216,7 @@ fn loads_and_stores(rt: HostRuntime) -> Result<(), Fail> {
 
 /// Jumps and branches that retire, by the manual: the word as the GNU assembler makes it, x5, and pc
 /// after it less its own address; jumps leave the next address in x7.
-const JUMPS: [(u32, u32, u32); 7] = [
+static JUMPS: [(u32, u32, u32); 7] = [
     (0x8000_03ef, 0, 0xfff0_0000), // jal x7, .-1048576
     (0x7fdf_f3ef, 0, 0xf_fffc), // jal x7, .+1048572
     (0x0080_006f, 0, 8), // jal x0, .+8
@@ -227,14 +227,14 @@ const JUMPS: [(u32, u32, u32); 7] = [
 ];
 
 /// Jumps to the address in a register: the word, x5, and pc after it.
-const JUMPS_BY_REGISTER: [(u32, u32, u32); 3] = [
+static JUMPS_BY_REGISTER: [(u32, u32, u32); 3] = [
     (0x0012_83e7, 0x2_0003, 0x2_0004), // jalr x7, 1(x5)
     (0x0012_83e7, 0x2_0004, 0x2_0004), // jalr x7, 1(x5), to an odd address
     (0x8002_83e7, 0x100, 0xffff_f900), // jalr x7, -2048(x5)
 ];
 
 /// Instructions that change nothing, by the manual: the word, x5, and how the step ends.
-const UNCHANGED: [(u32, u32, Stepped); 13] = [
+static UNCHANGED: [(u32, u32, Stepped); 13] = [
     (0x0000_0073, 0, Stepped::Ecall),
     (0x0010_0073, 0, Stepped::Break),
     (0x0020_03ef, 0, Stepped::Trap(Cause::Target)), // jal x7, .+2

@@ -102,7 +102,7 @@ fn puts_that_fail_in_memory(rt: HostRuntime) -> Result<(), Fail> {
 }
 
 /// Calls of a shelf that never fails, over one file.
-const SURE_CALLS: [Call<'static>; 6] = [
+static SURE_CALLS: [Call<'static>; 6] = [
     Call::Fetched(b"elf", 4, b"\x7fELF"),
     Call::TooLong(b"elf", 3),
     Call::Fetched(b"nobody", 0, b""),

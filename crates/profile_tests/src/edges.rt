@@ -46,7 +46,7 @@ impl<'a> Eprint for Awaits<'a> {
 
 /// What the streams await, what is put, and the answers of the output and of the stream of errors, which
 /// takes text alone.
-const PUTS: [(&[u8], &[u8], Put, Put); 5] = [
+static PUTS: [(&[u8], &[u8], Put, Put); 5] = [
     (b"one line\n", b"one line\n", Put::Done, Put::Done),
     (b"one line\n", b"one line", Put::Fault, Put::Fault),
     (b"one line\n", b"one line\n\n", Put::Fault, Put::Fault),

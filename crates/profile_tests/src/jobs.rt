@@ -115,7 +115,7 @@ const RUN: Run = Run {
     report: FOUR_SAMPLES,
 };
 
-const RUNS: [Run; 8] = [
+static RUNS: [Run; 8] = [
     RUN,
     Run {
         period: "21",
@@ -200,7 +200,7 @@ fn reports_of_runs(rt: HostRuntime) -> Result<(), Fail> {
 }
 
 /// A program's words, and the line on its one hart: how a hart ends otherwise.
-const ENDS: [(&[u32], &str); 6] = [
+static ENDS: [(&[u32], &str); 6] = [
     (
         &[0x0010_0073],
         "retired 0 samples 0 end break at 0x00010000",
@@ -258,7 +258,7 @@ fn other_ends_of_a_hart(rt: HostRuntime) -> Result<(), Fail> {
 }
 
 /// A program with call frame information, its schedule and period, and the report.
-const UNWOUND: [(&[u8], &[u8], u32, &str); 3] = [
+static UNWOUND: [(&[u8], &[u8], u32, &str); 3] = [
     (RECURSION, b"harts 1\n0 1000\n", 31, SEVEN_FRAMES),
     (RECURSION, b"harts 1\n0 4\n", 1, MOVED_FRAME),
     (LAST_CALL, b"harts 1\n0 5\n", 5, AT_ITS_START),
@@ -340,7 +340,7 @@ const NOT_READ: Failure = Failure {
     ..NO_FAILURE
 };
 
-const FAILURES: [Failure; 7] = [
+static FAILURES: [Failure; 7] = [
     NO_FAILURE,
     Failure {
         shelf_call: 1,

@@ -8,7 +8,7 @@ fn row(table: u32, file: u32, line: u32) -> LineId {
 }
 
 /// Each scope stands before the next: by variant as written, then by field from left to right.
-const ASCENDING: [Scope; 21] = [
+static ASCENDING: [Scope; 21] = [
     Scope::Root(RootKind::Thread),
     Scope::Root(RootKind::Partial),
     Scope::Proc(ProcId::Die(0)),

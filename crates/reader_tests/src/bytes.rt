@@ -3,7 +3,7 @@ use std::test::Fail;
 
 /// Reads of numbers of variable length: the bytes, the value, how many bytes it took. The values are
 /// the examples of DWARF 5, section 7.6, and the ends of 64 bits.
-const UNSIGNED: [(&[u8], Option<u64>, usize); 8] = [
+static UNSIGNED: [(&[u8], Option<u64>, usize); 8] = [
     (&[2], Some(2), 1),
     (&[127], Some(127), 1),
     (&[0x80, 1], Some(128), 2),
@@ -22,7 +22,7 @@ const UNSIGNED: [(&[u8], Option<u64>, usize); 8] = [
     ),
 ];
 
-const SIGNED: [(&[u8], Option<i64>, usize); 9] = [
+static SIGNED: [(&[u8], Option<i64>, usize); 9] = [
     (&[2], Some(2), 1),
     (&[0x7e], Some(-2), 1),
     (&[0xff, 0], Some(127), 2),

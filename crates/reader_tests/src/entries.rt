@@ -230,15 +230,23 @@ fn failing_case(alloc: Global, cases: &[Case]) -> Result<Option<&'static str>, A
     Ok(None)
 }
 
+fn failing_name(alloc: Global) -> Result<Option<&'static str>, AllocError> {
+    failing_case(alloc, &names::CASES)
+}
+
+fn failing_list(alloc: Global) -> Result<Option<&'static str>, AllocError> {
+    failing_case(alloc, &lists::CASES)
+}
+
 #[test]
 fn attributes_and_their_absence(rt: HostRuntime) -> Result<(), Fail> {
-    assert_eq!(rt; failing_case(rt.alloc(), &names::CASES)?, None);
-    assert_eq!(rt; failing_case(rt.alloc(), &lists::CASES)?, None);
+    assert_eq!(rt; failing_name(rt.alloc())?, None);
+    assert_eq!(rt; failing_list(rt.alloc())?, None);
     Ok(())
 }
 
 /// Sections, and the fault in them.
-const FAULTS: [(&[u8], InfoFault); 19] = [
+static FAULTS: [(&[u8], InfoFault); 19] = [
     (b"I010203 A00", InfoFault::BadUnit { offset: 0 }),
     (
         b"Iffffffff0500010400000000 0100000000 A00",
@@ -343,7 +351,7 @@ fn the_first_fault(rt: HostRuntime) {
 }
 
 /// Sections, and the offset and depth of each entry, then the offset and line table of each unit.
-const SHAPES: [(&[u8], &[(u32, u32)]); 5] = [
+static SHAPES: [(&[u8], &[(u32, u32)]); 5] = [
     // Levels by null entries, one before the first entry, one too many, and a level that is not closed.
     (
         b"I130000000500010400000000 00010101000100000000 01 A012e01000000",

@@ -7,7 +7,7 @@ use std::alloc::Global;
 use std::test::Fail;
 
 /// A form, bytes, the value that stands in them, and how many they are.
-const FORMS: [(u64, &[u8], Value<'static>, usize); 20] = [
+static FORMS: [(u64, &[u8], Value<'static>, usize); 20] = [
     (0x01, &[0, 0, 1, 0], Value::Address(0x10000), 4),
     (0x03, &[2, 0, 7, 8, 9], Value::Bytes(&[7, 8]), 4),
     (0x04, &[1, 0, 0, 0, 7], Value::Bytes(&[7]), 5),
@@ -42,7 +42,7 @@ const FORMS: [(u64, &[u8], Value<'static>, usize); 20] = [
 
 /// The forms that are numbers with another meaning: the form, the value of bytes that begin with a 5
 /// and zeros, and how many bytes.
-const MEANINGS: [(u64, Value<'static>, usize); 27] = [
+static MEANINGS: [(u64, Value<'static>, usize); 27] = [
     (0x0e, Value::StrAt(5), 4),
     (0x1f, Value::LineStrAt(5), 4),
     (0x17, Value::Section(5), 4),
@@ -127,7 +127,7 @@ fn each_form(rt: HostRuntime) -> Result<(), Fail> {
 }
 
 /// A form, bytes in which it has no value, and why.
-const REFUSED: [(u64, &[u8], FormFault); 12] = [
+static REFUSED: [(u64, &[u8], FormFault); 12] = [
     (0x02, &[1, 2, 3, 4], FormFault::Unknown),
     (0x00, &[1], FormFault::Unknown),
     (0x2d, &[1], FormFault::Unknown),
@@ -172,7 +172,7 @@ fn each_refusal(rt: HostRuntime) -> Result<(), Fail> {
 }
 
 /// The bytes of `.debug_abbrev` by clang 14.
-const ABBREV: [u8; 204] = [
+static ABBREV: [u8; 204] = [
     0x01, 0x11, 0x01, 0x25, 0x25, 0x13, 0x05, 0x03, 0x25, 0x72, 0x17, 0x10, 0x17, 0x1b, 0x25, 0x11,
     0x1b, 0x12, 0x06, 0x73, 0x17, 0x8c, 0x01, 0x17, 0x00, 0x00, 0x02, 0x2e, 0x01, 0x03, 0x25, 0x3a,
     0x0b, 0x3b, 0x0b, 0x27, 0x19, 0x49, 0x13, 0x20, 0x21, 0x01, 0x00, 0x00, 0x03, 0x05, 0x00, 0x03,
@@ -189,7 +189,7 @@ const ABBREV: [u8; 204] = [
 ];
 
 /// Of some codes the tag, whether children follow, how many attributes, and the last of these.
-const DECLARED: [(u64, u64, bool, usize, (u64, u64, i64)); 7] = [
+static DECLARED: [(u64, u64, bool, usize, (u64, u64, i64)); 7] = [
     (1, 0x11, true, 10, (0x8c, 0x17, 0)),
     (2, 0x2e, true, 6, (0x20, 0x21, 1)),
     (4, 0x24, false, 3, (0x0b, 0x0b, 0)),
@@ -248,7 +248,7 @@ fn declarations_of_a_program(rt: HostRuntime) -> Result<(), Fail> {
 }
 
 /// Tables, an offset in them, and the tag that code 1 has there; `None` where the table is not whole.
-const TABLES: [(&[u8], u32, Option<u64>); 9] = [
+static TABLES: [(&[u8], u32, Option<u64>); 9] = [
     (&[1, 0x11, 0, 0x10, 0x17, 0, 0, 0], 0, Some(0x11)),
     (&[1, 0x11, 0, 0x10, 0x17, 0, 0, 0], 8, None),
     (&[1, 0x11, 0, 0x10, 0x17, 0, 0, 0], 9, None),

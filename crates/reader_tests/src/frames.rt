@@ -214,7 +214,7 @@ fn failing_change(alloc: Global, image: &Image<'_>, rows: &[u8]) -> Result<Optio
 }
 
 /// Addresses, and how many bytes the rules there are made from: 3 of the CIE and 12 of the FDE.
-const BYTES: [(u32, u64); 5] = [
+static BYTES: [(u32, u64); 5] = [
     (0, 0),
     (0x1_000f, 0),
     (0x1_0010, 15),

@@ -192,7 +192,7 @@ fn first_unless(holds: bool) -> Option<usize> {
 
 /// Instructions of the recursion: their addresses, x1 and x2 before them, and their paths. The stack
 /// pointer is 0xf00ffff0 at the start.
-const RECURSION_PATHS: [(u32, u32, u32, &[u32]); 7] = [
+static RECURSION_PATHS: [(u32, u32, u32, &[u32]); 7] = [
     (0x1_0000, 0, 0xf00f_fff0, &[0x1_0000]),
     (0x1_0004, 0, 0xf00f_fff0, &[0x1_0004]),
     // Before the stack pointer moves, right after it, and after x1 is saved.
@@ -230,7 +230,7 @@ fn recursion_is_unwound_at_each_of_its_instructions(rt: HostRuntime) -> Result<(
 }
 
 /// How many calls of `f` there are, and the path: how many frames, and how it ends.
-const DEPTHS: [(u32, usize, End); 5] = [
+static DEPTHS: [(u32, usize, End); 5] = [
     (1, 2, End::Whole),
     (510, 511, End::Whole),
     (511, 512, End::Whole),

@@ -5,7 +5,7 @@ use rv_hart::Cause;
 /// Reads: x10 to x12, what x10 holds after it, and then the word at the address in x11. The input is
 /// `abcdef`; the code's 44 bytes stand at 0x10000, and the stack from 0xf0080000 up to 0xf0100000. The
 /// numbers and the negative answers of calls are those of Linux for RISC-V.
-pub(super) const READS: [(u32, u32, u32, u32, Option<u32>); 16] = [
+pub(super) static READS: [(u32, u32, u32, u32, Option<u32>); 16] = [
     (0, 0xf008_0000, 4, 4, Some(0x6463_6261)),
     (0, 0xf008_0000, 6, 6, Some(0x6463_6261)),
     (0, 0xf008_0000, 100, 6, Some(0x6463_6261)),
@@ -26,7 +26,7 @@ pub(super) const READS: [(u32, u32, u32, u32, Option<u32>); 16] = [
 
 /// Writes: x10 to x12, what x10 holds after it, and which bytes of the file were written; the code
 /// begins at 84.
-pub(super) const WRITES: [(u32, u32, u32, u32, usize, usize); 13] = [
+pub(super) static WRITES: [(u32, u32, u32, u32, usize, usize); 13] = [
     (1, 0x0001_0000, 4, 4, 84, 88),
     (2, 0x0001_0002, 5, 5, 86, 91),
     (0, 0x0001_0000, 4, 0xffff_fff7, 84, 84),
@@ -44,7 +44,7 @@ pub(super) const WRITES: [(u32, u32, u32, u32, usize, usize); 13] = [
 
 /// Other calls: x17 and x10, what x10 holds after it, how many instructions of six retired, and how the
 /// hart stands.
-pub(super) const OTHERS: [(u32, u32, u32, u64, HartEnd); 7] = [
+pub(super) static OTHERS: [(u32, u32, u32, u64, HartEnd); 7] = [
     (93, 7, 7, 5, HartEnd::Exit(7)),
     (93, 0xffff_ffff, 0xffff_ffff, 5, HartEnd::Exit(0xffff_ffff)),
     (94, 8, 8, 5, HartEnd::Group(8)),
@@ -55,7 +55,7 @@ pub(super) const OTHERS: [(u32, u32, u32, u64, HartEnd); 7] = [
 ];
 
 /// How many instructions more, what x10 holds then, and how long the output is.
-pub(super) const OUTPUTS: [(u32, u32, usize); 4] = [
+pub(super) static OUTPUTS: [(u32, u32, usize); 4] = [
     (6, 0x8_0000, 0x8_0000),
     (3, 0x7_fffe, 0xf_fffe),
     (3, 2, 0x10_0000),
@@ -64,7 +64,7 @@ pub(super) const OUTPUTS: [(u32, u32, usize); 4] = [
 
 /// Hart, ordinal, pc, whether it retired: nineteen additions and an exit, by slices of 3, 2, 17, 1, 9
 /// and 1. The exit does not retire, and hart 0 does nothing after it.
-pub(super) const MOMENTS: [(u32, u64, u32, bool); 25] = [
+pub(super) static MOMENTS: [(u32, u64, u32, bool); 25] = [
     (0, 1, 0x1_0000, true),
     (0, 2, 0x1_0004, true),
     (0, 3, 0x1_0008, true),
@@ -94,7 +94,7 @@ pub(super) const MOMENTS: [(u32, u64, u32, bool); 25] = [
 
 /// The words of a program, how many instructions hart 1 retires of it in two slices of 9, and how it
 /// stands then. The first branches over what is no instruction on hart 0 alone.
-pub(super) const ENDS: [(&[u32], u64, HartEnd); 11] = [
+pub(super) static ENDS: [(&[u32], u64, HartEnd); 11] = [
     (
         &[0x0005_0463, 0, 0x05d0_0893, 115],
         1,

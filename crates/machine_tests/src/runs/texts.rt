@@ -1,6 +1,6 @@
 //! Schedules.
 /// Texts of schedules and their first bad lines, by the rules that `read_schedule` states.
-pub(super) const FAULTS: [(&[u8], u32); 36] = [
+pub(super) static FAULTS: [(&[u8], u32); 36] = [
     (b"", 1),
     (b"\n", 2),
     (b"# a\n\n#b", 4),
@@ -40,7 +40,7 @@ pub(super) const FAULTS: [(&[u8], u32); 36] = [
 ];
 
 /// Texts of schedules, how many harts they have, and their slices.
-pub(super) const SCHEDULES: [(&[u8], u32, &[(u32, u32)]); 6] = [
+pub(super) static SCHEDULES: [(&[u8], u32, &[(u32, u32)]); 6] = [
     (b"harts 1", 1, &[]),
     (b"harts 16\n15 1", 16, &[(15, 1)]),
     (b"# one\n\nharts 2\n#\n0 7\n\n1 3\n", 2, &[(0, 7), (1, 3)]),

@@ -3,7 +3,7 @@
 use super::*;
 
 /// Stores into the memory of one hart, and whether they are made.
-pub(super) const PUTS: [(u32, &[u8], bool); 5] = [
+pub(super) static PUTS: [(u32, &[u8], bool); 5] = [
     (0x1_0000, &[7], false),
     (0xf00f_fff0, &[7], true),
     (0xf00f_fffd, &[1, 2, 3, 4], false),
@@ -12,7 +12,7 @@ pub(super) const PUTS: [(u32, &[u8], bool); 5] = [
 ];
 
 /// Words after these, and at the ends of the code, of the stack and of the address space.
-pub(super) const WORDS: [(u32, Option<u32>); 10] = [
+pub(super) static WORDS: [(u32, Option<u32>); 10] = [
     (0x1_0001, Some(0x1300_1505)),
     (0x1_0050, Some(0x73)),
     (0x1_0051, None),
@@ -26,14 +26,14 @@ pub(super) const WORDS: [(u32, Option<u32>); 10] = [
 ];
 
 /// Stores into the last of 64 stacks and behind it.
-pub(super) const LAST_PUTS: [(u32, &[u8], bool); 3] = [
+pub(super) static LAST_PUTS: [(u32, &[u8], bool); 3] = [
     (0xf3ff_fffc, &[1, 2, 3, 4], true),
     (0xf3ff_fffd, &[5, 6, 7, 8], false),
     (0xf408_0000, &[9], false),
 ];
 
 /// Words after these, in the last stack and behind it.
-pub(super) const LAST_WORDS: [(u32, Option<u32>); 2] = [
+pub(super) static LAST_WORDS: [(u32, Option<u32>); 2] = [
     (0xf3ff_fffc, Some(0x0403_0201)),
     (0xf400_0000, None),
 ];
@@ -41,7 +41,7 @@ pub(super) const LAST_WORDS: [(u32, Option<u32>); 2] = [
 /// A program of four segments, as readelf shows them: code at 0x10000 (`addi x7, x0, 5`, `ecall`); in
 /// the same page, with no gap, 8 bytes to read and write that begin as aa bb cc dd, and 4 to write
 /// alone; and 0xeffd0000 bytes of zeros at 0x20000 with all three rights.
-pub(super) const SEGMENTS: [u8; 192] = [
+pub(super) static SEGMENTS: [u8; 192] = [
     127, 69, 76, 70, 1, 1, 1, 0, 0, 0, 0, 0, 0, 0, 0, 0, 2, 0, 243, 0, 1, 0, 0, 0, 0, 0, 1, 0, 52,
     0, 0, 0, 0, 0, 0, 0, 0, 0, 0, 0, 52, 0, 32, 0, 4, 0, 40, 0, 0, 0, 0, 0, 1, 0, 0, 0, 180, 0, 0,
     0, 0, 0, 1, 0, 0, 0, 1, 0, 8, 0, 0, 0, 8, 0, 0, 0, 5, 0, 0, 0, 4, 0, 0, 0, 1, 0, 0, 0, 188, 0,
@@ -52,7 +52,7 @@ pub(super) const SEGMENTS: [u8; 192] = [
 ];
 
 /// Stores over the ends of segments.
-pub(super) const SEGMENT_PUTS: [(u32, &[u8], bool); 5] = [
+pub(super) static SEGMENT_PUTS: [(u32, &[u8], bool); 5] = [
     (0x1_0006, &[1, 2, 3, 4], false),
     (0x1_000e, &[1, 2, 3, 4], true),
     (0x1_0011, &[1, 2, 3, 4], false),
@@ -61,7 +61,7 @@ pub(super) const SEGMENT_PUTS: [(u32, &[u8], bool); 5] = [
 ];
 
 /// Words over the ends of segments, after these.
-pub(super) const SEGMENT_WORDS: [(u32, Option<u32>); 7] = [
+pub(super) static SEGMENT_WORDS: [(u32, Option<u32>); 7] = [
     (0x1_0000, Some(0x0050_0393)),
     (0x1_0006, Some(0xbbaa_0000)),
     (0x1_0008, Some(0xddcc_bbaa)),
@@ -73,7 +73,7 @@ pub(super) const SEGMENT_WORDS: [(u32, Option<u32>); 7] = [
 
 /// Steps at the addresses of segments, after these: how each ends, and x7 after it, which holds
 /// 0x55aa55aa before it.
-pub(super) const SEGMENT_STEPS: [(u32, Stepped, u32); 5] = [
+pub(super) static SEGMENT_STEPS: [(u32, Stepped, u32); 5] = [
     (0x1_0000, Stepped::Retired, 5),
     (0x1_0004, Stepped::Ecall, 0x55aa_55aa),
     (0x1_0008, Stepped::Trap(Cause::Fetch), 0x55aa_55aa),

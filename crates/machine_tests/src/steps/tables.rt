@@ -3,12 +3,12 @@
 //! values and wrote down the result.
 
 /// The bytes that loads and stores find.
-pub(super) const PATTERN: [u8; 16] = [
+pub(super) static PATTERN: [u8; 16] = [
     0x81, 0x02, 0x83, 0x04, 0x7f, 0xfe, 0x80, 0x00, 0xff, 0xff, 0xff, 0x7f, 0x00, 0x80, 0x12, 0xe4,
 ];
 
 /// An instruction on x5 and x6 into x7, what these hold, and x7 after it.
-pub(super) const COMPUTED: [(u32, u32, u32, u32); 160] = [
+pub(super) static COMPUTED: [(u32, u32, u32, u32); 160] = [
     (0x0062_83b3, 0x8000_0000, 0xffff_ffff, 0x7fff_ffff), // add x7, x5, x6
     (0x0062_83b3, 0xffff_ffff, 1, 0), // add x7, x5, x6
     (0x0062_83b3, 0x7fff_ffff, 1, 0x8000_0000), // add x7, x5, x6
@@ -172,7 +172,7 @@ pub(super) const COMPUTED: [(u32, u32, u32, u32); 160] = [
 ];
 
 /// A branch on x5 and x6, by 8 back and 8 on in turn, what these hold, and whether it is taken.
-pub(super) const BRANCHES: [(u32, u32, u32, bool); 30] = [
+pub(super) static BRANCHES: [(u32, u32, u32, bool); 30] = [
     (0xfe62_8ce3, 5, 5, true), // beq
     (0x0062_8463, 0x8000_0000, 0x7fff_ffff, false), // beq
     (0xfe62_8ce3, 0x7fff_ffff, 0x8000_0000, false), // beq
@@ -206,7 +206,7 @@ pub(super) const BRANCHES: [(u32, u32, u32, bool); 30] = [
 ];
 
 /// A load into x7 from x5, which holds the address of `PATTERN`, and x7 after it.
-pub(super) const LOADS: [(u32, u32); 26] = [
+pub(super) static LOADS: [(u32, u32); 26] = [
     (0x0002_8383, 0xffff_ff81), // lb x7, 0(x5)
     (0x0012_8383, 2), // lb x7, 1(x5)
     (0x0042_8383, 0x0000_007f), // lb x7, 4(x5)
@@ -237,7 +237,7 @@ pub(super) const LOADS: [(u32, u32); 26] = [
 
 /// A store of x6, which holds 0xa1b2c3d4, by x5, which holds the address of a copy of `PATTERN`, and the
 /// four words of the copy after it.
-pub(super) const STORES: [(u32, [u32; 4]); 15] = [
+pub(super) static STORES: [(u32, [u32; 4]); 15] = [
     (
         0x0062_8023,
         [0x0483_02d4, 0x0080_fe7f, 0x7fff_ffff, 0xe412_8000],

@@ -31,7 +31,7 @@ const CASE: Case = Case {
 };
 
 /// What is refused in the words and in the files, by its place, with the line on standard error.
-pub(super) const REFUSALS: [Case; 19] = [
+pub(super) static REFUSALS: [Case; 19] = [
     Case {
         name: "no words",
         words: "",

@@ -3,7 +3,7 @@
 //! are: A abbrev, I info, S str, L line_str, O str_offsets, D addr, R rnglists.
 use super::Case;
 
-pub(crate) const CASES: [Case; 29] = [
+pub(crate) static CASES: [Case; 29] = [
     Case {
         what: "high_pc as a number",
         bytes: b"A0111010000022e001101120b000000 I1000000005000104000000000102000100001000",

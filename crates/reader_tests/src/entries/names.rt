@@ -3,7 +3,7 @@
 //! are: A abbrev, I info, S str, L line_str, O str_offsets, D addr, R rnglists.
 use super::Case;
 
-pub(crate) const CASES: [Case; 24] = [
+pub(crate) static CASES: [Case; 24] = [
     Case {
         what: "a text in place",
         bytes: b"A0111010000022e000308000000 I0d00000005000104000000000102660000",

@@ -13,7 +13,7 @@ pub(super) fn sections() -> &'static [u8] {
 
 pub(super) const TAGS: [(u64, usize); 3] = [(0x11, 1), (0x1d, 2), (0x2e, 3)];
 
-pub(super) const ROWS: [Row; 5] = [
+pub(super) static ROWS: [Row; 5] = [
     Row {
         offset: 0x11,
         depth: 1,

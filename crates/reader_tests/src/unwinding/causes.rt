@@ -37,7 +37,7 @@ fn path_in(
 }
 
 /// Instructions, and how the path of one frame ends, where x1 is 0x10008 and x2 is 0xf00ffff0.
-const ENDS: [(&str, &[u8], End); 17] = [
+static ENDS: [(&str, &[u8], End); 17] = [
     ("no return address", &[0x0c, 2, 0, 0x07, 1], Whole),
     ("none, before an expression", &[0x07, 1, 0x10, 5, 0], Whole),
     ("none, before a missing CFA", &[0x07, 1], Whole),
@@ -122,7 +122,7 @@ fn a_path_ends_by_the_first_test_that_holds(rt: HostRuntime) -> Result<(), Fail>
 
 /// Instructions, registers and words of memory; how the path of the instruction at 0x10010 ends, and its
 /// frames.
-const CALLERS: [(&str, &[u8], &[(usize, u32)], &[(u32, u32)], End, &[u32]); 13] = [
+static CALLERS: [(&str, &[u8], &[(usize, u32)], &[(u32, u32)], End, &[u32]); 13] = [
     (
         "x1 keeps its value, and a rule of x40 is passed over",
         &[0x0c, 2, 0, 0x10, 40, 0],

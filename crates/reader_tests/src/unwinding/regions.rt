@@ -2,7 +2,7 @@
 use super::*;
 
 /// Changes of the program, and its entry region.
-const REGIONS: [(&[(usize, u8)], (u32, u32)); 11] = [
+static REGIONS: [(&[(usize, u8)], (u32, u32)); 11] = [
     // The function symbol that holds the entry; also where the entry is not its first address.
     (&[], (0x1_0000, 0x1_0010)),
     (&[(24, 0x0c)], (0x1_0000, 0x1_0010)),
