@@ -1,4 +1,5 @@
-use prof_bytes::{Cursor, Listed, Text, put_u32, put_u64};
+use prof_bytes::{Cursor, Listed, Memory, Text, put_u32, put_u64};
+use std::alloc::Global;
 use std::test::Fail;
 
 /// Reads of numbers of variable length: the bytes, the value, how many bytes it took. The values are
@@ -48,55 +49,86 @@ static SIGNED: [(&[u8], Option<i64>, usize); 9] = [
     ),
 ];
 
+/// The place of the first row whose number is read otherwise.
+fn other_unsigned() -> Option<usize> {
+    for (place, (bytes, value, count)) in UNSIGNED.iter().enumerate() {
+        let mut cursor = Cursor::at(bytes, 0);
+        if cursor.uleb() != *value || cursor.place() != *count {
+            return Some(place);
+        }
+    }
+    None
+}
+
+fn other_signed() -> Option<usize> {
+    for (place, (bytes, value, count)) in SIGNED.iter().enumerate() {
+        let mut cursor = Cursor::at(bytes, 0);
+        if cursor.sleb() != *value || cursor.place() != *count {
+            return Some(place);
+        }
+    }
+    None
+}
+
 #[test]
 fn numbers_of_variable_length(rt: HostRuntime) {
-    for (bytes, value, count) in &UNSIGNED {
-        let mut cursor = Cursor::at(bytes, 0);
-        assert_eq!(rt; cursor.uleb(), *value);
-        assert_eq!(rt; cursor.place(), *count);
-    }
-    for (bytes, value, count) in &SIGNED {
-        let mut cursor = Cursor::at(bytes, 0);
-        assert_eq!(rt; cursor.sleb(), *value);
-        assert_eq!(rt; cursor.place(), *count);
-    }
+    assert_eq!(rt; other_unsigned(), None);
+    assert_eq!(rt; other_signed(), None);
+}
+
+/// The bytes 1 to 18, and two texts, of which the second has no end.
+const BYTES: &[u8] =
+    b"\x01\x02\x03\x04\x05\x06\x07\x08\x09\x0a\x0b\x0c\x0d\x0e\x0f\x10\x11\x12main\0rest";
+
+/// Whether the numbers of each size come in turn.
+fn numbers_come(cursor: &mut Cursor<'_>) -> bool {
+    cursor.u8() == Some(1)
+        && cursor.u16() == Some(0x0302)
+        && cursor.u24() == Some(0x06_0504)
+        && cursor.u32() == Some(0x0a09_0807)
+        && cursor.u64() == Some(0x1211_100f_0e0d_0c0b)
+}
+
+/// Whether the texts come behind them, and nothing where too few bytes are left.
+fn texts_come(cursor: &mut Cursor<'_>) -> bool {
+    cursor.cstr() == Some(b"main".as_slice())
+        && cursor.take(5).is_none()
+        && cursor.left() == 4
+        && cursor.cstr().is_none()
+        && cursor.u64().is_none()
+        && cursor.take(4) == Some(b"rest".as_slice())
+        && cursor.u8().is_none()
+        && cursor.place() == 27
 }
 
 #[test]
 fn fixed_numbers_and_texts(rt: HostRuntime) {
-    let bytes =
-        b"\x01\x02\x03\x04\x05\x06\x07\x08\x09\x0a\x0b\x0c\x0d\x0e\x0f\x10\x11\x12main\0rest";
-    let mut cursor = Cursor::at(bytes, 0);
-    assert_eq!(rt; cursor.u8(), Some(1));
-    assert_eq!(rt; cursor.u16(), Some(0x0302));
-    assert_eq!(rt; cursor.u24(), Some(0x06_0504));
-    assert_eq!(rt; cursor.u32(), Some(0x0a09_0807));
-    assert_eq!(rt; cursor.u64(), Some(0x1211_100f_0e0d_0c0b));
-    assert!(rt; cursor.cstr() == Some(b"main".as_slice()));
-    assert!(rt; cursor.take(5).is_none());
-    assert_eq!(rt; cursor.left(), 4);
-    assert!(rt; cursor.cstr().is_none());
-    assert_eq!(rt; cursor.u64(), None);
-    assert!(rt; cursor.take(4) == Some(b"rest".as_slice()));
-    assert_eq!(rt; cursor.u8(), None);
-    assert_eq!(rt; cursor.place(), 27);
+    let mut cursor = Cursor::at(BYTES, 0);
+    assert!(rt; numbers_come(&mut cursor));
+    assert!(rt; texts_come(&mut cursor));
 }
 
-fn text_of_puts() -> &'static [u8] {
-    b"HPC\x04\x03\x02\x01\x05\0\0\0\0\0\0\0"
+/// A text with two numbers behind it.
+fn put_both(alloc: Global) -> Result<Vec<u8>, Memory> {
+    let mut out = Vec::from_slice(alloc, b"HPC")?;
+    put_u32(&mut out, 0x0102_0304)?;
+    put_u64(&mut out, 5)?;
+    Ok(out)
+}
+
+/// Their bytes as a text and as a list, and given back by both.
+fn both_kept(alloc: Global, bytes: &[u8]) -> Result<Vec<u8>, Memory> {
+    let text = Text::of(alloc, bytes)?;
+    let list = Listed::of(Text::from_vec(text.into_vec()).into_vec());
+    let kept = Text::of(alloc, list.items())?;
+    Ok(kept.into_vec())
 }
 
 #[test]
 fn puts_append(rt: HostRuntime) -> Result<(), Fail> {
-    let mut out = Vec::from_slice(rt.alloc(), b"HPC")?;
-    put_u32(&mut out, 0x0102_0304).ok().ok_or("memory")?;
-    put_u64(&mut out, 5).ok().ok_or("memory")?;
-    assert_eq!(rt; out.as_slice(), text_of_puts());
-    let text = Text::of(rt.alloc(), out.as_slice()).ok().ok_or("memory")?;
-    assert_eq!(rt; text.bytes().len(), 15);
-    assert_eq!(rt; Text::from_vec(text.into_vec()).bytes(), out.as_slice());
-    let list = Listed::of(out);
-    assert_eq!(rt; list.items().len(), 15);
-    assert_eq!(rt; list.into_vec().as_slice(), text_of_puts());
+    let out = put_both(rt.alloc())?;
+    let wanted = b"HPC\x04\x03\x02\x01\x05\0\0\0\0\0\0\0".as_slice();
+    assert_eq!(rt; out.as_slice(), wanted);
+    assert_eq!(rt; both_kept(rt.alloc(), &out)?.as_slice(), wanted);
     Ok(())
 }

@@ -125,14 +125,6 @@ fn gcc_holds(alloc: Global, image: &Image<'_>) -> Result<bool, AllocError> {
     }
 }
 
-#[test]
-fn a_program_by_gcc(rt: HostRuntime) -> Result<(), Fail> {
-    let file = bytes_of(rt.alloc(), by_hand::program())?;
-    let image = image_of(rt.alloc(), &file).ok_or("no image")?;
-    assert!(rt; gcc_holds(rt.alloc(), &image)?);
-    Ok(())
-}
-
 fn clang_is_right(alloc: Global, lines: &LineTable<'_>) -> bool {
     end_of_runs(lines, clang_lines::runs()) == Some(0x1027c)
         && lines.has_table(0)
@@ -157,14 +149,6 @@ fn clang_holds(alloc: Global, image: &Image<'_>) -> Result<bool, AllocError> {
     }
 }
 
-#[test]
-fn a_program_by_clang(rt: HostRuntime) -> Result<(), Fail> {
-    let file = bytes_of(rt.alloc(), by_hand::program())?;
-    let image = image_of(rt.alloc(), &file).ok_or("no image")?;
-    assert!(rt; clang_holds(rt.alloc(), &image)?);
-    Ok(())
-}
-
 fn worked_is_right(alloc: Global, lines: &LineTable<'_>) -> bool {
     end_of_runs(lines, worked::runs()) == Some(0x10054) && is_named(alloc, lines, 0, 0, b"/s/a.c")
 }
@@ -183,31 +167,12 @@ fn is_empty_without_offsets(alloc: Global, image: &Image<'_>, line: &[u8]) -> bo
     }
 }
 
-#[test]
-fn a_worked_program(rt: HostRuntime) -> Result<(), Fail> {
-    let file = bytes_of(rt.alloc(), worked::program())?;
-    let line = bytes_of(rt.alloc(), worked::line())?;
-    let image = image_of(rt.alloc(), &file).ok_or("no image")?;
-    assert!(rt; worked_holds(rt.alloc(), &image, &line));
-    assert!(rt; is_empty_without_offsets(rt.alloc(), &image, &line));
-    Ok(())
-}
-
 /// The call of the recursive program is at line 7.
 fn call_holds(alloc: Global, image: &Image<'_>, line: &[u8]) -> bool {
     match read_lines(alloc, line, parts(&[], &[]), image, &[0]) {
         Ok(lines) => is_line(lines.row_at(0x10004), b"0 0 7"),
         Err(_) => false,
     }
-}
-
-#[test]
-fn a_recursive_program(rt: HostRuntime) -> Result<(), Fail> {
-    let file = bytes_of(rt.alloc(), worked::recursive())?;
-    let line = bytes_of(rt.alloc(), worked::line())?;
-    let image = image_of(rt.alloc(), &file).ok_or("no image")?;
-    assert!(rt; call_holds(rt.alloc(), &image, &line));
-    Ok(())
 }
 
 /// Whether each address has its row.
@@ -243,36 +208,20 @@ fn case_holds(alloc: Global, image: &Image<'_>, case: &[u8]) -> Result<bool, All
     }
 }
 
-/// The number, from 1, of the first case that does not hold, and 0 where all do.
-fn failing_case(alloc: Global, image: &Image<'_>, cases: &[u8]) -> Result<u32, AllocError> {
+/// The number, from 1, of the first case that does not hold.
+fn failing_case(alloc: Global, image: &Image<'_>, cases: &[u8]) -> Result<Option<u32>, AllocError> {
     let mut left = cases;
     for number in 1..99 {
         let (case, rest) = cut(left, b'\n');
         if case.is_empty() {
-            return Ok(0);
+            return Ok(None);
         }
         if !case_holds(alloc, image, case)? {
-            return Ok(number);
+            return Ok(Some(number));
         }
         left = rest;
     }
-    Ok(99)
-}
-
-#[test]
-fn rows_of_each_opcode(rt: HostRuntime) -> Result<(), Fail> {
-    let file = bytes_of(rt.alloc(), by_hand::program())?;
-    let image = image_of(rt.alloc(), &file).ok_or("no image")?;
-    assert_eq!(rt; failing_case(rt.alloc(), &image, by_hand::rows())?, 0);
-    Ok(())
-}
-
-#[test]
-fn each_fault(rt: HostRuntime) -> Result<(), Fail> {
-    let file = bytes_of(rt.alloc(), by_hand::program())?;
-    let image = image_of(rt.alloc(), &file).ok_or("no image")?;
-    assert_eq!(rt; failing_case(rt.alloc(), &image, by_hand::faults())?, 0);
-    Ok(())
+    Ok(Some(99))
 }
 
 /// The offset of the fault, if there is one.
@@ -283,15 +232,112 @@ fn fault_of(alloc: Global, image: &Image<'_>, line: &[u8], offsets: &[u32]) -> O
     }
 }
 
+/// Whether the faults of the worked program's table stand at their offsets: outside the section, and in
+/// ascending order of tables.
+fn worked_faults_hold(alloc: Global, image: &Image<'_>, line: &[u8]) -> bool {
+    fault_of(alloc, image, line, &[80]) == Some(80)
+        && fault_of(alloc, image, line, &[4, 80]) == Some(4)
+}
+
+/// What is tried over the image of a program.
+#[derive(Clone, Copy)]
+enum Trial {
+    Gcc,
+    Clang,
+    Opcodes,
+    Faults,
+    Worked,
+    Recursive,
+    TwoOperations,
+}
+
+/// Whether a table of the worked programs is what a trial says.
+fn table_holds(alloc: Global, image: &Image<'_>, line: &[u8], trial: Trial) -> bool {
+    match trial {
+        Trial::Worked => {
+            worked_holds(alloc, image, line)
+                && is_empty_without_offsets(alloc, image, line)
+                && worked_faults_hold(alloc, image, line)
+        }
+        Trial::Recursive => call_holds(alloc, image, line),
+        _ => fault_of(alloc, image, line, &[0]) == Some(0),
+    }
+}
+
+/// The same of the table in these digits.
+fn worked_table_holds(
+    alloc: Global,
+    image: &Image<'_>,
+    line: &[u8],
+    trial: Trial,
+) -> Result<bool, AllocError> {
+    let line = bytes_of(alloc, line)?;
+    Ok(table_holds(alloc, image, &line, trial))
+}
+
+fn first_unless(holds: bool) -> Option<u32> {
+    if holds { None } else { Some(1) }
+}
+
+/// The number, from 1, of the first row that a trial does not meet in the image of a program.
+fn unmet_in(alloc: Global, image: &Image<'_>, trial: Trial) -> Result<Option<u32>, AllocError> {
+    match trial {
+        Trial::Gcc => Ok(first_unless(gcc_holds(alloc, image)?)),
+        Trial::Clang => Ok(first_unless(clang_holds(alloc, image)?)),
+        Trial::Opcodes => failing_case(alloc, image, by_hand::rows()),
+        Trial::Faults => failing_case(alloc, image, by_hand::faults()),
+        Trial::Worked | Trial::Recursive => {
+            let holds = worked_table_holds(alloc, image, worked::line(), trial)?;
+            Ok(first_unless(holds))
+        }
+        Trial::TwoOperations => {
+            let line = worked::line_of_two_operations();
+            Ok(first_unless(worked_table_holds(alloc, image, line, trial)?))
+        }
+    }
+}
+
+/// The same in the program of these digits.
+fn unmet(alloc: Global, program: &[u8], trial: Trial) -> Result<Option<u32>, AllocError> {
+    let file = bytes_of(alloc, program)?;
+    match image_of(alloc, &file) {
+        Some(image) => unmet_in(alloc, &image, trial),
+        None => Ok(Some(0)),
+    }
+}
+
 #[test]
-fn faults_of_a_worked_program(rt: HostRuntime) -> Result<(), Fail> {
-    let file = bytes_of(rt.alloc(), worked::program())?;
-    let line = bytes_of(rt.alloc(), worked::line())?;
-    let two_operations = bytes_of(rt.alloc(), worked::line_of_two_operations())?;
-    let image = image_of(rt.alloc(), &file).ok_or("no image")?;
-    let none = fault_of(rt.alloc(), &image, &two_operations, &[0]);
-    let outside = fault_of(rt.alloc(), &image, &line, &[80]);
-    let first = fault_of(rt.alloc(), &image, &line, &[4, 80]);
-    assert_eq!(rt; (none, outside, first), (Some(0), Some(80), Some(4)));
+fn programs_by_gcc_and_clang(rt: HostRuntime) -> Result<(), Fail> {
+    assert_eq!(rt; unmet(rt.alloc(), by_hand::program(), Trial::Gcc)?, None);
+    assert_eq!(rt; unmet(rt.alloc(), by_hand::program(), Trial::Clang)?, None);
+    Ok(())
+}
+
+#[test]
+fn rows_of_each_opcode(rt: HostRuntime) -> Result<(), Fail> {
+    assert_eq!(rt;
+        unmet(rt.alloc(), by_hand::program(), Trial::Opcodes)?,
+        None
+    );
+    Ok(())
+}
+
+#[test]
+fn each_fault(rt: HostRuntime) -> Result<(), Fail> {
+    assert_eq!(rt; unmet(rt.alloc(), by_hand::program(), Trial::Faults)?, None);
+    Ok(())
+}
+
+#[test]
+fn worked_programs(rt: HostRuntime) -> Result<(), Fail> {
+    assert_eq!(rt; unmet(rt.alloc(), worked::program(), Trial::Worked)?, None);
+    assert_eq!(rt;
+        unmet(rt.alloc(), worked::recursive(), Trial::Recursive)?,
+        None
+    );
+    assert_eq!(rt;
+        unmet(rt.alloc(), worked::program(), Trial::TwoOperations)?,
+        None
+    );
     Ok(())
 }
