@@ -12,7 +12,7 @@ use prof_bytes::{Cursor, Fail};
 use std::alloc::Global;
 
 /// The parameters of a line number program.
-#[derive(Clone, Copy, Debug)]
+#[derive(Clone, Copy)]
 pub(crate) struct Params {
     /// The bytes of the shortest instruction.
     pub(crate) minimum: u8,
@@ -40,18 +40,24 @@ fn is_plain(operations: u8, range: u8, opcodes: u8) -> bool
     operations == 1 && range != 0 && opcodes != 0
 }
 
+fn byte(cursor: &mut Cursor<'_>, fault: LineFault) -> Result<u8, LineFault>
+    ensures { GivesAt (λ n. n) result cursor.new (number_from fault 1 cursor.old) }
+{
+    cursor.u8().ok_or(fault)
+}
+
 #[tactic(auto, unfolding(crate::specs::Headers::params_from))]
 fn read_params(cursor: &mut Cursor<'_>, fault: LineFault) -> Result<Params, LineFault>
     ensures params { GivesAt (λ p. p) result cursor.new (params_from fault cursor.old) }
     ensures range { IfOk result (λ p. 0 < p.line_range) }
     ensures base { IfOk result (λ p. 0 < p.opcode_base) }
 {
-    let minimum = cursor.u8().ok_or(fault)?;
-    let operations = cursor.u8().ok_or(fault)?;
-    let _statement = cursor.u8().ok_or(fault)?;
-    let line_base = cursor.u8().ok_or(fault)?;
-    let line_range = cursor.u8().ok_or(fault)?;
-    let opcode_base = cursor.u8().ok_or(fault)?;
+    let minimum = byte(cursor, fault)?;
+    let operations = byte(cursor, fault)?;
+    let _statement = byte(cursor, fault)?;
+    let line_base = byte(cursor, fault)?;
+    let line_range = byte(cursor, fault)?;
+    let opcode_base = byte(cursor, fault)?;
     if !is_plain(operations, line_range, opcode_base) {
         return Err(fault);
     }

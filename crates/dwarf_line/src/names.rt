@@ -22,14 +22,14 @@ const PATH: u64 = 1;
 const DIRECTORY_INDEX: u64 = 2;
 
 /// A kind of content, and the form of its values.
-#[derive(Clone, Copy, Debug)]
+#[derive(Clone, Copy)]
 pub(crate) struct Format {
     pub(crate) content: u64,
     pub(crate) form: u64,
 }
 
 /// A directory or a file: its path, and the number of a directory.
-#[derive(Clone, Copy, Debug)]
+#[derive(Clone, Copy)]
 pub(crate) struct Entry<'a> {
     pub(crate) path: &'a [u8],
     pub(crate) directory: Option<u64>,

@@ -1,5 +1,5 @@
 /// The registers of the line number program that are kept.
-#[derive(Clone, Copy, Debug)]
+#[derive(Clone, Copy)]
 pub(crate) struct Registers {
     pub(crate) address: u32,
     pub(crate) file: u32,
@@ -7,7 +7,7 @@ pub(crate) struct Registers {
 }
 
 /// A row of the matrix.
-#[derive(Clone, Copy, Debug)]
+#[derive(Clone, Copy)]
 pub(crate) struct MatrixRow {
     pub(crate) address: u32,
     pub(crate) file: u32,

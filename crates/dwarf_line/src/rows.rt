@@ -8,7 +8,7 @@ use crate::registers::MatrixRow;
 use std::marker::Model;
 
 /// The rows of a sequence. Contracts see them as a list.
-#[derive(Debug, Drop)]
+#[derive(Drop)]
 pub(crate) struct Rows {
     items: Vec<MatrixRow>,
     rising: bool,

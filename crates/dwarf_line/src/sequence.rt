@@ -12,7 +12,7 @@ use std::alloc::Global;
 use std::marker::Model;
 
 /// A sequence of a table: its rows, and the address at its end.
-#[derive(Debug, Drop)]
+#[derive(Drop)]
 pub(crate) struct Sequence {
     pub(crate) table: u32,
     pub(crate) rows: Rows,
