@@ -23,7 +23,7 @@ pub struct InfoEntry {
 }
 
 /// A unit, with what its first entry says of the values of all its entries.
-#[derive(Clone, Copy, Debug)]
+#[derive(Clone, Copy)]
 pub(crate) struct UnitRead {
     pub(crate) number: u32,
     pub(crate) head: Head,

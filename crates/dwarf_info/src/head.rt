@@ -9,7 +9,7 @@ use crate::fault::InfoFault;
 use prof_bytes::{Cursor, Fail, Memory};
 
 /// Where a unit lies, and where its abbreviation table and its first entry stand.
-#[derive(Clone, Copy, Debug)]
+#[derive(Clone, Copy)]
 pub(crate) struct Head {
     pub(crate) offset: u32,
     pub(crate) end: u32,

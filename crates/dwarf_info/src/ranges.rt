@@ -14,11 +14,11 @@ use prof_bytes::{Cursor, Memory};
 use std::alloc::Global;
 
 /// A range list that counts as absent.
-#[derive(Clone, Copy, Debug)]
+#[derive(Clone, Copy)]
 pub(crate) struct Absent;
 
 /// An entry of a range list, with its indices followed.
-#[derive(Clone, Copy, Debug)]
+#[derive(Clone, Copy)]
 pub(crate) enum RangeEntry {
     /// The base of the offsets that follow.
     Base(u32),
