@@ -76,13 +76,10 @@ fn shaped<'a>(cursor: &mut Cursor<'a>, shape: Shape, implicit: i64) -> Result<Va
         }
         Shape::Block(width) => {
             let count = wide(cursor, width)?;
-            Ok(Value::Bytes(bytes(cursor, count)?))
+            bytes(cursor, count).map(Value::Bytes)
         }
-        Shape::Sixteen => Ok(Value::Bytes(bytes(cursor, 16)?)),
-        Shape::Text => {
-            let text = cursor.cstr().ok_or(FormFault::Short)?;
-            Ok(Value::Name(text))
-        }
+        Shape::Sixteen => bytes(cursor, 16).map(Value::Bytes),
+        Shape::Text => cursor.cstr().map(Value::Name).ok_or(FormFault::Short),
         Shape::Present => Ok(Value::Flag(true)),
         Shape::Implicit => Ok(Value::Signed(implicit)),
     }

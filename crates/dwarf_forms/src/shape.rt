@@ -3,7 +3,7 @@ ghost use Rattle.std.specs.Prelude.{◌≡◌, ◌==◌, ◌&&◌, not, is_some}
 ghost use Rattle.dwarf_forms.specs.Forms.{shape_of};
 
 /// How many bytes a number takes.
-#[derive(Clone, Copy, Debug)]
+#[derive(Clone, Copy)]
 pub(crate) enum Width {
     One,
     Two,
@@ -14,7 +14,7 @@ pub(crate) enum Width {
 }
 
 /// What a number of four bytes is.
-#[derive(Clone, Copy, Debug)]
+#[derive(Clone, Copy)]
 pub(crate) enum Word {
     Address,
     StrAt,
@@ -24,7 +24,7 @@ pub(crate) enum Word {
 }
 
 /// What a number of any width is.
-#[derive(Clone, Copy, Debug)]
+#[derive(Clone, Copy)]
 pub(crate) enum Kind {
     Number,
     Flag,
@@ -36,7 +36,7 @@ pub(crate) enum Kind {
 }
 
 /// How a value is laid out.
-#[derive(Clone, Copy, Debug)]
+#[derive(Clone, Copy)]
 pub(crate) enum Shape {
     /// Four bytes.
     Plain(Word),
