@@ -19,7 +19,7 @@ pub(crate) struct Cie {
 }
 
 /// What stands where a CIE is named.
-#[derive(Clone, Copy, Debug, PartialEq, Eq)]
+#[derive(Clone, Copy, PartialEq, Eq)]
 pub(crate) enum CieForm {
     /// A field of it is not whole.
     Broken,

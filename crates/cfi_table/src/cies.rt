@@ -16,7 +16,7 @@ pub(crate) const CIE_MARK: u32 = 0xffff_ffff;
 
 /// A CIE: its offset in the section, what it says, the kind in force after its instructions, those that
 /// they remembered, the latest last, and the place of the first instruction that is at fault.
-#[derive(Debug, Drop)]
+#[derive(Drop)]
 pub(crate) struct KnownCie {
     pub(crate) offset: u32,
     pub(crate) form: CieForm,

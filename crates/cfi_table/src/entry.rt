@@ -12,7 +12,7 @@ use std::alloc::Global;
 const FIRST_RESERVED_LENGTH: u32 = 0xffff_fff0;
 
 /// An entry: the offset of its length in the section, and where it ends.
-#[derive(Clone, Copy, Debug, PartialEq, Eq)]
+#[derive(Clone, Copy)]
 pub(crate) struct Entry {
     pub(crate) offset: u32,
     pub(crate) end: u32,

@@ -21,7 +21,7 @@ use std::alloc::Global;
 
 /// A frame description: its offset in the section, its first address and how many there are, where
 /// its instructions begin and end, and its CIE.
-#[derive(Clone, Copy, Debug, PartialEq, Eq)]
+#[derive(Clone, Copy, Debug)]
 pub(crate) struct Fde {
     pub(crate) offset: u32,
     pub(crate) start: u32,

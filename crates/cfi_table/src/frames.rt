@@ -52,6 +52,22 @@ fn ranges_of(alloc: Global, fdes: &[Fde]) -> Result<Vec<AddressRange>, Memory>
     Ok(ranges)
 }
 
+/// The table of the section's FDEs that count.
+fn table_of(alloc: Global, section: &[u8], fdes: Vec<Fde>) -> Result<FrameTable, Memory>
+    requires small { length section.now < 2 ^ 31 }
+    requires few { length fdes.items ≤ length section.now }
+    requires placed { All (IsFdeIn section.now) fdes.items }
+    ensures { IfOk result (λ table. table ≡ record { section = section.now; fdes = fdes.items }) }
+{
+    let ranges = FirstRange::of(alloc, ranges_of(alloc, &fdes)?)?;
+    let section = Vec::from_slice(alloc, section)?;
+    Ok(FrameTable {
+        section,
+        fdes,
+        ranges,
+    })
+}
+
 /// The frames of `.debug_frame`, or its first fault in section order. The section has fewer than
 /// 2^31 bytes. Of the image the segments are looked at, by which ranges count.
 #[tactic(auto, unfolding(crate::specs::Frames::frames_of))]
@@ -70,13 +86,7 @@ pub fn read_frames(
         return Err(Fail::Fault(FrameFault { offset }));
     }
     let fdes = fdes_of(alloc, bytes, &entries, &cies, image)?;
-    let ranges = FirstRange::of(alloc, ranges_of(alloc, &fdes)?)?;
-    let section = Vec::from_slice(alloc, bytes)?;
-    Ok(FrameTable {
-        section,
-        fdes,
-        ranges,
-    })
+    Ok(table_of(alloc, bytes, fdes)?)
 }
 
 fn fde_of_index(fdes: &[Fde], index: Option<u32>) -> Option<Fde>

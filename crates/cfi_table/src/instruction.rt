@@ -10,7 +10,7 @@ use prof_bytes::Cursor;
 
 /// What one instruction does. Offsets and steps are whole and modulo 2^32; registers are as the
 /// instruction names them.
-#[derive(Clone, Copy, Debug, PartialEq, Eq)]
+#[derive(Clone, Copy)]
 pub(crate) enum Instruction {
     Nothing,
     Advance(u32),

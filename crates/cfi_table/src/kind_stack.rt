@@ -8,7 +8,7 @@ use std::marker::Model;
 
 /// The kinds that were remembered, a byte each, the latest last: first those that were there before,
 /// which are lent, and then its own. Contracts see them with the latest first.
-#[derive(Debug, Drop)]
+#[derive(Drop)]
 pub(crate) struct KindStack<'a> {
     lent: &'a [Kind],
     own: Vec<Kind>,

@@ -10,7 +10,7 @@ use std::alloc::Global;
 use std::marker::Model;
 
 /// The kind of the rule for the canonical frame address.
-#[derive(Clone, Copy, Debug, PartialEq, Eq)]
+#[derive(Clone, Copy)]
 pub(crate) enum Kind {
     Missing,
     Register,
@@ -18,7 +18,7 @@ pub(crate) enum Kind {
 }
 
 /// The kind in force, and those that were remembered.
-#[derive(Debug, Drop)]
+#[derive(Drop)]
 pub(crate) struct Kinds<'a> {
     now: Kind,
     remembered: KindStack<'a>,

@@ -10,7 +10,7 @@ use std::alloc::Global;
 use std::marker::Model;
 
 /// What takes back a step.
-#[derive(Clone, Copy, Debug)]
+#[derive(Clone, Copy)]
 pub(crate) enum Undo {
     /// The rules were remembered, and this rule for the canonical frame address with them.
     Mark(Cfa),
@@ -20,7 +20,7 @@ pub(crate) enum Undo {
 
 /// The rules of the registers, and what takes them back to each state that was remembered, the latest
 /// last. A state that is remembered takes no copy of the rules, and a change one step to take it back.
-#[derive(Debug, Drop)]
+#[derive(Drop)]
 pub(crate) struct RegisterRules {
     regs: [Rule; 32],
     undo: Vec<Undo>,
