@@ -17,7 +17,7 @@ const PROGRAM_HEADER_SIZE: u32 = 32;
 const SECTION_HEADER_SIZE: u32 = 40;
 
 /// The fields of a program header that are looked at, and its offset in the file.
-#[derive(Clone, Copy, Debug)]
+#[derive(Clone, Copy)]
 pub(crate) struct ProgramHeader {
     pub(crate) place: u32,
     pub(crate) kind: u32,
@@ -29,7 +29,7 @@ pub(crate) struct ProgramHeader {
 }
 
 /// The fields of a section header that are looked at, and its offset in the file.
-#[derive(Clone, Copy, Debug)]
+#[derive(Clone, Copy)]
 pub(crate) struct SectionHeader {
     pub(crate) place: u32,
     pub(crate) name: u32,
@@ -42,7 +42,7 @@ pub(crate) struct SectionHeader {
 }
 
 /// The fields of a symbol that are looked at, and its offset in the file.
-#[derive(Clone, Copy, Debug)]
+#[derive(Clone, Copy)]
 pub(crate) struct Symbol {
     pub(crate) place: u32,
     pub(crate) name: u32,

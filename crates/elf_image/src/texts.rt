@@ -75,7 +75,7 @@ fn ends_of(alloc: Global, bytes: &[u8]) -> Result<Vec<u32>, Memory>
 }
 
 /// A section of texts. Each text is found in the same short time, however long it is.
-#[derive(Debug, Drop)]
+#[derive(Drop)]
 pub(crate) struct Texts<'a> {
     bytes: &'a [u8],
     ends: Vec<u32>,
