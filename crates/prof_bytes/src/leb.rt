@@ -71,7 +71,7 @@ fn below_zero(value: u128, span: u128) -> Option<i64>
     if magnitude > 1 << 63 {
         return None;
     }
-    Some(-((magnitude - 1) as i64) - 1)
+    Some(0_i64.wrapping_sub_unsigned(magnitude as u64))
 }
 
 fn signed(group: &[u8]) -> Option<(i64, usize)>
