@@ -1,5 +1,5 @@
 //! What the program's words ask for.
-ghost use Rattle.std.specs.Prelude.{◌≡◌};
+ghost use Rattle.std.specs.Prelude.{◌≡◌, ◌∷◌, []};
 ghost use Rattle.std.specs.Option.{option_copied};
 ghost use Rattle.hpc_top.specs.Words.{command_of, file_name, profile_words, request_of, view_profiles, view_request};
 
@@ -21,18 +21,34 @@ fn name(word: &Text) -> Option<&[u8]>
     Some(word.bytes())
 }
 
+/// The names and numbers of a profile, each from its word.
+fn profile_named<'a>(
+    elf: &'a Text,
+    input: &'a Text,
+    schedule: &'a Text,
+    period: &Text,
+    workers: &Text,
+    database: &'a Text,
+) -> Option<ProfileWords<'a>>
+    ensures { view_profiles result ≡ profile_words (elf.now ∷ input.now ∷ schedule.now ∷ period.now ∷ workers.now ∷ database.now ∷ []) }
+{
+    Some(ProfileWords {
+        elf: name(elf)?,
+        input: name(input)?,
+        schedule: name(schedule)?,
+        period: number(period.bytes(), 1, MOST_PERIOD)?,
+        workers: number(workers.bytes(), 1, MOST_WORKERS)?,
+        database: name(database)?,
+    })
+}
+
 fn read_profile(words: &[Text]) -> Option<ProfileWords<'_>>
     ensures { view_profiles result ≡ profile_words words.now }
 {
     match words {
-        [elf, input, schedule, period, workers, database] => Some(ProfileWords {
-            elf: name(elf)?,
-            input: name(input)?,
-            schedule: name(schedule)?,
-            period: number(period.bytes(), 1, MOST_PERIOD)?,
-            workers: number(workers.bytes(), 1, MOST_WORKERS)?,
-            database: name(database)?,
-        }),
+        [elf, input, schedule, period, workers, database] => {
+            profile_named(elf, input, schedule, period, workers, database)
+        }
         _ => None,
     }
 }
