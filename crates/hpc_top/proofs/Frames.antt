@@ -1,5 +1,5 @@
 -- The scopes of a path, a frame more at a time.
-use Rattle.std.proofs.Common.{◌≡◌, ℕ, ◌+◌, ◌-◌, ◌<◌, ◌≤◌, List, [], ◌∷◌, ◌++◌, length, get_or, take, reverse, sym, ap, ◌∙◌, arith, append-nil, take_all}
+use Rattle.std.proofs.Common.{◌≡◌, ℕ, ◌+◌, ◌-◌, ◌<◌, ◌≤◌, List, [], ◌∷◌, ◌++◌, length, get_or, take, drop, reverse, sym, ap, subst, ◌∙◌, arith, append-nil, take_all}
 use Rattle.std.specs.List.{flat_map}
 use Rattle.std.proofs.lemmas.List.{take_more, length-reverse, get_or-reverse}
 use Rattle.std.proofs.lemmas.List.Concat.{flat_map-append}
@@ -29,9 +29,17 @@ one_caller_more image root callers k caller before after lt is so_far one =
 pub no_frames : (image : Loaded) (root : RootKind) (scopes : List Scope) → scopes ≡ Root root ∷ [] → scopes ≡ expansion (found_at image) root []
 no_frames image root scopes is = is
 
-pub whole_path : (image : Loaded) (root : RootKind) (pc : ℕ) (callers : List ℕ) (k : ℕ) (before after : List Scope) → length callers ≤ k → before ≡ Root root ∷ caller_scopes image (take k (reverse callers))
+whole_path : (image : Loaded) (root : RootKind) (pc : ℕ) (callers : List ℕ) (k : ℕ) (before after : List Scope) → length callers ≤ k → before ≡ Root root ∷ caller_scopes image (take k (reverse callers))
     → after ≡ before ++ Proc (procedure_at image pc) ∷ Stmt (Address pc) ∷ [] → after ≡ expansion (found_at image) root (pc ∷ callers)
 whole_path image root pc callers k before after le so_far one =
     one ∙ ap (λ (l : List Scope). l ++ Proc (procedure_at image pc) ∷ Stmt (Address pc) ∷ []) (so_far ∙ ap (λ (l : List ℕ). Root root ∷ caller_scopes image l) (take_all k (reverse callers) (let l = length-reverse callers in omega (arith, l, le))))
 
-pub ruleset frame_steps = (one_caller_more, no_frames, whole_path)
+-- the innermost counter and its callers, as parts of all
+pub whole_slice : (image : Loaded) (root : RootKind) (pcs : List ℕ) (k : ℕ) (before after : List Scope) → 1 ≤ length pcs → length (take (length pcs - 1) (drop 1 pcs)) ≤ k
+    → before ≡ Root root ∷ caller_scopes image (take k (reverse (take (length pcs - 1) (drop 1 pcs))))
+    → after ≡ before ++ Proc (procedure_at image (get_or pcs 0 0)) ∷ Stmt (Address (get_or pcs 0 0)) ∷ [] → after ≡ expansion (found_at image) root pcs
+whole_slice image root [] k before after some le so_far one = absurd (omega arith)
+whole_slice image root (pc ∷ callers) k before after some le so_far one =
+    let rest : take (length (pc ∷ callers) - 1) callers ≡ callers = take_all (length (pc ∷ callers) - 1) callers (omega arith) in
+    whole_path image root pc callers k before after (subst (λ (cs : List ℕ). length cs ≤ k) rest le)
+    (so_far ∙ ap (λ (cs : List ℕ). Root root ∷ caller_scopes image (take k (reverse cs))) rest) one

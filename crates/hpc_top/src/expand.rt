@@ -41,7 +41,7 @@ fn put_frame(image: &Image<'_>, scopes: &mut Vec<Scope>, pc: u32, last: Scope) -
 }
 
 /// The call path of these program counters, which are innermost first.
-#[tactic(auto, using(crate::proofs::Frames::frame_steps))]
+#[tactic(auto, using(crate::proofs::Frames::no_frames))]
 fn expand(
     alloc: Global,
     image: &Image<'_>,
