@@ -22,7 +22,7 @@ looked_same s = record { tells = refl; files = refl; stores = refl; reads = omeg
 pub looked_on : (s t u : ShelfState) → Looked s t → Looked t u → Looked s u
 looked_on s t u a b = record { tells = b.tells ∙ a.tells; files = b.files ∙ a.files; stores = b.stores ∙ a.stores; reads = (let x = a.reads in let y = b.reads in omega arith) }
 
-told_on : (s t : ShelfState) → Looked s t → IsTrue s.tells → IsTrue t.tells
+pub told_on : (s t : ShelfState) → Looked s t → IsTrue s.tells → IsTrue t.tells
 told_on s t looked told = looked.tells ∙ told
 
 pub bind_ok : {X Y F : Type 0} (r : Result X F) (f : X → Result Y F) (y : Y) → (r >>= f) ≡ Ok y → (x : X) × (r ≡ Ok x) × (f x ≡ Ok y)

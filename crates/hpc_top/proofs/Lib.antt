@@ -1,4 +1,5 @@
 pub mod Complete
+pub mod Outcomes
 pub mod Line
 pub mod Fetching
 pub mod Lines
