@@ -1,10 +1,12 @@
 -- The samples as the code counts them have the paths of the definition, in another order.
-use Rattle.std.proofs.Common.{◌≡◌, ℕ, ◌+◌, ◌*◌, ◌^◌, ◌≤◌, ◌==◌, nat_lt, Bool, true, false, cond, List, [], ◌∷◌, length, map, take, count_by, Result, Ok, Err, refl, sym, ap, ap₂, ◌∙◌, arith}
+use Rattle.std.proofs.Common.{◌≡◌, ℕ, ◌+◌, ◌*◌, ◌^◌, ◌≤◌, ◌==◌, nat_lt, Bool, true, false, cond, if◌then◌else◌, List, [], ◌∷◌, length, map, take, count_by, Result, Ok, Err, refl, sym, ap, ap₂, ◌∙◌, arith}
 use Rattle.std.specs.List.{range_with_len}
 use Rattle.std.proofs.lemmas.Bool.Decides.{nat_tests}
 use Rattle.std.proofs.lemmas.List.{length-map}
 use Rattle.std.proofs.lemmas.List.FromFn.{length-range_with_len}
-use Rattle.prof_bytes.specs.Outcome.{◌>>=◌}
+use Rattle.prof_bytes.specs.declared.fail.Fail.{Fail}
+use Rattle.prof_bytes.specs.declared.fail.Fail.TheVariants as fails
+use Rattle.prof_bytes.specs.Outcome.{◌>>=◌, FailsBy}
 use Rattle.elf_image.specs.Image.{Loaded}
 use Rattle.scope_types.specs.CallPaths.{HartPath}
 use Rattle.scope_types.specs.declared.frame.End.{End}
@@ -14,7 +16,6 @@ use Rattle.scope_types.specs.declared.scope.RootKind.{RootKind}
 use Rattle.scope_types.specs.Expansion.{expansion}
 use Rattle.rv_run.specs.Schedule.{Scheduled}
 use Rattle.rv_run.specs.State.{MachineState, first_hart, first_state}
-use Rattle.rv_run.specs.Run.{Run, run_of}
 use Rattle.rv_run.specs.Told.{Progress, to_come}
 use Rattle.tree_types.specs.Laws.{Alike}
 use Rattle.tree_types.specs.declared.content.Names.{Names}
@@ -34,7 +35,7 @@ use Rattle.hpc_top.specs.declared.report.HartLine.{HartLine}
 use Rattle.hpc_top.specs.declared.status.InputFault.{InputFault}
 use Rattle.hpc_top.specs.declared.status.InputFault.TheVariants.{TooManySamples, TooManyFrames, TooManyScopes}
 use Rattle.hpc_top.specs.Samples.{found_at, root_of, pc_of, end_word, sample_path, sample_words, distinct, frame_count, scope_count, most_path_frames, most_path_scopes, few_samples, few_scopes}
-use Rattle.hpc_top.specs.PathCounts.{Counted, AreCounted, AllCollected, root_from, words_path, each_words, words_in}
+use Rattle.hpc_top.specs.PathCounts.{Counted, AreCounted, AllCollected, AllExpanded, Refuses, root_from, taken, words_path, each_words, words_in}
 use Rattle.hpc_top.specs.Report.{report_of, total_line}
 use Rattle.hpc_top.specs.Profile.{Product, naming_of, hart_line_of, hart_lines, product_from, product_of}
 use Rattle.hpc_top.proofs.Scopes.{scope_total}
@@ -90,79 +91,106 @@ product_alike period harts naming ps qs final alike =
     let lines : hart_lines harts ps final ≡ hart_lines harts qs final = lines_alike ps qs final alike (harts_below harts) in
     λ i. record { database = spelling (contents i); text = report_of final.output (total_line harts period (longs i)) (lines i) (tables i) }
 
--- a table under the names that the nodes use
-pub table_named : (period harts : ℕ) (naming : Naming) (ps : List HartPath) (names : Names) (table : List ℕ) → names ≡ names_used naming ps → table ≡ top_down period harts (naming_in names) ps → table ≡ top_down period harts naming ps
-table_named period harts naming ps names table named is = is ∙ ap (λ (n : Names). top_down period harts (naming_in n) ps) named ∙ own_names_table period harts naming ps
+-- a report with the table under the names that the nodes use
+pub text_named : (period harts : ℕ) (naming : Naming) (ps : List HartPath) (final : MachineState) (names : Names) (table : List ℕ) (text : List ℕ) → names ≡ names_used naming ps → table ≡ top_down period harts (naming_in names) ps
+    → text ≡ report_of final.output (total_line harts period (length ps)) (hart_lines harts ps final) table → text ≡ (product_from period harts naming ps final).text
+text_named period harts naming ps final names table text named tabled is =
+    is
+    ∙ ap (report_of final.output (total_line harts period (length ps)) (hart_lines harts ps final))
+    (tabled ∙ ap (λ (n : Names). top_down period harts (naming_in n) ps) named ∙ own_names_table period harts naming ps)
 
--- ---- the whole job
+-- ---- the paths of samples that were counted
 
--- what is made of samples that were taken
-abbrev made_from : ℕ → ℕ → Loaded → MachineState → List Sample → Result Product InputFault
-made_from period harts image final all = few_scopes image all >>= λ all. Ok (product_from period harts (naming_of image) (map (sample_path image) all) final)
-
--- the paths that were counted are as many as there are samples
-pub counted_few : {A : Type 0} (image : Loaded) (counted : Counted A) (all : List Sample) (ps : List HartPath) → AreCounted counted (map sample_words all) → ps ≡ map (words_path image) (each_words counted) → few_samples all ≡ Ok all → length ps ≤ 2 ^ 20
-counted_few image counted all ps counts is few =
-    let same = long_alike ps (map (sample_path image) all) (alike_paths image counted all ps counts is) in
-    let long = length-map all (sample_path image) in
-    let most = within_limit all few in
+-- paths that are as many as samples that were taken
+pub few_alike : (path_of : Paths) (image : Loaded) (ps : List HartPath) (old new : Sampling) → AllExpanded path_of image ps old new → length ps ≤ 2 ^ 20
+few_alike path_of image ps old new expanded =
+    let whole : List Sample = samples_to_come path_of old in
+    let same = long_alike ps (map (sample_path image) whole) expanded.alike in
+    let long = length-map whole (sample_path image) in
+    let most = within_limit whole expanded.few in
     omega (arith, same, long, most)
   where
-    by_tests : (a b : Bool) (all : List Sample) → cond a (Err TooManyFrames) (cond b (Err TooManySamples) (Ok all)) ≡ Ok all → b ≡ false
-    by_tests true b all e = absurd cc
-    by_tests false true all e = absurd cc
-    by_tests false false all e = refl
+    by_tests : (a b : Bool) (all taken : List Sample) (next : List Sample → Result (List Sample) InputFault) → cond a (Err TooManyFrames) (cond b (Err TooManySamples) (Ok all)) >>= next ≡ Ok taken → b ≡ false
+    by_tests true b all taken next e = absurd cc
+    by_tests false true all taken next e = absurd cc
+    by_tests false false all taken next e = refl
 
     at_most : (a b : ℕ) → nat_lt a b ≡ false → b ≤ a
     at_most a b e = grind (arith, nat_tests)
 
-    within_limit : (all : List Sample) → few_samples all ≡ Ok all → length all ≤ most_samples
-    within_limit all few = at_most most_samples (length all) (by_tests (nat_lt most_path_frames (frame_count (take most_samples all))) (nat_lt most_samples (length all)) all few)
+    within_limit : (all : List Sample) → few_samples all >>= few_scopes image ≡ Ok all → length all ≤ most_samples
+    within_limit all few = at_most most_samples (length all) (by_tests (nat_lt most_path_frames (frame_count (take most_samples all))) (nat_lt most_samples (length all)) all all (few_scopes image) few)
+
+-- too many samples or frames
+pub refused_samples : (path_of : Paths) (image : Loaded) (old : Sampling) (fail : Fail InputFault) → Refuses path_of fail old → FailsBy fail (taken path_of image old)
+refused_samples path_of image old (fails.Fault fault) many = ap (λ (r : Result (List Sample) InputFault). r >>= few_scopes image) many
+refused_samples path_of image old fails.Memory many = tt
+
+-- the scopes decide
+abbrev by_scopes : Bool → List Sample → Result (List Sample) InputFault
+by_scopes many all = if many then Err TooManyScopes else Ok all
+
+taken_by_scopes : (path_of : Paths) (image : Loaded) (found : PathCounts) (old new : Sampling) (many : Bool) → AllCollected path_of found old new → many ≡ nat_lt most_path_scopes (length (words_in found.counts.entries) + 2 * found.frames)
+    → taken path_of image old ≡ by_scopes many (samples_to_come path_of old)
+taken_by_scopes path_of image found old new many collected is =
+    let whole : List Sample = samples_to_come path_of old in
+    let total : length (words_in found.counts.entries) + 2 * found.frames ≡ scope_count image whole =
+    ap (λ (n : ℕ). n + 2 * found.frames) collected.paths ∙ ap (λ (n : ℕ). length (distinct whole) + 2 * n) collected.frames ∙ sym (scope_total image whole) in
+    ap (λ (r : Result (List Sample) InputFault). r >>= few_scopes image) collected.few ∙ ap (λ (b : Bool). by_scopes b whole) (ap (nat_lt most_path_scopes) (sym total) ∙ sym is)
+
+-- too many scopes
+pub refused_scopes : (path_of : Paths) (image : Loaded) (found : PathCounts) (old new : Sampling) (many : Bool) → AllCollected path_of found old new → many ≡ nat_lt most_path_scopes (length (words_in found.counts.entries) + 2 * found.frames)
+    → many ≡ true → taken path_of image old ≡ Err TooManyScopes
+refused_scopes path_of image found old new many collected is too_many =
+    taken_by_scopes path_of image found old new many collected is ∙ ap (λ (b : Bool). by_scopes b (samples_to_come path_of old)) too_many
+
+-- the paths of all
+pub all_expanded : (path_of : Paths) (image : Loaded) (found : PathCounts) (old new : Sampling) (many : Bool) (ps : List HartPath) → AllCollected path_of found old new
+    → many ≡ nat_lt most_path_scopes (length (words_in found.counts.entries) + 2 * found.frames) → many ≡ false → ps ≡ map (words_path image) (each_words found.counts.entries) → AllExpanded path_of image ps old new
+all_expanded path_of image found old new many ps collected is few paths =
+    record {
+      few = taken_by_scopes path_of image found old new many collected is ∙ ap (λ (b : Bool). by_scopes b (samples_to_come path_of old)) few;
+      alike = alike_paths image found.counts.entries (samples_to_come path_of old) ps collected.counts paths;
+      ended = collected.ended;
+    }
 
 -- ---- a run from its start
 
-pub harts_at_end : (image : Loaded) (schedule : Scheduled) (input : List ℕ) (period all : ℕ) (machine : Progress) (old : Sampling) (final : MachineState)
+pub harts_at_end : (image : Loaded) (schedule : Scheduled) (input : List ℕ) (all : ℕ) (machine : Progress) (old : Sampling)
     → machine ≡ record { state = first_state image schedule.harts input; left = schedule.slices } → all ≡ length machine.state.harts → all ≡ length (to_come machine).final.harts
-    → old ≡ record { machine = machine; period = period; met = 0 } → final ≡ (to_come old.machine).final → schedule.harts ≡ length final.harts
-harts_at_end image schedule input period all machine old final begins first last is ended =
+    → old.machine ≡ machine → schedule.harts ≡ length (to_come old.machine).final.harts
+harts_at_end image schedule input all machine old begins first last is =
     sym (ap (λ (m : Progress). length m.state.harts) begins ∙ length-map (range_with_len 0 schedule.harts) (first_hart image.entry schedule.harts) ∙ length-range_with_len 0 schedule.harts)
-    ∙ sym first ∙ last ∙ ap (λ (s : Sampling). length (to_come s.machine).final.harts) (sym is) ∙ ap (λ (m : MachineState). length m.harts) (sym ended)
+    ∙ sym first ∙ last ∙ ap (λ (m : Progress). length (to_come m).final.harts) (sym is)
 
-module _ (path_of : Paths) (period harts : ℕ) (image : Loaded) (schedule : Scheduled) (input : List ℕ) (machine : Progress) (old : Sampling)
-    (begins : machine ≡ record { state = first_state image schedule.harts input; left = schedule.slices }) (is : old ≡ record { machine = machine; period = period; met = 0 }) where
-  run : to_come old.machine ≡ run_of image schedule input
-  run = ap (λ (s : Sampling). to_come s.machine) is ∙ ap to_come begins
+-- ---- what is made of samples that are to come
 
-  all : samples_to_come path_of old ≡ samples path_of period (run_of image schedule input).instants
-  all = ap (λ (s : Sampling). samples_to_come path_of s) is ∙ ap (λ (m : Progress). samples path_of period (to_come m).instants) begins
+-- the product of samples that are taken
+abbrev made_from : ℕ → ℕ → Loaded → MachineState → List Sample → Result Product InputFault
+made_from period harts image final all = Ok (product_from period harts (naming_of image) (map (sample_path image) all) final)
 
-  -- too many samples or frames
-  pub refused_samples : (fault : InputFault) → few_samples (samples_to_come path_of old) ≡ Err fault → product_of path_of period harts image (run_of image schedule input) ≡ Err fault
-  refused_samples fault many =
-      ap (λ (r : Result (List Sample) InputFault). r >>= made_from period harts image (run_of image schedule input).final) (ap few_samples (sym all) ∙ many)
+module _ (path_of : Paths) (period harts : ℕ) (image : Loaded) (old : Sampling) (same : period ≡ old.period) where
+  -- the limits come first, in one step or in two
+  in_two : (final : MachineState) (few : Result (List Sample) InputFault) → (few >>= λ all. few_scopes image all >>= made_from period harts image final) ≡ ((few >>= few_scopes image) >>= made_from period harts image final)
+  in_two final (Ok all) = refl
+  in_two final (Err fault) = refl
 
-  -- too many scopes
-  pub refused_scopes : (found : PathCounts) (new : Sampling) → AllCollected path_of found old new → nat_lt most_path_scopes (length (words_in found.counts.entries) + 2 * found.frames) ≡ true
-      → product_of path_of period harts image (run_of image schedule input) ≡ Err TooManyScopes
-  refused_scopes found new collected many =
-      let whole : List Sample = samples_to_come path_of old in
-      let total : length (words_in found.counts.entries) + 2 * found.frames ≡ scope_count image whole =
-      ap (λ (n : ℕ). n + 2 * found.frames) collected.paths ∙ ap (λ (n : ℕ). length (distinct whole) + 2 * n) collected.frames ∙ sym (scope_total image whole) in
-      ap (λ (r : Result (List Sample) InputFault). r >>= made_from period harts image (run_of image schedule input).final) (ap few_samples (sym all) ∙ collected.few)
-      ∙ ap (λ (b : Bool). cond b (Err TooManyScopes) (Ok whole) >>= λ all. Ok (product_from period harts (naming_of image) (map (sample_path image) all) (run_of image schedule input).final))
-      (ap (nat_lt most_path_scopes) (sym total) ∙ many)
+  in_steps : product_of path_of period harts image (to_come old.machine) ≡ (taken path_of image old >>= made_from period harts image (to_come old.machine).final)
+  in_steps =
+      in_two (to_come old.machine).final (few_samples (samples path_of period (to_come old.machine).instants))
+      ∙ ap (λ (n : ℕ). (few_samples (samples path_of n (to_come old.machine).instants) >>= few_scopes image) >>= made_from period harts image (to_come old.machine).final) same
 
-  pub whole_job : (found : PathCounts) (new : Sampling) (ps : List HartPath) (final : MachineState) (made : Product) → AllCollected path_of found old new
-      → nat_lt most_path_scopes (length (words_in found.counts.entries) + 2 * found.frames) ≡ false
-      → ps ≡ map (words_path image) (each_words found.counts.entries) → final ≡ new.machine.state → made ≡ product_from period harts (naming_of image) ps final
-      → product_of path_of period harts image (run_of image schedule input) ≡ Ok made
-  whole_job found new ps final made collected few paths ended is_made =
-      let whole : List Sample = samples_to_come path_of old in
-      let total : length (words_in found.counts.entries) + 2 * found.frames ≡ scope_count image whole =
-      ap (λ (n : ℕ). n + 2 * found.frames) collected.paths ∙ ap (λ (n : ℕ). length (distinct whole) + 2 * n) collected.frames ∙ sym (scope_total image whole) in
-      let at_end : final ≡ (run_of image schedule input).final = ended ∙ collected.ended ∙ ap (λ (r : Run). r.final) run in
-      ap (λ (r : Result (List Sample) InputFault). r >>= made_from period harts image (run_of image schedule input).final) (ap few_samples (sym all) ∙ collected.few)
-      ∙ ap (λ (b : Bool). cond b (Err TooManyScopes) (Ok whole) >>= λ all. Ok (product_from period harts (naming_of image) (map (sample_path image) all) (run_of image schedule input).final))
-      (ap (nat_lt most_path_scopes) (sym total) ∙ few)
-      ∙ ap Ok (sym (product_alike period harts (naming_of image) ps (map (sample_path image) whole) (run_of image schedule input).final (alike_paths image found.counts.entries whole ps collected.counts paths))
-      ∙ ap (product_from period harts (naming_of image) ps) (sym at_end) ∙ sym is_made)
+  then_made : (r : Result (List Sample) InputFault) → taken path_of image old ≡ r → product_of path_of period harts image (to_come old.machine) ≡ (r >>= made_from period harts image (to_come old.machine).final)
+  then_made r is = in_steps ∙ ap (λ (r : Result (List Sample) InputFault). r >>= made_from period harts image (to_come old.machine).final) is
+
+  pub refused_job : (fail : Fail InputFault) → FailsBy fail (taken path_of image old) → FailsBy fail (product_of path_of period harts image (to_come old.machine))
+  refused_job fails.Memory many = tt
+  refused_job (fails.Fault fault) many = then_made (Err fault) many
+
+  pub whole_job : (new : Sampling) (ps : List HartPath) (final : MachineState) (made : Product) → AllExpanded path_of image ps old new → final ≡ new.machine.state
+      → made ≡ product_from period harts (naming_of image) ps final → product_of path_of period harts image (to_come old.machine) ≡ Ok made
+  whole_job new ps final made expanded ended is_made =
+      then_made (Ok (samples_to_come path_of old)) expanded.few
+      ∙ ap Ok
+      (sym (product_alike period harts (naming_of image) ps (map (sample_path image) (samples_to_come path_of old)) (to_come old.machine).final expanded.alike)
+      ∙ ap (product_from period harts (naming_of image) ps) (sym (ended ∙ expanded.ended)) ∙ sym is_made)

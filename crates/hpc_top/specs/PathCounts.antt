@@ -4,6 +4,7 @@ use Rattle.std.specs.List.{flat_map, list_any}
 use Rattle.std.specs.Cmp.Lexicographic.{pointwise}
 use Rattle.prof_bytes.specs.declared.fail.Fail.{Fail}
 use Rattle.prof_bytes.specs.declared.fail.Fail.TheVariants as fails
+use Rattle.prof_bytes.specs.Outcome.{◌>>=◌, FailsBy}
 use Rattle.rv_run.specs.Told.{to_come}
 use Rattle.sample_clock.specs.declared.clock.Sample.{Sample}
 use Rattle.sample_clock.specs.Samples.{Paths}
@@ -13,10 +14,12 @@ use Rattle.hpc_top.specs.declared.status.InputFault.{InputFault}
 use Rattle.hpc_top.specs.declared.status.InputFault.TheVariants.{TooManySamples}
 use Rattle.scope_types.specs.declared.scope.RootKind.{RootKind}
 use Rattle.scope_types.specs.declared.scope.RootKind.TheVariants.{Thread, Partial}
-use Rattle.scope_types.specs.CallPaths.{HartPath}
+use Rattle.scope_types.specs.CallPaths.{HartPath, each_path}
+use Rattle.scope_types.specs.declared.path.Entry.{Entry}
 use Rattle.scope_types.specs.Expansion.{expansion}
 use Rattle.elf_image.specs.Image.{Loaded}
-use Rattle.hpc_top.specs.Samples.{found_at, sample_words, distinct, frame_count, most_path_frames, few_samples}
+use Rattle.tree_types.specs.Laws.{Alike}
+use Rattle.hpc_top.specs.Samples.{found_at, sample_path, sample_words, distinct, frame_count, most_path_frames, few_samples, few_scopes}
 
 -- ---- words of raw paths
 
@@ -113,3 +116,20 @@ Refuses path_of fails.Memory old = Unit {0}
 abbrev pub Collects : Paths → Result PathCounts (Fail InputFault) → Sampling → Sampling → Type 0
 Collects path_of (Ok found) old new = AllCollected path_of found old new
 Collects path_of (Err fail) old new = Refuses path_of fail old
+
+-- ---- paths that are expanded
+
+-- the samples that are to come, unless there are too many of them, of their frames or of their scopes
+abbrev pub taken : Paths → Loaded → Sampling → Result (List Sample) InputFault
+taken path_of image s = few_samples (samples_to_come path_of s) >>= few_scopes image
+
+-- no limit is passed, these are the call paths of the samples in any order, and the machine stands at the end of its run
+pub record AllExpanded (path_of : Paths) (image : Loaded) (paths : List HartPath) (old new : Sampling) : Type 0 where
+  pub few : taken path_of image old ≡ Ok (samples_to_come path_of old)
+  pub alike : Alike paths (map (sample_path image) (samples_to_come path_of old))
+  pub ended : new.machine.state ≡ (to_come old.machine).final
+
+-- what expanding the paths of the samples gives
+abbrev pub Expands : Paths → Loaded → Result (List Entry) (Fail InputFault) → Sampling → Sampling → Type 0
+Expands path_of image (Ok entries) old new = AllExpanded path_of image (each_path entries) old new
+Expands path_of image (Err fail) old new = FailsBy fail (taken path_of image old)

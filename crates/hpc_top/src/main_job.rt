@@ -1,13 +1,18 @@
 //! The main job over bytes: a program, its input and a schedule to a database and a report.
-ghost use Rattle.std.specs.Prelude.{◌≡◌, ◌≤◌, ◌^◌, ◌<◌, ◌+◌, ◌*◌, length, nat_lt, IfOk};
+ghost use Rattle.std.specs.Prelude.{◌≡◌, ◌≤◌, ◌^◌, ◌<◌, ◌+◌, ◌*◌, length, nat_lt, Ok, IfOk};
 ghost use Rattle.prof_bytes.specs.Outcome.{Gives};
 ghost use Rattle.scope_types.specs.CallPaths.{each_path};
 ghost use Rattle.rv_run.specs.Run.{run_of};
+ghost use Rattle.rv_run.specs.State.{first_state};
+ghost use Rattle.rv_run.specs.Told.{to_come};
 ghost use Rattle.cfi_unwind.specs.Path.{path_of as unwound_by};
+ghost use Rattle.tree_types.specs.Naming.{Naming};
 ghost use Rattle.tree_types.specs.Nodes.{nodes, no_parent};
+ghost use Rattle.tree_types.specs.Database.{content_of, names_used};
+ghost use Rattle.prof_db.specs.Spelling.{spelling};
 ghost use Rattle.hpc_top.specs.Made.{view};
 ghost use Rattle.hpc_top.specs.Samples.{most_path_scopes};
-ghost use Rattle.hpc_top.specs.PathCounts.{words_in};
+ghost use Rattle.hpc_top.specs.PathCounts.{Expands, words_in};
 ghost use Rattle.hpc_top.specs.Profile.{frame_information, naming_of, no_entries, product_from, product_of, profile_of, program, scheduled};
 
 use crate::expand::entries_of;
@@ -18,14 +23,14 @@ use crate::status::{InputFault, Made, Part};
 use cfi_table::{FrameTable, read_frames};
 use cfi_unwind::Unwinder;
 use elf_image::{Image, read_image};
-use prof_bytes::{Fail, Listed, Memory};
+use prof_bytes::{Fail, Listed, Memory, Text};
 use prof_db::write_db;
 use rv_run::{Machine, Schedule, read_schedule};
 use sample_clock::Samples;
 use scope_types::{Entry, ScopePath};
 use std::alloc::Global;
 use std::thread::Threads;
-use tree_types::{NO_PARENT, content_of_paths, nodes_of};
+use tree_types::{NO_PARENT, Names, content_of_paths, nodes_of};
 use view_tables::top_down_table;
 
 /// The most scopes that the distinct call paths may have together.
@@ -110,8 +115,46 @@ fn tree_of(alloc: Global, entries: &[Entry]) -> Result<Listed<ScopePath>, Memory
     Ok(tree)
 }
 
+/// The report of samples under these names, which the nodes of their paths use.
+#[tactic(auto, using(crate::proofs::Products::text_named))]
+fn report_named(
+    alloc: Global,
+    period: u32,
+    harts: u32,
+    names: &Names,
+    entries: &[Entry],
+    tree: &[ScopePath],
+    machine: &Machine<'_>,
+) -> Result<Text, Memory>
+    requires few { length (each_path entries.now) ≤ 2 ^ 20 }
+    requires nodes { tree.now ≡ nodes (each_path entries.now) }
+    requires period { 0 < period }
+    requires harts { harts ≡ length machine.now.state.harts }
+    ensures { (naming : Naming) → names.now ≡ names_used naming (each_path entries.now) → IfOk result (λ text. text ≡ (product_from period harts naming (each_path entries.now) machine.now.state).text) }
+{
+    let table = top_down_table(alloc, period, harts, names, entries, tree)?;
+    report(alloc, period, harts, entries, machine, table.as_slice())
+}
+
+/// The database of samples under these names, which the nodes of their paths use.
+fn database_named(
+    alloc: Global,
+    period: u32,
+    harts: u32,
+    names: Names,
+    entries: &[Entry],
+    tree: &[ScopePath],
+) -> Result<Text, Memory>
+    requires few { length (each_path entries.now) ≤ 2 ^ 20 }
+    requires nodes { tree.now ≡ nodes (each_path entries.now) }
+    requires numbers { length tree.now ≤ no_parent }
+    ensures { (naming : Naming) → names ≡ names_used naming (each_path entries.now) → IfOk result (λ text. text ≡ spelling (content_of period harts naming (each_path entries.now))) }
+{
+    let content = content_of_paths(alloc, period, harts, names, entries, tree)?;
+    write_db(alloc, &content)
+}
+
 /// The database and the report of samples, and of the machine at the end of its run.
-#[tactic(auto, using(crate::proofs::Products::table_named))]
 fn made_of(
     alloc: Global,
     period: u32,
@@ -126,13 +169,11 @@ fn made_of(
     ensures { IfOk result (λ made. view made ≡ product_from period harts (naming_of image.now) (each_path entries.now) machine.now.state) }
 {
     let tree = tree_of(alloc, entries)?;
-    let names = names_of(alloc, image, tree.items(), entries)?;
-    let table = top_down_table(alloc, period, harts, &names, entries, tree.items())?;
-    let content = content_of_paths(alloc, period, harts, names, entries, tree.items())?;
-    Ok(Made {
-        database: write_db(alloc, &content)?,
-        report: report(alloc, period, harts, entries, machine, table.as_slice())?,
-    })
+    let tree = tree.items();
+    let names = names_of(alloc, image, tree, entries)?;
+    let report = report_named(alloc, period, harts, &names, entries, tree, machine)?;
+    let database = database_named(alloc, period, harts, names, entries, tree)?;
+    Ok(Made { database, report })
 }
 
 /// Whether distinct paths of so many frames have more scopes than they may: a root each, and for each
@@ -145,9 +186,64 @@ fn has_many_scopes(found: &PathCounts) -> bool
     found.counts.len() as u64 + 2 * found.frames > MOST_SCOPES
 }
 
+/// The call paths of the samples that are to come, in any order, unless there are too many samples,
+/// frames or scopes. The machine then stands at the end of its run.
+fn call_paths(
+    alloc: Global,
+    image: &Image<'_>,
+    unwinder: &Unwinder<'_>,
+    samples: &mut Samples<'_>,
+) -> Result<Listed<Entry>, Fail<InputFault>>
+    requires { samples.old.met ≡ 0 }
+    ensures { Expands (unwound_by unwinder.now) image.now result samples.old samples.new }
+{
+    let found = collect(alloc, samples, unwinder)?;
+    if has_many_scopes(&found) {
+        return Err(Fail::Fault(InputFault::TooManyScopes));
+    }
+    Ok(entries_of(alloc, image, &found.counts)?)
+}
+
+/// What is stored and printed of the samples that are to come, unless there are too many samples,
+/// frames or scopes.
+fn profile_samples(
+    alloc: Global,
+    period: u32,
+    harts: u32,
+    image: &Image<'_>,
+    unwinder: &Unwinder<'_>,
+    samples: &mut Samples<'_>,
+) -> Result<Made, Fail<InputFault>>
+    requires some { 0 < period }
+    requires period { period ≡ samples.old.period }
+    requires harts { harts ≡ length (to_come samples.old.machine).final.harts }
+    requires start { samples.old.met ≡ 0 }
+    ensures { Gives view result (product_of (unwound_by unwinder.now) period harts image.now (to_come samples.old.machine)) }
+{
+    let entries = call_paths(alloc, image, unwinder, samples)?;
+    let machine = samples.machine();
+    Ok(made_of(alloc, period, harts, image, entries.items(), machine)?)
+}
+
+/// The samples of a program's run under a schedule, from its start.
+fn samples_of<'a>(
+    alloc: Global,
+    job: &Job<'_>,
+    image: &Image<'a>,
+    schedule: Schedule,
+) -> Result<Samples<'a>, Memory>
+    requires { 0 < job.now.period }
+    ensures start { IfOk result (λ samples. samples ≡ record { machine = record { state = first_state image.now schedule.harts job.now.input.now; left = schedule.slices }; period = job.now.period; met = 0 }) }
+    ensures harts { IfOk result (λ samples. schedule.harts ≡ length (to_come samples.machine).final.harts) }
+{
+    let machine = Machine::start(alloc, image, schedule, job.input)?;
+    // Called for its clause that as many harts stand at the end of the run, which the proof cites.
+    let _all = machine.harts();
+    Ok(Samples::start(machine, job.period))
+}
+
 /// What is stored and printed of a program's run under a schedule, unless it has too many samples,
 /// frames or scopes.
-#[tactic(auto, using(crate::proofs::Products::counted_few))]
 fn run_job(
     alloc: Global,
     job: &Job<'_>,
@@ -159,23 +255,28 @@ fn run_job(
     ensures { Gives view result (product_of (unwound_by unwinder.now) job.now.period schedule.harts image.now (run_of image.now schedule job.now.input.now)) }
 {
     let harts = schedule.harts();
-    let machine = Machine::start(alloc, image, schedule, job.input)?;
-    // Called for its clause that as many harts stand at the end of the run, which the proof cites.
-    let _all = machine.harts();
-    let mut samples = Samples::start(machine, job.period);
-    let found = collect(alloc, &mut samples, unwinder)?;
-    if has_many_scopes(&found) {
-        return Err(Fail::Fault(InputFault::TooManyScopes));
-    }
-    let entries = entries_of(alloc, image, &found.counts)?;
-    Ok(made_of(
-        alloc,
-        job.period,
-        harts,
-        image,
-        entries.items(),
-        samples.machine(),
-    )?)
+    let mut samples = samples_of(alloc, job, image, schedule)?;
+    profile_samples(alloc, job.period, harts, image, unwinder, &mut samples)
+}
+
+/// What is stored and printed of a job whose schedule and program were read, or the first refusal of
+/// its call frame information or of its run.
+#[tactic(auto, unfolding(crate::specs::Profile::profile_of))]
+fn profile_program(
+    alloc: Global,
+    job: &Job<'_>,
+    schedule: Schedule,
+    image: &Image<'_>,
+) -> Result<Made, Fail<InputFault>>
+    requires schedule { scheduled job.now.schedule.now ≡ Ok schedule }
+    requires program { program job.now.elf.now ≡ Ok image.now }
+    requires period { 0 < job.now.period }
+    ensures { Gives view result (profile_of job.now.elf.now job.now.input.now job.now.schedule.now job.now.period) }
+{
+    let table = frames_of(alloc, image)?;
+    check_no_entries(image)?;
+    let unwinder = Unwinder::of(alloc, &table, image);
+    run_job(alloc, job, image, &unwinder, schedule)
 }
 
 /// What is stored and printed of a job, or the first refusal of its files.
@@ -188,10 +289,7 @@ fn make(alloc: Global, job: &Job<'_>) -> Result<Made, Fail<InputFault>>
 {
     let schedule = schedule_of(alloc, job.schedule)?;
     let image = program_of(alloc, job.elf)?;
-    let table = frames_of(alloc, &image)?;
-    check_no_entries(&image)?;
-    let unwinder = Unwinder::of(alloc, &table, &image);
-    run_job(alloc, job, &image, &unwinder, schedule)
+    profile_program(alloc, job, schedule, &image)
 }
 
 /// The database and the report of a job, or the first refusal of its files. The program has at most

@@ -1,4 +1,4 @@
-use Rattle.std.proofs.Common.{◌≡◌, ◌∙◌, ◌+◌, ◌-◌, ℕ, length, ap, sym, arith}
+use Rattle.std.proofs.Common.{◌∙◌, ◌+◌, ◌-◌, ℕ, length, ap, sym, arith}
 use Rattle.std.specs.Option.{option_copied_mut}
 use Rattle.hpc_top.proofs.Counted.{found_small, counted_again, counted_first, added_none, added_all}
 use Rattle.hpc_top.proofs.path_counts.count_path.Goals as goal
