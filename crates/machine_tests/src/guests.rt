@@ -1,6 +1,10 @@
-//! Programs of a few instructions, and the schedules that they are run under.
+//! Programs of a few instructions, the schedules that they are run under, and machines that start with them.
+ghost use Rattle.std.specs.Prelude.{IfOk};
+ghost use Rattle.rv_run.specs.Told.{IsFresh};
+
+use elf_image::{Image, read_image};
 use prof_bytes::{Memory, put_u32};
-use rv_run::{Schedule, read_schedule};
+use rv_run::{Machine, Schedule, read_schedule};
 use std::alloc::Global;
 
 /// An ELF header and the first words of one program header, by the System V ABI: a program whose
@@ -40,4 +44,30 @@ pub(crate) fn schedule(alloc: Global, text: &[u8]) -> Result<Schedule, Memory> {
         Ok(told) => Ok(told),
         Err(_) => Err(Memory),
     }
+}
+
+/// The image of the program in a file; a file that is refused is an error.
+pub(crate) fn image_of(alloc: Global, file: &[u8]) -> Result<Image<'_>, Memory> {
+    if file.len() > 1 << 26 {
+        return Err(Memory);
+    }
+    match read_image(alloc, file) {
+        Ok(image) => Ok(image),
+        Err(_) => Err(Memory),
+    }
+}
+
+/// A machine before the first instruction of the program in a file, under the schedule of a text and with
+/// this input.
+pub(crate) fn machine_of<'a>(
+    alloc: Global,
+    file: &'a [u8],
+    text: &[u8],
+    input: &[u8],
+) -> Result<Machine<'a>, Memory>
+    ensures { IfOk result (λ machine. IsFresh machine.state) }
+{
+    let told = schedule(alloc, text)?;
+    let image = image_of(alloc, file)?;
+    Machine::start(alloc, &image, told, input)
 }

@@ -1,4 +1,4 @@
-use rv_table::{Op, decode};
+use rv_table::{Inst, Op, decode};
 
 /// A word, its operation, and its fields rd, rs1, rs2 and the immediate. The words are those that
 /// the GNU assembler 2.40 (`as -march=rv32im`) makes of instructions with these operands: each
@@ -291,18 +291,26 @@ static UNKNOWN: [u32; 116] = [
     0x1050_0073,
 ];
 
+/// The first known word that has another row than its own.
+fn other_row() -> Option<u32> {
+    for (word, op, rd, rs1, rs2, imm) in &KNOWN {
+        let wanted = Inst {
+            op: *op,
+            rd: *rd,
+            rs1: *rs1,
+            rs2: *rs2,
+            imm: *imm,
+        };
+        if decode(*word) != wanted {
+            return Some(*word);
+        }
+    }
+    None
+}
+
 #[test]
 fn known_words_have_their_row(rt: HostRuntime) {
-    for (word, op, rd, rs1, rs2, imm) in &KNOWN {
-        let inst = decode(*word);
-        assert_eq!(rt; inst.op, *op, "operation of {word}");
-        assert_eq!(rt;
-            (inst.rd, inst.rs1, inst.rs2),
-            (*rd, *rs1, *rs2),
-            "registers of {word}"
-        );
-        assert_eq!(rt; inst.imm, *imm, "immediate of {word}");
-    }
+    assert_eq!(rt; other_row(), None);
 }
 
 #[test]

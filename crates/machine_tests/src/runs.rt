@@ -1,5 +1,4 @@
-use crate::guests::{guest, schedule};
-use elf_image::read_image;
+use crate::guests::{guest, machine_of, schedule};
 use prof_bytes::{Fail, Memory};
 use rv_run::{Due, HartEnd, Machine, Moment, Slice, number, read_schedule};
 use std::alloc::Global;
@@ -355,17 +354,8 @@ fn other_in_file(
     input: &[u8],
     wanted: Wanted,
 ) -> Result<Option<usize>, Memory> {
-    if file.len() > 1 << 26 {
-        return Err(Memory);
-    }
-    match read_image(alloc, file) {
-        Ok(image) => {
-            let told = schedule(alloc, text)?;
-            let mut machine = Machine::start(alloc, &image, told, input)?;
-            other_in(&mut machine, file, wanted)
-        }
-        Err(_) => Err(Memory),
-    }
+    let mut machine = machine_of(alloc, file, text, input)?;
+    other_in(&mut machine, file, wanted)
 }
 
 /// The place of the first thing wanted that a program of these words does otherwise, under the schedule of

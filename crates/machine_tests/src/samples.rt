@@ -1,10 +1,8 @@
 ghost use Rattle.std.specs.Prelude.{[], ◌∷◌, slice_index};
 ghost use Rattle.scope_types.specs.declared.frame.End.TheVariants.{Whole};
 
-use crate::guests::{guest, schedule};
-use elf_image::read_image;
+use crate::guests::{guest, machine_of};
 use prof_bytes::Memory;
-use rv_run::Machine;
 use sample_clock::{Sample, Samples};
 use scope_types::{End, Frame, Look, RawPath, Unwind};
 use std::alloc::Global;
@@ -137,18 +135,12 @@ fn has_samples(
     period: u32,
     wanted: &[(u32, u64, u32, u32)],
 ) -> Result<bool, Memory> {
-    if file.len() > 1 << 26 || period == 0 {
+    if period == 0 {
         return Err(Memory);
     }
-    match read_image(alloc, file) {
-        Ok(image) => {
-            let told = schedule(alloc, text)?;
-            let machine = Machine::start(alloc, &image, told, b"")?;
-            let mut samples = Samples::start(machine, period);
-            come(&mut samples, &Probe { alloc }, wanted)
-        }
-        Err(_) => Err(Memory),
-    }
+    let machine = machine_of(alloc, file, text, b"")?;
+    let mut samples = Samples::start(machine, period);
+    come(&mut samples, &Probe { alloc }, wanted)
 }
 
 /// The place of the first program that has other samples than its row says.

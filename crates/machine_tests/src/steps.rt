@@ -1,5 +1,4 @@
-use crate::guests::before_code;
-use elf_image::read_image;
+use crate::guests::{before_code, image_of};
 use prof_bytes::{Memory, put_u32};
 use rv_hart::{Cause, Hart, Space, Stepped, step};
 use scope_types::Look;
@@ -40,19 +39,20 @@ enum Trial {
     Segments,
 }
 
+/// The memory of the program in a file, for so many harts.
+fn space_of(alloc: Global, file: &[u8], harts: u32) -> Result<Space<'_>, Memory> {
+    if harts > 64 {
+        return Err(Memory);
+    }
+    let image = image_of(alloc, file)?;
+    Space::of(alloc, &image, harts)
+}
+
 /// The first row of a trial that is not met in the memory of this program for so many harts: the row's
 /// instruction, or its address.
 fn unmet(alloc: Global, file: &[u8], harts: u32, trial: Trial) -> Result<Option<u32>, Memory> {
-    if file.len() > 1 << 26 || harts > 64 {
-        return Err(Memory);
-    }
-    match read_image(alloc, file) {
-        Ok(image) => {
-            let mut space = Space::of(alloc, &image, harts)?;
-            unmet_in(&mut space, trial)
-        }
-        Err(_) => Err(Memory),
-    }
+    let mut space = space_of(alloc, file, harts)?;
+    unmet_in(&mut space, trial)
 }
 
 fn unmet_in(space: &mut Space, trial: Trial) -> Result<Option<u32>, Memory> {
