@@ -6,3 +6,4 @@ pub mod Lining
 pub mod Ranges
 pub mod Passing
 pub mod Ending
+pub mod Scheduling

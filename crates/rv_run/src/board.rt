@@ -88,13 +88,12 @@ impl<'a> Board<'a> {
         requires { harts ≤ 16 }
         ensures { IfOk result (λ board. board ≡ first_state image.now harts input.now) }
     {
-        let space = Space::of(alloc, image, harts)?;
-        let cores = first_cores(alloc, image.entry(), harts)?;
         let mut kept = Vec::new(alloc);
         kept.extend_from_slice(input)?;
+        let cores = first_cores(alloc, image.entry(), harts)?;
         Ok(Board {
             alloc,
-            space,
+            space: Space::of(alloc, image, harts)?,
             cores,
             input: kept,
             done: 0,

@@ -6,14 +6,14 @@ ghost use Rattle.rv_run.specs.Reading.{all_lines, to_read, first_of, rest_of, li
 use std::marker::Model;
 
 /// A line without its line feed, and its number, from 1.
-#[derive(Clone, Copy, Debug)]
+#[derive(Clone, Copy)]
 pub(crate) struct Line<'a> {
     pub(crate) number: u32,
     pub(crate) bytes: &'a [u8],
 }
 
 /// The lines of a text that are still to be read.
-#[derive(Debug, Drop)]
+#[derive(Drop)]
 pub(crate) struct Lines<'a> {
     bytes: &'a [u8],
     place: usize,
