@@ -1,6 +1,7 @@
 -- A database in parts.
 use Rattle.std.proofs.Common.{◌≡◌, ℕ, List, [], ◌++◌, sym, ap, ◌∙◌, append_assoc}
 use Rattle.std.proofs.lemmas.List.Concat.{flat_map-append}
+use Rattle.prof_bytes.proofs.Appending.{two_parts}
 use Rattle.prof_db.specs.Spelling.{word, words}
 
 -- words in two parts
@@ -12,3 +13,7 @@ words_parts start a b front back ea eb =
 pub six_parts : (p q r s t u a b c d e f : List ℕ) → a ≡ [] ++ p → b ≡ a ++ q → c ≡ b ++ r → d ≡ c ++ s → e ≡ d ++ t → f ≡ e ++ u → f ≡ p ++ q ++ r ++ s ++ t ++ u
 six_parts p q r s t u a b c d e f ea eb ec ed ee ef =
     ef ∙ ap (λ (l : List ℕ). l ++ u) (ee ∙ ap (λ (l : List ℕ). l ++ t) (ed ∙ ap (λ (l : List ℕ). l ++ s) (ec ∙ ap (λ (l : List ℕ). l ++ r) (eb ∙ ap (λ (l : List ℕ). l ++ q) ea))))
+
+-- three parts, one after the other
+pub three_parts : (start a b c : List ℕ) (front middle back : List ℕ) → a ≡ start ++ front → b ≡ a ++ middle → c ≡ b ++ back → c ≡ start ++ (front ++ middle ++ back)
+three_parts start a b c front middle back ea eb ec = two_parts start b c (front ++ middle) back (two_parts start a b front middle ea eb) ec

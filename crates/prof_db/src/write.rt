@@ -74,7 +74,8 @@ fn put_file(out: &mut Vec<u8>, f: &FileName) -> Result<(), Memory>
 {
     put_u32(out, f.table)?;
     put_u32(out, f.file)?;
-    put_text(out, &f.name)
+    put_text(out, &f.name)?;
+    Ok(())
 }
 
 fn put_files(out: &mut Vec<u8>, files: &[FileName]) -> Result<(), Memory>
