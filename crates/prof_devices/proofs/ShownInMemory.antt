@@ -1,21 +1,20 @@
 -- The devices over memory do what is asked of any device.
-use Rattle.std.proofs.Common.{◌≡◌, ℕ, ◌+◌, ◌-◌, ◌^◌, ◌<◌, ◌≤◌, ◌⊎◌, inl, inr, List, [], ◌++◌, append-nil, length, take, min, true, Option, Some, unwrap_or, refl, sym, ap, subst, ◌∙◌, arith, IsTrue}
-use Rattle.std.proofs.Math.Seq.{take-length}
+use Rattle.std.proofs.Common.{◌≡◌, ℕ, ◌<◌, ◌≤◌, inl, inr, List, [], append-nil, length, take, Option, Some, unwrap_or, refl, sym, ap, subst, arith}
 use Rattle.prof_devices.specs.declared.shelf.Fetch.{Fetch}
 use Rattle.prof_devices.specs.declared.shelf.Fetch.TheVariants as fetches
 use Rattle.prof_devices.specs.declared.shelf.Put.{Put}
 use Rattle.prof_devices.specs.declared.shelf.Put.TheVariants.{Done, Fault, Memory}
 use Rattle.prof_devices.specs.Files.{Files, file_of, bytes_of, Holds, HoldsPart}
-use Rattle.prof_devices.specs.Outside.{Failures, ShelfState, SinkState, last_count, Rose, Advances, Fails, Reads, Fetched, Writes, Stored, Counts, Taken, AppendsPart}
-use Rattle.prof_devices.specs.InMemory.{MemoryShelf, MemorySink, shown_shelf, shown_sink, raised, failed_at, counted, failed_read, counted_put, MemoryFetches, MemoryStores, MemoryPuts}
+use Rattle.prof_devices.specs.Outside.{Failures, last_count, Advances, Fails, Reads, Fetched, Writes, Stored, Taken}
+use Rattle.prof_devices.specs.InMemory.{MemoryShelf, MemorySink, shown_shelf, shown_sink, failed_at, counted, failed_read, MemoryFetches, MemoryStores, MemoryPuts}
 
 same_advances : (f : Failures) (name : List ℕ) → Advances f f name
 same_advances f name = record { never_falls = omega arith; named = inl refl }
 
-failed_advances : (f : Failures) (name : List ℕ) → f.count ≤ last_count → Advances f (failed_at f name) name
+pub failed_advances : (f : Failures) (name : List ℕ) → f.count ≤ last_count → Advances f (failed_at f name) name
 failed_advances f name small = record { never_falls = omega arith; named = inr ((omega arith), refl) }
 
-failed_fails : (f : Failures) (name : List ℕ) → Fails f (failed_at f name) name
+pub failed_fails : (f : Failures) (name : List ℕ) → Fails f (failed_at f name) name
 failed_fails f name = record { rose = omega arith; named = refl }
 
 reads_same : (old new : MemoryShelf) (name : List ℕ) → new ≡ counted old → Reads (shown_shelf old) (shown_shelf new) name

@@ -65,7 +65,7 @@ impl<'a, R> FolderShelf<'a, R> {
 }
 
 /// How a call on the system ended, without its value.
-#[derive(Clone, Copy, Debug, PartialEq, Eq)]
+#[derive(Clone, Copy)]
 enum Ending {
     Failed,
     NoMemory,
