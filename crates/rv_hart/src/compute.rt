@@ -12,6 +12,13 @@ fn long_product(a: i32, b: i32) -> i64
 }
 
 #[inline(always)]
+fn mixed_product(a: i32, b: u32) -> i64
+    ensures { result ≡ a *ℤ pos b }
+{
+    i64::from(a) * i64::from(b)
+}
+
+#[inline(always)]
 fn upper_signed(a: u32, b: u32) -> u32
     ensures { result ≡ upper_word (signed a *ℤ signed b) }
 {
@@ -23,7 +30,7 @@ fn upper_signed(a: u32, b: u32) -> u32
 fn upper_mixed(a: u32, b: u32) -> u32
     ensures { result ≡ upper_word (signed a *ℤ pos b) }
 {
-    let product = i64::from(a.cast_signed()) * i64::from(b);
+    let product = mixed_product(a.cast_signed(), b);
     (product.cast_unsigned() >> 32) as u32
 }
 

@@ -6,7 +6,7 @@ ghost use Rattle.rv_hart.specs.Stored.{bit_of, covers_all};
 use elf_image::Segment;
 
 /// What may be done with the bytes of a region.
-#[derive(Clone, Copy, Debug, PartialEq, Eq)]
+#[derive(Clone, Copy, PartialEq, Eq)]
 pub(crate) enum Right {
     Execute,
     Write,
