@@ -6,31 +6,38 @@
 
 use hpc_top::{Status, hpc_main};
 use prof_bytes::{Memory, Text};
-use prof_devices::{ErrSink, FolderShelf, OpenGate, OutSink};
-use std::env;
+use prof_devices::{ErrSink, FolderShelf, OpenGate, OutSink, Sink};
+use std::env::FillError;
 use std::process::ExitCode;
 use std::rt::{Env, Files};
 use std::thread::Threads;
 
-/// The words after the program's name.
+/// The most bytes that Linux takes as one word of a command.
+const MOST_BYTES: usize = 131_072;
+
+/// The words after the program's name, byte for byte: a file's name need not be text.
 fn words_of<R: Env + AllocGlobal>(rt: &R) -> Result<Vec<Text>, Memory> {
+    let mut word = Vec::new(rt.alloc());
+    word.resize(MOST_BYTES, 0u8)?;
     let mut words = Vec::new(rt.alloc());
-    let Ok(args) = env::args(rt) else {
-        return Err(Memory);
-    };
-    for word in args.skip(1) {
-        words.push(Text::of(rt.alloc(), word.as_bytes())?)?;
+    for number in 1..usize::MAX {
+        match rt.arg(number, word.as_mut_slice()) {
+            Ok(length) => words.push(Text::of(rt.alloc(), &word[..length])?)?,
+            Err(FillError::NotPresent) => break,
+            Err(FillError::TooLong) => return Err(Memory),
+        }
     }
     Ok(words)
 }
 
 fn run<R: Threads + Sync + AllocGlobal + Files + Print + Eprint + Env>(rt: &R) -> Status {
+    let mut err = ErrSink::of(rt);
     let Ok(words) = words_of(rt) else {
+        let _ = err.put(b"hpc: memory\n");
         return Status::Memory;
     };
     let mut shelf = FolderShelf::of(rt);
     let mut out = OutSink::of(rt);
-    let mut err = ErrSink::of(rt);
     hpc_main(
         rt,
         words.as_slice(),

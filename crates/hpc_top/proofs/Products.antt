@@ -1,9 +1,7 @@
 -- The samples as the code counts them have the paths of the definition, in another order.
 use Rattle.std.proofs.Common.{◌≡◌, ℕ, ◌+◌, ◌*◌, ◌^◌, ◌≤◌, ◌==◌, nat_lt, Bool, true, false, cond, if◌then◌else◌, List, [], ◌∷◌, length, map, take, count_by, Result, Ok, Err, refl, sym, ap, ap₂, ◌∙◌, arith}
-use Rattle.std.specs.List.{range_with_len}
 use Rattle.std.proofs.lemmas.Bool.Decides.{nat_tests}
 use Rattle.std.proofs.lemmas.List.{length-map}
-use Rattle.std.proofs.lemmas.List.FromFn.{length-range_with_len}
 use Rattle.prof_bytes.specs.declared.fail.Fail.{Fail}
 use Rattle.prof_bytes.specs.declared.fail.Fail.TheVariants as fails
 use Rattle.prof_bytes.specs.Outcome.{◌>>=◌, FailsBy}
@@ -14,9 +12,8 @@ use Rattle.scope_types.specs.declared.frame.End.TheVariants as ends
 use Rattle.scope_types.specs.declared.frame.PartialCause.TheVariants as causes
 use Rattle.scope_types.specs.declared.scope.RootKind.{RootKind}
 use Rattle.scope_types.specs.Expansion.{expansion}
-use Rattle.rv_run.specs.Schedule.{Scheduled}
-use Rattle.rv_run.specs.State.{MachineState, first_hart, first_state}
-use Rattle.rv_run.specs.Told.{Progress, to_come}
+use Rattle.rv_run.specs.State.{MachineState}
+use Rattle.rv_run.specs.Told.{to_come}
 use Rattle.tree_types.specs.Laws.{Alike}
 use Rattle.tree_types.specs.declared.content.Names.{Names}
 use Rattle.tree_types.specs.Naming.{Naming}
@@ -153,15 +150,6 @@ all_expanded path_of image found old new many ps collected is few paths =
       alike = alike_paths image found.counts.entries (samples_to_come path_of old) ps collected.counts paths;
       ended = collected.ended;
     }
-
--- ---- a run from its start
-
-pub harts_at_end : (image : Loaded) (schedule : Scheduled) (input : List ℕ) (all : ℕ) (machine : Progress) (old : Sampling)
-    → machine ≡ record { state = first_state image schedule.harts input; left = schedule.slices } → all ≡ length machine.state.harts → all ≡ length (to_come machine).final.harts
-    → old.machine ≡ machine → schedule.harts ≡ length (to_come old.machine).final.harts
-harts_at_end image schedule input all machine old begins first last is =
-    sym (ap (λ (m : Progress). length m.state.harts) begins ∙ length-map (range_with_len 0 schedule.harts) (first_hart image.entry schedule.harts) ∙ length-range_with_len 0 schedule.harts)
-    ∙ sym first ∙ last ∙ ap (λ (m : Progress). length (to_come m).final.harts) (sym is)
 
 -- ---- what is made of samples that are to come
 

@@ -237,8 +237,6 @@ fn samples_of<'a>(
     ensures harts { IfOk result (λ samples. schedule.harts ≡ length (to_come samples.machine).final.harts) }
 {
     let machine = Machine::start(alloc, image, schedule, job.input)?;
-    // Called for its clause that as many harts stand at the end of the run, which the proof cites.
-    let _all = machine.harts();
     Ok(Samples::start(machine, job.period))
 }
 

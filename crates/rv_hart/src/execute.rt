@@ -107,34 +107,6 @@ fn loaded(hart: &Hart, space: &Space, inst: &Inst, size: u32) -> Option<u32>
     space.load(read(hart, inst.rs1).wrapping_add(inst.imm), size)
 }
 
-/// The number that a load means goes into the destination.
-#[inline(always)]
-fn load(hart: &mut Hart, space: &Space, inst: &Inst, size: u32) -> Stepped
-    requires registers { HasRegisters inst.now }
-    requires size { is_size size ≡ true }
-    ensures { (state hart.new.pc hart.new.regs space.now, result) ≡ takes inst.now (operand inst.now size (state hart.old.pc hart.old.regs space.now)) (state hart.old.pc hart.old.regs space.now) }
-{
-    take(hart, inst, loaded(hart, space, inst, size))
-}
-
-/// The signed byte that a load means goes into the destination.
-#[inline(always)]
-fn load_signed_byte(hart: &mut Hart, space: &Space, inst: &Inst) -> Stepped
-    requires { HasRegisters inst.now }
-    ensures { (state hart.new.pc hart.new.regs space.now, result) ≡ takes inst.now (option_map (sign_extended 8) (operand inst.now 1 (state hart.old.pc hart.old.regs space.now))) (state hart.old.pc hart.old.regs space.now) }
-{
-    take(hart, inst, signed_byte(loaded(hart, space, inst, 1)))
-}
-
-/// The signed half that a load means goes into the destination.
-#[inline(always)]
-fn load_signed_half(hart: &mut Hart, space: &Space, inst: &Inst) -> Stepped
-    requires { HasRegisters inst.now }
-    ensures { (state hart.new.pc hart.new.regs space.now, result) ≡ takes inst.now (option_map (sign_extended 16) (operand inst.now 2 (state hart.old.pc hart.old.regs space.now))) (state hart.old.pc hart.old.regs space.now) }
-{
-    take(hart, inst, signed_half(loaded(hart, space, inst, 2)))
-}
-
 /// The lowest bytes of a word, the lowest first.
 #[inline(always)]
 fn lowest_bytes(bytes: &[u8; 4], size: usize) -> &[u8]
@@ -195,11 +167,11 @@ fn carry_out(hart: &mut Hart, space: &mut Space, inst: &Inst) -> Result<Stepped,
         Op::Bge => branch(hart, inst, a.cast_signed() >= b.cast_signed()),
         Op::Bltu => branch(hart, inst, a < b),
         Op::Bgeu => branch(hart, inst, a >= b),
-        Op::Lb => load_signed_byte(hart, space, inst),
-        Op::Lh => load_signed_half(hart, space, inst),
-        Op::Lw => load(hart, space, inst, 4),
-        Op::Lbu => load(hart, space, inst, 1),
-        Op::Lhu => load(hart, space, inst, 2),
+        Op::Lb => take(hart, inst, signed_byte(loaded(hart, space, inst, 1))),
+        Op::Lh => take(hart, inst, signed_half(loaded(hart, space, inst, 2))),
+        Op::Lw => take(hart, inst, loaded(hart, space, inst, 4)),
+        Op::Lbu => take(hart, inst, loaded(hart, space, inst, 1)),
+        Op::Lhu => take(hart, inst, loaded(hart, space, inst, 2)),
         Op::Sb => return store(hart, space, inst, 1),
         Op::Sh => return store(hart, space, inst, 2),
         Op::Sw => return store(hart, space, inst, 4),

@@ -1,12 +1,16 @@
 -- The harts at the end of a run are those at its start.
-use Rattle.std.proofs.Common.{◌≡◌, ℕ, zero, suc, ◌<◌, true, false, cond, List, [], ◌∷◌, length, refl, sym, subst, ◌∙◌, arith}
+use Rattle.std.proofs.Common.{◌≡◌, ℕ, zero, suc, ◌<◌, true, false, cond, List, [], ◌∷◌, length, refl, sym, ap, subst, ◌∙◌, arith}
 use Rattle.std.specs.List.{AllByRecursion}
 use Rattle.std.proofs.lemmas.List.Elements.{recursion_from_All}
+use Rattle.std.proofs.lemmas.List.FromFn.{length-map-range_with_len}
+use Rattle.elf_image.specs.Image.{Loaded}
 use Rattle.rv_run.specs.declared.schedule.Slice.{Slice}
-use Rattle.rv_run.specs.State.{MachineState, hart_of, is_running}
+use Rattle.rv_run.specs.Schedule.{Scheduled, IsSchedule}
+use Rattle.rv_run.specs.State.{MachineState, first_hart, first_state, hart_of, is_running}
 use Rattle.rv_run.specs.Run.{finished, preceded, next_instant, after, run_slice, run_slices}
 use Rattle.rv_run.specs.Told.{AreOf}
 use Rattle.rv_run.proofs.Counting.{acts-count}
+use Rattle.rv_run.proofs.Ranges.{ready-is}
 
 after_slice : (count hart : ℕ) (s : MachineState) → hart < length s.harts → length (run_slice count hart s).final.harts ≡ length s.harts
 unfolding run_slice
@@ -27,3 +31,10 @@ after_slices (slice ∷ rest) s all =
 
 pub harts_stay : (slices : List Slice) (s : MachineState) → AreOf (length s.harts) slices → length (run_slices slices s).final.harts ≡ length s.harts
 harts_stay slices s all = after_slices slices s (recursion_from_All (λ (slice : Slice). slice.hart < length s.harts) slices all)
+
+-- a machine at its start: as many stand at the end of its run as its schedule tells
+pub harts_told : (program : Loaded) (schedule : Scheduled) (input : List ℕ) (harts : ℕ) (board : MachineState) (left : List Slice) → IsSchedule schedule → harts ≡ schedule.harts → board ≡ first_state program harts input → left ≡ schedule.slices
+    → length (run_slices left board).final.harts ≡ schedule.harts
+harts_told program schedule input harts board left is few state slices =
+    harts_stay left board (ready-is program schedule input harts board left is few state slices).harts
+    ∙ ap (λ (s : MachineState). length s.harts) state ∙ length-map-range_with_len (first_hart program.entry harts) 0 harts ∙ few

@@ -1,4 +1,5 @@
 use Rattle.std.proofs.Common.{◌∙◌}
+use Rattle.rv_run.proofs.Ending.{harts_told}
 use Rattle.rv_run.proofs.Ranges.{ready-is, fresh-is}
 use Rattle.rv_run.proofs.machine.Machine.start.Goals as goal
 
@@ -9,3 +10,7 @@ invariant_of-result c =
 pub returns-clause-fresh : goal.returns-clause-fresh
 returns-clause-fresh c =
     fresh-is c.args.image.now c.args.schedule c.args.input.now c.harts.result c.in_ok-board.board c.harts.ensures.schedule c.harts.ensures.harts c.in_ok-board.ensures
+
+pub returns-clause-harts : goal.returns-clause-harts
+returns-clause-harts c =
+    harts_told c.args.image.now c.args.schedule c.args.input.now c.harts.result c.in_ok-board.board c.of-turns.result c.harts.ensures.schedule c.harts.ensures.harts c.in_ok-board.ensures (c.of-turns.ensures ∙ c.into_slices.ensures)
