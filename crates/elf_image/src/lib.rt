@@ -23,3 +23,4 @@ pub use debug_parts::DebugParts;
 pub use fault::{ElfFault, ElfRule};
 pub use image::{Image, read_image};
 pub use part::{Function, Segment};
+pub use segments::Segments;

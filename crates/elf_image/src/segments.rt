@@ -10,8 +10,10 @@ use prof_bytes::Memory;
 use std::alloc::Global;
 use std::marker::Model;
 
+/// Segments in their order, and which of them is the first that holds an address: it is found by halving.
+/// Contracts see them as a list.
 #[derive(Debug, Drop)]
-pub(crate) struct Segments {
+pub struct Segments {
     items: Vec<Segment>,
     table: FirstRange,
 }
@@ -61,10 +63,13 @@ fn is_code(segment: &Segment, low: u32, high: u64) -> bool
 }
 
 impl Segments {
-    pub(crate) fn of(alloc: Global, items: Vec<Segment>) -> Result<Segments, Memory>
-        requires { length items.items < 2 ^ 32 }
+    /// These segments, in time as n log n. 2^32 of them fit no memory.
+    pub fn of(alloc: Global, items: Vec<Segment>) -> Result<Segments, Memory>
         ensures { IfOk result (λ segments. segments ≡ items.items) }
     {
+        if items.len() >= 1 << 32 {
+            return Err(Memory);
+        }
         let table = FirstRange::of(alloc, ranges_of(alloc, &items)?)?;
         Ok(Segments { items, table })
     }
@@ -82,8 +87,8 @@ impl Segments {
         self.table.is_first(range, index)
     }
 
-    /// The first segment that holds the address.
-    pub(crate) fn at(&self, address: u32) -> Option<Segment>
+    /// The first segment that holds the address. Takes no memory, and time as log n.
+    pub fn at(&self, address: u32) -> Option<Segment>
         ensures { result ≡ find (in_segment address) self.now }
     {
         segment_of_index(&self.items, self.table.first(address))

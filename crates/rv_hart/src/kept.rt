@@ -6,15 +6,14 @@ ghost use Rattle.rv_hart.specs.Stored.{page_of, value, IsHome};
 ghost use Rattle.rv_hart.specs.Pages.{blank};
 
 use crate::page::{Block, Page};
-use crate::regions::Regions;
 use crate::right::NOWHERE;
-use elf_image::Segment;
+use elf_image::{Segment, Segments};
 
 /// The file, the regions, and what was written, in blocks of at most 256 pages.
 #[derive(Drop)]
 pub(crate) struct Kept<'a> {
     pub(crate) file: &'a [u8],
-    pub(crate) regions: Regions,
+    pub(crate) regions: Segments,
     pub(crate) blocks: Vec<Block>,
 }
 

@@ -14,7 +14,6 @@ mod kept;
 mod outcome;
 mod page;
 mod read;
-mod regions;
 mod right;
 mod space;
 mod write;

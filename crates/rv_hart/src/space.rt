@@ -5,9 +5,8 @@ ghost use Rattle.rv_hart.specs.Step.{fetched_at};
 
 use crate::access;
 use crate::kept::Kept;
-use crate::regions::Regions;
 use crate::right::{NOWHERE, covers};
-use elf_image::{Image, Segment};
+use elf_image::{Image, Segment, Segments};
 use prof_bytes::Memory;
 use scope_types::Look;
 use std::alloc::Global;
@@ -72,7 +71,7 @@ impl<'a> Space<'a> {
     {
         let kept = Kept {
             file: image.bytes(),
-            regions: Regions::of(alloc, listed(alloc, image.segments(), harts)?)?,
+            regions: Segments::of(alloc, listed(alloc, image.segments(), harts)?)?,
             blocks: Vec::new(alloc),
         };
         Ok(Space {

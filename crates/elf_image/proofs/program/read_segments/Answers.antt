@@ -1,7 +1,6 @@
-use Rattle.std.proofs.Common.{◌≡◌, Ok, ap, refl, sym, ◌∙◌, arith}
-use Rattle.std.proofs.lemmas.List.{length-map}
+use Rattle.std.proofs.Common.{◌≡◌, Ok, ap, refl, sym, ◌∙◌}
 use Rattle.elf_image.specs.declared.fault.ElfRule.TheVariants.{SegmentPlace}
-use Rattle.elf_image.specs.Headers.{loads, segment_of, segments}
+use Rattle.elf_image.specs.Headers.{loads, segments}
 use Rattle.elf_image.specs.Refusals.{shared}
 use Rattle.elf_image.specs.Reading.{refused_at, segments_of}
 use Rattle.elf_image.proofs.LoadHeaders.{loads_low, loads_take, loads_in_order, loads_few, both_checked, segments_are, all_within, all_apart}
@@ -9,11 +8,6 @@ use Rattle.elf_image.proofs.program.read_segments.Goals as goal
 
 pub segments_of-requires : goal.segments_of-requires
 segments_of-requires c = rw (c.deref-2.ensures.value, c.in_ok-headers.ensures) (loads_low c.args.file.now c.in_ok-check_each.ensures)
-
-pub of-requires : goal.of-requires
-of-requires c =
-    rw (c.in_ok-segments_of.ensures, c.deref-2.ensures.value, c.in_ok-headers.ensures)
-    (let few = loads_few c.args.file.now c.requires.checked c.requires.small in omega (arith, length-map (loads c.args.file.now) segment_of))
 
 pub shared-requires-clause-low : goal.shared-requires-clause-low
 shared-requires-clause-low c = rw (c.deref-3.ensures.value, c.in_ok-headers.ensures) (loads_low c.args.file.now c.in_ok-check_each.ensures)
