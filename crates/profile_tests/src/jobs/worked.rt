@@ -6,7 +6,7 @@ use std::alloc::Global;
 use std::test::Fail;
 
 /// Nineteen times `addi x10, x10, 1`, then `addi x17, x0, 93` and the exit call.
-pub(super) static ADDING: [u32; 21] = [
+pub(super) const ADDING: [u32; 21] = [
     0x0015_0513,
     0x0015_0513,
     0x0015_0513,
@@ -34,7 +34,7 @@ pub(super) static ADDING: [u32; 21] = [
 pub(super) const BRANCHING: [u32; 4] = [0x0005_0463, 0, 0x05d0_0893, 0x0000_0073];
 
 /// Reads up to 16 bytes onto the stack, writes them, and exits with 3.
-pub(super) static ECHO: [u32; 12] = [
+pub(super) const ECHO: [u32; 12] = [
     0x0000_0513,
     0x0001_0593,
     0x0100_0613,
