@@ -1,5 +1,5 @@
 -- What an answer of `read_value` says of the value at a place.
-use Rattle.std.proofs.Common.{◌≡◌, ℕ, List, [], Result, Ok, Err, refl, ap}
+use Rattle.std.proofs.Common.{◌≡◌, [], Result, Ok, Err, refl, ap}
 use Rattle.prof_bytes.specs.Reading.{At}
 use Rattle.dwarf_forms.specs.declared.value.FormFault.{FormFault}
 use Rattle.dwarf_forms.specs.Fields.{answered}

@@ -1,5 +1,5 @@
 -- Past the end of a section nothing stands.
-use Rattle.std.proofs.Common.{◌≡◌, ℕ, ◌<◌, List, [], drop, length, Option, None, refl, ap, ◌∙◌, arith}
+use Rattle.std.proofs.Common.{◌≡◌, ℕ, ◌<◌, List, length, None, refl, ap, ◌∙◌, arith}
 use Rattle.std.proofs.Math.ListN.{drop_of_length-le}
 use Rattle.std.specs.Prelude.{option_map}
 use Rattle.prof_bytes.specs.Reading.{text_at}

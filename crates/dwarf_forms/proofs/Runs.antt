@@ -1,8 +1,8 @@
 -- Reading items to the end of the bytes, as a loop does.
-use Rattle.std.proofs.Common.{◌≡◌, ℕ, suc, ◌-◌, ◌+◌, ◌≤◌, ◌<◌, Bool, true, false, List, [], ◌∷◌, ◌++◌, Result, Ok, Err, refl, sym, ap, ◌∙◌, append_assoc, arith}
+use Rattle.std.proofs.Common.{◌≡◌, ℕ, suc, ◌-◌, ◌+◌, ◌≤◌, ◌<◌, true, false, List, ◌++◌, Result, Ok, Err, refl, sym, ap, ◌∙◌, append_assoc, arith}
 use Rattle.std.proofs.lemmas.List.{append-nil}
 use Rattle.prof_bytes.specs.Reading.{At}
-use Rattle.prof_bytes.specs.Outcome.{◌>>=◌, FailsBy}
+use Rattle.prof_bytes.specs.Outcome.{FailsBy}
 use Rattle.prof_bytes.specs.declared.fail.Fail.{Fail}
 use Rattle.prof_bytes.specs.declared.fail.Fail.TheVariants as fails
 use Rattle.dwarf_forms.specs.Runs.{Step, is_end, before, run_from}

@@ -1,5 +1,5 @@
 -- Items that follow one another to the end of the bytes, read in a state that each of them changes.
-use Rattle.std.specs.Prelude.{ℕ, zero, suc, ◌==◌, ◌++◌, Bool, List, [], length, Result, Ok, Err, if◌then◌else◌}
+use Rattle.std.specs.Prelude.{ℕ, zero, suc, ◌==◌, ◌++◌, Bool, List, [], length, Result, Ok, if◌then◌else◌}
 use Rattle.prof_bytes.specs.Reading.{At, left_of}
 use Rattle.prof_bytes.specs.Outcome.{◌>>=◌}
 

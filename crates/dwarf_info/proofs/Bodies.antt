@@ -1,5 +1,5 @@
 -- The entries of a unit among those of all units.
-use Rattle.std.proofs.Common.{◌≡◌, ℕ, List, [], ◌∷◌, ◌++◌, length, Option, Some, None, Result, Ok, Err, refl, sym, ap, ◌∙◌}
+use Rattle.std.proofs.Common.{◌≡◌, ℕ, List, [], ◌∷◌, ◌++◌, length, Option, Some, Result, Ok, Err, refl, sym, ap, ◌∙◌}
 use Rattle.std.specs.Prelude.{slice_get, option_map}
 use Rattle.prof_bytes.specs.Reading.{At}
 use Rattle.prof_bytes.specs.Outcome.{◌>>=◌, FailsBy}
@@ -11,7 +11,6 @@ use Rattle.dwarf_forms.specs.Runs.{before}
 use Rattle.dwarf_info.specs.declared.head.Head.{Head}
 use Rattle.dwarf_info.specs.declared.entry.UnitRead.{UnitRead}
 use Rattle.dwarf_info.specs.declared.entry.InfoEntry.{InfoEntry}
-use Rattle.dwarf_info.specs.declared.fault.InfoFault.{InfoFault}
 use Rattle.dwarf_info.specs.Sections.{Sections}
 use Rattle.dwarf_info.specs.Entries.{entries_from}
 use Rattle.dwarf_info.specs.Units.{read_unit, unit_read, first_values, first_offset, body_of}

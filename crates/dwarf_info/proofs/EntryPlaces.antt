@@ -1,5 +1,5 @@
 -- The places of entries in a list that grows.
-use Rattle.std.proofs.Common.{◌≡◌, ◌==◌, ℕ, ◌+◌, ◌≤◌, ◌<◌, ◌^◌, Bool, true, false, List, [], ◌∷◌, ◌++◌, length, take, get_or, Option, Some, None, refl, sym, ap, ◌∙◌, nat_eq, arith}
+use Rattle.std.proofs.Common.{◌≡◌, ◌==◌, ℕ, ◌+◌, ◌<◌, ◌^◌, Bool, false, List, [], ◌∷◌, ◌++◌, length, take, get_or, Option, Some, None, refl, sym, ap, ◌∙◌, nat_eq, arith}
 use Rattle.std.specs.Prelude.{if◌then◌else◌, position}
 use Rattle.std.specs.Option.{option_or}
 use Rattle.std.specs.HashMap.{get}

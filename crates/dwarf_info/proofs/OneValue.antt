@@ -1,11 +1,11 @@
 -- What an answer of `read_value` says of the value at a place.
-use Rattle.std.proofs.Common.{◌≡◌, ℕ, Bool, true, false, List, [], ◌∷◌, Option, Some, None, Result, Ok, Err, refl, ap, eqb, ◌==◌}
+use Rattle.std.proofs.Common.{◌≡◌, ℕ, true, false, List, [], ◌∷◌, Some, None, Ok, Err, refl, ◌==◌}
 use Rattle.prof_bytes.specs.Reading.{At}
 use Rattle.dwarf_forms.specs.declared.declaration.Spec.{Spec}
 use Rattle.dwarf_forms.specs.declared.value.FormFault.{FormFault}
 use Rattle.dwarf_forms.specs.Fields.{answered}
 use Rattle.dwarf_forms.specs.Values.{Held, value_from}
-use Rattle.dwarf_forms.proofs.Answered.{Answer, answer, was_read, was_refused}
+use Rattle.dwarf_forms.proofs.Answered.{answer, was_read, was_refused}
 use Rattle.dwarf_info.specs.Values.{values_at, after_values, value_of}
 
 pub passed_one : (spec : Spec) (specs : List Spec) (h : Held) (was after : At) → answer (Ok h) after ≡ answered was (value_from spec.form spec.implicit was) → after_values (spec ∷ specs) was ≡ after_values specs after

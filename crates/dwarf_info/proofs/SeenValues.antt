@@ -1,5 +1,5 @@
 -- The values of an entry that is seen with its unit.
-use Rattle.std.proofs.Common.{◌≡◌, ℕ, Bool, true, List, Option, Some, None, refl, sym, ap, ◌∙◌, nat_eq, subst}
+use Rattle.std.proofs.Common.{◌≡◌, ℕ, true, List, Option, Some, None, refl, sym, ap, ◌∙◌, nat_eq, subst}
 use Rattle.std.specs.Prelude.{slice_get, is_some, option_map, option_and_then}
 use Rattle.std.specs.HashMap.{get}
 use Rattle.dwarf_forms.specs.Abbreviations.{table_at}

@@ -1,5 +1,5 @@
 -- What the values of attributes mean; nothing, where one counts as absent. DWARF 5, sections 7.5.5, 7.26 and 7.27.
-use Rattle.std.specs.Prelude.{ℕ, ◌≤◌, ◌^◌, pos, negsuc, nat_lt, List, Option, Some, None, option_and_then, if◌then◌else◌}
+use Rattle.std.specs.Prelude.{ℕ, ◌^◌, pos, nat_lt, List, Option, Some, None, option_and_then, if◌then◌else◌}
 use Rattle.dwarf_forms.specs.Values.{Held, Address, Number, Signed, Name, StrAt, LineStrAt, StrIndex, AddrIndex, Section}
 use Rattle.dwarf_forms.specs.Sections.{text_in}
 use Rattle.dwarf_info.specs.Sections.{Sections, element_in}

@@ -9,7 +9,7 @@ use Rattle.dwarf_forms.specs.Fields.{uleb_from}
 use Rattle.dwarf_forms.specs.Runs.{Step, run_to_end}
 use Rattle.dwarf_info.specs.declared.entry.InfoEntry.{InfoEntry}
 use Rattle.dwarf_info.specs.declared.fault.InfoFault.{InfoFault}
-use Rattle.dwarf_info.specs.declared.fault.InfoFault.TheVariants.{BadUnit, SplitUnit, BadAbbrev, UnknownForm}
+use Rattle.dwarf_info.specs.declared.fault.InfoFault.TheVariants.{BadUnit, BadAbbrev, UnknownForm}
 use Rattle.dwarf_info.specs.Values.{after_values, declaration_of}
 
 -- a value's fault as one of its entry

@@ -7,7 +7,7 @@ use Rattle.std.specs.HashMap.{get, HashMap}
 use Rattle.dwarf_forms.specs.Values.{Held, UnitRef, InfoRef}
 use Rattle.dwarf_info.specs.declared.entry.UnitRead.{UnitRead}
 use Rattle.dwarf_info.specs.declared.entry.InfoEntry.{InfoEntry}
-use Rattle.dwarf_info.specs.Sections.{Sections, up_to}
+use Rattle.dwarf_info.specs.Sections.{up_to}
 use Rattle.dwarf_info.specs.Values.{entry_values, value_of}
 use Rattle.dwarf_info.specs.Attributes.{small_value, text_value}
 use Rattle.dwarf_info.specs.Units.{Content, declared_in}

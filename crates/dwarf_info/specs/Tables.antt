@@ -1,5 +1,5 @@
 -- The abbreviation tables that were read, by their offset.
-use Rattle.std.specs.Prelude.{◌≡◌, ℕ, nat_eq, Bool, true, is_some, List, Option, Some, slice_get, Ok}
+use Rattle.std.specs.Prelude.{◌≡◌, ℕ, nat_eq, true, is_some, List, Some, slice_get, Ok}
 use Rattle.std.specs.declared.hash.FoldHasher.{FoldHasher}
 use Rattle.std.specs.declared.hash.BuildHasherDefault.{BuildHasherDefault}
 use Rattle.std.specs.HashMap.{get, HashMap}

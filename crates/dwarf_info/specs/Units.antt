@@ -1,5 +1,5 @@
 -- The units of .debug_info with their entries. DWARF 5, sections 7.5.1 and 3.1.1.
-use Rattle.std.specs.Prelude.{ℕ, ◌+◌, List, [], ◌∷◌, Option, Some, None, option_and_then, option_map, slice_get, Result, Ok, Err, length, map}
+use Rattle.std.specs.Prelude.{ℕ, ◌+◌, List, [], ◌∷◌, Option, Some, None, option_and_then, option_map, slice_get, Result, Ok, Err, length}
 use Rattle.std.specs.List.{flat_map}
 use Rattle.prof_bytes.specs.Reading.{At}
 use Rattle.prof_bytes.specs.Outcome.{◌>>=◌}

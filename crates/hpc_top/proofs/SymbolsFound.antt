@@ -1,5 +1,5 @@
 -- Function symbols that are looked for in a list.
-use Rattle.std.proofs.Common.{◌≡◌, ℕ, List, Option, Some, None, find, map, take, option_map, codes, ◌==◌, sym, ◌∙◌}
+use Rattle.std.proofs.Common.{◌≡◌, ℕ, List, Some, None, find, map, take, option_map, codes, ◌==◌, sym, ◌∙◌}
 use Rattle.elf_image.specs.declared.part.Function.{Function}
 use Rattle.elf_image.specs.Image.{Called, Loaded, called}
 use Rattle.elf_image.proofs.Tables.{find_map}

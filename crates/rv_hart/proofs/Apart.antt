@@ -1,18 +1,17 @@
 -- The regions of a program and its stacks share no address.
-use Rattle.std.proofs.Common.{◌≡◌, ℕ, zero, suc, ◌+◌, ◌*◌, ◌/◌, ◌%◌, ◌^◌, ◌<◌, ◌≤◌, ◌&&◌, ◌||◌, ◌⊎◌, inl, inr, Bool, true, false, cond, List, [], ◌∷◌, ◌++◌, map, length, get_or, Option, Some, None, IsTrue, nat_le, nat_lt, refl, sym, ap, ap₂, subst, ◌∙◌, append_assoc, append-nil, arith, rules}
-use Rattle.std.specs.List.{All, AllPairs, find, range_with_len}
+use Rattle.std.proofs.Common.{◌≡◌, ℕ, zero, suc, ◌+◌, ◌*◌, ◌/◌, ◌%◌, ◌^◌, ◌<◌, ◌≤◌, ◌&&◌, ◌||◌, inl, inr, Bool, true, false, cond, List, [], ◌∷◌, ◌++◌, map, length, get_or, Some, None, IsTrue, nat_le, nat_lt, refl, sym, ap, ap₂, subst, ◌∙◌, append_assoc, append-nil, arith}
+use Rattle.std.specs.List.{AllPairs, find, range_with_len}
 use Rattle.std.proofs.lemmas.Bool.{and_parts, le-leb, le-ltb, leb-true, ltb-true}
 use Rattle.std.proofs.lemmas.Bool.Decides.{leb_tells}
 use Rattle.std.proofs.Math.Bool.{and-false}
 use Rattle.std.proofs.lemmas.List.FromFn.{map-range_with_len_more}
 use Rattle.std.proofs.lemmas.List.Quantifiers.{all_pairs_push}
 use Rattle.elf_image.specs.declared.part.Segment.{Segment}
-use Rattle.elf_image.specs.Image.{Loaded, IsLoaded, IsWithin, in_segment, are_apart, stacks_begin}
+use Rattle.elf_image.specs.Image.{Loaded, IsLoaded, in_segment, are_apart, stacks_begin}
 use Rattle.rv_hart.specs.declared.kept.Kept.{Kept}
-use Rattle.rv_hart.specs.Memory.{Memory, region_at, regions_of, stack_of, first_byte, first_memory, each_address}
+use Rattle.rv_hart.specs.Memory.{regions_of, stack_of, first_byte}
 use Rattle.rv_hart.specs.Pages.{Paged, nowhere, page_in}
-use Rattle.rv_hart.specs.Stored.{IsHome, AreApart, IsKept, value, memory_of}
-use Rattle.rv_hart.proofs.Bytes.{each-same}
+use Rattle.rv_hart.specs.Stored.{IsHome, AreApart, IsKept}
 
 lt-leb : (a b : ℕ) → b < a → nat_le a b ≡ false
 lt-leb a b less = elim (leb_tells a b) [ inl h ↦ absurd (omega (arith, h.1)) | inr h ↦ h.0 ]

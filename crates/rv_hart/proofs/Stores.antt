@@ -1,5 +1,5 @@
 -- A store that was made, and one that was not.
-use Rattle.std.proofs.Common.{◌≡◌, ℕ, zero, suc, ◌+◌, ◌≤◌, Bool, true, false, cond, List, length, take, Result, Ok, Err, IfOk, OnErr, refl, sym, ap, ap₂, subst, ◌∙◌, arith}
+use Rattle.std.proofs.Common.{◌≡◌, ℕ, zero, suc, ◌≤◌, Bool, true, false, cond, List, length, take, Result, Ok, Err, IfOk, OnErr, refl, sym, ap, ap₂, ◌∙◌, arith}
 use Rattle.prof_bytes.specs.Number.{number_bytes}
 use Rattle.rv_table.specs.declared.inst.Inst.{Inst}
 use Rattle.rv_hart.specs.declared.outcome.Stepped.{Stepped}

@@ -1,11 +1,11 @@
 -- What is kept, as whole memory.
-use Rattle.std.proofs.Common.{◌≡◌, ◌==◌, ℕ, zero, suc, ◌+◌, ◌-◌, ◌/◌, ◌%◌, ◌^◌, ◌<◌, ◌≤◌, ◌&&◌, ◌||◌, Bool, true, false, cond, List, [], ◌∷◌, map, length, slice_index, get_or, Option, Some, None, nat_le, nat_lt, refl, sym, ap, ap₂, subst, ◌∙◌, arith}
+use Rattle.std.proofs.Common.{◌≡◌, ℕ, zero, suc, ◌+◌, ◌-◌, ◌%◌, ◌^◌, ◌<◌, ◌≤◌, ◌&&◌, Bool, true, false, cond, List, map, length, slice_index, Some, None, nat_le, nat_lt, refl, sym, ap, ap₂, ◌∙◌, arith}
 use Rattle.std.specs.List.{range_with_len, list_all}
 use Rattle.std.proofs.lemmas.List.FromFn.{get_or-map-range_with_len, length-map-range_with_len}
 use Rattle.elf_image.specs.declared.part.Segment.{Segment}
 use Rattle.prof_bytes.specs.Number.{number_in}
 use Rattle.rv_hart.specs.declared.kept.Kept.{Kept}
-use Rattle.rv_hart.specs.Memory.{Memory, each_address, byte_at, region_at, read, write, may, may_all, number_at, loaded, byte_after, written, stored}
+use Rattle.rv_hart.specs.Memory.{Memory, byte_at, region_at, read, write, may, may_all, number_at, loaded, byte_after, written, stored}
 use Rattle.rv_hart.specs.Stored.{value, value_after, memory_of, IsKept}
 use Rattle.rv_hart.proofs.Bytes.{byte-each, each-same}
 use Rattle.rv_hart.specs.Memory.{execute, has}

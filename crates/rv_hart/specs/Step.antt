@@ -1,6 +1,6 @@
 -- One step of one hart: what the instruction at pc does to pc, registers and memory, or the trap that
 -- it meets (RISC-V unprivileged manual, "RV32I Base Integer Instruction Set").
-use Rattle.std.specs.Prelude.{◌≡◌, ℕ, ◌+◌, ◌-◌, ◌*◌, ◌/◌, ◌%◌, ◌^◌, ◌==◌, ◌&&◌, not, Bool, true, false, List, take, slice_index, slice_set, Option, Some, None, option_map, if◌then◌else◌, nat_le, nat_lt, int_lt}
+use Rattle.std.specs.Prelude.{◌≡◌, ℕ, ◌+◌, ◌*◌, ◌/◌, ◌%◌, ◌==◌, ◌&&◌, not, Bool, true, false, List, slice_index, slice_set, Option, Some, None, option_map, if◌then◌else◌, nat_le, nat_lt, int_lt}
 use Rattle.prof_bytes.specs.Number.{number_bytes}
 use Rattle.elf_image.specs.declared.part.Segment.{Segment}
 use Rattle.rv_table.specs.declared.inst.Op.{Op}

@@ -1,11 +1,10 @@
 -- What the table means: no word has two rows, so each word that has a row's encoding decodes to it,
 -- and a word that has none is illegal.
-use Rattle.std.proofs.Common.{◌≡◌, ◌==◌, ◌&&◌, ◌||◌, ◌⊎◌, ℕ, Bool, true, false, not, cond, List, [], ◌∷◌, Option, Some, None, All, refl, sym, ap, ◌∙◌, inl, inr, arith}
+use Rattle.std.proofs.Common.{◌≡◌, ◌==◌, ◌&&◌, ◌||◌, ℕ, Bool, true, false, not, cond, List, [], ◌∷◌, Some, refl, sym, ap, ◌∙◌}
 use Rattle.std.specs.List.{find}
 use Rattle.std.proofs.lemmas.Bool.{eqb-true, eq-eqb, and_parts}
-use Rattle.rv_table.specs.Fields.{opcode, funct3, funct7, laid_out, bare}
-use Rattle.rv_table.specs.declared.inst.Op.TheVariants as ops
-use Rattle.rv_table.specs.Table.{Beside, any, funct3_is, functs_are, word_is, Row, table, beside_fits, fits, by_row, decoded}
+use Rattle.rv_table.specs.Fields.{opcode, funct3, funct7, laid_out}
+use Rattle.rv_table.specs.Table.{Beside, funct3_is, functs_are, word_is, Row, table, beside_fits, fits, by_row, decoded}
 
 abbrev beside_apart : Beside → Beside → Bool
 beside_apart (funct3_is a) (funct3_is b) = not (a == b)

@@ -1,4 +1,4 @@
-use Rattle.std.proofs.Common.{rules, ◌≡◌, ℕ, ◌+◌, ◌/◌, ◌<◌, length, None, ◌∙◌, sym, arith}
+use Rattle.std.proofs.Common.{rules, ◌/◌, ◌<◌, length, None, ◌∙◌, sym, arith}
 use Rattle.address_ranges.proofs.Steps.{some_steps, take_ascends, front_value, back_whole, back_ascends}
 use Rattle.address_ranges.proofs.ranges.+holder_at.Goals as goal
 

@@ -1,4 +1,4 @@
-use Rattle.std.proofs.Common.{rules, ◌≡◌, ℕ, ◌+◌, ◌-◌, ◌/◌, ◌<◌, ◌≤◌, length, get_or, take, drop, true, false, None, ◌∙◌, sym, arith}
+use Rattle.std.proofs.Common.{rules, ◌/◌, ◌<◌, length, get_or, true, false, None, ◌∙◌, sym, arith}
 use Rattle.address_ranges.proofs.Steps.{some_steps, take_ascends, front_value, back_whole, back_ascends, held_like, held_joined, else_wider}
 use Rattle.address_ranges.proofs.ranges.+is_held.Goals as goal
 

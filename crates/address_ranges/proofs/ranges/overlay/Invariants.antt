@@ -1,4 +1,4 @@
-use Rattle.std.proofs.Common.{◌≡◌, ◌+◌, ◌-◌, ◌≤◌, ◌++◌, length, Option, None}
+use Rattle.std.proofs.Common.{◌≡◌, ◌+◌, ◌-◌, ◌≤◌, ◌++◌, length, None}
 use Rattle.address_ranges.proofs.Steps.{merged}
 use Rattle.address_ranges.proofs.ranges.overlay.Given as goal
 

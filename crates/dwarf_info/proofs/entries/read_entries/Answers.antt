@@ -1,4 +1,4 @@
-use Rattle.std.proofs.Common.{◌≡◌, ◌∙◌, ◌++◌, sym, ap, arith, rules}
+use Rattle.std.proofs.Common.{rules}
 use Rattle.std.specs.Prelude.{option_to_list}
 use Rattle.dwarf_forms.specs.Runs.{before, run_from}
 use Rattle.dwarf_forms.proofs.Runs.{goes_on, is_done, is_spent, fails_by}

@@ -1,4 +1,4 @@
-use Rattle.std.proofs.Common.{◌≡◌, ◌∙◌, [], sym}
+use Rattle.std.proofs.Common.{◌∙◌, []}
 use Rattle.dwarf_forms.specs.Fields.{list_from}
 use Rattle.dwarf_info.specs.Sections.{sections_of}
 use Rattle.dwarf_info.specs.Ranges.{absent, range_entry_from, listed}

@@ -1,4 +1,4 @@
-use Rattle.std.proofs.Common.{◌≡◌, arith}
+use Rattle.std.proofs.Common.{arith}
 use Rattle.std.proofs.lemmas.Grind.{common_steps}
 use Rattle.dwarf_info.specs.Sections.{sections_of}
 use Rattle.dwarf_info.proofs.Bodies.{body_is}

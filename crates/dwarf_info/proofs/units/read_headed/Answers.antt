@@ -1,4 +1,3 @@
-use Rattle.std.proofs.Common.{◌≡◌}
 use Rattle.dwarf_forms.specs.Abbreviations.{table_at}
 use Rattle.dwarf_info.specs.Units.{read_unit}
 use Rattle.dwarf_info.proofs.Bodies.{fails_before}

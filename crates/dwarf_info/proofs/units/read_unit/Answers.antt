@@ -1,4 +1,4 @@
-use Rattle.std.proofs.Common.{◌≡◌, arith, rules}
+use Rattle.std.proofs.Common.{arith}
 use Rattle.std.proofs.lemmas.Grind.{common_steps}
 use Rattle.dwarf_info.specs.Heads.{head_from}
 use Rattle.dwarf_info.specs.Units.{read_unit, unit_from}

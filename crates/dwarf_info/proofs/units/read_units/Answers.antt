@@ -1,12 +1,11 @@
-use Rattle.std.proofs.Common.{◌≡◌, ◌∙◌, ◌++◌, [], length, sym, ap, arith, rules, Ok}
-use Rattle.std.proofs.lemmas.Grind.{common_steps, flat_map-append}
+use Rattle.std.proofs.Common.{◌∙◌, ◌++◌, [], length, sym, ap, rules}
+use Rattle.std.proofs.lemmas.Grind.{flat_map-append}
 use Rattle.std.specs.Prelude.{option_to_list}
 use Rattle.std.specs.List.{flat_map}
-use Rattle.prof_bytes.specs.Outcome.{FailsBy}
 use Rattle.dwarf_forms.specs.Runs.{before, run_from}
 use Rattle.dwarf_forms.proofs.Runs.{goes_on, is_done, is_spent, fails_by}
 use Rattle.dwarf_info.specs.Sections.{sections_of}
-use Rattle.dwarf_info.specs.Units.{unit_from, units_of, entries_in}
+use Rattle.dwarf_info.specs.Units.{unit_from, entries_in}
 use Rattle.dwarf_info.proofs.Bodies.{before_none}
 use Rattle.dwarf_info.proofs.UnitLists.{have_more}
 use Rattle.dwarf_info.proofs.units.read_units.Goals as goal

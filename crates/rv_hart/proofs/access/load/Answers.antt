@@ -1,4 +1,4 @@
-use Rattle.std.proofs.Common.{ℕ, Option, Some, sym, ap, ◌∙◌}
+use Rattle.std.proofs.Common.{ℕ, Some, sym, ap, ◌∙◌}
 use Rattle.rv_hart.specs.Memory.{read}
 use Rattle.rv_hart.proofs.Near.{all-granted}
 use Rattle.rv_hart.proofs.Whole.{loaded-kept}

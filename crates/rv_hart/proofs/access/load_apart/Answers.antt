@@ -1,4 +1,4 @@
-use Rattle.std.proofs.Common.{ℕ, Option, Some, sym, ap, ◌∙◌}
+use Rattle.std.proofs.Common.{ℕ, Some, sym, ap, ◌∙◌}
 use Rattle.rv_hart.proofs.Whole.{loaded-kept}
 use Rattle.rv_hart.proofs.access.load_apart.Goals as goal
 

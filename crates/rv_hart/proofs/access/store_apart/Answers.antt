@@ -1,4 +1,4 @@
-use Rattle.std.proofs.Common.{◌≡◌, ℕ, ◌+◌, List, sym, ap, ◌∙◌}
+use Rattle.std.proofs.Common.{◌+◌, sym, ap, ◌∙◌}
 use Rattle.std.proofs.Common.{length}
 use Rattle.rv_hart.specs.Memory.{may, write}
 use Rattle.rv_hart.specs.declared.kept.Kept.{Kept}

@@ -1,4 +1,4 @@
-use Rattle.std.proofs.Common.{◌≡◌, sym, ap, ◌∙◌}
+use Rattle.std.proofs.Common.{sym, ap, ◌∙◌}
 use Rattle.rv_table.specs.declared.inst.Op.{Op}
 use Rattle.rv_hart.specs.Step.{state, done}
 use Rattle.rv_hart.proofs.Computes.{computes-done}

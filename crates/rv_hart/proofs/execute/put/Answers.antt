@@ -1,4 +1,4 @@
-use Rattle.std.proofs.Common.{◌≡◌, Bool, true, sym, ap, ◌∙◌}
+use Rattle.std.proofs.Common.{Bool, sym, ap, ◌∙◌}
 use Rattle.rv_hart.specs.Memory.{Memory}
 use Rattle.rv_hart.specs.Step.{state}
 use Rattle.rv_hart.proofs.Stores.{put-yes}

@@ -1,7 +1,7 @@
-use Rattle.std.proofs.Common.{◌≡◌, ℕ, List, ◌+◌, ◌%◌, ◌^◌, take, sym, ap, ◌∙◌}
+use Rattle.std.proofs.Common.{ℕ, take, ap, ◌∙◌}
 use Rattle.prof_bytes.specs.Number.{number_bytes}
 use Rattle.rv_hart.specs.Arithmetic.{sum}
-use Rattle.rv_hart.specs.Step.{state, address}
+use Rattle.rv_hart.specs.Step.{state}
 use Rattle.rv_hart.proofs.Stores.{lowest, store-ok, store-err}
 use Rattle.rv_hart.proofs.execute.store.Goals as goal
 

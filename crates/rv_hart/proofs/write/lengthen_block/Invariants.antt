@@ -1,4 +1,4 @@
-use Rattle.std.proofs.Common.{◌≡◌, ℕ, ◌+◌, ◌-◌, [], length, get_or}
+use Rattle.std.proofs.Common.{◌≡◌, ℕ, ◌+◌, ◌-◌, length}
 use Rattle.rv_hart.specs.Pages.{page_at}
 use Rattle.rv_hart.proofs.write.lengthen_block.Given as goal
 

@@ -1,5 +1,4 @@
 use Rattle.std.proofs.Common.{◌≡◌, ℕ, ◌+◌, ◌-◌, [], length, get_or}
-use Rattle.rv_hart.specs.Pages.{page_at}
 use Rattle.rv_hart.proofs.write.lengthen_blocks.Given as goal
 
 abbrev pub invariant-loop-alloc : goal.invariant-loop-alloc

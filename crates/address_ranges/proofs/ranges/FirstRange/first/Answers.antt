@@ -1,5 +1,4 @@
-use Rattle.std.proofs.Common.{◌≡◌, ◌∙◌, sym, ap, ℕ, Option, List}
-use Rattle.std.specs.Prelude.{position}
+use Rattle.std.proofs.Common.{sym}
 use Rattle.std.proofs.lemmas.Iterator.Adapters.{position_from-zero}
 use Rattle.address_ranges.specs.Ranges.{holds}
 use Rattle.address_ranges.proofs.ranges.FirstRange.first.Goals as goal

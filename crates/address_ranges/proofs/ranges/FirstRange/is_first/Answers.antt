@@ -1,4 +1,3 @@
-use Rattle.std.proofs.Common.{◌≡◌, ◌∙◌, sym}
 use Rattle.address_ranges.proofs.Steps.{first_held}
 use Rattle.address_ranges.proofs.ranges.FirstRange.is_first.Goals as goal
 

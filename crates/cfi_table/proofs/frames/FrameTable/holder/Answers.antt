@@ -2,7 +2,6 @@ use Rattle.std.proofs.Common.{sym}
 use Rattle.address_ranges.specs.Ranges.{holds}
 use Rattle.address_ranges.proofs.Places.{find_by_table}
 use Rattle.elf_image.proofs.Tables.{holds_at}
-use Rattle.cfi_table.specs.declared.fde.Fde.{Fde}
 use Rattle.cfi_table.specs.Frames.{range_of, IsFdeIn}
 use Rattle.cfi_table.proofs.frames.FrameTable.holder.Goals as goal
 

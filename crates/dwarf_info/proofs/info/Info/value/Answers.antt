@@ -1,4 +1,3 @@
-use Rattle.std.proofs.Common.{◌≡◌, arith, sym}
 use Rattle.dwarf_forms.specs.Values.{held}
 use Rattle.std.specs.Prelude.{option_map}
 use Rattle.dwarf_info.specs.Sections.{sections_of}

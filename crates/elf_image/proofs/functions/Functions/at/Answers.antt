@@ -1,10 +1,10 @@
-use Rattle.std.proofs.Common.{◌≡◌, ℕ, ◌+◌, ◌<◌, ◌^◌, List, Option, map, ap, ◌∙◌, sym}
+use Rattle.std.proofs.Common.{◌≡◌, ℕ, ◌+◌, ◌<◌, ◌^◌, List, Option, map, ◌∙◌, sym}
 use Rattle.std.specs.Prelude.{find, option_map, position, slice_get}
 use Rattle.std.specs.Option.{option_and_then}
 use Rattle.elf_image.specs.declared.part.Function.{Function}
 use Rattle.address_ranges.specs.Ranges.{holds}
 use Rattle.address_ranges.proofs.Places.{find_by_table}
-use Rattle.elf_image.specs.Image.{Called, called, function_range, in_function}
+use Rattle.elf_image.specs.Image.{called, function_range, in_function}
 use Rattle.elf_image.proofs.Tables.{holds_at, slice_get_map}
 use Rattle.elf_image.proofs.functions.Functions.at.Goals as goal
 

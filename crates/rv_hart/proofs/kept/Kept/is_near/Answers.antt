@@ -1,7 +1,7 @@
-use Rattle.std.proofs.Common.{◌≡◌, Bool, true, List, refl, sym, ap, subst, ◌∙◌}
+use Rattle.std.proofs.Common.{◌≡◌, true, sym, subst, ◌∙◌}
 use Rattle.elf_image.specs.declared.part.Segment.{Segment}
 use Rattle.rv_hart.specs.Memory.{write}
-use Rattle.rv_hart.specs.Stored.{page_of, IsHome, covers_all}
+use Rattle.rv_hart.specs.Stored.{IsHome, covers_all}
 use Rattle.rv_hart.proofs.Near.{all-granted}
 use Rattle.rv_hart.proofs.kept.Kept.is_near.Goals as goal
 

@@ -1,4 +1,4 @@
-use Rattle.std.proofs.Common.{ℕ, List, length, get_or, refl, ap, ◌∙◌, ◌/◌, ◌^◌}
+use Rattle.std.proofs.Common.{length, get_or, refl, ap, ◌∙◌, ◌/◌, ◌^◌}
 use Rattle.rv_hart.specs.Pages.{Paged}
 use Rattle.rv_hart.proofs.Set.{make-value}
 use Rattle.rv_hart.proofs.kept.Kept.make.Goals as goal

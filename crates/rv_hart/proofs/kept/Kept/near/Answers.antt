@@ -1,4 +1,4 @@
-use Rattle.std.proofs.Common.{◌≡◌, ◌==◌, Bool, true, ℕ, ◌+◌, ◌-◌, ◌%◌, ◌^◌, List, [], length, take, drop, refl, sym, ap, ◌∙◌, arith}
+use Rattle.std.proofs.Common.{◌≡◌, ◌==◌, true, ℕ, ◌%◌, [], length, take, drop, sym, ap, ◌∙◌, arith}
 use Rattle.std.proofs.lemmas.List.{nil_from_length}
 use Rattle.std.proofs.lemmas.Bool.{eqb-true}
 use Rattle.rv_hart.proofs.Near.{near-page, near-none, near-intact}

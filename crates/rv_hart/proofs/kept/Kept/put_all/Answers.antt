@@ -1,5 +1,4 @@
-use Rattle.std.proofs.Common.{◌≡◌, ℕ, ◌+◌, ◌^◌, ◌≤◌, length, get_or, refl, sym, ap, subst, ◌∙◌, arith, rules}
-use Rattle.rv_hart.specs.Stored.{page_of}
+use Rattle.std.proofs.Common.{ℕ, ◌+◌, ◌^◌, ◌≤◌, get_or, refl, sym, subst}
 use Rattle.rv_hart.proofs.Set.{put-more, rest-again, granted-one}
 use Rattle.rv_hart.proofs.kept.Kept.put_all.Goals as goal
 

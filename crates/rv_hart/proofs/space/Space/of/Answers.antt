@@ -1,4 +1,4 @@
-use Rattle.std.proofs.Common.{◌≡◌, ◌++◌, map, List, ap, ◌∙◌}
+use Rattle.std.proofs.Common.{◌++◌, map, List, ap, ◌∙◌}
 use Rattle.std.specs.List.{range_with_len}
 use Rattle.elf_image.specs.declared.part.Segment.{Segment}
 use Rattle.rv_hart.specs.Memory.{stack_of}
