@@ -14,4 +14,6 @@ mod runs;
 #[cfg(test)]
 mod samples;
 #[cfg(test)]
+mod schedules;
+#[cfg(test)]
 mod steps;

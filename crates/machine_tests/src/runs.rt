@@ -1,154 +1,15 @@
-use crate::guests::{guest, machine_of, schedule};
-use prof_bytes::{Fail, Memory};
-use rv_run::{Due, HartEnd, Machine, Moment, Slice, number, read_schedule};
+//! Runs of programs under a schedule: what they read, write and answer, and how their harts end.
+use crate::guests::{guest, machine_of};
+use prof_bytes::Memory;
+use rv_run::{Due, HartEnd, Machine, Moment};
 use std::alloc::Global;
 use std::test::Fail as Failed;
 
+mod programs;
 mod tables;
-mod texts;
 
+use programs::{ADDER, CALLER, GROUP, SHARED, WRITER};
 use tables::{ENDS, MOMENTS, OTHERS, OUTPUTS, READS, WRITES};
-use texts::{FAULTS, SCHEDULES};
-
-/// Loads x17 and x10 to x12 from the four words behind its seven, makes an environment call, and
-/// breaks. The words of all guests are those that the GNU assembler 2.40 makes.
-static CALLER: [u32; 7] = [
-    0x0000_0297,
-    0x01c2_a883,
-    0x0202_a503,
-    0x0242_a583,
-    0x0282_a603,
-    0x0000_0073,
-    0x0010_0073,
-];
-
-/// Writes 524,288 bytes, 524,286, 4 and 4, all from where its stack begins.
-static WRITER: [u32; 22] = [
-    0x0000_0297,
-    0x0442_a883,
-    0x0482_a583,
-    0x0010_0513,
-    0x04c2_a603,
-    0x0000_0073,
-    0x0010_0513,
-    0x0502_a603,
-    0x0000_0073,
-    0x0020_0513,
-    0x0542_a603,
-    0x0000_0073,
-    0x0010_0513,
-    0x0542_a603,
-    0x0000_0073,
-    0x0000_0013,
-    0x0000_0013,
-    64,
-    0xf008_0000,
-    0x8_0000,
-    0x7_fffe,
-    4,
-];
-
-/// Hart 0 makes exit_group with 5, hart 2 exits with 9, and others loop.
-static GROUP: [u32; 10] = [
-    0x0005_1863,
-    0x05e0_0893,
-    0x0050_0513,
-    0x0000_0073,
-    0x0020_0293,
-    0x0055_0463,
-    0xff9f_f06f,
-    0x05d0_0893,
-    0x0090_0513,
-    0x0000_0073,
-];
-
-/// Again and again takes one word, shifts it by 4, adds one more than the hart's number, and puts it
-/// back: `lui`, and then `lw`, `slli`, `addi`, `add`, `sw`, `jal`.
-static SHARED: [u32; 7] = [
-    0xf008_0337,
-    0x0003_2383,
-    0x0043_9393,
-    0x0015_0293,
-    0x0053_83b3,
-    0x0073_2023,
-    0xfedf_f06f,
-];
-
-/// Adds 1 to x10 nineteen times, and exits.
-static ADDER: [u32; 21] = [
-    0x0015_0513,
-    0x0015_0513,
-    0x0015_0513,
-    0x0015_0513,
-    0x0015_0513,
-    0x0015_0513,
-    0x0015_0513,
-    0x0015_0513,
-    0x0015_0513,
-    0x0015_0513,
-    0x0015_0513,
-    0x0015_0513,
-    0x0015_0513,
-    0x0015_0513,
-    0x0015_0513,
-    0x0015_0513,
-    0x0015_0513,
-    0x0015_0513,
-    0x0015_0513,
-    0x05d0_0893,
-    0x0000_0073,
-];
-
-/// The first bad line of a schedule's text; `None` where it is taken.
-fn bad_line(alloc: Global, text: &[u8]) -> Result<Option<u32>, Memory> {
-    if text.len() > 1 << 22 {
-        return Err(Memory);
-    }
-    match read_schedule(alloc, text) {
-        Ok(_) => Ok(None),
-        Err(Fail::Fault(fault)) => Ok(Some(fault.line)),
-        Err(Fail::Memory) => Err(Memory),
-    }
-}
-
-/// The place of the first text that has another bad line than its row says.
-fn other_fault(alloc: Global) -> Result<Option<usize>, Memory> {
-    for (place, (text, line)) in FAULTS.iter().enumerate() {
-        if bad_line(alloc, text)? != Some(*line) {
-            return Ok(Some(place));
-        }
-    }
-    Ok(None)
-}
-
-/// Whether slices have these harts and counts.
-fn same_slices(told: &[Slice], wanted: &[(u32, u32)]) -> bool {
-    if told.len() != wanted.len() {
-        return false;
-    }
-    for (slice, (hart, count)) in told.iter().zip(wanted) {
-        if slice.hart != *hart || slice.count != *count {
-            return false;
-        }
-    }
-    true
-}
-
-/// Whether a text tells so many harts and these slices.
-fn tells(alloc: Global, text: &[u8], harts: u32, slices: &[(u32, u32)]) -> Result<bool, Memory> {
-    let told = schedule(alloc, text)?;
-    Ok(told.harts() == harts && same_slices(told.slices(), slices))
-}
-
-/// The place of the first text that tells another schedule than its row says.
-fn other_schedule(alloc: Global) -> Result<Option<usize>, Memory> {
-    for (place, (text, harts, slices)) in SCHEDULES.iter().enumerate() {
-        if !tells(alloc, text, *harts, slices)? {
-            return Ok(Some(place));
-        }
-    }
-    Ok(None)
-}
 
 /// Carries out so many instructions of a run.
 fn carry_out(machine: &mut Machine<'_>, count: u32) -> Result<(), Memory> {
@@ -442,18 +303,6 @@ fn other_end(alloc: Global) -> Result<Option<usize>, Memory> {
         }
     }
     Ok(None)
-}
-
-#[test]
-fn bad_lines_of_schedules(rt: HostRuntime) -> Result<(), Failed> {
-    assert_eq!(rt; other_fault(rt.alloc())?, None);
-    Ok(())
-}
-
-#[test]
-fn schedules_as_they_are_told(rt: HostRuntime) -> Result<(), Failed> {
-    assert_eq!(rt; other_schedule(rt.alloc())?, None);
-    Ok(())
 }
 
 #[test]

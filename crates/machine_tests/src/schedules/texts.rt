@@ -1,4 +1,4 @@
-//! Schedules.
+//! Texts of schedules.
 /// Texts of schedules and their first bad lines, by the rules that `read_schedule` states.
 pub(super) static FAULTS: [(&[u8], u32); 36] = [
     (b"", 1),

@@ -1,0 +1,73 @@
+//! Schedules as texts tell them, and the first bad line of others.
+use crate::guests::schedule;
+use prof_bytes::{Fail, Memory};
+use rv_run::{Slice, read_schedule};
+use std::alloc::Global;
+use std::test::Fail as Failed;
+
+mod texts;
+
+use texts::{FAULTS, SCHEDULES};
+
+/// The first bad line of a schedule's text; `None` where it is taken.
+fn bad_line(alloc: Global, text: &[u8]) -> Result<Option<u32>, Memory> {
+    if text.len() > 1 << 22 {
+        return Err(Memory);
+    }
+    match read_schedule(alloc, text) {
+        Ok(_) => Ok(None),
+        Err(Fail::Fault(fault)) => Ok(Some(fault.line)),
+        Err(Fail::Memory) => Err(Memory),
+    }
+}
+
+/// The place of the first text that has another bad line than its row says.
+fn other_fault(alloc: Global) -> Result<Option<usize>, Memory> {
+    for (place, (text, line)) in FAULTS.iter().enumerate() {
+        if bad_line(alloc, text)? != Some(*line) {
+            return Ok(Some(place));
+        }
+    }
+    Ok(None)
+}
+
+/// Whether slices have these harts and counts.
+fn same_slices(told: &[Slice], wanted: &[(u32, u32)]) -> bool {
+    if told.len() != wanted.len() {
+        return false;
+    }
+    for (slice, (hart, count)) in told.iter().zip(wanted) {
+        if slice.hart != *hart || slice.count != *count {
+            return false;
+        }
+    }
+    true
+}
+
+/// Whether a text tells so many harts and these slices.
+fn tells(alloc: Global, text: &[u8], harts: u32, slices: &[(u32, u32)]) -> Result<bool, Memory> {
+    let told = schedule(alloc, text)?;
+    Ok(told.harts() == harts && same_slices(told.slices(), slices))
+}
+
+/// The place of the first text that tells another schedule than its row says.
+fn other_schedule(alloc: Global) -> Result<Option<usize>, Memory> {
+    for (place, (text, harts, slices)) in SCHEDULES.iter().enumerate() {
+        if !tells(alloc, text, *harts, slices)? {
+            return Ok(Some(place));
+        }
+    }
+    Ok(None)
+}
+
+#[test]
+fn bad_lines_of_schedules(rt: HostRuntime) -> Result<(), Failed> {
+    assert_eq!(rt; other_fault(rt.alloc())?, None);
+    Ok(())
+}
+
+#[test]
+fn schedules_as_they_are_told(rt: HostRuntime) -> Result<(), Failed> {
+    assert_eq!(rt; other_schedule(rt.alloc())?, None);
+    Ok(())
+}
