@@ -2,3 +2,4 @@ pub mod Number
 pub mod Leb
 pub mod Reading
 pub mod Outcome
+pub mod Fields

@@ -1,19 +1,19 @@
-ghost use Rattle.std.specs.Prelude.{◌≡◌, ◌-◌, ◌≤◌, ℕ, IfSome, length, take, option_map};
+ghost use Rattle.std.specs.Prelude.{◌≡◌, ◌+◌, ◌-◌, ◌≤◌, ℕ, IfSome, length, take, option_map};
 ghost use Rattle.std.specs.Option.{option_copied};
 ghost use Rattle.prof_bytes.specs.Number.{number_at, number_bytes};
 ghost use Rattle.prof_bytes.specs.Leb.{uleb_at, sleb_at};
-ghost use Rattle.prof_bytes.specs.Reading.{reading, left_of, bytes_at, text_at};
+ghost use Rattle.prof_bytes.specs.Reading.{reading, left_of, up_to, bytes_at, text_at};
 
 use crate::front::{bytes_front, text_front, u8_front, u16_front, u24_front, u32_front, u64_front};
 use crate::leb::{sleb_front, uleb_front};
 use std::marker::Model;
 
-/// Bytes, and a place in them from which the next read goes on. A read that finds too few bytes
-/// leaves the place where it is.
+/// Bytes, and the offset in them at which the next read begins. A read that finds too few bytes
+/// leaves the offset as it is.
 #[derive(Debug, Drop)]
 pub struct Cursor<'a> {
     bytes: &'a [u8],
-    place: usize,
+    offset: usize,
 }
 
 impl<'a> Model for Cursor<'a> {
@@ -22,34 +22,34 @@ impl<'a> Model for Cursor<'a> {
 
     ghost Value = { At };
 
-    ghost view = { λ cursor. record { whole = cursor.bytes.now; place = cursor.place } };
+    ghost view = { λ cursor. record { whole = cursor.bytes.now; offset = cursor.offset } };
 
-    ghost invariant = { λ cursor. cursor.place ≤ length cursor.bytes.now };
+    ghost invariant = { λ cursor. cursor.offset ≤ length cursor.bytes.now };
 }
 
 impl<'a> Cursor<'a> {
-    /// A cursor over the bytes, at this place.
-    pub fn at(bytes: &'a [u8], place: usize) -> Cursor<'a>
-        requires { place ≤ length bytes.now }
-        ensures { result ≡ record { whole = bytes.now; place = place } }
+    /// A cursor over the bytes, at this offset.
+    pub fn at(bytes: &'a [u8], offset: usize) -> Cursor<'a>
+        requires { offset ≤ length bytes.now }
+        ensures { result ≡ record { whole = bytes.now; offset = offset } }
     {
-        Cursor { bytes, place }
+        Cursor { bytes, offset }
     }
 
-    /// A second cursor over the same bytes, at the same place, which moves by itself.
+    /// A second cursor over the same bytes, at the same offset, which moves by itself.
     pub fn fork(&self) -> Cursor<'a>
         ensures { result ≡ self.now }
     {
         Cursor {
             bytes: self.bytes,
-            place: self.place,
+            offset: self.offset,
         }
     }
 
-    /// A second cursor at the same place, over the bytes before `end` alone.
+    /// A second cursor at the same offset, over the bytes before `end` alone.
     pub fn until(&self, end: usize) -> Cursor<'a>
-        requires { self.now.place ≤ end }
-        ensures { result ≡ record { whole = take end self.now.whole; place = self.now.place } }
+        requires { self.now.offset ≤ end }
+        ensures { result ≡ up_to end self.now }
     {
         let bytes = if end < self.bytes.len() {
             &self.bytes[..end]
@@ -58,30 +58,41 @@ impl<'a> Cursor<'a> {
         };
         Cursor {
             bytes,
-            place: self.place,
+            offset: self.offset,
+        }
+    }
+
+    /// A second cursor at the same offset, over the next `count` bytes alone.
+    pub(crate) fn front(&self, count: usize) -> Cursor<'a>
+        requires { count ≤ length (left_of self.now) }
+        ensures { result ≡ up_to (self.now.offset + count) self.now }
+    {
+        Cursor {
+            bytes: &self.bytes[..self.offset + count],
+            offset: self.offset,
         }
     }
 
     /// Where the next read begins, as an offset in the bytes.
     pub fn place(&self) -> usize
-        ensures { result ≡ self.now.place }
+        ensures { result ≡ self.now.offset }
     {
-        self.place
+        self.offset
     }
 
     /// How many bytes are left.
     pub fn left(&self) -> usize
         ensures { result ≡ length (left_of self.now) }
     {
-        self.bytes.len() - self.place
+        self.bytes.len() - self.offset
     }
 
     /// A number of one byte.
     pub fn u8(&mut self) -> Option<u8>
         ensures { (result, self.new) ≡ reading self.old (number_at 1 (left_of self.old)) }
     {
-        let (value, count) = u8_front(&self.bytes[self.place..])?;
-        self.place += count;
+        let (value, count) = u8_front(&self.bytes[self.offset..])?;
+        self.offset += count;
         Some(value)
     }
 
@@ -89,8 +100,8 @@ impl<'a> Cursor<'a> {
     pub fn u16(&mut self) -> Option<u16>
         ensures { (result, self.new) ≡ reading self.old (number_at 2 (left_of self.old)) }
     {
-        let (value, count) = u16_front(&self.bytes[self.place..])?;
-        self.place += count;
+        let (value, count) = u16_front(&self.bytes[self.offset..])?;
+        self.offset += count;
         Some(value)
     }
 
@@ -98,8 +109,8 @@ impl<'a> Cursor<'a> {
     pub fn u24(&mut self) -> Option<u32>
         ensures { (result, self.new) ≡ reading self.old (number_at 3 (left_of self.old)) }
     {
-        let (value, count) = u24_front(&self.bytes[self.place..])?;
-        self.place += count;
+        let (value, count) = u24_front(&self.bytes[self.offset..])?;
+        self.offset += count;
         Some(value)
     }
 
@@ -109,8 +120,8 @@ impl<'a> Cursor<'a> {
         // What was read gives the same bytes when it is written again.
         ensures again { IfSome result (λ number. number_bytes 4 number ≡ take 4 (left_of self.old)) }
     {
-        let (value, count) = u32_front(&self.bytes[self.place..])?;
-        self.place += count;
+        let (value, count) = u32_front(&self.bytes[self.offset..])?;
+        self.offset += count;
         Some(value)
     }
 
@@ -120,8 +131,8 @@ impl<'a> Cursor<'a> {
         // What was read gives the same bytes when it is written again.
         ensures again { IfSome result (λ number. number_bytes 8 number ≡ take 8 (left_of self.old)) }
     {
-        let (value, count) = u64_front(&self.bytes[self.place..])?;
-        self.place += count;
+        let (value, count) = u64_front(&self.bytes[self.offset..])?;
+        self.offset += count;
         Some(value)
     }
 
@@ -129,8 +140,8 @@ impl<'a> Cursor<'a> {
     pub fn uleb(&mut self) -> Option<u64>
         ensures { (result, self.new) ≡ reading self.old (uleb_at (left_of self.old)) }
     {
-        let (value, count) = uleb_front(&self.bytes[self.place..])?;
-        self.place += count;
+        let (value, count) = uleb_front(&self.bytes[self.offset..])?;
+        self.offset += count;
         Some(value)
     }
 
@@ -138,8 +149,8 @@ impl<'a> Cursor<'a> {
     pub fn sleb(&mut self) -> Option<i64>
         ensures { (result, self.new) ≡ reading self.old (sleb_at (left_of self.old)) }
     {
-        let (value, count) = sleb_front(&self.bytes[self.place..])?;
-        self.place += count;
+        let (value, count) = sleb_front(&self.bytes[self.offset..])?;
+        self.offset += count;
         Some(value)
     }
 
@@ -147,8 +158,8 @@ impl<'a> Cursor<'a> {
     pub fn cstr(&mut self) -> Option<&'a [u8]>
         ensures { (option_copied result, self.new) ≡ reading self.old (text_at (left_of self.old)) }
     {
-        let text = text_front(&self.bytes[self.place..])?;
-        self.place += text.len() + 1;
+        let text = text_front(&self.bytes[self.offset..])?;
+        self.offset += text.len() + 1;
         Some(text)
     }
 
@@ -156,8 +167,8 @@ impl<'a> Cursor<'a> {
     pub fn take(&mut self, count: usize) -> Option<&'a [u8]>
         ensures { (option_copied result, self.new) ≡ reading self.old (bytes_at count (left_of self.old)) }
     {
-        let bytes = bytes_front(&self.bytes[self.place..], count)?;
-        self.place += count;
+        let bytes = bytes_front(&self.bytes[self.offset..], count)?;
+        self.offset += count;
         Some(bytes)
     }
 }

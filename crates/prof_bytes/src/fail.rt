@@ -3,49 +3,58 @@ ghost use Rattle.prof_bytes.specs.declared.fail.Fail.TheVariants as fails;
 
 use std::alloc::{AllocError, AllocFailed};
 
-/// No memory was found.
+/// Out of memory. A value of this type is made of an allocation that failed, and of nothing else, so an
+/// answer that carries one never comes where memory was found.
 #[derive(Clone, Copy, Debug, PartialEq, Eq)]
-pub struct Memory;
+pub struct Memory {
+    failed: AllocError,
+}
 
-/// Why a call gave no value: no memory was found, or its input has the fault `F`.
+/// Why a call gave no value: an allocation failed, or its input has the fault `F`.
 #[derive(Clone, Copy, Debug, PartialEq, Eq)]
 pub enum Fail<F> {
-    Memory,
+    Memory(Memory),
     Fault(F),
 }
 
 impl From<AllocError> for Memory {
-    fn from(_: AllocError) -> Memory {
-        Memory
+    fn from(failed: AllocError) -> Memory {
+        Memory { failed }
     }
 }
 
 impl<T: Drop> From<AllocFailed<T>> for Memory {
-    fn from(_: AllocFailed<T>) -> Memory {
-        Memory
+    fn from(failed: AllocFailed<T>) -> Memory {
+        Memory {
+            failed: AllocError::from(failed),
+        }
     }
 }
 
 impl<F: Drop> From<Memory> for Fail<F> {
-    ghost from_gives = { λ _ fail. fail ≡ fails.Memory };
+    ghost from_gives = { λ memory fail. fail ≡ fails.Memory memory };
 
-    fn from(_: Memory) -> Fail<F> {
-        Fail::Memory
+    fn from(memory: Memory) -> Fail<F> {
+        Fail::Memory(memory)
     }
 }
 
 impl<F: Drop> From<AllocError> for Fail<F> {
-    ghost from_gives = { λ _ fail. fail ≡ fails.Memory };
+    ghost use Rattle.prof_bytes.specs.declared.fail.Memory.{Memory};
 
-    fn from(_: AllocError) -> Fail<F> {
-        Fail::Memory
+    ghost from_gives = { λ _ fail. (memory : Memory) × (fail ≡ fails.Memory memory) };
+
+    fn from(failed: AllocError) -> Fail<F> {
+        Fail::Memory(Memory::from(failed))
     }
 }
 
 impl<F: Drop, T: Drop> From<AllocFailed<T>> for Fail<F> {
-    ghost from_gives = { λ _ fail. fail ≡ fails.Memory };
+    ghost use Rattle.prof_bytes.specs.declared.fail.Memory.{Memory};
 
-    fn from(_: AllocFailed<T>) -> Fail<F> {
-        Fail::Memory
+    ghost from_gives = { λ _ fail. (memory : Memory) × (fail ≡ fails.Memory memory) };
+
+    fn from(failed: AllocFailed<T>) -> Fail<F> {
+        Fail::Memory(Memory::from(failed))
     }
 }

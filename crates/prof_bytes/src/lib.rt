@@ -11,10 +11,12 @@ mod front;
 mod leb;
 mod listed;
 mod number;
+mod reader;
 mod text;
 
 pub use cursor::Cursor;
 pub use fail::{Fail, Memory};
 pub use listed::Listed;
 pub use number::{put_u32, put_u64};
+pub use reader::Reader;
 pub use text::Text;
