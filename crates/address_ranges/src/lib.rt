@@ -1,10 +1,10 @@
-//! Which of many ranges of addresses holds an address: the first of them, found by halving.
+//! Which of many elements with ranges of addresses holds an address: the first of them, found by halving.
 //!
-//! It promises that the range that is found for an address is the first that holds it in the order in
-//! which the ranges were given, however they nest and overlap. It follows no standard. Below stands
-//! `prof_bytes`.
+//! It promises that the element that is found for an address is the first whose range holds it, in the
+//! order in which they were given, however the ranges nest and overlap. It follows no standard, and
+//! stands on no other crate.
 #![tactic(auto)]
 
 mod ranges;
 
-pub use ranges::{AddressRange, FirstRange};
+pub use ranges::{AddressRange, HasRange, RangeTable};

@@ -1,50 +1,58 @@
 //! Ranges, and tables of steps over them.
-ghost use Rattle.std.specs.Prelude.{◌≡◌, ◌≢◌, ℕ, MatchBool, ◌+◌, ◌<◌, ◌≤◌, ◌^◌, IfOk, Some, None, length, position, if◌then◌else◌};
+ghost use Rattle.std.specs.Prelude.{◌≡◌, ◌≢◌, ℕ, MatchBool, ◌+◌, ◌<◌, ◌≤◌, ◌^◌, IfOk, Some, None, length, map, find, slice_get, if◌then◌else◌};
 ghost use Rattle.std.specs.List.{position_from};
-ghost use Rattle.std.specs.Option.{option_or};
+ghost use Rattle.std.specs.Option.{option_and_then, option_copied, option_or};
 ghost use Rattle.address_ranges.specs.Ranges.{holds, value_at, IsAscending, AllHeld, SomeElse, IsFirst, IsNotFirst, next_start, past};
 
-use prof_bytes::Memory;
-use std::alloc::Global;
+use std::alloc::{AllocError, Global};
 use std::marker::Model;
 
-/// The addresses from `start` up to `end`, without `end` itself. It is empty where `end` is not
-/// above `start`.
+/// The addresses from `start` up to `end`, without `end` itself, which may be 2^32 or more. It is empty
+/// where `end` is not above `start`.
 #[derive(Clone, Copy, Debug, PartialEq, Eq)]
 pub struct AddressRange {
     pub start: u32,
-    pub end: u32,
+    pub end: u64,
+}
+
+/// What has a range of addresses.
+pub trait HasRange {
+    ghost use Rattle.address_ranges.specs.declared.ranges.AddressRange.{AddressRange};
+
+    ghost range_of: { Self → AddressRange };
+
+    fn range(&self) -> AddressRange
+        ensures { result ≡ range_of self.now };
 }
 
 /// Who holds the addresses from `start` up to the next step.
 #[derive(Clone, Copy, Debug)]
 struct Step {
-    start: u32,
+    start: u64,
     holder: Option<u32>,
 }
 
-/// For each address the first of many ranges that holds it. Ranges may nest and overlap. Contracts
-/// see the list of the ranges.
+/// For each address the first of many elements whose range holds it. Ranges may nest and overlap. Contracts
+/// see the list of the elements.
 #[derive(Debug, Drop)]
-pub struct FirstRange {
-    ranges: Vec<AddressRange>,
+pub struct RangeTable<T: HasRange + Drop> {
+    items: Vec<T>,
     steps: Vec<Step>,
 }
 
-impl Model for FirstRange {
-    ghost use Rattle.std.specs.Prelude.{List};
-    ghost use Rattle.address_ranges.specs.declared.ranges.AddressRange.{AddressRange};
+impl<T: HasRange + Drop> Model for RangeTable<T> {
+    ghost use Rattle.std.specs.Prelude.{List, map};
     ghost use Rattle.address_ranges.specs.Ranges.{IsTableOf};
 
-    ghost Value = { List AddressRange };
+    ghost Value = { List T };
 
-    ghost view = { λ table. table.ranges.items };
+    ghost view = { λ table. table.items.items };
 
-    ghost invariant = { λ table. IsTableOf table.ranges.items table.steps.items };
+    ghost invariant = { λ table. IsTableOf (map T.range_of table.items.items) table.steps.items };
 }
 
 /// The holder at the address, where `before` holds those below the first step.
-fn holder_at(steps: &[Step], before: Option<u32>, address: u32) -> Option<u32>
+fn holder_at(steps: &[Step], before: Option<u32>, address: u64) -> Option<u32>
     requires { IsAscending 0 steps.now }
     ensures { result ≡ value_at before steps.now address }
 {
@@ -69,7 +77,7 @@ fn is_holder(holder: Option<u32>, number: u32) -> bool
 }
 
 /// Whether all addresses from `low` up to `high` have the holder `number`.
-fn is_held(steps: &[Step], before: Option<u32>, low: u32, high: u32, number: u32) -> bool
+fn is_held(steps: &[Step], before: Option<u32>, low: u64, high: u64, number: u32) -> bool
     requires ascending { IsAscending 0 steps.now }
     requires some { low < high }
     ensures { MatchBool result (AllHeld before steps.now low high number) (SomeElse before steps.now low high number) }
@@ -89,7 +97,7 @@ fn is_held(steps: &[Step], before: Option<u32>, low: u32, high: u32, number: u32
         && is_held(&steps[middle + 1..], step.holder, step.start, high, number)
 }
 
-fn next_start(first: &[Step], second: &[Step]) -> Option<u32>
+fn next_start(first: &[Step], second: &[Step]) -> Option<u64>
     ensures { result ≡ next_start first.now second.now }
 {
     match (first, second) {
@@ -101,7 +109,7 @@ fn next_start(first: &[Step], second: &[Step]) -> Option<u32>
 }
 
 /// Past the step that begins there, if one does: the holder then, and the steps left.
-fn past(start: u32, holder: Option<u32>, steps: &[Step]) -> (Option<u32>, &[Step])
+fn past(start: u64, holder: Option<u32>, steps: &[Step]) -> (Option<u32>, &[Step])
     ensures { (result.0, result.1.now) ≡ past start holder steps.now }
 {
     match steps {
@@ -111,7 +119,7 @@ fn past(start: u32, holder: Option<u32>, steps: &[Step]) -> (Option<u32>, &[Step
 }
 
 /// Two tables in one: the first one's holder, and the second's where the first has none.
-fn overlay(alloc: Global, upper: &[Step], lower: &[Step]) -> Result<Vec<Step>, Memory>
+fn overlay(alloc: Global, upper: &[Step], lower: &[Step]) -> Result<Vec<Step>, AllocError>
     requires upper { IsAscending 0 upper.now }
     requires lower { IsAscending 0 lower.now }
     ensures ascending { IfOk result (λ steps. IsAscending 0 steps.items) }
@@ -129,17 +137,15 @@ fn overlay(alloc: Global, upper: &[Step], lower: &[Step]) -> Result<Vec<Step>, M
     Ok(steps)
 }
 
-fn one_range(alloc: Global, range: AddressRange, holder: u32) -> Result<Vec<Step>, Memory>
+fn one_range(alloc: Global, range: AddressRange, holder: u32) -> Result<Vec<Step>, AllocError>
     ensures ascending { IfOk result (λ steps. IsAscending 0 steps.items) }
     ensures holders { IfOk result (λ steps. (address : ℕ) → value_at None steps.items address ≡ (if holds address range then Some holder else None)) }
 {
     let mut steps = Vec::new(alloc);
-    if range.start < range.end {
+    let start = u64::from(range.start);
+    if start < range.end {
         let holder = Some(holder);
-        steps.push(Step {
-            start: range.start,
-            holder,
-        })?;
+        steps.push(Step { start, holder })?;
         steps.push(Step {
             start: range.end,
             holder: None,
@@ -148,18 +154,18 @@ fn one_range(alloc: Global, range: AddressRange, holder: u32) -> Result<Vec<Step
     Ok(steps)
 }
 
-/// The table of the ranges, the first of which has this number. Each half of the list is a table of
-/// its own, so the work grows as n log n.
-fn steps_of(alloc: Global, ranges: &[AddressRange], number: u32) -> Result<Vec<Step>, Memory>
-    requires { number + length ranges.now < 2 ^ 32 }
+/// The table of the elements' ranges, the first of which has this number. Each half of the list is a table
+/// of its own, so the work grows as n log n.
+fn steps_of<T: HasRange>(alloc: Global, items: &[T], number: u32) -> Result<Vec<Step>, AllocError>
+    requires { number + length items.now < 2 ^ 32 }
     ensures ascending { IfOk result (λ steps. IsAscending 0 steps.items) }
-    ensures holders { IfOk result (λ steps. (address : ℕ) → value_at None steps.items address ≡ position_from (holds address) number ranges.now) }
+    ensures holders { IfOk result (λ steps. (address : ℕ) → value_at None steps.items address ≡ position_from (holds address) number (map T.range_of items.now)) }
 {
-    match ranges {
+    match items {
         [] => Ok(Vec::new(alloc)),
-        [range] => one_range(alloc, *range, number),
+        [item] => one_range(alloc, item.range(), number),
         _ => {
-            let (front, back) = ranges.split_at(ranges.len() / 2);
+            let (front, back) = items.split_at(items.len() / 2);
             let upper = steps_of(alloc, front, number)?;
             let lower = steps_of(alloc, back, number + front.len() as u32)?;
             overlay(alloc, &upper, &lower)
@@ -167,31 +173,50 @@ fn steps_of(alloc: Global, ranges: &[AddressRange], number: u32) -> Result<Vec<S
     }
 }
 
-impl FirstRange {
-    /// The table of these ranges. Its size grows with their number, and the time to make it as
-    /// n log n.
-    pub fn of(alloc: Global, ranges: Vec<AddressRange>) -> Result<FirstRange, Memory>
-        requires { length ranges.items < 2 ^ 32 }
-        ensures { IfOk result (λ table. table ≡ ranges.items) }
+fn item_at<T>(items: &[T], index: Option<u32>) -> Option<&T>
+    ensures { option_copied result ≡ option_and_then (λ i. slice_get items.now i) index }
+{
+    match index {
+        Some(index) => items.get(index as usize),
+        None => None,
+    }
+}
+
+impl<T: HasRange + Drop> RangeTable<T> {
+    /// The table of these elements. Its size grows with their number, and the time to make it as n log n.
+    pub fn of(alloc: Global, items: Vec<T>) -> Result<RangeTable<T>, AllocError>
+        requires { length items.items < 2 ^ 32 }
+        ensures { IfOk result (λ table. table ≡ items.items) }
     {
-        let steps = steps_of(alloc, &ranges, 0)?;
-        Ok(FirstRange { ranges, steps })
+        let steps = steps_of(alloc, items.as_slice(), 0)?;
+        Ok(RangeTable { items, steps })
     }
 
-    /// The index of the first range that holds the address. Takes no memory, and time as log n.
-    pub fn first(&self, address: u32) -> Option<u32>
-        ensures { result ≡ position (holds address) self.now }
+    /// The elements, in their order.
+    pub fn items(&self) -> &[T]
+        ensures { result.now ≡ self.now }
     {
-        holder_at(&self.steps, None, address)
+        self.items.as_slice()
     }
 
-    /// Whether this range, which has that index, is the first that holds each of its addresses.
+    /// The first element whose range holds the address. Takes no memory, and time as log n.
+    pub fn first(&self, address: u32) -> Option<&T>
+        ensures { option_copied result ≡ find (λ item. holds address (T.range_of item)) self.now }
+    {
+        item_at(
+            &self.items,
+            holder_at(&self.steps, None, u64::from(address)),
+        )
+    }
+
+    /// Whether the element of that index is the first for each address of its range.
     pub fn is_first(&self, range: AddressRange, index: u32) -> bool
-        ensures { MatchBool result (IsFirst self.now range.start range.end index) (IsNotFirst self.now range.start range.end index) }
+        ensures { MatchBool result (IsFirst (map T.range_of self.now) range.start range.end index) (IsNotFirst (map T.range_of self.now) range.start range.end index) }
     {
-        if range.end <= range.start {
+        let low = u64::from(range.start);
+        if range.end <= low {
             return true;
         }
-        is_held(&self.steps, None, range.start, range.end, index)
+        is_held(&self.steps, None, low, range.end, index)
     }
 }

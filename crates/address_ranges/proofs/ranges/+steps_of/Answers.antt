@@ -1,5 +1,6 @@
 use Rattle.std.proofs.Common.{◌≡◌, ℕ, ◌+◌, ◌/◌, ◌++◌, List, length, Option, None, Result, Ok, Err, ap, ◌∙◌, sym, take-append-drop}
-use Rattle.std.specs.Prelude.{IfOk}
+use Rattle.std.proofs.lemmas.List.{length-map, map-append}
+use Rattle.std.specs.Prelude.{IfOk, map}
 use Rattle.std.specs.Global.{Vec}
 use Rattle.std.specs.Option.{option_or}
 use Rattle.std.specs.List.{position_from}
@@ -25,7 +26,11 @@ halves (Ok steps) upper lower number front back whole u l parts laid = λ addres
 halves (Err e) upper lower number front back whole u l parts laid = tt
 
 pub returns-in_ok-lower-in_default-clause-holders : goal.returns-in_ok-lower-in_default-clause-holders
-returns-in_ok-lower-in_default-clause-holders t c =
-    halves c.overlay.result c.deref.result.now c.deref-in_default.result.now c.args.number c.split_at.result.0.now c.split_at.result.1.now c.args.ranges.now
-    (rw c.deref.ensures.value c.in_ok-upper-in_default.ensures.holders) (rw c.deref-in_default.ensures.value c.in_ok-lower-in_default.ensures.holders)
-    (rw (c.split_at.ensures.front, c.split_at.ensures.back) (take-append-drop (length c.args.ranges.now / 2) c.args.ranges.now)) c.overlay.ensures.holders
+returns-in_ok-lower-in_default-clause-holders g t c =
+    halves c.overlay.result c.deref.result.now c.deref-in_default.result.now c.args.number
+    (map g.T.HasRange.range_of c.split_at.result.0.now) (map g.T.HasRange.range_of c.split_at.result.1.now) (map g.T.HasRange.range_of c.args.items.now)
+    (rw c.deref.ensures.value c.in_ok-upper-in_default.ensures.holders)
+    (rw (c.deref-in_default.ensures.value, length-map) c.in_ok-lower-in_default.ensures.holders)
+    (sym (map-append g.T.HasRange.range_of c.split_at.result.0.now c.split_at.result.1.now)
+    ∙ ap (map g.T.HasRange.range_of) (rw (c.split_at.ensures.front, c.split_at.ensures.back) (take-append-drop (length c.args.items.now / 2) c.args.items.now)))
+    c.overlay.ensures.holders
