@@ -37,16 +37,18 @@ abbrev pub s_immediate : ℕ → ℕ
 s_immediate word = sign_extended 12 (bits word 25 7 * 2 ^ 5 + bits word 7 5)
 
 abbrev pub b_immediate : ℕ → ℕ
-b_immediate word = sign_extended 13 (bits word 31 1 * 2 ^ 12 + bits word 7 1 * 2 ^ 11 + bits word 25 6 * 2 ^ 5 + bits word 8 4 * 2)
+b_immediate word =
+    sign_extended 13 (bits word 31 1 * 2 ^ 12 + bits word 7 1 * 2 ^ 11 + bits word 25 6 * 2 ^ 5 + bits word 8 4 * 2)
 
 abbrev pub u_immediate : ℕ → ℕ
 u_immediate word = bits word 12 20 * 2 ^ 12
 
 abbrev pub j_immediate : ℕ → ℕ
-j_immediate word = sign_extended 21 (bits word 31 1 * 2 ^ 20 + bits word 12 8 * 2 ^ 12 + bits word 20 1 * 2 ^ 11 + bits word 21 10 * 2)
+j_immediate word =
+    sign_extended 21 (bits word 31 1 * 2 ^ 20 + bits word 12 8 * 2 ^ 12 + bits word 20 1 * 2 ^ 11 + bits word 21 10 * 2)
 
--- the manual's formats; `shift` is I with a shift amount in place of the immediate, and `bare` has
--- no operand
+-- the manual's formats; `shift` is I with a shift amount (shamt) in place of the immediate, and `bare`
+-- has no operand
 pub data Format : Type 0 where
   R : Format
   I : Format

@@ -1,4 +1,4 @@
-//! The fields of a word, by the instruction formats.
+//! The fields of a word ("Base Instruction Formats", "Immediate Encoding Variants").
 ghost use Rattle.std.specs.Prelude.{◌≡◌, ◌+◌, ◌*◌, ◌^◌, ◌<◌};
 ghost use Rattle.rv_table.specs.Fields as fields;
 ghost use Rattle.rv_table.specs.Fields.{bits, opcode, sign_extended, laid_out, R, I, S, B, U, J, shift, bare};

@@ -1,7 +1,7 @@
-/// What an instruction does: one variant for each instruction of RV32IM, by the manual's names.
+/// The operation of an instruction: one variant for each instruction of RV32IM, by the manual's names.
 #[derive(Clone, Copy, Debug, PartialEq, Eq)]
 pub enum Op {
-    /// The word has no row in the table.
+    /// The word is no instruction of RV32IM.
     Illegal,
     Lui,
     Auipc,
@@ -53,7 +53,7 @@ pub enum Op {
     Ebreak,
 }
 
-/// A word's operation and fields. A field that the instruction's format lacks is 0.
+/// An instruction: its operation and its fields ("Base Instruction Formats"). A field that the format lacks is 0.
 #[derive(Clone, Copy, Debug, PartialEq, Eq)]
 pub struct Inst {
     pub op: Op,

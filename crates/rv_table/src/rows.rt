@@ -1,4 +1,5 @@
-//! From a word to its row: the opcode first, then what decides beside it.
+//! From a word to its row ("RV32/64G Instruction Set Listings"): the opcode first, then funct3 and funct7. These are
+//! written in binary, as the listings have them.
 ghost use Rattle.std.specs.Prelude.{◌≡◌};
 ghost use Rattle.rv_table.specs.Fields as fields;
 ghost use Rattle.rv_table.specs.Fields.{opcode, laid_out, bare};
@@ -9,6 +10,9 @@ use crate::fields::{
     without_fields,
 };
 use crate::inst::{Inst, Op};
+use crate::opcode::{
+    AUIPC, BRANCH, EBREAK, ECALL, JAL, JALR, LOAD, LUI, MISC_MEM, MULDIV, OP, OP_IMM, STORE, SYSTEM,
+};
 
 #[inline(always)]
 fn illegal() -> Inst
@@ -19,156 +23,156 @@ fn illegal() -> Inst
 
 #[inline(always)]
 fn jump_register(word: u32) -> Inst
-    requires { opcode word ≡ 0x67 }
+    requires { opcode word ≡ JALR }
     ensures { result ≡ decoded word }
 {
     match funct3(word) {
-        0 => i_type(Op::Jalr, word),
+        0b000 => i_type(Op::Jalr, word),
         _ => illegal(),
     }
 }
 
 #[inline(always)]
 fn branch(word: u32) -> Inst
-    requires { opcode word ≡ 0x63 }
+    requires { opcode word ≡ BRANCH }
     ensures { result ≡ decoded word }
 {
     match funct3(word) {
-        0 => b_type(Op::Beq, word),
-        1 => b_type(Op::Bne, word),
-        4 => b_type(Op::Blt, word),
-        5 => b_type(Op::Bge, word),
-        6 => b_type(Op::Bltu, word),
-        7 => b_type(Op::Bgeu, word),
+        0b000 => b_type(Op::Beq, word),
+        0b001 => b_type(Op::Bne, word),
+        0b100 => b_type(Op::Blt, word),
+        0b101 => b_type(Op::Bge, word),
+        0b110 => b_type(Op::Bltu, word),
+        0b111 => b_type(Op::Bgeu, word),
         _ => illegal(),
     }
 }
 
 #[inline(always)]
 fn load(word: u32) -> Inst
-    requires { opcode word ≡ 0x03 }
+    requires { opcode word ≡ LOAD }
     ensures { result ≡ decoded word }
 {
     match funct3(word) {
-        0 => i_type(Op::Lb, word),
-        1 => i_type(Op::Lh, word),
-        2 => i_type(Op::Lw, word),
-        4 => i_type(Op::Lbu, word),
-        5 => i_type(Op::Lhu, word),
+        0b000 => i_type(Op::Lb, word),
+        0b001 => i_type(Op::Lh, word),
+        0b010 => i_type(Op::Lw, word),
+        0b100 => i_type(Op::Lbu, word),
+        0b101 => i_type(Op::Lhu, word),
         _ => illegal(),
     }
 }
 
 #[inline(always)]
 fn store(word: u32) -> Inst
-    requires { opcode word ≡ 0x23 }
+    requires { opcode word ≡ STORE }
     ensures { result ≡ decoded word }
 {
     match funct3(word) {
-        0 => s_type(Op::Sb, word),
-        1 => s_type(Op::Sh, word),
-        2 => s_type(Op::Sw, word),
+        0b000 => s_type(Op::Sb, word),
+        0b001 => s_type(Op::Sh, word),
+        0b010 => s_type(Op::Sw, word),
         _ => illegal(),
     }
 }
 
 #[inline(always)]
 fn with_immediate(word: u32) -> Inst
-    requires { opcode word ≡ 0x13 }
+    requires { opcode word ≡ OP_IMM }
     ensures { result ≡ decoded word }
 {
     match (funct3(word), funct7(word)) {
-        (0, _) => i_type(Op::Addi, word),
-        (2, _) => i_type(Op::Slti, word),
-        (3, _) => i_type(Op::Sltiu, word),
-        (4, _) => i_type(Op::Xori, word),
-        (6, _) => i_type(Op::Ori, word),
-        (7, _) => i_type(Op::Andi, word),
-        (1, 0) => shift_type(Op::Slli, word),
-        (5, 0) => shift_type(Op::Srli, word),
-        (5, 0x20) => shift_type(Op::Srai, word),
+        (0b000, _) => i_type(Op::Addi, word),
+        (0b010, _) => i_type(Op::Slti, word),
+        (0b011, _) => i_type(Op::Sltiu, word),
+        (0b100, _) => i_type(Op::Xori, word),
+        (0b110, _) => i_type(Op::Ori, word),
+        (0b111, _) => i_type(Op::Andi, word),
+        (0b001, 0) => shift_type(Op::Slli, word),
+        (0b101, 0) => shift_type(Op::Srli, word),
+        (0b101, 0b0100000) => shift_type(Op::Srai, word),
         _ => illegal(),
     }
 }
 
-/// The base's operations, which have funct7 0.
+/// OP with funct7 0: the operations of the base but SUB and SRA.
 #[inline(always)]
 fn base_operation(word: u32) -> Inst
-    requires opcode { opcode word ≡ 0x33 }
+    requires opcode { opcode word ≡ OP }
     requires funct7 { fields.funct7 word ≡ 0 }
     ensures { result ≡ decoded word }
 {
     match funct3(word) {
-        0 => r_type(Op::Add, word),
-        1 => r_type(Op::Sll, word),
-        2 => r_type(Op::Slt, word),
-        3 => r_type(Op::Sltu, word),
-        4 => r_type(Op::Xor, word),
-        5 => r_type(Op::Srl, word),
-        6 => r_type(Op::Or, word),
-        7 => r_type(Op::And, word),
+        0b000 => r_type(Op::Add, word),
+        0b001 => r_type(Op::Sll, word),
+        0b010 => r_type(Op::Slt, word),
+        0b011 => r_type(Op::Sltu, word),
+        0b100 => r_type(Op::Xor, word),
+        0b101 => r_type(Op::Srl, word),
+        0b110 => r_type(Op::Or, word),
+        0b111 => r_type(Op::And, word),
         _ => illegal(),
     }
 }
 
-/// The operations of the "M" extension, which have funct7 1.
+/// OP with funct7 MULDIV: the operations of the "M" extension.
 #[inline(always)]
 fn multiplication(word: u32) -> Inst
-    requires opcode { opcode word ≡ 0x33 }
-    requires funct7 { fields.funct7 word ≡ 1 }
+    requires opcode { opcode word ≡ OP }
+    requires funct7 { fields.funct7 word ≡ MULDIV }
     ensures { result ≡ decoded word }
 {
     match funct3(word) {
-        0 => r_type(Op::Mul, word),
-        1 => r_type(Op::Mulh, word),
-        2 => r_type(Op::Mulhsu, word),
-        3 => r_type(Op::Mulhu, word),
-        4 => r_type(Op::Div, word),
-        5 => r_type(Op::Divu, word),
-        6 => r_type(Op::Rem, word),
-        7 => r_type(Op::Remu, word),
+        0b000 => r_type(Op::Mul, word),
+        0b001 => r_type(Op::Mulh, word),
+        0b010 => r_type(Op::Mulhsu, word),
+        0b011 => r_type(Op::Mulhu, word),
+        0b100 => r_type(Op::Div, word),
+        0b101 => r_type(Op::Divu, word),
+        0b110 => r_type(Op::Rem, word),
+        0b111 => r_type(Op::Remu, word),
         _ => illegal(),
     }
 }
 
 #[inline(always)]
 fn operation(word: u32) -> Inst
-    requires { opcode word ≡ 0x33 }
+    requires { opcode word ≡ OP }
     ensures { result ≡ decoded word }
 {
     match (funct7(word), funct3(word)) {
         (0, _) => base_operation(word),
-        (1, _) => multiplication(word),
-        (0x20, 0) => r_type(Op::Sub, word),
-        (0x20, 5) => r_type(Op::Sra, word),
+        (MULDIV, _) => multiplication(word),
+        (0b0100000, 0b000) => r_type(Op::Sub, word),
+        (0b0100000, 0b101) => r_type(Op::Sra, word),
         _ => illegal(),
     }
 }
 
 #[inline(always)]
 fn fence(word: u32) -> Inst
-    requires { opcode word ≡ 0x0f }
+    requires { opcode word ≡ MISC_MEM }
     ensures { result ≡ decoded word }
 {
     match funct3(word) {
-        0 => without_fields(Op::Fence),
+        0b000 => without_fields(Op::Fence),
         _ => illegal(),
     }
 }
 
 #[inline(always)]
 fn system(word: u32) -> Inst
-    requires { opcode word ≡ 0x73 }
+    requires { opcode word ≡ SYSTEM }
     ensures { result ≡ decoded word }
 {
     match word {
-        0x0000_0073 => without_fields(Op::Ecall),
-        0x0010_0073 => without_fields(Op::Ebreak),
+        ECALL => without_fields(Op::Ecall),
+        EBREAK => without_fields(Op::Ebreak),
         _ => illegal(),
     }
 }
 
-/// The operation and the fields of any word, by the table of RV32IM.
+/// Decodes any word by the table of RV32IM. Takes constant time.
 #[inline]
 pub fn decode(word: u32) -> Inst
     ensures row { result ≡ decoded word }
@@ -182,17 +186,17 @@ fn row_of(word: u32) -> Inst
     ensures { result ≡ decoded word }
 {
     match opcode_of(word) {
-        0x37 => u_type(Op::Lui, word),
-        0x17 => u_type(Op::Auipc, word),
-        0x6f => j_type(Op::Jal, word),
-        0x67 => jump_register(word),
-        0x63 => branch(word),
-        0x03 => load(word),
-        0x23 => store(word),
-        0x13 => with_immediate(word),
-        0x33 => operation(word),
-        0x0f => fence(word),
-        0x73 => system(word),
+        LUI => u_type(Op::Lui, word),
+        AUIPC => u_type(Op::Auipc, word),
+        JAL => j_type(Op::Jal, word),
+        JALR => jump_register(word),
+        BRANCH => branch(word),
+        LOAD => load(word),
+        STORE => store(word),
+        OP_IMM => with_immediate(word),
+        OP => operation(word),
+        MISC_MEM => fence(word),
+        SYSTEM => system(word),
         _ => illegal(),
     }
 }
