@@ -10,9 +10,9 @@ use crate::content::{Content, Names};
 use crate::plain::node_list_of;
 use crate::planes::{ContextPlane, ProfilePlane};
 use crate::values::{column_of, context_column_of};
-use prof_bytes::Listed;
+use prof_bytes::{Listed, Memory};
 use scope_types::{Entry, ScopePath};
-use std::alloc::{AllocError, Global};
+use std::alloc::Global;
 
 #[tactic(auto, using(crate::proofs::PlaneSteps::one_column_more))]
 fn profiles_of(
@@ -21,7 +21,7 @@ fn profiles_of(
     harts: u32,
     entries: &[Entry],
     tree: &[ScopePath],
-) -> Result<ProfilePlane, AllocError>
+) -> Result<ProfilePlane, Memory>
     requires few { length (each_path entries.now) ≤ 2 ^ 20 }
     requires nodes { tree.now ≡ nodes (each_path entries.now) }
     requires numbers { length tree.now ≤ no_parent }
@@ -40,7 +40,7 @@ fn contexts_of(
     harts: u32,
     entries: &[Entry],
     tree: &[ScopePath],
-) -> Result<ContextPlane, AllocError>
+) -> Result<ContextPlane, Memory>
     requires { length (each_path entries.now) ≤ 2 ^ 20 }
     ensures { IfOk result (λ plane. plane ≡ map (context_of period harts (each_path entries.now)) tree.now) }
 {
@@ -63,7 +63,7 @@ pub fn content_of_paths(
     names: Names,
     entries: &[Entry],
     tree: &[ScopePath],
-) -> Result<Content, AllocError>
+) -> Result<Content, Memory>
     requires few { length (each_path entries.now) ≤ 2 ^ 20 }
     requires nodes { tree.now ≡ nodes (each_path entries.now) }
     requires numbers { length tree.now ≤ no_parent }

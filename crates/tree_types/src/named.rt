@@ -4,9 +4,9 @@ ghost use Rattle.tree_types.specs.Ascending.{put, put_all};
 ghost use Rattle.tree_types.specs.Naming.{proc_order, file_order, scope_procs, scope_files, line_files, procs_used, files_used};
 
 use crate::plain::own_scope_of;
-use prof_bytes::Listed;
+use prof_bytes::{Listed, Memory};
 use scope_types::{LineId, ProcId, Scope, ScopePath};
-use std::alloc::{AllocError, Global};
+use std::alloc::Global;
 use std::cmp::Ordering;
 
 /// Where a value is to be put in an ascending list, unless it stands there.
@@ -25,7 +25,7 @@ fn place_of<T: Ord>(found: &[T], x: &T) -> Option<usize>
     Some(k)
 }
 
-fn put_proc(found: &mut Vec<ProcId>, id: ProcId) -> Result<(), AllocError>
+fn put_proc(found: &mut Vec<ProcId>, id: ProcId) -> Result<(), Memory>
     ensures { OnOk result (found.new.items ≡ put proc_order id found.old.items) }
 {
     if let Some(k) = place_of(found.as_slice(), &id) {
@@ -34,7 +34,7 @@ fn put_proc(found: &mut Vec<ProcId>, id: ProcId) -> Result<(), AllocError>
     Ok(())
 }
 
-fn put_file(found: &mut Vec<(u32, u32)>, file: (u32, u32)) -> Result<(), AllocError>
+fn put_file(found: &mut Vec<(u32, u32)>, file: (u32, u32)) -> Result<(), Memory>
     ensures { OnOk result (found.new.items ≡ put file_order file found.old.items) }
 {
     if let Some(k) = place_of(found.as_slice(), &file) {
@@ -43,7 +43,7 @@ fn put_file(found: &mut Vec<(u32, u32)>, file: (u32, u32)) -> Result<(), AllocEr
     Ok(())
 }
 
-fn put_scope_proc(found: &mut Vec<ProcId>, scope: Scope) -> Result<(), AllocError>
+fn put_scope_proc(found: &mut Vec<ProcId>, scope: Scope) -> Result<(), Memory>
     ensures { OnOk result (found.new.items ≡ put_all proc_order found.old.items (scope_procs scope)) }
 {
     match scope {
@@ -56,7 +56,7 @@ fn put_scope_proc(found: &mut Vec<ProcId>, scope: Scope) -> Result<(), AllocErro
     }
 }
 
-fn put_line_file(found: &mut Vec<(u32, u32)>, line: LineId) -> Result<(), AllocError>
+fn put_line_file(found: &mut Vec<(u32, u32)>, line: LineId) -> Result<(), Memory>
     ensures { OnOk result (found.new.items ≡ put_all file_order found.old.items (line_files line)) }
 {
     match line {
@@ -69,7 +69,7 @@ fn put_line_file(found: &mut Vec<(u32, u32)>, line: LineId) -> Result<(), AllocE
     }
 }
 
-fn put_scope_file(found: &mut Vec<(u32, u32)>, scope: Scope) -> Result<(), AllocError>
+fn put_scope_file(found: &mut Vec<(u32, u32)>, scope: Scope) -> Result<(), Memory>
     ensures { OnOk result (found.new.items ≡ put_all file_order found.old.items (scope_files scope)) }
 {
     match scope {
@@ -85,7 +85,7 @@ fn put_scope_file(found: &mut Vec<(u32, u32)>, scope: Scope) -> Result<(), Alloc
 
 /// The procedures that the nodes' scopes use, ascending, each once.
 #[tactic(auto, using(crate::proofs::NamesUsed::procs_steps))]
-pub fn procs_of(alloc: Global, nodes: &[ScopePath]) -> Result<Listed<ProcId>, AllocError>
+pub fn procs_of(alloc: Global, nodes: &[ScopePath]) -> Result<Listed<ProcId>, Memory>
     ensures { IfOk result (λ ids. ids ≡ procs_used nodes.now) }
 {
     let mut found = Vec::new(alloc);
@@ -97,7 +97,7 @@ pub fn procs_of(alloc: Global, nodes: &[ScopePath]) -> Result<Listed<ProcId>, Al
 
 /// The files that the nodes' scopes use, by line table and number, ascending, each once.
 #[tactic(auto, using(crate::proofs::NamesUsed::files_steps))]
-pub fn files_of(alloc: Global, nodes: &[ScopePath]) -> Result<Listed<(u32, u32)>, AllocError>
+pub fn files_of(alloc: Global, nodes: &[ScopePath]) -> Result<Listed<(u32, u32)>, Memory>
     ensures { IfOk result (λ files. files ≡ files_used nodes.now) }
 {
     let mut found = Vec::new(alloc);

@@ -10,9 +10,9 @@ ghost use Rattle.tree_types.specs.Nodes.{nodes, no_parent, number_of, own_scope,
 ghost use Rattle.tree_types.specs.Values.{counts_for, count_below, value, within_frame};
 
 use crate::content::{Kind, NO_PARENT, Node};
-use prof_bytes::Listed;
+use prof_bytes::{Listed, Memory};
 use scope_types::{Entry, RootKind, Scope, ScopePath, compare, compare_paths};
-use std::alloc::{AllocError, Global};
+use std::alloc::Global;
 use std::cmp::Ordering;
 
 /// What comes after n in the path, if n is a prefix of it.
@@ -122,7 +122,7 @@ fn place_for(found: &[ScopePath], path: &[Scope]) -> Option<usize>
 }
 
 /// Puts a path in its place, unless it stands there.
-fn put_path(found: &mut Vec<ScopePath>, path: ScopePath) -> Result<(), AllocError>
+fn put_path(found: &mut Vec<ScopePath>, path: ScopePath) -> Result<(), Memory>
     ensures { OnOk result (found.new.items ≡ put path_order path found.old.items) }
 {
     if let Some(k) = place_for(found, path.scopes()) {
@@ -132,7 +132,7 @@ fn put_path(found: &mut Vec<ScopePath>, path: ScopePath) -> Result<(), AllocErro
 }
 
 /// A path of its own.
-fn owned(alloc: Global, scopes: &[Scope]) -> Result<ScopePath, AllocError>
+fn owned(alloc: Global, scopes: &[Scope]) -> Result<ScopePath, Memory>
     ensures { IfOk result (λ p. p ≡ scopes.now) }
 {
     let mut all = Vec::new(alloc);
@@ -142,7 +142,7 @@ fn owned(alloc: Global, scopes: &[Scope]) -> Result<ScopePath, AllocError>
 
 /// Puts each nonempty prefix of the path in its place.
 #[tactic(auto, using(crate::proofs::Putting::put_all_more, crate::proofs::Putting::put_all_none))]
-fn put_prefixes(alloc: Global, found: &mut Vec<ScopePath>, path: &[Scope]) -> Result<(), AllocError>
+fn put_prefixes(alloc: Global, found: &mut Vec<ScopePath>, path: &[Scope]) -> Result<(), Memory>
     ensures { OnOk result (found.new.items ≡ put_all path_order found.old.items (prefixes path.now)) }
 {
     for k in 0..path.len() {
@@ -154,7 +154,7 @@ fn put_prefixes(alloc: Global, found: &mut Vec<ScopePath>, path: &[Scope]) -> Re
 
 /// The nodes of the paths, in preorder. Fails for want of memory alone.
 #[tactic(auto, using(crate::proofs::Entries::node_steps))]
-pub fn nodes_of(alloc: Global, entries: &[Entry]) -> Result<Listed<ScopePath>, AllocError>
+pub fn nodes_of(alloc: Global, entries: &[Entry]) -> Result<Listed<ScopePath>, Memory>
     ensures { IfOk result (λ ns. ns ≡ nodes (each_path entries.now)) }
 {
     let mut found = Vec::new(alloc);
@@ -206,7 +206,7 @@ fn parent_of(tree: &[ScopePath], n: &[Scope]) -> u32
 }
 
 /// The nodes, each with its parent's number and its own scope. Fails for want of memory alone.
-pub fn node_list_of(alloc: Global, tree: &[ScopePath]) -> Result<Listed<Node>, AllocError>
+pub fn node_list_of(alloc: Global, tree: &[ScopePath]) -> Result<Listed<Node>, Memory>
     requires { length tree.now ≤ no_parent }
     ensures { IfOk result (λ nodes. nodes ≡ map (λ n. record { parent = parent_number tree.now n; scope = own_scope n }) tree.now) }
 {

@@ -9,10 +9,11 @@ ghost use Rattle.tree_types.specs.declared.content.Kind.TheVariants.{Exclusive, 
 
 use crate::content::{ContextEntry, Kind, ProfileEntry};
 use crate::plain::value_of;
+use prof_bytes::Memory;
 use scope_types::{Entry, Scope, ScopePath};
-use std::alloc::{AllocError, Global};
+use std::alloc::Global;
 
-fn put_value(out: &mut Vec<ProfileEntry>, e: ProfileEntry) -> Result<(), AllocError>
+fn put_value(out: &mut Vec<ProfileEntry>, e: ProfileEntry) -> Result<(), Memory>
     ensures { OnOk result (out.new.items ≡ out.old.items ++ other_than_zero (e ∷ [])) }
 {
     if e.value != 0 {
@@ -29,7 +30,7 @@ fn put_kind(
     number: u32,
     n: &[Scope],
     kind: Kind,
-) -> Result<(), AllocError>
+) -> Result<(), Memory>
     requires { length (each_path entries.now) ≤ 2 ^ 20 }
     ensures { OnOk result (out.new.items ≡ out.old.items ++ other_than_zero (profile_entry number kind (value period (each_path entries.now) hart n.now kind) ∷ [])) }
 {
@@ -53,7 +54,7 @@ fn put_node(
     hart: u32,
     number: u32,
     n: &[Scope],
-) -> Result<(), AllocError>
+) -> Result<(), Memory>
     requires { length (each_path entries.now) ≤ 2 ^ 20 }
     ensures { OnOk result (out.new.items ≡ out.old.items ++ other_than_zero (node_values period (each_path entries.now) hart (number, n.now))) }
 {
@@ -70,7 +71,7 @@ pub fn column_of(
     entries: &[Entry],
     hart: u32,
     tree: &[ScopePath],
-) -> Result<Vec<ProfileEntry>, AllocError>
+) -> Result<Vec<ProfileEntry>, Memory>
     requires few { length (each_path entries.now) ≤ 2 ^ 20 }
     requires nodes { tree.now ≡ nodes (each_path entries.now) }
     requires numbers { length tree.now < 2 ^ 32 }
@@ -83,7 +84,7 @@ pub fn column_of(
     Ok(out)
 }
 
-fn put_context_value(out: &mut Vec<ContextEntry>, e: ContextEntry) -> Result<(), AllocError>
+fn put_context_value(out: &mut Vec<ContextEntry>, e: ContextEntry) -> Result<(), Memory>
     ensures { OnOk result (out.new.items ≡ out.old.items ++ filter (λ e. not (e.value == 0)) (e ∷ [])) }
 {
     if e.value != 0 {
@@ -101,7 +102,7 @@ fn put_kind_by_hart(
     entries: &[Entry],
     n: &[Scope],
     kind: Kind,
-) -> Result<(), AllocError>
+) -> Result<(), Memory>
     requires { length (each_path entries.now) ≤ 2 ^ 20 }
     ensures { OnOk result (out.new.items ≡ out.old.items ++ kind_column period harts (each_path entries.now) n.now kind) }
 {
@@ -120,7 +121,7 @@ pub fn context_column_of(
     harts: u32,
     entries: &[Entry],
     n: &[Scope],
-) -> Result<Vec<ContextEntry>, AllocError>
+) -> Result<Vec<ContextEntry>, Memory>
     requires { length (each_path entries.now) ≤ 2 ^ 20 }
     ensures { IfOk result (λ es. es.items ≡ context_of period harts (each_path entries.now) n.now) }
 {
