@@ -29,7 +29,7 @@ pub trait HasRange {
 #[derive(Clone, Copy, Debug)]
 struct Step {
     start: u64,
-    holder: Option<u32>,
+    holder: Option<usize>,
 }
 
 /// For each address the first of many elements whose range holds it. Ranges may nest and overlap. Contracts
@@ -52,7 +52,7 @@ impl<T: HasRange + Drop> Model for RangeTable<T> {
 }
 
 /// The holder at the address, where `before` holds those below the first step.
-fn holder_at(steps: &[Step], before: Option<u32>, address: u64) -> Option<u32>
+fn holder_at(steps: &[Step], before: Option<usize>, address: u64) -> Option<usize>
     requires { IsAscending 0 steps.now }
     ensures { result ≡ value_at before steps.now address }
 {
@@ -67,7 +67,7 @@ fn holder_at(steps: &[Step], before: Option<u32>, address: u64) -> Option<u32>
     holder_at(&steps[middle + 1..], step.holder, address)
 }
 
-fn is_holder(holder: Option<u32>, number: u32) -> bool
+fn is_holder(holder: Option<usize>, number: usize) -> bool
     ensures { MatchBool result (holder ≡ Some number) (holder ≢ Some number) }
 {
     match holder {
@@ -77,7 +77,7 @@ fn is_holder(holder: Option<u32>, number: u32) -> bool
 }
 
 /// Whether all addresses from `low` up to `high` have the holder `number`.
-fn is_held(steps: &[Step], before: Option<u32>, low: u64, high: u64, number: u32) -> bool
+fn is_held(steps: &[Step], before: Option<usize>, low: u64, high: u64, number: usize) -> bool
     requires ascending { IsAscending 0 steps.now }
     requires some { low < high }
     ensures { MatchBool result (AllHeld before steps.now low high number) (SomeElse before steps.now low high number) }
@@ -109,7 +109,7 @@ fn next_start(first: &[Step], second: &[Step]) -> Option<u64>
 }
 
 /// Past the step that begins there, if one does: the holder then, and the steps left.
-fn past(start: u64, holder: Option<u32>, steps: &[Step]) -> (Option<u32>, &[Step])
+fn past(start: u64, holder: Option<usize>, steps: &[Step]) -> (Option<usize>, &[Step])
     ensures { (result.0, result.1.now) ≡ past start holder steps.now }
 {
     match steps {
@@ -137,7 +137,7 @@ fn overlay(alloc: Global, upper: &[Step], lower: &[Step]) -> Result<Vec<Step>, A
     Ok(steps)
 }
 
-fn one_range(alloc: Global, range: AddressRange, holder: u32) -> Result<Vec<Step>, AllocError>
+fn one_range(alloc: Global, range: AddressRange, holder: usize) -> Result<Vec<Step>, AllocError>
     ensures ascending { IfOk result (λ steps. IsAscending 0 steps.items) }
     ensures holders { IfOk result (λ steps. (address : ℕ) → value_at None steps.items address ≡ (if holds address range then Some holder else None)) }
 {
@@ -156,8 +156,8 @@ fn one_range(alloc: Global, range: AddressRange, holder: u32) -> Result<Vec<Step
 
 /// The table of the elements' ranges, the first of which has this number. Each half of the list is a table
 /// of its own, so the work grows as n log n.
-fn steps_of<T: HasRange>(alloc: Global, items: &[T], number: u32) -> Result<Vec<Step>, AllocError>
-    requires { number + length items.now < 2 ^ 32 }
+fn steps_of<T: HasRange>(alloc: Global, items: &[T], number: usize) -> Result<Vec<Step>, AllocError>
+    requires { number + length items.now < 2 ^ 64 }
     ensures ascending { IfOk result (λ steps. IsAscending 0 steps.items) }
     ensures holders { IfOk result (λ steps. (address : ℕ) → value_at None steps.items address ≡ position_from (holds address) number (map T.range_of items.now)) }
 {
@@ -167,17 +167,17 @@ fn steps_of<T: HasRange>(alloc: Global, items: &[T], number: u32) -> Result<Vec<
         _ => {
             let (front, back) = items.split_at(items.len() / 2);
             let upper = steps_of(alloc, front, number)?;
-            let lower = steps_of(alloc, back, number + front.len() as u32)?;
+            let lower = steps_of(alloc, back, number + front.len())?;
             overlay(alloc, &upper, &lower)
         }
     }
 }
 
-fn item_at<T>(items: &[T], index: Option<u32>) -> Option<&T>
+fn item_at<T>(items: &[T], index: Option<usize>) -> Option<&T>
     ensures { option_copied result ≡ option_and_then (λ i. slice_get items.now i) index }
 {
     match index {
-        Some(index) => items.get(index as usize),
+        Some(index) => items.get(index),
         None => None,
     }
 }
@@ -185,7 +185,6 @@ fn item_at<T>(items: &[T], index: Option<u32>) -> Option<&T>
 impl<T: HasRange + Drop> RangeTable<T> {
     /// The table of these elements. Its size grows with their number, and the time to make it as n log n.
     pub fn of(alloc: Global, items: Vec<T>) -> Result<RangeTable<T>, AllocError>
-        requires { length items.items < 2 ^ 32 }
         ensures { IfOk result (λ table. table ≡ items.items) }
     {
         let steps = steps_of(alloc, items.as_slice(), 0)?;
@@ -217,6 +216,6 @@ impl<T: HasRange + Drop> RangeTable<T> {
         if range.end <= low {
             return true;
         }
-        is_held(&self.steps, None, low, range.end, index)
+        is_held(&self.steps, None, low, range.end, index as usize)
     }
 }
