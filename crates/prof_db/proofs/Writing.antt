@@ -1,5 +1,5 @@
 -- A database in parts.
-use Rattle.std.proofs.Common.{◌≡◌, ℕ, List, [], ◌++◌, sym, ap, ◌∙◌, append_assoc}
+use Rattle.std.proofs.Common.{◌≡◌, ℕ, ◌%◌, ◌^◌, List, [], ◌++◌, sym, ap, ◌∙◌, append_assoc, rules}
 use Rattle.std.proofs.lemmas.List.Concat.{flat_map-append}
 use Rattle.prof_bytes.proofs.Appending.{two_parts}
 use Rattle.prof_db.specs.Spelling.{word, words}
@@ -17,3 +17,7 @@ six_parts p q r s t u a b c d e f ea eb ec ed ee ef =
 -- three parts, one after the other
 pub three_parts : (start a b c : List ℕ) (front middle back : List ℕ) → a ≡ start ++ front → b ≡ a ++ middle → c ≡ b ++ back → c ≡ start ++ (front ++ middle ++ back)
 three_parts start a b c front middle back ea eb ec = two_parts start b c (front ++ middle) back (two_parts start a b front middle ea eb) ec
+
+-- a count's lowest four bytes are all of it that is written
+pub low_word : (n : ℕ) → word (n % 2 ^ 32) ≡ word n
+low_word n = search rules

@@ -4,7 +4,7 @@ ghost use Rattle.std.specs.List.{flat_map, position_or_len};
 ghost use Rattle.std.specs.Ordering.{is_eq};
 ghost use Rattle.scope_types.specs.Words.{kind_words, proc_words};
 ghost use Rattle.tree_types.specs.Naming.{proc_order, file_order};
-ghost use Rattle.prof_db.specs.Spelling.{words, text_bytes, procedure_bytes, file_bytes, node_bytes, kind_number, line_spelled, scope_spelled, proc_place, file_place, profile_entry, context_entry, counted, head_bytes, spelling};
+ghost use Rattle.prof_db.specs.Spelling.{word, words, text_bytes, procedure_bytes, file_bytes, node_bytes, kind_number, line_spelled, scope_spelled, proc_place, file_place, profile_entry, context_entry, counted, head_bytes, spelling};
 
 use prof_bytes::{Listed, Memory, Text, put_u32, put_u64};
 use scope_types::{LineId, ProcId, RootKind, Scope};
@@ -14,14 +14,12 @@ use tree_types::{
     ProfilePlane,
 };
 
-/// A count as it is written. What has more than 2^32 - 1 elements is more than memory holds.
-fn count(length: usize) -> Result<u32, Memory>
-    ensures { IfOk result (λ count. count ≡ length) }
+/// A count as it is written: its lowest four bytes.
+#[tactic(auto, using(crate::proofs::Writing::low_word))]
+fn count(length: usize) -> u32
+    ensures { word result ≡ word length }
 {
-    match u32::try_from(length) {
-        Ok(count) => Ok(count),
-        Err(_) => Err(Memory),
-    }
+    (length % 0x1_0000_0000) as u32
 }
 
 fn put_words(out: &mut Vec<u8>, numbers: &[u32]) -> Result<(), Memory>
@@ -36,7 +34,7 @@ fn put_words(out: &mut Vec<u8>, numbers: &[u32]) -> Result<(), Memory>
 fn put_text(out: &mut Vec<u8>, name: &Text) -> Result<(), Memory>
     ensures { OnOk result (out.new.items ≡ out.old.items ++ text_bytes name.now) }
 {
-    put_u32(out, count(name.bytes().len())?)?;
+    put_u32(out, count(name.bytes().len()))?;
     out.extend_from_slice(name.bytes())?;
     Ok(())
 }
@@ -107,8 +105,8 @@ fn find_proc(procs: &[ProcName], id: ProcId) -> Option<usize>
 
 /// The place of a procedure in the list of names.
 #[tactic(auto, using(tree_types::proofs::Numbers::place_is_number))]
-fn proc_place_of(names: &Names, id: ProcId) -> Result<u32, Memory>
-    ensures { IfOk result (λ at. at ≡ proc_place names.now id) }
+fn proc_place_of(names: &Names, id: ProcId) -> u32
+    ensures { word result ≡ word (proc_place names.now id) }
 {
     let procs = names.procs.items();
     count(find_proc(procs, id).unwrap_or(procs.len()))
@@ -124,8 +122,8 @@ fn find_file(files: &[FileName], table: u32, number: u32) -> Option<usize>
 
 /// The place of a file in the list of names.
 #[tactic(auto, using(tree_types::proofs::Numbers::place_is_number))]
-fn file_place_of(names: &Names, table: u32, number: u32) -> Result<u32, Memory>
-    ensures { IfOk result (λ at. at ≡ file_place names.now table number) }
+fn file_place_of(names: &Names, table: u32, number: u32) -> u32
+    ensures { word result ≡ word (file_place names.now table number) }
 {
     let files = names.files.items();
     count(find_file(files, table, number).unwrap_or(files.len()))
@@ -136,7 +134,7 @@ fn put_line(out: &mut Vec<u8>, names: &Names, line: LineId) -> Result<(), Memory
 {
     match line {
         LineId::Row { table, file, line } => {
-            let place = file_place_of(names, table, file)?;
+            let place = file_place_of(names, table, file);
             put_words(out, &[0, place, line])
         }
         LineId::Address(address) => put_words(out, &[1, address]),
@@ -156,7 +154,7 @@ fn root_word(kind: RootKind) -> u32
 fn put_inline(out: &mut Vec<u8>, names: &Names, callee: ProcId, call: LineId) -> Result<(), Memory>
     ensures { OnOk result (out.new.items ≡ out.old.items ++ words (scope_spelled names.now (Scope.Inline callee call))) }
 {
-    let place = proc_place_of(names, callee)?;
+    let place = proc_place_of(names, callee);
     put_words(out, &[2, place])?;
     put_line(out, names, call)?;
     Ok(())
@@ -169,7 +167,7 @@ fn put_scope(out: &mut Vec<u8>, names: &Names, scope: Scope) -> Result<(), Memor
     match scope {
         Scope::Root(kind) => put_words(out, &[0, root_word(kind)]),
         Scope::Proc(id) => {
-            let place = proc_place_of(names, id)?;
+            let place = proc_place_of(names, id);
             put_words(out, &[1, place])
         }
         Scope::Inline { callee, call } => put_inline(out, names, callee, call),
@@ -252,7 +250,7 @@ fn put_context_entries(out: &mut Vec<u8>, entries: &[ContextEntry]) -> Result<()
 fn put_profile_column(out: &mut Vec<u8>, entries: &[ProfileEntry]) -> Result<(), Memory>
     ensures { OnOk result (out.new.items ≡ out.old.items ++ counted profile_entry entries.now) }
 {
-    put_u32(out, count(entries.len())?)?;
+    put_u32(out, count(entries.len()))?;
     put_profile_entries(out, entries)?;
     Ok(())
 }
@@ -260,7 +258,7 @@ fn put_profile_column(out: &mut Vec<u8>, entries: &[ProfileEntry]) -> Result<(),
 fn put_context_column(out: &mut Vec<u8>, entries: &[ContextEntry]) -> Result<(), Memory>
     ensures { OnOk result (out.new.items ≡ out.old.items ++ counted context_entry entries.now) }
 {
-    put_u32(out, count(entries.len())?)?;
+    put_u32(out, count(entries.len()))?;
     put_context_entries(out, entries)?;
     Ok(())
 }
@@ -286,9 +284,9 @@ fn put_contexts(out: &mut Vec<u8>, columns: &[Listed<ContextEntry>]) -> Result<(
 fn put_head(out: &mut Vec<u8>, content: &Content) -> Result<(), Memory>
     ensures { OnOk result (out.new.items ≡ out.old.items ++ head_bytes content.now) }
 {
-    let procs = count(content.names.procs.items().len())?;
-    let files = count(content.names.files.items().len())?;
-    let nodes = count(content.nodes.items().len())?;
+    let procs = count(content.names.procs.items().len());
+    let files = count(content.names.files.items().len());
+    let nodes = count(content.nodes.items().len());
     out.extend_from_slice(b"HPCPROF1")?;
     put_words(out, &[content.period, content.harts, procs, files, nodes])?;
     Ok(())
