@@ -1,5 +1,4 @@
 pub mod Items
-pub mod Places
+pub mod Indices
 pub mod Runs
 pub mod Past
-pub mod Answered

@@ -1,51 +1,59 @@
 -- Abbreviation tables. DWARF 5, section 7.5.3.
-use Rattle.std.specs.Prelude.{ℕ, ℤ, pos, ◌==◌, ◌&&◌, not, nat_lt, List, length, Option, Some, None, Result, Ok, Err, if◌then◌else◌}
-use Rattle.prof_bytes.specs.Reading.{At, left_of}
+use Rattle.std.specs.Prelude.{ℕ, ℤ, pos, ◌==◌, ◌&&◌, not, List, length, Option, Some, None, Result, Ok, if◌then◌else◌}
+use Rattle.prof_bytes.specs.Reading.{left_of}
+use Rattle.prof_bytes.specs.Fields.{Input, number_from, uleb_from, sleb_from}
 use Rattle.prof_bytes.specs.Outcome.{◌>>=◌}
+use Rattle.dwarf_forms.specs.declared.constants.TheConstants.{DW_CHILDREN_no, DW_FORM_implicit_const}
 use Rattle.dwarf_forms.specs.declared.declaration.Spec.{Spec}
 use Rattle.dwarf_forms.specs.declared.declaration.Abbrev.{Abbrev}
 use Rattle.dwarf_forms.specs.declared.declaration.BadTable.{BadTable}
-use Rattle.dwarf_forms.specs.Fields.{number_from, uleb_from, sleb_from, list_from}
+use Rattle.dwarf_forms.specs.Lists.{list_from}
+use Rattle.dwarf_forms.specs.Sections.{input_at}
 
--- the table's one fault
+-- the one fault of a table
 abbrev pub bad : BadTable
 bad = record {}
 
 -- the constant that DW_FORM_implicit_const keeps in the declaration
-abbrev pub implicit_from : ℕ → At → Result (ℤ × At) BadTable
-implicit_from form at = if form == 0x21 then sleb_from bad at else Ok (pos 0, at)
+abbrev pub implicit_from : ℕ → Input BadTable → Result (ℤ × Input BadTable) BadTable
+implicit_from form input = if form == DW_FORM_implicit_const then sleb_from input else Ok (pos 0, input)
 
 -- an attribute of a declaration, or the pair 0, 0 that closes the list
 abbrev pub unless_closing : Spec → Option Spec
 unless_closing spec = if (spec.attribute == 0) && (spec.form == 0) then None else Some spec
 
-unfoldable pub attribute_from : At → Result (Option Spec × At) BadTable
-attribute_from at =
-    uleb_from bad at >>= λ attribute.
-    uleb_from bad attribute.1 >>= λ form.
-    implicit_from form.0 form.1 >>= λ implicit.
-    Ok (unless_closing (record { attribute = attribute.0; form = form.0; implicit = implicit.0 }), implicit.1)
+unfoldable pub attribute_from : Input BadTable → Result (Option Spec × Input BadTable) BadTable
+attribute_from input = do
+  (attribute, input) ← uleb_from input
+  (form, input) ← uleb_from input
+  (implicit, input) ← implicit_from form input
+  Ok (unless_closing (record { attribute = attribute; form = form; implicit = implicit }), input)
 
 -- the attributes of a declaration
-abbrev pub attributes_from : At → Result (List Spec × At) BadTable
-attributes_from at = list_from bad attribute_from (length (left_of at)) at
+abbrev pub attributes_from : Input BadTable → Result (List Spec × Input BadTable) BadTable
+attributes_from input = list_from attribute_from (length (left_of input.at)) input
 
 -- what is declared under a code: tag, whether children follow, attributes
-unfoldable pub declared_from : ℕ → At → Result (Option Abbrev × At) BadTable
-declared_from code at =
-    uleb_from bad at >>= λ tag.
-    number_from bad 1 tag.1 >>= λ children.
-    attributes_from children.1 >>= λ specs.
-    Ok (Some (record { code = code; tag = tag.0; children = not (children.0 == 0); specs = specs.0 }), specs.1)
+unfoldable pub declared_from : ℕ → Input BadTable → Result (Option Abbrev × Input BadTable) BadTable
+declared_from code input = do
+  (tag, input) ← uleb_from input
+  (children, input) ← number_from 1 input
+  (specs, input) ← attributes_from input
+  Ok (Some (record { code = code; tag = tag; children = not (children == DW_CHILDREN_no); specs = specs }), input)
 
 -- a declaration, or the code 0 that closes the table
-unfoldable pub declaration_from : At → Result (Option Abbrev × At) BadTable
-declaration_from at = uleb_from bad at >>= λ code. if code.0 == 0 then Ok (None, code.1) else declared_from code.0 code.1
+unfoldable pub declaration_from : Input BadTable → Result (Option Abbrev × Input BadTable) BadTable
+declaration_from input = do
+  (code, input) ← uleb_from input
+  if code == 0 then Ok (None, input) else declared_from code input
 
--- the table that begins at a place
-abbrev pub table_from : At → Result (List Abbrev × At) BadTable
-table_from at = list_from bad declaration_from (length (left_of at)) at
+-- the table that begins at an offset
+abbrev pub table_from : Input BadTable → Result (List Abbrev × Input BadTable) BadTable
+table_from input = list_from declaration_from (length (left_of input.at)) input
 
 -- the table at an offset of the section's bytes
 abbrev pub table_at : List ℕ → ℕ → Result (List Abbrev) BadTable
-table_at bytes offset = if nat_lt (length bytes) offset then Err bad else table_from (record { whole = bytes; place = offset }) >>= (λ table. Ok table.0)
+table_at bytes offset = do
+  input ← input_at bytes offset bad
+  (declarations, end) ← table_from input
+  Ok declarations

@@ -1,58 +1,78 @@
--- The forms of attributes: their codes, and how the bytes of each are laid out. DWARF 5, section 7.5.6.
-use Rattle.std.specs.Prelude.{ℕ, ◌==◌, List, [], ◌∷◌, find, Option, option_map}
-use Rattle.dwarf_forms.specs.declared.shape.Width.TheVariants.{One, Two, Three, Four, Eight, Uleb}
-use Rattle.dwarf_forms.specs.declared.shape.Word.TheVariants.{Address, StrAt, LineStrAt, InfoRef, Section}
-use Rattle.dwarf_forms.specs.declared.shape.Kind.TheVariants.{Number, Flag, StrIndex, AddrIndex, UnitRef, ListIndex, Passed}
-use Rattle.dwarf_forms.specs.declared.shape.Shape.{Shape}
-use Rattle.dwarf_forms.specs.declared.shape.Shape.TheVariants.{Plain, Wide, Signed, Block, Sixteen, Text, Present, Implicit}
+-- The forms of attributes, and how the bytes of each are encoded. DWARF 5, section 7.5.6.
+use Rattle.std.specs.Prelude.{ℕ, ◌==◌, ◌&&◌, not, is_some, Bool, List, [], ◌∷◌, find, Option, option_map}
+use Rattle.dwarf_forms.specs.declared.constants.TheConstants.{DW_FORM_addr, DW_FORM_block2, DW_FORM_block4}
+use Rattle.dwarf_forms.specs.declared.constants.TheConstants.{DW_FORM_data2, DW_FORM_data4, DW_FORM_data8}
+use Rattle.dwarf_forms.specs.declared.constants.TheConstants.{DW_FORM_string, DW_FORM_block, DW_FORM_block1}
+use Rattle.dwarf_forms.specs.declared.constants.TheConstants.{DW_FORM_data1, DW_FORM_flag, DW_FORM_sdata, DW_FORM_strp}
+use Rattle.dwarf_forms.specs.declared.constants.TheConstants.{DW_FORM_udata, DW_FORM_ref_addr, DW_FORM_ref1}
+use Rattle.dwarf_forms.specs.declared.constants.TheConstants.{DW_FORM_ref2, DW_FORM_ref4, DW_FORM_ref8}
+use Rattle.dwarf_forms.specs.declared.constants.TheConstants.{DW_FORM_ref_udata, DW_FORM_sec_offset, DW_FORM_exprloc}
+use Rattle.dwarf_forms.specs.declared.constants.TheConstants.{DW_FORM_flag_present, DW_FORM_strx, DW_FORM_addrx}
+use Rattle.dwarf_forms.specs.declared.constants.TheConstants.{DW_FORM_ref_sup4, DW_FORM_strp_sup, DW_FORM_data16}
+use Rattle.dwarf_forms.specs.declared.constants.TheConstants.{DW_FORM_line_strp, DW_FORM_ref_sig8}
+use Rattle.dwarf_forms.specs.declared.constants.TheConstants.{DW_FORM_implicit_const, DW_FORM_loclistx}
+use Rattle.dwarf_forms.specs.declared.constants.TheConstants.{DW_FORM_rnglistx, DW_FORM_ref_sup8, DW_FORM_strx1}
+use Rattle.dwarf_forms.specs.declared.constants.TheConstants.{DW_FORM_strx2, DW_FORM_strx3, DW_FORM_strx4}
+use Rattle.dwarf_forms.specs.declared.constants.TheConstants.{DW_FORM_addrx1, DW_FORM_addrx2, DW_FORM_addrx3}
+use Rattle.dwarf_forms.specs.declared.constants.TheConstants.{DW_FORM_addrx4}
+use Rattle.dwarf_forms.specs.declared.encoding.Size.TheVariants.{One, Two, Three, Four, Eight, Uleb}
+use Rattle.dwarf_forms.specs.declared.encoding.WordClass.TheVariants as words
+use Rattle.dwarf_forms.specs.declared.encoding.NumberClass.TheVariants as numbers
+use Rattle.dwarf_forms.specs.declared.encoding.Encoding.{Encoding}
+use Rattle.dwarf_forms.specs.declared.encoding.Encoding.TheVariants.{Word, Number, Sleb, Block, Data16, String}
+use Rattle.dwarf_forms.specs.declared.encoding.Encoding.TheVariants.{FlagPresent, ImplicitConst}
 
--- each form with its layout. DW_FORM_indirect (0x16) is not here: its value names another form
-abbrev pub forms : List (ℕ × Shape)
+-- each form with its encoding. DW_FORM_indirect is not here: its value names another form
+abbrev pub forms : List (ℕ × Encoding)
 forms =
-    (0x01, Plain Address)  -- DW_FORM_addr
-    ∷ (0x03, Block Two)  -- DW_FORM_block2
-    ∷ (0x04, Block Four)  -- DW_FORM_block4
-    ∷ (0x05, Wide Two Number)  -- DW_FORM_data2
-    ∷ (0x06, Wide Four Number)  -- DW_FORM_data4
-    ∷ (0x07, Wide Eight Number)  -- DW_FORM_data8
-    ∷ (0x08, Text)  -- DW_FORM_string
-    ∷ (0x09, Block Uleb)  -- DW_FORM_block
-    ∷ (0x0a, Block One)  -- DW_FORM_block1
-    ∷ (0x0b, Wide One Number)  -- DW_FORM_data1
-    ∷ (0x0c, Wide One Flag)  -- DW_FORM_flag
-    ∷ (0x0d, Signed)  -- DW_FORM_sdata
-    ∷ (0x0e, Plain StrAt)  -- DW_FORM_strp
-    ∷ (0x0f, Wide Uleb Number)  -- DW_FORM_udata
-    ∷ (0x10, Plain InfoRef)  -- DW_FORM_ref_addr
-    ∷ (0x11, Wide One UnitRef)  -- DW_FORM_ref1
-    ∷ (0x12, Wide Two UnitRef)  -- DW_FORM_ref2
-    ∷ (0x13, Wide Four UnitRef)  -- DW_FORM_ref4
-    ∷ (0x14, Wide Eight UnitRef)  -- DW_FORM_ref8
-    ∷ (0x15, Wide Uleb UnitRef)  -- DW_FORM_ref_udata
-    ∷ (0x17, Plain Section)  -- DW_FORM_sec_offset
-    ∷ (0x18, Block Uleb)  -- DW_FORM_exprloc
-    ∷ (0x19, Present)  -- DW_FORM_flag_present
-    ∷ (0x1a, Wide Uleb StrIndex)  -- DW_FORM_strx
-    ∷ (0x1b, Wide Uleb AddrIndex)  -- DW_FORM_addrx
-    ∷ (0x1c, Wide Four Passed)  -- DW_FORM_ref_sup4
-    ∷ (0x1d, Wide Four Passed)  -- DW_FORM_strp_sup
-    ∷ (0x1e, Sixteen)  -- DW_FORM_data16
-    ∷ (0x1f, Plain LineStrAt)  -- DW_FORM_line_strp
-    ∷ (0x20, Wide Eight Passed)  -- DW_FORM_ref_sig8
-    ∷ (0x21, Implicit)  -- DW_FORM_implicit_const
-    ∷ (0x22, Wide Uleb Passed)  -- DW_FORM_loclistx
-    ∷ (0x23, Wide Uleb ListIndex)  -- DW_FORM_rnglistx
-    ∷ (0x24, Wide Eight Passed)  -- DW_FORM_ref_sup8
-    ∷ (0x25, Wide One StrIndex)  -- DW_FORM_strx1
-    ∷ (0x26, Wide Two StrIndex)  -- DW_FORM_strx2
-    ∷ (0x27, Wide Three StrIndex)  -- DW_FORM_strx3
-    ∷ (0x28, Wide Four StrIndex)  -- DW_FORM_strx4
-    ∷ (0x29, Wide One AddrIndex)  -- DW_FORM_addrx1
-    ∷ (0x2a, Wide Two AddrIndex)  -- DW_FORM_addrx2
-    ∷ (0x2b, Wide Three AddrIndex)  -- DW_FORM_addrx3
-    ∷ (0x2c, Wide Four AddrIndex)  -- DW_FORM_addrx4
+    (DW_FORM_addr, Word words.Address)
+    ∷ (DW_FORM_block2, Block Two)
+    ∷ (DW_FORM_block4, Block Four)
+    ∷ (DW_FORM_data2, Number Two numbers.Number)
+    ∷ (DW_FORM_data4, Number Four numbers.Number)
+    ∷ (DW_FORM_data8, Number Eight numbers.Number)
+    ∷ (DW_FORM_string, String)
+    ∷ (DW_FORM_block, Block Uleb)
+    ∷ (DW_FORM_block1, Block One)
+    ∷ (DW_FORM_data1, Number One numbers.Number)
+    ∷ (DW_FORM_flag, Number One numbers.Flag)
+    ∷ (DW_FORM_sdata, Sleb)
+    ∷ (DW_FORM_strp, Word words.StrAt)
+    ∷ (DW_FORM_udata, Number Uleb numbers.Number)
+    ∷ (DW_FORM_ref_addr, Word words.InfoRef)
+    ∷ (DW_FORM_ref1, Number One numbers.UnitRef)
+    ∷ (DW_FORM_ref2, Number Two numbers.UnitRef)
+    ∷ (DW_FORM_ref4, Number Four numbers.UnitRef)
+    ∷ (DW_FORM_ref8, Number Eight numbers.UnitRef)
+    ∷ (DW_FORM_ref_udata, Number Uleb numbers.UnitRef)
+    ∷ (DW_FORM_sec_offset, Word words.Section)
+    ∷ (DW_FORM_exprloc, Block Uleb)
+    ∷ (DW_FORM_flag_present, FlagPresent)
+    ∷ (DW_FORM_strx, Number Uleb numbers.StrIndex)
+    ∷ (DW_FORM_addrx, Number Uleb numbers.AddrIndex)
+    ∷ (DW_FORM_ref_sup4, Number Four numbers.Passed)
+    ∷ (DW_FORM_strp_sup, Number Four numbers.Passed)
+    ∷ (DW_FORM_data16, Data16)
+    ∷ (DW_FORM_line_strp, Word words.LineStrAt)
+    ∷ (DW_FORM_ref_sig8, Number Eight numbers.Passed)
+    ∷ (DW_FORM_implicit_const, ImplicitConst)
+    ∷ (DW_FORM_loclistx, Number Uleb numbers.Passed)
+    ∷ (DW_FORM_rnglistx, Number Uleb numbers.ListIndex)
+    ∷ (DW_FORM_ref_sup8, Number Eight numbers.Passed)
+    ∷ (DW_FORM_strx1, Number One numbers.StrIndex)
+    ∷ (DW_FORM_strx2, Number Two numbers.StrIndex)
+    ∷ (DW_FORM_strx3, Number Three numbers.StrIndex)
+    ∷ (DW_FORM_strx4, Number Four numbers.StrIndex)
+    ∷ (DW_FORM_addrx1, Number One numbers.AddrIndex)
+    ∷ (DW_FORM_addrx2, Number Two numbers.AddrIndex)
+    ∷ (DW_FORM_addrx3, Number Three numbers.AddrIndex)
+    ∷ (DW_FORM_addrx4, Number Four numbers.AddrIndex)
     ∷ []
 
--- the layout of a form
-abbrev pub shape_of : ℕ → Option Shape
-shape_of form = option_map (λ row. row.1) (find (λ row. row.0 == form) forms)
+-- the encoding of a form
+abbrev pub encoding_of : ℕ → Option Encoding
+encoding_of form = option_map (λ row. row.1) (find (λ row. row.0 == form) forms)
+
+-- a form whose value stands in place by itself, with no constant of a declaration
+abbrev pub is_value_form : ℕ → Bool
+is_value_form form = is_some (encoding_of form) && not (form == DW_FORM_implicit_const)

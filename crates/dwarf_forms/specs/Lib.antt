@@ -1,7 +1,7 @@
 pub mod Forms
-pub mod Fields
 pub mod Values
-pub mod Index
+pub mod Lists
 pub mod Abbreviations
 pub mod Runs
 pub mod Sections
+pub mod private

@@ -1,117 +1,137 @@
--- The value that a form gives at a place. DWARF 5, sections 7.5.5 and 7.5.6.
-use Rattle.std.specs.Prelude.{ℕ, ℤ, pos, ◌==◌, not, Bool, true, List, Option, Some, None, Result, Ok, Err, if◌then◌else◌}
+-- The value that a form gives. DWARF 5, sections 7.5.5 and 7.5.6.
+use Rattle.std.specs.Prelude.{ℕ, ℤ, pos, ◌==◌, not, Bool, true, List, Option, Some, None, Result, Ok, Err}
+use Rattle.std.specs.Prelude.{if◌then◌else◌}
+use Rattle.prof_bytes.specs.Fields.{Input, number_from, uleb_from, sleb_from, bytes_from, text_from}
 use Rattle.prof_bytes.specs.Reading.{At}
 use Rattle.prof_bytes.specs.Outcome.{◌>>=◌}
-use Rattle.dwarf_forms.specs.declared.shape.Width.{Width}
-use Rattle.dwarf_forms.specs.declared.shape.Width.TheVariants.{One, Two, Three, Four, Eight, Uleb}
-use Rattle.dwarf_forms.specs.declared.shape.Word.{Word}
-use Rattle.dwarf_forms.specs.declared.shape.Word.TheVariants as words
-use Rattle.dwarf_forms.specs.declared.shape.Kind.{Kind}
-use Rattle.dwarf_forms.specs.declared.shape.Kind.TheVariants as kinds
-use Rattle.dwarf_forms.specs.declared.shape.Shape.{Shape}
-use Rattle.dwarf_forms.specs.declared.shape.Shape.TheVariants as shapes
+use Rattle.dwarf_forms.specs.declared.constants.TheConstants.{DW_FORM_indirect, DW_FORM_implicit_const}
+use Rattle.dwarf_forms.specs.declared.encoding.Size.{Size}
+use Rattle.dwarf_forms.specs.declared.encoding.Size.TheVariants.{One, Two, Three, Four, Eight, Uleb}
+use Rattle.dwarf_forms.specs.declared.encoding.WordClass.{WordClass}
+use Rattle.dwarf_forms.specs.declared.encoding.WordClass.TheVariants as words
+use Rattle.dwarf_forms.specs.declared.encoding.NumberClass.{NumberClass}
+use Rattle.dwarf_forms.specs.declared.encoding.NumberClass.TheVariants as numbers
+use Rattle.dwarf_forms.specs.declared.encoding.Encoding.{Encoding}
+use Rattle.dwarf_forms.specs.declared.encoding.Encoding.TheVariants as encodings
 use Rattle.dwarf_forms.specs.declared.value.Value.{Value}
 use Rattle.dwarf_forms.specs.declared.value.Value.TheVariants as values
 use Rattle.dwarf_forms.specs.declared.value.FormFault.{FormFault}
 use Rattle.dwarf_forms.specs.declared.value.FormFault.TheVariants.{Unknown, Short}
-use Rattle.dwarf_forms.specs.Forms.{shape_of}
-use Rattle.dwarf_forms.specs.Fields.{number_from, uleb_from, sleb_from, bytes_from, text_from}
+use Rattle.dwarf_forms.specs.Forms.{encoding_of}
 
 -- a value without where it lies in memory
-pub data Held : Type 0 where
-  Address : ℕ → Held
-  Number : ℕ → Held
-  Signed : ℤ → Held
-  Bytes : List ℕ → Held
-  Name : List ℕ → Held
-  Flag : Bool → Held
-  StrAt : ℕ → Held
-  LineStrAt : ℕ → Held
-  StrIndex : ℕ → Held
-  AddrIndex : ℕ → Held
-  UnitRef : ℕ → Held
-  InfoRef : ℕ → Held
-  Section : ℕ → Held
-  ListIndex : ℕ → Held
-  Passed : Held
+pub data FormValue : Type 0 where
+  Address : ℕ → FormValue
+  Number : ℕ → FormValue
+  Signed : ℤ → FormValue
+  Bytes : List ℕ → FormValue
+  Name : List ℕ → FormValue
+  Flag : Bool → FormValue
+  StrAt : ℕ → FormValue
+  LineStrAt : ℕ → FormValue
+  StrIndex : ℕ → FormValue
+  AddrIndex : ℕ → FormValue
+  UnitRef : ℕ → FormValue
+  InfoRef : ℕ → FormValue
+  Section : ℕ → FormValue
+  ListIndex : ℕ → FormValue
+  Passed : FormValue
 
-abbrev pub held : Value → Held
-held (values.Address n) = Address n
-held (values.Number n) = Number n
-held (values.Signed z) = Signed z
-held (values.Bytes bytes) = Bytes bytes.now
-held (values.Name text) = Name text.now
-held (values.Flag b) = Flag b
-held (values.StrAt n) = StrAt n
-held (values.LineStrAt n) = LineStrAt n
-held (values.StrIndex n) = StrIndex n
-held (values.AddrIndex n) = AddrIndex n
-held (values.UnitRef n) = UnitRef n
-held (values.InfoRef n) = InfoRef n
-held (values.Section n) = Section n
-held (values.ListIndex n) = ListIndex n
-held values.Passed = Passed
+abbrev pub form_value : Value → FormValue
+form_value (values.Address n) = Address n
+form_value (values.Number n) = Number n
+form_value (values.Signed z) = Signed z
+form_value (values.Bytes bytes) = Bytes bytes.now
+form_value (values.Name text) = Name text.now
+form_value (values.Flag b) = Flag b
+form_value (values.StrAt n) = StrAt n
+form_value (values.LineStrAt n) = LineStrAt n
+form_value (values.StrIndex n) = StrIndex n
+form_value (values.AddrIndex n) = AddrIndex n
+form_value (values.UnitRef n) = UnitRef n
+form_value (values.InfoRef n) = InfoRef n
+form_value (values.Section n) = Section n
+form_value (values.ListIndex n) = ListIndex n
+form_value values.Passed = Passed
 
--- what a number is, by its form
-abbrev pub word_held : Word → ℕ → Held
-word_held words.Address n = Address n
-word_held words.StrAt n = StrAt n
-word_held words.LineStrAt n = LineStrAt n
-word_held words.InfoRef n = InfoRef n
-word_held words.Section n = Section n
+-- what a number is, by the class of its form
+abbrev pub word_value : WordClass → ℕ → FormValue
+word_value words.Address n = Address n
+word_value words.StrAt n = StrAt n
+word_value words.LineStrAt n = LineStrAt n
+word_value words.InfoRef n = InfoRef n
+word_value words.Section n = Section n
 
-abbrev pub number_held : Kind → ℕ → Held
-number_held kinds.Number n = Number n
-number_held kinds.Flag n = Flag (not (n == 0))
-number_held kinds.StrIndex n = StrIndex n
-number_held kinds.AddrIndex n = AddrIndex n
-number_held kinds.UnitRef n = UnitRef n
-number_held kinds.ListIndex n = ListIndex n
-number_held kinds.Passed n = Passed
+abbrev pub number_value : NumberClass → ℕ → FormValue
+number_value numbers.Number n = Number n
+number_value numbers.Flag n = Flag (not (n == 0))
+number_value numbers.StrIndex n = StrIndex n
+number_value numbers.AddrIndex n = AddrIndex n
+number_value numbers.UnitRef n = UnitRef n
+number_value numbers.ListIndex n = ListIndex n
+number_value numbers.Passed n = Passed
 
--- a number of a width
-abbrev pub wide_from : Width → At → Result (ℕ × At) FormFault
-wide_from One at = number_from Short 1 at
-wide_from Two at = number_from Short 2 at
-wide_from Three at = number_from Short 3 at
-wide_from Four at = number_from Short 4 at
-wide_from Eight at = number_from Short 8 at
-wide_from Uleb at = uleb_from Short at
+-- a number of a size
+abbrev pub sized_from : {F : Type 0} → Size → Input F → Result (ℕ × Input F) F
+sized_from One input = number_from 1 input
+sized_from Two input = number_from 2 input
+sized_from Three input = number_from 3 input
+sized_from Four input = number_from 4 input
+sized_from Eight input = number_from 8 input
+sized_from Uleb input = uleb_from input
 
 -- a field as a value
-abbrev pub as_value : {X F : Type 0} → (X → Held) → Result (X × At) F → Result (Held × At) F
-as_value value field = field >>= λ x. Ok (value x.0, x.1)
+abbrev pub as_value : {X F : Type 0} → (X → FormValue) → Result (X × Input F) F
+    → Result (FormValue × Input F) F
+as_value value field = do
+  (x, input) ← field
+  Ok (value x, input)
 
--- the value of a layout; `implicit` is the constant that the declaration holds
-abbrev pub shape_from : Shape → ℤ → At → Result (Held × At) FormFault
-shape_from (shapes.Plain word) implicit at = as_value (word_held word) (number_from Short 4 at)
-shape_from (shapes.Wide width kind) implicit at = as_value (number_held kind) (wide_from width at)
-shape_from shapes.Signed implicit at = as_value Signed (sleb_from Short at)
-shape_from (shapes.Block width) implicit at = as_value Bytes (wide_from width at >>= λ count. bytes_from Short count.0 count.1)
-shape_from shapes.Sixteen implicit at = as_value Bytes (bytes_from Short 16 at)
-shape_from shapes.Text implicit at = as_value Name (text_from Short at)
-shape_from shapes.Present implicit at = Ok (Flag true, at)
-shape_from shapes.Implicit implicit at = Ok (Signed implicit, at)
+-- bytes behind their length
+abbrev pub block_from : {F : Type 0} → Size → Input F → Result (List ℕ × Input F) F
+block_from size input = do
+  (length, input) ← sized_from size input
+  bytes_from length input
 
-abbrev pub known_from : Option Shape → ℤ → At → Result (Held × At) FormFault
-known_from None implicit at = Err Unknown
-known_from (Some shape) implicit at = shape_from shape implicit at
+-- the value of an encoding; `implicit` is the constant that the declaration holds
+abbrev pub encoded_from : {F : Type 0} → Encoding → ℤ → Input F → Result (FormValue × Input F) F
+encoded_from (encodings.Word class) implicit input = as_value (word_value class) (number_from 4 input)
+encoded_from (encodings.Number size class) implicit input = as_value (number_value class) (sized_from size input)
+encoded_from encodings.Sleb implicit input = as_value Signed (sleb_from input)
+encoded_from (encodings.Block size) implicit input = as_value Bytes (block_from size input)
+encoded_from encodings.Data16 implicit input = as_value Bytes (bytes_from 16 input)
+encoded_from encodings.String implicit input = as_value Name (text_from input)
+encoded_from encodings.FlagPresent implicit input = Ok (Flag true, input)
+encoded_from encodings.ImplicitConst implicit input = Ok (Signed implicit, input)
 
--- the value of a form that says itself how it is laid out
-abbrev pub direct_from : ℕ → ℤ → At → Result (Held × At) FormFault
-direct_from form implicit at = known_from (shape_of form) implicit at
+-- the same of an encoding that may be unknown
+abbrev pub known_from : {F : Type 0} → F → Option Encoding → ℤ → Input F → Result (FormValue × Input F) F
+known_from unknown None implicit input = Err unknown
+known_from unknown (Some encoding) implicit input = encoded_from encoding implicit input
 
--- the value of a form that DW_FORM_indirect names. DW_FORM_implicit_const cannot be named there, since
--- it has no constant, nor can DW_FORM_indirect
-abbrev pub named_from : ℕ → At → Result (Held × At) FormFault
-named_from form at = if form == 0x21 then Err Unknown else direct_from form (pos 0) at
+-- the value of a form that has an encoding of its own
+abbrev pub direct_from : {F : Type 0} → F → ℕ → ℤ → Input F → Result (FormValue × Input F) F
+direct_from unknown form implicit input = known_from unknown (encoding_of form) implicit input
 
--- the value of a form at a place, and the place after it
-unfoldable pub value_from : ℕ → ℤ → At → Result (Held × At) FormFault
-value_from form implicit at =
-    if form == 0x16 then uleb_from Short at >>= (λ named. named_from named.0 named.1) else direct_from form implicit at
+-- the value of a form that DW_FORM_indirect names. DW_FORM_implicit_const cannot be named there, since it has no
+-- constant, nor can DW_FORM_indirect
+abbrev pub named_from : {F : Type 0} → F → ℕ → Input F → Result (FormValue × Input F) F
+named_from unknown form input =
+    if form == DW_FORM_implicit_const then Err unknown else direct_from unknown form (pos 0) input
 
--- the same of what the code answers
-abbrev pub held_result : Result Value FormFault → Result Held FormFault
-held_result (Ok value) = Ok (held value)
-held_result (Err fault) = Err fault
+-- the value of the form that stands before it
+abbrev pub indirect_from : {F : Type 0} → F → Input F → Result (FormValue × Input F) F
+indirect_from unknown input = do
+  (form, input) ← uleb_from input
+  named_from unknown form input
+
+-- the value of a form, and the input behind it; `unknown` is the fault of a form that is not one of DWARF 5
+unfoldable pub value_from : {F : Type 0} → F → ℕ → ℤ → Input F → Result (FormValue × Input F) F
+value_from unknown form implicit input =
+    if form == DW_FORM_indirect then indirect_from unknown input else direct_from unknown form implicit input
+
+-- the value of a form at an offset of bytes, and the offset behind it
+abbrev pub value_at : ℕ → ℤ → At → Result (FormValue × At) FormFault
+value_at form implicit at = do
+  (value, input) ← value_from Unknown form implicit (record { at = at; missing = Short })
+  Ok (value, input.at)

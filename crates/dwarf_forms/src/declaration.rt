@@ -1,7 +1,9 @@
 //! Declarations of entries, and tables of them.
 ghost use Rattle.std.specs.Prelude.{◌≡◌, ◌==◌, find, option_copied, slice_get};
-ghost use Rattle.dwarf_forms.specs.Index.{IsIndex};
+ghost use Rattle.prof_bytes.specs.declared.fail.Fail.TheVariants as fails;
+ghost use Rattle.dwarf_forms.specs.private.Indices.{AreIndices};
 
+use prof_bytes::Fail;
 use std::collections::HashMap;
 use std::marker::Model;
 
@@ -9,6 +11,14 @@ use std::marker::Model;
 /// 64 bits.
 #[derive(Clone, Copy, Debug, PartialEq, Eq)]
 pub struct BadTable;
+
+impl From<BadTable> for Fail<BadTable> {
+    ghost from_gives = { λ fault fail. fail ≡ fails.Fault fault };
+
+    fn from(fault: BadTable) -> Fail<BadTable> {
+        Fail::Fault(fault)
+    }
+}
 
 /// One attribute of a declaration.
 #[derive(Clone, Copy, Debug, PartialEq, Eq)]
@@ -69,41 +79,41 @@ pub struct Abbrev {
 #[derive(Drop)]
 pub struct Abbrevs {
     items: Vec<Abbrev>,
-    places: HashMap<u64, usize>,
+    indices: HashMap<u64, usize>,
 }
 
 impl Model for Abbrevs {
     ghost use Rattle.std.specs.Prelude.{List};
     ghost use Rattle.dwarf_forms.specs.declared.declaration.Abbrev.{Abbrev};
-    ghost use Rattle.dwarf_forms.specs.Index.{IsIndex};
+    ghost use Rattle.dwarf_forms.specs.private.Indices.{AreIndices};
 
     ghost Value = { List Abbrev };
 
     ghost view = { λ table. table.items.items };
 
-    ghost invariant = { λ table. IsIndex table.items.items table.places };
+    ghost invariant = { λ table. AreIndices table.items.items table.indices };
 }
 
-fn element(items: &[Abbrev], place: usize) -> Option<&Abbrev>
-    ensures { option_copied result ≡ slice_get items.now place }
+fn element(items: &[Abbrev], index: usize) -> Option<&Abbrev>
+    ensures { option_copied result ≡ slice_get items.now index }
 {
-    items.get(place)
+    items.get(index)
 }
 
 impl Abbrevs {
-    pub(crate) fn of(items: Vec<Abbrev>, places: HashMap<u64, usize>) -> Abbrevs
-        requires { IsIndex items.items places }
+    pub(crate) fn of(items: Vec<Abbrev>, indices: HashMap<u64, usize>) -> Abbrevs
+        requires { AreIndices items.items indices }
         ensures { result ≡ items.items }
     {
-        Abbrevs { items, places }
+        Abbrevs { items, indices }
     }
 
     /// The first declaration of a code, in time that does not grow with the table.
     pub fn find(&self, code: u64) -> Option<&Abbrev>
         ensures { option_copied result ≡ find (λ declared. declared.code == code) self.now }
     {
-        match self.places.get(&code) {
-            Some(place) => element(self.items.as_slice(), *place),
+        match self.indices.get(&code) {
+            Some(index) => element(self.items.as_slice(), *index),
             None => None,
         }
     }

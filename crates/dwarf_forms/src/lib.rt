@@ -1,20 +1,21 @@
 //! The forms of DWARF 5: values of attributes by their form, and abbreviation tables.
 //!
-//! It promises that each value is the one that the table of forms gives for the bytes at a place, with
+//! It promises that each value is the one that the table of forms gives for the bytes at an offset, with
 //! every cause of refusal exact, and that an abbreviation table is the list of declarations that its
 //! bytes spell. The standard is DWARF 5, sections 7.5.3 to 7.5.6. Below stands `prof_bytes` alone.
 #![tactic(auto)]
 
+pub mod constants;
 mod declaration;
+mod encoding;
 mod read;
 mod section;
-mod shape;
 mod table;
 mod value;
 
 pub use declaration::{Abbrev, Abbrevs, BadTable, Spec, Specs};
-pub use read::read_value;
-pub use section::{cursor_at, text_in, wrapped};
-pub use shape::is_value_form;
+pub use encoding::is_value_form;
+pub use read::{read_form, read_value};
+pub use section::{reader_at, text_in, wrapped};
 pub use table::read_abbrevs;
 pub use value::{FormFault, Value};

@@ -1,117 +1,119 @@
-//! One value by its form.
-ghost use Rattle.std.specs.Prelude.{◌≡◌};
-ghost use Rattle.dwarf_forms.specs.Fields.{GivesAt, answered, number_from, sleb_from, bytes_from, text_from, uleb_from};
-ghost use Rattle.dwarf_forms.specs.Values.{held, held_result, wide_from, word_held, number_held, shape_from, direct_from, named_from, value_from};
-ghost use Rattle.dwarf_forms.specs.declared.value.FormFault.TheVariants.{Short};
+//! One value by its form (DWARF 5, sections 7.5.4 to 7.5.6).
+ghost use Rattle.std.specs.Prelude.{◌≡◌, IfErr};
+ghost use Rattle.prof_bytes.specs.Outcome.{GivesAt};
+ghost use Rattle.dwarf_forms.specs.Values.{form_value, word_value, number_value, sized_from, block_from, encoded_from};
+ghost use Rattle.dwarf_forms.specs.Values.{direct_from, named_from, value_from, value_at};
 
-use crate::shape::{Kind, Shape, Width, Word, shape_of};
+use crate::constants::{DW_FORM_implicit_const, DW_FORM_indirect};
+use crate::encoding::{Encoding, NumberClass, Size, WordClass, encoding_of};
 use crate::value::{FormFault, Value};
-use prof_bytes::Cursor;
+use prof_bytes::{Cursor, Reader};
 
-const INDIRECT: u64 = 0x16;
-
-const IMPLICIT_CONST: u64 = 0x21;
-
-fn wide(cursor: &mut Cursor<'_>, width: Width) -> Result<u64, FormFault>
-    ensures { GivesAt (λ n. n) result cursor.new (wide_from width cursor.old) }
+fn sized<F: Copy>(reader: &mut Reader<'_, F>, size: Size) -> Result<u64, F>
+    ensures { GivesAt (λ n. n) result reader.new (sized_from size reader.old) }
 {
-    let number = match width {
-        Width::One => cursor.u8().map(u64::from),
-        Width::Two => cursor.u16().map(u64::from),
-        Width::Three => cursor.u24().map(u64::from),
-        Width::Four => cursor.u32().map(u64::from),
-        Width::Eight => cursor.u64(),
-        Width::Uleb => cursor.uleb(),
-    };
-    number.ok_or(FormFault::Short)
-}
-
-fn word_value<'a>(number: u32, word: Word) -> Value<'a>
-    ensures { held result ≡ word_held word number }
-{
-    match word {
-        Word::Address => Value::Address(number),
-        Word::StrAt => Value::StrAt(number),
-        Word::LineStrAt => Value::LineStrAt(number),
-        Word::InfoRef => Value::InfoRef(number),
-        Word::Section => Value::Section(number),
+    match size {
+        Size::One => reader.u8().map(u64::from),
+        Size::Two => reader.u16().map(u64::from),
+        Size::Three => reader.u24().map(u64::from),
+        Size::Four => reader.u32().map(u64::from),
+        Size::Eight => reader.u64(),
+        Size::Uleb => reader.uleb(),
     }
 }
 
-fn number_value<'a>(number: u64, kind: Kind) -> Value<'a>
-    ensures { held result ≡ number_held kind number }
+fn word_value<'a>(number: u32, class: WordClass) -> Value<'a>
+    ensures { form_value result ≡ word_value class number }
 {
-    match kind {
-        Kind::Number => Value::Number(number),
-        Kind::Flag => Value::Flag(number != 0),
-        Kind::StrIndex => Value::StrIndex(number),
-        Kind::AddrIndex => Value::AddrIndex(number),
-        Kind::UnitRef => Value::UnitRef(number),
-        Kind::ListIndex => Value::ListIndex(number),
-        Kind::Passed => Value::Passed,
+    match class {
+        WordClass::Address => Value::Address(number),
+        WordClass::StrAt => Value::StrAt(number),
+        WordClass::LineStrAt => Value::LineStrAt(number),
+        WordClass::InfoRef => Value::InfoRef(number),
+        WordClass::Section => Value::Section(number),
     }
 }
 
-fn bytes<'a>(cursor: &mut Cursor<'a>, count: u64) -> Result<&'a [u8], FormFault>
-    ensures { GivesAt (λ bytes. bytes.now) result cursor.new (bytes_from Short count cursor.old) }
+fn number_value<'a>(number: u64, class: NumberClass) -> Value<'a>
+    ensures { form_value result ≡ number_value class number }
 {
-    cursor.take(count as usize).ok_or(FormFault::Short)
-}
-
-fn shaped<'a>(cursor: &mut Cursor<'a>, shape: Shape, implicit: i64) -> Result<Value<'a>, FormFault>
-    ensures { GivesAt held result cursor.new (shape_from shape implicit cursor.old) }
-{
-    match shape {
-        Shape::Plain(word) => {
-            let number = cursor.u32().ok_or(FormFault::Short)?;
-            Ok(word_value(number, word))
-        }
-        Shape::Wide(width, kind) => {
-            let number = wide(cursor, width)?;
-            Ok(number_value(number, kind))
-        }
-        Shape::Signed => {
-            let number = cursor.sleb().ok_or(FormFault::Short)?;
-            Ok(Value::Signed(number))
-        }
-        Shape::Block(width) => {
-            let count = wide(cursor, width)?;
-            bytes(cursor, count).map(Value::Bytes)
-        }
-        Shape::Sixteen => bytes(cursor, 16).map(Value::Bytes),
-        Shape::Text => cursor.cstr().map(Value::Name).ok_or(FormFault::Short),
-        Shape::Present => Ok(Value::Flag(true)),
-        Shape::Implicit => Ok(Value::Signed(implicit)),
+    match class {
+        NumberClass::Number => Value::Number(number),
+        NumberClass::Flag => Value::Flag(number != 0),
+        NumberClass::StrIndex => Value::StrIndex(number),
+        NumberClass::AddrIndex => Value::AddrIndex(number),
+        NumberClass::UnitRef => Value::UnitRef(number),
+        NumberClass::ListIndex => Value::ListIndex(number),
+        NumberClass::Passed => Value::Passed,
     }
 }
 
-fn direct<'a>(cursor: &mut Cursor<'a>, form: u64, implicit: i64) -> Result<Value<'a>, FormFault>
-    ensures { GivesAt held result cursor.new (direct_from form implicit cursor.old) }
+fn block<'a, F: Copy>(reader: &mut Reader<'a, F>, size: Size) -> Result<&'a [u8], F>
+    ensures { GivesAt (λ bytes. bytes.now) result reader.new (block_from size reader.old) }
 {
-    match shape_of(form) {
-        Some(shape) => shaped(cursor, shape, implicit),
-        None => Err(FormFault::Unknown),
+    let length = sized(reader, size)?;
+    reader.take(length as usize)
+}
+
+fn encoded<'a, F: Copy>(
+    reader: &mut Reader<'a, F>,
+    encoding: Encoding,
+    implicit: i64,
+) -> Result<Value<'a>, F>
+    ensures { GivesAt form_value result reader.new (encoded_from encoding implicit reader.old) }
+{
+    match encoding {
+        Encoding::Word(class) => Ok(word_value(reader.u32()?, class)),
+        Encoding::Number(size, class) => Ok(number_value(sized(reader, size)?, class)),
+        Encoding::Sleb => Ok(Value::Signed(reader.sleb()?)),
+        Encoding::Block(size) => Ok(Value::Bytes(block(reader, size)?)),
+        Encoding::Data16 => Ok(Value::Bytes(reader.take(16)?)),
+        Encoding::String => Ok(Value::Name(reader.cstr()?)),
+        Encoding::FlagPresent => Ok(Value::Flag(true)),
+        Encoding::ImplicitConst => Ok(Value::Signed(implicit)),
     }
 }
 
-fn named<'a>(cursor: &mut Cursor<'a>, form: u64) -> Result<Value<'a>, FormFault>
-    ensures { GivesAt held result cursor.new (named_from form cursor.old) }
+fn direct<'a, F: Copy>(
+    reader: &mut Reader<'a, F>,
+    form: u64,
+    implicit: i64,
+    unknown: F,
+) -> Result<Value<'a>, F>
+    ensures { GivesAt form_value result reader.new (direct_from unknown form implicit reader.old) }
 {
-    if form == IMPLICIT_CONST {
-        return Err(FormFault::Unknown);
+    match encoding_of(form) {
+        Some(encoding) => encoded(reader, encoding, implicit),
+        None => Err(unknown),
     }
-    direct(cursor, form, 0)
 }
 
+fn named<'a, F: Copy>(reader: &mut Reader<'a, F>, form: u64, unknown: F) -> Result<Value<'a>, F>
+    ensures { GivesAt form_value result reader.new (named_from unknown form reader.old) }
+{
+    if form == DW_FORM_implicit_const {
+        return Err(unknown);
+    }
+    direct(reader, form, 0, unknown)
+}
+
+/// The value of this form, behind which the reader then stands; `unknown` is the fault of a form that is
+/// not one of DWARF 5. `implicit` is the constant that the attribute's declaration holds for the form
+/// `DW_FORM_implicit_const`.
 #[tactic(auto, unfolding(crate::specs::Values::value_from))]
-fn value<'a>(cursor: &mut Cursor<'a>, form: u64, implicit: i64) -> Result<Value<'a>, FormFault>
-    ensures { GivesAt held result cursor.new (value_from form implicit cursor.old) }
+pub fn read_form<'a, F: Copy>(
+    reader: &mut Reader<'a, F>,
+    form: u64,
+    implicit: i64,
+    unknown: F,
+) -> Result<Value<'a>, F>
+    ensures { GivesAt form_value result reader.new (value_from unknown form implicit reader.old) }
 {
-    if form == INDIRECT {
-        let form = cursor.uleb().ok_or(FormFault::Short)?;
-        return named(cursor, form);
+    if form == DW_FORM_indirect {
+        let named_form = reader.uleb()?;
+        return named(reader, named_form, unknown);
     }
-    direct(cursor, form, implicit)
+    direct(reader, form, implicit, unknown)
 }
 
 /// The value of this form at the cursor, which then stands after it. `implicit` is the constant that
@@ -122,10 +124,11 @@ pub fn read_value<'a>(
     form: u64,
     implicit: i64,
 ) -> Result<Value<'a>, FormFault>
-    ensures { (held_result result, cursor.new) ≡ answered cursor.old (value_from form implicit cursor.old) }
+    ensures value { GivesAt form_value result cursor.new (value_at form implicit cursor.old) }
+    ensures stays { IfErr result (λ _. cursor.new ≡ cursor.old) }
 {
-    let mut ahead = cursor.fork();
-    let found = value(&mut ahead, form, implicit)?;
-    *cursor = ahead;
-    Ok(found)
+    let mut reader = Reader::of(cursor.fork(), FormFault::Short);
+    let value = read_form(&mut reader, form, implicit, FormFault::Unknown)?;
+    *cursor = reader.cursor();
+    Ok(value)
 }

@@ -1,26 +1,29 @@
-//! What stands at a place of a section.
-ghost use Rattle.std.specs.Prelude.{◌≡◌, Some, None, nat_le, length, option_copied, if◌then◌else◌};
-ghost use Rattle.dwarf_forms.specs.Sections.{text_in, wrapped};
+//! What stands at an offset of a section.
+ghost use Rattle.std.specs.Prelude.{◌≡◌, option_copied};
+ghost use Rattle.dwarf_forms.specs.Sections.{input_at, text_in, wrapped};
 
-use prof_bytes::Cursor;
+use prof_bytes::{Cursor, Reader};
 
-/// A cursor at a place of bytes, if it lies in them.
-pub fn cursor_at(bytes: &[u8], place: usize) -> Option<Cursor<'_>>
-    ensures { result ≡ (if nat_le place (length bytes.now) then Some (record { whole = bytes.now; place = place }) else None) }
+/// A reader of a section's bytes from an offset on; the fault where the offset lies past the end.
+pub fn reader_at<F: Copy>(section: &[u8], offset: usize, missing: F) -> Result<Reader<'_, F>, F>
+    ensures { result ≡ input_at section.now offset missing }
 {
-    if place > bytes.len() {
-        return None;
+    if offset > section.len() {
+        return Err(missing);
     }
-    Some(Cursor::at(bytes, place))
+    Ok(Reader::new(section, offset, missing))
 }
 
-/// The text at a place of a section, up to its 0 byte; `None` where it does not end in the section.
+/// The text at an offset of a section, up to its 0 byte; `None` where it does not end in the section.
 #[tactic(auto, using(crate::proofs::Past::no_text_past))]
-pub fn text_in(section: &[u8], place: u32) -> Option<&[u8]>
-    ensures { option_copied result ≡ text_in section.now place }
+pub fn text_in(section: &[u8], offset: u32) -> Option<&[u8]>
+    ensures { option_copied result ≡ text_in section.now offset }
 {
-    let mut cursor = cursor_at(section, place as usize)?;
-    cursor.cstr()
+    let offset = offset as usize;
+    if offset > section.len() {
+        return None;
+    }
+    Cursor::at(section, offset).cstr()
 }
 
 /// A signed number modulo 2^32.

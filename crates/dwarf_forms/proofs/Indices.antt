@@ -1,4 +1,4 @@
--- The first place of a code in a list that grows.
+-- The first index of a code in a list that grows.
 use Rattle.std.proofs.Common.{◌≡◌, ℕ, ◌+◌, ◌≤◌, Bool, true, false, not, cond, eqb, eq-eqb, inl, inr, List, [], ◌∷◌, ◌++◌, length, Option, Some, None, refl, sym, ap, ◌∙◌, arith, length-append}
 use Rattle.std.specs.Prelude.{find, position, slice_get, nat_lt}
 use Rattle.std.specs.List.{position_or_len}
@@ -36,7 +36,7 @@ after_push n m last le =
           ])
     ]
 
--- a list that grows by one: a code that had a place keeps it, the new element's code has the last
+-- a list that grows by one: a code that had an index keeps it, the new element's code has the last
 pub position_push : {X : Type 0} (p : X → Bool) (xs : List X) (y : X) → position p (xs ++ y ∷ []) ≡ option_or (position p xs) (cond (p y) (Some (length xs)) None)
 position_push p xs y =
     let grown : length (xs ++ y ∷ []) ≡ length xs + 1 = length-append xs (y ∷ []) in
