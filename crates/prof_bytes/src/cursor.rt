@@ -75,7 +75,8 @@ impl<'a> Cursor<'a> {
 
     /// Where the next read begins, as an offset in the bytes.
     pub fn place(&self) -> usize
-        ensures { result ≡ self.now.offset }
+        ensures stands { result ≡ self.now.offset }
+        ensures within { result ≤ length self.now.whole }
     {
         self.offset
     }

@@ -95,7 +95,8 @@ impl<'a, F: Copy> Reader<'a, F> {
 
     /// Where the next field begins, as an offset in the bytes.
     pub fn offset(&self) -> usize
-        ensures { result ≡ self.now.at.offset }
+        ensures stands { result ≡ self.now.at.offset }
+        ensures within { result ≤ length self.now.at.whole }
     {
         self.cursor.place()
     }

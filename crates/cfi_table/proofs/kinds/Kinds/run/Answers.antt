@@ -19,7 +19,7 @@ loop-cursor-smaller c =
 pub returns-then-not-branch : goal.returns-then-not-branch
 returns-then-not-branch c =
     let stuck = made_false _ _ _ c.if-not-branch.true c.in_ok-step.ensures in
-    rw (c.place-place.ensures, stuck.1) (kinds_stop c.args.factors.now c.args.cursor.now c.loop-cursor.cursor c.args.self.now c.loop-cursor.self (let lt = c.loop-cursor-test.true in omega arith) stuck.0 c.loop-cursor.invariant)
+    rw (c.place-place.ensures.stands, stuck.1) (kinds_stop c.args.factors.now c.args.cursor.now c.loop-cursor.cursor c.args.self.now c.loop-cursor.self (let lt = c.loop-cursor-test.true in omega arith) stuck.0 c.loop-cursor.invariant)
 
 pub returns : goal.returns
 returns c = kinds_done c.args.factors.now c.args.cursor.now c.loop-cursor.cursor c.args.self.now c.loop-cursor.self (let le = c.loop-cursor-test.false in omega arith) c.loop-cursor.invariant
