@@ -8,7 +8,8 @@ use Rattle.elf_image.specs.declared.fault.ElfFault.{ElfFault}
 use Rattle.elf_image.specs.declared.fault.ElfRule.{ElfRule}
 use Rattle.elf_image.specs.declared.fault.ElfRule.TheVariants.{NotElf, NotRiscv32Exec, CompressedCode, HeaderPlace, SectionPlace}
 use Rattle.elf_image.specs.Fields.{lies_within}
-use Rattle.elf_image.specs.Headers.{phoff, phnum, shoff, shnum, section_headers, symbol_table, has_bytes}
+use Rattle.elf_image.specs.Headers.{e_phoff, e_phnum, e_shoff, e_shnum, section_headers, symbol_table, has_bytes}
+use Rattle.elf_image.specs.declared.elf.TheConstants.{SHT_SYMTAB}
 use Rattle.elf_image.specs.Refusals.{not_elf, not_riscv32_exec, compressed_code, header_tests, header_place, outside}
 use Rattle.elf_image.specs.Reading.{refused_at, header_of, sections_of}
 use Rattle.elf_image.proofs.Tables.{cond_none}
@@ -39,14 +40,14 @@ not_false false e = absurd cc
 pub within : (file : List ℕ) (offset size : ℕ) → lies_within file offset size ≡ true → 0 < size → offset + size ≤ length file
 within file offset size e some = grind (arith, nat_tests)
 
-headers_lie : (file : List ℕ) → header_place file ≡ None → (lies_within file (phoff file) (32 * phnum file) ≡ true) × (lies_within file (shoff file) (40 * shnum file) ≡ true)
+headers_lie : (file : List ℕ) → header_place file ≡ None → (lies_within file (e_phoff file) (32 * e_phnum file) ≡ true) × (lies_within file (e_shoff file) (40 * e_shnum file) ≡ true)
 unfolding header_place
 headers_lie file none =
     let tests : List (Bool × ℕ) = header_tests file in
     let all = find_none (λ t. t.0) tests (option_map_none (λ t. t.1) (find (λ t. t.0) tests) none) in
     (not_false _ (all 1 (true, 0) (lit< tt)), not_false _ (all 3 (true, 0) (lit< tt)))
 
-headers_within : (file : List ℕ) → header_of file ≡ Ok tt → (lies_within file (phoff file) (32 * phnum file) ≡ true) × (lies_within file (shoff file) (40 * shnum file) ≡ true)
+headers_within : (file : List ℕ) → header_of file ≡ Ok tt → (lies_within file (e_phoff file) (32 * e_phnum file) ≡ true) × (lies_within file (e_shoff file) (40 * e_shnum file) ≡ true)
 unfolding header_of
 headers_within file e =
     let a = passed NotElf (not_elf file) _ tt e in
@@ -54,11 +55,11 @@ headers_within file e =
     let c = passed CompressedCode (compressed_code file) _ tt b.1 in
     headers_lie file (passed_last HeaderPlace (header_place file) c.1)
 
-pub programs_within : (file : List ℕ) → header_of file ≡ Ok tt → 0 < phnum file → phoff file + 32 * phnum file ≤ length file
-programs_within file e some = within file (phoff file) (32 * phnum file) (headers_within file e).0 (omega arith)
+pub programs_within : (file : List ℕ) → header_of file ≡ Ok tt → 0 < e_phnum file → e_phoff file + 32 * e_phnum file ≤ length file
+programs_within file e some = within file (e_phoff file) (32 * e_phnum file) (headers_within file e).0 (omega arith)
 
-pub sections_within : (file : List ℕ) → header_of file ≡ Ok tt → 0 < shnum file → shoff file + 40 * shnum file ≤ length file
-sections_within file e some = within file (shoff file) (40 * shnum file) (headers_within file e).1 (omega arith)
+pub sections_within : (file : List ℕ) → header_of file ≡ Ok tt → 0 < e_shnum file → e_shoff file + 40 * e_shnum file ≤ length file
+sections_within file e some = within file (e_shoff file) (40 * e_shnum file) (headers_within file e).1 (omega arith)
 
 -- ---- the symbol table
 
@@ -79,14 +80,14 @@ nothing_outside : (file : List ℕ) → sections_of file ≡ Ok tt → outside f
 unfolding sections_of
 nothing_outside file e = (passed SectionPlace (outside file (section_headers file)) _ tt e).0
 
-table_tests : (file : List ℕ) (h : SectionHeader) → (h.kind == 2) ≡ true → (has_bytes h && not (lies_within file h.offset h.size)) ≡ false → lies_within file h.offset h.size ≡ true
+table_tests : (file : List ℕ) (h : SectionHeader) → (h.sh_type == SHT_SYMTAB) ≡ true → (has_bytes h && not (lies_within file h.sh_offset h.sh_size)) ≡ false → lies_within file h.sh_offset h.sh_size ≡ true
 table_tests file h kind inside = grind (arith, nat_tests)
 
-table_lies : (file : List ℕ) (table : SectionHeader) → symbol_table file ≡ Some table → outside file (section_headers file) ≡ None → lies_within file table.offset table.size ≡ true
+table_lies : (file : List ℕ) (table : SectionHeader) → symbol_table file ≡ Some table → outside file (section_headers file) ≡ None → lies_within file table.sh_offset table.sh_size ≡ true
 unfolding symbol_table outside
 table_lies file table found none =
-    let both = find_both (λ h. h.kind == 2) (λ h. has_bytes h && not (lies_within file h.offset h.size)) (section_headers file) table found (option_map_none (λ h. h.place) _ none) in
+    let both = find_both (λ h. h.sh_type == SHT_SYMTAB) (λ h. has_bytes h && not (lies_within file h.sh_offset h.sh_size)) (section_headers file) table found (option_map_none (λ h. h.offset) _ none) in
     table_tests file table both.0 both.1
 
-pub table_within : (file : List ℕ) (table : SectionHeader) → symbol_table file ≡ Some table → sections_of file ≡ Ok tt → 0 < table.size → table.offset + table.size ≤ length file
-table_within file table found e some = within file table.offset table.size (table_lies file table found (nothing_outside file e)) some
+pub table_within : (file : List ℕ) (table : SectionHeader) → symbol_table file ≡ Some table → sections_of file ≡ Ok tt → 0 < table.sh_size → table.sh_offset + table.sh_size ≤ length file
+table_within file table found e some = within file table.sh_offset table.sh_size (table_lies file table found (nothing_outside file e)) some

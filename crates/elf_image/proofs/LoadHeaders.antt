@@ -12,7 +12,7 @@ use Rattle.elf_image.specs.declared.fault.ElfFault.{ElfFault}
 use Rattle.elf_image.specs.declared.fault.ElfRule.TheVariants.{SegmentPlace}
 use Rattle.elf_image.specs.Fields.{lies_within}
 use Rattle.elf_image.specs.Image.{IsWithin, are_apart, stacks_begin}
-use Rattle.elf_image.specs.Headers.{program_header_at, phoff, phnum, program_headers, is_load, loads, segment_of, segments}
+use Rattle.elf_image.specs.Headers.{program_header_at, e_phoff, e_phnum, program_headers, is_load, loads, segment_of, segments}
 use Rattle.elf_image.specs.Refusals.{share, shares_earlier, overfilled, unfilled, too_high, shared}
 use Rattle.elf_image.specs.Reading.{refused_at, header_of, each_segment_of, segments_of}
 use Rattle.elf_image.proofs.Checked.{passed, passed_last, option_map_none, find_none, within, not_false, programs_within}
@@ -20,42 +20,42 @@ use Rattle.elf_image.proofs.Checked.{passed, passed_last, option_map_none, find_
 -- headers with ever higher places, from some place on
 abbrev IsAscending : ℕ → List ProgramHeader → Type 0
 IsAscending low [] = Unit {0}
-IsAscending low (h ∷ hs) = (low ≤ h.place) × IsAscending (h.place + 1) hs
+IsAscending low (h ∷ hs) = (low ≤ h.offset) × IsAscending (h.offset + 1) hs
 
 from_lower : (a b : ℕ) (hs : List ProgramHeader) → a ≤ b → IsAscending b hs → IsAscending a hs
 from_lower a b [] le up = tt
-from_lower a b (h ∷ hs) le up = (let x : b ≤ h.place = up.0 in omega arith, up.1)
+from_lower a b (h ∷ hs) le up = (let x : b ≤ h.offset = up.0 in omega arith, up.1)
 
 filter_ascends : (p : ProgramHeader → Bool) (low : ℕ) (hs : List ProgramHeader) → IsAscending low hs → IsAscending low (filter p hs)
 filter_ascends p low [] up = tt
-filter_ascends p low (h ∷ hs) up = go (p h) (filter_ascends p (h.place + 1) hs up.1)
+filter_ascends p low (h ∷ hs) up = go (p h) (filter_ascends p (h.offset + 1) hs up.1)
   where
-    go : (b : Bool) → IsAscending (h.place + 1) (filter p hs) → IsAscending low (cond b (h ∷ filter p hs) (filter p hs))
+    go : (b : Bool) → IsAscending (h.offset + 1) (filter p hs) → IsAscending low (cond b (h ∷ filter p hs) (filter p hs))
     go true rest = (up.0, rest)
-    go false rest = from_lower low (h.place + 1) (filter p hs) (let x : low ≤ h.place = up.0 in omega arith) rest
+    go false rest = from_lower low (h.offset + 1) (filter p hs) (let x : low ≤ h.offset = up.0 in omega arith) rest
 
 table_ascends : (file : List ℕ) (first a n : ℕ) → IsAscending (first + 32 * a) (map (λ k. program_header_at file (first + 32 * k)) (range_with_len a n))
 table_ascends file first a zero = tt
 table_ascends file first a (suc n) = (omega arith, from_lower (first + 32 * a + 1) (first + 32 * (a + 1)) _ (omega arith) (table_ascends file first (a + 1) n))
 
-loads_ascend : (file : List ℕ) → IsAscending (phoff file + 32 * 0) (loads file)
+loads_ascend : (file : List ℕ) → IsAscending (e_phoff file + 32 * 0) (loads file)
 unfolding loads program_headers
-loads_ascend file = filter_ascends is_load (phoff file + 32 * 0) _ (table_ascends file (phoff file) 0 (phnum file))
+loads_ascend file = filter_ascends is_load (e_phoff file + 32 * 0) _ (table_ascends file (e_phoff file) 0 (e_phnum file))
 
-place_at : (low : ℕ) (hs : List ProgramHeader) (i : ℕ) (d : ProgramHeader) → IsAscending low hs → i < length hs → low ≤ (get_or hs i d).place
+place_at : (low : ℕ) (hs : List ProgramHeader) (i : ℕ) (d : ProgramHeader) → IsAscending low hs → i < length hs → low ≤ (get_or hs i d).offset
 place_at low [] i d up lt = absurd (omega arith)
 place_at low (h ∷ hs) zero d up lt = up.0
 place_at low (h ∷ hs) (suc i) d up lt =
-    let x : h.place + 1 ≤ (get_or hs i d).place = place_at (h.place + 1) hs i d up.1 (omega arith) in
-    let y : low ≤ h.place = up.0 in
+    let x : h.offset + 1 ≤ (get_or hs i d).offset = place_at (h.offset + 1) hs i d up.1 (omega arith) in
+    let y : low ≤ h.offset = up.0 in
     omega arith
 
-pub places_ascend : (low : ℕ) (hs : List ProgramHeader) (i j : ℕ) (d : ProgramHeader) → IsAscending low hs → i < j → j < length hs → (get_or hs i d).place < (get_or hs j d).place
+pub places_ascend : (low : ℕ) (hs : List ProgramHeader) (i j : ℕ) (d : ProgramHeader) → IsAscending low hs → i < j → j < length hs → (get_or hs i d).offset < (get_or hs j d).offset
 places_ascend low [] i j d up lt within = absurd (omega arith)
 places_ascend low (h ∷ hs) i zero d up lt within = absurd (omega arith)
 places_ascend low (h ∷ hs) zero (suc j) d up lt within =
-    let x : h.place + 1 ≤ (get_or hs j d).place = place_at (h.place + 1) hs j d up.1 (omega arith) in omega arith
-places_ascend low (h ∷ hs) (suc i) (suc j) d up lt within = places_ascend (h.place + 1) hs i j d up.1 (omega arith) (omega arith)
+    let x : h.offset + 1 ≤ (get_or hs j d).offset = place_at (h.offset + 1) hs j d up.1 (omega arith) in omega arith
+places_ascend low (h ∷ hs) (suc i) (suc j) d up lt within = places_ascend (h.offset + 1) hs i j d up.1 (omega arith) (omega arith)
 
 or_false : (a b : Bool) → (a || b) ≡ false → (a ≡ false) × (b ≡ false)
 or_false true b e = absurd cc
@@ -84,25 +84,25 @@ are_loads file i d lt = filter_passes is_load (program_headers file) i d lt
 
 pub record Checked (file : List ℕ) (h : ProgramHeader) : Type 0 where
   pub load : is_load h ≡ true
-  pub filled : nat_lt h.size h.filled ≡ false
-  pub there : lies_within file h.offset h.filled ≡ true
-  pub low : nat_lt stacks_begin (h.start + h.size) ≡ false
+  pub filled : nat_lt h.p_memsz h.p_filesz ≡ false
+  pub there : lies_within file h.p_offset h.p_filesz ≡ true
+  pub low : nat_lt stacks_begin (h.p_vaddr + h.p_memsz) ≡ false
 
-none_over : (hs : List ProgramHeader) → overfilled hs ≡ None → (i : ℕ) (d : ProgramHeader) → i < length hs → nat_lt (get_or hs i d).size (get_or hs i d).filled ≡ false
+none_over : (hs : List ProgramHeader) → overfilled hs ≡ None → (i : ℕ) (d : ProgramHeader) → i < length hs → nat_lt (get_or hs i d).p_memsz (get_or hs i d).p_filesz ≡ false
 unfolding overfilled
-none_over hs e = find_none (λ h. nat_lt h.size h.filled) hs (option_map_none (λ h. h.place) _ e)
+none_over hs e = find_none (λ h. nat_lt h.p_memsz h.p_filesz) hs (option_map_none (λ h. h.offset) _ e)
 
-none_unfilled : (file : List ℕ) (hs : List ProgramHeader) → unfilled file hs ≡ None → (i : ℕ) (d : ProgramHeader) → i < length hs → lies_within file (get_or hs i d).offset (get_or hs i d).filled ≡ true
+none_unfilled : (file : List ℕ) (hs : List ProgramHeader) → unfilled file hs ≡ None → (i : ℕ) (d : ProgramHeader) → i < length hs → lies_within file (get_or hs i d).p_offset (get_or hs i d).p_filesz ≡ true
 unfolding unfilled
-none_unfilled file hs e i d lt = not_false _ (find_none (λ h. not (lies_within file h.offset h.filled)) hs (option_map_none (λ h. h.place) _ e) i d lt)
+none_unfilled file hs e i d lt = not_false _ (find_none (λ h. not (lies_within file h.p_offset h.p_filesz)) hs (option_map_none (λ h. h.offset) _ e) i d lt)
 
-pub none_high : (hs : List ProgramHeader) → too_high hs ≡ None → (i : ℕ) (d : ProgramHeader) → i < length hs → nat_lt stacks_begin ((get_or hs i d).start + (get_or hs i d).size) ≡ false
+pub none_high : (hs : List ProgramHeader) → too_high hs ≡ None → (i : ℕ) (d : ProgramHeader) → i < length hs → nat_lt stacks_begin ((get_or hs i d).p_vaddr + (get_or hs i d).p_memsz) ≡ false
 unfolding too_high
-none_high hs e = find_none (λ h. nat_lt stacks_begin (h.start + h.size)) hs (option_map_none (λ h. h.place) _ e)
+none_high hs e = find_none (λ h. nat_lt stacks_begin (h.p_vaddr + h.p_memsz)) hs (option_map_none (λ h. h.offset) _ e)
 
 none_shared : (hs : List ProgramHeader) → shared hs ≡ None → (i : ℕ) (d : ProgramHeader) → i < length hs → shares_earlier hs (get_or hs i d) ≡ false
 unfolding shared
-none_shared hs e = find_none (shares_earlier hs) hs (option_map_none (λ h. h.place) _ e)
+none_shared hs e = find_none (shares_earlier hs) hs (option_map_none (λ h. h.offset) _ e)
 
 pub record Refused (file : List ℕ) : Type 0 where
   pub over : overfilled (loads file) ≡ None
@@ -139,13 +139,13 @@ checked_at file e i d lt =
       low = none_high (loads file) r.high i d lt;
     }
 
-load_takes : (h : ProgramHeader) → is_load h ≡ true → 0 < h.size
+load_takes : (h : ProgramHeader) → is_load h ≡ true → 0 < h.p_memsz
 load_takes h e = grind (arith, nat_tests)
 
-filled_fits : (h : ProgramHeader) → nat_lt h.size h.filled ≡ false → h.filled ≤ h.size
+filled_fits : (h : ProgramHeader) → nat_lt h.p_memsz h.p_filesz ≡ false → h.p_filesz ≤ h.p_memsz
 filled_fits h e = grind (arith, nat_tests)
 
-ends_low : (h : ProgramHeader) → nat_lt stacks_begin (h.start + h.size) ≡ false → h.start + h.size ≤ stacks_begin
+ends_low : (h : ProgramHeader) → nat_lt stacks_begin (h.p_vaddr + h.p_memsz) ≡ false → h.p_vaddr + h.p_memsz ≤ stacks_begin
 ends_low h e = grind (arith, nat_tests)
 
 segment_within : (file : List ℕ) (h : ProgramHeader) → Checked file h → IsWithin file (segment_of h)
@@ -156,19 +156,19 @@ segment_within file h c =
       some = omega arith;
       low = ends_low h c.low;
       filled = omega arith;
-      there = λ some. within file h.offset h.filled c.there some;
+      there = λ some. within file h.p_offset h.p_filesz c.there some;
     }
 
-all_low : (hs : List ProgramHeader) → too_high hs ≡ None → All (λ h. h.start + h.size ≤ stacks_begin) hs
+all_low : (hs : List ProgramHeader) → too_high hs ≡ None → All (λ h. h.p_vaddr + h.p_memsz ≤ stacks_begin) hs
 all_low hs e i d lt = ends_low (get_or hs i d) (none_high hs e i d lt)
 
-pub loads_low : (file : List ℕ) → each_segment_of file ≡ Ok tt → All (λ h. h.start + h.size ≤ stacks_begin) (loads file)
+pub loads_low : (file : List ℕ) → each_segment_of file ≡ Ok tt → All (λ h. h.p_vaddr + h.p_memsz ≤ stacks_begin) (loads file)
 loads_low file e = all_low (loads file) (each_refused file e).2
 
-pub loads_take : (file : List ℕ) → All (λ h. 0 < h.size) (loads file)
+pub loads_take : (file : List ℕ) → All (λ h. 0 < h.p_memsz) (loads file)
 loads_take file i d lt = load_takes (get_or (loads file) i d) (are_loads file i d lt)
 
-pub loads_in_order : (file : List ℕ) → AllPairs (λ g h. g.place < h.place) (loads file)
+pub loads_in_order : (file : List ℕ) → AllPairs (λ g h. g.offset < h.offset) (loads file)
 loads_in_order file i j d lt within = places_ascend _ (loads file) i j d (loads_ascend file) lt within
 
 -- there are as many headers as half a number counts, at most
@@ -180,12 +180,12 @@ filter_shorter p (h ∷ hs) = go (p h) (filter_shorter p hs)
     go true le = omega arith
     go false le = omega arith
 
-pub few_loads : (file : List ℕ) → length (loads file) ≤ phnum file
+pub few_loads : (file : List ℕ) → length (loads file) ≤ e_phnum file
 unfolding loads program_headers
-few_loads file = omega (arith, filter_shorter is_load (map (λ k. program_header_at file (phoff file + 32 * k)) (range_with_len 0 (phnum file))), length-map-range_with_len (λ k. program_header_at file (phoff file + 32 * k)) 0 (phnum file))
+few_loads file = omega (arith, filter_shorter is_load (map (λ k. program_header_at file (e_phoff file + 32 * k)) (range_with_len 0 (e_phnum file))), length-map-range_with_len (λ k. program_header_at file (e_phoff file + 32 * k)) 0 (e_phnum file))
 
 no_header : ProgramHeader
-no_header = record { place = 0; kind = 0; offset = 0; start = 0; filled = 0; size = 0; flags = 0 }
+no_header = record { offset = 0; p_type = 0; p_offset = 0; p_vaddr = 0; p_filesz = 0; p_memsz = 0; p_flags = 0 }
 
 pub all_within : (file : List ℕ) → segments_of file ≡ Ok tt → All (IsWithin file) (segments file)
 unfolding segments
@@ -193,7 +193,7 @@ all_within file e i d lt =
     let n : i < length (loads file) = omega (arith, length-map (loads file) segment_of) in
     rw (get_or-map segment_of (loads file) i no_header d n) (segment_within file (get_or (loads file) i no_header) (checked_at file e i no_header n))
 
-apart_tests : (g h : ProgramHeader) → (nat_lt g.place h.place && share g h) ≡ false → g.place < h.place → are_apart (segment_of g) (segment_of h) ≡ true
+apart_tests : (g h : ProgramHeader) → (nat_lt g.offset h.offset && share g h) ≡ false → g.offset < h.offset → are_apart (segment_of g) (segment_of h) ≡ true
 apart_tests g h e lt = grind (arith, nat_tests)
 
 pub all_apart : (file : List ℕ) → segments_of file ≡ Ok tt → AllPairs (λ s t. IsTrue (are_apart s t)) (segments file)
@@ -204,16 +204,16 @@ all_apart file e i j d lt within =
     let r = nothing_refused file e in
     let h = get_or (loads file) j no_header in
     let g = get_or (loads file) i no_header in
-    let up : g.place < h.place = places_ascend _ (loads file) i j no_header (loads_ascend file) lt n in
-    let tested = any_none (λ g. nat_lt g.place h.place && share g h) (loads file) i no_header (none_shared (loads file) r.shared j no_header n) m in
+    let up : g.offset < h.offset = places_ascend _ (loads file) i j no_header (loads_ascend file) lt n in
+    let tested = any_none (λ g. nat_lt g.offset h.offset && share g h) (loads file) i no_header (none_shared (loads file) r.shared j no_header n) m in
     rw (get_or-map segment_of (loads file) i no_header d m, get_or-map segment_of (loads file) j no_header d n) (apart_tests g h tested up)
 
 -- ---- for the one function that reads them
 
-pub loads_few : (file : List ℕ) → header_of file ≡ Ok tt → length file ≤ 2 ^ 26 → length (loads file) < 2 ^ 32
+pub loads_few : (file : List ℕ) → header_of file ≡ Ok tt → length file ≤ 2 ^ 26 → length (loads file) ≤ 2 ^ 21
 loads_few file checked small =
     let few = few_loads file in
-    elim (cases_lt 0 (phnum file)) [
+    elim (cases_lt 0 (e_phnum file)) [
       | inl some ↦ let there = programs_within file checked some in omega arith
       | inr none ↦ omega arith
     ]
@@ -225,3 +225,7 @@ both_checked file each last = rw (each, last) refl
 pub segments_are : (file : List ℕ) → map segment_of (loads file) ≡ segments file
 unfolding segments
 segments_are file = refl
+
+pub segments_few : (file : List ℕ) → header_of file ≡ Ok tt → length file ≤ 2 ^ 26 → length (segments file) ≤ 2 ^ 21
+unfolding segments
+segments_few file checked small = rw (length-map (loads file) segment_of) (loads_few file checked small)

@@ -53,46 +53,46 @@ positions address hs =
     ∙ position_map (holds address) range_of 0 (map segment_of hs)
     ∙ position_map (λ s. holds address (range_of s)) segment_of 0 hs
 
-in_both : (g h : ProgramHeader) → (nat_lt g.place h.place && share g h) ≡ true → 0 < g.size → 0 < h.size
-    → (g.place < h.place) × (h.start ≤ max g.start h.start) × (max g.start h.start < h.start + h.size) × (held_by (max g.start h.start) g ≡ true)
+in_both : (g h : ProgramHeader) → (nat_lt g.offset h.offset && share g h) ≡ true → 0 < g.p_memsz → 0 < h.p_memsz
+    → (g.offset < h.offset) × (h.p_vaddr ≤ max g.p_vaddr h.p_vaddr) × (max g.p_vaddr h.p_vaddr < h.p_vaddr + h.p_memsz) × (held_by (max g.p_vaddr h.p_vaddr) g ≡ true)
 in_both g h e sg sh = (in_order g h e, omega arith, highest g h e sg sh, held g h e sg sh)
   where
-    in_order : (g h : ProgramHeader) → (nat_lt g.place h.place && share g h) ≡ true → g.place < h.place
+    in_order : (g h : ProgramHeader) → (nat_lt g.offset h.offset && share g h) ≡ true → g.offset < h.offset
     in_order g h e = grind (arith, nat_tests)
 
-    highest : (g h : ProgramHeader) → (nat_lt g.place h.place && share g h) ≡ true → 0 < g.size → 0 < h.size → max g.start h.start < h.start + h.size
+    highest : (g h : ProgramHeader) → (nat_lt g.offset h.offset && share g h) ≡ true → 0 < g.p_memsz → 0 < h.p_memsz → max g.p_vaddr h.p_vaddr < h.p_vaddr + h.p_memsz
     highest g h e sg sh = grind (arith, nat_tests)
 
-    held : (g h : ProgramHeader) → (nat_lt g.place h.place && share g h) ≡ true → 0 < g.size → 0 < h.size → held_by (max g.start h.start) g ≡ true
+    held : (g h : ProgramHeader) → (nat_lt g.offset h.offset && share g h) ≡ true → 0 < g.p_memsz → 0 < h.p_memsz → held_by (max g.p_vaddr h.p_vaddr) g ≡ true
     held g h e sg sh = grind (arith, nat_tests)
 
-both_share : (address : ℕ) (g h : ProgramHeader) → g.place < h.place → h.start ≤ address → address < h.start + h.size → held_by address g ≡ true → (nat_lt g.place h.place && share g h) ≡ true
+both_share : (address : ℕ) (g h : ProgramHeader) → g.offset < h.offset → h.p_vaddr ≤ address → address < h.p_vaddr + h.p_memsz → held_by address g ≡ true → (nat_lt g.offset h.offset && share g h) ≡ true
 both_share address g h lt low high held = grind (arith, nat_tests)
 
-held_within : (address : ℕ) (h : ProgramHeader) → h.start ≤ address → address < h.start + h.size → held_by address h ≡ true
+held_within : (address : ℕ) (h : ProgramHeader) → h.p_vaddr ≤ address → address < h.p_vaddr + h.p_memsz → held_by address h ≡ true
 held_within address h low high = grind (arith, nat_tests)
 
-pub alone : (r : Bool) (hs : List ProgramHeader) (i : ℕ) (d : ProgramHeader) → All (λ h. 0 < h.size) hs → AllPairs (λ g h. g.place < h.place) hs → i < length hs
-    → MatchBool r (IsFirst (map range_of (map segment_of hs)) (get_or hs i d).start ((get_or hs i d).start + (get_or hs i d).size) i) (IsNotFirst (map range_of (map segment_of hs)) (get_or hs i d).start ((get_or hs i d).start + (get_or hs i d).size) i)
+pub alone : (r : Bool) (hs : List ProgramHeader) (i : ℕ) (d : ProgramHeader) → All (λ h. 0 < h.p_memsz) hs → AllPairs (λ g h. g.offset < h.offset) hs → i < length hs
+    → MatchBool r (IsFirst (map range_of (map segment_of hs)) (get_or hs i d).p_vaddr ((get_or hs i d).p_vaddr + (get_or hs i d).p_memsz) i) (IsNotFirst (map range_of (map segment_of hs)) (get_or hs i d).p_vaddr ((get_or hs i d).p_vaddr + (get_or hs i d).p_memsz) i)
     → shares_earlier hs (get_or hs i d) ≡ not r
 alone true hs i d some up li first =
-    list_any_none (λ g. nat_lt g.place (get_or hs i d).place && share g (get_or hs i d)) hs (λ k e lk. not_true _ (λ t.
+    list_any_none (λ g. nat_lt g.offset (get_or hs i d).offset && share g (get_or hs i d)) hs (λ k e lk. not_true _ (λ t.
     let g = get_or hs k e in
     let h = get_or hs i d in
     let b = in_both g h t (some k e lk) (some i d li) in
-    let address = max g.start h.start in
+    let address = max g.p_vaddr h.p_vaddr in
     let is_first : position_from (held_by address) 0 hs ≡ Some i = sym (positions address hs) ∙ first address b.1 b.2 in
     let g-is : get_or hs k d ≡ g = get_or_default hs k d e lk in
     let lt : k < i = elim (cases_lt k i) [ inl l ↦ l | inr ge ↦ absurd (not_before hs i k d e up li lk ge b.0) ] in
     let no : held_by address (get_or hs k d) ≡ false = before_first (held_by address) 0 i k d hs (is_first ∙ ap (λ (n : ℕ). Some n) (omega arith)) lt lk in
     let z : true ≡ false = sym b.3 ∙ ap (λ (x : ProgramHeader). held_by address x) (sym g-is) ∙ no in cc))
   where
-    not_before : (hs : List ProgramHeader) (i k : ℕ) (d e : ProgramHeader) → AllPairs (λ g h. g.place < h.place) hs → i < length hs → k < length hs → i ≤ k → (get_or hs k e).place < (get_or hs i d).place → ⊥
+    not_before : (hs : List ProgramHeader) (i k : ℕ) (d e : ProgramHeader) → AllPairs (λ g h. g.offset < h.offset) hs → i < length hs → k < length hs → i ≤ k → (get_or hs k e).offset < (get_or hs i d).offset → ⊥
     not_before hs i k d e up li lk le lt =
         let g-is : get_or hs k d ≡ get_or hs k e = get_or_default hs k d e lk in
         elim (cases_lt i k) [
-          | inl l ↦ let u : (get_or hs i d).place < (get_or hs k d).place = up i k d l lk in let v : (get_or hs k d).place < (get_or hs i d).place = rw g-is lt in omega arith
-          | inr ge ↦ let same : i ≡ k = omega arith in let v : (get_or hs k d).place < (get_or hs i d).place = rw g-is lt in let w : (get_or hs k d).place ≡ (get_or hs i d).place = ap (λ (n : ℕ). (get_or hs n d).place) (sym same) in omega arith
+          | inl l ↦ let u : (get_or hs i d).offset < (get_or hs k d).offset = up i k d l lk in let v : (get_or hs k d).offset < (get_or hs i d).offset = rw g-is lt in omega arith
+          | inr ge ↦ let same : i ≡ k = omega arith in let v : (get_or hs k d).offset < (get_or hs i d).offset = rw g-is lt in let w : (get_or hs k d).offset ≡ (get_or hs i d).offset = ap (λ (n : ℕ). (get_or hs n d).offset) (sym same) in omega arith
         ]
 alone false hs i d some up li other =
     let h = get_or hs i d in
@@ -101,4 +101,4 @@ alone false hs i d some up li other =
     let ne : f.0 ≢ i = λ same. other.3 (positions address hs ∙ f.2 ∙ ap (λ (n : ℕ). Some n) (let z : 0 + f.0 ≡ i = omega arith in z)) in
     let le : f.0 ≤ i = f.1 in
     let lt : f.0 < i = omega arith in
-    list_any_at (λ g. nat_lt g.place h.place && share g h) hs f.0 d (omega arith) (both_share address (get_or hs f.0 d) h (up f.0 i d lt li) other.1 other.2 f.3)
+    list_any_at (λ g. nat_lt g.offset h.offset && share g h) hs f.0 d (omega arith) (both_share address (get_or hs f.0 d) h (up f.0 i d lt li) other.1 other.2 f.3)

@@ -79,28 +79,15 @@ find_map {X} {Y} p f (x ∷ xs) = go (p (f x)) (find_map p f xs)
     go true rest = refl
     go false rest = rest
 
--- ---- elements by their index
-
-slice_get_of_map : {X Y : Type 0} (f : X → Y) (xs : List X) (i : ℕ) → option_map f (slice_get xs i) ≡ slice_get (map f xs) i
-slice_get_of_map f [] i = refl
-slice_get_of_map f (x ∷ xs) zero = refl
-slice_get_of_map f (x ∷ xs) (suc i) = slice_get_of_map f xs i
-
-pub slice_get_map : {X Y : Type 0} (f : X → Y) (xs : List X) (o : Option ℕ) → option_map f (option_and_then (λ i. slice_get xs i) o) ≡ option_and_then (λ i. slice_get (map f xs) i) o
-slice_get_map f xs None = refl
-slice_get_map f xs (Some i) = slice_get_of_map f xs i
-
 pub find_take_more : {X : Type 0} (p : X → Bool) (xs : List X) (k : ℕ) (d : X) → find p (take k xs) ≡ None → k < length xs → p (get_or xs k d) ≡ false → find p (take (k + 1) xs) ≡ None
 find_take_more {X} p xs k d none lt fails =
     ap (λ (zs : List X). find p zs) (take_more xs k d lt) ∙ find_past p (take k xs) (get_or xs k d ∷ []) none ∙ rw fails refl
 
--- ---- what holds of all holds of the one with a number
-
-at_index : {X : Type 0} (P : X → Type 0) (xs : List X) (i : ℕ) → All P xs → IfSome (slice_get xs i) P
-at_index P [] i all = tt
-at_index P (x ∷ xs) zero all = all 0 x (omega arith)
-at_index P (x ∷ xs) (suc i) all = at_index P xs i (λ k d lt. all (suc k) d (omega arith))
-
-pub holds_at : {X : Type 0} (P : X → Type 0) (xs : List X) (o : Option ℕ) → All P xs → IfSome (option_and_then (λ i. slice_get xs i) o) P
-holds_at P xs None all = tt
-holds_at P xs (Some i) all = at_index P xs i all
+-- what holds of all that elements give holds of what the one gives that is found
+pub found_of_all : {X Y : Type 0} (P : Y → Type 0) (f : X → Y) (p : X → Bool) (xs : List X) → All P (map f xs) → IfSome (find p xs) (λ x. P (f x))
+found_of_all P f p [] all = tt
+found_of_all {X} {Y} P f p (x ∷ xs) all = go (p x) (found_of_all P f p xs (λ k d lt. all (suc k) d (omega arith)))
+  where
+    go : (b : Bool) → IfSome (find p xs) (λ x. P (f x)) → IfSome (cond b (Some x) (find p xs)) (λ x. P (f x))
+    go true rest = all 0 (f x) (omega arith)
+    go false rest = rest

@@ -1,10 +1,11 @@
 -- What a program's file gives to be run and measured.
-use Rattle.std.specs.Prelude.{◌≡◌, ℕ, ◌+◌, ◌-◌, ◌%◌, ◌^◌, ◌<◌, ◌≤◌, ◌==◌, IsTrue, List, [], length, All, AllPairs, Bool, ◌||◌, ◌&&◌, nat_le, nat_lt, find, map}
+use Rattle.std.specs.Prelude.{◌≡◌, ℕ, ◌+◌, ◌-◌, ◌%◌, ◌/◌, ◌^◌, ◌<◌, ◌≤◌, ◌==◌, IsTrue, List, [], length, All, AllPairs, Bool, ◌||◌, ◌&&◌, nat_le, nat_lt, find, map}
 use Rattle.std.specs.List.{list_any}
 use Rattle.std.specs.Option.{option_map_or}
 use Rattle.elf_image.specs.Fields.{same_bytes}
 use Rattle.address_ranges.specs.Ranges.{holds}
 use Rattle.address_ranges.specs.declared.ranges.AddressRange.{AddressRange}
+use Rattle.elf_image.specs.declared.elf.TheConstants.{PF_R, PF_W, PF_X}
 use Rattle.elf_image.specs.declared.part.Segment.{Segment}
 use Rattle.elf_image.specs.declared.part.Function.{Function}
 use Rattle.elf_image.specs.declared.part.Section.{Section}
@@ -14,32 +15,33 @@ pub record Named : Type 0 where
   pub name : List ℕ
   pub bytes : List ℕ
 
--- a function symbol: where the function begins, how many bytes it has, what it is called
-pub record Called : Type 0 where
+-- a function symbol: where the function begins, how many bytes it has, what it is symbol_view
+pub record FunctionSymbol : Type 0 where
   pub start : ℕ
   pub size : ℕ
   pub name : List ℕ
 
--- a program as it is loaded: the file's bytes, where it begins to run, its segments and sections in file order, and its function symbols in symbol order
-pub record Loaded : Type 0 where
+-- a program as it is loaded: the file's bytes, where it begins to run, its segments and sections in file order, and its
+-- function symbols in symbol order
+pub record ProgramImage : Type 0 where
   pub file : List ℕ
   pub entry : ℕ
   pub segments : List Segment
   pub sections : List Named
-  pub functions : List Called
+  pub functions : List FunctionSymbol
 
--- what the code's values show of these
+-- what contracts see of the code's values
 abbrev pub named : Section → Named
 named s = record { name = s.name.now; bytes = s.bytes.now }
 
-abbrev pub called : Function → Called
-called f = record { start = f.start; size = f.size; name = f.name.now }
+abbrev pub symbol_view : Function → FunctionSymbol
+symbol_view f = record { start = f.start; size = f.size; name = f.name.now }
 
 -- a segment's addresses
 abbrev pub range_of : Segment → AddressRange
 range_of s = record { start = s.start; end = s.end }
 
-abbrev pub function_range : Called → AddressRange
+abbrev pub function_range : FunctionSymbol → AddressRange
 function_range f = record { start = f.start; end = f.start + f.size }
 
 -- where the addresses for stacks begin
@@ -49,16 +51,21 @@ stacks_begin = 0xF0000000
 abbrev pub in_segment : ℕ → Segment → Bool
 in_segment address s = holds address (range_of s)
 
-abbrev pub in_function : ℕ → Called → Bool
+abbrev pub in_function : ℕ → FunctionSymbol → Bool
 in_function address f = holds address (function_range f)
 
--- the function symbols of a program as the code keeps them, with a table of their ranges
-pub record AreFunctions (functions : List Function) (ranges : List AddressRange) : Type 0 where
-  pub table : ranges ≡ map function_range (map called functions)
-  pub low : All (λ f. f.start + f.size < 2 ^ 32) functions
+-- a flag of one bit is set
+abbrev pub has_flag : ℕ → ℕ → Bool
+has_flag flag flags = flags / flag % 2 == 1
 
 abbrev pub is_executable : Segment → Bool
-is_executable s = s.flags % 2 == 1
+is_executable s = has_flag PF_X s.flags
+
+abbrev pub is_writable : Segment → Bool
+is_writable s = has_flag PF_W s.flags
+
+abbrev pub is_readable : Segment → Bool
+is_readable s = has_flag PF_R s.flags
 
 -- a range counts where it is not empty and lies within one segment that can be executed
 abbrev pub counts : List Segment → ℕ → ℕ → Bool
@@ -79,7 +86,10 @@ pub record IsWithin (file : List ℕ) (s : Segment) : Type 0 where
 abbrev pub are_apart : Segment → Segment → Bool
 are_apart s t = nat_le s.end t.start || nat_le t.end s.start
 
-pub record IsLoaded (l : Loaded) : Type 0 where
+-- what is so of every program that is read. The file has 32 bytes for each segment's header
+pub record IsLoaded (l : ProgramImage) : Type 0 where
   pub within : All (IsWithin l.file) l.segments
   pub apart : AllPairs (λ s t. IsTrue (are_apart s t)) l.segments
+  pub few : length l.segments ≤ 2 ^ 21
+  pub low : All (λ f. f.start + f.size < 2 ^ 32) l.functions
   pub size : length l.file ≤ 2 ^ 26

@@ -5,7 +5,7 @@ use Rattle.elf_image.specs.declared.fault.ElfFault.{ElfFault}
 use Rattle.elf_image.specs.declared.fault.ElfRule.{ElfRule}
 use Rattle.elf_image.specs.declared.fault.ElfRule.TheVariants.{NotElf, NotRiscv32Exec, CompressedCode, HeaderPlace, SegmentPlace, SectionPlace, CompressedSection, SymbolPlace}
 use Rattle.elf_image.specs.Fields.{word_at}
-use Rattle.elf_image.specs.Image.{Loaded}
+use Rattle.elf_image.specs.Image.{ProgramImage}
 use Rattle.elf_image.specs.Headers.{loads, segments, section_headers, sections, symbol_table, functions}
 use Rattle.elf_image.specs.declared.header.SectionHeader.{SectionHeader}
 use Rattle.elf_image.specs.Refusals.{not_elf, not_riscv32_exec, compressed_code, header_place, overfilled, unfilled, too_high, shared, outside, nameless, compressed_section, bad_table, nameless_function}
@@ -14,7 +14,7 @@ abbrev pub refused_at : ElfRule → Option ℕ → Result (Unit {0}) ElfFault
 refused_at rule None = Ok tt
 refused_at rule (Some place) = Err (record { rule = rule; offset = place })
 
-abbrev pub loaded : List ℕ → Loaded
+abbrev pub loaded : List ℕ → ProgramImage
 loaded file = record {
   file = file;
   entry = word_at file 24;
@@ -54,7 +54,7 @@ symbols_in file (Some table) = do
   _ ← refused_at SymbolPlace (bad_table file table)
   refused_at SymbolPlace (nameless_function file table)
 
-unfoldable pub image_of : List ℕ → Result Loaded ElfFault
+unfoldable pub image_of : List ℕ → Result ProgramImage ElfFault
 image_of file = do
   _ ← header_of file
   _ ← segments_of file

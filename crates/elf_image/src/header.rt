@@ -3,127 +3,127 @@ ghost use Rattle.std.specs.Prelude.{◌≡◌, ◌+◌, ◌*◌, ◌<◌, ◌≤
 ghost use Rattle.std.specs.List.{range_with_len};
 ghost use Rattle.prof_bytes.specs.Outcome.{Gives};
 ghost use Rattle.elf_image.specs.Fields.{lies_within};
-ghost use Rattle.elf_image.specs.Headers.{program_header_at, section_header_at, symbol_at, phoff, phnum, shoff, shnum, shstrndx, program_headers, section_headers};
+ghost use Rattle.elf_image.specs.Headers.{program_header_at, section_header_at, symbol_at, e_phoff, e_phnum, e_shoff, e_shnum, e_shstrndx, program_headers, section_headers};
 ghost use Rattle.elf_image.specs.Refusals.{not_elf, not_riscv32_exec, compressed_code, header_place};
 ghost use Rattle.elf_image.specs.Reading.{header_of};
 
+use crate::elf::{
+    EF_RISCV_RVC, ELF32_EHDR_SIZE, ELF32_PHDR_SIZE, ELF32_SHDR_SIZE, ELFCLASS32, ELFDATA2LSB, ELFMAG0,
+    ELFMAG1, ELFMAG2, ELFMAG3, EM_RISCV, ET_EXEC, EV_CURRENT, has_flag,
+};
 use crate::fault::{ElfFault, ElfRule, first_of, refuse};
 use crate::field::{byte_at, half_at, lies_within, word_at};
 use prof_bytes::{Fail, Memory};
 use std::alloc::Global;
 
-const PROGRAM_HEADER_SIZE: u32 = 32;
-
-const SECTION_HEADER_SIZE: u32 = 40;
-
-/// The fields of a program header that are looked at, and its offset in the file.
+/// The fields of a program header that are looked at, by their names there, and its offset in the file.
 #[derive(Clone, Copy)]
 pub(crate) struct ProgramHeader {
-    pub(crate) place: u32,
-    pub(crate) kind: u32,
     pub(crate) offset: u32,
-    pub(crate) start: u32,
-    pub(crate) filled: u32,
-    pub(crate) size: u32,
-    pub(crate) flags: u32,
+    pub(crate) p_type: u32,
+    pub(crate) p_offset: u32,
+    pub(crate) p_vaddr: u32,
+    pub(crate) p_filesz: u32,
+    pub(crate) p_memsz: u32,
+    pub(crate) p_flags: u32,
 }
 
-/// The fields of a section header that are looked at, and its offset in the file.
+/// The fields of a section header that are looked at, by their names there, and its offset in the file.
 #[derive(Clone, Copy)]
 pub(crate) struct SectionHeader {
-    pub(crate) place: u32,
-    pub(crate) name: u32,
-    pub(crate) kind: u32,
-    pub(crate) flags: u32,
     pub(crate) offset: u32,
-    pub(crate) size: u32,
-    pub(crate) link: u32,
-    pub(crate) entry_size: u32,
+    pub(crate) sh_name: u32,
+    pub(crate) sh_type: u32,
+    pub(crate) sh_flags: u32,
+    pub(crate) sh_offset: u32,
+    pub(crate) sh_size: u32,
+    pub(crate) sh_link: u32,
+    pub(crate) sh_entsize: u32,
 }
 
-/// The fields of a symbol that are looked at, and its offset in the file.
+/// The fields of a symbol that are looked at, by their names there, and its offset in the file.
 #[derive(Clone, Copy)]
 pub(crate) struct Symbol {
-    pub(crate) place: u32,
-    pub(crate) name: u32,
-    pub(crate) start: u32,
-    pub(crate) size: u32,
-    pub(crate) kind: u8,
-    pub(crate) section: u16,
+    pub(crate) offset: u32,
+    pub(crate) st_name: u32,
+    pub(crate) st_value: u32,
+    pub(crate) st_size: u32,
+    pub(crate) st_type: u8,
+    pub(crate) st_shndx: u16,
 }
 
-fn program_header_at(file: &[u8], place: u32) -> ProgramHeader
-    ensures { result ≡ program_header_at file.now place }
+fn program_header_at(file: &[u8], offset: u32) -> ProgramHeader
+    ensures { result ≡ program_header_at file.now offset }
 {
-    let at = place as usize;
+    let at = offset as usize;
     ProgramHeader {
-        place,
-        kind: word_at(file, at),
-        offset: word_at(file, at + 4),
-        start: word_at(file, at + 8),
-        filled: word_at(file, at + 16),
-        size: word_at(file, at + 20),
-        flags: word_at(file, at + 24),
+        offset,
+        p_type: word_at(file, at),
+        p_offset: word_at(file, at + 4),
+        p_vaddr: word_at(file, at + 8),
+        p_filesz: word_at(file, at + 16),
+        p_memsz: word_at(file, at + 20),
+        p_flags: word_at(file, at + 24),
     }
 }
 
-fn section_header_at(file: &[u8], place: u32) -> SectionHeader
-    ensures { result ≡ section_header_at file.now place }
+fn section_header_at(file: &[u8], offset: u32) -> SectionHeader
+    ensures { result ≡ section_header_at file.now offset }
 {
-    let at = place as usize;
+    let at = offset as usize;
     SectionHeader {
-        place,
-        name: word_at(file, at),
-        kind: word_at(file, at + 4),
-        flags: word_at(file, at + 8),
-        offset: word_at(file, at + 16),
-        size: word_at(file, at + 20),
-        link: word_at(file, at + 24),
-        entry_size: word_at(file, at + 36),
+        offset,
+        sh_name: word_at(file, at),
+        sh_type: word_at(file, at + 4),
+        sh_flags: word_at(file, at + 8),
+        sh_offset: word_at(file, at + 16),
+        sh_size: word_at(file, at + 20),
+        sh_link: word_at(file, at + 24),
+        sh_entsize: word_at(file, at + 36),
     }
 }
 
-pub(crate) fn symbol_at(file: &[u8], place: u32) -> Symbol
-    ensures { result ≡ symbol_at file.now place }
+pub(crate) fn symbol_at(file: &[u8], offset: u32) -> Symbol
+    ensures { result ≡ symbol_at file.now offset }
 {
-    let at = place as usize;
+    let at = offset as usize;
     Symbol {
-        place,
-        name: word_at(file, at),
-        start: word_at(file, at + 4),
-        size: word_at(file, at + 8),
-        kind: byte_at(file, at + 12) % 16,
-        section: half_at(file, at + 14),
+        offset,
+        st_name: word_at(file, at),
+        st_value: word_at(file, at + 4),
+        st_size: word_at(file, at + 8),
+        st_type: byte_at(file, at + 12) % 16,
+        st_shndx: half_at(file, at + 14),
     }
 }
 
-fn phoff(file: &[u8]) -> u32
-    ensures { result ≡ phoff file.now }
+fn e_phoff(file: &[u8]) -> u32
+    ensures { result ≡ e_phoff file.now }
 {
     word_at(file, 28)
 }
 
-fn phnum(file: &[u8]) -> u16
-    ensures { result ≡ phnum file.now }
+fn e_phnum(file: &[u8]) -> u16
+    ensures { result ≡ e_phnum file.now }
 {
     half_at(file, 44)
 }
 
-fn shoff(file: &[u8]) -> u32
-    ensures { result ≡ shoff file.now }
+fn e_shoff(file: &[u8]) -> u32
+    ensures { result ≡ e_shoff file.now }
 {
     word_at(file, 32)
 }
 
-fn shnum(file: &[u8]) -> u16
-    ensures { result ≡ shnum file.now }
+fn e_shnum(file: &[u8]) -> u16
+    ensures { result ≡ e_shnum file.now }
 {
     half_at(file, 48)
 }
 
 /// The index of the section that has the names, and 0 where there is none.
-pub(crate) fn shstrndx(file: &[u8]) -> u16
-    ensures { result ≡ shstrndx file.now }
+pub(crate) fn e_shstrndx(file: &[u8]) -> u16
+    ensures { result ≡ e_shstrndx file.now }
 {
     half_at(file, 50)
 }
@@ -134,11 +134,11 @@ fn not_elf(file: &[u8]) -> Option<u32>
     ensures { result ≡ not_elf file.now }
 {
     first_of(&[
-        (byte_at(file, 0) != 0x7f, 0),
-        (byte_at(file, 1) != b'E', 1),
-        (byte_at(file, 2) != b'L', 2),
-        (byte_at(file, 3) != b'F', 3),
-        (file.len() < 52, file.len() as u32),
+        (byte_at(file, 0) != ELFMAG0, 0),
+        (byte_at(file, 1) != ELFMAG1, 1),
+        (byte_at(file, 2) != ELFMAG2, 2),
+        (byte_at(file, 3) != ELFMAG3, 3),
+        (file.len() < ELF32_EHDR_SIZE as usize, file.len() as u32),
     ])
 }
 
@@ -147,12 +147,12 @@ fn not_riscv32_exec(file: &[u8]) -> Option<u32>
     ensures { result ≡ not_riscv32_exec file.now }
 {
     first_of(&[
-        (byte_at(file, 4) != 1, 4),
-        (byte_at(file, 5) != 1, 5),
-        (byte_at(file, 6) != 1, 6),
-        (half_at(file, 16) != 2, 16),
-        (half_at(file, 18) != 243, 18),
-        (word_at(file, 20) != 1, 20),
+        (byte_at(file, 4) != ELFCLASS32, 4),
+        (byte_at(file, 5) != ELFDATA2LSB, 5),
+        (byte_at(file, 6) != EV_CURRENT, 6),
+        (half_at(file, 16) != ET_EXEC, 16),
+        (half_at(file, 18) != EM_RISCV, 18),
+        (word_at(file, 20) != u32::from(EV_CURRENT), 20),
     ])
 }
 
@@ -160,21 +160,21 @@ fn not_riscv32_exec(file: &[u8]) -> Option<u32>
 fn compressed_code(file: &[u8]) -> Option<u32>
     ensures { result ≡ compressed_code file.now }
 {
-    first_of(&[(word_at(file, 36) % 2 == 1, 36)])
+    first_of(&[(has_flag(EF_RISCV_RVC, word_at(file, 36)), 36)])
 }
 
 #[tactic(auto, unfolding(crate::specs::Refusals::header_place))]
 fn header_place(file: &[u8]) -> Option<u32>
     ensures { result ≡ header_place file.now }
 {
-    let programs = PROGRAM_HEADER_SIZE * u32::from(phnum(file));
-    let sections = SECTION_HEADER_SIZE * u32::from(shnum(file));
+    let programs = ELF32_PHDR_SIZE * u32::from(e_phnum(file));
+    let sections = ELF32_SHDR_SIZE * u32::from(e_shnum(file));
     first_of(&[
-        (phnum(file) != 0 && half_at(file, 42) != 32, 42),
-        (!lies_within(file, phoff(file), programs), 28),
-        (shnum(file) != 0 && half_at(file, 46) != 40, 46),
-        (!lies_within(file, shoff(file), sections), 32),
-        (shnum(file) != 0 && shnum(file) <= shstrndx(file), 50),
+        (e_phnum(file) != 0 && u32::from(half_at(file, 42)) != ELF32_PHDR_SIZE, 42),
+        (!lies_within(file, e_phoff(file), programs), 28),
+        (e_shnum(file) != 0 && u32::from(half_at(file, 46)) != ELF32_SHDR_SIZE, 46),
+        (!lies_within(file, e_shoff(file), sections), 32),
+        (e_shnum(file) != 0 && e_shnum(file) <= e_shstrndx(file), 50),
     ])
 }
 
@@ -196,10 +196,10 @@ pub(crate) fn program_headers(alloc: Global, file: &[u8]) -> Result<Vec<ProgramH
     requires checked { header_of file.now ≡ Ok tt }
     ensures { IfOk result (λ headers. headers.items ≡ program_headers file.now) }
 {
-    let first = phoff(file);
+    let first = e_phoff(file);
     let mut headers = Vec::new(alloc);
-    for k in 0..u32::from(phnum(file)) {
-        headers.push(program_header_at(file, first + PROGRAM_HEADER_SIZE * k))?;
+    for k in 0..u32::from(e_phnum(file)) {
+        headers.push(program_header_at(file, first + ELF32_PHDR_SIZE * k))?;
     }
     Ok(headers)
 }
@@ -210,10 +210,10 @@ pub(crate) fn section_headers(alloc: Global, file: &[u8]) -> Result<Vec<SectionH
     requires checked { header_of file.now ≡ Ok tt }
     ensures { IfOk result (λ headers. headers.items ≡ section_headers file.now) }
 {
-    let first = shoff(file);
+    let first = e_shoff(file);
     let mut headers = Vec::new(alloc);
-    for k in 0..u32::from(shnum(file)) {
-        headers.push(section_header_at(file, first + SECTION_HEADER_SIZE * k))?;
+    for k in 0..u32::from(e_shnum(file)) {
+        headers.push(section_header_at(file, first + ELF32_SHDR_SIZE * k))?;
     }
     Ok(headers)
 }

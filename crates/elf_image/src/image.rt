@@ -3,19 +3,19 @@ ghost use Rattle.std.specs.List.{list_any};
 ghost use Rattle.std.specs.Option.{option_copied};
 ghost use Rattle.elf_image.specs.Fields.{same_bytes};
 ghost use Rattle.prof_bytes.specs.Outcome.{Gives};
-ghost use Rattle.elf_image.specs.Image.{IsLoaded, IsWithin, are_apart, named, called, in_segment, in_function, counts, bytes_of_name};
+ghost use Rattle.elf_image.specs.Image.{IsLoaded, IsWithin, are_apart, named, symbol_view, in_segment, in_function, counts, bytes_of_name};
 ghost use Rattle.elf_image.specs.Headers.{segments, section_headers, sections, symbol_table, functions};
 ghost use Rattle.elf_image.specs.Reading.{header_of, segments_of, sections_of, symbols_in, image_of, after};
 
 use crate::fault::ElfFault;
 use crate::field::word_at;
-use crate::functions::Functions;
 use crate::header::{check_header, section_headers};
 use crate::part::{Function, Section, Segment};
 use crate::program::read_segments;
 use crate::section::read_sections;
-use crate::segments::Segments;
+use crate::segments::{counts, segment_at};
 use crate::symbol::read_functions;
+use address_ranges::RangeTable;
 use prof_bytes::Fail;
 use std::alloc::Global;
 use std::marker::Model;
@@ -25,20 +25,20 @@ use std::marker::Model;
 pub struct Image<'a> {
     file: &'a [u8],
     entry: u32,
-    segments: Segments,
+    segments: RangeTable<Segment>,
     sections: Vec<Section<'a>>,
-    functions: Functions<'a>,
+    functions: RangeTable<Function<'a>>,
 }
 
 impl<'a> Model for Image<'a> {
     ghost use Rattle.std.specs.Prelude.{map};
-    ghost use Rattle.elf_image.specs.Image.{Loaded, IsLoaded, named};
+    ghost use Rattle.elf_image.specs.Image.{ProgramImage, IsLoaded, named, symbol_view};
 
-    ghost Value = { Loaded };
+    ghost Value = { ProgramImage };
 
-    ghost view = { λ image. record { file = image.file.now; entry = image.entry; segments = image.segments; sections = map named image.sections.items; functions = image.functions } };
+    ghost view = { λ image. record { file = image.file.now; entry = image.entry; segments = image.segments; sections = map named image.sections.items; functions = map symbol_view image.functions } };
 
-    ghost invariant = { λ image. IsLoaded (record { file = image.file.now; entry = image.entry; segments = image.segments; sections = map named image.sections.items; functions = image.functions }) };
+    ghost invariant = { λ image. IsLoaded (record { file = image.file.now; entry = image.entry; segments = image.segments; sections = map named image.sections.items; functions = map symbol_view image.functions }) };
 }
 
 /// The program that the file holds, or the first refusal. The file has at most 64 MiB.
@@ -103,14 +103,14 @@ impl<'a> Image<'a> {
         ensures value { result.now ≡ self.now.segments }
         ensures loaded { IsLoaded self.now }
     {
-        self.segments.as_slice()
+        self.segments.items()
     }
 
     /// The segment that holds the address.
     pub fn segment_at(&self, at: u32) -> Option<Segment>
         ensures { result ≡ find (in_segment at) self.now.segments }
     {
-        self.segments.at(at)
+        segment_at(&self.segments, at)
     }
 
     /// Whether the addresses from `low` up to `high` count: there are some, and they lie within one
@@ -118,7 +118,7 @@ impl<'a> Image<'a> {
     pub fn counts(&self, low: u32, high: u32) -> bool
         ensures { result ≡ counts self.now.segments low high }
     {
-        self.segments.counts(low, u64::from(high))
+        counts(&self.segments, low, u64::from(high))
     }
 
     /// Whether so many addresses from `start` on count. Their end is then below 2^32.
@@ -126,8 +126,11 @@ impl<'a> Image<'a> {
         ensures counts { result ≡ counts self.now.segments start (start + size) }
         ensures low { IsTrue result → start + size < 2 ^ 32 }
     {
-        self.segments
-            .counts(start, u64::from(start) + u64::from(size))
+        counts(
+            &self.segments,
+            start,
+            u64::from(start) + u64::from(size),
+        )
     }
 
     /// The bytes of the first section of that name, and none where there is no such section or it has
@@ -140,17 +143,17 @@ impl<'a> Image<'a> {
 
     /// The function symbols whose ranges count, in symbol order.
     pub fn functions(&self) -> &[Function<'a>]
-        ensures { map called result.now ≡ self.now.functions }
+        ensures { map symbol_view result.now ≡ self.now.functions }
     {
-        self.functions.as_slice()
+        self.functions.items()
     }
 
     /// The first function symbol, in symbol order, that holds the address. Takes no memory, and time
     /// as the logarithm of the number of symbols. Its end is below 2^32.
     pub fn function_at(&self, pc: u32) -> Option<Function<'a>>
-        ensures function { option_map called result ≡ find (in_function pc) self.now.functions }
+        ensures function { option_map symbol_view result ≡ find (in_function pc) self.now.functions }
         ensures low { IfSome result (λ f. f.start + f.size < 2 ^ 32) }
     {
-        self.functions.at(pc)
+        self.functions.first(pc).copied()
     }
 }

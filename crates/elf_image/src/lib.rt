@@ -6,9 +6,9 @@
 #![tactic(auto)]
 
 mod debug_parts;
+mod elf;
 mod fault;
 mod field;
-mod functions;
 mod header;
 mod image;
 mod part;
@@ -18,9 +18,9 @@ mod segments;
 mod symbol;
 mod texts;
 
-pub use address_ranges::{AddressRange, FirstRange};
+pub use address_ranges::{AddressRange, HasRange, RangeTable};
 pub use debug_parts::DebugParts;
+pub use elf::{PF_R, PF_W, PF_X};
 pub use fault::{ElfFault, ElfRule};
 pub use image::{Image, read_image};
 pub use part::{Function, Segment};
-pub use segments::Segments;

@@ -1,6 +1,13 @@
-/// A part of the file that is loaded: the addresses from `start` up to `end`, the rights in `flags`
-/// (1 execute, 2 write, 4 read), and the `filled` bytes from `offset` on in the file. Bytes past
-/// these are 0.
+//! Parts of a program: segments, function symbols and sections.
+ghost use Rattle.std.specs.Prelude.{◌≡◌};
+ghost use Rattle.elf_image.specs.Image.{range_of, function_range, symbol_view, is_executable, is_writable, is_readable};
+
+use crate::elf::{PF_R, PF_W, PF_X, has_flag};
+use address_ranges::{AddressRange, HasRange};
+
+/// A segment that is loaded: the addresses from `start` up to `end` (`p_vaddr` and `p_memsz`), the
+/// rights in `flags` (`p_flags`: `PF_X`, `PF_W`, `PF_R`), and the `filled` bytes (`p_filesz`) from
+/// `offset` on in the file (`p_offset`). Bytes past these are 0.
 #[derive(Clone, Copy, Debug, PartialEq, Eq)]
 pub struct Segment {
     pub start: u32,
@@ -10,12 +17,58 @@ pub struct Segment {
     pub filled: u32,
 }
 
-/// A function symbol: the address at which the function begins, how many bytes it has, and its name.
+impl Segment {
+    /// Whether its bytes can be executed.
+    pub fn is_executable(&self) -> bool
+        ensures { result ≡ is_executable self.now }
+    {
+        has_flag(PF_X, self.flags)
+    }
+
+    /// Whether its bytes can be written.
+    pub fn is_writable(&self) -> bool
+        ensures { result ≡ is_writable self.now }
+    {
+        has_flag(PF_W, self.flags)
+    }
+
+    /// Whether its bytes can be read.
+    pub fn is_readable(&self) -> bool
+        ensures { result ≡ is_readable self.now }
+    {
+        has_flag(PF_R, self.flags)
+    }
+}
+
+impl HasRange for Segment {
+    ghost range_of = { range_of };
+
+    fn range(&self) -> AddressRange {
+        AddressRange {
+            start: self.start,
+            end: u64::from(self.end),
+        }
+    }
+}
+
+/// A function symbol: the address at which the function begins (`st_value`), how many bytes it has
+/// (`st_size`), and its name.
 #[derive(Clone, Copy, Debug)]
 pub struct Function<'a> {
     pub start: u32,
     pub size: u32,
     pub name: &'a [u8],
+}
+
+impl<'a> HasRange for Function<'a> {
+    ghost range_of = { λ function. function_range (symbol_view function) };
+
+    fn range(&self) -> AddressRange {
+        AddressRange {
+            start: self.start,
+            end: u64::from(self.start) + u64::from(self.size),
+        }
+    }
 }
 
 /// A section's name and bytes.

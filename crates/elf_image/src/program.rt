@@ -6,17 +6,14 @@ ghost use Rattle.elf_image.specs.Headers.{is_load, loads, segment_of, segments};
 ghost use Rattle.elf_image.specs.Refusals.{overfilled, unfilled, too_high, shared};
 ghost use Rattle.elf_image.specs.Reading.{header_of, each_segment_of, segments_of, after};
 
+use crate::elf::PT_LOAD;
 use crate::fault::{ElfFault, ElfRule, refuse};
 use crate::field::lies_within;
 use crate::header::{ProgramHeader, program_headers};
 use crate::part::Segment;
-use crate::segments::Segments;
-use address_ranges::AddressRange;
+use address_ranges::{AddressRange, RangeTable};
 use prof_bytes::{Fail, Memory};
 use std::alloc::Global;
-
-/// The header type of a segment that is loaded.
-const PT_LOAD: u32 = 1;
 
 /// Where the addresses for stacks begin.
 const STACKS_BEGIN: u64 = 0xf000_0000;
@@ -24,7 +21,7 @@ const STACKS_BEGIN: u64 = 0xf000_0000;
 fn is_load(header: &ProgramHeader) -> bool
     ensures { result ≡ is_load header.now }
 {
-    header.kind == PT_LOAD && header.size > 0
+    header.p_type == PT_LOAD && header.p_memsz > 0
 }
 
 #[tactic(auto, unfolding(crate::specs::Headers::loads))]
@@ -42,7 +39,7 @@ pub(crate) fn loads(alloc: Global, file: &[u8]) -> Result<Vec<ProgramHeader>, Me
 fn overfilled(headers: &[ProgramHeader]) -> Option<u32>
     ensures { result ≡ overfilled headers.now }
 {
-    headers.iter().find(|h| h.size < h.filled).map(|h| h.place)
+    headers.iter().find(|h| h.p_memsz < h.p_filesz).map(|h| h.offset)
 }
 
 #[tactic(auto, unfolding(crate::specs::Refusals::unfilled))]
@@ -51,8 +48,8 @@ fn unfilled(file: &[u8], headers: &[ProgramHeader]) -> Option<u32>
 {
     headers
         .iter()
-        .find(|h| !lies_within(file, h.offset, h.filled))
-        .map(|h| h.place)
+        .find(|h| !lies_within(file, h.p_offset, h.p_filesz))
+        .map(|h| h.offset)
 }
 
 #[tactic(auto, unfolding(crate::specs::Refusals::too_high))]
@@ -61,8 +58,8 @@ fn too_high(headers: &[ProgramHeader]) -> Option<u32>
 {
     headers
         .iter()
-        .find(|h| STACKS_BEGIN < u64::from(h.start) + u64::from(h.size))
-        .map(|h| h.place)
+        .find(|h| STACKS_BEGIN < u64::from(h.p_vaddr) + u64::from(h.p_memsz))
+        .map(|h| h.offset)
 }
 
 /// The tests of each segment's header by itself.
@@ -77,20 +74,20 @@ fn check_each(file: &[u8], headers: &[ProgramHeader]) -> Result<(), Fail<ElfFaul
 }
 
 fn segment_of(header: &ProgramHeader) -> Segment
-    requires { header.now.start + header.now.size ≤ stacks_begin }
+    requires { header.now.p_vaddr + header.now.p_memsz ≤ stacks_begin }
     ensures { result ≡ segment_of header.now }
 {
     Segment {
-        start: header.start,
-        end: header.start + header.size,
-        flags: header.flags,
-        offset: header.offset,
-        filled: header.filled,
+        start: header.p_vaddr,
+        end: header.p_vaddr + header.p_memsz,
+        flags: header.p_flags,
+        offset: header.p_offset,
+        filled: header.p_filesz,
     }
 }
 
 fn segments_of(alloc: Global, headers: &[ProgramHeader]) -> Result<Vec<Segment>, Memory>
-    requires { All (λ h. h.start + h.size ≤ stacks_begin) headers.now }
+    requires { All (λ h. h.p_vaddr + h.p_memsz ≤ stacks_begin) headers.now }
     ensures { IfOk result (λ all. all.items ≡ map segment_of headers.now) }
 {
     let mut segments = Vec::new(alloc);
@@ -103,21 +100,21 @@ fn segments_of(alloc: Global, headers: &[ProgramHeader]) -> Result<Vec<Segment>,
 /// The first header whose addresses an earlier one has too: its segment is not the first that holds
 /// each of them.
 #[tactic(auto, unfolding(crate::specs::Refusals::shared))]
-fn shared(headers: &[ProgramHeader], loaded: &Segments) -> Option<u32>
+fn shared(headers: &[ProgramHeader], loaded: &RangeTable<Segment>) -> Option<u32>
     requires loaded { loaded.now ≡ map segment_of headers.now }
-    requires low { All (λ h. h.start + h.size ≤ stacks_begin) headers.now }
-    requires some { All (λ h. 0 < h.size) headers.now }
-    requires ascending { AllPairs (λ g h. g.place < h.place) headers.now }
+    requires low { All (λ h. h.p_vaddr + h.p_memsz ≤ stacks_begin) headers.now }
+    requires some { All (λ h. 0 < h.p_memsz) headers.now }
+    requires ascending { AllPairs (λ g h. g.offset < h.offset) headers.now }
     requires few { length headers.now < 2 ^ 32 }
     ensures { result ≡ shared headers.now }
 {
     for (index, header) in headers.iter().enumerate() {
         let range = AddressRange {
-            start: header.start,
-            end: header.start + header.size,
+            start: header.p_vaddr,
+            end: u64::from(header.p_vaddr) + u64::from(header.p_memsz),
         };
         if !loaded.is_first(range, index as u32) {
-            return Some(header.place);
+            return Some(header.offset);
         }
     }
     None
@@ -125,16 +122,17 @@ fn shared(headers: &[ProgramHeader], loaded: &Segments) -> Option<u32>
 
 /// The segments of the file, where their headers are as they must be.
 #[tactic(auto, unfolding(crate::specs::Reading::segments_of))]
-pub(crate) fn read_segments(alloc: Global, file: &[u8]) -> Result<Segments, Fail<ElfFault>>
+pub(crate) fn read_segments(alloc: Global, file: &[u8]) -> Result<RangeTable<Segment>, Fail<ElfFault>>
     requires small { length file.now ≤ 2 ^ 26 }
     requires checked { header_of file.now ≡ Ok tt }
     ensures value { Gives (λ all. all) result (after (segments_of file.now) (segments file.now)) }
     ensures within { IfOk result (λ all. All (IsWithin file.now) all) }
     ensures apart { IfOk result (λ all. AllPairs (λ s t. IsTrue (are_apart s t)) all) }
+    ensures few { IfOk result (λ all. length all ≤ 2 ^ 21) }
 {
     let headers = loads(alloc, file)?;
     check_each(file, &headers)?;
-    let segments = Segments::of(alloc, segments_of(alloc, &headers)?)?;
+    let segments = RangeTable::of(alloc, segments_of(alloc, &headers)?)?;
     refuse(ElfRule::SegmentPlace, shared(&headers, &segments))?;
     Ok(segments)
 }

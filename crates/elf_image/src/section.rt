@@ -3,32 +3,29 @@ ghost use Rattle.std.specs.Prelude.{◌≡◌, ◌+◌, ◌*◌, ◌<◌, ◌≤
 ghost use Rattle.std.specs.Option.{option_copied};
 ghost use Rattle.prof_bytes.specs.Outcome.{Gives};
 ghost use Rattle.elf_image.specs.Image.{named};
-ghost use Rattle.elf_image.specs.Headers.{shstrndx, is_section, has_bytes, bytes_of, bytes_of_index, section_headers, name_of, section_of, sections};
+ghost use Rattle.elf_image.specs.Headers.{e_shstrndx, is_section, has_bytes, bytes_of, bytes_of_index, section_headers, name_of, section_of, sections};
 ghost use Rattle.elf_image.specs.Refusals.{outside, nameless, is_read, is_read_name, is_compressed, compressed_section};
 ghost use Rattle.elf_image.specs.Reading.{sections_of, after};
 
+use crate::elf::{SHF_COMPRESSED, SHN_UNDEF, SHT_NOBITS, SHT_NULL, has_flag};
 use crate::fault::{ElfFault, ElfRule, refuse};
 use crate::field::lies_within;
-use crate::header::{SectionHeader, shstrndx};
+use crate::header::{SectionHeader, e_shstrndx};
 use crate::part::Section;
 use crate::texts::{Texts, behind, front};
 use prof_bytes::{Fail, Memory};
 use std::alloc::Global;
 
-const SHT_NULL: u32 = 0;
-
-const SHT_NOBITS: u32 = 8;
-
 fn is_section(header: &SectionHeader) -> bool
     ensures { result ≡ is_section header.now }
 {
-    header.kind != SHT_NULL
+    header.sh_type != SHT_NULL
 }
 
 fn has_bytes(header: &SectionHeader) -> bool
     ensures { result ≡ has_bytes header.now }
 {
-    header.kind != SHT_NULL && header.kind != SHT_NOBITS
+    header.sh_type != SHT_NULL && header.sh_type != SHT_NOBITS
 }
 
 fn bytes_of<'a>(file: &'a [u8], header: &SectionHeader) -> &'a [u8]
@@ -38,7 +35,7 @@ fn bytes_of<'a>(file: &'a [u8], header: &SectionHeader) -> &'a [u8]
     if !has_bytes(header) {
         return &[];
     }
-    front(behind(file, header.offset as usize), header.size as usize)
+    front(behind(file, header.sh_offset as usize), header.sh_size as usize)
 }
 
 /// The bytes of the section with that index, and none where there is no such section.
@@ -60,13 +57,13 @@ pub(crate) fn bytes_of_index<'a>(
 /// A section's name; all names are empty where no section has names.
 #[tactic(auto, unfolding(crate::specs::Headers::name_of))]
 fn name_of<'a>(file: &[u8], names: &Texts<'a>, header: &SectionHeader) -> Option<&'a [u8]>
-    requires { names.now ≡ bytes_of_index file.now (shstrndx file.now) }
+    requires { names.now ≡ bytes_of_index file.now (e_shstrndx file.now) }
     ensures { option_copied result ≡ name_of file.now header.now }
 {
-    if shstrndx(file) == 0 {
+    if e_shstrndx(file) == SHN_UNDEF {
         return Some(&[]);
     }
-    names.text_at(header.name)
+    names.text_at(header.sh_name)
 }
 
 #[tactic(auto, unfolding(crate::specs::Refusals::outside))]
@@ -75,12 +72,12 @@ fn outside(file: &[u8], headers: &[SectionHeader]) -> Option<u32>
 {
     headers
         .iter()
-        .find(|h| has_bytes(h) && !lies_within(file, h.offset, h.size))
-        .map(|h| h.place)
+        .find(|h| has_bytes(h) && !lies_within(file, h.sh_offset, h.sh_size))
+        .map(|h| h.offset)
 }
 
 fn is_nameless(file: &[u8], names: &Texts<'_>, header: &SectionHeader) -> bool
-    requires { names.now ≡ bytes_of_index file.now (shstrndx file.now) }
+    requires { names.now ≡ bytes_of_index file.now (e_shstrndx file.now) }
     ensures { result ≡ (is_section header.now && is_none (name_of file.now header.now)) }
 {
     is_section(header) && name_of(file, names, header).is_none()
@@ -88,13 +85,13 @@ fn is_nameless(file: &[u8], names: &Texts<'_>, header: &SectionHeader) -> bool
 
 #[tactic(auto, unfolding(crate::specs::Refusals::nameless))]
 fn nameless(file: &[u8], names: &Texts<'_>, headers: &[SectionHeader]) -> Option<u32>
-    requires { names.now ≡ bytes_of_index file.now (shstrndx file.now) }
+    requires { names.now ≡ bytes_of_index file.now (e_shstrndx file.now) }
     ensures { result ≡ nameless file.now headers.now }
 {
     headers
         .iter()
         .find(|h| is_nameless(file, names, h))
-        .map(|h| h.place)
+        .map(|h| h.offset)
 }
 
 /// Whether a section of that name is read when a program is measured.
@@ -114,11 +111,11 @@ fn is_read_name(name: &[u8]) -> bool
 }
 
 fn is_compressed(file: &[u8], names: &Texts<'_>, header: &SectionHeader) -> bool
-    requires { names.now ≡ bytes_of_index file.now (shstrndx file.now) }
+    requires { names.now ≡ bytes_of_index file.now (e_shstrndx file.now) }
     ensures { result ≡ (is_section header.now && is_compressed header.now && is_read (name_of file.now header.now)) }
 {
     is_section(header)
-        && (header.flags >> 11) & 1 == 1
+        && has_flag(SHF_COMPRESSED, header.sh_flags)
         && match name_of(file, names, header) {
             Some(name) => is_read_name(name),
             None => false,
@@ -127,13 +124,13 @@ fn is_compressed(file: &[u8], names: &Texts<'_>, header: &SectionHeader) -> bool
 
 #[tactic(auto, unfolding(crate::specs::Refusals::compressed_section))]
 fn compressed_section(file: &[u8], names: &Texts<'_>, headers: &[SectionHeader]) -> Option<u32>
-    requires { names.now ≡ bytes_of_index file.now (shstrndx file.now) }
+    requires { names.now ≡ bytes_of_index file.now (e_shstrndx file.now) }
     ensures { result ≡ compressed_section file.now headers.now }
 {
     headers
         .iter()
         .find(|h| is_compressed(file, names, h))
-        .map(|h| h.place)
+        .map(|h| h.offset)
 }
 
 #[tactic(auto, unfolding(crate::specs::Reading::sections_of))]
@@ -142,7 +139,7 @@ fn check_sections(
     names: &Texts<'_>,
     headers: &[SectionHeader],
 ) -> Result<(), Fail<ElfFault>>
-    requires names { names.now ≡ bytes_of_index file.now (shstrndx file.now) }
+    requires names { names.now ≡ bytes_of_index file.now (e_shstrndx file.now) }
     requires headers { headers.now ≡ section_headers file.now }
     ensures { Gives (λ done. done) result (sections_of file.now) }
 {
@@ -155,7 +152,7 @@ fn check_sections(
 }
 
 fn section_of<'a>(file: &'a [u8], names: &Texts<'a>, header: &SectionHeader) -> Section<'a>
-    requires { names.now ≡ bytes_of_index file.now (shstrndx file.now) }
+    requires { names.now ≡ bytes_of_index file.now (e_shstrndx file.now) }
     ensures { named result ≡ section_of file.now header.now }
 {
     Section {
@@ -174,7 +171,7 @@ fn sections<'a>(
     names: &Texts<'a>,
     headers: &[SectionHeader],
 ) -> Result<Vec<Section<'a>>, Memory>
-    requires names { names.now ≡ bytes_of_index file.now (shstrndx file.now) }
+    requires names { names.now ≡ bytes_of_index file.now (e_shstrndx file.now) }
     requires headers { headers.now ≡ section_headers file.now }
     ensures { IfOk result (λ all. map named all.items ≡ sections file.now) }
 {
@@ -200,7 +197,7 @@ pub(crate) fn read_sections<'a>(
 {
     let names = Texts::of(
         alloc,
-        bytes_of_index(file, headers, shstrndx(file) as usize),
+        bytes_of_index(file, headers, e_shstrndx(file) as usize),
     )?;
     check_sections(file, &names, headers)?;
     Ok(sections(alloc, file, &names, headers)?)

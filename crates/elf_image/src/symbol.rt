@@ -4,33 +4,26 @@ ghost use Rattle.std.specs.List.{list_any, range_with_len};
 ghost use Rattle.std.specs.Option.{option_copied};
 ghost use Rattle.prof_bytes.specs.Outcome.{Gives};
 ghost use Rattle.elf_image.specs.Fields.{text_in};
-ghost use Rattle.elf_image.specs.Image.{called, are_apart};
+ghost use Rattle.elf_image.specs.Image.{symbol_view, are_apart};
 ghost use Rattle.elf_image.specs.Headers.{section_headers, segments, bytes_of_index, symbol_table, symbol_at, symbols_of, is_function, symbol_name, function_of, functions_of, functions};
 ghost use Rattle.elf_image.specs.Refusals.{is_text_table, bad_table, nameless_function};
 ghost use Rattle.elf_image.specs.Reading.{sections_of, symbols_in, after};
 
+use crate::elf::{ELF32_SYM_SIZE, SHN_UNDEF, SHT_STRTAB, SHT_SYMTAB, STT_FUNC};
 use crate::fault::{ElfFault, ElfRule, first_of, refuse};
-use crate::functions::Functions;
 use crate::header::{SectionHeader, Symbol, symbol_at};
-use crate::part::Function;
+use crate::part::{Function, Segment};
 use crate::section::bytes_of_index;
-use crate::segments::Segments;
+use crate::segments::counts;
 use crate::texts::Texts;
+use address_ranges::RangeTable;
 use prof_bytes::{Fail, Memory};
 use std::alloc::Global;
 
-const SHT_SYMTAB: u32 = 2;
-
-const SHT_STRTAB: u32 = 3;
-
-const SYMBOL_SIZE: u32 = 16;
-
-const STT_FUNC: u8 = 2;
-
 fn first_table(headers: &[SectionHeader]) -> Option<SectionHeader>
-    ensures { result ≡ find (λ h. h.kind == 2) headers.now }
+    ensures { result ≡ find (λ h. h.sh_type == SHT_SYMTAB) headers.now }
 {
-    headers.iter().copied().find(|h| h.kind == SHT_SYMTAB)
+    headers.iter().copied().find(|h| h.sh_type == SHT_SYMTAB)
 }
 
 #[tactic(auto, unfolding(crate::specs::Headers::symbol_table))]
@@ -45,7 +38,7 @@ fn is_text_table(headers: &[SectionHeader], index: u32) -> bool
     ensures { result ≡ is_text_table headers.now index }
 {
     match headers.get(index as usize) {
-        Some(header) => header.kind == SHT_STRTAB,
+        Some(header) => header.sh_type == SHT_STRTAB,
         None => false,
     }
 }
@@ -56,50 +49,51 @@ fn bad_table(file: &[u8], headers: &[SectionHeader], table: &SectionHeader) -> O
     ensures { result ≡ bad_table file.now table.now }
 {
     first_of(&[
-        (table.entry_size != SYMBOL_SIZE, table.place),
-        (table.size % SYMBOL_SIZE != 0, table.place),
-        (!is_text_table(headers, table.link), table.place),
+        (table.sh_entsize != ELF32_SYM_SIZE, table.offset),
+        (table.sh_size % ELF32_SYM_SIZE != 0, table.offset),
+        (!is_text_table(headers, table.sh_link), table.offset),
     ])
 }
 
-fn is_function(loaded: &Segments, symbol: &Symbol) -> bool
+fn is_function(loaded: &RangeTable<Segment>, symbol: &Symbol) -> bool
     requires { AllPairs (λ s t. IsTrue (are_apart s t)) loaded.now }
     ensures function { result ≡ is_function loaded.now symbol.now }
-    ensures fits { IsTrue result → symbol.now.start + symbol.now.size < 2 ^ 32 }
+    ensures fits { IsTrue result → symbol.now.st_value + symbol.now.st_size < 2 ^ 32 }
 {
-    symbol.kind == STT_FUNC
-        && symbol.section != 0
-        && loaded.counts(
-            symbol.start,
-            u64::from(symbol.start) + u64::from(symbol.size),
+    symbol.st_type == STT_FUNC
+        && symbol.st_shndx != SHN_UNDEF
+        && counts(
+            loaded,
+            symbol.st_value,
+            u64::from(symbol.st_value) + u64::from(symbol.st_size),
         )
 }
 
-fn is_nameless(loaded: &Segments, names: &Texts<'_>, symbol: &Symbol) -> bool
+fn is_nameless(loaded: &RangeTable<Segment>, names: &Texts<'_>, symbol: &Symbol) -> bool
     requires { AllPairs (λ s t. IsTrue (are_apart s t)) loaded.now }
-    ensures { result ≡ (is_function loaded.now symbol.now && is_none (text_in names.now symbol.now.name)) }
+    ensures { result ≡ (is_function loaded.now symbol.now && is_none (text_in names.now symbol.now.st_name)) }
 {
-    is_function(loaded, symbol) && names.text_at(symbol.name).is_none()
+    is_function(loaded, symbol) && names.text_at(symbol.st_name).is_none()
 }
 
 /// The place of the first function symbol whose name does not end.
 #[tactic(auto, unfolding(crate::specs::Refusals::nameless_function))]
 fn nameless_function(
     file: &[u8],
-    loaded: &Segments,
+    loaded: &RangeTable<Segment>,
     names: &Texts<'_>,
     table: &SectionHeader,
 ) -> Option<u32>
     requires loaded { loaded.now ≡ segments file.now }
     requires apart { AllPairs (λ s t. IsTrue (are_apart s t)) loaded.now }
-    requires names { names.now ≡ bytes_of_index file.now table.now.link }
-    requires within { 0 < table.now.size → table.now.offset + table.now.size ≤ 2 ^ 26 }
+    requires names { names.now ≡ bytes_of_index file.now table.now.sh_link }
+    requires within { 0 < table.now.sh_size → table.now.sh_offset + table.now.sh_size ≤ 2 ^ 26 }
     ensures { result ≡ nameless_function file.now table.now }
 {
-    for k in 0..table.size / SYMBOL_SIZE {
-        let symbol = symbol_at(file, table.offset + SYMBOL_SIZE * k);
+    for k in 0..table.sh_size / ELF32_SYM_SIZE {
+        let symbol = symbol_at(file, table.sh_offset + ELF32_SYM_SIZE * k);
         if is_nameless(loaded, names, &symbol) {
-            return Some(symbol.place);
+            return Some(symbol.offset);
         }
     }
     None
@@ -108,7 +102,7 @@ fn nameless_function(
 #[tactic(auto, unfolding(crate::specs::Reading::symbols_in))]
 fn check_symbols(
     file: &[u8],
-    loaded: &Segments,
+    loaded: &RangeTable<Segment>,
     headers: &[SectionHeader],
     names: &Texts<'_>,
     table: &SectionHeader,
@@ -116,8 +110,8 @@ fn check_symbols(
     requires loaded { loaded.now ≡ segments file.now }
     requires apart { AllPairs (λ s t. IsTrue (are_apart s t)) loaded.now }
     requires headers { headers.now ≡ section_headers file.now }
-    requires names { names.now ≡ bytes_of_index file.now table.now.link }
-    requires within { 0 < table.now.size → table.now.offset + table.now.size ≤ 2 ^ 26 }
+    requires names { names.now ≡ bytes_of_index file.now table.now.sh_link }
+    requires within { 0 < table.now.sh_size → table.now.sh_offset + table.now.sh_size ≤ 2 ^ 26 }
     ensures { Gives (λ done. done) result (symbols_in file.now (Some table.now)) }
 {
     refuse(ElfRule::SymbolPlace, bad_table(file, headers, table))?;
@@ -133,13 +127,13 @@ fn function_of<'a>(
     table: &SectionHeader,
     symbol: &Symbol,
 ) -> Function<'a>
-    requires { names.now ≡ bytes_of_index file.now table.now.link }
-    ensures { called result ≡ function_of file.now table.now symbol.now }
+    requires { names.now ≡ bytes_of_index file.now table.now.sh_link }
+    ensures { symbol_view result ≡ function_of file.now table.now symbol.now }
 {
     Function {
-        start: symbol.start,
-        size: symbol.size,
-        name: match names.text_at(symbol.name) {
+        start: symbol.st_value,
+        size: symbol.st_size,
+        name: match names.text_at(symbol.st_name) {
             Some(name) => name,
             None => &[],
         },
@@ -150,21 +144,21 @@ fn function_of<'a>(
 fn functions_of<'a>(
     alloc: Global,
     file: &[u8],
-    loaded: &Segments,
+    loaded: &RangeTable<Segment>,
     names: &Texts<'a>,
     table: &SectionHeader,
 ) -> Result<Vec<Function<'a>>, Memory>
     requires loaded { loaded.now ≡ segments file.now }
     requires apart { AllPairs (λ s t. IsTrue (are_apart s t)) loaded.now }
-    requires names { names.now ≡ bytes_of_index file.now table.now.link }
-    requires within { 0 < table.now.size → table.now.offset + table.now.size ≤ 2 ^ 26 }
-    ensures functions { IfOk result (λ all. map called all.items ≡ functions_of file.now (Some table.now)) }
-    ensures fit { IfOk result (λ all. All (λ f. f.start + f.size < 2 ^ 32) all.items) }
+    requires names { names.now ≡ bytes_of_index file.now table.now.sh_link }
+    requires within { 0 < table.now.sh_size → table.now.sh_offset + table.now.sh_size ≤ 2 ^ 26 }
+    ensures functions { IfOk result (λ all. map symbol_view all.items ≡ functions_of file.now (Some table.now)) }
+    ensures fit { IfOk result (λ all. All (λ f. f.start + f.size < 2 ^ 32) (map symbol_view all.items)) }
     ensures few { IfOk result (λ all. length all.items < 2 ^ 32) }
 {
     let mut all = Vec::new(alloc);
-    for k in 0..table.size / SYMBOL_SIZE {
-        let symbol = symbol_at(file, table.offset + SYMBOL_SIZE * k);
+    for k in 0..table.sh_size / ELF32_SYM_SIZE {
+        let symbol = symbol_at(file, table.sh_offset + ELF32_SYM_SIZE * k);
         if is_function(loaded, &symbol) {
             all.push(function_of(file, names, table, &symbol))?;
         }
@@ -177,23 +171,24 @@ fn functions_of<'a>(
 pub(crate) fn read_functions<'a>(
     alloc: Global,
     file: &'a [u8],
-    loaded: &Segments,
+    loaded: &RangeTable<Segment>,
     headers: &[SectionHeader],
-) -> Result<Functions<'a>, Fail<ElfFault>>
+) -> Result<RangeTable<Function<'a>>, Fail<ElfFault>>
     requires small { length file.now ≤ 2 ^ 26 }
     requires loaded { loaded.now ≡ segments file.now }
     requires apart { AllPairs (λ s t. IsTrue (are_apart s t)) loaded.now }
     requires headers { headers.now ≡ section_headers file.now }
     requires checked { sections_of file.now ≡ Ok tt }
-    ensures { Gives (λ all. all) result (after (symbols_in file.now (symbol_table file.now)) (functions file.now)) }
+    ensures fit { IfOk result (λ all. All (λ f. f.start + f.size < 2 ^ 32) (map symbol_view all)) }
+    ensures functions { Gives (λ all. map symbol_view all) result (after (symbols_in file.now (symbol_table file.now)) (functions file.now)) }
 {
     match symbol_table(file, headers) {
         Some(table) => {
-            let names = Texts::of(alloc, bytes_of_index(file, headers, table.link as usize))?;
+            let names = Texts::of(alloc, bytes_of_index(file, headers, table.sh_link as usize))?;
             check_symbols(file, loaded, headers, &names, &table)?;
             let all = functions_of(alloc, file, loaded, &names, &table)?;
-            Ok(Functions::of(alloc, all)?)
+            Ok(RangeTable::of(alloc, all)?)
         }
-        None => Ok(Functions::of(alloc, Vec::new(alloc))?),
+        None => Ok(RangeTable::of(alloc, Vec::new(alloc))?),
     }
 }

@@ -5,7 +5,7 @@ use Rattle.elf_image.proofs.Checked.{programs_within}
 use Rattle.elf_image.proofs.header.program_headers.Goals as goal
 
 pub loop-k-preserved : goal.loop-k-preserved
-loop-k-preserved c = table_more (λ k. program_header_at c.args.file.now (c.phoff-first.result + 32 * k)) c.loop-k.k _ _ _ c.loop-k.invariant c.in_ok-push.ensures.items c.program_header_at.ensures
+loop-k-preserved c = table_more (λ k. program_header_at c.args.file.now (c.e_phoff-first.result + 32 * k)) c.loop-k.k _ _ _ c.loop-k.invariant c.in_ok-push.ensures.items c.program_header_at.ensures
 
 pub overflow_add-first : goal.overflow_add-first
 overflow_add-first c = let there = programs_within c.args.file.now c.requires.checked (omega arith) in omega arith

@@ -8,12 +8,12 @@ use Rattle.elf_image.proofs.symbol.nameless_function.Goals as goal
 
 pub loop-k-preserved : goal.loop-k-preserved
 loop-k-preserved c =
-    none_more (λ s. is_function c.args.loaded.now s && is_none (text_in c.args.names.now s.name)) (λ k. symbol_at c.args.file.now (c.args.table.now.offset + 16 * k)) c.loop-k.k c.symbol_at-symbol.result
+    none_more (λ s. is_function c.args.loaded.now s && is_none (text_in c.args.names.now s.st_name)) (λ k. symbol_at c.args.file.now (c.args.table.now.sh_offset + 16 * k)) c.loop-k.k c.symbol_at-symbol.result
     c.loop-k.invariant c.symbol_at-symbol.ensures (sym c.is_nameless.ensures ∙ c.if-is_nameless.false)
 
 pub returns-then-is_nameless : goal.returns-then-is_nameless
 unfolding nameless_function
 returns-then-is_nameless c =
-    let found = found_at (λ s. is_function c.args.loaded.now s && is_none (text_in c.args.names.now s.name)) (λ k. symbol_at c.args.file.now (c.args.table.now.offset + 16 * k)) c.loop-k.k (c.args.table.now.size / 16) c.symbol_at-symbol.result
+    let found = found_at (λ s. is_function c.args.loaded.now s && is_none (text_in c.args.names.now s.st_name)) (λ k. symbol_at c.args.file.now (c.args.table.now.sh_offset + 16 * k)) c.loop-k.k (c.args.table.now.sh_size / 16) c.symbol_at-symbol.result
     c.loop-k.invariant c.loop-k-test.true c.symbol_at-symbol.ensures (sym c.is_nameless.ensures ∙ c.if-is_nameless.true) in
     rw (← c.requires.loaded, ← c.requires.names, found) refl

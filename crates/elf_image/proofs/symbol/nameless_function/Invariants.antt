@@ -6,4 +6,4 @@ use Rattle.elf_image.specs.Headers.{symbol_at, is_function}
 use Rattle.elf_image.proofs.symbol.nameless_function.Given as goal
 
 abbrev pub invariant-loop-k : goal.invariant-loop-k
-invariant-loop-k l = find (λ s. is_function l.loaded s && is_none (text_in l.names s.name)) (map (λ k. symbol_at l.file (l.table.offset + 16 * k)) (range_with_len 0 l.k)) ≡ None
+invariant-loop-k l = find (λ s. is_function l.loaded s && is_none (text_in l.names s.st_name)) (map (λ k. symbol_at l.file (l.table.sh_offset + 16 * k)) (range_with_len 0 l.k)) ≡ None
