@@ -2,7 +2,7 @@
 use Rattle.std.proofs.Common.{◌≡◌, ℕ, ◌==◌, if◌then◌else◌, List, [], ◌∷◌, replicate, Option, Some, Ok, codes, refl}
 use Rattle.scope_types.specs.declared.frame.End.TheVariants.{Whole}
 use Rattle.elf_image.specs.declared.part.Segment.{Segment}
-use Rattle.elf_image.specs.Image.{Loaded}
+use Rattle.elf_image.specs.Image.{ProgramImage}
 use Rattle.cfi_table.specs.Instructions.{cfa_of, factored, factored_signed, instruction_at, instruction_of, other_of, plain, register_then, rule_of}
 use Rattle.cfi_table.specs.Rules.{run, step}
 use Rattle.cfi_table.specs.Entries.{chain, cie_form, cie_from, cie_from_augmentation, cie_from_factors, cie_from_segment, cie_from_sizes, fde_from, id_of, size_at}
@@ -18,7 +18,7 @@ section = 0xc ∷ 0x0 ∷ 0x0 ∷ 0x0 ∷ 0xff ∷ 0xff ∷ 0xff ∷ 0xff ∷ 0x
 abbrev segments : List Segment
 segments = record { start = 0x10000; end = 0x10030; flags = 5; offset = 84; filled = 48 } ∷ []
 
-abbrev image : Loaded
+abbrev image : ProgramImage
 image = record { file = []; entry = 0x10000; segments = segments; sections = []; functions = record { start = 0x10000; size = 16; name = codes "_start" } ∷ record { start = 0x10010; size = 32; name = codes "f" } ∷ [] }
 
 abbrev frames : Frames

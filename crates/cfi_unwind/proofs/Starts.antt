@@ -2,13 +2,13 @@
 use Rattle.std.proofs.Common.{◌≡◌, ℕ, ◌+◌, ◌<◌, ◌≤◌, List, [], ◌∷◌, ◌++◌, length, take, map, get_or, Option, Some, None, refl, sym, ap, ◌∙◌}
 use Rattle.std.proofs.lemmas.List.{append_assoc, map_push, take_more}
 use Rattle.elf_image.specs.declared.part.Function.{Function}
-use Rattle.elf_image.specs.Image.{Called, called}
+use Rattle.elf_image.specs.Image.{FunctionSymbol, symbol_view}
 use Rattle.cfi_table.specs.Frames.{least_above, lesser}
 use Rattle.cfi_table.proofs.Least.{least_push, least_skip}
 use Rattle.cfi_unwind.specs.Region.{at_most}
 
 abbrev pub starts_of : List Function → List ℕ
-starts_of functions = map (λ f. f.start) (map called functions)
+starts_of functions = map (λ f. f.start) (map symbol_view functions)
 
 at_most_lesser : (most : ℕ) (number : Option ℕ) → Some (at_most most number) ≡ lesser most number
 at_most_lesser most None = refl
@@ -17,8 +17,8 @@ at_most_lesser most (Some number) = refl
 starts_push : (before : List ℕ) (functions : List Function) (k : ℕ) (d : Function) → k < length functions → before ++ starts_of (take (k + 1) functions) ≡ (before ++ starts_of (take k functions)) ++ (get_or functions k d).start ∷ []
 starts_push before functions k d lt =
     ap (λ (fs : List Function). before ++ starts_of fs) (take_more functions k d lt)
-    ∙ ap (λ (fs : List Called). before ++ map (λ f. f.start) fs) (map_push called (take k functions) (get_or functions k d))
-    ∙ ap (λ (ns : List ℕ). before ++ ns) (map_push (λ (f : Called). f.start) (map called (take k functions)) (called (get_or functions k d)))
+    ∙ ap (λ (fs : List FunctionSymbol). before ++ map (λ f. f.start) fs) (map_push symbol_view (take k functions) (get_or functions k d))
+    ∙ ap (λ (ns : List ℕ). before ++ ns) (map_push (λ (f : FunctionSymbol). f.start) (map symbol_view (take k functions)) (symbol_view (get_or functions k d)))
     ∙ sym (append_assoc before (starts_of (take k functions)) ((get_or functions k d).start ∷ []))
 
 pub takes_start : (low : ℕ) (before : List ℕ) (functions : List Function) (k : ℕ) (d : Function) (least : Option ℕ) → k < length functions → low < (get_or functions k d).start

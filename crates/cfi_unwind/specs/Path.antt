@@ -3,7 +3,7 @@ use Rattle.std.specs.Prelude.{ℕ, zero, suc, List, [], ◌∷◌}
 use Rattle.scope_types.specs.declared.frame.End.TheVariants.{Partial}
 use Rattle.scope_types.specs.declared.frame.PartialCause.TheVariants as causes
 use Rattle.scope_types.specs.Raw.{Raw, most_frames}
-use Rattle.elf_image.specs.Image.{Loaded}
+use Rattle.elf_image.specs.Image.{ProgramImage}
 use Rattle.cfi_table.specs.Frames.{Frames}
 use Rattle.cfi_unwind.specs.declared.caller.Activation.{Activation}
 use Rattle.cfi_unwind.specs.declared.caller.Unwound.{Unwound}
@@ -30,5 +30,5 @@ abbrev pub path_of : Unwinding → ℕ → List ℕ → Words → Raw
 path_of u pc registers words = path_from most_frames u words (record { pc = pc; registers = registers })
 
 -- by a program's frames and image
-abbrev pub unwinding_of : Frames → Loaded → Unwinding
+abbrev pub unwinding_of : Frames → ProgramImage → Unwinding
 unwinding_of frames image = record { frames = frames; region = entry_region frames image }

@@ -1,5 +1,5 @@
 -- What a program's file gives to be run and measured.
-use Rattle.std.specs.Prelude.{◌≡◌, ℕ, ◌+◌, ◌-◌, ◌%◌, ◌/◌, ◌^◌, ◌<◌, ◌≤◌, ◌==◌, IsTrue, List, [], length, All, AllPairs, Bool, ◌||◌, ◌&&◌, nat_le, nat_lt, find, map}
+use Rattle.std.specs.Prelude.{ℕ, ◌+◌, ◌-◌, ◌%◌, ◌/◌, ◌^◌, ◌<◌, ◌≤◌, ◌==◌, IsTrue, List, [], length, All, AllPairs, Bool, ◌||◌, ◌&&◌, nat_le, nat_lt, find}
 use Rattle.std.specs.List.{list_any}
 use Rattle.std.specs.Option.{option_map_or}
 use Rattle.elf_image.specs.Fields.{same_bytes}

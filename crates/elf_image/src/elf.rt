@@ -5,13 +5,18 @@ ghost use Rattle.elf_image.specs.Image.{has_flag};
 
 /// How an ELF file begins (`e_ident`).
 pub const ELFMAG0: u8 = 0x7f;
+
 pub const ELFMAG1: u8 = b'E';
+
 pub const ELFMAG2: u8 = b'L';
+
 pub const ELFMAG3: u8 = b'F';
 
 /// `e_ident`: 32-bit objects, little endian, the current version.
 pub const ELFCLASS32: u8 = 1;
+
 pub const ELFDATA2LSB: u8 = 1;
+
 pub const EV_CURRENT: u8 = 1;
 
 /// `e_type`: an executable file.
@@ -25,8 +30,11 @@ pub const EF_RISCV_RVC: u32 = 1;
 
 /// The sizes in bytes of the file's header, a program header, a section header and a symbol.
 pub const ELF32_EHDR_SIZE: u32 = 52;
+
 pub const ELF32_PHDR_SIZE: u32 = 32;
+
 pub const ELF32_SHDR_SIZE: u32 = 40;
+
 pub const ELF32_SYM_SIZE: u32 = 16;
 
 /// `p_type`: a segment that is loaded.
@@ -34,13 +42,18 @@ pub const PT_LOAD: u32 = 1;
 
 /// `p_flags`: the rights of a segment.
 pub const PF_X: u32 = 1;
+
 pub const PF_W: u32 = 2;
+
 pub const PF_R: u32 = 4;
 
 /// `sh_type`.
 pub const SHT_NULL: u32 = 0;
+
 pub const SHT_SYMTAB: u32 = 2;
+
 pub const SHT_STRTAB: u32 = 3;
+
 pub const SHT_NOBITS: u32 = 8;
 
 /// `sh_flags`: the section's bytes are compressed.

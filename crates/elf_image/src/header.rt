@@ -8,8 +8,8 @@ ghost use Rattle.elf_image.specs.Refusals.{not_elf, not_riscv32_exec, compressed
 ghost use Rattle.elf_image.specs.Reading.{header_of};
 
 use crate::elf::{
-    EF_RISCV_RVC, ELF32_EHDR_SIZE, ELF32_PHDR_SIZE, ELF32_SHDR_SIZE, ELFCLASS32, ELFDATA2LSB, ELFMAG0,
-    ELFMAG1, ELFMAG2, ELFMAG3, EM_RISCV, ET_EXEC, EV_CURRENT, has_flag,
+    EF_RISCV_RVC, ELF32_EHDR_SIZE, ELF32_PHDR_SIZE, ELF32_SHDR_SIZE, ELFCLASS32, ELFDATA2LSB,
+    ELFMAG0, ELFMAG1, ELFMAG2, ELFMAG3, EM_RISCV, ET_EXEC, EV_CURRENT, has_flag,
 };
 use crate::fault::{ElfFault, ElfRule, first_of, refuse};
 use crate::field::{byte_at, half_at, lies_within, word_at};
@@ -170,9 +170,15 @@ fn header_place(file: &[u8]) -> Option<u32>
     let programs = ELF32_PHDR_SIZE * u32::from(e_phnum(file));
     let sections = ELF32_SHDR_SIZE * u32::from(e_shnum(file));
     first_of(&[
-        (e_phnum(file) != 0 && u32::from(half_at(file, 42)) != ELF32_PHDR_SIZE, 42),
+        (
+            e_phnum(file) != 0 && u32::from(half_at(file, 42)) != ELF32_PHDR_SIZE,
+            42,
+        ),
         (!lies_within(file, e_phoff(file), programs), 28),
-        (e_shnum(file) != 0 && u32::from(half_at(file, 46)) != ELF32_SHDR_SIZE, 46),
+        (
+            e_shnum(file) != 0 && u32::from(half_at(file, 46)) != ELF32_SHDR_SIZE,
+            46,
+        ),
         (!lies_within(file, e_shoff(file), sections), 32),
         (e_shnum(file) != 0 && e_shnum(file) <= e_shstrndx(file), 50),
     ])

@@ -126,11 +126,7 @@ impl<'a> Image<'a> {
         ensures counts { result ≡ counts self.now.segments start (start + size) }
         ensures low { IsTrue result → start + size < 2 ^ 32 }
     {
-        counts(
-            &self.segments,
-            start,
-            u64::from(start) + u64::from(size),
-        )
+        counts(&self.segments, start, u64::from(start) + u64::from(size))
     }
 
     /// The bytes of the first section of that name, and none where there is no such section or it has

@@ -39,7 +39,10 @@ pub(crate) fn loads(alloc: Global, file: &[u8]) -> Result<Vec<ProgramHeader>, Me
 fn overfilled(headers: &[ProgramHeader]) -> Option<u32>
     ensures { result ≡ overfilled headers.now }
 {
-    headers.iter().find(|h| h.p_memsz < h.p_filesz).map(|h| h.offset)
+    headers
+        .iter()
+        .find(|h| h.p_memsz < h.p_filesz)
+        .map(|h| h.offset)
 }
 
 #[tactic(auto, unfolding(crate::specs::Refusals::unfilled))]
@@ -105,7 +108,6 @@ fn shared(headers: &[ProgramHeader], loaded: &RangeTable<Segment>) -> Option<u32
     requires low { All (λ h. h.p_vaddr + h.p_memsz ≤ stacks_begin) headers.now }
     requires some { All (λ h. 0 < h.p_memsz) headers.now }
     requires ascending { AllPairs (λ g h. g.offset < h.offset) headers.now }
-    requires few { length headers.now < 2 ^ 32 }
     ensures { result ≡ shared headers.now }
 {
     for (index, header) in headers.iter().enumerate() {
@@ -113,7 +115,7 @@ fn shared(headers: &[ProgramHeader], loaded: &RangeTable<Segment>) -> Option<u32
             start: header.p_vaddr,
             end: u64::from(header.p_vaddr) + u64::from(header.p_memsz),
         };
-        if !loaded.is_first(range, index as u32) {
+        if !loaded.is_first(range, index) {
             return Some(header.offset);
         }
     }
@@ -122,7 +124,10 @@ fn shared(headers: &[ProgramHeader], loaded: &RangeTable<Segment>) -> Option<u32
 
 /// The segments of the file, where their headers are as they must be.
 #[tactic(auto, unfolding(crate::specs::Reading::segments_of))]
-pub(crate) fn read_segments(alloc: Global, file: &[u8]) -> Result<RangeTable<Segment>, Fail<ElfFault>>
+pub(crate) fn read_segments(
+    alloc: Global,
+    file: &[u8],
+) -> Result<RangeTable<Segment>, Fail<ElfFault>>
     requires small { length file.now ≤ 2 ^ 26 }
     requires checked { header_of file.now ≡ Ok tt }
     ensures value { Gives (λ all. all) result (after (segments_of file.now) (segments file.now)) }

@@ -35,7 +35,10 @@ fn bytes_of<'a>(file: &'a [u8], header: &SectionHeader) -> &'a [u8]
     if !has_bytes(header) {
         return &[];
     }
-    front(behind(file, header.sh_offset as usize), header.sh_size as usize)
+    front(
+        behind(file, header.sh_offset as usize),
+        header.sh_size as usize,
+    )
 }
 
 /// The bytes of the section with that index, and none where there is no such section.

@@ -2,7 +2,7 @@
 use Rattle.std.proofs.Common.{◌≡◌, ℕ, zero, suc, ◌+◌, ◌<◌, ◌≤◌, List, [], ◌∷◌, ◌++◌, length, map, get_or, take, replicate, Vec, Some, None, slice_get, refl, sym, ap, ap₂, ◌∙◌, arith, append-nil, take_all}
 use Rattle.std.proofs.lemmas.List.{map-append, take_more}
 use Rattle.std.proofs.lemmas.List.Concat.{flat_map-append}
-use Rattle.elf_image.specs.Image.{Loaded}
+use Rattle.elf_image.specs.Image.{ProgramImage}
 use Rattle.scope_types.specs.declared.path.Entry.{Entry}
 use Rattle.scope_types.specs.CallPaths.{HartPath, path_of, each_path}
 use Rattle.hpc_top.specs.PathCounts.{Counted, words_path, each_words}
@@ -15,11 +15,11 @@ map-replicate : {X Y : Type 0} (f : X → Y) (n : ℕ) (x : X) → map f (replic
 map-replicate f zero x = refl
 map-replicate {X} {Y} f (suc n) x = ap (λ (l : List Y). f x ∷ l) (map-replicate f n x)
 
-pub no_entries : (A : Type 0) (image : Loaded) → each_path [] ≡ map (words_path image) (each_words {A = A} [])
+pub no_entries : (A : Type 0) (image : ProgramImage) → each_path [] ≡ map (words_path image) (each_words {A = A} [])
 unfolding each_path each_words
 no_entries A image = refl
 
-module _ {A : Type 0} (image : Loaded) where
+module _ {A : Type 0} (image : ProgramImage) where
   words_parts : (cs : Counted A) (c : Vec ℕ A × ℕ) → each_words (cs ++ c ∷ []) ≡ each_words cs ++ replicate c.1 c.0.items
   unfolding each_words
   words_parts cs c = let f : Vec ℕ A × ℕ → List (List ℕ) = λ c. replicate c.1 c.0.items in flat_map-append f cs (c ∷ []) ∙ ap (λ (l : List (List ℕ)). each_words cs ++ l) (append-nil (f c))

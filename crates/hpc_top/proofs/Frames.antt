@@ -3,7 +3,7 @@ use Rattle.std.proofs.Common.{◌≡◌, ℕ, ◌+◌, ◌-◌, ◌<◌, ◌≤�
 use Rattle.std.specs.List.{flat_map}
 use Rattle.std.proofs.lemmas.List.{take_more, length-reverse, get_or-reverse}
 use Rattle.std.proofs.lemmas.List.Concat.{flat_map-append}
-use Rattle.elf_image.specs.Image.{Loaded}
+use Rattle.elf_image.specs.Image.{ProgramImage}
 use Rattle.scope_types.specs.declared.scope.RootKind.{RootKind}
 use Rattle.scope_types.specs.declared.scope.LineId.TheVariants.{Address}
 use Rattle.scope_types.specs.declared.scope.Scope.{Scope}
@@ -12,10 +12,10 @@ use Rattle.scope_types.specs.Expansion.{expansion, frame_scopes}
 use Rattle.hpc_top.specs.Samples.{found_at, procedure_at}
 
 -- the scopes of callers, outermost first
-abbrev pub caller_scopes : Loaded → List ℕ → List Scope
+abbrev pub caller_scopes : ProgramImage → List ℕ → List Scope
 caller_scopes image callers = flat_map (λ caller. frame_scopes Call (found_at image caller)) callers
 
-pub one_caller_more : (image : Loaded) (root : RootKind) (callers : List ℕ) (k caller : ℕ) (before after : List Scope) → k < length callers → caller ≡ get_or callers (length callers - 1 - k) 0
+pub one_caller_more : (image : ProgramImage) (root : RootKind) (callers : List ℕ) (k caller : ℕ) (before after : List Scope) → k < length callers → caller ≡ get_or callers (length callers - 1 - k) 0
     → before ≡ Root root ∷ caller_scopes image (take k (reverse callers)) → after ≡ before ++ Proc (procedure_at image caller) ∷ Call (Address caller) ∷ []
     → after ≡ Root root ∷ caller_scopes image (take (k + 1) (reverse callers))
 one_caller_more image root callers k caller before after lt is so_far one =
@@ -26,16 +26,16 @@ one_caller_more image root callers k caller before after lt is so_far one =
     ∙ flat_map-append f (take k (reverse callers)) (caller ∷ []) ∙ ap (λ (l : List Scope). caller_scopes image (take k (reverse callers)) ++ l) (append-nil (f caller)) in
     one ∙ ap (λ (l : List Scope). l ++ f caller) so_far ∙ ap (λ (l : List Scope). Root root ∷ l) (sym more)
 
-pub no_frames : (image : Loaded) (root : RootKind) (scopes : List Scope) → scopes ≡ Root root ∷ [] → scopes ≡ expansion (found_at image) root []
+pub no_frames : (image : ProgramImage) (root : RootKind) (scopes : List Scope) → scopes ≡ Root root ∷ [] → scopes ≡ expansion (found_at image) root []
 no_frames image root scopes is = is
 
-whole_path : (image : Loaded) (root : RootKind) (pc : ℕ) (callers : List ℕ) (k : ℕ) (before after : List Scope) → length callers ≤ k → before ≡ Root root ∷ caller_scopes image (take k (reverse callers))
+whole_path : (image : ProgramImage) (root : RootKind) (pc : ℕ) (callers : List ℕ) (k : ℕ) (before after : List Scope) → length callers ≤ k → before ≡ Root root ∷ caller_scopes image (take k (reverse callers))
     → after ≡ before ++ Proc (procedure_at image pc) ∷ Stmt (Address pc) ∷ [] → after ≡ expansion (found_at image) root (pc ∷ callers)
 whole_path image root pc callers k before after le so_far one =
     one ∙ ap (λ (l : List Scope). l ++ Proc (procedure_at image pc) ∷ Stmt (Address pc) ∷ []) (so_far ∙ ap (λ (l : List ℕ). Root root ∷ caller_scopes image l) (take_all k (reverse callers) (let l = length-reverse callers in omega (arith, l, le))))
 
 -- the innermost counter and its callers, as parts of all
-pub whole_slice : (image : Loaded) (root : RootKind) (pcs : List ℕ) (k : ℕ) (before after : List Scope) → 1 ≤ length pcs → length (take (length pcs - 1) (drop 1 pcs)) ≤ k
+pub whole_slice : (image : ProgramImage) (root : RootKind) (pcs : List ℕ) (k : ℕ) (before after : List Scope) → 1 ≤ length pcs → length (take (length pcs - 1) (drop 1 pcs)) ≤ k
     → before ≡ Root root ∷ caller_scopes image (take k (reverse (take (length pcs - 1) (drop 1 pcs))))
     → after ≡ before ++ Proc (procedure_at image (get_or pcs 0 0)) ∷ Stmt (Address (get_or pcs 0 0)) ∷ [] → after ≡ expansion (found_at image) root pcs
 whole_slice image root [] k before after some le so_far one = absurd (omega arith)

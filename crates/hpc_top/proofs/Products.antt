@@ -5,7 +5,7 @@ use Rattle.std.proofs.lemmas.List.{length-map}
 use Rattle.prof_bytes.specs.declared.fail.Fail.{Fail}
 use Rattle.prof_bytes.specs.declared.fail.Fail.TheVariants as fails
 use Rattle.prof_bytes.specs.Outcome.{◌>>=◌, FailsBy}
-use Rattle.elf_image.specs.Image.{Loaded}
+use Rattle.elf_image.specs.Image.{ProgramImage}
 use Rattle.scope_types.specs.CallPaths.{HartPath}
 use Rattle.scope_types.specs.declared.frame.End.{End}
 use Rattle.scope_types.specs.declared.frame.End.TheVariants as ends
@@ -47,18 +47,18 @@ root_again (ends.Partial causes.Expression) = refl
 root_again (ends.Partial causes.Unmapped) = refl
 root_again (ends.Partial causes.Depth) = refl
 
-path_again : (image : Loaded) (s : Sample) → words_path image (sample_words s) ≡ sample_path image s
+path_again : (image : ProgramImage) (s : Sample) → words_path image (sample_words s) ≡ sample_path image s
 path_again image s = ap (λ (root : RootKind). record { hart = s.hart; path = expansion (found_at image) root (map pc_of s.path.frames) }) (root_again s.path.end)
 
 count_by-map : {X Y : Type 0} (t : Y → Bool) (f : X → Y) (xs : List X) → count_by t (map f xs) ≡ count_by (λ x. t (f x)) xs
 count_by-map t f [] = refl
 count_by-map t f (x ∷ xs) = count_by-cons t (f x) (map f xs) ∙ ap (λ (n : ℕ). one (t (f x)) + n) (count_by-map t f xs) ∙ sym (count_by-cons (λ x. t (f x)) x xs)
 
-paths_again : (image : Loaded) (all : List Sample) → map (words_path image) (map sample_words all) ≡ map (sample_path image) all
+paths_again : (image : ProgramImage) (all : List Sample) → map (words_path image) (map sample_words all) ≡ map (sample_path image) all
 paths_again image [] = refl
 paths_again image (s ∷ all) = ap₂ (λ (p : HartPath) (ps : List HartPath). p ∷ ps) (path_again image s) (paths_again image all)
 
-alike_paths : {A : Type 0} (image : Loaded) (counted : Counted A) (all : List Sample) (ps : List HartPath) → AreCounted counted (map sample_words all) → ps ≡ map (words_path image) (each_words counted) → Alike ps (map (sample_path image) all)
+alike_paths : {A : Type 0} (image : ProgramImage) (counted : Counted A) (all : List Sample) (ps : List HartPath) → AreCounted counted (map sample_words all) → ps ≡ map (words_path image) (each_words counted) → Alike ps (map (sample_path image) all)
 alike_paths image counted all ps counts is =
     record {
       same = λ t.
@@ -99,7 +99,7 @@ text_named period harts naming ps final names table text named tabled is =
 -- ---- the paths of samples that were counted
 
 -- paths that are as many as samples that were taken
-pub few_alike : (path_of : Paths) (image : Loaded) (ps : List HartPath) (old new : Sampling) → AllExpanded path_of image ps old new → length ps ≤ 2 ^ 20
+pub few_alike : (path_of : Paths) (image : ProgramImage) (ps : List HartPath) (old new : Sampling) → AllExpanded path_of image ps old new → length ps ≤ 2 ^ 20
 few_alike path_of image ps old new expanded =
     let whole : List Sample = samples_to_come path_of old in
     let same = long_alike ps (map (sample_path image) whole) expanded.alike in
@@ -119,7 +119,7 @@ few_alike path_of image ps old new expanded =
     within_limit all few = at_most most_samples (length all) (by_tests (nat_lt most_path_frames (frame_count (take most_samples all))) (nat_lt most_samples (length all)) all all (few_scopes image) few)
 
 -- too many samples or frames
-pub refused_samples : (path_of : Paths) (image : Loaded) (old : Sampling) (fail : Fail InputFault) → Refuses path_of fail old → FailsBy fail (taken path_of image old)
+pub refused_samples : (path_of : Paths) (image : ProgramImage) (old : Sampling) (fail : Fail InputFault) → Refuses path_of fail old → FailsBy fail (taken path_of image old)
 refused_samples path_of image old (fails.Fault fault) many = ap (λ (r : Result (List Sample) InputFault). r >>= few_scopes image) many
 refused_samples path_of image old fails.Memory many = tt
 
@@ -127,7 +127,7 @@ refused_samples path_of image old fails.Memory many = tt
 abbrev by_scopes : Bool → List Sample → Result (List Sample) InputFault
 by_scopes many all = if many then Err TooManyScopes else Ok all
 
-taken_by_scopes : (path_of : Paths) (image : Loaded) (found : PathCounts) (old new : Sampling) (many : Bool) → AllCollected path_of found old new → many ≡ nat_lt most_path_scopes (length (words_in found.counts.entries) + 2 * found.frames)
+taken_by_scopes : (path_of : Paths) (image : ProgramImage) (found : PathCounts) (old new : Sampling) (many : Bool) → AllCollected path_of found old new → many ≡ nat_lt most_path_scopes (length (words_in found.counts.entries) + 2 * found.frames)
     → taken path_of image old ≡ by_scopes many (samples_to_come path_of old)
 taken_by_scopes path_of image found old new many collected is =
     let whole : List Sample = samples_to_come path_of old in
@@ -136,13 +136,13 @@ taken_by_scopes path_of image found old new many collected is =
     ap (λ (r : Result (List Sample) InputFault). r >>= few_scopes image) collected.few ∙ ap (λ (b : Bool). by_scopes b whole) (ap (nat_lt most_path_scopes) (sym total) ∙ sym is)
 
 -- too many scopes
-pub refused_scopes : (path_of : Paths) (image : Loaded) (found : PathCounts) (old new : Sampling) (many : Bool) → AllCollected path_of found old new → many ≡ nat_lt most_path_scopes (length (words_in found.counts.entries) + 2 * found.frames)
+pub refused_scopes : (path_of : Paths) (image : ProgramImage) (found : PathCounts) (old new : Sampling) (many : Bool) → AllCollected path_of found old new → many ≡ nat_lt most_path_scopes (length (words_in found.counts.entries) + 2 * found.frames)
     → many ≡ true → taken path_of image old ≡ Err TooManyScopes
 refused_scopes path_of image found old new many collected is too_many =
     taken_by_scopes path_of image found old new many collected is ∙ ap (λ (b : Bool). by_scopes b (samples_to_come path_of old)) too_many
 
 -- the paths of all
-pub all_expanded : (path_of : Paths) (image : Loaded) (found : PathCounts) (old new : Sampling) (many : Bool) (ps : List HartPath) → AllCollected path_of found old new
+pub all_expanded : (path_of : Paths) (image : ProgramImage) (found : PathCounts) (old new : Sampling) (many : Bool) (ps : List HartPath) → AllCollected path_of found old new
     → many ≡ nat_lt most_path_scopes (length (words_in found.counts.entries) + 2 * found.frames) → many ≡ false → ps ≡ map (words_path image) (each_words found.counts.entries) → AllExpanded path_of image ps old new
 all_expanded path_of image found old new many ps collected is few paths =
     record {
@@ -154,10 +154,10 @@ all_expanded path_of image found old new many ps collected is few paths =
 -- ---- what is made of samples that are to come
 
 -- the product of samples that are taken
-abbrev made_from : ℕ → ℕ → Loaded → MachineState → List Sample → Result Product InputFault
+abbrev made_from : ℕ → ℕ → ProgramImage → MachineState → List Sample → Result Product InputFault
 made_from period harts image final all = Ok (product_from period harts (naming_of image) (map (sample_path image) all) final)
 
-module _ (path_of : Paths) (period harts : ℕ) (image : Loaded) (old : Sampling) (same : period ≡ old.period) where
+module _ (path_of : Paths) (period harts : ℕ) (image : ProgramImage) (old : Sampling) (same : period ≡ old.period) where
   -- the limits come first, in one step or in two
   in_two : (final : MachineState) (few : Result (List Sample) InputFault) → (few >>= λ all. few_scopes image all >>= made_from period harts image final) ≡ ((few >>= few_scopes image) >>= made_from period harts image final)
   in_two final (Ok all) = refl

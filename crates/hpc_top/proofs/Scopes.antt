@@ -3,7 +3,7 @@ use Rattle.std.proofs.Common.{◌≡◌, ℕ, ◌+◌, ◌*◌, List, [], ◌∷
 use Rattle.std.specs.List.{flat_map}
 use Rattle.std.proofs.lemmas.List.{length-append, length-map, length-reverse}
 use Rattle.std.proofs.lemmas.List.Sums.{sum_by-cons}
-use Rattle.elf_image.specs.Image.{Loaded}
+use Rattle.elf_image.specs.Image.{ProgramImage}
 use Rattle.scope_types.specs.declared.scope.RootKind.{RootKind}
 use Rattle.scope_types.specs.declared.scope.Scope.{Scope}
 use Rattle.scope_types.specs.declared.scope.Scope.TheVariants.{Call, Stmt}
@@ -12,11 +12,11 @@ use Rattle.sample_clock.specs.declared.clock.Sample.{Sample}
 use Rattle.hpc_top.specs.Samples.{found_at, root_of, pc_of, sample_path, distinct, frame_count, scope_count}
 use Rattle.hpc_top.specs.PathCounts.{Counted, words_in}
 
-callers_long : (image : Loaded) (callers : List ℕ) → length (flat_map (λ caller. frame_scopes Call (found_at image caller)) callers) ≡ 2 * length callers
+callers_long : (image : ProgramImage) (callers : List ℕ) → length (flat_map (λ caller. frame_scopes Call (found_at image caller)) callers) ≡ 2 * length callers
 callers_long image [] = refl
 callers_long image (caller ∷ callers) = let rest = callers_long image callers in omega (arith, rest)
 
-path_long : (image : Loaded) (root : RootKind) (pcs : List ℕ) → length (expansion (found_at image) root pcs) ≡ 1 + 2 * length pcs
+path_long : (image : ProgramImage) (root : RootKind) (pcs : List ℕ) → length (expansion (found_at image) root pcs) ≡ 1 + 2 * length pcs
 path_long image root [] = refl
 path_long image root (pc ∷ callers) =
     let front : List Scope = flat_map (λ caller. frame_scopes Call (found_at image caller)) (reverse callers) in
@@ -25,7 +25,7 @@ path_long image root (pc ∷ callers) =
     let long = length-reverse callers in
     omega (arith, all, many, long)
 
-scopes_are : (image : Loaded) (ss : List Sample) → sum_by (λ s. length (sample_path image s).path) ss ≡ length ss + 2 * sum_by (λ s. length s.path.frames) ss
+scopes_are : (image : ProgramImage) (ss : List Sample) → sum_by (λ s. length (sample_path image s).path) ss ≡ length ss + 2 * sum_by (λ s. length s.path.frames) ss
 scopes_are image [] = refl
 scopes_are image (s ∷ ss) =
     let a = sum_by-cons (λ (t : Sample). length (sample_path image t).path) s ss in
@@ -35,7 +35,7 @@ scopes_are image (s ∷ ss) =
     let e = scopes_are image ss in
     omega (arith, a, b, c, d, e)
 
-pub scope_total : (image : Loaded) (all : List Sample) → scope_count image all ≡ length (distinct all) + 2 * frame_count all
+pub scope_total : (image : ProgramImage) (all : List Sample) → scope_count image all ≡ length (distinct all) + 2 * frame_count all
 scope_total image all = scopes_are image (distinct all)
 
 pub kept_long : {A : Type 0} (counted : Counted A) → length (words_in counted) ≡ length counted

@@ -1,16 +1,16 @@
 -- Function symbols that are looked for in a list.
 use Rattle.std.proofs.Common.{◌≡◌, ℕ, List, Some, None, find, map, take, option_map, codes, ◌==◌, sym, ◌∙◌}
 use Rattle.elf_image.specs.declared.part.Function.{Function}
-use Rattle.elf_image.specs.Image.{Called, Loaded, called}
+use Rattle.elf_image.specs.Image.{FunctionSymbol, ProgramImage, symbol_view}
 use Rattle.elf_image.proofs.Tables.{find_map}
 use Rattle.hpc_top.specs.Profile.{most_name, symbol_name}
 
-pub symbol_is : (image : Loaded) (fs : List Function) (start : ℕ) (f : Function) → map called fs ≡ image.functions → find (λ function. function.start == start) fs ≡ Some f → take most_name f.name.now ≡ symbol_name (find (λ function. function.start == start) image.functions)
+pub symbol_is : (image : ProgramImage) (fs : List Function) (start : ℕ) (f : Function) → map symbol_view fs ≡ image.functions → find (λ function. function.start == start) fs ≡ Some f → take most_name f.name.now ≡ symbol_name (find (λ function. function.start == start) image.functions)
 symbol_is image fs start f seen found =
-    (λ i. symbol_name (option_map called (sym found i))) ∙ (λ i. symbol_name (sym (find_map (λ (c : Called). c.start == start) called fs) i)) ∙ (λ i. symbol_name (find (λ (c : Called). c.start == start) (seen i)))
+    (λ i. symbol_name (option_map symbol_view (sym found i))) ∙ (λ i. symbol_name (sym (find_map (λ (c : FunctionSymbol). c.start == start) symbol_view fs) i)) ∙ (λ i. symbol_name (find (λ (c : FunctionSymbol). c.start == start) (seen i)))
 
-pub symbol_none : (image : Loaded) (fs : List Function) (start : ℕ) → map called fs ≡ image.functions → find (λ function. function.start == start) fs ≡ None → codes "<unnamed>" ≡ symbol_name (find (λ function. function.start == start) image.functions)
+pub symbol_none : (image : ProgramImage) (fs : List Function) (start : ℕ) → map symbol_view fs ≡ image.functions → find (λ function. function.start == start) fs ≡ None → codes "<unnamed>" ≡ symbol_name (find (λ function. function.start == start) image.functions)
 symbol_none image fs start seen found =
-    (λ i. symbol_name (option_map called (sym found i))) ∙ (λ i. symbol_name (sym (find_map (λ (c : Called). c.start == start) called fs) i)) ∙ (λ i. symbol_name (find (λ (c : Called). c.start == start) (seen i)))
+    (λ i. symbol_name (option_map symbol_view (sym found i))) ∙ (λ i. symbol_name (sym (find_map (λ (c : FunctionSymbol). c.start == start) symbol_view fs) i)) ∙ (λ i. symbol_name (find (λ (c : FunctionSymbol). c.start == start) (seen i)))
 
 pub ruleset symbol_steps = (symbol_is, symbol_none)

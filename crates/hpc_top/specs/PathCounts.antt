@@ -17,7 +17,7 @@ use Rattle.scope_types.specs.declared.scope.RootKind.TheVariants.{Thread, Partia
 use Rattle.scope_types.specs.CallPaths.{HartPath, each_path}
 use Rattle.scope_types.specs.declared.path.Entry.{Entry}
 use Rattle.scope_types.specs.Expansion.{expansion}
-use Rattle.elf_image.specs.Image.{Loaded}
+use Rattle.elf_image.specs.Image.{ProgramImage}
 use Rattle.tree_types.specs.Laws.{Alike}
 use Rattle.hpc_top.specs.Samples.{found_at, sample_path, sample_words, distinct, frame_count, most_path_frames, few_samples, few_scopes}
 
@@ -44,7 +44,7 @@ root_from zero = Thread
 root_from (suc n) = Partial
 
 -- the call path of these words
-abbrev pub words_path : Loaded → List ℕ → HartPath
+abbrev pub words_path : ProgramImage → List ℕ → HartPath
 words_path image (hart ∷ end ∷ pcs) = record { hart = hart; path = expansion (found_at image) (root_from end) pcs }
 words_path image words = record { hart = 0; path = [] }
 
@@ -120,16 +120,16 @@ Collects path_of (Err fail) old new = Refuses path_of fail old
 -- ---- paths that are expanded
 
 -- the samples that are to come, unless there are too many of them, of their frames or of their scopes
-abbrev pub taken : Paths → Loaded → Sampling → Result (List Sample) InputFault
+abbrev pub taken : Paths → ProgramImage → Sampling → Result (List Sample) InputFault
 taken path_of image s = few_samples (samples_to_come path_of s) >>= few_scopes image
 
 -- no limit is passed, these are the call paths of the samples in any order, and the machine stands at the end of its run
-pub record AllExpanded (path_of : Paths) (image : Loaded) (paths : List HartPath) (old new : Sampling) : Type 0 where
+pub record AllExpanded (path_of : Paths) (image : ProgramImage) (paths : List HartPath) (old new : Sampling) : Type 0 where
   pub few : taken path_of image old ≡ Ok (samples_to_come path_of old)
   pub alike : Alike paths (map (sample_path image) (samples_to_come path_of old))
   pub ended : new.machine.state ≡ (to_come old.machine).final
 
 -- what expanding the paths of the samples gives
-abbrev pub Expands : Paths → Loaded → Result (List Entry) (Fail InputFault) → Sampling → Sampling → Type 0
+abbrev pub Expands : Paths → ProgramImage → Result (List Entry) (Fail InputFault) → Sampling → Sampling → Type 0
 Expands path_of image (Ok entries) old new = AllExpanded path_of image (each_path entries) old new
 Expands path_of image (Err fail) old new = FailsBy fail (taken path_of image old)

@@ -3,7 +3,7 @@ use Rattle.std.specs.Prelude.{ℕ, List, length, map, take, count_by, find, Opti
 use Rattle.prof_bytes.specs.Outcome.{◌>>=◌}
 use Rattle.scope_types.specs.CallPaths.{HartPath}
 use Rattle.elf_image.specs.declared.fault.ElfFault.{ElfFault}
-use Rattle.elf_image.specs.Image.{Called, Loaded, bytes_of_name}
+use Rattle.elf_image.specs.Image.{FunctionSymbol, ProgramImage, bytes_of_name}
 use Rattle.elf_image.specs.Reading.{image_of}
 use Rattle.cfi_table.specs.declared.frames.FrameFault.{FrameFault}
 use Rattle.cfi_table.specs.Frames.{frames_of, Frames as Described}
@@ -41,11 +41,11 @@ scheduled_from (Err fault) = Err (Schedule fault.line)
 abbrev pub scheduled : List ℕ → Result Scheduled InputFault
 scheduled bytes = scheduled_from (schedule_of bytes)
 
-abbrev pub program_from : Result Loaded ElfFault → Result Loaded InputFault
+abbrev pub program_from : Result ProgramImage ElfFault → Result ProgramImage InputFault
 program_from (Ok image) = Ok image
 program_from (Err fault) = Err (Program fault)
 
-abbrev pub program : List ℕ → Result Loaded InputFault
+abbrev pub program : List ℕ → Result ProgramImage InputFault
 program elf = program_from (image_of elf)
 
 -- the call frame information
@@ -53,11 +53,11 @@ abbrev pub frames_from : Result Described FrameFault → Result Described InputF
 frames_from (Ok described) = Ok described
 frames_from (Err fault) = Err (Frames fault.offset)
 
-abbrev pub frame_information : Loaded → Result Described InputFault
+abbrev pub frame_information : ProgramImage → Result Described InputFault
 frame_information image = frames_from (frames_of (bytes_of_name image.sections (codes ".debug_frame")) image.segments)
 
 -- a program with debug information is not taken yet
-abbrev pub no_entries : Loaded → Result (Unit {0}) InputFault
+abbrev pub no_entries : ProgramImage → Result (Unit {0}) InputFault
 no_entries image = if length (bytes_of_name image.sections (codes ".debug_info")) == 0 then Ok tt else Err (Unbuilt parts.Entries 0)
 
 -- ---- names
@@ -66,18 +66,18 @@ abbrev pub most_name : ℕ
 most_name = 4096
 
 -- a function symbol's name, cut
-abbrev pub symbol_name : Option Called → List ℕ
+abbrev pub symbol_name : Option FunctionSymbol → List ℕ
 symbol_name (Some function) = take most_name function.name
 symbol_name None = codes "<unnamed>"
 
 -- a procedure is called as the first function symbol that starts where it does
-abbrev pub proc_name_in : Loaded → ProcId → List ℕ
+abbrev pub proc_name_in : ProgramImage → ProcId → List ℕ
 proc_name_in image (procs.Sym start) = symbol_name (find (λ function. function.start == start) image.functions)
 proc_name_in image (procs.Die offset) = codes "<unnamed>"
 proc_name_in image procs.Nameless = codes "<unknown procedure>"
 
 -- how procedures and files are called, where no line is known
-abbrev pub naming_of : Loaded → Naming
+abbrev pub naming_of : ProgramImage → Naming
 naming_of image = record { proc_name = proc_name_in image; file_name = λ table file. codes "<unknown file>" }
 
 -- ---- the product
@@ -102,7 +102,7 @@ product_from period harts naming paths final = record {
 }
 
 -- of the samples of a run, unless there are too many of them, their frames or their scopes
-abbrev pub product_of : Paths → ℕ → ℕ → Loaded → Run → Result Product InputFault
+abbrev pub product_of : Paths → ℕ → ℕ → ProgramImage → Run → Result Product InputFault
 product_of path_of period harts image run = do
   samples ← sampled path_of period run
   samples ← few_scopes image samples

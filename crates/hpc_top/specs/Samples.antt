@@ -13,7 +13,7 @@ use Rattle.scope_types.specs.declared.scope.ProcId.TheVariants.{Nameless, Sym}
 use Rattle.scope_types.specs.declared.scope.LineId.TheVariants.{Address}
 use Rattle.scope_types.specs.CallPaths.{HartPath}
 use Rattle.scope_types.specs.Expansion.{FoundAt, expansion}
-use Rattle.elf_image.specs.Image.{Called, Loaded, in_function}
+use Rattle.elf_image.specs.Image.{FunctionSymbol, ProgramImage, in_function}
 use Rattle.sample_clock.specs.declared.clock.Sample.{Sample}
 use Rattle.sample_clock.specs.Samples.{Paths, samples, most_samples}
 use Rattle.rv_run.specs.Run.{Run}
@@ -23,16 +23,16 @@ use Rattle.hpc_top.specs.declared.status.InputFault.TheVariants.{TooManySamples,
 -- ---- call paths
 
 -- a function symbol's procedure
-abbrev pub procedure_of : Option Called → ProcId
+abbrev pub procedure_of : Option FunctionSymbol → ProcId
 procedure_of (Some function) = Sym function.start
 procedure_of None = Nameless
 
 -- the procedure at an address, by the first function symbol that holds it
-abbrev pub procedure_at : Loaded → ℕ → ProcId
+abbrev pub procedure_at : ProgramImage → ℕ → ProcId
 procedure_at image address = procedure_of (find (in_function address) image.functions)
 
 -- what the symbols say of an address; no inlines and no line are known
-abbrev pub found_at : Loaded → ℕ → FoundAt
+abbrev pub found_at : ProgramImage → ℕ → FoundAt
 found_at image address = record { procedure = procedure_at image address; inlines = []; line = Address address }
 
 -- a path that ends whole begins at a thread's root, and any other among the partial ones
@@ -44,7 +44,7 @@ abbrev pub pc_of : Frame → ℕ
 pc_of frame = frame.pc
 
 -- the call path of a sample
-abbrev pub sample_path : Loaded → Sample → HartPath
+abbrev pub sample_path : ProgramImage → Sample → HartPath
 sample_path image s = record { hart = s.hart; path = expansion (found_at image) (root_of s.path.end) (map pc_of s.path.frames) }
 
 -- ---- distinct paths
@@ -78,7 +78,7 @@ distinct (s ∷ all) = s ∷ filter (λ t. not (has_path_of s t)) (distinct all)
 abbrev pub frame_count : List Sample → ℕ
 frame_count all = sum_by (λ s. length s.path.frames) (distinct all)
 
-abbrev pub scope_count : Loaded → List Sample → ℕ
+abbrev pub scope_count : ProgramImage → List Sample → ℕ
 scope_count image all = sum_by (λ s. length (sample_path image s).path) (distinct all)
 
 -- how many of them there may be
@@ -97,7 +97,7 @@ few_samples all =
     else if nat_lt most_samples (length all) then Err TooManySamples
     else Ok all
 
-abbrev pub few_scopes : Loaded → List Sample → Result (List Sample) InputFault
+abbrev pub few_scopes : ProgramImage → List Sample → Result (List Sample) InputFault
 few_scopes image all = if nat_lt most_path_scopes (scope_count image all) then Err TooManyScopes else Ok all
 
 abbrev pub sampled : Paths → ℕ → Run → Result (List Sample) InputFault

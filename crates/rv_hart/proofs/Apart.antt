@@ -7,7 +7,7 @@ use Rattle.std.proofs.Math.Bool.{and-false}
 use Rattle.std.proofs.lemmas.List.FromFn.{map-range_with_len_more}
 use Rattle.std.proofs.lemmas.List.Quantifiers.{all_pairs_push}
 use Rattle.elf_image.specs.declared.part.Segment.{Segment}
-use Rattle.elf_image.specs.Image.{Loaded, IsLoaded, in_segment, are_apart, stacks_begin}
+use Rattle.elf_image.specs.Image.{ProgramImage, IsLoaded, in_segment, are_apart, stacks_begin}
 use Rattle.rv_hart.specs.declared.kept.Kept.{Kept}
 use Rattle.rv_hart.specs.Memory.{regions_of, stack_of, first_byte}
 use Rattle.rv_hart.specs.Pages.{Paged, nowhere, page_in}
@@ -101,13 +101,13 @@ stacks-more xs segments hart s are is =
     ∙ ap (λ (a : List Segment). segments ++ a) (sym (map-range_with_len_more stack_of 0 hart hart (omega arith)))
 
 -- the program's segments, and no stack
-stacked-none : (program : Loaded) → IsLoaded program → IsStacked 0 program.segments
+stacked-none : (program : ProgramImage) → IsLoaded program → IsStacked 0 program.segments
 stacked-none program is = record {
   pairs = is.apart;
   below = λ k d few. let low : (get_or program.segments k d).end ≤ stacks_begin = (is.within k d few).low in omega arith;
 }
 
-stacked-all : (program : Loaded) (count : ℕ) → IsLoaded program → IsStacked count (regions_of program count)
+stacked-all : (program : ProgramImage) (count : ℕ) → IsLoaded program → IsStacked count (regions_of program count)
 stacked-all program zero is = subst (IsStacked 0) (sym (append-nil program.segments)) (stacked-none program is)
 stacked-all program (suc count) is =
     let more : IsStacked (count + 1) (regions_of program (count + 1)) =
@@ -121,7 +121,7 @@ nowhere-home regions at held =
     absurd cc
 
 -- what a program's memory begins as
-pub of-kept : (kept : Kept) (program : Loaded) (harts : ℕ) → IsLoaded program → harts ≤ 64 → kept.regions ≡ regions_of program harts → kept.blocks.items ≡ [] → IsKept kept × IsHome kept.regions nowhere
+pub of-kept : (kept : Kept) (program : ProgramImage) (harts : ℕ) → IsLoaded program → harts ≤ 64 → kept.regions ≡ regions_of program harts → kept.blocks.items ≡ [] → IsKept kept × IsHome kept.regions nowhere
 of-kept kept program harts is few regions blocks =
     let stacked : IsStacked harts (regions_of program harts) = stacked-all program harts is in
     let high : (at : ℕ) → 2 ^ 32 ≤ at → (k : ℕ) (d : Segment) → k < length (regions_of program harts) → in_segment at (get_or (regions_of program harts) k d) ≡ false =

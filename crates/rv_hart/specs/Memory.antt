@@ -4,7 +4,7 @@ use Rattle.std.specs.Prelude.{ℕ, ◌+◌, ◌-◌, ◌*◌, ◌/◌, ◌%◌, 
 use Rattle.std.specs.List.{find, range_with_len, list_all}
 use Rattle.prof_bytes.specs.Number.{number_in}
 use Rattle.elf_image.specs.declared.part.Segment.{Segment}
-use Rattle.elf_image.specs.Image.{Loaded, in_segment, stacks_begin}
+use Rattle.elf_image.specs.Image.{ProgramImage, in_segment, stacks_begin}
 
 -- how many addresses there are
 unfoldable pub addresses : ℕ
@@ -82,7 +82,7 @@ stack_of hart =
     record { start = stacks_begin + hart * 0x100000 + 0x80000; end = stacks_begin + (hart + 1) * 0x100000; flags = 6; offset = 0; filled = 0 }
 
 -- the program's segments and the stacks of so many harts
-abbrev pub regions_of : Loaded → ℕ → List Segment
+abbrev pub regions_of : ProgramImage → ℕ → List Segment
 regions_of program harts = program.segments ++ map stack_of (range_with_len 0 harts)
 
 abbrev pub byte_in : List ℕ → ℕ → Option Segment → ℕ
@@ -95,6 +95,6 @@ abbrev pub first_byte : List ℕ → List Segment → ℕ → ℕ
 first_byte file regions at = byte_in file at (region_at regions at)
 
 -- the memory of a program that was loaded, with stacks for so many harts
-abbrev pub first_memory : Loaded → ℕ → Memory
+abbrev pub first_memory : ProgramImage → ℕ → Memory
 first_memory program harts =
     record { regions = regions_of program harts; bytes = each_address (first_byte program.file (regions_of program harts)) }

@@ -3,7 +3,7 @@ use Rattle.std.proofs.Common.{◌≡◌, ℕ, zero, suc, ◌<◌, true, false, c
 use Rattle.std.specs.List.{AllByRecursion}
 use Rattle.std.proofs.lemmas.List.Elements.{recursion_from_All}
 use Rattle.std.proofs.lemmas.List.FromFn.{length-map-range_with_len}
-use Rattle.elf_image.specs.Image.{Loaded}
+use Rattle.elf_image.specs.Image.{ProgramImage}
 use Rattle.rv_run.specs.declared.schedule.Slice.{Slice}
 use Rattle.rv_run.specs.Schedule.{Scheduled, IsSchedule}
 use Rattle.rv_run.specs.State.{MachineState, first_hart, first_state, hart_of, is_running}
@@ -33,7 +33,7 @@ pub harts_stay : (slices : List Slice) (s : MachineState) → AreOf (length s.ha
 harts_stay slices s all = after_slices slices s (recursion_from_All (λ (slice : Slice). slice.hart < length s.harts) slices all)
 
 -- a machine at its start: as many stand at the end of its run as its schedule tells
-pub harts_told : (program : Loaded) (schedule : Scheduled) (input : List ℕ) (harts : ℕ) (board : MachineState) (left : List Slice) → IsSchedule schedule → harts ≡ schedule.harts → board ≡ first_state program harts input → left ≡ schedule.slices
+pub harts_told : (program : ProgramImage) (schedule : Scheduled) (input : List ℕ) (harts : ℕ) (board : MachineState) (left : List Slice) → IsSchedule schedule → harts ≡ schedule.harts → board ≡ first_state program harts input → left ≡ schedule.slices
     → length (run_slices left board).final.harts ≡ schedule.harts
 harts_told program schedule input harts board left is few state slices =
     harts_stay left board (ready-is program schedule input harts board left is few state slices).harts

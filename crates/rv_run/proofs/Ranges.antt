@@ -9,7 +9,7 @@ use Rattle.std.proofs.lemmas.List.FromFn.{get_or-range_with_len, length-range_wi
 use Rattle.rv_hart.proofs.Near.{all-range}
 use Rattle.std.proofs.lemmas.List.Sums.{AllPass-from_list_all}
 use Rattle.rv_hart.specs.Memory.{Memory, may, may_all, read, loaded, byte_at, number_at}
-use Rattle.elf_image.specs.Image.{Loaded}
+use Rattle.elf_image.specs.Image.{ProgramImage}
 use Rattle.rv_run.specs.declared.schedule.Slice.{Slice}
 use Rattle.rv_run.specs.Schedule.{Scheduled, IsSchedule, IsSlice}
 use Rattle.rv_run.specs.State.{HartState, MachineState, hart_in, first_hart, first_state, is_running}
@@ -97,11 +97,11 @@ first-running entry harts (n ∷ numbers) (suc hart) = first-running entry harts
 first-length : (entry harts : ℕ) → length (map (first_hart entry harts) (range_with_len 0 harts)) ≡ harts
 first-length entry harts = length-map-range_with_len (first_hart entry harts) 0 harts
 
-pub fresh-start : (program : Loaded) (harts : ℕ) (input : List ℕ) → harts ≤ 16 → IsFresh (first_state program harts input)
+pub fresh-start : (program : ProgramImage) (harts : ℕ) (input : List ℕ) → harts ≤ 16 → IsFresh (first_state program harts input)
 fresh-start program harts input few =
     record { few = omega (arith, first-length program.entry harts); none = λ hart. first-retired program.entry harts (range_with_len 0 harts) hart }
 
-pub ready-start : (program : Loaded) (schedule : Scheduled) (input : List ℕ) → IsSchedule schedule → IsReady (record { state = first_state program schedule.harts input; left = schedule.slices })
+pub ready-start : (program : ProgramImage) (schedule : Scheduled) (input : List ℕ) → IsSchedule schedule → IsReady (record { state = first_state program schedule.harts input; left = schedule.slices })
 ready-start program schedule input is =
     record {
       harts = λ k d few. subst (λ (n : ℕ). (get_or schedule.slices k d).hart < n) (sym (first-length program.entry schedule.harts)) (is.slices k d few).hart;
@@ -131,11 +131,11 @@ grouped-step f start harts i old new so_far less is made =
     ∙ grouped-one f start i old less
     ∙ ap (λ (n : ℕ). map f (take n start) ++ drop n start) (let e : suc i ≡ i + 1 = omega arith in e)
 
-pub ready-is : (program : Loaded) (schedule : Scheduled) (input : List ℕ) (harts : ℕ) (board : MachineState) (left : List Slice) → IsSchedule schedule → harts ≡ schedule.harts → board ≡ first_state program harts input → left ≡ schedule.slices
+pub ready-is : (program : ProgramImage) (schedule : Scheduled) (input : List ℕ) (harts : ℕ) (board : MachineState) (left : List Slice) → IsSchedule schedule → harts ≡ schedule.harts → board ≡ first_state program harts input → left ≡ schedule.slices
     → IsReady (record { state = board; left = left })
 ready-is program schedule input harts board left is few state slices =
     subst (λ (p : Progress). IsReady p) (ap₂ (λ (s : MachineState) (l : List Slice). record { state = s; left = l }) (sym (state ∙ ap (λ (n : ℕ). first_state program n input) few)) (sym slices)) (ready-start program schedule input is)
 
-pub fresh-is : (program : Loaded) (schedule : Scheduled) (input : List ℕ) (harts : ℕ) (board : MachineState) → IsSchedule schedule → harts ≡ schedule.harts → board ≡ first_state program harts input → IsFresh board
+pub fresh-is : (program : ProgramImage) (schedule : Scheduled) (input : List ℕ) (harts : ℕ) (board : MachineState) → IsSchedule schedule → harts ≡ schedule.harts → board ≡ first_state program harts input → IsFresh board
 fresh-is program schedule input harts board is few state =
     subst (λ (s : MachineState). IsFresh s) (sym (state ∙ ap (λ (n : ℕ). first_state program n input) few)) (fresh-start program schedule.harts input is.few)

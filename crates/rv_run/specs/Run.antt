@@ -1,7 +1,7 @@
 -- The run of a program under a schedule, as the list of its instructions in order, each with the state
 -- before it; and the state of the machine after them.
 use Rattle.std.specs.Prelude.{ℕ, zero, suc, ◌+◌, Bool, true, List, [], ◌∷◌, ◌++◌, if◌then◌else◌}
-use Rattle.elf_image.specs.Image.{Loaded}
+use Rattle.elf_image.specs.Image.{ProgramImage}
 use Rattle.rv_hart.specs.Memory.{Memory}
 use Rattle.rv_hart.specs.Step.{State, step_of}
 use Rattle.rv_hart.specs.declared.outcome.Stepped.{Stepped}
@@ -78,5 +78,5 @@ run_slices [] s = finished s
 run_slices (slice ∷ rest) s = joined (run_slice slice.count slice.hart s) (run_slices rest)
 
 -- the run of a program under a schedule, with this input
-abbrev pub run_of : Loaded → Scheduled → List ℕ → Run
+abbrev pub run_of : ProgramImage → Scheduled → List ℕ → Run
 run_of program schedule input = run_slices schedule.slices (first_state program schedule.harts input)

@@ -2,7 +2,7 @@
 -- and Harts"): the memory that they share, each hart, the input that was not read, and the output.
 use Rattle.std.specs.Prelude.{ℕ, ◌+◌, ◌-◌, ◌==◌, Bool, true, false, List, [], map, slice_set, if◌then◌else◌}
 use Rattle.std.specs.List.{range_with_len, slice_index_or}
-use Rattle.elf_image.specs.Image.{Loaded}
+use Rattle.elf_image.specs.Image.{ProgramImage}
 use Rattle.rv_hart.specs.Memory.{Memory, first_memory, stack_of}
 use Rattle.rv_hart.specs.Step.{State, state}
 use Rattle.rv_hart.specs.declared.outcome.Stepped.{Stepped}
@@ -67,6 +67,6 @@ first_hart entry harts hart =
     record { pc = entry; registers = map (first_register harts hart) (range_with_len 0 32); retired = 0; end = ends.Running }
 
 -- how a machine of so many harts begins to run a program with this input
-abbrev pub first_state : Loaded → ℕ → List ℕ → MachineState
+abbrev pub first_state : ProgramImage → ℕ → List ℕ → MachineState
 first_state program harts input =
     record { memory = first_memory program harts; harts = map (first_hart program.entry harts) (range_with_len 0 harts); input = input; output = [] }

@@ -1,9 +1,9 @@
-use Rattle.std.proofs.Common.{◌≡◌, Ok, arith, ap, refl, sym, ◌∙◌}
+use Rattle.std.proofs.Common.{◌≡◌, Ok, ap, refl, sym, ◌∙◌}
 use Rattle.elf_image.specs.declared.fault.ElfRule.TheVariants.{SegmentPlace}
 use Rattle.elf_image.specs.Headers.{loads, segments}
 use Rattle.elf_image.specs.Refusals.{shared}
 use Rattle.elf_image.specs.Reading.{refused_at, segments_of}
-use Rattle.elf_image.proofs.LoadHeaders.{loads_low, loads_take, loads_in_order, loads_few, segments_few, both_checked, segments_are, all_within, all_apart}
+use Rattle.elf_image.proofs.LoadHeaders.{loads_low, loads_take, loads_in_order, segments_few, both_checked, segments_are, all_within, all_apart}
 use Rattle.elf_image.proofs.program.read_segments.Goals as goal
 
 pub segments_of-requires : goal.segments_of-requires
@@ -17,12 +17,6 @@ shared-requires-clause-some c = rw (c.deref-3.ensures.value, c.in_ok-headers.ens
 
 pub shared-requires-clause-ascending : goal.shared-requires-clause-ascending
 shared-requires-clause-ascending c = rw (c.deref-3.ensures.value, c.in_ok-headers.ensures) (loads_in_order c.args.file.now)
-
-pub shared-requires-clause-few : goal.shared-requires-clause-few
-shared-requires-clause-few c = rw (c.deref-3.ensures.value, c.in_ok-headers.ensures) (let few = loads_few c.args.file.now c.requires.checked c.requires.small in omega arith)
-
-pub of-requires : goal.of-requires
-of-requires c = rw (c.in_ok-segments_of.ensures, c.deref-2.ensures.value, c.in_ok-headers.ensures, segments_are c.args.file.now) (let few = segments_few c.args.file.now c.requires.checked c.requires.small in omega arith)
 
 -- nothing was refused
 checked : (c : goal.After-drop-headers-2) → segments_of c.args.file.now ≡ Ok tt
