@@ -1,7 +1,11 @@
 -- Raw paths, as an unwinder finds them (HPCToolkit's manual, "Call Path Profiling").
-use Rattle.std.specs.Prelude.{ℕ, List, ◌≤◌, length}
+use Rattle.std.specs.Prelude.{ℕ, List, ◌≤◌, ◌==◌, ◌&&◌, length, Bool, true, false}
+use Rattle.std.specs.Cmp.Lexicographic.{pointwise}
 use Rattle.scope_types.specs.declared.frame.Frame.{Frame}
 use Rattle.scope_types.specs.declared.frame.End.{End}
+use Rattle.scope_types.specs.declared.frame.End.TheVariants.{Whole, Partial}
+use Rattle.scope_types.specs.declared.frame.PartialCause.{PartialCause}
+use Rattle.scope_types.specs.declared.frame.PartialCause.TheVariants.{NoFde, NoCfa, Expression, Unmapped, Depth}
 
 -- the frames from the innermost outwards, and how they end
 pub record Raw : Type 0 where
@@ -15,3 +19,26 @@ most_frames = 512
 pub record HasFrames (frames : List Frame) : Type 0 where
   pub some : 1 ≤ length frames
   pub few : length frames ≤ most_frames
+
+-- ---- which raw paths are the same
+
+abbrev pub same_cause : PartialCause → PartialCause → Bool
+same_cause NoFde NoFde = true
+same_cause NoCfa NoCfa = true
+same_cause Expression Expression = true
+same_cause Unmapped Unmapped = true
+same_cause Depth Depth = true
+same_cause a b = false
+
+-- both are whole, or both are partial for the same cause
+abbrev pub same_end : End → End → Bool
+same_end Whole Whole = true
+same_end (Partial a) (Partial b) = same_cause a b
+same_end a b = false
+
+abbrev pub same_frame : Frame → Frame → Bool
+same_frame a b = a.pc == b.pc
+
+-- their ends and their frames are the same
+abbrev pub same_raw : Raw → Raw → Bool
+same_raw a b = same_end a.end b.end && pointwise same_frame a.frames b.frames

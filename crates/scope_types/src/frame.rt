@@ -1,6 +1,7 @@
 ghost use Rattle.std.specs.Prelude.{◌≡◌};
 ghost use Rattle.scope_types.specs.Raw.{HasFrames};
 
+use std::hash::{Hash, Hasher};
 use std::marker::Model;
 
 /// One frame of a call path: the address of an instruction. In the innermost frame it is the sampled
@@ -50,6 +51,42 @@ impl Model for RawPath {
     ghost invariant = { λ path. HasFrames path.frames.items };
 }
 
+/// Two raw paths are equal where their ends and their frames are.
+impl PartialEq for RawPath {
+    ghost use Rattle.scope_types.specs.Raw.{same_raw};
+    ghost use Rattle.scope_types.specs.private.SameRaw.{raw_per};
+
+    ghost eq = { same_raw };
+
+    ghost laws = { raw_per };
+
+    #[tactic(auto, using(crate::specs::private::SameRaw::compared))]
+    fn eq(&self, other: &RawPath) -> bool {
+        self.end == other.end && self.frames.as_slice() == other.frames.as_slice()
+    }
+}
+
+impl Eq for RawPath {
+    ghost use Rattle.scope_types.specs.private.SameRaw.{raw_equiv};
+
+    ghost laws = { raw_equiv };
+}
+
+/// A raw path is hashed by its end and its frames.
+impl Hash for RawPath {
+    ghost use Rattle.scope_types.specs.private.SameRaw.{raw_writes, same_writes};
+
+    ghost hash_input = { raw_writes };
+
+    ghost respects_eq = { same_writes };
+
+    #[tactic(auto, using(crate::specs::private::SameRaw::writes_in_turn))]
+    fn hash<H: Hasher>(&self, state: &mut H) {
+        self.end.hash(state);
+        self.frames.as_slice().hash(state);
+    }
+}
+
 impl RawPath {
     /// The path of these frames. Takes no memory.
     pub fn of(end: End, frames: Vec<Frame>) -> RawPath
@@ -73,4 +110,11 @@ impl RawPath {
     {
         self.frames.as_slice()
     }
+}
+
+/// A raw path, and how many samples have it.
+#[derive(Debug, Drop)]
+pub struct Counted {
+    pub path: RawPath,
+    pub count: u32,
 }

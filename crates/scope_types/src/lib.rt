@@ -12,7 +12,7 @@ mod look;
 mod path;
 mod scope;
 
-pub use frame::{End, Frame, PartialCause, RawPath};
+pub use frame::{Counted, End, Frame, PartialCause, RawPath};
 pub use hash::key;
 pub use look::{Look, Unwind};
 pub use path::{Entry, ScopePath};
