@@ -2,7 +2,6 @@
 use Rattle.std.proofs.Common.{Bor, ◌≡◌, ◌≢◌, ℕ, ◌+◌, zero, suc, Bool, true, false, cond, List, [], ◌∷◌, length, map, Option, Some, None, refl, sym, ap, ◌∙◌, arith}
 use Rattle.std.specs.Prelude.{◌==◌, ◌&&◌, nat_le, All, IfSome, find, filter, option_map}
 use Rattle.std.specs.Option.{option_copied}
-use Rattle.elf_image.proofs.Tables.{find_map}
 use Rattle.cfi_table.specs.declared.entry.Entry.{Entry}
 use Rattle.cfi_table.specs.declared.cies.KnownCie.{KnownCie}
 use Rattle.elf_image.specs.declared.part.Segment.{Segment}
@@ -34,6 +33,14 @@ chain_rises (suc n) section at = go (nat_le (length section) at) (λ next. chain
     go : (b : Bool) → ((next : ℕ) → AreRising next (starts (again next))) → AreRising at (starts (cond b ([], None) (link at again (size_at section at))))
     go true rest = tt
     go false rest = linked (size_at section at) rest
+
+find_map : {X Y : Type 0} (p : Y → Bool) (f : X → Y) (xs : List X) → find p (map f xs) ≡ option_map f (find (λ x. p (f x)) xs)
+find_map p f [] = refl
+find_map {X} {Y} p f (x ∷ xs) = go (p (f x)) (find_map p f xs)
+  where
+    go : (b : Bool) → find p (map f xs) ≡ option_map f (find (λ x. p (f x)) xs) → cond b (Some (f x)) (find p (map f xs)) ≡ option_map f (cond b (Some x) (find (λ x. p (f x)) xs))
+    go true rest = refl
+    go false rest = rest
 
 find_filter : {X : Type 0} (p q : X → Bool) (xs : List X) → find p (filter q xs) ≡ find (λ x. p x && q x) xs
 find_filter p q [] = refl

@@ -11,7 +11,7 @@ use Rattle.cfi_table.specs.Instructions.{plain, factored, factored_signed, cfa_o
 
 pub record Moves (at next : At) : Type 0 where
   pub whole : next.whole ≡ at.whole
-  pub place : at.place ≤ next.place
+  pub place : at.offset ≤ next.offset
 
 abbrev pub AllMove : {X : Type 0} → At → Option (X × At) → Type 0
 AllMove at o = IfSome o (λ x. Moves at x.1)
@@ -106,7 +106,7 @@ all_moves f code at =
     (either at (code / 64 == 3) _ _ (stays at) (other_moves f code at)))
 
 -- an instruction ends behind its first byte
-pub instruction_moves : (f : Factors) (at next : At) (i : Instruction) → instruction_at f at ≡ Some (i, next) → (next.whole ≡ at.whole) × (at.place < next.place)
+pub instruction_moves : (f : Factors) (at next : At) (i : Instruction) → instruction_at f at ≡ Some (i, next) → (next.whole ≡ at.whole) × (at.offset < next.offset)
 unfolding instruction_at
 instruction_moves f at next i e = from (nat_lt (length (left_of at)) 1) (number_in 1 (left_of at)) e
   where
@@ -117,9 +117,9 @@ instruction_moves f at next i e = from (nat_lt (length (left_of at)) 1) (number_
     ends mid None e moves = absurd cc
     ends mid (Some x) e moves = let P : Instruction × At → Type 0 = λ y. Moves mid y.1 in subst P (some_is x (i, next) e) moves
 
-    from : (b : Bool) (n : ℕ) → (taken (reading at (cond b None (Some (n, 1)))) >>= λ code. instruction_of f code.0 code.1) ≡ Some (i, next) → (next.whole ≡ at.whole) × (at.place < next.place)
+    from : (b : Bool) (n : ℕ) → (taken (reading at (cond b None (Some (n, 1)))) >>= λ code. instruction_of f code.0 code.1) ≡ Some (i, next) → (next.whole ≡ at.whole) × (at.offset < next.offset)
     from true n e = absurd cc
     from false n e =
-        let mid : At = record { whole = at.whole; place = at.place + 1 } in
+        let mid : At = record { whole = at.whole; offset = at.offset + 1 } in
         let m = ends mid (instruction_of f n mid) e (all_moves f n mid) in
         (m.whole, let le = m.place in omega arith)

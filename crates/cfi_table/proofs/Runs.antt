@@ -38,12 +38,12 @@ pub kinds_more : (m : ℕ) (f : Factors) (at next : At) (k j : KindState) → 0 
 unfolding run_kinds
 kinds_more m f at next k j some is = rw (some_left _ some, is) refl
 
-pub kinds_fault : (m : ℕ) (f : Factors) (at : At) (k : KindState) → 0 < length (left_of at) → step_kinds f at k ≡ None → run_kinds (suc m) f at k ≡ (k, Some at.place)
+pub kinds_fault : (m : ℕ) (f : Factors) (at : At) (k : KindState) → 0 < length (left_of at) → step_kinds f at k ≡ None → run_kinds (suc m) f at k ≡ (k, Some at.offset)
 unfolding run_kinds
 kinds_fault m f at k some is = rw (some_left _ some, is) refl
 
 -- a step takes bytes
-pub kinds_move : (f : Factors) (at next : At) (k j : KindState) → step_kinds f at k ≡ Some (j, next) → (next.whole ≡ at.whole) × (at.place < next.place)
+pub kinds_move : (f : Factors) (at next : At) (k j : KindState) → step_kinds f at k ≡ Some (j, next) → (next.whole ≡ at.whole) × (at.offset < next.offset)
 unfolding step_kinds
 kinds_move f at next k j e = decoded (instruction_at f at) refl e
   where
@@ -57,14 +57,14 @@ kinds_move f at next k j e = decoded (instruction_at f at) refl e
     executed i None e = absurd cc
     executed i (Some x) e = pair_is (x, i.1) (j, next) e
 
-    decoded : (o : Option (Instruction × At)) → instruction_at f at ≡ o → (o >>= λ i. execute_kinds i.0 k >>= behind i.1) ≡ Some (j, next) → (next.whole ≡ at.whole) × (at.place < next.place)
+    decoded : (o : Option (Instruction × At)) → instruction_at f at ≡ o → (o >>= λ i. execute_kinds i.0 k >>= behind i.1) ≡ Some (j, next) → (next.whole ≡ at.whole) × (at.offset < next.offset)
     decoded None is e = absurd cc
     decoded (Some i) is e = instruction_moves f at next i.0 (is ∙ ap (λ (n : At). Some (i.0, n)) (executed i (execute_kinds i.0 k) e))
 
-pub left_shorter : (at next : At) → next.whole ≡ at.whole → at.place < next.place → 0 < length (left_of at) → length (left_of next) < length (left_of at)
+pub left_shorter : (at next : At) → next.whole ≡ at.whole → at.offset < next.offset → 0 < length (left_of at) → length (left_of next) < length (left_of at)
 left_shorter at next same lt some =
     let len : length next.whole ≡ length at.whole = ap (λ (xs : List ℕ). length xs) same in
-    omega (arith, length-drop at.place at.whole, length-drop next.place next.whole)
+    omega (arith, length-drop at.offset at.whole, length-drop next.offset next.whole)
 
 -- what a loop over instructions keeps
 pub record KeepsKinds (f : Factors) (at0 at : At) (k0 k : KindState) : Type 0 where
@@ -89,7 +89,7 @@ kinds_turn f at0 at next k0 k j some is kept =
 pub kinds_smaller : (f : Factors) (at next : At) (k j : KindState) → 0 < length (left_of at) → step_kinds f at k ≡ Some (j, next) → length (left_of next) < length (left_of at)
 kinds_smaller f at next k j some is = let moves = kinds_move f at next k j is in left_shorter at next moves.0 moves.1 some
 
-pub kinds_stop : (f : Factors) (at0 at : At) (k0 k : KindState) → 0 < length (left_of at) → step_kinds f at k ≡ None → KeepsKinds f at0 at k0 k → (k, Some at.place) ≡ run_kinds (length (left_of at0)) f at0 k0
+pub kinds_stop : (f : Factors) (at0 at : At) (k0 k : KindState) → 0 < length (left_of at) → step_kinds f at k ≡ None → KeepsKinds f at0 at k0 k → (k, Some at.offset) ≡ run_kinds (length (left_of at0)) f at0 k0
 kinds_stop f at0 at k0 k some is kept =
     let enough = kept.enough in
     let one : kept.count ≡ suc (kept.count - 1) = omega arith in
@@ -124,11 +124,11 @@ pub run_past : (m : ℕ) (limit : Option ℕ) (initial : List Rule) (f : Factors
 unfolding run
 run_past m limit initial f at next s t some is past = rw (some_left _ some, is, past) refl
 
-pub run_fault : (m : ℕ) (limit : Option ℕ) (initial : List Rule) (f : Factors) (at : At) (s : State) → 0 < length (left_of at) → step initial f at s ≡ None → run (suc m) limit initial f at s ≡ (s, Some at.place)
+pub run_fault : (m : ℕ) (limit : Option ℕ) (initial : List Rule) (f : Factors) (at : At) (s : State) → 0 < length (left_of at) → step initial f at s ≡ None → run (suc m) limit initial f at s ≡ (s, Some at.offset)
 unfolding run
 run_fault m limit initial f at s some is = rw (some_left _ some, is) refl
 
-pub rules_move : (initial : List Rule) (f : Factors) (at next : At) (s t : State) → step initial f at s ≡ Some (t, next) → (next.whole ≡ at.whole) × (at.place < next.place)
+pub rules_move : (initial : List Rule) (f : Factors) (at next : At) (s t : State) → step initial f at s ≡ Some (t, next) → (next.whole ≡ at.whole) × (at.offset < next.offset)
 unfolding step
 rules_move initial f at next s t e = decoded (instruction_at f at) refl e
   where
@@ -142,7 +142,7 @@ rules_move initial f at next s t e = decoded (instruction_at f at) refl e
     executed i None e = absurd cc
     executed i (Some x) e = pair_is (x, i.1) (t, next) e
 
-    decoded : (o : Option (Instruction × At)) → instruction_at f at ≡ o → (o >>= λ i. execute initial i.0 s >>= behind i.1) ≡ Some (t, next) → (next.whole ≡ at.whole) × (at.place < next.place)
+    decoded : (o : Option (Instruction × At)) → instruction_at f at ≡ o → (o >>= λ i. execute initial i.0 s >>= behind i.1) ≡ Some (t, next) → (next.whole ≡ at.whole) × (at.offset < next.offset)
     decoded None is e = absurd cc
     decoded (Some i) is e = instruction_moves f at next i.0 (is ∙ ap (λ (n : At). Some (i.0, n)) (executed i (execute initial i.0 s) e))
 

@@ -103,12 +103,11 @@ fde_by_id section entries segments e (Some id) = if id == cie_mark then None els
 unfoldable pub fde_of : List ℕ → List Entry → List Segment → Entry → Option Fde
 fde_of section entries segments e = fde_by_id section entries segments e (id_of section e)
 
--- an FDE's instructions and its CIE's lie in the section, and its addresses are below 2^32
+-- an FDE's instructions and its CIE's lie in the section
 pub record IsFdeIn (section : List ℕ) (fde : Fde) : Type 0 where
   pub order : fde.from ≤ fde.end
   pub within : fde.end ≤ length section
   pub cie : IsCieIn section fde.cie
-  pub low : fde.start + fde.size < 2 ^ 32
 
 -- ---- the section
 
@@ -162,7 +161,6 @@ abbrev pub range_of : Fde → AddressRange
 range_of fde = record { start = fde.start; end = fde.start + fde.size }
 
 -- what a table of the frames keeps
-pub record IsTable (section : List ℕ) (fdes : List Fde) (ranges : List AddressRange) : Type 0 where
+pub record IsTable (section : List ℕ) (fdes : List Fde) : Type 0 where
   pub small : length section < 2 ^ 31
   pub placed : All (IsFdeIn section) fdes
-  pub table : ranges ≡ map range_of fdes

@@ -63,7 +63,7 @@ step_kinds f at k = do
   Some (j, i.1)
 
 abbrev pub continued_kinds : KindState → At → (At → KindState → KindState × Option ℕ) → Option (KindState × At) → KindState × Option ℕ
-continued_kinds k at again None = (k, Some at.place)
+continued_kinds k at again None = (k, Some at.offset)
 continued_kinds k at again (Some j) = again j.1 j.0
 
 -- the kinds after the instructions from a place on, and the place of the first that is at fault

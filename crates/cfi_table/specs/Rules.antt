@@ -91,7 +91,7 @@ step initial f at s = do
 
 -- what comes after it: its fault, the end where it moves past the limit, which changes no rule, or what the next ones make
 abbrev pub continued : Option ℕ → State → At → (At → State → State × Option ℕ) → Option (State × At) → State × Option ℕ
-continued limit s at again None = (s, Some at.place)
+continued limit s at again None = (s, Some at.offset)
 continued limit s at again (Some t) = if is_past limit t.0.location then (t.0, None) else again t.1 t.0
 
 -- the rules after the instructions from a place on, up to the first that moves the location past the limit, and the place of the first

@@ -42,7 +42,7 @@ block_from at = do
 
 -- the bytes of a section up to an end, from a place on
 abbrev pub part : List ℕ → ℕ → ℕ → At
-part section place end = record { whole = take end section; place = place }
+part section place end = record { whole = take end section; offset = place }
 
 abbrev pub is_empty : List ℕ → Bool
 is_empty bytes = length bytes == 0

@@ -225,7 +225,6 @@ pub(crate) fn fdes_of(
     requires usable { All (λ cie. IsFormIn section.now cie.form) cies.now }
     requires cies { map seen_cie cies.now ≡ map (known section.now) (filter (is_cie section.now) entries.now) }
     ensures fdes { IfOk result (λ fdes. fdes.items ≡ filter_map (fde_of section.now entries.now image.now.segments) entries.now) }
-    ensures few { IfOk result (λ fdes. length fdes.items ≤ length entries.now) }
     ensures within { IfOk result (λ fdes. All (IsFdeIn section.now) fdes.items) }
 {
     let mut fdes = Vec::new(alloc);

@@ -1,6 +1,6 @@
 //! A section's call frames, and the rules at an address.
-ghost use Rattle.std.specs.Prelude.{◌≡◌, ◌+◌, ◌<◌, ◌≤◌, ◌^◌, Some, None, IfOk, IfSome, All, length, map, option_map, slice_get};
-ghost use Rattle.std.specs.Option.{option_and_then, option_map_or};
+ghost use Rattle.std.specs.Prelude.{◌≡◌, ◌+◌, ◌<◌, ◌≤◌, ◌^◌, Some, None, IfOk, IfSome, All, length, map, option_map};
+ghost use Rattle.std.specs.Option.{option_map_or};
 ghost use Rattle.prof_bytes.specs.Outcome.{Gives};
 ghost use Rattle.cfi_table.specs.Frames.{frames_of, fde_at, rules_of, instruction_bytes, least_above, lesser, range_of, IsFdeIn};
 
@@ -9,7 +9,8 @@ use crate::entry::{chain_of, part};
 use crate::fde::{Fde, fdes_of, first_fault};
 use crate::machine::Machine;
 use crate::rules::{Rule, Rules};
-use elf_image::{AddressRange, FirstRange, Image};
+use address_ranges::{AddressRange, HasRange, RangeTable};
+use elf_image::Image;
 use prof_bytes::{Fail, Memory};
 use std::alloc::Global;
 use std::marker::Model;
@@ -24,8 +25,7 @@ pub struct FrameFault {
 #[derive(Debug, Drop)]
 pub struct FrameTable {
     section: Vec<u8>,
-    fdes: Vec<Fde>,
-    ranges: FirstRange,
+    fdes: RangeTable<Fde>,
 }
 
 impl Model for FrameTable {
@@ -33,39 +33,31 @@ impl Model for FrameTable {
 
     ghost Value = { Frames };
 
-    ghost view = { λ table. record { section = table.section.items; fdes = table.fdes.items } };
+    ghost view = { λ table. record { section = table.section.items; fdes = table.fdes } };
 
-    ghost invariant = { λ table. IsTable table.section.items table.fdes.items table.ranges };
+    ghost invariant = { λ table. IsTable table.section.items table.fdes };
 }
 
-fn ranges_of(alloc: Global, fdes: &[Fde]) -> Result<Vec<AddressRange>, Memory>
-    requires { All (λ fde. fde.start + fde.size < 2 ^ 32) fdes.now }
-    ensures { IfOk result (λ ranges. ranges.items ≡ map range_of fdes.now) }
-{
-    let mut ranges = Vec::new(alloc);
-    for fde in fdes {
-        ranges.push(AddressRange {
-            start: fde.start,
-            end: fde.start + fde.size,
-        })?;
+impl HasRange for Fde {
+    ghost range_of = { range_of };
+
+    fn range(&self) -> AddressRange {
+        AddressRange {
+            start: self.start,
+            end: u64::from(self.start) + u64::from(self.size),
+        }
     }
-    Ok(ranges)
 }
 
 /// The table of the section's FDEs that count.
 fn table_of(alloc: Global, section: &[u8], fdes: Vec<Fde>) -> Result<FrameTable, Memory>
     requires small { length section.now < 2 ^ 31 }
-    requires few { length fdes.items ≤ length section.now }
     requires placed { All (IsFdeIn section.now) fdes.items }
     ensures { IfOk result (λ table. table ≡ record { section = section.now; fdes = fdes.items }) }
 {
-    let ranges = FirstRange::of(alloc, ranges_of(alloc, &fdes)?)?;
+    let fdes = RangeTable::of(alloc, fdes)?;
     let section = Vec::from_slice(alloc, section)?;
-    Ok(FrameTable {
-        section,
-        fdes,
-        ranges,
-    })
+    Ok(FrameTable { section, fdes })
 }
 
 /// The frames of `.debug_frame`, or its first fault in section order. The section has fewer than
@@ -87,12 +79,6 @@ pub fn read_frames(
     }
     let fdes = fdes_of(alloc, bytes, &entries, &cies, image)?;
     Ok(table_of(alloc, bytes, fdes)?)
-}
-
-fn fde_of_index(fdes: &[Fde], index: Option<u32>) -> Option<Fde>
-    ensures { result ≡ option_and_then (λ i. slice_get fdes.now i) index }
-{
-    fdes.get(index? as usize).copied()
 }
 
 /// The rules at an address of the FDE: its CIE's instructions are run, and then its own up to the
@@ -144,7 +130,7 @@ impl FrameTable {
         ensures fde { result ≡ fde_at self.now pc }
         ensures placed { IfSome result (IsFdeIn self.now.section) }
     {
-        fde_of_index(&self.fdes, self.ranges.first(pc))
+        self.fdes.first(pc).copied()
     }
 
     /// The offset in the section of the first FDE, in section order, whose range counts and holds the
@@ -159,7 +145,7 @@ impl FrameTable {
     pub fn starts_above(&self, low: u32) -> Option<u32>
         ensures { result ≡ least_above low (map (λ fde. fde.start) self.now.fdes) }
     {
-        least_start_above(&self.fdes, low)
+        least_start_above(self.fdes.items(), low)
     }
 
     /// How many bytes the instructions have from which the rules at an address are made, at most; 0 where

@@ -1,5 +1,5 @@
 -- An index that grows by an address after another.
-use Rattle.std.proofs.Common.{◌≡◌, ℕ, ◌+◌, length, Option}
+use Rattle.std.proofs.Common.{◌≡◌, ℕ, ◌+◌, ◌≤◌, length, Option}
 use Rattle.cfi_table.specs.declared.rules.Rules.{Rules}
 use Rattle.cfi_table.specs.Frames.{Frames}
 use Rattle.cfi_unwind.specs.declared.index.Index.{Index}
@@ -10,3 +10,4 @@ pub record Building (frames : Frames) (index : Index) (latest : Option Rules) (w
   pub is : IsIndex frames index
   pub growing : IsGrowing index.steps.items latest
   pub next : index.first + length index.places.items ≡ word
+  pub few : index.first + length index.steps.items ≤ word

@@ -1,5 +1,5 @@
 //! The steps at a program's addresses, made ready before any path is looked for.
-ghost use Rattle.std.specs.Prelude.{◌≡◌, ◌+◌, ◌<◌, ◌^◌, ◌*◌, IfOk, IfSome, length, true};
+ghost use Rattle.std.specs.Prelude.{◌≡◌, ◌+◌, ◌<◌, ◌≤◌, ◌^◌, ◌*◌, IfOk, IfSome, length, true};
 ghost use Rattle.cfi_unwind.specs.Caller.{rules_at};
 ghost use Rattle.cfi_unwind.specs.Prepared.{Follows};
 ghost use Rattle.cfi_table.specs.Frames.{Frames};
@@ -75,13 +75,12 @@ fn place_of(
     latest: &Option<Rules>,
     rules: &Option<Rules>,
 ) -> Result<u32, Memory>
+    requires { length steps.old.items < 2 ^ 30 }
     ensures keeps { KeepsSteps steps.old.items steps.new.items }
+    ensures few { length steps.new.items ≤ length steps.old.items + 1 }
     ensures place { IsGrowing steps.old.items latest.now → IfOk result (λ place. IsAt steps.new.items place rules.now) }
     ensures grows { IsGrowing steps.old.items latest.now → IfOk result (λ place. IsGrowing steps.new.items rules.now) }
 {
-    if steps.len() > MOST_PLACES {
-        return Err(Memory);
-    }
     let count = steps.len() as u32;
     if count > 0 && is_same(latest, rules) {
         return Ok(count - 1);
@@ -95,7 +94,7 @@ fn code_of(segments: &[Segment]) -> (u32, u32) {
     let mut code = (0u32, 0u32);
     for segment in segments {
         let size = segment.end.saturating_sub(segment.start);
-        if segment.flags % 2 == 1 && size > code.1.saturating_sub(code.0) {
+        if segment.is_executable() && size > code.1.saturating_sub(code.0) {
             code = (segment.start, segment.end);
         }
     }
@@ -128,6 +127,8 @@ impl Index {
         latest: &Option<Rules>,
         rules: &Option<Rules>,
     ) -> Result<(), Memory>
+        requires { length self.old.steps.items < 2 ^ 30 }
+        ensures few { length self.new.steps.items ≤ length self.old.steps.items + 1 }
         ensures index { IsGrowing self.old.steps.items latest.now → HasGrown self.old self.new rules.now }
         ensures next { IfOk result (λ done. length self.new.places.items ≡ length self.old.places.items + 1) }
         ensures grows { IsGrowing self.old.steps.items latest.now → IfOk result (λ done. IsGrowing self.new.steps.items rules.now) }

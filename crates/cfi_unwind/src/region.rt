@@ -1,6 +1,6 @@
 //! Where a program's first procedure lies.
 ghost use Rattle.std.specs.Prelude.{◌≡◌, ◌++◌, ℕ, List, map};
-ghost use Rattle.elf_image.specs.Image.{called};
+ghost use Rattle.elf_image.specs.Image.{symbol_view};
 ghost use Rattle.cfi_table.specs.Frames.{least_above};
 ghost use Rattle.cfi_unwind.specs.Region.{entry_region, at_most};
 
@@ -20,7 +20,7 @@ fn at_most(most: u32, number: Option<u32>) -> u32
 /// The least start above `low` among the functions and those that were looked at before, of which
 /// `least` is the least.
 fn least_start(functions: &[Function<'_>], low: u32, least: Option<u32>) -> Option<u32>
-    ensures { (before : List ℕ) → least ≡ least_above low before → result ≡ least_above low (before ++ map (λ f. f.start) (map called functions.now)) }
+    ensures { (before : List ℕ) → least ≡ least_above low before → result ≡ least_above low (before ++ map (λ f. f.start) (map symbol_view functions.now)) }
 {
     let mut result = least;
     for function in functions {
@@ -43,7 +43,7 @@ pub(crate) fn entry_region(table: &FrameTable, image: &Image<'_>) -> (u32, u32)
         return (function.start, function.start + function.size);
     }
     match image.segment_at(entry) {
-        Some(segment) if segment.flags % 2 == 1 => {
+        Some(segment) if segment.is_executable() => {
             let least = least_start(image.functions(), entry, table.starts_above(entry));
             (entry, at_most(segment.end, least))
         }

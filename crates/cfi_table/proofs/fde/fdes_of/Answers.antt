@@ -19,12 +19,10 @@ loop-entry-preserved c =
     elim c.match-fde_of.branch [
       | in-Some+in_ok-push w ↦ rw w.fdes-is (record {
         fdes = one_more (fde_of c.args.section.now c.args.entries.now c.args.image.now.segments) c.args.entries.now c.loop-entry.entry-index (record { offset = 0; end = 0 }) c.loop-entry.fdes.items _ (Some w.in-Some.fde) c.loop-entry-test.true c.loop-entry.invariant.fdes (w.in-Some.ensures.fde c.args.entries.now c.requires.cies) w.in_ok-push.ensures.items;
-        few = let le = c.loop-entry.invariant.few in let len = w.in_ok-push.ensures.len in omega arith;
         within = rw w.in_ok-push.ensures.items (All-push (IsFdeIn c.args.section.now) c.loop-entry.fdes.items w.in-Some.fde c.loop-entry.invariant.within w.in-Some.ensures.within);
       })
       | in_default w ↦ rw w.fdes-is (record {
         fdes = one_more (fde_of c.args.section.now c.args.entries.now c.args.image.now.segments) c.args.entries.now c.loop-entry.entry-index (record { offset = 0; end = 0 }) c.loop-entry.fdes.items c.loop-entry.fdes.items None c.loop-entry-test.true c.loop-entry.invariant.fdes (w.in_default.ensures.fde c.args.entries.now c.requires.cies) (sym (append-nil c.loop-entry.fdes.items));
-        few = let le = c.loop-entry.invariant.few in omega arith;
         within = c.loop-entry.invariant.within;
       })
     ]
