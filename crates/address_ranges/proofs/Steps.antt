@@ -8,7 +8,8 @@ use Rattle.std.proofs.lemmas.Bool.Decides.{nat_tests, eqb_tells}
 use Rattle.std.proofs.lemmas.Iterator.Adapters.{position_from-zero}
 use Rattle.address_ranges.specs.declared.ranges.AddressRange.{AddressRange}
 use Rattle.address_ranges.specs.declared.ranges.Step.{Step}
-use Rattle.address_ranges.specs.Ranges.{holds, value_at, IsAscending, IsTableOf, AllHeld, SomeElse, IsFirst, IsNotFirst, next_start, past}
+use Rattle.address_ranges.specs.Ranges.{holds, IsFirst, IsNotFirst}
+use Rattle.address_ranges.specs.private.Steps.{value_at, IsAscending, IsTableOf, AllHeld, SomeElse, next_start, past}
 
 pub from_lower : (a b : ℕ) (steps : List Step) → a ≤ b → IsAscending b steps → IsAscending a steps
 from_lower a b [] le up = tt

@@ -1,35 +1,10 @@
--- Ranges of addresses, and steps: a table that says for each address who holds it.
-use Rattle.std.specs.Prelude.{◌≡◌, ◌≢◌, ℕ, ◌+◌, ◌≤◌, ◌<◌, position, ◌&&◌, ◌==◌, Bool, nat_le, nat_lt, min, List, [], ◌∷◌, Option, Some, None, if◌then◌else◌}
-use Rattle.std.specs.List.{position_from}
+-- Which of many ranges of addresses holds an address.
+use Rattle.std.specs.Prelude.{◌≡◌, ◌≢◌, ℕ, ◌≤◌, ◌<◌, position, ◌&&◌, Bool, nat_le, nat_lt, List, Some}
 use Rattle.address_ranges.specs.declared.ranges.AddressRange.{AddressRange}
-use Rattle.address_ranges.specs.declared.ranges.Step.{Step}
 
 -- from start up to end, without the end itself
 abbrev pub holds : ℕ → AddressRange → Bool
 holds address r = nat_le r.start address && nat_lt address r.end
-
--- the holder from the last step on that does not begin above the address
-abbrev pub value_at : Option ℕ → List Step → ℕ → Option ℕ
-value_at before [] address = before
-value_at before (s ∷ steps) address = if nat_lt address s.start then before else value_at s.holder steps address
-
--- each step begins above the one before it
-abbrev pub IsAscending : ℕ → List Step → Type 0
-IsAscending low [] = Unit {0}
-IsAscending low (s ∷ steps) = (low ≤ s.start) × IsAscending (s.start + 1) steps
-
--- the steps say for each address which of the ranges is the first that holds it
-pub record IsTableOf (ranges : List AddressRange) (steps : List Step) : Type 0 where
-  pub ascending : IsAscending 0 steps
-  pub holders : (address : ℕ) → value_at None steps address ≡ position_from (holds address) 0 ranges
-
--- all addresses from low up to high have this holder
-abbrev pub AllHeld : Option ℕ → List Step → ℕ → ℕ → ℕ → Type 0
-AllHeld before steps low high holder = (address : ℕ) → low ≤ address → address < high → value_at before steps address ≡ Some holder
-
--- one of them has not
-abbrev pub SomeElse : Option ℕ → List Step → ℕ → ℕ → ℕ → Type 0
-SomeElse before steps low high holder = (address : ℕ) × (low ≤ address) × (address < high) × (value_at before steps address ≢ Some holder)
 
 -- the range with that number is the first that holds each of its addresses, or is not
 abbrev pub IsFirst : List AddressRange → ℕ → ℕ → ℕ → Type 0
@@ -37,15 +12,3 @@ IsFirst ranges low high number = (address : ℕ) → low ≤ address → address
 
 abbrev pub IsNotFirst : List AddressRange → ℕ → ℕ → ℕ → Type 0
 IsNotFirst ranges low high number = (address : ℕ) × (low ≤ address) × (address < high) × (position (holds address) ranges ≢ Some number)
-
--- where the next step of two tables begins
-abbrev pub next_start : List Step → List Step → Option ℕ
-next_start [] [] = None
-next_start [] (b ∷ rest) = Some b.start
-next_start (a ∷ rest) [] = Some a.start
-next_start (a ∷ rest) (b ∷ others) = Some (min a.start b.start)
-
--- past the step that begins there, if one does: the holder then, and the steps left
-abbrev pub past : ℕ → Option ℕ → List Step → Option ℕ × List Step
-past start holder [] = (holder, [])
-past start holder (s ∷ steps) = if s.start == start then (s.holder, steps) else (holder, s ∷ steps)

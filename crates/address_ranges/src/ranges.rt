@@ -2,7 +2,8 @@
 ghost use Rattle.std.specs.Prelude.{◌≡◌, ◌≢◌, ℕ, MatchBool, ◌+◌, ◌<◌, ◌≤◌, ◌^◌, IfOk, Some, None, length, map, find, slice_get, if◌then◌else◌};
 ghost use Rattle.std.specs.List.{position_from};
 ghost use Rattle.std.specs.Option.{option_and_then, option_copied, option_or};
-ghost use Rattle.address_ranges.specs.Ranges.{holds, value_at, IsAscending, AllHeld, SomeElse, IsFirst, IsNotFirst, next_start, past};
+ghost use Rattle.address_ranges.specs.Ranges.{holds, IsFirst, IsNotFirst};
+ghost use Rattle.address_ranges.specs.private.Steps.{value_at, IsAscending, AllHeld, SomeElse, next_start, past};
 
 use std::alloc::{AllocError, Global};
 use std::marker::Model;
@@ -42,7 +43,7 @@ pub struct RangeTable<T: HasRange + Drop> {
 
 impl<T: HasRange + Drop> Model for RangeTable<T> {
     ghost use Rattle.std.specs.Prelude.{List, map};
-    ghost use Rattle.address_ranges.specs.Ranges.{IsTableOf};
+    ghost use Rattle.address_ranges.specs.private.Steps.{IsTableOf};
 
     ghost Value = { List T };
 

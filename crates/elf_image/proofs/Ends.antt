@@ -5,7 +5,7 @@ use Rattle.std.specs.List.{position_or_len}
 use Rattle.std.proofs.lemmas.Bool.Decides.{nat_tests}
 use Rattle.std.proofs.lemmas.List.{drop_all}
 use Rattle.elf_image.specs.Fields.{is_zero, text_in}
-use Rattle.elf_image.specs.Texts.{first_zero}
+use Rattle.elf_image.specs.private.Texts.{first_zero}
 
 pub pol_at : {X : Type 0} (p : X → Bool) (xs : List X) (k : ℕ) (d : X) → position_or_len p (take k xs) ≡ k → k < length xs → p (get_or xs k d) ≡ true → position_or_len p xs ≡ k
 pol_at p [] k d e lt passes = absurd (omega arith)

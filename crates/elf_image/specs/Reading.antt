@@ -61,8 +61,3 @@ image_of file = do
   _ ← sections_of file
   _ ← symbols_in file (symbol_table file)
   Ok (loaded file)
-
--- the value, where the checks before it found nothing
-abbrev pub after : {X : Type 0} → Result (Unit {0}) ElfFault → X → Result X ElfFault
-after (Ok done) value = Ok value
-after (Err fault) value = Err fault

@@ -5,7 +5,8 @@ ghost use Rattle.elf_image.specs.Fields.{same_bytes};
 ghost use Rattle.prof_bytes.specs.Outcome.{Gives};
 ghost use Rattle.elf_image.specs.Image.{IsLoaded, IsWithin, are_apart, named, symbol_view, in_segment, in_function, counts, bytes_of_name};
 ghost use Rattle.elf_image.specs.Headers.{segments, section_headers, sections, symbol_table, functions};
-ghost use Rattle.elf_image.specs.Reading.{header_of, segments_of, sections_of, symbols_in, image_of, after};
+ghost use Rattle.elf_image.specs.Reading.{header_of, segments_of, sections_of, symbols_in, image_of};
+ghost use Rattle.elf_image.specs.private.Checks.{after};
 
 use crate::fault::ElfFault;
 use crate::field::word_at;

@@ -4,7 +4,8 @@ ghost use Rattle.prof_bytes.specs.Outcome.{Gives};
 ghost use Rattle.elf_image.specs.Image.{IsWithin, are_apart, stacks_begin};
 ghost use Rattle.elf_image.specs.Headers.{is_load, loads, segment_of, segments};
 ghost use Rattle.elf_image.specs.Refusals.{overfilled, unfilled, too_high, shared};
-ghost use Rattle.elf_image.specs.Reading.{header_of, each_segment_of, segments_of, after};
+ghost use Rattle.elf_image.specs.Reading.{header_of, each_segment_of, segments_of};
+ghost use Rattle.elf_image.specs.private.Checks.{after};
 
 use crate::elf::PT_LOAD;
 use crate::fault::{ElfFault, ElfRule, refuse};

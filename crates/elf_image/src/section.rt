@@ -5,7 +5,8 @@ ghost use Rattle.prof_bytes.specs.Outcome.{Gives};
 ghost use Rattle.elf_image.specs.Image.{named};
 ghost use Rattle.elf_image.specs.Headers.{e_shstrndx, is_section, has_bytes, bytes_of, bytes_of_index, section_headers, name_of, section_of, sections};
 ghost use Rattle.elf_image.specs.Refusals.{outside, nameless, is_read, is_read_name, is_compressed, compressed_section};
-ghost use Rattle.elf_image.specs.Reading.{sections_of, after};
+ghost use Rattle.elf_image.specs.Reading.{sections_of};
+ghost use Rattle.elf_image.specs.private.Checks.{after};
 
 use crate::elf::{SHF_COMPRESSED, SHN_UNDEF, SHT_NOBITS, SHT_NULL, has_flag};
 use crate::fault::{ElfFault, ElfRule, refuse};

@@ -7,7 +7,8 @@ ghost use Rattle.elf_image.specs.Fields.{text_in};
 ghost use Rattle.elf_image.specs.Image.{symbol_view, are_apart};
 ghost use Rattle.elf_image.specs.Headers.{section_headers, segments, bytes_of_index, symbol_table, symbol_at, symbols_of, is_function, symbol_name, function_of, functions_of, functions};
 ghost use Rattle.elf_image.specs.Refusals.{is_text_table, bad_table, nameless_function};
-ghost use Rattle.elf_image.specs.Reading.{sections_of, symbols_in, after};
+ghost use Rattle.elf_image.specs.Reading.{sections_of, symbols_in};
+ghost use Rattle.elf_image.specs.private.Checks.{after};
 
 use crate::elf::{ELF32_SYM_SIZE, SHN_UNDEF, SHT_STRTAB, SHT_SYMTAB, STT_FUNC};
 use crate::fault::{ElfFault, ElfRule, first_of, refuse};

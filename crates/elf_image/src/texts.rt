@@ -3,7 +3,7 @@ ghost use Rattle.std.specs.Prelude.{◌≡◌, ◌+◌, ◌-◌, ◌*◌, ◌/�
 ghost use Rattle.std.specs.List.{position_or_len};
 ghost use Rattle.std.specs.Option.{option_copied};
 ghost use Rattle.elf_image.specs.Fields.{is_zero, text_in};
-ghost use Rattle.elf_image.specs.Texts.{first_zero, block, blocks, IsEnds};
+ghost use Rattle.elf_image.specs.private.Texts.{first_zero, block, blocks, IsEnds};
 
 use prof_bytes::Memory;
 use std::alloc::Global;
@@ -83,7 +83,7 @@ pub(crate) struct Texts<'a> {
 
 impl<'a> Model for Texts<'a> {
     ghost use Rattle.std.specs.Prelude.{ℕ, List};
-    ghost use Rattle.elf_image.specs.Texts.{IsEnds};
+    ghost use Rattle.elf_image.specs.private.Texts.{IsEnds};
 
     ghost Value = { List ℕ };
 

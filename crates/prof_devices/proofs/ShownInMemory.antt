@@ -30,7 +30,7 @@ pub memory_fetched : (old new : MemoryShelf) (name : List ℕ) (limit : ℕ) (an
 memory_fetched old new name limit (fetches.Whole bytes) small h = (reads_same old new name h.1, (λ told. (sym (found_bytes old.files name bytes h.2), h.3)))
 memory_fetched old new name limit fetches.TooLong small h = (reads_same old new name h.1, (λ told. subst (λ (bytes : List ℕ). limit < length bytes) (sym (found_bytes old.files name h.2 h.3)) h.4))
 memory_fetched old new name limit fetches.Fault small h = reads_failed old new name small h.1
-memory_fetched old new name limit fetches.Memory small h = reads_same old new name h
+memory_fetched old new name limit (fetches.Memory memory) small h = reads_same old new name h
 
 part_of_whole : (old new : Files) (name bytes : List ℕ) (n : ℕ) → Holds old new name (take n bytes) → HoldsPart old new name bytes
 part_of_whole old new name bytes n h = record { file = inr (n, h.file); others = h.others }
@@ -47,12 +47,12 @@ writes_failed old new files name small is = subst (λ (s : MemoryShelf). Writes 
 pub memory_stored : (old new : MemoryShelf) (name bytes : List ℕ) (answer : Put) → old.stores.count ≤ last_count → MemoryStores old new name bytes answer → Stored (shown_shelf old) (shown_shelf new) name bytes answer
 memory_stored old new name bytes Done small h = (writes_same old new new.files name h.1, (λ told. h.2))
 memory_stored old new name bytes Fault small h = let w = writes_failed old new new.files name small h.1 in (w.0, w.1, (λ told. part_of_whole old.files new.files name bytes old.kept h.2))
-memory_stored old new name bytes Memory small h = (writes_same old new old.files name h, (λ told. nothing_held old.files new.files name bytes (ap (λ (s : MemoryShelf). s.files) h)))
+memory_stored old new name bytes (Memory memory) small h = (writes_same old new old.files name h, (λ told. nothing_held old.files new.files name bytes (ap (λ (s : MemoryShelf). s.files) h)))
 
 pub memory_taken : (old new : MemorySink) (bytes : List ℕ) (answer : Put) → old.faults ≤ last_count → old.shortages ≤ last_count → MemoryPuts old new bytes answer → Taken (shown_sink old) (shown_sink new) bytes answer
 memory_taken old new bytes Done few_faults few_shortages h =
     subst (λ (s : MemorySink). Taken (shown_sink old) (shown_sink s) bytes Done) (sym h.1) (record { tells = refl; faults = omega arith; shortages = omega arith }, (λ told. refl))
 memory_taken old new bytes Fault few_faults few_shortages h =
     subst (λ (s : MemorySink). Taken (shown_sink old) (shown_sink s) bytes Fault) (sym h.1) (record { tells = refl; faults = omega arith; shortages = omega arith }, (omega arith), (λ told. (old.kept, refl)))
-memory_taken old new bytes Memory few_faults few_shortages h =
-    subst (λ (s : MemorySink). Taken (shown_sink old) (shown_sink s) bytes Memory) (sym h) (record { tells = refl; faults = omega arith; shortages = omega arith }, (omega arith), (λ told. (0, sym (append-nil old.taken))))
+memory_taken old new bytes (Memory memory) few_faults few_shortages h =
+    subst (λ (s : MemorySink). Taken (shown_sink old) (shown_sink s) bytes (Memory memory)) (sym h) (record { tells = refl; faults = omega arith; shortages = omega arith }, (omega arith), (λ told. (0, sym (append-nil old.taken))))

@@ -1,5 +1,6 @@
 -- The devices over a folder and over streams: they tell no content, and a count rises in just the calls that answer a fault.
-use Rattle.std.specs.Prelude.{◌≡◌, ℕ, ◌≤◌, List, length}
+use Rattle.std.specs.Prelude.{◌≡◌, ℕ, ◌<◌, ◌≤◌, List, length, Option, IfSome}
+use Rattle.core.specs.Str.{IsUtf8}
 use Rattle.prof_devices.specs.declared.shelf.Fetch.{Fetch}
 use Rattle.prof_devices.specs.declared.shelf.Fetch.TheVariants as fetches
 use Rattle.prof_devices.specs.declared.shelf.Put.{Put}
@@ -12,16 +13,31 @@ abbrev pub FolderFetches : ShelfState → ShelfState → List ℕ → ℕ → Fe
 FolderFetches old new name limit (fetches.Whole bytes) = (new ≡ old) × (length bytes ≤ limit)
 FolderFetches old new name limit fetches.TooLong = new ≡ old
 FolderFetches old new name limit fetches.Fault = new ≡ record old { reads = failed_at old.reads name }
-FolderFetches old new name limit fetches.Memory = new ≡ old
+FolderFetches old new name limit (fetches.Memory memory) = new ≡ old
 
 -- a store to a folder
 abbrev pub FolderStores : ShelfState → ShelfState → List ℕ → Put → Type 0
 FolderStores old new name Done = new ≡ old
 FolderStores old new name Fault = new ≡ record old { stores = failed_at old.stores name }
-FolderStores old new name Memory = new ≡ old
+FolderStores old new name (Memory memory) = new ≡ old
 
 -- a put to a stream, which takes no memory
 abbrev pub StreamPuts : SinkState → SinkState → Put → Type 0
 StreamPuts old new Done = new ≡ old
 StreamPuts old new Fault = new ≡ record old { faults = raised old.faults }
-StreamPuts old new Memory = ⊥
+StreamPuts old new (Memory memory) = ⊥
+
+-- the same for text alone: other bytes are a fault
+abbrev pub LinePuts : SinkState → SinkState → List ℕ → Put → Type 0
+LinePuts old new bytes Done = (new ≡ old) × IsUtf8 bytes
+LinePuts old new bytes Fault = new ≡ record old { faults = raised old.faults }
+LinePuts old new bytes (Memory memory) = ⊥
+
+-- ---- a file that is read to its end
+
+-- all bytes that a reader has left, unless they are more than the limit; a reader may also fail
+abbrev pub FetchesFrom : Option (List ℕ) → ℕ → Fetch → Type 0
+FetchesFrom known limit (fetches.Whole bytes) = (length bytes ≤ limit) × IfSome known (λ left. bytes ≡ left)
+FetchesFrom known limit fetches.TooLong = IfSome known (λ left. limit < length left)
+FetchesFrom known limit fetches.Fault = Unit {0}
+FetchesFrom known limit (fetches.Memory memory) = Unit {0}

@@ -58,7 +58,7 @@ MemoryFetches old new name limit fetches.TooLong =
     (is_failing old.failing old.calls ≡ false) × (new ≡ counted old) × (bytes : List ℕ) × (file_of old.files name ≡ Some bytes) × (limit < length bytes)
 MemoryFetches old new name limit fetches.Fault =
     FetchFails old name (is_failing old.failing old.calls) × (new ≡ failed_read old name)
-MemoryFetches old new name limit fetches.Memory = new ≡ counted old
+MemoryFetches old new name limit (fetches.Memory memory) = new ≡ counted old
 
 -- a store to memory: one that is to fail keeps a front
 abbrev pub MemoryStores : MemoryShelf → MemoryShelf → List ℕ → List ℕ → Put → Type 0
@@ -68,7 +68,7 @@ MemoryStores old new name bytes Fault =
     (is_failing old.failing old.calls ≡ true)
     × (new ≡ record (counted old) { files = new.files; stores = failed_at old.stores name })
     × Holds old.files new.files name (take old.kept bytes)
-MemoryStores old new name bytes Memory = new ≡ counted old
+MemoryStores old new name bytes (Memory memory) = new ≡ counted old
 
 -- a sink over memory, in the same way
 pub record MemorySink : Type 0 where
@@ -94,7 +94,7 @@ MemoryPuts old new bytes Done =
 MemoryPuts old new bytes Fault =
     (is_failing old.failing old.calls ≡ true)
     × (new ≡ record (counted_put old) { taken = old.taken ++ take old.kept bytes; faults = raised old.faults })
-MemoryPuts old new bytes Memory = new ≡ record (counted_put old) { shortages = raised old.shortages }
+MemoryPuts old new bytes (Memory memory) = new ≡ record (counted_put old) { shortages = raised old.shortages }
 
 -- a shelf and a sink that never fail
 abbrev pub sure_shelf : Files → ShelfState
@@ -114,38 +114,16 @@ abbrev pub SureFetches : Files → Files → List ℕ → ℕ → Fetch → Type
 SureFetches old new name limit (fetches.Whole bytes) = (new ≡ old) × (bytes ≡ bytes_of old name) × (length bytes ≤ limit)
 SureFetches old new name limit fetches.TooLong = (new ≡ old) × (limit < length (bytes_of old name))
 SureFetches old new name limit fetches.Fault = ⊥
-SureFetches old new name limit fetches.Memory = new ≡ old
+SureFetches old new name limit (fetches.Memory memory) = new ≡ old
 
 -- a store is whole, or for want of memory nothing
 abbrev pub SureStores : Files → Files → List ℕ → List ℕ → Put → Type 0
 SureStores old new name bytes Done = Holds old new name bytes
 SureStores old new name bytes Fault = ⊥
-SureStores old new name bytes Memory = new ≡ old
+SureStores old new name bytes (Memory memory) = new ≡ old
 
 -- a put is whole, or for want of memory nothing
 abbrev pub SurePuts : SureSinkState → SureSinkState → List ℕ → Put → Type 0
 SurePuts old new bytes Done = new ≡ record old { taken = old.taken ++ bytes }
 SurePuts old new bytes Fault = ⊥
-SurePuts old new bytes Memory = new ≡ record old { shortages = raised old.shortages }
-
--- the parts of these calls behind the count
-
--- a file is read, and the shelf is as before but for a name that no file has
-abbrev pub FileRead : MemoryShelf → MemoryShelf → List ℕ → ℕ → Fetch → Type 0
-FileRead old new name limit (fetches.Whole bytes) = (new ≡ old) × (file_of old.files name ≡ Some bytes) × (length bytes ≤ limit)
-FileRead old new name limit fetches.TooLong = (new ≡ old) × (bytes : List ℕ) × (file_of old.files name ≡ Some bytes) × (limit < length bytes)
-FileRead old new name limit fetches.Fault = (file_of old.files name ≡ None) × (new ≡ record old { reads = failed_at old.reads name })
-FileRead old new name limit fetches.Memory = new ≡ old
-
--- a store fails and keeps a front
-abbrev pub FrontStored : MemoryShelf → MemoryShelf → List ℕ → List ℕ → Put → Type 0
-FrontStored old new name bytes Done = ⊥
-FrontStored old new name bytes Fault =
-    (new ≡ record old { files = new.files; stores = failed_at old.stores name }) × Holds old.files new.files name (take old.kept bytes)
-FrontStored old new name bytes Memory = new ≡ old
-
--- a put fails and keeps a front
-abbrev pub FrontPut : MemorySink → MemorySink → List ℕ → Put → Type 0
-FrontPut old new bytes Done = ⊥
-FrontPut old new bytes Fault = new ≡ record old { taken = old.taken ++ take old.kept bytes; faults = raised old.faults }
-FrontPut old new bytes Memory = new ≡ record old { shortages = raised old.shortages }
+SurePuts old new bytes (Memory memory) = new ≡ record old { shortages = raised old.shortages }

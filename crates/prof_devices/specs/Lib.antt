@@ -2,3 +2,4 @@ pub mod Files
 pub mod Outside
 pub mod InMemory
 pub mod Edge
+pub mod private

@@ -56,7 +56,7 @@ Fetched old new name limit (fetches.Whole bytes) =
     Reads old new name × (IsTrue old.tells → (bytes ≡ bytes_of old.files name) × (length bytes ≤ limit))
 Fetched old new name limit fetches.TooLong = Reads old new name × (IsTrue old.tells → limit < length (bytes_of old.files name))
 Fetched old new name limit fetches.Fault = Reads old new name × Fails old.reads new.reads name
-Fetched old new name limit fetches.Memory = Reads old new name
+Fetched old new name limit (fetches.Memory memory) = Reads old new name
 
 -- a store changes no more than the files and the failed stores
 pub record Writes (old new : ShelfState) (name : List ℕ) : Type 0 where
@@ -69,7 +69,7 @@ abbrev pub Stored : ShelfState → ShelfState → List ℕ → List ℕ → Put 
 Stored old new name bytes Done = Writes old new name × (IsTrue old.tells → Holds old.files new.files name bytes)
 Stored old new name bytes Fault =
     Writes old new name × Fails old.stores new.stores name × (IsTrue old.tells → HoldsPart old.files new.files name bytes)
-Stored old new name bytes Memory = Writes old new name × (IsTrue old.tells → HoldsPart old.files new.files name bytes)
+Stored old new name bytes (Memory memory) = Writes old new name × (IsTrue old.tells → HoldsPart old.files new.files name bytes)
 
 -- all of the bytes were added
 abbrev pub Appends : List ℕ → List ℕ → List ℕ → Type 0
@@ -90,5 +90,5 @@ abbrev pub Taken : SinkState → SinkState → List ℕ → Put → Type 0
 Taken old new bytes Done = Counts old new × (IsTrue old.tells → Appends old.taken new.taken bytes)
 Taken old new bytes Fault =
     Counts old new × Rose old.faults new.faults × (IsTrue old.tells → AppendsPart old.taken new.taken bytes)
-Taken old new bytes Memory =
+Taken old new bytes (Memory memory) =
     Counts old new × Rose old.shortages new.shortages × (IsTrue old.tells → AppendsPart old.taken new.taken bytes)

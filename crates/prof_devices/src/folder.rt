@@ -1,11 +1,13 @@
 ghost use Rattle.std.specs.Prelude.{◌≡◌, ◌≤◌, [], false};
 ghost use Rattle.prof_devices.specs.Outside.{Fetched, Stored, last_count};
 ghost use Rattle.prof_devices.specs.Edge.{FolderFetches, FolderStores};
+ghost use Rattle.prof_devices.specs.private.Parts.{IsAtMost};
 ghost use Rattle.prof_devices.specs.InMemory.{failed_at, no_failures};
 
+use crate::read::fetch_from;
 use crate::shelf::{Fetch, Put, Shelf};
 use prof_bytes::Text;
-use std::io::{ErrorKind, Read};
+use std::io::ErrorKind;
 use std::marker::Model;
 use std::rt::Files;
 use std::{fs, io};
@@ -64,46 +66,25 @@ impl<'a, R> FolderShelf<'a, R> {
     }
 }
 
-/// How a call on the system ended, without its value.
-#[derive(Clone, Copy)]
-enum Ending {
-    Failed,
-    NoMemory,
-}
-
-fn ending_of(error: &io::Error) -> Ending {
-    if error.kind() == ErrorKind::OutOfMemory {
-        Ending::NoMemory
-    } else {
-        Ending::Failed
+impl<'a, R: Files + AllocGlobal> FolderShelf<'a, R> {
+    /// What a fetch answers, where a fault isn't counted yet.
+    fn read(&self, name: &[u8], limit: u64) -> Fetch
+        ensures { IsAtMost limit result }
+    {
+        let Ok(name) = str::from_utf8(name) else {
+            return Fetch::Fault;
+        };
+        match fs::open(self.rt, name) {
+            Ok(mut file) => fetch_from(self.rt.alloc(), &mut file, limit),
+            Err(_) => Fetch::Fault,
+        }
     }
-}
 
-/// At most `limit + 1` bytes of the file.
-fn front_of<R: Files + AllocGlobal>(rt: &R, name: &str, limit: u64) -> io::Result<Vec<u8>> {
-    let mut bytes = Vec::new(rt.alloc());
-    let mut front = fs::open(rt, name)?.take(limit.saturating_add(1));
-    front.read_to_end(&mut bytes)?;
-    Ok(bytes)
-}
-
-fn read_file<R: Files + AllocGlobal>(rt: &R, name: &[u8], limit: u64) -> Result<Vec<u8>, Ending> {
-    let Ok(name) = str::from_utf8(name) else {
-        return Err(Ending::Failed);
-    };
-    match front_of(rt, name, limit) {
-        Ok(bytes) => Ok(bytes),
-        Err(error) => Err(ending_of(&error)),
-    }
-}
-
-fn write_file<R: Files>(rt: &R, name: &[u8], bytes: &[u8]) -> Result<(), Ending> {
-    let Ok(name) = str::from_utf8(name) else {
-        return Err(Ending::Failed);
-    };
-    match fs::write(rt, name, bytes) {
-        Ok(()) => Ok(()),
-        Err(error) => Err(ending_of(&error)),
+    fn write(&self, name: &[u8], bytes: &[u8]) -> io::Result<()> {
+        match str::from_utf8(name) {
+            Ok(name) => fs::write(self.rt, name, bytes),
+            Err(_) => Err(io::Error::from(ErrorKind::InvalidInput)),
+        }
     }
 }
 
@@ -114,17 +95,16 @@ impl<'a, R: Files + AllocGlobal> Shelf for FolderShelf<'a, R> {
         ensures answer { Fetched self.old self.new name.now limit result }
         ensures exact { FolderFetches self.old self.new name.now limit result }
     {
-        let Ok(owned) = Text::of(self.rt.alloc(), name) else {
-            return Fetch::Memory;
+        let owned = match Text::of(self.rt.alloc(), name) {
+            Ok(owned) => owned,
+            Err(memory) => return Fetch::Memory(memory),
         };
-        match read_file(self.rt, name, limit) {
-            Ok(bytes) if bytes.len() as u64 > limit => Fetch::TooLong,
-            Ok(bytes) => Fetch::Whole(Text::from_vec(bytes)),
-            Err(Ending::NoMemory) => Fetch::Memory,
-            Err(Ending::Failed) => {
+        match self.read(name, limit) {
+            Fetch::Fault => {
                 self.fail_read(owned);
                 Fetch::Fault
             }
+            answer => answer,
         }
     }
 
@@ -132,13 +112,13 @@ impl<'a, R: Files + AllocGlobal> Shelf for FolderShelf<'a, R> {
         ensures answer { Stored self.old self.new name.now bytes.now result }
         ensures exact { FolderStores self.old self.new name.now result }
     {
-        let Ok(owned) = Text::of(self.rt.alloc(), name) else {
-            return Put::Memory;
+        let owned = match Text::of(self.rt.alloc(), name) {
+            Ok(owned) => owned,
+            Err(memory) => return Put::Memory(memory),
         };
-        match write_file(self.rt, name, bytes) {
+        match self.write(name, bytes) {
             Ok(()) => Put::Done,
-            Err(Ending::NoMemory) => Put::Memory,
-            Err(Ending::Failed) => {
+            Err(_) => {
                 self.fail_store(owned);
                 Put::Fault
             }

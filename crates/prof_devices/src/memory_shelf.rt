@@ -1,7 +1,8 @@
 ghost use Rattle.std.specs.Prelude.{◌≡◌, ◌≤◌, ◌+◌, None, Some, MatchOption, OnOk, OnErr, take};
 ghost use Rattle.prof_devices.specs.Files.{file_of, Holds};
 ghost use Rattle.prof_devices.specs.Outside.{Fetched, Stored, last_count};
-ghost use Rattle.prof_devices.specs.InMemory.{MemoryShelf, MemoryFetches, MemoryStores, FileRead, FrontStored, counted, failed_at, is_failing, no_failures, shown_shelf};
+ghost use Rattle.prof_devices.specs.InMemory.{MemoryShelf, MemoryFetches, MemoryStores, counted, failed_at, is_failing, no_failures, shown_shelf};
+ghost use Rattle.prof_devices.specs.private.Parts.{FileRead, FrontStored};
 
 use crate::named_files::{file_in, write_file};
 use crate::shelf::{Fetch, Put, Shelf};
@@ -95,7 +96,7 @@ impl MemShelf {
                 self.fail_store(owned);
                 Put::Fault
             }
-            Err(_) => Put::Memory,
+            Err(memory) => Put::Memory(memory),
         }
     }
 
@@ -111,7 +112,7 @@ impl MemShelf {
             Some(bytes) if bytes.len() as u64 > limit => Fetch::TooLong,
             Some(bytes) => match Text::of(self.alloc, bytes) {
                 Ok(text) => Fetch::Whole(text),
-                Err(_) => Fetch::Memory,
+                Err(memory) => Fetch::Memory(memory),
             },
         }
     }
@@ -122,8 +123,9 @@ impl MemShelf {
     {
         let fails = self.next_fails();
         let _count = self.read_faults;
-        let Ok(owned) = Text::of(self.alloc, name) else {
-            return Fetch::Memory;
+        let owned = match Text::of(self.alloc, name) {
+            Ok(owned) => owned,
+            Err(memory) => return Fetch::Memory(memory),
         };
         if fails {
             self.fail_read(owned);
@@ -138,15 +140,16 @@ impl MemShelf {
     {
         let fails = self.next_fails();
         let _count = self.store_faults;
-        let Ok(owned) = Text::of(self.alloc, name) else {
-            return Put::Memory;
+        let owned = match Text::of(self.alloc, name) {
+            Ok(owned) => owned,
+            Err(memory) => return Put::Memory(memory),
         };
         if fails {
             return self.store_front(name, bytes, owned);
         }
         match self.write(name, bytes) {
             Ok(()) => Put::Done,
-            Err(_) => Put::Memory,
+            Err(memory) => Put::Memory(memory),
         }
     }
 }

@@ -1,9 +1,11 @@
 ghost use Rattle.std.specs.Prelude.{◌≡◌, ◌≤◌, ◌++◌, [], take};
 ghost use Rattle.prof_devices.specs.Outside.{Taken, last_count};
-ghost use Rattle.prof_devices.specs.InMemory.{MemorySink, MemoryPuts, FrontPut, counted_put, is_failing, raised, shown_sink};
+ghost use Rattle.prof_devices.specs.InMemory.{MemorySink, MemoryPuts, counted_put, is_failing, raised, shown_sink};
+ghost use Rattle.prof_devices.specs.private.Parts.{FrontPut};
 
 use crate::shelf::Put;
 use crate::sink::Sink;
+use prof_bytes::Memory;
 use std::alloc::Global;
 use std::marker::Model;
 
@@ -55,12 +57,12 @@ impl MemSink {
         self.failing.as_slice().contains(&self.calls)
     }
 
-    fn no_memory(&mut self) -> Put
-        ensures answer { result ≡ Put.Memory }
+    fn out_of_memory(&mut self, memory: Memory) -> Put
+        ensures answer { result ≡ Put.Memory memory }
         ensures state { self.new ≡ record self.old { shortages = raised self.old.shortages } }
     {
         self.shortages = self.shortages.saturating_add(1);
-        Put::Memory
+        Put::Memory(memory)
     }
 
     fn put_front(&mut self, bytes: &[u8]) -> Put
@@ -72,7 +74,7 @@ impl MemSink {
                 self.faults = self.faults.saturating_add(1);
                 Put::Fault
             }
-            Err(_) => self.no_memory(),
+            Err(failed) => self.out_of_memory(Memory::from(failed)),
         }
     }
 
@@ -89,7 +91,7 @@ impl MemSink {
         }
         match self.bytes.extend_from_slice(bytes) {
             Ok(()) => Put::Done,
-            Err(_) => self.no_memory(),
+            Err(failed) => self.out_of_memory(Memory::from(failed)),
         }
     }
 }

@@ -1,9 +1,9 @@
 ghost use Rattle.prof_devices.specs.Outside.{ShelfState, Fetched, Stored};
 
-use prof_bytes::Text;
+use prof_bytes::{Memory, Text};
 
 /// What a fetch answers: the whole file, that it is longer than the limit, that the device failed, or
-/// that no memory was found.
+/// that memory ran out.
 #[derive(Debug, Drop)]
 pub enum Fetch {
     /// The bytes of the file, at most as many as the limit.
@@ -12,19 +12,19 @@ pub enum Fetch {
     TooLong,
     /// The device failed, and counts it.
     Fault,
-    /// No memory was found.
-    Memory,
+    /// Out of memory.
+    Memory(Memory),
 }
 
-/// What a store or a put answers: all was taken, the device failed, or no memory was found.
+/// What a store or a put answers: all was taken, the device failed, or memory ran out.
 #[derive(Clone, Copy, Debug, PartialEq, Eq)]
 pub enum Put {
     /// All bytes were taken.
     Done,
     /// The device failed, and counts it. A front of the bytes may have been taken.
     Fault,
-    /// No memory was found.
-    Memory,
+    /// Out of memory.
+    Memory(Memory),
 }
 
 /// Named files on some device.

@@ -1,6 +1,7 @@
-ghost use Rattle.std.specs.Prelude.{◌≡◌, ◌≤◌, [], false};
+ghost use Rattle.std.specs.Prelude.{◌≡◌, ◌≤◌, [], false, IsTrue};
+ghost use Rattle.core.specs.Str.{IsUtf8};
 ghost use Rattle.prof_devices.specs.Outside.{Taken, last_count};
-ghost use Rattle.prof_devices.specs.Edge.{StreamPuts};
+ghost use Rattle.prof_devices.specs.Edge.{LinePuts, StreamPuts};
 ghost use Rattle.prof_devices.specs.InMemory.{raised};
 
 use crate::shelf::Put;
@@ -90,7 +91,10 @@ impl<'a, R> ErrSink<'a, R> {
     }
 }
 
-fn print_line<R: Eprint>(rt: &R, bytes: &[u8]) -> bool {
+/// Whether the bytes are text, and all of it was printed.
+fn print_text<R: Eprint>(rt: &R, bytes: &[u8]) -> bool
+    ensures { IsTrue result → IsUtf8 bytes.now }
+{
     match str::from_utf8(bytes) {
         Ok(text) => rt.eprint(text).is_ok(),
         Err(_) => false,
@@ -102,9 +106,9 @@ impl<'a, R: Eprint> Sink for ErrSink<'a, R> {
 
     fn put(&mut self, bytes: &[u8]) -> Put
         ensures answer { Taken self.old self.new bytes.now result }
-        ensures exact { StreamPuts self.old self.new result }
+        ensures exact { LinePuts self.old self.new bytes.now result }
     {
-        if print_line(self.rt, bytes) {
+        if print_text(self.rt, bytes) {
             return Put::Done;
         }
         self.fail();

@@ -6,7 +6,7 @@ ghost use Rattle.prof_devices.specs.InMemory.{SureSinkState, SureFetches, SureSt
 use crate::named_files::{bytes_in, file_in, write_file};
 use crate::shelf::{Fetch, Put, Shelf};
 use crate::sink::Sink;
-use prof_bytes::Text;
+use prof_bytes::{Memory, Text};
 use std::alloc::Global;
 use std::marker::Model;
 
@@ -52,7 +52,7 @@ impl Shelf for SureShelf {
         }
         match Text::of(self.alloc, bytes) {
             Ok(text) => Fetch::Whole(text),
-            Err(_) => Fetch::Memory,
+            Err(memory) => Fetch::Memory(memory),
         }
     }
 
@@ -60,12 +60,13 @@ impl Shelf for SureShelf {
         ensures answer { Stored (sure_shelf self.old) (sure_shelf self.new) name.now bytes.now result }
         ensures exact { SureStores self.old self.new name.now bytes.now result }
     {
-        let Ok(text) = Text::of(self.alloc, bytes) else {
-            return Put::Memory;
+        let text = match Text::of(self.alloc, bytes) {
+            Ok(text) => text,
+            Err(memory) => return Put::Memory(memory),
         };
         match write_file(self.alloc, &mut self.files, name, text) {
             Ok(()) => Put::Done,
-            Err(_) => Put::Memory,
+            Err(memory) => Put::Memory(memory),
         }
     }
 }
@@ -111,9 +112,9 @@ impl Sink for SureSink {
     {
         match self.bytes.extend_from_slice(bytes) {
             Ok(()) => Put::Done,
-            Err(_) => {
+            Err(failed) => {
                 self.shortages = self.shortages.saturating_add(1);
-                Put::Memory
+                Put::Memory(Memory::from(failed))
             }
         }
     }

@@ -6,7 +6,8 @@ use Rattle.std.specs.Option.{option_or}
 use Rattle.std.specs.List.{position_from}
 use Rattle.address_ranges.specs.declared.ranges.AddressRange.{AddressRange}
 use Rattle.address_ranges.specs.declared.ranges.Step.{Step}
-use Rattle.address_ranges.specs.Ranges.{holds, value_at}
+use Rattle.address_ranges.specs.Ranges.{holds}
+use Rattle.address_ranges.specs.private.Steps.{value_at}
 use Rattle.address_ranges.proofs.Steps.{position_append}
 use Rattle.address_ranges.proofs.ranges.+steps_of.Goals as goal
 

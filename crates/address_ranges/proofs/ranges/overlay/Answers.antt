@@ -2,7 +2,7 @@ use Rattle.std.proofs.Common.{◌≡◌, ℕ, ◌+◌, ◌-◌, ◌≤◌, ◌++
 use Rattle.std.proofs.lemmas.List.{append-nil, length-append}
 use Rattle.std.specs.Option.{option_or}
 use Rattle.address_ranges.specs.declared.ranges.Step.{Step}
-use Rattle.address_ranges.specs.Ranges.{past, value_at, next_start, IsAscending}
+use Rattle.address_ranges.specs.private.Steps.{past, value_at, next_start, IsAscending}
 use Rattle.address_ranges.proofs.Steps.{merged, merged_value, merged_ascends, merged_more, merged_end, one_less}
 use Rattle.address_ranges.proofs.ranges.overlay.Goals as goal
 

@@ -1,5 +1,5 @@
 use Rattle.std.proofs.Common.{◌≡◌, ℕ, ◌-◌, ◌*◌, ◌<◌, ◌≤◌, length, get_or, min}
-use Rattle.elf_image.specs.Texts.{first_zero, block, blocks}
+use Rattle.elf_image.specs.private.Texts.{first_zero, block, blocks}
 use Rattle.elf_image.proofs.texts.ends_of.Given as goal
 
 abbrev pub invariant-loop-done : goal.invariant-loop-done

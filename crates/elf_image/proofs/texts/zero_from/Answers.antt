@@ -1,5 +1,5 @@
 use Rattle.std.proofs.Common.{◌+◌, ◌*◌, ◌/◌, min, length, ◌∙◌, ap, arith}
-use Rattle.elf_image.specs.Texts.{first_zero, block}
+use Rattle.elf_image.specs.private.Texts.{first_zero, block}
 use Rattle.elf_image.proofs.Ends.{zero_in_block, zero_later, first_above}
 use Rattle.elf_image.proofs.texts.zero_from.Goals as goal
 
