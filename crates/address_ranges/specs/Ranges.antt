@@ -8,7 +8,9 @@ holds address r = nat_le r.start address && nat_lt address r.end
 
 -- the range with that number is the first that holds each of its addresses, or is not
 abbrev pub IsFirst : List AddressRange → ℕ → ℕ → ℕ → Type 0
-IsFirst ranges low high number = (address : ℕ) → low ≤ address → address < high → position (holds address) ranges ≡ Some number
+IsFirst ranges low high number =
+    (address : ℕ) → low ≤ address → address < high → position (holds address) ranges ≡ Some number
 
 abbrev pub IsNotFirst : List AddressRange → ℕ → ℕ → ℕ → Type 0
-IsNotFirst ranges low high number = (address : ℕ) × (low ≤ address) × (address < high) × (position (holds address) ranges ≢ Some number)
+IsNotFirst ranges low high number =
+    (address : ℕ) × (low ≤ address) × (address < high) × (position (holds address) ranges ≢ Some number)

@@ -1,5 +1,6 @@
 //! Ranges, and tables of steps over them.
-ghost use Rattle.std.specs.Prelude.{◌≡◌, ◌≢◌, ℕ, MatchBool, ◌+◌, ◌<◌, ◌≤◌, ◌^◌, IfOk, Some, None, length, map, find, slice_get, if◌then◌else◌};
+ghost use Rattle.std.specs.Prelude.{◌≡◌, ◌≢◌, ℕ, MatchBool, ◌+◌, ◌<◌, ◌≤◌, ◌^◌, IfOk, Some, None, length, map, find};
+ghost use Rattle.std.specs.Prelude.{slice_get, if◌then◌else◌};
 ghost use Rattle.std.specs.List.{position_from};
 ghost use Rattle.std.specs.Option.{option_and_then, option_copied, option_or};
 ghost use Rattle.address_ranges.specs.Ranges.{holds, IsFirst, IsNotFirst};
@@ -124,7 +125,9 @@ fn overlay(alloc: Global, upper: &[Step], lower: &[Step]) -> Result<Vec<Step>, A
     requires upper { IsAscending 0 upper.now }
     requires lower { IsAscending 0 lower.now }
     ensures ascending { IfOk result (λ steps. IsAscending 0 steps.items) }
-    ensures holders { IfOk result (λ steps. (address : ℕ) → value_at None steps.items address ≡ option_or (value_at None upper.now address) (value_at None lower.now address)) }
+    ensures holders { IfOk result (λ steps. (address : ℕ)
+        → value_at None steps.items address
+        ≡ option_or (value_at None upper.now address) (value_at None lower.now address)) }
 {
     let mut steps = Vec::new(alloc);
     let (mut upper_left, mut lower_left) = (upper, lower);
@@ -140,7 +143,8 @@ fn overlay(alloc: Global, upper: &[Step], lower: &[Step]) -> Result<Vec<Step>, A
 
 fn one_range(alloc: Global, range: AddressRange, holder: usize) -> Result<Vec<Step>, AllocError>
     ensures ascending { IfOk result (λ steps. IsAscending 0 steps.items) }
-    ensures holders { IfOk result (λ steps. (address : ℕ) → value_at None steps.items address ≡ (if holds address range then Some holder else None)) }
+    ensures holders { IfOk result (λ steps. (address : ℕ)
+        → value_at None steps.items address ≡ (if holds address range then Some holder else None)) }
 {
     let mut steps = Vec::new(alloc);
     let start = u64::from(range.start);
@@ -160,7 +164,8 @@ fn one_range(alloc: Global, range: AddressRange, holder: usize) -> Result<Vec<St
 fn steps_of<T: HasRange>(alloc: Global, items: &[T], number: usize) -> Result<Vec<Step>, AllocError>
     requires { number + length items.now < 2 ^ 64 }
     ensures ascending { IfOk result (λ steps. IsAscending 0 steps.items) }
-    ensures holders { IfOk result (λ steps. (address : ℕ) → value_at None steps.items address ≡ position_from (holds address) number (map T.range_of items.now)) }
+    ensures holders { IfOk result (λ steps. (address : ℕ)
+        → value_at None steps.items address ≡ position_from (holds address) number (map T.range_of items.now)) }
 {
     match items {
         [] => Ok(Vec::new(alloc)),

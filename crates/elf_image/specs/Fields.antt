@@ -1,5 +1,6 @@
 -- Fields of a file by their offsets. Numbers have their lowest byte first (System V ABI, chapter 4).
-use Rattle.std.specs.Prelude.{ℕ, ◌+◌, ◌*◌, ◌==◌, Bool, List, length, take, drop, map, position, slice_index, Option, option_map, if◌then◌else◌, nat_le, nat_eq, ◌||◌}
+use Rattle.std.specs.Prelude.{ℕ, ◌+◌, ◌*◌, ◌==◌, Bool, List, length, take, drop, map, position, slice_index, Option}
+use Rattle.std.specs.Prelude.{option_map, if◌then◌else◌, nat_le, nat_eq, ◌||◌}
 use Rattle.std.specs.List.{range_with_len}
 use Rattle.std.specs.Cmp.Lexicographic.{pointwise}
 use Rattle.prof_bytes.specs.Number.{number_in}

@@ -1,8 +1,10 @@
 -- The headers of a file and its symbols, each field looked up in the whole file (System V ABI, chapters 4 and 5).
-use Rattle.std.specs.Prelude.{ℕ, ◌+◌, ◌/◌, ◌%◌, ◌==◌, Bool, not, ◌&&◌, nat_lt, List, [], filter, map, Option, Some, None, unwrap_or, take, drop, find, if◌then◌else◌, slice_get}
+use Rattle.std.specs.Prelude.{ℕ, ◌+◌, ◌/◌, ◌%◌, ◌==◌, Bool, not, ◌&&◌, nat_lt, List, [], filter, map, Option, Some}
+use Rattle.std.specs.Prelude.{None, unwrap_or, take, drop, find, if◌then◌else◌, slice_get}
 use Rattle.std.specs.Option.{option_map_or}
 use Rattle.elf_image.specs.declared.part.Segment.{Segment}
-use Rattle.elf_image.specs.declared.elf.TheConstants.{ELF32_PHDR_SIZE, ELF32_SHDR_SIZE, ELF32_SYM_SIZE, PT_LOAD, SHN_UNDEF, SHT_NOBITS, SHT_NULL, SHT_SYMTAB, STT_FUNC}
+use Rattle.elf_image.specs.declared.elf.TheConstants.{ELF32_PHDR_SIZE, ELF32_SHDR_SIZE, ELF32_SYM_SIZE, PT_LOAD}
+use Rattle.elf_image.specs.declared.elf.TheConstants.{SHN_UNDEF, SHT_NOBITS, SHT_NULL, SHT_SYMTAB, STT_FUNC}
 use Rattle.elf_image.specs.declared.header.ProgramHeader.{ProgramHeader}
 use Rattle.elf_image.specs.declared.header.SectionHeader.{SectionHeader}
 use Rattle.elf_image.specs.declared.header.Symbol.{Symbol}
@@ -77,7 +79,14 @@ unfoldable pub loads : List ℕ → List ProgramHeader
 loads file = filter is_load (program_headers file)
 
 abbrev pub segment_of : ProgramHeader → Segment
-segment_of h = record { start = h.p_vaddr; end = h.p_vaddr + h.p_memsz; flags = h.p_flags; offset = h.p_offset; filled = h.p_filesz }
+segment_of h =
+    record {
+      start = h.p_vaddr;
+      end = h.p_vaddr + h.p_memsz;
+      flags = h.p_flags;
+      offset = h.p_offset;
+      filled = h.p_filesz;
+    }
 
 unfoldable pub segments : List ℕ → List Segment
 segments file = map segment_of (loads file)
@@ -101,7 +110,8 @@ bytes_of_index file index = option_map_or (bytes_of file) (slice_get (section_he
 
 -- a section's name, where it ends within the section that has the names; without such a section all names are empty
 unfoldable pub name_of : List ℕ → SectionHeader → Option (List ℕ)
-name_of file h = if e_shstrndx file == SHN_UNDEF then Some [] else text_in (bytes_of_index file (e_shstrndx file)) h.sh_name
+name_of file h =
+    if e_shstrndx file == SHN_UNDEF then Some [] else text_in (bytes_of_index file (e_shstrndx file)) h.sh_name
 
 abbrev pub section_of : List ℕ → SectionHeader → Named
 section_of file h = record { name = unwrap_or (name_of file h) []; bytes = bytes_of file h }
@@ -120,18 +130,21 @@ symbols_of file table = table_of (symbol_at file) table.sh_offset ELF32_SYM_SIZE
 
 -- a symbol of type FUNC, with a section, whose range counts
 abbrev pub is_function : List Segment → Symbol → Bool
-is_function loaded s = s.st_type == STT_FUNC && not (s.st_shndx == SHN_UNDEF) && counts loaded s.st_value (s.st_value + s.st_size)
+is_function loaded s =
+    s.st_type == STT_FUNC && not (s.st_shndx == SHN_UNDEF) && counts loaded s.st_value (s.st_value + s.st_size)
 
 -- a symbol's name, where it ends within the table's section of texts
 abbrev pub symbol_name : List ℕ → SectionHeader → Symbol → Option (List ℕ)
 symbol_name file table s = text_in (bytes_of_index file table.sh_link) s.st_name
 
 abbrev pub function_of : List ℕ → SectionHeader → Symbol → FunctionSymbol
-function_of file table s = record { start = s.st_value; size = s.st_size; name = unwrap_or (symbol_name file table s) [] }
+function_of file table s =
+    record { start = s.st_value; size = s.st_size; name = unwrap_or (symbol_name file table s) [] }
 
 abbrev pub functions_of : List ℕ → Option SectionHeader → List FunctionSymbol
 functions_of file None = []
-functions_of file (Some table) = map (function_of file table) (filter (is_function (segments file)) (symbols_of file table))
+functions_of file (Some table) =
+    map (function_of file table) (filter (is_function (segments file)) (symbols_of file table))
 
 unfoldable pub functions : List ℕ → List FunctionSymbol
 functions file = functions_of file (symbol_table file)

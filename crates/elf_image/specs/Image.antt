@@ -1,5 +1,6 @@
 -- What a program's file gives to be run and measured.
-use Rattle.std.specs.Prelude.{ℕ, ◌+◌, ◌-◌, ◌%◌, ◌/◌, ◌^◌, ◌<◌, ◌≤◌, ◌==◌, IsTrue, List, [], length, All, AllPairs, Bool, ◌||◌, ◌&&◌, nat_le, nat_lt, find}
+use Rattle.std.specs.Prelude.{ℕ, ◌+◌, ◌-◌, ◌%◌, ◌/◌, ◌^◌, ◌<◌, ◌≤◌, ◌==◌, IsTrue, List, [], length, All, AllPairs, Bool}
+use Rattle.std.specs.Prelude.{◌||◌, ◌&&◌, nat_le, nat_lt, find}
 use Rattle.std.specs.List.{list_any}
 use Rattle.std.specs.Option.{option_map_or}
 use Rattle.elf_image.specs.Fields.{same_bytes}
@@ -69,7 +70,8 @@ is_readable s = has_flag PF_R s.flags
 
 -- a range counts where it is not empty and lies within one segment that can be executed
 abbrev pub counts : List Segment → ℕ → ℕ → Bool
-counts segments low high = nat_lt low high && list_any (λ s. is_executable s && nat_le s.start low && nat_le high s.end) segments
+counts segments low high =
+    nat_lt low high && list_any (λ s. is_executable s && nat_le s.start low && nat_le high s.end) segments
 
 -- the bytes of the first section of that name
 abbrev pub bytes_of_name : List Named → List ℕ → List ℕ

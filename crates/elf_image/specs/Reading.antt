@@ -3,12 +3,16 @@ use Rattle.std.specs.Prelude.{ℕ, List, Option, Some, None, Result, Ok, Err}
 use Rattle.prof_bytes.specs.Outcome.{◌>>=◌}
 use Rattle.elf_image.specs.declared.fault.ElfFault.{ElfFault}
 use Rattle.elf_image.specs.declared.fault.ElfRule.{ElfRule}
-use Rattle.elf_image.specs.declared.fault.ElfRule.TheVariants.{NotElf, NotRiscv32Exec, CompressedCode, HeaderPlace, SegmentPlace, SectionPlace, CompressedSection, SymbolPlace}
+use Rattle.elf_image.specs.declared.fault.ElfRule.TheVariants.{NotElf, NotRiscv32Exec, CompressedCode, HeaderPlace}
+use Rattle.elf_image.specs.declared.fault.ElfRule.TheVariants.{SegmentPlace, SectionPlace, CompressedSection}
+use Rattle.elf_image.specs.declared.fault.ElfRule.TheVariants.{SymbolPlace}
 use Rattle.elf_image.specs.Fields.{word_at}
 use Rattle.elf_image.specs.Image.{ProgramImage}
 use Rattle.elf_image.specs.Headers.{loads, segments, section_headers, sections, symbol_table, functions}
 use Rattle.elf_image.specs.declared.header.SectionHeader.{SectionHeader}
-use Rattle.elf_image.specs.Refusals.{not_elf, not_riscv32_exec, compressed_code, header_place, overfilled, unfilled, too_high, shared, outside, nameless, compressed_section, bad_table, nameless_function}
+use Rattle.elf_image.specs.Refusals.{not_elf, not_riscv32_exec, compressed_code, header_place, overfilled, unfilled}
+use Rattle.elf_image.specs.Refusals.{too_high, shared, outside, nameless, compressed_section, bad_table}
+use Rattle.elf_image.specs.Refusals.{nameless_function}
 
 abbrev pub refused_at : ElfRule → Option ℕ → Result (Unit {0}) ElfFault
 refused_at rule None = Ok tt

@@ -1,14 +1,19 @@
 -- What is refused in a file: for each rule the offset of the first field, header or symbol that breaks it, if there is
 -- one. Within a rule each test is made of all headers, in file order, before the next one.
-use Rattle.std.specs.Prelude.{ℕ, ◌+◌, ◌*◌, ◌%◌, ◌==◌, Bool, false, not, ◌&&◌, nat_lt, nat_le, List, [], ◌∷◌, length, find, Option, Some, None, option_map, is_none, slice_get, codes}
+use Rattle.std.specs.Prelude.{ℕ, ◌+◌, ◌*◌, ◌%◌, ◌==◌, Bool, false, not, ◌&&◌, nat_lt, nat_le, List, [], ◌∷◌, length}
+use Rattle.std.specs.Prelude.{find, Option, Some, None, option_map, is_none, slice_get, codes}
 use Rattle.std.specs.List.{list_any}
 use Rattle.std.specs.Option.{option_map_or}
-use Rattle.elf_image.specs.declared.elf.TheConstants.{EF_RISCV_RVC, ELF32_EHDR_SIZE, ELF32_PHDR_SIZE, ELF32_SHDR_SIZE, ELF32_SYM_SIZE, ELFCLASS32, ELFDATA2LSB, ELFMAG0, ELFMAG1, ELFMAG2, ELFMAG3, EM_RISCV, ET_EXEC, EV_CURRENT, SHF_COMPRESSED, SHT_STRTAB}
+use Rattle.elf_image.specs.declared.elf.TheConstants.{EF_RISCV_RVC, ELF32_EHDR_SIZE, ELF32_PHDR_SIZE, ELF32_SHDR_SIZE}
+use Rattle.elf_image.specs.declared.elf.TheConstants.{ELF32_SYM_SIZE, ELFCLASS32, ELFDATA2LSB, ELFMAG0, ELFMAG1}
+use Rattle.elf_image.specs.declared.elf.TheConstants.{ELFMAG2, ELFMAG3, EM_RISCV, ET_EXEC, EV_CURRENT, SHF_COMPRESSED}
+use Rattle.elf_image.specs.declared.elf.TheConstants.{SHT_STRTAB}
 use Rattle.elf_image.specs.declared.header.ProgramHeader.{ProgramHeader}
 use Rattle.elf_image.specs.declared.header.SectionHeader.{SectionHeader}
 use Rattle.elf_image.specs.Fields.{byte_at, half_at, word_at, lies_within, same_bytes}
 use Rattle.elf_image.specs.Image.{has_flag, stacks_begin}
-use Rattle.elf_image.specs.Headers.{e_phoff, e_phnum, e_shoff, e_shnum, e_shstrndx, section_headers, segments, is_section, has_bytes, name_of, symbols_of, is_function, symbol_name}
+use Rattle.elf_image.specs.Headers.{e_phoff, e_phnum, e_shoff, e_shnum, e_shstrndx, section_headers, segments}
+use Rattle.elf_image.specs.Headers.{is_section, has_bytes, name_of, symbols_of, is_function, symbol_name}
 
 -- the offset of the first test that holds
 abbrev pub first_of : List (Bool × ℕ) → Option ℕ
@@ -110,7 +115,8 @@ abbrev pub is_compressed : SectionHeader → Bool
 is_compressed h = has_flag SHF_COMPRESSED h.sh_flags
 
 unfoldable pub compressed_section : List ℕ → List SectionHeader → Option ℕ
-compressed_section file headers = first_section (λ h. is_section h && is_compressed h && is_read (name_of file h)) headers
+compressed_section file headers =
+    first_section (λ h. is_section h && is_compressed h && is_read (name_of file h)) headers
 
 -- ---- symbols
 
@@ -128,4 +134,5 @@ bad_table file table = first_of (
 
 unfoldable pub nameless_function : List ℕ → SectionHeader → Option ℕ
 nameless_function file table =
-    option_map (λ s. s.offset) (find (λ s. is_function (segments file) s && is_none (symbol_name file table s)) (symbols_of file table))
+    option_map (λ s. s.offset) (find (λ s. is_function (segments file) s
+    && is_none (symbol_name file table s)) (symbols_of file table))

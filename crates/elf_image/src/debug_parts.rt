@@ -30,7 +30,8 @@ impl<'a> DebugParts<'a> {
         ensures abbrev_of { result.«abbrev».now ≡ bytes_of_name image.now.sections (codes ".debug_abbrev") }
         ensures str_bytes_of { result.str_bytes.now ≡ bytes_of_name image.now.sections (codes ".debug_str") }
         ensures line_str_of { result.line_str.now ≡ bytes_of_name image.now.sections (codes ".debug_line_str") }
-        ensures str_offsets_of { result.str_offsets.now ≡ bytes_of_name image.now.sections (codes ".debug_str_offsets") }
+        ensures str_offsets_of { result.str_offsets.now
+            ≡ bytes_of_name image.now.sections (codes ".debug_str_offsets") }
         ensures addr_of { result.addr.now ≡ bytes_of_name image.now.sections (codes ".debug_addr") }
         ensures rnglists_of { result.rnglists.now ≡ bytes_of_name image.now.sections (codes ".debug_rnglists") }
     {

@@ -1,9 +1,11 @@
-ghost use Rattle.std.specs.Prelude.{◌≡◌, ◌+◌, ◌≤◌, ◌<◌, ◌^◌, ◌&&◌, IfOk, IfSome, Ok, nat_le, nat_lt, length, find, map, option_map, All, AllPairs, IsTrue};
+ghost use Rattle.std.specs.Prelude.{◌≡◌, ◌+◌, ◌≤◌, ◌<◌, ◌^◌, ◌&&◌, IfOk, IfSome, Ok, nat_le, nat_lt, length, find, map};
+ghost use Rattle.std.specs.Prelude.{option_map, All, AllPairs, IsTrue};
 ghost use Rattle.std.specs.List.{list_any};
 ghost use Rattle.std.specs.Option.{option_copied};
 ghost use Rattle.elf_image.specs.Fields.{same_bytes};
 ghost use Rattle.prof_bytes.specs.Outcome.{Gives};
-ghost use Rattle.elf_image.specs.Image.{IsLoaded, IsWithin, are_apart, named, symbol_view, in_segment, in_function, counts, bytes_of_name};
+ghost use Rattle.elf_image.specs.Image.{IsLoaded, IsWithin, are_apart, named, symbol_view, in_segment, in_function};
+ghost use Rattle.elf_image.specs.Image.{counts, bytes_of_name};
 ghost use Rattle.elf_image.specs.Headers.{segments, section_headers, sections, symbol_table, functions};
 ghost use Rattle.elf_image.specs.Reading.{header_of, segments_of, sections_of, symbols_in, image_of};
 ghost use Rattle.elf_image.specs.private.Checks.{after};
@@ -37,9 +39,21 @@ impl<'a> Model for Image<'a> {
 
     ghost Value = { ProgramImage };
 
-    ghost view = { λ image. record { file = image.file.now; entry = image.entry; segments = image.segments; sections = map named image.sections.items; functions = map symbol_view image.functions } };
+    ghost view = { λ image. record {
+      file = image.file.now;
+      entry = image.entry;
+      segments = image.segments;
+      sections = map named image.sections.items;
+      functions = map symbol_view image.functions;
+    } };
 
-    ghost invariant = { λ image. IsLoaded (record { file = image.file.now; entry = image.entry; segments = image.segments; sections = map named image.sections.items; functions = map symbol_view image.functions }) };
+    ghost invariant = { λ image. IsLoaded (record {
+      file = image.file.now;
+      entry = image.entry;
+      segments = image.segments;
+      sections = map named image.sections.items;
+      functions = map symbol_view image.functions;
+    }) };
 }
 
 /// The program that the file holds, or the first refusal. The file has at most 64 MiB.

@@ -1,9 +1,11 @@
 //! Sections, their names, and what is refused in their headers.
-ghost use Rattle.std.specs.Prelude.{◌≡◌, ◌+◌, ◌*◌, ◌<◌, ◌≤◌, ◌^◌, IfOk, Ok, length, map, option_map, find, filter, is_none, ◌&&◌};
+ghost use Rattle.std.specs.Prelude.{◌≡◌, ◌+◌, ◌*◌, ◌<◌, ◌≤◌, ◌^◌, IfOk, Ok, length, map, option_map, find, filter};
+ghost use Rattle.std.specs.Prelude.{is_none, ◌&&◌};
 ghost use Rattle.std.specs.Option.{option_copied};
 ghost use Rattle.prof_bytes.specs.Outcome.{Gives};
 ghost use Rattle.elf_image.specs.Image.{named};
-ghost use Rattle.elf_image.specs.Headers.{e_shstrndx, is_section, has_bytes, bytes_of, bytes_of_index, section_headers, name_of, section_of, sections};
+ghost use Rattle.elf_image.specs.Headers.{e_shstrndx, is_section, has_bytes, bytes_of, bytes_of_index, section_headers};
+ghost use Rattle.elf_image.specs.Headers.{name_of, section_of, sections};
 ghost use Rattle.elf_image.specs.Refusals.{outside, nameless, is_read, is_read_name, is_compressed, compressed_section};
 ghost use Rattle.elf_image.specs.Reading.{sections_of};
 ghost use Rattle.elf_image.specs.private.Checks.{after};

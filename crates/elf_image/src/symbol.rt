@@ -1,11 +1,13 @@
 //! The symbol table, its function symbols, and what is refused there.
-ghost use Rattle.std.specs.Prelude.{◌≡◌, ◌+◌, ◌*◌, ◌/◌, ◌<◌, ◌≤◌, ◌^◌, ◌&&◌, ◌==◌, not, nat_lt, nat_le, is_none, IfOk, Ok, Some, None, length, map, option_map, find, filter, IsTrue, All, AllPairs};
+ghost use Rattle.std.specs.Prelude.{◌≡◌, ◌+◌, ◌*◌, ◌/◌, ◌<◌, ◌≤◌, ◌^◌, ◌&&◌, ◌==◌, not, nat_lt, nat_le, is_none, IfOk};
+ghost use Rattle.std.specs.Prelude.{Ok, Some, None, length, map, option_map, find, filter, IsTrue, All, AllPairs};
 ghost use Rattle.std.specs.List.{list_any, range_with_len};
 ghost use Rattle.std.specs.Option.{option_copied};
 ghost use Rattle.prof_bytes.specs.Outcome.{Gives};
 ghost use Rattle.elf_image.specs.Fields.{text_in};
 ghost use Rattle.elf_image.specs.Image.{symbol_view, are_apart};
-ghost use Rattle.elf_image.specs.Headers.{section_headers, segments, bytes_of_index, symbol_table, symbol_at, symbols_of, is_function, symbol_name, function_of, functions_of, functions};
+ghost use Rattle.elf_image.specs.Headers.{section_headers, segments, bytes_of_index, symbol_table, symbol_at};
+ghost use Rattle.elf_image.specs.Headers.{symbols_of, is_function, symbol_name, function_of, functions_of, functions};
 ghost use Rattle.elf_image.specs.Refusals.{is_text_table, bad_table, nameless_function};
 ghost use Rattle.elf_image.specs.Reading.{sections_of, symbols_in};
 ghost use Rattle.elf_image.specs.private.Checks.{after};

@@ -1,5 +1,6 @@
 -- Fields that are read one after another, each with the fault that it is where the bytes run out.
-use Rattle.std.specs.Prelude.{ℕ, ◌+◌, ◌||◌, ℤ, List, length, Option, Some, None, Result, Ok, Err, if◌then◌else◌, nat_lt, nat_le}
+use Rattle.std.specs.Prelude.{ℕ, ◌+◌, ◌||◌, ℤ, List, length, Option, Some, None, Result, Ok, Err, if◌then◌else◌, nat_lt}
+use Rattle.std.specs.Prelude.{nat_le}
 use Rattle.prof_bytes.specs.Number.{number_at}
 use Rattle.prof_bytes.specs.Leb.{uleb_at, sleb_at}
 use Rattle.prof_bytes.specs.Reading.{At, left_of, moved, up_to, bytes_at, text_at}
@@ -45,7 +46,8 @@ first_reserved_length = 0xfffffff0
 abbrev pub initial_length_from : {F : Type 0} → Input F → Result (ℕ × Input F) F
 initial_length_from input = do
   (size, body) ← number_from 4 input
-  if nat_le first_reserved_length size || nat_lt (length (left_of body.at)) size then Err input.missing else Ok (size, body)
+  if nat_le first_reserved_length size || nat_lt (length (left_of body.at)) size
+      then Err input.missing else Ok (size, body)
 
 -- the part that an initial length counts, and the input behind it
 abbrev pub part_from : {F : Type 0} → Input F → Result (Input F × Input F) F

@@ -1,5 +1,6 @@
 -- LEB128, the numbers of variable length of DWARF 5, section 7.6.
-use Rattle.std.specs.Prelude.{ℕ, ◌+◌, ◌*◌, ◌-◌, ◌%◌, ◌^◌, ℤ, pos, ◌-ℤ◌, Bool, List, [], ◌∷◌, length, take, position, Option, Some, None, option_map, option_and_then, if◌then◌else◌, nat_lt, nat_le, ◌&&◌}
+use Rattle.std.specs.Prelude.{ℕ, ◌+◌, ◌*◌, ◌-◌, ◌%◌, ◌^◌, ℤ, pos, ◌-ℤ◌, Bool, List, [], ◌∷◌, length, take, position}
+use Rattle.std.specs.Prelude.{Option, Some, None, option_map, option_and_then, if◌then◌else◌, nat_lt, nat_le, ◌&&◌}
 
 -- the last byte of a number has its high bit clear
 abbrev pub is_last : ℕ → Bool
@@ -42,7 +43,8 @@ signed_value group = if is_negative group then pos (seven_bits group) -ℤ pos (
 abbrev pub fits_signed : List ℕ → Bool
 fits_signed group =
     nat_le (length group) 10
-    && (if is_negative group then nat_le (span group - seven_bits group) (2 ^ 63) else nat_lt (seven_bits group) (2 ^ 63))
+    && (if is_negative group then nat_le (span group - seven_bits group) (2 ^ 63)
+    else nat_lt (seven_bits group) (2 ^ 63))
 
 -- the signed number of a group, and how many bytes it has
 abbrev pub signed_of : List ℕ → Option (ℤ × ℕ)

@@ -1,5 +1,6 @@
 -- An offset in bytes, and what a read from there gives.
-use Rattle.std.specs.Prelude.{ℕ, ◌+◌, List, length, take, drop, position, ◌==◌, Option, Some, None, if◌then◌else◌, nat_lt, option_map}
+use Rattle.std.specs.Prelude.{ℕ, ◌+◌, List, length, take, drop, position, ◌==◌, Option, Some, None, if◌then◌else◌}
+use Rattle.std.specs.Prelude.{nat_lt, option_map}
 
 -- bytes, and the offset of the next one to be read
 pub record At : Type 0 where

@@ -1,5 +1,6 @@
 //! LEB128 numbers at the front of bytes, by DWARF 5, section 7.6.
-ghost use Rattle.std.specs.Prelude.{◌≡◌, ◌<◌, ◌≤◌, ◌-◌, ◌^◌, ◌-ℤ◌, pos, IfSome, Some, None, if◌then◌else◌, nat_le, length, position};
+ghost use Rattle.std.specs.Prelude.{◌≡◌, ◌<◌, ◌≤◌, ◌-◌, ◌^◌, ◌-ℤ◌, pos, IfSome, Some, None, if◌then◌else◌, nat_le};
+ghost use Rattle.std.specs.Prelude.{length, position};
 ghost use Rattle.std.specs.Option.{option_copied};
 ghost use Rattle.prof_bytes.specs.Leb.{is_last, leb_group, seven_bits, unsigned_of, signed_of, uleb_at, sleb_at, span};
 

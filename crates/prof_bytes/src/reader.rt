@@ -1,7 +1,8 @@
 ghost use Rattle.std.specs.Prelude.{◌≡◌, ◌≤◌, ◌+◌, length, IfOk};
 ghost use Rattle.prof_bytes.specs.Outcome.{viewed};
 ghost use Rattle.prof_bytes.specs.Reading.{left_of, up_to};
-ghost use Rattle.prof_bytes.specs.Fields.{answered, number_from, uleb_from, sleb_from, bytes_from, text_from, initial_length_from, part_from};
+ghost use Rattle.prof_bytes.specs.Fields.{answered, number_from, uleb_from, sleb_from, bytes_from, text_from};
+ghost use Rattle.prof_bytes.specs.Fields.{initial_length_from, part_from};
 
 use crate::cursor::Cursor;
 use std::marker::Model;

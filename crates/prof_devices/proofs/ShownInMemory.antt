@@ -18,10 +18,10 @@ pub failed_fails : (f : Failures) (name : List ℕ) → Fails f (failed_at f nam
 failed_fails f name = record { rose = omega arith; named = refl }
 
 reads_same : (old new : MemoryShelf) (name : List ℕ) → new ≡ counted old → Reads (shown_shelf old) (shown_shelf new) name
-reads_same old new name is = subst (λ (s : MemoryShelf). Reads (shown_shelf old) (shown_shelf s) name) (sym is) (record { tells = refl; files = refl; stores = refl; reads = same_advances old.reads name })
+reads_same old new name is = subst (λ (s : MemoryShelf). Reads (shown_shelf old) (shown_shelf s) name) (sym is) (record { known = refl; files = refl; stores = refl; reads = same_advances old.reads name })
 
 reads_failed : (old new : MemoryShelf) (name : List ℕ) → old.reads.count ≤ last_count → new ≡ failed_read old name → Reads (shown_shelf old) (shown_shelf new) name × Fails old.reads new.reads name
-reads_failed old new name small is = subst (λ (s : MemoryShelf). Reads (shown_shelf old) (shown_shelf s) name × Fails old.reads s.reads name) (sym is) (record { tells = refl; files = refl; stores = refl; reads = failed_advances old.reads name small }, failed_fails old.reads name)
+reads_failed old new name small is = subst (λ (s : MemoryShelf). Reads (shown_shelf old) (shown_shelf s) name × Fails old.reads s.reads name) (sym is) (record { known = refl; files = refl; stores = refl; reads = failed_advances old.reads name small }, failed_fails old.reads name)
 
 found_bytes : (files : Files) (name bytes : List ℕ) → file_of files name ≡ Some bytes → bytes_of files name ≡ bytes
 found_bytes files name bytes found = ap (λ (o : Option (List ℕ)). unwrap_or o []) found
@@ -39,10 +39,10 @@ nothing_held : (old new : Files) (name bytes : List ℕ) → new ≡ old → Hol
 nothing_held old new name bytes is = subst (λ (fs : Files). HoldsPart old fs name bytes) (sym is) (record { file = inl refl; others = λ other differ. refl })
 
 writes_same : (old new : MemoryShelf) (files : Files) (name : List ℕ) → new ≡ record (counted old) { files = files } → Writes (shown_shelf old) (shown_shelf new) name
-writes_same old new files name is = subst (λ (s : MemoryShelf). Writes (shown_shelf old) (shown_shelf s) name) (sym is) (record { tells = refl; reads = refl; stores = same_advances old.stores name })
+writes_same old new files name is = subst (λ (s : MemoryShelf). Writes (shown_shelf old) (shown_shelf s) name) (sym is) (record { known = refl; reads = refl; stores = same_advances old.stores name })
 
 writes_failed : (old new : MemoryShelf) (files : Files) (name : List ℕ) → old.stores.count ≤ last_count → new ≡ record (counted old) { files = files; stores = failed_at old.stores name } → Writes (shown_shelf old) (shown_shelf new) name × Fails old.stores new.stores name
-writes_failed old new files name small is = subst (λ (s : MemoryShelf). Writes (shown_shelf old) (shown_shelf s) name × Fails old.stores s.stores name) (sym is) (record { tells = refl; reads = refl; stores = failed_advances old.stores name small }, failed_fails old.stores name)
+writes_failed old new files name small is = subst (λ (s : MemoryShelf). Writes (shown_shelf old) (shown_shelf s) name × Fails old.stores s.stores name) (sym is) (record { known = refl; reads = refl; stores = failed_advances old.stores name small }, failed_fails old.stores name)
 
 pub memory_stored : (old new : MemoryShelf) (name bytes : List ℕ) (answer : Put) → old.stores.count ≤ last_count → MemoryStores old new name bytes answer → Stored (shown_shelf old) (shown_shelf new) name bytes answer
 memory_stored old new name bytes Done small h = (writes_same old new new.files name h.1, (λ told. h.2))
@@ -51,8 +51,8 @@ memory_stored old new name bytes (Memory memory) small h = (writes_same old new 
 
 pub memory_taken : (old new : MemorySink) (bytes : List ℕ) (answer : Put) → old.faults ≤ last_count → old.shortages ≤ last_count → MemoryPuts old new bytes answer → Taken (shown_sink old) (shown_sink new) bytes answer
 memory_taken old new bytes Done few_faults few_shortages h =
-    subst (λ (s : MemorySink). Taken (shown_sink old) (shown_sink s) bytes Done) (sym h.1) (record { tells = refl; faults = omega arith; shortages = omega arith }, (λ told. refl))
+    subst (λ (s : MemorySink). Taken (shown_sink old) (shown_sink s) bytes Done) (sym h.1) (record { known = refl; faults = omega arith; shortages = omega arith }, (λ told. refl))
 memory_taken old new bytes Fault few_faults few_shortages h =
-    subst (λ (s : MemorySink). Taken (shown_sink old) (shown_sink s) bytes Fault) (sym h.1) (record { tells = refl; faults = omega arith; shortages = omega arith }, (omega arith), (λ told. (old.kept, refl)))
+    subst (λ (s : MemorySink). Taken (shown_sink old) (shown_sink s) bytes Fault) (sym h.1) (record { known = refl; faults = omega arith; shortages = omega arith }, (omega arith), (λ told. (old.kept, refl)))
 memory_taken old new bytes (Memory memory) few_faults few_shortages h =
-    subst (λ (s : MemorySink). Taken (shown_sink old) (shown_sink s) bytes (Memory memory)) (sym h) (record { tells = refl; faults = omega arith; shortages = omega arith }, (omega arith), (λ told. (0, sym (append-nil old.taken))))
+    subst (λ (s : MemorySink). Taken (shown_sink old) (shown_sink s) bytes (Memory memory)) (sym h) (record { known = refl; faults = omega arith; shortages = omega arith }, (omega arith), (λ told. (0, sym (append-nil old.taken))))

@@ -1,4 +1,5 @@
--- The devices over a folder and over streams: they tell no content, and a count rises in just the calls that answer a fault.
+-- The devices over a folder and over streams: nothing is known of what they hold, and a count rises in just the calls
+-- that answer a fault.
 use Rattle.std.specs.Prelude.{◌≡◌, ℕ, ◌<◌, ◌≤◌, List, length, Option, IfSome}
 use Rattle.core.specs.Str.{IsUtf8}
 use Rattle.prof_devices.specs.declared.shelf.Fetch.{Fetch}

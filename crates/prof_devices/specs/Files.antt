@@ -1,5 +1,6 @@
 -- Files by name.
-use Rattle.std.specs.Prelude.{◌≡◌, ◌≢◌, ℕ, ◌⊎◌, List, [], ◌∷◌, take, Option, Some, None, Bool, if◌then◌else◌, unwrap_or, nat_eq}
+use Rattle.std.specs.Prelude.{◌≡◌, ◌≢◌, ℕ, ◌⊎◌, List, [], ◌∷◌, take, Option, Some, None, Bool, if◌then◌else◌, unwrap_or}
+use Rattle.std.specs.Prelude.{nat_eq}
 use Rattle.std.specs.Cmp.Lexicographic.{pointwise}
 
 -- names and bytes

@@ -1,5 +1,6 @@
 -- The devices over memory, exactly: which calls fail, and what they leave.
-use Rattle.std.specs.Prelude.{◌≡◌, ℕ, ◌+◌, ◌==◌, ◌<◌, ◌≤◌, List, [], ◌++◌, length, take, min, Bool, true, false, Some, None}
+use Rattle.std.specs.Prelude.{◌≡◌, ℕ, ◌+◌, ◌==◌, ◌<◌, ◌≤◌, List, [], ◌++◌, length, take, min, Bool, true, false, Some}
+use Rattle.std.specs.Prelude.{None}
 use Rattle.std.specs.List.{list_any}
 use Rattle.prof_devices.specs.declared.shelf.Fetch.{Fetch}
 use Rattle.prof_devices.specs.declared.shelf.Fetch.TheVariants as fetches
@@ -20,7 +21,8 @@ failed_at failures name = record { count = raised failures.count; name = name }
 abbrev pub no_failures : Failures
 no_failures = record { count = 0; name = [] }
 
--- a shelf over memory: its files and failures, the numbers of the calls that are to fail, how many bytes a failing store keeps, and how many calls there were
+-- a shelf over memory: its files and failures, the numbers of the calls that are to fail, how many bytes a failing
+-- store keeps, and how many calls there were
 pub record MemoryShelf : Type 0 where
   pub files : Files
   pub reads : Failures
@@ -29,9 +31,9 @@ pub record MemoryShelf : Type 0 where
   pub kept : ℕ
   pub calls : ℕ
 
--- what it shows as a shelf: it tells its files
+-- its state as a shelf: its files are known
 abbrev pub shown_shelf : MemoryShelf → ShelfState
-shown_shelf s = record { tells = true; files = s.files; reads = s.reads; stores = s.stores }
+shown_shelf s = record { known = true; files = s.files; reads = s.reads; stores = s.stores }
 
 -- whether the next call fails: calls are numbered from 1
 abbrev pub is_failing : List ℕ → ℕ → Bool
@@ -53,9 +55,11 @@ FetchFails s name false = file_of s.files name ≡ None
 -- a fetch from memory, answer by answer
 abbrev pub MemoryFetches : MemoryShelf → MemoryShelf → List ℕ → ℕ → Fetch → Type 0
 MemoryFetches old new name limit (fetches.Whole bytes) =
-    (is_failing old.failing old.calls ≡ false) × (new ≡ counted old) × (file_of old.files name ≡ Some bytes) × (length bytes ≤ limit)
+    (is_failing old.failing old.calls ≡ false) × (new ≡ counted old) × (file_of old.files name ≡ Some bytes)
+    × (length bytes ≤ limit)
 MemoryFetches old new name limit fetches.TooLong =
-    (is_failing old.failing old.calls ≡ false) × (new ≡ counted old) × (bytes : List ℕ) × (file_of old.files name ≡ Some bytes) × (limit < length bytes)
+    (is_failing old.failing old.calls ≡ false) × (new ≡ counted old) × (bytes : List ℕ)
+    × (file_of old.files name ≡ Some bytes) × (limit < length bytes)
 MemoryFetches old new name limit fetches.Fault =
     FetchFails old name (is_failing old.failing old.calls) × (new ≡ failed_read old name)
 MemoryFetches old new name limit (fetches.Memory memory) = new ≡ counted old
@@ -63,7 +67,8 @@ MemoryFetches old new name limit (fetches.Memory memory) = new ≡ counted old
 -- a store to memory: one that is to fail keeps a front
 abbrev pub MemoryStores : MemoryShelf → MemoryShelf → List ℕ → List ℕ → Put → Type 0
 MemoryStores old new name bytes Done =
-    (is_failing old.failing old.calls ≡ false) × (new ≡ record (counted old) { files = new.files }) × Holds old.files new.files name bytes
+    (is_failing old.failing old.calls ≡ false) × (new ≡ record (counted old) { files = new.files })
+    × Holds old.files new.files name bytes
 MemoryStores old new name bytes Fault =
     (is_failing old.failing old.calls ≡ true)
     × (new ≡ record (counted old) { files = new.files; stores = failed_at old.stores name })
@@ -79,9 +84,9 @@ pub record MemorySink : Type 0 where
   pub kept : ℕ
   pub calls : ℕ
 
--- what it shows as a sink: it tells its bytes
+-- its state as a sink: its bytes are known
 abbrev pub shown_sink : MemorySink → SinkState
-shown_sink s = record { tells = true; taken = s.taken; faults = s.faults; shortages = s.shortages }
+shown_sink s = record { known = true; taken = s.taken; faults = s.faults; shortages = s.shortages }
 
 -- one more call
 abbrev pub counted_put : MemorySink → MemorySink
@@ -98,20 +103,21 @@ MemoryPuts old new bytes (Memory memory) = new ≡ record (counted_put old) { sh
 
 -- a shelf and a sink that never fail
 abbrev pub sure_shelf : Files → ShelfState
-sure_shelf files = record { tells = true; files = files; reads = no_failures; stores = no_failures }
+sure_shelf files = record { known = true; files = files; reads = no_failures; stores = no_failures }
 
 -- the bytes taken, and how often memory was short
 pub record SureSinkState : Type 0 where
   pub taken : List ℕ
   pub shortages : ℕ
 
--- what it shows as a sink
+-- its state as a sink
 abbrev pub sure_sink : SureSinkState → SinkState
-sure_sink s = record { tells = true; taken = s.taken; faults = 0; shortages = s.shortages }
+sure_sink s = record { known = true; taken = s.taken; faults = 0; shortages = s.shortages }
 
 -- a fetch leaves the files, and fails never
 abbrev pub SureFetches : Files → Files → List ℕ → ℕ → Fetch → Type 0
-SureFetches old new name limit (fetches.Whole bytes) = (new ≡ old) × (bytes ≡ bytes_of old name) × (length bytes ≤ limit)
+SureFetches old new name limit (fetches.Whole bytes) =
+    (new ≡ old) × (bytes ≡ bytes_of old name) × (length bytes ≤ limit)
 SureFetches old new name limit fetches.TooLong = (new ≡ old) × (limit < length (bytes_of old name))
 SureFetches old new name limit fetches.Fault = ⊥
 SureFetches old new name limit (fetches.Memory memory) = new ≡ old

@@ -1,4 +1,4 @@
--- What calls on the outside may do to what is told of it.
+-- What calls on a shelf or a sink may do to its state.
 use Rattle.std.specs.Prelude.{◌≡◌, ℕ, ◌+◌, ◌-◌, ◌^◌, ◌<◌, ◌≤◌, ◌⊎◌, List, ◌++◌, length, take, min, Bool, IsTrue}
 use Rattle.prof_devices.specs.declared.shelf.Fetch.{Fetch}
 use Rattle.prof_devices.specs.declared.shelf.Fetch.TheVariants as fetches
@@ -11,16 +11,16 @@ pub record Failures : Type 0 where
   pub count : ℕ
   pub name : List ℕ
 
--- what a shelf shows. Its files count only where it tells them
+-- a shelf's state. Its files count only where they are known
 pub record ShelfState : Type 0 where
-  pub tells : Bool
+  pub known : Bool
   pub files : Files
   pub reads : Failures
   pub stores : Failures
 
--- what a sink shows: the bytes taken count only where it tells them
+-- a sink's state. The bytes taken count only where they are known
 pub record SinkState : Type 0 where
-  pub tells : Bool
+  pub known : Bool
   pub taken : List ℕ
   pub faults : ℕ
   pub shortages : ℕ
@@ -45,31 +45,34 @@ pub record Fails (old new : Failures) (name : List ℕ) : Type 0 where
 
 -- a fetch changes no file
 pub record Reads (old new : ShelfState) (name : List ℕ) : Type 0 where
-  pub tells : new.tells ≡ old.tells
+  pub known : new.known ≡ old.known
   pub files : new.files ≡ old.files
   pub stores : new.stores ≡ old.stores
   pub reads : Advances old.reads new.reads name
 
--- what a fetch leaves, and what its answer says of the files where they are told
+-- what a fetch leaves, and what its answer says of the files where they are known
 abbrev pub Fetched : ShelfState → ShelfState → List ℕ → ℕ → Fetch → Type 0
 Fetched old new name limit (fetches.Whole bytes) =
-    Reads old new name × (IsTrue old.tells → (bytes ≡ bytes_of old.files name) × (length bytes ≤ limit))
-Fetched old new name limit fetches.TooLong = Reads old new name × (IsTrue old.tells → limit < length (bytes_of old.files name))
+    Reads old new name × (IsTrue old.known → (bytes ≡ bytes_of old.files name) × (length bytes ≤ limit))
+Fetched old new name limit fetches.TooLong =
+    Reads old new name × (IsTrue old.known → limit < length (bytes_of old.files name))
 Fetched old new name limit fetches.Fault = Reads old new name × Fails old.reads new.reads name
 Fetched old new name limit (fetches.Memory memory) = Reads old new name
 
 -- a store changes no more than the files and the failed stores
 pub record Writes (old new : ShelfState) (name : List ℕ) : Type 0 where
-  pub tells : new.tells ≡ old.tells
+  pub known : new.known ≡ old.known
   pub reads : new.reads ≡ old.reads
   pub stores : Advances old.stores new.stores name
 
 -- what a store leaves
 abbrev pub Stored : ShelfState → ShelfState → List ℕ → List ℕ → Put → Type 0
-Stored old new name bytes Done = Writes old new name × (IsTrue old.tells → Holds old.files new.files name bytes)
+Stored old new name bytes Done = Writes old new name × (IsTrue old.known → Holds old.files new.files name bytes)
 Stored old new name bytes Fault =
-    Writes old new name × Fails old.stores new.stores name × (IsTrue old.tells → HoldsPart old.files new.files name bytes)
-Stored old new name bytes (Memory memory) = Writes old new name × (IsTrue old.tells → HoldsPart old.files new.files name bytes)
+    Writes old new name × Fails old.stores new.stores name
+    × (IsTrue old.known → HoldsPart old.files new.files name bytes)
+Stored old new name bytes (Memory memory) =
+    Writes old new name × (IsTrue old.known → HoldsPart old.files new.files name bytes)
 
 -- all of the bytes were added
 abbrev pub Appends : List ℕ → List ℕ → List ℕ → Type 0
@@ -81,14 +84,14 @@ AppendsPart old new bytes = (n : ℕ) × (new ≡ old ++ take n bytes)
 
 -- a sink's counts never fall
 pub record Counts (old new : SinkState) : Type 0 where
-  pub tells : new.tells ≡ old.tells
+  pub known : new.known ≡ old.known
   pub faults : old.faults ≤ new.faults
   pub shortages : old.shortages ≤ new.shortages
 
 -- what a put leaves
 abbrev pub Taken : SinkState → SinkState → List ℕ → Put → Type 0
-Taken old new bytes Done = Counts old new × (IsTrue old.tells → Appends old.taken new.taken bytes)
+Taken old new bytes Done = Counts old new × (IsTrue old.known → Appends old.taken new.taken bytes)
 Taken old new bytes Fault =
-    Counts old new × Rose old.faults new.faults × (IsTrue old.tells → AppendsPart old.taken new.taken bytes)
+    Counts old new × Rose old.faults new.faults × (IsTrue old.known → AppendsPart old.taken new.taken bytes)
 Taken old new bytes (Memory memory) =
-    Counts old new × Rose old.shortages new.shortages × (IsTrue old.tells → AppendsPart old.taken new.taken bytes)
+    Counts old new × Rose old.shortages new.shortages × (IsTrue old.known → AppendsPart old.taken new.taken bytes)

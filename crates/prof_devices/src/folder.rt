@@ -13,7 +13,7 @@ use std::rt::Files;
 use std::{fs, io};
 
 /// The files of the current folder, and of every other folder that a name leads to. A name is UTF-8 text.
-/// It tells no content. A file that cannot be opened is a fault, and so is a name that is no UTF-8 text; a
+/// Its content is not known. A file that can't be opened is a fault, and so is a name that isn't UTF-8 text; a
 /// fetch reads at most `limit + 1` bytes.
 #[derive(Drop)]
 pub struct FolderShelf<'a, R> {
@@ -30,7 +30,12 @@ impl<'a, R> Model for FolderShelf<'a, R> {
 
     ghost Value = { ShelfState };
 
-    ghost view = { λ s. record { tells = false; files = []; reads = record { count = s.read_faults; name = s.read_failed }; stores = record { count = s.store_faults; name = s.store_failed } } };
+    ghost view = { λ s. record {
+      known = false;
+      files = [];
+      reads = record { count = s.read_faults; name = s.read_failed };
+      stores = record { count = s.store_faults; name = s.store_failed };
+    } };
 }
 
 impl<'a, R> FolderShelf<'a, R> {
@@ -38,7 +43,7 @@ impl<'a, R> FolderShelf<'a, R> {
     pub fn of(rt: &'a R) -> FolderShelf<'a, R>
     where
         R: AllocGlobal,
-        ensures { result ≡ record { tells = false; files = []; reads = no_failures; stores = no_failures } }
+        ensures { result ≡ record { known = false; files = []; reads = no_failures; stores = no_failures } }
     {
         FolderShelf {
             rt,

@@ -3,8 +3,8 @@
 //!
 //! It promises that a failure is answered only where a count of failures rose, that nothing but the
 //! named file or the stream changes, and that what stands after a failure is a front of what was to be
-//! written. The devices over memory tell what they hold, and fail where they are told to; those over a
-//! folder and over the process's streams tell nothing, and are the trusted edge. Below stands
+//! written. What the devices over memory hold is known, and they fail on demand; of those over a folder
+//! and over the process's streams nothing is known, and they are the trusted edge. Below stands
 //! `prof_bytes`.
 #![tactic(auto)]
 

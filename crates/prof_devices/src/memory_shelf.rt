@@ -1,7 +1,9 @@
-ghost use Rattle.std.specs.Prelude.{◌≡◌, ◌≤◌, ◌+◌, None, Some, MatchOption, OnOk, OnErr, take};
+ghost use Rattle.std.specs.Prelude.{◌≡◌, ◌≤◌, ◌+◌, None, Some, OnOk, OnErr, take};
+ghost use Rattle.std.specs.Option.{option_copied};
 ghost use Rattle.prof_devices.specs.Files.{file_of, Holds};
 ghost use Rattle.prof_devices.specs.Outside.{Fetched, Stored, last_count};
-ghost use Rattle.prof_devices.specs.InMemory.{MemoryShelf, MemoryFetches, MemoryStores, counted, failed_at, is_failing, no_failures, shown_shelf};
+ghost use Rattle.prof_devices.specs.InMemory.{MemoryShelf, MemoryFetches, MemoryStores, counted, failed_at, is_failing};
+ghost use Rattle.prof_devices.specs.InMemory.{no_failures, shown_shelf};
 ghost use Rattle.prof_devices.specs.private.Parts.{FileRead, FrontStored};
 
 use crate::named_files::{file_in, write_file};
@@ -28,13 +30,27 @@ pub struct MemShelf {
 impl Model for MemShelf {
     ghost Value = { MemoryShelf };
 
-    ghost view = { λ s. record { files = s.files.items; reads = record { count = s.read_faults; name = s.read_failed }; stores = record { count = s.store_faults; name = s.store_failed }; failing = s.failing.items; kept = s.kept; calls = s.calls } };
+    ghost view = { λ s. record {
+      files = s.files.items;
+      reads = record { count = s.read_faults; name = s.read_failed };
+      stores = record { count = s.store_faults; name = s.store_failed };
+      failing = s.failing.items;
+      kept = s.kept;
+      calls = s.calls;
+    } };
 }
 
 impl MemShelf {
     /// A shelf with these files, of which no two have one name.
     pub fn of(alloc: Global, files: Vec<(Text, Text)>, failing: Vec<u64>, kept: usize) -> MemShelf
-        ensures { result ≡ record { files = files.items; reads = no_failures; stores = no_failures; failing = failing.items; kept = kept; calls = 0 } }
+        ensures { result ≡ record {
+          files = files.items;
+          reads = no_failures;
+          stores = no_failures;
+          failing = failing.items;
+          kept = kept;
+          calls = 0;
+        } }
     {
         MemShelf {
             alloc,
@@ -51,7 +67,7 @@ impl MemShelf {
 
     /// The bytes of the file with this name.
     pub fn file(&self, name: &[u8]) -> Option<&[u8]>
-        ensures { MatchOption result (file_of self.now.files name.now ≡ None) (λ bytes. file_of self.now.files name.now ≡ Some bytes.now) }
+        ensures { option_copied result ≡ file_of self.now.files name.now }
     {
         file_in(self.files.as_slice(), name)
     }
@@ -79,7 +95,8 @@ impl MemShelf {
     }
 
     fn write(&mut self, name: &[u8], bytes: &[u8]) -> Result<(), Memory>
-        ensures ok { OnOk result ((self.new ≡ record self.old { files = self.new.files }) × Holds self.old.files self.new.files name.now bytes.now) }
+        ensures ok { OnOk result ((self.new ≡ record self.old { files = self.new.files })
+            × Holds self.old.files self.new.files name.now bytes.now) }
         ensures err { OnErr result (self.new ≡ self.old) }
     {
         let text = Text::of(self.alloc, bytes)?;

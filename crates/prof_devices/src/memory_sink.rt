@@ -24,13 +24,27 @@ pub struct MemSink {
 impl Model for MemSink {
     ghost Value = { MemorySink };
 
-    ghost view = { λ s. record { taken = s.bytes.items; faults = s.faults; shortages = s.shortages; failing = s.failing.items; kept = s.kept; calls = s.calls } };
+    ghost view = { λ s. record {
+      taken = s.bytes.items;
+      faults = s.faults;
+      shortages = s.shortages;
+      failing = s.failing.items;
+      kept = s.kept;
+      calls = s.calls;
+    } };
 }
 
 impl MemSink {
     /// A sink that has taken nothing yet.
     pub fn of(alloc: Global, failing: Vec<u64>, kept: usize) -> MemSink
-        ensures { result ≡ record { taken = []; faults = 0; shortages = 0; failing = failing.items; kept = kept; calls = 0 } }
+        ensures { result ≡ record {
+          taken = [];
+          faults = 0;
+          shortages = 0;
+          failing = failing.items;
+          kept = kept;
+          calls = 0;
+        } }
     {
         MemSink {
             bytes: Vec::new(alloc),

@@ -1,5 +1,6 @@
 //! Files in memory, by name.
-ghost use Rattle.std.specs.Prelude.{◌≡◌, None, Some, MatchOption, OnOk, OnErr, position};
+ghost use Rattle.std.specs.Prelude.{◌≡◌, None, Some, OnOk, OnErr, position};
+ghost use Rattle.std.specs.Option.{option_copied};
 ghost use Rattle.prof_devices.specs.Files.{bytes_of, file_of, has_name, Holds};
 
 use prof_bytes::{Memory, Text};
@@ -13,7 +14,7 @@ fn place_of(files: &[(Text, Text)], name: &[u8]) -> Option<usize>
 }
 
 pub(crate) fn file_in<'a>(files: &'a [(Text, Text)], name: &[u8]) -> Option<&'a [u8]>
-    ensures { MatchOption result (file_of files.now name.now ≡ None) (λ bytes. file_of files.now name.now ≡ Some bytes.now) }
+    ensures { option_copied result ≡ file_of files.now name.now }
 {
     match place_of(files, name) {
         Some(i) => Some(files[i].1.bytes()),

@@ -29,7 +29,7 @@ pub enum Put {
 
 /// Named files on some device.
 pub trait Shelf {
-    /// What the shelf shows: its files, where it tells them, and its failures so far.
+    /// The shelf's state: its files, where they are known, and its failures so far.
     ghost shown: { Self → ShelfState };
 
     /// The bytes of the file with this name, where they are at most `limit`. Changes no file.

@@ -4,7 +4,7 @@ use crate::shelf::Put;
 
 /// A stream that takes bytes.
 pub trait Sink {
-    /// What the sink shows: the bytes taken, where it tells them, and its failures so far.
+    /// The sink's state: the bytes taken, where they are known, and its failures so far.
     ghost shown: { Self → SinkState };
 
     /// Takes these bytes, all of them if it answers `Done`, and else a front of them.

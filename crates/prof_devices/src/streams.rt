@@ -10,7 +10,7 @@ use std::io;
 use std::io::Write;
 use std::marker::Model;
 
-/// The process's standard output. It tells no content.
+/// The process's standard output. What it holds is not known.
 #[derive(Drop)]
 pub struct OutSink<'a, R> {
     rt: &'a R,
@@ -23,13 +23,13 @@ impl<'a, R> Model for OutSink<'a, R> {
 
     ghost Value = { SinkState };
 
-    ghost view = { λ s. record { tells = false; taken = []; faults = s.faults; shortages = 0 } };
+    ghost view = { λ s. record { known = false; taken = []; faults = s.faults; shortages = 0 } };
 }
 
 impl<'a, R> OutSink<'a, R> {
     /// Standard output. Nothing has failed yet.
     pub fn of(rt: &'a R) -> OutSink<'a, R>
-        ensures { result ≡ record { tells = false; taken = []; faults = 0; shortages = 0 } }
+        ensures { result ≡ record { known = false; taken = []; faults = 0; shortages = 0 } }
     {
         OutSink { rt, faults: 0 }
     }
@@ -59,7 +59,7 @@ impl<'a, R: Print> Sink for OutSink<'a, R> {
     }
 }
 
-/// The process's standard error, for lines of UTF-8 text: other bytes are a fault. It tells no content.
+/// The process's standard error, for lines of UTF-8 text: other bytes are a fault. What it holds is not known.
 #[derive(Drop)]
 pub struct ErrSink<'a, R> {
     rt: &'a R,
@@ -72,13 +72,13 @@ impl<'a, R> Model for ErrSink<'a, R> {
 
     ghost Value = { SinkState };
 
-    ghost view = { λ s. record { tells = false; taken = []; faults = s.faults; shortages = 0 } };
+    ghost view = { λ s. record { known = false; taken = []; faults = s.faults; shortages = 0 } };
 }
 
 impl<'a, R> ErrSink<'a, R> {
     /// Standard error. Nothing has failed yet.
     pub fn of(rt: &'a R) -> ErrSink<'a, R>
-        ensures { result ≡ record { tells = false; taken = []; faults = 0; shortages = 0 } }
+        ensures { result ≡ record { known = false; taken = []; faults = 0; shortages = 0 } }
     {
         ErrSink { rt, faults: 0 }
     }

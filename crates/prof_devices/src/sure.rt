@@ -1,4 +1,5 @@
-ghost use Rattle.std.specs.Prelude.{◌≡◌, None, Some, MatchOption, []};
+ghost use Rattle.std.specs.Prelude.{◌≡◌, None, Some, []};
+ghost use Rattle.std.specs.Option.{option_copied};
 ghost use Rattle.prof_devices.specs.Files.{Files, file_of};
 ghost use Rattle.prof_devices.specs.Outside.{Fetched, Stored, Taken};
 ghost use Rattle.prof_devices.specs.InMemory.{SureSinkState, SureFetches, SureStores, SurePuts, sure_shelf, sure_sink};
@@ -33,7 +34,7 @@ impl SureShelf {
 
     /// The bytes of the file with this name.
     pub fn file(&self, name: &[u8]) -> Option<&[u8]>
-        ensures { MatchOption result (file_of self.now name.now ≡ None) (λ bytes. file_of self.now name.now ≡ Some bytes.now) }
+        ensures { option_copied result ≡ file_of self.now name.now }
     {
         file_in(self.files.as_slice(), name)
     }

@@ -1,5 +1,6 @@
 -- Steps: a table that says for each address who holds it.
-use Rattle.std.specs.Prelude.{◌≡◌, ◌≢◌, ℕ, ◌+◌, ◌≤◌, ◌<◌, ◌==◌, nat_lt, min, List, [], ◌∷◌, Option, Some, None, if◌then◌else◌}
+use Rattle.std.specs.Prelude.{◌≡◌, ◌≢◌, ℕ, ◌+◌, ◌≤◌, ◌<◌, ◌==◌, nat_lt, min, List, [], ◌∷◌, Option, Some, None}
+use Rattle.std.specs.Prelude.{if◌then◌else◌}
 use Rattle.std.specs.List.{position_from}
 use Rattle.address_ranges.specs.declared.ranges.AddressRange.{AddressRange}
 use Rattle.address_ranges.specs.declared.ranges.Step.{Step}
@@ -22,11 +23,13 @@ pub record IsTableOf (ranges : List AddressRange) (steps : List Step) : Type 0 w
 
 -- all addresses from low up to high have this holder
 abbrev pub AllHeld : Option ℕ → List Step → ℕ → ℕ → ℕ → Type 0
-AllHeld before steps low high holder = (address : ℕ) → low ≤ address → address < high → value_at before steps address ≡ Some holder
+AllHeld before steps low high holder =
+    (address : ℕ) → low ≤ address → address < high → value_at before steps address ≡ Some holder
 
 -- one of them has not
 abbrev pub SomeElse : Option ℕ → List Step → ℕ → ℕ → ℕ → Type 0
-SomeElse before steps low high holder = (address : ℕ) × (low ≤ address) × (address < high) × (value_at before steps address ≢ Some holder)
+SomeElse before steps low high holder =
+    (address : ℕ) × (low ≤ address) × (address < high) × (value_at before steps address ≢ Some holder)
 
 -- where the next step of two tables begins
 abbrev pub next_start : List Step → List Step → Option ℕ

@@ -12,16 +12,20 @@ use Rattle.prof_devices.specs.InMemory.{MemoryShelf, MemorySink, failed_at, rais
 
 -- a file is read, and the shelf is as before but for a name that no file has
 abbrev pub FileRead : MemoryShelf → MemoryShelf → List ℕ → ℕ → Fetch → Type 0
-FileRead old new name limit (fetches.Whole bytes) = (new ≡ old) × (file_of old.files name ≡ Some bytes) × (length bytes ≤ limit)
-FileRead old new name limit fetches.TooLong = (new ≡ old) × (bytes : List ℕ) × (file_of old.files name ≡ Some bytes) × (limit < length bytes)
-FileRead old new name limit fetches.Fault = (file_of old.files name ≡ None) × (new ≡ record old { reads = failed_at old.reads name })
+FileRead old new name limit (fetches.Whole bytes) =
+    (new ≡ old) × (file_of old.files name ≡ Some bytes) × (length bytes ≤ limit)
+FileRead old new name limit fetches.TooLong =
+    (new ≡ old) × (bytes : List ℕ) × (file_of old.files name ≡ Some bytes) × (limit < length bytes)
+FileRead old new name limit fetches.Fault =
+    (file_of old.files name ≡ None) × (new ≡ record old { reads = failed_at old.reads name })
 FileRead old new name limit (fetches.Memory memory) = new ≡ old
 
 -- a store fails and keeps a front
 abbrev pub FrontStored : MemoryShelf → MemoryShelf → List ℕ → List ℕ → Put → Type 0
 FrontStored old new name bytes Done = ⊥
 FrontStored old new name bytes Fault =
-    (new ≡ record old { files = new.files; stores = failed_at old.stores name }) × Holds old.files new.files name (take old.kept bytes)
+    (new ≡ record old { files = new.files; stores = failed_at old.stores name })
+    × Holds old.files new.files name (take old.kept bytes)
 FrontStored old new name bytes (Memory memory) = new ≡ old
 
 -- a put fails and keeps a front
