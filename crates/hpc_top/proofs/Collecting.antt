@@ -7,7 +7,7 @@ use Rattle.std.proofs.lemmas.List.Sums.{sum_by-append, sum_by-cons, fold-append}
 use Rattle.prof_bytes.specs.declared.fail.Fail.{Fail}
 use Rattle.prof_bytes.specs.declared.fail.Fail.TheVariants as fails
 use Rattle.rv_run.specs.Run.{Run}
-use Rattle.rv_run.specs.Told.{to_come}
+use Rattle.rv_run.specs.Progress.{to_come}
 use Rattle.sample_clock.specs.declared.clock.Sample.{Sample}
 use Rattle.sample_clock.specs.Samples.{Paths, most_samples}
 use Rattle.sample_clock.specs.Clock.{Sampling, samples_to_come}

@@ -13,7 +13,7 @@ use Rattle.scope_types.specs.declared.frame.PartialCause.TheVariants as causes
 use Rattle.scope_types.specs.declared.scope.RootKind.{RootKind}
 use Rattle.scope_types.specs.Expansion.{expansion}
 use Rattle.rv_run.specs.State.{MachineState}
-use Rattle.rv_run.specs.Told.{to_come}
+use Rattle.rv_run.specs.Progress.{to_come}
 use Rattle.tree_types.specs.Laws.{Alike}
 use Rattle.tree_types.specs.declared.content.Names.{Names}
 use Rattle.tree_types.specs.Naming.{Naming}

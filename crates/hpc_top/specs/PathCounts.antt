@@ -5,7 +5,7 @@ use Rattle.std.specs.Cmp.Lexicographic.{pointwise}
 use Rattle.prof_bytes.specs.declared.fail.Fail.{Fail}
 use Rattle.prof_bytes.specs.declared.fail.Fail.TheVariants as fails
 use Rattle.prof_bytes.specs.Outcome.{◌>>=◌, FailsBy}
-use Rattle.rv_run.specs.Told.{to_come}
+use Rattle.rv_run.specs.Progress.{to_come}
 use Rattle.sample_clock.specs.declared.clock.Sample.{Sample}
 use Rattle.sample_clock.specs.Samples.{Paths}
 use Rattle.sample_clock.specs.Clock.{Sampling, samples_to_come, Given, IsOver, MetNow, WasMet}

@@ -6,7 +6,7 @@ use Rattle.hpc_top.specs.declared.request.Request as declared
 use Rattle.hpc_top.specs.declared.request.Request.TheVariants as requests
 use Rattle.hpc_top.specs.declared.words.Command.{Command}
 use Rattle.hpc_top.specs.declared.words.Command.TheVariants as commands
-use Rattle.rv_run.specs.Numerals.{number_of}
+use Rattle.rv_run.specs.Numerals.{decimal_in}
 
 -- the words of `profile ELF INPUT SCHEDULE PERIOD WORKERS DB`
 pub record ProfileNames : Type 0 where
@@ -41,8 +41,8 @@ profile_words (elf ∷ input ∷ schedule ∷ period ∷ workers ∷ database �
   elf ← file_name elf
   input ← file_name input
   schedule ← file_name schedule
-  period ← number_of 1 most_period period
-  workers ← number_of 1 most_workers workers
+  period ← decimal_in 1 most_period period
+  workers ← decimal_in 1 most_workers workers
   database ← file_name database
   Some (record { elf = elf; input = input; schedule = schedule; period = period; workers = workers; database = database })
 profile_words words = None

@@ -4,7 +4,7 @@ ghost use Rattle.prof_bytes.specs.Outcome.{Gives};
 ghost use Rattle.scope_types.specs.CallPaths.{each_path};
 ghost use Rattle.rv_run.specs.Run.{run_of};
 ghost use Rattle.rv_run.specs.State.{first_state};
-ghost use Rattle.rv_run.specs.Told.{to_come};
+ghost use Rattle.rv_run.specs.Progress.{to_come};
 ghost use Rattle.cfi_unwind.specs.Path.{path_of as unwound_by};
 ghost use Rattle.tree_types.specs.Naming.{Naming};
 ghost use Rattle.tree_types.specs.Nodes.{nodes, no_parent};

@@ -5,7 +5,7 @@ ghost use Rattle.hpc_top.specs.Words.{command_of, file_name, profile_words, requ
 
 use crate::request::{ProfileWords, Request};
 use prof_bytes::Text;
-use rv_run::number;
+use rv_run::decimal;
 
 /// The most workers that are built, and the largest period.
 const MOST_WORKERS: u32 = 1;
@@ -36,8 +36,8 @@ fn profile_named<'a>(
         elf: name(elf)?,
         input: name(input)?,
         schedule: name(schedule)?,
-        period: number(period.bytes(), 1, MOST_PERIOD)?,
-        workers: number(workers.bytes(), 1, MOST_WORKERS)?,
+        period: decimal(period.bytes(), 1, MOST_PERIOD)?,
+        workers: decimal(workers.bytes(), 1, MOST_WORKERS)?,
         database: name(database)?,
     })
 }

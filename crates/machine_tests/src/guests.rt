@@ -1,6 +1,6 @@
 //! Programs of a few instructions, the schedules that they are run under, and machines that start with them.
 ghost use Rattle.std.specs.Prelude.{IfOk};
-ghost use Rattle.rv_run.specs.Told.{IsFresh};
+ghost use Rattle.rv_run.specs.Progress.{IsFresh};
 
 use elf_image::{Image, read_image};
 use prof_bytes::{Memory, put_u32};

@@ -7,13 +7,13 @@ ghost use Rattle.rv_hart.specs.Pages.{blank};
 
 use crate::page::{Block, Page};
 use crate::right::NOWHERE;
-use elf_image::{Segment, Segments};
+use elf_image::{RangeTable, Segment};
 
 /// The file, the regions, and what was written, in blocks of at most 256 pages.
 #[derive(Drop)]
 pub(crate) struct Kept<'a> {
     pub(crate) file: &'a [u8],
-    pub(crate) regions: Segments,
+    pub(crate) regions: RangeTable<Segment>,
     pub(crate) blocks: Vec<Block>,
 }
 
@@ -36,7 +36,7 @@ impl<'a> Kept<'a> {
         ensures found { result ≡ region_at self.now.regions at }
         ensures within { IfSome result (λ region. (region.start ≤ at) × (at < region.end)) }
     {
-        self.regions.at(at)
+        self.regions.first(at).copied()
     }
 
     /// The address's page, if there is a place for it.

@@ -6,7 +6,7 @@ ghost use Rattle.rv_hart.specs.Step.{fetched_at};
 use crate::access;
 use crate::kept::Kept;
 use crate::right::{NOWHERE, covers};
-use elf_image::{Image, Segment, Segments};
+use elf_image::{Image, RangeTable, Segment};
 use prof_bytes::Memory;
 use scope_types::Look;
 use std::alloc::Global;
@@ -71,7 +71,7 @@ impl<'a> Space<'a> {
     {
         let kept = Kept {
             file: image.bytes(),
-            regions: Segments::of(alloc, listed(alloc, image.segments(), harts)?)?,
+            regions: RangeTable::of(alloc, listed(alloc, image.segments(), harts)?)?,
             blocks: Vec::new(alloc),
         };
         Ok(Space {

@@ -9,9 +9,9 @@ use Rattle.rv_hart.specs.declared.outcome.Stepped.TheVariants as stepped
 use Rattle.rv_run.specs.declared.hart.HartEnd.{HartEnd}
 use Rattle.rv_run.specs.declared.hart.HartEnd.TheVariants as ends
 use Rattle.rv_run.specs.State.{HartState, MachineState, hart_in, hart_of, no_hart, is_running, step_state, stepped_hart}
-use Rattle.rv_run.specs.Calls.{Acted, Answered, reads, writes, called, completes, ends_by, ends_all, grouped, with_answer, with_end, only_answers, all_readable, writes_out, taken, read_into, no_call, bad_descriptor, bad_address, holds_in}
+use Rattle.rv_run.specs.Calls.{Acted, Answered, reads, writes, call_numbered, completes, ends_by, ends_all, grouped, with_answer, with_end, only_answers, all_readable, writes_out, taken, read_into, no_call, bad_descriptor, bad_address, holds_in}
 use Rattle.rv_run.specs.Run.{acts, acts_by, acts_after, stepped_machine}
-use Rattle.rv_run.specs.Told.{Counts, plus_one}
+use Rattle.rv_run.specs.Progress.{Counts, plus_one}
 use Rattle.rv_run.proofs.Unchanged.{not-retired}
 
 -- one hart's state in place of another that retired so many
@@ -73,8 +73,8 @@ writes-harts a b c s =
     elim ((a == 1) || (a == 2)) as (λ t. (cond t (cond (all_readable s.memory b c) (writes_out b (taken c s.output) s) (only_answers bad_address s)) (only_answers bad_descriptor s)).state.harts ≡ s.harts)
     [ true ↦ write-harts b c s | false ↦ refl ]
 
-called-counts : (hart number a b c : ℕ) (s : MachineState) → hart < length s.harts → CountsBy hart s (called hart number a b c s)
-called-counts hart number a b c s within =
+call_numbered-counts : (hart number a b c : ℕ) (s : MachineState) → hart < length s.harts → CountsBy hart s (call_numbered hart number a b c s)
+call_numbered-counts hart number a b c s within =
     choose (number == 63) (number == 64) (number == 93) (number == 94)
   where
     choose : (p q r t : Bool) → CountsBy hart s (cond p (completes hart (reads a b c s)) (cond q (completes hart (writes a b c s)) (cond r (ends_by hart (ends.Exit a) s) (cond t (ends_all a s) (completes hart (only_answers no_call s))))))
@@ -86,7 +86,7 @@ called-counts hart number a b c s within =
 
 acted-counts : (hart : ℕ) (s : MachineState) (how : Stepped) → hart < length s.harts → (how ≡ stepped.Retired → ⊥) → CountsBy hart s (acts_by how hart s)
 acted-counts hart s stepped.Retired within other = absurd (other refl)
-acted-counts hart s stepped.Ecall within other = called-counts hart (holds_in hart s 17) (holds_in hart s 10) (holds_in hart s 11) (holds_in hart s 12) s within
+acted-counts hart s stepped.Ecall within other = call_numbered-counts hart (holds_in hart s 17) (holds_in hart s 10) (holds_in hart s 11) (holds_in hart s 12) s within
 acted-counts hart s stepped.Break within other = ends-counts hart s (ends.Break (hart_of s hart).pc) within
 acted-counts hart s (stepped.Trap why) within other = ends-counts hart s (ends.Trap why (hart_of s hart).pc) within
 

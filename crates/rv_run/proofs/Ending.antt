@@ -7,8 +7,8 @@ use Rattle.elf_image.specs.Image.{ProgramImage}
 use Rattle.rv_run.specs.declared.schedule.Slice.{Slice}
 use Rattle.rv_run.specs.Schedule.{Scheduled, IsSchedule}
 use Rattle.rv_run.specs.State.{MachineState, first_hart, first_state, hart_of, is_running}
-use Rattle.rv_run.specs.Run.{finished, preceded, next_instant, after, run_slice, run_slices}
-use Rattle.rv_run.specs.Told.{AreOf}
+use Rattle.rv_run.specs.Run.{finished, preceded, next_instant, state_after, run_slice, run_slices}
+use Rattle.rv_run.specs.private.Queue.{AreOf}
 use Rattle.rv_run.proofs.Counting.{acts-count}
 use Rattle.rv_run.proofs.Ranges.{ready-is}
 
@@ -16,9 +16,9 @@ after_slice : (count hart : ℕ) (s : MachineState) → hart < length s.harts �
 unfolding run_slice
 after_slice zero hart s within = refl
 after_slice (suc count) hart s within =
-    let same : length (after hart s).harts ≡ length s.harts = (acts-count hart s within).harts in
-    elim (is_running (hart_of s hart)) as (λ b. length (cond b (preceded (next_instant hart s ∷ []) (run_slice count hart (after hart s))) (finished s)).final.harts ≡ length s.harts) [
-      | true ↦ after_slice count hart (after hart s) (omega (arith, within, same)) ∙ same
+    let same : length (state_after hart s).harts ≡ length s.harts = (acts-count hart s within).harts in
+    elim (is_running (hart_of s hart)) as (λ b. length (cond b (preceded (next_instant hart s ∷ []) (run_slice count hart (state_after hart s))) (finished s)).final.harts ≡ length s.harts) [
+      | true ↦ after_slice count hart (state_after hart s) (omega (arith, within, same)) ∙ same
       | false ↦ refl
     ]
 
@@ -33,8 +33,8 @@ pub harts_stay : (slices : List Slice) (s : MachineState) → AreOf (length s.ha
 harts_stay slices s all = after_slices slices s (recursion_from_All (λ (slice : Slice). slice.hart < length s.harts) slices all)
 
 -- a machine at its start: as many stand at the end of its run as its schedule tells
-pub harts_told : (program : ProgramImage) (schedule : Scheduled) (input : List ℕ) (harts : ℕ) (board : MachineState) (left : List Slice) → IsSchedule schedule → harts ≡ schedule.harts → board ≡ first_state program harts input → left ≡ schedule.slices
-    → length (run_slices left board).final.harts ≡ schedule.harts
-harts_told program schedule input harts board left is few state slices =
-    harts_stay left board (ready-is program schedule input harts board left is few state slices).harts
+pub harts_told : (program : ProgramImage) (schedule : Scheduled) (input : List ℕ) (harts : ℕ) (environment : MachineState) (left : List Slice) → IsSchedule schedule → harts ≡ schedule.harts → environment ≡ first_state program harts input → left ≡ schedule.slices
+    → length (run_slices left environment).final.harts ≡ schedule.harts
+harts_told program schedule input harts environment left is few state slices =
+    harts_stay left environment (ready-is program schedule input harts environment left is few state slices).harts
     ∙ ap (λ (s : MachineState). length s.harts) state ∙ length-map-range_with_len (first_hart program.entry harts) 0 harts ∙ few

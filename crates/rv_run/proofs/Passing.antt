@@ -1,5 +1,5 @@
--- Instructions that retire by themselves, one after another.
-use Rattle.std.proofs.Common.{◌≡◌, ◌≢◌, inl, inr, ℕ, zero, suc, ◌+◌, ◌-◌, ◌<◌, ◌≤◌, Bool, true, false, cond, List, [], ◌∷◌, ◌++◌, length, Some, None, length-append, refl, sym, ap, subst, ◌∙◌, append_assoc, arith}
+-- Instructions that retire by themselves, one state_after another.
+use Rattle.std.proofs.Common.{◌≡◌, ◌≢◌, ◌⊎◌, inl, inr, ℕ, zero, suc, ◌+◌, ◌-◌, ◌<◌, ◌≤◌, Bool, true, false, cond, List, [], ◌∷◌, ◌++◌, length, min, Some, None, length-append, refl, sym, ap, subst, ◌∙◌, append_assoc, arith}
 use Rattle.std.specs.List.{All}
 use Rattle.std.proofs.lemmas.List.{get_or-set_same}
 use Rattle.std.proofs.lemmas.List.Elements.{All-push}
@@ -10,12 +10,13 @@ use Rattle.rv_hart.specs.declared.outcome.Stepped.TheVariants as stepped
 use Rattle.rv_run.specs.declared.schedule.Slice.{Slice}
 use Rattle.rv_run.specs.declared.machine.Due.{Due}
 use Rattle.rv_run.specs.declared.machine.Moment.{Moment}
-use Rattle.rv_run.specs.Reading.{first_of}
+use Rattle.rv_run.specs.private.Reading.{first_of}
 use Rattle.rv_run.specs.Schedule.{instructions, most_instructions}
 use Rattle.rv_run.specs.State.{HartState, MachineState, hart_of, no_hart, runs, is_running, step_state, stepped_hart}
 use Rattle.rv_run.specs.Calls.{Acted}
-use Rattle.rv_run.specs.Run.{Instant, Run, acts, after, next_instant, finished, preceded, joined, run_slice, run_slices, stepped_machine}
-use Rattle.rv_run.specs.Told.{Progress, Counts, IsBetween, Passing, Passed, WentOn, plus_one, to_come, less, count_of_first, HaveRoom, due_of, first_due}
+use Rattle.rv_run.specs.Run.{Instant, Run, acts, state_after, next_instant, finished, preceded, joined, run_slice, run_slices, stepped_machine}
+use Rattle.rv_run.specs.Progress.{Progress, Counts, IsBetween, Carried, Passed, Broke, WentOn, plus_one, to_come, count_of_first, due_of, first_due, is_plain, retires_plainly, plain_count, some_of, pass_length}
+use Rattle.rv_run.specs.private.Queue.{Passing, less, HaveRoom, IsNext, StandsAt}
 use Rattle.rv_run.proofs.Counting.{acts-as, counts-of}
 use Rattle.rv_run.proofs.Slices.{IsDue, less-by}
 
@@ -24,7 +25,34 @@ preceded-twice xs ys run = ap (λ (all : List Instant). record { instants = all;
 
 -- one instruction that retired by itself
 abbrev pub Plain : ℕ → MachineState → MachineState → Type 0
-Plain hart old new = (record { state = new; retired = true } ≡ acts hart old) × ((hart_of new hart).end ≡ (hart_of old hart).end)
+Plain hart old new = (record { state = new; retired = true } ≡ acts hart old) × ((hart_of new hart).end ≡ (hart_of old hart).end) × (retires_plainly hart old ≡ true)
+
+pub not-plain : (how : Stepped) → (how ≡ stepped.Retired → ⊥) → is_plain how ≡ false
+not-plain stepped.Retired other = absurd (other refl)
+not-plain stepped.Ecall other = refl
+not-plain stepped.Break other = refl
+not-plain (stepped.Trap why) other = refl
+
+-- where a step did not retire by itself
+pub stops-here : (hart : ℕ) (s new : MachineState) (how : Stepped) → new ≡ s → how ≡ (step_of (step_state (hart_of s hart) s.memory)).1 → (how ≡ stepped.Retired → ⊥) → retires_plainly hart new ≡ false
+stops-here hart s new how same ends other = ap (retires_plainly hart) same ∙ ap is_plain (sym ends) ∙ not-plain how other
+
+none-plain : (n hart : ℕ) (s : MachineState) → retires_plainly hart s ≡ false → plain_count n hart s ≡ 0
+unfolding plain_count
+none-plain zero hart s stops = refl
+none-plain (suc n) hart s stops = ap (λ (b : Bool). cond b (suc (plain_count n hart (state_after hart s))) 0) stops
+
+one-plain : (n hart : ℕ) (s : MachineState) → retires_plainly hart s ≡ true → plain_count (suc n) hart s ≡ suc (plain_count n hart (state_after hart s))
+unfolding plain_count
+one-plain n hart s plain = ap (λ (b : Bool). cond b (suc (plain_count n hart (state_after hart s))) 0) plain
+
+some-plain : (n hart : ℕ) (s : MachineState) → 0 < n → retires_plainly hart s ≡ true → 0 < plain_count n hart s
+some-plain zero hart s some plain = absurd (omega arith)
+some-plain (suc n) hart s some plain = (let e = one-plain n hart s plain in omega (arith, e))
+
+none-asked : (hart : ℕ) (s : MachineState) → plain_count 0 hart s ≡ 0
+unfolding plain_count
+none-asked hart s = refl
 
 -- a step that retired is one, and keeps how the hart stands
 pub step-plain : (hart : ℕ) (s new : MachineState) (how : Stepped) → hart < length s.harts → new ≡ stepped_machine hart (step_of (step_state (hart_of s hart) s.memory)) s
@@ -34,6 +62,7 @@ step-plain hart s new how within is ends retired =
       subst (λ (h : Stepped). how ≡ h → record { state = new; retired = true } ≡ acts hart s) refl (λ _. acts-as hart s new stepped.Retired is (sym retired ∙ ends)) refl,
       ap (λ (m : MachineState). (hart_of m hart).end) is
           ∙ ap (λ (h : HartState). h.end) (get_or-set_same s.harts hart (stepped_hart (hart_of s hart) (step_of (step_state (hart_of s hart) s.memory))) no_hart within),
+      ap is_plain (sym ends ∙ retired),
     )
 
 pub passing-first : (hart : ℕ) (s : MachineState) → is_running (hart_of s hart) ≡ true → Passing hart 0 s s
@@ -42,6 +71,7 @@ passing-first hart s running =
       passed = [];
       long = refl;
       runs = λ more. ap (λ (n : ℕ). run_slice n hart s) (let e : 0 + more ≡ more = omega arith in e);
+      plain = λ more. ap (λ (n : ℕ). plain_count n hart s) (let e : 0 + more ≡ more = omega arith in e) ∙ (let e : plain_count more hart s ≡ 0 + plain_count more hart s = omega arith in e);
       between = λ k d few. absurd (omega arith);
       count = omega arith;
       others = λ other apart. refl;
@@ -50,9 +80,9 @@ passing-first hart s running =
       none = λ e. refl;
     }
 
-one-slice : (s : MachineState) (hart more : ℕ) → is_running (hart_of s hart) ≡ true → run_slice (suc more) hart s ≡ preceded (next_instant hart s ∷ []) (run_slice more hart (after hart s))
+one-slice : (s : MachineState) (hart more : ℕ) → is_running (hart_of s hart) ≡ true → run_slice (suc more) hart s ≡ preceded (next_instant hart s ∷ []) (run_slice more hart (state_after hart s))
 unfolding run_slice
-one-slice s hart more running = ap (λ (b : Bool). cond b (preceded (next_instant hart s ∷ []) (run_slice more hart (after hart s))) (finished s)) running
+one-slice s hart more running = ap (λ (b : Bool). cond b (preceded (next_instant hart s ∷ []) (run_slice more hart (state_after hart s))) (finished s)) running
 
 wider : (hart from to wide : ℕ) (all : List Instant) → to ≤ wide → All (IsBetween hart from to) all → All (IsBetween hart from wide) all
 wider hart from to wide all le between = λ k d few. record { own = (between k d few).own; low = (between k d few).low; high = omega (arith, le, (between k d few).high) }
@@ -69,6 +99,11 @@ passing-more hart many a b c was now within =
           ∙ was.runs (suc more)
           ∙ ap (preceded was.passed) (one-slice b hart more was.running ∙ ap (λ (s : MachineState). preceded (next_instant hart b ∷ []) (run_slice more hart s)) (sym (ap (λ (x : Acted). x.state) now.0)))
           ∙ preceded-twice was.passed (next_instant hart b ∷ []) (run_slice more hart c);
+      plain = λ more.
+          ap (λ (n : ℕ). plain_count n hart a) (let e : many + 1 + more ≡ many + suc more = omega arith in e)
+          ∙ was.plain (suc more)
+          ∙ ap (λ (n : ℕ). many + n) (one-plain more hart b now.2 ∙ ap (λ (s : MachineState). suc (plain_count more hart s)) (sym (ap (λ (x : Acted). x.state) now.0)))
+          ∙ (let e : many + suc (plain_count more hart c) ≡ many + 1 + plain_count more hart c = omega arith in e);
       between =
           All-push (IsBetween hart ((hart_of a hart).retired + 1) ((hart_of a hart).retired + (many + 1))) was.passed (next_instant hart b)
           (wider hart ((hart_of a hart).retired + 1) ((hart_of a hart).retired + many) ((hart_of a hart).retired + (many + 1)) was.passed (omega arith) was.between)
@@ -97,12 +132,10 @@ passed-slices hart many s new (slice ∷ rest) p first few =
     ∙ joined-preceded p.passed (run_slice (slice.count - many) hart new) (run_slices rest)
     ∙ ap (λ (h : ℕ). preceded p.passed (joined (run_slice (slice.count - many) h new) (run_slices rest))) (sym of_hart)
 
-pub passed-many : (hart many most : ℕ) (s new : MachineState) (left less_left settled : List Slice) → Passing hart many s new → first_of left ≡ Some (record { hart = hart; count = count_of_first left }) → 0 < many → many ≤ most → many ≤ count_of_first left
-    → less_left ≡ less many left → run_slices settled new ≡ run_slices less_left new → Passed hart most (record { state = s; left = left }) (record { state = new; left = settled })
-passed-many hart many most s new left less_left settled p first some few within taken run =
+carried-many : (hart many most : ℕ) (s new : MachineState) (left less_left skipped : List Slice) (p : Passing hart many s new) → first_of left ≡ Some (record { hart = hart; count = count_of_first left }) → many ≤ most → many ≤ count_of_first left
+    → less_left ≡ less many left → run_slices skipped new ≡ run_slices less_left new → Carried hart most p.passed (record { state = s; left = left }) (record { state = new; left = skipped })
+carried-many hart many most s new left less_left skipped p first few within taken run =
     record {
-      passed = p.passed;
-      some = omega (arith, p.long);
       run = passed-slices hart many s new left p first within ∙ ap (preceded p.passed) (sym (run ∙ ap (λ (l : List Slice). run_slices l new) taken));
       between = wider hart ((hart_of s hart).retired + 1) ((hart_of s hart).retired + many) ((hart_of s hart).retired + most) p.passed (omega arith) p.between;
       least = omega (arith, p.count);
@@ -110,6 +143,53 @@ passed-many hart many most s new left less_left settled p first some few within 
       others = p.others;
       harts = p.harts;
     }
+
+some-of : (n : ℕ) → 0 < n → some_of n ≡ n
+some-of zero some = absurd (omega arith)
+some-of (suc n) some = refl
+
+at-least-one : (n : ℕ) → 0 < some_of n
+at-least-one zero = omega arith
+at-least-one (suc n) = omega arith
+
+-- how many were asked for and retire by themselves, where so many of them were done
+counted-plain : (hart many asked : ℕ) (s new : MachineState) → Passing hart many s new → many ≤ asked → plain_count asked hart s ≡ many + plain_count (asked - many) hart new
+counted-plain hart many asked s new p few = ap (λ (n : ℕ). plain_count n hart s) (let e : asked ≡ many + (asked - many) = omega arith in e) ∙ p.plain (asked - many)
+
+all-plain : (hart many asked : ℕ) (s new : MachineState) → Passing hart many s new → many ≤ asked → (many ≡ asked) ⊎ (retires_plainly hart new ≡ false) → plain_count asked hart s ≡ many
+all-plain hart many asked s new p few stops =
+    let parts = counted-plain hart many asked s new p few in
+    elim stops [
+      | inl all ↦
+          let none : plain_count (asked - many) hart new ≡ 0 = ap (λ (n : ℕ). plain_count n hart new) (let e : asked - many ≡ 0 = omega arith in e) ∙ none-asked hart new in
+          omega (arith, parts, none)
+      | inr ended ↦ let none = none-plain (asked - many) hart new ended in omega (arith, parts, none)
+    ]
+
+long-many : (hart many most : ℕ) (s new : MachineState) (left : List Slice) (p : Passing hart many s new) → 0 < many → many ≤ min most (count_of_first left) → (many ≡ min most (count_of_first left)) ⊎ (retires_plainly hart new ≡ false)
+    → length p.passed ≡ pass_length hart most (record { state = s; left = left })
+long-many hart many most s new left p some few stops =
+    let all = all-plain hart many (min most (count_of_first left)) s new p few stops in
+    p.long ∙ sym (ap some_of all ∙ some-of many some)
+
+short-many : (hart many most : ℕ) (s new : MachineState) (left : List Slice) (p : Passing hart many s new) → many < min most (count_of_first left) → retires_plainly hart new ≡ true
+    → length p.passed < pass_length hart most (record { state = s; left = left })
+short-many hart many most s new left p few plain =
+    let asked : ℕ = min most (count_of_first left) in
+    let parts : plain_count (min most (count_of_first left)) hart s ≡ many + plain_count (min most (count_of_first left) - many) hart new = counted-plain hart many (min most (count_of_first left)) s new p (omega arith) in
+    let next : 0 < plain_count (min most (count_of_first left) - many) hart new = some-plain (min most (count_of_first left) - many) hart new (omega arith) plain in
+    let same : some_of (plain_count (min most (count_of_first left)) hart s) ≡ plain_count (min most (count_of_first left)) hart s = some-of (plain_count (min most (count_of_first left)) hart s) (omega (arith, parts, next)) in
+    omega (arith, p.long, parts, next, same)
+
+-- nothing was carried out
+carried-none : (hart most : ℕ) (p : Progress) → Carried hart most [] p p
+carried-none hart most p =
+    record { run = refl; between = λ k d few. absurd (omega arith); least = omega arith; few = omega arith; others = λ other apart. refl; harts = refl }
+
+pub broke-none : (hart most : ℕ) (old new : Progress) → new ≡ old → Broke hart most old new
+broke-none hart most old new same =
+    subst (λ (p : Progress). Broke hart most old p) (sym same)
+    (record { passed = []; short = at-least-one (plain_count (min most (count_of_first old.left)) hart old.state); carried = carried-none hart most old })
 
 -- one instruction, whatever it did
 at_least : (b : Bool) (n : ℕ) → n ≤ plus_one b n
@@ -120,23 +200,29 @@ at_most : (b : Bool) (n : ℕ) → plus_one b n ≤ n + 1
 at_most true n = omega arith
 at_most false n = omega arith
 
-pub passed-one : (hart most : ℕ) (moment : Moment) (old new : Progress) → WentOn moment old new → Counts moment.hart moment.retired old.state new.state → moment.hart ≡ hart → 0 < most → Passed hart most old new
-passed-one hart most moment old new went counts same some =
-    subst (λ (h : ℕ). Passed h most old new) same
-    (record {
-      passed = next_instant moment.hart old.state ∷ [];
-      some = omega arith;
+carried-one : (hart most : ℕ) (moment : Moment) (old new : Progress) → WentOn moment old new → Counts moment.hart moment.retired old.state new.state → 0 < most → Carried moment.hart most (next_instant moment.hart old.state ∷ []) old new
+carried-one hart most moment old new went counts some =
+    record {
       run = went.run;
       between = one;
       least = omega (arith, counts.own, at_least moment.retired (hart_of old.state moment.hart).retired);
       few = omega (arith, counts.own, at_most moment.retired (hart_of old.state moment.hart).retired);
       others = counts.others;
       harts = counts.harts;
-    })
+    }
   where
     one : All (IsBetween moment.hart ((hart_of old.state moment.hart).retired + 1) ((hart_of old.state moment.hart).retired + most)) (next_instant moment.hart old.state ∷ [])
     one zero d few = record { own = refl; low = omega arith; high = omega arith }
     one (suc k) d few = absurd (omega arith)
+
+pub passed-one : (hart most : ℕ) (moment : Moment) (old new : Progress) → WentOn moment old new → Counts moment.hart moment.retired old.state new.state → moment.hart ≡ hart → 0 < most → retires_plainly hart old.state ≡ false → Passed hart most old new
+passed-one hart most moment old new went counts same some stops =
+    let none : plain_count (min most (count_of_first old.left)) hart old.state ≡ 0 = none-plain (min most (count_of_first old.left)) hart old.state stops in
+    record {
+      passed = next_instant moment.hart old.state ∷ [];
+      long = sym (ap some_of none);
+      carried = subst (λ (h : ℕ). Carried h most (next_instant moment.hart old.state ∷ []) old new) same (carried-one hart most moment old new went counts some);
+    }
 
 pub room-passed : (s new : MachineState) (left : List Slice) (hart many : ℕ) → many ≤ count_of_first left → HaveRoom s left → Passing hart many s new → HaveRoom new (less many left)
 room-passed s new left hart many few room p other =
@@ -170,3 +256,41 @@ slice-hart s left due slice is first =
     let here : Some slice ≡ Some (record { hart = due.hart; count = count_of_first left }) = sym first ∙ is.first_is in
     let same : slice ≡ record { hart = due.hart; count = count_of_first left } = cc in
     ap (λ (x : Slice). x.hart) same
+
+-- a pass of the first slice, where it ended as it was to
+pub passed-many : (hart many asked most : ℕ) (s new : MachineState) (left less_left skipped : List Slice) (slice : Slice) → Passing slice.hart many s new → first_of left ≡ Some slice → slice.hart ≡ hart → asked ≡ min most slice.count → many ≤ asked → 0 < many
+    → (many ≡ asked) ⊎ (retires_plainly slice.hart new ≡ false) → less_left ≡ less many left → run_slices skipped new ≡ run_slices less_left new
+    → Passed hart most (record { state = s; left = left }) (record { state = new; left = skipped })
+passed-many hart many asked most s new left less_left skipped slice p first of_hart is few some stops taken run =
+    let whole : count_of_first left ≡ slice.count = first-count left slice first in
+    let all : asked ≡ min most (count_of_first left) = is ∙ ap (min most) (sym whole) in
+    subst (λ (h : ℕ). Passed h most (record { state = s; left = left }) (record { state = new; left = skipped })) of_hart
+    (record {
+      passed = p.passed;
+      long = long-many slice.hart many most s new left p some (omega arith) (subst (λ (n : ℕ). (many ≡ n) ⊎ (retires_plainly slice.hart new ≡ false)) all stops);
+      carried = carried-many slice.hart many most s new left less_left skipped p (first-whole left slice first) (omega arith) (omega arith) taken run;
+    })
+
+-- and where no memory was found
+pub broke-many : (hart many asked most : ℕ) (s new : MachineState) (left less_left skipped : List Slice) (slice : Slice) → Passing slice.hart many s new → first_of left ≡ Some slice → slice.hart ≡ hart → asked ≡ min most slice.count
+    → (many < asked) × (retires_plainly slice.hart new ≡ true) → less_left ≡ less many left → run_slices skipped new ≡ run_slices less_left new
+    → Broke hart most (record { state = s; left = left }) (record { state = new; left = skipped })
+broke-many hart many asked most s new left less_left skipped slice p first of_hart is stops taken run =
+    let whole : count_of_first left ≡ slice.count = first-count left slice first in
+    let all : asked ≡ min most (count_of_first left) = is ∙ ap (min most) (sym whole) in
+    let few : many < asked = stops.0 in
+    subst (λ (h : ℕ). Broke h most (record { state = s; left = left }) (record { state = new; left = skipped })) of_hart
+    (record {
+      passed = p.passed;
+      short = short-many slice.hart many most s new left p (omega arith) stops.1;
+      carried = carried-many slice.hart many most s new left less_left skipped p (first-whole left slice first) (omega arith) (omega arith) taken run;
+    })
+
+pub stands-first : (s : MachineState) (left : List Slice) (slice : Slice) → StandsAt s left → first_of left ≡ Some slice → IsNext s slice
+stands-first s [] slice stands first = absurd cc
+stands-first s (x ∷ rest) slice stands first = let same : x ≡ slice = cc in subst (IsNext s) same stands
+
+-- nothing was done yet, and the first instruction does not retire by itself
+pub stops-first : (hart many asked : ℕ) (s new : MachineState) → new ≡ s → many ≡ 0 → 0 < asked → (many ≡ asked) ⊎ (retires_plainly hart new ≡ false) → retires_plainly hart s ≡ false
+stops-first hart many asked s new same none some stops =
+    elim stops [ inl all ↦ absurd (omega arith) | inr ended ↦ sym (ap (retires_plainly hart) same) ∙ ended ]

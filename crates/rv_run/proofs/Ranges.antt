@@ -14,7 +14,8 @@ use Rattle.rv_run.specs.declared.schedule.Slice.{Slice}
 use Rattle.rv_run.specs.Schedule.{Scheduled, IsSchedule, IsSlice}
 use Rattle.rv_run.specs.State.{HartState, MachineState, hart_in, first_hart, first_state, is_running}
 use Rattle.rv_run.specs.Calls.{all_readable, bytes_at}
-use Rattle.rv_run.specs.Told.{Progress, IsFresh, IsReady, StandsAt}
+use Rattle.rv_run.specs.Progress.{Progress, IsFresh}
+use Rattle.rv_run.specs.private.Queue.{IsReady, StandsAt}
 
 pub one-byte : (memory : Memory) (at : ℕ) → number_at memory at 1 ≡ byte_at memory at
 one-byte memory at = let e : byte_at memory at + 0 ≡ byte_at memory at = omega arith in e
@@ -131,11 +132,11 @@ grouped-step f start harts i old new so_far less is made =
     ∙ grouped-one f start i old less
     ∙ ap (λ (n : ℕ). map f (take n start) ++ drop n start) (let e : suc i ≡ i + 1 = omega arith in e)
 
-pub ready-is : (program : ProgramImage) (schedule : Scheduled) (input : List ℕ) (harts : ℕ) (board : MachineState) (left : List Slice) → IsSchedule schedule → harts ≡ schedule.harts → board ≡ first_state program harts input → left ≡ schedule.slices
-    → IsReady (record { state = board; left = left })
-ready-is program schedule input harts board left is few state slices =
+pub ready-is : (program : ProgramImage) (schedule : Scheduled) (input : List ℕ) (harts : ℕ) (environment : MachineState) (left : List Slice) → IsSchedule schedule → harts ≡ schedule.harts → environment ≡ first_state program harts input → left ≡ schedule.slices
+    → IsReady (record { state = environment; left = left })
+ready-is program schedule input harts environment left is few state slices =
     subst (λ (p : Progress). IsReady p) (ap₂ (λ (s : MachineState) (l : List Slice). record { state = s; left = l }) (sym (state ∙ ap (λ (n : ℕ). first_state program n input) few)) (sym slices)) (ready-start program schedule input is)
 
-pub fresh-is : (program : ProgramImage) (schedule : Scheduled) (input : List ℕ) (harts : ℕ) (board : MachineState) → IsSchedule schedule → harts ≡ schedule.harts → board ≡ first_state program harts input → IsFresh board
-fresh-is program schedule input harts board is few state =
+pub fresh-is : (program : ProgramImage) (schedule : Scheduled) (input : List ℕ) (harts : ℕ) (environment : MachineState) → IsSchedule schedule → harts ≡ schedule.harts → environment ≡ first_state program harts input → IsFresh environment
+fresh-is program schedule input harts environment is few state =
     subst (λ (s : MachineState). IsFresh s) (sym (state ∙ ap (λ (n : ℕ). first_state program n input) few)) (fresh-start program schedule.harts input is.few)

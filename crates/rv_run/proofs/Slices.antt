@@ -4,12 +4,13 @@ use Rattle.std.proofs.lemmas.List.Sums.{sum_by-cons, sum_by-append, sum-map}
 use Rattle.std.proofs.lemmas.Bool.Decides.{eqb_tells}
 use Rattle.rv_run.specs.declared.schedule.Slice.{Slice}
 use Rattle.rv_run.specs.declared.machine.Due.{Due}
-use Rattle.rv_run.specs.Reading.{first_of, rest_of}
+use Rattle.rv_run.specs.private.Reading.{first_of, rest_of}
 use Rattle.rv_run.specs.Schedule.{instructions, count_of, most_instructions}
 use Rattle.rv_run.specs.State.{MachineState, hart_of, is_running}
 use Rattle.rv_run.specs.Calls.{Acted}
-use Rattle.rv_run.specs.Run.{Run, acts, after, next_instant, finished, preceded, joined, run_slice, run_slices}
-use Rattle.rv_run.specs.Told.{Counts, plus_one, with_left, count_of_first, less, AreOf, HaveRoom, IsNext, StandsAt, due_of, first_due, WentOn}
+use Rattle.rv_run.specs.Run.{Run, acts, state_after, next_instant, finished, preceded, joined, run_slice, run_slices}
+use Rattle.rv_run.specs.Progress.{Counts, plus_one, count_of_first, due_of, first_due, WentOn}
+use Rattle.rv_run.specs.private.Queue.{with_left, less, AreOf, HaveRoom, IsNext, StandsAt}
 
 whole : (slices : List Slice) → with_left (count_of_first slices) slices ≡ slices
 whole [] = refl
@@ -30,21 +31,21 @@ ended s (slice ∷ rest) none = absurd cc
 
 -- the first instruction of the first slice, and the rest of the run
 one : (s : MachineState) (hart count : ℕ) (rest : List Slice) → 0 < count → is_running (hart_of s hart) ≡ true
-    → joined (run_slice count hart s) (run_slices rest) ≡ preceded (next_instant hart s ∷ []) (joined (run_slice (count - 1) hart (after hart s)) (run_slices rest))
+    → joined (run_slice count hart s) (run_slices rest) ≡ preceded (next_instant hart s ∷ []) (joined (run_slice (count - 1) hart (state_after hart s)) (run_slices rest))
 unfolding run_slice
 one s hart zero rest some runs = absurd (omega arith)
 one s hart (suc count) rest some runs =
-    ap (λ (b : Bool). joined (cond b (preceded (next_instant hart s ∷ []) (run_slice count hart (after hart s))) (finished s)) (run_slices rest)) runs
-    ∙ ap (λ (n : ℕ). preceded (next_instant hart s ∷ []) (joined (run_slice n hart (after hart s)) (run_slices rest))) (let e : count ≡ suc count - 1 = omega arith in e)
+    ap (λ (b : Bool). joined (cond b (preceded (next_instant hart s ∷ []) (run_slice count hart (state_after hart s))) (finished s)) (run_slices rest)) runs
+    ∙ ap (λ (n : ℕ). preceded (next_instant hart s ∷ []) (joined (run_slice n hart (state_after hart s)) (run_slices rest))) (let e : count ≡ suc count - 1 = omega arith in e)
 
 -- what is due of slices that stand at their next instruction
 pub record IsDue (s : MachineState) (left : List Slice) (due : Due) : Type 0 where
   pub some : 0 < count_of_first left
   pub first_due_is : due ≡ due_of (next_instant due.hart s)
-  pub run : run_slices left s ≡ preceded (next_instant due.hart s ∷ []) (run_slices (less 1 left) (after due.hart s))
+  pub run : run_slices left s ≡ preceded (next_instant due.hart s ∷ []) (run_slices (less 1 left) (state_after due.hart s))
   pub first_is : first_of left ≡ Some (record { hart = due.hart; count = count_of_first left })
 
-first-run : (s : MachineState) (slice : Slice) (rest : List Slice) → IsNext s slice → run_slices (slice ∷ rest) s ≡ preceded (next_instant slice.hart s ∷ []) (run_slices (less 1 (slice ∷ rest)) (after slice.hart s))
+first-run : (s : MachineState) (slice : Slice) (rest : List Slice) → IsNext s slice → run_slices (slice ∷ rest) s ≡ preceded (next_instant slice.hart s ∷ []) (run_slices (less 1 (slice ∷ rest)) (state_after slice.hart s))
 unfolding run_slices
 first-run s slice rest next = one s slice.hart slice.count rest next.0 next.1
 
@@ -65,7 +66,7 @@ due-is s (x ∷ rest) due stands told =
     record {
       some = stands.0;
       first_due_is = same ∙ ap (λ (h : ℕ). due_of (next_instant h s)) hart;
-      run = first-run s x rest stands ∙ ap (λ (h : ℕ). preceded (next_instant h s ∷ []) (run_slices (less 1 (x ∷ rest)) (after h s))) hart;
+      run = first-run s x rest stands ∙ ap (λ (h : ℕ). preceded (next_instant h s ∷ []) (run_slices (less 1 (x ∷ rest)) (state_after h s))) hart;
       first_is = ap (λ (h : ℕ). Some (record { hart = h; count = x.count })) hart;
     }
 
@@ -74,7 +75,7 @@ no_slice : (s : MachineState) (hart count : ℕ) → (count ≡ 0) ⊎ (is_runni
 unfolding run_slice
 no_slice s hart zero nothing = refl
 no_slice s hart (suc count) (inl none) = absurd (omega arith)
-no_slice s hart (suc count) (inr ended) = ap (λ (b : Bool). cond b (preceded (next_instant hart s ∷ []) (run_slice count hart (after hart s))) (finished s)) ended
+no_slice s hart (suc count) (inr ended) = ap (λ (b : Bool). cond b (preceded (next_instant hart s ∷ []) (run_slice count hart (state_after hart s))) (finished s)) ended
 
 pub passed-over : (s : MachineState) (left : List Slice) (slice : Slice) → first_of left ≡ Some slice → (slice.count ≡ 0) ⊎ (is_running (hart_of s slice.hart) ≡ false) → run_slices (rest_of left) s ≡ run_slices left s
 unfolding run_slices

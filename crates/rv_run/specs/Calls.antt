@@ -99,8 +99,8 @@ abbrev pub ends_all : ℕ → MachineState → Acted
 ends_all status s = record { state = record s { harts = map (grouped status) s.harts }; retired = false }
 
 -- the call by its number: read, write, exit, exit_group, or one that there is not
-abbrev pub called : ℕ → ℕ → ℕ → ℕ → ℕ → MachineState → Acted
-called hart number a b c s =
+abbrev pub call_numbered : ℕ → ℕ → ℕ → ℕ → ℕ → MachineState → Acted
+call_numbered hart number a b c s =
     if number == 63 then completes hart (reads a b c s)
     else (if number == 64 then completes hart (writes a b c s)
     else (if number == 93 then ends_by hart (ends.Exit a) s
@@ -112,4 +112,4 @@ abbrev pub holds_in : ℕ → MachineState → ℕ → ℕ
 holds_in hart s number = register (hart_of s hart).registers number
 
 abbrev pub calls : ℕ → MachineState → Acted
-calls hart s = called hart (holds_in hart s 17) (holds_in hart s 10) (holds_in hart s 11) (holds_in hart s 12) s
+calls hart s = call_numbered hart (holds_in hart s 17) (holds_in hart s 10) (holds_in hart s 11) (holds_in hart s 12) s

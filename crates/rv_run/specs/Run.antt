@@ -49,8 +49,8 @@ instant hart s retired =
     record { moment = record { hart = hart; ordinal = before.retired + 1; pc = before.pc; retired = retired }; registers = before.registers; memory = s.memory }
 
 -- the machine after the next instruction of this hart, and that instruction
-abbrev pub after : ℕ → MachineState → MachineState
-after hart s = (acts hart s).state
+abbrev pub state_after : ℕ → MachineState → MachineState
+state_after hart s = (acts hart s).state
 
 abbrev pub next_instant : ℕ → MachineState → Instant
 next_instant hart s = instant hart s (acts hart s).retired
@@ -67,7 +67,7 @@ preceded first rest = record { instants = first ++ rest.instants; final = rest.f
 unfoldable pub run_slice : ℕ → ℕ → MachineState → Run
 run_slice zero hart s = finished s
 run_slice (suc count) hart s =
-    if is_running (hart_of s hart) then preceded (next_instant hart s ∷ []) (run_slice count hart (after hart s)) else finished s
+    if is_running (hart_of s hart) then preceded (next_instant hart s ∷ []) (run_slice count hart (state_after hart s)) else finished s
 
 abbrev pub joined : Run → (MachineState → Run) → Run
 joined first rest = preceded first.instants (rest first.final)

@@ -5,7 +5,7 @@ use Rattle.std.specs.List.{starts_with}
 use Rattle.prof_bytes.specs.Outcome.{◌>>=◌}
 use Rattle.rv_run.specs.declared.schedule.Slice.{Slice}
 use Rattle.rv_run.specs.declared.schedule.ScheduleFault.{ScheduleFault}
-use Rattle.rv_run.specs.Numerals.{number_of}
+use Rattle.rv_run.specs.Numerals.{decimal_in}
 
 -- the number of harts, and the slices in order
 pub record Scheduled : Type 0 where
@@ -29,24 +29,24 @@ lines [] = []
 lines (byte ∷ rest) = if byte == 10 then [] ∷ lines rest else with_first byte (lines rest)
 
 -- a line and its number
-pub record Numbered : Type 0 where
+pub record NumberedLine : Type 0 where
   pub number : ℕ
   pub bytes : List ℕ
 
-unfoldable pub numbered : ℕ → List (List ℕ) → List Numbered
+unfoldable pub numbered : ℕ → List (List ℕ) → List NumberedLine
 numbered first [] = []
 numbered first (line ∷ rest) = record { number = first; bytes = line } ∷ numbered (first + 1) rest
 
 -- empty lines and those that begin with `#` are passed over
-abbrev pub is_passed_over : List ℕ → Bool
-is_passed_over [] = true
-is_passed_over (byte ∷ rest) = byte == 35
+abbrev pub is_ignored : List ℕ → Bool
+is_ignored [] = true
+is_ignored (byte ∷ rest) = byte == 35
 
-abbrev pub tells : Numbered → Bool
-tells line = not (is_passed_over line.bytes)
+abbrev pub is_entry : NumberedLine → Bool
+is_entry line = not (is_ignored line.bytes)
 
-abbrev pub telling : List Numbered → List Numbered
-telling all = filter tells all
+abbrev pub entries : List NumberedLine → List NumberedLine
+entries all = filter is_entry all
 
 -- `harts ` in ASCII
 abbrev pub harts_word : List ℕ
@@ -54,7 +54,7 @@ harts_word = 104 ∷ 97 ∷ 114 ∷ 116 ∷ 115 ∷ 32 ∷ []
 
 -- the line `harts N`
 abbrev pub harts_in : List ℕ → Option ℕ
-harts_in line = if starts_with nat_eq line harts_word then number_of 1 most_harts (drop 6 line) else None
+harts_in line = if starts_with nat_eq line harts_word then decimal_in 1 most_harts (drop 6 line) else None
 
 abbrev pub slice_by : Option ℕ → Option ℕ → Option Slice
 slice_by (Some hart) (Some count) = Some (record { hart = hart; count = count })
@@ -63,7 +63,7 @@ slice_by _ _ = None
 abbrev pub slice_cut : ℕ → ℕ → List ℕ → Option ℕ → Option Slice
 slice_cut harts used line None = None
 slice_cut harts used line (Some space) =
-    slice_by (number_of 0 (harts - 1) (take space line)) (number_of 1 (most_instructions - used) (drop (space + 1) line))
+    slice_by (decimal_in 0 (harts - 1) (take space line)) (decimal_in 1 (most_instructions - used) (drop (space + 1) line))
 
 -- the line `H C`, with one space, where the slices before it have so many instructions: C is at most
 -- what they leave of the most that there may be
@@ -79,20 +79,20 @@ abbrev pub before : List Slice → Result (List Slice) ScheduleFault → Result 
 before slices rest = rest >>= λ more. Ok (slices ++ more)
 
 -- every line is a slice
-unfoldable pub slices_of : ℕ → ℕ → List Numbered → Result (List Slice) ScheduleFault
+unfoldable pub slices_of : ℕ → ℕ → List NumberedLine → Result (List Slice) ScheduleFault
 slices_of harts used [] = Ok []
 slices_of harts used (line ∷ rest) =
     or_fault line.number (slice_in harts used line.bytes) >>= λ slice. before (slice ∷ []) (slices_of harts (used + slice.count) rest)
 
 -- the first line is that of the harts. Where there is none, the fault is at the end of all lines
-abbrev pub schedule_in : ℕ → List Numbered → Result Scheduled ScheduleFault
+abbrev pub schedule_in : ℕ → List NumberedLine → Result Scheduled ScheduleFault
 schedule_in end [] = Err (record { line = end })
 schedule_in end (first ∷ rest) =
     or_fault first.number (harts_in first.bytes) >>= λ harts. slices_of harts 0 rest >>= λ slices. Ok (record { harts = harts; slices = slices })
 
 -- the schedule that the bytes tell, or its first bad line; lines count from 1
 abbrev pub schedule_of : List ℕ → Result Scheduled ScheduleFault
-schedule_of bytes = schedule_in (length (lines bytes) + 1) (telling (numbered 1 (lines bytes)))
+schedule_of bytes = schedule_in (length (lines bytes) + 1) (entries (numbered 1 (lines bytes)))
 
 abbrev pub count_of : Slice → ℕ
 count_of slice = slice.count

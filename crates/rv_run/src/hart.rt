@@ -1,6 +1,6 @@
 //! One hart of a machine: what it computes with, how far it came, and how it stands.
 ghost use Rattle.std.specs.Prelude.{◌≡◌, ◌<◌, ◌^◌, IfOk, OnErr};
-ghost use Rattle.rv_hart.specs.Step.{step_of, register};
+ghost use Rattle.rv_hart.specs.Step.{step_of, register, StoresNow};
 ghost use Rattle.rv_run.specs.State.{first_hart, is_running, step_state, stepped_hart};
 ghost use Rattle.rv_run.specs.Calls.{with_answer, with_end, grouped};
 
@@ -24,13 +24,13 @@ pub enum HartEnd {
 }
 
 #[derive(Drop)]
-pub(crate) struct Core {
+pub(crate) struct MachineHart {
     hart: Hart,
     retired: u64,
     end: HartEnd,
 }
 
-impl Model for Core {
+impl Model for MachineHart {
     ghost use Rattle.rv_run.specs.State.{HartState};
 
     ghost Value = { HartState };
@@ -38,9 +38,9 @@ impl Model for Core {
     ghost view = { λ core. record { pc = core.hart.pc; registers = core.hart.regs; retired = core.retired; end = core.end } };
 }
 
-impl Core {
+impl MachineHart {
     /// A hart before its first instruction.
-    pub(crate) fn first(entry: u32, hart: u32, harts: u32) -> Core
+    pub(crate) fn first(entry: u32, hart: u32, harts: u32) -> MachineHart
         requires { hart < 64 }
         ensures { result ≡ first_hart entry harts hart }
     {
@@ -48,7 +48,7 @@ impl Core {
         regs[2] = 0xf000_0000 + hart * 0x10_0000 + 0xf_fff0;
         regs[10] = hart;
         regs[11] = harts;
-        Core {
+        MachineHart {
             hart: Hart { pc: entry, regs },
             retired: 0,
             end: HartEnd::Running,
@@ -108,6 +108,7 @@ impl Core {
         ensures how { IfOk result (λ stepped. stepped ≡ (step_of (step_state self.old space.old)).1) }
         ensures err { OnErr result (self.new ≡ self.old) }
         ensures err_space { OnErr result (space.new ≡ space.old) }
+        ensures stores { OnErr result (StoresNow (step_state self.old space.old)) }
     {
         let stepped = step(&mut self.hart, space)?;
         if stepped == Stepped::Retired {

@@ -6,16 +6,16 @@
 //! Below stand one step of one hart, the program's image, and the bytes.
 #![tactic(auto)]
 
-mod board;
+mod environment;
 mod hart;
 mod lines;
 mod machine;
 mod numerals;
 mod output;
 mod schedule;
-mod turns;
+mod slice_queue;
 
 pub use hart::HartEnd;
 pub use machine::{Due, Machine, Moment};
-pub use numerals::number;
+pub use numerals::decimal;
 pub use schedule::{Schedule, ScheduleFault, Slice, read_schedule};

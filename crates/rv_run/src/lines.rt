@@ -1,7 +1,7 @@
 //! The lines of a text, one after another.
 ghost use Rattle.std.specs.Prelude.{◌≡◌, ◌==◌, ◌<◌, ◌≤◌, ◌^◌, [], IfSome, None, length, position};
-ghost use Rattle.rv_run.specs.Schedule.{is_passed_over, lines, telling};
-ghost use Rattle.rv_run.specs.Reading.{all_lines, to_read, first_of, rest_of, line_told};
+ghost use Rattle.rv_run.specs.Schedule.{is_ignored, lines, entries};
+ghost use Rattle.rv_run.specs.private.Reading.{all_lines, to_read, first_of, rest_of, line_told};
 
 use std::marker::Model;
 
@@ -23,7 +23,7 @@ pub(crate) struct Lines<'a> {
 impl<'a> Model for Lines<'a> {
     ghost use Rattle.std.specs.Prelude.{◌≤◌, ◌+◌, ◌^◌, drop, length};
     ghost use Rattle.rv_run.specs.Schedule.{lines};
-    ghost use Rattle.rv_run.specs.Reading.{Unread, IsWithin};
+    ghost use Rattle.rv_run.specs.private.Reading.{Unread, IsWithin};
 
     ghost Value = { Unread };
 
@@ -33,7 +33,7 @@ impl<'a> Model for Lines<'a> {
 }
 
 fn is_comment(line: &[u8]) -> bool
-    ensures { result ≡ is_passed_over line.now }
+    ensures { result ≡ is_ignored line.now }
 {
     match line {
         [] => true,
@@ -101,11 +101,11 @@ impl<'a> Lines<'a> {
     }
 
     /// The next line that is not passed over, if there is one.
-    pub(crate) fn next_telling(&mut self) -> Option<Line<'a>>
-        ensures line { line_told result ≡ first_of (telling (to_read self.old)) }
-        ensures rest { telling (to_read self.new) ≡ rest_of (telling (to_read self.old)) }
+    pub(crate) fn next_entry(&mut self) -> Option<Line<'a>>
+        ensures line { line_told result ≡ first_of (entries (to_read self.old)) }
+        ensures rest { entries (to_read self.new) ≡ rest_of (entries (to_read self.old)) }
         ensures all { all_lines self.new ≡ all_lines self.old }
-        ensures less { IfSome result (λ _. length (telling (to_read self.new)) < length (telling (to_read self.old))) }
+        ensures less { IfSome result (λ _. length (entries (to_read self.new)) < length (entries (to_read self.old))) }
         ensures end { result ≡ None → self.new.rest ≡ [] }
     {
         loop {

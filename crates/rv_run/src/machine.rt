@@ -1,14 +1,14 @@
 //! The machine that a program runs on.
-ghost use Rattle.std.specs.Prelude.{◌≡◌, ◌+◌, ◌<◌, ◌≤◌, IfOk, IfSome, OnErr, None, Some, length};
+ghost use Rattle.std.specs.Prelude.{◌≡◌, ◌+◌, ◌<◌, ◌≤◌, IfOk, IfSome, OnOk, OnErr, None, Some, length};
 ghost use Rattle.rv_run.specs.Schedule.{most_instructions};
 ghost use Rattle.rv_run.specs.State.{first_state, hart_of};
 ghost use Rattle.rv_run.specs.Run.{finished};
-ghost use Rattle.rv_run.specs.Told.{IsFresh, Passed, Went, CountsBy, first_due, to_come};
+ghost use Rattle.rv_run.specs.Progress.{IsFresh, Passed, Broke, Went, CountsBy, first_due, to_come};
 
-use crate::board::Board;
+use crate::environment::Environment;
 use crate::hart::HartEnd;
 use crate::schedule::Schedule;
-use crate::turns::Turns;
+use crate::slice_queue::SliceQueue;
 use elf_image::Image;
 use prof_bytes::Memory;
 use rv_hart::Space;
@@ -37,18 +37,19 @@ pub struct Due {
 /// which slices are left, and so the rest of its run.
 #[derive(Drop)]
 pub struct Machine<'a> {
-    board: Board<'a>,
-    turns: Turns,
+    environment: Environment<'a>,
+    queue: SliceQueue,
 }
 
 impl<'a> Model for Machine<'a> {
-    ghost use Rattle.rv_run.specs.Told.{Progress, IsReady};
+    ghost use Rattle.rv_run.specs.Progress.{Progress};
+    ghost use Rattle.rv_run.specs.private.Queue.{IsReady};
 
     ghost Value = { Progress };
 
-    ghost view = { λ machine. record { state = machine.board; left = machine.turns } };
+    ghost view = { λ machine. record { state = machine.environment; left = machine.queue } };
 
-    ghost invariant = { λ machine. IsReady (record { state = machine.board; left = machine.turns }) };
+    ghost invariant = { λ machine. IsReady (record { state = machine.environment; left = machine.queue }) };
 }
 
 impl<'a> Machine<'a> {
@@ -64,9 +65,9 @@ impl<'a> Machine<'a> {
         // The harts of the schedule stand at the end of the run too.
         ensures harts { IfOk result (λ machine. length (to_come machine).final.harts ≡ schedule.harts) }
     {
-        let board = Board::first(alloc, image, schedule.harts(), input)?;
-        let turns = Turns::of(schedule.into_slices());
-        Ok(Machine { board, turns })
+        let environment = Environment::first(alloc, image, schedule.harts(), input)?;
+        let queue = SliceQueue::of(schedule.into_slices());
+        Ok(Machine { environment, queue })
     }
 
     /// The next instruction; `None` exactly where the run has ended. Takes no memory.
@@ -78,10 +79,10 @@ impl<'a> Machine<'a> {
         ensures ordinal { IfSome result (λ due. due.ordinal ≡ (hart_of self.now.state due.hart).retired + 1) }
         ensures end { result ≡ None → to_come self.now ≡ finished self.now.state }
     {
-        let Some(slice) = self.turns.first() else {
+        let Some(slice) = self.queue.first() else {
             return None;
         };
-        let core = self.board.core(slice.hart);
+        let core = self.environment.core(slice.hart);
         Some(Due {
             hart: slice.hart,
             pc: core.pc(),
@@ -99,9 +100,9 @@ impl<'a> Machine<'a> {
         let Some(due) = self.due() else {
             return Ok(None);
         };
-        let retired = self.board.act(due.hart)?;
-        self.turns.take_off(1);
-        self.turns.settle(&self.board);
+        let retired = self.environment.act(due.hart)?;
+        self.queue.take_off(1);
+        self.queue.skip_idle(&self.environment);
         Ok(Some(Moment {
             hart: due.hart,
             ordinal: due.ordinal,
@@ -110,27 +111,30 @@ impl<'a> Machine<'a> {
         }))
     }
 
-    /// Carries out instructions of the hart that is due, one at least and `most` at most. It stops where
-    /// its slice ends, and beside an instruction that does not retire by itself. After `Memory` the
-    /// machine stands as before.
+    /// Carries out instructions of the hart that is due: those that retire by themselves, up to `most` and up to
+    /// the end of the slice; and where the first does not retire by itself, that one. So it ends before an
+    /// environment call, a breakpoint and a trap, and in no other way. After `Memory` the machine stands before
+    /// the instruction for which none was found.
     pub fn pass(&mut self, due: &Due, most: u32) -> Result<(), Memory>
         requires due { Some due.now ≡ first_due (to_come self.old).instants }
         requires some { 0 < most }
-        ensures ok { IfOk result (λ _. Passed due.now.hart most self.old self.new) }
-        ensures err { OnErr result (self.new ≡ self.old) }
+        ensures ok { OnOk result (Passed due.now.hart most self.old self.new) }
+        ensures err { OnErr result (Broke due.now.hart most self.old self.new) }
     {
-        let Some(slice) = self.turns.first() else {
+        let Some(slice) = self.queue.first() else {
             return Ok(());
         };
-        let count = self.board.pass(slice.hart, most.min(slice.count));
+        let (count, last) = self.environment.steps(slice.hart, most.min(slice.count));
         if count == 0 {
+            let _ = last?;
             let Some(_) = self.next()? else {
                 return Ok(());
             };
             return Ok(());
         }
-        self.turns.take_off(count);
-        self.turns.settle(&self.board);
+        self.queue.take_off(count);
+        self.queue.skip_idle(&self.environment);
+        let _ = last?;
         Ok(())
     }
 
@@ -138,14 +142,14 @@ impl<'a> Machine<'a> {
     pub fn space(&self) -> &Space<'a>
         ensures { result.now ≡ self.now.state.memory }
     {
-        self.board.space()
+        self.environment.space()
     }
 
     /// What the program wrote, at most 1,048,576 bytes.
     pub fn output(&self) -> &[u8]
         ensures { result.now ≡ self.now.state.output }
     {
-        self.board.output()
+        self.environment.output()
     }
 
     /// The number of harts, which is the same through the whole run.
@@ -154,7 +158,7 @@ impl<'a> Machine<'a> {
         ensures harts { result ≡ length self.now.state.harts }
         ensures at_end { result ≡ length (to_come self.now).final.harts }
     {
-        self.board.harts()
+        self.environment.harts()
     }
 
     /// The registers x0 to x31 of a hart.
@@ -162,7 +166,7 @@ impl<'a> Machine<'a> {
         requires { hart < length self.now.state.harts }
         ensures { result.now ≡ (hart_of self.now.state hart).registers }
     {
-        self.board.core(hart).registers()
+        self.environment.core(hart).registers()
     }
 
     /// How many instructions a hart retired.
@@ -170,7 +174,7 @@ impl<'a> Machine<'a> {
         requires { hart < length self.now.state.harts }
         ensures { result ≡ (hart_of self.now.state hart).retired }
     {
-        self.board.core(hart).retired()
+        self.environment.core(hart).retired()
     }
 
     /// How a hart stands.
@@ -178,6 +182,6 @@ impl<'a> Machine<'a> {
         requires { hart < length self.now.state.harts }
         ensures { result ≡ (hart_of self.now.state hart).end }
     {
-        self.board.core(hart).end()
+        self.environment.core(hart).end()
     }
 }

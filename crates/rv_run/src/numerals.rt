@@ -1,6 +1,6 @@
 //! Numbers in decimal, as schedules have them.
 ghost use Rattle.std.specs.Prelude.{◌≡◌, ◌≤◌, ◌<◌, ◌^◌, min, IfSome};
-ghost use Rattle.rv_run.specs.Numerals.{is_digit, is_numeral, numeral_value, number_of};
+ghost use Rattle.rv_run.specs.Numerals.{is_digit, is_decimal, decimal_value, decimal_in};
 ghost use Rattle.std.specs.List.{list_all};
 
 /// Above every number that is looked for: larger ones count as this one.
@@ -19,7 +19,7 @@ fn all_digits(word: &[u8]) -> bool
 }
 
 fn is_decimal(word: &[u8]) -> bool
-    ensures { result ≡ is_numeral word.now }
+    ensures { result ≡ is_decimal word.now }
 {
     match word {
         [] => false,
@@ -29,7 +29,7 @@ fn is_decimal(word: &[u8]) -> bool
 
 #[tactic(auto, using(crate::proofs::DigitSteps::numeral_steps))]
 fn capped_value(word: &[u8]) -> u64
-    ensures { result ≡ min (numeral_value word.now) (2 ^ 40) }
+    ensures { result ≡ min (decimal_value word.now) (2 ^ 40) }
 {
     let mut value: u64 = 0;
     for byte in word {
@@ -39,8 +39,8 @@ fn capped_value(word: &[u8]) -> u64
 }
 
 /// A number from `low` to `high`, without a sign and without leading zeros.
-pub fn number(word: &[u8], low: u32, high: u32) -> Option<u32>
-    ensures number { result ≡ number_of low high word.now }
+pub fn decimal(word: &[u8], low: u32, high: u32) -> Option<u32>
+    ensures number { result ≡ decimal_in low high word.now }
     ensures range { IfSome result (λ n. (low ≤ n) × (n ≤ high)) }
 {
     if !is_decimal(word) {

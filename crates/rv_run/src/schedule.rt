@@ -1,11 +1,11 @@
 //! The schedule, and reading it from text.
 ghost use Rattle.std.specs.Prelude.{◌≡◌, ◌==◌, ◌-◌, ◌≤◌, ◌<◌, ◌^◌, All, IfOk, IfSome, length, position};
 ghost use Rattle.prof_bytes.specs.Outcome.{Gives};
-ghost use Rattle.rv_run.specs.Schedule.{IsSchedule, IsSlice, Scheduled, harts_in, schedule_of, slice_in, slices_of, telling, instructions, most_harts, most_instructions};
-ghost use Rattle.rv_run.specs.Reading.{all_lines, to_read};
+ghost use Rattle.rv_run.specs.Schedule.{IsSchedule, IsSlice, Scheduled, harts_in, schedule_of, slice_in, slices_of, entries, instructions, most_harts, most_instructions};
+ghost use Rattle.rv_run.specs.private.Reading.{all_lines, to_read};
 
 use crate::lines::Lines;
-use crate::numerals::number;
+use crate::numerals::decimal;
 use prof_bytes::{Fail, Listed};
 use std::alloc::Global;
 use std::marker::Model;
@@ -76,7 +76,7 @@ fn harts_line(line: &[u8]) -> Option<u32>
     if !line.starts_with(b"harts ") {
         return None;
     }
-    number(&line[6..], 1, 16)
+    decimal(&line[6..], 1, 16)
 }
 
 fn space_in(line: &[u8]) -> Option<usize>
@@ -93,8 +93,8 @@ fn slice_line(harts: u32, used: u32, line: &[u8]) -> Option<Slice>
     ensures room { IfSome result (λ s. s.count ≤ most_instructions - used) }
 {
     let space = space_in(line)?;
-    let hart = number(&line[..space], 0, harts - 1)?;
-    let count = number(&line[space + 1..], 1, u32::MAX - used)?;
+    let hart = decimal(&line[..space], 0, harts - 1)?;
+    let count = decimal(&line[space + 1..], 1, u32::MAX - used)?;
     Some(Slice { hart, count })
 }
 
@@ -105,13 +105,13 @@ fn read_slices(
     lines: &mut Lines<'_>,
 ) -> Result<Vec<Slice>, Fail<ScheduleFault>>
     requires { 0 < harts }
-    ensures slices { Gives (λ slices. slices.items) result (slices_of harts 0 (telling (to_read lines.old))) }
+    ensures slices { Gives (λ slices. slices.items) result (slices_of harts 0 (entries (to_read lines.old))) }
     ensures fit { IfOk result (λ slices. All (IsSlice harts) slices.items) }
     ensures few { IfOk result (λ slices. instructions slices.items ≤ most_instructions) }
 {
     let mut slices = Vec::new(alloc);
     let mut used = 0;
-    while let Some(line) = lines.next_telling() {
+    while let Some(line) = lines.next_entry() {
         let Some(slice) = slice_line(harts, used, line.bytes) else {
             return Err(Fail::Fault(ScheduleFault { line: line.number }));
         };
@@ -132,7 +132,7 @@ pub fn read_schedule(alloc: Global, bytes: &[u8]) -> Result<Schedule, Fail<Sched
     ensures { Gives (λ schedule. schedule) result (schedule_of bytes.now) }
 {
     let mut lines = Lines::of(bytes);
-    let Some(first) = lines.next_telling() else {
+    let Some(first) = lines.next_entry() else {
         return Err(Fail::Fault(ScheduleFault {
             line: lines.done() + 1,
         }));

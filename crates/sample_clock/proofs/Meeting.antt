@@ -1,5 +1,5 @@
 -- Samples that are met, and instructions that are not sampled.
-use Rattle.std.proofs.Common.{◌≡◌, ◌≢◌, inl, inr, ℕ, suc, ◌+◌, ◌-◌, ◌%◌, ◌<◌, ◌≤◌, ◌==◌, ◌&&◌, Bool, true, false, not, cond, List, [], ◌∷◌, ◌++◌, map, length, filter, get_or, replicate, slice_set, Some, refl, sym, ap, ap₂, subst, ◌∙◌, append_assoc, arith, rules, Fits, w32, ◌^◌}
+use Rattle.std.proofs.Common.{◌≡◌, ◌≢◌, inl, inr, ℕ, zero, suc, ◌+◌, ◌-◌, ◌%◌, ◌<◌, ◌≤◌, ◌==◌, ◌&&◌, Bool, true, false, not, cond, List, [], ◌∷◌, ◌++◌, map, length, min, filter, get_or, replicate, slice_set, Some, refl, sym, ap, ap₂, subst, ◌∙◌, append_assoc, arith, rules, Fits, w32, ◌^◌}
 use Rattle.std.specs.List.{All}
 use Rattle.std.proofs.lemmas.Bool.{ne_eqb}
 use Rattle.std.proofs.Common.{eq-eqb}
@@ -12,10 +12,11 @@ use Rattle.rv_run.specs.State.{hart_of}
 use Rattle.rv_run.specs.Run.{Instant, Run, finished, preceded, next_instant, instant}
 use Rattle.rv_run.specs.declared.machine.Moment.{Moment}
 use Rattle.rv_run.specs.declared.machine.Due.{Due}
-use Rattle.rv_run.specs.Told.{Progress, to_come, WentOn, Counts, plus_one, due_of, first_due, IsFresh, IsBetween, Passed}
+use Rattle.rv_run.specs.Progress.{Progress, to_come, WentOn, Counts, plus_one, due_of, first_due, IsFresh, IsBetween, Carried, Passed, Broke, plain_count, some_of, count_of_first}
 use Rattle.sample_clock.specs.declared.clock.Sample.{Sample}
 use Rattle.sample_clock.specs.Samples.{Paths, is_sampled, sample_of, samples, most_samples}
-use Rattle.sample_clock.specs.Clock.{Sampling, samples_to_come, IsNext, IsClock, CarriedOut, CameSampled, CameUnsampled, CameEnd, Unsampled, Met, Given, MetNow, IsOver, Lacks}
+use Rattle.sample_clock.specs.Clock.{Sampling, samples_to_come, Given, IsOver, AreTooMany, NoneLost, Unsampled, Met}
+use Rattle.sample_clock.specs.private.Advance.{IsNext, IsClock, NoneMet, CarriedOut, OneSampled, SomeUnsampled, BrokeOff, Ended}
 use Rattle.sample_clock.proofs.Periods.{next-multiple, no-multiple}
 
 pub not-sampled : (period : ℕ) (i : Instant) → is_sampled period i ≡ false → filter (is_sampled period) (i ∷ []) ≡ []
@@ -154,20 +155,22 @@ clock-unretired period met old new next due moment clock told went counts retire
     let was : IsNext period (hart_of old.state due.hart).retired (get_or next due.hart 0) = clock.nexts due.hart within in
     clock-kept period met old new next due.hart false clock counted (omega (arith, counted.own, was.above))
 
-pub came-unretired : (due : Due) (old new : Sampling) → CarriedOut due false old new → CameUnsampled old new
-came-unretired due old new done =
+pub unretired-passed : (due : Due) (old new : Sampling) → CarriedOut due false old new → SomeUnsampled old new
+unretired-passed due old new done =
     record {
-      passed = instant due.hart old.machine.state false ∷ [];
+      stands = record {
+        passed = instant due.hart old.machine.state false ∷ [];
+        run = done.run;
+        none = not-sampled old.period (instant due.hart old.machine.state false) (unretired old.period (instant due.hart old.machine.state false) refl);
+        period = done.period;
+      };
       some = omega arith;
-      run = done.run;
-      none = not-sampled old.period (instant due.hart old.machine.state false) (unretired old.period (instant due.hart old.machine.state false) refl);
-      period = done.period;
       met = done.met;
     }
 
-pub came-sampled : (path_of : Paths) (due : Due) (sample : Sample) (old new : Sampling) → CarriedOut due true old new → due.ordinal % old.period ≡ 0
-    → sample ≡ sample_of path_of (instant due.hart old.machine.state true) → CameSampled path_of sample old new
-came-sampled path_of due sample old new done multiple told =
+pub retired-sampled : (path_of : Paths) (due : Due) (sample : Sample) (old new : Sampling) → CarriedOut due true old new → due.ordinal % old.period ≡ 0
+    → sample ≡ sample_of path_of (instant due.hart old.machine.state true) → OneSampled path_of sample old new
+retired-sampled path_of due sample old new done multiple told =
     record {
       instant = instant due.hart old.machine.state true;
       run = done.run;
@@ -178,83 +181,98 @@ came-sampled path_of due sample old new done multiple told =
     }
 
 -- what came before, and what came now
-pub unsampled-more : (a b c : Sampling) → Unsampled a b → CameUnsampled b c → Unsampled a c
-unsampled-more a b c was now =
+unsampled-twice : (a b c : Sampling) → Unsampled a b → Unsampled b c → Unsampled a c
+unsampled-twice a b c was now =
     record {
       passed = was.passed ++ now.passed;
       run = was.run ∙ ap (preceded was.passed) now.run ∙ preceded-twice was.passed now.passed (to_come c.machine);
       none = none-twice (is_sampled a.period) was.passed now.passed was.none (ap (λ (n : ℕ). filter (is_sampled n) now.passed) (sym was.period) ∙ now.none);
       period = now.period ∙ was.period;
-      met = now.met ∙ was.met;
-      few = was.few;
     }
 
-pub met-by : (path_of : Paths) (sample : Sample) (a b c d : Sampling) → Unsampled a b → CameSampled path_of sample b c → d ≡ record c { met = c.met + 1 } → Met a d
-met-by path_of sample a b c d was now is =
-    record {
-      passed = was.passed;
-      instant = now.instant;
-      run = was.run ∙ ap (preceded was.passed) now.run ∙ ap (λ (s : Sampling). preceded was.passed (preceded (now.instant ∷ []) (to_come s.machine))) (sym is);
-      none = was.none;
-      sampled = ap (λ (n : ℕ). is_sampled n now.instant) (sym was.period) ∙ now.sampled;
-      period = ap (λ (s : Sampling). s.period) is ∙ now.period ∙ was.period;
-      met = ap (λ (s : Sampling). s.met) is ∙ ap (λ (n : ℕ). n + 1) (now.met ∙ was.met);
-    }
+pub none-met-first : (a : Sampling) → a.met ≤ most_samples → NoneMet a a
+none-met-first a few = record { stands = record { passed = []; run = refl; none = refl; period = refl }; met = refl; few = few }
 
-pub met-samples : (path_of : Paths) (a d : Sampling) (m : Met a d) → samples_to_come path_of a ≡ sample_of path_of m.instant ∷ samples_to_come path_of d
-met-samples path_of a d m =
-    ap (λ (r : Run). samples path_of a.period r.instants) m.run
-    ∙ samples-after path_of a.period m.passed (m.instant ∷ (to_come d.machine).instants) m.none
-    ∙ samples-first path_of a.period m.instant (to_come d.machine).instants m.sampled
-    ∙ ap (λ (n : ℕ). sample_of path_of m.instant ∷ samples path_of n (to_come d.machine).instants) (sym m.period)
+pub none-met-more : (a b c : Sampling) → NoneMet a b → SomeUnsampled b c → NoneMet a c
+none-met-more a b c was now = record { stands = unsampled-twice a b c was.stands now.stands; met = now.met ∙ was.met; few = was.few }
 
-pub given-by : (path_of : Paths) (sample : Sample) (a b c d : Sampling) → Unsampled a b → CameSampled path_of sample b c → d ≡ record c { met = c.met + 1 } → d.met ≤ most_samples → Given path_of sample a d
-unfolding met-by
-given-by path_of sample a b c d was now is few =
-    record {
-      meets = met-by path_of sample a b c d was now is;
-      told = now.told;
-      to_come = met-samples path_of a d (met-by path_of sample a b c d was now is) ∙ ap (λ (s : Sample). s ∷ samples_to_come path_of d) (sym now.told);
-      few = few;
-    }
-
-pub met-now : (path_of : Paths) (sample : Sample) (a b c d : Sampling) → Unsampled a b → CameSampled path_of sample b c → d ≡ record c { met = c.met + 1 } → most_samples < d.met → MetNow a d
-unfolding met-by
-met-now path_of sample a b c d was now is over =
-    let m : Met a d = met-by path_of sample a b c d was now is in
-    record { full = omega (arith, was.few, m.met); meets = met-by path_of sample a b c d was now is }
-
-unsampled-samples : (path_of : Paths) (a b : Sampling) → Unsampled a b → samples_to_come path_of a ≡ samples_to_come path_of b
-unsampled-samples path_of a b was =
+-- the samples that are to come, where none was met
+none-lost : (path_of : Paths) (a b : Sampling) → Unsampled a b → samples_to_come path_of a ≡ samples_to_come path_of b
+none-lost path_of a b was =
     ap (λ (r : Run). samples path_of a.period r.instants) was.run
     ∙ samples-after path_of a.period was.passed (to_come b.machine).instants was.none
     ∙ ap (λ (n : ℕ). samples path_of n (to_come b.machine).instants) (sym was.period)
 
-pub over-by : (path_of : Paths) (a b c : Sampling) → Unsampled a b → CameEnd b c → IsOver path_of a c
-over-by path_of a b c was end =
-    let now : Unsampled a c = subst (λ (s : Sampling). Unsampled a s) (sym end.same) was in
-    let ended : to_come c.machine ≡ finished c.machine.state = subst (λ (s : Sampling). to_come s.machine ≡ finished s.machine.state) (sym end.same) end.ended in
+-- a sample that is met, and counted
+abbrev Counted : Sampling → Sampling → Type 0
+Counted c d = d ≡ record c { met = c.met + 1 }
+
+pub one-met : (path_of : Paths) (sample : Sample) (a b c d : Sampling) → NoneMet a b → OneSampled path_of sample b c → Counted c d → Met a d
+one-met path_of sample a b c d was now is =
     record {
-      passes = subst (λ (s : Sampling). Unsampled a s) (sym end.same) was;
-      none = unsampled-samples path_of a c now ∙ ap (λ (r : Run). samples path_of c.period r.instants) ended;
-      ended = ended;
+      passed = was.stands.passed;
+      instant = now.instant;
+      run = was.stands.run ∙ ap (preceded was.stands.passed) now.run ∙ ap (λ (s : Sampling). preceded was.stands.passed (preceded (now.instant ∷ []) (to_come s.machine))) (sym is);
+      none = was.stands.none;
+      sampled = ap (λ (n : ℕ). is_sampled n now.instant) (sym was.stands.period) ∙ now.sampled;
+      period = ap (λ (s : Sampling). s.period) is ∙ now.period ∙ was.stands.period;
     }
 
-pub lacks-by : (path_of : Paths) (a b c : Sampling) → Unsampled a b → c ≡ b → Lacks path_of a c
-lacks-by path_of a b c was same =
-    let now : Unsampled a c = subst (λ (s : Sampling). Unsampled a s) (sym same) was in
-    record { passes = subst (λ (s : Sampling). Unsampled a s) (sym same) was; to_come = sym (unsampled-samples path_of a c now) }
+met-counts : (path_of : Paths) (sample : Sample) (a b c d : Sampling) → NoneMet a b → OneSampled path_of sample b c → Counted c d → d.met ≡ a.met + 1
+met-counts path_of sample a b c d was now is = ap (λ (s : Sampling). s.met) is ∙ ap (λ (n : ℕ). n + 1) (now.met ∙ was.met)
+
+met-sample : (path_of : Paths) (sample : Sample) (a b c d : Sampling) → NoneMet a b → OneSampled path_of sample b c → Counted c d → samples_to_come path_of a ≡ sample ∷ samples_to_come path_of d
+met-sample path_of sample a b c d was now is =
+    none-lost path_of a b was.stands
+    ∙ ap (λ (r : Run). samples path_of b.period r.instants) now.run
+    ∙ samples-first path_of b.period now.instant (to_come c.machine).instants now.sampled
+    ∙ ap₂ (λ (s : Sample) (n : ℕ). s ∷ samples path_of n (to_come c.machine).instants) (sym now.told) (sym now.period)
+    ∙ ap (λ (s : Sampling). sample ∷ samples_to_come path_of s) (sym is)
+
+pub given-by : (path_of : Paths) (sample : Sample) (a b c d : Sampling) → NoneMet a b → OneSampled path_of sample b c → Counted c d → d.met ≤ most_samples → Given path_of sample a d
+given-by path_of sample a b c d was now is few =
+    record { to_come = met-sample path_of sample a b c d was now is; met = met-counts path_of sample a b c d was now is; few = few }
+
+pub too-many-now : (path_of : Paths) (sample : Sample) (a b c d : Sampling) → NoneMet a b → OneSampled path_of sample b c → Counted c d → most_samples < d.met → AreTooMany path_of a d
+too-many-now path_of sample a b c d was now is over =
+    let met : d.met ≡ a.met + 1 = met-counts path_of sample a b c d was now is in
+    let left : length (samples_to_come path_of a) ≡ suc (length (samples_to_come path_of d)) = ap length (met-sample path_of sample a b c d was now is) in
+    let few : a.met ≤ most_samples = was.few in
+    record { full = omega arith; over = omega arith; all = omega arith }
+
+pub too-many-before : (path_of : Paths) (a : Sampling) → most_samples < a.met → a.met ≤ most_samples + 1 → AreTooMany path_of a a
+too-many-before path_of a over few = record { full = omega arith; over = omega arith; all = refl }
+
+pub over-by : (path_of : Paths) (a b c : Sampling) → NoneMet a b → Ended b c → IsOver path_of a c
+over-by path_of a b c was end =
+    let here : NoneMet a c = subst (λ (s : Sampling). NoneMet a s) (sym end.same) was in
+    let ended : to_come c.machine ≡ finished c.machine.state = subst (λ (s : Sampling). to_come s.machine ≡ finished s.machine.state) (sym end.same) end.ended in
+    record {
+      none = none-lost path_of a c here.stands ∙ ap (λ (r : Run). samples path_of c.period r.instants) ended;
+      ended = ended;
+      met = here.met;
+      few = here.few;
+    }
+
+pub over-stands : (a b c : Sampling) → NoneMet a b → Ended b c → Unsampled a c
+over-stands a b c was end = subst (λ (s : Sampling). Unsampled a s) (sym end.same) was.stands
+
+pub none-lost-by : (path_of : Paths) (a b c : Sampling) → NoneMet a b → BrokeOff b c → NoneLost path_of a c
+none-lost-by path_of a b c was now =
+    record { to_come = sym (none-lost path_of a c (unsampled-twice a b c was.stands now.stands)); met = now.met ∙ was.met; few = was.few }
+
+pub broken-stands : (a b c : Sampling) → NoneMet a b → BrokeOff b c → Unsampled a c
+broken-stands a b c was now = unsampled-twice a b c was.stands now.stands
+
+-- nothing was carried out
+pub broke-at-once : (a b : Sampling) → b ≡ a → BrokeOff a b
+broke-at-once a b same = subst (λ (s : Sampling). BrokeOff a s) (sym same) (record { stands = record { passed = []; run = refl; none = refl; period = refl }; met = refl })
 
 pub unsampled-last : (a b : Sampling) → Unsampled a b → (to_come b.machine).final ≡ (to_come a.machine).final
 unsampled-last a b was = sym (ap (λ (r : Run). r.final) was.run)
 
-pub met-last : (path_of : Paths) (sample : Sample) (a b c d : Sampling) → Unsampled a b → CameSampled path_of sample b c → d ≡ record c { met = c.met + 1 } → (to_come d.machine).final ≡ (to_come a.machine).final
-met-last path_of sample a b c d was now is =
-    let m : Met a d = met-by path_of sample a b c d was now is in
-    sym (ap (λ (r : Run). r.final) m.run)
-
-pub unsampled-first : (a : Sampling) → a.met ≤ most_samples → Unsampled a a
-unsampled-first a few = record { passed = []; run = refl; none = refl; period = refl; met = refl; few = few }
+pub met-last : (a d : Sampling) → Met a d → (to_come d.machine).final ≡ (to_come a.machine).final
+met-last a d met = sym (ap (λ (r : Run). r.final) met.run)
 
 pub was-true : (b : Bool) → not b ≡ false → b ≡ true
 was-true true e = refl
@@ -276,25 +294,39 @@ due-below period met old next due clock at within =
     let is : IsNext period (hart_of old.state due.hart).retired (get_or next due.hart 0) = clock.nexts due.hart within in
     (omega (arith, is.above), omega (arith, is.least))
 
-pub came-passed : (period met most : ℕ) (old new : Progress) (next : List ℕ) (due : Due) → IsClock (record { machine = old; period = period; met = met }) next → due.ordinal ≡ (hart_of old.state due.hart).retired + 1
-    → due.hart < length old.state.harts → most ≡ get_or next due.hart 0 - due.ordinal → 0 < most → Passed due.hart most old new
-    → CameUnsampled (record { machine = old; period = period; met = met }) (record { machine = new; period = period; met = met })
-came-passed period met most old new next due clock at within is some went =
+carried-unsampled : (period met most : ℕ) (old new : Progress) (next : List ℕ) (due : Due) (passed : List Instant) → IsClock (record { machine = old; period = period; met = met }) next → due.ordinal ≡ (hart_of old.state due.hart).retired + 1
+    → due.hart < length old.state.harts → most ≡ get_or next due.hart 0 - due.ordinal → 0 < most → Carried due.hart most passed old new → filter (is_sampled period) passed ≡ []
+carried-unsampled period met most old new next due passed clock at within is some went =
     let of_hart : IsNext period (hart_of old.state due.hart).retired (get_or next due.hart 0) = clock.nexts due.hart within in
+    none-between period due.hart ((hart_of old.state due.hart).retired + 1) ((hart_of old.state due.hart).retired + most) (get_or next due.hart 0) passed of_hart.multiple
+    (omega (arith, is, at, of_hart.above)) (omega (arith, of_hart.least)) went.between
+
+pass-some : (n : ℕ) → 0 < some_of n
+pass-some zero = omega arith
+pass-some (suc n) = omega arith
+
+pub some-passed : (period met most : ℕ) (old new : Progress) (next : List ℕ) (due : Due) → IsClock (record { machine = old; period = period; met = met }) next → due.ordinal ≡ (hart_of old.state due.hart).retired + 1
+    → due.hart < length old.state.harts → most ≡ get_or next due.hart 0 - due.ordinal → 0 < most → Passed due.hart most old new
+    → SomeUnsampled (record { machine = old; period = period; met = met }) (record { machine = new; period = period; met = met })
+some-passed period met most old new next due clock at within is some went =
     record {
-      passed = went.passed;
-      some = went.some;
-      run = went.run;
-      none =
-          none-between period due.hart ((hart_of old.state due.hart).retired + 1) ((hart_of old.state due.hart).retired + most) (get_or next due.hart 0) went.passed of_hart.multiple
-          (omega (arith, is, at, of_hart.above)) (omega (arith, of_hart.least)) went.between;
-      period = refl;
+      stands = record { passed = went.passed; run = went.carried.run; none = carried-unsampled period met most old new next due went.passed clock at within is some went.carried; period = refl };
+      some = (let long = went.long in let one = pass-some (plain_count (min most (count_of_first old.left)) due.hart old.state) in omega (arith, long, one));
       met = refl;
     }
 
-pub clock-passed : (period met most : ℕ) (old new : Progress) (next : List ℕ) (due : Due) → IsClock (record { machine = old; period = period; met = met }) next → due.ordinal ≡ (hart_of old.state due.hart).retired + 1
-    → due.hart < length old.state.harts → most ≡ get_or next due.hart 0 - due.ordinal → 0 < most → Passed due.hart most old new → IsClock (record { machine = new; period = period; met = met }) next
-clock-passed period met most old new next due clock at within is some went =
+pub broke-passed : (period met most : ℕ) (old new : Progress) (next : List ℕ) (due : Due) → IsClock (record { machine = old; period = period; met = met }) next → due.ordinal ≡ (hart_of old.state due.hart).retired + 1
+    → due.hart < length old.state.harts → most ≡ get_or next due.hart 0 - due.ordinal → 0 < most → Broke due.hart most old new
+    → BrokeOff (record { machine = old; period = period; met = met }) (record { machine = new; period = period; met = met })
+broke-passed period met most old new next due clock at within is some went =
+    record {
+      stands = record { passed = went.passed; run = went.carried.run; none = carried-unsampled period met most old new next due went.passed clock at within is some went.carried; period = refl };
+      met = refl;
+    }
+
+pub clock-passed : (period met most : ℕ) (old new : Progress) (next : List ℕ) (due : Due) (passed : List Instant) → IsClock (record { machine = old; period = period; met = met }) next → due.ordinal ≡ (hart_of old.state due.hart).retired + 1
+    → due.hart < length old.state.harts → most ≡ get_or next due.hart 0 - due.ordinal → 0 < most → Carried due.hart most passed old new → IsClock (record { machine = new; period = period; met = met }) next
+clock-passed period met most old new next due passed clock at within is some went =
     record {
       some = clock.some;
       fits = clock.fits;

@@ -2,9 +2,10 @@
 ghost use Rattle.std.specs.Prelude.{◌≡◌, ◌<◌, ◌≤◌, ◌%◌, IfOk, OnErr, Some, length};
 ghost use Rattle.rv_run.specs.Schedule.{most_instructions};
 ghost use Rattle.rv_run.specs.State.{hart_of};
-ghost use Rattle.rv_run.specs.Told.{IsFresh, first_due, to_come};
+ghost use Rattle.rv_run.specs.Progress.{IsFresh, first_due, to_come};
 ghost use Rattle.sample_clock.specs.Samples.{words_of};
-ghost use Rattle.sample_clock.specs.Clock.{Asked, CameNext, CarriedOut};
+ghost use Rattle.sample_clock.specs.Clock.{Answers, StandsAt};
+ghost use Rattle.sample_clock.specs.private.Advance.{Advances, CarriedOut};
 
 use prof_bytes::{Fail, Memory};
 use rv_run::{Due, Machine};
@@ -29,7 +30,7 @@ pub struct TooManySamples;
 
 /// What comes next of a run.
 #[derive(Drop)]
-enum Came {
+enum Advance {
     End,
     Unsampled,
     Sampled(Sample),
@@ -45,7 +46,8 @@ pub struct Samples<'a> {
 }
 
 impl<'a> Model for Samples<'a> {
-    ghost use Rattle.sample_clock.specs.Clock.{Sampling, IsClock};
+    ghost use Rattle.sample_clock.specs.Clock.{Sampling};
+    ghost use Rattle.sample_clock.specs.private.Advance.{IsClock};
 
     ghost Value = { Sampling };
 
@@ -104,18 +106,18 @@ impl<'a> Samples<'a> {
     }
 
     /// Carries out the instruction that is due, and takes its sample if it retires.
-    fn sample<U: Unwind>(&mut self, due: &Due, unwinder: &U) -> Result<Came, Memory>
+    fn sample<U: Unwind>(&mut self, due: &Due, unwinder: &U) -> Result<Advance, Memory>
         requires due { Some due.now ≡ first_due (to_come self.old.machine).instants }
         requires hart { due.now.hart < length self.old.machine.state.harts }
         requires few { due.now.ordinal ≤ most_instructions }
         requires multiple { due.now.ordinal % self.old.period ≡ 0 }
-        ensures { CameNext (U.path_of unwinder.now) result self.old self.new }
+        ensures { Advances (U.path_of unwinder.now) result self.old self.new }
     {
         let path = path_due(&self.machine, due, unwinder)?;
         if !self.carry_out(due)? {
-            return Ok(Came::Unsampled);
+            return Ok(Advance::Unsampled);
         }
-        Ok(Came::Sampled(Sample {
+        Ok(Advance::Sampled(Sample {
             hart: due.hart,
             ordinal: due.ordinal,
             path,
@@ -123,18 +125,18 @@ impl<'a> Samples<'a> {
     }
 
     /// Carries out what comes next.
-    fn go_on<U: Unwind>(&mut self, unwinder: &U) -> Result<Came, Memory>
-        ensures { CameNext (U.path_of unwinder.now) result self.old self.new }
+    fn go_on<U: Unwind>(&mut self, unwinder: &U) -> Result<Advance, Memory>
+        ensures { Advances (U.path_of unwinder.now) result self.old self.new }
     {
         let Some(due) = self.machine.due() else {
-            return Ok(Came::End);
+            return Ok(Advance::End);
         };
         let until = self.next[due.hart as usize] - due.ordinal;
         if until == 0 {
             return self.sample(&due, unwinder);
         }
         self.machine.pass(&due, until as u32)?;
-        Ok(Came::Unsampled)
+        Ok(Advance::Unsampled)
     }
 
     /// The next sample; `None` exactly where the run has ended and none is left. `TooManySamples` comes
@@ -142,7 +144,8 @@ impl<'a> Samples<'a> {
     /// sample's instruction. After `Memory` it stands before the instruction for which none was found,
     /// and no sample is lost.
     pub fn next<U: Unwind>(&mut self, unwinder: &U) -> Result<Option<Sample>, Fail<TooManySamples>>
-        ensures asked { Asked (U.path_of unwinder.now) result self.old self.new }
+        ensures answer { Answers (U.path_of unwinder.now) result self.old self.new }
+        ensures stands { StandsAt result self.old self.new }
         ensures last { (to_come self.new.machine).final ≡ (to_come self.old.machine).final }
     {
         if self.met > MOST_SAMPLES {
@@ -150,9 +153,9 @@ impl<'a> Samples<'a> {
         }
         loop {
             match self.go_on(unwinder)? {
-                Came::End => return Ok(None),
-                Came::Unsampled => {}
-                Came::Sampled(sample) => {
+                Advance::End => return Ok(None),
+                Advance::Unsampled => {}
+                Advance::Sampled(sample) => {
                     self.met += 1;
                     if self.met > MOST_SAMPLES {
                         return Err(Fail::Fault(TooManySamples));

@@ -1,6 +1,6 @@
 use Rattle.std.proofs.Common.{ap}
 use Rattle.std.proofs.lemmas.Result.{err_from_is_err_and}
-use Rattle.rv_run.specs.Told.{Progress}
+use Rattle.rv_run.specs.Progress.{Progress}
 use Rattle.cfi_unwind.specs.Path.{path_of as unwound_by}
 use Rattle.hpc_top.specs.Made.{view}
 use Rattle.hpc_top.proofs.Products.{few_alike, refused_job, whole_job}

@@ -1,5 +1,5 @@
 use Rattle.std.proofs.Common.{length, sym, ap, ◌∙◌}
-use Rattle.rv_run.specs.Told.{to_come}
+use Rattle.rv_run.specs.Progress.{to_come}
 use Rattle.sample_clock.specs.Clock.{Sampling}
 use Rattle.hpc_top.proofs.main_job.samples_of.Goals as goal
 

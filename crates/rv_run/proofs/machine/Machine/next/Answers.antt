@@ -1,52 +1,53 @@
 use Rattle.std.proofs.Common.{◌<◌, ℕ, List, length, sym, ap, subst, ◌∙◌}
 use Rattle.rv_run.specs.declared.schedule.Slice.{Slice}
-use Rattle.rv_run.specs.Told.{Progress, WentOn, less, AreOf, HaveRoom, Counts, first_due, to_come}
+use Rattle.rv_run.specs.Progress.{Progress, WentOn, Counts, first_due, to_come}
+use Rattle.rv_run.specs.private.Queue.{less, AreOf, HaveRoom}
 use Rattle.rv_run.proofs.Counting.{counts-of}
 use Rattle.rv_run.proofs.Slices.{IsDue, due-is, room-for, less-are-of, room-less, went-on}
 use Rattle.rv_run.proofs.machine.Machine.next.Goals as goal
 
 pub act-requires-clause-room : goal.act-requires-clause-room
 act-requires-clause-room c =
-    let due : IsDue c.self.inside.board c.self.inside.turns c.in-Some.due =
-    due-is c.self.inside.board c.self.inside.turns c.in-Some.due c.self.invariant.stands (sym c.in-Some.is ∙ c.due.ensures.due ∙ ap (λ (p : Progress). first_due (to_come p).instants) (sym c.self.view_is)) in
-    room-for c.self.inside.board c.self.inside.turns c.in-Some.due.hart c.self.invariant.room due.some
+    let due : IsDue c.self.inside.environment c.self.inside.queue c.in-Some.due =
+    due-is c.self.inside.environment c.self.inside.queue c.in-Some.due c.self.invariant.stands (sym c.in-Some.is ∙ c.due.ensures.due ∙ ap (λ (p : Progress). first_due (to_come p).instants) (sym c.self.view_is)) in
+    room-for c.self.inside.environment c.self.inside.queue c.in-Some.due.hart c.self.invariant.room due.some
 
 pub take_off-requires : goal.take_off-requires
 take_off-requires c =
-    let due : IsDue c.self.inside.board c.self.inside.turns c.in-Some.due =
-    due-is c.self.inside.board c.self.inside.turns c.in-Some.due c.self.invariant.stands (sym c.in-Some.is ∙ c.due.ensures.due ∙ ap (λ (p : Progress). first_due (to_come p).instants) (sym c.self.view_is)) in
+    let due : IsDue c.self.inside.environment c.self.inside.queue c.in-Some.due =
+    due-is c.self.inside.environment c.self.inside.queue c.in-Some.due c.self.invariant.stands (sym c.in-Some.is ∙ c.due.ensures.due ∙ ap (λ (p : Progress). first_due (to_come p).instants) (sym c.self.view_is)) in
     due.some
 
-pub settle-requires : goal.settle-requires
-settle-requires c =
-    let within : c.in-Some.due.hart < length c.self.inside.board.harts = subst (λ (p : Progress). c.in-Some.due.hart < length p.state.harts) (sym c.self.view_is) c.in-Some.ensures.hart in
-    let counts : Counts c.in-Some.due.hart c.in_ok-retired.retired c.self.inside.board c.act.new.self = counts-of c.in-Some.due.hart c.self.inside.board c.act.new.self c.in_ok-retired.retired c.in_ok-retired.ensures.ok within in
+pub skip_idle-requires : goal.skip_idle-requires
+skip_idle-requires c =
+    let within : c.in-Some.due.hart < length c.self.inside.environment.harts = subst (λ (p : Progress). c.in-Some.due.hart < length p.state.harts) (sym c.self.view_is) c.in-Some.ensures.hart in
+    let counts : Counts c.in-Some.due.hart c.in_ok-retired.retired c.self.inside.environment c.act.new.self = counts-of c.in-Some.due.hart c.self.inside.environment c.act.new.self c.in_ok-retired.retired c.in_ok-retired.ensures.ok within in
     subst (λ (l : List Slice). AreOf (length c.act.new.self.harts) l) (sym c.take_off.ensures)
-    (subst (λ (n : ℕ). AreOf n (less 1 c.self.inside.turns)) (sym counts.harts) (less-are-of (length c.self.inside.board.harts) 1 c.self.inside.turns c.self.invariant.harts))
+    (subst (λ (n : ℕ). AreOf n (less 1 c.self.inside.queue)) (sym counts.harts) (less-are-of (length c.self.inside.environment.harts) 1 c.self.inside.queue c.self.invariant.harts))
 
 pub invariant_of-self-2 : goal.invariant_of-self-2
 invariant_of-self-2 c =
-    let within : c.in-Some.due.hart < length c.self.inside.board.harts = subst (λ (p : Progress). c.in-Some.due.hart < length p.state.harts) (sym c.self.view_is) c.in-Some.ensures.hart in
-    let counts : Counts c.in-Some.due.hart c.in_ok-retired.retired c.self.inside.board c.act.new.self = counts-of c.in-Some.due.hart c.self.inside.board c.act.new.self c.in_ok-retired.retired c.in_ok-retired.ensures.ok within in
-    let due : IsDue c.self.inside.board c.self.inside.turns c.in-Some.due =
-    due-is c.self.inside.board c.self.inside.turns c.in-Some.due c.self.invariant.stands (sym c.in-Some.is ∙ c.due.ensures.due ∙ ap (λ (p : Progress). first_due (to_come p).instants) (sym c.self.view_is)) in
+    let within : c.in-Some.due.hart < length c.self.inside.environment.harts = subst (λ (p : Progress). c.in-Some.due.hart < length p.state.harts) (sym c.self.view_is) c.in-Some.ensures.hart in
+    let counts : Counts c.in-Some.due.hart c.in_ok-retired.retired c.self.inside.environment c.act.new.self = counts-of c.in-Some.due.hart c.self.inside.environment c.act.new.self c.in_ok-retired.retired c.in_ok-retired.ensures.ok within in
+    let due : IsDue c.self.inside.environment c.self.inside.queue c.in-Some.due =
+    due-is c.self.inside.environment c.self.inside.queue c.in-Some.due c.self.invariant.stands (sym c.in-Some.is ∙ c.due.ensures.due ∙ ap (λ (p : Progress). first_due (to_come p).instants) (sym c.self.view_is)) in
     record {
-      harts = c.settle.ensures.harts;
-      room = c.settle.ensures.room (subst (HaveRoom c.act.new.self) (sym c.take_off.ensures) (room-less c.self.inside.board c.act.new.self c.self.inside.turns c.in-Some.due.hart c.in_ok-retired.retired due.some c.self.invariant.room counts));
-      stands = c.settle.ensures.stands;
+      harts = c.skip_idle.ensures.harts;
+      room = c.skip_idle.ensures.room (subst (HaveRoom c.act.new.self) (sym c.take_off.ensures) (room-less c.self.inside.environment c.act.new.self c.self.inside.queue c.in-Some.due.hart c.in_ok-retired.retired due.some c.self.invariant.room counts));
+      stands = c.skip_idle.ensures.stands;
     }
 
 pub returns-clause-ok : goal.returns-clause-ok
 returns-clause-ok c =
-    let due : IsDue c.self.inside.board c.self.inside.turns c.in-Some.due =
-    due-is c.self.inside.board c.self.inside.turns c.in-Some.due c.self.invariant.stands (sym c.in-Some.is ∙ c.due.ensures.due ∙ ap (λ (p : Progress). first_due (to_come p).instants) (sym c.self.view_is)) in
+    let due : IsDue c.self.inside.environment c.self.inside.queue c.in-Some.due =
+    due-is c.self.inside.environment c.self.inside.queue c.in-Some.due c.self.invariant.stands (sym c.in-Some.is ∙ c.due.ensures.due ∙ ap (λ (p : Progress). first_due (to_come p).instants) (sym c.self.view_is)) in
     subst
-    (λ (p : Progress). WentOn (record { hart = c.in-Some.due.hart; ordinal = c.in-Some.due.ordinal; pc = c.in-Some.due.pc; retired = c.in_ok-retired.retired }) p (record { state = c.act.new.self; left = c.settle.new.self }))
+    (λ (p : Progress). WentOn (record { hart = c.in-Some.due.hart; ordinal = c.in-Some.due.ordinal; pc = c.in-Some.due.pc; retired = c.in_ok-retired.retired }) p (record { state = c.act.new.self; left = c.skip_idle.new.self }))
     c.self.view_is
-    (went-on c.self.inside.board c.act.new.self c.self.inside.turns c.take_off.new.self c.settle.new.self c.in-Some.due c.in_ok-retired.retired due c.in_ok-retired.ensures.ok c.take_off.ensures c.settle.ensures.run)
+    (went-on c.self.inside.environment c.act.new.self c.self.inside.queue c.take_off.new.self c.skip_idle.new.self c.in-Some.due c.in_ok-retired.retired due c.in_ok-retired.ensures.ok c.take_off.ensures c.skip_idle.ensures.run)
 
 pub returns-clause-counts : goal.returns-clause-counts
 returns-clause-counts c =
-    let within : c.in-Some.due.hart < length c.self.inside.board.harts = subst (λ (p : Progress). c.in-Some.due.hart < length p.state.harts) (sym c.self.view_is) c.in-Some.ensures.hart in
+    let within : c.in-Some.due.hart < length c.self.inside.environment.harts = subst (λ (p : Progress). c.in-Some.due.hart < length p.state.harts) (sym c.self.view_is) c.in-Some.ensures.hart in
     subst (λ (p : Progress). Counts c.in-Some.due.hart c.in_ok-retired.retired p.state c.act.new.self) c.self.view_is
-    (counts-of c.in-Some.due.hart c.self.inside.board c.act.new.self c.in_ok-retired.retired c.in_ok-retired.ensures.ok within)
+    (counts-of c.in-Some.due.hart c.self.inside.environment c.act.new.self c.in_ok-retired.retired c.in_ok-retired.ensures.ok within)

@@ -5,12 +5,12 @@ use Rattle.rv_run.proofs.machine.Machine.start.Goals as goal
 
 pub invariant_of-result : goal.invariant_of-result
 invariant_of-result c =
-    ready-is c.args.image.now c.args.schedule c.args.input.now c.harts.result c.in_ok-board.board c.of-turns.result c.harts.ensures.schedule c.harts.ensures.harts c.in_ok-board.ensures (c.of-turns.ensures ∙ c.into_slices.ensures)
+    ready-is c.args.image.now c.args.schedule c.args.input.now c.harts.result c.in_ok-environment.environment c.of-queue.result c.harts.ensures.schedule c.harts.ensures.harts c.in_ok-environment.ensures (c.of-queue.ensures ∙ c.into_slices.ensures)
 
 pub returns-clause-fresh : goal.returns-clause-fresh
 returns-clause-fresh c =
-    fresh-is c.args.image.now c.args.schedule c.args.input.now c.harts.result c.in_ok-board.board c.harts.ensures.schedule c.harts.ensures.harts c.in_ok-board.ensures
+    fresh-is c.args.image.now c.args.schedule c.args.input.now c.harts.result c.in_ok-environment.environment c.harts.ensures.schedule c.harts.ensures.harts c.in_ok-environment.ensures
 
 pub returns-clause-harts : goal.returns-clause-harts
 returns-clause-harts c =
-    harts_told c.args.image.now c.args.schedule c.args.input.now c.harts.result c.in_ok-board.board c.of-turns.result c.harts.ensures.schedule c.harts.ensures.harts c.in_ok-board.ensures (c.of-turns.ensures ∙ c.into_slices.ensures)
+    harts_told c.args.image.now c.args.schedule c.args.input.now c.harts.result c.in_ok-environment.environment c.of-queue.result c.harts.ensures.schedule c.harts.ensures.harts c.in_ok-environment.ensures (c.of-queue.ensures ∙ c.into_slices.ensures)

@@ -1,7 +1,8 @@
 use Rattle.std.proofs.Common.{◌≡◌, ◌+◌, ◌<◌, ◌%◌, ℕ, Option, Some, length, slice_set, sym, subst}
 use Rattle.rv_run.specs.declared.machine.Moment.{Moment}
-use Rattle.rv_run.specs.Told.{Went, CountsBy, first_due, to_come}
-use Rattle.sample_clock.specs.Clock.{Sampling, IsClock}
+use Rattle.rv_run.specs.Progress.{Went, CountsBy, first_due, to_come}
+use Rattle.sample_clock.specs.Clock.{Sampling}
+use Rattle.sample_clock.specs.private.Advance.{IsClock}
 use Rattle.sample_clock.proofs.Meeting.{clock-carried, was-true}
 use Rattle.sample_clock.proofs.clock.Samples.carry_out.Goals as goal
 

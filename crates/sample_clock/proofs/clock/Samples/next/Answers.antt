@@ -1,19 +1,26 @@
-use Rattle.std.proofs.Common.{◌+◌, Ok, subst, ap}
-use Rattle.sample_clock.specs.declared.clock.Came.{Came}
-use Rattle.sample_clock.specs.Clock.{Sampling, CameNext}
-use Rattle.sample_clock.proofs.Meeting.{unsampled-more, given-by}
+use Rattle.std.proofs.Common.{◌≡◌, Option, Result, Ok, Err, IsErrAnd, subst}
+use Rattle.sample_clock.specs.declared.clock.Advance.{Advance}
+use Rattle.sample_clock.specs.Clock.{Sampling, StandsAt, Unsampled}
+use Rattle.sample_clock.specs.declared.clock.Sample.{Sample}
+use Rattle.sample_clock.specs.declared.clock.TooManySamples.{TooManySamples}
+use Rattle.prof_bytes.specs.declared.fail.Memory.{Memory}
+use Rattle.prof_bytes.specs.declared.fail.Fail.{Fail}
+use Rattle.prof_bytes.specs.declared.fail.Fail.TheVariants as fails
+use Rattle.sample_clock.specs.private.Advance.{Advances}
+use Rattle.sample_clock.proofs.Meeting.{none-met-more, broken-stands}
 use Rattle.sample_clock.proofs.clock.Samples.next.Goals as goal
 
 pub loop-sample-preserved : goal.loop-sample-preserved
 loop-sample-preserved g c =
-    unsampled-more c.args.self.now c.loop-sample.self c.go_on.new.self c.loop-sample.invariant
-    (subst (λ (x : Came). CameNext (g.U.Unwind.path_of c.args.unwinder.now) (Ok x) c.loop-sample.self c.go_on.new.self) c.in-Unsampled.is c.in_ok-go_on.ensures)
+    none-met-more c.args.self.now c.loop-sample.self c.go_on.new.self c.loop-sample.invariant
+    (subst (λ (x : Advance). Advances (g.U.Unwind.path_of c.args.unwinder.now) (Ok x) c.loop-sample.self c.go_on.new.self) c.in-Unsampled.is c.in_ok-go_on.ensures)
 
-pub returns-in-Sampled-clause-asked : goal.returns-in-Sampled-clause-asked
-returns-in-Sampled-clause-asked g c =
-    given-by (g.U.Unwind.path_of c.args.unwinder.now) c.in-Sampled.sample c.args.self.now c.loop-sample.self c.go_on.new.self
-    (record { machine = c.self-in-loop-sample.inside.machine; period = c.self-in-loop-sample.inside.period; met = c.self-in-loop-sample.inside.met + 1 })
-    c.loop-sample.invariant
-    (subst (λ (x : Came). CameNext (g.U.Unwind.path_of c.args.unwinder.now) (Ok x) c.loop-sample.self c.go_on.new.self) c.in-Sampled.is c.in_ok-go_on.ensures)
-    (ap (λ (s : Sampling). record s { met = s.met + 1 }) c.self-in-loop-sample.view_is)
-    c.if-self-gt-MOST_SAMPLES-2.false
+by_memory : (answer : Result (Option Sample) (Fail TooManySamples)) (memory : Memory) (old new : Sampling) → IsErrAnd answer (λ fail. fail ≡ fails.Memory memory) → Unsampled old new → StandsAt answer old new
+by_memory (Ok sample) memory old new is stands = absurd is
+by_memory (Err (fails.Fault fault)) memory old new is stands = absurd cc
+by_memory (Err (fails.Memory other)) memory old new is stands = stands
+
+pub returns-in_err-go_on-clause-stands : goal.returns-in_err-go_on-clause-stands
+returns-in_err-go_on-clause-stands g c =
+    by_memory c.from_residual.result c.in_err-go_on.field-0.0 c.args.self.now c.go_on.new.self c.from_residual.ensures.1
+    (broken-stands c.args.self.now c.loop-sample.self c.go_on.new.self c.loop-sample.invariant c.in_err-go_on.ensures)

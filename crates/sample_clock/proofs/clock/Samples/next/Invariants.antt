@@ -1,10 +1,10 @@
 use Rattle.std.proofs.Common.{length}
-use Rattle.rv_run.specs.Told.{to_come}
-use Rattle.sample_clock.specs.Clock.{Unsampled}
+use Rattle.rv_run.specs.Progress.{to_come}
+use Rattle.sample_clock.specs.private.Advance.{NoneMet}
 use Rattle.sample_clock.proofs.clock.Samples.next.Given as goal
 
 abbrev pub invariant-loop-sample : goal.invariant-loop-sample
-invariant-loop-sample g l = Unsampled l.fn.self l.self
+invariant-loop-sample g l = NoneMet l.fn.self l.self
 
 abbrev pub decreases-loop-sample : goal.decreases-loop-sample
 decreases-loop-sample g l = length (to_come l.self.machine).instants

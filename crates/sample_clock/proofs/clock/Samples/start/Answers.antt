@@ -1,5 +1,5 @@
 use Rattle.std.proofs.Common.{ℕ, replicate, sym, subst, arith}
-use Rattle.sample_clock.specs.Clock.{IsClock}
+use Rattle.sample_clock.specs.private.Advance.{IsClock}
 use Rattle.sample_clock.proofs.Meeting.{clock-start}
 use Rattle.sample_clock.proofs.clock.Samples.start.Goals as goal
 

@@ -1,7 +1,0 @@
-use Rattle.std.proofs.Common.{◌≡◌, map}
-use Rattle.std.specs.List.{range_with_len}
-use Rattle.rv_run.specs.State.{first_hart}
-use Rattle.rv_run.proofs.board.first_cores.Given as goal
-
-abbrev pub invariant-loop-hart : goal.invariant-loop-hart
-invariant-loop-hart l = l.cores.items ≡ map (first_hart l.entry l.harts) (range_with_len 0 l.hart)

@@ -1,0 +1,121 @@
+-- A machine in the middle of its run: the rest of the run, and what its calls carry out of it.
+use Rattle.std.specs.Prelude.{◌≡◌, ℕ, zero, suc, ◌+◌, ◌≤◌, ◌<◌, Bool, true, false, List, [], ◌∷◌, All, length, min, Option, Some, None, if◌then◌else◌}
+use Rattle.rv_hart.specs.Step.{step_of}
+use Rattle.rv_hart.specs.declared.outcome.Stepped.{Stepped}
+use Rattle.rv_hart.specs.declared.outcome.Stepped.TheVariants as stepped
+use Rattle.rv_run.specs.declared.schedule.Slice.{Slice}
+use Rattle.rv_run.specs.declared.machine.Moment.{Moment}
+use Rattle.rv_run.specs.declared.machine.Due.{Due}
+use Rattle.rv_run.specs.Schedule.{most_harts}
+use Rattle.rv_run.specs.State.{MachineState, hart_of, step_state}
+use Rattle.rv_run.specs.Run.{Instant, Run, finished, preceded, next_instant, state_after, run_slices}
+
+-- how the machine stands, and the slices that are left, of which the first may be what is left of one
+pub record Progress : Type 0 where
+  pub state : MachineState
+  pub left : List Slice
+
+-- the rest of the run
+abbrev pub to_come : Progress → Run
+to_come p = run_slices p.left p.state
+
+abbrev pub due_of : Instant → Due
+due_of i = record { hart = i.moment.hart; pc = i.moment.pc; ordinal = i.moment.ordinal }
+
+abbrev pub first_due : List Instant → Option Due
+first_due [] = None
+first_due (first ∷ rest) = Some (due_of first)
+
+-- a machine whose harts, at most 16, retired nothing
+pub record IsFresh (s : MachineState) : Type 0 where
+  pub few : length s.harts ≤ most_harts
+  pub none : (hart : ℕ) → (hart_of s hart).retired ≡ 0
+
+-- ---- the next instruction
+
+-- the machine carried out the next instruction of the run
+pub record WentOn (moment : Moment) (old new : Progress) : Type 0 where
+  pub told : moment ≡ (next_instant moment.hart old.state).moment
+  pub run : to_come old ≡ preceded (next_instant moment.hart old.state ∷ []) (to_come new)
+  pub state : new.state ≡ state_after moment.hart old.state
+
+-- there is none, since the run has ended
+pub record HasEnded (old new : Progress) : Type 0 where
+  pub run : to_come old ≡ finished old.state
+  pub same : new ≡ old
+
+abbrev pub Went : Option Moment → Progress → Progress → Type 0
+Went None old new = HasEnded old new
+Went (Some moment) old new = WentOn moment old new
+
+abbrev pub plus_one : Bool → ℕ → ℕ
+plus_one true count = count + 1
+plus_one false count = count
+
+-- how many instructions harts retired in an instruction of one of them
+pub record Counts (hart : ℕ) (is_retired : Bool) (old new : MachineState) : Type 0 where
+  pub own : (hart_of new hart).retired ≡ plus_one is_retired (hart_of old hart).retired
+  pub others : (other : ℕ) → ¬ (other ≡ hart) → (hart_of new other).retired ≡ (hart_of old other).retired
+  pub harts : length new.harts ≡ length old.harts
+
+abbrev pub CountsBy : Option Moment → MachineState → MachineState → Type 0
+CountsBy None old new = Unit {0}
+CountsBy (Some moment) old new = Counts moment.hart moment.retired old new
+
+-- ---- many instructions of one hart
+
+abbrev pub is_plain : Stepped → Bool
+is_plain stepped.Retired = true
+is_plain _ = false
+
+-- whether the hart's next instruction retires by itself: it is no environment call and no breakpoint, and
+-- it does not trap
+abbrev pub retires_plainly : ℕ → MachineState → Bool
+retires_plainly hart s = is_plain (step_of (step_state (hart_of s hart) s.memory)).1
+
+-- how many of the hart's next instructions, up to so many, retire by themselves, one after another
+unfoldable pub plain_count : ℕ → ℕ → MachineState → ℕ
+plain_count zero hart s = 0
+plain_count (suc most) hart s = if retires_plainly hart s then suc (plain_count most hart (state_after hart s)) else 0
+
+-- how many instructions the first slice has
+abbrev pub count_of_first : List Slice → ℕ
+count_of_first [] = 0
+count_of_first (slice ∷ rest) = slice.count
+
+-- at least one
+abbrev pub some_of : ℕ → ℕ
+some_of zero = 1
+some_of (suc n) = suc n
+
+-- how many instructions a pass of the hart that is due carries out: those that retire by themselves, up to
+-- the number that is asked for and to the end of the slice; and where the first does not, that one
+abbrev pub pass_length : ℕ → ℕ → Progress → ℕ
+pass_length hart most p = some_of (plain_count (min most (count_of_first p.left)) hart p.state)
+
+-- an instruction of this hart, with an ordinal from one up to another
+pub record IsBetween (hart from to : ℕ) (i : Instant) : Type 0 where
+  pub own : i.moment.hart ≡ hart
+  pub low : from ≤ i.moment.ordinal
+  pub high : i.moment.ordinal ≤ to
+
+-- these instructions of the hart were carried out, so many at most
+pub record Carried (hart most : ℕ) (passed : List Instant) (old new : Progress) : Type 0 where
+  pub run : to_come old ≡ preceded passed (to_come new)
+  pub between : All (IsBetween hart ((hart_of old.state hart).retired + 1) ((hart_of old.state hart).retired + most)) passed
+  pub least : (hart_of old.state hart).retired ≤ (hart_of new.state hart).retired
+  pub few : (hart_of new.state hart).retired ≤ (hart_of old.state hart).retired + most
+  pub others : (other : ℕ) → ¬ (other ≡ hart) → (hart_of new.state other).retired ≡ (hart_of old.state other).retired
+  pub harts : length new.state.harts ≡ length old.state.harts
+
+-- all instructions of the pass were carried out
+pub record Passed (hart most : ℕ) (old new : Progress) : Type 0 where
+  pub passed : List Instant
+  pub long : length passed ≡ pass_length hart most old
+  pub carried : Carried hart most passed old new
+
+-- memory ran out before the last of them
+pub record Broke (hart most : ℕ) (old new : Progress) : Type 0 where
+  pub passed : List Instant
+  pub short : length passed < pass_length hart most old
+  pub carried : Carried hart most passed old new

@@ -1,0 +1,59 @@
+-- The slices that are left, and instructions of one hart that follow one another.
+use Rattle.std.specs.Prelude.{◌≡◌, ℕ, ◌+◌, ◌-◌, ◌≤◌, ◌<◌, true, List, [], ◌∷◌, All, length, ◌⊎◌, Result, Ok, Err, false}
+use Rattle.prof_bytes.specs.declared.fail.Memory.{Memory}
+use Rattle.rv_hart.specs.declared.outcome.Stepped.{Stepped}
+use Rattle.rv_run.specs.declared.schedule.Slice.{Slice}
+use Rattle.rv_run.specs.Schedule.{instructions, most_instructions}
+use Rattle.rv_run.specs.State.{MachineState, hart_of, is_running}
+use Rattle.rv_run.specs.Run.{Instant, preceded, run_slice}
+use Rattle.rv_run.specs.Progress.{Progress, IsBetween, count_of_first, plain_count, retires_plainly}
+
+-- slices of which the first has so many instructions
+abbrev pub with_left : ℕ → List Slice → List Slice
+with_left left [] = []
+with_left left (slice ∷ rest) = record slice { count = left } ∷ rest
+
+-- the same slices, with so many instructions less in the first
+abbrev pub less : ℕ → List Slice → List Slice
+less count slices = with_left (count_of_first slices - count) slices
+
+-- slices of so many harts
+abbrev pub AreOf : ℕ → List Slice → Type 0
+AreOf harts slices = All (λ slice. slice.hart < harts) slices
+
+-- no hart retires more than the most in what is left
+abbrev pub HaveRoom : MachineState → List Slice → Type 0
+HaveRoom s left = (hart : ℕ) → (hart_of s hart).retired + instructions left ≤ most_instructions
+
+-- the first slice has an instruction that its hart can do
+abbrev pub IsNext : MachineState → Slice → Type 0
+IsNext s slice = (0 < slice.count) × (is_running (hart_of s slice.hart) ≡ true)
+
+abbrev pub StandsAt : MachineState → List Slice → Type 0
+StandsAt s [] = Unit {0}
+StandsAt s (slice ∷ rest) = IsNext s slice
+
+-- a machine that stands at its next instruction, if there is one
+pub record IsReady (p : Progress) : Type 0 where
+  pub harts : AreOf (length p.state.harts) p.left
+  pub room : HaveRoom p.state p.left
+  pub stands : StandsAt p.state p.left
+
+-- so many instructions of one hart were carried out, each of which retired by itself
+pub record Passing (hart many : ℕ) (old new : MachineState) : Type 0 where
+  pub passed : List Instant
+  pub long : length passed ≡ many
+  pub runs : (more : ℕ) → run_slice (many + more) hart old ≡ preceded passed (run_slice more hart new)
+  pub plain : (more : ℕ) → plain_count (many + more) hart old ≡ many + plain_count more hart new
+  pub between : All (IsBetween hart ((hart_of old hart).retired + 1) ((hart_of old hart).retired + many)) passed
+  pub count : (hart_of new hart).retired ≡ (hart_of old hart).retired + many
+  pub others : (other : ℕ) → ¬ (other ≡ hart) → (hart_of new other).retired ≡ (hart_of old other).retired
+  pub harts : length new.harts ≡ length old.harts
+  pub running : is_running (hart_of new hart) ≡ true
+  pub none : many ≡ 0 → new ≡ old
+
+-- why steps of a hart stopped: there were as many as were asked for; the next does not retire by itself; or it
+-- does, and found no memory
+abbrev pub StopsBy : Result Stepped Memory → ℕ → ℕ → ℕ → MachineState → Type 0
+StopsBy (Ok last) count most hart s = (count ≡ most) ⊎ (retires_plainly hart s ≡ false)
+StopsBy (Err memory) count most hart s = (count < most) × (retires_plainly hart s ≡ true)

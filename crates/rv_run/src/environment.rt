@@ -1,0 +1,303 @@
+//! The execution environment: the harts of a machine, the memory that they share, and the environment calls by
+//! which they read, write and exit.
+ghost use Rattle.std.specs.Prelude.{◌≡◌, ◌≢◌, ◌+◌, true, false, ◌<◌, ◌≤◌, ◌^◌, ◌-◌, IfOk, OnErr, length, map};
+ghost use Rattle.std.specs.List.{range_with_len};
+ghost use Rattle.rv_hart.specs.Step.{step_of};
+ghost use Rattle.rv_run.specs.State.{first_hart, first_state, hart_of, is_running, step_state};
+ghost use Rattle.rv_run.specs.Calls.{reads, writes, calls, completes, grouped, ends_by, ends_all, only_answers};
+ghost use Rattle.rv_run.specs.Run.{acts, stepped_machine};
+ghost use Rattle.rv_run.specs.Progress.{retires_plainly};
+ghost use Rattle.rv_run.specs.private.Queue.{Passing, StopsBy};
+
+use crate::hart::{HartEnd, MachineHart};
+use crate::output::{are_readable, copied};
+use elf_image::Image;
+use prof_bytes::Memory;
+use rv_hart::{Space, Stepped};
+use std::alloc::Global;
+use std::marker::Model;
+
+/// Answers of environment calls: a bad file descriptor, a bad address, and a call that there is not.
+const BAD_DESCRIPTOR: u32 = 0xffff_fff7;
+
+const BAD_ADDRESS: u32 = 0xffff_fff2;
+
+const NO_CALL: u32 = 0xffff_ffda;
+
+/// How many bytes a program may write.
+const MOST_OUTPUT: usize = 1 << 20;
+
+#[derive(Drop)]
+pub(crate) struct Environment<'a> {
+    alloc: Global,
+    space: Space<'a>,
+    cores: Vec<MachineHart>,
+    input: Vec<u8>,
+    done: usize,
+    output: Vec<u8>,
+}
+
+impl<'a> Model for Environment<'a> {
+    ghost use Rattle.std.specs.Prelude.{◌≤◌, drop, length};
+    ghost use Rattle.rv_run.specs.State.{MachineState};
+
+    ghost Value = { MachineState };
+
+    ghost view = { λ environment. record { memory = environment.space; harts = environment.cores.items; input = drop environment.done environment.input.items; output = environment.output.items } };
+
+    ghost invariant = { λ environment. environment.done ≤ length environment.input.items };
+}
+
+/// The harts before their first instructions.
+fn first_harts(alloc: Global, entry: u32, harts: u32) -> Result<Vec<MachineHart>, Memory>
+    requires { harts ≤ 16 }
+    ensures { IfOk result (λ cores. cores.items ≡ map (first_hart entry harts) (range_with_len 0 harts)) }
+{
+    let mut cores = Vec::new(alloc);
+    for hart in 0..harts {
+        cores.push(MachineHart::first(entry, hart, harts))?;
+    }
+    Ok(cores)
+}
+
+/// Ends the harts that run.
+fn finish_each(cores: &mut [MachineHart], status: u32)
+    ensures { cores.new ≡ map (grouped status) cores.old }
+{
+    for place in 0..cores.len() {
+        let core = &mut cores[place];
+        core.finish_with_group(status);
+    }
+}
+
+/// Whether a step retired its instruction.
+#[inline(always)]
+fn has_retired(stepped: Stepped) -> bool
+    ensures yes { result ≡ true → stepped ≡ Stepped.Retired }
+    ensures no { result ≡ false → stepped ≢ Stepped.Retired }
+{
+    matches!(stepped, Stepped::Retired)
+}
+
+impl<'a> Environment<'a> {
+    /// So many harts before their first instructions.
+    pub(crate) fn first(
+        alloc: Global,
+        image: &Image<'a>,
+        harts: u32,
+        input: &[u8],
+    ) -> Result<Environment<'a>, Memory>
+        requires { harts ≤ 16 }
+        ensures { IfOk result (λ environment. environment ≡ first_state image.now harts input.now) }
+    {
+        let mut kept = Vec::new(alloc);
+        kept.extend_from_slice(input)?;
+        let cores = first_harts(alloc, image.entry(), harts)?;
+        Ok(Environment {
+            alloc,
+            space: Space::of(alloc, image, harts)?,
+            cores,
+            input: kept,
+            done: 0,
+            output: Vec::new(alloc),
+        })
+    }
+
+    /// The number of harts.
+    pub(crate) fn harts(&self) -> usize
+        ensures { result ≡ length self.now.harts }
+    {
+        self.cores.len()
+    }
+
+    /// The hart of this number.
+    #[inline(always)]
+    pub(crate) fn core(&self, hart: u32) -> &MachineHart
+        requires { hart < length self.now.harts }
+        ensures { result.now ≡ hart_of self.now hart }
+    {
+        &self.cores[hart as usize]
+    }
+
+    pub(crate) fn space(&self) -> &Space<'a>
+        ensures { result.now ≡ self.now.memory }
+    {
+        &self.space
+    }
+
+    pub(crate) fn output(&self) -> &[u8]
+        ensures { result.now ≡ self.now.output }
+    {
+        self.output.as_slice()
+    }
+
+    /// Reads input into memory, and gives the answer.
+    fn read(&mut self, descriptor: u32, at: u32, count: u32) -> Result<u32, Memory>
+        ensures ok { IfOk result (λ answer. record { state = self.new; answer = answer } ≡ reads descriptor at count self.old) }
+        ensures err { OnErr result (self.new ≡ self.old) }
+    {
+        if descriptor != 0 {
+            return Ok(BAD_DESCRIPTOR);
+        }
+        let count = (self.input.len() - self.done).min(count as usize);
+        let bytes = &self.input[self.done..self.done + count];
+        if !self.space.store(at, bytes)? {
+            return Ok(BAD_ADDRESS);
+        }
+        self.done += count;
+        Ok(count as u32)
+    }
+
+    /// Writes bytes of memory to the output, and gives the answer.
+    fn write(&mut self, descriptor: u32, at: u32, count: u32) -> Result<u32, Memory>
+        ensures ok { IfOk result (λ answer. record { state = self.new; answer = answer } ≡ writes descriptor at count self.old) }
+        ensures err { OnErr result (self.new ≡ self.old) }
+    {
+        if descriptor != 1 && descriptor != 2 {
+            return Ok(BAD_DESCRIPTOR);
+        }
+        if !are_readable(&self.space, at, count) {
+            return Ok(BAD_ADDRESS);
+        }
+        let room = MOST_OUTPUT.saturating_sub(self.output.len());
+        let taken = room.min(count as usize) as u32;
+        let bytes = copied(&self.space, self.alloc, at, taken)?;
+        self.output.extend_from_slice(&bytes)?;
+        Ok(taken)
+    }
+
+    /// Completes an environment call of this hart with an answer.
+    fn answer(&mut self, hart: u32, answer: u32)
+        requires hart { hart < length self.old.harts }
+        requires room { (hart_of self.old hart).retired < 2 ^ 32 }
+        ensures { self.new ≡ (completes hart (only_answers answer self.old)).state }
+    {
+        let core = &mut self.cores[hart as usize];
+        core.answer(answer);
+    }
+
+    /// Ends the hart.
+    fn finish(&mut self, hart: u32, end: HartEnd)
+        requires { hart < length self.old.harts }
+        ensures { self.new ≡ (ends_by hart end self.old).state }
+    {
+        let core = &mut self.cores[hart as usize];
+        core.finish(end);
+    }
+
+    /// Ends all harts that run.
+    fn finish_all(&mut self, status: u32)
+        ensures { self.new ≡ (ends_all status self.old).state }
+    {
+        finish_each(self.cores.as_mut_slice(), status);
+    }
+
+    /// Does an environment call, and says whether it retired.
+    fn call(&mut self, hart: u32) -> Result<bool, Memory>
+        requires hart { hart < length self.old.harts }
+        requires room { (hart_of self.old hart).retired < 2 ^ 32 }
+        ensures ok { IfOk result (λ retired. record { state = self.new; retired = retired } ≡ calls hart self.old) }
+        ensures err { OnErr result (self.new ≡ self.old) }
+    {
+        let core = self.core(hart);
+        let number = core.register(17);
+        let a = core.register(10);
+        let b = core.register(11);
+        let c = core.register(12);
+        let answer = match number {
+            63 => self.read(a, b, c)?,
+            64 => self.write(a, b, c)?,
+            93 => {
+                self.finish(hart, HartEnd::Exit(a));
+                return Ok(false);
+            }
+            94 => {
+                self.finish_all(a);
+                return Ok(false);
+            }
+            _ => NO_CALL,
+        };
+        self.answer(hart, answer);
+        Ok(true)
+    }
+
+    /// Does a step of the hart.
+    #[inline(always)]
+    fn step(&mut self, hart: u32) -> Result<Stepped, Memory>
+        requires hart { hart < length self.old.harts }
+        requires room { (hart_of self.old hart).retired < 2 ^ 32 }
+        ensures ok { IfOk result (λ stepped. self.new ≡ stepped_machine hart (step_of (step_state (hart_of self.old hart) self.old.memory)) self.old) }
+        ensures how { IfOk result (λ stepped. stepped ≡ (step_of (step_state (hart_of self.old hart) self.old.memory)).1) }
+        ensures err { OnErr result (self.new ≡ self.old) }
+        ensures plain { OnErr result (retires_plainly hart self.old ≡ true) }
+    {
+        let core = &mut self.cores[hart as usize];
+        core.step(&mut self.space)
+    }
+
+    /// Does instructions of the hart as long as they retire by themselves, up to so many. It says how
+    /// many retired, and how the last step ended. All steps of a machine are done here, so that the
+    /// loop holds a copy of one step's code, and no call.
+    #[inline(never)]
+    pub(crate) fn steps(&mut self, hart: u32, most: u32) -> (u32, Result<Stepped, Memory>)
+        requires some { 0 < most }
+        requires hart { hart < length self.old.harts }
+        requires room { (hart_of self.old hart).retired + most < 2 ^ 32 }
+        ensures passed { is_running (hart_of self.old hart) ≡ true → Passing hart result.0 self.old self.new }
+        ensures few { result.0 ≤ most }
+        ensures stops { StopsBy result.1 result.0 most hart self.new }
+        ensures ok { most ≡ 1 → IfOk result.1 (λ stepped. self.new ≡ stepped_machine hart (step_of (step_state (hart_of self.old hart) self.old.memory)) self.old) }
+        ensures how { most ≡ 1 → IfOk result.1 (λ stepped. stepped ≡ (step_of (step_state (hart_of self.old hart) self.old.memory)).1) }
+        ensures err { most ≡ 1 → OnErr result.1 (self.new ≡ self.old) }
+    {
+        let mut count = 0;
+        loop {
+            let stepped = match self.step(hart) {
+                Ok(stepped) => stepped,
+                Err(error) => return (count, Err(error)),
+            };
+            if !has_retired(stepped) {
+                return (count, Ok(stepped));
+            }
+            count += 1;
+            if count == most {
+                return (count, Ok(stepped));
+            }
+        }
+    }
+
+    /// Does one step of the hart.
+    fn step_once(&mut self, hart: u32) -> Result<Stepped, Memory>
+        requires hart { hart < length self.old.harts }
+        requires room { (hart_of self.old hart).retired < 2 ^ 32 - 1 }
+        ensures ok { IfOk result (λ stepped. self.new ≡ stepped_machine hart (step_of (step_state (hart_of self.old hart) self.old.memory)) self.old) }
+        ensures how { IfOk result (λ stepped. stepped ≡ (step_of (step_state (hart_of self.old hart) self.old.memory)).1) }
+        ensures err { OnErr result (self.new ≡ self.old) }
+    {
+        let (_, last) = self.steps(hart, 1);
+        last
+    }
+
+    /// Does the next instruction of the hart, and says whether it retired.
+    pub(crate) fn act(&mut self, hart: u32) -> Result<bool, Memory>
+        requires hart { hart < length self.old.harts }
+        requires room { (hart_of self.old hart).retired < 2 ^ 32 - 1 }
+        ensures ok { IfOk result (λ retired. record { state = self.new; retired = retired } ≡ acts hart self.old) }
+        ensures err { OnErr result (self.new ≡ self.old) }
+    {
+        match self.step_once(hart)? {
+            Stepped::Retired => Ok(true),
+            Stepped::Ecall => self.call(hart),
+            Stepped::Break => {
+                let pc = self.core(hart).pc();
+                self.finish(hart, HartEnd::Break { pc });
+                Ok(false)
+            }
+            Stepped::Trap(cause) => {
+                let pc = self.core(hart).pc();
+                self.finish(hart, HartEnd::Trap { cause, pc });
+                Ok(false)
+            }
+        }
+    }
+}
