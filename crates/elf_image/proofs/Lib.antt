@@ -4,3 +4,4 @@ pub mod LoadHeaders
 pub mod Counted
 pub mod Shared
 pub mod Ends
+pub mod Sections

@@ -95,3 +95,4 @@ pub record IsLoaded (l : ProgramImage) : Type 0 where
   pub few : length l.segments ≤ 2 ^ 21
   pub low : All (λ f. f.start + f.size < 2 ^ 32) l.functions
   pub size : length l.file ≤ 2 ^ 26
+  pub parts : (name : List ℕ) → length (bytes_of_name l.sections name) ≤ length l.file

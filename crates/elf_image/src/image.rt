@@ -57,7 +57,7 @@ impl<'a> Model for Image<'a> {
 }
 
 /// The program that the file holds, or the first refusal. The file has at most 64 MiB.
-#[tactic(auto, unfolding(crate::specs::Reading::image_of))]
+#[tactic(auto, using(crate::proofs::Sections::sections_small), unfolding(crate::specs::Reading::image_of))]
 pub fn read_image(alloc: Global, file: &[u8]) -> Result<Image<'_>, Fail<ElfFault>>
     requires { length file.now ≤ 2 ^ 26 }
     ensures { Gives (λ image. image) result (image_of file.now) }
@@ -147,7 +147,8 @@ impl<'a> Image<'a> {
     /// The bytes of the first section of that name, and none where there is no such section or it has
     /// no bytes in the file.
     pub fn section(&self, name: &[u8]) -> &'a [u8]
-        ensures { result.now ≡ bytes_of_name self.now.sections name.now }
+        ensures bytes { result.now ≡ bytes_of_name self.now.sections name.now }
+        ensures few { length result.now ≤ 2 ^ 26 }
     {
         section_named(&self.sections, name)
     }
