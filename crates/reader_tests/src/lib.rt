@@ -8,17 +8,17 @@
 #[cfg(test)]
 mod bytes;
 #[cfg(test)]
+mod elf;
+#[cfg(test)]
 mod entries;
 #[cfg(test)]
 mod forms;
 #[cfg(test)]
 mod frames;
 #[cfg(test)]
-mod images;
-#[cfg(test)]
 mod lines;
 #[cfg(test)]
-mod places;
+mod ranges;
 #[cfg(test)]
 mod rows;
 #[cfg(test)]

@@ -1,5 +1,6 @@
 //! Rows of tests as text: bytes in hexadecimal, numbers, fields behind a mark, and changes of single bytes.
-use std::alloc::{AllocError, Global};
+use prof_bytes::Memory;
+use std::alloc::Global;
 
 /// What a digit stands for; 0 for any other letter.
 pub(crate) fn digit(letter: u8) -> u8 {
@@ -11,7 +12,7 @@ pub(crate) fn digit(letter: u8) -> u8 {
 }
 
 /// The bytes that two hexadecimal digits each stand for.
-pub(crate) fn bytes_of(alloc: Global, hex: &[u8]) -> Result<Vec<u8>, AllocError> {
+pub(crate) fn bytes_of(alloc: Global, hex: &[u8]) -> Result<Vec<u8>, Memory> {
     let mut bytes = Vec::new(alloc);
     let mut high = None;
     for letter in hex {
@@ -39,9 +40,9 @@ pub(crate) fn number(digits: &[u8], base: u32) -> u32 {
 
 /// What stands before the mark and what behind it.
 pub(crate) fn cut(text: &[u8], mark: u8) -> (&[u8], &[u8]) {
-    for (place, byte) in text.iter().enumerate() {
+    for (index, byte) in text.iter().enumerate() {
         if *byte == mark {
-            return (&text[..place], &text[place + 1..]);
+            return (&text[..index], &text[index + 1..]);
         }
     }
     (text, &[])
@@ -49,14 +50,14 @@ pub(crate) fn cut(text: &[u8], mark: u8) -> (&[u8], &[u8]) {
 
 /// Changes one byte, as `36=1` says.
 fn change(bytes: &mut Vec<u8>, word: &[u8]) {
-    let (place, value) = cut(word, b'=');
-    if let Some(byte) = bytes.get_mut(number(place, 10) as usize) {
+    let (offset, value) = cut(word, b'=');
+    if let Some(byte) = bytes.get_mut(number(offset, 10) as usize) {
         *byte = (number(value, 10) % 256) as u8;
     }
 }
 
 /// The bytes of these digits with up to nine changes, as `0=0 3=102` says.
-pub(crate) fn changed(alloc: Global, hex: &[u8], words: &[u8]) -> Result<Vec<u8>, AllocError> {
+pub(crate) fn changed(alloc: Global, hex: &[u8], words: &[u8]) -> Result<Vec<u8>, Memory> {
     let mut bytes = bytes_of(alloc, hex)?;
     let mut words = words;
     for _ in 0..9 {
