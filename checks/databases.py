@@ -8,6 +8,7 @@ with a PROC (kind, number, name) and a LINE either an address or (table, file, f
 of (hart, number of samples, path).
 """
 import itertools
+import random
 import struct
 from collections import defaultdict
 
@@ -35,16 +36,28 @@ class Node:
         self.exclusive, self.number = {}, None
 
 
+def child(node, scope):
+    if scope not in node.children:
+        node.children[scope] = Node(scope, node)
+    return node.children[scope]
+
+
+def count_at(node, hart, count):
+    node.exclusive[hart] = node.exclusive.get(hart, 0) + count
+
+
 def tree(profile):
     """The nodes of a profile in preorder."""
     top = Node(None, None)
     for hart, count, path in profile:
         node = top
         for scope in path:
-            if scope not in node.children:
-                node.children[scope] = Node(scope, node)
-            node = node.children[scope]
-        node.exclusive[hart] = node.exclusive.get(hart, 0) + count
+            node = child(node, scope)
+        count_at(node, hart, count)
+    return preorder(top)
+
+
+def preorder(top):
     nodes, waiting = [], [top]
     while waiting:
         node = waiting.pop()
@@ -73,7 +86,10 @@ def values(nodes, harts):
 
 def database(profile, period, harts):
     """The bytes of version 1."""
-    nodes = tree(profile)
+    return written(tree(profile), period, harts)
+
+
+def written(nodes, period, harts):
     procedures = sorted({node.scope[1] for node in nodes if node.scope[0] in ("proc", "inline")})
     lines = [node.scope[-1] for node in nodes if node.scope[0] in ("inline", "call", "stmt")]
     files = sorted({line[:3] for line in lines if not isinstance(line, int)})
@@ -267,6 +283,34 @@ def deep(levels):
         profile.append((level % 2, 1, (*path, ("stmt", 0x20000 + level))))
         path = *path, ("call", 0x10004)
     return profile
+
+
+def large(most, harts, seed=1):
+    """The nodes of a large tree, most of them or a few more: a walk that calls and returns, with samples on its way. Some
+    of the procedures are inlined, and paths are up to some 1,500 nodes long."""
+    draw, top = random.Random(seed), Node(None, None)
+    files = [(0, number, b"/src/file%d.c" % number) for number in range(40)]
+    procedures = [(0, 100 + 16 * number, b"procedure_%d" % number) for number in range(600)]
+    root = child(top, ("root", 0))
+    path, count = [child(root, ("proc", procedures[0]))], 3
+    while count < most:
+        node, file = path[-1], files[draw.randrange(40)]
+        step = draw.random()
+        if step < 0.5:
+            count_at(child(node, ("stmt", (*file, draw.randrange(1, 3000)))), draw.randrange(harts), 1)
+            count += 1
+        elif step < 0.58 and node.scope[0] == "proc":
+            path.append(child(node, ("inline", draw.choice(procedures), (*file, draw.randrange(1, 3000)))))
+            count_at(child(path[-1], ("stmt", (*file, 1))), draw.randrange(harts), 1)
+            count += 2
+        elif step < 0.745 and len(path) < 750:
+            call = child(node, ("call", (*file, draw.randrange(1, 3000))))
+            path.append(child(call, ("proc", draw.choice(procedures))))
+            count_at(child(path[-1], ("stmt", (*file, 2))), draw.randrange(harts), 1)
+            count += 3
+        elif len(path) > 1:
+            path.pop()
+    return preorder(top)
 
 
 PROFILES = {  # name: profile, period, harts

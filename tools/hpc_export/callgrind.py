@@ -21,7 +21,7 @@ def write(out, database, options):
     head = (
         "# callgrind format\nversion: 1\ncreator: hpc-export\n"
         f"cmd: {options.title}, sampled every {database.period} retired instructions\n"
-        f"positions: {columns}\nevents: Instructions\nevent: Instructions : Retired Instructions\n"
+        f"positions: {columns}\nevents: Instructions\n"
         f"summary: {profile.total}\n"
     )
     out.write(encoded(head))
