@@ -16,6 +16,7 @@ RUN = """<script>
 const putFound = found => {
   const place = document.createElement("pre");
   place.id = "found-by-check";
+  place.hidden = true;
   place.textContent = JSON.stringify(found);
   document.body.append(place);
 };
@@ -37,14 +38,14 @@ def _with_script(page, script):
 def found(page, script, size=DESKTOP, seconds=20):
     """What a script finds in a page."""
     text = _chromium([f"--window-size={size[0]},{size[1]}", "--dump-dom"], _with_script(page, script), seconds)
-    written = re.search(r'<pre id="found-by-check">(.*?)</pre>', text, re.S)
+    written = re.search(r'<pre id="found-by-check"[^>]*>(.*?)</pre>', text, re.S)
     if written is None:
         raise RuntimeError(f"{page}: the script found nothing")
     return json.loads(html.unescape(written.group(1)))
 
 
 def picture(page, target, size=DESKTOP, scheme=LIGHT, script="return 0;", seconds=10):
-    """A screenshot, after a script. Phones are narrower than a headless window may be, so the page stands in a frame."""
+    """A screenshot, after a script."""
     page = _with_script(page, script)
     words = [f"--screenshot={target}", f"--window-size={size[0]},{size[1]}"]
     words.append(f"--blink-settings=preferredColorScheme={0 if scheme == DARK else 1}")
