@@ -1,6 +1,7 @@
 //! The database's bytes: docs/FORMATS.md has the format.
 
-use crate::tree::{CALL, Column, NO_PARENT, PROC, ROOT, STMT, Tree};
+use crate::columns::Column;
+use crate::tree::{CALL, NO_PARENT, PROC, ROOT, STMT, Tree};
 
 const EXCLUSIVE: u32 = 0;
 const FRAME: u32 = 1;

@@ -1,9 +1,10 @@
 //! The instruction table of RV32IM: from a word to what the machine carries out.
 
-/// What an instruction does. `Raw` is a word that is not decoded yet, so that fresh zero memory holds it.
+/// What an instruction does. `Raw` is a word that is not decoded yet: fresh zero memory is full of them.
 #[derive(Clone, Copy, PartialEq, Eq)]
 #[repr(u8)]
 pub enum Op {
+    #[allow(dead_code)]
     Raw,
     Illegal,
     Lui,

@@ -86,9 +86,8 @@ impl<'a> Program<'a> {
 
 fn counts(segments: &[Segment], start: u32, size: u32) -> bool {
     let end = u64::from(start) + u64::from(size);
-    let holds = |segment: &Segment| {
-        segment.flags & EXECUTE != 0 && segment.start <= start && end <= u64::from(segment.end)
-    };
+    let holds =
+        |segment: &Segment| segment.flags & EXECUTE != 0 && segment.start <= start && end <= u64::from(segment.end);
     size > 0 && segments.iter().any(holds)
 }
 

@@ -291,7 +291,7 @@ impl<'a> Machine<'a> {
     fn step(&mut self, number: usize) -> bool {
         let (hart, memory) = (&mut self.harts[number], &mut self.memory);
         let pc = hart.pc;
-        let mut trap = |hart: &mut Hart, cause| {
+        let trap = |hart: &mut Hart, cause| {
             hart.end = Some(End::Trap(cause, pc));
             false
         };

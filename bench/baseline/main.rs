@@ -4,6 +4,8 @@
 //! without debug information, stores the database, and prints the report. It takes well-formed files alone.
 //! `--phases` writes to standard error what each phase took; `--until` ends after one.
 
+mod cfi;
+mod columns;
 mod database;
 mod decode;
 mod elf;
@@ -18,9 +20,10 @@ mod unwind;
 use std::process::exit;
 use std::time::Instant;
 
+use columns::Column;
 use frames::Rows;
 use machine::Machine;
-use tree::{Column, Tree};
+use tree::Tree;
 use unwind::{Paths, Trail, Unwinder};
 
 const MOST_SAMPLES: u64 = 1 << 20;

@@ -57,9 +57,8 @@ fn blocks(regions: &[Region]) -> Vec<Block> {
             _ => spans.push((start, end)),
         }
     }
-    let block = |(start, end): (u32, u32)| {
-        Block { start: start * PAGE, bytes: vec![0; ((end - start) * PAGE) as usize] }
-    };
+    let block =
+        |(start, end): (u32, u32)| Block { start: start * PAGE, bytes: vec![0; ((end - start) * PAGE) as usize] };
     spans.into_iter().map(block).collect()
 }
 

@@ -23,7 +23,11 @@ impl FirstRange {
         while let Some((at, ..)) = left.first().copied() {
             let (now, later) = left.split_at(left.partition_point(|event| event.0 == at));
             for (_, is_start, index) in now {
-                if *is_start { open.insert(*index) } else { open.remove(index) };
+                if *is_start {
+                    open.insert(*index)
+                } else {
+                    open.remove(index)
+                };
             }
             let first = open.first().copied().unwrap_or(NONE);
             if steps.last().map_or(NONE, |(_, index)| *index) != first {

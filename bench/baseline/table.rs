@@ -2,8 +2,9 @@
 
 use std::io::{Result, Write};
 
+use crate::columns::Column;
 use crate::machine::{End, Machine};
-use crate::tree::{CALL, Column, NO_PARENT, PROC, ROOT, Tree};
+use crate::tree::{CALL, NO_PARENT, PROC, ROOT, Tree};
 
 const PIECE: usize = 1 << 16;
 const SPACES: [u8; 64] = [b' '; 64];

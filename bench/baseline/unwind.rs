@@ -1,6 +1,7 @@
 //! Call paths: the frames of a sample, innermost first, and the list of distinct paths with their counts.
 
-use crate::frames::{End, Rows, Rule, Step};
+use crate::cfi::Rule;
+use crate::frames::{End, Rows, Step};
 use crate::memory::Memory;
 
 pub const MOST_FRAMES: usize = 512;
