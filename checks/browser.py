@@ -24,15 +24,14 @@ class Browser:
 
     def __init__(self):
         self.number, self.session, self.rest = 0, None, b""
-        self.folder = tempfile.TemporaryDirectory(ignore_cleanup_errors=True)
+        self.folder = tempfile.mkdtemp()
         to_read, self.to = os.pipe()
         self.source, to_write = os.pipe()
         # The browser reads orders from descriptor 3, and writes answers to 4.
         shell = f'exec "$@" 3<&{to_read} 4>&{to_write}'
-        command = ["bash", "-c", shell, "bash", BROWSER, *WORDS, f"--user-data-dir={self.folder.name}", "about:blank"]
-        self.process = subprocess.Popen(
-            command, pass_fds=(to_read, to_write), stdin=subprocess.DEVNULL, stdout=subprocess.DEVNULL, stderr=subprocess.DEVNULL
-        )
+        command = ["bash", "-c", shell, "bash", BROWSER, *WORDS, f"--user-data-dir={self.folder}", "about:blank"]
+        quiet = {"stdin": subprocess.DEVNULL, "stdout": subprocess.DEVNULL, "stderr": subprocess.DEVNULL}
+        self.process = subprocess.Popen(command, pass_fds=(to_read, to_write), **quiet)
         os.close(to_read)
         os.close(to_write)
         pages = [target for target in self.ask("Target.getTargets")["targetInfos"] if target["type"] == "page"]
@@ -50,7 +49,7 @@ class Browser:
             self.process.wait()
         os.close(self.to)
         os.close(self.source)
-        self.folder.cleanup()
+        shutil.rmtree(self.folder, ignore_errors=True)
 
     def ask(self, method, **words):
         """The result of one command of the protocol; events are passed over."""
@@ -77,7 +76,8 @@ class Browser:
 
     def open(self, page, size=DESKTOP, scheme=LIGHT):
         """Opens a page of an export, and waits until it is ready. Gives the seconds that this took."""
-        self.ask("Emulation.setDeviceMetricsOverride", width=size[0], height=size[1], deviceScaleFactor=1, mobile=size == PHONE)
+        screen = {"width": size[0], "height": size[1], "deviceScaleFactor": 1, "mobile": size == PHONE}
+        self.ask("Emulation.setDeviceMetricsOverride", **screen)
         self.ask("Emulation.setEmulatedMedia", features=[{"name": "prefers-color-scheme", "value": scheme}])
         start = time.monotonic()
         self.ask("Page.navigate", url=page.as_uri())

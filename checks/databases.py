@@ -286,8 +286,8 @@ def deep(levels):
 
 
 def large(most, harts, seed=1):
-    """The nodes of a large tree, most of them or a few more: a walk that calls and returns, with samples on its way. Some
-    of the procedures are inlined, and paths are up to some 1,500 nodes long."""
+    """The nodes of a large tree, most of them or a few more: a walk that calls and returns, with samples on its way.
+    Some of the procedures are inlined, and paths are up to some 1,500 nodes long."""
     draw, top = random.Random(seed), Node(None, None)
     files = [(0, number, b"/src/file%d.c" % number) for number in range(40)]
     procedures = [(0, 100 + 16 * number, b"procedure_%d" % number) for number in range(600)]

@@ -2,7 +2,7 @@
 # picolibc-riscv64-unknown-elf. Include it after setting PROGRAM; the first target is what it makes:
 #
 #   PROGRAM   the source files (.c, .cc, .cpp, .cxx, .S), whose names differ
-#   NAME      what the program is called: NAME.elf, NAME.input, NAME.schedule (default: the first file without its suffix)
+#   NAME      what the program is called: NAME.elf, NAME.input, NAME.schedule (default: the first file, no suffix)
 #   HARTS     the number of harts of the schedule (default: 1)
 #   PERIOD    the sampling period of the line that is printed (default: 997)
 #   CFLAGS    options of the compiler (default: -O2)

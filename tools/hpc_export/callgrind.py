@@ -1,4 +1,4 @@
-"""Callgrind's output format (valgrind's manual, "Callgrind Format Specification"), for KCachegrind and callgrind_annotate.
+"""Callgrind's output format (valgrind's manual, "Callgrind Format Specification"): KCachegrind, callgrind_annotate.
 
 A procedure's own cost is its frame cost: what is spent in it, inlined procedures included, without what it calls. It
 stands at the lines or addresses of the samples. What an inlined procedure or another file has of it stands behind `fi`,

@@ -18,7 +18,11 @@ TEMPLATE = Path(__file__).with_name("page.html")
 
 
 def write(out, database, options):
-    contents = {"TITLE": _escaped(options.title), "NAMES": _names(database, options), "COLUMNS": _columns(database, options)}
+    contents = {
+        "TITLE": _escaped(options.title),
+        "NAMES": _names(database, options),
+        "COLUMNS": _columns(database, options),
+    }
     # Text and marks in turn.
     parts = re.split("@(TITLE|NAMES|COLUMNS)@", TEMPLATE.read_text("utf-8"))
     for place, part in enumerate(parts):

@@ -9,7 +9,8 @@ from dataclasses import dataclass
 from typing import List
 
 from . import callgrind, folded, html, speedscope
-from .database import Malformed, read
+from .database import Malformed
+from .rules import read
 
 WRITERS = {"folded": folded, "speedscope": speedscope, "callgrind": callgrind, "html": html}
 

@@ -39,21 +39,17 @@ class _Frames:
             if parent >= 0:
                 self.depth[node] = self.depth[parent] + (self.of[parent] >= 0)
             scope, line_file = nodes.scope[node], nodes.line_file[node]
+            if line_file >= 0:
+                # A procedure's file is that of the first place in it.
+                self.table[self.of[parent]].setdefault("file", labels.files[line_file])
             is_place = scope in (CALL, STMT)
-            if line_file >= 0 and not is_place or is_place and line_file >= 0 and parent >= 0:
-                self._tell_file(self.of[parent], labels.files[line_file])
             if is_place and not with_places:
                 continue
-            key = (scope, nodes.operand[node]) if not is_place else (scope, line_file, nodes.line[node])
+            key = (scope, line_file, nodes.line[node]) if is_place else (scope, nodes.operand[node])
             if key not in numbers:
                 numbers[key] = len(self.table)
                 self.table.append(_frame(nodes, labels, node))
             self.of[node] = numbers[key]
-
-    def _tell_file(self, frame, name):
-        """A procedure's file is that of the first of its places."""
-        if frame >= 0:
-            self.table[frame].setdefault("file", name)
 
 
 def _frame(nodes, labels, node):
