@@ -29,7 +29,7 @@ GUEST_LDFLAGS = -nostartfiles -static -T $(GUEST)/guest.ld $(if $(C_CPP),-u __gu
 LEFT_OUT = --remove-section='.debug_*' --remove-section='!.debug_frame'
 
 # In place of what the libraries have without frame rules; what a program doesn't use isn't linked.
-GUEST_PARTS ?= string.c save_restore.S
+GUEST_PARTS ?= string.c divide.c save_restore.S
 GUEST_SOURCES = start.S system.c $(GUEST_PARTS) $(if $(C_CPP),cplusplus.cc)
 
 objects = $(patsubst %,$(BUILD)/%.o,$(notdir $(1)))
