@@ -93,4 +93,5 @@ def look_at_refusals(folder):
     written = folder / "out"
     exported(good, "folded", "-o", written)
     same("an output file", written.read_bytes(), exported(good, "folded"))
+    same("a pipe", exported(good, "folded", "-o", "/dev/stdout"), written.read_bytes())
     same("files beside", sorted(folder.glob(".hpc-export*")), [])

@@ -65,11 +65,11 @@ def _opened(name):
     if name is None:
         yield sys.stdout.buffer
         return
-    target = os.path.realpath(name)
-    if os.path.exists(target) and not stat.S_ISREG(os.stat(target).st_mode):
-        with open(target, "wb") as file:
+    if os.path.exists(name) and not stat.S_ISREG(os.stat(name).st_mode):
+        with open(name, "wb") as file:
             yield file
         return
+    target = os.path.realpath(name)
     descriptor, beside = tempfile.mkstemp(dir=os.path.dirname(target), prefix=".hpc-export.")
     try:
         with open(descriptor, "wb") as file:
