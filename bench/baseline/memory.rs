@@ -1,235 +1,227 @@
 //! The memory of a program: its segments and the harts' stacks.
+//!
+//! Regions that share a page lie in one block of zeroed memory, of which the system hands out pages as they are
+//! touched. A table has an entry of 16 bytes for each page of the address space: one look finds the page's bytes
+//! and the addresses in it that may be read and written. It is filled page by page, on the slow path.
 
-#[derive(Clone, Copy, Default)]
-pub struct Region {
-    pub start: u32,
-    pub end: u32,
-    pub flags: u32,
-    pub offset: u32,
-    pub filled: u32,
+use crate::elf::{EXECUTE, Program, READ, WRITE};
+
+const PAGE: u32 = 4096;
+
+/// Addresses `start..end` with the same rights.
+#[derive(Clone, Copy)]
+struct Region {
+    start: u32,
+    end: u32,
+    flags: u32,
 }
 
-pub const READ: u32 = 4;
-pub const WRITE: u32 = 2;
-pub const EXECUTE: u32 = 1;
-
-impl Region {
-    #[inline(always)]
-    fn covers(&self, at: u32, count: usize) -> bool {
-        self.start <= at && at as usize + count <= self.end as usize
-    }
-
-    #[inline(always)]
-    fn grants(&self, right: u32) -> bool {
-        self.flags & right != 0
-    }
-}
-
-/// A page that was written, and the region for which it was made; without bytes where it was not.
-#[derive(Default)]
-struct Page {
-    home: Region,
+/// Whole pages from `start` on, and their bytes.
+struct Block {
+    start: u32,
     bytes: Vec<u8>,
 }
 
-pub struct Space<'a> {
-    file: &'a [u8],
+/// What is known of a page. An access of up to 4 bytes, the first at offset `low + d`, is granted where `d` is
+/// below `readable` or `writable`; those that begin in a part's last three bytes go the slow path.
+#[derive(Clone, Copy)]
+#[repr(C)]
+struct Entry {
+    bytes: *mut u8,
+    low: u16,
+    readable: u16,
+    writable: u16,
+}
+
+pub struct Memory {
+    /// Ascending, and apart.
     regions: Vec<Region>,
-    /// Where the holder of an address changes, ascending, with the holder from there on.
-    holders: Vec<(u32, Option<usize>)>,
-    blocks: Vec<Vec<Page>>,
-    code: Region,
+    blocks: Vec<Block>,
+    entries: *mut Entry,
+    /// The entries' memory: two words for each, all 0 at first, which grants nothing.
+    _table: Vec<u128>,
 }
 
-static ZEROS: [u8; 4] = [0; 4];
-
-#[inline(always)]
-fn number(bytes: &[u8]) -> u32 {
-    match bytes.len() {
-        1 => u32::from(bytes[0]),
-        2 => u32::from(u16::from_le_bytes([bytes[0], bytes[1]])),
-        _ => u32::from_le_bytes([bytes[0], bytes[1], bytes[2], bytes[3]]),
-    }
+/// The stack of a hart: 512 KiB.
+fn stack(hart: u32) -> Region {
+    let end = 0xf000_0000 + (hart + 1) * 0x10_0000;
+    Region { start: end - 0x8_0000, end, flags: READ | WRITE }
 }
 
-/// Bytes of a region as it began, where they stand together.
-#[inline(always)]
-fn near_in_file<'b>(file: &'b [u8], home: &Region, at: u32, count: usize) -> Option<&'b [u8]> {
-    let depth = (at - home.start) as usize;
-    let filled = home.filled as usize;
-    if depth >= filled {
-        return Some(&ZEROS[..count]);
-    }
-    let place = home.offset as usize + depth;
-    if depth + count > filled || place + count > file.len() {
-        return None;
-    }
-    Some(&file[place..place + count])
-}
-
-impl<'a> Space<'a> {
-    pub fn of(file: &'a [u8], regions: Vec<Region>) -> Space<'a> {
-        let mut starts: Vec<u32> = regions.iter().flat_map(|r| [r.start, r.end]).collect();
-        starts.sort_unstable();
-        starts.dedup();
-        let holder = |at: u32| regions.iter().position(|r| r.start <= at && at < r.end);
-        let holders = starts.into_iter().map(|at| (at, holder(at))).collect();
-        Space {
-            file,
-            regions,
-            holders,
-            blocks: Vec::new(),
-            code: Region::default(),
+fn blocks(regions: &[Region]) -> Vec<Block> {
+    let mut spans: Vec<(u32, u32)> = Vec::new();
+    for region in regions {
+        let (start, end) = (region.start / PAGE, (region.end - 1) / PAGE + 1);
+        match spans.last_mut() {
+            Some(last) if start < last.1 => last.1 = last.1.max(end),
+            _ => spans.push((start, end)),
         }
+    }
+    let block =
+        |(start, end): (u32, u32)| Block { start: start * PAGE, bytes: vec![0; ((end - start) * PAGE) as usize] };
+    spans.into_iter().map(block).collect()
+}
+
+impl Memory {
+    pub fn of(program: &Program, harts: u32) -> Memory {
+        let of_segment = |s: &crate::elf::Segment| Region { start: s.start, end: s.end, flags: s.flags };
+        let mut regions: Vec<Region> = program.segments.iter().map(of_segment).chain((0..harts).map(stack)).collect();
+        regions.sort_unstable_by_key(|region| region.start);
+        let mut table = vec![0u128; 1 << 20];
+        let entries = table.as_mut_ptr().cast();
+        let mut memory = Memory { blocks: blocks(&regions), regions, entries, _table: table };
+        for segment in &program.segments {
+            let bytes = &program.file[segment.offset as usize..][..segment.filled as usize];
+            memory.bytes_from(segment.start).expect("a segment's block")[..bytes.len()].copy_from_slice(bytes);
+        }
+        memory
     }
 
     fn region(&self, at: u32) -> Option<Region> {
-        let after = self.holders.partition_point(|(start, _)| *start <= at);
-        Some(self.regions[self.holders[after.checked_sub(1)?].1?])
+        let after = self.regions.partition_point(|region| region.start <= at);
+        let region = self.regions[after.checked_sub(1)?];
+        (at < region.end).then_some(region)
     }
 
-    #[inline(always)]
-    fn page(&self, at: u32) -> Option<&Page> {
-        let number = (at >> 12) as usize;
-        self.blocks.get(number / 256)?.get(number % 256)
+    /// The bytes of the block that holds an address, from it on.
+    fn bytes_from(&mut self, at: u32) -> Option<&mut [u8]> {
+        let after = self.blocks.partition_point(|block| block.start <= at);
+        let block = &mut self.blocks[after.checked_sub(1)?];
+        block.bytes.get_mut((at - block.start) as usize..)
     }
 
-    fn byte(&self, at: u32) -> u8 {
-        if let Some(byte) = self
-            .page(at)
-            .and_then(|page| page.bytes.get(at as usize % 4096))
-        {
-            return *byte;
-        }
-        let Some(home) = self.region(at) else {
-            return 0;
-        };
-        let depth = at - home.start;
-        if depth >= home.filled {
-            return 0;
-        }
-        self.file[(home.offset + depth) as usize]
-    }
-
-    #[inline(always)]
-    fn near(&self, home: &Region, at: u32, count: usize) -> Option<&[u8]> {
-        if !home.grants(WRITE) {
-            return near_in_file(self.file, home, at, count);
-        }
-        let place = at as usize % 4096;
-        if place + count > 4096 {
-            return None;
-        }
-        match self.page(at) {
-            Some(page) if !page.bytes.is_empty() => page.bytes.get(place..place + count),
-            _ => near_in_file(self.file, home, at, count),
-        }
-    }
-
-    #[cold]
-    fn number_apart(&self, at: u32, count: usize) -> u32 {
-        (0..count as u32).fold(0, |sum, i| sum | u32::from(self.byte(at + i)) << (8 * i))
-    }
-
-    #[inline(always)]
-    fn number(&self, home: &Region, at: u32, count: usize) -> u32 {
-        match self.near(home, at, count) {
-            Some(bytes) => number(bytes),
-            None => self.number_apart(at, count),
-        }
-    }
-
-    #[inline(always)]
-    fn home(&self, at: u32, count: usize) -> Region {
-        match self.page(at) {
-            Some(page) if page.home.covers(at, count) => page.home,
-            _ => self.region(at).unwrap_or_default(),
-        }
-    }
-
-    fn all_granted(&self, right: u32, at: u32, count: usize) -> bool {
-        (0..count as u32).all(|i| {
-            let region = at.checked_add(i).and_then(|at| self.region(at));
-            region.is_some_and(|region| region.grants(right))
-        })
-    }
-
-    #[inline(always)]
-    pub fn load(&self, at: u32, count: usize) -> Option<u32> {
-        let home = self.home(at, count);
-        if home.covers(at, count) && home.grants(READ) {
-            return Some(self.number(&home, at, count));
-        }
-        self.load_apart(at, count)
-    }
-
-    #[cold]
-    fn load_apart(&self, at: u32, count: usize) -> Option<u32> {
-        self.all_granted(READ, at, count)
-            .then(|| self.number_apart(at, count))
-    }
-
-    #[inline(always)]
-    pub fn store(&mut self, at: u32, bytes: &[u8]) -> bool {
-        let place = at as usize % 4096;
-        let number = (at >> 12) as usize;
-        if let Some(page) = self
-            .blocks
-            .get_mut(number / 256)
-            .and_then(|block| block.get_mut(number % 256))
-        {
-            if place + bytes.len() <= page.bytes.len()
-                && page.home.covers(at, bytes.len())
-                && page.home.grants(WRITE)
-            {
-                page.bytes[place..place + bytes.len()].copy_from_slice(bytes);
-                return true;
+    /// Whether each of `count` addresses is below 2^32 and has a right.
+    fn grants(&self, right: u32, at: u32, count: u32) -> bool {
+        let (mut at, end) = (u64::from(at), u64::from(at) + u64::from(count));
+        while at < end {
+            let region = u32::try_from(at).ok().and_then(|at| self.region(at));
+            match region {
+                Some(region) if region.flags & right != 0 => at = u64::from(region.end),
+                _ => return false,
             }
-        }
-        self.store_apart(at, bytes)
-    }
-
-    #[cold]
-    fn store_apart(&mut self, at: u32, bytes: &[u8]) -> bool {
-        if !self.all_granted(WRITE, at, bytes.len()) {
-            return false;
-        }
-        for (i, byte) in bytes.iter().enumerate() {
-            let at = at + i as u32;
-            self.make(at);
-            let number = (at >> 12) as usize;
-            self.blocks[number / 256][number % 256].bytes[at as usize % 4096] = *byte;
         }
         true
     }
 
-    fn make(&mut self, at: u32) {
-        if self.page(at).is_some_and(|page| !page.bytes.is_empty()) {
-            return;
-        }
-        let first = at / 4096 * 4096;
-        let bytes = (first..=first + 4095).map(|at| self.byte(at)).collect();
-        let home = self.region(at).unwrap_or_default();
-        let number = (at >> 12) as usize;
-        if self.blocks.len() <= number / 256 {
-            self.blocks.resize_with(number / 256 + 1, Vec::new);
-        }
-        let block = &mut self.blocks[number / 256];
-        if block.len() <= number % 256 {
-            block.resize_with(number % 256 + 1, Page::default);
-        }
-        block[number % 256] = Page { home, bytes };
+    /// Makes the entry of an address's page for the region that holds the address.
+    fn note(&mut self, at: u32) {
+        let Some(region) = self.region(at) else { return };
+        let page = at & !(PAGE - 1);
+        let low = region.start.max(page) - page;
+        let high = if region.end - page < PAGE { region.end - page } else { PAGE };
+        let firsts = |right: u32| if region.flags & right != 0 { (high - low).saturating_sub(3) as u16 } else { 0 };
+        let (readable, writable) = (firsts(READ), firsts(WRITE));
+        let bytes = self.bytes_from(page).expect("a region's block").as_mut_ptr();
+        // SAFETY: the table has 2^20 entries.
+        unsafe { *self.entries.add((page / PAGE) as usize) = Entry { bytes, low: low as u16, readable, writable } };
     }
 
+    /// Where the bytes of an access of at most 4 bytes stand, if its page's entry grants it.
     #[inline(always)]
-    pub fn fetch(&mut self, pc: u32) -> Option<u32> {
-        if pc % 4 != 0 {
+    fn near(&self, at: u32, firsts: impl Fn(&Entry) -> u16) -> Option<*mut u8> {
+        let offset = at % PAGE;
+        // SAFETY: the table has 2^20 entries, each all 0 or made by `note`. One that grants an offset has the bytes
+        // of a whole page, and `low + firsts + 3` is at most 4,096.
+        unsafe {
+            let entry = &*self.entries.add((at / PAGE) as usize);
+            let granted = offset.wrapping_sub(u32::from(entry.low)) < u32::from(firsts(entry));
+            granted.then(|| entry.bytes.add(offset as usize))
+        }
+    }
+
+    /// Reads `N` bytes, 1, 2 or 4, as a number.
+    #[inline(always)]
+    pub fn load<const N: usize>(&mut self, at: u32) -> Option<u32> {
+        match self.near(at, |entry| entry.readable) {
+            // SAFETY: `near` gives a place before at least 4 bytes of a page.
+            Some(bytes) => unsafe {
+                Some(match N {
+                    1 => u32::from(bytes.read()),
+                    2 => u32::from(bytes.cast::<u16>().read_unaligned()),
+                    _ => bytes.cast::<u32>().read_unaligned(),
+                })
+            },
+            None => self.load_apart(at, N as u32),
+        }
+    }
+
+    #[cold]
+    #[inline(never)]
+    fn load_apart(&mut self, at: u32, count: u32) -> Option<u32> {
+        if !self.grants(READ, at, count) {
             return None;
         }
-        if !self.code.covers(pc, 4) {
-            self.code = self.region(pc)?;
+        self.note(at);
+        let bytes = (0..count).map(|i| u32::from(self.byte(at + i)) << (8 * i));
+        Some(bytes.sum())
+    }
+
+    /// The byte at an address of some region.
+    fn byte(&self, at: u32) -> u8 {
+        let after = self.blocks.partition_point(|block| block.start <= at);
+        let block = &self.blocks[after - 1];
+        block.bytes[(at - block.start) as usize]
+    }
+
+    /// Writes the low `N` bytes of a number, 1, 2 or 4; false, and nothing is written, where one may not be.
+    #[inline(always)]
+    pub fn store<const N: usize>(&mut self, at: u32, value: u32) -> bool {
+        match self.near(at, |entry| entry.writable) {
+            // SAFETY: as in `load`.
+            Some(bytes) => unsafe {
+                match N {
+                    1 => bytes.write(value as u8),
+                    2 => bytes.cast::<u16>().write_unaligned(value as u16),
+                    _ => bytes.cast::<u32>().write_unaligned(value),
+                }
+                true
+            },
+            None => self.store_apart(at, &value.to_le_bytes()[..N]),
         }
-        let home = self.code;
-        (home.grants(EXECUTE) && home.covers(pc, 4)).then(|| self.number(&home, pc, 4))
+    }
+
+    #[cold]
+    #[inline(never)]
+    fn store_apart(&mut self, at: u32, bytes: &[u8]) -> bool {
+        self.note(at);
+        self.write(at, bytes)
+    }
+
+    /// Writes bytes of any number; false, and nothing is written, where one may not be.
+    pub fn write(&mut self, at: u32, bytes: &[u8]) -> bool {
+        if !self.grants(WRITE, at, bytes.len() as u32) {
+            return false;
+        }
+        let (mut at, mut left) = (at, bytes);
+        while !left.is_empty() {
+            let to = self.bytes_from(at).expect("a region's block");
+            let count = to.len().min(left.len());
+            to[..count].copy_from_slice(&left[..count]);
+            (at, left) = (at.wrapping_add(count as u32), &left[count..]);
+        }
+        true
+    }
+
+    /// Appends the first `most` of `count` bytes to a list, or answers false where one of the `count` may not be read.
+    pub fn read(&mut self, at: u32, count: u32, most: usize, into: &mut Vec<u8>) -> bool {
+        if !self.grants(READ, at, count) {
+            return false;
+        }
+        let (mut at, mut left) = (at, most.min(count as usize));
+        while left > 0 {
+            let from = self.bytes_from(at).expect("a region's block");
+            let count = from.len().min(left);
+            into.extend_from_slice(&from[..count]);
+            (at, left) = (at.wrapping_add(count as u32), left - count);
+        }
+        true
+    }
+
+    /// The word at pc, where pc is a multiple of 4 and the word lies in one region that may be executed.
+    pub fn fetch(&self, pc: u32) -> Option<u32> {
+        let region = self.region(pc)?;
+        let is_whole = pc % 4 == 0 && region.end - pc >= 4 && region.flags & EXECUTE != 0;
+        let byte = |i: u32| u32::from(self.byte(pc + i)) << (8 * i);
+        is_whole.then(|| byte(0) | byte(1) | byte(2) | byte(3))
     }
 }

@@ -1,186 +1,140 @@
-//! The instruction table of RV32IM: from a word to its operation and fields.
+//! The report: the totals, a line for each hart, and the top-down table, written in pieces of 64 KiB.
 
-#[derive(Clone, Copy, PartialEq, Eq)]
-pub enum Op {
-    Illegal,
-    Lui,
-    Auipc,
-    Jal,
-    Jalr,
-    Beq,
-    Bne,
-    Blt,
-    Bge,
-    Bltu,
-    Bgeu,
-    Lb,
-    Lh,
-    Lw,
-    Lbu,
-    Lhu,
-    Sb,
-    Sh,
-    Sw,
-    Addi,
-    Slti,
-    Sltiu,
-    Xori,
-    Ori,
-    Andi,
-    Slli,
-    Srli,
-    Srai,
-    Add,
-    Sub,
-    Sll,
-    Slt,
-    Sltu,
-    Xor,
-    Srl,
-    Sra,
-    Or,
-    And,
-    Mul,
-    Mulh,
-    Mulhsu,
-    Mulhu,
-    Div,
-    Divu,
-    Rem,
-    Remu,
-    Fence,
-    Ecall,
-    Ebreak,
+use std::io::{Result, Write};
+
+use crate::columns::Column;
+use crate::machine::{End, Machine};
+use crate::tree::{CALL, NO_PARENT, PROC, ROOT, Tree};
+
+const PIECE: usize = 1 << 16;
+const SPACES: [u8; 64] = [b' '; 64];
+
+/// Collects text, and writes it on when there is a piece of it.
+struct Text<W> {
+    to: W,
+    bytes: Vec<u8>,
 }
 
-/// A word's operation and fields.
-#[derive(Clone, Copy)]
-pub struct Inst {
-    pub op: Op,
-    pub rd: u8,
-    pub rs1: u8,
-    pub rs2: u8,
-    pub imm: u32,
-}
+impl<W: Write> Text<W> {
+    fn flush(&mut self) -> Result<()> {
+        self.to.write_all(&self.bytes)?;
+        self.bytes.clear();
+        Ok(())
+    }
 
-const BRANCHES: [Op; 8] = [
-    Op::Beq,
-    Op::Bne,
-    Op::Illegal,
-    Op::Illegal,
-    Op::Blt,
-    Op::Bge,
-    Op::Bltu,
-    Op::Bgeu,
-];
-const LOADS: [Op; 8] = [
-    Op::Lb,
-    Op::Lh,
-    Op::Lw,
-    Op::Illegal,
-    Op::Lbu,
-    Op::Lhu,
-    Op::Illegal,
-    Op::Illegal,
-];
-const STORES: [Op; 8] = [
-    Op::Sb,
-    Op::Sh,
-    Op::Sw,
-    Op::Illegal,
-    Op::Illegal,
-    Op::Illegal,
-    Op::Illegal,
-    Op::Illegal,
-];
-const BASE: [Op; 8] = [
-    Op::Add,
-    Op::Sll,
-    Op::Slt,
-    Op::Sltu,
-    Op::Xor,
-    Op::Srl,
-    Op::Or,
-    Op::And,
-];
-const PRODUCTS: [Op; 8] = [
-    Op::Mul,
-    Op::Mulh,
-    Op::Mulhsu,
-    Op::Mulhu,
-    Op::Div,
-    Op::Divu,
-    Op::Rem,
-    Op::Remu,
-];
+    fn spaces(&mut self, count: usize) {
+        let mut left = count;
+        while left > 0 {
+            let some = left.min(SPACES.len());
+            self.bytes.extend_from_slice(&SPACES[..some]);
+            left -= some;
+        }
+    }
 
-fn signed(value: u32, bits: u32) -> u32 {
-    ((value << (32 - bits)) as i32 >> (32 - bits)) as u32
-}
+    /// A number at the right of `width` places, with a point before the last digit of tenths.
+    fn number(&mut self, number: u64, width: usize, has_tenths: bool) {
+        let (mut digits, mut at, mut left) = ([0; 24], 24, number);
+        loop {
+            at -= 1;
+            digits[at] = b'0' + (left % 10) as u8;
+            left /= 10;
+            if has_tenths && at == 23 {
+                at -= 1;
+                digits[at] = b'.';
+            } else if left == 0 {
+                break;
+            }
+        }
+        self.spaces(width.saturating_sub(24 - at));
+        self.bytes.extend_from_slice(&digits[at..]);
+    }
 
-fn with_immediate(word: u32) -> Op {
-    match ((word >> 12) & 7, word >> 25) {
-        (0, _) => Op::Addi,
-        (2, _) => Op::Slti,
-        (3, _) => Op::Sltiu,
-        (4, _) => Op::Xori,
-        (6, _) => Op::Ori,
-        (7, _) => Op::Andi,
-        (1, 0) => Op::Slli,
-        (5, 0) => Op::Srli,
-        (5, 0x20) => Op::Srai,
-        _ => Op::Illegal,
+    fn address(&mut self, address: u32) {
+        self.bytes.extend_from_slice(b"0x");
+        for shift in (0..8).rev() {
+            self.bytes.push(b"0123456789abcdef"[(address >> (4 * shift)) as usize & 15]);
+        }
+    }
+
+    fn name(&mut self, name: &[u8]) {
+        let shown = name.iter().map(|byte| if *byte < 32 || *byte == 127 { b'?' } else { *byte });
+        self.bytes.extend(shown);
     }
 }
 
-fn operation(word: u32) -> Op {
-    let kind = (word >> 12) & 7;
-    match (word >> 25, kind) {
-        (0, _) => BASE[kind as usize],
-        (1, _) => PRODUCTS[kind as usize],
-        (0x20, 0) => Op::Sub,
-        (0x20, 5) => Op::Sra,
-        _ => Op::Illegal,
+fn end_of(end: Option<End>) -> String {
+    match end {
+        None => "stopped".to_string(),
+        Some(End::Exit(status)) => format!("exit {status}"),
+        Some(End::Group(status)) => format!("group {status}"),
+        Some(End::Trap(cause, pc)) => format!("trap {cause} at 0x{pc:08x}"),
+        Some(End::Break(pc)) => format!("break at 0x{pc:08x}"),
     }
 }
 
-#[inline(always)]
-pub fn decode(word: u32) -> Inst {
-    let kind = (word >> 12) & 7;
-    let rd = ((word >> 7) & 31) as u8;
-    let rs1 = ((word >> 15) & 31) as u8;
-    let rs2 = ((word >> 20) & 31) as u8;
-    let i = signed(word >> 20, 12);
-    let s = signed((word >> 25) << 5 | (word >> 7) & 31, 12);
-    let b = (word >> 31) << 12
-        | ((word >> 7) & 1) << 11
-        | ((word >> 25) & 63) << 5
-        | ((word >> 8) & 15) << 1;
-    let j = (word >> 31) << 20
-        | ((word >> 12) & 255) << 12
-        | ((word >> 20) & 1) << 11
-        | ((word >> 21) & 1023) << 1;
-    let made = |op, rd, rs1, rs2, imm| Inst {
-        op,
-        rd,
-        rs1,
-        rs2,
-        imm,
-    };
-    match word & 127 {
-        0x37 => made(Op::Lui, rd, 0, 0, word & 0xffff_f000),
-        0x17 => made(Op::Auipc, rd, 0, 0, word & 0xffff_f000),
-        0x6f => made(Op::Jal, rd, 0, 0, signed(j, 21)),
-        0x67 if kind == 0 => made(Op::Jalr, rd, rs1, 0, i),
-        0x63 => made(BRANCHES[kind as usize], 0, rs1, rs2, signed(b, 13)),
-        0x03 => made(LOADS[kind as usize], rd, rs1, 0, i),
-        0x23 => made(STORES[kind as usize], 0, rs1, rs2, s),
-        0x13 if kind == 1 || kind == 5 => made(with_immediate(word), rd, rs1, 0, u32::from(rs2)),
-        0x13 => made(with_immediate(word), rd, rs1, 0, i),
-        0x33 => made(operation(word), rd, rs1, rs2, 0),
-        0x0f if kind == 0 => made(Op::Fence, 0, 0, 0, 0),
-        _ if word == 0x73 => made(Op::Ecall, 0, 0, 0, 0),
-        _ if word == 0x0010_0073 => made(Op::Ebreak, 0, 0, 0, 0),
-        _ => made(Op::Illegal, 0, 0, 0, 0),
+/// The samples of each hart are the sum over its paths.
+pub fn report(machine: &Machine, tree: &Tree, columns: &[Column], period: u32, to: impl Write) -> Result<()> {
+    let samples = |hart: usize| tree.ends[hart].iter().map(|(_, count)| u64::from(*count)).sum::<u64>();
+    let harts = machine.harts.len();
+    let total: u64 = (0..harts).map(samples).sum();
+    let mut text = Text { to, bytes: machine.output.clone() };
+    if machine.output.last().is_some_and(|byte| *byte != b'\n') {
+        text.bytes.push(b'\n');
     }
+    let all = total * u64::from(period);
+    writeln!(text.bytes, "harts {harts} period {period} samples {total} total {all}")?;
+    for (number, hart) in machine.harts.iter().enumerate() {
+        let (count, end) = (samples(number), end_of(hart.end));
+        writeln!(text.bytes, "hart {number} retired {} samples {count} end {end}", hart.retired)?;
+    }
+    text.bytes.extend_from_slice(b"       inclusive      %            frame  scope\n");
+    rows(&mut text, tree, columns, period, total)?;
+    text.flush()
+}
+
+/// The sum of all columns; of one hart its own values.
+fn summed(tree: &Tree, columns: &[Column], values: impl Fn(&Column) -> &[u32]) -> Vec<u32> {
+    let mut sums = vec![0; tree.scopes.len()];
+    for column in columns {
+        for (node, count) in column.nodes.iter().zip(values(column)) {
+            sums[*node as usize] += count;
+        }
+    }
+    sums
+}
+
+fn rows<W: Write>(text: &mut Text<W>, tree: &Tree, columns: &[Column], period: u32, total: u64) -> Result<()> {
+    let inclusive = summed(tree, columns, |column| &column.inclusive);
+    let frame = summed(tree, columns, |column| &column.frame);
+    let mut line: Vec<u32> = Vec::new();
+    for (node, scope) in tree.scopes.iter().enumerate() {
+        while line.last().is_some_and(|last| *last != tree.parents[node]) && tree.parents[node] != NO_PARENT {
+            line.pop();
+        }
+        if tree.parents[node] == NO_PARENT {
+            line.clear();
+        }
+        let (passed, spent) = (u64::from(inclusive[node]), u64::from(frame[node]));
+        text.number(passed * u64::from(period), 16, false);
+        text.bytes.push(b' ');
+        text.number(passed * 1000 / total, 6, true);
+        text.bytes.push(b' ');
+        text.number(spent * u64::from(period), 16, false);
+        text.spaces(2 + 2 * line.len());
+        match scope.kind() {
+            ROOT if scope.number() == 0 => text.bytes.extend_from_slice(b"<thread root>"),
+            ROOT => text.bytes.extend_from_slice(b"<partial call paths>"),
+            PROC => text.name(tree.procs[scope.number() as usize].name),
+            kind => {
+                text.bytes.extend_from_slice(if kind == CALL { b"call at " } else { b"" });
+                text.address(tree.addresses[scope.number() as usize]);
+            }
+        }
+        text.bytes.push(b'\n');
+        if text.bytes.len() >= PIECE {
+            text.flush()?;
+        }
+        line.push(node as u32);
+    }
+    Ok(())
 }

@@ -1,5 +1,4 @@
-# Where each hart begins: a0 holds its number, a1 the number of harts, sp its own stack.
-# The caller's return address is undefined here, so that every call path ends at this procedure.
+# Where the program begins: its caller's return address is undefined, so that every call path ends here.
         .cfi_sections .debug_frame
         .section .text.start, "ax", @progbits
         .globl  _start
@@ -11,8 +10,9 @@ _start:
         .option norelax
         la      gp, __global_pointer$
         .option pop
+        la      tp, __tls_base
         call    main
-        li      a7, 93                  # exit of this hart, with main's result as its status
+        li      a7, 93                  # exit, with main's result as its status
         ecall
         .cfi_endproc
         .size   _start, . - _start

@@ -1,5 +1,6 @@
 /* One segment that is executed and one that is written, from 0x10000 on. */
 ENTRY(_start)
+PROVIDE(__guest_main = main);
 PHDRS
 {
     code PT_LOAD FLAGS(5);
@@ -11,7 +12,13 @@ SECTIONS
     .text : { *(.text.start) *(.text .text.*) } :code
     .rodata : { *(.rodata .rodata.* .srodata .srodata.*) } :code
     . = ALIGN(0x1000);
-    .data : { *(.data .data.*) } :data
+    .data : {
+        PROVIDE_HIDDEN(__init_array_start = .);
+        KEEP(*(SORT_BY_INIT_PRIORITY(.init_array.*)))
+        KEEP(*(.init_array))
+        PROVIDE_HIDDEN(__init_array_end = .);
+        *(.data .data.*)
+    } :data
     __global_pointer$ = . + 0x800;
     .sdata : { *(.sdata .sdata.*) } :data
     .bss : { *(.sbss .sbss.* .bss .bss.* COMMON) } :data

@@ -1,0 +1,110 @@
+//! The database's bytes: docs/FORMATS.md has the format.
+
+use crate::columns::Column;
+use crate::tree::{CALL, NO_PARENT, PROC, ROOT, STMT, Tree};
+
+const EXCLUSIVE: u32 = 0;
+const FRAME: u32 = 1;
+const INCLUSIVE: u32 = 2;
+
+/// A column's place and the values that stand there, by kind.
+fn samples(tree: &Tree, column: &Column, slot: usize) -> [u32; 3] {
+    let is_innermost = tree.scopes[column.nodes[slot] as usize].kind() == STMT;
+    let inclusive = column.inclusive[slot];
+    [if is_innermost { inclusive } else { 0 }, column.frame[slot], inclusive]
+}
+
+fn entries(tree: &Tree, column: &Column) -> usize {
+    let counted = |slot| samples(tree, column, slot).iter().filter(|count| **count > 0).count();
+    (0..column.nodes.len()).map(counted).sum()
+}
+
+fn put(bytes: &mut Vec<u8>, word: u32) {
+    bytes.extend_from_slice(&word.to_le_bytes());
+}
+
+/// Appends an entry: two words and a value of 8 bytes.
+#[inline(always)]
+fn put_entry(bytes: &mut Vec<u8>, first: u32, second: u32, value: u64) {
+    let words = u128::from(first) | u128::from(second) << 32 | u128::from(value) << 64;
+    bytes.extend_from_slice(&words.to_le_bytes());
+}
+
+pub fn bytes(tree: &Tree, columns: &[Column], period: u32) -> Vec<u8> {
+    let counts: Vec<usize> = columns.iter().map(|column| entries(tree, column)).collect();
+    let nodes = tree.scopes.len();
+    let names: usize = tree.procs.iter().map(|proc| 12 + proc.name.len()).sum();
+    let places = tree.scopes.iter().filter(|scope| scope.kind() >= CALL).count();
+    let fixed = 28 + names + 12 * nodes + 4 * places + 4 * columns.len() + 4 * nodes;
+    let mut bytes = Vec::with_capacity(fixed + 32 * counts.iter().sum::<usize>());
+    bytes.extend_from_slice(b"HPCPROF1");
+    for word in [period, columns.len() as u32, tree.procs.len() as u32, 0, nodes as u32] {
+        put(&mut bytes, word);
+    }
+    for proc in &tree.procs {
+        let (kind, number) = proc.symbol.map_or((2, 0), |symbol| (1, symbol));
+        for word in [kind, number, proc.name.len() as u32] {
+            put(&mut bytes, word);
+        }
+        bytes.extend_from_slice(proc.name);
+    }
+    put_nodes(&mut bytes, tree);
+    for (column, count) in columns.iter().zip(&counts) {
+        put(&mut bytes, *count as u32);
+        put_profile(&mut bytes, tree, column, period);
+    }
+    put_contexts(&mut bytes, tree, columns, period);
+    bytes
+}
+
+fn put_nodes(bytes: &mut Vec<u8>, tree: &Tree) {
+    for (parent, scope) in tree.parents.iter().zip(&tree.scopes) {
+        put(bytes, *parent);
+        match scope.kind() {
+            kind @ (ROOT | PROC) => {
+                put(bytes, kind);
+                put(bytes, scope.number());
+            }
+            kind => {
+                put(bytes, kind + 1);
+                put(bytes, 1);
+                put(bytes, tree.addresses[scope.number() as usize]);
+            }
+        }
+    }
+}
+
+fn put_profile(bytes: &mut Vec<u8>, tree: &Tree, column: &Column, period: u32) {
+    for slot in 0..column.nodes.len() {
+        for (kind, count) in (0..).zip(samples(tree, column, slot)) {
+            if count > 0 {
+                put_entry(bytes, column.nodes[slot], kind, u64::from(count) * u64::from(period));
+            }
+        }
+    }
+}
+
+/// For each node its values, by kind and then by hart: each hart's column is read along once.
+fn put_contexts(bytes: &mut Vec<u8>, tree: &Tree, columns: &[Column], period: u32) {
+    let mut cursors = vec![0; columns.len()];
+    let mut here = Vec::with_capacity(columns.len());
+    for node in 0..tree.scopes.len() as u32 {
+        here.clear();
+        for (hart, (column, cursor)) in columns.iter().zip(&mut cursors).enumerate() {
+            if column.nodes.get(*cursor) == Some(&node) {
+                here.push((hart as u32, samples(tree, column, *cursor)));
+                *cursor += 1;
+            }
+        }
+        let count: usize = here.iter().map(|(_, counts)| counts.iter().filter(|count| **count > 0).count()).sum();
+        put(bytes, count as u32);
+        for kind in [EXCLUSIVE, FRAME, INCLUSIVE] {
+            for (hart, counts) in &here {
+                if counts[kind as usize] > 0 {
+                    put_entry(bytes, kind, *hart, u64::from(counts[kind as usize]) * u64::from(period));
+                }
+            }
+        }
+    }
+    debug_assert!(tree.parents.first().is_none_or(|parent| *parent == NO_PARENT));
+}

@@ -1,0 +1,214 @@
+//! Call paths: the frames of a sample, innermost first, and the list of distinct paths with their counts.
+
+use crate::cfi::Rule;
+use crate::frames::{End, Rows, Step};
+use crate::memory::Memory;
+
+pub const MOST_FRAMES: usize = 512;
+/// Places of the cache from an address to its step, a power of 2.
+const CACHED: usize = 1 << 12;
+
+/// Finds callers. A step is looked up by halving, and kept by its address.
+pub struct Unwinder {
+    rows: Rows,
+    cache: Vec<(u32, Step)>,
+}
+
+/// The frames of one path, and a hash of them.
+pub struct Trail {
+    pub frames: [u32; MOST_FRAMES],
+    pub count: usize,
+    pub end: End,
+    pub hash: u64,
+}
+
+impl Trail {
+    pub fn new() -> Trail {
+        Trail { frames: [0; MOST_FRAMES], count: 0, end: End::Whole, hash: 0 }
+    }
+}
+
+/// Multiplies all bits of a hash into its upper half.
+const FACTOR: u64 = 0x9e37_79b9_7f4a_7c15;
+
+impl Unwinder {
+    pub fn of(rows: Rows) -> Unwinder {
+        // Address 0 has the first row and the first place; no other address is 0.
+        let cache = vec![(0, rows.steps[rows.starts.partition_point(|start| *start == 0) - 1]); CACHED];
+        Unwinder { rows, cache }
+    }
+
+    fn found(&self, pc: u32) -> Step {
+        self.rows.steps[self.rows.starts.partition_point(|start| *start <= pc) - 1]
+    }
+
+    #[inline(always)]
+    fn step(&mut self, pc: u32) -> Step {
+        let place = (pc / 4) as usize % CACHED;
+        let (kept, step) = self.cache[place];
+        if kept == pc { step } else { self.step_anew(pc, place) }
+    }
+
+    #[cold]
+    fn step_anew(&mut self, pc: u32, place: usize) -> Step {
+        let step = self.found(pc);
+        self.cache[place] = (pc, step);
+        step
+    }
+
+    /// Walks from a hart's pc and registers to the root of its thread.
+    #[inline(never)]
+    pub fn walk(&mut self, pc: u32, regs: &[u32; 33], memory: &mut Memory, trail: &mut Trail) {
+        let mut registers = [0u32; 32];
+        registers.copy_from_slice(&regs[..32]);
+        let (mut here, mut last, mut hash) = (pc, pc, 0u64);
+        let mut step = self.step(pc);
+        trail.count = MOST_FRAMES;
+        trail.end = End::Depth;
+        for count in 0..MOST_FRAMES {
+            trail.frames[count] = here;
+            hash = (hash ^ u64::from(here)).wrapping_mul(FACTOR);
+            if here != last {
+                step = self.step(here);
+                last = here;
+            }
+            let caller = match step {
+                Step::Ends(end) => Err(end),
+                Step::One { cfa_register, return_register, cfa_offset, saved } => {
+                    let cfa = registers[cfa_register as usize & 31].wrapping_add(cfa_offset);
+                    match memory.load::<4>(cfa.wrapping_add(saved)) {
+                        Some(address) => {
+                            registers[return_register as usize & 31] = address;
+                            registers[2] = cfa;
+                            Ok(address)
+                        }
+                        None => Err(End::Unmapped),
+                    }
+                }
+                Step::Many { cfa_register, return_register, count, cfa_offset, first } => {
+                    let changes = &self.rows.changes[first as usize..][..count as usize];
+                    let cfa = registers[cfa_register as usize & 31].wrapping_add(cfa_offset);
+                    changed(&mut registers, changes, cfa, memory).map(|()| registers[return_register as usize & 31])
+                }
+            };
+            here = match caller {
+                Ok(0) => {
+                    (trail.count, trail.end) = (count + 1, End::Whole);
+                    break;
+                }
+                Ok(address) => address.wrapping_sub(4),
+                Err(end) => {
+                    (trail.count, trail.end) = (count + 1, end);
+                    break;
+                }
+            };
+        }
+        trail.hash = hash;
+    }
+}
+
+/// Makes the caller's registers of the callee's.
+#[inline(always)]
+fn changed(registers: &mut [u32; 32], changes: &[(u8, Rule)], cfa: u32, memory: &mut Memory) -> Result<(), End> {
+    // Registers that are saved in memory are changed in place; what reads another register needs the callee's.
+    let reads_others = changes.iter().any(|(_, rule)| matches!(rule, Rule::Copy(_)));
+    if reads_others {
+        return changed_apart(registers, changes, cfa, memory);
+    }
+    for (register, rule) in changes {
+        registers[*register as usize & 31] = match *rule {
+            Rule::Saved(offset) => memory.load::<4>(cfa.wrapping_add(offset)).ok_or(End::Unmapped)?,
+            Rule::Sum(offset) => cfa.wrapping_add(offset),
+            _ => 0,
+        };
+    }
+    (registers[0], registers[2]) = (0, cfa);
+    Ok(())
+}
+
+#[cold]
+fn changed_apart(registers: &mut [u32; 32], changes: &[(u8, Rule)], cfa: u32, memory: &mut Memory) -> Result<(), End> {
+    let callee = *registers;
+    for (register, rule) in changes {
+        registers[*register as usize] = match *rule {
+            Rule::Saved(offset) => memory.load::<4>(cfa.wrapping_add(offset)).ok_or(End::Unmapped)?,
+            Rule::Sum(offset) => cfa.wrapping_add(offset),
+            Rule::Copy(source) => callee[source as usize],
+            _ => 0,
+        };
+    }
+    (registers[0], registers[2]) = (0, cfa);
+    Ok(())
+}
+
+/// A distinct path of a hart, and how often it was seen.
+#[derive(Clone, Copy)]
+pub struct Path {
+    hash: u32,
+    pub first: u32,
+    pub count: u32,
+    pub frames: u16,
+    pub hart: u8,
+    pub is_whole: bool,
+    end: End,
+}
+
+/// The distinct paths of all harts, in the order of their first samples.
+pub struct Paths {
+    pub list: Vec<Path>,
+    /// The frames of all paths, each path's innermost first.
+    pub words: Vec<u32>,
+    /// Open addressing: a path's place in the list and 1, or 0. Its length is a power of 2.
+    slots: Vec<u32>,
+}
+
+impl Paths {
+    pub fn new() -> Paths {
+        Paths { list: Vec::new(), words: Vec::new(), slots: vec![0; 1 << 10] }
+    }
+
+    pub fn frames(&self, path: &Path) -> &[u32] {
+        &self.words[path.first as usize..][..path.frames as usize]
+    }
+
+    /// Counts a path; answers whether it is new.
+    #[inline(always)]
+    pub fn add(&mut self, hart: usize, trail: &Trail) -> bool {
+        let frames = &trail.frames[..trail.count];
+        let hash = ((trail.hash ^ (hart as u64) << 8 ^ trail.end as u64).wrapping_mul(FACTOR) >> 32) as u32;
+        let mut slot = hash as usize & (self.slots.len() - 1);
+        loop {
+            let Some(place) = self.slots[slot].checked_sub(1) else { break };
+            let path = self.list[place as usize];
+            let is_same = path.hash == hash && path.hart as usize == hart && path.end == trail.end;
+            if is_same && self.frames(&path) == frames {
+                self.list[place as usize].count += 1;
+                return false;
+            }
+            slot = (slot + 1) & (self.slots.len() - 1);
+        }
+        self.slots[slot] = self.list.len() as u32 + 1;
+        let (first, is_whole) = (self.words.len() as u32, trail.end == End::Whole);
+        let (frames_count, hart, end) = (trail.count as u16, hart as u8, trail.end);
+        self.list.push(Path { hash, first, count: 1, frames: frames_count, hart, is_whole, end });
+        self.words.extend_from_slice(frames);
+        if 2 * self.list.len() > self.slots.len() {
+            self.grow();
+        }
+        true
+    }
+
+    #[cold]
+    fn grow(&mut self) {
+        let mask = 2 * self.slots.len() - 1;
+        let mut slots = vec![0; mask + 1];
+        for (place, path) in self.list.iter().enumerate() {
+            let mut slot = path.hash as usize & mask;
+            while slots[slot] != 0 {
+                slot = (slot + 1) & mask;
+            }
+            slots[slot] = place as u32 + 1;
+        }
+        self.slots = slots;
+    }
+}

@@ -1,0 +1,37 @@
+"""The exporter as a command, and complaints about what it makes."""
+import pathlib
+import re
+import subprocess
+
+TOP = pathlib.Path(__file__).resolve().parent.parent
+EXPORT = TOP / "tools" / "hpc-export"
+
+failures = []
+
+
+def complain(line):
+    print(f"look: {line}")
+    failures.append(line)
+
+
+def same(name, found, wanted):
+    if found != wanted:
+        complain(f"{name}: found {str(found)[:600]}, not {str(wanted)[:600]}")
+
+
+def export(database, *words):
+    """Status, output and errors of the exporter."""
+    done = subprocess.run([EXPORT, database, *words], capture_output=True)
+    return done.returncode, done.stdout, done.stderr.decode()
+
+
+def exported(database, *words):
+    status, out, errors = export(database, *words)
+    if status != 0 or errors:
+        complain(f"{database.name} {words}: status {status}, {errors}")
+    return out
+
+
+def printed(name):
+    """A name as tables print it."""
+    return re.sub(r"[\x00-\x1f\x7f]", "?", name)
