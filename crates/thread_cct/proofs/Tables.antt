@@ -1,0 +1,233 @@
+-- The counted paths of several harts, a sample at a time.
+use Rattle.std.proofs.Common.{◌≡◌, ◌≢◌, inl, inr, ◌⊎◌, ℕ, zero, suc, ◌+◌, ◌<◌, ◌≤◌, ◌^◌, Bool, true, false, cond, not, ◌==◌, ◌&&◌, nat_lt, List, [], ◌∷◌, ◌++◌, length, map, filter, sum_by, All, Result, Ok, Err, refl, sym, ap, subst, ◌∙◌, arith, append-nil}
+use Rattle.std.specs.Prelude.{slice_index_or, slice_set}
+use Rattle.std.specs.List.{range_with_len}
+use Rattle.std.proofs.lemmas.Bool.Decides.{eqb_tells}
+use Rattle.std.proofs.lemmas.Bool.{le-ltb, lt-ltb}
+use Rattle.std.proofs.lemmas.List.{same_lists, map-append, length-set, set-get_or, get_or-set_same, get_or-set_other}
+use Rattle.std.proofs.lemmas.List.Elements.{filter-append, All-nil, All-head, All-tail, All-set, All-get_or, All-weaker}
+use Rattle.std.proofs.lemmas.List.FromFn.{length-map-range_with_len, get_or-map-range_with_len}
+use Rattle.std.proofs.lemmas.List.Sums.{sum_by-cons, sum_by-set, get_or-le-sum_by}
+use Rattle.scope_types.specs.declared.frame.Counted.{Counted}
+use Rattle.scope_types.specs.Raw.{Raw}
+use Rattle.scope_types.specs.Distinct.{HartRaw, raws_of, counted_paths, distinct, frames_in, samples_in, most_path_frames}
+use Rattle.thread_cct.specs.declared.ccts.TooManyFrames.{TooManyFrames}
+use Rattle.thread_cct.specs.Adding.{has_path, count_one, of_hart, count_sample, too_many, is_too_much, added, few_frames, IsWithin}
+use Rattle.thread_cct.proofs.Paths.{count_of, frames_of, HasSome, paths_more, samples_one, frames_one, some_frames, some_known, paths_few}
+
+abbrev pub Tables : Type 0
+Tables = List (List Counted)
+
+-- ---- distinct paths
+
+abbrev with_raw : Bool → List Raw → Raw → List Raw
+with_raw is_own raws raw = cond is_own (raws ++ raw ∷ []) raws
+
+raws_more : (samples : List HartRaw) (s : HartRaw) (hart : ℕ) → raws_of (samples ++ s ∷ []) hart ≡ with_raw (s.hart == hart) (raws_of samples hart) s.raw
+raws_more samples s hart =
+    let own : HartRaw → Bool = λ t. t.hart == hart in
+    let raw_of : HartRaw → Raw = λ t. t.raw in
+    ap (map raw_of) (filter-append own samples (s ∷ [])) ∙ map-append raw_of (filter own samples) (filter own (s ∷ []))
+    ∙ elim (s.hart == hart) as (λ b. raws_of samples hart ++ map raw_of (cond b (s ∷ []) []) ≡ with_raw b (raws_of samples hart) s.raw) [ true ↦ refl | false ↦ append-nil (raws_of samples hart) ]
+
+abbrev paths_at : List HartRaw → ℕ → List Counted
+paths_at samples hart = counted_paths (raws_of samples hart)
+
+own_more : (samples : List HartRaw) (s : HartRaw) (hart : ℕ) → s.hart ≡ hart → (s.hart == hart) ≡ true → count_one s.raw (paths_at samples s.hart) ≡ paths_at (samples ++ s ∷ []) hart
+own_more samples s hart is test =
+    ap (λ (h : ℕ). count_one s.raw (paths_at samples h)) is ∙ paths_more (raws_of samples hart) s.raw ∙ sym (ap counted_paths (raws_more samples s hart ∙ ap (λ (b : Bool). with_raw b (raws_of samples hart) s.raw) test))
+
+others_stay : (samples : List HartRaw) (s : HartRaw) (hart : ℕ) → (s.hart == hart) ≡ false → paths_at samples hart ≡ paths_at (samples ++ s ∷ []) hart
+others_stay samples s hart test = sym (ap counted_paths (raws_more samples s hart ∙ ap (λ (b : Bool). with_raw b (raws_of samples hart) s.raw) test))
+
+abbrev tables_of : ℕ → List HartRaw → Tables
+tables_of harts samples = map (paths_at samples) (range_with_len 0 harts)
+
+many : (harts : ℕ) (samples : List HartRaw) → length (tables_of harts samples) ≡ harts
+many harts samples = length-map-range_with_len (paths_at samples) 0 harts
+
+table_at : (harts : ℕ) (samples : List HartRaw) (hart : ℕ) (d : List Counted) → hart < harts → slice_index_or (tables_of harts samples) hart d ≡ paths_at samples hart
+table_at harts samples hart d own = get_or-map-range_with_len (paths_at samples) 0 harts hart hart d own (omega arith)
+
+tables_more : (harts : ℕ) (samples : List HartRaw) (s : HartRaw) → s.hart < harts → count_sample (tables_of harts samples) s ≡ tables_of harts (samples ++ s ∷ [])
+tables_more harts samples s own =
+    let old : Tables = tables_of harts samples in
+    let all : List HartRaw = samples ++ s ∷ [] in
+    let one_more : List Counted = count_one s.raw (of_hart old s.hart) in
+    same_lists (count_sample old s) (tables_of harts all) (length-set old s.hart one_more ∙ many harts samples ∙ sym (many harts all))
+    (λ k d less.
+      let length_new = length-set old s.hart one_more in
+      let length_old = many harts samples in
+      let within : k < harts = omega (arith, less, length_new, length_old) in
+      let own_within : s.hart < length old = omega (arith, own, length_old) in
+      (elim (eqb_tells s.hart k) as (λ _. slice_index_or (count_sample old s) k d ≡ paths_at all k) [
+        | inl own_hart ↦
+            ap (λ (h : ℕ). slice_index_or (count_sample old s) h d) (sym own_hart.1) ∙ get_or-set_same old s.hart one_more d own_within
+            ∙ ap (count_one s.raw) (table_at harts samples s.hart [] own) ∙ own_more samples s k own_hart.1 own_hart.0
+        | inr apart ↦
+            get_or-set_other old s.hart k one_more d (λ e. apart.1 (sym e)) ∙ table_at harts samples k d within ∙ others_stay samples s k apart.0
+      ]) ∙ sym (table_at harts all k d within))
+
+-- the distinct paths of the samples so far and of one more
+pub distinct_more : (harts : ℕ) (samples : List HartRaw) (s : HartRaw) → s.hart < harts → count_sample (distinct harts samples) s ≡ distinct harts (samples ++ s ∷ [])
+unfolding distinct
+distinct_more harts samples s own = tables_more harts samples s own
+
+-- ---- one more
+
+-- a sum over all paths grows by what it grows by in the hart's own
+sum_more : (f : Counted → ℕ) (more : ℕ) (tables : Tables) (s : HartRaw) → s.hart < length tables
+    → sum_by f (count_one s.raw (of_hart tables s.hart)) ≡ sum_by f (of_hart tables s.hart) + more
+    → sum_by (sum_by f) (count_sample tables s) ≡ sum_by (sum_by f) tables + more
+sum_more f more tables s own grows =
+    let all = sum_by-set (sum_by f) tables s.hart (count_one s.raw (of_hart tables s.hart)) [] own in
+    omega (arith, all, grows)
+
+pub samples_more : (tables new : Tables) (s : HartRaw) → s.hart < length tables → new ≡ count_sample tables s → samples_in new ≡ samples_in tables + 1
+samples_more tables new s own is = ap samples_in is ∙ sum_more count_of 1 tables s own (samples_one s.raw (of_hart tables s.hart))
+
+abbrev frames_new : Tables → HartRaw → ℕ
+frames_new tables s = cond (has_path s.raw (of_hart tables s.hart)) 0 (length s.raw.frames)
+
+frames_more : (tables : Tables) (s : HartRaw) → s.hart < length tables → frames_in (count_sample tables s) ≡ frames_in tables + frames_new tables s
+frames_more tables s own = sum_more frames_of (frames_new tables s) tables s own (frames_one s.raw (of_hart tables s.hart))
+
+-- a path that is known
+pub known : (tables : Tables) (s : HartRaw) → has_path s.raw (of_hart tables s.hart) ≡ true → added tables s ≡ Ok (count_sample tables s)
+known tables s there = ap (λ (b : Bool). cond (not b && nat_lt most_path_frames (frames_in tables + length s.raw.frames)) (Err too_many) (Ok (count_sample tables s))) there
+
+-- a new one
+abbrev by_frames : Tables → HartRaw → ℕ → Result Tables TooManyFrames
+by_frames tables s frames = cond (nat_lt most_path_frames frames) (Err too_many) (Ok (count_sample tables s))
+
+new_path : (tables : Tables) (s : HartRaw) → has_path s.raw (of_hart tables s.hart) ≡ false → added tables s ≡ by_frames tables s (frames_in tables + length s.raw.frames)
+new_path tables s new = ap (λ (b : Bool). cond (not b && nat_lt most_path_frames (frames_in tables + length s.raw.frames)) (Err too_many) (Ok (count_sample tables s))) new
+
+not_above : (n : ℕ) → n ≤ most_path_frames → nat_lt most_path_frames n ≡ false
+not_above n few = le-ltb most_path_frames n few
+
+pub too_much : (tables : Tables) (s : HartRaw) (frames more : ℕ) → frames ≡ frames_in tables → has_path s.raw (of_hart tables s.hart) ≡ false → more ≡ length s.raw.frames → most_path_frames < frames + more → added tables s ≡ Err too_many
+too_much tables s frames more is new long many =
+    let total : frames_in tables + length s.raw.frames ≡ frames + more = omega (arith, is, long) in
+    new_path tables s new ∙ ap (by_frames tables s) total ∙ ap (λ (b : Bool). cond b (Err too_many) (Ok (count_sample tables s))) (lt-ltb most_path_frames (frames + more) many)
+
+pub few_enough : (tables : Tables) (s : HartRaw) (frames more : ℕ) → frames ≡ frames_in tables → has_path s.raw (of_hart tables s.hart) ≡ false → more ≡ length s.raw.frames → frames + more ≤ most_path_frames → added tables s ≡ Ok (count_sample tables s)
+few_enough tables s frames more is new long few =
+    let total : frames_in tables + length s.raw.frames ≡ frames + more = omega (arith, is, long) in
+    new_path tables s new ∙ ap (by_frames tables s) total ∙ ap (λ (b : Bool). cond b (Err too_many) (Ok (count_sample tables s))) (not_above (frames + more) few)
+
+-- a sample is refused exactly where all distinct paths have too many frames with it
+added_few : (tables : Tables) (s : HartRaw) → s.hart < length tables → frames_in tables ≤ most_path_frames → added tables s ≡ few_frames (count_sample tables s)
+added_few tables s own few =
+    elim (has_path s.raw (of_hart tables s.hart)) as (λ b. has_path s.raw (of_hart tables s.hart) ≡ b → added tables s ≡ few_frames (count_sample tables s)) [
+      | true ↦ λ there.
+          let total : frames_in (count_sample tables s) ≡ frames_in tables = (let all = frames_more tables s own in let none = ap (λ (b : Bool). cond b 0 (length s.raw.frames)) there in omega (arith, all, none)) in
+          known tables s there ∙ sym (ap (λ (n : ℕ). by_frames tables s n) total ∙ ap (λ (b : Bool). cond b (Err too_many) (Ok (count_sample tables s))) (not_above (frames_in tables) few))
+      | false ↦ λ new.
+          let total : frames_in (count_sample tables s) ≡ frames_in tables + length s.raw.frames = frames_more tables s own ∙ ap (λ (b : Bool). frames_in tables + cond b 0 (length s.raw.frames)) new in
+          new_path tables s new ∙ sym (ap (λ (n : ℕ). by_frames tables s n) total)
+    ] refl
+
+-- what a sample gives is what all samples give
+pub all_counted : (tables : Tables) (s : HartRaw) (frames : ℕ) (given : Result Tables TooManyFrames) → s.hart < length tables → IsWithin tables frames → added tables s ≡ given
+    → (samples : List HartRaw) → tables ≡ distinct (length tables) samples → few_frames (distinct (length tables) (samples ++ s ∷ [])) ≡ given
+all_counted tables s frames given own within one samples is =
+    let few : frames_in tables ≤ most_path_frames = (let a = within.is in let b = within.few in omega (arith, a, b)) in
+    sym (added_few tables s own few ∙ ap few_frames (ap (λ (t : Tables). count_sample t s) is ∙ distinct_more (length tables) samples s own)) ∙ one
+
+-- the same of fields that contracts see as `now`
+pub all_for : (tables now : Tables) (s : HartRaw) (frames : ℕ) (given : Result Tables TooManyFrames) → tables ≡ now → s.hart < length now → IsWithin tables frames → added tables s ≡ given
+    → (samples : List HartRaw) → now ≡ distinct (length now) samples → few_frames (distinct (length now) (samples ++ s ∷ [])) ≡ given
+all_for tables now s frames given view own within one =
+    all_counted now s frames given own (subst (λ (t : Tables). IsWithin t frames) view within) (sym (ap (λ (t : Tables). added t s) view) ∙ one)
+
+-- ---- what stands in the tables
+
+stay : (tables : Tables) (s : HartRaw) → s.hart < length tables → All HasSome (count_one s.raw (of_hart tables s.hart)) → All (All HasSome) tables → All (All HasSome) (count_sample tables s)
+stay tables s own one some = All-set (All HasSome) tables s.hart (count_one s.raw (of_hart tables s.hart)) one some
+
+own_some : (tables : Tables) (s : HartRaw) → s.hart < length tables → All (All HasSome) tables → All HasSome (of_hart tables s.hart)
+own_some tables s own some = All-get_or (All HasSome) tables s.hart [] own some
+
+within_one : (tables : Tables) (s : HartRaw) (frames more : ℕ) → s.hart < length tables → IsWithin tables frames → frames_new tables s ≡ more → frames + more ≤ most_path_frames → All HasSome (count_one s.raw (of_hart tables s.hart)) → IsWithin (count_sample tables s) (frames + more)
+within_one tables s frames more own within adds fits one =
+    let total = frames_more tables s own in
+    let old = within.is in
+    let few = within.harts in
+    let same = length-set tables s.hart (count_one s.raw (of_hart tables s.hart)) in
+    record {
+      harts = omega (arith, few, same);
+      is = omega (arith, total, adds, old);
+      few = fits;
+      some = stay tables s own one within.some;
+    }
+
+pub within_known : (tables new : Tables) (s : HartRaw) (frames : ℕ) → s.hart < length tables → IsWithin tables frames → has_path s.raw (of_hart tables s.hart) ≡ true → new ≡ count_sample tables s → IsWithin new frames
+within_known tables new s frames own within there is =
+    let few : frames + 0 ≤ most_path_frames = (let f = within.few in omega (arith, f)) in
+    let one = some_known s.raw (of_hart tables s.hart) there (own_some tables s own within.some) in
+    let all : IsWithin (count_sample tables s) (frames + 0) = within_one tables s frames 0 own within (ap (λ (b : Bool). cond b 0 (length s.raw.frames)) there) few one in
+    let same : frames + 0 ≡ frames = omega arith in
+    subst (λ (t : Tables). IsWithin t frames) (sym is) (subst (IsWithin (count_sample tables s)) same all)
+
+pub within_new : (tables new : Tables) (s : HartRaw) (frames more : ℕ) → s.hart < length tables → IsWithin tables frames → has_path s.raw (of_hart tables s.hart) ≡ false → 0 < length s.raw.frames → more ≡ length s.raw.frames → frames + more ≤ most_path_frames → new ≡ count_sample tables s → IsWithin new (frames + more)
+within_new tables new s frames more own within apart has long fits is =
+    let one = some_frames s.raw (of_hart tables s.hart) has (own_some tables s own within.some) in
+    subst (λ (t : Tables). IsWithin t (frames + more)) (sym is) (within_one tables s frames more own within (ap (λ (b : Bool). cond b 0 (length s.raw.frames)) apart ∙ sym long) fits one)
+
+-- how many paths a hart has
+pub few_paths : (tables : Tables) (frames hart : ℕ) → IsWithin tables frames → hart < length tables → length (of_hart tables hart) < 2 ^ 32
+few_paths tables frames hart within own =
+    let few = paths_few (of_hart tables hart) (All-get_or (All HasSome) tables hart [] own within.some) in
+    let part = get_or-le-sum_by (sum_by frames_of) tables hart [] own in
+    let is = within.is in
+    let limit = within.few in
+    omega (arith, few, part, is, limit)
+
+-- no hart has more samples than there are
+pub own_few : (tables : Tables) (hart : ℕ) → hart < length tables → sum_by count_of (of_hart tables hart) ≤ samples_in tables
+own_few tables hart own = get_or-le-sum_by (sum_by count_of) tables hart [] own
+
+-- ---- no samples
+
+abbrev pub IsEmpty : List Counted → Type 0
+IsEmpty table = table ≡ []
+
+pub none_added : (harts : ℕ) (tables : Tables) → length tables ≡ harts → All IsEmpty tables → tables ≡ distinct harts []
+unfolding distinct
+none_added harts tables is empty =
+    same_lists tables (tables_of harts []) (is ∙ sym (many harts [])) (λ k d less.
+      let within : k < harts = omega (arith, less, is) in
+      All-get_or IsEmpty tables k d less empty ∙ sym (table_at harts [] k d within))
+
+no_sum : (f : Counted → ℕ) (tables : Tables) → All IsEmpty tables → sum_by (sum_by f) tables ≡ 0
+no_sum f [] empty = refl
+no_sum f (table ∷ tables) empty =
+    let parts = sum_by-cons (sum_by f) table tables in
+    let first = ap (sum_by f) (All-head IsEmpty table tables empty) in
+    let rest = no_sum f tables (All-tail IsEmpty table tables empty) in
+    omega (arith, parts, first, rest)
+
+pub no_samples : (tables : Tables) → All IsEmpty tables → samples_in tables ≡ 0
+no_samples tables empty = no_sum count_of tables empty
+
+no_paths : (tables : Tables) → All IsEmpty tables → All (All HasSome) tables
+no_paths tables empty = All-weaker IsEmpty (All HasSome) (λ table is. subst (All HasSome) (sym is) (All-nil HasSome)) tables empty
+
+pub none_within : (tables : Tables) → length tables < 2 ^ 32 → All IsEmpty tables → IsWithin tables 0
+none_within tables harts empty =
+    record {
+      harts = harts;
+      is = sym (no_sum frames_of tables empty);
+      few = omega arith;
+      some = no_paths tables empty;
+    }
+
+pub set_same : (tables : Tables) (hart : ℕ) (table : List Counted) → hart < length tables → table ≡ of_hart tables hart → slice_set tables hart table ≡ tables
+set_same tables hart table own is = ap (slice_set tables hart) is ∙ set-get_or tables hart []
+
+pub ruleset table_steps = (own_few, set_same)
+
+pub ruleset adding_steps = (samples_more, known, too_much, few_enough, all_counted, within_known, within_new, own_few)
+
+pub ruleset starting_steps = (none_added, no_samples, none_within)

@@ -1,0 +1,79 @@
+use Rattle.std.proofs.Common.{◌≡◌, ◌+◌, ◌<◌, ◌≤◌, ℕ, Bool, true, false, cond, List, Ok, length, subst, sym, ap, ◌∙◌, arith}
+use Rattle.scope_types.specs.declared.frame.Frame.{Frame}
+use Rattle.scope_types.specs.Raw.{Raw}
+use Rattle.scope_types.specs.Distinct.{HartRaw, most_path_frames, samples_in}
+use Rattle.thread_cct.specs.Adding.{IsWithin, count_sample, has_path, of_hart}
+use Rattle.thread_cct.proofs.Tables.{Tables, all_for, known, too_much, few_enough, samples_more, within_known, within_new}
+use Rattle.thread_cct.proofs.ccts.Ccts.add.Goals as goal
+
+-- the fields, as contracts see them
+own_in : (tables now : Tables) (hart : ℕ) → tables ≡ now → hart < length now → hart < length tables
+own_in tables now hart view own = subst (λ (t : Tables). hart < length t) (sym view) own
+
+counted_is : (old new : Tables) (s : HartRaw) (found : Bool) → new ≡ cond found (count_sample old s) old → found ≡ true → new ≡ count_sample old s
+counted_is old new s found counted there = counted ∙ ap (λ (b : Bool). cond b (count_sample old s) old) there
+
+stays : (old new : Tables) (s : HartRaw) (found : Bool) → new ≡ cond found (count_sample old s) old → found ≡ false → new ≡ old
+stays old new s found counted absent = counted ∙ ap (λ (b : Bool). cond b (count_sample old s) old) absent
+
+put_is : (old again new : Tables) (hart : ℕ) (raw copy : Raw) → again ≡ old → copy ≡ raw → new ≡ count_sample again (record { hart = hart; raw = copy }) → new ≡ count_sample old (record { hart = hart; raw = raw })
+put_is old again new hart raw copy same is put =
+    put ∙ ap (λ (t : Tables). count_sample t (record { hart = hart; raw = copy })) same ∙ ap (λ (r : Raw). count_sample old (record { hart = hart; raw = r })) is
+
+pub invariant_of-self : goal.invariant_of-self
+invariant_of-self c =
+    let tables : Tables = c.self.inside.tables.items in
+    let s : HartRaw = record { hart = c.args.hart; raw = c.args.raw.now } in
+    within_known tables _ s _ (own_in tables _ c.args.hart c.self.view_is c.requires.hart) c.self.invariant (sym c.count_again.ensures.found ∙ c.if-count_again.true)
+    (counted_is tables _ s _ c.count_again.ensures.counted c.if-count_again.true)
+
+pub returns-then-count_again-clause-samples : goal.returns-then-count_again-clause-samples
+returns-then-count_again-clause-samples c =
+    let tables : Tables = c.self.inside.tables.items in
+    let s : HartRaw = record { hart = c.args.hart; raw = c.args.raw.now } in
+    samples_more tables _ s (own_in tables _ c.args.hart c.self.view_is c.requires.hart) (counted_is tables _ s _ c.count_again.ensures.counted c.if-count_again.true) ∙ ap (λ (t : Tables). samples_in t + 1) c.self.view_is
+
+pub returns-then-count_again-clause-all : goal.returns-then-count_again-clause-all
+returns-then-count_again-clause-all c samples is =
+    let tables : Tables = c.self.inside.tables.items in
+    let s : HartRaw = record { hart = c.args.hart; raw = c.args.raw.now } in
+    let given = known tables s (sym c.count_again.ensures.found ∙ c.if-count_again.true) ∙ ap Ok (sym (counted_is tables _ s _ c.count_again.ensures.counted c.if-count_again.true)) in
+    all_for tables c.args.self.now s c.self.inside.frames _ c.self.view_is c.requires.hart c.self.invariant given samples is
+
+pub returns-then-frames-gt-MOST_PATH_FRAMES-clause-all : goal.returns-then-frames-gt-MOST_PATH_FRAMES-clause-all
+returns-then-frames-gt-MOST_PATH_FRAMES-clause-all c samples is =
+    let tables : Tables = c.self.inside.tables.items in
+    let s : HartRaw = record { hart = c.args.hart; raw = c.args.raw.now } in
+    let new = sym c.count_again.ensures.found ∙ c.if-count_again.false in
+    let many : most_path_frames < c.self.inside.frames + length c.frames.result.now = (let test = c.if-frames-gt-MOST_PATH_FRAMES.true in omega (arith, test)) in
+    let given = too_much tables s c.self.inside.frames (length c.frames.result.now) c.self.invariant.is new (ap length c.frames.ensures.frames) many in
+    all_for tables c.args.self.now s c.self.inside.frames _ c.self.view_is c.requires.hart c.self.invariant given samples is
+
+pub invariant_of-self-2 : goal.invariant_of-self-2
+invariant_of-self-2 c =
+    let tables : Tables = c.self.inside.tables.items in
+    let s : HartRaw = record { hart = c.args.hart; raw = c.args.raw.now } in
+    let same = stays tables _ s _ c.count_again.ensures.counted c.if-count_again.false in
+    let fits : c.self.inside.frames + length c.frames.result.now ≤ most_path_frames = (let test = c.if-frames-gt-MOST_PATH_FRAMES.false in omega (arith, test)) in
+    within_new tables _ s c.self.inside.frames (length c.frames.result.now) (own_in tables _ c.args.hart c.self.view_is c.requires.hart) c.self.invariant
+    (sym c.count_again.ensures.found ∙ c.if-count_again.false) c.frames.ensures.count.some (ap length c.frames.ensures.frames) fits
+    (put_is tables _ _ c.args.hart c.args.raw.now _ same c.in_ok-path.ensures c.in_ok-put_path.ensures.ok)
+
+pub returns-clause-samples : goal.returns-clause-samples
+returns-clause-samples c =
+    let tables : Tables = c.self.inside.tables.items in
+    let s : HartRaw = record { hart = c.args.hart; raw = c.args.raw.now } in
+    let same = stays tables _ s _ c.count_again.ensures.counted c.if-count_again.false in
+    samples_more tables _ s (own_in tables _ c.args.hart c.self.view_is c.requires.hart) (put_is tables _ _ c.args.hart c.args.raw.now _ same c.in_ok-path.ensures c.in_ok-put_path.ensures.ok)
+    ∙ ap (λ (t : Tables). samples_in t + 1) c.self.view_is
+
+pub returns-clause-all : goal.returns-clause-all
+returns-clause-all c samples is =
+    let tables : Tables = c.self.inside.tables.items in
+    let s : HartRaw = record { hart = c.args.hart; raw = c.args.raw.now } in
+    let same = stays tables _ s _ c.count_again.ensures.counted c.if-count_again.false in
+    let fits : c.self.inside.frames + length c.frames.result.now ≤ most_path_frames = (let test = c.if-frames-gt-MOST_PATH_FRAMES.false in omega (arith, test)) in
+    let given =
+    few_enough tables s c.self.inside.frames (length c.frames.result.now) c.self.invariant.is (sym c.count_again.ensures.found ∙ c.if-count_again.false) (ap length c.frames.ensures.frames) fits
+    ∙ ap Ok (sym (put_is tables _ _ c.args.hart c.args.raw.now _ same c.in_ok-path.ensures c.in_ok-put_path.ensures.ok)) in
+    all_for tables c.args.self.now s c.self.inside.frames _ c.self.view_is c.requires.hart c.self.invariant given samples is

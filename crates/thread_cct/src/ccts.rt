@@ -1,0 +1,152 @@
+ghost use Rattle.std.specs.Prelude.{◌≡◌, ◌+◌, ◌<◌, ◌∷◌, ◌++◌, [], false, if◌then◌else◌, List, length, slice_get, Some, IfOk, OnOk, OnErr};
+ghost use Rattle.prof_bytes.specs.Outcome.{Gives};
+ghost use Rattle.scope_types.specs.Distinct.{HartRaw, distinct, samples_in, most_samples};
+ghost use Rattle.thread_cct.specs.Adding.{added, count_sample, few_frames, has_path, of_hart};
+
+use crate::table::PathTable;
+use prof_bytes::{Fail, Memory};
+use scope_types::{Counted, RawPath};
+use std::alloc::Global;
+use std::marker::Model;
+
+/// The most frames that all distinct raw paths may have together.
+const MOST_PATH_FRAMES: u64 = 4_194_304;
+
+/// A new raw path would make the frames of all distinct raw paths more than 4,194,304.
+#[derive(Clone, Copy, Debug, PartialEq, Eq, Drop)]
+pub struct TooManyFrames;
+
+impl From<TooManyFrames> for Fail<TooManyFrames> {
+    ghost use Rattle.prof_bytes.specs.declared.fail.Fail.TheVariants as fails;
+
+    ghost from_gives = { λ fault fail. fail ≡ fails.Fault fault };
+
+    fn from(fault: TooManyFrames) -> Fail<TooManyFrames> {
+        Fail::Fault(fault)
+    }
+}
+
+/// For each hart, by its number from 0, the distinct raw paths of its samples in order of first sample, each
+/// with its count.
+#[derive(Drop)]
+pub struct Ccts {
+    alloc: Global,
+    tables: Vec<PathTable>,
+    frames: u64,
+}
+
+impl Model for Ccts {
+    ghost use Rattle.std.specs.Prelude.{List};
+    ghost use Rattle.scope_types.specs.declared.frame.Counted.{Counted};
+    ghost use Rattle.thread_cct.specs.Adding.{IsWithin};
+
+    ghost Value = { List (List Counted) };
+
+    ghost view = { λ ccts. ccts.tables.items };
+
+    ghost invariant = { λ ccts. IsWithin ccts.tables.items ccts.frames };
+}
+
+fn copied(alloc: Global, raw: &RawPath) -> Result<RawPath, Memory>
+    ensures { IfOk result (λ copy. copy ≡ raw.now) }
+{
+    let mut frames = Vec::new(alloc);
+    frames.extend_from_slice(raw.frames())?;
+    Ok(RawPath::of(raw.end(), frames))
+}
+
+/// Counts a sample whose path its hart has already, and says whether it has.
+#[tactic(auto, using(crate::proofs::Tables::table_steps))]
+fn count_again(tables: &mut Vec<PathTable>, hart: usize, raw: &RawPath) -> bool
+    requires hart { hart < length tables.old.items }
+    requires few { samples_in tables.old.items < most_samples }
+    ensures found { result ≡ has_path raw.now (of_hart tables.old.items hart) }
+    ensures counted { tables.new.items ≡ (if result then count_sample tables.old.items (record { hart = hart; raw = raw.now }) else tables.old.items) }
+{
+    tables[hart].count_again(raw)
+}
+
+/// Counts a sample whose path is new to its hart.
+#[tactic(auto, using(crate::proofs::Tables::table_steps))]
+fn put_path(tables: &mut Vec<PathTable>, hart: usize, raw: RawPath) -> Result<(), Memory>
+    requires hart { hart < length tables.old.items }
+    requires new { has_path raw (of_hart tables.old.items hart) ≡ false }
+    ensures ok { OnOk result (tables.new.items ≡ count_sample tables.old.items (record { hart = hart; raw = raw })) }
+    ensures err { OnErr result (tables.new.items ≡ tables.old.items) }
+{
+    tables[hart].put(raw)
+}
+
+impl Ccts {
+    /// No samples, for so many harts.
+    #[tactic(auto, using(crate::proofs::Tables::starting_steps))]
+    pub fn start(alloc: Global, harts: u32) -> Result<Ccts, Memory>
+        ensures distinct { IfOk result (λ ccts. ccts ≡ distinct harts []) }
+        ensures samples { IfOk result (λ ccts. samples_in ccts ≡ 0) }
+    {
+        let mut tables = Vec::new(alloc);
+        for _ in 0..harts {
+            tables.push(PathTable::new(alloc))?;
+        }
+        Ok(Ccts {
+            alloc,
+            tables,
+            frames: 0,
+        })
+    }
+
+    /// How many harts there are.
+    pub fn harts(&self) -> u32
+        ensures { result ≡ length self.now }
+    {
+        self.tables.len() as u32
+    }
+
+    /// Adds a sample of a hart with this raw path. `TooManyFrames` comes exactly where the path is new to its
+    /// hart and the frames of all distinct paths would be more than 4,194,304. Nothing is changed then, and
+    /// nothing where memory runs out.
+    #[tactic(auto, using(crate::proofs::Tables::adding_steps))]
+    pub fn add(&mut self, hart: u32, raw: &RawPath) -> Result<(), Fail<TooManyFrames>>
+        requires hart { hart < length self.old }
+        requires few { samples_in self.old < most_samples }
+        ensures answer { Gives (λ done. self.new) result (added self.old (record { hart = hart; raw = raw.now })) }
+        ensures err { OnErr result (self.new ≡ self.old) }
+        ensures samples { OnOk result (samples_in self.new ≡ samples_in self.old + 1) }
+        // the samples added so far and this one more give the counts of all
+        ensures all { (samples : List HartRaw) → self.old ≡ distinct (length self.old) samples → Gives (λ done. self.new) result (few_frames (distinct (length self.old) (samples ++ record { hart = hart; raw = raw.now } ∷ []))) }
+    {
+        if count_again(&mut self.tables, hart as usize, raw) {
+            return Ok(());
+        }
+        let frames = self.frames + raw.frames().len() as u64;
+        if frames > MOST_PATH_FRAMES {
+            return Err(Fail::Fault(TooManyFrames));
+        }
+        let path = copied(self.alloc, raw)?;
+        put_path(&mut self.tables, hart as usize, path)?;
+        self.frames = frames;
+        Ok(())
+    }
+
+    /// How many distinct raw paths a hart has.
+    #[tactic(auto, using(crate::proofs::Tables::few_paths))]
+    pub fn len(&self, hart: u32) -> u32
+        requires { hart < length self.now }
+        ensures { result ≡ length (of_hart self.now hart) }
+    {
+        self.tables[hart as usize].len() as u32
+    }
+
+    /// A copy of a hart's distinct raw path at an index, with its count.
+    pub fn path(&self, hart: u32, index: u32) -> Result<Counted, Memory>
+        requires hart { hart < length self.now }
+        requires index { index < length (of_hart self.now hart) }
+        ensures { IfOk result (λ counted. slice_get (of_hart self.now hart) index ≡ Some counted) }
+    {
+        let (raw, count) = self.tables[hart as usize].entry(index as usize);
+        Ok(Counted {
+            path: copied(self.alloc, raw)?,
+            count,
+        })
+    }
+}

@@ -1,0 +1,12 @@
+//! The raw paths of samples, counted hart by hart: what the calling context trees of the threads are made
+//! of (HPCToolkit's manual, "Calling Context Tree").
+//!
+//! It promises that of the samples that were added each hart has its distinct raw paths in order of first
+//! sample, each with its count. Below stand `scope_types`, `prof_bytes` and `indexmap`.
+#![tactic(auto)]
+
+mod ccts;
+mod table;
+
+pub use ccts::{Ccts, TooManyFrames};
+pub use scope_types::Counted;

@@ -1,0 +1,77 @@
+//! The distinct raw paths of one hart. A table by hashing finds them.
+ghost use Rattle.std.specs.Prelude.{◌≡◌, ◌<◌, ◌-◌, ◌^◌, [], false, if◌then◌else◌, length, slice_get, sum_by, Some, OnOk, OnErr};
+ghost use Rattle.thread_cct.specs.Adding.{count_one, has_path};
+
+use indexmap::IndexMap;
+use prof_bytes::Memory;
+use scope_types::RawPath;
+use std::alloc::Global;
+use std::marker::Model;
+
+/// Distinct raw paths, each with its count, in order of first sample.
+#[derive(Drop)]
+pub struct PathTable {
+    counts: IndexMap<RawPath, u32>,
+}
+
+impl Model for PathTable {
+    ghost use Rattle.std.specs.Prelude.{List, map};
+    ghost use Rattle.scope_types.specs.declared.frame.Counted.{Counted};
+    ghost use Rattle.thread_cct.specs.Adding.{counted_in};
+
+    ghost Value = { List Counted };
+
+    ghost view = { λ table. counted_in table.counts.entries };
+}
+
+impl PathTable {
+    /// No paths.
+    pub fn new(alloc: Global) -> PathTable
+        ensures { result ≡ [] }
+    {
+        PathTable {
+            counts: IndexMap::new(alloc),
+        }
+    }
+
+    /// How many paths there are.
+    pub fn len(&self) -> usize
+        ensures { result ≡ length self.now }
+    {
+        self.counts.len()
+    }
+
+    /// Counts a path once more where it is there, and says whether it is.
+    #[tactic(auto, using(crate::proofs::Entries::entry_steps))]
+    pub fn count_again(&mut self, raw: &RawPath) -> bool
+        requires { sum_by (λ c. c.count) self.old < 2 ^ 32 - 1 }
+        ensures found { result ≡ has_path raw.now self.old }
+        ensures counted { self.new ≡ (if result then count_one raw.now self.old else self.old) }
+    {
+        let Some(count) = self.counts.get_mut(raw) else {
+            return false;
+        };
+        *count += 1;
+        true
+    }
+
+    /// Puts a new path last, with the count 1.
+    #[tactic(auto, using(crate::proofs::Entries::entry_steps))]
+    pub fn put(&mut self, raw: RawPath) -> Result<(), Memory>
+        requires { has_path raw self.old ≡ false }
+        ensures ok { OnOk result (self.new ≡ count_one raw self.old) }
+        ensures err { OnErr result (self.new ≡ self.old) }
+    {
+        self.counts.insert(raw, 1)?;
+        Ok(())
+    }
+
+    /// The path at an index, and its count.
+    pub fn entry(&self, index: usize) -> (&RawPath, u32)
+        requires { index < length self.now }
+        ensures { slice_get self.now index ≡ Some (record { path = result.0.now; count = result.1 }) }
+    {
+        let (path, count) = self.counts.get_index(index).unwrap();
+        (path, *count)
+    }
+}
