@@ -17,7 +17,7 @@ frames_of c = length c.path.frames
 abbrev other : Raw → Counted → Bool
 other x c = not (same_raw x c.path)
 
-abbrev once_more : Counted → Counted
+abbrev pub once_more : Counted → Counted
 once_more c = record { path = c.path; count = c.count + 1 }
 
 -- a path that is filtered out leaves no trace

@@ -30,7 +30,7 @@ raws_more samples s hart =
     ap (map raw_of) (filter-append own samples (s ∷ [])) ∙ map-append raw_of (filter own samples) (filter own (s ∷ []))
     ∙ elim (s.hart == hart) as (λ b. raws_of samples hart ++ map raw_of (cond b (s ∷ []) []) ≡ with_raw b (raws_of samples hart) s.raw) [ true ↦ refl | false ↦ append-nil (raws_of samples hart) ]
 
-abbrev paths_at : List HartRaw → ℕ → List Counted
+abbrev pub paths_at : List HartRaw → ℕ → List Counted
 paths_at samples hart = counted_paths (raws_of samples hart)
 
 own_more : (samples : List HartRaw) (s : HartRaw) (hart : ℕ) → s.hart ≡ hart → (s.hart == hart) ≡ true → count_one s.raw (paths_at samples s.hart) ≡ paths_at (samples ++ s ∷ []) hart
@@ -40,10 +40,10 @@ own_more samples s hart is test =
 others_stay : (samples : List HartRaw) (s : HartRaw) (hart : ℕ) → (s.hart == hart) ≡ false → paths_at samples hart ≡ paths_at (samples ++ s ∷ []) hart
 others_stay samples s hart test = sym (ap counted_paths (raws_more samples s hart ∙ ap (λ (b : Bool). with_raw b (raws_of samples hart) s.raw) test))
 
-abbrev tables_of : ℕ → List HartRaw → Tables
+abbrev pub tables_of : ℕ → List HartRaw → Tables
 tables_of harts samples = map (paths_at samples) (range_with_len 0 harts)
 
-many : (harts : ℕ) (samples : List HartRaw) → length (tables_of harts samples) ≡ harts
+pub many : (harts : ℕ) (samples : List HartRaw) → length (tables_of harts samples) ≡ harts
 many harts samples = length-map-range_with_len (paths_at samples) 0 harts
 
 table_at : (harts : ℕ) (samples : List HartRaw) (hart : ℕ) (d : List Counted) → hart < harts → slice_index_or (tables_of harts samples) hart d ≡ paths_at samples hart
@@ -86,10 +86,10 @@ sum_more f more tables s own grows =
 pub samples_more : (tables new : Tables) (s : HartRaw) → s.hart < length tables → new ≡ count_sample tables s → samples_in new ≡ samples_in tables + 1
 samples_more tables new s own is = ap samples_in is ∙ sum_more count_of 1 tables s own (samples_one s.raw (of_hart tables s.hart))
 
-abbrev frames_new : Tables → HartRaw → ℕ
+abbrev pub frames_new : Tables → HartRaw → ℕ
 frames_new tables s = cond (has_path s.raw (of_hart tables s.hart)) 0 (length s.raw.frames)
 
-frames_more : (tables : Tables) (s : HartRaw) → s.hart < length tables → frames_in (count_sample tables s) ≡ frames_in tables + frames_new tables s
+pub frames_more : (tables : Tables) (s : HartRaw) → s.hart < length tables → frames_in (count_sample tables s) ≡ frames_in tables + frames_new tables s
 frames_more tables s own = sum_more frames_of (frames_new tables s) tables s own (frames_one s.raw (of_hart tables s.hart))
 
 -- a path that is known

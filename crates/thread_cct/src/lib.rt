@@ -6,7 +6,9 @@
 #![tactic(auto)]
 
 mod ccts;
+mod laws;
 mod table;
 
 pub use ccts::{Ccts, TooManyFrames};
+pub use laws::samples_are_counted;
 pub use scope_types::Counted;

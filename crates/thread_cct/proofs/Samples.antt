@@ -1,0 +1,145 @@
+-- The samples that are counted are those that were added.
+use Rattle.std.proofs.Common.{◌≡◌, ℕ, zero, suc, ◌+◌, ◌<◌, ◌≤◌, Bool, true, false, cond, List, [], ◌∷◌, ◌++◌, length, map, replicate, count_by, sum_by, All, refl, sym, ap, subst, ◌∙◌, arith, add-one, append-nil, append_assoc}
+use Rattle.std.specs.Prelude.{slice_index_or, slice_set}
+use Rattle.std.specs.List.{flat_map, enumerate_from, range_with_len}
+use Rattle.std.proofs.lemmas.List.Elements.{All-head, All-tail, All-map}
+use Rattle.std.proofs.lemmas.List.Sums.{sum_by-cons, sum_by-append}
+use Rattle.scope_types.specs.declared.frame.Counted.{Counted}
+use Rattle.scope_types.specs.Alike.{Alike}
+use Rattle.scope_types.specs.CallPaths.{HartPath}
+use Rattle.scope_types.specs.Raw.{Raw, same_raw}
+use Rattle.scope_types.specs.Distinct.{HartRaw, distinct, each_of_hart, each_sample, frames_in}
+use Rattle.scope_types.specs.private.SameRaw.{raw_decides}
+use Rattle.thread_cct.specs.Adding.{count_one, count_sample, of_hart}
+use Rattle.thread_cct.proofs.Paths.{once_more}
+use Rattle.thread_cct.proofs.Tables.{Tables, IsEmpty, distinct_more, many, frames_more, frames_new}
+
+abbrev one : Bool → ℕ
+one b = cond b 1 0
+
+count-cons : {X : Type 0} (t : X → Bool) (x : X) (xs : List X) → count_by t (x ∷ xs) ≡ one (t x) + count_by t xs
+count-cons t x xs = sum_by-cons (λ x. one (t x)) x xs
+
+count-append : {X : Type 0} (t : X → Bool) (xs ys : List X) → count_by t (xs ++ ys) ≡ count_by t xs + count_by t ys
+count-append t xs ys = sum_by-append (λ x. one (t x)) xs ys
+
+-- ---- one more
+
+abbrev copies : ℕ → Counted → List HartRaw
+copies hart c = replicate c.count (record { hart = hart; raw = c.path })
+
+one_of_hart : (t : HartRaw → Bool) (hart : ℕ) (r : Raw) (cs : List Counted) → count_by t (each_of_hart (hart, count_one r cs)) ≡ one (t (record { hart = hart; raw = r })) + count_by t (each_of_hart (hart, cs))
+one_of_hart t hart r [] = count-cons t (record { hart = hart; raw = r }) []
+one_of_hart t hart r (c ∷ cs) =
+    let old = count-append t (copies hart c) (each_of_hart (hart, cs)) in
+    elim (same_raw r c.path) as (λ b. same_raw r c.path ≡ b → count_by t (each_of_hart (hart, cond b (once_more c ∷ cs) (c ∷ count_one r cs))) ≡ one (t (record { hart = hart; raw = r })) + count_by t (each_of_hart (hart, c ∷ cs))) [
+      | true ↦ λ e.
+          let is : r ≡ c.path = (raw_decides r c.path).0 e in
+          let rest : List HartRaw = each_of_hart (hart, cs) in
+          ap (λ (n : ℕ). count_by t (replicate n (record { hart = hart; raw = c.path }) ++ rest)) (add-one c.count)
+          ∙ count-cons t (record { hart = hart; raw = c.path }) (copies hart c ++ rest)
+          ∙ ap (λ (p : Raw). one (t (record { hart = hart; raw = p })) + count_by t (copies hart c ++ rest)) (sym is)
+      | false ↦ λ e.
+          let new = count-append t (copies hart c) (each_of_hart (hart, count_one r cs)) in
+          let rest = one_of_hart t hart r cs in
+          omega (arith, old, new, rest)
+    ] refl
+
+-- where a table of many is another
+set_counts : (t : HartRaw → Bool) (first : ℕ) (tables : Tables) (k : ℕ) (table : List Counted) → k < length tables
+    → count_by t (flat_map each_of_hart (enumerate_from first (slice_set tables k table))) + count_by t (each_of_hart (first + k, slice_index_or tables k []))
+    ≡ count_by t (flat_map each_of_hart (enumerate_from first tables)) + count_by t (each_of_hart (first + k, table))
+set_counts t first [] k table less = absurd (omega arith)
+set_counts t first (head ∷ tables) zero table less =
+    let rest : List HartRaw = flat_map each_of_hart (enumerate_from (first + 1) tables) in
+    let new = count-append t (each_of_hart (first, table)) rest in
+    let old = count-append t (each_of_hart (first, head)) rest in
+    let at : first + 0 ≡ first = omega arith in
+    let a = ap (λ (n : ℕ). count_by t (each_of_hart (n, head))) at in
+    let b = ap (λ (n : ℕ). count_by t (each_of_hart (n, table))) at in
+    omega (arith, new, old, a, b)
+set_counts t first (head ∷ tables) (suc k) table less =
+    let below : k < length tables = omega (arith, less) in
+    let rest = set_counts t (first + 1) tables k table below in
+    let new = count-append t (each_of_hart (first, head)) (flat_map each_of_hart (enumerate_from (first + 1) (slice_set tables k table))) in
+    let old = count-append t (each_of_hart (first, head)) (flat_map each_of_hart (enumerate_from (first + 1) tables)) in
+    let at : first + 1 + k ≡ first + suc k = omega arith in
+    let a = ap (λ (n : ℕ). count_by t (each_of_hart (n, slice_index_or tables k []))) at in
+    let b = ap (λ (n : ℕ). count_by t (each_of_hart (n, table))) at in
+    omega (arith, rest, new, old, a, b)
+
+each_more : (t : HartRaw → Bool) (tables : Tables) (s : HartRaw) → s.hart < length tables → count_by t (each_sample (count_sample tables s)) ≡ one (t s) + count_by t (each_sample tables)
+each_more t tables s own =
+    let all = set_counts t 0 tables s.hart (count_one s.raw (of_hart tables s.hart)) own in
+    let grown = one_of_hart t s.hart s.raw (of_hart tables s.hart) in
+    let at : 0 + s.hart ≡ s.hart = omega arith in
+    let old = ap (λ (n : ℕ). count_by t (each_of_hart (n, of_hart tables s.hart))) at in
+    let new = ap (λ (n : ℕ). count_by t (each_of_hart (n, count_one s.raw (of_hart tables s.hart)))) at in
+    omega (arith, all, grown, old, new)
+
+-- ---- all
+
+pub length_is : (harts : ℕ) (samples : List HartRaw) → length (distinct harts samples) ≡ harts
+unfolding distinct
+length_is harts samples = many harts samples
+
+abbrev IsOwn : ℕ → HartRaw → Type 0
+IsOwn harts s = s.hart < harts
+
+abbrev AreCounted : ℕ → List HartRaw → Type 0
+AreCounted harts samples = (t : HartRaw → Bool) → count_by t (each_sample (distinct harts samples)) ≡ count_by t samples
+
+one_counted : (harts : ℕ) (done : List HartRaw) (s : HartRaw) → s.hart < harts → AreCounted harts done → AreCounted harts (done ++ s ∷ [])
+one_counted harts done s own so_far t =
+    let own_table : s.hart < length (distinct harts done) = (let n = length_is harts done in omega (arith, own, n)) in
+    let more = each_more t (distinct harts done) s own_table in
+    let old = so_far t in
+    let all = count-append t done (s ∷ []) in
+    let last = count-cons t s [] in
+    ap (λ (tables : Tables). count_by t (each_sample tables)) (sym (distinct_more harts done s own)) ∙ omega (arith, more, old, all, last)
+
+counted_from : (harts : ℕ) (done rest : List HartRaw) → All (IsOwn harts) rest → AreCounted harts done → AreCounted harts (done ++ rest)
+counted_from harts done [] own so_far = subst (AreCounted harts) (sym (append-nil done)) so_far
+counted_from harts done (s ∷ rest) own so_far =
+    subst (AreCounted harts) (append_assoc done (s ∷ []) rest)
+    (counted_from harts (done ++ s ∷ []) rest (All-tail (IsOwn harts) s rest own) (one_counted harts done s (All-head (IsOwn harts) s rest own) so_far))
+
+none_counted : (t : HartRaw → Bool) (first : ℕ) (tables : Tables) → All IsEmpty tables → count_by t (flat_map each_of_hart (enumerate_from first tables)) ≡ 0
+none_counted t first [] empty = refl
+none_counted t first (table ∷ tables) empty =
+    let parts = count-append t (each_of_hart (first, table)) (flat_map each_of_hart (enumerate_from (first + 1) tables)) in
+    let head = ap (λ (cs : List Counted). count_by t (each_of_hart (first, cs))) (All-head IsEmpty table tables empty) in
+    let rest = none_counted t (first + 1) tables (All-tail IsEmpty table tables empty) in
+    omega (arith, parts, head, rest)
+
+none_at_first : (harts : ℕ) → AreCounted harts []
+unfolding distinct
+none_at_first harts t = none_counted t 0 (distinct harts []) (All-map IsEmpty (λ (hart : ℕ). []) (range_with_len 0 harts) (λ k d less. refl))
+
+count-map : {X Y : Type 0} (t : Y → Bool) (f : X → Y) (xs : List X) → count_by t (map f xs) ≡ count_by (λ x. t (f x)) xs
+count-map t f [] = refl
+count-map {X} t f (x ∷ xs) =
+    let new = count-cons t (f x) (map f xs) in
+    let old = count-cons (λ (x : X). t (f x)) x xs in
+    let rest = count-map t f xs in
+    omega (arith, new, old, rest)
+
+-- ---- the laws
+
+pub samples_alike : (harts : ℕ) (samples : List HartRaw) (path_of : HartRaw → HartPath) → All (λ s. s.hart < harts) samples → Alike (map path_of (each_sample (distinct harts samples))) (map path_of samples)
+samples_alike harts samples path_of own = record {
+  same = λ t. count-map t path_of (each_sample (distinct harts samples)) ∙ counted_from harts [] samples own (none_at_first harts) (λ s. t (path_of s)) ∙ sym (count-map t path_of samples);
+}
+
+pub frames_grow : (harts : ℕ) (samples more : List HartRaw) → All (λ s. s.hart < harts) more → frames_in (distinct harts samples) ≤ frames_in (distinct harts (samples ++ more))
+frames_grow harts samples [] own = (let e = ap (λ (l : List HartRaw). frames_in (distinct harts l)) (append-nil samples) in omega (arith, e))
+frames_grow harts samples (s ∷ more) own =
+    let first : s.hart < harts = All-head (IsOwn harts) s more own in
+    let own_table : s.hart < length (distinct harts samples) = (let n = length_is harts samples in omega (arith, first, n)) in
+    let one = frames_more (distinct harts samples) s own_table in
+    let is = ap frames_in (distinct_more harts samples s first) in
+    let rest = frames_grow harts (samples ++ s ∷ []) more (All-tail (IsOwn harts) s more own) in
+    let same = ap (λ (l : List HartRaw). frames_in (distinct harts l)) (append_assoc samples (s ∷ []) more) in
+    omega (arith, one, is, rest, same)
+
+pub ruleset distinct_laws = (length_is, samples_alike, frames_grow)

@@ -1,0 +1,13 @@
+ghost use Rattle.std.specs.Prelude.{◌≡◌, ℕ, ◌<◌, ◌≤◌, ◌++◌, List, length, map, All};
+ghost use Rattle.scope_types.specs.Alike.{Alike};
+ghost use Rattle.scope_types.specs.CallPaths.{HartPath};
+ghost use Rattle.scope_types.specs.Distinct.{HartRaw, distinct, each_sample, frames_in};
+
+/// There is a list for each hart. The samples that are counted are all samples, in another order, and so are
+/// the call paths that they have. With more samples there are no fewer frames.
+#[tactic(auto, using(crate::proofs::Samples::distinct_laws))]
+pub fn samples_are_counted()
+    ensures harts { (harts : ℕ) (samples : List HartRaw) → length (distinct harts samples) ≡ harts }
+    ensures alike { (harts : ℕ) (samples : List HartRaw) (path_of : HartRaw → HartPath) → All (λ s. s.hart < harts) samples → Alike (map path_of (each_sample (distinct harts samples))) (map path_of samples) }
+    ensures grow { (harts : ℕ) (samples more : List HartRaw) → All (λ s. s.hart < harts) more → frames_in (distinct harts samples) ≤ frames_in (distinct harts (samples ++ more)) }
+{}
