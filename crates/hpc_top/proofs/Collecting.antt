@@ -9,7 +9,8 @@ use Rattle.prof_bytes.specs.declared.fail.Fail.TheVariants as fails
 use Rattle.rv_run.specs.Run.{Run}
 use Rattle.rv_run.specs.Progress.{to_come}
 use Rattle.sample_clock.specs.declared.clock.Sample.{Sample}
-use Rattle.sample_clock.specs.Samples.{Paths, most_samples}
+use Rattle.scope_types.specs.Limits.{most_samples}
+use Rattle.sample_clock.specs.Samples.{Paths}
 use Rattle.sample_clock.specs.Clock.{Sampling, samples_to_come}
 use Rattle.sample_clock.proofs.Meeting.{met-samples}
 use Rattle.tree_types.proofs.Counting.{one, count_by-cons}

@@ -14,7 +14,7 @@ use Rattle.scope_types.specs.declared.scope.RootKind.{RootKind}
 use Rattle.scope_types.specs.Expansion.{expansion}
 use Rattle.rv_run.specs.State.{MachineState}
 use Rattle.rv_run.specs.Progress.{to_come}
-use Rattle.tree_types.specs.Laws.{Alike}
+use Rattle.scope_types.specs.Alike.{Alike}
 use Rattle.tree_types.specs.declared.content.Names.{Names}
 use Rattle.tree_types.specs.Naming.{Naming}
 use Rattle.tree_types.specs.Database.{content_of, names_used, naming_in}
@@ -25,7 +25,8 @@ use Rattle.tree_types.proofs.PathsAgain.{content_alike, table_alike}
 use Rattle.tree_types.proofs.NamesAgain.{own_names_table}
 use Rattle.prof_db.specs.Spelling.{spelling}
 use Rattle.sample_clock.specs.declared.clock.Sample.{Sample}
-use Rattle.sample_clock.specs.Samples.{Paths, most_samples, samples}
+use Rattle.scope_types.specs.Limits.{most_samples}
+use Rattle.sample_clock.specs.Samples.{Paths, samples}
 use Rattle.sample_clock.specs.Clock.{Sampling, samples_to_come}
 use Rattle.hpc_top.specs.declared.path_counts.PathCounts.{PathCounts}
 use Rattle.hpc_top.specs.declared.report.HartLine.{HartLine}

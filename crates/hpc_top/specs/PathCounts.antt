@@ -18,7 +18,7 @@ use Rattle.scope_types.specs.CallPaths.{HartPath, each_path}
 use Rattle.scope_types.specs.declared.path.Entry.{Entry}
 use Rattle.scope_types.specs.Expansion.{expansion}
 use Rattle.elf_image.specs.Image.{ProgramImage}
-use Rattle.tree_types.specs.Laws.{Alike}
+use Rattle.scope_types.specs.Alike.{Alike}
 use Rattle.hpc_top.specs.Samples.{found_at, sample_path, sample_words, distinct, frame_count, most_path_frames, few_samples, few_scopes}
 
 -- ---- words of raw paths

@@ -15,7 +15,8 @@ use Rattle.scope_types.specs.CallPaths.{HartPath}
 use Rattle.scope_types.specs.Expansion.{FoundAt, expansion}
 use Rattle.elf_image.specs.Image.{FunctionSymbol, ProgramImage, in_function}
 use Rattle.sample_clock.specs.declared.clock.Sample.{Sample}
-use Rattle.sample_clock.specs.Samples.{Paths, samples, most_samples}
+use Rattle.scope_types.specs.Limits.{most_samples}
+use Rattle.sample_clock.specs.Samples.{Paths, samples}
 use Rattle.rv_run.specs.Run.{Run}
 use Rattle.hpc_top.specs.declared.status.InputFault.{InputFault}
 use Rattle.hpc_top.specs.declared.status.InputFault.TheVariants.{TooManySamples, TooManyFrames, TooManyScopes}

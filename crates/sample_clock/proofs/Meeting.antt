@@ -14,7 +14,8 @@ use Rattle.rv_run.specs.declared.machine.Moment.{Moment}
 use Rattle.rv_run.specs.declared.machine.Due.{Due}
 use Rattle.rv_run.specs.Progress.{Progress, to_come, WentOn, Counts, plus_one, due_of, first_due, IsFresh, IsBetween, Carried, Passed, Broke, plain_count, some_of, count_of_first}
 use Rattle.sample_clock.specs.declared.clock.Sample.{Sample}
-use Rattle.sample_clock.specs.Samples.{Paths, is_sampled, sample_of, samples, most_samples}
+use Rattle.sample_clock.specs.Samples.{Paths, is_sampled, sample_of, samples}
+use Rattle.scope_types.specs.Limits.{most_samples}
 use Rattle.sample_clock.specs.Clock.{Sampling, samples_to_come, Given, IsOver, AreTooMany, NoneLost, Unsampled, Met}
 use Rattle.sample_clock.specs.private.Advance.{IsNext, IsClock, NoneMet, CarriedOut, OneSampled, SomeUnsampled, BrokeOff, Ended}
 use Rattle.sample_clock.proofs.Periods.{next-multiple, no-multiple}

@@ -8,7 +8,8 @@ use Rattle.rv_run.specs.Run.{Instant, finished, preceded}
 use Rattle.rv_run.specs.Progress.{Progress, to_come}
 use Rattle.sample_clock.specs.declared.clock.Sample.{Sample}
 use Rattle.sample_clock.specs.declared.clock.TooManySamples.{TooManySamples}
-use Rattle.sample_clock.specs.Samples.{Paths, is_sampled, samples, most_samples}
+use Rattle.sample_clock.specs.Samples.{Paths, is_sampled, samples}
+use Rattle.scope_types.specs.Limits.{most_samples}
 
 -- a machine that is sampled, the period, and how many samples were met so far: those that were given,
 -- and one more where that is too many

@@ -24,7 +24,3 @@ sample_of path_of i =
 -- the samples of a run, in order
 abbrev pub samples : Paths → ℕ → List Instant → List Sample
 samples path_of period instants = map (sample_of path_of) (filter (is_sampled period) instants)
-
--- how many samples there may be
-abbrev pub most_samples : ℕ
-most_samples = 1048576

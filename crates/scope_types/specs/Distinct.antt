@@ -27,14 +27,6 @@ distinct harts samples = map (λ hart. counted_paths (raws_of samples hart)) (ra
 abbrev pub frames_in : List (List Counted) → ℕ
 frames_in tables = sum_by (sum_by (λ c. length c.path.frames)) tables
 
--- how many they may have
-abbrev pub most_path_frames : ℕ
-most_path_frames = 4194304
-
--- how many samples a profile may have
-abbrev pub most_samples : ℕ
-most_samples = 1048576
-
 -- how many samples are counted
 abbrev pub samples_in : List (List Counted) → ℕ
 samples_in tables = sum_by (sum_by (λ c. c.count)) tables

@@ -1,5 +1,5 @@
 -- The samples that are counted are those that were added.
-use Rattle.std.proofs.Common.{◌≡◌, ℕ, zero, suc, ◌+◌, ◌<◌, ◌≤◌, Bool, true, false, cond, List, [], ◌∷◌, ◌++◌, length, map, replicate, count_by, sum_by, All, refl, sym, ap, subst, ◌∙◌, arith, add-one, append-nil, append_assoc}
+use Rattle.std.proofs.Common.{◌≡◌, ℕ, zero, suc, ◌+◌, ◌<◌, ◌≤◌, Bool, true, false, cond, List, [], ◌∷◌, ◌++◌, length, map, replicate, count_by, All, refl, sym, ap, subst, ◌∙◌, arith, add-one, append-nil, append_assoc}
 use Rattle.std.specs.Prelude.{slice_index_or, slice_set}
 use Rattle.std.specs.List.{flat_map, enumerate_from, range_with_len}
 use Rattle.std.proofs.lemmas.List.Elements.{All-head, All-tail, All-map}
@@ -12,7 +12,7 @@ use Rattle.scope_types.specs.Distinct.{HartRaw, distinct, each_of_hart, each_sam
 use Rattle.scope_types.specs.private.SameRaw.{raw_decides}
 use Rattle.thread_cct.specs.Adding.{count_one, count_sample, of_hart}
 use Rattle.thread_cct.proofs.Paths.{once_more}
-use Rattle.thread_cct.proofs.Tables.{Tables, IsEmpty, distinct_more, many, frames_more, frames_new}
+use Rattle.thread_cct.proofs.Tables.{Tables, IsEmpty, distinct_more, many, frames_more}
 
 abbrev one : Bool → ℕ
 one b = cond b 1 0

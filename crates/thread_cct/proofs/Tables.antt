@@ -1,5 +1,5 @@
 -- The counted paths of several harts, a sample at a time.
-use Rattle.std.proofs.Common.{◌≡◌, ◌≢◌, inl, inr, ◌⊎◌, ℕ, zero, suc, ◌+◌, ◌<◌, ◌≤◌, ◌^◌, Bool, true, false, cond, not, ◌==◌, ◌&&◌, nat_lt, List, [], ◌∷◌, ◌++◌, length, map, filter, sum_by, All, Result, Ok, Err, refl, sym, ap, subst, ◌∙◌, arith, append-nil}
+use Rattle.std.proofs.Common.{◌≡◌, inl, inr, ℕ, ◌+◌, ◌<◌, ◌≤◌, ◌^◌, Bool, true, false, cond, not, ◌==◌, ◌&&◌, nat_lt, List, [], ◌∷◌, ◌++◌, length, map, filter, sum_by, All, Result, Ok, Err, refl, sym, ap, subst, ◌∙◌, arith, append-nil}
 use Rattle.std.specs.Prelude.{slice_index_or, slice_set}
 use Rattle.std.specs.List.{range_with_len}
 use Rattle.std.proofs.lemmas.Bool.Decides.{eqb_tells}
@@ -10,9 +10,10 @@ use Rattle.std.proofs.lemmas.List.FromFn.{length-map-range_with_len, get_or-map-
 use Rattle.std.proofs.lemmas.List.Sums.{sum_by-cons, sum_by-set, get_or-le-sum_by}
 use Rattle.scope_types.specs.declared.frame.Counted.{Counted}
 use Rattle.scope_types.specs.Raw.{Raw}
-use Rattle.scope_types.specs.Distinct.{HartRaw, raws_of, counted_paths, distinct, frames_in, samples_in, most_path_frames}
+use Rattle.scope_types.specs.Distinct.{HartRaw, raws_of, counted_paths, distinct, frames_in, samples_in}
+use Rattle.scope_types.specs.Limits.{most_path_frames}
 use Rattle.thread_cct.specs.declared.ccts.TooManyFrames.{TooManyFrames}
-use Rattle.thread_cct.specs.Adding.{has_path, count_one, of_hart, count_sample, too_many, is_too_much, added, few_frames, IsWithin}
+use Rattle.thread_cct.specs.Adding.{has_path, count_one, of_hart, count_sample, too_many, added, few_frames, IsWithin}
 use Rattle.thread_cct.proofs.Paths.{count_of, frames_of, HasSome, paths_more, samples_one, frames_one, some_frames, some_known, paths_few}
 
 abbrev pub Tables : Type 0
@@ -56,17 +57,17 @@ tables_more harts samples s own =
     let one_more : List Counted = count_one s.raw (of_hart old s.hart) in
     same_lists (count_sample old s) (tables_of harts all) (length-set old s.hart one_more ∙ many harts samples ∙ sym (many harts all))
     (λ k d less.
-      let length_new = length-set old s.hart one_more in
-      let length_old = many harts samples in
-      let within : k < harts = omega (arith, less, length_new, length_old) in
-      let own_within : s.hart < length old = omega (arith, own, length_old) in
-      (elim (eqb_tells s.hart k) as (λ _. slice_index_or (count_sample old s) k d ≡ paths_at all k) [
-        | inl own_hart ↦
-            ap (λ (h : ℕ). slice_index_or (count_sample old s) h d) (sym own_hart.1) ∙ get_or-set_same old s.hart one_more d own_within
-            ∙ ap (count_one s.raw) (table_at harts samples s.hart [] own) ∙ own_more samples s k own_hart.1 own_hart.0
-        | inr apart ↦
-            get_or-set_other old s.hart k one_more d (λ e. apart.1 (sym e)) ∙ table_at harts samples k d within ∙ others_stay samples s k apart.0
-      ]) ∙ sym (table_at harts all k d within))
+    let length_new = length-set old s.hart one_more in
+    let length_old = many harts samples in
+    let within : k < harts = omega (arith, less, length_new, length_old) in
+    let own_within : s.hart < length old = omega (arith, own, length_old) in
+    (elim (eqb_tells s.hart k) as (λ _. slice_index_or (count_sample old s) k d ≡ paths_at all k) [
+      | inl own_hart ↦
+          ap (λ (h : ℕ). slice_index_or (count_sample old s) h d) (sym own_hart.1) ∙ get_or-set_same old s.hart one_more d own_within
+          ∙ ap (count_one s.raw) (table_at harts samples s.hart [] own) ∙ own_more samples s k own_hart.1 own_hart.0
+      | inr apart ↦
+          get_or-set_other old s.hart k one_more d (λ e. apart.1 (sym e)) ∙ table_at harts samples k d within ∙ others_stay samples s k apart.0
+    ]) ∙ sym (table_at harts all k d within))
 
 -- the distinct paths of the samples so far and of one more
 pub distinct_more : (harts : ℕ) (samples : List HartRaw) (s : HartRaw) → s.hart < harts → count_sample (distinct harts samples) s ≡ distinct harts (samples ++ s ∷ [])
@@ -197,8 +198,8 @@ pub none_added : (harts : ℕ) (tables : Tables) → length tables ≡ harts →
 unfolding distinct
 none_added harts tables is empty =
     same_lists tables (tables_of harts []) (is ∙ sym (many harts [])) (λ k d less.
-      let within : k < harts = omega (arith, less, is) in
-      All-get_or IsEmpty tables k d less empty ∙ sym (table_at harts [] k d within))
+    let within : k < harts = omega (arith, less, is) in
+    All-get_or IsEmpty tables k d less empty ∙ sym (table_at harts [] k d within))
 
 no_sum : (f : Counted → ℕ) (tables : Tables) → All IsEmpty tables → sum_by (sum_by f) tables ≡ 0
 no_sum f [] empty = refl

@@ -3,7 +3,8 @@ use Rattle.std.specs.Prelude.{◌≡◌, ℕ, ◌+◌, ◌<◌, ◌≤◌, ◌^�
 use Rattle.std.specs.List.{list_any}
 use Rattle.scope_types.specs.declared.frame.Counted.{Counted}
 use Rattle.scope_types.specs.Raw.{Raw, same_raw}
-use Rattle.scope_types.specs.Distinct.{HartRaw, frames_in, most_path_frames}
+use Rattle.scope_types.specs.Distinct.{HartRaw, frames_in}
+use Rattle.scope_types.specs.Limits.{most_path_frames}
 use Rattle.thread_cct.specs.declared.ccts.TooManyFrames.{TooManyFrames}
 
 -- whether a raw path is there

@@ -1,6 +1,7 @@
 ghost use Rattle.std.specs.Prelude.{◌≡◌, ◌+◌, ◌<◌, ◌∷◌, ◌++◌, [], false, if◌then◌else◌, List, length, slice_get, Some, IfOk, OnOk, OnErr};
 ghost use Rattle.prof_bytes.specs.Outcome.{Gives};
-ghost use Rattle.scope_types.specs.Distinct.{HartRaw, distinct, samples_in, most_samples};
+ghost use Rattle.scope_types.specs.Distinct.{HartRaw, distinct, samples_in};
+ghost use Rattle.scope_types.specs.Limits.{most_samples};
 ghost use Rattle.thread_cct.specs.Adding.{added, count_sample, few_frames, has_path, of_hart};
 
 use crate::table::PathTable;

@@ -23,7 +23,7 @@ use Rattle.tree_types.specs.Planes.{kinds, profile_entry, context_entry, node_va
 use Rattle.tree_types.specs.Naming.{Naming, procs_used, files_used}
 use Rattle.tree_types.specs.Database.{content_of}
 use Rattle.tree_types.specs.PathsOf.{entry_paths, is_exclusive, paths_of}
-use Rattle.tree_types.specs.Laws.{Alike}
+use Rattle.scope_types.specs.Alike.{Alike}
 use Rattle.tree_types.specs.TopDown.{header, row, percent, label, top_down}
 use Rattle.tree_types.proofs.Sorting.{has, bool_same, same_sorted, equal_from_is, has-from_Contains}
 use Rattle.tree_types.proofs.Counting.{one, count_by-cons, count_none, count_never, count_once, sums_swap}

@@ -1,6 +1,7 @@
 //! The whole content of a list of call paths, by the plain bodies.
 ghost use Rattle.std.specs.Prelude.{◌≡◌, ◌<◌, ◌≤◌, ◌^◌, length, map, IfOk};
 ghost use Rattle.scope_types.specs.CallPaths.{each_path};
+ghost use Rattle.scope_types.specs.Limits.{most_samples};
 ghost use Rattle.tree_types.specs.Nodes.{nodes, no_parent};
 ghost use Rattle.tree_types.specs.Planes.{profile_plane, context_plane, context_of};
 ghost use Rattle.tree_types.specs.Naming.{Naming};
@@ -22,7 +23,7 @@ fn profiles_of(
     entries: &[Entry],
     tree: &[ScopePath],
 ) -> Result<ProfilePlane, Memory>
-    requires few { length (each_path entries.now) ≤ 2 ^ 20 }
+    requires few { length (each_path entries.now) ≤ most_samples }
     requires nodes { tree.now ≡ nodes (each_path entries.now) }
     requires numbers { length tree.now ≤ no_parent }
     ensures { IfOk result (λ plane. plane ≡ profile_plane period harts (each_path entries.now)) }
@@ -41,7 +42,7 @@ fn contexts_of(
     entries: &[Entry],
     tree: &[ScopePath],
 ) -> Result<ContextPlane, Memory>
-    requires { length (each_path entries.now) ≤ 2 ^ 20 }
+    requires { length (each_path entries.now) ≤ most_samples }
     ensures { IfOk result (λ plane. plane ≡ map (context_of period harts (each_path entries.now)) tree.now) }
 {
     let mut columns = Vec::new(alloc);
@@ -64,7 +65,7 @@ pub fn content_of_paths(
     entries: &[Entry],
     tree: &[ScopePath],
 ) -> Result<Content, Memory>
-    requires few { length (each_path entries.now) ≤ 2 ^ 20 }
+    requires few { length (each_path entries.now) ≤ most_samples }
     requires nodes { tree.now ≡ nodes (each_path entries.now) }
     requires numbers { length tree.now ≤ no_parent }
     ensures parts { IfOk result (λ content. content ≡ record { period = period; harts = harts; names = names; nodes = node_list (each_path entries.now); profiles = profile_plane period harts (each_path entries.now); contexts = context_plane period harts (each_path entries.now) }) }

@@ -4,6 +4,7 @@ ghost use Rattle.std.specs.Prelude.{◌≡◌, ℕ, ◌+◌, ◌*◌, ◌<◌, �
 ghost use Rattle.std.specs.Ordering.{is_eq};
 ghost use Rattle.scope_types.specs.Order.{path_order};
 ghost use Rattle.scope_types.specs.CallPaths.{each_path};
+ghost use Rattle.scope_types.specs.Limits.{most_samples};
 ghost use Rattle.tree_types.specs.Ascending.{put, put_all};
 ghost use Rattle.tree_types.specs.Paths.{after, is_proc, prefixes, rest_passes};
 ghost use Rattle.tree_types.specs.Nodes.{nodes, no_parent, number_of, own_scope, parent_number};
@@ -92,7 +93,7 @@ pub fn total_of(entries: &[Entry]) -> u64
 /// count. One walk over all entries.
 #[tactic(auto, using(crate::proofs::Bounds::small_product, crate::proofs::Entries::count_steps))]
 pub fn value_of(period: u32, entries: &[Entry], hart: u32, n: &[Scope], kind: Kind) -> u64
-    requires { length (each_path entries.now) ≤ 2 ^ 20 }
+    requires { length (each_path entries.now) ≤ most_samples }
     ensures value { result ≡ value period (each_path entries.now) hart n.now kind }
     ensures small { result < 2 ^ 52 }
 {

@@ -2,6 +2,7 @@
 ghost use Rattle.std.specs.Prelude.{◌≡◌, ℕ, ◌+◌, ◌*◌, ◌<◌, ◌≤◌, ◌^◌, ◌++◌, ◌∷◌, [], ◌==◌, not, List, length, map, filter, OnOk, IfOk, slice_index_or};
 ghost use Rattle.std.specs.List.{flat_map, enumerate_from};
 ghost use Rattle.scope_types.specs.CallPaths.{each_path};
+ghost use Rattle.scope_types.specs.Limits.{most_samples};
 ghost use Rattle.tree_types.specs.Nodes.{nodes};
 ghost use Rattle.tree_types.specs.Values.{value};
 ghost use Rattle.tree_types.specs.Planes.{profile_entry, context_entry, profile_of, context_of, kind_column, node_values, other_than_zero};
@@ -31,7 +32,7 @@ fn put_kind(
     n: &[Scope],
     kind: Kind,
 ) -> Result<(), Memory>
-    requires { length (each_path entries.now) ≤ 2 ^ 20 }
+    requires { length (each_path entries.now) ≤ most_samples }
     ensures { OnOk result (out.new.items ≡ out.old.items ++ other_than_zero (profile_entry number kind (value period (each_path entries.now) hart n.now kind) ∷ [])) }
 {
     let value = value_of(period, entries, hart, n, kind);
@@ -55,7 +56,7 @@ fn put_node(
     number: u32,
     n: &[Scope],
 ) -> Result<(), Memory>
-    requires { length (each_path entries.now) ≤ 2 ^ 20 }
+    requires { length (each_path entries.now) ≤ most_samples }
     ensures { OnOk result (out.new.items ≡ out.old.items ++ other_than_zero (node_values period (each_path entries.now) hart (number, n.now))) }
 {
     put_kind(out, period, entries, hart, number, n, Kind::Exclusive)?;
@@ -72,7 +73,7 @@ pub fn column_of(
     hart: u32,
     tree: &[ScopePath],
 ) -> Result<Vec<ProfileEntry>, Memory>
-    requires few { length (each_path entries.now) ≤ 2 ^ 20 }
+    requires few { length (each_path entries.now) ≤ most_samples }
     requires nodes { tree.now ≡ nodes (each_path entries.now) }
     requires numbers { length tree.now < 2 ^ 32 }
     ensures { IfOk result (λ es. es.items ≡ profile_of period (each_path entries.now) hart) }
@@ -103,7 +104,7 @@ fn put_kind_by_hart(
     n: &[Scope],
     kind: Kind,
 ) -> Result<(), Memory>
-    requires { length (each_path entries.now) ≤ 2 ^ 20 }
+    requires { length (each_path entries.now) ≤ most_samples }
     ensures { OnOk result (out.new.items ≡ out.old.items ++ kind_column period harts (each_path entries.now) n.now kind) }
 {
     for hart in 0..harts {
@@ -122,7 +123,7 @@ pub fn context_column_of(
     entries: &[Entry],
     n: &[Scope],
 ) -> Result<Vec<ContextEntry>, Memory>
-    requires { length (each_path entries.now) ≤ 2 ^ 20 }
+    requires { length (each_path entries.now) ≤ most_samples }
     ensures { IfOk result (λ es. es.items ≡ context_of period harts (each_path entries.now) n.now) }
 {
     let mut out = Vec::new(alloc);

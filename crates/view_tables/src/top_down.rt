@@ -2,6 +2,7 @@
 //! thousands of them.
 ghost use Rattle.std.specs.Prelude.{◌≡◌, ◌<◌, ◌≤◌, ◌^◌, ◌+◌, ◌*◌, ◌++◌, ◌∷◌, [], length, codes, decimal, find, OnOk, IfOk};
 ghost use Rattle.scope_types.specs.CallPaths.{each_path};
+ghost use Rattle.scope_types.specs.Limits.{most_samples};
 ghost use Rattle.tree_types.specs.Nodes.{nodes};
 ghost use Rattle.tree_types.specs.Values.{value};
 ghost use Rattle.std.specs.Option.{option_copied};
@@ -196,7 +197,7 @@ fn label_of(alloc: Global, names: &Names, scope: Scope) -> Result<Vec<u8>, Memor
 /// A value of a node, summed over the harts.
 #[tactic(auto, using(crate::proofs::OverHarts::harts_steps))]
 fn value_over_harts(period: u32, harts: u32, entries: &[Entry], n: &[Scope], kind: Kind) -> u64
-    requires few { length (each_path entries.now) ≤ 2 ^ 20 }
+    requires few { length (each_path entries.now) ≤ most_samples }
     ensures value { result ≡ over_harts period harts (each_path entries.now) n.now kind }
     ensures small { result ≤ 2 ^ 52 }
 {
@@ -216,7 +217,7 @@ fn put_node_row(
     entries: &[Entry],
     n: &[Scope],
 ) -> Result<(), Memory>
-    requires few { length (each_path entries.now) ≤ 2 ^ 20 }
+    requires few { length (each_path entries.now) ≤ most_samples }
     requires some { 0 < length (each_path entries.now) }
     requires period { 0 < period }
     requires level { length n.now < 2 ^ 62 }
@@ -250,7 +251,7 @@ pub fn top_down_table(
     entries: &[Entry],
     tree: &[ScopePath],
 ) -> Result<Vec<u8>, Memory>
-    requires few { length (each_path entries.now) ≤ 2 ^ 20 }
+    requires few { length (each_path entries.now) ≤ most_samples }
     requires nodes { tree.now ≡ nodes (each_path entries.now) }
     requires period { 0 < period }
     ensures { IfOk result (λ text. text.items ≡ top_down period harts (naming_in names.now) (each_path entries.now)) }

@@ -8,7 +8,8 @@ use Rattle.rv_run.specs.Progress.{to_come}
 use Rattle.sample_clock.specs.declared.clock.Sample.{Sample}
 use Rattle.sample_clock.specs.declared.clock.Advance.{Advance}
 use Rattle.sample_clock.specs.declared.clock.Advance.TheVariants as advances
-use Rattle.sample_clock.specs.Samples.{Paths, is_sampled, sample_of, most_samples}
+use Rattle.sample_clock.specs.Samples.{Paths, is_sampled, sample_of}
+use Rattle.scope_types.specs.Limits.{most_samples}
 use Rattle.sample_clock.specs.Clock.{Sampling, Unsampled}
 
 -- the ordinal of a hart's next sample: the least multiple of the period above what it retired

@@ -1,8 +1,8 @@
-use Rattle.std.proofs.Common.{◌≡◌, ◌+◌, ◌<◌, ◌≤◌, ℕ, Bool, true, false, cond, List, Ok, length, subst, sym, ap, ◌∙◌, arith}
-use Rattle.scope_types.specs.declared.frame.Frame.{Frame}
+use Rattle.std.proofs.Common.{◌≡◌, ◌+◌, ◌<◌, ◌≤◌, ℕ, Bool, true, false, cond, Ok, length, subst, sym, ap, ◌∙◌, arith}
 use Rattle.scope_types.specs.Raw.{Raw}
-use Rattle.scope_types.specs.Distinct.{HartRaw, most_path_frames, samples_in}
-use Rattle.thread_cct.specs.Adding.{IsWithin, count_sample, has_path, of_hart}
+use Rattle.scope_types.specs.Distinct.{HartRaw, samples_in}
+use Rattle.scope_types.specs.Limits.{most_path_frames}
+use Rattle.thread_cct.specs.Adding.{count_sample}
 use Rattle.thread_cct.proofs.Tables.{Tables, all_for, known, too_much, few_enough, samples_more, within_known, within_new}
 use Rattle.thread_cct.proofs.ccts.Ccts.add.Goals as goal
 
