@@ -3,65 +3,65 @@ use Rattle.std.proofs.Common.{◌≡◌, ℕ, zero, suc, ◌+◌, ◌-◌, ◌�
 use Rattle.std.proofs.Math.Seq.{take-suc, take-length}
 use Rattle.std.proofs.lemmas.Bool.{le-leb}
 use Rattle.std.proofs.lemmas.Bool.Decides.{leb_tells}
-use Rattle.dwarf_line.specs.declared.registers.MatrixRow.{MatrixRow}
-use Rattle.dwarf_line.specs.declared.rows.Best.{Best}
+use Rattle.dwarf_line.specs.declared.registers.LineRow.{LineRow}
+use Rattle.dwarf_line.specs.declared.rows.BestRow.{BestRow}
 use Rattle.dwarf_line.specs.Sequences.{row_at}
-use Rattle.dwarf_line.specs.Best.{better}
-use Rattle.dwarf_line.specs.Rising.{zero_row, address_at, Rises, IsSplit}
+use Rattle.dwarf_line.specs.private.BestRow.{better}
+use Rattle.dwarf_line.specs.private.Rising.{zero_row, address_at, Rises, IsSplit}
 use Rattle.dwarf_line.proofs.BestRows.{best_of, best_push}
 
-abbrev best_up_to : List MatrixRow → ℕ → Best
+abbrev best_up_to : List LineRow → ℕ → BestRow
 best_up_to rows zero = record { greatest = 0; found = None }
 best_up_to rows (suc j) = record { greatest = address_at rows j; found = Some (get_or rows j zero_row) }
 
-taken : (at : ℕ) (best : Best) (y : MatrixRow) → y.address ≤ at → best.greatest ≤ y.address → better at best y ≡ record { greatest = y.address; found = Some y }
+taken : (at : ℕ) (best : BestRow) (y : LineRow) → y.address ≤ at → best.greatest ≤ y.address → better at best y ≡ record { greatest = y.address; found = Some y }
 taken at best y here up = rw (le-leb y.address at here, le-leb best.greatest y.address up) refl
 
-left : (at : ℕ) (best : Best) (y : MatrixRow) → at < y.address → better at best y ≡ best
+left : (at : ℕ) (best : BestRow) (y : LineRow) → at < y.address → better at best y ≡ best
 left at best y past = elim (leb_tells y.address at) [ inl here ↦ absurd (omega (arith, here.1)) | inr above ↦ rw above.0 refl ]
 
-starts : (rows : List MatrixRow) (j : ℕ) → Rises rows → j < length rows → (best_up_to rows j).greatest ≤ address_at rows j
+starts : (rows : List LineRow) (j : ℕ) → Rises rows → j < length rows → (best_up_to rows j).greatest ≤ address_at rows j
 starts rows zero rises lt = omega arith
 starts rows (suc j) rises lt = rises j (suc j) (omega arith) lt
 
-best_below : (at : ℕ) (rows : List MatrixRow) (j : ℕ) → Rises rows → j ≤ length rows → ((i : ℕ) → i < j → address_at rows i ≤ at) → best_of at (take j rows) ≡ best_up_to rows j
+best_below : (at : ℕ) (rows : List LineRow) (j : ℕ) → Rises rows → j ≤ length rows → ((i : ℕ) → i < j → address_at rows i ≤ at) → best_of at (take j rows) ≡ best_up_to rows j
 best_below at rows zero rises le below = refl
 best_below at rows (suc j) rises le below =
-    let y : MatrixRow = get_or rows j zero_row in
+    let y : LineRow = get_or rows j zero_row in
     let earlier = best_below at rows j rises (omega arith) (λ i lt. below i (omega arith)) in
-    ap (best_of at) (take-suc rows j zero_row (omega arith)) ∙ sym (best_push at (take j rows) y) ∙ ap (λ (b : Best). better at b y) earlier
+    ap (best_of at) (take-suc rows j zero_row (omega arith)) ∙ sym (best_push at (take j rows) y) ∙ ap (λ (b : BestRow). better at b y) earlier
     ∙ taken at (best_up_to rows j) y (below j (omega arith)) (starts rows j rises (omega arith))
 
-best_above : (at : ℕ) (rows : List MatrixRow) (k m : ℕ) → k + m ≤ length rows → ((i : ℕ) → k ≤ i → i < length rows → at < address_at rows i) → best_of at (take (k + m) rows) ≡ best_of at (take k rows)
+best_above : (at : ℕ) (rows : List LineRow) (k m : ℕ) → k + m ≤ length rows → ((i : ℕ) → k ≤ i → i < length rows → at < address_at rows i) → best_of at (take (k + m) rows) ≡ best_of at (take k rows)
 best_above at rows k zero le above = ap (λ (n : ℕ). best_of at (take n rows)) (omega arith)
 best_above at rows k (suc m) le above =
-    let y : MatrixRow = get_or rows (k + m) zero_row in
+    let y : LineRow = get_or rows (k + m) zero_row in
     let n : k + suc m ≡ suc (k + m) = omega arith in
     ap (λ (i : ℕ). best_of at (take i rows)) n ∙ ap (best_of at) (take-suc rows (k + m) zero_row (omega arith)) ∙ sym (best_push at (take (k + m) rows) y)
     ∙ left at (best_of at (take (k + m) rows)) y (above (k + m) (omega arith) (omega arith)) ∙ best_above at rows k m (omega arith) above
 
-abbrev pub row_before : List MatrixRow → ℕ → Option MatrixRow
+abbrev pub row_before : List LineRow → ℕ → Option LineRow
 row_before rows zero = None
 row_before rows (suc j) = Some (get_or rows j zero_row)
 
-found_up_to : (rows : List MatrixRow) (k : ℕ) → (best_up_to rows k).found ≡ row_before rows k
+found_up_to : (rows : List LineRow) (k : ℕ) → (best_up_to rows k).found ≡ row_before rows k
 found_up_to rows zero = refl
 found_up_to rows (suc j) = refl
 
-pub in_force : (at : ℕ) (rows : List MatrixRow) (k : ℕ) → Rises rows → IsSplit at rows k → row_at at rows ≡ row_before rows k
+pub in_force : (at : ℕ) (rows : List LineRow) (k : ℕ) → Rises rows → IsSplit at rows k → row_at at rows ≡ row_before rows k
 in_force at rows k rises split =
     let m = length rows - k in
     let whole : take (k + m) rows ≡ rows = ap (λ (n : ℕ). take n rows) (let e : k + m ≡ length rows = omega (arith, split.within) in e) ∙ take-length rows in
-    ap (λ (rs : List MatrixRow). row_at at rs) (sym whole)
-    ∙ ap (λ (b : Best). b.found) (best_above at rows k m (omega (arith, split.within)) split.above ∙ best_below at rows k rises split.within split.below)
+    ap (λ (rs : List LineRow). row_at at rs) (sym whole)
+    ∙ ap (λ (b : BestRow). b.found) (best_above at rows k m (omega (arith, split.within)) split.above ∙ best_below at rows k rises split.within split.below)
     ∙ found_up_to rows k
 
-row_before_some : (rows : List MatrixRow) (k : ℕ) → 0 < k → row_before rows k ≡ Some (get_or rows (k - 1) zero_row)
+row_before_some : (rows : List LineRow) (k : ℕ) → 0 < k → row_before rows k ≡ Some (get_or rows (k - 1) zero_row)
 row_before_some rows zero some = absurd (omega arith)
 row_before_some rows (suc j) some = ap (λ (n : ℕ). Some (get_or rows n zero_row)) (let e : j ≡ suc j - 1 = omega arith in e)
 
-pub none_in_force : (at : ℕ) (rows : List MatrixRow) (k : ℕ) → Rises rows → IsSplit at rows k → k ≡ 0 → None ≡ row_at at rows
+pub none_in_force : (at : ℕ) (rows : List LineRow) (k : ℕ) → Rises rows → IsSplit at rows k → k ≡ 0 → None ≡ row_at at rows
 none_in_force at rows k rises split none = sym (in_force at rows k rises split ∙ ap (row_before rows) none)
 
-pub last_in_force : (at : ℕ) (rows : List MatrixRow) (k : ℕ) → Rises rows → IsSplit at rows k → 0 < k → Some (get_or rows (k - 1) zero_row) ≡ row_at at rows
+pub last_in_force : (at : ℕ) (rows : List LineRow) (k : ℕ) → Rises rows → IsSplit at rows k → 0 < k → Some (get_or rows (k - 1) zero_row) ≡ row_at at rows
 last_in_force at rows k rises split some = sym (in_force at rows k rises split ∙ row_before_some rows k some)

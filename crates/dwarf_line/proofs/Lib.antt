@@ -1,9 +1,10 @@
+pub mod Answered
 pub mod CountedItems
-pub mod FirstFields
-pub mod Operands
-pub mod NamedEntries
+pub mod FirstValues
 pub mod BestRows
-pub mod KeptRows
-pub mod TableLists
-pub mod PlacedTables
 pub mod HalvedRows
+pub mod Forward
+pub mod Fuel
+pub mod CollectedRows
+pub mod TableLists
+pub mod Within

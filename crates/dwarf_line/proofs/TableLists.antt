@@ -10,43 +10,46 @@ use Rattle.prof_bytes.specs.declared.fail.Fail.TheVariants as fails
 use Rattle.elf_image.specs.declared.part.Segment.{Segment}
 use Rattle.dwarf_line.specs.declared.fault.LineFault.{LineFault}
 use Rattle.dwarf_line.specs.declared.sequence.Sequence.{Sequence}
-use Rattle.dwarf_line.specs.declared.registers.MatrixRow.{MatrixRow}
+use Rattle.dwarf_line.specs.declared.registers.LineRow.{LineRow}
 use Rattle.dwarf_line.specs.Names.{Texts}
 use Rattle.dwarf_line.specs.Headers.{Header}
 use Rattle.dwarf_line.specs.Programs.{matrix_from}
-use Rattle.dwarf_line.specs.Runs.{kept_from}
-use Rattle.dwarf_line.specs.Sequences.{sequences_from, counts}
-use Rattle.dwarf_line.specs.Lines.{TableNames, TableRead, headed, lined, table_of, tables_of, lines_of, lines_at}
+use Rattle.dwarf_line.specs.Sequences.{sequences_from, is_counted}
+use Rattle.dwarf_line.specs.Lines.{TableNames, TableRead, names_of, table_by, table_of, tables_of, lines_of, lines_at}
+use Rattle.dwarf_line.specs.private.Collecting.{collected}
+use Rattle.dwarf_line.specs.private.Tables.{behind}
 
--- one table's sequences behind earlier ones
 abbrev Both : Type 0
 Both = List TableNames × List Sequence
+
+abbrev Reads : Type 0
+Reads = Result (List TableRead) LineFault
+
+-- ---- one table's sequences behind earlier ones
 
 abbrev pub with_names : TableNames → Result (List Sequence) LineFault → Result (List TableNames × List Sequence) LineFault
 with_names names read = read >>= (λ sequences. Ok (names ∷ [], sequences))
 
-by_matrix : (segments : List Segment) (offset : ℕ) (header : Header) (old : List Sequence) (matrix : Result (List MatrixRow) LineFault)
-    → with_names (record { offset = offset; directories = header.directories; files = header.files }) (kept_from segments offset old [] matrix)
-    ≡ lined [] old (matrix >>= (λ rows. Ok (record { names = record { offset = offset; directories = header.directories; files = header.files }; sequences = filter (counts segments) (sequences_from offset [] rows) } ∷ [])))
-by_matrix segments offset header old (Ok rows) =
-    let kept : List Sequence = filter (counts segments) (sequences_from offset [] rows) in
-    ap (λ (qs : List Sequence). Ok (record { offset = offset; directories = header.directories; files = header.files } ∷ [], old ++ qs)) (sym (append-nil kept))
-by_matrix segments offset header old (Err f) = refl
+by_matrix : (segments : List Segment) (offset : ℕ) (names : TableNames) (old : List Sequence) (matrix : Result (List LineRow) LineFault)
+    → with_names names (collected (record { segments = segments; sequences = old; table = offset; rows = [] }) matrix)
+    ≡ behind [] old (matrix >>= (λ rows. Ok (record { names = names; sequences = filter (is_counted segments) (sequences_from offset [] rows) } ∷ [])))
+by_matrix segments offset names old (Ok rows) =
+    let kept : List Sequence = filter (is_counted segments) (sequences_from offset [] rows) in
+    ap (λ (qs : List Sequence). Ok (names ∷ [], old ++ qs)) (sym (append-nil kept))
+by_matrix segments offset names old (Err f) = refl
 
-pub headed_is : (segments : List Segment) (offset : ℕ) (header : Header) (old : List Sequence)
-    → lined [] old (headed segments offset (Some header)) ≡ with_names (record { offset = offset; directories = header.directories; files = header.files }) (kept_from segments offset old [] (matrix_from header.params header.lengths header.program))
-headed_is segments offset header old = sym (by_matrix segments offset header old (matrix_from header.params header.lengths header.program))
+pub table_is : (segments : List Segment) (offset : ℕ) (header : Header) (old : List Sequence)
+    → behind [] old (table_by segments offset (Some header)) ≡ with_names (names_of offset header) (collected (record { segments = segments; sequences = old; table = offset; rows = [] }) (matrix_from header.encoding header.program))
+table_is segments offset header old = sym (by_matrix segments offset (names_of offset header) old (matrix_from header.encoding header.program))
 
--- tables behind others
+-- ---- tables behind others
+
 abbrev pub both : List TableNames → List Sequence → Both
 both names sequences = (names, sequences)
 
-lined_ok : Both → Result Both LineFault
-lined_ok b = Ok b
-
-reads_of : (names : List TableNames) (sequences new : List Sequence) (got : List TableNames) (read : Result (List TableRead) LineFault)
-    → lined [] sequences read ≡ Ok (both got new) → (reads : List TableRead) × (read ≡ Ok reads) × (got ≡ map (λ t. t.names) reads) × (new ≡ sequences ++ flat_map (λ t. t.sequences) reads)
-reads_of names sequences new got (Ok reads) e = (reads, refl, ap (λ (r : Result Both LineFault). first_in r) (sym e), ap (λ (r : Result Both LineFault). second_in r) (sym e))
+reads_of : (sequences new : List Sequence) (got : List TableNames) (read : Reads)
+    → behind [] sequences read ≡ Ok (both got new) → (reads : List TableRead) × (read ≡ Ok reads) × (got ≡ map (λ t. t.names) reads) × (new ≡ sequences ++ flat_map (λ t. t.sequences) reads)
+reads_of sequences new got (Ok reads) e = (reads, refl, ap (λ (r : Result Both LineFault). first_in r) (sym e), ap (λ (r : Result Both LineFault). second_in r) (sym e))
   where
     first_in : Result Both LineFault → List TableNames
     first_in (Ok b) = b.0
@@ -55,61 +58,62 @@ reads_of names sequences new got (Ok reads) e = (reads, refl, ap (λ (r : Result
     second_in : Result Both LineFault → List Sequence
     second_in (Ok b) = b.1
     second_in (Err f) = []
-reads_of names sequences new got (Err f) e = absurd cc
+reads_of sequences new got (Err f) e = absurd cc
 
-regroup : (names : List TableNames) (sequences : List Sequence) (reads : List TableRead) (rest : Result (List TableRead) LineFault)
-    → lined names sequences (rest >>= λ others. Ok (reads ++ others)) ≡ lined (names ++ map (λ t. t.names) reads) (sequences ++ flat_map (λ t. t.sequences) reads) rest
+regroup : (names : List TableNames) (sequences : List Sequence) (reads : List TableRead) (rest : Reads)
+    → behind names sequences (rest >>= λ others. Ok (reads ++ others)) ≡ behind (names ++ map (λ t. t.names) reads) (sequences ++ flat_map (λ t. t.sequences) reads) rest
 regroup names sequences reads (Ok others) =
     ap₂ (λ (n : List TableNames) (q : List Sequence). Ok (both n q))
     (ap (λ (n : List TableNames). names ++ n) (map-append (λ (t : TableRead). t.names) reads others) ∙ sym (append_assoc names (map (λ t. t.names) reads) (map (λ t. t.names) others)))
     (ap (λ (q : List Sequence). sequences ++ q) (flat_map-append (λ (t : TableRead). t.sequences) reads others) ∙ sym (append_assoc sequences (flat_map (λ t. t.sequences) reads) (flat_map (λ t. t.sequences) others)))
 regroup names sequences reads (Err f) = refl
 
-more_by : (names got : List TableNames) (sequences new : List Sequence) (reads : List TableRead) (one rest : Result (List TableRead) LineFault)
+more_by : (names got : List TableNames) (sequences new : List Sequence) (reads : List TableRead) (one rest : Reads)
     → one ≡ Ok reads → got ≡ map (λ t. t.names) reads → new ≡ sequences ++ flat_map (λ t. t.sequences) reads
-    → lined names sequences (one >>= (λ table. rest >>= (λ others. Ok (table ++ others)))) ≡ lined (names ++ got) new rest
+    → behind names sequences (one >>= (λ table. rest >>= (λ others. Ok (table ++ others)))) ≡ behind (names ++ got) new rest
 more_by names got sequences new reads one rest e f g = rw (e, f, g) (regroup names sequences reads rest)
 
 pub one_more : (line : List ℕ) (texts : Texts) (segments : List Segment) (names got : List TableNames) (sequences new : List Sequence) (offset : ℕ) (offsets : List ℕ)
-    → lined [] sequences (table_of line texts segments offset) ≡ Ok (both got new)
-    → lined names sequences (tables_of line texts segments (offset ∷ offsets)) ≡ lined (names ++ got) new (tables_of line texts segments offsets)
+    → behind [] sequences (table_of line texts segments offset) ≡ Ok (both got new)
+    → behind names sequences (tables_of line texts segments (offset ∷ offsets)) ≡ behind (names ++ got) new (tables_of line texts segments offsets)
 unfolding tables_of
 one_more line texts segments names got sequences new offset offsets e =
-    let r = reads_of names sequences new got (table_of line texts segments offset) e in
+    let r = reads_of sequences new got (table_of line texts segments offset) e in
     more_by names got sequences new r.0 (table_of line texts segments offset) (tables_of line texts segments offsets) r.1 r.2 r.3
 
 pub fails_here : (fail : Fail LineFault) (line : List ℕ) (texts : Texts) (segments : List Segment) (names : List TableNames) (sequences : List Sequence) (offset : ℕ) (offsets : List ℕ)
-    → FailsBy fail (lined [] sequences (table_of line texts segments offset))
-    → FailsBy fail (lined names sequences (tables_of line texts segments (offset ∷ offsets)))
+    → FailsBy fail (behind [] sequences (table_of line texts segments offset))
+    → FailsBy fail (behind names sequences (tables_of line texts segments (offset ∷ offsets)))
 unfolding tables_of
-fails_here fails.Memory line texts segments names sequences offset offsets e = tt
+fails_here (fails.Memory memory) line texts segments names sequences offset offsets e = tt
 fails_here (fails.Fault fault) line texts segments names sequences offset offsets e = fails_next fault names sequences (table_of line texts segments offset) (tables_of line texts segments offsets) e
   where
-    fails_next : (g : LineFault) (n : List TableNames) (q : List Sequence) (one rest : Result (List TableRead) LineFault) → lined [] q one ≡ Err g → lined n q (one >>= (λ table. rest >>= (λ others. Ok (table ++ others)))) ≡ Err g
+    fails_next : (g : LineFault) (n : List TableNames) (q : List Sequence) (one rest : Reads) → behind [] q one ≡ Err g → behind n q (one >>= (λ table. rest >>= (λ others. Ok (table ++ others)))) ≡ Err g
     fails_next g n q (Ok t) rest h = absurd cc
     fails_next g n q (Err f) rest h = cc
 
-pub none_left : (line : List ℕ) (texts : Texts) (segments : List Segment) (names : List TableNames) (sequences : List Sequence) → lined names sequences (tables_of line texts segments []) ≡ Ok (both names sequences)
+pub none_left : (line : List ℕ) (texts : Texts) (segments : List Segment) (names : List TableNames) (sequences : List Sequence) → behind names sequences (tables_of line texts segments []) ≡ Ok (both names sequences)
 unfolding tables_of
 none_left line texts segments names sequences = ap₂ (λ (n : List TableNames) (q : List Sequence). Ok (both n q)) (append-nil names) (append-nil sequences)
 
-lines_by : (names : List TableNames) (sequences : List Sequence) (reads : List TableRead) (read : Result (List TableRead) LineFault)
+-- ---- what was read is the lines of the tables
+
+lines_by : (names : List TableNames) (sequences : List Sequence) (reads : List TableRead) (read : Reads)
     → read ≡ Ok reads → names ≡ map (λ t. t.names) reads → sequences ≡ flat_map (λ t. t.sequences) reads
     → (read >>= (λ rs. Ok (lines_of rs))) ≡ Ok (record { tables = names; sequences = sequences })
 lines_by names sequences reads read e f g = rw (e, f, g) refl
 
--- what was read is the lines of the tables
 pub lines_are : (line : List ℕ) (texts : Texts) (segments : List Segment) (offsets : List ℕ) (names : List TableNames) (sequences : List Sequence)
-    → lined [] [] (tables_of line texts segments offsets) ≡ Ok (both names sequences) → lines_at line texts segments offsets ≡ Ok (record { tables = names; sequences = sequences })
+    → behind [] [] (tables_of line texts segments offsets) ≡ Ok (both names sequences) → lines_at line texts segments offsets ≡ Ok (record { tables = names; sequences = sequences })
 lines_are line texts segments offsets names sequences e =
-    let r = reads_of [] [] sequences names (tables_of line texts segments offsets) e in
+    let r = reads_of [] sequences names (tables_of line texts segments offsets) e in
     lines_by names sequences r.0 (tables_of line texts segments offsets) r.1 r.2 r.3
 
 pub lines_fail : (fail : Fail LineFault) (line : List ℕ) (texts : Texts) (segments : List Segment) (offsets : List ℕ)
-    → FailsBy fail (lined [] [] (tables_of line texts segments offsets)) → FailsBy fail (lines_at line texts segments offsets)
-lines_fail fails.Memory line texts segments offsets e = tt
+    → FailsBy fail (behind [] [] (tables_of line texts segments offsets)) → FailsBy fail (lines_at line texts segments offsets)
+lines_fail (fails.Memory memory) line texts segments offsets e = tt
 lines_fail (fails.Fault fault) line texts segments offsets e = failed (tables_of line texts segments offsets) e
   where
-    failed : (read : Result (List TableRead) LineFault) → lined [] [] read ≡ Err fault → (read >>= (λ reads. Ok (lines_of reads))) ≡ Err fault
+    failed : (read : Reads) → behind [] [] read ≡ Err fault → (read >>= (λ reads. Ok (lines_of reads))) ≡ Err fault
     failed (Ok reads) h = absurd cc
     failed (Err f) h = cc

@@ -1,13 +1,6 @@
-pub mod Counted
 pub mod Names
-pub mod Fields
 pub mod Headers
 pub mod Programs
 pub mod Sequences
 pub mod Lines
-pub mod Views
-pub mod Moves
-pub mod Best
-pub mod Runs
-pub mod Tables
-pub mod Rising
+pub mod private

@@ -1,50 +1,57 @@
 -- The line tables at some offsets. DWARF 5, section 6.2.
-use Rattle.std.specs.Prelude.{ℕ, ◌==◌, ◌||◌, nat_lt, List, [], ◌∷◌, ◌++◌, length, take, find, filter, map, slice_get, slice_index, Option, Some, None, option_map, option_and_then, unwrap_or, Result, Ok, Err, codes, if◌then◌else◌}
+use Rattle.std.specs.Prelude.{ℕ, ◌==◌, ◌||◌, List, [], ◌∷◌, ◌++◌, length, take, find, filter, map, slice_get, slice_index, Option, Some, None, option_map, unwrap_or, Result, Ok, codes, if◌then◌else◌}
+use Rattle.std.specs.Option.{option_and_then}
 use Rattle.std.specs.List.{flat_map}
 use Rattle.prof_bytes.specs.Outcome.{◌>>=◌}
+use Rattle.dwarf_forms.specs.Sections.{input_at}
 use Rattle.elf_image.specs.declared.part.Segment.{Segment}
 use Rattle.dwarf_line.specs.declared.fault.LineFault.{LineFault}
 use Rattle.dwarf_line.specs.declared.sequence.Sequence.{Sequence}
-use Rattle.dwarf_line.specs.Names.{Texts, Named}
+use Rattle.dwarf_line.specs.Names.{Texts, NamedPath}
 use Rattle.dwarf_line.specs.Headers.{Header, header_from}
 use Rattle.dwarf_line.specs.Programs.{matrix_from}
-use Rattle.dwarf_line.specs.Sequences.{sequences_from, counts}
+use Rattle.dwarf_line.specs.Sequences.{sequences_from, is_counted}
 
--- the files of a table of version 5
+-- ---- tables
+
+-- the directories and files of a table of version 5
 pub record TableNames : Type 0 where
   pub offset : ℕ
-  pub directories : List Named
-  pub files : List Named
+  pub directories : List NamedPath
+  pub file_names : List NamedPath
 
--- a table that is read: its files, and the sequences that count
+-- what is read of a table: its files, and the sequences that count
 pub record TableRead : Type 0 where
   pub names : TableNames
   pub sequences : List Sequence
 
-abbrev pub headed : List Segment → ℕ → Option Header → Result (List TableRead) LineFault
-headed segments offset None = Ok []
-headed segments offset (Some header) =
-    matrix_from header.params header.lengths header.program >>= (λ rows.
-    Ok (record {
-      names = record { offset = offset; directories = header.directories; files = header.files };
-      sequences = filter (counts segments) (sequences_from offset [] rows);
-    } ∷ []))
+abbrev pub names_of : ℕ → Header → TableNames
+names_of offset header = record { offset = offset; directories = header.directories; file_names = header.file_names }
 
--- the table at an offset; nothing where it is of an earlier version
+-- a table by its header
+abbrev pub table_by : List Segment → ℕ → Option Header → Result (List TableRead) LineFault
+table_by segments offset None = Ok []
+table_by segments offset (Some header) = do
+  rows ← matrix_from header.encoding header.program
+  Ok (record {
+    names = names_of offset header;
+    sequences = filter (is_counted segments) (sequences_from offset [] rows);
+  } ∷ [])
+
+-- the table at an offset; nothing where it is of an earlier version. Faults of its header are at that offset
 unfoldable pub table_of : List ℕ → Texts → List Segment → ℕ → Result (List TableRead) LineFault
-table_of line texts segments offset =
-    if nat_lt (length line) offset then Err (record { offset = offset })
-    else header_from texts (record { offset = offset }) (record { whole = line; place = offset }) >>= headed segments offset
+table_of line texts segments offset = do
+  input ← input_at line offset (record { offset = offset })
+  header ← header_from texts input
+  table_by segments offset header
 
 -- the tables at offsets, or the first fault
 unfoldable pub tables_of : List ℕ → Texts → List Segment → List ℕ → Result (List TableRead) LineFault
 tables_of line texts segments [] = Ok []
-tables_of line texts segments (offset ∷ offsets) =
-    table_of line texts segments offset >>= (λ table. tables_of line texts segments offsets >>= (λ others. Ok (table ++ others)))
-
--- the names of the tables and the sequences that count, behind those of earlier tables
-abbrev pub lined : List TableNames → List Sequence → Result (List TableRead) LineFault → Result (List TableNames × List Sequence) LineFault
-lined tables sequences read = read >>= (λ reads. Ok (tables ++ map (λ t. t.names) reads, sequences ++ flat_map (λ t. t.sequences) reads))
+tables_of line texts segments (offset ∷ offsets) = do
+  table ← table_of line texts segments offset
+  others ← tables_of line texts segments offsets
+  Ok (table ++ others)
 
 -- line tables that were read
 pub record Lines : Type 0 where
@@ -56,7 +63,11 @@ lines_of tables = record { tables = map (λ t. t.names) tables; sequences = flat
 
 -- the line tables at offsets
 abbrev pub lines_at : List ℕ → Texts → List Segment → List ℕ → Result Lines LineFault
-lines_at line texts segments offsets = tables_of line texts segments offsets >>= (λ reads. Ok (lines_of reads))
+lines_at line texts segments offsets = do
+  tables ← tables_of line texts segments offsets
+  Ok (lines_of tables)
+
+-- ---- names of files
 
 abbrev pub table_with : List TableNames → ℕ → Option TableNames
 table_with tables offset = find (λ t. t.offset == offset) tables
@@ -68,12 +79,16 @@ unknown_file = codes "<unknown file>"
 abbrev pub joined : List ℕ → List ℕ → List ℕ
 joined directory path = if (length directory == 0) || (slice_index path 0 == 47) then path else directory ++ 47 ∷ path
 
-abbrev pub directory_path : List Named → Option ℕ → List ℕ
-directory_path directories number = unwrap_or (option_map (λ d. d.path) (option_and_then (slice_get directories) number)) []
+abbrev pub directory_path : List NamedPath → Option ℕ → List ℕ
+directory_path directories index =
+    unwrap_or (option_map (λ d. d.path) (option_and_then (slice_get directories) index)) []
 
+-- the name of a file of a table, of at most 4,096 bytes
 abbrev pub file_in : TableNames → ℕ → Option (List ℕ)
-file_in table file = option_map (λ f. take 4096 (joined (directory_path table.directories f.directory) f.path)) (slice_get table.files file)
+file_in table file =
+    option_map (λ f. take 4096 (joined (directory_path table.directories f.directory_index) f.path))
+    (slice_get table.file_names file)
 
--- the name of a file of a table
+-- the name of a file of the table at an offset
 abbrev pub file_name_of : List TableNames → ℕ → ℕ → List ℕ
 file_name_of tables table file = unwrap_or (option_and_then (λ t. file_in t file) (table_with tables table)) unknown_file

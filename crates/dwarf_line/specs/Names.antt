@@ -1,88 +1,106 @@
 -- Directories and files of a line table. DWARF 5, section 6.2.4.1.
-use Rattle.std.specs.Prelude.{ℕ, pos, ◌==◌, ◌&&◌, not, nat_lt, is_some, Bool, List, [], ◌∷◌, length, find, Option, Some, None, option_map, Result, Ok, Err, if◌then◌else◌}
-use Rattle.prof_bytes.specs.Reading.{At, left_of}
+use Rattle.std.specs.Prelude.{ℕ, zero, suc, pos, ◌==◌, nat_le, List, [], ◌∷◌, length, find, Bool, Option, Some, None, option_map, Result, Ok, Err, if◌then◌else◌}
+use Rattle.std.specs.Option.{option_and_then}
+use Rattle.prof_bytes.specs.Reading.{left_of}
+use Rattle.prof_bytes.specs.Fields.{Input, number_from, uleb_from}
 use Rattle.prof_bytes.specs.Outcome.{◌>>=◌}
-use Rattle.dwarf_forms.specs.declared.value.FormFault.{FormFault}
-use Rattle.dwarf_forms.specs.Fields.{number_from, uleb_from}
-use Rattle.dwarf_forms.specs.Forms.{shape_of}
+use Rattle.elf_image.specs.declared.debug_parts.DebugParts.{DebugParts}
+use Rattle.dwarf_forms.specs.Forms.{is_value_form}
 use Rattle.dwarf_forms.specs.Sections.{text_in}
-use Rattle.dwarf_forms.specs.Values.{Held, Number, Name, StrAt, LineStrAt, value_from}
+use Rattle.dwarf_forms.specs.Values.{FormValue, Number, Name, StrAt, LineStrAt, value_from}
+use Rattle.dwarf_line.specs.declared.constants.TheConstants.{DW_LNCT_path, DW_LNCT_directory_index}
 use Rattle.dwarf_line.specs.declared.fault.LineFault.{LineFault}
-use Rattle.dwarf_line.specs.declared.names.Format.{Format}
-use Rattle.dwarf_line.specs.Counted.{counted_from}
+use Rattle.dwarf_line.specs.declared.names.EntryFormat.{EntryFormat}
+
+-- ---- reading
+
+-- the input, unless a rule is broken
+abbrev pub checked : {F : Type 0} → Bool → Input F → Result (Input F) F
+checked rule input = if rule then Ok input else Err input.missing
+
+-- a value that is there
+abbrev pub present : {X F : Type 0} → Input F → Option X → Result (X × Input F) F
+present input None = Err input.missing
+present input (Some x) = Ok (x, input)
+
+-- so many items that follow one another
+unfoldable pub counted_from : {X F : Type 0} → (Input F → Result (X × Input F) F) → ℕ → Input F → Result (List X × Input F) F
+counted_from item zero input = Ok ([], input)
+counted_from item (suc count) input = do
+  (first, input) ← item input
+  (others, input) ← counted_from item count input
+  Ok (first ∷ others, input)
+
+-- ---- entries
 
 -- the sections of texts
 pub record Texts : Type 0 where
   pub str_bytes : List ℕ
   pub line_str : List ℕ
 
--- a directory or a file: its path, and the number of a directory
-pub record Named : Type 0 where
+abbrev pub texts_of : DebugParts → Texts
+texts_of parts = record { str_bytes = parts.str_bytes.now; line_str = parts.line_str.now }
+
+-- a directory or a file: its path, and the index of the directory that the path is relative to
+pub record NamedPath : Type 0 where
   pub path : List ℕ
-  pub directory : Option ℕ
+  pub directory_index : Option ℕ
 
--- a form of which a value stands in the table
-abbrev pub is_stored : ℕ → Bool
-is_stored form = is_some (shape_of form) && not (form == 0x21)
+-- a content type code, and the form of its values
+unfoldable pub format_from : Input LineFault → Result (EntryFormat × Input LineFault) LineFault
+format_from input = do
+  (content_type, input) ← uleb_from input
+  (form, input) ← uleb_from input
+  input ← checked (is_value_form form) input
+  Ok (record { content_type = content_type; form = form }, input)
 
-abbrev pub checked : LineFault → ℕ → ℕ → At → Result (Format × At) LineFault
-checked fault content form at = if is_stored form then Ok (record { content = content; form = form }, at) else Err fault
+-- the values of an entry, each beside its content type
+unfoldable pub values_from : List EntryFormat → Input LineFault → Result (List (ℕ × FormValue) × Input LineFault) LineFault
+values_from [] input = Ok ([], input)
+values_from (format ∷ formats) input = do
+  (value, input) ← value_from input.missing format.form (pos 0) input
+  (others, input) ← values_from formats input
+  Ok ((format.content_type, value) ∷ others, input)
 
--- a kind of content and its form
-unfoldable pub format_from : LineFault → At → Result (Format × At) LineFault
-format_from fault at = uleb_from fault at >>= (λ content. uleb_from fault content.1 >>= (λ form. checked fault content.0 form.0 form.1))
+-- the first value of a content type
+abbrev pub first_of : ℕ → List (ℕ × FormValue) → Option FormValue
+first_of content_type values = option_map (λ v. v.1) (find (λ v. v.0 == content_type) values)
 
-abbrev pub or_bad : LineFault → Result (Held × At) FormFault → Result (Held × At) LineFault
-or_bad fault (Ok value) = Ok value
-or_bad fault (Err other) = Err fault
+-- a path by its value; an entry without one has the empty path
+abbrev pub path_of : Texts → Option FormValue → Option (List ℕ)
+path_of texts None = Some []
+path_of texts (Some (Name text)) = Some text
+path_of texts (Some (StrAt offset)) = text_in texts.str_bytes offset
+path_of texts (Some (LineStrAt offset)) = text_in texts.line_str offset
+path_of texts (Some other) = None
 
--- the values of an entry, each beside its kind of content
-unfoldable pub fields_from : LineFault → List Format → At → Result (List (ℕ × Held) × At) LineFault
-fields_from fault [] at = Ok ([], at)
-fields_from fault (format ∷ formats) at =
-    or_bad fault (value_from format.form (pos 0) at) >>= (λ value.
-    fields_from fault formats value.1 >>= (λ others.
-    Ok ((format.content, value.0) ∷ others.0, others.1)))
+-- a directory index by its value; an entry need not have one
+abbrev pub directory_index_of : Option FormValue → Option (Option ℕ)
+directory_index_of None = Some None
+directory_index_of (Some (Number number)) = Some (Some number)
+directory_index_of (Some other) = None
 
--- the first value of a kind of content: 1 is DW_LNCT_path, 2 is DW_LNCT_directory_index
-abbrev pub content_of : ℕ → List (ℕ × Held) → Option Held
-content_of content fields = option_map (λ f. f.1) (find (λ f. f.0 == content) fields)
+abbrev pub with_index : List ℕ → Option (Option ℕ) → Option NamedPath
+with_index path index = option_map (λ i. record { path = path; directory_index = i }) index
 
-abbrev pub or_fault_of : LineFault → Option (List ℕ) → Result (List ℕ) LineFault
-or_fault_of fault None = Err fault
-or_fault_of fault (Some text) = Ok text
-
--- a path; an entry without one has the empty path
-abbrev pub path_of : Texts → LineFault → Option Held → Result (List ℕ) LineFault
-path_of texts fault None = Ok []
-path_of texts fault (Some (Name text)) = Ok text
-path_of texts fault (Some (StrAt n)) = or_fault_of fault (text_in texts.str_bytes n)
-path_of texts fault (Some (LineStrAt n)) = or_fault_of fault (text_in texts.line_str n)
-path_of texts fault (Some other) = Err fault
-
-abbrev pub directory_of : LineFault → Option Held → Result (Option ℕ) LineFault
-directory_of fault None = Ok None
-directory_of fault (Some (Number n)) = Ok (Some n)
-directory_of fault (Some other) = Err fault
-
-abbrev pub named_of : Texts → LineFault → List (ℕ × Held) → Result Named LineFault
-named_of texts fault fields =
-    path_of texts fault (content_of 1 fields) >>= (λ path.
-    directory_of fault (content_of 2 fields) >>= (λ directory.
-    Ok (record { path = path; directory = directory })))
+-- the directory or file of these values
+abbrev pub named_by : Texts → List (ℕ × FormValue) → Option NamedPath
+named_by texts values =
+    option_and_then (λ path. with_index path (directory_index_of (first_of DW_LNCT_directory_index values)))
+    (path_of texts (first_of DW_LNCT_path values))
 
 -- an entry by its formats
-unfoldable pub named_from : Texts → LineFault → List Format → At → Result (Named × At) LineFault
-named_from texts fault formats at = fields_from fault formats at >>= (λ fields. named_of texts fault fields.0 >>= (λ named. Ok (named, fields.1)))
+unfoldable pub entry_from : Texts → List EntryFormat → Input LineFault → Result (NamedPath × Input LineFault) LineFault
+entry_from texts formats input = do
+  (values, input) ← values_from formats input
+  present input (named_by texts values)
 
-abbrev pub entries_from : Texts → LineFault → List Format → ℕ → At → Result (List Named × At) LineFault
-entries_from texts fault formats count at =
-    if nat_lt (length (left_of at)) count then Err fault else counted_from (named_from texts fault formats) count at
-
--- a list of directories or files: the formats, and as many entries as are counted
-unfoldable pub names_from : Texts → LineFault → At → Result (List Named × At) LineFault
-names_from texts fault at =
-    number_from fault 1 at >>= (λ kinds.
-    counted_from (format_from fault) kinds.0 kinds.1 >>= (λ formats.
-    uleb_from fault formats.1 >>= (λ count.
-    entries_from texts fault formats.0 count.0 count.1)))
+-- a list of directories or of files: the formats, and as many entries as are counted. The count is at most that of the
+-- bytes behind it
+unfoldable pub names_from : Texts → Input LineFault → Result (List NamedPath × Input LineFault) LineFault
+names_from texts input = do
+  (format_count, input) ← number_from 1 input
+  (formats, input) ← counted_from format_from format_count input
+  (count, input) ← uleb_from input
+  input ← checked (nat_le count (length (left_of input.at))) input
+  counted_from (entry_from texts formats) count input

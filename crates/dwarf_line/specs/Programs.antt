@@ -1,111 +1,152 @@
--- The line number program: each opcode changes the registers and may add a row to the matrix. DWARF 5, sections 6.2.2 and 6.2.5.
-use Rattle.std.specs.Prelude.{ℕ, zero, suc, ◌+◌, ◌-◌, ◌*◌, ◌/◌, ◌%◌, ◌^◌, ◌==◌, ◌||◌, true, false, nat_lt, nat_le, List, [], ◌∷◌, length, drop, slice_index, Result, Ok, Err, if◌then◌else◌}
+-- The line number program: each opcode changes the registers of the state machine and may append a row to the matrix.
+-- DWARF 5, sections 6.2.2 and 6.2.5.
+use Rattle.std.specs.Prelude.{ℕ, zero, suc, ◌+◌, ◌-◌, ◌*◌, ◌/◌, ◌%◌, ◌^◌, ◌==◌, ◌||◌, not, true, false, nat_lt, nat_le, List, [], ◌++◌, length, drop, slice_index, option_to_list, Option, Some, None, Result, Ok, if◌then◌else◌}
 use Rattle.prof_bytes.specs.Number.{number_in}
-use Rattle.prof_bytes.specs.Reading.{At}
+use Rattle.prof_bytes.specs.Reading.{left_of}
+use Rattle.prof_bytes.specs.Fields.{Input, number_from, uleb_from, sleb_from, bytes_from}
 use Rattle.prof_bytes.specs.Outcome.{◌>>=◌}
-use Rattle.dwarf_forms.specs.Fields.{number_from, uleb_from, sleb_from, bytes_from}
-use Rattle.dwarf_forms.specs.Runs.{Step, run_to_end}
 use Rattle.dwarf_forms.specs.Sections.{wrapped}
+use Rattle.dwarf_line.specs.declared.constants.TheConstants.{DW_LNS_copy, DW_LNS_advance_pc, DW_LNS_advance_line, DW_LNS_set_file, DW_LNS_set_column, DW_LNS_negate_stmt, DW_LNS_set_basic_block, DW_LNS_const_add_pc, DW_LNS_fixed_advance_pc, DW_LNS_set_prologue_end, DW_LNS_set_epilogue_begin, DW_LNS_set_isa, DW_LNE_end_sequence, DW_LNE_set_address}
 use Rattle.dwarf_line.specs.declared.fault.LineFault.{LineFault}
-use Rattle.dwarf_line.specs.declared.header.Params.{Params}
-use Rattle.dwarf_line.specs.declared.registers.Registers.{Registers}
-use Rattle.dwarf_line.specs.declared.registers.MatrixRow.{MatrixRow}
+use Rattle.dwarf_line.specs.declared.registers.LineRegisters.{LineRegisters}
+use Rattle.dwarf_line.specs.declared.registers.LineRow.{LineRow}
+use Rattle.dwarf_line.specs.declared.registers.OpcodeEffect.{OpcodeEffect}
+use Rattle.dwarf_line.specs.Names.{checked, present, counted_from}
+use Rattle.dwarf_line.specs.Headers.{Encoding}
 
-abbrev pub Moved : Type 0
-Moved = Step Registers MatrixRow LineFault
+-- ---- the state machine
 
--- the registers at the start of each sequence
-abbrev pub start : Registers
+-- the registers at the beginning of each sequence
+abbrev pub start : LineRegisters
 start = record { address = 0; file = 1; line = 1 }
 
 -- sums of 32 bits
-abbrev pub at_address : ℕ → Registers → Registers
-at_address more regs = record { address = (regs.address + more) % 2 ^ 32; file = regs.file; line = regs.line }
+abbrev pub at_address : ℕ → LineRegisters → LineRegisters
+at_address more registers = record registers { address = (registers.address + more) % 2 ^ 32 }
 
-abbrev pub at_line : ℕ → Registers → Registers
-at_line more regs = record { address = regs.address; file = regs.file; line = (regs.line + more) % 2 ^ 32 }
+abbrev pub at_line : ℕ → LineRegisters → LineRegisters
+at_line more registers = record registers { line = (registers.line + more) % 2 ^ 32 }
 
-abbrev pub row_of : Registers → MatrixRow
-row_of regs = record { address = regs.address; file = regs.file; line = regs.line; end_sequence = false }
+abbrev pub row_of : LineRegisters → LineRow
+row_of registers = record { address = registers.address; file = registers.file; line = registers.line; end_sequence = false }
 
-abbrev pub end_of : Registers → MatrixRow
-end_of regs = record { address = regs.address; file = regs.file; line = regs.line; end_sequence = true }
+abbrev pub end_of : LineRegisters → LineRow
+end_of registers = record { address = registers.address; file = registers.file; line = registers.line; end_sequence = true }
+
+-- a row is appended, and the registers are as they were
+abbrev pub appended : LineRegisters → OpcodeEffect
+appended registers = record { row = Some (row_of registers); registers = registers }
+
+-- no row is appended
+abbrev pub changed : LineRegisters → OpcodeEffect
+changed registers = record { row = None; registers = registers }
+
+-- ---- special opcodes: section 6.2.5.1. They are adjusted: the opcode base is taken off
 
 -- the line base, a signed byte, as a number to be added modulo 2^32
 abbrev pub signed_byte : ℕ → ℕ
 signed_byte byte = if nat_lt byte 128 then byte else 2 ^ 32 - 256 + byte
 
--- how far an adjusted opcode moves the address and the line
-abbrev pub address_advance : Params → ℕ → ℕ
-address_advance params adjusted = adjusted / params.line_range * params.minimum
+abbrev pub address_advance : Encoding → ℕ → ℕ
+address_advance encoding adjusted = adjusted / encoding.line_range * encoding.minimum_instruction_length
 
-abbrev pub line_advance : Params → ℕ → ℕ
-line_advance params adjusted = signed_byte params.line_base + adjusted % params.line_range
+abbrev pub line_advance : Encoding → ℕ → ℕ
+line_advance encoding adjusted = signed_byte encoding.line_base + adjusted % encoding.line_range
 
--- registers that changed, with no row
-abbrev pub changed : Registers → At → Moved
-changed regs at = Ok ([], regs, at)
+abbrev pub special : Encoding → ℕ → LineRegisters → OpcodeEffect
+special encoding adjusted registers =
+    appended (at_line (line_advance encoding adjusted) (at_address (address_advance encoding adjusted) registers))
 
--- a row, and the registers as they are
-abbrev pub added : Registers → At → Moved
-added regs at = Ok (row_of regs ∷ [], regs, at)
+-- ---- standard opcodes: section 6.2.5.2
 
-abbrev pub special : Params → ℕ → Registers → At → Moved
-special params adjusted regs at = added (at_line (line_advance params adjusted) (at_address (address_advance params adjusted) regs)) at
+abbrev pub advance_pc_from : Encoding → LineRegisters → Input LineFault → Result (LineRegisters × Input LineFault) LineFault
+advance_pc_from encoding registers input = do
+  (advance, input) ← uleb_from input
+  Ok (at_address (advance * encoding.minimum_instruction_length) registers, input)
 
--- an operand, and what the registers are then
-abbrev pub by_uleb : LineFault → (ℕ → Registers) → At → Moved
-by_uleb fault next at = uleb_from fault at >>= (λ n. changed (next n.0) n.1)
+abbrev pub advance_line_from : LineRegisters → Input LineFault → Result (LineRegisters × Input LineFault) LineFault
+advance_line_from registers input = do
+  (advance, input) ← sleb_from input
+  Ok (at_line (wrapped advance) registers, input)
 
-abbrev pub set_file : LineFault → Registers → At → Moved
-set_file fault regs at =
-    uleb_from fault at >>= (λ n. if nat_lt n.0 (2 ^ 32) then changed (record { address = regs.address; file = n.0; line = regs.line }) n.1 else Err fault)
+abbrev pub set_file_from : LineRegisters → Input LineFault → Result (LineRegisters × Input LineFault) LineFault
+set_file_from registers input = do
+  (file, input) ← uleb_from input
+  input ← checked (nat_lt file (2 ^ 32)) input
+  Ok (record registers { file = file }, input)
 
--- so many operands that are passed over
-unfoldable pub operands_from : LineFault → ℕ → At → Result At LineFault
-operands_from fault zero at = Ok at
-operands_from fault (suc count) at = uleb_from fault at >>= (λ n. operands_from fault count n.1)
+abbrev pub fixed_advance_pc_from : LineRegisters → Input LineFault → Result (LineRegisters × Input LineFault) LineFault
+fixed_advance_pc_from registers input = do
+  (advance, input) ← number_from 2 input
+  Ok (at_address advance registers, input)
 
-abbrev pub passed : LineFault → ℕ → Registers → At → Moved
-passed fault count regs at = operands_from fault count at >>= (λ after. changed regs after)
+-- so many operands are passed over
+abbrev pub skipped_from : ℕ → LineRegisters → Input LineFault → Result (LineRegisters × Input LineFault) LineFault
+skipped_from count registers input = do
+  (operands, input) ← counted_from uleb_from count input
+  Ok (registers, input)
 
--- the standard opcodes
-abbrev pub standard : Params → List ℕ → LineFault → ℕ → Registers → At → Moved
-standard params lengths fault opcode regs at =
-    if opcode == 1 then added regs at  -- DW_LNS_copy
-    else (if opcode == 2 then by_uleb fault (λ n. at_address (n * params.minimum) regs) at  -- DW_LNS_advance_pc
-    else (if opcode == 3 then sleb_from fault at >>= (λ z. changed (at_line (wrapped z.0) regs) z.1)  -- DW_LNS_advance_line
-    else (if opcode == 4 then set_file fault regs at  -- DW_LNS_set_file
-    else (if opcode == 8 then changed (at_address (address_advance params (255 - params.opcode_base)) regs) at  -- DW_LNS_const_add_pc
-    else (if opcode == 9 then number_from fault 2 at >>= (λ n. changed (at_address n.0 regs) n.1)  -- DW_LNS_fixed_advance_pc
-    else (if (opcode == 5) || (opcode == 12) then passed fault 1 regs at  -- DW_LNS_set_column, DW_LNS_set_isa
-    else (if (opcode == 6) || (opcode == 7) || (opcode == 10) || (opcode == 11) then changed regs at  -- flags that are not kept
-    else passed fault (slice_index lengths (opcode - 1)) regs at)))))))
+-- the registers after a standard opcode other than DW_LNS_copy. Those of a column, an instruction set and the flags are
+-- not kept; an opcode of a later version has as many operands as its length says
+abbrev pub registers_from : Encoding → ℕ → LineRegisters → Input LineFault → Result (LineRegisters × Input LineFault) LineFault
+registers_from encoding opcode registers input =
+    if opcode == DW_LNS_advance_pc then advance_pc_from encoding registers input
+    else if opcode == DW_LNS_advance_line then advance_line_from registers input
+    else if opcode == DW_LNS_set_file then set_file_from registers input
+    else if opcode == DW_LNS_const_add_pc then
+    Ok (at_address (address_advance encoding (255 - encoding.opcode_base)) registers, input)
+    else if opcode == DW_LNS_fixed_advance_pc then fixed_advance_pc_from registers input
+    else if (opcode == DW_LNS_set_column) || (opcode == DW_LNS_set_isa) then skipped_from 1 registers input
+    else if (opcode == DW_LNS_negate_stmt) || (opcode == DW_LNS_set_basic_block)
+    || (opcode == DW_LNS_set_prologue_end) || (opcode == DW_LNS_set_epilogue_begin) then Ok (registers, input)
+    else skipped_from (slice_index encoding.standard_opcode_lengths (opcode - 1)) registers input
 
--- the extended opcodes, by their bytes
-abbrev pub extended : LineFault → List ℕ → Registers → At → Moved
-extended fault body regs at =
-    if slice_index body 0 == 1 then Ok (end_of regs ∷ [], start, at)  -- DW_LNE_end_sequence
-    else (if slice_index body 0 == 2 then  -- DW_LNE_set_address
-    (if length body == 5 then changed (record { address = number_in 4 (drop 1 body); file = regs.file; line = regs.line }) at else Err fault)
-    else changed regs at)
+abbrev pub standard_from : Encoding → ℕ → LineRegisters → Input LineFault → Result (OpcodeEffect × Input LineFault) LineFault
+standard_from encoding opcode registers input =
+    if opcode == DW_LNS_copy then Ok (appended registers, input)
+    else registers_from encoding opcode registers input >>= (λ after. Ok (changed after.0, after.1))
 
--- an extended opcode: its size, and as many bytes
-unfoldable pub extended_from : LineFault → Registers → At → Moved
-extended_from fault regs at =
-    uleb_from fault at >>= (λ size.
-    if size.0 == 0 then Err fault else (bytes_from fault size.0 size.1 >>= (λ body. extended fault body.0 regs body.1)))
+-- ---- extended opcodes: section 6.2.5.3
 
-abbrev pub by_opcode : Params → List ℕ → LineFault → ℕ → Registers → At → Moved
-by_opcode params lengths fault opcode regs at =
-    if nat_le params.opcode_base opcode then special params (opcode - params.opcode_base) regs at
-    else (if opcode == 0 then extended_from fault regs at else standard params lengths fault opcode regs at)
+-- an extended opcode by its bytes; nothing where the address of DW_LNE_set_address has other than four bytes. Others are
+-- passed over
+abbrev pub extended : List ℕ → LineRegisters → Option OpcodeEffect
+extended body registers =
+    if slice_index body 0 == DW_LNE_end_sequence then Some (record { row = Some (end_of registers); registers = start })
+    else if slice_index body 0 == DW_LNE_set_address then
+    (if length body == 5 then Some (changed (record registers { address = number_in 4 (drop 1 body) })) else None)
+    else Some (changed registers)
 
--- the opcode at a place
-unfoldable pub opcode_from : Params → List ℕ → Registers → At → Moved
-opcode_from params lengths regs at =
-    number_from (record { offset = at.place }) 1 at >>= (λ opcode. by_opcode params lengths (record { offset = at.place }) opcode.0 regs opcode.1)
+-- a size, which is not 0, and as many bytes
+unfoldable pub extended_from : LineRegisters → Input LineFault → Result (OpcodeEffect × Input LineFault) LineFault
+extended_from registers input = do
+  (size, input) ← uleb_from input
+  input ← checked (not (size == 0)) input
+  (body, input) ← bytes_from size input
+  present input (extended body registers)
 
--- the matrix of a program
-abbrev pub matrix_from : Params → List ℕ → At → Result (List MatrixRow) LineFault
-matrix_from params lengths at = run_to_end (opcode_from params lengths) start at
+-- ---- the program
+
+abbrev pub by_opcode : Encoding → ℕ → LineRegisters → Input LineFault → Result (OpcodeEffect × Input LineFault) LineFault
+by_opcode encoding opcode registers input =
+    if nat_le encoding.opcode_base opcode then Ok (special encoding (opcode - encoding.opcode_base) registers, input)
+    else if opcode == 0 then extended_from registers input
+    else standard_from encoding opcode registers input
+
+-- an opcode; its fault is at its offset
+unfoldable pub opcode_from : Encoding → LineRegisters → Input LineFault → Result (OpcodeEffect × Input LineFault) LineFault
+opcode_from encoding registers input = do
+  (opcode, input) ← number_from 1 (record input { missing = record { offset = input.at.offset } })
+  by_opcode encoding opcode registers input
+
+-- the rows that a program appends from here to its end, in at most `room` opcodes
+unfoldable pub rows_from : Encoding → ℕ → LineRegisters → Input LineFault → Result (List LineRow) LineFault
+rows_from encoding zero registers input = Ok []
+rows_from encoding (suc room) registers input = if length (left_of input.at) == 0 then Ok [] else do
+  (effect, input) ← opcode_from encoding registers input
+  rows ← rows_from encoding room effect.registers input
+  Ok (option_to_list effect.row ++ rows)
+
+-- the matrix of a program: each opcode has one byte or more, so there are at most as many of them as bytes
+abbrev pub matrix_from : Encoding → Input LineFault → Result (List LineRow) LineFault
+matrix_from encoding program = rows_from encoding (length (left_of program.at)) start program

@@ -1,12 +1,15 @@
 //! Line tables: the rows of line number programs and the names of files, by DWARF 5, section 6.2.
 //!
 //! It promises that the line of an address is that of the row in force there, over the whole matrix of
-//! every table, or the first fault in ascending order of tables. Below stand `dwarf_forms`,
-//! `elf_image`, `scope_types` and `prof_bytes`.
+//! every table, or the first fault in ascending order of tables. Below stand `dwarf_forms`, `elf_image`,
+//! `address_ranges`, `scope_types` and `prof_bytes`.
 #![tactic(auto)]
 
+pub mod constants;
+mod encoding;
 mod fault;
 mod header;
+pub mod laws;
 mod lines;
 mod names;
 mod program;

@@ -1,20 +1,21 @@
 //! The line tables at some offsets, and what is asked of them.
-ghost use Rattle.std.specs.Prelude.{◌≡◌, ◌++◌, ◌<◌, option_to_list, ◌∷◌, [], IfOk, OnOk, Some, None, is_some, map, option_map, option_and_then, slice_get, length, take, unwrap_or};
-ghost use Rattle.std.specs.List.{flat_map};
+ghost use Rattle.std.specs.Prelude.{◌≡◌, ◌<◌, ◌^◌, ◌++◌, ◌∷◌, [], option_to_list, IfOk, OnOk, is_some, length, take, unwrap_or};
+ghost use Rattle.std.specs.Option.{option_copied};
 ghost use Rattle.prof_bytes.specs.Outcome.{Gives};
-ghost use Rattle.dwarf_line.specs.Views.{texts_of, named, header_of};
-ghost use Rattle.dwarf_line.specs.Lines.{headed, lined, table_of, tables_of, lines_at, table_with, joined, directory_path, file_in, file_name_of, unknown_file};
+ghost use Rattle.dwarf_line.specs.Names.{texts_of};
+ghost use Rattle.dwarf_line.specs.Lines.{table_by, table_of, tables_of, lines_at, table_with, joined, directory_path, file_in, file_name_of, unknown_file};
 ghost use Rattle.dwarf_line.specs.Sequences.{line_at};
-ghost use Rattle.dwarf_line.specs.Tables.{names_of};
+ghost use Rattle.dwarf_line.specs.private.Tables.{behind};
 
 use crate::fault::LineFault;
-use crate::header::{Header, read_header};
-use crate::names::Entry;
-use crate::run::{Frame, run};
-use crate::sequence::{Sequence, Sequences};
-use crate::tables::{Table, Tables};
-use dwarf_forms::cursor_at;
-use elf_image::{DebugParts, Image, Segment};
+use crate::header::{LineHeader, read_header};
+use crate::names::NameEntry;
+use crate::run::run;
+use crate::sequence::{Collector, Sequence};
+use crate::tables::Table;
+use address_ranges::RangeTable;
+use dwarf_forms::reader_at;
+use elf_image::{DebugParts, Image};
 use prof_bytes::{Fail, Memory, Text};
 use scope_types::LineId;
 use std::alloc::Global;
@@ -26,8 +27,8 @@ const NAME_LIMIT: usize = 4096;
 /// Line tables that were read. They lend the sections' bytes.
 #[derive(Drop)]
 pub struct LineTable<'a> {
-    tables: Tables<'a>,
-    sequences: Sequences,
+    tables: RangeTable<Table<'a>>,
+    sequences: RangeTable<Sequence>,
 }
 
 impl<'a> Model for LineTable<'a> {
@@ -39,40 +40,55 @@ impl<'a> Model for LineTable<'a> {
 }
 
 impl<'a> LineTable<'a> {
-    /// Whether a table of version 5 was read at this offset. Takes no memory, and time as the logarithm
-    /// of the tables.
+    /// The table at an offset.
+    fn table(&self, offset: u32) -> Option<&Table<'a>>
+        ensures { option_copied result ≡ table_with self.now.tables offset }
+    {
+        self.tables.first(offset)
+    }
+
+    /// Whether a table of version 5 was read at this offset of `.debug_line`. Takes no memory, and time as
+    /// the logarithm of the number of tables.
     pub fn has_table(&self, table: u32) -> bool
         ensures { result ≡ is_some (table_with self.now.tables table) }
     {
-        self.tables.at(table).is_some()
+        self.table(table).is_some()
     }
 
-    /// The line of the row in force at an address. Takes no memory.
+    /// The line of the row in force at an address. Takes no memory, and time as the logarithm of the number
+    /// of sequences and of the rows of the one that holds the address; where the addresses of its rows
+    /// fall, they are looked through.
     pub fn row_at(&self, pc: u32) -> Option<LineId>
         ensures { result ≡ line_at self.now.sequences pc }
     {
-        self.sequences.line_at(pc)
+        let sequence = self.sequences.first(pc)?;
+        let row = sequence.rows.row_at(pc)?;
+        Some(LineId::Row {
+            table: sequence.table,
+            file: row.file,
+            line: row.line,
+        })
     }
 
-    /// The name of a file of a table, of at most 4,096 bytes. The table is found in time as the logarithm
-    /// of the tables.
+    /// The name of a file of the table at an offset, of at most 4,096 bytes; `<unknown file>` where there is
+    /// no such table or file. The table is found in time as the logarithm of the number of tables.
     pub fn file_name(&self, alloc: Global, table: u32, file: u32) -> Result<Text, Memory>
         ensures { IfOk result (λ name. name ≡ file_name_of self.now.tables table file) }
     {
-        match self.tables.at(table) {
+        match self.table(table) {
             Some(found) => name_in(alloc, found, file),
             None => Text::of(alloc, b"<unknown file>"),
         }
     }
 }
 
-fn directory_path<'a>(directories: &[Entry<'a>], number: Option<u64>) -> &'a [u8]
-    ensures { result.now ≡ directory_path (map named directories.now) number }
+fn directory_path<'a>(directories: &[NameEntry<'a>], index: Option<u64>) -> &'a [u8]
+    ensures { result.now ≡ directory_path directories.now index }
 {
-    let Some(number) = number else {
+    let Some(index) = index else {
         return b"";
     };
-    match directories.get(number as usize) {
+    match directories.get(index as usize) {
         Some(entry) => entry.path,
         None => b"",
     }
@@ -92,96 +108,88 @@ fn joined(alloc: Global, directory: &[u8], path: &[u8]) -> Result<Text, Memory>
 }
 
 fn name_in(alloc: Global, table: &Table<'_>, file: u32) -> Result<Text, Memory>
-    ensures { IfOk result (λ name. name ≡ unwrap_or (file_in (names_of table.now) file) unknown_file) }
+    ensures { IfOk result (λ name. name ≡ unwrap_or (file_in table.now file) unknown_file) }
 {
-    match table.files.as_slice().get(file as usize) {
+    match table.file_names.as_slice().get(file as usize) {
         Some(entry) => {
-            let directory = directory_path(table.directories.as_slice(), entry.directory);
+            let directory = directory_path(table.directories.as_slice(), entry.directory_index);
             joined(alloc, directory, entry.path)
         }
         None => Text::of(alloc, b"<unknown file>"),
     }
 }
 
-/// Reads the table at an offset; its sequences that count are appended. `None` for a table of an earlier
+/// Runs the program of a table, and keeps its names.
+#[tactic(auto, using(crate::proofs::TableLists::table_is))]
+fn run_header<'a>(
+    header: LineHeader<'a>,
+    offset: u32,
+    collector: &mut Collector<'_, '_>,
+) -> Result<Table<'a>, Fail<LineFault>>
+    requires { length header.program.at.whole < 2 ^ 32 }
+    ensures segments { IfOk result (λ _. collector.new.segments ≡ collector.old.segments) }
+    ensures table { Gives (λ t. (t ∷ [], collector.new.sequences)) result (behind [] collector.old.sequences (table_by collector.old.segments offset (Some header.entry))) }
+{
+    let LineHeader {
+        encoding,
+        directories,
+        file_names,
+        mut program,
+    } = header;
+    collector.begin(offset);
+    run(&encoding, &mut program, collector)?;
+    Ok(Table {
+        offset,
+        directories,
+        file_names,
+    })
+}
+
+/// Reads the table at an offset; its sequences that count are collected. `None` for a table of an earlier
 /// version.
 #[tactic(auto, unfolding(crate::specs::Lines::table_of))]
 fn read_table<'a>(
     alloc: Global,
     line: &'a [u8],
     sections: &DebugParts<'a>,
-    frame: Frame<'_>,
-    sequences: &mut Vec<Sequence>,
+    offset: u32,
+    collector: &mut Collector<'_, '_>,
 ) -> Result<Option<Table<'a>>, Fail<LineFault>>
-    ensures { Gives (λ o. (option_to_list (option_map names_of o), sequences.new.items)) result (lined [] sequences.old.items (table_of line.now (texts_of sections.now) frame.entry.segments.now frame.entry.table)) }
+    requires { length line.now < 2 ^ 32 }
+    ensures segments { IfOk result (λ _. collector.new.segments ≡ collector.old.segments) }
+    ensures table { Gives (λ t. (option_to_list t, collector.new.sequences)) result (behind [] collector.old.sequences (table_of line.now (texts_of sections.now) collector.old.segments offset)) }
 {
-    let offset = frame.table;
     let fault = LineFault { offset };
-    let Some(mut cursor) = cursor_at(line, offset as usize) else {
-        return Err(Fail::Fault(fault));
-    };
-    match read_header(alloc, sections, &mut cursor, fault)? {
+    let mut reader = reader_at(line, offset as usize, fault)?;
+    match read_header(alloc, sections, &mut reader)? {
         None => Ok(None),
-        Some(header) => Ok(Some(run_header(alloc, header, frame, sequences)?)),
+        Some(header) => Ok(Some(run_header(header, offset, collector)?)),
     }
 }
 
-#[tactic(auto, using(crate::proofs::TableLists::headed_is))]
-fn run_header<'a>(
-    alloc: Global,
-    header: Header<'a>,
-    frame: Frame<'_>,
-    sequences: &mut Vec<Sequence>,
-) -> Result<Table<'a>, Fail<LineFault>>
-    requires { 0 < header.params.line_range }
-    ensures { Gives (λ t. (names_of t ∷ [], sequences.new.items)) result (lined [] sequences.old.items (headed frame.entry.segments.now frame.entry.table (Some (header_of header.entry)))) }
-{
-    let Header {
-        params,
-        lengths,
-        directories,
-        files,
-        mut program,
-    } = header;
-    run(alloc, frame, params, lengths, &mut program, sequences)?;
-    Ok(Table {
-        offset: frame.table,
-        directories,
-        files,
-    })
-}
-
-/// The tables at these offsets, in order; the sequences of all of them are appended.
+/// The tables at these offsets, in order; the sequences of all of them are collected.
 fn read_tables<'a>(
     alloc: Global,
     line: &'a [u8],
     sections: &DebugParts<'a>,
-    segments: &[Segment],
     offsets: &[u32],
-    sequences: &mut Vec<Sequence>,
+    collector: &mut Collector<'_, '_>,
 ) -> Result<Vec<Table<'a>>, Fail<LineFault>>
-    ensures { Gives (λ v. (map names_of v.items, sequences.new.items)) result (lined [] sequences.old.items (tables_of line.now (texts_of sections.now) segments.now offsets.now)) }
+    requires { length line.now < 2 ^ 32 }
+    ensures { Gives (λ v. (v.items, collector.new.sequences)) result (behind [] collector.old.sequences (tables_of line.now (texts_of sections.now) collector.old.segments offsets.now)) }
 {
     let mut tables = Vec::new(alloc);
     let mut rest = offsets;
     while let Some((offset, others)) = rest.split_first() {
-        let frame = Frame {
-            table: *offset,
-            segments,
-        };
-        match read_table(alloc, line, sections, frame, sequences) {
-            Err(fail) => return Err(fail),
-            Ok(table) => {
-                push_some(&mut tables, table)?;
-                rest = others;
-            }
-        }
+        let table = read_table(alloc, line, sections, *offset, collector)?;
+        push_some(&mut tables, table)?;
+        rest = others;
     }
     Ok(tables)
 }
 
 fn push_some<'a>(tables: &mut Vec<Table<'a>>, table: Option<Table<'a>>) -> Result<(), Memory>
-    ensures { OnOk result (map names_of tables.new.items ≡ map names_of tables.old.items ++ option_to_list (option_map names_of table.entry)) }
+    ensures { OnOk result (tables.new.items ≡ tables.old.items ++ option_to_list table.entry) }
 {
     if let Some(table) = table {
         tables.push(table)?;
@@ -191,7 +199,7 @@ fn push_some<'a>(tables: &mut Vec<Table<'a>>, table: Option<Table<'a>>) -> Resul
 
 /// The line tables at these offsets of `.debug_line`, each once and ascending, or the first fault in
 /// their order. Of the sequences those are kept that lie within one executed segment of the image.
-/// Linear in the bytes of the tables.
+/// Linear in the bytes of the tables, but for the order of the sequences and of the tables.
 #[tactic(auto, using(crate::proofs::TableLists::lines_are, crate::proofs::TableLists::lines_fail))]
 pub fn read_lines<'a>(
     alloc: Global,
@@ -200,18 +208,12 @@ pub fn read_lines<'a>(
     image: &Image<'_>,
     offsets: &[u32],
 ) -> Result<LineTable<'a>, Fail<LineFault>>
+    requires { length line.now < 2 ^ 31 }
     ensures { Gives (λ lines. lines) result (lines_at line.now (texts_of sections.entry) image.now.segments offsets.now) }
 {
-    let mut sequences = Vec::new(alloc);
-    let tables = read_tables(
-        alloc,
-        line,
-        &sections,
-        image.segments(),
-        offsets,
-        &mut sequences,
-    )?;
-    let sequences = Sequences::of(alloc, sequences)?;
-    let tables = Tables::of(alloc, tables)?;
+    let mut collector = Collector::new(alloc, image);
+    let tables = read_tables(alloc, line, &sections, offsets, &mut collector)?;
+    let sequences = RangeTable::of(alloc, collector.finish())?;
+    let tables = RangeTable::of(alloc, tables)?;
     Ok(LineTable { tables, sequences })
 }

@@ -1,222 +1,205 @@
-//! Directories and files of a line table.
-ghost use Rattle.std.specs.Prelude.{◌≡◌, ◌==◌, ◌-◌, Some, None, Ok, Err, IfOk, OnOk, length, map, option_map, if◌then◌else◌};
-ghost use Rattle.std.specs.Option.{option_or};
-ghost use Rattle.prof_bytes.specs.Outcome.{Gives};
-ghost use Rattle.dwarf_forms.specs.Fields.{GivesAt, GivesFrom};
-ghost use Rattle.dwarf_forms.specs.Values.{held};
-ghost use Rattle.dwarf_line.specs.Counted.{counted_from};
-ghost use Rattle.dwarf_line.specs.Names.{is_stored, checked, format_from, content_of, path_of, directory_of, named_from, entries_from, names_from};
-ghost use Rattle.dwarf_line.specs.Views.{texts_of, named, firsts_of, IsLike};
-ghost use Rattle.dwarf_line.specs.Fields.{first_fields, named_first, counted_names};
+//! Directories and files of a line table (DWARF 5, section 6.2.4.1).
+ghost use Rattle.std.specs.Prelude.{◌≡◌, ◌==◌, Some, None, option_map, if◌then◌else◌};
+ghost use Rattle.std.specs.Option.{option_copied, option_or};
+ghost use Rattle.prof_bytes.specs.Outcome.{GivesAt, GivesFrom};
+ghost use Rattle.dwarf_forms.specs.Values.{form_value};
+ghost use Rattle.dwarf_line.specs.declared.constants.TheConstants.{DW_LNCT_path, DW_LNCT_directory_index};
+ghost use Rattle.dwarf_line.specs.Names.{texts_of, counted_from, format_from, path_of, directory_index_of, entry_from, names_from};
+ghost use Rattle.dwarf_line.specs.private.FirstValues.{values_of, first_values, entry_by};
 
+use crate::constants::{DW_LNCT_directory_index, DW_LNCT_path};
 use crate::fault::LineFault;
-use dwarf_forms::{Value, is_value_form, read_value, text_in};
+use dwarf_forms::{Value, is_value_form, read_form, text_in};
 use elf_image::DebugParts;
-use prof_bytes::{Cursor, Fail};
+use prof_bytes::{Fail, Reader};
 use std::alloc::Global;
+use std::marker::Model;
 
 const EMPTY: &[u8] = b"";
 
-const PATH: u64 = 1;
-
-const DIRECTORY_INDEX: u64 = 2;
-
-/// A kind of content, and the form of its values.
+/// A content type code, and the form of its values.
 #[derive(Clone, Copy)]
-pub(crate) struct Format {
-    pub(crate) content: u64,
+pub(crate) struct EntryFormat {
+    pub(crate) content_type: u64,
     pub(crate) form: u64,
 }
 
-/// A directory or a file: its path, and the number of a directory.
-#[derive(Clone, Copy)]
-pub(crate) struct Entry<'a> {
+/// A directory or a file: its path, and the index of the directory that the path is relative to.
+#[derive(Drop)]
+pub(crate) struct NameEntry<'a> {
     pub(crate) path: &'a [u8],
-    pub(crate) directory: Option<u64>,
+    pub(crate) directory_index: Option<u64>,
+}
+
+impl<'a> Model for NameEntry<'a> {
+    ghost use Rattle.dwarf_line.specs.Names.{NamedPath};
+
+    ghost Value = { NamedPath };
+
+    ghost view = { λ entry. record { path = entry.path.now; directory_index = entry.directory_index } };
 }
 
 #[tactic(auto, unfolding(crate::specs::Names::format_from))]
-fn read_format(cursor: &mut Cursor<'_>, fault: LineFault) -> Result<Format, LineFault>
-    ensures { GivesAt (λ f. f) result cursor.new (format_from fault cursor.old) }
+fn read_format(reader: &mut Reader<'_, LineFault>) -> Result<EntryFormat, LineFault>
+    ensures { GivesAt (λ f. f) result reader.new (format_from reader.old) }
 {
-    let content = cursor.uleb().ok_or(fault)?;
-    let form = cursor.uleb().ok_or(fault)?;
+    let content_type = reader.uleb()?;
+    let form = reader.uleb()?;
     if !is_value_form(form) {
-        return Err(fault);
+        return Err(reader.missing());
     }
-    Ok(Format { content, form })
+    Ok(EntryFormat { content_type, form })
 }
 
 fn formats(
     alloc: Global,
-    cursor: &mut Cursor<'_>,
+    reader: &mut Reader<'_, LineFault>,
     count: u8,
-    fault: LineFault,
-) -> Result<Vec<Format>, Fail<LineFault>>
-    ensures { GivesFrom (λ v. v.items) result cursor.new (counted_from (format_from fault) count cursor.old) }
+) -> Result<Vec<EntryFormat>, Fail<LineFault>>
+    ensures { GivesFrom (λ v. v.items) result reader.new (counted_from format_from count reader.old) }
 {
     let mut formats = Vec::new(alloc);
     for _ in 0..count {
-        match read_format(cursor, fault) {
-            Err(found) => return Err(Fail::Fault(found)),
-            Ok(format) => formats.push(format)?,
-        }
+        formats.push(read_format(reader)?)?;
     }
     Ok(formats)
 }
 
 /// The first path and the first directory index among the values of an entry.
 #[derive(Clone, Copy)]
-struct Firsts<'a> {
+struct EntryValues<'a> {
     path: Option<Value<'a>>,
-    directory: Option<Value<'a>>,
+    directory_index: Option<Value<'a>>,
 }
 
-fn noted<'a>(firsts: Firsts<'a>, content: u64, value: Value<'a>) -> Firsts<'a>
-    ensures path { option_map held result.path ≡ option_or (option_map held firsts.entry.path) (if content == 1 then Some (held value.entry) else None) }
-    ensures directory { option_map held result.directory ≡ option_or (option_map held firsts.entry.directory) (if content == 2 then Some (held value.entry) else None) }
+fn noted<'a>(values: EntryValues<'a>, content_type: u64, value: Value<'a>) -> EntryValues<'a>
+    ensures path { option_map form_value result.path ≡ option_or (option_map form_value values.entry.path) (if content_type == DW_LNCT_path then Some (form_value value.entry) else None) }
+    ensures directory_index { option_map form_value result.directory_index ≡ option_or (option_map form_value values.entry.directory_index) (if content_type == DW_LNCT_directory_index then Some (form_value value.entry) else None) }
 {
-    let Firsts { path, directory } = firsts;
-    if content == PATH && path.is_none() {
-        return Firsts {
+    let EntryValues {
+        path,
+        directory_index,
+    } = values;
+    if content_type == DW_LNCT_path && path.is_none() {
+        return EntryValues {
             path: Some(value),
-            directory,
+            directory_index,
         };
     }
-    if content == DIRECTORY_INDEX && directory.is_none() {
-        return Firsts {
+    if content_type == DW_LNCT_directory_index && directory_index.is_none() {
+        return EntryValues {
             path,
-            directory: Some(value),
+            directory_index: Some(value),
         };
     }
-    Firsts { path, directory }
+    EntryValues {
+        path,
+        directory_index,
+    }
 }
 
-/// The values of an entry by its formats, the first of each kind that counts.
-fn fields<'a>(
-    cursor: &mut Cursor<'a>,
-    formats: &[Format],
-    fault: LineFault,
-) -> Result<Firsts<'a>, LineFault>
-    ensures { GivesAt firsts_of result cursor.new (first_fields fault formats.now cursor.old) }
+/// The values of an entry by its formats, the first of each content type that counts.
+fn entry_values<'a>(
+    reader: &mut Reader<'a, LineFault>,
+    formats: &[EntryFormat],
+) -> Result<EntryValues<'a>, LineFault>
+    ensures { GivesAt values_of result reader.new (first_values formats.now reader.old) }
 {
-    let mut firsts = Firsts {
+    let mut values = EntryValues {
         path: None,
-        directory: None,
+        directory_index: None,
     };
     let mut rest = formats;
     while let Some((format, others)) = rest.split_first() {
-        match read_value(cursor, format.form, 0) {
-            Err(_) => return Err(fault),
-            Ok(value) => {
-                firsts = noted(firsts, format.content, value);
-                rest = others;
-            }
-        }
+        let value = read_form(reader, format.form, 0, reader.missing())?;
+        values = noted(values, format.content_type, value);
+        rest = others;
     }
-    Ok(firsts)
+    Ok(values)
 }
 
-fn path_of<'a>(
-    sections: &DebugParts<'a>,
-    value: Option<Value<'a>>,
-    fault: LineFault,
-) -> Result<&'a [u8], LineFault>
-    ensures { IsLike (λ t. t.now) result (path_of (texts_of sections.now) fault (option_map held value.entry)) }
-{
-    let text = match value {
-        None => Some(EMPTY),
-        Some(Value::Name(text)) => Some(text),
-        Some(Value::StrAt(place)) => text_in(sections.str_bytes, place),
-        Some(Value::LineStrAt(place)) => text_in(sections.line_str, place),
-        Some(_) => None,
-    };
-    text.ok_or(fault)
-}
-
-fn directory_of(value: Option<Value<'_>>, fault: LineFault) -> Result<Option<u64>, LineFault>
-    ensures { result ≡ directory_of fault (option_map held value.entry) }
+/// A path by its value; the empty one where there is no value, and `None` where it isn't a text.
+fn path_of<'a>(sections: &DebugParts<'a>, value: Option<Value<'a>>) -> Option<&'a [u8]>
+    ensures { option_copied result ≡ path_of (texts_of sections.now) (option_map form_value value.entry) }
 {
     match value {
-        None => Ok(None),
-        Some(Value::Number(number)) => Ok(Some(number)),
-        Some(_) => Err(fault),
+        None => Some(EMPTY),
+        Some(Value::Name(text)) => Some(text),
+        Some(Value::StrAt(offset)) => text_in(sections.str_bytes, offset),
+        Some(Value::LineStrAt(offset)) => text_in(sections.line_str, offset),
+        Some(_) => None,
     }
 }
 
-fn entry_of<'a>(
-    sections: &DebugParts<'a>,
-    firsts: Firsts<'a>,
-    fault: LineFault,
-) -> Result<Entry<'a>, LineFault>
-    ensures { IsLike named result (named_first (texts_of sections.now) fault (firsts_of firsts.entry)) }
+/// A directory index by its value; `None` where it isn't a number.
+fn directory_index_of(value: Option<Value<'_>>) -> Option<Option<u64>>
+    ensures { result ≡ directory_index_of (option_map form_value value.entry) }
 {
-    let path = path_of(sections, firsts.path, fault)?;
-    let directory = directory_of(firsts.directory, fault)?;
-    Ok(Entry { path, directory })
+    match value {
+        None => Some(None),
+        Some(Value::Number(number)) => Some(Some(number)),
+        Some(_) => None,
+    }
+}
+
+fn entry_by<'a>(sections: &DebugParts<'a>, values: EntryValues<'a>) -> Option<NameEntry<'a>>
+    ensures { result ≡ entry_by (texts_of sections.now) (values_of values.entry) }
+{
+    let path = path_of(sections, values.path)?;
+    let directory_index = directory_index_of(values.directory_index)?;
+    Some(NameEntry {
+        path,
+        directory_index,
+    })
 }
 
 /// An entry by its formats.
-#[tactic(auto, using(crate::proofs::NamedEntries::named_by_first))]
+#[tactic(auto, using(crate::proofs::FirstValues::entry_by_first))]
 fn read_entry<'a>(
     sections: &DebugParts<'a>,
-    cursor: &mut Cursor<'a>,
-    formats: &[Format],
-    fault: LineFault,
-) -> Result<Entry<'a>, LineFault>
-    ensures { GivesAt named result cursor.new (named_from (texts_of sections.now) fault formats.now cursor.old) }
+    reader: &mut Reader<'a, LineFault>,
+    formats: &[EntryFormat],
+) -> Result<NameEntry<'a>, LineFault>
+    ensures { GivesAt (λ e. e) result reader.new (entry_from (texts_of sections.now) formats.now reader.old) }
 {
-    let firsts = fields(cursor, formats, fault)?;
-    entry_of(sections, firsts, fault)
+    let values = entry_values(reader, formats)?;
+    match entry_by(sections, values) {
+        Some(entry) => Ok(entry),
+        None => Err(reader.missing()),
+    }
 }
 
 fn entries<'a>(
     alloc: Global,
     sections: &DebugParts<'a>,
-    cursor: &mut Cursor<'a>,
-    formats: &[Format],
-    fault: LineFault,
-) -> Result<Vec<Entry<'a>>, Fail<LineFault>>
-    ensures { GivesFrom (λ v. map named v.items) result cursor.new (counted_names (texts_of sections.now) fault formats.now cursor.old) }
+    reader: &mut Reader<'a, LineFault>,
+    formats: &[EntryFormat],
+    count: u64,
+) -> Result<Vec<NameEntry<'a>>, Fail<LineFault>>
+    ensures { GivesFrom (λ v. v.items) result reader.new (counted_from (entry_from (texts_of sections.now) formats.now) count reader.old) }
 {
-    let count = cursor.uleb().ok_or(Fail::Fault(fault))?;
-    if count > cursor.left() as u64 {
-        return Err(Fail::Fault(fault));
-    }
-    entries_by(alloc, sections, cursor, (formats, count), fault)
-}
-
-fn entries_by<'a>(
-    alloc: Global,
-    sections: &DebugParts<'a>,
-    cursor: &mut Cursor<'a>,
-    counted: (&[Format], u64),
-    fault: LineFault,
-) -> Result<Vec<Entry<'a>>, Fail<LineFault>>
-    ensures { GivesFrom (λ v. map named v.items) result cursor.new (counted_from (named_from (texts_of sections.now) fault counted.entry.0.now) counted.entry.1 cursor.old) }
-{
-    let (formats, count) = counted;
-    let mut names = Vec::new(alloc);
+    let mut entries = Vec::new(alloc);
     for _ in 0..count {
-        match read_entry(sections, cursor, formats, fault) {
-            Err(found) => return Err(Fail::Fault(found)),
-            Ok(name) => names.push(name)?,
-        }
+        let entry = read_entry(sections, reader, formats)?;
+        entries.push(entry)?;
     }
-    Ok(names)
+    Ok(entries)
 }
 
-/// A list of directories or files: the formats, and as many entries as are counted.
+/// A list of directories or of files: the formats, and as many entries as are counted.
 #[tactic(auto, unfolding(crate::specs::Names::names_from))]
 pub(crate) fn read_names<'a>(
     alloc: Global,
     sections: &DebugParts<'a>,
-    cursor: &mut Cursor<'a>,
-    fault: LineFault,
-) -> Result<Vec<Entry<'a>>, Fail<LineFault>>
-    ensures { GivesFrom (λ v. map named v.items) result cursor.new (names_from (texts_of sections.now) fault cursor.old) }
+    reader: &mut Reader<'a, LineFault>,
+) -> Result<Vec<NameEntry<'a>>, Fail<LineFault>>
+    ensures { GivesFrom (λ v. v.items) result reader.new (names_from (texts_of sections.now) reader.old) }
 {
-    let kinds = cursor.u8().ok_or(Fail::Fault(fault))?;
-    let formats = formats(alloc, cursor, kinds, fault)?;
-    entries(alloc, sections, cursor, formats.as_slice(), fault)
+    let format_count = reader.u8()?;
+    let formats = formats(alloc, reader, format_count)?;
+    let count = reader.uleb()?;
+    if count > reader.left() as u64 {
+        return Err(Fail::Fault(reader.missing()));
+    }
+    entries(alloc, sections, reader, formats.as_slice(), count)
 }

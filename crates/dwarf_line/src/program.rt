@@ -1,24 +1,26 @@
-//! The line number program.
-ghost use Rattle.std.specs.Prelude.{◌≡◌, ◌<◌, ◌*◌, ◌+◌, ◌%◌, ◌^◌, Ok, slice_index, length, ◌-◌};
-ghost use Rattle.prof_bytes.specs.Outcome.{Gives};
-ghost use Rattle.dwarf_forms.specs.Fields.{GivesAt, uleb_from};
-ghost use Rattle.dwarf_line.specs.Programs.{start, at_address, at_line, row_of, end_of, signed_byte, address_advance, line_advance, changed, added, special, by_uleb, set_file, operands_from, passed, standard, extended, extended_from, by_opcode, opcode_from};
-ghost use Rattle.dwarf_line.specs.Moves.{Moves, PassesTo};
+//! The opcodes of the line number program (DWARF 5, section 6.2.5).
+ghost use Rattle.std.specs.Prelude.{◌≡◌, ◌<◌, ◌^◌, ◌+◌, ◌%◌, length};
+ghost use Rattle.prof_bytes.specs.Outcome.{GivesAt};
+ghost use Rattle.dwarf_line.specs.Programs.{start, at_address, at_line, row_of, end_of, appended, changed, special, advance_pc_from, set_file_from, skipped_from, registers_from, standard_from, extended, extended_from, by_opcode, opcode_from};
 
+use crate::constants::{
+    DW_LNE_end_sequence, DW_LNE_set_address, DW_LNS_advance_line, DW_LNS_advance_pc,
+    DW_LNS_const_add_pc, DW_LNS_copy, DW_LNS_fixed_advance_pc, DW_LNS_negate_stmt,
+    DW_LNS_set_basic_block, DW_LNS_set_column, DW_LNS_set_epilogue_begin, DW_LNS_set_file,
+    DW_LNS_set_isa, DW_LNS_set_prologue_end,
+};
+use crate::encoding::LineEncoding;
 use crate::fault::LineFault;
-use crate::header::Params;
-use crate::registers::{MatrixRow, Registers};
+use crate::registers::{LineRegisters, LineRow, OpcodeEffect};
 use byteorder::{ByteOrder, LittleEndian};
 use dwarf_forms::wrapped;
-use prof_bytes::Cursor;
+use prof_bytes::Reader;
 
-/// The registers after an opcode, and the row that it adds.
-pub(crate) type Move = (Option<MatrixRow>, Registers);
-
-pub(crate) fn start() -> Registers
+/// The registers at the beginning of each sequence.
+pub(crate) fn start() -> LineRegisters
     ensures { result ≡ start }
 {
-    Registers {
+    LineRegisters {
         address: 0,
         file: 1,
         line: 1,
@@ -33,256 +35,242 @@ fn plus(number: u32, more: u128) -> u32
     ((u128::from(number) + more) % (1 << 32)) as u32
 }
 
-fn at_address(regs: Registers, more: u128) -> Registers
+fn at_address(registers: LineRegisters, more: u128) -> LineRegisters
     requires { more < 2 ^ 100 }
-    ensures { result ≡ at_address more regs }
+    ensures { result ≡ at_address more registers }
 {
-    Registers {
-        address: plus(regs.address, more),
-        file: regs.file,
-        line: regs.line,
+    LineRegisters {
+        address: plus(registers.address, more),
+        file: registers.file,
+        line: registers.line,
     }
 }
 
-fn at_line(regs: Registers, more: u32) -> Registers
-    ensures { result ≡ at_line more regs }
+fn at_line(registers: LineRegisters, more: u128) -> LineRegisters
+    requires { more < 2 ^ 100 }
+    ensures { result ≡ at_line more registers }
 {
-    Registers {
-        address: regs.address,
-        file: regs.file,
-        line: plus(regs.line, u128::from(more)),
+    LineRegisters {
+        address: registers.address,
+        file: registers.file,
+        line: plus(registers.line, more),
     }
 }
 
-fn row_of(regs: Registers) -> MatrixRow
-    ensures { result ≡ row_of regs }
+fn row_of(registers: LineRegisters) -> LineRow
+    ensures { result ≡ row_of registers }
 {
-    MatrixRow {
-        address: regs.address,
-        file: regs.file,
-        line: regs.line,
+    LineRow {
+        address: registers.address,
+        file: registers.file,
+        line: registers.line,
         end_sequence: false,
     }
 }
 
-fn end_of(regs: Registers) -> MatrixRow
-    ensures { result ≡ end_of regs }
+fn end_of(registers: LineRegisters) -> LineRow
+    ensures { result ≡ end_of registers }
 {
-    MatrixRow {
-        address: regs.address,
-        file: regs.file,
-        line: regs.line,
+    LineRow {
+        address: registers.address,
+        file: registers.file,
+        line: registers.line,
         end_sequence: true,
     }
 }
 
-fn signed_byte(byte: u8) -> u32
-    ensures { result ≡ signed_byte byte }
+fn appended(registers: LineRegisters) -> OpcodeEffect
+    ensures { result ≡ appended registers }
 {
-    if byte < 128 {
-        return u32::from(byte);
+    OpcodeEffect {
+        row: Some(row_of(registers)),
+        registers,
     }
-    0xffff_ff00 + u32::from(byte)
 }
 
-fn address_advance(params: Params, adjusted: u8) -> u128
-    requires { 0 < params.line_range }
-    ensures advance { result ≡ address_advance params adjusted }
-    ensures small { result < 2 ^ 16 }
+fn changed(registers: LineRegisters) -> OpcodeEffect
+    ensures { result ≡ changed registers }
 {
-    u128::from(adjusted / params.line_range) * u128::from(params.minimum)
-}
-
-fn line_advance(params: Params, adjusted: u8) -> u128
-    requires { 0 < params.line_range }
-    ensures advance { result ≡ line_advance params adjusted }
-    ensures small { result < 2 ^ 33 }
-{
-    u128::from(signed_byte(params.line_base)) + u128::from(adjusted % params.line_range)
-}
-
-fn special(params: Params, adjusted: u8, regs: Registers, cursor: &Cursor<'_>) -> Move
-    requires { 0 < params.line_range }
-    ensures { Moves (Ok result) cursor.now (special params adjusted regs cursor.now) }
-{
-    let moved = at_address(regs, address_advance(params, adjusted));
-    let line = plus(moved.line, line_advance(params, adjusted));
-    let next = Registers {
-        address: moved.address,
-        file: moved.file,
-        line,
-    };
-    (Some(row_of(next)), next)
-}
-
-fn set_file(regs: Registers, cursor: &mut Cursor<'_>, fault: LineFault) -> Result<Move, LineFault>
-    ensures { Moves result cursor.new (set_file fault regs cursor.old) }
-{
-    let number = cursor.uleb().ok_or(fault)?;
-    if number >= 1 << 32 {
-        return Err(fault);
+    OpcodeEffect {
+        row: None,
+        registers,
     }
-    let next = Registers {
-        address: regs.address,
-        file: number as u32,
-        line: regs.line,
-    };
-    Ok((None, next))
 }
 
-fn pass_operands(cursor: &mut Cursor<'_>, count: u8, fault: LineFault) -> Result<(), LineFault>
-    ensures { PassesTo result cursor.new (operands_from fault count cursor.old) }
+/// A special opcode, less the opcode base.
+fn special(encoding: &LineEncoding<'_>, adjusted: u8, registers: LineRegisters) -> OpcodeEffect
+    ensures { result ≡ special encoding.now adjusted registers }
 {
-    for _ in 0..count {
-        match cursor.uleb() {
-            Some(_) => {}
-            None => return Err(fault),
-        }
-    }
-    Ok(())
-}
-
-fn passed(
-    regs: Registers,
-    cursor: &mut Cursor<'_>,
-    count: u8,
-    fault: LineFault,
-) -> Result<Move, LineFault>
-    ensures { Moves result cursor.new (passed fault count regs cursor.old) }
-{
-    pass_operands(cursor, count, fault)?;
-    Ok((None, regs))
+    let moved = at_address(registers, encoding.address_advance(adjusted));
+    appended(at_line(moved, encoding.line_advance(adjusted)))
 }
 
 fn advance_pc(
-    params: Params,
-    regs: Registers,
-    cursor: &mut Cursor<'_>,
-    fault: LineFault,
-) -> Result<Move, LineFault>
-    ensures { Moves result cursor.new (by_uleb fault (λ n. at_address (n * params.minimum) regs) cursor.old) }
+    encoding: &LineEncoding<'_>,
+    registers: LineRegisters,
+    reader: &mut Reader<'_, LineFault>,
+) -> Result<LineRegisters, LineFault>
+    ensures { GivesAt (λ r. r) result reader.new (advance_pc_from encoding.now registers reader.old) }
 {
-    let count = cursor.uleb().ok_or(fault)?;
-    let more = u128::from(count) * u128::from(params.minimum);
-    Ok((None, at_address(regs, more)))
+    let advance = reader.uleb()?;
+    let more = u128::from(advance) * u128::from(encoding.minimum_instruction_length());
+    Ok(at_address(registers, more))
 }
 
-fn operand_count(lengths: &[u8], opcode: u8) -> u8
-    requires { 0 < opcode }
-    ensures { result ≡ slice_index lengths.now (opcode - 1) }
+fn set_file(
+    registers: LineRegisters,
+    reader: &mut Reader<'_, LineFault>,
+) -> Result<LineRegisters, LineFault>
+    ensures { GivesAt (λ r. r) result reader.new (set_file_from registers reader.old) }
 {
-    let place = usize::from(opcode - 1);
-    match lengths.get(place) {
-        Some(count) => *count,
-        None => 0,
+    let file = reader.uleb()?;
+    if file >= 1 << 32 {
+        return Err(reader.missing());
+    }
+    Ok(LineRegisters {
+        address: registers.address,
+        file: file as u32,
+        line: registers.line,
+    })
+}
+
+/// Passes over so many operands.
+fn skip(
+    count: u8,
+    registers: LineRegisters,
+    reader: &mut Reader<'_, LineFault>,
+) -> Result<LineRegisters, LineFault>
+    ensures { GivesAt (λ r. r) result reader.new (skipped_from count registers reader.old) }
+{
+    for _ in 0..count {
+        reader.uleb()?;
+    }
+    Ok(registers)
+}
+
+/// The registers after a standard opcode other than `DW_LNS_copy`.
+fn registers_after(
+    encoding: &LineEncoding<'_>,
+    opcode: u8,
+    registers: LineRegisters,
+    reader: &mut Reader<'_, LineFault>,
+) -> Result<LineRegisters, LineFault>
+    requires { 0 < opcode }
+    ensures { GivesAt (λ r. r) result reader.new (registers_from encoding.now opcode registers reader.old) }
+{
+    match opcode {
+        DW_LNS_advance_pc => advance_pc(encoding, registers, reader),
+        DW_LNS_advance_line => {
+            let advance = wrapped(reader.sleb()?);
+            Ok(at_line(registers, u128::from(advance)))
+        }
+        DW_LNS_set_file => set_file(registers, reader),
+        DW_LNS_const_add_pc => {
+            let adjusted = 255 - encoding.opcode_base();
+            Ok(at_address(registers, encoding.address_advance(adjusted)))
+        }
+        DW_LNS_fixed_advance_pc => {
+            let advance = reader.u16()?;
+            Ok(at_address(registers, u128::from(advance)))
+        }
+        DW_LNS_set_column | DW_LNS_set_isa => skip(1, registers, reader),
+        DW_LNS_negate_stmt
+        | DW_LNS_set_basic_block
+        | DW_LNS_set_prologue_end
+        | DW_LNS_set_epilogue_begin => Ok(registers),
+        _ => skip(encoding.operand_count(opcode), registers, reader),
     }
 }
 
 fn standard(
-    params: Params,
-    lengths: &[u8],
+    encoding: &LineEncoding<'_>,
     opcode: u8,
-    regs: Registers,
-    cursor: &mut Cursor<'_>,
-    fault: LineFault,
-) -> Result<Move, LineFault>
-    requires range { 0 < params.line_range }
-    requires opcode { 0 < opcode }
-    ensures { Moves result cursor.new (standard params lengths.now fault opcode regs cursor.old) }
+    registers: LineRegisters,
+    reader: &mut Reader<'_, LineFault>,
+) -> Result<OpcodeEffect, LineFault>
+    requires { 0 < opcode }
+    ensures { GivesAt (λ e. e) result reader.new (standard_from encoding.now opcode registers reader.old) }
 {
-    let next = match opcode {
-        1 => return Ok((Some(row_of(regs)), regs)),
-        2 => return advance_pc(params, regs, cursor, fault),
-        3 => at_line(regs, wrapped(cursor.sleb().ok_or(fault)?)),
-        4 => return set_file(regs, cursor, fault),
-        5 | 12 => return passed(regs, cursor, 1, fault),
-        6 | 7 | 10 | 11 => regs,
-        8 => at_address(regs, address_advance(params, 255 - params.opcode_base)),
-        9 => at_address(regs, u128::from(cursor.u16().ok_or(fault)?)),
-        _ => {
-            let count = operand_count(lengths, opcode);
-            return passed(regs, cursor, count, fault);
-        }
-    };
-    Ok((None, next))
+    if opcode == DW_LNS_copy {
+        return Ok(appended(registers));
+    }
+    let after = registers_after(encoding, opcode, registers, reader)?;
+    Ok(changed(after))
 }
 
-fn extended(
-    body: &[u8],
-    regs: Registers,
-    cursor: &Cursor<'_>,
-    fault: LineFault,
-) -> Result<Move, LineFault>
+/// An extended opcode by its bytes; `None` where an address has other than four bytes.
+fn extended(body: &[u8], registers: LineRegisters) -> Option<OpcodeEffect>
     requires { 0 < length body.now }
-    ensures { Moves result cursor.now (extended fault body.now regs cursor.now) }
+    ensures { result ≡ extended body.now registers }
 {
     match body {
-        [1, ..] => Ok((Some(end_of(regs)), start())),
-        [2, address @ ..] => {
+        [DW_LNE_end_sequence, ..] => Some(OpcodeEffect {
+            row: Some(end_of(registers)),
+            registers: start(),
+        }),
+        [DW_LNE_set_address, address @ ..] => {
             if address.len() != 4 {
-                return Err(fault);
+                return None;
             }
-            let next = Registers {
+            Some(changed(LineRegisters {
                 address: LittleEndian::read_u32(address),
-                file: regs.file,
-                line: regs.line,
-            };
-            Ok((None, next))
+                file: registers.file,
+                line: registers.line,
+            }))
         }
-        _ => Ok((None, regs)),
+        _ => Some(changed(registers)),
     }
 }
 
+/// An extended opcode behind its 0: a size, and as many bytes.
 #[tactic(auto, unfolding(crate::specs::Programs::extended_from))]
 fn extended_opcode(
-    regs: Registers,
-    cursor: &mut Cursor<'_>,
-    fault: LineFault,
-) -> Result<Move, LineFault>
-    ensures { Moves result cursor.new (extended_from fault regs cursor.old) }
+    registers: LineRegisters,
+    reader: &mut Reader<'_, LineFault>,
+) -> Result<OpcodeEffect, LineFault>
+    ensures { GivesAt (λ e. e) result reader.new (extended_from registers reader.old) }
 {
-    let size = cursor.uleb().ok_or(fault)?;
+    let size = reader.uleb()?;
     if size == 0 {
-        return Err(fault);
+        return Err(reader.missing());
     }
-    let body = cursor.take(size as usize).ok_or(fault)?;
-    extended(body, regs, cursor, fault)
+    let body = reader.take(size as usize)?;
+    match extended(body, registers) {
+        Some(effect) => Ok(effect),
+        None => Err(reader.missing()),
+    }
 }
 
 fn by_opcode(
-    params: Params,
-    lengths: &[u8],
+    encoding: &LineEncoding<'_>,
     opcode: u8,
-    regs: Registers,
-    cursor: &mut Cursor<'_>,
-    fault: LineFault,
-) -> Result<Move, LineFault>
-    requires { 0 < params.line_range }
-    ensures { Moves result cursor.new (by_opcode params lengths.now fault opcode regs cursor.old) }
+    registers: LineRegisters,
+    reader: &mut Reader<'_, LineFault>,
+) -> Result<OpcodeEffect, LineFault>
+    ensures { GivesAt (λ e. e) result reader.new (by_opcode encoding.now opcode registers reader.old) }
 {
-    if opcode >= params.opcode_base {
-        return Ok(special(params, opcode - params.opcode_base, regs, cursor));
+    let opcode_base = encoding.opcode_base();
+    if opcode >= opcode_base {
+        return Ok(special(encoding, opcode - opcode_base, registers));
     }
     if opcode == 0 {
-        return extended_opcode(regs, cursor, fault);
+        return extended_opcode(registers, reader);
     }
-    standard(params, lengths, opcode, regs, cursor, fault)
+    standard(encoding, opcode, registers, reader)
 }
 
-/// The opcode at the cursor; `offset` is its place.
+/// The opcode at the reader, whose offset its faults have.
 #[tactic(auto, unfolding(crate::specs::Programs::opcode_from))]
 pub(crate) fn read_opcode(
-    params: Params,
-    lengths: &[u8],
-    regs: Registers,
-    cursor: &mut Cursor<'_>,
-    offset: u32,
-) -> Result<Move, LineFault>
-    requires range { 0 < params.line_range }
-    requires offset { offset ≡ cursor.old.place }
-    ensures { Moves result cursor.new (opcode_from params lengths.now regs cursor.old) }
+    encoding: &LineEncoding<'_>,
+    registers: LineRegisters,
+    reader: &mut Reader<'_, LineFault>,
+) -> Result<OpcodeEffect, LineFault>
+    requires { reader.old.at.offset < 2 ^ 32 }
+    ensures { GivesAt (λ e. e) result reader.new (opcode_from encoding.now registers reader.old) }
 {
-    let fault = LineFault { offset };
-    let opcode = cursor.u8().ok_or(fault)?;
-    by_opcode(params, lengths, opcode, regs, cursor, fault)
+    let offset = reader.offset() as u32;
+    reader.set_missing(LineFault { offset });
+    let opcode = reader.u8()?;
+    by_opcode(encoding, opcode, registers, reader)
 }

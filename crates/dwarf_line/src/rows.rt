@@ -1,25 +1,25 @@
 //! The rows of a sequence, and the one in force at an address.
 ghost use Rattle.std.specs.Prelude.{◌≡◌, ◌≤◌, ◌<◌, true, length};
-ghost use Rattle.dwarf_line.specs.Best.{better};
-ghost use Rattle.dwarf_line.specs.Rising.{Rises, IsSplit, address_at};
+ghost use Rattle.dwarf_line.specs.private.BestRow.{better};
+ghost use Rattle.dwarf_line.specs.private.Rising.{Rises, IsSplit, address_at};
 ghost use Rattle.dwarf_line.specs.Sequences.{row_at};
 
-use crate::registers::MatrixRow;
+use crate::registers::LineRow;
 use std::marker::Model;
 
 /// The rows of a sequence. Contracts see them as a list.
 #[derive(Drop)]
 pub(crate) struct Rows {
-    items: Vec<MatrixRow>,
+    items: Vec<LineRow>,
     rising: bool,
 }
 
 impl Model for Rows {
     ghost use Rattle.std.specs.Prelude.{◌≡◌, true, List};
-    ghost use Rattle.dwarf_line.specs.declared.registers.MatrixRow.{MatrixRow};
-    ghost use Rattle.dwarf_line.specs.Rising.{Rises};
+    ghost use Rattle.dwarf_line.specs.declared.registers.LineRow.{LineRow};
+    ghost use Rattle.dwarf_line.specs.private.Rising.{Rises};
 
-    ghost Value = { List MatrixRow };
+    ghost Value = { List LineRow };
 
     ghost view = { λ rows. rows.items.items };
 
@@ -27,7 +27,7 @@ impl Model for Rows {
 }
 
 /// Whether no address is below one before it.
-fn is_rising(rows: &[MatrixRow]) -> bool
+fn is_rising(rows: &[LineRow]) -> bool
     ensures { result ≡ true → Rises rows.now }
 {
     let mut last = 0;
@@ -41,7 +41,7 @@ fn is_rising(rows: &[MatrixRow]) -> bool
 }
 
 /// How many of the rows, which rise, are at most at an address.
-fn count_up_to(at: u32, rows: &[MatrixRow]) -> usize
+fn count_up_to(at: u32, rows: &[LineRow]) -> usize
     requires { Rises rows.now }
     ensures { IsSplit at rows.now result }
 {
@@ -59,7 +59,7 @@ fn count_up_to(at: u32, rows: &[MatrixRow]) -> usize
 }
 
 /// The row in force among rows that rise.
-fn halved(at: u32, rows: &[MatrixRow]) -> Option<MatrixRow>
+fn halved(at: u32, rows: &[LineRow]) -> Option<LineRow>
     requires { Rises rows.now }
     ensures { result ≡ row_at at rows.now }
 {
@@ -71,14 +71,14 @@ fn halved(at: u32, rows: &[MatrixRow]) -> Option<MatrixRow>
 }
 
 impl Rows {
-    pub(crate) fn from_vec(items: Vec<MatrixRow>) -> Rows
+    pub(crate) fn from_vec(items: Vec<LineRow>) -> Rows
         ensures { result ≡ items.items }
     {
         let rising = is_rising(items.as_slice());
         Rows { items, rising }
     }
 
-    pub(crate) fn as_slice(&self) -> &[MatrixRow]
+    pub(crate) fn as_slice(&self) -> &[LineRow]
         ensures { result.now ≡ self.now }
     {
         self.items.as_slice()
@@ -86,7 +86,7 @@ impl Rows {
 
     /// The row in force at an address: by halving where the addresses of the rows rise, else by a look
     /// at each row.
-    pub(crate) fn row_at(&self, at: u32) -> Option<MatrixRow>
+    pub(crate) fn row_at(&self, at: u32) -> Option<LineRow>
         ensures { result ≡ row_at at self.now }
     {
         if self.rising {
@@ -98,16 +98,16 @@ impl Rows {
 
 /// The greatest address so far, and the last row at it.
 #[derive(Clone, Copy)]
-struct Best {
+struct BestRow {
     greatest: u32,
-    found: Option<MatrixRow>,
+    found: Option<LineRow>,
 }
 
-fn better(at: u32, best: Best, row: MatrixRow) -> Best
+fn better(at: u32, best: BestRow, row: LineRow) -> BestRow
     ensures { result ≡ better at best row }
 {
     if row.address <= at && best.greatest <= row.address {
-        return Best {
+        return BestRow {
             greatest: row.address,
             found: Some(row),
         };
@@ -116,10 +116,10 @@ fn better(at: u32, best: Best, row: MatrixRow) -> Best
 }
 
 /// The last row at the greatest address that is at most `at`.
-fn row_at(at: u32, rows: &[MatrixRow]) -> Option<MatrixRow>
+fn row_at(at: u32, rows: &[LineRow]) -> Option<LineRow>
     ensures { result ≡ row_at at rows.now }
 {
-    let mut best = Best {
+    let mut best = BestRow {
         greatest: 0,
         found: None,
     };

@@ -2,7 +2,7 @@
 //! with `addr2line`, at every instruction. Other tables are put together by hand after DWARF 5, section 6.2.
 //! A text stands for bytes, two hexadecimal digits each, or has a case on each line.
 use crate::rows::{bytes_of, cut, number};
-use dwarf_line::{LineTable, read_lines};
+use dwarf_line::{LineFault, LineTable, read_lines};
 use elf_image::{DebugParts, Image, read_image};
 use scope_types::LineId;
 use std::alloc::{AllocError, Global};
@@ -30,6 +30,20 @@ fn image_of(alloc: Global, file: &[u8]) -> Option<Image<'_>> {
         return None;
     }
     read_image(alloc, file).ok()
+}
+
+/// The line tables of a section, which has fewer than 2^31 bytes, or their fault.
+fn lines_of<'a>(
+    alloc: Global,
+    line: &'a [u8],
+    sections: DebugParts<'a>,
+    image: &Image<'_>,
+    offsets: &[u32],
+) -> Option<Result<LineTable<'a>, prof_bytes::Fail<LineFault>>> {
+    if line.len() >= 1 << 31 {
+        return None;
+    }
+    Some(read_lines(alloc, line, sections, image, offsets))
 }
 
 /// Whether a row is the one that a text names: the offset of its table, its file and its line, or `-`.
@@ -119,9 +133,9 @@ fn gcc_holds(alloc: Global, image: &Image<'_>) -> Result<bool, AllocError> {
     ];
     let read = sections_of(alloc, texts)?;
     let sections = parts(&read.str_bytes, &read.line_str);
-    match read_lines(alloc, &read.line, sections, image, &[0, 73]) {
-        Ok(lines) => Ok(gcc_is_right(alloc, &lines)),
-        Err(_) => Ok(false),
+    match lines_of(alloc, &read.line, sections, image, &[0, 73]) {
+        Some(Ok(lines)) => Ok(gcc_is_right(alloc, &lines)),
+        _ => Ok(false),
     }
 }
 
@@ -143,9 +157,9 @@ fn clang_holds(alloc: Global, image: &Image<'_>) -> Result<bool, AllocError> {
     ];
     let read = sections_of(alloc, texts)?;
     let sections = parts(&read.str_bytes, &read.line_str);
-    match read_lines(alloc, &read.line, sections, image, &[0, 692]) {
-        Ok(lines) => Ok(clang_is_right(alloc, &lines)),
-        Err(_) => Ok(false),
+    match lines_of(alloc, &read.line, sections, image, &[0, 692]) {
+        Some(Ok(lines)) => Ok(clang_is_right(alloc, &lines)),
+        _ => Ok(false),
     }
 }
 
@@ -154,24 +168,24 @@ fn worked_is_right(alloc: Global, lines: &LineTable<'_>) -> bool {
 }
 
 fn worked_holds(alloc: Global, image: &Image<'_>, line: &[u8]) -> bool {
-    match read_lines(alloc, line, parts(&[], &[]), image, &[0]) {
-        Ok(lines) => worked_is_right(alloc, &lines),
-        Err(_) => false,
+    match lines_of(alloc, line, parts(&[], &[]), image, &[0]) {
+        Some(Ok(lines)) => worked_is_right(alloc, &lines),
+        _ => false,
     }
 }
 
 fn is_empty_without_offsets(alloc: Global, image: &Image<'_>, line: &[u8]) -> bool {
-    match read_lines(alloc, line, parts(&[], &[]), image, &[]) {
-        Ok(lines) => !lines.has_table(0) && lines.row_at(0x10000).is_none(),
-        Err(_) => false,
+    match lines_of(alloc, line, parts(&[], &[]), image, &[]) {
+        Some(Ok(lines)) => !lines.has_table(0) && lines.row_at(0x10000).is_none(),
+        _ => false,
     }
 }
 
 /// The call of the recursive program is at line 7.
 fn call_holds(alloc: Global, image: &Image<'_>, line: &[u8]) -> bool {
-    match read_lines(alloc, line, parts(&[], &[]), image, &[0]) {
-        Ok(lines) => is_line(lines.row_at(0x10004), b"0 0 7"),
-        Err(_) => false,
+    match lines_of(alloc, line, parts(&[], &[]), image, &[0]) {
+        Some(Ok(lines)) => is_line(lines.row_at(0x10004), b"0 0 7"),
+        _ => false,
     }
 }
 
@@ -198,13 +212,13 @@ fn case_holds(alloc: Global, image: &Image<'_>, case: &[u8]) -> Result<bool, All
     let (texts, wanted) = cut(rest, b'>');
     let line = bytes_of(alloc, hex)?;
     let str_bytes = bytes_of(alloc, texts)?;
-    match read_lines(alloc, &line, parts(&str_bytes, &[]), image, &[0]) {
-        Ok(lines) => Ok(rows_hold(&lines, wanted)),
-        Err(prof_bytes::Fail::Fault(fault)) => {
+    match lines_of(alloc, &line, parts(&str_bytes, &[]), image, &[0]) {
+        Some(Ok(lines)) => Ok(rows_hold(&lines, wanted)),
+        Some(Err(prof_bytes::Fail::Fault(fault))) => {
             let (word, offset) = cut(wanted, b' ');
             Ok(word == b"fault".as_slice() && fault.offset == number(offset, 10))
         }
-        Err(prof_bytes::Fail::Memory) => Ok(false),
+        _ => Ok(false),
     }
 }
 
@@ -226,8 +240,8 @@ fn failing_case(alloc: Global, image: &Image<'_>, cases: &[u8]) -> Result<Option
 
 /// The offset of the fault, if there is one.
 fn fault_of(alloc: Global, image: &Image<'_>, line: &[u8], offsets: &[u32]) -> Option<u32> {
-    match read_lines(alloc, line, parts(&[], &[]), image, offsets) {
-        Err(prof_bytes::Fail::Fault(fault)) => Some(fault.offset),
+    match lines_of(alloc, line, parts(&[], &[]), image, offsets) {
+        Some(Err(prof_bytes::Fail::Fault(fault))) => Some(fault.offset),
         _ => None,
     }
 }

@@ -1,5 +1,5 @@
 use Rattle.std.proofs.Common.{ℕ, ◌≤◌, ◌<◌, ◌-◌, length}
-use Rattle.dwarf_line.specs.Rising.{address_at}
+use Rattle.dwarf_line.specs.private.Rising.{address_at}
 use Rattle.dwarf_line.proofs.rows.count_up_to.Given as goal
 
 abbrev pub invariant-loop-low : goal.invariant-loop-low

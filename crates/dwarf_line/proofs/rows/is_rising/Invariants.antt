@@ -1,5 +1,5 @@
 use Rattle.std.proofs.Common.{ℕ, ◌≤◌, ◌<◌}
-use Rattle.dwarf_line.specs.Rising.{address_at}
+use Rattle.dwarf_line.specs.private.Rising.{address_at}
 use Rattle.dwarf_line.proofs.rows.is_rising.Given as goal
 
 abbrev pub invariant-loop-row : goal.invariant-loop-row

@@ -1,35 +1,35 @@
-use Rattle.std.proofs.Common.{[], option_to_list, rules}
-use Rattle.dwarf_forms.specs.Runs.{run_from}
-use Rattle.dwarf_line.specs.Programs.{opcode_from, start}
-use Rattle.dwarf_line.specs.Runs.{Kept, kept_from}
-use Rattle.dwarf_line.proofs.KeptRows.{goes_on, is_done, is_spent, fails_at}
+use Rattle.std.proofs.Common.{◌≡◌, ◌==◌, ◌∙◌, Err, false, rules, length}
+use Rattle.prof_bytes.specs.Reading.{left_of}
+use Rattle.dwarf_line.specs.Programs.{rows_from, matrix_from, start}
+use Rattle.dwarf_line.specs.private.Collecting.{collected}
+use Rattle.dwarf_line.proofs.Forward.{opcode_keeps}
+use Rattle.dwarf_line.proofs.CollectedRows.{effect_keeps, goes_on, is_done, is_spent, fails_at}
 use Rattle.dwarf_line.proofs.run.run.Goals as goal
 
-pub returns-then-left-eq0 : goal.returns-then-left-eq0
-returns-then-left-eq0 c =
-    let step = opcode_from c.args.params c.args.lengths.now in
-    let kept : Kept = record { sequences = c.loop.sequences.items; before = c.loop.current.items } in
-    rw (← c.left-room.ensures) (is_done c.args.frame.segments.now c.args.frame.table step kept c.left-room.result c.loop.counter c.loop.regs c.loop.cursor
-    (kept_from c.args.frame.segments.now c.args.frame.table c.args.sequences.now.items [] (run_from step c.left-room.result start c.args.cursor.now)) c.loop-test.true (search rules) c.loop.invariant)
+pub returns-then-left-eq0-clause-sequences : goal.returns-then-left-eq0-clause-sequences
+returns-then-left-eq0-clause-sequences c =
+    rw (← c.left-room.ensures) (is_done c.args.encoding.now c.loop.collector c.left-room.result c.loop.counter c.loop.registers c.loop.program
+    (collected c.args.collector.now (rows_from c.args.encoding.now c.left-room.result start c.args.program.now)) c.loop-test.true (search rules) c.loop.invariant.rows)
 
-pub returns-in-Err-read_opcode : goal.returns-in-Err-read_opcode
-returns-in-Err-read_opcode c =
-    let step = opcode_from c.args.params c.args.lengths.now in
-    let kept : Kept = record { sequences = c.loop.sequences.items; before = c.loop.current.items } in
-    rw (← c.left-room.ensures) (fails_at c.args.frame.segments.now c.args.frame.table c.in-Err-read_opcode.fault step kept c.left-room.result c.loop.counter c.loop.regs c.loop.cursor
-    (kept_from c.args.frame.segments.now c.args.frame.table c.args.sequences.now.items [] (run_from step c.left-room.result start c.args.cursor.now)) c.loop-test.true (search rules) c.in-Err-read_opcode.ensures c.loop.invariant)
+pub returns-in_err-effect-clause-sequences : goal.returns-in_err-effect-clause-sequences
+returns-in_err-effect-clause-sequences c =
+    let more : (length (left_of c.loop.program.at) == 0) ≡ false = search rules in
+    let failed : collected c.args.collector.now (matrix_from c.args.encoding.now c.args.program.now) ≡ Err c.in_err-effect.field-0.0 =
+    rw (← c.left-room.ensures) (fails_at c.in_err-effect.field-0.0 c.args.encoding.now c.loop.collector c.left-room.result c.loop.counter c.loop.registers c.loop.program
+    (collected c.args.collector.now (rows_from c.args.encoding.now c.left-room.result start c.args.program.now)) c.loop-test.true more c.in_err-effect.ensures c.loop.invariant.rows) in
+    search rules
 
 pub loop-preserved : goal.loop-preserved
 loop-preserved c =
-    let step = opcode_from c.args.params c.args.lengths.now in
-    let kept : Kept = record { sequences = c.loop.sequences.items; before = c.loop.current.items } in
-    let now = c.in_ok-add_some-in-Ok-read_opcode.ensures in
-    rw (now.0, now.1) (goes_on c.args.frame.segments.now c.args.frame.table step kept (option_to_list c.in-Ok-read_opcode.row) c.left-room.result c.loop.counter c.loop.regs c.in-Ok-read_opcode.next c.loop.cursor c.read_opcode.new.cursor
-    (kept_from c.args.frame.segments.now c.args.frame.table c.args.sequences.now.items [] (run_from step c.left-room.result start c.args.cursor.now)) c.loop-test.true (search rules) c.in-Ok-read_opcode.ensures c.loop.invariant)
+    let more : (length (left_of c.loop.program.at) == 0) ≡ false = search rules in
+    record {
+      whole = opcode_keeps c.args.encoding.now c.loop.registers c.loop.program c.read_opcode.new.reader c.in_ok-effect.effect c.in_ok-effect.ensures ∙ c.loop.invariant.whole;
+      segments = rw c.in_ok-add_some.ensures (effect_keeps c.loop.collector c.in_ok-effect.effect.row ∙ c.loop.invariant.segments);
+      rows = rw c.in_ok-add_some.ensures (goes_on c.args.encoding.now c.loop.collector c.in_ok-effect.effect c.left-room.result c.loop.counter c.loop.registers c.loop.program c.read_opcode.new.reader
+          (collected c.args.collector.now (rows_from c.args.encoding.now c.left-room.result start c.args.program.now)) c.loop-test.true more c.in_ok-effect.ensures c.loop.invariant.rows);
+    }
 
-pub returns : goal.returns
-returns c =
-    let step = opcode_from c.args.params c.args.lengths.now in
-    let kept : Kept = record { sequences = c.loop.sequences.items; before = c.loop.current.items } in
-    rw (← c.left-room.ensures) (is_spent c.args.frame.segments.now c.args.frame.table step kept c.left-room.result c.loop.counter c.loop.regs c.loop.cursor
-    (kept_from c.args.frame.segments.now c.args.frame.table c.args.sequences.now.items [] (run_from step c.left-room.result start c.args.cursor.now)) c.loop-test.false c.loop.invariant)
+pub returns-clause-sequences : goal.returns-clause-sequences
+returns-clause-sequences c =
+    rw (← c.left-room.ensures) (is_spent c.args.encoding.now c.loop.collector c.left-room.result c.loop.counter c.loop.registers c.loop.program
+    (collected c.args.collector.now (rows_from c.args.encoding.now c.left-room.result start c.args.program.now)) c.loop-test.false c.loop.invariant.rows)

@@ -1,0 +1,5 @@
+pub mod FirstValues
+pub mod BestRow
+pub mod Rising
+pub mod Collecting
+pub mod Tables

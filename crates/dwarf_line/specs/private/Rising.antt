@@ -1,0 +1,18 @@
+-- Rows whose addresses do not fall.
+use Rattle.std.specs.Prelude.{ℕ, ◌≤◌, ◌<◌, false, List, length, get_or}
+use Rattle.dwarf_line.specs.declared.registers.LineRow.{LineRow}
+
+abbrev pub zero_row : LineRow
+zero_row = record { address = 0; file = 0; line = 0; end_sequence = false }
+
+abbrev pub address_at : List LineRow → ℕ → ℕ
+address_at rows i = (get_or rows i zero_row).address
+
+abbrev pub Rises : List LineRow → Type 0
+Rises rows = (i j : ℕ) → i ≤ j → j < length rows → address_at rows i ≤ address_at rows j
+
+-- the first `count` rows are at most at an address, and the others are above it
+pub record IsSplit (at : ℕ) (rows : List LineRow) (count : ℕ) : Type 0 where
+  pub within : count ≤ length rows
+  pub below : (i : ℕ) → i < count → address_at rows i ≤ at
+  pub above : (i : ℕ) → count ≤ i → i < length rows → at < address_at rows i
