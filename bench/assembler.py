@@ -114,5 +114,6 @@ def elf(segments, debug_frame=b""):
         body += names
     place, count, strings = (at + len(body), 3, 2) if debug_frame else (0, 0, 0)
     ident = b"\x7fELF\x01\x01\x01" + bytes(9)
-    head = ident + struct.pack("<HHIIIIIHHHHHH", 2, 243, 1, CODE, 52, place, 0, 52, 32, len(segments), 40, count, strings)
+    fields = (2, 243, 1, CODE, 52, place, 0, 52, 32, len(segments), 40, count, strings)
+    head = ident + struct.pack("<HHIIIIIHHHHHH", *fields)
     return head + headers + body + (sections if debug_frame else b"")
