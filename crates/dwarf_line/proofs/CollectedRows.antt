@@ -11,7 +11,7 @@ use Rattle.dwarf_line.specs.declared.registers.LineRegisters.{LineRegisters}
 use Rattle.dwarf_line.specs.declared.registers.LineRow.{LineRow}
 use Rattle.dwarf_line.specs.declared.registers.OpcodeEffect.{OpcodeEffect}
 use Rattle.dwarf_line.specs.declared.sequence.Sequence.{Sequence}
-use Rattle.dwarf_line.specs.Headers.{Encoding}
+use Rattle.dwarf_line.specs.Headers.{ProgramEncoding}
 use Rattle.dwarf_line.specs.Programs.{opcode_from, rows_from}
 use Rattle.dwarf_line.specs.Sequences.{sequences_from, is_counted}
 use Rattle.dwarf_line.specs.private.Collecting.{Collected, with_row, with_effect, collected}
@@ -52,7 +52,7 @@ abbrev Total : Type 0
 Total = Result (List Sequence) LineFault
 
 -- an opcode was run
-pub goes_on : (encoding : Encoding) (c : Collected) (effect : OpcodeEffect) (room i : ℕ) (registers : LineRegisters) (input after : Input LineFault) (total : Total)
+pub goes_on : (encoding : ProgramEncoding) (c : Collected) (effect : OpcodeEffect) (room i : ℕ) (registers : LineRegisters) (input after : Input LineFault) (total : Total)
     → i < room → (length (left_of input.at) == 0) ≡ false → opcode_from encoding registers input ≡ Ok (effect, after)
     → collected c (rows_from encoding (room - i) registers input) ≡ total
     → collected (with_effect c effect.row) (rows_from encoding (room - (i + 1)) effect.registers after) ≡ total
@@ -68,7 +68,7 @@ unfolding sequences_from
 none_more c = ap Ok (append-nil c.sequences)
 
 -- no bytes are left
-pub is_done : (encoding : Encoding) (c : Collected) (room i : ℕ) (registers : LineRegisters) (input : Input LineFault) (total : Total)
+pub is_done : (encoding : ProgramEncoding) (c : Collected) (room i : ℕ) (registers : LineRegisters) (input : Input LineFault) (total : Total)
     → i < room → (length (left_of input.at) == 0) ≡ true
     → collected c (rows_from encoding (room - i) registers input) ≡ total → total ≡ Ok c.sequences
 unfolding rows_from
@@ -78,7 +78,7 @@ is_done encoding c room i registers input total lt none so_far =
     sym so_far ∙ one
 
 -- the room is spent
-pub is_spent : (encoding : Encoding) (c : Collected) (room i : ℕ) (registers : LineRegisters) (input : Input LineFault) (total : Total)
+pub is_spent : (encoding : ProgramEncoding) (c : Collected) (room i : ℕ) (registers : LineRegisters) (input : Input LineFault) (total : Total)
     → room ≤ i → collected c (rows_from encoding (room - i) registers input) ≡ total → total ≡ Ok c.sequences
 unfolding rows_from
 is_spent encoding c room i registers input total le so_far =
@@ -87,7 +87,7 @@ is_spent encoding c room i registers input total le so_far =
     sym so_far ∙ one
 
 -- an opcode is at fault
-pub fails_at : (found : LineFault) (encoding : Encoding) (c : Collected) (room i : ℕ) (registers : LineRegisters) (input : Input LineFault) (total : Total)
+pub fails_at : (found : LineFault) (encoding : ProgramEncoding) (c : Collected) (room i : ℕ) (registers : LineRegisters) (input : Input LineFault) (total : Total)
     → i < room → (length (left_of input.at) == 0) ≡ false → opcode_from encoding registers input ≡ Err found
     → collected c (rows_from encoding (room - i) registers input) ≡ total → total ≡ Err found
 unfolding rows_from

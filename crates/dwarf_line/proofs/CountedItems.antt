@@ -1,20 +1,21 @@
 -- Reading a number of items one by one, as a loop does.
-use Rattle.std.proofs.Common.{◌≡◌, ℕ, suc, ◌-◌, ◌+◌, ◌≤◌, ◌<◌, List, [], ◌∷◌, ◌++◌, Result, Ok, Err, refl, sym, ap, ◌∙◌, append_assoc, arith}
+use Rattle.std.proofs.Common.{◌≡◌, ℕ, suc, ◌-◌, ◌+◌, ◌≤◌, ◌<◌, List, [], ◌∷◌, ◌++◌, Ok, Err, refl, sym, ap, ◌∙◌, append_assoc, arith}
 use Rattle.std.proofs.lemmas.List.{append-nil}
 use Rattle.prof_bytes.specs.Fields.{Input}
 use Rattle.prof_bytes.specs.Outcome.{◌>>=◌}
-use Rattle.dwarf_line.specs.Names.{counted_from}
+use Rattle.dwarf_line.specs.declared.fault.LineFault.{LineFault}
+use Rattle.dwarf_line.specs.Names.{LineRead, counted_from}
 
 -- what was read before, and what is still read
-abbrev pub with_front : {X F : Type 0} → List X → Result (List X × Input F) F → Result (List X × Input F) F
+abbrev pub with_front : {X : Type 0} → List X → LineRead (List X) → LineRead (List X)
 with_front front read = read >>= (λ r. Ok (front ++ r.0, r.1))
 
-regroup : {X F : Type 0} (front : List X) (x : X) (read : Result (List X × Input F) F) → with_front front (read >>= λ r. Ok (x ∷ r.0, r.1)) ≡ with_front (front ++ x ∷ []) read
+regroup : {X : Type 0} (front : List X) (x : X) (read : LineRead (List X)) → with_front front (read >>= λ r. Ok (x ∷ r.0, r.1)) ≡ with_front (front ++ x ∷ []) read
 regroup {X = X} front x (Ok r) = ap (λ (xs : List X). Ok (xs, r.1)) (simp append_assoc)
 regroup front x (Err f) = refl
 
 -- one more item was read
-pub goes_on : {X F : Type 0} (item : Input F → Result (X × Input F) F) (front : List X) (count i : ℕ) (input after : Input F) (x : X) (total : Result (List X × Input F) F)
+pub goes_on : {X : Type 0} (item : Input LineFault → LineRead X) (front : List X) (count i : ℕ) (input after : Input LineFault) (x : X) (total : LineRead (List X))
     → i < count → item input ≡ Ok (x, after)
     → with_front front (counted_from item (count - i) input) ≡ total → with_front (front ++ x ∷ []) (counted_from item (count - (i + 1)) after) ≡ total
 unfolding counted_from
@@ -25,7 +26,7 @@ goes_on item front count i input after x total lt read so_far =
     sym one ∙ so_far
 
 -- all were read
-pub is_done : {X F : Type 0} (item : Input F → Result (X × Input F) F) (front : List X) (count i : ℕ) (input : Input F) (total : Result (List X × Input F) F)
+pub is_done : {X : Type 0} (item : Input LineFault → LineRead X) (front : List X) (count i : ℕ) (input : Input LineFault) (total : LineRead (List X))
     → count ≤ i → with_front front (counted_from item (count - i) input) ≡ total → total ≡ Ok (front, input)
 unfolding counted_from
 is_done {X = X} item front count i input total le so_far =
@@ -34,7 +35,7 @@ is_done {X = X} item front count i input total le so_far =
     sym so_far ∙ one
 
 -- an item is at fault
-pub fails_at : {X F : Type 0} (found : F) (item : Input F → Result (X × Input F) F) (front : List X) (count i : ℕ) (input : Input F) (total : Result (List X × Input F) F)
+pub fails_at : {X : Type 0} (found : LineFault) (item : Input LineFault → LineRead X) (front : List X) (count i : ℕ) (input : Input LineFault) (total : LineRead (List X))
     → i < count → item input ≡ Err found
     → with_front front (counted_from item (count - i) input) ≡ total → total ≡ Err found
 unfolding counted_from
@@ -46,14 +47,14 @@ fails_at found item front count i input total lt read so_far =
 -- ---- items that are passed over
 
 -- what is left of a read whose items do not count
-abbrev pub passed : {X S F : Type 0} → S → Result (List X × Input F) F → Result (S × Input F) F
+abbrev pub passed : {X S : Type 0} → S → LineRead (List X) → LineRead S
 passed state read = read >>= (λ r. Ok (state, r.1))
 
-one_passed : {X S F : Type 0} (state : S) (x : X) (read : Result (List X × Input F) F) → passed state (read >>= λ r. Ok (x ∷ r.0, r.1)) ≡ passed state read
+one_passed : {X S : Type 0} (state : S) (x : X) (read : LineRead (List X)) → passed state (read >>= λ r. Ok (x ∷ r.0, r.1)) ≡ passed state read
 one_passed state x (Ok r) = refl
 one_passed state x (Err f) = refl
 
-pub passes_one : {X S F : Type 0} (item : Input F → Result (X × Input F) F) (state : S) (count i : ℕ) (input after : Input F) (x : X)
+pub passes_one : {X S : Type 0} (item : Input LineFault → LineRead X) (state : S) (count i : ℕ) (input after : Input LineFault) (x : X)
     → i < count → item input ≡ Ok (x, after)
     → passed state (counted_from item (count - i) input) ≡ passed state (counted_from item (count - (i + 1)) after)
 unfolding counted_from
@@ -61,14 +62,14 @@ passes_one item state count i input after x lt read =
     let k : count - i ≡ suc (count - (i + 1)) = omega arith in
     rw (k, read) (one_passed state x (counted_from item (count - (i + 1)) after))
 
-pub stops : {X S F : Type 0} (found : F) (item : Input F → Result (X × Input F) F) (state : S) (count i : ℕ) (input : Input F)
+pub stops : {X S : Type 0} (found : LineFault) (item : Input LineFault → LineRead X) (state : S) (count i : ℕ) (input : Input LineFault)
     → i < count → item input ≡ Err found → passed state (counted_from item (count - i) input) ≡ Err found
 unfolding counted_from
 stops found item state count i input lt read =
     let k : count - i ≡ suc (count - (i + 1)) = omega arith in
     rw (k, read) refl
 
-pub all_passed : {X S F : Type 0} (item : Input F → Result (X × Input F) F) (state : S) (count i : ℕ) (input : Input F)
+pub all_passed : {X S : Type 0} (item : Input LineFault → LineRead X) (state : S) (count i : ℕ) (input : Input LineFault)
     → count ≤ i → passed state (counted_from item (count - i) input) ≡ Ok (state, input)
 unfolding counted_from
 all_passed item state count i input le =

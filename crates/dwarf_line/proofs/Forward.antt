@@ -11,7 +11,7 @@ use Rattle.dwarf_line.specs.declared.fault.LineFault.{LineFault}
 use Rattle.dwarf_line.specs.declared.registers.LineRegisters.{LineRegisters}
 use Rattle.dwarf_line.specs.declared.registers.OpcodeEffect.{OpcodeEffect}
 use Rattle.dwarf_line.specs.Names.{checked, present, counted_from}
-use Rattle.dwarf_line.specs.Headers.{Encoding}
+use Rattle.dwarf_line.specs.Headers.{ProgramEncoding}
 use Rattle.dwarf_line.specs.Programs.{set_file_from, skipped_from, registers_from, standard_from, extended, extended_from, by_opcode, opcode_from}
 
 abbrev In : Type 0
@@ -73,7 +73,7 @@ set_file_reads registers input =
     then_reads input (uleb_from input) (λ r. checked (nat_lt r.0 (2 ^ 32)) r.1 >>= (λ i. Ok (record registers { file = r.0 }, i))) (uleb_reads input)
     (λ file after. checked_reads (nat_lt file (2 ^ 32)) after (λ i. Ok (record registers { file = file }, i)) (itself after))
 
-registers_reads : (encoding : Encoding) (opcode : ℕ) (registers : LineRegisters) (input : In) → Reads input (registers_from encoding opcode registers input)
+registers_reads : (encoding : ProgramEncoding) (opcode : ℕ) (registers : LineRegisters) (input : In) → Reads input (registers_from encoding opcode registers input)
 registers_reads encoding opcode registers input =
     if_reads (opcode == DW_LNS_advance_pc) input _ _ (then_reads input (uleb_from input) _ (uleb_reads input) (λ n after. itself after))
     (if_reads (opcode == DW_LNS_advance_line) input _ _ (then_reads input (sleb_from input) _ (taken_reads input (sleb_at (left_of input.at))) (λ z after. itself after))
@@ -84,7 +84,7 @@ registers_reads encoding opcode registers input =
     (if_reads ((opcode == DW_LNS_negate_stmt) || (opcode == DW_LNS_set_basic_block) || (opcode == DW_LNS_set_prologue_end) || (opcode == DW_LNS_set_epilogue_begin)) input _ _ (itself input)
     (skipped_reads (slice_index encoding.standard_opcode_lengths (opcode - 1)) registers input)))))))
 
-standard_reads : (encoding : Encoding) (opcode : ℕ) (registers : LineRegisters) (input : In) → Reads input (standard_from encoding opcode registers input)
+standard_reads : (encoding : ProgramEncoding) (opcode : ℕ) (registers : LineRegisters) (input : In) → Reads input (standard_from encoding opcode registers input)
 standard_reads encoding opcode registers input =
     if_reads (opcode == DW_LNS_copy) input _ _ (itself input)
     (then_reads input (registers_from encoding opcode registers input) _ (registers_reads encoding opcode registers input) (λ r after. itself after))
@@ -96,7 +96,7 @@ extended_reads registers input =
     (λ size behind. checked_reads (not (size == 0)) behind (λ i. bytes_from size i >>= (λ r. present r.1 (extended r.0 registers)))
     (then_reads behind (bytes_from size behind) _ (taken_reads behind (bytes_at size (left_of behind.at))) (λ body after. present_reads after (extended body registers))))
 
-opcode_reads : (encoding : Encoding) (opcode : ℕ) (registers : LineRegisters) (input : In) → Reads input (by_opcode encoding opcode registers input)
+opcode_reads : (encoding : ProgramEncoding) (opcode : ℕ) (registers : LineRegisters) (input : In) → Reads input (by_opcode encoding opcode registers input)
 opcode_reads encoding opcode registers input =
     if_reads (nat_le encoding.opcode_base opcode) input _ _ (itself input)
     (if_reads (opcode == 0) input _ _ (extended_reads registers input) (standard_reads encoding opcode registers input))
@@ -117,7 +117,7 @@ by_byte input false byte next each =
     let after : In = record input { at = record { whole = input.at.whole; offset = input.at.offset + 1 } } in
     beyond input after (next (byte, after)) refl (omega arith) (each byte after)
 
-pub opcode_takes : (encoding : Encoding) (registers : LineRegisters) (input : Input LineFault) → Takes input (opcode_from encoding registers input)
+pub opcode_takes : (encoding : ProgramEncoding) (registers : LineRegisters) (input : Input LineFault) → Takes input (opcode_from encoding registers input)
 unfolding opcode_from
 opcode_takes encoding registers input =
     by_byte (record input { missing = record { offset = input.at.offset } }) _ _ (λ r. by_opcode encoding r.0 registers r.1) (λ n after. opcode_reads encoding n registers after)
@@ -125,6 +125,6 @@ opcode_takes encoding registers input =
 takes_of : {X : Type 0} (input after : In) (x : X) (read : Result (X × In) LineFault) → Takes input read → read ≡ Ok (x, after) → (after.at.whole ≡ input.at.whole) × (input.at.offset + 1 ≤ after.at.offset)
 takes_of input after x read t e = rw e at t
 
-pub opcode_keeps : (encoding : Encoding) (registers : LineRegisters) (input after : Input LineFault) (effect : OpcodeEffect)
+pub opcode_keeps : (encoding : ProgramEncoding) (registers : LineRegisters) (input after : Input LineFault) (effect : OpcodeEffect)
     → opcode_from encoding registers input ≡ Ok (effect, after) → after.at.whole ≡ input.at.whole
 opcode_keeps encoding registers input after effect e = (takes_of input after effect (opcode_from encoding registers input) (opcode_takes encoding registers input) e).0

@@ -8,11 +8,11 @@ use Rattle.dwarf_line.specs.declared.fault.LineFault.{LineFault}
 use Rattle.dwarf_line.specs.declared.registers.LineRegisters.{LineRegisters}
 use Rattle.dwarf_line.specs.declared.registers.LineRow.{LineRow}
 use Rattle.dwarf_line.specs.declared.registers.OpcodeEffect.{OpcodeEffect}
-use Rattle.dwarf_line.specs.Headers.{Encoding}
+use Rattle.dwarf_line.specs.Headers.{ProgramEncoding}
 use Rattle.dwarf_line.specs.Programs.{opcode_from, rows_from}
 use Rattle.dwarf_line.proofs.Forward.{Takes, opcode_takes}
 
-no_more : (encoding : Encoding) (room : ℕ) (registers : LineRegisters) (input : Input LineFault) → length (left_of input.at) ≤ 0 → rows_from encoding room registers input ≡ Ok []
+no_more : (encoding : ProgramEncoding) (room : ℕ) (registers : LineRegisters) (input : Input LineFault) → length (left_of input.at) ≤ 0 → rows_from encoding room registers input ≡ Ok []
 unfolding rows_from
 no_more encoding zero registers input le = refl
 no_more encoding (suc room) registers input le = let none : (length (left_of input.at) == 0) ≡ true = grind arith in rw none refl
@@ -43,7 +43,7 @@ if_alike : (b : Bool) (one other : Result (List LineRow) LineFault) → one ≡ 
 if_alike true one other e = refl
 if_alike false one other e = e
 
-pub enough : (encoding : Encoding) (room more : ℕ) (registers : LineRegisters) (input : Input LineFault)
+pub enough : (encoding : ProgramEncoding) (room more : ℕ) (registers : LineRegisters) (input : Input LineFault)
     → length (left_of input.at) ≤ room → length (left_of input.at) ≤ more → rows_from encoding room registers input ≡ rows_from encoding more registers input
 unfolding rows_from
 enough encoding zero more registers input le large = sym (no_more encoding more registers input le)
@@ -53,6 +53,6 @@ enough encoding (suc room) (suc more) registers input le large =
     (rest_alike input (rows_from encoding room) (rows_from encoding more) (opcode_from encoding registers input) (opcode_takes encoding registers input)
     (λ r after same up. enough encoding room more r after (fewer input after room same up le) (fewer input after more same up large)))
 
-pub program_law : (encoding : Encoding) (room : ℕ) (registers : LineRegisters) (input : Input LineFault)
+pub program_law : (encoding : ProgramEncoding) (room : ℕ) (registers : LineRegisters) (input : Input LineFault)
     → length (left_of input.at) ≤ room → rows_from encoding room registers input ≡ rows_from encoding (length (left_of input.at)) registers input
 program_law encoding room registers input le = enough encoding room (length (left_of input.at)) registers input le (omega arith)

@@ -1,6 +1,6 @@
 pub mod Answered
 pub mod CountedItems
-pub mod FirstValues
+pub mod ContentValues
 pub mod BestRows
 pub mod HalvedRows
 pub mod Forward

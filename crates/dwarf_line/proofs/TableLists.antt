@@ -15,7 +15,7 @@ use Rattle.dwarf_line.specs.Names.{Texts}
 use Rattle.dwarf_line.specs.Headers.{Header}
 use Rattle.dwarf_line.specs.Programs.{matrix_from}
 use Rattle.dwarf_line.specs.Sequences.{sequences_from, is_counted}
-use Rattle.dwarf_line.specs.Lines.{TableNames, TableRead, names_of, table_by, table_of, tables_of, lines_of, lines_at}
+use Rattle.dwarf_line.specs.Lines.{TableNames, TableRead, names_of, table_by, line_table_of, line_tables_of, lines_of, lines_at}
 use Rattle.dwarf_line.specs.private.Collecting.{collected}
 use Rattle.dwarf_line.specs.private.Tables.{behind}
 
@@ -74,26 +74,26 @@ more_by : (names got : List TableNames) (sequences new : List Sequence) (reads :
 more_by names got sequences new reads one rest e f g = rw (e, f, g) (regroup names sequences reads rest)
 
 pub one_more : (line : List ℕ) (texts : Texts) (segments : List Segment) (names got : List TableNames) (sequences new : List Sequence) (offset : ℕ) (offsets : List ℕ)
-    → behind [] sequences (table_of line texts segments offset) ≡ Ok (both got new)
-    → behind names sequences (tables_of line texts segments (offset ∷ offsets)) ≡ behind (names ++ got) new (tables_of line texts segments offsets)
-unfolding tables_of
+    → behind [] sequences (line_table_of line texts segments offset) ≡ Ok (both got new)
+    → behind names sequences (line_tables_of line texts segments (offset ∷ offsets)) ≡ behind (names ++ got) new (line_tables_of line texts segments offsets)
+unfolding line_tables_of
 one_more line texts segments names got sequences new offset offsets e =
-    let r = reads_of sequences new got (table_of line texts segments offset) e in
-    more_by names got sequences new r.0 (table_of line texts segments offset) (tables_of line texts segments offsets) r.1 r.2 r.3
+    let r = reads_of sequences new got (line_table_of line texts segments offset) e in
+    more_by names got sequences new r.0 (line_table_of line texts segments offset) (line_tables_of line texts segments offsets) r.1 r.2 r.3
 
 pub fails_here : (fail : Fail LineFault) (line : List ℕ) (texts : Texts) (segments : List Segment) (names : List TableNames) (sequences : List Sequence) (offset : ℕ) (offsets : List ℕ)
-    → FailsBy fail (behind [] sequences (table_of line texts segments offset))
-    → FailsBy fail (behind names sequences (tables_of line texts segments (offset ∷ offsets)))
-unfolding tables_of
+    → FailsBy fail (behind [] sequences (line_table_of line texts segments offset))
+    → FailsBy fail (behind names sequences (line_tables_of line texts segments (offset ∷ offsets)))
+unfolding line_tables_of
 fails_here (fails.Memory memory) line texts segments names sequences offset offsets e = tt
-fails_here (fails.Fault fault) line texts segments names sequences offset offsets e = fails_next fault names sequences (table_of line texts segments offset) (tables_of line texts segments offsets) e
+fails_here (fails.Fault fault) line texts segments names sequences offset offsets e = fails_next fault names sequences (line_table_of line texts segments offset) (line_tables_of line texts segments offsets) e
   where
     fails_next : (g : LineFault) (n : List TableNames) (q : List Sequence) (one rest : Reads) → behind [] q one ≡ Err g → behind n q (one >>= (λ table. rest >>= (λ others. Ok (table ++ others)))) ≡ Err g
     fails_next g n q (Ok t) rest h = absurd cc
     fails_next g n q (Err f) rest h = cc
 
-pub none_left : (line : List ℕ) (texts : Texts) (segments : List Segment) (names : List TableNames) (sequences : List Sequence) → behind names sequences (tables_of line texts segments []) ≡ Ok (both names sequences)
-unfolding tables_of
+pub none_left : (line : List ℕ) (texts : Texts) (segments : List Segment) (names : List TableNames) (sequences : List Sequence) → behind names sequences (line_tables_of line texts segments []) ≡ Ok (both names sequences)
+unfolding line_tables_of
 none_left line texts segments names sequences = ap₂ (λ (n : List TableNames) (q : List Sequence). Ok (both n q)) (append-nil names) (append-nil sequences)
 
 -- ---- what was read is the lines of the tables
@@ -104,15 +104,15 @@ lines_by : (names : List TableNames) (sequences : List Sequence) (reads : List T
 lines_by names sequences reads read e f g = rw (e, f, g) refl
 
 pub lines_are : (line : List ℕ) (texts : Texts) (segments : List Segment) (offsets : List ℕ) (names : List TableNames) (sequences : List Sequence)
-    → behind [] [] (tables_of line texts segments offsets) ≡ Ok (both names sequences) → lines_at line texts segments offsets ≡ Ok (record { tables = names; sequences = sequences })
+    → behind [] [] (line_tables_of line texts segments offsets) ≡ Ok (both names sequences) → lines_at line texts segments offsets ≡ Ok (record { tables = names; sequences = sequences })
 lines_are line texts segments offsets names sequences e =
-    let r = reads_of [] sequences names (tables_of line texts segments offsets) e in
-    lines_by names sequences r.0 (tables_of line texts segments offsets) r.1 r.2 r.3
+    let r = reads_of [] sequences names (line_tables_of line texts segments offsets) e in
+    lines_by names sequences r.0 (line_tables_of line texts segments offsets) r.1 r.2 r.3
 
 pub lines_fail : (fail : Fail LineFault) (line : List ℕ) (texts : Texts) (segments : List Segment) (offsets : List ℕ)
-    → FailsBy fail (behind [] [] (tables_of line texts segments offsets)) → FailsBy fail (lines_at line texts segments offsets)
+    → FailsBy fail (behind [] [] (line_tables_of line texts segments offsets)) → FailsBy fail (lines_at line texts segments offsets)
 lines_fail (fails.Memory memory) line texts segments offsets e = tt
-lines_fail (fails.Fault fault) line texts segments offsets e = failed (tables_of line texts segments offsets) e
+lines_fail (fails.Fault fault) line texts segments offsets e = failed (line_tables_of line texts segments offsets) e
   where
     failed : (read : Reads) → behind [] [] read ≡ Err fault → (read >>= (λ reads. Ok (lines_of reads))) ≡ Err fault
     failed (Ok reads) h = absurd cc

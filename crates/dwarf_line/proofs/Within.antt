@@ -9,7 +9,7 @@ use Rattle.prof_bytes.specs.Outcome.{◌>>=◌}
 use Rattle.dwarf_forms.specs.Sections.{input_at}
 use Rattle.dwarf_line.specs.declared.fault.LineFault.{LineFault}
 use Rattle.dwarf_line.specs.Names.{Texts, checked, names_from}
-use Rattle.dwarf_line.specs.Headers.{Header, is_flat, encoding_from, version5_from, by_version, header_from}
+use Rattle.dwarf_line.specs.Headers.{Header, is_flat, line_encoding_from, header5_from, header_by_version, header_from}
 
 abbrev In : Type 0
 In = Input LineFault
@@ -41,15 +41,15 @@ checked_below n false input next q = tt
 small : (n : ℕ) (one other : In) → one.at.whole ≡ other.at.whole → length other.at.whole ≤ n → length one.at.whole ≤ n
 small n one other e le = let k : length one.at.whole ≡ length other.at.whole = ap length e in omega arith
 
-version5_below : (n : ℕ) (texts : Texts) (input : In) → length input.at.whole ≤ n → Below n (version5_from texts input)
-unfolding version5_from
+version5_below : (n : ℕ) (texts : Texts) (input : In) → length input.at.whole ≤ n → Below n (header5_from texts input)
+unfolding header5_from
 version5_below n texts input le =
     taken_below n input (number_at 1 (left_of input.at)) _ (λ address_size a ea.
     taken_below n a (number_at 1 (left_of a.at)) _ (λ selector_size b eb.
     taken_below n b (number_at 4 (left_of b.at)) _ (λ header_length d ed.
     checked_below n (is_flat address_size selector_size) d _
     (taken_below n d (bytes_at header_length (left_of d.at)) _ (λ rest program ep.
-    read_below n (encoding_from d) _ (λ encoding.
+    read_below n (line_encoding_from d) _ (λ encoding.
     read_below n (names_from texts encoding.1) _ (λ directories.
     read_below n (names_from texts directories.1) _ (λ file_names.
     small n program input (ep ∙ ed ∙ eb ∙ ea) le))))))))
@@ -62,9 +62,9 @@ if_below : (n : ℕ) (b : Bool) (one other : Result (Option Header) LineFault) �
 if_below n true one other p q = p
 if_below n false one other p q = q
 
-version_below : (n : ℕ) (texts : Texts) (version : ℕ) (input : In) → length input.at.whole ≤ n → BelowSome n (by_version texts version input)
+version_below : (n : ℕ) (texts : Texts) (version : ℕ) (input : In) → length input.at.whole ≤ n → BelowSome n (header_by_version texts version input)
 version_below n texts version input le =
-    if_below n (version == 5) _ _ (some_below n (version5_from texts input) (version5_below n texts input le))
+    if_below n (version == 5) _ _ (some_below n (header5_from texts input) (version5_below n texts input le))
     (if_below n (nat_le 2 version && nat_le version 4) (Ok None) (Err input.missing) tt tt)
 
 abbrev PartBelow : ℕ → Result (In × In) LineFault → Type 0
@@ -95,11 +95,11 @@ part_below : (input : In) → PartBelow (length input.at.whole) (part_from input
 part_below input = part_by input (number_at 4 (left_of input.at))
 
 header_by : (n : ℕ) (texts : Texts) (read : Result (In × In) LineFault) → PartBelow n read
-    → BelowSome n (read >>= (λ parts. number_from 2 parts.0 >>= (λ version. by_version texts version.0 version.1)))
+    → BelowSome n (read >>= (λ parts. number_from 2 parts.0 >>= (λ version. header_by_version texts version.0 version.1)))
 header_by n texts (Err f) q = tt
 header_by n texts (Ok parts) q = versioned (number_at 2 (left_of parts.0.at))
   where
-    versioned : (o : Option (ℕ × ℕ)) → BelowSome n (taken parts.0 o >>= (λ version. by_version texts version.0 version.1))
+    versioned : (o : Option (ℕ × ℕ)) → BelowSome n (taken parts.0 o >>= (λ version. header_by_version texts version.0 version.1))
     versioned None = tt
     versioned (Some r) = version_below n texts r.0 _ q
 

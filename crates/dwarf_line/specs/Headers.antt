@@ -1,12 +1,13 @@
 -- The header of a line table. DWARF 5, section 6.2.4.
-use Rattle.std.specs.Prelude.{ℕ, ◌-◌, ◌==◌, ◌&&◌, not, Bool, nat_le, List, Option, Some, None, Result, Ok, Err, if◌then◌else◌}
+use Rattle.std.specs.Prelude.{ℕ, ◌-◌, ◌==◌, ◌&&◌, not, Bool, nat_le, List, Option, Some, None, Result, Ok, Err}
+use Rattle.std.specs.Prelude.{if◌then◌else◌}
 use Rattle.prof_bytes.specs.Fields.{Input, number_from, bytes_from, part_from}
 use Rattle.prof_bytes.specs.Outcome.{◌>>=◌}
 use Rattle.dwarf_line.specs.declared.fault.LineFault.{LineFault}
-use Rattle.dwarf_line.specs.Names.{Texts, NamedPath, checked, names_from}
+use Rattle.dwarf_line.specs.Names.{LineRead, Texts, NamedPath, checked, names_from}
 
 -- how the program is encoded
-pub record Encoding : Type 0 where
+pub record ProgramEncoding : Type 0 where
   pub minimum_instruction_length : ℕ
   -- a signed byte, as it stands
   pub line_base : ℕ
@@ -16,7 +17,7 @@ pub record Encoding : Type 0 where
 
 -- what a header of version 5 says, and the program behind it
 pub record Header : Type 0 where
-  pub encoding : Encoding
+  pub encoding : ProgramEncoding
   pub directories : List NamedPath
   pub file_names : List NamedPath
   pub program : Input LineFault
@@ -30,8 +31,8 @@ abbrev pub is_supported : ℕ → ℕ → ℕ → Bool
 is_supported maximum_operations_per_instruction line_range opcode_base =
     (maximum_operations_per_instruction == 1) && not (line_range == 0) && not (opcode_base == 0)
 
-unfoldable pub encoding_from : Input LineFault → Result (Encoding × Input LineFault) LineFault
-encoding_from input = do
+unfoldable pub line_encoding_from : Input LineFault → LineRead ProgramEncoding
+line_encoding_from input = do
   (minimum_instruction_length, input) ← number_from 1 input
   (maximum_operations_per_instruction, input) ← number_from 1 input
   (default_is_stmt, input) ← number_from 1 input
@@ -52,22 +53,22 @@ encoding_from input = do
   )
 
 -- a header of version 5 behind the version. The program begins as many bytes behind header_length as that says
-unfoldable pub version5_from : Texts → Input LineFault → Result Header LineFault
-version5_from texts input = do
+unfoldable pub header5_from : Texts → Input LineFault → Result Header LineFault
+header5_from texts input = do
   (address_size, input) ← number_from 1 input
   (segment_selector_size, input) ← number_from 1 input
   (header_length, input) ← number_from 4 input
   input ← checked (is_flat address_size segment_selector_size) input
   (rest, program) ← bytes_from header_length input
-  (encoding, input) ← encoding_from input
+  (encoding, input) ← line_encoding_from input
   (directories, input) ← names_from texts input
   (file_names, input) ← names_from texts input
   Ok (record { encoding = encoding; directories = directories; file_names = file_names; program = program })
 
 -- nothing for a table of version 2 to 4
-abbrev pub by_version : Texts → ℕ → Input LineFault → Result (Option Header) LineFault
-by_version texts version input =
-    if version == 5 then version5_from texts input >>= (λ header. Ok (Some header))
+abbrev pub header_by_version : Texts → ℕ → Input LineFault → Result (Option Header) LineFault
+header_by_version texts version input =
+    if version == 5 then header5_from texts input >>= (λ header. Ok (Some header))
     else if nat_le 2 version && nat_le version 4 then Ok None
     else Err input.missing
 
@@ -76,4 +77,4 @@ unfoldable pub header_from : Texts → Input LineFault → Result (Option Header
 header_from texts input = do
   (table, next) ← part_from input
   (version, table) ← number_from 2 table
-  by_version texts version table
+  header_by_version texts version table

@@ -1,5 +1,6 @@
 -- The line tables at some offsets. DWARF 5, section 6.2.
-use Rattle.std.specs.Prelude.{ℕ, ◌==◌, ◌||◌, List, [], ◌∷◌, ◌++◌, length, take, find, filter, map, slice_get, slice_index, Option, Some, None, option_map, unwrap_or, Result, Ok, codes, if◌then◌else◌}
+use Rattle.std.specs.Prelude.{ℕ, ◌==◌, ◌||◌, List, [], ◌∷◌, ◌++◌, length, take, find, filter, map, slice_get}
+use Rattle.std.specs.Prelude.{slice_index, Option, Some, None, option_map, unwrap_or, Result, Ok, codes, if◌then◌else◌}
 use Rattle.std.specs.Option.{option_and_then}
 use Rattle.std.specs.List.{flat_map}
 use Rattle.prof_bytes.specs.Outcome.{◌>>=◌}
@@ -39,18 +40,18 @@ table_by segments offset (Some header) = do
   } ∷ [])
 
 -- the table at an offset; nothing where it is of an earlier version. Faults of its header are at that offset
-unfoldable pub table_of : List ℕ → Texts → List Segment → ℕ → Result (List TableRead) LineFault
-table_of line texts segments offset = do
+unfoldable pub line_table_of : List ℕ → Texts → List Segment → ℕ → Result (List TableRead) LineFault
+line_table_of line texts segments offset = do
   input ← input_at line offset (record { offset = offset })
   header ← header_from texts input
   table_by segments offset header
 
 -- the tables at offsets, or the first fault
-unfoldable pub tables_of : List ℕ → Texts → List Segment → List ℕ → Result (List TableRead) LineFault
-tables_of line texts segments [] = Ok []
-tables_of line texts segments (offset ∷ offsets) = do
-  table ← table_of line texts segments offset
-  others ← tables_of line texts segments offsets
+unfoldable pub line_tables_of : List ℕ → Texts → List Segment → List ℕ → Result (List TableRead) LineFault
+line_tables_of line texts segments [] = Ok []
+line_tables_of line texts segments (offset ∷ offsets) = do
+  table ← line_table_of line texts segments offset
+  others ← line_tables_of line texts segments offsets
   Ok (table ++ others)
 
 -- line tables that were read
@@ -64,7 +65,7 @@ lines_of tables = record { tables = map (λ t. t.names) tables; sequences = flat
 -- the line tables at offsets
 abbrev pub lines_at : List ℕ → Texts → List Segment → List ℕ → Result Lines LineFault
 lines_at line texts segments offsets = do
-  tables ← tables_of line texts segments offsets
+  tables ← line_tables_of line texts segments offsets
   Ok (lines_of tables)
 
 -- ---- names of files
@@ -76,8 +77,9 @@ abbrev pub unknown_file : List ℕ
 unknown_file = codes "<unknown file>"
 
 -- a path that begins with `/` or has no directory stands alone
-abbrev pub joined : List ℕ → List ℕ → List ℕ
-joined directory path = if (length directory == 0) || (slice_index path 0 == 47) then path else directory ++ 47 ∷ path
+abbrev pub joined_path : List ℕ → List ℕ → List ℕ
+joined_path directory path =
+    if (length directory == 0) || (slice_index path 0 == 47) then path else directory ++ 47 ∷ path
 
 abbrev pub directory_path : List NamedPath → Option ℕ → List ℕ
 directory_path directories index =
@@ -86,9 +88,10 @@ directory_path directories index =
 -- the name of a file of a table, of at most 4,096 bytes
 abbrev pub file_in : TableNames → ℕ → Option (List ℕ)
 file_in table file =
-    option_map (λ f. take 4096 (joined (directory_path table.directories f.directory_index) f.path))
+    option_map (λ f. take 4096 (joined_path (directory_path table.directories f.directory_index) f.path))
     (slice_get table.file_names file)
 
 -- the name of a file of the table at an offset
 abbrev pub file_name_of : List TableNames → ℕ → ℕ → List ℕ
-file_name_of tables table file = unwrap_or (option_and_then (λ t. file_in t file) (table_with tables table)) unknown_file
+file_name_of tables table file =
+    unwrap_or (option_and_then (λ t. file_in t file) (table_with tables table)) unknown_file

@@ -1,18 +1,25 @@
 -- The line number program: each opcode changes the registers of the state machine and may append a row to the matrix.
 -- DWARF 5, sections 6.2.2 and 6.2.5.
-use Rattle.std.specs.Prelude.{ℕ, zero, suc, ◌+◌, ◌-◌, ◌*◌, ◌/◌, ◌%◌, ◌^◌, ◌==◌, ◌||◌, not, true, false, nat_lt, nat_le, List, [], ◌++◌, length, drop, slice_index, option_to_list, Option, Some, None, Result, Ok, if◌then◌else◌}
+use Rattle.std.specs.Prelude.{ℕ, zero, suc, ◌+◌, ◌-◌, ◌*◌, ◌/◌, ◌%◌, ◌^◌, ◌==◌, ◌||◌, not, Bool, true, false, nat_lt}
+use Rattle.std.specs.Prelude.{nat_le, List, [], ◌++◌, length, drop, slice_index, option_to_list, Option, Some, None}
+use Rattle.std.specs.Prelude.{Result, Ok, if◌then◌else◌}
 use Rattle.prof_bytes.specs.Number.{number_in}
 use Rattle.prof_bytes.specs.Reading.{left_of}
 use Rattle.prof_bytes.specs.Fields.{Input, number_from, uleb_from, sleb_from, bytes_from}
 use Rattle.prof_bytes.specs.Outcome.{◌>>=◌}
 use Rattle.dwarf_forms.specs.Sections.{wrapped}
-use Rattle.dwarf_line.specs.declared.constants.TheConstants.{DW_LNS_copy, DW_LNS_advance_pc, DW_LNS_advance_line, DW_LNS_set_file, DW_LNS_set_column, DW_LNS_negate_stmt, DW_LNS_set_basic_block, DW_LNS_const_add_pc, DW_LNS_fixed_advance_pc, DW_LNS_set_prologue_end, DW_LNS_set_epilogue_begin, DW_LNS_set_isa, DW_LNE_end_sequence, DW_LNE_set_address}
+use Rattle.dwarf_line.specs.declared.constants.TheConstants.{DW_LNS_copy, DW_LNS_advance_pc, DW_LNS_advance_line}
+use Rattle.dwarf_line.specs.declared.constants.TheConstants.{DW_LNS_set_file, DW_LNS_set_column, DW_LNS_negate_stmt}
+use Rattle.dwarf_line.specs.declared.constants.TheConstants.{DW_LNS_set_basic_block, DW_LNS_const_add_pc}
+use Rattle.dwarf_line.specs.declared.constants.TheConstants.{DW_LNS_fixed_advance_pc, DW_LNS_set_prologue_end}
+use Rattle.dwarf_line.specs.declared.constants.TheConstants.{DW_LNS_set_epilogue_begin, DW_LNS_set_isa}
+use Rattle.dwarf_line.specs.declared.constants.TheConstants.{DW_LNE_end_sequence, DW_LNE_set_address}
 use Rattle.dwarf_line.specs.declared.fault.LineFault.{LineFault}
 use Rattle.dwarf_line.specs.declared.registers.LineRegisters.{LineRegisters}
 use Rattle.dwarf_line.specs.declared.registers.LineRow.{LineRow}
 use Rattle.dwarf_line.specs.declared.registers.OpcodeEffect.{OpcodeEffect}
-use Rattle.dwarf_line.specs.Names.{checked, present, counted_from}
-use Rattle.dwarf_line.specs.Headers.{Encoding}
+use Rattle.dwarf_line.specs.Names.{LineRead, checked, present, counted_from}
+use Rattle.dwarf_line.specs.Headers.{ProgramEncoding}
 
 -- ---- the state machine
 
@@ -27,19 +34,24 @@ at_address more registers = record registers { address = (registers.address + mo
 abbrev pub at_line : ℕ → LineRegisters → LineRegisters
 at_line more registers = record registers { line = (registers.line + more) % 2 ^ 32 }
 
-abbrev pub row_of : LineRegisters → LineRow
-row_of registers = record { address = registers.address; file = registers.file; line = registers.line; end_sequence = false }
+abbrev pub row_ending : Bool → LineRegisters → LineRow
+row_ending ends registers =
+    record { address = registers.address; file = registers.file; line = registers.line; end_sequence = ends }
 
-abbrev pub end_of : LineRegisters → LineRow
-end_of registers = record { address = registers.address; file = registers.file; line = registers.line; end_sequence = true }
+-- the row that is appended, and the one that ends a sequence
+abbrev pub row_of : LineRegisters → LineRow
+row_of registers = row_ending false registers
+
+abbrev pub end_row_of : LineRegisters → LineRow
+end_row_of registers = row_ending true registers
 
 -- a row is appended, and the registers are as they were
-abbrev pub appended : LineRegisters → OpcodeEffect
-appended registers = record { row = Some (row_of registers); registers = registers }
+abbrev pub row_appended : LineRegisters → OpcodeEffect
+row_appended registers = record { row = Some (row_of registers); registers = registers }
 
 -- no row is appended
-abbrev pub changed : LineRegisters → OpcodeEffect
-changed registers = record { row = None; registers = registers }
+abbrev pub no_row_appended : LineRegisters → OpcodeEffect
+no_row_appended registers = record { row = None; registers = registers }
 
 -- ---- special opcodes: section 6.2.5.1. They are adjusted: the opcode base is taken off
 
@@ -47,48 +59,48 @@ changed registers = record { row = None; registers = registers }
 abbrev pub signed_byte : ℕ → ℕ
 signed_byte byte = if nat_lt byte 128 then byte else 2 ^ 32 - 256 + byte
 
-abbrev pub address_advance : Encoding → ℕ → ℕ
+abbrev pub address_advance : ProgramEncoding → ℕ → ℕ
 address_advance encoding adjusted = adjusted / encoding.line_range * encoding.minimum_instruction_length
 
-abbrev pub line_advance : Encoding → ℕ → ℕ
+abbrev pub line_advance : ProgramEncoding → ℕ → ℕ
 line_advance encoding adjusted = signed_byte encoding.line_base + adjusted % encoding.line_range
 
-abbrev pub special : Encoding → ℕ → LineRegisters → OpcodeEffect
+abbrev pub special : ProgramEncoding → ℕ → LineRegisters → OpcodeEffect
 special encoding adjusted registers =
-    appended (at_line (line_advance encoding adjusted) (at_address (address_advance encoding adjusted) registers))
+    row_appended (at_line (line_advance encoding adjusted) (at_address (address_advance encoding adjusted) registers))
 
 -- ---- standard opcodes: section 6.2.5.2
 
-abbrev pub advance_pc_from : Encoding → LineRegisters → Input LineFault → Result (LineRegisters × Input LineFault) LineFault
+abbrev pub advance_pc_from : ProgramEncoding → LineRegisters → Input LineFault → LineRead LineRegisters
 advance_pc_from encoding registers input = do
   (advance, input) ← uleb_from input
   Ok (at_address (advance * encoding.minimum_instruction_length) registers, input)
 
-abbrev pub advance_line_from : LineRegisters → Input LineFault → Result (LineRegisters × Input LineFault) LineFault
+abbrev pub advance_line_from : LineRegisters → Input LineFault → LineRead LineRegisters
 advance_line_from registers input = do
   (advance, input) ← sleb_from input
   Ok (at_line (wrapped advance) registers, input)
 
-abbrev pub set_file_from : LineRegisters → Input LineFault → Result (LineRegisters × Input LineFault) LineFault
+abbrev pub set_file_from : LineRegisters → Input LineFault → LineRead LineRegisters
 set_file_from registers input = do
   (file, input) ← uleb_from input
   input ← checked (nat_lt file (2 ^ 32)) input
   Ok (record registers { file = file }, input)
 
-abbrev pub fixed_advance_pc_from : LineRegisters → Input LineFault → Result (LineRegisters × Input LineFault) LineFault
+abbrev pub fixed_advance_pc_from : LineRegisters → Input LineFault → LineRead LineRegisters
 fixed_advance_pc_from registers input = do
   (advance, input) ← number_from 2 input
   Ok (at_address advance registers, input)
 
 -- so many operands are passed over
-abbrev pub skipped_from : ℕ → LineRegisters → Input LineFault → Result (LineRegisters × Input LineFault) LineFault
+abbrev pub skipped_from : ℕ → LineRegisters → Input LineFault → LineRead LineRegisters
 skipped_from count registers input = do
   (operands, input) ← counted_from uleb_from count input
   Ok (registers, input)
 
 -- the registers after a standard opcode other than DW_LNS_copy. Those of a column, an instruction set and the flags are
 -- not kept; an opcode of a later version has as many operands as its length says
-abbrev pub registers_from : Encoding → ℕ → LineRegisters → Input LineFault → Result (LineRegisters × Input LineFault) LineFault
+abbrev pub registers_from : ProgramEncoding → ℕ → LineRegisters → Input LineFault → LineRead LineRegisters
 registers_from encoding opcode registers input =
     if opcode == DW_LNS_advance_pc then advance_pc_from encoding registers input
     else if opcode == DW_LNS_advance_line then advance_line_from registers input
@@ -101,24 +113,31 @@ registers_from encoding opcode registers input =
     || (opcode == DW_LNS_set_prologue_end) || (opcode == DW_LNS_set_epilogue_begin) then Ok (registers, input)
     else skipped_from (slice_index encoding.standard_opcode_lengths (opcode - 1)) registers input
 
-abbrev pub standard_from : Encoding → ℕ → LineRegisters → Input LineFault → Result (OpcodeEffect × Input LineFault) LineFault
+abbrev pub standard_from : ProgramEncoding → ℕ → LineRegisters → Input LineFault → LineRead OpcodeEffect
 standard_from encoding opcode registers input =
-    if opcode == DW_LNS_copy then Ok (appended registers, input)
-    else registers_from encoding opcode registers input >>= (λ after. Ok (changed after.0, after.1))
+    if opcode == DW_LNS_copy then Ok (row_appended registers, input)
+    else registers_from encoding opcode registers input >>= (λ after. Ok (no_row_appended after.0, after.1))
 
 -- ---- extended opcodes: section 6.2.5.3
 
--- an extended opcode by its bytes; nothing where the address of DW_LNE_set_address has other than four bytes. Others are
--- passed over
+-- the sequence ends, and the registers are as at the beginning of the next one
+abbrev pub sequence_ended : LineRegisters → OpcodeEffect
+sequence_ended registers = record { row = Some (end_row_of registers); registers = start }
+
+abbrev pub address_set : ℕ → LineRegisters → OpcodeEffect
+address_set address registers = no_row_appended (record registers { address = address })
+
+-- an extended opcode by its bytes; nothing where the address of DW_LNE_set_address has other than four bytes. Others
+-- are passed over
 abbrev pub extended : List ℕ → LineRegisters → Option OpcodeEffect
 extended body registers =
-    if slice_index body 0 == DW_LNE_end_sequence then Some (record { row = Some (end_of registers); registers = start })
+    if slice_index body 0 == DW_LNE_end_sequence then Some (sequence_ended registers)
     else if slice_index body 0 == DW_LNE_set_address then
-    (if length body == 5 then Some (changed (record registers { address = number_in 4 (drop 1 body) })) else None)
-    else Some (changed registers)
+    (if length body == 5 then Some (address_set (number_in 4 (drop 1 body)) registers) else None)
+    else Some (no_row_appended registers)
 
 -- a size, which is not 0, and as many bytes
-unfoldable pub extended_from : LineRegisters → Input LineFault → Result (OpcodeEffect × Input LineFault) LineFault
+unfoldable pub extended_from : LineRegisters → Input LineFault → LineRead OpcodeEffect
 extended_from registers input = do
   (size, input) ← uleb_from input
   input ← checked (not (size == 0)) input
@@ -127,20 +146,20 @@ extended_from registers input = do
 
 -- ---- the program
 
-abbrev pub by_opcode : Encoding → ℕ → LineRegisters → Input LineFault → Result (OpcodeEffect × Input LineFault) LineFault
+abbrev pub by_opcode : ProgramEncoding → ℕ → LineRegisters → Input LineFault → LineRead OpcodeEffect
 by_opcode encoding opcode registers input =
     if nat_le encoding.opcode_base opcode then Ok (special encoding (opcode - encoding.opcode_base) registers, input)
     else if opcode == 0 then extended_from registers input
     else standard_from encoding opcode registers input
 
 -- an opcode; its fault is at its offset
-unfoldable pub opcode_from : Encoding → LineRegisters → Input LineFault → Result (OpcodeEffect × Input LineFault) LineFault
+unfoldable pub opcode_from : ProgramEncoding → LineRegisters → Input LineFault → LineRead OpcodeEffect
 opcode_from encoding registers input = do
   (opcode, input) ← number_from 1 (record input { missing = record { offset = input.at.offset } })
   by_opcode encoding opcode registers input
 
 -- the rows that a program appends from here to its end, in at most `room` opcodes
-unfoldable pub rows_from : Encoding → ℕ → LineRegisters → Input LineFault → Result (List LineRow) LineFault
+unfoldable pub rows_from : ProgramEncoding → ℕ → LineRegisters → Input LineFault → Result (List LineRow) LineFault
 rows_from encoding zero registers input = Ok []
 rows_from encoding (suc room) registers input = if length (left_of input.at) == 0 then Ok [] else do
   (effect, input) ← opcode_from encoding registers input
@@ -148,5 +167,5 @@ rows_from encoding (suc room) registers input = if length (left_of input.at) == 
   Ok (option_to_list effect.row ++ rows)
 
 -- the matrix of a program: each opcode has one byte or more, so there are at most as many of them as bytes
-abbrev pub matrix_from : Encoding → Input LineFault → Result (List LineRow) LineFault
+abbrev pub matrix_from : ProgramEncoding → Input LineFault → Result (List LineRow) LineFault
 matrix_from encoding program = rows_from encoding (length (left_of program.at)) start program

@@ -1,5 +1,6 @@
 -- Sequences of the matrix, and the row in force at an address. DWARF 5, section 6.2.
-use Rattle.std.specs.Prelude.{ℕ, ◌==◌, ◌&&◌, Bool, nat_le, max, List, [], ◌∷◌, ◌++◌, map, filter, find, fold, reverse, Option, option_map, if◌then◌else◌}
+use Rattle.std.specs.Prelude.{ℕ, ◌==◌, ◌&&◌, Bool, nat_le, max, List, [], ◌∷◌, ◌++◌, map, filter, find, fold, reverse}
+use Rattle.std.specs.Prelude.{Option, option_map, if◌then◌else◌}
 use Rattle.std.specs.Option.{option_and_then}
 use Rattle.address_ranges.specs.declared.ranges.AddressRange.{AddressRange}
 use Rattle.address_ranges.specs.Ranges.{holds}
@@ -10,7 +11,8 @@ use Rattle.scope_types.specs.declared.scope.LineId.TheVariants as lines
 use Rattle.dwarf_line.specs.declared.registers.LineRow.{LineRow}
 use Rattle.dwarf_line.specs.declared.sequence.Sequence.{Sequence}
 
--- the rows before each row that ends a sequence, with that row's address. Rows after the last of these are in no sequence
+-- the rows before each row that ends a sequence, with that row's address. Rows after the last of these are in no
+-- sequence
 unfoldable pub sequences_from : ℕ → List LineRow → List LineRow → List Sequence
 sequences_from table before [] = []
 sequences_from table before (row ∷ rows) =
@@ -18,16 +20,16 @@ sequences_from table before (row ∷ rows) =
     else sequences_from table (before ++ row ∷ []) rows
 
 -- a sequence goes from its first row's address up to its end
-abbrev pub span : ℕ → List LineRow → AddressRange
-span end [] = record { start = 0; end = 0 }
-span end (first ∷ rows) = record { start = first.address; end = end }
+abbrev pub rows_range : ℕ → List LineRow → AddressRange
+rows_range end [] = record { start = 0; end = 0 }
+rows_range end (first ∷ rows) = record { start = first.address; end = end }
 
-abbrev pub span_of : Sequence → AddressRange
-span_of q = span q.end q.rows
+abbrev pub sequence_range : Sequence → AddressRange
+sequence_range q = rows_range q.end q.rows
 
 -- a sequence counts where its addresses do
 abbrev pub is_counted : List Segment → Sequence → Bool
-is_counted segments q = counts segments (span_of q).start (span_of q).end
+is_counted segments q = counts segments (sequence_range q).start (sequence_range q).end
 
 -- the greatest address of a row that is at most `at`
 abbrev pub greatest : ℕ → List LineRow → ℕ
@@ -37,10 +39,12 @@ greatest at rows = fold max 0 (map (λ r. r.address) (filter (λ r. nat_le r.add
 abbrev pub row_at : ℕ → List LineRow → Option LineRow
 row_at at rows = find (λ r. (r.address == greatest at rows) && nat_le r.address at) (reverse rows)
 
-abbrev pub line_of : ℕ → LineRow → LineId
-line_of table row = lines.Row table row.file row.line
+abbrev pub row_line : ℕ → LineRow → LineId
+row_line table row = lines.Row table row.file row.line
 
--- the row in force at an address: in the first sequence that holds it, the last row at the greatest address at most that one
+-- the row in force at an address: in the first sequence that holds it, the last row at the greatest address at most
+-- that one
 abbrev pub line_at : List Sequence → ℕ → Option LineId
 line_at sequences at =
-    option_and_then (λ q. option_map (line_of q.table) (row_at at q.rows)) (find (λ q. holds at (span_of q)) sequences)
+    option_and_then (λ q. option_map (row_line q.table) (row_at at q.rows))
+    (find (λ q. holds at (sequence_range q)) sequences)

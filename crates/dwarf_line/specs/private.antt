@@ -1,4 +1,4 @@
-pub mod FirstValues
+pub mod ContentValues
 pub mod BestRow
 pub mod Rising
 pub mod Collecting

@@ -1,7 +1,7 @@
 //! How a line number program is encoded.
 ghost use Rattle.std.specs.Prelude.{◌≡◌, ◌<◌, ◌^◌, ◌-◌, slice_index};
 ghost use Rattle.prof_bytes.specs.Outcome.{GivesAt};
-ghost use Rattle.dwarf_line.specs.Headers.{is_supported, encoding_from};
+ghost use Rattle.dwarf_line.specs.Headers.{is_supported, line_encoding_from};
 ghost use Rattle.dwarf_line.specs.Programs.{signed_byte, address_advance, line_advance};
 
 use crate::fault::LineFault;
@@ -20,9 +20,9 @@ pub(crate) struct LineEncoding<'a> {
 
 impl<'a> Model for LineEncoding<'a> {
     ghost use Rattle.std.specs.Prelude.{◌<◌};
-    ghost use Rattle.dwarf_line.specs.Headers.{Encoding};
+    ghost use Rattle.dwarf_line.specs.Headers.{ProgramEncoding};
 
-    ghost Value = { Encoding };
+    ghost Value = { ProgramEncoding };
 
     ghost view = { λ encoding. record {
       minimum_instruction_length = encoding.minimum_instruction_length;
@@ -55,9 +55,9 @@ fn signed_byte(byte: u8) -> u32
 
 impl<'a> LineEncoding<'a> {
     /// The encoding at the reader, from `minimum_instruction_length` to `standard_opcode_lengths`.
-    #[tactic(auto, unfolding(crate::specs::Headers::encoding_from))]
+    #[tactic(auto, unfolding(crate::specs::Headers::line_encoding_from))]
     pub(crate) fn read(reader: &mut Reader<'a, LineFault>) -> Result<LineEncoding<'a>, LineFault>
-        ensures { GivesAt (λ e. e) result reader.new (encoding_from reader.old) }
+        ensures { GivesAt (λ e. e) result reader.new (line_encoding_from reader.old) }
     {
         let minimum_instruction_length = reader.u8()?;
         let maximum_operations_per_instruction = reader.u8()?;

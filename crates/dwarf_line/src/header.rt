@@ -1,7 +1,7 @@
 //! The header of a line table (DWARF 5, section 6.2.4).
 ghost use Rattle.std.specs.Prelude.{◌≡◌, ◌<◌, ◌^◌, length, option_map};
 ghost use Rattle.prof_bytes.specs.Outcome.{Gives};
-ghost use Rattle.dwarf_line.specs.Headers.{version5_from, by_version, header_from};
+ghost use Rattle.dwarf_line.specs.Headers.{header5_from, header_by_version, header_from};
 ghost use Rattle.dwarf_line.specs.Names.{texts_of};
 
 use crate::encoding::LineEncoding;
@@ -35,13 +35,13 @@ impl<'a> Model for LineHeader<'a> {
 }
 
 /// A header of version 5 behind the version.
-#[tactic(auto, unfolding(crate::specs::Headers::version5_from))]
+#[tactic(auto, unfolding(crate::specs::Headers::header5_from))]
 fn version5<'a>(
     alloc: Global,
     sections: &DebugParts<'a>,
     reader: &mut Reader<'a, LineFault>,
 ) -> Result<LineHeader<'a>, Fail<LineFault>>
-    ensures { Gives (λ h. h) result (version5_from (texts_of sections.now) reader.old) }
+    ensures { Gives (λ h. h) result (header5_from (texts_of sections.now) reader.old) }
 {
     let address_size = reader.u8()?;
     let segment_selector_size = reader.u8()?;

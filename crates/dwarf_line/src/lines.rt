@@ -1,9 +1,11 @@
 //! The line tables at some offsets, and what is asked of them.
-ghost use Rattle.std.specs.Prelude.{◌≡◌, ◌<◌, ◌^◌, ◌++◌, ◌∷◌, [], option_to_list, IfOk, OnOk, is_some, length, take, unwrap_or};
+ghost use Rattle.std.specs.Prelude.{◌≡◌, ◌<◌, ◌^◌, ◌++◌, ◌∷◌, [], option_to_list, IfOk, OnOk, is_some, length, take};
+ghost use Rattle.std.specs.Prelude.{unwrap_or};
 ghost use Rattle.std.specs.Option.{option_copied};
 ghost use Rattle.prof_bytes.specs.Outcome.{Gives};
 ghost use Rattle.dwarf_line.specs.Names.{texts_of};
-ghost use Rattle.dwarf_line.specs.Lines.{table_by, table_of, tables_of, lines_at, table_with, joined, directory_path, file_in, file_name_of, unknown_file};
+ghost use Rattle.dwarf_line.specs.Lines.{table_by, line_table_of, line_tables_of, lines_at, table_with, joined_path};
+ghost use Rattle.dwarf_line.specs.Lines.{directory_path, file_in, file_name_of, unknown_file};
 ghost use Rattle.dwarf_line.specs.Sequences.{line_at};
 ghost use Rattle.dwarf_line.specs.private.Tables.{behind};
 
@@ -94,8 +96,8 @@ fn directory_path<'a>(directories: &[NameEntry<'a>], index: Option<u64>) -> &'a 
     }
 }
 
-fn joined(alloc: Global, directory: &[u8], path: &[u8]) -> Result<Text, Memory>
-    ensures { IfOk result (λ name. name ≡ take 4096 (joined directory.now path.now)) }
+fn joined_path(alloc: Global, directory: &[u8], path: &[u8]) -> Result<Text, Memory>
+    ensures { IfOk result (λ name. name ≡ take 4096 (joined_path directory.now path.now)) }
 {
     let mut name = Vec::new(alloc);
     if !directory.is_empty() && path.first() != Some(&b'/') {
@@ -113,7 +115,7 @@ fn name_in(alloc: Global, table: &Table<'_>, file: u32) -> Result<Text, Memory>
     match table.file_names.as_slice().get(file as usize) {
         Some(entry) => {
             let directory = directory_path(table.directories.as_slice(), entry.directory_index);
-            joined(alloc, directory, entry.path)
+            joined_path(alloc, directory, entry.path)
         }
         None => Text::of(alloc, b"<unknown file>"),
     }
@@ -128,7 +130,8 @@ fn run_header<'a>(
 ) -> Result<Table<'a>, Fail<LineFault>>
     requires { length header.program.at.whole < 2 ^ 32 }
     ensures segments { IfOk result (λ _. collector.new.segments ≡ collector.old.segments) }
-    ensures table { Gives (λ t. (t ∷ [], collector.new.sequences)) result (behind [] collector.old.sequences (table_by collector.old.segments offset (Some header.entry))) }
+    ensures table { Gives (λ t. (t ∷ [], collector.new.sequences)) result
+        (behind [] collector.old.sequences (table_by collector.old.segments offset (Some header.entry))) }
 {
     let LineHeader {
         encoding,
@@ -147,7 +150,7 @@ fn run_header<'a>(
 
 /// Reads the table at an offset; its sequences that count are collected. `None` for a table of an earlier
 /// version.
-#[tactic(auto, unfolding(crate::specs::Lines::table_of))]
+#[tactic(auto, unfolding(crate::specs::Lines::line_table_of))]
 fn read_table<'a>(
     alloc: Global,
     line: &'a [u8],
@@ -157,7 +160,9 @@ fn read_table<'a>(
 ) -> Result<Option<Table<'a>>, Fail<LineFault>>
     requires { length line.now < 2 ^ 32 }
     ensures segments { IfOk result (λ _. collector.new.segments ≡ collector.old.segments) }
-    ensures table { Gives (λ t. (option_to_list t, collector.new.sequences)) result (behind [] collector.old.sequences (table_of line.now (texts_of sections.now) collector.old.segments offset)) }
+    ensures table { Gives (λ t. (option_to_list t, collector.new.sequences)) result
+        (behind [] collector.old.sequences
+        (line_table_of line.now (texts_of sections.now) collector.old.segments offset)) }
 {
     let fault = LineFault { offset };
     let mut reader = reader_at(line, offset as usize, fault)?;
@@ -176,7 +181,9 @@ fn read_tables<'a>(
     collector: &mut Collector<'_, '_>,
 ) -> Result<Vec<Table<'a>>, Fail<LineFault>>
     requires { length line.now < 2 ^ 32 }
-    ensures { Gives (λ v. (v.items, collector.new.sequences)) result (behind [] collector.old.sequences (tables_of line.now (texts_of sections.now) collector.old.segments offsets.now)) }
+    ensures { Gives (λ v. (v.items, collector.new.sequences)) result
+        (behind [] collector.old.sequences
+        (line_tables_of line.now (texts_of sections.now) collector.old.segments offsets.now)) }
 {
     let mut tables = Vec::new(alloc);
     let mut rest = offsets;
@@ -209,7 +216,8 @@ pub fn read_lines<'a>(
     offsets: &[u32],
 ) -> Result<LineTable<'a>, Fail<LineFault>>
     requires { length line.now < 2 ^ 31 }
-    ensures { Gives (λ lines. lines) result (lines_at line.now (texts_of sections.entry) image.now.segments offsets.now) }
+    ensures { Gives (λ lines. lines) result
+        (lines_at line.now (texts_of sections.entry) image.now.segments offsets.now) }
 {
     let mut collector = Collector::new(alloc, image);
     let tables = read_tables(alloc, line, &sections, offsets, &mut collector)?;

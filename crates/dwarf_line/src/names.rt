@@ -1,11 +1,11 @@
 //! Directories and files of a line table (DWARF 5, section 6.2.4.1).
-ghost use Rattle.std.specs.Prelude.{◌≡◌, ◌==◌, Some, None, option_map, if◌then◌else◌};
-ghost use Rattle.std.specs.Option.{option_copied, option_or};
+ghost use Rattle.std.specs.Prelude.{◌≡◌, option_map};
+ghost use Rattle.std.specs.Option.{option_copied};
 ghost use Rattle.prof_bytes.specs.Outcome.{GivesAt, GivesFrom};
 ghost use Rattle.dwarf_forms.specs.Values.{form_value};
-ghost use Rattle.dwarf_line.specs.declared.constants.TheConstants.{DW_LNCT_path, DW_LNCT_directory_index};
-ghost use Rattle.dwarf_line.specs.Names.{texts_of, counted_from, format_from, path_of, directory_index_of, entry_from, names_from};
-ghost use Rattle.dwarf_line.specs.private.FirstValues.{values_of, first_values, entry_by};
+ghost use Rattle.dwarf_line.specs.Names.{texts_of, counted_from, format_from, path_by_value, index_by_value};
+ghost use Rattle.dwarf_line.specs.Names.{name_entry_from, names_from};
+ghost use Rattle.dwarf_line.specs.private.ContentValues.{held_values, content_values_from, as_first, before};
 
 use crate::constants::{DW_LNCT_directory_index, DW_LNCT_path};
 use crate::fault::LineFault;
@@ -73,8 +73,7 @@ struct EntryValues<'a> {
 }
 
 fn noted<'a>(values: EntryValues<'a>, content_type: u64, value: Value<'a>) -> EntryValues<'a>
-    ensures path { option_map form_value result.path ≡ option_or (option_map form_value values.entry.path) (if content_type == DW_LNCT_path then Some (form_value value.entry) else None) }
-    ensures directory_index { option_map form_value result.directory_index ≡ option_or (option_map form_value values.entry.directory_index) (if content_type == DW_LNCT_directory_index then Some (form_value value.entry) else None) }
+    ensures { held_values result ≡ before (held_values values.entry) (as_first content_type (form_value value.entry)) }
 {
     let EntryValues {
         path,
@@ -103,7 +102,7 @@ fn entry_values<'a>(
     reader: &mut Reader<'a, LineFault>,
     formats: &[EntryFormat],
 ) -> Result<EntryValues<'a>, LineFault>
-    ensures { GivesAt values_of result reader.new (first_values formats.now reader.old) }
+    ensures { GivesAt held_values result reader.new (content_values_from formats.now reader.old) }
 {
     let mut values = EntryValues {
         path: None,
@@ -119,8 +118,8 @@ fn entry_values<'a>(
 }
 
 /// A path by its value; the empty one where there is no value, and `None` where it isn't a text.
-fn path_of<'a>(sections: &DebugParts<'a>, value: Option<Value<'a>>) -> Option<&'a [u8]>
-    ensures { option_copied result ≡ path_of (texts_of sections.now) (option_map form_value value.entry) }
+fn path_by_value<'a>(sections: &DebugParts<'a>, value: Option<Value<'a>>) -> Option<&'a [u8]>
+    ensures { option_copied result ≡ path_by_value (texts_of sections.now) (option_map form_value value.entry) }
 {
     match value {
         None => Some(EMPTY),
@@ -132,8 +131,8 @@ fn path_of<'a>(sections: &DebugParts<'a>, value: Option<Value<'a>>) -> Option<&'
 }
 
 /// A directory index by its value; `None` where it isn't a number.
-fn directory_index_of(value: Option<Value<'_>>) -> Option<Option<u64>>
-    ensures { result ≡ directory_index_of (option_map form_value value.entry) }
+fn index_by_value(value: Option<Value<'_>>) -> Option<Option<u64>>
+    ensures { result ≡ index_by_value (option_map form_value value.entry) }
 {
     match value {
         None => Some(None),
@@ -142,31 +141,26 @@ fn directory_index_of(value: Option<Value<'_>>) -> Option<Option<u64>>
     }
 }
 
-fn entry_by<'a>(sections: &DebugParts<'a>, values: EntryValues<'a>) -> Option<NameEntry<'a>>
-    ensures { result ≡ entry_by (texts_of sections.now) (values_of values.entry) }
-{
-    let path = path_of(sections, values.path)?;
-    let directory_index = directory_index_of(values.directory_index)?;
-    Some(NameEntry {
-        path,
-        directory_index,
-    })
-}
-
 /// An entry by its formats.
-#[tactic(auto, using(crate::proofs::FirstValues::entry_by_first))]
+#[tactic(auto, using(crate::proofs::ContentValues::entry_by_first))]
 fn read_entry<'a>(
     sections: &DebugParts<'a>,
     reader: &mut Reader<'a, LineFault>,
     formats: &[EntryFormat],
 ) -> Result<NameEntry<'a>, LineFault>
-    ensures { GivesAt (λ e. e) result reader.new (entry_from (texts_of sections.now) formats.now reader.old) }
+    ensures { GivesAt (λ e. e) result reader.new (name_entry_from (texts_of sections.now) formats.now reader.old) }
 {
     let values = entry_values(reader, formats)?;
-    match entry_by(sections, values) {
-        Some(entry) => Ok(entry),
-        None => Err(reader.missing()),
-    }
+    let Some(path) = path_by_value(sections, values.path) else {
+        return Err(reader.missing());
+    };
+    let Some(directory_index) = index_by_value(values.directory_index) else {
+        return Err(reader.missing());
+    };
+    Ok(NameEntry {
+        path,
+        directory_index,
+    })
 }
 
 fn entries<'a>(
@@ -176,7 +170,8 @@ fn entries<'a>(
     formats: &[EntryFormat],
     count: u64,
 ) -> Result<Vec<NameEntry<'a>>, Fail<LineFault>>
-    ensures { GivesFrom (λ v. v.items) result reader.new (counted_from (entry_from (texts_of sections.now) formats.now) count reader.old) }
+    ensures { GivesFrom (λ v. v.items) result reader.new
+        (counted_from (name_entry_from (texts_of sections.now) formats.now) count reader.old) }
 {
     let mut entries = Vec::new(alloc);
     for _ in 0..count {

@@ -1,7 +1,10 @@
 //! The opcodes of the line number program (DWARF 5, section 6.2.5).
 ghost use Rattle.std.specs.Prelude.{◌≡◌, ◌<◌, ◌^◌, ◌+◌, ◌%◌, length};
 ghost use Rattle.prof_bytes.specs.Outcome.{GivesAt};
-ghost use Rattle.dwarf_line.specs.Programs.{start, at_address, at_line, row_of, end_of, appended, changed, special, advance_pc_from, set_file_from, skipped_from, registers_from, standard_from, extended, extended_from, by_opcode, opcode_from};
+ghost use Rattle.dwarf_line.specs.Programs.{start, at_address, at_line, row_of, end_row_of, row_appended};
+ghost use Rattle.dwarf_line.specs.Programs.{no_row_appended, special, advance_pc_from, set_file_from, skipped_from};
+ghost use Rattle.dwarf_line.specs.Programs.{registers_from, standard_from, extended, extended_from, by_opcode};
+ghost use Rattle.dwarf_line.specs.Programs.{opcode_from};
 
 use crate::constants::{
     DW_LNE_end_sequence, DW_LNE_set_address, DW_LNS_advance_line, DW_LNS_advance_pc,
@@ -68,8 +71,8 @@ fn row_of(registers: LineRegisters) -> LineRow
     }
 }
 
-fn end_of(registers: LineRegisters) -> LineRow
-    ensures { result ≡ end_of registers }
+fn end_row_of(registers: LineRegisters) -> LineRow
+    ensures { result ≡ end_row_of registers }
 {
     LineRow {
         address: registers.address,
@@ -79,8 +82,8 @@ fn end_of(registers: LineRegisters) -> LineRow
     }
 }
 
-fn appended(registers: LineRegisters) -> OpcodeEffect
-    ensures { result ≡ appended registers }
+fn row_appended(registers: LineRegisters) -> OpcodeEffect
+    ensures { result ≡ row_appended registers }
 {
     OpcodeEffect {
         row: Some(row_of(registers)),
@@ -88,8 +91,8 @@ fn appended(registers: LineRegisters) -> OpcodeEffect
     }
 }
 
-fn changed(registers: LineRegisters) -> OpcodeEffect
-    ensures { result ≡ changed registers }
+fn no_row_appended(registers: LineRegisters) -> OpcodeEffect
+    ensures { result ≡ no_row_appended registers }
 {
     OpcodeEffect {
         row: None,
@@ -102,7 +105,7 @@ fn special(encoding: &LineEncoding<'_>, adjusted: u8, registers: LineRegisters) 
     ensures { result ≡ special encoding.now adjusted registers }
 {
     let moved = at_address(registers, encoding.address_advance(adjusted));
-    appended(at_line(moved, encoding.line_advance(adjusted)))
+    row_appended(at_line(moved, encoding.line_advance(adjusted)))
 }
 
 fn advance_pc(
@@ -192,10 +195,10 @@ fn standard(
     ensures { GivesAt (λ e. e) result reader.new (standard_from encoding.now opcode registers reader.old) }
 {
     if opcode == DW_LNS_copy {
-        return Ok(appended(registers));
+        return Ok(row_appended(registers));
     }
     let after = registers_after(encoding, opcode, registers, reader)?;
-    Ok(changed(after))
+    Ok(no_row_appended(after))
 }
 
 /// An extended opcode by its bytes; `None` where an address has other than four bytes.
@@ -205,20 +208,20 @@ fn extended(body: &[u8], registers: LineRegisters) -> Option<OpcodeEffect>
 {
     match body {
         [DW_LNE_end_sequence, ..] => Some(OpcodeEffect {
-            row: Some(end_of(registers)),
+            row: Some(end_row_of(registers)),
             registers: start(),
         }),
         [DW_LNE_set_address, address @ ..] => {
             if address.len() != 4 {
                 return None;
             }
-            Some(changed(LineRegisters {
+            Some(no_row_appended(LineRegisters {
                 address: LittleEndian::read_u32(address),
                 file: registers.file,
                 line: registers.line,
             }))
         }
-        _ => Some(changed(registers)),
+        _ => Some(no_row_appended(registers)),
     }
 }
 

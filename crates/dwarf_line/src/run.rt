@@ -18,7 +18,8 @@ pub(crate) fn run(
 ) -> Result<(), Fail<LineFault>>
     requires { length program.old.at.whole < 2 ^ 32 }
     ensures segments { IfOk result (λ _. collector.new.segments ≡ collector.old.segments) }
-    ensures sequences { Gives (λ _. collector.new.sequences) result (collected collector.old (matrix_from encoding.now program.old)) }
+    ensures sequences { Gives (λ _. collector.new.sequences) result
+        (collected collector.old (matrix_from encoding.now program.old)) }
 {
     let mut registers = start();
     let room = program.left();

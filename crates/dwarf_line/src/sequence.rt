@@ -1,7 +1,7 @@
 //! Sequences of the matrix, and the collection of those that count.
 ghost use Rattle.std.specs.Prelude.{◌≡◌, [], IfOk};
 ghost use Rattle.elf_image.specs.Image.{counts};
-ghost use Rattle.dwarf_line.specs.Sequences.{span, span_of, is_counted};
+ghost use Rattle.dwarf_line.specs.Sequences.{rows_range, sequence_range, is_counted};
 ghost use Rattle.dwarf_line.specs.private.Collecting.{with_row, with_effect};
 
 use crate::registers::LineRow;
@@ -22,9 +22,9 @@ pub(crate) struct Sequence {
 }
 
 impl HasRange for Sequence {
-    ghost use Rattle.dwarf_line.specs.Sequences.{span_of};
+    ghost use Rattle.dwarf_line.specs.Sequences.{sequence_range};
 
-    ghost range_of = { span_of };
+    ghost range_of = { sequence_range };
 
     fn range(&self) -> AddressRange {
         match self.rows.as_slice().first() {

@@ -5,4 +5,5 @@ use Rattle.dwarf_line.specs.declared.rows.BestRow.{BestRow}
 
 abbrev pub better : ℕ → BestRow → LineRow → BestRow
 better at best row =
-    if nat_le row.address at && nat_le best.greatest row.address then record { greatest = row.address; found = Some row } else best
+    if nat_le row.address at && nat_le best.greatest row.address
+    then record { greatest = row.address; found = Some row } else best

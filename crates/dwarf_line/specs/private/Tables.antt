@@ -12,7 +12,8 @@ abbrev pub offset_range : TableNames → AddressRange
 offset_range table = record { start = table.offset; end = table.offset + 1 }
 
 -- the names of the tables and the sequences that count, behind those of earlier tables
-abbrev pub behind : List TableNames → List Sequence → Result (List TableRead) LineFault → Result (List TableNames × List Sequence) LineFault
+abbrev pub behind : List TableNames → List Sequence → Result (List TableRead) LineFault
+    → Result (List TableNames × List Sequence) LineFault
 behind tables sequences read = do
   reads ← read
   Ok (tables ++ map (λ t. t.names) reads, sequences ++ flat_map (λ t. t.sequences) reads)
