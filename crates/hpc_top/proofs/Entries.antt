@@ -4,12 +4,12 @@ use Rattle.std.proofs.lemmas.List.{map-append, take_more}
 use Rattle.std.proofs.lemmas.List.Concat.{flat_map-append}
 use Rattle.elf_image.specs.Image.{ProgramImage}
 use Rattle.scope_types.specs.declared.path.Entry.{Entry}
-use Rattle.scope_types.specs.CallPaths.{HartPath, path_of, each_path}
+use Rattle.scope_types.specs.CallPaths.{HartPath, entry_path, each_path}
 use Rattle.hpc_top.specs.PathCounts.{Counted, words_path, each_words}
 
-entries_parts : (es : List Entry) (e : Entry) → each_path (es ++ e ∷ []) ≡ each_path es ++ replicate e.count (path_of e)
+entries_parts : (es : List Entry) (e : Entry) → each_path (es ++ e ∷ []) ≡ each_path es ++ replicate e.count (entry_path e)
 unfolding each_path
-entries_parts es e = let f : Entry → List HartPath = λ e. replicate e.count (path_of e) in flat_map-append f es (e ∷ []) ∙ ap (λ (l : List HartPath). each_path es ++ l) (append-nil (f e))
+entries_parts es e = let f : Entry → List HartPath = λ e. replicate e.count (entry_path e) in flat_map-append f es (e ∷ []) ∙ ap (λ (l : List HartPath). each_path es ++ l) (append-nil (f e))
 
 map-replicate : {X Y : Type 0} (f : X → Y) (n : ℕ) (x : X) → map f (replicate n x) ≡ replicate n (f x)
 map-replicate f zero x = refl
@@ -29,7 +29,7 @@ module _ {A : Type 0} (image : ProgramImage) where
   at_place (d ∷ cs) zero c found = (omega arith, (let e : d ≡ c = cc in e))
   at_place (d ∷ cs) (suc i) c found = let rest = at_place cs i c found in (omega (arith, rest.0), rest.1)
 
-  pub one_entry_more : (cs : Counted A) (i : ℕ) (es : List Entry) (words : Vec ℕ A) (count : ℕ) (e : Entry) → slice_get cs i ≡ Some (words, count) → each_path es ≡ map (words_path image) (each_words (take i cs)) → path_of e ≡ words_path image words.items → e.count ≡ count
+  pub one_entry_more : (cs : Counted A) (i : ℕ) (es : List Entry) (words : Vec ℕ A) (count : ℕ) (e : Entry) → slice_get cs i ≡ Some (words, count) → each_path es ≡ map (words_path image) (each_words (take i cs)) → entry_path e ≡ words_path image words.items → e.count ≡ count
       → each_path (es ++ e ∷ []) ≡ map (words_path image) (each_words (take (i + 1) cs))
   one_entry_more cs i es words count e found so_far path counted =
       let c : Vec ℕ A × ℕ = (words, count) in

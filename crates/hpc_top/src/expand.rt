@@ -1,6 +1,6 @@
 //! The call paths of distinct raw paths, by the program's function symbols.
 ghost use Rattle.std.specs.Prelude.{◌≡◌, ◌++◌, ◌∷◌, [], map, IfOk, OnOk};
-ghost use Rattle.scope_types.specs.CallPaths.{each_path, path_of};
+ghost use Rattle.scope_types.specs.CallPaths.{each_path, entry_path};
 ghost use Rattle.scope_types.specs.Expansion.{expansion};
 ghost use Rattle.hpc_top.specs.Samples.{found_at, procedure_at};
 ghost use Rattle.hpc_top.specs.PathCounts.{each_words, root_from, words_path};
@@ -65,7 +65,7 @@ fn expand(
 }
 
 fn entry_of(alloc: Global, image: &Image<'_>, words: &[u32], count: u32) -> Result<Entry, Memory>
-    ensures path { IfOk result (λ e. path_of e ≡ words_path image.now words.now) }
+    ensures path { IfOk result (λ e. entry_path e ≡ words_path image.now words.now) }
     ensures count { IfOk result (λ e. e.count ≡ count) }
 {
     match words {

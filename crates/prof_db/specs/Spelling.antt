@@ -8,7 +8,7 @@ use Rattle.scope_types.specs.declared.scope.LineId.{LineId}
 use Rattle.scope_types.specs.declared.scope.LineId.TheVariants.{Row, Address}
 use Rattle.scope_types.specs.declared.scope.Scope.{Scope}
 use Rattle.scope_types.specs.declared.scope.Scope.TheVariants.{Root, Proc, Inline, Call, Stmt}
-use Rattle.scope_types.specs.Words.{kind_words, proc_words}
+use Rattle.scope_types.specs.Words.{root_words, proc_words}
 use Rattle.tree_types.specs.declared.content.Content.{Content}
 use Rattle.tree_types.specs.declared.content.ContextEntry.{ContextEntry}
 use Rattle.tree_types.specs.declared.content.Kind.{Kind}
@@ -40,44 +40,45 @@ procedure_bytes p = words (proc_words p.id) ++ text_bytes p.name
 abbrev pub file_bytes : FileName → List ℕ
 file_bytes f = word f.table ++ word f.file ++ text_bytes f.name
 
--- the places of a procedure and of a file in the lists of names
-abbrev pub proc_place : Names → ProcId → ℕ
-proc_place names id = position_or_len (λ p. is_eq (proc_order id p.id)) names.procs
+-- the indices of a procedure and of a file in the lists of names
+abbrev pub proc_index : Names → ProcId → ℕ
+proc_index names id = position_or_len (λ p. is_eq (proc_order id p.id)) names.procs
 
-abbrev pub file_place : Names → ℕ → ℕ → ℕ
-file_place names table number = position_or_len (λ f. is_eq (file_order (table, number) (f.table, f.file))) names.files
+abbrev pub file_index : Names → ℕ → ℕ → ℕ
+file_index names table number = position_or_len (λ f. is_eq (file_order (table, number) (f.table, f.file))) names.files
 
-abbrev pub line_spelled : Names → LineId → List ℕ
-line_spelled names (Row table number line) = 0 ∷ file_place names table number ∷ line ∷ []
-line_spelled names (Address address) = 1 ∷ address ∷ []
+abbrev pub line_numbers : Names → LineId → List ℕ
+line_numbers names (Row table number line) = 0 ∷ file_index names table number ∷ line ∷ []
+line_numbers names (Address address) = 1 ∷ address ∷ []
 
-abbrev pub scope_spelled : Names → Scope → List ℕ
-scope_spelled names (Root kind) = 0 ∷ kind_words kind
-scope_spelled names (Proc id) = 1 ∷ proc_place names id ∷ []
-scope_spelled names (Inline callee call) = 2 ∷ proc_place names callee ∷ line_spelled names call
-scope_spelled names (Call line) = 3 ∷ line_spelled names line
-scope_spelled names (Stmt line) = 4 ∷ line_spelled names line
+abbrev pub scope_numbers : Names → Scope → List ℕ
+scope_numbers names (Root kind) = 0 ∷ root_words kind
+scope_numbers names (Proc id) = 1 ∷ proc_index names id ∷ []
+scope_numbers names (Inline callee call) = 2 ∷ proc_index names callee ∷ line_numbers names call
+scope_numbers names (Call line) = 3 ∷ line_numbers names line
+scope_numbers names (Stmt line) = 4 ∷ line_numbers names line
 
 abbrev pub node_bytes : Names → Node → List ℕ
-node_bytes names n = word n.parent ++ words (scope_spelled names n.scope)
+node_bytes names n = word n.parent ++ words (scope_numbers names n.scope)
 
 abbrev pub kind_number : Kind → ℕ
 kind_number Exclusive = 0
 kind_number Frame = 1
 kind_number Inclusive = 2
 
-abbrev pub profile_entry : ProfileEntry → List ℕ
-profile_entry e = word e.node ++ word (kind_number e.kind) ++ long e.value
+abbrev pub profile_entry_bytes : ProfileEntry → List ℕ
+profile_entry_bytes e = word e.node ++ word (kind_number e.kind) ++ long e.value
 
-abbrev pub context_entry : ContextEntry → List ℕ
-context_entry e = word (kind_number e.kind) ++ word e.hart ++ long e.value
+abbrev pub context_entry_bytes : ContextEntry → List ℕ
+context_entry_bytes e = word (kind_number e.kind) ++ word e.hart ++ long e.value
 
 -- how many there are, and each
-abbrev pub counted : {X : Type 0} → (X → List ℕ) → List X → List ℕ
-counted spelled xs = word (length xs) ++ flat_map spelled xs
+abbrev pub with_count : {X : Type 0} → (X → List ℕ) → List X → List ℕ
+with_count spelled xs = word (length xs) ++ flat_map spelled xs
 
 abbrev pub head_bytes : Content → List ℕ
-head_bytes c = codes "HPCPROF1" ++ words (c.period ∷ c.harts ∷ length c.names.procs ∷ length c.names.files ∷ length c.nodes ∷ [])
+head_bytes c = codes "HPCPROF1"
+    ++ words (c.period ∷ c.harts ∷ length c.names.procs ∷ length c.names.files ∷ length c.nodes ∷ [])
 
 unfoldable pub spelling : Content → List ℕ
 spelling c =
@@ -85,5 +86,5 @@ spelling c =
     ++ flat_map procedure_bytes c.names.procs
     ++ flat_map file_bytes c.names.files
     ++ flat_map (node_bytes c.names) c.nodes
-    ++ flat_map (counted profile_entry) c.profiles
-    ++ flat_map (counted context_entry) c.contexts
+    ++ flat_map (with_count profile_entry_bytes) c.profiles
+    ++ flat_map (with_count context_entry_bytes) c.contexts

@@ -2,9 +2,11 @@
 ghost use Rattle.std.specs.Prelude.{◌≡◌, ◌<◌, ◌≤◌, ◌^◌, ◌++◌, length, IfOk, IfSome, OnOk, ◌∷◌, [], position};
 ghost use Rattle.std.specs.List.{flat_map, position_or_len};
 ghost use Rattle.std.specs.Ordering.{is_eq};
-ghost use Rattle.scope_types.specs.Words.{kind_words, proc_words};
+ghost use Rattle.scope_types.specs.Words.{root_words, proc_words};
 ghost use Rattle.tree_types.specs.Naming.{proc_order, file_order};
-ghost use Rattle.prof_db.specs.Spelling.{word, words, text_bytes, procedure_bytes, file_bytes, node_bytes, kind_number, line_spelled, scope_spelled, proc_place, file_place, profile_entry, context_entry, counted, head_bytes, spelling};
+ghost use Rattle.prof_db.specs.Spelling.{word, words, text_bytes, procedure_bytes, file_bytes, node_bytes};
+ghost use Rattle.prof_db.specs.Spelling.{kind_number, line_numbers, scope_numbers, proc_index, file_index};
+ghost use Rattle.prof_db.specs.Spelling.{profile_entry_bytes, context_entry_bytes, with_count, head_bytes, spelling};
 
 use prof_bytes::{Listed, Memory, Text, put_u32, put_u64};
 use scope_types::{LineId, ProcId, RootKind, Scope};
@@ -103,10 +105,10 @@ fn find_proc(procs: &[ProcName], id: ProcId) -> Option<usize>
     procs.iter().position(|p| same_proc(id, p.id))
 }
 
-/// The place of a procedure in the list of names.
-#[tactic(auto, using(tree_types::proofs::Numbers::place_is_number))]
-fn proc_place_of(names: &Names, id: ProcId) -> u32
-    ensures { word result ≡ word (proc_place names.now id) }
+/// The index of a procedure in the list of names.
+#[tactic(auto, using(tree_types::proofs::Numbers::index_is_number))]
+fn index_of_proc(names: &Names, id: ProcId) -> u32
+    ensures { word result ≡ word (proc_index names.now id) }
 {
     let procs = names.procs.items();
     count(find_proc(procs, id).unwrap_or(procs.len()))
@@ -120,29 +122,29 @@ fn find_file(files: &[FileName], table: u32, number: u32) -> Option<usize>
         .position(|f| same_file((table, number), (f.table, f.file)))
 }
 
-/// The place of a file in the list of names.
-#[tactic(auto, using(tree_types::proofs::Numbers::place_is_number))]
-fn file_place_of(names: &Names, table: u32, number: u32) -> u32
-    ensures { word result ≡ word (file_place names.now table number) }
+/// The index of a file in the list of names.
+#[tactic(auto, using(tree_types::proofs::Numbers::index_is_number))]
+fn index_of_file(names: &Names, table: u32, number: u32) -> u32
+    ensures { word result ≡ word (file_index names.now table number) }
 {
     let files = names.files.items();
     count(find_file(files, table, number).unwrap_or(files.len()))
 }
 
 fn put_line(out: &mut Vec<u8>, names: &Names, line: LineId) -> Result<(), Memory>
-    ensures { OnOk result (out.new.items ≡ out.old.items ++ words (line_spelled names.now line)) }
+    ensures { OnOk result (out.new.items ≡ out.old.items ++ words (line_numbers names.now line)) }
 {
     match line {
         LineId::Row { table, file, line } => {
-            let place = file_place_of(names, table, file);
-            put_words(out, &[0, place, line])
+            let index = index_of_file(names, table, file);
+            put_words(out, &[0, index, line])
         }
         LineId::Address(address) => put_words(out, &[1, address]),
     }
 }
 
 fn root_word(kind: RootKind) -> u32
-    ensures { result ∷ [] ≡ kind_words kind }
+    ensures { result ∷ [] ≡ root_words kind }
 {
     match kind {
         RootKind::Thread => 0,
@@ -152,23 +154,24 @@ fn root_word(kind: RootKind) -> u32
 
 #[tactic(auto, using(crate::proofs::Writing::words_parts))]
 fn put_inline(out: &mut Vec<u8>, names: &Names, callee: ProcId, call: LineId) -> Result<(), Memory>
-    ensures { OnOk result (out.new.items ≡ out.old.items ++ words (scope_spelled names.now (Scope.Inline callee call))) }
+    ensures { OnOk result (out.new.items
+        ≡ out.old.items ++ words (scope_numbers names.now (Scope.Inline callee call))) }
 {
-    let place = proc_place_of(names, callee);
-    put_words(out, &[2, place])?;
+    let index = index_of_proc(names, callee);
+    put_words(out, &[2, index])?;
     put_line(out, names, call)?;
     Ok(())
 }
 
 #[tactic(auto, using(crate::proofs::Writing::words_parts))]
 fn put_scope(out: &mut Vec<u8>, names: &Names, scope: Scope) -> Result<(), Memory>
-    ensures { OnOk result (out.new.items ≡ out.old.items ++ words (scope_spelled names.now scope)) }
+    ensures { OnOk result (out.new.items ≡ out.old.items ++ words (scope_numbers names.now scope)) }
 {
     match scope {
         Scope::Root(kind) => put_words(out, &[0, root_word(kind)]),
         Scope::Proc(id) => {
-            let place = proc_place_of(names, id);
-            put_words(out, &[1, place])
+            let index = index_of_proc(names, id);
+            put_words(out, &[1, index])
         }
         Scope::Inline { callee, call } => put_inline(out, names, callee, call),
         Scope::Call(line) => {
@@ -212,7 +215,7 @@ fn kind_word(kind: Kind) -> u32
 }
 
 fn put_profile_entry(out: &mut Vec<u8>, e: &ProfileEntry) -> Result<(), Memory>
-    ensures { OnOk result (out.new.items ≡ out.old.items ++ profile_entry e.now) }
+    ensures { OnOk result (out.new.items ≡ out.old.items ++ profile_entry_bytes e.now) }
 {
     put_u32(out, e.node)?;
     put_u32(out, kind_word(e.kind))?;
@@ -221,7 +224,7 @@ fn put_profile_entry(out: &mut Vec<u8>, e: &ProfileEntry) -> Result<(), Memory>
 }
 
 fn put_context_entry(out: &mut Vec<u8>, e: &ContextEntry) -> Result<(), Memory>
-    ensures { OnOk result (out.new.items ≡ out.old.items ++ context_entry e.now) }
+    ensures { OnOk result (out.new.items ≡ out.old.items ++ context_entry_bytes e.now) }
 {
     put_u32(out, kind_word(e.kind))?;
     put_u32(out, e.hart)?;
@@ -230,7 +233,7 @@ fn put_context_entry(out: &mut Vec<u8>, e: &ContextEntry) -> Result<(), Memory>
 }
 
 fn put_profile_entries(out: &mut Vec<u8>, entries: &[ProfileEntry]) -> Result<(), Memory>
-    ensures { OnOk result (out.new.items ≡ out.old.items ++ flat_map profile_entry entries.now) }
+    ensures { OnOk result (out.new.items ≡ out.old.items ++ flat_map profile_entry_bytes entries.now) }
 {
     for e in entries {
         put_profile_entry(out, e)?;
@@ -239,7 +242,7 @@ fn put_profile_entries(out: &mut Vec<u8>, entries: &[ProfileEntry]) -> Result<()
 }
 
 fn put_context_entries(out: &mut Vec<u8>, entries: &[ContextEntry]) -> Result<(), Memory>
-    ensures { OnOk result (out.new.items ≡ out.old.items ++ flat_map context_entry entries.now) }
+    ensures { OnOk result (out.new.items ≡ out.old.items ++ flat_map context_entry_bytes entries.now) }
 {
     for e in entries {
         put_context_entry(out, e)?;
@@ -248,7 +251,7 @@ fn put_context_entries(out: &mut Vec<u8>, entries: &[ContextEntry]) -> Result<()
 }
 
 fn put_profile_column(out: &mut Vec<u8>, entries: &[ProfileEntry]) -> Result<(), Memory>
-    ensures { OnOk result (out.new.items ≡ out.old.items ++ counted profile_entry entries.now) }
+    ensures { OnOk result (out.new.items ≡ out.old.items ++ with_count profile_entry_bytes entries.now) }
 {
     put_u32(out, count(entries.len()))?;
     put_profile_entries(out, entries)?;
@@ -256,7 +259,7 @@ fn put_profile_column(out: &mut Vec<u8>, entries: &[ProfileEntry]) -> Result<(),
 }
 
 fn put_context_column(out: &mut Vec<u8>, entries: &[ContextEntry]) -> Result<(), Memory>
-    ensures { OnOk result (out.new.items ≡ out.old.items ++ counted context_entry entries.now) }
+    ensures { OnOk result (out.new.items ≡ out.old.items ++ with_count context_entry_bytes entries.now) }
 {
     put_u32(out, count(entries.len()))?;
     put_context_entries(out, entries)?;
@@ -264,7 +267,7 @@ fn put_context_column(out: &mut Vec<u8>, entries: &[ContextEntry]) -> Result<(),
 }
 
 fn put_profiles(out: &mut Vec<u8>, columns: &[Listed<ProfileEntry>]) -> Result<(), Memory>
-    ensures { OnOk result (out.new.items ≡ out.old.items ++ flat_map (counted profile_entry) columns.now) }
+    ensures { OnOk result (out.new.items ≡ out.old.items ++ flat_map (with_count profile_entry_bytes) columns.now) }
 {
     for column in columns {
         put_profile_column(out, column.items())?;
@@ -273,7 +276,7 @@ fn put_profiles(out: &mut Vec<u8>, columns: &[Listed<ProfileEntry>]) -> Result<(
 }
 
 fn put_contexts(out: &mut Vec<u8>, columns: &[Listed<ContextEntry>]) -> Result<(), Memory>
-    ensures { OnOk result (out.new.items ≡ out.old.items ++ flat_map (counted context_entry) columns.now) }
+    ensures { OnOk result (out.new.items ≡ out.old.items ++ flat_map (with_count context_entry_bytes) columns.now) }
 {
     for column in columns {
         put_context_column(out, column.items())?;

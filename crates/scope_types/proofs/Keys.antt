@@ -7,7 +7,8 @@ use Rattle.scope_types.specs.declared.scope.ProcId.{ProcId}
 use Rattle.scope_types.specs.declared.scope.LineId.{LineId}
 use Rattle.scope_types.specs.declared.scope.Scope.{Scope}
 use Rattle.scope_types.specs.Words.{scope_words, proc_words, line_words}
-use Rattle.scope_types.specs.Key.{fnv_step, key_after}
+use Rattle.scope_types.specs.Key.{fnv_step}
+use Rattle.scope_types.specs.private.Steps.{key_after}
 
 pub inline_words : (key : ℕ) (callee : ProcId) (call : LineId) → fold fnv_step key (proc_words callee ++ line_words call) ≡ fold fnv_step (fold fnv_step key (proc_words callee)) (line_words call)
 inline_words key callee call = fold-append fnv_step key (proc_words callee) (line_words call)

@@ -10,9 +10,9 @@ pub record HartPath : Type 0 where
   pub path : List Scope
 
 -- the path of an entry
-abbrev pub path_of : Entry → HartPath
-path_of e = record { hart = e.hart; path = e.path }
+abbrev pub entry_path : Entry → HartPath
+entry_path e = record { hart = e.hart; path = e.path }
 
 -- each path as often as its entry says
 unfoldable pub each_path : List Entry → List HartPath
-each_path entries = flat_map (λ e. replicate e.count (path_of e)) entries
+each_path entries = flat_map (λ e. replicate e.count (entry_path e)) entries

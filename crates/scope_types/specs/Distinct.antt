@@ -4,7 +4,8 @@ use Rattle.std.specs.List.{flat_map, enumerate_from, range_with_len}
 use Rattle.scope_types.specs.declared.frame.Counted.{Counted}
 use Rattle.scope_types.specs.Raw.{Raw, same_raw}
 
--- a sample: its hart, and the raw path that it has there. Two samples have the same raw path where both hart and path are the same
+-- a sample: its hart, and the raw path that it has there. Two samples have the same raw path where both hart
+-- and path are the same
 pub record HartRaw : Type 0 where
   pub hart : ℕ
   pub raw : Raw
@@ -17,7 +18,8 @@ raws_of samples hart = map (λ s. s.raw) (filter (λ s. s.hart == hart) samples)
 abbrev pub counted_paths : List Raw → List Counted
 counted_paths [] = []
 counted_paths (raw ∷ raws) =
-    record { path = raw; count = 1 + count_by (same_raw raw) raws } ∷ filter (λ c. not (same_raw raw c.path)) (counted_paths raws)
+    record { path = raw; count = 1 + count_by (same_raw raw) raws }
+    ∷ filter (λ c. not (same_raw raw c.path)) (counted_paths raws)
 
 -- for each hart in turn the distinct raw paths of its samples, in order of first sample, each with its count
 unfoldable pub distinct : ℕ → List HartRaw → List (List Counted)

@@ -1,1 +1,2 @@
 pub mod SameRaw
+pub mod Steps

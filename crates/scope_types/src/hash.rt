@@ -1,7 +1,8 @@
 //! The key of a path: the FNV-1a hash of 32 bits, a word at a time, over the words of its scopes.
 ghost use Rattle.std.specs.Prelude.{◌≡◌, fold};
-ghost use Rattle.scope_types.specs.Key.{fnv_step, key_after, path_key};
-ghost use Rattle.scope_types.specs.Words.{kind_words, proc_words, line_words};
+ghost use Rattle.scope_types.specs.Key.{fnv_step, path_key};
+ghost use Rattle.scope_types.specs.private.Steps.{key_after};
+ghost use Rattle.scope_types.specs.Words.{root_words, proc_words, line_words};
 
 use crate::scope::{LineId, ProcId, RootKind, Scope};
 
@@ -17,7 +18,7 @@ fn with_word(key: u32, word: u32) -> u32
 }
 
 fn with_kind(key: u32, kind: RootKind) -> u32
-    ensures { result ≡ fold fnv_step key (kind_words kind) }
+    ensures { result ≡ fold fnv_step key (root_words kind) }
 {
     match kind {
         RootKind::Thread => with_word(key, 0),

@@ -5,7 +5,8 @@ use Rattle.std.proofs.lemmas.List.Sums.{sum_by-cons}
 use Rattle.indexmap.specs.IndexMap.{insert_entry}
 use Rattle.scope_types.specs.declared.frame.Counted.{Counted}
 use Rattle.scope_types.specs.Raw.{Raw, same_raw}
-use Rattle.thread_cct.specs.Adding.{has_path, count_one, counted_of, counted_in}
+use Rattle.thread_cct.specs.Adding.{has_path, count_one}
+use Rattle.thread_cct.specs.private.Fields.{counted_of, counted_in}
 
 abbrev Entries : Type 0
 Entries = List (Raw × ℕ)

@@ -126,9 +126,9 @@ count-map {X} t f (x ∷ xs) =
 
 -- ---- the laws
 
-pub samples_alike : (harts : ℕ) (samples : List HartRaw) (path_of : HartRaw → HartPath) → All (λ s. s.hart < harts) samples → Alike (map path_of (each_sample (distinct harts samples))) (map path_of samples)
-samples_alike harts samples path_of own = record {
-  same = λ t. count-map t path_of (each_sample (distinct harts samples)) ∙ counted_from harts [] samples own (none_at_first harts) (λ s. t (path_of s)) ∙ sym (count-map t path_of samples);
+pub samples_alike : (harts : ℕ) (samples : List HartRaw) (call_path : HartRaw → HartPath) → All (λ s. s.hart < harts) samples → Alike (map call_path (each_sample (distinct harts samples))) (map call_path samples)
+samples_alike harts samples call_path own = record {
+  same = λ t. count-map t call_path (each_sample (distinct harts samples)) ∙ counted_from harts [] samples own (none_at_first harts) (λ s. t (call_path s)) ∙ sym (count-map t call_path samples);
 }
 
 pub frames_grow : (harts : ℕ) (samples more : List HartRaw) → All (λ s. s.hart < harts) more → frames_in (distinct harts samples) ≤ frames_in (distinct harts (samples ++ more))

@@ -13,7 +13,8 @@ use Rattle.scope_types.specs.Raw.{Raw}
 use Rattle.scope_types.specs.Distinct.{HartRaw, raws_of, counted_paths, distinct, frames_in, samples_in}
 use Rattle.scope_types.specs.Limits.{most_path_frames}
 use Rattle.thread_cct.specs.declared.ccts.TooManyFrames.{TooManyFrames}
-use Rattle.thread_cct.specs.Adding.{has_path, count_one, of_hart, count_sample, too_many, added, few_frames, IsWithin}
+use Rattle.thread_cct.specs.Adding.{has_path, count_one, of_hart, count_sample, too_many, with_sample, few_frames}
+use Rattle.thread_cct.specs.private.Fields.{FramesFit}
 use Rattle.thread_cct.proofs.Paths.{count_of, frames_of, HasSome, paths_more, samples_one, frames_one, some_frames, some_known, paths_few}
 
 abbrev pub Tables : Type 0
@@ -94,33 +95,33 @@ pub frames_more : (tables : Tables) (s : HartRaw) → s.hart < length tables →
 frames_more tables s own = sum_more frames_of (frames_new tables s) tables s own (frames_one s.raw (of_hart tables s.hart))
 
 -- a path that is known
-pub known : (tables : Tables) (s : HartRaw) → has_path s.raw (of_hart tables s.hart) ≡ true → added tables s ≡ Ok (count_sample tables s)
+pub known : (tables : Tables) (s : HartRaw) → has_path s.raw (of_hart tables s.hart) ≡ true → with_sample tables s ≡ Ok (count_sample tables s)
 known tables s there = ap (λ (b : Bool). cond (not b && nat_lt most_path_frames (frames_in tables + length s.raw.frames)) (Err too_many) (Ok (count_sample tables s))) there
 
 -- a new one
 abbrev by_frames : Tables → HartRaw → ℕ → Result Tables TooManyFrames
 by_frames tables s frames = cond (nat_lt most_path_frames frames) (Err too_many) (Ok (count_sample tables s))
 
-new_path : (tables : Tables) (s : HartRaw) → has_path s.raw (of_hart tables s.hart) ≡ false → added tables s ≡ by_frames tables s (frames_in tables + length s.raw.frames)
+new_path : (tables : Tables) (s : HartRaw) → has_path s.raw (of_hart tables s.hart) ≡ false → with_sample tables s ≡ by_frames tables s (frames_in tables + length s.raw.frames)
 new_path tables s new = ap (λ (b : Bool). cond (not b && nat_lt most_path_frames (frames_in tables + length s.raw.frames)) (Err too_many) (Ok (count_sample tables s))) new
 
 not_above : (n : ℕ) → n ≤ most_path_frames → nat_lt most_path_frames n ≡ false
 not_above n few = le-ltb most_path_frames n few
 
-pub too_much : (tables : Tables) (s : HartRaw) (frames more : ℕ) → frames ≡ frames_in tables → has_path s.raw (of_hart tables s.hart) ≡ false → more ≡ length s.raw.frames → most_path_frames < frames + more → added tables s ≡ Err too_many
+pub too_much : (tables : Tables) (s : HartRaw) (frames more : ℕ) → frames ≡ frames_in tables → has_path s.raw (of_hart tables s.hart) ≡ false → more ≡ length s.raw.frames → most_path_frames < frames + more → with_sample tables s ≡ Err too_many
 too_much tables s frames more is new long many =
     let total : frames_in tables + length s.raw.frames ≡ frames + more = omega (arith, is, long) in
     new_path tables s new ∙ ap (by_frames tables s) total ∙ ap (λ (b : Bool). cond b (Err too_many) (Ok (count_sample tables s))) (lt-ltb most_path_frames (frames + more) many)
 
-pub few_enough : (tables : Tables) (s : HartRaw) (frames more : ℕ) → frames ≡ frames_in tables → has_path s.raw (of_hart tables s.hart) ≡ false → more ≡ length s.raw.frames → frames + more ≤ most_path_frames → added tables s ≡ Ok (count_sample tables s)
+pub few_enough : (tables : Tables) (s : HartRaw) (frames more : ℕ) → frames ≡ frames_in tables → has_path s.raw (of_hart tables s.hart) ≡ false → more ≡ length s.raw.frames → frames + more ≤ most_path_frames → with_sample tables s ≡ Ok (count_sample tables s)
 few_enough tables s frames more is new long few =
     let total : frames_in tables + length s.raw.frames ≡ frames + more = omega (arith, is, long) in
     new_path tables s new ∙ ap (by_frames tables s) total ∙ ap (λ (b : Bool). cond b (Err too_many) (Ok (count_sample tables s))) (not_above (frames + more) few)
 
 -- a sample is refused exactly where all distinct paths have too many frames with it
-added_few : (tables : Tables) (s : HartRaw) → s.hart < length tables → frames_in tables ≤ most_path_frames → added tables s ≡ few_frames (count_sample tables s)
+added_few : (tables : Tables) (s : HartRaw) → s.hart < length tables → frames_in tables ≤ most_path_frames → with_sample tables s ≡ few_frames (count_sample tables s)
 added_few tables s own few =
-    elim (has_path s.raw (of_hart tables s.hart)) as (λ b. has_path s.raw (of_hart tables s.hart) ≡ b → added tables s ≡ few_frames (count_sample tables s)) [
+    elim (has_path s.raw (of_hart tables s.hart)) as (λ b. has_path s.raw (of_hart tables s.hart) ≡ b → with_sample tables s ≡ few_frames (count_sample tables s)) [
       | true ↦ λ there.
           let total : frames_in (count_sample tables s) ≡ frames_in tables = (let all = frames_more tables s own in let none = ap (λ (b : Bool). cond b 0 (length s.raw.frames)) there in omega (arith, all, none)) in
           known tables s there ∙ sym (ap (λ (n : ℕ). by_frames tables s n) total ∙ ap (λ (b : Bool). cond b (Err too_many) (Ok (count_sample tables s))) (not_above (frames_in tables) few))
@@ -130,17 +131,17 @@ added_few tables s own few =
     ] refl
 
 -- what a sample gives is what all samples give
-pub all_counted : (tables : Tables) (s : HartRaw) (frames : ℕ) (given : Result Tables TooManyFrames) → s.hart < length tables → IsWithin tables frames → added tables s ≡ given
+pub all_counted : (tables : Tables) (s : HartRaw) (frames : ℕ) (given : Result Tables TooManyFrames) → s.hart < length tables → FramesFit tables frames → with_sample tables s ≡ given
     → (samples : List HartRaw) → tables ≡ distinct (length tables) samples → few_frames (distinct (length tables) (samples ++ s ∷ [])) ≡ given
 all_counted tables s frames given own within one samples is =
     let few : frames_in tables ≤ most_path_frames = (let a = within.is in let b = within.few in omega (arith, a, b)) in
     sym (added_few tables s own few ∙ ap few_frames (ap (λ (t : Tables). count_sample t s) is ∙ distinct_more (length tables) samples s own)) ∙ one
 
 -- the same of fields that contracts see as `now`
-pub all_for : (tables now : Tables) (s : HartRaw) (frames : ℕ) (given : Result Tables TooManyFrames) → tables ≡ now → s.hart < length now → IsWithin tables frames → added tables s ≡ given
+pub all_for : (tables now : Tables) (s : HartRaw) (frames : ℕ) (given : Result Tables TooManyFrames) → tables ≡ now → s.hart < length now → FramesFit tables frames → with_sample tables s ≡ given
     → (samples : List HartRaw) → now ≡ distinct (length now) samples → few_frames (distinct (length now) (samples ++ s ∷ [])) ≡ given
 all_for tables now s frames given view own within one =
-    all_counted now s frames given own (subst (λ (t : Tables). IsWithin t frames) view within) (sym (ap (λ (t : Tables). added t s) view) ∙ one)
+    all_counted now s frames given own (subst (λ (t : Tables). FramesFit t frames) view within) (sym (ap (λ (t : Tables). with_sample t s) view) ∙ one)
 
 -- ---- what stands in the tables
 
@@ -150,7 +151,7 @@ stay tables s own one some = All-set (All HasSome) tables s.hart (count_one s.ra
 own_some : (tables : Tables) (s : HartRaw) → s.hart < length tables → All (All HasSome) tables → All HasSome (of_hart tables s.hart)
 own_some tables s own some = All-get_or (All HasSome) tables s.hart [] own some
 
-within_one : (tables : Tables) (s : HartRaw) (frames more : ℕ) → s.hart < length tables → IsWithin tables frames → frames_new tables s ≡ more → frames + more ≤ most_path_frames → All HasSome (count_one s.raw (of_hart tables s.hart)) → IsWithin (count_sample tables s) (frames + more)
+within_one : (tables : Tables) (s : HartRaw) (frames more : ℕ) → s.hart < length tables → FramesFit tables frames → frames_new tables s ≡ more → frames + more ≤ most_path_frames → All HasSome (count_one s.raw (of_hart tables s.hart)) → FramesFit (count_sample tables s) (frames + more)
 within_one tables s frames more own within adds fits one =
     let total = frames_more tables s own in
     let old = within.is in
@@ -163,21 +164,21 @@ within_one tables s frames more own within adds fits one =
       some = stay tables s own one within.some;
     }
 
-pub within_known : (tables new : Tables) (s : HartRaw) (frames : ℕ) → s.hart < length tables → IsWithin tables frames → has_path s.raw (of_hart tables s.hart) ≡ true → new ≡ count_sample tables s → IsWithin new frames
+pub within_known : (tables new : Tables) (s : HartRaw) (frames : ℕ) → s.hart < length tables → FramesFit tables frames → has_path s.raw (of_hart tables s.hart) ≡ true → new ≡ count_sample tables s → FramesFit new frames
 within_known tables new s frames own within there is =
     let few : frames + 0 ≤ most_path_frames = (let f = within.few in omega (arith, f)) in
     let one = some_known s.raw (of_hart tables s.hart) there (own_some tables s own within.some) in
-    let all : IsWithin (count_sample tables s) (frames + 0) = within_one tables s frames 0 own within (ap (λ (b : Bool). cond b 0 (length s.raw.frames)) there) few one in
+    let all : FramesFit (count_sample tables s) (frames + 0) = within_one tables s frames 0 own within (ap (λ (b : Bool). cond b 0 (length s.raw.frames)) there) few one in
     let same : frames + 0 ≡ frames = omega arith in
-    subst (λ (t : Tables). IsWithin t frames) (sym is) (subst (IsWithin (count_sample tables s)) same all)
+    subst (λ (t : Tables). FramesFit t frames) (sym is) (subst (FramesFit (count_sample tables s)) same all)
 
-pub within_new : (tables new : Tables) (s : HartRaw) (frames more : ℕ) → s.hart < length tables → IsWithin tables frames → has_path s.raw (of_hart tables s.hart) ≡ false → 0 < length s.raw.frames → more ≡ length s.raw.frames → frames + more ≤ most_path_frames → new ≡ count_sample tables s → IsWithin new (frames + more)
+pub within_new : (tables new : Tables) (s : HartRaw) (frames more : ℕ) → s.hart < length tables → FramesFit tables frames → has_path s.raw (of_hart tables s.hart) ≡ false → 0 < length s.raw.frames → more ≡ length s.raw.frames → frames + more ≤ most_path_frames → new ≡ count_sample tables s → FramesFit new (frames + more)
 within_new tables new s frames more own within apart has long fits is =
     let one = some_frames s.raw (of_hart tables s.hart) has (own_some tables s own within.some) in
-    subst (λ (t : Tables). IsWithin t (frames + more)) (sym is) (within_one tables s frames more own within (ap (λ (b : Bool). cond b 0 (length s.raw.frames)) apart ∙ sym long) fits one)
+    subst (λ (t : Tables). FramesFit t (frames + more)) (sym is) (within_one tables s frames more own within (ap (λ (b : Bool). cond b 0 (length s.raw.frames)) apart ∙ sym long) fits one)
 
 -- how many paths a hart has
-pub few_paths : (tables : Tables) (frames hart : ℕ) → IsWithin tables frames → hart < length tables → length (of_hart tables hart) < 2 ^ 32
+pub few_paths : (tables : Tables) (frames hart : ℕ) → FramesFit tables frames → hart < length tables → length (of_hart tables hart) < 2 ^ 32
 few_paths tables frames hart within own =
     let few = paths_few (of_hart tables hart) (All-get_or (All HasSome) tables hart [] own within.some) in
     let part = get_or-le-sum_by (sum_by frames_of) tables hart [] own in
@@ -215,7 +216,7 @@ no_samples tables empty = no_sum count_of tables empty
 no_paths : (tables : Tables) → All IsEmpty tables → All (All HasSome) tables
 no_paths tables empty = All-weaker IsEmpty (All HasSome) (λ table is. subst (All HasSome) (sym is) (All-nil HasSome)) tables empty
 
-pub none_within : (tables : Tables) → length tables < 2 ^ 32 → All IsEmpty tables → IsWithin tables 0
+pub none_within : (tables : Tables) → length tables < 2 ^ 32 → All IsEmpty tables → FramesFit tables 0
 none_within tables harts empty =
     record {
       harts = harts;

@@ -1,5 +1,6 @@
 -- One sample more among counted raw paths.
-use Rattle.std.specs.Prelude.{◌≡◌, ℕ, ◌+◌, ◌<◌, ◌≤◌, ◌^◌, ◌&&◌, not, nat_lt, Bool, List, [], ◌∷◌, length, map, slice_index_or, slice_set, Result, Ok, Err, All, if◌then◌else◌}
+use Rattle.std.specs.Prelude.{◌≡◌, ℕ, ◌+◌, ◌<◌, ◌≤◌, ◌^◌, ◌&&◌, not, nat_lt, Bool, List, [], ◌∷◌, length, map}
+use Rattle.std.specs.Prelude.{slice_index_or, slice_set, Result, Ok, Err, All, if◌then◌else◌}
 use Rattle.std.specs.List.{list_any}
 use Rattle.scope_types.specs.declared.frame.Counted.{Counted}
 use Rattle.scope_types.specs.Raw.{Raw, same_raw}
@@ -14,7 +15,8 @@ has_path raw counted = list_any (λ c. same_raw raw c.path) counted
 -- a raw path counted once more: its count rises where it is there, and else it goes last
 abbrev pub count_one : Raw → List Counted → List Counted
 count_one raw [] = record { path = raw; count = 1 } ∷ []
-count_one raw (c ∷ rest) = if same_raw raw c.path then record { path = c.path; count = c.count + 1 } ∷ rest else c ∷ count_one raw rest
+count_one raw (c ∷ rest) = if same_raw raw c.path then record { path = c.path; count = c.count + 1 } ∷ rest
+    else c ∷ count_one raw rest
 
 -- the counted paths of a hart
 abbrev pub of_hart : List (List Counted) → ℕ → List Counted
@@ -26,29 +28,16 @@ count_sample tables s = slice_set tables s.hart (count_one s.raw (of_hart tables
 
 -- whether the path is new to its hart, and all distinct paths would have too many frames with it
 abbrev pub is_too_much : List (List Counted) → HartRaw → Bool
-is_too_much tables s = not (has_path s.raw (of_hart tables s.hart)) && nat_lt most_path_frames (frames_in tables + length s.raw.frames)
+is_too_much tables s = not (has_path s.raw (of_hart tables s.hart))
+    && nat_lt most_path_frames (frames_in tables + length s.raw.frames)
 
 abbrev pub too_many : TooManyFrames
 too_many = record {}
 
 -- a sample counted, unless there would be too many frames
-abbrev pub added : List (List Counted) → HartRaw → Result (List (List Counted)) TooManyFrames
-added tables s = if is_too_much tables s then Err too_many else Ok (count_sample tables s)
+abbrev pub with_sample : List (List Counted) → HartRaw → Result (List (List Counted)) TooManyFrames
+with_sample tables s = if is_too_much tables s then Err too_many else Ok (count_sample tables s)
 
 -- counted paths, unless they have too many frames
 abbrev pub few_frames : List (List Counted) → Result (List (List Counted)) TooManyFrames
 few_frames tables = if nat_lt most_path_frames (frames_in tables) then Err too_many else Ok tables
-
--- the counted paths of the table's entries
-abbrev pub counted_of : Raw × ℕ → Counted
-counted_of e = record { path = e.0; count = e.1 }
-
-abbrev pub counted_in : List (Raw × ℕ) → List Counted
-counted_in entries = map counted_of entries
-
--- what stands in counted paths of several harts: so many frames, which are few, and some in each path
-pub record IsWithin (tables : List (List Counted)) (frames : ℕ) : Type 0 where
-  pub harts : length tables < 2 ^ 32
-  pub is : frames ≡ frames_in tables
-  pub few : frames ≤ most_path_frames
-  pub some : All (All (λ c. 0 < length c.path.frames)) tables

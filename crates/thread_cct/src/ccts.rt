@@ -1,8 +1,9 @@
-ghost use Rattle.std.specs.Prelude.{◌≡◌, ◌+◌, ◌<◌, ◌∷◌, ◌++◌, [], false, if◌then◌else◌, List, length, slice_get, Some, IfOk, OnOk, OnErr};
+ghost use Rattle.std.specs.Prelude.{◌≡◌, ◌+◌, ◌<◌, ◌∷◌, ◌++◌, [], false, if◌then◌else◌, List, length, slice_get};
+ghost use Rattle.std.specs.Prelude.{Some, IfOk, OnOk, OnErr};
 ghost use Rattle.prof_bytes.specs.Outcome.{Gives};
 ghost use Rattle.scope_types.specs.Distinct.{HartRaw, distinct, samples_in};
 ghost use Rattle.scope_types.specs.Limits.{most_samples};
-ghost use Rattle.thread_cct.specs.Adding.{added, count_sample, few_frames, has_path, of_hart};
+ghost use Rattle.thread_cct.specs.Adding.{with_sample, count_sample, few_frames, has_path, of_hart};
 
 use crate::table::PathTable;
 use prof_bytes::{Fail, Memory};
@@ -39,13 +40,13 @@ pub struct Ccts {
 impl Model for Ccts {
     ghost use Rattle.std.specs.Prelude.{List};
     ghost use Rattle.scope_types.specs.declared.frame.Counted.{Counted};
-    ghost use Rattle.thread_cct.specs.Adding.{IsWithin};
+    ghost use Rattle.thread_cct.specs.private.Fields.{FramesFit};
 
     ghost Value = { List (List Counted) };
 
     ghost view = { λ ccts. ccts.tables.items };
 
-    ghost invariant = { λ ccts. IsWithin ccts.tables.items ccts.frames };
+    ghost invariant = { λ ccts. FramesFit ccts.tables.items ccts.frames };
 }
 
 fn copied(alloc: Global, raw: &RawPath) -> Result<RawPath, Memory>
@@ -62,7 +63,8 @@ fn count_again(tables: &mut Vec<PathTable>, hart: usize, raw: &RawPath) -> bool
     requires hart { hart < length tables.old.items }
     requires few { samples_in tables.old.items < most_samples }
     ensures found { result ≡ has_path raw.now (of_hart tables.old.items hart) }
-    ensures counted { tables.new.items ≡ (if result then count_sample tables.old.items (record { hart = hart; raw = raw.now }) else tables.old.items) }
+    ensures counted { tables.new.items
+        ≡ (if result then count_sample tables.old.items (record { hart = hart; raw = raw.now }) else tables.old.items) }
 {
     tables[hart].count_again(raw)
 }
@@ -110,11 +112,14 @@ impl Ccts {
     pub fn add(&mut self, hart: u32, raw: &RawPath) -> Result<(), Fail<TooManyFrames>>
         requires hart { hart < length self.old }
         requires few { samples_in self.old < most_samples }
-        ensures answer { Gives (λ done. self.new) result (added self.old (record { hart = hart; raw = raw.now })) }
+        ensures answer { Gives (λ done. self.new) result
+            (with_sample self.old (record { hart = hart; raw = raw.now })) }
         ensures err { OnErr result (self.new ≡ self.old) }
         ensures samples { OnOk result (samples_in self.new ≡ samples_in self.old + 1) }
         // the samples added so far and this one more give the counts of all
-        ensures all { (samples : List HartRaw) → self.old ≡ distinct (length self.old) samples → Gives (λ done. self.new) result (few_frames (distinct (length self.old) (samples ++ record { hart = hart; raw = raw.now } ∷ []))) }
+        ensures all { (samples : List HartRaw) → self.old ≡ distinct (length self.old) samples
+            → Gives (λ done. self.new) result
+            (few_frames (distinct (length self.old) (samples ++ record { hart = hart; raw = raw.now } ∷ []))) }
     {
         if count_again(&mut self.tables, hart as usize, raw) {
             return Ok(());

@@ -8,6 +8,9 @@ ghost use Rattle.scope_types.specs.Distinct.{HartRaw, distinct, each_sample, fra
 #[tactic(auto, using(crate::proofs::Samples::distinct_laws))]
 pub fn samples_are_counted()
     ensures harts { (harts : ℕ) (samples : List HartRaw) → length (distinct harts samples) ≡ harts }
-    ensures alike { (harts : ℕ) (samples : List HartRaw) (path_of : HartRaw → HartPath) → All (λ s. s.hart < harts) samples → Alike (map path_of (each_sample (distinct harts samples))) (map path_of samples) }
-    ensures grow { (harts : ℕ) (samples more : List HartRaw) → All (λ s. s.hart < harts) more → frames_in (distinct harts samples) ≤ frames_in (distinct harts (samples ++ more)) }
+    ensures alike { (harts : ℕ) (samples : List HartRaw) (call_path : HartRaw → HartPath)
+        → All (λ s. s.hart < harts) samples
+        → Alike (map call_path (each_sample (distinct harts samples))) (map call_path samples) }
+    ensures grow { (harts : ℕ) (samples more : List HartRaw) → All (λ s. s.hart < harts) more
+        → frames_in (distinct harts samples) ≤ frames_in (distinct harts (samples ++ more)) }
 {}

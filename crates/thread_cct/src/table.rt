@@ -1,5 +1,6 @@
 //! The distinct raw paths of one hart. A table by hashing finds them.
-ghost use Rattle.std.specs.Prelude.{◌≡◌, ◌<◌, ◌-◌, ◌^◌, [], false, if◌then◌else◌, length, slice_get, sum_by, Some, OnOk, OnErr};
+ghost use Rattle.std.specs.Prelude.{◌≡◌, ◌<◌, ◌-◌, ◌^◌, [], false, if◌then◌else◌, length, slice_get, sum_by, Some};
+ghost use Rattle.std.specs.Prelude.{OnOk, OnErr};
 ghost use Rattle.thread_cct.specs.Adding.{count_one, has_path};
 
 use indexmap::IndexMap;
@@ -17,7 +18,7 @@ pub struct PathTable {
 impl Model for PathTable {
     ghost use Rattle.std.specs.Prelude.{List, map};
     ghost use Rattle.scope_types.specs.declared.frame.Counted.{Counted};
-    ghost use Rattle.thread_cct.specs.Adding.{counted_in};
+    ghost use Rattle.thread_cct.specs.private.Fields.{counted_in};
 
     ghost Value = { List Counted };
 

@@ -9,7 +9,7 @@ use Rattle.tree_types.specs.declared.content.Kind.TheVariants.{Exclusive, Frame,
 use Rattle.tree_types.specs.declared.content.ContextEntry.{ContextEntry}
 use Rattle.tree_types.specs.Paths.{Path}
 use Rattle.tree_types.specs.Values.{value}
-use Rattle.tree_types.specs.Planes.{context_entry, kind_column, context_of}
+use Rattle.tree_types.specs.Planes.{context_entry, kind_column, node_column}
 
 pub no_hart : (period : ℕ) (ps : List HartPath) (n : Path) (kind : Kind) (out : List ContextEntry) → out ≡ out ++ kind_column period 0 ps n kind
 no_hart period ps n kind out = sym (append-nil out)
@@ -29,8 +29,8 @@ pub three_kinds : (period harts : ℕ) (ps : List HartPath) (n : Path) (a b c : 
     → a ≡ [] ++ kind_column period harts ps n Exclusive
     → b ≡ a ++ kind_column period harts ps n Frame
     → c ≡ b ++ kind_column period harts ps n Inclusive
-    → c ≡ context_of period harts ps n
-unfolding context_of
+    → c ≡ node_column period harts ps n
+unfolding node_column
 three_kinds period harts ps n a b c ea eb ec =
     let x : List ContextEntry = kind_column period harts ps n Exclusive in
     let y : List ContextEntry = kind_column period harts ps n Frame in

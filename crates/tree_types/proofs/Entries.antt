@@ -7,12 +7,13 @@ use Rattle.std.proofs.lemmas.List.Sums.{count_by-le-length, sum_by-append}
 use Rattle.std.proofs.lemmas.List.Concat.{flat_map-append}
 use Rattle.std.proofs.lemmas.List.Folds.{list_any-append}
 use Rattle.scope_types.specs.declared.path.Entry.{Entry}
-use Rattle.scope_types.specs.CallPaths.{HartPath, path_of, each_path}
+use Rattle.scope_types.specs.CallPaths.{HartPath, entry_path, each_path}
 use Rattle.scope_types.specs.Order.{path_order}
 use Rattle.scope_types.proofs.Orders.{path_order_total, path_order_tells}
 use Rattle.tree_types.specs.declared.content.Kind.{Kind}
-use Rattle.tree_types.specs.Paths.{Path, prefixes, after, rest_passes}
-use Rattle.tree_types.specs.Ascending.{put_all, ascending}
+use Rattle.tree_types.specs.Paths.{Path, prefixes, after_prefix, rest_passes}
+use Rattle.tree_types.specs.Ascending.{ascending}
+use Rattle.tree_types.specs.private.Putting.{put_all}
 use Rattle.tree_types.specs.Nodes.{nodes}
 use Rattle.tree_types.specs.Values.{counts_for, count_below}
 use Rattle.tree_types.proofs.Counting.{one, count_by-cons}
@@ -20,10 +21,10 @@ use Rattle.tree_types.proofs.Putting.{put_all_ascending}
 use Rattle.tree_types.proofs.Sorting.{has, same_ascending}
 
 -- one entry more
-paths_more : (es : List Entry) (i : ℕ) (e : Entry) → i < length es → e ≡ get_or es i e → each_path (take (i + 1) es) ≡ each_path (take i es) ++ replicate e.count (path_of e)
+paths_more : (es : List Entry) (i : ℕ) (e : Entry) → i < length es → e ≡ get_or es i e → each_path (take (i + 1) es) ≡ each_path (take i es) ++ replicate e.count (entry_path e)
 unfolding each_path
 paths_more es i e lt is =
-    let f : Entry → List HartPath = λ e. replicate e.count (path_of e) in
+    let f : Entry → List HartPath = λ e. replicate e.count (entry_path e) in
     ap (flat_map f) (take_more es i e lt) ∙ flat_map-append f (take i es) (get_or es i e ∷ [])
     ∙ ap (λ (z : List HartPath). flat_map f (take i es) ++ z) (append-nil (f (get_or es i e)) ∙ ap f (sym is))
 
@@ -36,7 +37,7 @@ paths_all es i le = ap each_path (take_all i es le)
 paths_few : (es : List Entry) (i : ℕ) → length (each_path (take i es)) ≤ length (each_path es)
 unfolding each_path
 paths_few es i =
-    let f : Entry → List HartPath = λ e. replicate e.count (path_of e) in
+    let f : Entry → List HartPath = λ e. replicate e.count (entry_path e) in
     let whole : length (flat_map f (take i es ++ drop i es)) ≡ length (flat_map f es) = ap (λ (l : List Entry). length (flat_map f l)) (take-append-drop i es) in
     let parts : length (flat_map f (take i es ++ drop i es)) ≡ length (flat_map f (take i es)) + length (flat_map f (drop i es)) = ap length (flat_map-append f (take i es) (drop i es)) ∙ length-append (flat_map f (take i es)) (flat_map f (drop i es)) in
     omega (arith, whole, parts)
@@ -48,8 +49,8 @@ total_none = refl
 
 pub total_more : (es : List Entry) (i c : ℕ) (e : Entry) → i < length es → e ≡ get_or es i e → c ≡ length (each_path (take i es)) → c + e.count ≡ length (each_path (take (i + 1) es))
 total_more es i c e lt is so_far =
-    ap (λ (n : ℕ). n + e.count) so_far ∙ ap (λ (n : ℕ). length (each_path (take i es)) + n) (sym (length-replicate e.count (path_of e)))
-    ∙ sym (length-append (each_path (take i es)) (replicate e.count (path_of e))) ∙ ap length (sym (paths_more es i e lt is))
+    ap (λ (n : ℕ). n + e.count) so_far ∙ ap (λ (n : ℕ). length (each_path (take i es)) + n) (sym (length-replicate e.count (entry_path e)))
+    ∙ sym (length-append (each_path (take i es)) (replicate e.count (entry_path e))) ∙ ap length (sym (paths_more es i e lt is))
 
 pub total_all : (es : List Entry) (i c : ℕ) → length es ≤ i → c ≡ length (each_path (take i es)) → c ≡ length (each_path es)
 total_all es i c le so_far = so_far ∙ ap length (paths_all es i le)
@@ -76,35 +77,35 @@ abbrev pub counted : List Entry → ℕ → ℕ → Path → Kind → ℕ
 counted es i hart n kind = count_below (counts_for kind) (each_path (take i es)) hart n
 
 abbrev test : ℕ → Path → Kind → HartPath → Bool
-test hart n kind p = (p.hart == hart) && rest_passes (counts_for kind) (after n p.path)
+test hart n kind p = (p.hart == hart) && rest_passes (counts_for kind) (after_prefix n p.path)
 
 counted_parts : (es : List Entry) (i : ℕ) (e : Entry) (hart : ℕ) (n : Path) (kind : Kind) → i < length es → e ≡ get_or es i e
-    → counted es (i + 1) hart n kind ≡ counted es i hart n kind + count_by (test hart n kind) (replicate e.count (path_of e))
+    → counted es (i + 1) hart n kind ≡ counted es i hart n kind + count_by (test hart n kind) (replicate e.count (entry_path e))
 unfolding count_below
 counted_parts es i e hart n kind lt is =
     ap (count_by (test hart n kind)) (paths_more es i e lt is)
-    ∙ sum_by-append (λ (p : HartPath). one (test hart n kind p)) (each_path (take i es)) (replicate e.count (path_of e))
+    ∙ sum_by-append (λ (p : HartPath). one (test hart n kind p)) (each_path (take i es)) (replicate e.count (entry_path e))
 
 pub counted_first : (hart : ℕ) (n : Path) (kind : Kind) → 0 ≡ count_below (counts_for kind) (each_path []) hart n
 unfolding count_below each_path
 counted_first hart n kind = refl
 
 pub counted_more : (es : List Entry) (i c : ℕ) (e : Entry) (hart : ℕ) (n : Path) (kind : Kind) → i < length es → e ≡ get_or es i e
-    → ((e.hart == hart) && rest_passes (counts_for kind) (after n e.path)) ≡ true
+    → ((e.hart == hart) && rest_passes (counts_for kind) (after_prefix n e.path)) ≡ true
     → c ≡ count_below (counts_for kind) (each_path (take i es)) hart n
     → c + e.count ≡ count_below (counts_for kind) (each_path (take (i + 1) es)) hart n
 counted_more es i c e hart n kind lt is counts so_far =
     let parts = counted_parts es i e hart n kind lt is in
-    let all = count_same (test hart n kind) (path_of e) e.count counts in
+    let all = count_same (test hart n kind) (entry_path e) e.count counts in
     omega (arith, parts, all, so_far)
 
 pub counted_same : (es : List Entry) (i c : ℕ) (e : Entry) (hart : ℕ) (n : Path) (kind : Kind) → i < length es → e ≡ get_or es i e
-    → ((e.hart == hart) && rest_passes (counts_for kind) (after n e.path)) ≡ false
+    → ((e.hart == hart) && rest_passes (counts_for kind) (after_prefix n e.path)) ≡ false
     → c ≡ count_below (counts_for kind) (each_path (take i es)) hart n
     → c ≡ count_below (counts_for kind) (each_path (take (i + 1) es)) hart n
 counted_same es i c e hart n kind lt is counts so_far =
     let parts = counted_parts es i e hart n kind lt is in
-    let none = count_none (test hart n kind) (path_of e) e.count counts in
+    let none = count_none (test hart n kind) (entry_path e) e.count counts in
     omega (arith, parts, none, so_far)
 
 pub counted_small : (es : List Entry) (i c hart : ℕ) (n : Path) (kind : Kind) → c ≡ count_below (counts_for kind) (each_path (take i es)) hart n → length (each_path es) ≤ 2 ^ 20 → c ≤ 2 ^ 20
@@ -147,17 +148,17 @@ pub nodes_more : (es : List Entry) (i : ℕ) (e : Entry) → i < length es → e
 unfolding nodes
 nodes_more es i e lt is some =
     let ps : List HartPath = each_path (take i es) in
-    let added : List HartPath = replicate e.count (path_of e) in
+    let added : List HartPath = replicate e.count (entry_path e) in
     put_all_ascending path_order_total path_order_tells (every_prefix ps) (prefixes e.path)
     ∙ same_ascending path_order_total path_order_tells (every_prefix ps ++ prefixes e.path) (every_prefix (each_path (take (i + 1) es))) (λ q.
     list_any-append (eq_by_cmp path_order q) (every_prefix ps) (prefixes e.path)
-    ∙ ap (λ b. has path_order q (every_prefix ps) || b) (sym (has_once q (path_of e) e.count some))
+    ∙ ap (λ b. has path_order q (every_prefix ps) || b) (sym (has_once q (entry_path e) e.count some))
     ∙ sym (list_any-append (eq_by_cmp path_order q) (every_prefix ps) (every_prefix added))
     ∙ ap (has path_order q) (sym (flat_map-append (λ (p : HartPath). prefixes p.path) ps added) ∙ ap every_prefix (sym (paths_more es i e lt is))))
 
 pub nodes_same : (es : List Entry) (i : ℕ) (e : Entry) → i < length es → e ≡ get_or es i e → e.count ≡ 0 → nodes (each_path (take i es)) ≡ nodes (each_path (take (i + 1) es))
 nodes_same es i e lt is none =
-    ap nodes (sym (paths_more es i e lt is ∙ ap (λ (n : ℕ). each_path (take i es) ++ replicate n (path_of e)) none ∙ append-nil (each_path (take i es))))
+    ap nodes (sym (paths_more es i e lt is ∙ ap (λ (n : ℕ). each_path (take i es) ++ replicate n (entry_path e)) none ∙ append-nil (each_path (take i es))))
 
 pub nodes_all : (es : List Entry) (i : ℕ) → length es ≤ i → nodes (each_path (take i es)) ≡ nodes (each_path es)
 nodes_all es i le = ap nodes (paths_all es i le)

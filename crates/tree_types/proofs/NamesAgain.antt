@@ -25,8 +25,8 @@ use Rattle.tree_types.specs.Paths.{Path}
 use Rattle.tree_types.specs.Nodes.{nodes, no_parent, own_scope}
 use Rattle.tree_types.specs.Naming.{Naming, FileId, proc_order, file_order, line_files, scope_procs, scope_files, procs_used, files_used}
 use Rattle.tree_types.specs.Database.{names_used, content_of, proc_named, file_named, naming_in}
-use Rattle.tree_types.specs.TopDown.{printed, place, label, header, row, percent, over_harts, node_row, top_down}
-use Rattle.tree_types.specs.OfContent.{IsOfPaths, table_of}
+use Rattle.tree_types.specs.TopDown.{printed, line_label, label, header, table_row, percent, over_harts, node_row, top_down}
+use Rattle.tree_types.specs.OfContent.{IsOfPaths, content_table}
 use Rattle.tree_types.specs.PathsOf.{paths_of}
 use Rattle.tree_types.proofs.Sorting.{has, has_itself, has_ascending, equal_from_is, all_weaker, has-from_Contains}
 use Rattle.tree_types.proofs.Prefixes.{list_any-flat_map}
@@ -95,7 +95,7 @@ file_used ns n f c h =
 -- ---- the same labels
 
 module _ (a b : Naming) where
-  place_same : (line : LineId) → ((f : FileId) → has file_order f (line_files line) ≡ true → a.file_name f.0 f.1 ≡ b.file_name f.0 f.1) → place a line ≡ place b line
+  place_same : (line : LineId) → ((f : FileId) → has file_order f (line_files line) ≡ true → a.file_name f.0 f.1 ≡ b.file_name f.0 f.1) → line_label a line ≡ line_label b line
   place_same (Row table file line) h = ap (λ (x : List ℕ). printed x ++ codes ":" ++ decimal line) (h (table, file) (has_itself file_order_total (table, file) []))
   place_same (Address address) h = refl
 
@@ -143,7 +143,7 @@ own_names_content period harts naming ps = ap (λ (x : Names). record (content_o
 abbrev row_with : ℕ → ℕ → List HartPath → Path → List ℕ → List ℕ
 row_with period harts ps n text =
     let inclusive = over_harts period harts ps n Inclusive in
-    row (decimal inclusive) (percent inclusive (period * length ps)) (decimal (over_harts period harts ps n Frame)) (length n - 1) text
+    table_row (decimal inclusive) (percent inclusive (period * length ps)) (decimal (over_harts period harts ps n Frame)) (length n - 1) text
 
 pub own_names_table : (period harts : ℕ) (naming : Naming) (ps : List HartPath) → top_down period harts (naming_in (names_used naming ps)) ps ≡ top_down period harts naming ps
 unfolding top_down
@@ -182,7 +182,7 @@ of_paths period harts naming ps positive few some below =
     let c : Content = content_of period harts naming ps in
     (λ i. content_of (period_is period harts naming ps i) (harts_are period harts naming ps i) (naming_in (names_are period harts naming ps i)) (paths_of c)) ∙ content_is_own period harts naming ps positive few some below
 
-pub table_is : (period harts : ℕ) (naming : Naming) (ps : List HartPath) → 0 < period → length (nodes ps) ≤ no_parent → All (λ p. 0 < length p.path) ps → All (λ p. p.hart < harts) ps → table_of (content_of period harts naming ps) ≡ top_down period harts naming ps
+pub table_is : (period harts : ℕ) (naming : Naming) (ps : List HartPath) → 0 < period → length (nodes ps) ≤ no_parent → All (λ p. 0 < length p.path) ps → All (λ p. p.hart < harts) ps → content_table (content_of period harts naming ps) ≡ top_down period harts naming ps
 table_is period harts naming ps positive few some below =
     let c : Content = content_of period harts naming ps in
     (λ i. top_down (period_is period harts naming ps i) (harts_are period harts naming ps i) (naming_in (names_are period harts naming ps i)) (paths_of c)) ∙ table_is_own period harts naming ps positive few some below

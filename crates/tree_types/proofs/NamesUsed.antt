@@ -5,7 +5,8 @@ use Rattle.std.specs.FinMap.{IsAntisymmetric}
 use Rattle.std.specs.List.{flat_map}
 use Rattle.std.proofs.lemmas.List.{take_more}
 use Rattle.std.proofs.lemmas.List.Concat.{flat_map-append}
-use Rattle.tree_types.specs.Ascending.{put_all, ascending}
+use Rattle.tree_types.specs.Ascending.{ascending}
+use Rattle.tree_types.specs.private.Putting.{put_all}
 use Rattle.tree_types.specs.Paths.{Path}
 use Rattle.tree_types.specs.Nodes.{own_scope}
 use Rattle.tree_types.specs.Naming.{proc_order, file_order, scope_procs, scope_files, procs_used, files_used}

@@ -1,4 +1,4 @@
--- The number of a node by its place.
+-- The number of a node by its index.
 use Rattle.std.proofs.Common.{◌≡◌, ℕ, ◌+◌, ◌≤◌, Bool, true, false, cond, not, nat_lt, List, [], ◌∷◌, length, Some, None, unwrap_or, refl, arith}
 use Rattle.std.specs.Prelude.{position}
 use Rattle.std.specs.List.{position_or_len}
@@ -12,9 +12,9 @@ within p (x ∷ xs) =
       | false ↦ let more = within p xs in omega arith
     ]
 
-chosen : (b : Bool) (place len : ℕ) → nat_lt place len ≡ b → place ≤ len → unwrap_or (cond b (Some place) None) len ≡ place
-chosen true place len e le = refl
-chosen false place len e le = grind (arith, nat_tests)
+chosen : (b : Bool) (index len : ℕ) → nat_lt index len ≡ b → index ≤ len → unwrap_or (cond b (Some index) None) len ≡ index
+chosen true index len e le = refl
+chosen false index len e le = grind (arith, nat_tests)
 
-pub place_is_number : {X : Type 0} (p : X → Bool) (xs : List X) → unwrap_or (position p xs) (length xs) ≡ position_or_len p xs
-place_is_number p xs = chosen (nat_lt (position_or_len p xs) (length xs)) (position_or_len p xs) (length xs) refl (within p xs)
+pub index_is_number : {X : Type 0} (p : X → Bool) (xs : List X) → unwrap_or (position p xs) (length xs) ≡ position_or_len p xs
+index_is_number p xs = chosen (nat_lt (position_or_len p xs) (length xs)) (position_or_len p xs) (length xs) refl (within p xs)

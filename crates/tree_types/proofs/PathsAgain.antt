@@ -16,15 +16,15 @@ use Rattle.tree_types.specs.declared.content.Content.{Content}
 use Rattle.tree_types.specs.declared.content.Kind.{Kind}
 use Rattle.tree_types.specs.declared.content.Kind.TheVariants.{Frame, Inclusive}
 use Rattle.tree_types.specs.declared.content.ProfileEntry.{ProfileEntry}
-use Rattle.tree_types.specs.Paths.{Path, prefixes, after, rest_passes}
+use Rattle.tree_types.specs.Paths.{Path, prefixes, after_prefix, rest_passes}
 use Rattle.tree_types.specs.Nodes.{nodes, no_parent, own_scope, parent_number}
 use Rattle.tree_types.specs.Values.{value, ends_here, counts_for, count_below, harts_below}
-use Rattle.tree_types.specs.Planes.{kinds, profile_entry, context_entry, node_values, other_than_zero, profile_of, context_of}
+use Rattle.tree_types.specs.Planes.{kinds, profile_entry, context_entry, node_values, other_than_zero, hart_column, node_column}
 use Rattle.tree_types.specs.Naming.{Naming, procs_used, files_used}
 use Rattle.tree_types.specs.Database.{content_of}
 use Rattle.tree_types.specs.PathsOf.{entry_paths, is_exclusive, paths_of}
 use Rattle.scope_types.specs.Alike.{Alike}
-use Rattle.tree_types.specs.TopDown.{header, row, percent, label, top_down}
+use Rattle.tree_types.specs.TopDown.{header, table_row, percent, label, top_down}
 use Rattle.tree_types.proofs.Sorting.{has, bool_same, same_sorted, equal_from_is, has-from_Contains}
 use Rattle.tree_types.proofs.Counting.{one, count_by-cons, count_none, count_never, count_once, sums_swap}
 use Rattle.tree_types.proofs.Prefixes.{after_again, after_is, passes_is}
@@ -75,7 +75,7 @@ at_hart hart path = record { hart = hart; path = path }
 
 -- what counts below n
 abbrev counts : (Path → Bool) → ℕ → Path → HartPath → Bool
-counts test hart n p = (p.hart == hart) && rest_passes test (after n p.path)
+counts test hart n p = (p.hart == hart) && rest_passes test (after_prefix n p.path)
 
 module _ (period : ℕ) (ps : List HartPath) (positive : 0 < period) (q : HartPath → Bool) where
   abbrev from_entry : ℕ → ProfileEntry → ℕ
@@ -107,8 +107,8 @@ module _ (period : ℕ) (ps : List HartPath) (positive : 0 < period) (q : HartPa
       three : (n : ℕ) → ((0 + n) + 0) + 0 ≡ n
       three n = omega arith
 
-  from_hart : (hart : ℕ) → sum_by (from_entry hart) (profile_of period ps hart) ≡ sum_by (λ m. one (q (at_hart hart m)) * count_below ends_here ps hart m) (nodes ps)
-  unfolding profile_of
+  from_hart : (hart : ℕ) → sum_by (from_entry hart) (hart_column period ps hart) ≡ sum_by (λ m. one (q (at_hart hart m)) * count_below ends_here ps hart m) (nodes ps)
+  unfolding hart_column
   from_hart hart =
       sum_by-filter (from_entry hart) (λ e. not (e.value == 0)) (no_value hart) (flat_map (node_values period ps hart) (enumerate_from 0 (nodes ps)))
       ∙ sum_by-flat_map (from_entry hart) (node_values period ps hart) (enumerate_from 0 (nodes ps))
@@ -118,10 +118,10 @@ module _ (period : ℕ) (ps : List HartPath) (positive : 0 < period) (q : HartPa
   pub from_all : (harts : ℕ) (naming : Naming) → length (nodes ps) ≤ no_parent → count_by q (paths_of (content_of period harts naming ps)) ≡ sum_by (λ h. sum_by (λ m. one (q (at_hart h m)) * count_below ends_here ps h m) (nodes ps)) (harts_below harts)
   unfolding paths_of content_of
   from_all harts naming few =
-      ap (λ (t : List Path). count_by q (flat_map (λ column. flat_map (entry_paths period t column.0) column.1) (enumerate_from 0 (map (profile_of period ps) (harts_below harts))))) (tree_paths_is ps few)
-      ∙ count_by-flat_map q (λ (column : ℕ × List ProfileEntry). flat_map (entry_paths period (nodes ps) column.0) column.1) (enumerate_from 0 (map (profile_of period ps) (harts_below harts)))
-      ∙ (λ i. sum_by (λ (column : ℕ × List ProfileEntry). count_by-flat_map q (entry_paths period (nodes ps) column.0) column.1 i) (enumerated (profile_of period ps) 0 harts i))
-      ∙ sum_by-map (λ (column : ℕ × List ProfileEntry). sum_by (from_entry column.0) column.1) (λ h. (h, profile_of period ps h)) (harts_below harts)
+      ap (λ (t : List Path). count_by q (flat_map (λ column. flat_map (entry_paths period t column.0) column.1) (enumerate_from 0 (map (hart_column period ps) (harts_below harts))))) (tree_paths_is ps few)
+      ∙ count_by-flat_map q (λ (column : ℕ × List ProfileEntry). flat_map (entry_paths period (nodes ps) column.0) column.1) (enumerate_from 0 (map (hart_column period ps) (harts_below harts)))
+      ∙ (λ i. sum_by (λ (column : ℕ × List ProfileEntry). count_by-flat_map q (entry_paths period (nodes ps) column.0) column.1 i) (enumerated (hart_column period ps) 0 harts i))
+      ∙ sum_by-map (λ (column : ℕ × List ProfileEntry). sum_by (from_entry column.0) column.1) (λ h. (h, hart_column period ps h)) (harts_below harts)
       ∙ (λ i. sum_by (λ h. from_hart h i) (harts_below harts))
 
 one_times_count : {X : Type 0} (b : Bool) (t : X → Bool) (xs : List X) → one b * count_by t xs ≡ count_by (λ x. b && t x) xs
@@ -146,8 +146,8 @@ at_own q h p m =
     bool_same (q (at_hart h m) && counts ends_here h m p) (eq_by_cmp path_order p.path m && ((p.hart == h) && q p))
     (λ k.
     let a = and_parts (q (at_hart h m)) (counts ends_here h m p) k in
-    let b = and_parts (p.hart == h) (rest_passes ends_here (after m p.path)) a.1 in
-    let c = passes_is ends_here (after m p.path) b.1 in
+    let b = and_parts (p.hart == h) (rest_passes ends_here (after_prefix m p.path)) a.1 in
+    let c = passes_is ends_here (after_prefix m p.path) b.1 in
     let path_is : p.path ≡ m = after_is m p.path c.0 c.1 ∙ ap (λ (x : Path). m ++ x) (empty_is c.0 c.2) ∙ append-nil m in
     let hart_is : p.hart ≡ h = eqb-true p.hart h b.0 in
     and_from (eq_by_cmp path_order p.path m) ((p.hart == h) && q p)
@@ -158,9 +158,9 @@ at_own q h p m =
     let b = and_parts (p.hart == h) (q p) a.1 in
     let path_is : p.path ≡ m = path_order_tells p.path m (equal_from_is (path_order p.path m) a.0) in
     let hart_is : p.hart ≡ h = eqb-true p.hart h b.0 in
-    let after_own : after m p.path ≡ after m (m ++ []) = ap (after m) (path_is ∙ sym (append-nil m)) in
+    let after_own : after_prefix m p.path ≡ after_prefix m (m ++ []) = ap (after_prefix m) (path_is ∙ sym (append-nil m)) in
     and_from (q (at_hart h m)) (counts ends_here h m p) ((λ i. q (at_hart (sym hart_is i) (sym path_is i))) ∙ b.1)
-    (and_from (p.hart == h) (rest_passes ends_here (after m p.path)) b.0 (ap (rest_passes ends_here) (after_own ∙ after_again m []))))
+    (and_from (p.hart == h) (rest_passes ends_here (after_prefix m p.path)) b.0 (ap (rest_passes ends_here) (after_own ∙ after_again m []))))
 
 -- each path of the list is a node, which stands in the list once
 once_in : (ns : List Path) (x : Path) (b : Bool) → IsStrictlySortedBy path_order ns → has path_order x ns ≡ true → count_by (λ m. eq_by_cmp path_order x m && b) ns ≡ one b
@@ -253,7 +253,7 @@ content_from period harts naming ns v = record {
 }
 
 content_is : (period harts : ℕ) (naming : Naming) (ps : List HartPath) → content_of period harts naming ps ≡ content_from period harts naming (nodes ps) (value period ps)
-unfolding content_of profile_of context_of
+unfolding content_of hart_column node_column
 content_is period harts naming ps = refl
 
 pub content_alike : (period harts : ℕ) (naming : Naming) (ps qs : List HartPath) → Alike ps qs → content_of period harts naming ps ≡ content_of period harts naming qs
@@ -266,7 +266,7 @@ abbrev table_from : ℕ → ℕ → Naming → List Path → (ℕ → Path → K
 table_from period harts naming ns v samples =
     header ++ flat_map (λ n.
     let inclusive = sum_by (λ hart. v hart n Inclusive) (harts_below harts) in
-    row (decimal inclusive) (percent inclusive (period * samples)) (decimal (sum_by (λ hart. v hart n Frame) (harts_below harts))) (length n - 1) (label naming (own_scope n))) ns
+    table_row (decimal inclusive) (percent inclusive (period * samples)) (decimal (sum_by (λ hart. v hart n Frame) (harts_below harts))) (length n - 1) (label naming (own_scope n))) ns
 
 table_is : (period harts : ℕ) (naming : Naming) (ps : List HartPath) → top_down period harts naming ps ≡ table_from period harts naming (nodes ps) (value period ps) (length ps)
 unfolding top_down

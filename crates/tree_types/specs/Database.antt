@@ -41,7 +41,8 @@ proc_named (p ∷ ps) id = if is_eq (proc_order id p.id) then p.name else proc_n
 
 abbrev pub file_named : List FileName → ℕ → ℕ → List ℕ
 file_named [] table file = []
-file_named (f ∷ fs) table file = if is_eq (file_order (table, file) (f.table, f.file)) then f.name else file_named fs table file
+file_named (f ∷ fs) table file = if is_eq (file_order (table, file) (f.table, f.file)) then f.name
+    else file_named fs table file
 
 -- how the names of a content call procedures and files
 abbrev pub naming_in : Names → Naming

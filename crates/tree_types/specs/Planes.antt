@@ -1,4 +1,5 @@
--- The values other than 0, twice: by hart (profile-major) and by node (context-major), the two planes of HPCToolkit's databases.
+-- The values other than 0, twice: by hart (profile-major) and by node (context-major), the two planes of
+-- HPCToolkit's databases.
 use Rattle.std.specs.Prelude.{ℕ, ◌==◌, not, List, [], ◌∷◌, map, filter}
 use Rattle.std.specs.List.{flat_map, enumerate_from}
 use Rattle.scope_types.specs.CallPaths.{HartPath}
@@ -31,22 +32,24 @@ abbrev pub other_than_zero : List ProfileEntry → List ProfileEntry
 other_than_zero es = filter (λ e. not (e.value == 0)) es
 
 -- the values of a hart other than 0, by node, then kind
-unfoldable pub profile_of : ℕ → List HartPath → ℕ → List ProfileEntry
-profile_of period paths hart = other_than_zero (flat_map (node_values period paths hart) (enumerate_from 0 (nodes paths)))
+unfoldable pub hart_column : ℕ → List HartPath → ℕ → List ProfileEntry
+hart_column period paths hart = other_than_zero
+    (flat_map (node_values period paths hart) (enumerate_from 0 (nodes paths)))
 
 -- the values of a node of one kind other than 0, by hart
 abbrev pub kind_column : ℕ → ℕ → List HartPath → Path → Kind → List ContextEntry
 kind_column period harts paths n kind =
-    filter (λ e. not (e.value == 0)) (map (λ hart. context_entry kind hart (value period paths hart n kind)) (harts_below harts))
+    filter (λ e. not (e.value == 0))
+    (map (λ hart. context_entry kind hart (value period paths hart n kind)) (harts_below harts))
 
 -- the values of a node other than 0, by kind, then hart
-unfoldable pub context_of : ℕ → ℕ → List HartPath → Path → List ContextEntry
-context_of period harts paths n = flat_map (kind_column period harts paths n) kinds
+unfoldable pub node_column : ℕ → ℕ → List HartPath → Path → List ContextEntry
+node_column period harts paths n = flat_map (kind_column period harts paths n) kinds
 
 -- a list for each hart
 abbrev pub profile_plane : ℕ → ℕ → List HartPath → List (List ProfileEntry)
-profile_plane period harts paths = map (profile_of period paths) (harts_below harts)
+profile_plane period harts paths = map (hart_column period paths) (harts_below harts)
 
 -- a list for each node
 abbrev pub context_plane : ℕ → ℕ → List HartPath → List (List ContextEntry)
-context_plane period harts paths = map (context_of period harts paths) (nodes paths)
+context_plane period harts paths = map (node_column period harts paths) (nodes paths)

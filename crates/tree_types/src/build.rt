@@ -3,7 +3,7 @@ ghost use Rattle.std.specs.Prelude.{◌≡◌, ◌<◌, ◌≤◌, ◌^◌, leng
 ghost use Rattle.scope_types.specs.CallPaths.{each_path};
 ghost use Rattle.scope_types.specs.Limits.{most_samples};
 ghost use Rattle.tree_types.specs.Nodes.{nodes, no_parent};
-ghost use Rattle.tree_types.specs.Planes.{profile_plane, context_plane, context_of};
+ghost use Rattle.tree_types.specs.Planes.{profile_plane, context_plane, node_column};
 ghost use Rattle.tree_types.specs.Naming.{Naming};
 ghost use Rattle.tree_types.specs.Database.{content_of, names_used, node_list};
 
@@ -43,7 +43,7 @@ fn contexts_of(
     tree: &[ScopePath],
 ) -> Result<ContextPlane, Memory>
     requires { length (each_path entries.now) ≤ most_samples }
-    ensures { IfOk result (λ plane. plane ≡ map (context_of period harts (each_path entries.now)) tree.now) }
+    ensures { IfOk result (λ plane. plane ≡ map (node_column period harts (each_path entries.now)) tree.now) }
 {
     let mut columns = Vec::new(alloc);
     for n in tree {
@@ -55,7 +55,7 @@ fn contexts_of(
 
 /// The content of a list of call paths whose nodes are `tree`, under these names. The period is in
 /// retired instructions; harts are numbered from 0, and paths of other harts make nodes and no values.
-/// Fails for want of memory alone. Slow on purpose: each value is counted over all paths.
+/// Slow on purpose: each value is counted over all paths.
 #[tactic(auto, unfolding(crate::specs::Database::content_of))]
 pub fn content_of_paths(
     alloc: Global,
@@ -68,8 +68,16 @@ pub fn content_of_paths(
     requires few { length (each_path entries.now) ≤ most_samples }
     requires nodes { tree.now ≡ nodes (each_path entries.now) }
     requires numbers { length tree.now ≤ no_parent }
-    ensures parts { IfOk result (λ content. content ≡ record { period = period; harts = harts; names = names; nodes = node_list (each_path entries.now); profiles = profile_plane period harts (each_path entries.now); contexts = context_plane period harts (each_path entries.now) }) }
-    ensures named { (naming : Naming) → names ≡ names_used naming (each_path entries.now) → IfOk result (λ content. content ≡ content_of period harts naming (each_path entries.now)) }
+    ensures parts { IfOk result (λ content. content ≡ record {
+      period = period;
+      harts = harts;
+      names = names;
+      nodes = node_list (each_path entries.now);
+      profiles = profile_plane period harts (each_path entries.now);
+      contexts = context_plane period harts (each_path entries.now);
+    }) }
+    ensures named { (naming : Naming) → names ≡ names_used naming (each_path entries.now)
+        → IfOk result (λ content. content ≡ content_of period harts naming (each_path entries.now)) }
 {
     Ok(Content {
         period,

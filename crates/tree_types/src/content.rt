@@ -15,7 +15,7 @@ pub struct Node {
 
 /// What a value of a node sums: the samples that end there, those of them and below that stay within
 /// its procedure's frame, or all that pass there.
-#[derive(Clone, Copy, Debug, PartialEq, Eq, PartialOrd, Ord, Drop)]
+#[derive(Clone, Copy, Debug, PartialEq, Eq, Drop)]
 pub enum Kind {
     Exclusive,
     Frame,

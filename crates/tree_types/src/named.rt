@@ -1,7 +1,9 @@
 //! The procedures and the files that the scopes of nodes use.
 ghost use Rattle.std.specs.Prelude.{◌≡◌, ◌≤◌, length, insert, IfOk, IfNone, IfSome, OnOk};
-ghost use Rattle.tree_types.specs.Ascending.{put, put_all};
-ghost use Rattle.tree_types.specs.Naming.{proc_order, file_order, scope_procs, scope_files, line_files, procs_used, files_used};
+ghost use Rattle.tree_types.specs.Ascending.{put};
+ghost use Rattle.tree_types.specs.private.Putting.{put_all};
+ghost use Rattle.tree_types.specs.Naming.{proc_order, file_order, scope_procs, scope_files, line_files, procs_used};
+ghost use Rattle.tree_types.specs.Naming.{files_used};
 
 use crate::plain::own_scope_of;
 use prof_bytes::{Listed, Memory};
@@ -10,9 +12,10 @@ use std::alloc::Global;
 use std::cmp::Ordering;
 
 /// Where a value is to be put in an ascending list, unless it stands there.
-fn place_of<T: Ord>(found: &[T], x: &T) -> Option<usize>
+fn insertion_index<T: Ord>(found: &[T], x: &T) -> Option<usize>
     ensures there { IfNone result (found.now ≡ put T.cmp x.now found.now) }
-    ensures place { IfSome result (λ k. (k ≤ length found.now) × (insert found.now k x.now ≡ put T.cmp x.now found.now)) }
+    ensures index { IfSome result (λ k. (k ≤ length found.now)
+        × (insert found.now k x.now ≡ put T.cmp x.now found.now)) }
 {
     let mut k = 0;
     while k < found.len() {
@@ -28,7 +31,7 @@ fn place_of<T: Ord>(found: &[T], x: &T) -> Option<usize>
 fn put_proc(found: &mut Vec<ProcId>, id: ProcId) -> Result<(), Memory>
     ensures { OnOk result (found.new.items ≡ put proc_order id found.old.items) }
 {
-    if let Some(k) = place_of(found.as_slice(), &id) {
+    if let Some(k) = insertion_index(found.as_slice(), &id) {
         found.insert(k, id)?;
     }
     Ok(())
@@ -37,7 +40,7 @@ fn put_proc(found: &mut Vec<ProcId>, id: ProcId) -> Result<(), Memory>
 fn put_file(found: &mut Vec<(u32, u32)>, file: (u32, u32)) -> Result<(), Memory>
     ensures { OnOk result (found.new.items ≡ put file_order file found.old.items) }
 {
-    if let Some(k) = place_of(found.as_slice(), &file) {
+    if let Some(k) = insertion_index(found.as_slice(), &file) {
         found.insert(k, file)?;
     }
     Ok(())

@@ -1,13 +1,15 @@
 //! Nodes and values by plain search: each answer walks the whole list of entries. Slow on purpose: it is
 //! what the definitions say, and what a faster form is compared with.
-ghost use Rattle.std.specs.Prelude.{◌≡◌, ℕ, ◌+◌, ◌*◌, ◌<◌, ◌≤◌, ◌^◌, ◌==◌, ◌&&◌, List, length, fold, insert, IfOk, IfNone, IfSome, OnOk, option_map, map, take, count_by, position};
+ghost use Rattle.std.specs.Prelude.{◌≡◌, ℕ, ◌+◌, ◌*◌, ◌<◌, ◌≤◌, ◌^◌, ◌==◌, ◌&&◌, List, length, fold, insert, IfOk};
+ghost use Rattle.std.specs.Prelude.{IfNone, IfSome, OnOk, option_map, map, take, count_by, position};
 ghost use Rattle.std.specs.Ordering.{is_eq};
 ghost use Rattle.scope_types.specs.Order.{path_order};
 ghost use Rattle.scope_types.specs.CallPaths.{each_path};
 ghost use Rattle.scope_types.specs.Limits.{most_samples};
-ghost use Rattle.tree_types.specs.Ascending.{put, put_all};
-ghost use Rattle.tree_types.specs.Paths.{after, is_proc, prefixes, rest_passes};
-ghost use Rattle.tree_types.specs.Nodes.{nodes, no_parent, number_of, own_scope, parent_number};
+ghost use Rattle.tree_types.specs.Ascending.{put};
+ghost use Rattle.tree_types.specs.private.Putting.{put_all};
+ghost use Rattle.tree_types.specs.Paths.{after_prefix, is_proc, prefixes, rest_passes};
+ghost use Rattle.tree_types.specs.Nodes.{nodes, no_parent, node_number, own_scope, parent_number};
 ghost use Rattle.tree_types.specs.Values.{counts_for, count_below, value, within_frame};
 
 use crate::content::{Kind, NO_PARENT, Node};
@@ -18,7 +20,7 @@ use std::cmp::Ordering;
 
 /// What comes after n in the path, if n is a prefix of it.
 pub fn rest_after<'a>(n: &[Scope], path: &'a [Scope]) -> Option<&'a [Scope]>
-    ensures { option_map (λ r. r.now) result ≡ after n.now path.now }
+    ensures { option_map (λ r. r.now) result ≡ after_prefix n.now path.now }
 {
     match n {
         [] => Some(path),
@@ -65,7 +67,7 @@ fn counts(kind: Kind, rest: &[Scope]) -> bool
 
 /// Whether the paths of an entry count for the node and the hart.
 fn entry_counts(e: &Entry, hart: u32, n: &[Scope], kind: Kind) -> bool
-    ensures { result ≡ ((e.now.hart == hart) && rest_passes (counts_for kind) (after n.now e.now.path)) }
+    ensures { result ≡ ((e.now.hart == hart) && rest_passes (counts_for kind) (after_prefix n.now e.now.path)) }
 {
     if e.hart != hart {
         return false;
@@ -107,9 +109,10 @@ pub fn value_of(period: u32, entries: &[Entry], hart: u32, n: &[Scope], kind: Ki
 }
 
 /// Where a path is to be put, unless it stands there.
-fn place_for(found: &[ScopePath], path: &[Scope]) -> Option<usize>
+fn index_for(found: &[ScopePath], path: &[Scope]) -> Option<usize>
     ensures there { IfNone result (found.now ≡ put path_order path.now found.now) }
-    ensures place { IfSome result (λ k. (k ≤ length found.now) × (insert found.now k path.now ≡ put path_order path.now found.now)) }
+    ensures index { IfSome result (λ k. (k ≤ length found.now)
+        × (insert found.now k path.now ≡ put path_order path.now found.now)) }
 {
     let mut k = 0;
     while k < found.len() {
@@ -126,7 +129,7 @@ fn place_for(found: &[ScopePath], path: &[Scope]) -> Option<usize>
 fn put_path(found: &mut Vec<ScopePath>, path: ScopePath) -> Result<(), Memory>
     ensures { OnOk result (found.new.items ≡ put path_order path found.old.items) }
 {
-    if let Some(k) = place_for(found, path.scopes()) {
+    if let Some(k) = index_for(found, path.scopes()) {
         found.insert(k, path)?;
     }
     Ok(())
@@ -153,7 +156,7 @@ fn put_prefixes(alloc: Global, found: &mut Vec<ScopePath>, path: &[Scope]) -> Re
     Ok(())
 }
 
-/// The nodes of the paths, in preorder. Fails for want of memory alone.
+/// The nodes of the paths, in preorder.
 #[tactic(auto, using(crate::proofs::Entries::node_steps))]
 pub fn nodes_of(alloc: Global, entries: &[Entry]) -> Result<Listed<ScopePath>, Memory>
     ensures { IfOk result (λ ns. ns ≡ nodes (each_path entries.now)) }
@@ -179,21 +182,21 @@ pub fn own_scope_of(n: &[Scope]) -> Scope
     }
 }
 
-fn place_in(tree: &[ScopePath], n: &[Scope]) -> Option<usize>
-    ensures place { result ≡ position (λ m. is_eq (path_order n.now m)) tree.now }
-    ensures within { IfSome result (λ place. place < length tree.now) }
+fn index_in(tree: &[ScopePath], n: &[Scope]) -> Option<usize>
+    ensures index { result ≡ position (λ m. is_eq (path_order n.now m)) tree.now }
+    ensures within { IfSome result (λ index. index < length tree.now) }
 {
     tree.iter()
         .position(|m| compare_paths(n, m.scopes()).is_eq())
 }
 
-/// The number of a node, which is its place in the tree.
-#[tactic(auto, using(crate::proofs::Numbers::place_is_number), unfolding(crate::specs::Nodes::number_of))]
+/// The number of a node, which is its index in the tree.
+#[tactic(auto, using(crate::proofs::Numbers::index_is_number), unfolding(crate::specs::Nodes::node_number))]
 fn number_in(tree: &[ScopePath], n: &[Scope]) -> usize
-    ensures number { result ≡ number_of tree.now n.now }
+    ensures number { result ≡ node_number tree.now n.now }
     ensures within { result ≤ length tree.now }
 {
-    place_in(tree, n).unwrap_or(tree.len())
+    index_in(tree, n).unwrap_or(tree.len())
 }
 
 fn parent_of(tree: &[ScopePath], n: &[Scope]) -> u32
@@ -206,10 +209,11 @@ fn parent_of(tree: &[ScopePath], n: &[Scope]) -> u32
     number_in(tree, &n[..n.len().saturating_sub(1)]) as u32
 }
 
-/// The nodes, each with its parent's number and its own scope. Fails for want of memory alone.
+/// The nodes, each with its parent's number and its own scope.
 pub fn node_list_of(alloc: Global, tree: &[ScopePath]) -> Result<Listed<Node>, Memory>
     requires { length tree.now ≤ no_parent }
-    ensures { IfOk result (λ nodes. nodes ≡ map (λ n. record { parent = parent_number tree.now n; scope = own_scope n }) tree.now) }
+    ensures { IfOk result
+        (λ nodes. nodes ≡ map (λ n. record { parent = parent_number tree.now n; scope = own_scope n }) tree.now) }
 {
     let mut nodes = Vec::new(alloc);
     for n in tree {

@@ -1,11 +1,13 @@
 //! The columns of the two planes, a value at a time.
-ghost use Rattle.std.specs.Prelude.{◌≡◌, ℕ, ◌+◌, ◌*◌, ◌<◌, ◌≤◌, ◌^◌, ◌++◌, ◌∷◌, [], ◌==◌, not, List, length, map, filter, OnOk, IfOk, slice_index_or};
+ghost use Rattle.std.specs.Prelude.{◌≡◌, ℕ, ◌+◌, ◌*◌, ◌<◌, ◌≤◌, ◌^◌, ◌++◌, ◌∷◌, [], ◌==◌, not, List, length, map};
+ghost use Rattle.std.specs.Prelude.{filter, OnOk, IfOk, slice_index_or};
 ghost use Rattle.std.specs.List.{flat_map, enumerate_from};
 ghost use Rattle.scope_types.specs.CallPaths.{each_path};
 ghost use Rattle.scope_types.specs.Limits.{most_samples};
 ghost use Rattle.tree_types.specs.Nodes.{nodes};
 ghost use Rattle.tree_types.specs.Values.{value};
-ghost use Rattle.tree_types.specs.Planes.{profile_entry, context_entry, profile_of, context_of, kind_column, node_values, other_than_zero};
+ghost use Rattle.tree_types.specs.Planes.{profile_entry, context_entry, hart_column, node_column, kind_column};
+ghost use Rattle.tree_types.specs.Planes.{node_values, other_than_zero};
 ghost use Rattle.tree_types.specs.declared.content.Kind.TheVariants.{Exclusive, Frame, Inclusive};
 
 use crate::content::{ContextEntry, Kind, ProfileEntry};
@@ -33,7 +35,9 @@ fn put_kind(
     kind: Kind,
 ) -> Result<(), Memory>
     requires { length (each_path entries.now) ≤ most_samples }
-    ensures { OnOk result (out.new.items ≡ out.old.items ++ other_than_zero (profile_entry number kind (value period (each_path entries.now) hart n.now kind) ∷ [])) }
+    ensures { OnOk result
+        (out.new.items ≡ out.old.items
+        ++ other_than_zero (profile_entry number kind (value period (each_path entries.now) hart n.now kind) ∷ [])) }
 {
     let value = value_of(period, entries, hart, n, kind);
     put_value(
@@ -57,14 +61,16 @@ fn put_node(
     n: &[Scope],
 ) -> Result<(), Memory>
     requires { length (each_path entries.now) ≤ most_samples }
-    ensures { OnOk result (out.new.items ≡ out.old.items ++ other_than_zero (node_values period (each_path entries.now) hart (number, n.now))) }
+    ensures { OnOk result
+        (out.new.items ≡ out.old.items
+        ++ other_than_zero (node_values period (each_path entries.now) hart (number, n.now))) }
 {
     put_kind(out, period, entries, hart, number, n, Kind::Exclusive)?;
     put_kind(out, period, entries, hart, number, n, Kind::Frame)?;
     put_kind(out, period, entries, hart, number, n, Kind::Inclusive)
 }
 
-/// The values of a hart other than 0, by node, then kind. Fails for want of memory alone.
+/// The values of a hart other than 0, by node, then kind.
 #[tactic(auto, using(crate::proofs::Columns::one_node_more, crate::proofs::Columns::all_nodes))]
 pub fn column_of(
     alloc: Global,
@@ -76,7 +82,7 @@ pub fn column_of(
     requires few { length (each_path entries.now) ≤ most_samples }
     requires nodes { tree.now ≡ nodes (each_path entries.now) }
     requires numbers { length tree.now < 2 ^ 32 }
-    ensures { IfOk result (λ es. es.items ≡ profile_of period (each_path entries.now) hart) }
+    ensures { IfOk result (λ es. es.items ≡ hart_column period (each_path entries.now) hart) }
 {
     let mut out = Vec::new(alloc);
     for i in 0..tree.len() {
@@ -105,7 +111,8 @@ fn put_kind_by_hart(
     kind: Kind,
 ) -> Result<(), Memory>
     requires { length (each_path entries.now) ≤ most_samples }
-    ensures { OnOk result (out.new.items ≡ out.old.items ++ kind_column period harts (each_path entries.now) n.now kind) }
+    ensures { OnOk result (out.new.items
+        ≡ out.old.items ++ kind_column period harts (each_path entries.now) n.now kind) }
 {
     for hart in 0..harts {
         let value = value_of(period, entries, hart, n, kind);
@@ -114,7 +121,7 @@ fn put_kind_by_hart(
     Ok(())
 }
 
-/// The values of a node other than 0, by kind, then hart. Fails for want of memory alone.
+/// The values of a node other than 0, by kind, then hart.
 #[tactic(auto, using(crate::proofs::ContextColumns::three_kinds))]
 pub fn context_column_of(
     alloc: Global,
@@ -124,7 +131,7 @@ pub fn context_column_of(
     n: &[Scope],
 ) -> Result<Vec<ContextEntry>, Memory>
     requires { length (each_path entries.now) ≤ most_samples }
-    ensures { IfOk result (λ es. es.items ≡ context_of period harts (each_path entries.now) n.now) }
+    ensures { IfOk result (λ es. es.items ≡ node_column period harts (each_path entries.now) n.now) }
 {
     let mut out = Vec::new(alloc);
     put_kind_by_hart(&mut out, period, harts, entries, n, Kind::Exclusive)?;

@@ -1,4 +1,3 @@
-pub mod Appending
 pub mod OverHarts
 pub mod NamesFound
 pub mod TableRows

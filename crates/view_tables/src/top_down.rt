@@ -1,6 +1,7 @@
 //! The top-down table as text. Each value is counted over all paths: plain, and slow where there are many
 //! thousands of them.
-ghost use Rattle.std.specs.Prelude.{◌≡◌, ◌<◌, ◌≤◌, ◌^◌, ◌+◌, ◌*◌, ◌++◌, ◌∷◌, [], length, codes, decimal, find, OnOk, IfOk};
+ghost use Rattle.std.specs.Prelude.{◌≡◌, ◌<◌, ◌≤◌, ◌^◌, ◌+◌, ◌*◌, ◌++◌, ◌∷◌, [], length, codes, decimal, find, OnOk};
+ghost use Rattle.std.specs.Prelude.{IfOk};
 ghost use Rattle.scope_types.specs.CallPaths.{each_path};
 ghost use Rattle.scope_types.specs.Limits.{most_samples};
 ghost use Rattle.tree_types.specs.Nodes.{nodes};
@@ -9,7 +10,8 @@ ghost use Rattle.std.specs.Option.{option_copied};
 ghost use Rattle.std.specs.Ordering.{is_eq};
 ghost use Rattle.tree_types.specs.Naming.{file_order, proc_order};
 ghost use Rattle.tree_types.specs.Database.{file_named, naming_in, proc_named};
-ghost use Rattle.tree_types.specs.TopDown.{header, label, node_row, over_harts, percent, place, printed, right, row, spaces, top_down};
+ghost use Rattle.tree_types.specs.TopDown.{header, label, node_row, over_harts, percent, line_label, printed, right};
+ghost use Rattle.tree_types.specs.TopDown.{table_row, spaces, top_down};
 
 use crate::text::{put_address, put_decimal};
 use prof_bytes::Memory;
@@ -65,7 +67,7 @@ fn put_row(
     label: &[u8],
 ) -> Result<(), Memory>
     requires { level < 2 ^ 62 }
-    ensures { OnOk result (out.new.items ≡ out.old.items ++ row first.now share.now third.now level label.now) }
+    ensures { OnOk result (out.new.items ≡ out.old.items ++ table_row first.now share.now third.now level label.now) }
 {
     put_right(out, 16, first)?;
     put_spaces(out, 1)?;
@@ -131,26 +133,27 @@ fn file_name(names: &Names, file: (u32, u32)) -> &[u8]
     }
 }
 
-/// A line of a file.
-fn put_row_place(
+/// A line of a file, as the file's name and the line's number.
+fn put_row_label(
     out: &mut Vec<u8>,
     names: &Names,
     file: (u32, u32),
     line: u32,
 ) -> Result<(), Memory>
-    ensures { OnOk result (out.new.items ≡ out.old.items ++ place (naming_in names.now) (LineId.Row file.0 file.1 line)) }
+    ensures { OnOk result (out.new.items
+        ≡ out.old.items ++ line_label (naming_in names.now) (LineId.Row file.0 file.1 line)) }
 {
     put_printed(out, file_name(names, file))?;
     out.extend_from_slice(b":")?;
     put_decimal(out, u64::from(line))
 }
 
-/// A place in the source text, or an address.
-fn put_place(out: &mut Vec<u8>, names: &Names, line: LineId) -> Result<(), Memory>
-    ensures { OnOk result (out.new.items ≡ out.old.items ++ place (naming_in names.now) line) }
+/// A line of source text as file and line, or an address.
+fn put_line_label(out: &mut Vec<u8>, names: &Names, line: LineId) -> Result<(), Memory>
+    ensures { OnOk result (out.new.items ≡ out.old.items ++ line_label (naming_in names.now) line) }
 {
     match line {
-        LineId::Row { table, file, line } => put_row_place(out, names, (table, file), line),
+        LineId::Row { table, file, line } => put_row_label(out, names, (table, file), line),
         LineId::Address(address) => put_address(out, address),
     }
 }
@@ -166,7 +169,7 @@ fn put_inline_label(
     out.extend_from_slice(b"[I] ")?;
     put_printed(out, proc_name(names, callee))?;
     out.extend_from_slice(b" called at ")?;
-    put_place(out, names, call)
+    put_line_label(out, names, call)
 }
 
 /// The label of a scope under these names.
@@ -180,9 +183,9 @@ fn put_label(out: &mut Vec<u8>, names: &Names, scope: Scope) -> Result<(), Memor
         Scope::Inline { callee, call } => put_inline_label(out, names, callee, call),
         Scope::Call(line) => {
             out.extend_from_slice(b"call at ")?;
-            put_place(out, names, line)
+            put_line_label(out, names, line)
         }
-        Scope::Stmt(line) => put_place(out, names, line),
+        Scope::Stmt(line) => put_line_label(out, names, line),
     }
 }
 
@@ -221,7 +224,8 @@ fn put_node_row(
     requires some { 0 < length (each_path entries.now) }
     requires period { 0 < period }
     requires level { length n.now < 2 ^ 62 }
-    ensures { OnOk result (out.new.items ≡ out.old.items ++ node_row period harts (naming_in names.now) (each_path entries.now) n.now) }
+    ensures { OnOk result
+        (out.new.items ≡ out.old.items ++ node_row period harts (naming_in names.now) (each_path entries.now) n.now) }
 {
     let inclusive = value_over_harts(period, harts, entries, n, Kind::Inclusive);
     let frame = value_over_harts(period, harts, entries, n, Kind::Frame);

@@ -43,10 +43,12 @@ raw_decides a b = (one, same)
     one : same_raw a b ≡ true → a ≡ b
     one e =
         let parts = both (same_end a.end b.end) (pointwise same_frame a.frames b.frames) e in
-        ap₂ (λ (end : End) (frames : List Frame). record { end = end; frames = frames }) ((end_decides a.end b.end).0 parts.0) ((pointwise_decides frame_decides a.frames b.frames).0 parts.1)
+        ap₂ (λ (end : End) (frames : List Frame). record { end = end; frames = frames })
+        ((end_decides a.end b.end).0 parts.0) ((pointwise_decides frame_decides a.frames b.frames).0 parts.1)
 
     itself : same_raw a a ≡ true
-    itself = ap₂ (λ (s t : Bool). s && t) ((end_decides a.end a.end).1 refl) ((pointwise_decides frame_decides a.frames a.frames).1 refl)
+    itself = ap₂ (λ (s t : Bool). s && t) ((end_decides a.end a.end).1 refl)
+        ((pointwise_decides frame_decides a.frames a.frames).1 refl)
 
     same : a ≡ b → same_raw a b ≡ true
     same e = subst (λ c. same_raw a c ≡ true) e itself
@@ -65,5 +67,8 @@ raw_writes a = end_hash.hash_input a.end ++ fed.slice frame_hash.hash_input a.fr
 pub same_writes : (a b : Raw) → IsTrue (same_raw a b) → raw_writes a ≡ raw_writes b
 same_writes a b same = ap raw_writes ((raw_decides a b).0 same)
 
-pub writes_in_turn : {S : Type 0} (write : S → List ℕ → S) (state : S) (a : Raw) → fold write (fold write state (end_hash.hash_input a.end)) (fed.slice frame_hash.hash_input a.frames) ≡ fold write state (raw_writes a)
-writes_in_turn write state a = sym (fold-append write state (end_hash.hash_input a.end) (fed.slice frame_hash.hash_input a.frames))
+pub writes_in_turn : {S : Type 0} (write : S → List ℕ → S) (state : S) (a : Raw)
+    → fold write (fold write state (end_hash.hash_input a.end)) (fed.slice frame_hash.hash_input a.frames)
+    ≡ fold write state (raw_writes a)
+writes_in_turn write state a = sym
+    (fold-append write state (end_hash.hash_input a.end) (fed.slice frame_hash.hash_input a.frames))
