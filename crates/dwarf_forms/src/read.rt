@@ -1,5 +1,5 @@
 //! One value by its form (DWARF 5, sections 7.5.4 to 7.5.6).
-ghost use Rattle.std.specs.Prelude.{◌≡◌, IfErr};
+ghost use Rattle.std.specs.Prelude.{◌≡◌, IfErr, IfOk};
 ghost use Rattle.prof_bytes.specs.Outcome.{GivesAt};
 ghost use Rattle.dwarf_forms.specs.Values.{form_value, word_value, number_value, sized_from, block_from, encoded_from};
 ghost use Rattle.dwarf_forms.specs.Values.{direct_from, named_from, value_from, value_at};
@@ -97,11 +97,8 @@ fn named<'a, F: Copy>(reader: &mut Reader<'a, F>, form: u64, unknown: F) -> Resu
     direct(reader, form, 0, unknown)
 }
 
-/// The value of this form, behind which the reader then stands; `unknown` is the fault of a form that is
-/// not one of DWARF 5. `implicit` is the constant that the attribute's declaration holds for the form
-/// `DW_FORM_implicit_const`.
 #[tactic(auto, unfolding(crate::specs::Values::value_from))]
-pub fn read_form<'a, F: Copy>(
+fn value<'a, F: Copy>(
     reader: &mut Reader<'a, F>,
     form: u64,
     implicit: i64,
@@ -114,6 +111,21 @@ pub fn read_form<'a, F: Copy>(
         return named(reader, named_form, unknown);
     }
     direct(reader, form, implicit, unknown)
+}
+
+/// The value of this form, behind which the reader then stands; `unknown` is the fault of a form that is
+/// not one of DWARF 5. `implicit` is the constant that the attribute's declaration holds for the form
+/// `DW_FORM_implicit_const`.
+pub fn read_form<'a, F: Copy>(
+    reader: &mut Reader<'a, F>,
+    form: u64,
+    implicit: i64,
+    unknown: F,
+) -> Result<Value<'a>, F>
+    ensures value { GivesAt form_value result reader.new (value_from unknown form implicit reader.old) }
+    ensures keeps { IfOk result (λ _. reader.new.at.whole ≡ reader.old.at.whole) }
+{
+    value(reader, form, implicit, unknown)
 }
 
 /// The value of this form at the cursor, which then stands after it. `implicit` is the constant that

@@ -3,5 +3,7 @@ pub mod Past
 pub mod Bodies
 pub mod UnitLists
 pub mod RangeLists
-pub mod EntryPlaces
-pub mod SeenValues
+pub mod EntryIndices
+pub mod UnitEntries
+pub mod CodedEntries
+pub mod UnitMoves

@@ -1,10 +1,9 @@
 pub mod Sections
 pub mod Values
 pub mod Attributes
+pub mod UnitHeaders
 pub mod Entries
-pub mod Heads
 pub mod Units
-pub mod Tables
 pub mod Queries
 pub mod Ranges
-pub mod Parts
+pub mod private

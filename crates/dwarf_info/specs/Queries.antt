@@ -1,67 +1,72 @@
--- What is asked of an entry: its name, the entry that it links to, its call. DWARF 5, sections 2.15, 2.13.2, 3.3.5 and 3.3.8.
-use Rattle.std.specs.Prelude.{◌≡◌, ℕ, ◌+◌, ◌^◌, ◌≤◌, ◌==◌, nat_eq, List, Option, Some, None, option_map, option_and_then, slice_get, position}
+-- What is asked of an entry: its name, the entry that it links to, its call. DWARF 5, sections 2.13.2, 2.15, 3.3.5
+-- and 3.3.8.
+use Rattle.std.specs.Prelude.{ℕ, ◌+◌, ◌==◌, List, Option, Some, None, option_map, option_and_then, slice_get, position}
 use Rattle.std.specs.Option.{option_or}
-use Rattle.std.specs.declared.hash.FoldHasher.{FoldHasher}
-use Rattle.std.specs.declared.hash.BuildHasherDefault.{BuildHasherDefault}
-use Rattle.std.specs.HashMap.{get, HashMap}
-use Rattle.dwarf_forms.specs.Values.{Held, UnitRef, InfoRef}
-use Rattle.dwarf_info.specs.declared.entry.UnitRead.{UnitRead}
+use Rattle.dwarf_forms.specs.declared.value.FormFault.TheVariants.{Short}
+use Rattle.dwarf_forms.specs.Values.{FormValue, UnitRef, InfoRef}
+use Rattle.dwarf_info.specs.declared.constants.TheConstants.{DW_AT_name, DW_AT_linkage_name, DW_AT_abstract_origin}
+use Rattle.dwarf_info.specs.declared.constants.TheConstants.{DW_AT_specification, DW_AT_call_file, DW_AT_call_line}
+use Rattle.dwarf_info.specs.declared.entry.UnitBases.{UnitBases}
 use Rattle.dwarf_info.specs.declared.entry.InfoEntry.{InfoEntry}
 use Rattle.dwarf_info.specs.Sections.{up_to}
 use Rattle.dwarf_info.specs.Values.{entry_values, value_of}
 use Rattle.dwarf_info.specs.Attributes.{small_value, text_value}
-use Rattle.dwarf_info.specs.Units.{Content, declared_in}
+use Rattle.dwarf_info.specs.Units.{DebugInfo, declared_in}
 
 -- an entry with its unit
-pub record Seen : Type 0 where
+pub record UnitEntry : Type 0 where
   pub entry : InfoEntry
-  pub read : UnitRead
+  pub bases : UnitBases
 
--- the entry with a number
-abbrev pub seen : Content → ℕ → Option Seen
-seen content i =
-    option_and_then (λ e. option_map (λ u. record { entry = e; read = u }) (slice_get content.units e.«unit»)) (slice_get content.entries i)
+-- the entry with an index
+abbrev pub unit_entry : DebugInfo → ℕ → Option UnitEntry
+unit_entry info i =
+    option_and_then (λ e. option_map (λ b. record { entry = e; bases = b }) (slice_get info.units e.«unit»))
+    (slice_get info.entries i)
 
 -- the first value of one of its attributes
-abbrev pub seen_value : Content → ℕ → Seen → Option Held
-seen_value content attribute s =
-    value_of attribute (entry_values (declared_in content.sections s.read) (up_to s.read.head.end content.sections.info s.entry.offset))
+abbrev pub attribute_value : DebugInfo → ℕ → UnitEntry → Option FormValue
+attribute_value info attribute e =
+    value_of attribute
+    (entry_values (declared_in info.sections e.bases)
+    (up_to e.bases.header.end info.sections.info e.entry.offset Short))
 
-abbrev pub seen_text : Content → ℕ → Seen → Option (List ℕ)
-seen_text content attribute s = option_and_then (text_value content.sections s.read.str_offsets) (seen_value content attribute s)
+abbrev pub attribute_text : DebugInfo → ℕ → UnitEntry → Option (List ℕ)
+attribute_text info attribute e =
+    option_and_then (text_value info.sections e.bases.str_offsets_base) (attribute_value info attribute e)
 
--- DW_AT_name, else DW_AT_linkage_name
-abbrev pub name_of : Content → ℕ → Option (List ℕ)
-name_of content i = option_and_then (λ s. option_or (seen_text content 0x03 s) (seen_text content 0x6e s)) (seen content i)
+-- its name, else its linkage name
+abbrev pub name_of : DebugInfo → ℕ → Option (List ℕ)
+name_of info i =
+    option_and_then (λ e. option_or (attribute_text info DW_AT_name e) (attribute_text info DW_AT_linkage_name e))
+    (unit_entry info i)
 
 -- the offset in .debug_info that a reference gives, in a unit that starts at an offset
-abbrev pub reference_value : ℕ → Held → Option ℕ
+abbrev pub reference_value : ℕ → FormValue → Option ℕ
 reference_value start (UnitRef n) = Some (start + n)
 reference_value start (InfoRef n) = Some n
 reference_value start other = None
 
--- the number of the entry at an offset
-abbrev pub entry_at : List InfoEntry → ℕ → Option ℕ
-entry_at entries offset = position (λ e. e.offset == offset) entries
+-- the index of the entry at an offset
+abbrev pub index_at : List InfoEntry → ℕ → Option ℕ
+index_at entries offset = position (λ e. e.offset == offset) entries
 
-abbrev pub seen_link : Content → ℕ → Seen → Option ℕ
-seen_link content attribute s = option_and_then (entry_at content.entries) (option_and_then (reference_value s.read.head.offset) (seen_value content attribute s))
+abbrev pub attribute_entry : DebugInfo → ℕ → UnitEntry → Option ℕ
+attribute_entry info attribute e =
+    option_and_then (index_at info.entries)
+    (option_and_then (reference_value e.bases.header.offset) (attribute_value info attribute e))
 
--- the entry that DW_AT_abstract_origin names, else the one that DW_AT_specification names
-abbrev pub link_of : Content → ℕ → Option ℕ
-link_of content i = option_and_then (λ s. option_or (seen_link content 0x31 s) (seen_link content 0x47 s)) (seen content i)
+-- the index of its abstract origin, else of the entry that it specifies
+abbrev pub link_of : DebugInfo → ℕ → Option ℕ
+link_of info i =
+    option_and_then
+    (λ e. option_or (attribute_entry info DW_AT_abstract_origin e) (attribute_entry info DW_AT_specification e))
+    (unit_entry info i)
 
-abbrev pub seen_small : Content → ℕ → ℕ → Option ℕ
-seen_small content attribute i = option_and_then (λ s. option_and_then small_value (seen_value content attribute s)) (seen content i)
+abbrev pub attribute_number : DebugInfo → ℕ → ℕ → Option ℕ
+attribute_number info attribute i =
+    option_and_then (λ e. option_and_then small_value (attribute_value info attribute e)) (unit_entry info i)
 
--- DW_AT_call_file and DW_AT_call_line
-abbrev pub call_of : Content → ℕ → Option ℕ × Option ℕ
-call_of content i = (seen_small content 0x58 i, seen_small content 0x59 i)
-
-abbrev pub Places : Type 0
-Places = HashMap ℕ ℕ (BuildHasherDefault FoldHasher)
-
--- each offset leads to the entry that stands there; none stands at an offset of more than 32 bits
-pub record ArePlaces (entries : List InfoEntry) (places : Places) : Type 0 where
-  pub there : (offset : ℕ) → get nat_eq places offset ≡ entry_at entries offset
-  pub small : (offset : ℕ) → 2 ^ 32 ≤ offset → entry_at entries offset ≡ None
+-- the file and the line of its call
+abbrev pub call_of : DebugInfo → ℕ → Option ℕ × Option ℕ
+call_of info i = (attribute_number info DW_AT_call_file i, attribute_number info DW_AT_call_line i)

@@ -1,7 +1,7 @@
--- The sections of debug information as lists of bytes, and what stands at places in them.
+-- The sections of debug information as lists of bytes, and what stands at offsets of them.
 use Rattle.std.specs.Prelude.{ℕ, ◌+◌, ◌*◌, List, take, drop, Option, option_map, option_and_then}
 use Rattle.prof_bytes.specs.Number.{number_at}
-use Rattle.prof_bytes.specs.Reading.{At}
+use Rattle.prof_bytes.specs.Fields.{Input}
 use Rattle.elf_image.specs.declared.debug_parts.DebugParts.{DebugParts}
 
 pub record Sections : Type 0 where
@@ -24,14 +24,15 @@ sections_of parts = record {
   rnglists = parts.rnglists.now;
 }
 
--- the number of four bytes at a place of a section; nothing where it is not whole there
+-- the number of four bytes at an offset of a section; nothing where it is not whole there
 abbrev pub word_in : List ℕ → ℕ → Option ℕ
-word_in section place = option_map (λ r. r.0) (number_at 4 (drop place section))
+word_in section offset = option_map (λ r. r.0) (number_at 4 (drop offset section))
 
 -- the same of the element with an index behind a base
 abbrev pub element_in : List ℕ → Option ℕ → ℕ → Option ℕ
 element_in section base index = option_and_then (λ start. word_in section (start + 4 * index)) base
 
--- the bytes up to an end, with the places that they have in the section
-abbrev pub up_to : ℕ → List ℕ → ℕ → At
-up_to end section place = record { whole = take end section; place = place }
+-- the bytes of a section up to an end, from an offset on
+abbrev pub up_to : {F : Type 0} → ℕ → List ℕ → ℕ → F → Input F
+up_to end section offset missing =
+    record { at = record { whole = take end section; offset = offset }; missing = missing }

@@ -1,92 +1,123 @@
 -- The units of .debug_info with their entries. DWARF 5, sections 7.5.1 and 3.1.1.
-use Rattle.std.specs.Prelude.{ℕ, ◌+◌, List, [], ◌∷◌, Option, Some, None, option_and_then, option_map, slice_get, Result, Ok, Err, length}
+use Rattle.std.specs.Prelude.{ℕ, ◌+◌, List, [], ◌∷◌, length, Option, Some, None, option_and_then, option_map, slice_get}
+use Rattle.std.specs.Prelude.{Result, Ok, Err}
 use Rattle.std.specs.List.{flat_map}
-use Rattle.prof_bytes.specs.Reading.{At}
+use Rattle.prof_bytes.specs.Fields.{Input, part_from}
 use Rattle.prof_bytes.specs.Outcome.{◌>>=◌}
 use Rattle.dwarf_forms.specs.declared.declaration.Abbrev.{Abbrev}
+use Rattle.dwarf_forms.specs.declared.value.FormFault.TheVariants.{Short}
 use Rattle.dwarf_forms.specs.Abbreviations.{table_at}
 use Rattle.dwarf_forms.specs.Runs.{Step, run_to_end}
-use Rattle.dwarf_forms.specs.Values.{Held}
-use Rattle.dwarf_info.specs.declared.head.Head.{Head}
+use Rattle.dwarf_forms.specs.Values.{FormValue}
+use Rattle.dwarf_info.specs.declared.constants.TheConstants.{DW_AT_stmt_list, DW_AT_low_pc}
+use Rattle.dwarf_info.specs.declared.constants.TheConstants.{DW_AT_str_offsets_base, DW_AT_addr_base}
+use Rattle.dwarf_info.specs.declared.constants.TheConstants.{DW_AT_rnglists_base}
+use Rattle.dwarf_info.specs.declared.unit_header.UnitHeader.{UnitHeader}
 use Rattle.dwarf_info.specs.declared.entry.Unit.{Unit}
-use Rattle.dwarf_info.specs.declared.entry.UnitRead.{UnitRead}
+use Rattle.dwarf_info.specs.declared.entry.UnitBases.{UnitBases}
 use Rattle.dwarf_info.specs.declared.entry.InfoEntry.{InfoEntry}
 use Rattle.dwarf_info.specs.declared.fault.InfoFault.{InfoFault}
-use Rattle.dwarf_info.specs.declared.fault.InfoFault.TheVariants.{BadAbbrev}
+use Rattle.dwarf_info.specs.declared.fault.InfoFault.TheVariants.{BadUnit, BadAbbrev}
 use Rattle.dwarf_info.specs.Sections.{Sections, up_to}
 use Rattle.dwarf_info.specs.Values.{entry_values, value_of}
 use Rattle.dwarf_info.specs.Attributes.{section_value, address_value}
-use Rattle.dwarf_info.specs.Entries.{with_fault, entries_from}
-use Rattle.dwarf_info.specs.Heads.{head_from}
+use Rattle.dwarf_info.specs.Entries.{entries_from}
+use Rattle.dwarf_info.specs.UnitHeaders.{header_from}
+
+-- ---- what the first entry of a unit says
 
 -- the values of the first of the entries, by its offset
-abbrev pub first_values : Sections → ℕ → List Abbrev → Option ℕ → List (ℕ × Held)
+abbrev pub first_values : Sections → ℕ → List Abbrev → Option ℕ → List (ℕ × FormValue)
 first_values sections end declared None = []
-first_values sections end declared (Some offset) = entry_values declared (up_to end sections.info offset)
+first_values sections end declared (Some offset) = entry_values declared (up_to end sections.info offset Short)
 
-abbrev pub section_of : ℕ → List (ℕ × Held) → Option ℕ
-section_of attribute values = option_and_then section_value (value_of attribute values)
+-- the offset in a section that an attribute gives
+abbrev pub section_offset : ℕ → List (ℕ × FormValue) → Option ℕ
+section_offset attribute values = option_and_then section_value (value_of attribute values)
 
--- a unit with what its first entry says: DW_AT_stmt_list, the three bases, DW_AT_low_pc
-abbrev pub unit_read : Sections → ℕ → Head → List (ℕ × Held) → UnitRead
-unit_read sections number head values = record {
-  number = number;
-  head = head;
-  lines = section_of 0x10 values;
-  str_offsets = section_of 0x72 values;
-  addr = section_of 0x73 values;
-  rnglists = section_of 0x74 values;
-  low_pc = option_and_then (address_value sections (section_of 0x73 values)) (value_of 0x11 values);
+-- a unit with the bases that its first entry gives
+abbrev pub unit_bases : Sections → ℕ → UnitHeader → List (ℕ × FormValue) → UnitBases
+unit_bases sections index header values = record {
+  index = index;
+  header = header;
+  stmt_list = section_offset DW_AT_stmt_list values;
+  str_offsets_base = section_offset DW_AT_str_offsets_base values;
+  addr_base = section_offset DW_AT_addr_base values;
+  rnglists_base = section_offset DW_AT_rnglists_base values;
+  low_pc =
+      option_and_then (address_value sections (section_offset DW_AT_addr_base values)) (value_of DW_AT_low_pc values);
 }
 
 abbrev pub first_offset : List InfoEntry → Option ℕ
 first_offset entries = option_map (λ e. e.offset) (slice_get entries 0)
 
+-- ---- a unit
+
 -- the bytes of a unit from its first entry on
-abbrev pub body_of : Sections → Head → At
-body_of sections head = up_to head.end sections.info head.start
+abbrev pub body_of : Sections → UnitHeader → Input InfoFault
+body_of sections header = up_to header.end sections.info header.first_entry (BadUnit header.offset)
+
+-- the same with another fault
+abbrev pub failing_as : {X F G : Type 0} → G → Result X F → Result X G
+failing_as other (Ok x) = Ok x
+failing_as other (Err fault) = Err other
+
+-- the declarations that the entries of a unit name
+abbrev pub unit_table : Sections → UnitHeader → Result (List Abbrev) InfoFault
+unit_table sections header =
+    failing_as (BadAbbrev header.offset) (table_at sections.abbrev_bytes header.debug_abbrev_offset)
 
 -- a unit that is read: its abbreviation table, its entries, and what the first of them says
-unfoldable pub read_unit : Sections → ℕ → Option Head → Result (List UnitRead) InfoFault
-read_unit sections number None = Ok []
-read_unit sections number (Some head) =
-    with_fault (λ _. BadAbbrev head.offset) (table_at sections.abbrev_bytes head.table) >>= (λ declared.
-    entries_from declared number (body_of sections head) >>= (λ entries.
-    Ok (unit_read sections number head (first_values sections head.end declared (first_offset entries)) ∷ [])))
+unfoldable pub read_unit : Sections → ℕ → Option UnitHeader → Result (List UnitBases) InfoFault
+read_unit sections index None = Ok []
+read_unit sections index (Some header) = do
+  declared ← unit_table sections header
+  entries ← entries_from declared index (body_of sections header)
+  Ok (unit_bases sections index header (first_values sections header.end declared (first_offset entries)) ∷ [])
 
--- the unit at a place, with its number among those that are read
-unfoldable pub unit_from : Sections → ℕ → At → Step ℕ UnitRead InfoFault
-unit_from sections number at =
-    head_from at >>= (λ head.
-    read_unit sections number head.0 >>= (λ units.
-    Ok (units, number + length units, record { whole = at.whole; place = head.1 })))
+-- the unit that begins here, with its index among those that are read
+unfoldable pub unit_from : Sections → ℕ → Input InfoFault → Step ℕ UnitBases InfoFault
+unit_from sections index input = do
+  (part, next) ← part_from (record input { missing = BadUnit input.at.offset })
+  (header, body) ← header_from input.at.offset next.at.offset part
+  units ← read_unit sections index header
+  Ok (units, index + length units, next)
+
+-- ---- all units
+
+-- the bytes of .debug_info from its start on
+abbrev pub info_input : Sections → Input InfoFault
+info_input sections = record { at = record { whole = sections.info; offset = 0 }; missing = BadUnit 0 }
 
 -- the units that are read, in section order
-abbrev pub units_of : Sections → Result (List UnitRead) InfoFault
-units_of sections = run_to_end (unit_from sections) 0 (record { whole = sections.info; place = 0 })
+abbrev pub units_of : Sections → Result (List UnitBases) InfoFault
+units_of sections = run_to_end (unit_from sections) 0 (info_input sections)
 
 abbrev pub or_none : {X F : Type 0} → Result (List X) F → List X
 or_none (Ok xs) = xs
 or_none (Err fault) = []
 
--- the declarations that a unit's entries name
-abbrev pub declared_in : Sections → UnitRead → List Abbrev
-declared_in sections read = or_none (table_at sections.abbrev_bytes read.head.table)
+-- the declarations of a unit that was read
+abbrev pub declared_in : Sections → UnitBases → List Abbrev
+declared_in sections bases = or_none (table_at sections.abbrev_bytes bases.header.debug_abbrev_offset)
 
--- the entries of a unit
-abbrev pub entries_in : Sections → UnitRead → List InfoEntry
-entries_in sections read = or_none (entries_from (declared_in sections read) read.number (body_of sections read.head))
+-- its entries
+abbrev pub entries_in : Sections → UnitBases → List InfoEntry
+entries_in sections bases =
+    or_none (entries_from (declared_in sections bases) bases.index (body_of sections bases.header))
 
 -- a unit as callers see it
-abbrev pub unit_of : UnitRead → Unit
-unit_of read = record { offset = read.head.offset; table = read.lines }
+abbrev pub unit_of : UnitBases → Unit
+unit_of bases = record { offset = bases.header.offset; table = bases.stmt_list }
 
 -- the debug information that was read
-pub record Content : Type 0 where
+pub record DebugInfo : Type 0 where
   pub sections : Sections
-  pub units : List UnitRead
+  pub units : List UnitBases
   pub entries : List InfoEntry
 
 -- all of it: the units, and their entries one unit after the other
-unfoldable pub content_of : Sections → Result Content InfoFault
-content_of sections = units_of sections >>= (λ units. Ok (record { sections = sections; units = units; entries = flat_map (entries_in sections) units }))
+unfoldable pub debug_info_of : Sections → Result DebugInfo InfoFault
+debug_info_of sections = do
+  units ← units_of sections
+  Ok (record { sections = sections; units = units; entries = flat_map (entries_in sections) units })

@@ -1,11 +1,13 @@
-//! What the values of attributes mean.
-ghost use Rattle.std.specs.Prelude.{◌≡◌, ◌^◌, Some, None, nat_le, nat_lt, length, if◌then◌else◌, option_copied, take, option_and_then, option_map};
-ghost use Rattle.dwarf_forms.specs.Values.{held};
-ghost use Rattle.dwarf_info.specs.Sections.{sections_of, word_in, element_in, up_to};
+//! What the values of attributes mean (DWARF 5, sections 7.5.5, 7.26 and 7.27).
+ghost use Rattle.std.specs.Prelude.{◌≡◌, ◌^◌, Some, None, nat_le, nat_lt, if◌then◌else◌, option_copied, take};
+ghost use Rattle.std.specs.Prelude.{option_and_then, option_map};
+ghost use Rattle.dwarf_forms.specs.Values.{form_value};
+ghost use Rattle.dwarf_info.specs.Sections.{sections_of, word_in, element_in};
 ghost use Rattle.dwarf_info.specs.Attributes.{section_value, small_value, text_value, address_value};
 
-use dwarf_forms::{Value, cursor_at, text_in};
+use dwarf_forms::{Value, text_in};
 use elf_image::DebugParts;
+use prof_bytes::Cursor;
 
 /// The bytes before an end.
 pub(crate) fn front(bytes: &[u8], end: u32) -> &[u8]
@@ -19,27 +21,29 @@ pub(crate) fn front(bytes: &[u8], end: u32) -> &[u8]
 }
 
 #[tactic(auto, using(crate::proofs::Past::no_word_past))]
-fn word_in(section: &[u8], place: usize) -> Option<u32>
-    ensures { result ≡ word_in section.now place }
+fn word_in(section: &[u8], offset: usize) -> Option<u32>
+    ensures { result ≡ word_in section.now offset }
 {
-    let mut cursor = cursor_at(section, place)?;
-    cursor.u32()
+    if offset > section.len() {
+        return None;
+    }
+    Cursor::at(section, offset).u32()
 }
 
+/// The element with an index of the table of 4-byte numbers that begins at a base.
 #[tactic(auto, using(crate::proofs::Past::no_word_past))]
 pub(crate) fn element_in(section: &[u8], base: Option<u32>, index: u64) -> Option<u32>
     ensures { result ≡ element_in section.now base index }
 {
-    let start = base?;
-    let place = u128::from(start) + 4 * u128::from(index);
-    if place > section.len() as u128 {
+    let offset = u128::from(base?) + 4 * u128::from(index);
+    if offset > section.len() as u128 {
         return None;
     }
-    word_in(section, place as usize)
+    word_in(section, offset as usize)
 }
 
 pub(crate) fn section_value(value: Value<'_>) -> Option<u32>
-    ensures { result ≡ section_value (held value.entry) }
+    ensures { result ≡ section_value (form_value value.entry) }
 {
     match value {
         Value::Section(offset) => Some(offset),
@@ -57,7 +61,7 @@ fn small_unsigned(number: u64) -> Option<u32>
 }
 
 pub(crate) fn small_value(value: Value<'_>) -> Option<u32>
-    ensures { result ≡ small_value (held value.entry) }
+    ensures { result ≡ small_value (form_value value.entry) }
 {
     match value {
         Value::Number(number) => small_unsigned(number),
@@ -76,15 +80,15 @@ pub(crate) fn text_value<'a>(
     base: Option<u32>,
     value: Value<'a>,
 ) -> Option<&'a [u8]>
-    ensures { option_copied result ≡ text_value (sections_of sections.now) base (held value.entry) }
+    ensures { option_copied result ≡ text_value (sections_of sections.now) base (form_value value.entry) }
 {
     match value {
         Value::Name(text) => Some(text),
-        Value::StrAt(place) => text_in(sections.str_bytes, place),
-        Value::LineStrAt(place) => text_in(sections.line_str, place),
+        Value::StrAt(offset) => text_in(sections.str_bytes, offset),
+        Value::LineStrAt(offset) => text_in(sections.line_str, offset),
         Value::StrIndex(index) => {
-            let place = element_in(sections.str_offsets, base, index)?;
-            text_in(sections.str_bytes, place)
+            let offset = element_in(sections.str_offsets, base, index)?;
+            text_in(sections.str_bytes, offset)
         }
         _ => None,
     }
@@ -95,7 +99,7 @@ pub(crate) fn address_value(
     base: Option<u32>,
     value: Value<'_>,
 ) -> Option<u32>
-    ensures { result ≡ address_value (sections_of sections.now) base (held value.entry) }
+    ensures { result ≡ address_value (sections_of sections.now) base (form_value value.entry) }
 {
     match value {
         Value::Address(address) => Some(address),

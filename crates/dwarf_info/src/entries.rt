@@ -1,66 +1,64 @@
-//! The entries of a unit.
-ghost use Rattle.std.specs.Prelude.{◌≡◌, ◌-◌, ◌++◌, OnOk, Ok, Err, IfOk, option_to_list, length};
-ghost use Rattle.prof_bytes.specs.Outcome.{Gives};
+//! The entries of a unit (DWARF 5, sections 2.3 and 7.5.3).
+ghost use Rattle.std.specs.Prelude.{◌≡◌, ◌+◌, ◌<◌, ◌≤◌, ◌++◌, ◌^◌, OnOk, IfOk, option_to_list, length};
 ghost use Rattle.prof_bytes.specs.Reading.{left_of};
-ghost use Rattle.dwarf_forms.specs.Runs.{before, run_from};
+ghost use Rattle.prof_bytes.specs.Outcome.{Gives, viewed};
+ghost use Rattle.dwarf_forms.specs.Runs.{before};
 ghost use Rattle.dwarf_info.specs.Values.{declaration_of};
-ghost use Rattle.dwarf_info.specs.Entries.{entry_fault, declared_entry, entry_from, entries_from};
+ghost use Rattle.dwarf_info.specs.Entries.{declared_entry, entry_from, entries_from};
 
 use crate::entry::InfoEntry;
 use crate::fault::InfoFault;
-use crate::head::offset_of;
+use crate::unit_header::offset_of;
 use crate::values::pass_values;
-use dwarf_forms::{Abbrev, Abbrevs, FormFault};
-use prof_bytes::{Cursor, Fail, Memory};
-
-fn entry_fault(offset: u32, fault: FormFault) -> InfoFault
-    ensures { result ≡ entry_fault offset fault }
-{
-    match fault {
-        FormFault::Unknown => InfoFault::UnknownForm { offset },
-        FormFault::Short => InfoFault::BadUnit { offset },
-    }
-}
+use dwarf_forms::{Abbrev, Abbrevs};
+use prof_bytes::{Fail, Memory, Reader};
 
 /// An entry by its declaration, and the depth of what follows it.
 fn declared_entry(
-    cursor: &mut Cursor<'_>,
+    reader: &mut Reader<'_, InfoFault>,
     entry: InfoEntry,
     declared: &Abbrev,
-) -> Result<(Option<InfoEntry>, u32), Fail<InfoFault>>
-    requires { entry.tag ≡ declared.now.tag }
-    ensures { Gives (λ r. (option_to_list r.0, r.1, cursor.new)) result (declared_entry entry.«unit» entry.depth entry.offset (Some declared.now) cursor.old) }
+) -> Result<(Option<InfoEntry>, u32), InfoFault>
+    requires tag { entry.tag ≡ declared.now.tag }
+    requires depth { entry.depth < 2 ^ 31 }
+    ensures entry { viewed (λ r. (option_to_list r.0, r.1, reader.new)) result
+        ≡ declared_entry entry.«unit» entry.depth entry.offset (Some declared.now) reader.old }
+    ensures depth { IfOk result (λ r. r.1 ≤ entry.depth + 1) }
+    ensures keeps { IfOk result (λ _. reader.new.at.whole ≡ reader.old.at.whole) }
 {
-    match pass_values(cursor, declared.specs.as_slice()) {
-        Ok(()) => {}
-        Err(fault) => return Err(Fail::Fault(entry_fault(entry.offset, fault))),
+    let unknown = InfoFault::UnknownForm {
+        offset: entry.offset,
+    };
+    pass_values(reader, declared.specs.as_slice(), unknown)?;
+    if declared.children {
+        return Ok((Some(entry), entry.depth + 1));
     }
-    if !declared.children {
-        return Ok((Some(entry), entry.depth));
-    }
-    let below = entry.depth.checked_add(1).ok_or(Fail::Memory)?;
-    Ok((Some(entry), below))
+    Ok((Some(entry), entry.depth))
 }
 
-/// The entry at the cursor, `None` for a null entry; and the depth of what follows it.
+/// The entry that begins here, `None` for a null entry; and the depth of what follows it.
 #[tactic(auto, unfolding(crate::specs::Entries::entry_from))]
 fn read_entry(
-    cursor: &mut Cursor<'_>,
+    reader: &mut Reader<'_, InfoFault>,
     table: &Abbrevs,
     unit: u32,
     depth: u32,
-) -> Result<(Option<InfoEntry>, u32), Fail<InfoFault>>
-    ensures { Gives (λ r. (option_to_list r.0, r.1, cursor.new)) result (entry_from table.now «unit» depth cursor.old) }
+) -> Result<(Option<InfoEntry>, u32), InfoFault>
+    requires whole { length reader.old.at.whole < 2 ^ 31 }
+    requires depth { depth < 2 ^ 31 }
+    ensures entry { viewed (λ r. (option_to_list r.0, r.1, reader.new)) result
+        ≡ entry_from table.now «unit» depth reader.old }
+    ensures depth { IfOk result (λ r. r.1 ≤ depth + 1) }
+    ensures keeps { IfOk result (λ _. reader.new.at.whole ≡ reader.old.at.whole) }
 {
-    let offset = offset_of(cursor)?;
-    let code = cursor
-        .uleb()
-        .ok_or(Fail::Fault(InfoFault::BadUnit { offset }))?;
+    let offset = offset_of(reader);
+    reader.set_missing(InfoFault::BadUnit { offset });
+    let code = reader.uleb()?;
     if code == 0 {
         return Ok((None, depth.saturating_sub(1)));
     }
     match table.find(code) {
-        None => Err(Fail::Fault(InfoFault::BadAbbrev { offset })),
+        None => Err(InfoFault::BadAbbrev { offset }),
         Some(declared) => {
             let tag = declared.tag;
             let entry = InfoEntry {
@@ -69,7 +67,7 @@ fn read_entry(
                 tag,
                 unit,
             };
-            declared_entry(cursor, entry, declared)
+            declared_entry(reader, entry, declared)
         }
     }
 }
@@ -83,28 +81,28 @@ pub(crate) fn push_some<T: Drop>(items: &mut Vec<T>, item: Option<T>) -> Result<
     Ok(())
 }
 
-/// The entries from the cursor to the end of its bytes, appended.
+/// The entries up to the end of the reader's bytes, appended; at most one a byte.
 pub(crate) fn read_entries(
-    cursor: &mut Cursor<'_>,
+    reader: &mut Reader<'_, InfoFault>,
     table: &Abbrevs,
     unit: u32,
     entries: &mut Vec<InfoEntry>,
 ) -> Result<(), Fail<InfoFault>>
-    ensures { Gives (λ _. entries.new.items) result (before entries.old.items (entries_from table.now «unit» cursor.old)) }
+    requires { length reader.old.at.whole < 2 ^ 31 }
+    ensures entries { Gives (λ _. entries.new.items) result
+        (before entries.old.items (entries_from table.now «unit» reader.old)) }
+    ensures few { IfOk result (λ _. length entries.new.items
+        ≤ length entries.old.items + length (left_of reader.old.at)) }
 {
     let mut depth = 0;
-    let room = cursor.left();
+    let room = reader.left();
     for _ in 0..room {
-        if cursor.left() == 0 {
+        if reader.left() == 0 {
             return Ok(());
         }
-        match read_entry(cursor, table, unit, depth) {
-            Err(fail) => return Err(fail),
-            Ok((entry, below)) => {
-                push_some(entries, entry)?;
-                depth = below;
-            }
-        }
+        let (entry, below) = read_entry(reader, table, unit, depth)?;
+        push_some(entries, entry)?;
+        depth = below;
     }
     Ok(())
 }

@@ -1,3 +1,8 @@
+ghost use Rattle.std.specs.Prelude.{◌≡◌};
+ghost use Rattle.prof_bytes.specs.declared.fail.Fail.TheVariants as fails;
+
+use prof_bytes::Fail;
+
 /// The first fault of `.debug_info`, in section order, with the offset of its unit or entry.
 #[derive(Clone, Copy, Debug, PartialEq, Eq)]
 pub enum InfoFault {
@@ -10,4 +15,12 @@ pub enum InfoFault {
     BadAbbrev { offset: u32 },
     /// An entry with a value of an unknown form.
     UnknownForm { offset: u32 },
+}
+
+impl From<InfoFault> for Fail<InfoFault> {
+    ghost from_gives = { λ fault fail. fail ≡ fails.Fault fault };
+
+    fn from(fault: InfoFault) -> Fail<InfoFault> {
+        Fail::Fault(fault)
+    }
 }

@@ -8,15 +8,16 @@
 #![tactic(auto)]
 
 mod attributes;
+pub mod constants;
 mod entries;
 mod entry;
 mod fault;
-mod head;
+mod indices;
 mod info;
 mod pairs;
-mod places;
 mod ranges;
 mod tables;
+mod unit_header;
 mod units;
 mod values;
 

@@ -1,8 +1,9 @@
 //! The abbreviation tables that units name, each read once.
-ghost use Rattle.std.specs.Prelude.{◌≡◌, IfOk, IfErr};
+ghost use Rattle.std.specs.Prelude.{◌≡◌, IfOk, IfErr, is_some, nat_eq, true};
+ghost use Rattle.std.specs.HashMap.{get};
 ghost use Rattle.prof_bytes.specs.Outcome.{FailsBy};
 ghost use Rattle.dwarf_forms.specs.Abbreviations.{table_at};
-ghost use Rattle.dwarf_info.specs.Tables.{AreTables, KeepTables};
+ghost use Rattle.dwarf_info.specs.private.Tables.{AreTables, KeepTables};
 
 use dwarf_forms::{Abbrevs, BadTable, read_abbrevs};
 use prof_bytes::Fail;
@@ -19,6 +20,7 @@ pub(crate) fn know_table(
     requires { AreTables section.now tables.old }
     ensures are { IfOk result (λ _. AreTables section.now tables.new) }
     ensures keep { IfOk result (λ _. KeepTables tables.old tables.new) }
+    ensures has { IfOk result (λ _. is_some (get nat_eq tables.new offset) ≡ true) }
     ensures bad { IfErr result (λ fail. FailsBy fail (table_at section.now offset)) }
 {
     if tables.contains_key(&offset) {

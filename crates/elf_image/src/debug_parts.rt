@@ -1,5 +1,5 @@
 //! The sections that hold a program's debug information (DWARF 5, section 7.5).
-ghost use Rattle.std.specs.Prelude.{◌≡◌, codes};
+ghost use Rattle.std.specs.Prelude.{◌≡◌, ◌≤◌, ◌^◌, codes, length};
 ghost use Rattle.elf_image.specs.Image.{bytes_of_name};
 
 use crate::image::Image;
@@ -34,6 +34,7 @@ impl<'a> DebugParts<'a> {
             ≡ bytes_of_name image.now.sections (codes ".debug_str_offsets") }
         ensures addr_of { result.addr.now ≡ bytes_of_name image.now.sections (codes ".debug_addr") }
         ensures rnglists_of { result.rnglists.now ≡ bytes_of_name image.now.sections (codes ".debug_rnglists") }
+        ensures few { length result.info.now ≤ 2 ^ 26 }
     {
         DebugParts {
             info: image.section(b".debug_info"),

@@ -2,5 +2,5 @@ use Rattle.std.proofs.Common.{◌≡◌, take, map}
 use Rattle.dwarf_info.specs.Units.{unit_of}
 use Rattle.dwarf_info.proofs.info.shown_units.Given as goal
 
-abbrev pub invariant-loop-read : goal.invariant-loop-read
-invariant-loop-read l = l.units.items ≡ map unit_of (take l.read-index l.reads)
+abbrev pub invariant-loop-unit : goal.invariant-loop-unit
+invariant-loop-unit l = l.units.items ≡ map unit_of (take l.unit-index l.bases)

@@ -1,16 +1,20 @@
-use Rattle.std.proofs.Common.{◌≡◌, ◌-◌, []}
+use Rattle.std.proofs.Common.{◌≡◌, ◌-◌, ◌+◌, ◌≤◌, [], length}
 use Rattle.std.specs.List.{flat_map}
+use Rattle.prof_bytes.specs.Reading.{left_of}
 use Rattle.dwarf_forms.specs.Runs.{before, run_from}
 use Rattle.dwarf_info.specs.Sections.{sections_of}
-use Rattle.dwarf_info.specs.Units.{unit_from, entries_in}
-use Rattle.dwarf_info.specs.Tables.{AreTables, HaveTables}
+use Rattle.dwarf_info.specs.Units.{unit_from, entries_in, info_input}
+use Rattle.dwarf_info.specs.private.Tables.{AreTables, HaveTables}
 use Rattle.dwarf_info.proofs.units.read_units.Given as goal
 
 abbrev pub invariant-loop : goal.invariant-loop
 invariant-loop l = record {
-  read : before l.units.items (run_from (unit_from (sections_of l.sections)) (l.room - l.counter) l.number l.cursor) ≡ before [] (run_from (unit_from (sections_of l.sections)) l.room 0 l.initial.cursor);
-  whole : l.cursor.whole ≡ l.sections.info.now;
+  read : before l.units.items (run_from (unit_from (sections_of l.sections)) (l.room - l.counter) l.index l.reader)
+      ≡ before [] (run_from (unit_from (sections_of l.sections)) l.room 0 (info_input (sections_of l.sections)));
+  whole : l.reader.at.whole ≡ l.sections.info.now;
+  index : l.index ≤ l.counter;
   entries : l.entries.items ≡ flat_map (entries_in (sections_of l.sections)) l.units.items;
+  few : length l.entries.items + length (left_of l.reader.at) ≤ length l.sections.info.now;
   are : AreTables l.sections.«abbrev».now l.tables;
   have : HaveTables l.tables l.units.items;
 }

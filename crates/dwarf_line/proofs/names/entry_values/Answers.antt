@@ -12,14 +12,14 @@ returns-in_err-value c =
     let failed : content_values_from c.args.formats.now c.args.reader.now ≡ Err c.in_err-value.field-0.0 =
     sym c.loop-format.invariant
     ∙ ap (λ (fs : List EntryFormat). after_values (held_values c.loop-format.values) (content_values_from fs c.loop-format.reader)) split
-    ∙ stops_here (held_values c.loop-format.values) c.in-Some.format.now c.in-Some.others.now c.in_err-value.field-0.0 c.loop-format.reader (rw c.missing.ensures at c.in_err-value.ensures) in
+    ∙ stops_here (held_values c.loop-format.values) c.in-Some.format.now c.in-Some.others.now c.in_err-value.field-0.0 c.loop-format.reader (rw c.missing.ensures at c.in_err-value.ensures.value) in
     search rules
 
 pub loop-format-preserved : goal.loop-format-preserved
 loop-format-preserved c =
     let split : c.loop-format.rest.now ≡ c.in-Some.format.now ∷ c.in-Some.others.now = grind (arith, common_steps) in
     ap (λ (f : ContentValues). after_values f (content_values_from c.in-Some.others.now c.read_form.new.reader)) c.noted-values.ensures
-    ∙ sym (one_more (held_values c.loop-format.values) c.in-Some.format.now c.in-Some.others.now (form_value c.in_ok-value.value) c.loop-format.reader c.read_form.new.reader (rw c.missing.ensures at c.in_ok-value.ensures))
+    ∙ sym (one_more (held_values c.loop-format.values) c.in-Some.format.now c.in-Some.others.now (form_value c.in_ok-value.value) c.loop-format.reader c.read_form.new.reader (rw c.missing.ensures at c.in_ok-value.ensures.value))
     ∙ ap (λ (fs : List EntryFormat). after_values (held_values c.loop-format.values) (content_values_from fs c.loop-format.reader)) (sym split)
     ∙ c.loop-format.invariant
 

@@ -1,0 +1,89 @@
+//! Tags, attributes, unit types and range list entries (DWARF 5, sections 7.5.3, 7.5.4, 7.5.1 and 7.25).
+
+pub const DW_TAG_formal_parameter: u64 = 0x05;
+
+pub const DW_TAG_lexical_block: u64 = 0x0b;
+
+pub const DW_TAG_compile_unit: u64 = 0x11;
+
+pub const DW_TAG_inlined_subroutine: u64 = 0x1d;
+
+pub const DW_TAG_base_type: u64 = 0x24;
+
+pub const DW_TAG_subprogram: u64 = 0x2e;
+
+pub const DW_TAG_variable: u64 = 0x34;
+
+pub const DW_TAG_volatile_type: u64 = 0x35;
+
+pub const DW_TAG_partial_unit: u64 = 0x3c;
+
+pub const DW_TAG_call_site: u64 = 0x48;
+
+pub const DW_TAG_call_site_parameter: u64 = 0x49;
+
+pub const DW_AT_name: u64 = 0x03;
+
+pub const DW_AT_byte_size: u64 = 0x0b;
+
+pub const DW_AT_stmt_list: u64 = 0x10;
+
+pub const DW_AT_low_pc: u64 = 0x11;
+
+pub const DW_AT_high_pc: u64 = 0x12;
+
+pub const DW_AT_inline: u64 = 0x20;
+
+pub const DW_AT_abstract_origin: u64 = 0x31;
+
+pub const DW_AT_external: u64 = 0x3f;
+
+pub const DW_AT_specification: u64 = 0x47;
+
+pub const DW_AT_type: u64 = 0x49;
+
+pub const DW_AT_ranges: u64 = 0x55;
+
+pub const DW_AT_call_column: u64 = 0x57;
+
+pub const DW_AT_call_file: u64 = 0x58;
+
+pub const DW_AT_call_line: u64 = 0x59;
+
+pub const DW_AT_linkage_name: u64 = 0x6e;
+
+pub const DW_AT_str_offsets_base: u64 = 0x72;
+
+pub const DW_AT_addr_base: u64 = 0x73;
+
+pub const DW_AT_rnglists_base: u64 = 0x74;
+
+pub const DW_AT_loclists_base: u64 = 0x8c;
+
+pub const DW_UT_compile: u8 = 0x01;
+
+pub const DW_UT_type: u8 = 0x02;
+
+pub const DW_UT_partial: u8 = 0x03;
+
+pub const DW_UT_skeleton: u8 = 0x04;
+
+pub const DW_UT_split_compile: u8 = 0x05;
+
+pub const DW_UT_split_type: u8 = 0x06;
+
+pub const DW_RLE_end_of_list: u8 = 0x00;
+
+pub const DW_RLE_base_addressx: u8 = 0x01;
+
+pub const DW_RLE_startx_endx: u8 = 0x02;
+
+pub const DW_RLE_startx_length: u8 = 0x03;
+
+pub const DW_RLE_offset_pair: u8 = 0x04;
+
+pub const DW_RLE_base_address: u8 = 0x05;
+
+pub const DW_RLE_start_end: u8 = 0x06;
+
+pub const DW_RLE_start_length: u8 = 0x07;
