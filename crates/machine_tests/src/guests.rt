@@ -3,9 +3,17 @@ ghost use Rattle.std.specs.Prelude.{IfOk};
 ghost use Rattle.rv_run.specs.Progress.{IsFresh};
 
 use elf_image::{Image, read_image};
-use prof_bytes::{Memory, put_u32};
+use prof_bytes::{Fail, put_u32};
+use rv_hart::{Hart, Space};
 use rv_run::{Machine, Schedule, read_schedule};
 use std::alloc::Global;
+
+/// A file or a text that a test gives is not taken.
+#[derive(Clone, Copy, Debug, PartialEq, Eq)]
+pub(crate) struct Refused;
+
+/// Why a test found out nothing.
+pub(crate) type Trouble = Fail<Refused>;
 
 /// An ELF header and the first words of one program header, by the System V ABI: a program whose
 /// code is loaded from offset 84 at 0x10000.
@@ -16,7 +24,7 @@ static HEAD: [u8; 68] = [
 ];
 
 /// The file of a program of so many bytes of code, up to where the code begins.
-pub(crate) fn before_code(alloc: Global, code: u32) -> Result<Vec<u8>, Memory> {
+pub(crate) fn before_code(alloc: Global, code: u32) -> Result<Vec<u8>, Trouble> {
     let mut file = Vec::new(alloc);
     file.extend_from_slice(&HEAD)?;
     for word in [code, code, 5, 4] {
@@ -26,7 +34,7 @@ pub(crate) fn before_code(alloc: Global, code: u32) -> Result<Vec<u8>, Memory> {
 }
 
 /// The file of a program of these words.
-pub(crate) fn guest(alloc: Global, words: &[u32]) -> Result<Vec<u8>, Memory> {
+pub(crate) fn guest(alloc: Global, words: &[u32]) -> Result<Vec<u8>, Trouble> {
     let code = u32::try_from(words.len()).unwrap_or(0).wrapping_mul(4);
     let mut file = before_code(alloc, code)?;
     for word in words {
@@ -36,24 +44,24 @@ pub(crate) fn guest(alloc: Global, words: &[u32]) -> Result<Vec<u8>, Memory> {
 }
 
 /// The schedule that a text tells; a text that is refused is an error.
-pub(crate) fn schedule(alloc: Global, text: &[u8]) -> Result<Schedule, Memory> {
+pub(crate) fn schedule(alloc: Global, text: &[u8]) -> Result<Schedule, Trouble> {
     if text.len() > 1 << 22 {
-        return Err(Memory);
+        return Err(Fail::Fault(Refused));
     }
     match read_schedule(alloc, text) {
         Ok(told) => Ok(told),
-        Err(_) => Err(Memory),
+        Err(_) => Err(Fail::Fault(Refused)),
     }
 }
 
 /// The image of the program in a file; a file that is refused is an error.
-pub(crate) fn image_of(alloc: Global, file: &[u8]) -> Result<Image<'_>, Memory> {
+pub(crate) fn image_of(alloc: Global, file: &[u8]) -> Result<Image<'_>, Trouble> {
     if file.len() > 1 << 26 {
-        return Err(Memory);
+        return Err(Fail::Fault(Refused));
     }
     match read_image(alloc, file) {
         Ok(image) => Ok(image),
-        Err(_) => Err(Memory),
+        Err(_) => Err(Fail::Fault(Refused)),
     }
 }
 
@@ -64,10 +72,30 @@ pub(crate) fn machine_of<'a>(
     file: &'a [u8],
     text: &[u8],
     input: &[u8],
-) -> Result<Machine<'a>, Memory>
+) -> Result<Machine<'a>, Trouble>
     ensures { IfOk result (λ machine. IsFresh machine.state) }
 {
     let told = schedule(alloc, text)?;
     let image = image_of(alloc, file)?;
-    Machine::start(alloc, &image, told, input)
+    let machine = Machine::start(alloc, &image, told, input)?;
+    Ok(machine)
+}
+
+/// A hart at this pc with these in x5 and x6, and 0x55aa55aa in x7.
+pub(crate) fn hart_at(pc: u32, x5: u32, x6: u32) -> Hart {
+    let mut regs = [0; 32];
+    regs[5] = x5;
+    regs[6] = x6;
+    regs[7] = 0x55aa_55aa;
+    Hart { pc, regs }
+}
+
+/// The memory of the program in a file, for so many harts.
+pub(crate) fn space_of(alloc: Global, file: &[u8], harts: u32) -> Result<Space<'_>, Trouble> {
+    if harts > 64 {
+        return Err(Fail::Fault(Refused));
+    }
+    let image = image_of(alloc, file)?;
+    let space = Space::of(alloc, &image, harts)?;
+    Ok(space)
 }

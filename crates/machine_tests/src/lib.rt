@@ -1,4 +1,4 @@
-//! Tests of the machine: instructions, one step of a hart, runs under a schedule, and samples.
+//! Tests of the machine: the instruction table, steps of one hart, its memory, schedules, runs, and samples.
 //!
 //! It has no code of its own: a crate with tests is proved twice, and these prove none of the machine
 //! again. The expected values come from the GNU assembler, from qemu, and from the manual. Below stand
@@ -9,6 +9,8 @@
 mod guests;
 #[cfg(test)]
 mod instructions;
+#[cfg(test)]
+mod memory;
 #[cfg(test)]
 mod runs;
 #[cfg(test)]

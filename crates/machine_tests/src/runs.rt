@@ -1,6 +1,5 @@
 //! Runs of programs under a schedule: what they read, write and answer, and how their harts end.
-use crate::guests::{guest, machine_of};
-use prof_bytes::Memory;
+use crate::guests::{Trouble, guest, machine_of};
 use rv_run::{Due, HartEnd, Machine, Moment};
 use std::alloc::Global;
 use std::test::Fail as Failed;
@@ -9,10 +8,10 @@ mod programs;
 mod tables;
 
 use programs::{ADDER, CALLER, GROUP, SHARED, WRITER};
-use tables::{ENDS, MOMENTS, OTHERS, OUTPUTS, READS, WRITES};
+use tables::{ENDS, MOMENTS, OTHERS, OUTPUTS, READ, READS, WRITE, WRITES};
 
 /// Carries out so many instructions of a run.
-fn carry_out(machine: &mut Machine<'_>, count: u32) -> Result<(), Memory> {
+fn carry_out(machine: &mut Machine<'_>, count: u32) -> Result<(), Trouble> {
     for _ in 0..count {
         machine.next()?;
     }
@@ -27,12 +26,12 @@ fn stands(machine: &Machine<'_>, hart: u32, retired: u64, end: HartEnd) -> bool 
     machine.retired(hart) == retired && machine.end(hart) == end
 }
 
-/// No place where it is so, and else this one.
-fn unless(is_so: bool, place: usize) -> Option<usize> {
+/// No name where it is so, and else this one.
+fn unless(is_so: bool, name: &'static str) -> Option<&'static str> {
     if is_so {
         return None;
     }
-    Some(place)
+    Some(name)
 }
 
 /// What x10 of hart 0 holds.
@@ -102,19 +101,19 @@ fn exits(machine: &Machine<'_>, answer: u32, retired: u64, end: HartEnd) -> bool
     answers(machine, answer, retired, end) && machine.output().is_empty()
 }
 
-/// The place of the first row of outputs that a run does otherwise.
-fn other_output(machine: &mut Machine<'_>) -> Result<Option<usize>, Memory> {
-    for (place, (count, answer, length)) in OUTPUTS.iter().enumerate() {
+/// The first row of outputs that a run does otherwise, by its name.
+fn other_output(machine: &mut Machine<'_>) -> Result<Option<&'static str>, Trouble> {
+    for (name, count, answer, length) in &OUTPUTS {
         carry_out(machine, *count)?;
         if x10(machine) != Some(*answer) || machine.output().len() != *length {
-            return Ok(Some(place));
+            return Ok(Some(name));
         }
     }
     Ok(None)
 }
 
 /// Whether this is due, and comes next.
-fn comes(machine: &mut Machine<'_>, moment: Moment) -> Result<bool, Memory> {
+fn comes(machine: &mut Machine<'_>, moment: Moment) -> Result<bool, Trouble> {
     let due = Due {
         hart: moment.hart,
         pc: moment.pc,
@@ -124,12 +123,12 @@ fn comes(machine: &mut Machine<'_>, moment: Moment) -> Result<bool, Memory> {
 }
 
 /// Whether a run has ended.
-fn has_ended(machine: &mut Machine<'_>) -> Result<bool, Memory> {
+fn has_ended(machine: &mut Machine<'_>) -> Result<bool, Trouble> {
     Ok(machine.due().is_none() && machine.next()?.is_none())
 }
 
 /// Whether a run has ended, and its harts stand as they do after the moments of their table.
-fn ends_after_moments(machine: &mut Machine<'_>) -> Result<bool, Memory> {
+fn ends_after_moments(machine: &mut Machine<'_>) -> Result<bool, Trouble> {
     Ok(
         has_ended(machine)?
             && stands(machine, 0, 20, HartEnd::Exit(19))
@@ -137,9 +136,9 @@ fn ends_after_moments(machine: &mut Machine<'_>) -> Result<bool, Memory> {
     )
 }
 
-/// The place of the first moment that comes otherwise, or the number of all where the end is otherwise.
-fn other_moment(machine: &mut Machine<'_>) -> Result<Option<usize>, Memory> {
-    for (place, (hart, ordinal, pc, retired)) in MOMENTS.iter().enumerate() {
+/// The first moment that comes otherwise, or the end, by its name.
+fn other_moment(machine: &mut Machine<'_>) -> Result<Option<&'static str>, Trouble> {
+    for (name, hart, ordinal, pc, retired) in &MOMENTS {
         let moment = Moment {
             hart: *hart,
             ordinal: *ordinal,
@@ -147,14 +146,14 @@ fn other_moment(machine: &mut Machine<'_>) -> Result<Option<usize>, Memory> {
             retired: *retired,
         };
         if !comes(machine, moment)? {
-            return Ok(Some(place));
+            return Ok(Some(name));
         }
     }
-    Ok(unless(ends_after_moments(machine)?, MOMENTS.len()))
+    Ok(unless(ends_after_moments(machine)?, "the end"))
 }
 
 /// Whether all harts have ended, two of them by the exit of all.
-fn ends_as_group(machine: &mut Machine<'_>) -> Result<bool, Memory> {
+fn ends_as_group(machine: &mut Machine<'_>) -> Result<bool, Trouble> {
     carry_out(machine, 14)?;
     Ok(
         machine.next()?.is_none()
@@ -165,48 +164,47 @@ fn ends_as_group(machine: &mut Machine<'_>) -> Result<bool, Memory> {
 }
 
 /// Whether so many instructions more leave this in the shared word.
-fn shares(machine: &mut Machine<'_>, count: u32, word: u32) -> Result<bool, Memory> {
+fn shares(machine: &mut Machine<'_>, count: u32, word: u32) -> Result<bool, Trouble> {
     carry_out(machine, count)?;
     Ok(machine.space().load(0xf008_0000, 4) == Some(word))
 }
 
 /// Whether each hart finds in the shared word what the other put there, up to the end of the run.
-fn shares_as_told(machine: &mut Machine<'_>) -> Result<bool, Memory> {
+fn shares_as_told(machine: &mut Machine<'_>) -> Result<bool, Trouble> {
     Ok(shares(machine, 23, 0x122)? && shares(machine, 3, 0x121)? && machine.next()?.is_none())
 }
 
-/// The place of the first thing wanted that a machine on this file does otherwise; 0 where one is wanted
-/// alone.
+/// The first thing wanted that a machine on this file does otherwise, by its name.
 fn other_in(
     machine: &mut Machine<'_>,
     file: &[u8],
     wanted: Wanted,
-) -> Result<Option<usize>, Memory> {
+) -> Result<Option<&'static str>, Trouble> {
     match wanted {
         Wanted::Read { x10, at, word } => {
             carry_out(machine, 7)?;
-            Ok(unless(reads(machine, x10, at, word), 0))
+            Ok(unless(reads(machine, x10, at, word), "the call"))
         }
         Wanted::Write { x10, from, to } => {
             carry_out(machine, 7)?;
-            Ok(unless(writes(machine, x10, file.get(from..to)), 0))
+            Ok(unless(writes(machine, x10, file.get(from..to)), "the call"))
         }
         Wanted::Other { x10, retired, end } => {
             carry_out(machine, 7)?;
-            Ok(unless(exits(machine, x10, retired, end), 0))
+            Ok(unless(exits(machine, x10, retired, end), "the call"))
         }
         Wanted::Outputs => other_output(machine),
         Wanted::Moments => other_moment(machine),
         Wanted::End { retired, end } => {
             carry_out(machine, 30)?;
-            Ok(unless(stands(machine, 1, retired, end), 0))
+            Ok(unless(stands(machine, 1, retired, end), "the end of hart 1"))
         }
-        Wanted::Group => Ok(unless(ends_as_group(machine)?, 0)),
-        Wanted::Shared => Ok(unless(shares_as_told(machine)?, 0)),
+        Wanted::Group => Ok(unless(ends_as_group(machine)?, "the ends of all harts")),
+        Wanted::Shared => Ok(unless(shares_as_told(machine)?, "the shared word")),
     }
 }
 
-/// The place of the first thing wanted that the program in a file does otherwise, under the schedule of a
+/// The name of the first thing wanted that the program in a file does otherwise, under the schedule of a
 /// text and with this input.
 fn other_in_file(
     alloc: Global,
@@ -214,92 +212,96 @@ fn other_in_file(
     text: &[u8],
     input: &[u8],
     wanted: Wanted,
-) -> Result<Option<usize>, Memory> {
+) -> Result<Option<&'static str>, Trouble> {
     let mut machine = machine_of(alloc, file, text, input)?;
     other_in(&mut machine, file, wanted)
 }
 
-/// The place of the first thing wanted that a program of these words does otherwise, under the schedule of
+/// The name of the first thing wanted that a program of these words does otherwise, under the schedule of
 /// a text.
 fn other_in_program(
     alloc: Global,
     words: &[u32],
     text: &[u8],
     wanted: Wanted,
-) -> Result<Option<usize>, Memory> {
+) -> Result<Option<&'static str>, Trouble> {
     let file = guest(alloc, words)?;
     other_in_file(alloc, file.as_slice(), text, b"", wanted)
 }
 
 /// The file of a program that makes a call with these in x17 and x10 to x12.
-fn caller(alloc: Global, given: &[u32; 4]) -> Result<Vec<u8>, Memory> {
+fn caller(alloc: Global, given: &[u32; 4]) -> Result<Vec<u8>, Trouble> {
     let mut words = Vec::new(alloc);
     words.extend_from_slice(&CALLER)?;
     words.extend_from_slice(given)?;
     guest(alloc, words.as_slice())
 }
 
-/// The place of the first thing wanted that a call does otherwise, with these in x17 and x10 to x12 and the
+/// The name of the first thing wanted that a call does otherwise, with these in x17 and x10 to x12 and the
 /// input `abcdef`.
-fn other_in_call(alloc: Global, given: [u32; 4], wanted: Wanted) -> Result<Option<usize>, Memory> {
+fn other_in_call(
+    alloc: Global,
+    given: [u32; 4],
+    wanted: Wanted,
+) -> Result<Option<&'static str>, Trouble> {
     let file = caller(alloc, &given)?;
     other_in_file(alloc, file.as_slice(), b"harts 1\n0 6", b"abcdef", wanted)
 }
 
-/// The place of the first read that does something else than its row says.
-fn other_read(alloc: Global) -> Result<Option<usize>, Memory> {
-    for (place, (descriptor, at, count, answer, word)) in READS.iter().enumerate() {
+/// The name of the first read that does something else than its row says.
+fn other_read(alloc: Global) -> Result<Option<&'static str>, Trouble> {
+    for (name, descriptor, at, count, answer, word) in &READS {
         let wanted = Wanted::Read {
             x10: *answer,
             at: *at,
             word: *word,
         };
-        if other_in_call(alloc, [63, *descriptor, *at, *count], wanted)?.is_some() {
-            return Ok(Some(place));
+        if other_in_call(alloc, [READ, *descriptor, *at, *count], wanted)?.is_some() {
+            return Ok(Some(name));
         }
     }
     Ok(None)
 }
 
-/// The place of the first write that does something else than its row says.
-fn other_write(alloc: Global) -> Result<Option<usize>, Memory> {
-    for (place, (descriptor, at, count, answer, from, to)) in WRITES.iter().enumerate() {
+/// The name of the first write that does something else than its row says.
+fn other_write(alloc: Global) -> Result<Option<&'static str>, Trouble> {
+    for (name, descriptor, at, count, answer, from, to) in &WRITES {
         let wanted = Wanted::Write {
             x10: *answer,
             from: *from,
             to: *to,
         };
-        if other_in_call(alloc, [64, *descriptor, *at, *count], wanted)?.is_some() {
-            return Ok(Some(place));
+        if other_in_call(alloc, [WRITE, *descriptor, *at, *count], wanted)?.is_some() {
+            return Ok(Some(name));
         }
     }
     Ok(None)
 }
 
-/// The place of the first other call that does something else than its row says.
-fn other_call(alloc: Global) -> Result<Option<usize>, Memory> {
-    for (place, (number, a, answer, retired, end)) in OTHERS.iter().enumerate() {
+/// The name of the first other call that does something else than its row says.
+fn other_call(alloc: Global) -> Result<Option<&'static str>, Trouble> {
+    for (name, number, a, answer, retired, end) in &OTHERS {
         let wanted = Wanted::Other {
             x10: *answer,
             retired: *retired,
             end: *end,
         };
         if other_in_call(alloc, [*number, *a, 0, 0], wanted)?.is_some() {
-            return Ok(Some(place));
+            return Ok(Some(name));
         }
     }
     Ok(None)
 }
 
-/// The place of the first program whose hart 1 ends otherwise than its row says.
-fn other_end(alloc: Global) -> Result<Option<usize>, Memory> {
-    for (place, (words, retired, end)) in ENDS.iter().enumerate() {
+/// The name of the first program whose hart 1 ends otherwise than its row says.
+fn other_end(alloc: Global) -> Result<Option<&'static str>, Trouble> {
+    for (name, words, retired, end) in &ENDS {
         let wanted = Wanted::End {
             retired: *retired,
             end: *end,
         };
         if other_in_program(alloc, words, b"harts 2\n1 9\n0 9\n1 9", wanted)?.is_some() {
-            return Ok(Some(place));
+            return Ok(Some(name));
         }
     }
     Ok(None)

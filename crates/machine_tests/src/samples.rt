@@ -1,8 +1,9 @@
+//! Samples of runs, with an unwinder that finds two frames.
 ghost use Rattle.std.specs.Prelude.{[], ◌∷◌, slice_index};
 ghost use Rattle.scope_types.specs.declared.frame.End.TheVariants.{Whole};
 
-use crate::guests::{guest, machine_of};
-use prof_bytes::Memory;
+use crate::guests::{Refused, Trouble, guest, machine_of};
+use prof_bytes::{Fail, Memory};
 use sample_clock::{Sample, Samples};
 use scope_types::{End, Frame, Look, RawPath, Unwind};
 use std::alloc::Global;
@@ -25,17 +26,19 @@ impl Unwind for Probe {
     }
 }
 
-/// Programs, schedules, periods, and their samples: hart, ordinal, pc, and x10 before. The words are
+/// Names, programs, schedules, periods, and samples: hart, ordinal, pc, and x10 before. The words are
 /// those that the GNU assembler 2.40 makes.
-static SAMPLED: [(&[u32], &[u8], u32, &[(u32, u64, u32, u32)]); 6] = [
+static SAMPLED: [(&str, &[u32], &[u8], u32, &[(u32, u64, u32, u32)]); 6] = [
     // Adds 1 to x10 again and again: ordinals are those of each hart.
     (
+        "ordinals of each hart",
         &[0x0015_0513, 0x0015_0513, 0xff9f_f06f],
         b"harts 2\n0 7\n1 3",
         5,
         &[(0, 5, 0x1_0004, 3)],
     ),
     (
+        "two harts in turns",
         &[0x0015_0513, 0x0015_0513, 0xff9f_f06f],
         b"harts 2\n0 4\n1 3\n0 1\n1 8\n0 5",
         5,
@@ -48,6 +51,7 @@ static SAMPLED: [(&[u32], &[u8], u32, &[(u32, u64, u32, u32)]); 6] = [
     ),
     // Hart 0 branches over what is no instruction, and exits; hart 1 traps there.
     (
+        "a hart that traps",
         &[0x0005_0463, 0, 0x05d0_0893, 0x0000_0073],
         b"harts 2\n0 9\n1 9",
         1,
@@ -59,6 +63,7 @@ static SAMPLED: [(&[u32], &[u8], u32, &[(u32, u64, u32, u32)]); 6] = [
     ),
     // The third instruction is an exit: it does not retire, and is not sampled.
     (
+        "an exit",
         &[0x0015_0513, 0x05d0_0893, 0x0000_0073],
         b"harts 1\n0 9",
         3,
@@ -66,12 +71,13 @@ static SAMPLED: [(&[u32], &[u8], u32, &[(u32, u64, u32, u32)]); 6] = [
     ),
     // The third is a call that there is not: it retires.
     (
+        "an unknown call",
         &[0x0015_0513, 0x0010_0893, 0x0000_0073, 0x0015_0513],
         b"harts 1\n0 3\n0 9",
         3,
         &[(0, 3, 0x1_0008, 1)],
     ),
-    (&[0x0015_0513], b"harts 1", 1, &[]),
+    ("no slices", &[0x0015_0513], b"harts 1", 1, &[]),
 ];
 
 /// Whether a path has these two frames.
@@ -86,10 +92,10 @@ fn is_sample(sample: &Sample, wanted: &(u32, u64, u32, u32)) -> bool {
 }
 
 /// The next sample; that there are too many is an error.
-fn next_sample(samples: &mut Samples<'_>, probe: &Probe) -> Result<Option<Sample>, Memory> {
+fn next_sample(samples: &mut Samples<'_>, probe: &Probe) -> Result<Option<Sample>, Trouble> {
     match samples.next(probe) {
         Ok(next) => Ok(next),
-        Err(_) => Err(Memory),
+        Err(_) => Err(Fail::Fault(Refused)),
     }
 }
 
@@ -98,7 +104,7 @@ fn comes(
     samples: &mut Samples<'_>,
     probe: &Probe,
     wanted: &(u32, u64, u32, u32),
-) -> Result<bool, Memory> {
+) -> Result<bool, Trouble> {
     match next_sample(samples, probe)? {
         Some(sample) => Ok(is_sample(&sample, wanted)),
         None => Ok(false),
@@ -106,7 +112,7 @@ fn comes(
 }
 
 /// Whether no sample is left, and the run has ended.
-fn has_ended(samples: &mut Samples<'_>, probe: &Probe) -> Result<bool, Memory> {
+fn has_ended(samples: &mut Samples<'_>, probe: &Probe) -> Result<bool, Trouble> {
     match next_sample(samples, probe)? {
         Some(_) => Ok(false),
         None => Ok(samples.machine().due().is_none()),
@@ -118,7 +124,7 @@ fn come(
     samples: &mut Samples<'_>,
     probe: &Probe,
     wanted: &[(u32, u64, u32, u32)],
-) -> Result<bool, Memory> {
+) -> Result<bool, Trouble> {
     for sample in wanted {
         if !comes(samples, probe, sample)? {
             return Ok(false);
@@ -134,21 +140,21 @@ fn has_samples(
     text: &[u8],
     period: u32,
     wanted: &[(u32, u64, u32, u32)],
-) -> Result<bool, Memory> {
+) -> Result<bool, Trouble> {
     if period == 0 {
-        return Err(Memory);
+        return Err(Fail::Fault(Refused));
     }
     let machine = machine_of(alloc, file, text, b"")?;
     let mut samples = Samples::start(machine, period);
     come(&mut samples, &Probe { alloc }, wanted)
 }
 
-/// The place of the first program that has other samples than its row says.
-fn other_samples(alloc: Global) -> Result<Option<usize>, Memory> {
-    for (place, (words, text, period, wanted)) in SAMPLED.iter().enumerate() {
+/// The first program that has other samples than its row says, by its name.
+fn other_samples(alloc: Global) -> Result<Option<&'static str>, Trouble> {
+    for (name, words, text, period, wanted) in &SAMPLED {
         let file = guest(alloc, words)?;
         if !has_samples(alloc, file.as_slice(), text, *period, wanted)? {
-            return Ok(Some(place));
+            return Ok(Some(name));
         }
     }
     Ok(None)

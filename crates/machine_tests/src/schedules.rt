@@ -1,6 +1,6 @@
 //! Schedules as texts tell them, and the first bad line of others.
-use crate::guests::schedule;
-use prof_bytes::{Fail, Memory};
+use crate::guests::{Refused, Trouble, schedule};
+use prof_bytes::Fail;
 use rv_run::{Slice, read_schedule};
 use std::alloc::Global;
 use std::test::Fail as Failed;
@@ -10,22 +10,22 @@ mod texts;
 use texts::{FAULTS, SCHEDULES};
 
 /// The first bad line of a schedule's text; `None` where it is taken.
-fn bad_line(alloc: Global, text: &[u8]) -> Result<Option<u32>, Memory> {
+fn bad_line(alloc: Global, text: &[u8]) -> Result<Option<u32>, Trouble> {
     if text.len() > 1 << 22 {
-        return Err(Memory);
+        return Err(Fail::Fault(Refused));
     }
     match read_schedule(alloc, text) {
         Ok(_) => Ok(None),
         Err(Fail::Fault(fault)) => Ok(Some(fault.line)),
-        Err(Fail::Memory) => Err(Memory),
+        Err(Fail::Memory(memory)) => Err(Fail::Memory(memory)),
     }
 }
 
-/// The place of the first text that has another bad line than its row says.
-fn other_fault(alloc: Global) -> Result<Option<usize>, Memory> {
-    for (place, (text, line)) in FAULTS.iter().enumerate() {
-        if bad_line(alloc, text)? != Some(*line) {
-            return Ok(Some(place));
+/// The first text that has another bad line than its row says.
+fn other_fault(alloc: Global) -> Result<Option<&'static str>, Trouble> {
+    for (text, line) in &FAULTS {
+        if bad_line(alloc, text.as_bytes())? != Some(*line) {
+            return Ok(Some(text));
         }
     }
     Ok(None)
@@ -45,16 +45,16 @@ fn same_slices(told: &[Slice], wanted: &[(u32, u32)]) -> bool {
 }
 
 /// Whether a text tells so many harts and these slices.
-fn tells(alloc: Global, text: &[u8], harts: u32, slices: &[(u32, u32)]) -> Result<bool, Memory> {
+fn tells(alloc: Global, text: &[u8], harts: u32, slices: &[(u32, u32)]) -> Result<bool, Trouble> {
     let told = schedule(alloc, text)?;
     Ok(told.harts() == harts && same_slices(told.slices(), slices))
 }
 
-/// The place of the first text that tells another schedule than its row says.
-fn other_schedule(alloc: Global) -> Result<Option<usize>, Memory> {
-    for (place, (text, harts, slices)) in SCHEDULES.iter().enumerate() {
-        if !tells(alloc, text, *harts, slices)? {
-            return Ok(Some(place));
+/// The first text that tells another schedule than its row says.
+fn other_schedule(alloc: Global) -> Result<Option<&'static str>, Trouble> {
+    for (text, harts, slices) in &SCHEDULES {
+        if !tells(alloc, text.as_bytes(), *harts, slices)? {
+            return Ok(Some(text));
         }
     }
     Ok(None)

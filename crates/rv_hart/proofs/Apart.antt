@@ -8,10 +8,10 @@ use Rattle.std.proofs.lemmas.List.FromFn.{map-range_with_len_more}
 use Rattle.std.proofs.lemmas.List.Quantifiers.{all_pairs_push}
 use Rattle.elf_image.specs.declared.part.Segment.{Segment}
 use Rattle.elf_image.specs.Image.{ProgramImage, IsLoaded, in_segment, are_apart, stacks_begin}
-use Rattle.rv_hart.specs.declared.kept.Kept.{Kept}
-use Rattle.rv_hart.specs.Memory.{regions_of, stack_of, first_byte}
-use Rattle.rv_hart.specs.Pages.{Paged, nowhere, page_in}
-use Rattle.rv_hart.specs.Stored.{IsHome, AreApart, IsKept}
+use Rattle.rv_hart.specs.declared.paged_memory.PagedMemory.{PagedMemory}
+use Rattle.rv_hart.specs.AddressSpace.{regions_of, stack_of, first_byte}
+use Rattle.rv_hart.specs.private.Pages.{Paged, nowhere, page_in}
+use Rattle.rv_hart.specs.private.Paging.{IsHome, AreApart, IsPaged}
 
 lt-leb : (a b : ℕ) → b < a → nat_le a b ≡ false
 lt-leb a b less = elim (leb_tells a b) [ inl h ↦ absurd (omega (arith, h.1)) | inr h ↦ h.0 ]
@@ -121,8 +121,8 @@ nowhere-home regions at held =
     absurd cc
 
 -- what a program's memory begins as
-pub of-kept : (kept : Kept) (program : ProgramImage) (harts : ℕ) → IsLoaded program → harts ≤ 64 → kept.regions ≡ regions_of program harts → kept.blocks.items ≡ [] → IsKept kept × IsHome kept.regions nowhere
-of-kept kept program harts is few regions blocks =
+pub of-paged : (paged : PagedMemory) (program : ProgramImage) (harts : ℕ) → IsLoaded program → harts ≤ 64 → paged.regions ≡ regions_of program harts → paged.blocks.items ≡ [] → IsPaged paged × IsHome paged.regions nowhere
+of-paged paged program harts is few regions blocks =
     let stacked : IsStacked harts (regions_of program harts) = stacked-all program harts is in
     let high : (at : ℕ) → 2 ^ 32 ≤ at → (k : ℕ) (d : Segment) → k < length (regions_of program harts) → in_segment at (get_or (regions_of program harts) k d) ≡ false =
     λ at past k d within.
@@ -130,9 +130,9 @@ of-kept kept program harts is few regions blocks =
     ap₂ (λ (a b : Bool). a && b) refl (le-ltb at (get_or (regions_of program harts) k d).end (omega arith)) ∙ and-false (nat_le (get_or (regions_of program harts) k d).start at) in (
       record {
         apart = subst AreApart (sym regions) (pairs-apart (regions_of program harts) stacked.pairs);
-        homes = λ number. subst (λ (b : List (List Paged)). IsHome kept.regions (page_in b number).home) (sym blocks) (nowhere-home kept.regions);
-        intact = λ at fixed. ap (λ (b : List (List Paged)). get_or (page_in b (at / 2 ^ 12)).bytes (at % 2 ^ 12) (first_byte kept.file.now kept.regions at)) blocks;
+        homes = λ number. subst (λ (b : List (List Paged)). IsHome paged.regions (page_in b number).home) (sym blocks) (nowhere-home paged.regions);
+        intact = λ at fixed. ap (λ (b : List (List Paged)). get_or (page_in b (at / 2 ^ 12)).bytes (at % 2 ^ 12) (first_byte paged.file.now paged.regions at)) blocks;
         low = λ at past. ap (find (in_segment at)) regions ∙ find-none (in_segment at) (regions_of program harts) (high at past);
       },
-      nowhere-home kept.regions,
+      nowhere-home paged.regions,
     )

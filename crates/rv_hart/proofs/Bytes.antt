@@ -3,7 +3,7 @@ use Rattle.std.proofs.Common.{◌≡◌, ℕ, ◌^◌, ◌<◌, map, slice_index
 use Rattle.std.specs.List.{range_with_len}
 use Rattle.std.proofs.lemmas.List.{ext_get_or}
 use Rattle.std.proofs.lemmas.List.FromFn.{get_or-map-range_with_len, length-map-range_with_len}
-use Rattle.rv_hart.specs.Memory.{addresses, each_address}
+use Rattle.rv_hart.specs.AddressSpace.{addresses, each_address}
 
 pub addresses-is : addresses ≡ 2 ^ 32
 unfolding addresses

@@ -9,10 +9,11 @@ use Rattle.std.proofs.lemmas.List.FromFn.{get_or-map-range_with_len, length-map-
 use Rattle.std.proofs.Math.Nat.{lt_of_not-le}
 use Rattle.elf_image.specs.declared.part.Segment.{Segment}
 use Rattle.elf_image.specs.Image.{in_segment}
-use Rattle.rv_hart.specs.Pages.{Paged, blank, page_at}
-use Rattle.rv_hart.specs.declared.kept.Kept.{Kept}
-use Rattle.rv_hart.specs.Memory.{region_at, first_byte, byte_in, has, may, grants, write}
-use Rattle.rv_hart.specs.Stored.{page_numbered, page_of, value, IsHome, IsKept, covers_all}
+use Rattle.rv_hart.specs.private.Pages.{Paged, blank, page_at}
+use Rattle.rv_hart.specs.declared.paged_memory.PagedMemory.{PagedMemory}
+use Rattle.elf_image.specs.declared.elf.TheConstants.{PF_W}
+use Rattle.rv_hart.specs.AddressSpace.{region_at, first_byte, byte_in, has, may, grants}
+use Rattle.rv_hart.specs.private.Paging.{page_numbered, page_of, value, IsHome, IsPaged, covers_all}
 
 and_false : (a b : Bool) → b ≡ false → (a && b) ≡ false
 and_false true b fails = fails
@@ -51,33 +52,33 @@ pub covers-region : (regions : List Segment) (home : Segment) (at count i : ℕ)
 covers-region regions home at count i own covered inside = own (at + i) (covers-holds home at count i covered inside)
 
 -- addresses of one page
-pub page-same : (kept : Kept) (at i : ℕ) → at % 2 ^ 12 + i < 2 ^ 12 → page_of kept (at + i) ≡ page_of kept at
-page-same kept at i inside = ap (page_numbered kept) (let e : (at + i) / 2 ^ 12 ≡ at / 2 ^ 12 = omega arith in e)
+pub page-same : (paged : PagedMemory) (at i : ℕ) → at % 2 ^ 12 + i < 2 ^ 12 → page_of paged (at + i) ≡ page_of paged at
+page-same paged at i inside = ap (page_numbered paged) (let e : (at + i) / 2 ^ 12 ≡ at / 2 ^ 12 = omega arith in e)
 
 pub place-same : (at i : ℕ) → at % 2 ^ 12 + i < 2 ^ 12 → (at + i) % 2 ^ 12 ≡ at % 2 ^ 12 + i
 place-same at i inside = omega arith
 
 -- the bytes of a page, from an address on
-pub near-page : (kept : Kept) (at count : ℕ) (bytes : List ℕ) → bytes ≡ (page_of kept at).bytes → at % 2 ^ 12 + count ≤ 2 ^ 12 → at % 2 ^ 12 + count ≤ length bytes → take count (drop (at % 2 ^ 12) bytes) ≡ map (value kept) (range_with_len at count)
-near-page kept at count bytes are inside within =
-    spelled (take count (drop (at % 2 ^ 12) bytes)) (value kept) at count (part-length bytes (at % 2 ^ 12) count within)
+pub near-page : (paged : PagedMemory) (at count : ℕ) (bytes : List ℕ) → bytes ≡ (page_of paged at).bytes → at % 2 ^ 12 + count ≤ 2 ^ 12 → at % 2 ^ 12 + count ≤ length bytes → take count (drop (at % 2 ^ 12) bytes) ≡ map (value paged) (range_with_len at count)
+near-page paged at count bytes are inside within =
+    spelled (take count (drop (at % 2 ^ 12) bytes)) (value paged) at count (part-length bytes (at % 2 ^ 12) count within)
     (λ i few.
-    let first : ℕ = first_byte kept.file.now kept.regions (at + i) in
-    let here : (page_of kept (at + i)).bytes ≡ bytes = ap (λ (p : Paged). p.bytes) (page-same kept at i (omega arith)) ∙ sym are in
+    let first : ℕ = first_byte paged.file.now paged.regions (at + i) in
+    let here : (page_of paged (at + i)).bytes ≡ bytes = ap (λ (p : Paged). p.bytes) (page-same paged at i (omega arith)) ∙ sym are in
     part-get bytes (at % 2 ^ 12) count i few
     ∙ get_or-any bytes (at % 2 ^ 12 + i) 0 first (omega arith)
     ∙ sym (ap₂ (λ (b : List ℕ) (p : ℕ). get_or b p first) here (place-same at i (omega arith))))
 
 -- where a page was not made, the bytes are those that the region began with
-pub value-first : (kept : Kept) (home : Segment) (at count i : ℕ) → [] ≡ (page_of kept at).bytes → at % 2 ^ 12 + count ≤ 2 ^ 12 → IsHome kept.regions home → covers_all home at count ≡ true → i < count → value kept (at + i) ≡ byte_in kept.file.now (at + i) (Some home)
-value-first kept home at count i none inside own covered few =
-    let here : (page_of kept (at + i)).bytes ≡ [] = ap (λ (p : Paged). p.bytes) (page-same kept at i (omega arith)) ∙ sym none in
-    ap (λ (b : List ℕ). get_or b ((at + i) % 2 ^ 12) (first_byte kept.file.now kept.regions (at + i))) here
-    ∙ ap (byte_in kept.file.now (at + i)) (covers-region kept.regions home at count i own covered few)
+pub value-first : (paged : PagedMemory) (home : Segment) (at count i : ℕ) → [] ≡ (page_of paged at).bytes → at % 2 ^ 12 + count ≤ 2 ^ 12 → IsHome paged.regions home → covers_all home at count ≡ true → i < count → value paged (at + i) ≡ byte_in paged.file.now (at + i) (Some home)
+value-first paged home at count i none inside own covered few =
+    let here : (page_of paged (at + i)).bytes ≡ [] = ap (λ (p : Paged). p.bytes) (page-same paged at i (omega arith)) ∙ sym none in
+    ap (λ (b : List ℕ). get_or b ((at + i) % 2 ^ 12) (first_byte paged.file.now paged.regions (at + i))) here
+    ∙ ap (byte_in paged.file.now (at + i)) (covers-region paged.regions home at count i own covered few)
 
-pub near-first : (kept : Kept) (home : Segment) (at count : ℕ) (bytes : List ℕ) → [] ≡ (page_of kept at).bytes → at % 2 ^ 12 + count ≤ 2 ^ 12 → IsHome kept.regions home → covers_all home at count ≡ true → length bytes ≡ count → ((i : ℕ) → i < count → get_or bytes i 0 ≡ byte_in kept.file.now (at + i) (Some home)) → bytes ≡ map (value kept) (range_with_len at count)
-near-first kept home at count bytes none inside own covered long each =
-    spelled bytes (value kept) at count long (λ i few. each i few ∙ sym (value-first kept home at count i none inside own covered few))
+pub near-first : (paged : PagedMemory) (home : Segment) (at count : ℕ) (bytes : List ℕ) → [] ≡ (page_of paged at).bytes → at % 2 ^ 12 + count ≤ 2 ^ 12 → IsHome paged.regions home → covers_all home at count ≡ true → length bytes ≡ count → ((i : ℕ) → i < count → get_or bytes i 0 ≡ byte_in paged.file.now (at + i) (Some home)) → bytes ≡ map (value paged) (range_with_len at count)
+near-first paged home at count bytes none inside own covered long each =
+    spelled bytes (value paged) at count long (λ i few. each i few ∙ sym (value-first paged home at count i none inside own covered few))
 
 -- a test that holds of each address of a range
 pub all-range : (p : ℕ → Bool) (at count : ℕ) → ((i : ℕ) → i < count → p (at + i) ≡ true) → list_all p (range_with_len at count) ≡ true
@@ -118,10 +119,10 @@ granted-low regions right at low granted =
     cc)
 
 -- what the file's part gives, as what is kept gives it
-pub near-none : (kept : Kept) (home : Segment) (at count : ℕ) → [] ≡ (page_of kept at).bytes → at % 2 ^ 12 + count ≤ 2 ^ 12 → IsHome kept.regions home → covers_all home at count ≡ true → (found : Option (Bor (List ℕ))) → IfSome found (λ bytes. length bytes.now ≡ count) → IfSome found (λ bytes. (i : ℕ) → i < count → slice_index bytes.now i ≡ byte_in kept.file.now (at + i) (Some home)) → IfSome found (λ bytes. bytes.now ≡ map (value kept) (range_with_len at count))
-near-none kept home at count none inside own covered None long each = tt
-near-none kept home at count none inside own covered (Some bytes) long each =
-    near-first kept home at count bytes.now none inside own covered long each
+pub near-none : (paged : PagedMemory) (home : Segment) (at count : ℕ) → [] ≡ (page_of paged at).bytes → at % 2 ^ 12 + count ≤ 2 ^ 12 → IsHome paged.regions home → covers_all home at count ≡ true → (found : Option (Bor (List ℕ))) → IfSome found (λ bytes. length bytes.now ≡ count) → IfSome found (λ bytes. (i : ℕ) → i < count → slice_index bytes.now i ≡ byte_in paged.file.now (at + i) (Some home)) → IfSome found (λ bytes. bytes.now ≡ map (value paged) (range_with_len at count))
+near-none paged home at count none inside own covered None long each = tt
+near-none paged home at count none inside own covered (Some bytes) long each =
+    near-first paged home at count bytes.now none inside own covered long each
 
 -- a region ends at 2^32 or below
 pub covers-low : (regions : List Segment) (home : Segment) (at count : ℕ) → ((a : ℕ) → 2 ^ 32 ≤ a → region_at regions a ≡ None) → IsHome regions home → covers_all home at count ≡ true → at < 2 ^ 32 → at + count ≤ 2 ^ 32
@@ -153,10 +154,10 @@ found-within at regions (Some r) is =
     (leb-true r.start at tests.0, ltb-true at r.end tests.1)
 
 -- where a region can't be written, its bytes are those that it began with
-pub near-intact : (kept : Kept) (home : Segment) (at count : ℕ) → IsKept kept → IsHome kept.regions home → covers_all home at count ≡ true → has write home ≡ false → (found : Option (Bor (List ℕ))) → IfSome found (λ bytes. length bytes.now ≡ count) → IfSome found (λ bytes. (i : ℕ) → i < count → slice_index bytes.now i ≡ byte_in kept.file.now (at + i) (Some home)) → IfSome found (λ bytes. bytes.now ≡ map (value kept) (range_with_len at count))
-near-intact kept home at count is own covered fixed None long each = tt
-near-intact kept home at count is own covered fixed (Some bytes) long each =
-    spelled bytes.now (value kept) at count long
+pub near-intact : (paged : PagedMemory) (home : Segment) (at count : ℕ) → IsPaged paged → IsHome paged.regions home → covers_all home at count ≡ true → has PF_W home ≡ false → (found : Option (Bor (List ℕ))) → IfSome found (λ bytes. length bytes.now ≡ count) → IfSome found (λ bytes. (i : ℕ) → i < count → slice_index bytes.now i ≡ byte_in paged.file.now (at + i) (Some home)) → IfSome found (λ bytes. bytes.now ≡ map (value paged) (range_with_len at count))
+near-intact paged home at count is own covered fixed None long each = tt
+near-intact paged home at count is own covered fixed (Some bytes) long each =
+    spelled bytes.now (value paged) at count long
     (λ i few.
-    let found : region_at kept.regions (at + i) ≡ Some home = covers-region kept.regions home at count i own covered few in
-    each i few ∙ sym (is.intact (at + i) (ap (grants write) found ∙ fixed) ∙ ap (byte_in kept.file.now (at + i)) found))
+    let found : region_at paged.regions (at + i) ≡ Some home = covers-region paged.regions home at count i own covered few in
+    each i few ∙ sym (is.intact (at + i) (ap (grants PF_W) found ∙ fixed) ∙ ap (byte_in paged.file.now (at + i)) found))

@@ -4,11 +4,12 @@ use Rattle.std.proofs.lemmas.List.{get_or_append_left, get_or-append-add, get_or
 use Rattle.std.proofs.lemmas.Bool.{eqb-true, eq-eqb, le-leb, le-ltb}
 use Rattle.std.proofs.lemmas.Bool.Decides.{leb_tells}
 use Rattle.rv_hart.proofs.Near.{get_or-any}
-use Rattle.rv_hart.specs.declared.kept.Kept.{Kept}
-use Rattle.rv_hart.specs.Memory.{first_byte, may, write}
-use Rattle.rv_hart.specs.Pages.{Paged, spliced, with_bytes}
+use Rattle.rv_hart.specs.declared.paged_memory.PagedMemory.{PagedMemory}
+use Rattle.elf_image.specs.declared.elf.TheConstants.{PF_W}
+use Rattle.rv_hart.specs.AddressSpace.{first_byte, may}
+use Rattle.rv_hart.specs.private.Pages.{Paged, spliced, with_bytes}
 use Rattle.elf_image.specs.declared.part.Segment.{Segment}
-use Rattle.rv_hart.specs.Stored.{IsHome, page_numbered, page_of, value, value_after}
+use Rattle.rv_hart.specs.private.Paging.{IsHome, page_numbered, page_of, value, value_after}
 
 pub spliced-length : (bytes : List ℕ) (place : ℕ) (source : List ℕ) → place + length source ≤ length bytes → length (spliced bytes place source) ≡ length bytes
 spliced-length bytes place source within =
@@ -52,17 +53,17 @@ test-before at a count before = ap (λ (x : Bool). x && nat_lt a (at + count)) (
 test-behind : (at a count : ℕ) → at + count ≤ a → (nat_le at a && nat_lt a (at + count)) ≡ false
 test-behind at a count behind = ap₂ (λ (x y : Bool). x && y) (le-leb at a (omega arith)) (le-ltb a (at + count) behind)
 
-pub after-in : (kept : Kept) (at a : ℕ) (source : List ℕ) → at ≤ a → a < at + length source → value_after kept at source a ≡ get_or source (a - at) 0
-after-in kept at a source low high = ap (λ (t : Bool). cond t (get_or source (a - at) 0) (value kept a)) (test-in at a (length source) low high)
+pub after-in : (paged : PagedMemory) (at a : ℕ) (source : List ℕ) → at ≤ a → a < at + length source → value_after paged at source a ≡ get_or source (a - at) 0
+after-in paged at a source low high = ap (λ (t : Bool). cond t (get_or source (a - at) 0) (value paged a)) (test-in at a (length source) low high)
 
-pub after-before : (kept : Kept) (at a : ℕ) (source : List ℕ) → a < at → value_after kept at source a ≡ value kept a
-after-before kept at a source before = ap (λ (t : Bool). cond t (get_or source (a - at) 0) (value kept a)) (test-before at a (length source) before)
+pub after-before : (paged : PagedMemory) (at a : ℕ) (source : List ℕ) → a < at → value_after paged at source a ≡ value paged a
+after-before paged at a source before = ap (λ (t : Bool). cond t (get_or source (a - at) 0) (value paged a)) (test-before at a (length source) before)
 
-pub after-behind : (kept : Kept) (at a : ℕ) (source : List ℕ) → at + length source ≤ a → value_after kept at source a ≡ value kept a
-after-behind kept at a source behind = ap (λ (t : Bool). cond t (get_or source (a - at) 0) (value kept a)) (test-behind at a (length source) behind)
+pub after-behind : (paged : PagedMemory) (at a : ℕ) (source : List ℕ) → at + length source ≤ a → value_after paged at source a ≡ value paged a
+after-behind paged at a source behind = ap (λ (t : Bool). cond t (get_or source (a - at) 0) (value paged a)) (test-behind at a (length source) behind)
 
 -- what a kept memory gives after bytes were put into one page
-pub put-value : (old new : Kept) (at : ℕ) (source : List ℕ) → ((a : ℕ) → first_byte new.file.now new.regions a ≡ first_byte old.file.now old.regions a) → ((n : ℕ) → page_numbered new n ≡ cond (n == at / 2 ^ 12) (with_bytes (page_of old at) (at % 2 ^ 12) source) (page_numbered old n)) → at % 2 ^ 12 + length source ≤ length (page_of old at).bytes → at % 2 ^ 12 + length source ≤ 2 ^ 12 → (a : ℕ) → value new a ≡ value_after old at source a
+pub put-value : (old new : PagedMemory) (at : ℕ) (source : List ℕ) → ((a : ℕ) → first_byte new.file.now new.regions a ≡ first_byte old.file.now old.regions a) → ((n : ℕ) → page_numbered new n ≡ cond (n == at / 2 ^ 12) (with_bytes (page_of old at) (at % 2 ^ 12) source) (page_numbered old n)) → at % 2 ^ 12 + length source ≤ length (page_of old at).bytes → at % 2 ^ 12 + length source ≤ 2 ^ 12 → (a : ℕ) → value new a ≡ value_after old at source a
 put-value old new at source firsts pages within page a = by_page (a / 2 ^ 12 == at / 2 ^ 12) refl
   where
     given : value new a ≡ get_or (page_of new a).bytes (a % 2 ^ 12) (first_byte old.file.now old.regions a)
@@ -118,7 +119,7 @@ put-value old new at source firsts pages within page a = by_page (a / 2 ^ 12 == 
     by_page false e = given ∙ ap (λ (p : Paged). get_or p.bytes (a % 2 ^ 12) (first_byte old.file.now old.regions a)) (here false e) ∙ elsewhere e
 
 -- what a kept memory gives after a page was made that holds what its addresses had
-pub make-value : (old new : Kept) (number : ℕ) (page : Paged) → ((a : ℕ) → first_byte new.file.now new.regions a ≡ first_byte old.file.now old.regions a) → ((n : ℕ) → page_numbered new n ≡ cond (n == number) page (page_numbered old n)) → length page.bytes ≡ 2 ^ 12 → ((i : ℕ) → i < 2 ^ 12 → get_or page.bytes i 0 ≡ value old (number * 2 ^ 12 + i)) → (a : ℕ) → value new a ≡ value old a
+pub make-value : (old new : PagedMemory) (number : ℕ) (page : Paged) → ((a : ℕ) → first_byte new.file.now new.regions a ≡ first_byte old.file.now old.regions a) → ((n : ℕ) → page_numbered new n ≡ cond (n == number) page (page_numbered old n)) → length page.bytes ≡ 2 ^ 12 → ((i : ℕ) → i < 2 ^ 12 → get_or page.bytes i 0 ≡ value old (number * 2 ^ 12 + i)) → (a : ℕ) → value new a ≡ value old a
 make-value old new number page firsts pages long each a = by_page (a / 2 ^ 12 == number) refl
   where
     here : (b : Bool) → (a / 2 ^ 12 == number) ≡ b → value new a ≡ get_or (cond b page (page_of old a)).bytes (a % 2 ^ 12) (first_byte old.file.now old.regions a)
@@ -136,15 +137,15 @@ make-value old new number page firsts pages long each a = by_page (a / 2 ^ 12 ==
     by_page false e = here false e
 
 -- as many of the bytes as were put
-part-in : (kept : Kept) (at a count : ℕ) (source : List ℕ) → at ≤ a → a < at + count → count ≤ length source → value_after kept at (take count source) a ≡ get_or source (a - at) 0
-part-in kept at a count source low high few =
-    after-in kept at a (take count source) low (omega (arith, length-take count source)) ∙ get_or-take count source (a - at) 0 (omega arith)
+part-in : (paged : PagedMemory) (at a count : ℕ) (source : List ℕ) → at ≤ a → a < at + count → count ≤ length source → value_after paged at (take count source) a ≡ get_or source (a - at) 0
+part-in paged at a count source low high few =
+    after-in paged at a (take count source) low (omega (arith, length-take count source)) ∙ get_or-take count source (a - at) 0 (omega arith)
 
-part-behind : (kept : Kept) (at a count : ℕ) (source : List ℕ) → at + count ≤ a → count ≤ length source → value_after kept at (take count source) a ≡ value kept a
-part-behind kept at a count source high few = after-behind kept at a (take count source) (omega (arith, length-take count source))
+part-behind : (paged : PagedMemory) (at a count : ℕ) (source : List ℕ) → at + count ≤ a → count ≤ length source → value_after paged at (take count source) a ≡ value paged a
+part-behind paged at a count source high few = after-behind paged at a (take count source) (omega (arith, length-take count source))
 
 -- one more byte
-pub put-more : (old mid new : Kept) (at count byte : ℕ) (source : List ℕ) → count < length source → byte ≡ get_or source count 0 → ((a : ℕ) → value mid a ≡ value_after old at (take count source) a) → ((a : ℕ) → value new a ≡ value_after mid (at + count) (byte ∷ []) a) → (a : ℕ) → value new a ≡ value_after old at (take (count + 1) source) a
+pub put-more : (old mid new : PagedMemory) (at count byte : ℕ) (source : List ℕ) → count < length source → byte ≡ get_or source count 0 → ((a : ℕ) → value mid a ≡ value_after old at (take count source) a) → ((a : ℕ) → value new a ≡ value_after mid (at + count) (byte ∷ []) a) → (a : ℕ) → value new a ≡ value_after old at (take (count + 1) source) a
 put-more old mid new at count byte source few is before after a =
     elim (leb_tells at a) [
       | inl low ↦ (elim (leb_tells (suc a) (at + count)) [
@@ -182,18 +183,18 @@ put-more old mid new at count byte source few is before after a =
         ∙ sym (part-behind old at a (count + 1) source (omega arith) (omega arith))
 
 -- what stays over two changes of the blocks
-pub rest-again : (old mid new : Kept) → mid ≡ record old { blocks = mid.blocks } → new ≡ record mid { blocks = new.blocks } → new ≡ record old { blocks = new.blocks }
-rest-again old mid new before after = after ∙ ap (λ (k : Kept). record k { blocks = new.blocks }) before
+pub rest-again : (old mid new : PagedMemory) → mid ≡ record old { blocks = mid.blocks } → new ≡ record mid { blocks = new.blocks } → new ≡ record old { blocks = new.blocks }
+rest-again old mid new before after = after ∙ ap (λ (k : PagedMemory). record k { blocks = new.blocks }) before
 
 -- bytes that are put where they may be written leave all others as they began
-pub put-intact : (old new : Kept) (at : ℕ) (source : List ℕ) → ((a : ℕ) → may write old.regions a ≡ false → value old a ≡ first_byte old.file.now old.regions a) → ((i : ℕ) → i < length source → may write old.regions (at + i) ≡ true) → ((a : ℕ) → value new a ≡ value_after old at source a) → (a : ℕ) → may write old.regions a ≡ false → value new a ≡ first_byte old.file.now old.regions a
+pub put-intact : (old new : PagedMemory) (at : ℕ) (source : List ℕ) → ((a : ℕ) → may PF_W old.regions a ≡ false → value old a ≡ first_byte old.file.now old.regions a) → ((i : ℕ) → i < length source → may PF_W old.regions (at + i) ≡ true) → ((a : ℕ) → value new a ≡ value_after old at source a) → (a : ℕ) → may PF_W old.regions a ≡ false → value new a ≡ first_byte old.file.now old.regions a
 put-intact old new at source intact granted values a fixed =
     values a
     ∙ (elim (leb_tells at a) [
       | inl low ↦ (elim (leb_tells (suc a) (at + length source)) [
         | inl high ↦
             (let same : at + (a - at) ≡ a = omega (arith, low.1) in
-            let writable : may write old.regions a ≡ true = ap (may write old.regions) (sym same) ∙ granted (a - at) (omega (arith, low.1, high.1)) in
+            let writable : may PF_W old.regions a ≡ true = ap (may PF_W old.regions) (sym same) ∙ granted (a - at) (omega (arith, low.1, high.1)) in
             let clash : true ≡ false = sym writable ∙ fixed in
             absurd cc)
         | inr high ↦ after-behind old at a source (omega (arith, high.1)) ∙ intact a fixed
@@ -211,6 +212,6 @@ put-homes regions old new number place source pages homes n =
     by_case false = homes n
 
 -- the right to one byte, after a change of the blocks
-pub granted-one : (old new : Kept) (at i : ℕ) → new ≡ record old { blocks = new.blocks } → may write old.regions at ≡ true → i < 1 → may write new.regions (at + i) ≡ true
+pub granted-one : (old new : PagedMemory) (at i : ℕ) → new ≡ record old { blocks = new.blocks } → may PF_W old.regions at ≡ true → i < 1 → may PF_W new.regions (at + i) ≡ true
 granted-one old new at i rest granted few =
-    ap (λ (k : Kept). may write k.regions (at + i)) rest ∙ ap (may write old.regions) (let same : at + i ≡ at = omega arith in same) ∙ granted
+    ap (λ (k : PagedMemory). may PF_W k.regions (at + i)) rest ∙ ap (may PF_W old.regions) (let same : at + i ≡ at = omega arith in same) ∙ granted

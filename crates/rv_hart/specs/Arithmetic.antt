@@ -1,6 +1,7 @@
 -- What the operations of RV32IM give of two words (RISC-V unprivileged manual, "Integer
 -- Computational Instructions", and the "M" extension). All is modulo 2^32.
-use Rattle.std.specs.Prelude.{ℕ, ◌+◌, ◌-◌, ◌*◌, ◌/◌, ◌%◌, ◌^◌, ◌==◌, ℤ, pos, ◌*ℤ◌, Bool, if◌then◌else◌, nat_lt, bit_and, bit_or, bit_xor}
+use Rattle.std.specs.Prelude.{ℕ, ◌+◌, ◌-◌, ◌*◌, ◌/◌, ◌%◌, ◌^◌, ◌==◌, ℤ, pos, ◌*ℤ◌, Bool, if◌then◌else◌, nat_lt, bit_and}
+use Rattle.std.specs.Prelude.{bit_or, bit_xor}
 use Rattle.std.specs.Int.{w32, w64, cast_signed, cast_unsigned, int_shr}
 use Rattle.std.specs.Prelude.{int_div, int_rem, int_lt}
 use Rattle.rv_table.specs.declared.inst.Op.{Op}

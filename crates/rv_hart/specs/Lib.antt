@@ -1,5 +1,5 @@
-pub mod Memory
+pub mod AddressSpace
 pub mod Arithmetic
 pub mod Step
-pub mod Pages
-pub mod Stored
+pub mod Stepping
+pub mod private

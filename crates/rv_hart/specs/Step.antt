@@ -1,6 +1,7 @@
 -- One step of one hart: what the instruction at pc does to pc, registers and memory, or the trap that
 -- it meets (RISC-V unprivileged manual, "RV32I Base Integer Instruction Set").
-use Rattle.std.specs.Prelude.{◌≡◌, ℕ, ◌+◌, ◌*◌, ◌/◌, ◌%◌, ◌==◌, ◌&&◌, not, Bool, true, false, List, slice_index, slice_set, Option, Some, None, option_map, if◌then◌else◌, nat_le, nat_lt, int_lt}
+use Rattle.std.specs.Prelude.{◌≡◌, ℕ, ◌+◌, ◌*◌, ◌/◌, ◌%◌, ◌==◌, ◌&&◌, not, Bool, true, false, List, slice_index}
+use Rattle.std.specs.Prelude.{slice_set, Option, Some, None, option_map, if◌then◌else◌, nat_le, nat_lt, int_lt}
 use Rattle.prof_bytes.specs.Number.{number_bytes}
 use Rattle.elf_image.specs.declared.part.Segment.{Segment}
 use Rattle.rv_table.specs.declared.inst.Op.{Op}
@@ -12,15 +13,16 @@ use Rattle.rv_hart.specs.declared.outcome.Stepped.{Stepped}
 use Rattle.rv_hart.specs.declared.outcome.Stepped.TheVariants as stepped
 use Rattle.rv_hart.specs.declared.outcome.Cause.{Cause}
 use Rattle.rv_hart.specs.declared.outcome.Cause.TheVariants as cause
-use Rattle.rv_hart.specs.Memory.{Memory, execute, has, region_at, number_at, loaded, stored}
+use Rattle.elf_image.specs.declared.elf.TheConstants.{PF_X}
+use Rattle.rv_hart.specs.AddressSpace.{AddressSpace, has, region_at, number_at, loaded, stored}
 use Rattle.rv_hart.specs.Arithmetic.{signed, sum, computed}
 
 pub record State : Type 0 where
   pub pc : ℕ
   pub registers : List ℕ
-  pub memory : Memory
+  pub memory : AddressSpace
 
-abbrev pub state : ℕ → List ℕ → Memory → State
+abbrev pub state : ℕ → List ℕ → AddressSpace → State
 state pc registers memory = record { pc = pc; registers = registers; memory = memory }
 
 -- x0 reads 0
@@ -32,11 +34,11 @@ abbrev pub with_register : List ℕ → ℕ → ℕ → List ℕ
 with_register registers number value = if number == 0 then registers else slice_set registers number value
 
 -- the two registers that an instruction reads
-abbrev pub first : Inst → State → ℕ
-first inst s = register s.registers inst.rs1
+abbrev pub rs1_value : Inst → State → ℕ
+rs1_value inst s = register s.registers inst.rs1
 
-abbrev pub second : Inst → State → ℕ
-second inst s = register s.registers inst.rs2
+abbrev pub rs2_value : Inst → State → ℕ
+rs2_value inst s = register s.registers inst.rs2
 
 abbrev pub trapped : Cause → State → State × Stepped
 trapped why s = (s, stepped.Trap why)
@@ -52,67 +54,69 @@ computes inst value s = retired inst value (sum s.pc 4) s
 abbrev pub jumps : Inst → ℕ → State → State × Stepped
 jumps inst target s = if target % 4 == 0 then retired inst (sum s.pc 4) target s else trapped cause.Target s
 
-abbrev pub goes : ℕ → State → State × Stepped
-goes next s = (state next s.registers s.memory, stepped.Retired)
+abbrev pub continues_at : ℕ → State → State × Stepped
+continues_at next s = (state next s.registers s.memory, stepped.Retired)
 
 abbrev pub branches : Inst → Bool → State → State × Stepped
 branches inst test s =
     let target = sum s.pc inst.imm in
-    if not test then goes (sum s.pc 4) s else (if target % 4 == 0 then goes target s else trapped cause.Target s)
+    if not test then continues_at (sum s.pc 4) s
+    else (if target % 4 == 0 then continues_at target s else trapped cause.Target s)
 
-abbrev pub takes : Inst → Option ℕ → State → State × Stepped
-takes inst None s = trapped cause.Load s
-takes inst (Some number) s = computes inst number s
+abbrev pub loads : Inst → Option ℕ → State → State × Stepped
+loads inst None s = trapped cause.Load s
+loads inst (Some number) s = computes inst number s
 
 -- the address that a load or a store means, and the number there
 abbrev pub address : Inst → State → ℕ
-address inst s = sum (first inst s) inst.imm
+address inst s = sum (rs1_value inst s) inst.imm
 
 abbrev pub operand : Inst → ℕ → State → Option ℕ
 operand inst size s = loaded s.memory (address inst s) size
 
-abbrev pub puts : Bool × Memory → State → State × Stepped
-puts answer s = if answer.0 then (state (sum s.pc 4) s.registers answer.1, stepped.Retired) else trapped cause.Store s
+abbrev pub finishes_store : Bool × AddressSpace → State → State × Stepped
+finishes_store answer s =
+    if answer.0 then (state (sum s.pc 4) s.registers answer.1, stepped.Retired) else trapped cause.Store s
 
 abbrev pub stores : Inst → ℕ → State → State × Stepped
-stores inst size s = puts (stored s.memory (address inst s) (number_bytes size (second inst s))) s
+stores inst size s = finishes_store (stored s.memory (address inst s) (number_bytes size (rs2_value inst s))) s
 
 -- what the instruction does, by its operation
-abbrev pub done : Op → Inst → State → State × Stepped
-done ops.Illegal inst s = trapped cause.Illegal s
-done ops.Lui inst s = computes inst inst.imm s
-done ops.Auipc inst s = computes inst (sum s.pc inst.imm) s
-done ops.Jal inst s = jumps inst (sum s.pc inst.imm) s
-done ops.Jalr inst s = jumps inst (sum (first inst s) inst.imm / 2 * 2) s
-done ops.Beq inst s = branches inst (first inst s == second inst s) s
-done ops.Bne inst s = branches inst (not (first inst s == second inst s)) s
-done ops.Blt inst s = branches inst (int_lt (signed (first inst s)) (signed (second inst s))) s
-done ops.Bge inst s = branches inst (not (int_lt (signed (first inst s)) (signed (second inst s)))) s
-done ops.Bltu inst s = branches inst (nat_lt (first inst s) (second inst s)) s
-done ops.Bgeu inst s = branches inst (not (nat_lt (first inst s) (second inst s))) s
-done ops.Lb inst s = takes inst (option_map (sign_extended 8) (operand inst 1 s)) s
-done ops.Lh inst s = takes inst (option_map (sign_extended 16) (operand inst 2 s)) s
-done ops.Lw inst s = takes inst (operand inst 4 s) s
-done ops.Lbu inst s = takes inst (operand inst 1 s) s
-done ops.Lhu inst s = takes inst (operand inst 2 s) s
-done ops.Sb inst s = stores inst 1 s
-done ops.Sh inst s = stores inst 2 s
-done ops.Sw inst s = stores inst 4 s
-done ops.Fence inst s = goes (sum s.pc 4) s
-done ops.Ecall inst s = (s, stepped.Ecall)
-done ops.Ebreak inst s = (s, stepped.Break)
-done operation inst s = computes inst (computed operation (first inst s) (second inst s) inst.imm) s
+abbrev pub executed : Op → Inst → State → State × Stepped
+executed ops.Illegal inst s = trapped cause.Illegal s
+executed ops.Lui inst s = computes inst inst.imm s
+executed ops.Auipc inst s = computes inst (sum s.pc inst.imm) s
+executed ops.Jal inst s = jumps inst (sum s.pc inst.imm) s
+executed ops.Jalr inst s = jumps inst (sum (rs1_value inst s) inst.imm / 2 * 2) s
+executed ops.Beq inst s = branches inst (rs1_value inst s == rs2_value inst s) s
+executed ops.Bne inst s = branches inst (not (rs1_value inst s == rs2_value inst s)) s
+executed ops.Blt inst s = branches inst (int_lt (signed (rs1_value inst s)) (signed (rs2_value inst s))) s
+executed ops.Bge inst s = branches inst (not (int_lt (signed (rs1_value inst s)) (signed (rs2_value inst s)))) s
+executed ops.Bltu inst s = branches inst (nat_lt (rs1_value inst s) (rs2_value inst s)) s
+executed ops.Bgeu inst s = branches inst (not (nat_lt (rs1_value inst s) (rs2_value inst s))) s
+executed ops.Lb inst s = loads inst (option_map (sign_extended 8) (operand inst 1 s)) s
+executed ops.Lh inst s = loads inst (option_map (sign_extended 16) (operand inst 2 s)) s
+executed ops.Lw inst s = loads inst (operand inst 4 s) s
+executed ops.Lbu inst s = loads inst (operand inst 1 s) s
+executed ops.Lhu inst s = loads inst (operand inst 2 s) s
+executed ops.Sb inst s = stores inst 1 s
+executed ops.Sh inst s = stores inst 2 s
+executed ops.Sw inst s = stores inst 4 s
+executed ops.Fence inst s = continues_at (sum s.pc 4) s
+executed ops.Ecall inst s = (s, stepped.Ecall)
+executed ops.Ebreak inst s = (s, stepped.Break)
+executed operation inst s = computes inst (computed operation (rs1_value inst s) (rs2_value inst s) inst.imm) s
 
 abbrev pub carried_out : Inst → State → State × Stepped
-carried_out inst s = done inst.op inst s
+carried_out inst s = executed inst.op inst s
 
 -- the address and the three after it lie in this region, which may be executed
 abbrev pub is_fetched_from : ℕ → Option Segment → Bool
 is_fetched_from pc None = false
-is_fetched_from pc (Some region) = has execute region && nat_le (pc + 4) region.end
+is_fetched_from pc (Some region) = has PF_X region && nat_le (pc + 4) region.end
 
 -- the word at pc, where it may be fetched
-abbrev pub fetched_at : Memory → ℕ → Option ℕ
+abbrev pub fetched_at : AddressSpace → ℕ → Option ℕ
 fetched_at memory pc =
     if pc % 4 == 0 && is_fetched_from pc (region_at memory.regions pc) then Some (number_at memory pc 4) else None
 

@@ -1,6 +1,7 @@
 //! What the operations on registers and immediates compute.
 ghost use Rattle.std.specs.Prelude.{◌≡◌, ◌*ℤ◌, pos};
-ghost use Rattle.rv_hart.specs.Arithmetic.{computed, signed, upper_word, quotient, quotient_signed, remainder, remainder_signed};
+ghost use Rattle.rv_hart.specs.Arithmetic.{computed, signed, upper_word, quotient, quotient_signed, remainder};
+ghost use Rattle.rv_hart.specs.Arithmetic.{remainder_signed};
 
 use rv_table::Op;
 

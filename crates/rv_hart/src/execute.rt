@@ -2,20 +2,22 @@
 ghost use Rattle.std.specs.Prelude.{◌≡◌, ◌<◌, ◌≤◌, ◌*◌, ◌^◌, true, IfOk, IfSome, OnErr, option_map, take};
 ghost use Rattle.rv_table.specs.Fields.{sign_extended};
 ghost use Rattle.rv_table.specs.Table.{HasRegisters};
-ghost use Rattle.rv_hart.specs.Memory.{Memory, is_size, stored};
-ghost use Rattle.rv_hart.specs.Step.{state, first, second, address, operand, computes, jumps, branches, goes, takes, puts, stores, carried_out, step_of, is_store, StoresNow};
+ghost use Rattle.rv_hart.specs.AddressSpace.{AddressSpace, is_size, stored};
+ghost use Rattle.rv_hart.specs.Stepping.{state_of};
+ghost use Rattle.rv_hart.specs.Step.{rs1_value, rs2_value, address, operand, computes, jumps, branches, continues_at};
+ghost use Rattle.rv_hart.specs.Step.{loads, finishes_store, stores, carried_out, step_of, is_store, StoresNow};
 
 use crate::compute::compute;
 use crate::hart::{Hart, read, write};
 use crate::outcome::{Cause, Stepped};
 use crate::space::Space;
-use prof_bytes::Memory as NoMemory;
+use prof_bytes::Memory;
 use rv_table::{Inst, Op, decode};
 
 /// The hart goes on at this pc.
 #[inline(always)]
-fn go(hart: &mut Hart, pc: u32) -> Stepped
-    ensures { (m : Memory) → (state hart.new.pc hart.new.regs m, result) ≡ goes pc (state hart.old.pc hart.old.regs m) }
+fn continue_at(hart: &mut Hart, pc: u32) -> Stepped
+    ensures { (m : AddressSpace) → (state_of hart.new m, result) ≡ continues_at pc (state_of hart.old m) }
 {
     hart.pc = pc;
     Stepped::Retired
@@ -23,9 +25,9 @@ fn go(hart: &mut Hart, pc: u32) -> Stepped
 
 /// The value goes into the destination.
 #[inline(always)]
-fn set(hart: &mut Hart, inst: &Inst, value: u32) -> Stepped
+fn write_back(hart: &mut Hart, inst: &Inst, value: u32) -> Stepped
     requires { HasRegisters inst.now }
-    ensures { (m : Memory) → (state hart.new.pc hart.new.regs m, result) ≡ computes inst.now value (state hart.old.pc hart.old.regs m) }
+    ensures { (m : AddressSpace) → (state_of hart.new m, result) ≡ computes inst.now value (state_of hart.old m) }
 {
     write(hart, inst.rd, value);
     hart.pc = hart.pc.wrapping_add(4);
@@ -35,7 +37,7 @@ fn set(hart: &mut Hart, inst: &Inst, value: u32) -> Stepped
 #[inline(always)]
 fn jump(hart: &mut Hart, inst: &Inst, target: u32) -> Stepped
     requires { HasRegisters inst.now }
-    ensures { (m : Memory) → (state hart.new.pc hart.new.regs m, result) ≡ jumps inst.now target (state hart.old.pc hart.old.regs m) }
+    ensures { (m : AddressSpace) → (state_of hart.new m, result) ≡ jumps inst.now target (state_of hart.old m) }
 {
     if target % 4 != 0 {
         return Stepped::Trap(Cause::Target);
@@ -48,7 +50,7 @@ fn jump(hart: &mut Hart, inst: &Inst, target: u32) -> Stepped
 
 #[inline(always)]
 fn branch(hart: &mut Hart, inst: &Inst, taken: bool) -> Stepped
-    ensures { (m : Memory) → (state hart.new.pc hart.new.regs m, result) ≡ branches inst.now taken (state hart.old.pc hart.old.regs m) }
+    ensures { (m : AddressSpace) → (state_of hart.new m, result) ≡ branches inst.now taken (state_of hart.old m) }
 {
     if !taken {
         hart.pc = hart.pc.wrapping_add(4);
@@ -64,12 +66,12 @@ fn branch(hart: &mut Hart, inst: &Inst, taken: bool) -> Stepped
 
 /// A number that was loaded goes into the destination.
 #[inline(always)]
-fn take(hart: &mut Hart, inst: &Inst, number: Option<u32>) -> Stepped
+fn load(hart: &mut Hart, inst: &Inst, number: Option<u32>) -> Stepped
     requires { HasRegisters inst.now }
-    ensures { (m : Memory) → (state hart.new.pc hart.new.regs m, result) ≡ takes inst.now number (state hart.old.pc hart.old.regs m) }
+    ensures { (m : AddressSpace) → (state_of hart.new m, result) ≡ loads inst.now number (state_of hart.old m) }
 {
     match number {
-        Some(number) => set(hart, inst, number),
+        Some(number) => write_back(hart, inst, number),
         None => Stepped::Trap(Cause::Load),
     }
 }
@@ -101,7 +103,7 @@ fn signed_half(number: Option<u32>) -> Option<u32>
 fn loaded(hart: &Hart, space: &Space, inst: &Inst, size: u32) -> Option<u32>
     requires registers { HasRegisters inst.now }
     requires size { is_size size ≡ true }
-    ensures number { result ≡ operand inst.now size (state hart.now.pc hart.now.regs space.now) }
+    ensures number { result ≡ operand inst.now size (state_of hart.now space.now) }
     ensures fits { IfSome result (λ number. number < 2 ^ (8 * size)) }
 {
     space.load(read(hart, inst.rs1).wrapping_add(inst.imm), size)
@@ -118,13 +120,20 @@ fn lowest_bytes(bytes: &[u8; 4], size: usize) -> &[u8]
 
 /// The bytes go into memory from this address on.
 #[inline(always)]
-fn put(hart: &mut Hart, space: &mut Space, at: u32, bytes: &[u8]) -> Result<Stepped, NoMemory>
-    ensures ok { IfOk result (λ stepped. (state hart.new.pc hart.new.regs space.new, stepped) ≡ puts (stored space.old at bytes.now) (state hart.old.pc hart.old.regs space.old)) }
-    ensures err { OnErr result (state hart.new.pc hart.new.regs space.new ≡ state hart.old.pc hart.old.regs space.old) }
-    ensures retires { OnErr result ((puts (stored space.old at bytes.now) (state hart.old.pc hart.old.regs space.old)).1 ≡ Stepped.Retired) }
+fn finish_store(
+    hart: &mut Hart,
+    space: &mut Space,
+    at: u32,
+    bytes: &[u8],
+) -> Result<Stepped, Memory>
+    ensures ok { IfOk result (λ stepped. (state_of hart.new space.new, stepped)
+        ≡ finishes_store (stored space.old at bytes.now) (state_of hart.old space.old)) }
+    ensures err { OnErr result (state_of hart.new space.new ≡ state_of hart.old space.old) }
+    ensures retires { OnErr result
+        ((finishes_store (stored space.old at bytes.now) (state_of hart.old space.old)).1 ≡ Stepped.Retired) }
 {
     match space.store(at, bytes) {
-        Ok(true) => Ok(go(hart, hart.pc.wrapping_add(4))),
+        Ok(true) => Ok(continue_at(hart, hart.pc.wrapping_add(4))),
         Ok(false) => Ok(Stepped::Trap(Cause::Store)),
         Err(error) => Err(error),
     }
@@ -132,33 +141,35 @@ fn put(hart: &mut Hart, space: &mut Space, at: u32, bytes: &[u8]) -> Result<Step
 
 /// The lowest bytes of the second register go into memory.
 #[inline(always)]
-fn store(hart: &mut Hart, space: &mut Space, inst: &Inst, size: usize) -> Result<Stepped, NoMemory>
+fn store(hart: &mut Hart, space: &mut Space, inst: &Inst, size: usize) -> Result<Stepped, Memory>
     requires registers { HasRegisters inst.now }
     requires size { size ≤ 4 }
-    ensures ok { IfOk result (λ stepped. (state hart.new.pc hart.new.regs space.new, stepped) ≡ stores inst.now size (state hart.old.pc hart.old.regs space.old)) }
-    ensures err { OnErr result (state hart.new.pc hart.new.regs space.new ≡ state hart.old.pc hart.old.regs space.old) }
-    ensures retires { OnErr result ((stores inst.now size (state hart.old.pc hart.old.regs space.old)).1 ≡ Stepped.Retired) }
+    ensures ok { IfOk result (λ stepped. (state_of hart.new space.new, stepped)
+        ≡ stores inst.now size (state_of hart.old space.old)) }
+    ensures err { OnErr result (state_of hart.new space.new ≡ state_of hart.old space.old) }
+    ensures retires { OnErr result ((stores inst.now size (state_of hart.old space.old)).1 ≡ Stepped.Retired) }
 {
     let at = read(hart, inst.rs1).wrapping_add(inst.imm);
     let bytes = read(hart, inst.rs2).to_le_bytes();
-    put(hart, space, at, lowest_bytes(&bytes, size))
+    finish_store(hart, space, at, lowest_bytes(&bytes, size))
 }
 
 /// Carries out an instruction.
 #[inline(always)]
-fn carry_out(hart: &mut Hart, space: &mut Space, inst: &Inst) -> Result<Stepped, NoMemory>
+fn carry_out(hart: &mut Hart, space: &mut Space, inst: &Inst) -> Result<Stepped, Memory>
     requires { HasRegisters inst.now }
-    ensures ok { IfOk result (λ stepped. (state hart.new.pc hart.new.regs space.new, stepped) ≡ carried_out inst.now (state hart.old.pc hart.old.regs space.old)) }
-    ensures err { OnErr result (state hart.new.pc hart.new.regs space.new ≡ state hart.old.pc hart.old.regs space.old) }
-    ensures retires { OnErr result ((carried_out inst.now (state hart.old.pc hart.old.regs space.old)).1 ≡ Stepped.Retired) }
+    ensures ok { IfOk result (λ stepped. (state_of hart.new space.new, stepped)
+        ≡ carried_out inst.now (state_of hart.old space.old)) }
+    ensures err { OnErr result (state_of hart.new space.new ≡ state_of hart.old space.old) }
+    ensures retires { OnErr result ((carried_out inst.now (state_of hart.old space.old)).1 ≡ Stepped.Retired) }
     ensures store { OnErr result (is_store inst.now.op ≡ true) }
 {
     let a = read(hart, inst.rs1);
     let b = read(hart, inst.rs2);
     Ok(match inst.op {
         Op::Illegal => Stepped::Trap(Cause::Illegal),
-        Op::Lui => set(hart, inst, inst.imm),
-        Op::Auipc => set(hart, inst, hart.pc.wrapping_add(inst.imm)),
+        Op::Lui => write_back(hart, inst, inst.imm),
+        Op::Auipc => write_back(hart, inst, hart.pc.wrapping_add(inst.imm)),
         Op::Jal => jump(hart, inst, hart.pc.wrapping_add(inst.imm)),
         Op::Jalr => jump(hart, inst, a.wrapping_add(inst.imm) / 2 * 2),
         Op::Beq => branch(hart, inst, a == b),
@@ -167,28 +178,29 @@ fn carry_out(hart: &mut Hart, space: &mut Space, inst: &Inst) -> Result<Stepped,
         Op::Bge => branch(hart, inst, a.cast_signed() >= b.cast_signed()),
         Op::Bltu => branch(hart, inst, a < b),
         Op::Bgeu => branch(hart, inst, a >= b),
-        Op::Lb => take(hart, inst, signed_byte(loaded(hart, space, inst, 1))),
-        Op::Lh => take(hart, inst, signed_half(loaded(hart, space, inst, 2))),
-        Op::Lw => take(hart, inst, loaded(hart, space, inst, 4)),
-        Op::Lbu => take(hart, inst, loaded(hart, space, inst, 1)),
-        Op::Lhu => take(hart, inst, loaded(hart, space, inst, 2)),
+        Op::Lb => load(hart, inst, signed_byte(loaded(hart, space, inst, 1))),
+        Op::Lh => load(hart, inst, signed_half(loaded(hart, space, inst, 2))),
+        Op::Lw => load(hart, inst, loaded(hart, space, inst, 4)),
+        Op::Lbu => load(hart, inst, loaded(hart, space, inst, 1)),
+        Op::Lhu => load(hart, inst, loaded(hart, space, inst, 2)),
         Op::Sb => return store(hart, space, inst, 1),
         Op::Sh => return store(hart, space, inst, 2),
         Op::Sw => return store(hart, space, inst, 4),
-        Op::Fence => go(hart, hart.pc.wrapping_add(4)),
+        Op::Fence => continue_at(hart, hart.pc.wrapping_add(4)),
         Op::Ecall => Stepped::Ecall,
         Op::Ebreak => Stepped::Break,
-        op => set(hart, inst, compute(op, a, b, inst.imm)),
+        op => write_back(hart, inst, compute(op, a, b, inst.imm)),
     })
 }
 
 /// Does one instruction of the hart. `Memory` comes only for a store, and nothing has changed then.
 #[inline]
-pub fn step(hart: &mut Hart, space: &mut Space) -> Result<Stepped, NoMemory>
-    ensures ok { IfOk result (λ stepped. (state hart.new.pc hart.new.regs space.new, stepped) ≡ step_of (state hart.old.pc hart.old.regs space.old)) }
-    ensures err { OnErr result (state hart.new.pc hart.new.regs space.new ≡ state hart.old.pc hart.old.regs space.old) }
+pub fn step(hart: &mut Hart, space: &mut Space) -> Result<Stepped, Memory>
+    ensures ok { IfOk result (λ stepped. (state_of hart.new space.new, stepped)
+        ≡ step_of (state_of hart.old space.old)) }
+    ensures err { OnErr result (state_of hart.new space.new ≡ state_of hart.old space.old) }
     // Memory is wanted only where a store retires.
-    ensures memory { OnErr result (StoresNow (state hart.old.pc hart.old.regs space.old)) }
+    ensures memory { OnErr result (StoresNow (state_of hart.old space.old)) }
 {
     match space.fetch(hart.pc) {
         Some(word) => {

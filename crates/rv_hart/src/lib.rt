@@ -10,15 +10,17 @@ mod access;
 mod compute;
 mod execute;
 mod hart;
-mod kept;
 mod outcome;
 mod page;
+mod paged_memory;
 mod read;
 mod right;
 mod space;
+mod stack;
 mod write;
 
 pub use execute::step;
 pub use hart::Hart;
 pub use outcome::{Cause, Stepped};
 pub use space::Space;
+pub use stack::stack_of;

@@ -1,7 +1,8 @@
 //! Pages of 4 KiB for what was written, in blocks of 1 MiB.
-ghost use Rattle.std.specs.Prelude.{◌≡◌, ◌++◌, ◌∷◌, [], ◌+◌, ◌<◌, ◌≤◌, length, slice_get, slice_set, OnOk, OnErr, unwrap_or};
+ghost use Rattle.std.specs.Prelude.{◌≡◌, ◌++◌, ◌∷◌, [], ◌+◌, ◌<◌, ◌≤◌, length, slice_get, slice_set, OnOk, OnErr};
+ghost use Rattle.std.specs.Prelude.{unwrap_or};
 ghost use Rattle.std.specs.Option.{option_copied};
-ghost use Rattle.rv_hart.specs.Pages.{blank, spliced, with_bytes, page_at};
+ghost use Rattle.rv_hart.specs.private.Pages.{blank, spliced, with_bytes, page_at};
 
 use crate::right::NOWHERE;
 use elf_image::Segment;
@@ -18,7 +19,7 @@ pub(crate) struct Page {
 }
 
 impl Model for Page {
-    ghost use Rattle.rv_hart.specs.Pages.{Paged};
+    ghost use Rattle.rv_hart.specs.private.Pages.{Paged};
 
     ghost Value = { Paged };
 
@@ -72,7 +73,7 @@ pub(crate) struct Block {
 
 impl Model for Block {
     ghost use Rattle.std.specs.Prelude.{List};
-    ghost use Rattle.rv_hart.specs.Pages.{Paged};
+    ghost use Rattle.rv_hart.specs.private.Pages.{Paged};
 
     ghost Value = { List Paged };
 

@@ -2,10 +2,10 @@
 ghost use Rattle.std.specs.Prelude.{◌≡◌, ◌+◌, ◌<◌, ◌≤◌, ◌^◌, ◌*◌, ℕ, true, IfSome, length, map, slice_index, Some};
 ghost use Rattle.std.specs.List.{range_with_len, list_all};
 ghost use Rattle.prof_bytes.specs.Number.{number_in};
-ghost use Rattle.rv_hart.specs.Memory.{region_at, may, byte_in, is_size};
-ghost use Rattle.rv_hart.specs.Stored.{value, covers_all, IsHome, IsKept, bit_of};
+ghost use Rattle.rv_hart.specs.AddressSpace.{region_at, may, byte_in, is_size};
+ghost use Rattle.rv_hart.specs.private.Paging.{value, covers_all, IsHome, IsPaged, bit_of};
 
-use crate::kept::Kept;
+use crate::paged_memory::PagedMemory;
 use crate::right::{NOWHERE, Right, covers, grants};
 use byteorder::{ByteOrder, LittleEndian};
 use elf_image::Segment;
@@ -32,7 +32,8 @@ fn near_in_file<'a>(file: &'a [u8], home: &Segment, at: u32, count: usize) -> Op
     requires covered { covers_all home.now at count ≡ true }
     requires count { count ≤ 4 }
     ensures length { IfSome result (λ bytes. length bytes.now ≡ count) }
-    ensures bytes { IfSome result (λ bytes. (i : ℕ) → i < count → slice_index bytes.now i ≡ byte_in file.now (at + i) (Some home.now)) }
+    ensures bytes { IfSome result (λ bytes. (i : ℕ) → i < count
+        → slice_index bytes.now i ≡ byte_in file.now (at + i) (Some home.now)) }
 {
     let depth = (at - home.start) as usize;
     let filled = home.filled as usize;
@@ -46,11 +47,11 @@ fn near_in_file<'a>(file: &'a [u8], home: &Segment, at: u32, count: usize) -> Op
     Some(&file[place..place + count])
 }
 
-impl<'a> Kept<'a> {
+impl<'a> PagedMemory<'a> {
     /// Bytes of a region from `at` on, where they stand together in a page or in the file.
     #[inline(always)]
     fn near(&self, home: &Segment, at: u32, count: usize) -> Option<&[u8]>
-        requires kept { IsKept self.now }
+        requires paged { IsPaged self.now }
         requires home { IsHome self.now.regions home.now }
         requires covered { covers_all home.now at count ≡ true }
         requires count { count ≤ 4 }
@@ -99,7 +100,7 @@ impl<'a> Kept<'a> {
     /// The number in so many bytes of one region.
     #[inline(always)]
     pub(crate) fn number(&self, home: &Segment, at: u32, count: usize) -> u32
-        requires kept { IsKept self.now }
+        requires paged { IsPaged self.now }
         requires home { IsHome self.now.regions home.now }
         requires covered { covers_all home.now at count ≡ true }
         requires count { is_size count ≡ true }
@@ -115,7 +116,7 @@ impl<'a> Kept<'a> {
     /// A region that holds so many addresses from `at` on, if there is one.
     #[inline(always)]
     pub(crate) fn home(&self, at: u32, count: usize) -> Segment
-        requires kept { IsKept self.now }
+        requires paged { IsPaged self.now }
         requires count { count ≤ 4 }
         ensures { IsHome self.now.regions result }
     {
@@ -130,7 +131,7 @@ impl<'a> Kept<'a> {
 
     /// Whether the address lies in a region with the right.
     fn is_granted(&self, right: Right, at: usize) -> bool
-        requires { IsKept self.now }
+        requires { IsPaged self.now }
         ensures { result ≡ may (bit_of right) self.now.regions at }
     {
         match u32::try_from(at) {
@@ -144,7 +145,7 @@ impl<'a> Kept<'a> {
 
     /// Whether each of so many addresses from `at` on lies in a region with the right.
     pub(crate) fn all_granted(&self, right: Right, at: u32, count: usize) -> bool
-        requires kept { IsKept self.now }
+        requires paged { IsPaged self.now }
         requires count { count < 2 ^ 63 }
         ensures { result ≡ list_all (may (bit_of right) self.now.regions) (range_with_len at count) }
     {

@@ -1,9 +1,9 @@
 //! The rights of a region.
 ghost use Rattle.std.specs.Prelude.{◌≡◌, ◌≤◌};
-ghost use Rattle.rv_hart.specs.Memory.{has};
-ghost use Rattle.rv_hart.specs.Stored.{bit_of, covers_all};
+ghost use Rattle.rv_hart.specs.AddressSpace.{has};
+ghost use Rattle.rv_hart.specs.private.Paging.{bit_of, covers_all};
 
-use elf_image::Segment;
+use elf_image::{PF_R, PF_W, PF_X, Segment};
 
 /// What may be done with the bytes of a region.
 #[derive(Clone, Copy, PartialEq, Eq)]
@@ -28,9 +28,9 @@ pub(crate) fn grants(region: &Segment, right: Right) -> bool
     ensures { result ≡ has (bit_of right) region.now }
 {
     match right {
-        Right::Execute => region.flags % 2 == 1,
-        Right::Write => region.flags / 2 % 2 == 1,
-        Right::Read => region.flags / 4 % 2 == 1,
+        Right::Execute => region.flags / PF_X % 2 == 1,
+        Right::Write => region.flags / PF_W % 2 == 1,
+        Right::Read => region.flags / PF_R % 2 == 1,
     }
 }
 

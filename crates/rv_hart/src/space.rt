@@ -1,53 +1,39 @@
 ghost use Rattle.std.specs.Prelude.{◌≡◌, ◌<◌, ◌≤◌, ◌*◌, ◌^◌, ◌++◌, map, true, IfOk, IfSome, OnErr, length};
 ghost use Rattle.std.specs.List.{range_with_len};
-ghost use Rattle.rv_hart.specs.Memory.{is_size, loaded, stored, may_all, write, first_memory, stack_of};
+ghost use Rattle.elf_image.specs.declared.elf.TheConstants.{PF_W};
+ghost use Rattle.rv_hart.specs.AddressSpace.{is_size, loaded, stored, may_all, first_memory, stack_of};
 ghost use Rattle.rv_hart.specs.Step.{fetched_at};
 
 use crate::access;
-use crate::kept::Kept;
+use crate::paged_memory::PagedMemory;
 use crate::right::{NOWHERE, covers};
+use crate::stack::stack_of;
 use elf_image::{Image, RangeTable, Segment};
 use prof_bytes::Memory;
 use scope_types::Look;
 use std::alloc::Global;
 use std::marker::Model;
 
-/// The memory of a program that runs: its segments, and a stack of 512 KiB for each hart, which ends
-/// below `0xf0000000 + (hart + 1) * 0x100000`. Contracts see it whole, with a byte for each address.
-/// In the code a page of 4 KiB is made when it is first written; what was never written is read from
-/// the file, or is 0.
+/// The memory of a program that runs: its segments, and a stack for each hart (`stack_of`). Contracts see
+/// it whole, with a byte for each address. In the code a page of 4 KiB is made when it is first written;
+/// what was never written is read from the file, or is 0.
 #[derive(Drop)]
 pub struct Space<'a> {
     alloc: Global,
-    kept: Kept<'a>,
+    paged: PagedMemory<'a>,
     code: Segment,
 }
 
 impl<'a> Model for Space<'a> {
-    ghost use Rattle.rv_hart.specs.Memory.{Memory};
+    ghost use Rattle.rv_hart.specs.AddressSpace.{AddressSpace};
 
-    ghost Value = { Memory };
+    ghost Value = { AddressSpace };
 
-    ghost use Rattle.rv_hart.specs.Stored.{memory_of, IsKept, IsHome};
+    ghost use Rattle.rv_hart.specs.private.Paging.{memory_of, IsPaged, IsHome};
 
-    ghost view = { λ space. memory_of space.kept };
+    ghost view = { λ space. memory_of space.paged };
 
-    ghost invariant = { λ space. IsKept space.kept × IsHome space.kept.regions space.code };
-}
-
-/// The stack of a hart.
-fn stack(hart: u32) -> Segment
-    requires { hart < 64 }
-    ensures { result ≡ stack_of hart }
-{
-    let below = 0xf000_0000 + hart * 0x10_0000;
-    Segment {
-        start: below + 0x8_0000,
-        end: below + 0x10_0000,
-        flags: 6,
-        offset: 0,
-        filled: 0,
-    }
+    ghost invariant = { λ space. IsPaged space.paged × IsHome space.paged.regions space.code };
 }
 
 /// The program's segments and the stacks.
@@ -58,7 +44,7 @@ fn listed(alloc: Global, segments: &[Segment], harts: u32) -> Result<Vec<Segment
     let mut regions = Vec::new(alloc);
     regions.extend_from_slice(segments)?;
     for hart in 0..harts {
-        regions.push(stack(hart))?;
+        regions.push(stack_of(hart))?;
     }
     Ok(regions)
 }
@@ -69,14 +55,14 @@ impl<'a> Space<'a> {
         requires { harts ≤ 64 }
         ensures { IfOk result (λ space. space ≡ first_memory image.now harts) }
     {
-        let kept = Kept {
+        let paged = PagedMemory {
             file: image.bytes(),
             regions: RangeTable::of(alloc, listed(alloc, image.segments(), harts)?)?,
             blocks: Vec::new(alloc),
         };
         Ok(Space {
             alloc,
-            kept,
+            paged,
             code: NOWHERE,
         })
     }
@@ -89,7 +75,7 @@ impl<'a> Space<'a> {
         ensures number { result ≡ loaded self.now at size }
         ensures fits { IfSome result (λ number. number < 2 ^ (8 * size)) }
     {
-        access::load(&self.kept, at, size as usize)
+        access::load(&self.paged, at, size as usize)
     }
 
     /// Writes the bytes from `at` on, and answers true; or changes nothing and answers false, where one
@@ -99,9 +85,9 @@ impl<'a> Space<'a> {
         ensures ok { IfOk result (λ answer. (answer, self.new) ≡ stored self.old at bytes.now) }
         ensures err { OnErr result (self.new ≡ self.old) }
         // Memory is wanted only where the bytes may be written.
-        ensures writable { OnErr result (may_all write self.old at (length bytes.now) ≡ true) }
+        ensures writable { OnErr result (may_all PF_W self.old at (length bytes.now) ≡ true) }
     {
-        access::store(&mut self.kept, self.alloc, at, bytes)
+        access::store(&mut self.paged, self.alloc, at, bytes)
     }
 
     /// The word at pc, where it may be fetched.
@@ -114,12 +100,12 @@ impl<'a> Space<'a> {
             return None;
         }
         if !covers(&self.code, pc, 4) {
-            match self.kept.region(pc) {
+            match self.paged.region(pc) {
                 Some(region) => self.code = region,
                 None => return None,
             }
         }
-        access::fetch(&self.kept, &self.code, pc)
+        access::fetch(&self.paged, &self.code, pc)
     }
 }
 

@@ -1,12 +1,14 @@
 //! Writing: pages are made when they are first written, and hold what their addresses had.
-ghost use Rattle.std.specs.Prelude.{◌≡◌, ◌==◌, [], ◌+◌, ◌*◌, ◌/◌, ◌%◌, ◌<◌, ◌≤◌, ◌^◌, ℕ, true, false, if◌then◌else◌, IfOk, OnOk, OnErr, length, slice_index};
+ghost use Rattle.std.specs.Prelude.{◌≡◌, ◌==◌, [], ◌+◌, ◌*◌, ◌/◌, ◌%◌, ◌<◌, ◌≤◌, ◌^◌, ℕ, true, false, if◌then◌else◌};
+ghost use Rattle.std.specs.Prelude.{IfOk, OnOk, OnErr, length, slice_index};
 ghost use Rattle.std.specs.List.{slice_index_or, range_with_len, list_all};
-ghost use Rattle.rv_hart.specs.Memory.{may, write};
-ghost use Rattle.rv_hart.specs.Pages.{page_at, page_in, with_bytes};
-ghost use Rattle.rv_hart.specs.Stored.{page_numbered, page_of, value, value_after, IsHome, IsKept};
+ghost use Rattle.elf_image.specs.declared.elf.TheConstants.{PF_W};
+ghost use Rattle.rv_hart.specs.AddressSpace.{may};
+ghost use Rattle.rv_hart.specs.private.Pages.{page_at, page_in, with_bytes, IsSetAt};
+ghost use Rattle.rv_hart.specs.private.Paging.{page_numbered, page_of, value, value_after, IsHome, IsPaged};
 
-use crate::kept::Kept;
 use crate::page::{Block, Page};
+use crate::paged_memory::PagedMemory;
 use crate::right::{NOWHERE, Right, covers, grants};
 use elf_image::Segment;
 use prof_bytes::Memory;
@@ -36,7 +38,7 @@ fn lengthen_block(block: &mut Block, alloc: Global, index: usize) -> Result<(), 
 
 /// Sets the page of this number.
 fn set_page(blocks: &mut Vec<Block>, alloc: Global, number: usize, page: Page) -> Result<(), Memory>
-    ensures ok { OnOk result ((n : ℕ) → page_in blocks.new.items n ≡ (if n == number then page else page_in blocks.old.items n)) }
+    ensures ok { OnOk result (IsSetAt blocks.old.items blocks.new.items number page) }
     ensures err { OnErr result ((n : ℕ) → page_in blocks.new.items n ≡ page_in blocks.old.items n) }
 {
     lengthen_blocks(blocks, alloc, number / 256)?;
@@ -51,20 +53,28 @@ fn set_page(blocks: &mut Vec<Block>, alloc: Global, number: usize, page: Page) -
 fn put_in(blocks: &mut Vec<Block>, at: u32, source: &[u8])
     requires within { at % 2 ^ 12 + length source.now ≤ length (page_in blocks.old.items (at / 2 ^ 12)).bytes }
     requires some { 0 < length source.now }
-    ensures { (n : ℕ) → page_in blocks.new.items n ≡ (if n == at / 2 ^ 12 then with_bytes (page_in blocks.old.items (at / 2 ^ 12)) (at % 2 ^ 12) source.now else page_in blocks.old.items n) }
+    ensures { let number = at / 2 ^ 12 in
+        let page = with_bytes (page_in blocks.old.items number) (at % 2 ^ 12) source.now in
+        IsSetAt blocks.old.items blocks.new.items number page }
 {
     let number = (at >> 12) as usize;
     let block = &mut blocks[number / 256];
     block.put(number % 256, at as usize % 4096, source);
 }
 
-impl<'a> Kept<'a> {
+impl<'a> PagedMemory<'a> {
     /// The bytes of a page as they stand.
-    fn page_as_kept(&self, alloc: Global, home: &Segment, number: u32) -> Result<Vec<u8>, Memory>
+    fn page_as_it_stands(
+        &self,
+        alloc: Global,
+        home: &Segment,
+        number: u32,
+    ) -> Result<Vec<u8>, Memory>
         requires home { IsHome self.now.regions home.now }
         requires number { number < 2 ^ 20 }
         ensures long { IfOk result (λ bytes. length bytes.items ≡ 2 ^ 12) }
-        ensures bytes { IfOk result (λ bytes. (i : ℕ) → i < 2 ^ 12 → slice_index bytes.items i ≡ value self.now (number * 2 ^ 12 + i)) }
+        ensures bytes { IfOk result (λ bytes. (i : ℕ) → i < 2 ^ 12
+            → slice_index bytes.items i ≡ value self.now (number * 2 ^ 12 + i)) }
     {
         let mut bytes = Vec::new(alloc);
         for place in 0..4096u32 {
@@ -75,9 +85,9 @@ impl<'a> Kept<'a> {
 
     /// Makes the address's page, if it was not made.
     fn make(&mut self, alloc: Global, at: u32) -> Result<(), Memory>
-        requires { IsKept self.old }
+        requires { IsPaged self.old }
         ensures rest { self.new ≡ record self.old { blocks = self.new.blocks } }
-        ensures kept { IsKept self.new }
+        ensures paged { IsPaged self.new }
         ensures values { (a : ℕ) → value self.new a ≡ value self.old a }
         ensures longer { (n : ℕ) → length (page_numbered self.old n).bytes ≤ length (page_numbered self.new n).bytes }
         ensures made { IfOk result (λ _. 2 ^ 12 ≤ length (page_of self.new at).bytes) }
@@ -87,7 +97,7 @@ impl<'a> Kept<'a> {
         }
         let number = at >> 12;
         let home = self.region(at).unwrap_or(NOWHERE);
-        let bytes = self.page_as_kept(alloc, &home, number)?;
+        let bytes = self.page_as_it_stands(alloc, &home, number)?;
         set_page(
             &mut self.blocks,
             alloc,
@@ -100,13 +110,13 @@ impl<'a> Kept<'a> {
     /// Puts bytes into the page of the address, which holds what they replace.
     #[inline(always)]
     fn put(&mut self, at: u32, source: &[u8])
-        requires kept { IsKept self.old }
+        requires paged { IsPaged self.old }
         requires within { at % 2 ^ 12 + length source.now ≤ length (page_of self.old at).bytes }
         requires page { at % 2 ^ 12 + length source.now ≤ 2 ^ 12 }
         requires some { 0 < length source.now }
-        requires granted { (i : ℕ) → i < length source.now → may write self.old.regions (at + i) ≡ true }
+        requires granted { (i : ℕ) → i < length source.now → may PF_W self.old.regions (at + i) ≡ true }
         ensures rest { self.new ≡ record self.old { blocks = self.new.blocks } }
-        ensures kept { IsKept self.new }
+        ensures paged { IsPaged self.new }
         ensures values { (a : ℕ) → value self.new a ≡ value_after self.old at source.now a }
         ensures lengths { (n : ℕ) → length (page_numbered self.new n).bytes ≡ length (page_numbered self.old n).bytes }
     {
@@ -117,12 +127,13 @@ impl<'a> Kept<'a> {
     /// nothing is done.
     #[inline(always)]
     pub(crate) fn write_near(&mut self, at: u32, source: &[u8]) -> bool
-        requires kept { IsKept self.old }
+        requires paged { IsPaged self.old }
         requires count { (0 < length source.now) × (length source.now ≤ 4) }
         ensures no { result ≡ false → self.new ≡ self.old }
         ensures rest { self.new ≡ record self.old { blocks = self.new.blocks } }
-        ensures kept { IsKept self.new }
-        ensures granted { result ≡ true → list_all (may write self.old.regions) (range_with_len at (length source.now)) ≡ true }
+        ensures paged { IsPaged self.new }
+        ensures granted { result ≡ true
+            → list_all (may PF_W self.old.regions) (range_with_len at (length source.now)) ≡ true }
         ensures values { result ≡ true → (a : ℕ) → value self.new a ≡ value_after self.old at source.now a }
     {
         if !self.is_near(at, source.len()) {
@@ -135,11 +146,12 @@ impl<'a> Kept<'a> {
     /// Whether so many bytes stand together in a page of a region that may be written.
     #[inline(always)]
     fn is_near(&self, at: u32, count: usize) -> bool
-        requires kept { IsKept self.now }
+        requires paged { IsPaged self.now }
         requires count { count ≤ 4 }
         ensures page { result ≡ true → at % 2 ^ 12 + count ≤ 2 ^ 12 }
         ensures within { result ≡ true → at % 2 ^ 12 + count ≤ length (page_of self.now at).bytes }
-        ensures granted { result ≡ true → list_all (may write self.now.regions) (range_with_len at count) ≡ true }
+        ensures granted { result ≡ true
+            → list_all (may PF_W self.now.regions) (range_with_len at count) ≡ true }
     {
         let end = at as usize % 4096 + count;
         if end > 4096 || end > self.page_bytes(at).len() {
@@ -154,10 +166,10 @@ impl<'a> Kept<'a> {
 
     /// Makes the pages of so many addresses.
     pub(crate) fn make_all(&mut self, alloc: Global, at: u32, count: usize) -> Result<(), Memory>
-        requires kept { IsKept self.old }
+        requires paged { IsPaged self.old }
         requires low { at + count ≤ 2 ^ 32 }
         ensures rest { self.new ≡ record self.old { blocks = self.new.blocks } }
-        ensures kept { IsKept self.new }
+        ensures paged { IsPaged self.new }
         ensures values { (a : ℕ) → value self.new a ≡ value self.old a }
         ensures made { IfOk result (λ _. (i : ℕ) → i < count → 2 ^ 12 ≤ length (page_of self.new (at + i)).bytes) }
     {
@@ -169,12 +181,12 @@ impl<'a> Kept<'a> {
 
     /// Puts bytes one by one into pages that were made.
     pub(crate) fn put_all(&mut self, at: u32, source: &[u8])
-        requires kept { IsKept self.old }
+        requires paged { IsPaged self.old }
         requires low { at + length source.now ≤ 2 ^ 32 }
-        requires granted { (i : ℕ) → i < length source.now → may write self.old.regions (at + i) ≡ true }
+        requires granted { (i : ℕ) → i < length source.now → may PF_W self.old.regions (at + i) ≡ true }
         requires made { (i : ℕ) → i < length source.now → 2 ^ 12 ≤ length (page_of self.old (at + i)).bytes }
         ensures rest { self.new ≡ record self.old { blocks = self.new.blocks } }
-        ensures kept { IsKept self.new }
+        ensures paged { IsPaged self.new }
         ensures values { (a : ℕ) → value self.new a ≡ value_after self.old at source.now a }
     {
         for (place, byte) in source.iter().enumerate() {

@@ -2,14 +2,15 @@
 use Rattle.std.proofs.Common.{◌≡◌, ℕ, zero, suc, ◌+◌, ◌<◌, ◌==◌, ◌||◌, Bool, true, false, cond, List, [], ◌∷◌, map, length, take, min, slice_set, refl, sym, ap, ap₂, subst, ◌∙◌}
 use Rattle.std.proofs.lemmas.List.{get_or-set_same, get_or-set_other}
 use Rattle.std.proofs.Math.ListN.{length-set}
-use Rattle.rv_hart.specs.Memory.{Memory, stored}
+use Rattle.rv_hart.specs.AddressSpace.{AddressSpace, stored}
 use Rattle.rv_hart.specs.Step.{State, step_of}
 use Rattle.rv_hart.specs.declared.outcome.Stepped.{Stepped}
 use Rattle.rv_hart.specs.declared.outcome.Stepped.TheVariants as stepped
 use Rattle.rv_run.specs.declared.hart.HartEnd.{HartEnd}
+use Rattle.rv_run.specs.declared.linux.TheConstants.{SYS_READ, SYS_WRITE, SYS_EXIT, SYS_EXIT_GROUP, EBADF, EFAULT, ENOSYS, A0, A1, A2, A7}
 use Rattle.rv_run.specs.declared.hart.HartEnd.TheVariants as ends
 use Rattle.rv_run.specs.State.{HartState, MachineState, hart_in, hart_of, no_hart, is_running, step_state, stepped_hart}
-use Rattle.rv_run.specs.Calls.{Acted, Answered, reads, writes, call_numbered, completes, ends_by, ends_all, grouped, with_answer, with_end, only_answers, all_readable, writes_out, taken, read_into, no_call, bad_descriptor, bad_address, holds_in}
+use Rattle.rv_run.specs.Calls.{Acted, Answered, reads, writes, call_numbered, completes, ends_by, ends_all, grouped, with_answer, with_end, only_answers, all_readable, writes_out, taken, read_into, negative, holds_in}
 use Rattle.rv_run.specs.Run.{acts, acts_by, acts_after, stepped_machine}
 use Rattle.rv_run.specs.Progress.{Counts, plus_one}
 use Rattle.rv_run.proofs.Unchanged.{not-retired}
@@ -40,7 +41,7 @@ group-length status [] = refl
 group-length status (h ∷ harts) = ap (λ (n : ℕ). suc n) (group-length status harts)
 
 -- reads and writes change no hart
-read-harts : (count : ℕ) (answer : Bool × Memory) (s : MachineState) → (read_into count answer s).state.harts ≡ s.harts
+read-harts : (count : ℕ) (answer : Bool × AddressSpace) (s : MachineState) → (read_into count answer s).state.harts ≡ s.harts
 read-harts count (true, m) s = refl
 read-harts count (false, m) s = refl
 
@@ -61,32 +62,32 @@ CountsBy hart s acted = Counts hart acted.retired s acted.state
 
 reads-harts : (a b c : ℕ) (s : MachineState) → (reads a b c s).state.harts ≡ s.harts
 reads-harts a b c s =
-    elim (a == 0) as (λ t. (cond t (read_into (min c (length s.input)) (stored s.memory b (take c s.input)) s) (only_answers bad_descriptor s)).state.harts ≡ s.harts)
+    elim (a == 0) as (λ t. (cond t (read_into (min c (length s.input)) (stored s.memory b (take c s.input)) s) (only_answers (negative EBADF) s)).state.harts ≡ s.harts)
     [ true ↦ read-harts (min c (length s.input)) (stored s.memory b (take c s.input)) s | false ↦ refl ]
 
-write-harts : (b c : ℕ) (s : MachineState) → (cond (all_readable s.memory b c) (writes_out b (taken c s.output) s) (only_answers bad_address s)).state.harts ≡ s.harts
+write-harts : (b c : ℕ) (s : MachineState) → (cond (all_readable s.memory b c) (writes_out b (taken c s.output) s) (only_answers (negative EFAULT) s)).state.harts ≡ s.harts
 write-harts b c s =
-    elim (all_readable s.memory b c) as (λ t. (cond t (writes_out b (taken c s.output) s) (only_answers bad_address s)).state.harts ≡ s.harts) [ true ↦ refl | false ↦ refl ]
+    elim (all_readable s.memory b c) as (λ t. (cond t (writes_out b (taken c s.output) s) (only_answers (negative EFAULT) s)).state.harts ≡ s.harts) [ true ↦ refl | false ↦ refl ]
 
 writes-harts : (a b c : ℕ) (s : MachineState) → (writes a b c s).state.harts ≡ s.harts
 writes-harts a b c s =
-    elim ((a == 1) || (a == 2)) as (λ t. (cond t (cond (all_readable s.memory b c) (writes_out b (taken c s.output) s) (only_answers bad_address s)) (only_answers bad_descriptor s)).state.harts ≡ s.harts)
+    elim ((a == 1) || (a == 2)) as (λ t. (cond t (cond (all_readable s.memory b c) (writes_out b (taken c s.output) s) (only_answers (negative EFAULT) s)) (only_answers (negative EBADF) s)).state.harts ≡ s.harts)
     [ true ↦ write-harts b c s | false ↦ refl ]
 
 call_numbered-counts : (hart number a b c : ℕ) (s : MachineState) → hart < length s.harts → CountsBy hart s (call_numbered hart number a b c s)
 call_numbered-counts hart number a b c s within =
-    choose (number == 63) (number == 64) (number == 93) (number == 94)
+    choose (number == SYS_READ) (number == SYS_WRITE) (number == SYS_EXIT) (number == SYS_EXIT_GROUP)
   where
-    choose : (p q r t : Bool) → CountsBy hart s (cond p (completes hart (reads a b c s)) (cond q (completes hart (writes a b c s)) (cond r (ends_by hart (ends.Exit a) s) (cond t (ends_all a s) (completes hart (only_answers no_call s))))))
+    choose : (p q r t : Bool) → CountsBy hart s (cond p (completes hart (reads a b c s)) (cond q (completes hart (writes a b c s)) (cond r (ends_by hart (ends.Exit a) s) (cond t (ends_all a s) (completes hart (only_answers (negative ENOSYS) s))))))
     choose true q r t = completes-counts hart s (reads a b c s) within (reads-harts a b c s)
     choose false true r t = completes-counts hart s (writes a b c s) within (writes-harts a b c s)
     choose false false true t = ends-counts hart s (ends.Exit a) within
     choose false false false true = all-counts hart s a
-    choose false false false false = completes-counts hart s (only_answers no_call s) within refl
+    choose false false false false = completes-counts hart s (only_answers (negative ENOSYS) s) within refl
 
 acted-counts : (hart : ℕ) (s : MachineState) (how : Stepped) → hart < length s.harts → (how ≡ stepped.Retired → ⊥) → CountsBy hart s (acts_by how hart s)
 acted-counts hart s stepped.Retired within other = absurd (other refl)
-acted-counts hart s stepped.Ecall within other = call_numbered-counts hart (holds_in hart s 17) (holds_in hart s 10) (holds_in hart s 11) (holds_in hart s 12) s within
+acted-counts hart s stepped.Ecall within other = call_numbered-counts hart (holds_in hart s A7) (holds_in hart s A0) (holds_in hart s A1) (holds_in hart s A2) s within
 acted-counts hart s stepped.Break within other = ends-counts hart s (ends.Break (hart_of s hart).pc) within
 acted-counts hart s (stepped.Trap why) within other = ends-counts hart s (ends.Trap why (hart_of s hart).pc) within
 

@@ -8,7 +8,8 @@ use Rattle.std.proofs.lemmas.List.Folds.{list_all_at}
 use Rattle.std.proofs.lemmas.List.FromFn.{get_or-range_with_len, length-range_with_len, length-map-range_with_len, map-range_with_len_more}
 use Rattle.rv_hart.proofs.Near.{all-range}
 use Rattle.std.proofs.lemmas.List.Sums.{AllPass-from_list_all}
-use Rattle.rv_hart.specs.Memory.{Memory, may, may_all, read, loaded, byte_at, number_at}
+use Rattle.elf_image.specs.declared.elf.TheConstants.{PF_R}
+use Rattle.rv_hart.specs.AddressSpace.{AddressSpace, may, may_all, loaded, byte_at, number_at}
 use Rattle.elf_image.specs.Image.{ProgramImage}
 use Rattle.rv_run.specs.declared.schedule.Slice.{Slice}
 use Rattle.rv_run.specs.Schedule.{Scheduled, IsSchedule, IsSlice}
@@ -17,66 +18,66 @@ use Rattle.rv_run.specs.Calls.{all_readable, bytes_at}
 use Rattle.rv_run.specs.Progress.{Progress, IsFresh}
 use Rattle.rv_run.specs.private.Queue.{IsReady, StandsAt}
 
-pub one-byte : (memory : Memory) (at : ℕ) → number_at memory at 1 ≡ byte_at memory at
+pub one-byte : (memory : AddressSpace) (at : ℕ) → number_at memory at 1 ≡ byte_at memory at
 one-byte memory at = let e : byte_at memory at + 0 ≡ byte_at memory at = omega arith in e
 
-pub one-unreadable : (memory : Memory) (at count place : ℕ) → place < count → may read memory.regions (at + place) ≡ false → may_all read memory at count ≡ false
+pub one-unreadable : (memory : AddressSpace) (at count place : ℕ) → place < count → may PF_R memory.regions (at + place) ≡ false → may_all PF_R memory at count ≡ false
 one-unreadable memory at count place within unreadable =
-    list_all_at (may read memory.regions) (range_with_len at count) place 0 (omega (arith, length-range_with_len at count))
-    (ap (may read memory.regions) (get_or-range_with_len at count place 0 within) ∙ unreadable)
+    list_all_at (may PF_R memory.regions) (range_with_len at count) place 0 (omega (arith, length-range_with_len at count))
+    (ap (may PF_R memory.regions) (get_or-range_with_len at count place 0 within) ∙ unreadable)
 
 -- a load of one byte
-loads : (memory : Memory) (at : ℕ) → loaded memory at 1 ≡ cond (may read memory.regions at && true) (Some (number_at memory at 1)) None
+loads : (memory : AddressSpace) (at : ℕ) → loaded memory at 1 ≡ cond (may PF_R memory.regions at && true) (Some (number_at memory at 1)) None
 loads memory at = refl
 
-pub loads-none : (memory : Memory) (at : ℕ) → is_some (loaded memory at 1) ≡ false → may read memory.regions at ≡ false
-loads-none memory at none = by_case (may read memory.regions at) none
+pub loads-none : (memory : AddressSpace) (at : ℕ) → is_some (loaded memory at 1) ≡ false → may PF_R memory.regions at ≡ false
+loads-none memory at none = by_case (may PF_R memory.regions at) none
   where
     by_case : (b : Bool) → is_some (cond (b && true) (Some (number_at memory at 1)) None) ≡ false → b ≡ false
     by_case true e = absurd cc
     by_case false e = refl
 
-pub loads-some : (memory : Memory) (at : ℕ) → is_some (loaded memory at 1) ≡ true → may read memory.regions at ≡ true
-loads-some memory at some = by_case (may read memory.regions at) some
+pub loads-some : (memory : AddressSpace) (at : ℕ) → is_some (loaded memory at 1) ≡ true → may PF_R memory.regions at ≡ true
+loads-some memory at some = by_case (may PF_R memory.regions at) some
   where
     by_case : (b : Bool) → is_some (cond (b && true) (Some (number_at memory at 1)) None) ≡ true → b ≡ true
     by_case true e = refl
     by_case false e = absurd cc
 
-pub loads-readable : (memory : Memory) (at : ℕ) → may read memory.regions at ≡ true → loaded memory at 1 ≡ Some (byte_at memory at)
+pub loads-readable : (memory : AddressSpace) (at : ℕ) → may PF_R memory.regions at ≡ true → loaded memory at 1 ≡ Some (byte_at memory at)
 loads-readable memory at can = ap (λ (b : Bool). cond (b && true) (Some (number_at memory at 1)) None) can ∙ ap (λ (n : ℕ). Some n) (one-byte memory at)
 
-pub each-readable : (memory : Memory) (at count place : ℕ) → may_all read memory at count ≡ true → place < count → may read memory.regions (at + place) ≡ true
+pub each-readable : (memory : AddressSpace) (at count place : ℕ) → may_all PF_R memory at count ≡ true → place < count → may PF_R memory.regions (at + place) ≡ true
 each-readable memory at count place all less =
-    sym (ap (may read memory.regions) (get_or-range_with_len at count place 0 less))
-    ∙ AllPass-from_list_all (may read memory.regions) (range_with_len at count) all place 0 (omega (arith, length-range_with_len at count))
+    sym (ap (may PF_R memory.regions) (get_or-range_with_len at count place 0 less))
+    ∙ AllPass-from_list_all (may PF_R memory.regions) (range_with_len at count) all place 0 (omega (arith, length-range_with_len at count))
 
-pub one-more-readable : (memory : Memory) (at place : ℕ) → may_all read memory at place ≡ true → may read memory.regions (at + place) ≡ true → may_all read memory at (place + 1) ≡ true
-one-more-readable memory at place so_far here = all-range (may read memory.regions) at (place + 1) each
+pub one-more-readable : (memory : AddressSpace) (at place : ℕ) → may_all PF_R memory at place ≡ true → may PF_R memory.regions (at + place) ≡ true → may_all PF_R memory at (place + 1) ≡ true
+one-more-readable memory at place so_far here = all-range (may PF_R memory.regions) at (place + 1) each
   where
-    each : (i : ℕ) → i < place + 1 → may read memory.regions (at + i) ≡ true
+    each : (i : ℕ) → i < place + 1 → may PF_R memory.regions (at + i) ≡ true
     each i less =
-        elim (eqb_tells i place) [ inl h ↦ ap (λ (n : ℕ). may read memory.regions (at + n)) h.1 ∙ here | inr h ↦ each-readable memory at place i so_far (omega (arith, h.1)) ]
+        elim (eqb_tells i place) [ inl h ↦ ap (λ (n : ℕ). may PF_R memory.regions (at + n)) h.1 ∙ here | inr h ↦ each-readable memory at place i so_far (omega (arith, h.1)) ]
 
-pub fewer-readable : (memory : Memory) (at count few : ℕ) → few ≤ count → all_readable memory at count ≡ true → all_readable memory at few ≡ true
+pub fewer-readable : (memory : AddressSpace) (at count few : ℕ) → few ≤ count → all_readable memory at count ≡ true → all_readable memory at few ≡ true
 fewer-readable memory at count few less all =
-    let parts : (nat_le (at + count) (2 ^ 32) ≡ true) × (may_all read memory at count ≡ true) = and_parts _ _ all in
+    let parts : (nat_le (at + count) (2 ^ 32) ≡ true) × (may_all PF_R memory at count ≡ true) = and_parts _ _ all in
     let low : at + count ≤ 2 ^ 32 = leb-true (at + count) (2 ^ 32) parts.0 in
     ap₂ (λ (a b : Bool). a && b) (le-leb (at + few) (2 ^ 32) (omega arith))
-    (all-range (may read memory.regions) at few (λ i l. each-readable memory at count i parts.1 (omega arith)))
+    (all-range (may PF_R memory.regions) at few (λ i l. each-readable memory at count i parts.1 (omega arith)))
 
-pub readable-each : (memory : Memory) (at count place : ℕ) → all_readable memory at count ≡ true → place < count → may read memory.regions (at + place) ≡ true
+pub readable-each : (memory : AddressSpace) (at count place : ℕ) → all_readable memory at count ≡ true → place < count → may PF_R memory.regions (at + place) ≡ true
 readable-each memory at count place all less =
-    let parts : (nat_le (at + count) (2 ^ 32) ≡ true) × (may_all read memory at count ≡ true) = and_parts _ _ all in
+    let parts : (nat_le (at + count) (2 ^ 32) ≡ true) × (may_all PF_R memory at count ≡ true) = and_parts _ _ all in
     each-readable memory at count place parts.1 less
 
-pub readable-low : (memory : Memory) (at count : ℕ) → all_readable memory at count ≡ true → at + count ≤ 2 ^ 32
+pub readable-low : (memory : AddressSpace) (at count : ℕ) → all_readable memory at count ≡ true → at + count ≤ 2 ^ 32
 readable-low memory at count all =
-    let parts : (nat_le (at + count) (2 ^ 32) ≡ true) × (may_all read memory at count ≡ true) = and_parts _ _ all in
+    let parts : (nat_le (at + count) (2 ^ 32) ≡ true) × (may_all PF_R memory at count ≡ true) = and_parts _ _ all in
     leb-true (at + count) (2 ^ 32) parts.0
 
 -- a byte more that was copied
-pub copied-more : (memory : Memory) (at place : ℕ) (bytes : List ℕ) (byte : ℕ) → bytes ≡ bytes_at memory at place → byte ≡ byte_at memory (at + place) → bytes ++ byte ∷ [] ≡ bytes_at memory at (place + 1)
+pub copied-more : (memory : AddressSpace) (at place : ℕ) (bytes : List ℕ) (byte : ℕ) → bytes ≡ bytes_at memory at place → byte ≡ byte_at memory (at + place) → bytes ++ byte ∷ [] ≡ bytes_at memory at (place + 1)
 copied-more memory at place bytes byte so_far is =
     ap₂ (λ (xs : List ℕ) (b : ℕ). xs ++ b ∷ []) so_far is ∙ sym (map-range_with_len_more (byte_at memory) at place (at + place) refl)
 

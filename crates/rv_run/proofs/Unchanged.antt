@@ -10,8 +10,8 @@ use Rattle.rv_hart.specs.declared.outcome.Stepped.{Stepped}
 use Rattle.rv_hart.specs.declared.outcome.Stepped.TheVariants as stepped
 use Rattle.rv_hart.specs.declared.outcome.Cause.TheVariants as cause
 use Rattle.rv_hart.specs.Arithmetic.{sum, signed}
-use Rattle.rv_hart.specs.Memory.{Memory, stored}
-use Rattle.rv_hart.specs.Step.{State, first, second, address, operand, trapped, retired, jumps, goes, branches, takes, puts, done, fetched, after_fetch, step_of}
+use Rattle.rv_hart.specs.AddressSpace.{AddressSpace, stored}
+use Rattle.rv_hart.specs.Step.{State, rs1_value, rs2_value, address, operand, trapped, retired, jumps, continues_at, branches, loads, finishes_store, executed, fetched, after_fetch, step_of}
 use Rattle.prof_bytes.specs.Number.{number_bytes}
 use Rattle.rv_run.specs.State.{HartState, MachineState, hart_of, no_hart, step_state}
 use Rattle.rv_run.specs.Run.{stepped_machine}
@@ -31,37 +31,37 @@ jump inst target s =
 
 branch : (inst : Inst) (test : Bool) (s : State) → IfChanged s (branches inst test s)
 branch inst true s =
-    elim (sum s.pc inst.imm % 4 == 0) as (λ b. IfChanged s (cond b (goes (sum s.pc inst.imm) s) (trapped cause.Target s))) [ true ↦ tt | false ↦ refl ]
+    elim (sum s.pc inst.imm % 4 == 0) as (λ b. IfChanged s (cond b (continues_at (sum s.pc inst.imm) s) (trapped cause.Target s))) [ true ↦ tt | false ↦ refl ]
 branch inst false s = tt
 
-take : (inst : Inst) (number : Option ℕ) (s : State) → IfChanged s (takes inst number s)
+take : (inst : Inst) (number : Option ℕ) (s : State) → IfChanged s (loads inst number s)
 take inst None s = refl
 take inst (Some n) s = tt
 
-put : (answer : Bool × Memory) (s : State) → IfChanged s (puts answer s)
+put : (answer : Bool × AddressSpace) (s : State) → IfChanged s (finishes_store answer s)
 put (true, m) s = tt
 put (false, m) s = refl
 
-by_operation : (op : Op) (inst : Inst) (s : State) → IfChanged s (done op inst s)
+by_operation : (op : Op) (inst : Inst) (s : State) → IfChanged s (executed op inst s)
 by_operation ops.Illegal inst s = refl
 by_operation ops.Lui inst s = tt
 by_operation ops.Auipc inst s = tt
 by_operation ops.Jal inst s = jump inst (sum s.pc inst.imm) s
-by_operation ops.Jalr inst s = jump inst (sum (first inst s) inst.imm / 2 * 2) s
-by_operation ops.Beq inst s = branch inst (first inst s == second inst s) s
-by_operation ops.Bne inst s = branch inst (not (first inst s == second inst s)) s
-by_operation ops.Blt inst s = branch inst (int_lt (signed (first inst s)) (signed (second inst s))) s
-by_operation ops.Bge inst s = branch inst (not (int_lt (signed (first inst s)) (signed (second inst s)))) s
-by_operation ops.Bltu inst s = branch inst (nat_lt (first inst s) (second inst s)) s
-by_operation ops.Bgeu inst s = branch inst (not (nat_lt (first inst s) (second inst s))) s
+by_operation ops.Jalr inst s = jump inst (sum (rs1_value inst s) inst.imm / 2 * 2) s
+by_operation ops.Beq inst s = branch inst (rs1_value inst s == rs2_value inst s) s
+by_operation ops.Bne inst s = branch inst (not (rs1_value inst s == rs2_value inst s)) s
+by_operation ops.Blt inst s = branch inst (int_lt (signed (rs1_value inst s)) (signed (rs2_value inst s))) s
+by_operation ops.Bge inst s = branch inst (not (int_lt (signed (rs1_value inst s)) (signed (rs2_value inst s)))) s
+by_operation ops.Bltu inst s = branch inst (nat_lt (rs1_value inst s) (rs2_value inst s)) s
+by_operation ops.Bgeu inst s = branch inst (not (nat_lt (rs1_value inst s) (rs2_value inst s))) s
 by_operation ops.Lb inst s = take inst (option_map (sign_extended 8) (operand inst 1 s)) s
 by_operation ops.Lh inst s = take inst (option_map (sign_extended 16) (operand inst 2 s)) s
 by_operation ops.Lw inst s = take inst (operand inst 4 s) s
 by_operation ops.Lbu inst s = take inst (operand inst 1 s) s
 by_operation ops.Lhu inst s = take inst (operand inst 2 s) s
-by_operation ops.Sb inst s = put (stored s.memory (address inst s) (number_bytes 1 (second inst s))) s
-by_operation ops.Sh inst s = put (stored s.memory (address inst s) (number_bytes 2 (second inst s))) s
-by_operation ops.Sw inst s = put (stored s.memory (address inst s) (number_bytes 4 (second inst s))) s
+by_operation ops.Sb inst s = put (stored s.memory (address inst s) (number_bytes 1 (rs2_value inst s))) s
+by_operation ops.Sh inst s = put (stored s.memory (address inst s) (number_bytes 2 (rs2_value inst s))) s
+by_operation ops.Sw inst s = put (stored s.memory (address inst s) (number_bytes 4 (rs2_value inst s))) s
 by_operation ops.Fence inst s = tt
 by_operation ops.Ecall inst s = refl
 by_operation ops.Ebreak inst s = refl

@@ -1,5 +1,6 @@
 -- Numbers as they are written in words and schedules: decimal, without a sign and without leading zeros.
-use Rattle.std.specs.Prelude.{ℕ, ◌+◌, ◌-◌, ◌*◌, List, [], ◌∷◌, length, Bool, false, Option, Some, None, fold, if◌then◌else◌, nat_lt, nat_le, ◌==◌, ◌&&◌, ◌||◌, not}
+use Rattle.std.specs.Prelude.{ℕ, ◌+◌, ◌-◌, ◌*◌, List, [], ◌∷◌, length, Bool, false, Option, Some, None, fold}
+use Rattle.std.specs.Prelude.{if◌then◌else◌, nat_lt, nat_le, ◌==◌, ◌&&◌, ◌||◌, not}
 use Rattle.std.specs.List.{list_all}
 
 abbrev pub is_digit : ℕ → Bool
@@ -19,4 +20,5 @@ decimal_value bytes = fold next_digit 0 bytes
 -- a number from `low` to `high`
 abbrev pub decimal_in : ℕ → ℕ → List ℕ → Option ℕ
 decimal_in low high word =
-    if is_decimal word && nat_le low (decimal_value word) && nat_le (decimal_value word) high then Some (decimal_value word) else None
+    let value = decimal_value word in
+    if is_decimal word && nat_le low value && nat_le value high then Some value else None

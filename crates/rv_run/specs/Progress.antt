@@ -1,13 +1,13 @@
 -- A machine in the middle of its run: the rest of the run, and what its calls carry out of it.
-use Rattle.std.specs.Prelude.{◌≡◌, ℕ, zero, suc, ◌+◌, ◌≤◌, ◌<◌, Bool, true, false, List, [], ◌∷◌, All, length, min, Option, Some, None, if◌then◌else◌}
-use Rattle.rv_hart.specs.Step.{step_of}
+use Rattle.std.specs.Prelude.{◌≡◌, ℕ, zero, suc, ◌+◌, ◌≤◌, ◌<◌, Bool, true, false, List, [], ◌∷◌, All, length, min}
+use Rattle.std.specs.Prelude.{Option, Some, None, if◌then◌else◌}
 use Rattle.rv_hart.specs.declared.outcome.Stepped.{Stepped}
 use Rattle.rv_hart.specs.declared.outcome.Stepped.TheVariants as stepped
 use Rattle.rv_run.specs.declared.schedule.Slice.{Slice}
 use Rattle.rv_run.specs.declared.machine.Moment.{Moment}
 use Rattle.rv_run.specs.declared.machine.Due.{Due}
 use Rattle.rv_run.specs.Schedule.{most_harts}
-use Rattle.rv_run.specs.State.{MachineState, hart_of, step_state}
+use Rattle.rv_run.specs.State.{MachineState, hart_of, hart_step}
 use Rattle.rv_run.specs.Run.{Instant, Run, finished, preceded, next_instant, state_after, run_slices}
 
 -- how the machine stands, and the slices that are left, of which the first may be what is left of one
@@ -71,7 +71,7 @@ is_plain _ = false
 -- whether the hart's next instruction retires by itself: it is no environment call and no breakpoint, and
 -- it does not trap
 abbrev pub retires_plainly : ℕ → MachineState → Bool
-retires_plainly hart s = is_plain (step_of (step_state (hart_of s hart) s.memory)).1
+retires_plainly hart s = is_plain (hart_step hart s).1
 
 -- how many of the hart's next instructions, up to so many, retire by themselves, one after another
 unfoldable pub plain_count : ℕ → ℕ → MachineState → ℕ
@@ -102,7 +102,8 @@ pub record IsBetween (hart from to : ℕ) (i : Instant) : Type 0 where
 -- these instructions of the hart were carried out, so many at most
 pub record Carried (hart most : ℕ) (passed : List Instant) (old new : Progress) : Type 0 where
   pub run : to_come old ≡ preceded passed (to_come new)
-  pub between : All (IsBetween hart ((hart_of old.state hart).retired + 1) ((hart_of old.state hart).retired + most)) passed
+  pub between :
+      All (IsBetween hart ((hart_of old.state hart).retired + 1) ((hart_of old.state hart).retired + most)) passed
   pub least : (hart_of old.state hart).retired ≤ (hart_of new.state hart).retired
   pub few : (hart_of new.state hart).retired ≤ (hart_of old.state hart).retired + most
   pub others : (other : ℕ) → ¬ (other ≡ hart) → (hart_of new.state other).retired ≡ (hart_of old.state other).retired

@@ -2,22 +2,22 @@
 -- before it; and the state of the machine after them.
 use Rattle.std.specs.Prelude.{ℕ, zero, suc, ◌+◌, Bool, true, List, [], ◌∷◌, ◌++◌, if◌then◌else◌}
 use Rattle.elf_image.specs.Image.{ProgramImage}
-use Rattle.rv_hart.specs.Memory.{Memory}
-use Rattle.rv_hart.specs.Step.{State, step_of}
+use Rattle.rv_hart.specs.AddressSpace.{AddressSpace}
+use Rattle.rv_hart.specs.Step.{State}
 use Rattle.rv_hart.specs.declared.outcome.Stepped.{Stepped}
 use Rattle.rv_hart.specs.declared.outcome.Stepped.TheVariants as stepped
 use Rattle.rv_run.specs.declared.hart.HartEnd.TheVariants as ends
 use Rattle.rv_run.specs.declared.schedule.Slice.{Slice}
 use Rattle.rv_run.specs.declared.machine.Moment.{Moment}
 use Rattle.rv_run.specs.Schedule.{Scheduled}
-use Rattle.rv_run.specs.State.{MachineState, hart_of, with_hart, is_running, first_state, step_state, stepped_hart}
+use Rattle.rv_run.specs.State.{MachineState, hart_of, with_hart, is_running, first_state, hart_step, stepped_hart}
 use Rattle.rv_run.specs.Calls.{Acted, calls, ends_by}
 
 -- one instruction of one hart, and the registers and the memory before it
 pub record Instant : Type 0 where
   pub moment : Moment
   pub registers : List ℕ
-  pub memory : Memory
+  pub memory : AddressSpace
 
 -- the instructions in order, and the machine after the last of them
 pub record Run : Type 0 where
@@ -40,13 +40,14 @@ acts_after hart step s = acts_by step.1 hart (stepped_machine hart step s)
 
 -- one instruction of the hart
 unfoldable pub acts : ℕ → MachineState → Acted
-acts hart s = acts_after hart (step_of (step_state (hart_of s hart) s.memory)) s
+acts hart s = acts_after hart (hart_step hart s) s
 
 -- the ordinal is the one that the instruction has in its hart if it retires, from 1
 abbrev pub instant : ℕ → MachineState → Bool → Instant
 instant hart s retired =
     let before = hart_of s hart in
-    record { moment = record { hart = hart; ordinal = before.retired + 1; pc = before.pc; retired = retired }; registers = before.registers; memory = s.memory }
+    let moment : Moment = record { hart = hart; ordinal = before.retired + 1; pc = before.pc; retired = retired } in
+    record { moment = moment; registers = before.registers; memory = s.memory }
 
 -- the machine after the next instruction of this hart, and that instruction
 abbrev pub state_after : ℕ → MachineState → MachineState
@@ -67,7 +68,8 @@ preceded first rest = record { instants = first ++ rest.instants; final = rest.f
 unfoldable pub run_slice : ℕ → ℕ → MachineState → Run
 run_slice zero hart s = finished s
 run_slice (suc count) hart s =
-    if is_running (hart_of s hart) then preceded (next_instant hart s ∷ []) (run_slice count hart (state_after hart s)) else finished s
+    if is_running (hart_of s hart) then preceded (next_instant hart s ∷ []) (run_slice count hart (state_after hart s))
+    else finished s
 
 abbrev pub joined : Run → (MachineState → Run) → Run
 joined first rest = preceded first.instants (rest first.final)

@@ -1,6 +1,8 @@
 -- The text of a schedule: how many harts there are, and which of them runs for how many instructions,
 -- slice by slice.
-use Rattle.std.specs.Prelude.{ℕ, ◌+◌, ◌-◌, ◌<◌, ◌≤◌, ◌==◌, Bool, true, not, List, [], ◌∷◌, ◌++◌, map, filter, length, take, drop, position, sum, Option, Some, None, Result, Ok, Err, if◌then◌else◌, nat_eq, All}
+use Rattle.std.specs.Prelude.{ℕ, ◌+◌, ◌-◌, ◌<◌, ◌≤◌, ◌==◌, Bool, true, not, List, [], ◌∷◌, ◌++◌, map, filter, length}
+use Rattle.std.specs.Prelude.{take, drop, position, sum, Option, Some, None, Result, Ok, Err, if◌then◌else◌, nat_eq}
+use Rattle.std.specs.Prelude.{All}
 use Rattle.std.specs.List.{starts_with}
 use Rattle.prof_bytes.specs.Outcome.{◌>>=◌}
 use Rattle.rv_run.specs.declared.schedule.Slice.{Slice}
@@ -63,7 +65,8 @@ slice_by _ _ = None
 abbrev pub slice_cut : ℕ → ℕ → List ℕ → Option ℕ → Option Slice
 slice_cut harts used line None = None
 slice_cut harts used line (Some space) =
-    slice_by (decimal_in 0 (harts - 1) (take space line)) (decimal_in 1 (most_instructions - used) (drop (space + 1) line))
+    slice_by (decimal_in 0 (harts - 1) (take space line))
+    (decimal_in 1 (most_instructions - used) (drop (space + 1) line))
 
 -- the line `H C`, with one space, where the slices before it have so many instructions: C is at most
 -- what they leave of the most that there may be
@@ -76,19 +79,24 @@ or_fault line None = Err (record { line = line })
 or_fault line (Some x) = Ok x
 
 abbrev pub before : List Slice → Result (List Slice) ScheduleFault → Result (List Slice) ScheduleFault
-before slices rest = rest >>= λ more. Ok (slices ++ more)
+before slices rest = do
+  more ← rest
+  Ok (slices ++ more)
 
 -- every line is a slice
 unfoldable pub slices_of : ℕ → ℕ → List NumberedLine → Result (List Slice) ScheduleFault
 slices_of harts used [] = Ok []
-slices_of harts used (line ∷ rest) =
-    or_fault line.number (slice_in harts used line.bytes) >>= λ slice. before (slice ∷ []) (slices_of harts (used + slice.count) rest)
+slices_of harts used (line ∷ rest) = do
+  slice ← or_fault line.number (slice_in harts used line.bytes)
+  before (slice ∷ []) (slices_of harts (used + slice.count) rest)
 
 -- the first line is that of the harts. Where there is none, the fault is at the end of all lines
 abbrev pub schedule_in : ℕ → List NumberedLine → Result Scheduled ScheduleFault
 schedule_in end [] = Err (record { line = end })
-schedule_in end (first ∷ rest) =
-    or_fault first.number (harts_in first.bytes) >>= λ harts. slices_of harts 0 rest >>= λ slices. Ok (record { harts = harts; slices = slices })
+schedule_in end (first ∷ rest) = do
+  harts ← or_fault first.number (harts_in first.bytes)
+  slices ← slices_of harts 0 rest
+  Ok (record { harts = harts; slices = slices })
 
 -- the schedule that the bytes tell, or its first bad line; lines count from 1
 abbrev pub schedule_of : List ℕ → Result Scheduled ScheduleFault

@@ -3,11 +3,12 @@
 use Rattle.std.specs.Prelude.{ℕ, ◌+◌, ◌-◌, ◌==◌, Bool, true, false, List, [], map, slice_set, if◌then◌else◌}
 use Rattle.std.specs.List.{range_with_len, slice_index_or}
 use Rattle.elf_image.specs.Image.{ProgramImage}
-use Rattle.rv_hart.specs.Memory.{Memory, first_memory, stack_of}
-use Rattle.rv_hart.specs.Step.{State, state}
+use Rattle.rv_hart.specs.AddressSpace.{AddressSpace, first_memory, stack_of}
+use Rattle.rv_hart.specs.Step.{State, state, step_of}
 use Rattle.rv_hart.specs.declared.outcome.Stepped.{Stepped}
 use Rattle.rv_hart.specs.declared.outcome.Stepped.TheVariants as stepped
 use Rattle.rv_run.specs.declared.hart.HartEnd.{HartEnd}
+use Rattle.rv_run.specs.declared.linux.TheConstants.{SP, A0, A1}
 use Rattle.rv_run.specs.declared.hart.HartEnd.TheVariants as ends
 
 -- a hart: its pc, its registers, how many instructions it retired, and how it stands
@@ -18,7 +19,7 @@ pub record HartState : Type 0 where
   pub end : HartEnd
 
 pub record MachineState : Type 0 where
-  pub memory : Memory
+  pub memory : AddressSpace
   pub harts : List HartState
   pub input : List ℕ
   pub output : List ℕ
@@ -44,8 +45,12 @@ abbrev pub is_running : HartState → Bool
 is_running hart = runs hart.end
 
 -- what a hart's step begins with
-abbrev pub step_state : HartState → Memory → State
+abbrev pub step_state : HartState → AddressSpace → State
 step_state hart memory = state hart.pc hart.registers memory
+
+-- one step of this hart
+abbrev pub hart_step : ℕ → MachineState → State × Stepped
+hart_step hart s = step_of (step_state (hart_of s hart) s.memory)
 
 abbrev pub counted : Stepped → ℕ → ℕ
 counted stepped.Retired retired = retired + 1
@@ -53,20 +58,24 @@ counted _ retired = retired
 
 -- the hart after a step, which is counted if the instruction retired
 abbrev pub stepped_hart : HartState → State × Stepped → HartState
-stepped_hart hart step = record { pc = step.0.pc; registers = step.0.registers; retired = counted step.1 hart.retired; end = hart.end }
+stepped_hart hart step =
+    record { pc = step.0.pc; registers = step.0.registers; retired = counted step.1 hart.retired; end = hart.end }
 
--- x2 is 16 below the end of the hart's stack, x10 is the number of the hart, and x11 how many there
--- are; all other registers are 0
+-- sp is 16 below the end of the hart's stack, a0 is the number of the hart, and a1 how many there are; all
+-- other registers are 0
 abbrev pub first_register : ℕ → ℕ → ℕ → ℕ
 first_register harts hart register =
-    if register == 2 then (stack_of hart).end - 16 else (if register == 10 then hart else (if register == 11 then harts else 0))
+    if register == SP then (stack_of hart).end - 16
+    else (if register == A0 then hart else (if register == A1 then harts else 0))
 
 -- a hart begins at the program's entry
 abbrev pub first_hart : ℕ → ℕ → ℕ → HartState
 first_hart entry harts hart =
-    record { pc = entry; registers = map (first_register harts hart) (range_with_len 0 32); retired = 0; end = ends.Running }
+    let registers = map (first_register harts hart) (range_with_len 0 32) in
+    record { pc = entry; registers = registers; retired = 0; end = ends.Running }
 
 -- how a machine of so many harts begins to run a program with this input
 abbrev pub first_state : ProgramImage → ℕ → List ℕ → MachineState
 first_state program harts input =
-    record { memory = first_memory program harts; harts = map (first_hart program.entry harts) (range_with_len 0 harts); input = input; output = [] }
+    let each_hart = map (first_hart program.entry harts) (range_with_len 0 harts) in
+    record { memory = first_memory program harts; harts = each_hart; input = input; output = [] }

@@ -2,14 +2,17 @@
 //! which they read, write and exit.
 ghost use Rattle.std.specs.Prelude.{◌≡◌, ◌≢◌, ◌+◌, true, false, ◌<◌, ◌≤◌, ◌^◌, ◌-◌, IfOk, OnErr, length, map};
 ghost use Rattle.std.specs.List.{range_with_len};
-ghost use Rattle.rv_hart.specs.Step.{step_of};
-ghost use Rattle.rv_run.specs.State.{first_hart, first_state, hart_of, is_running, step_state};
-ghost use Rattle.rv_run.specs.Calls.{reads, writes, calls, completes, grouped, ends_by, ends_all, only_answers};
+ghost use Rattle.rv_run.specs.State.{first_hart, first_state, hart_of, is_running, hart_step};
+ghost use Rattle.rv_run.specs.Calls.{negative, reads, writes, calls, completes, grouped, ends_by, ends_all};
+ghost use Rattle.rv_run.specs.Calls.{only_answers};
 ghost use Rattle.rv_run.specs.Run.{acts, stepped_machine};
 ghost use Rattle.rv_run.specs.Progress.{retires_plainly};
 ghost use Rattle.rv_run.specs.private.Queue.{Passing, StopsBy};
 
 use crate::hart::{HartEnd, MachineHart};
+use crate::linux::{
+    A0, A1, A2, A7, EBADF, EFAULT, ENOSYS, SYS_EXIT, SYS_EXIT_GROUP, SYS_READ, SYS_WRITE,
+};
 use crate::output::{are_readable, copied};
 use elf_image::Image;
 use prof_bytes::Memory;
@@ -17,23 +20,16 @@ use rv_hart::{Space, Stepped};
 use std::alloc::Global;
 use std::marker::Model;
 
-/// Answers of environment calls: a bad file descriptor, a bad address, and a call that there is not.
-const BAD_DESCRIPTOR: u32 = 0xffff_fff7;
-
-const BAD_ADDRESS: u32 = 0xffff_fff2;
-
-const NO_CALL: u32 = 0xffff_ffda;
-
-/// How many bytes a program may write.
+/// How many bytes all harts together may write.
 const MOST_OUTPUT: usize = 1 << 20;
 
 #[derive(Drop)]
 pub(crate) struct Environment<'a> {
     alloc: Global,
     space: Space<'a>,
-    cores: Vec<MachineHart>,
+    harts: Vec<MachineHart>,
     input: Vec<u8>,
-    done: usize,
+    consumed: usize,
     output: Vec<u8>,
 }
 
@@ -43,9 +39,18 @@ impl<'a> Model for Environment<'a> {
 
     ghost Value = { MachineState };
 
-    ghost view = { λ environment. record { memory = environment.space; harts = environment.cores.items; input = drop environment.done environment.input.items; output = environment.output.items } };
+    ghost view = { λ e.
+        record { memory = e.space; harts = e.harts.items; input = drop e.consumed e.input.items; output = e.output.items } };
 
-    ghost invariant = { λ environment. environment.done ≤ length environment.input.items };
+    ghost invariant = { λ e. e.consumed ≤ length e.input.items };
+}
+
+/// The answer of a call that failed.
+fn negative(error: u32) -> u32
+    requires { 0 < error }
+    ensures { result ≡ negative error }
+{
+    u32::MAX - (error - 1)
 }
 
 /// The harts before their first instructions.
@@ -92,13 +97,13 @@ impl<'a> Environment<'a> {
     {
         let mut kept = Vec::new(alloc);
         kept.extend_from_slice(input)?;
-        let cores = first_harts(alloc, image.entry(), harts)?;
+        let each_hart = first_harts(alloc, image.entry(), harts)?;
         Ok(Environment {
             alloc,
             space: Space::of(alloc, image, harts)?,
-            cores,
+            harts: each_hart,
             input: kept,
-            done: 0,
+            consumed: 0,
             output: Vec::new(alloc),
         })
     }
@@ -107,7 +112,7 @@ impl<'a> Environment<'a> {
     pub(crate) fn harts(&self) -> usize
         ensures { result ≡ length self.now.harts }
     {
-        self.cores.len()
+        self.harts.len()
     }
 
     /// The hart of this number.
@@ -116,7 +121,7 @@ impl<'a> Environment<'a> {
         requires { hart < length self.now.harts }
         ensures { result.now ≡ hart_of self.now hart }
     {
-        &self.cores[hart as usize]
+        &self.harts[hart as usize]
     }
 
     pub(crate) fn space(&self) -> &Space<'a>
@@ -133,31 +138,33 @@ impl<'a> Environment<'a> {
 
     /// Reads input into memory, and gives the answer.
     fn read(&mut self, descriptor: u32, at: u32, count: u32) -> Result<u32, Memory>
-        ensures ok { IfOk result (λ answer. record { state = self.new; answer = answer } ≡ reads descriptor at count self.old) }
+        ensures ok { IfOk result (λ answer. record { state = self.new; answer = answer }
+            ≡ reads descriptor at count self.old) }
         ensures err { OnErr result (self.new ≡ self.old) }
     {
         if descriptor != 0 {
-            return Ok(BAD_DESCRIPTOR);
+            return Ok(negative(EBADF));
         }
-        let count = (self.input.len() - self.done).min(count as usize);
-        let bytes = &self.input[self.done..self.done + count];
+        let count = (self.input.len() - self.consumed).min(count as usize);
+        let bytes = &self.input[self.consumed..self.consumed + count];
         if !self.space.store(at, bytes)? {
-            return Ok(BAD_ADDRESS);
+            return Ok(negative(EFAULT));
         }
-        self.done += count;
+        self.consumed += count;
         Ok(count as u32)
     }
 
     /// Writes bytes of memory to the output, and gives the answer.
     fn write(&mut self, descriptor: u32, at: u32, count: u32) -> Result<u32, Memory>
-        ensures ok { IfOk result (λ answer. record { state = self.new; answer = answer } ≡ writes descriptor at count self.old) }
+        ensures ok { IfOk result (λ answer. record { state = self.new; answer = answer }
+            ≡ writes descriptor at count self.old) }
         ensures err { OnErr result (self.new ≡ self.old) }
     {
         if descriptor != 1 && descriptor != 2 {
-            return Ok(BAD_DESCRIPTOR);
+            return Ok(negative(EBADF));
         }
         if !are_readable(&self.space, at, count) {
-            return Ok(BAD_ADDRESS);
+            return Ok(negative(EFAULT));
         }
         let room = MOST_OUTPUT.saturating_sub(self.output.len());
         let taken = room.min(count as usize) as u32;
@@ -172,7 +179,7 @@ impl<'a> Environment<'a> {
         requires room { (hart_of self.old hart).retired < 2 ^ 32 }
         ensures { self.new ≡ (completes hart (only_answers answer self.old)).state }
     {
-        let core = &mut self.cores[hart as usize];
+        let core = &mut self.harts[hart as usize];
         core.answer(answer);
     }
 
@@ -181,7 +188,7 @@ impl<'a> Environment<'a> {
         requires { hart < length self.old.harts }
         ensures { self.new ≡ (ends_by hart end self.old).state }
     {
-        let core = &mut self.cores[hart as usize];
+        let core = &mut self.harts[hart as usize];
         core.finish(end);
     }
 
@@ -189,7 +196,7 @@ impl<'a> Environment<'a> {
     fn finish_all(&mut self, status: u32)
         ensures { self.new ≡ (ends_all status self.old).state }
     {
-        finish_each(self.cores.as_mut_slice(), status);
+        finish_each(self.harts.as_mut_slice(), status);
     }
 
     /// Does an environment call, and says whether it retired.
@@ -200,22 +207,22 @@ impl<'a> Environment<'a> {
         ensures err { OnErr result (self.new ≡ self.old) }
     {
         let core = self.core(hart);
-        let number = core.register(17);
-        let a = core.register(10);
-        let b = core.register(11);
-        let c = core.register(12);
+        let number = core.register(A7);
+        let a = core.register(A0);
+        let b = core.register(A1);
+        let c = core.register(A2);
         let answer = match number {
-            63 => self.read(a, b, c)?,
-            64 => self.write(a, b, c)?,
-            93 => {
+            SYS_READ => self.read(a, b, c)?,
+            SYS_WRITE => self.write(a, b, c)?,
+            SYS_EXIT => {
                 self.finish(hart, HartEnd::Exit(a));
                 return Ok(false);
             }
-            94 => {
+            SYS_EXIT_GROUP => {
                 self.finish_all(a);
                 return Ok(false);
             }
-            _ => NO_CALL,
+            _ => negative(ENOSYS),
         };
         self.answer(hart, answer);
         Ok(true)
@@ -226,12 +233,12 @@ impl<'a> Environment<'a> {
     fn step(&mut self, hart: u32) -> Result<Stepped, Memory>
         requires hart { hart < length self.old.harts }
         requires room { (hart_of self.old hart).retired < 2 ^ 32 }
-        ensures ok { IfOk result (λ stepped. self.new ≡ stepped_machine hart (step_of (step_state (hart_of self.old hart) self.old.memory)) self.old) }
-        ensures how { IfOk result (λ stepped. stepped ≡ (step_of (step_state (hart_of self.old hart) self.old.memory)).1) }
+        ensures ok { IfOk result (λ stepped. self.new ≡ stepped_machine hart (hart_step hart self.old) self.old) }
+        ensures how { IfOk result (λ stepped. stepped ≡ (hart_step hart self.old).1) }
         ensures err { OnErr result (self.new ≡ self.old) }
         ensures plain { OnErr result (retires_plainly hart self.old ≡ true) }
     {
-        let core = &mut self.cores[hart as usize];
+        let core = &mut self.harts[hart as usize];
         core.step(&mut self.space)
     }
 
@@ -246,8 +253,9 @@ impl<'a> Environment<'a> {
         ensures passed { is_running (hart_of self.old hart) ≡ true → Passing hart result.0 self.old self.new }
         ensures few { result.0 ≤ most }
         ensures stops { StopsBy result.1 result.0 most hart self.new }
-        ensures ok { most ≡ 1 → IfOk result.1 (λ stepped. self.new ≡ stepped_machine hart (step_of (step_state (hart_of self.old hart) self.old.memory)) self.old) }
-        ensures how { most ≡ 1 → IfOk result.1 (λ stepped. stepped ≡ (step_of (step_state (hart_of self.old hart) self.old.memory)).1) }
+        ensures ok { most ≡ 1
+            → IfOk result.1 (λ stepped. self.new ≡ stepped_machine hart (hart_step hart self.old) self.old) }
+        ensures how { most ≡ 1 → IfOk result.1 (λ stepped. stepped ≡ (hart_step hart self.old).1) }
         ensures err { most ≡ 1 → OnErr result.1 (self.new ≡ self.old) }
     {
         let mut count = 0;
@@ -270,8 +278,8 @@ impl<'a> Environment<'a> {
     fn step_once(&mut self, hart: u32) -> Result<Stepped, Memory>
         requires hart { hart < length self.old.harts }
         requires room { (hart_of self.old hart).retired < 2 ^ 32 - 1 }
-        ensures ok { IfOk result (λ stepped. self.new ≡ stepped_machine hart (step_of (step_state (hart_of self.old hart) self.old.memory)) self.old) }
-        ensures how { IfOk result (λ stepped. stepped ≡ (step_of (step_state (hart_of self.old hart) self.old.memory)).1) }
+        ensures ok { IfOk result (λ stepped. self.new ≡ stepped_machine hart (hart_step hart self.old) self.old) }
+        ensures how { IfOk result (λ stepped. stepped ≡ (hart_step hart self.old).1) }
         ensures err { OnErr result (self.new ≡ self.old) }
     {
         let (_, last) = self.steps(hart, 1);

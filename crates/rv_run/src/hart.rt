@@ -4,8 +4,9 @@ ghost use Rattle.rv_hart.specs.Step.{step_of, register, StoresNow};
 ghost use Rattle.rv_run.specs.State.{first_hart, is_running, step_state, stepped_hart};
 ghost use Rattle.rv_run.specs.Calls.{with_answer, with_end, grouped};
 
+use crate::linux::{A0, A1, SP};
 use prof_bytes::Memory;
-use rv_hart::{Cause, Hart, Space, Stepped, step};
+use rv_hart::{Cause, Hart, Space, Stepped, stack_of, step};
 use std::marker::Model;
 
 /// How a hart stands.
@@ -23,6 +24,7 @@ pub enum HartEnd {
     Break { pc: u32 },
 }
 
+/// A hart, how many instructions it retired, and how it stands.
 #[derive(Drop)]
 pub(crate) struct MachineHart {
     hart: Hart,
@@ -35,7 +37,7 @@ impl Model for MachineHart {
 
     ghost Value = { HartState };
 
-    ghost view = { λ core. record { pc = core.hart.pc; registers = core.hart.regs; retired = core.retired; end = core.end } };
+    ghost view = { λ h. record { pc = h.hart.pc; registers = h.hart.regs; retired = h.retired; end = h.end } };
 }
 
 impl MachineHart {
@@ -45,9 +47,9 @@ impl MachineHart {
         ensures { result ≡ first_hart entry harts hart }
     {
         let mut regs = [0; 32];
-        regs[2] = 0xf000_0000 + hart * 0x10_0000 + 0xf_fff0;
-        regs[10] = hart;
-        regs[11] = harts;
+        regs[SP] = stack_of(hart).end - 16;
+        regs[A0] = hart;
+        regs[A1] = harts;
         MachineHart {
             hart: Hart { pc: entry, regs },
             retired: 0,
@@ -103,7 +105,8 @@ impl MachineHart {
     #[inline(always)]
     pub(crate) fn step(&mut self, space: &mut Space<'_>) -> Result<Stepped, Memory>
         requires { self.old.retired < 2 ^ 32 }
-        ensures hart { IfOk result (λ stepped. self.new ≡ stepped_hart self.old (step_of (step_state self.old space.old))) }
+        ensures hart { IfOk result (λ stepped. self.new
+            ≡ stepped_hart self.old (step_of (step_state self.old space.old))) }
         ensures space { IfOk result (λ stepped. space.new ≡ (step_of (step_state self.old space.old)).0.memory) }
         ensures how { IfOk result (λ stepped. stepped ≡ (step_of (step_state self.old space.old)).1) }
         ensures err { OnErr result (self.new ≡ self.old) }
@@ -122,7 +125,7 @@ impl MachineHart {
         requires { self.old.retired < 2 ^ 32 }
         ensures { self.new ≡ with_answer answer self.old }
     {
-        self.hart.regs[10] = answer;
+        self.hart.regs[A0] = answer;
         self.hart.pc = self.hart.pc.wrapping_add(4);
         self.retired += 1;
     }

@@ -9,6 +9,7 @@
 mod environment;
 mod hart;
 mod lines;
+mod linux;
 mod machine;
 mod numerals;
 mod output;

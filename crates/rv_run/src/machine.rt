@@ -61,7 +61,8 @@ impl<'a> Machine<'a> {
         input: &[u8],
     ) -> Result<Machine<'a>, Memory>
         ensures fresh { IfOk result (λ machine. IsFresh machine.state) }
-        ensures machine { IfOk result (λ machine. machine ≡ record { state = first_state image.now schedule.harts input.now; left = schedule.slices }) }
+        ensures machine { IfOk result (λ machine. machine
+            ≡ record { state = first_state image.now schedule.harts input.now; left = schedule.slices }) }
         // The harts of the schedule stand at the end of the run too.
         ensures harts { IfOk result (λ machine. length (to_come machine).final.harts ≡ schedule.harts) }
     {

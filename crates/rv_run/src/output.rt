@@ -1,6 +1,7 @@
 //! What a program writes: bytes of its memory.
 ghost use Rattle.std.specs.Prelude.{◌≡◌, ◌+◌, ◌≤◌, ◌^◌, true, IfOk};
-ghost use Rattle.rv_hart.specs.Memory.{byte_at, may, read};
+ghost use Rattle.elf_image.specs.declared.elf.TheConstants.{PF_R};
+ghost use Rattle.rv_hart.specs.AddressSpace.{byte_at, may};
 ghost use Rattle.rv_run.specs.Calls.{all_readable, bytes_at};
 
 use prof_bytes::Memory;
@@ -25,7 +26,7 @@ pub(crate) fn are_readable(space: &Space<'_>, at: u32, count: u32) -> bool
 
 /// The byte at an address that may be read.
 fn byte(space: &Space<'_>, at: u32) -> u8
-    requires { may read space.now.regions at ≡ true }
+    requires { may PF_R space.now.regions at ≡ true }
     ensures { result ≡ byte_at space.now at }
 {
     match space.load(at, 1) {

@@ -1,7 +1,8 @@
 //! The schedule, and reading it from text.
 ghost use Rattle.std.specs.Prelude.{◌≡◌, ◌==◌, ◌-◌, ◌≤◌, ◌<◌, ◌^◌, All, IfOk, IfSome, length, position};
 ghost use Rattle.prof_bytes.specs.Outcome.{Gives};
-ghost use Rattle.rv_run.specs.Schedule.{IsSchedule, IsSlice, Scheduled, harts_in, schedule_of, slice_in, slices_of, entries, instructions, most_harts, most_instructions};
+ghost use Rattle.rv_run.specs.Schedule.{IsSchedule, IsSlice, Scheduled, harts_in, schedule_of, slice_in, slices_of};
+ghost use Rattle.rv_run.specs.Schedule.{entries, instructions, most_harts, most_instructions};
 ghost use Rattle.rv_run.specs.private.Reading.{all_lines, to_read};
 
 use crate::lines::Lines;

@@ -2,7 +2,7 @@
 -- of the period, each with the call path of the state before it (HPCToolkit's manual, "Sampling").
 use Rattle.std.specs.Prelude.{ℕ, ◌%◌, ◌==◌, ◌&&◌, Bool, List, Option, map, filter}
 use Rattle.scope_types.specs.Raw.{Raw}
-use Rattle.rv_hart.specs.Memory.{Memory, loaded}
+use Rattle.rv_hart.specs.AddressSpace.{AddressSpace, loaded}
 use Rattle.rv_run.specs.Run.{Instant}
 use Rattle.sample_clock.specs.declared.clock.Sample.{Sample}
 
@@ -11,7 +11,7 @@ abbrev pub Paths : Type 0
 Paths = ℕ → List ℕ → (ℕ → Option ℕ) → Raw
 
 -- the words of a memory, at each address
-abbrev pub words_of : Memory → ℕ → Option ℕ
+abbrev pub words_of : AddressSpace → ℕ → Option ℕ
 words_of memory at = loaded memory at 4
 
 abbrev pub is_sampled : ℕ → Instant → Bool
@@ -19,7 +19,8 @@ is_sampled period i = i.moment.retired && (i.moment.ordinal % period == 0)
 
 abbrev pub sample_of : Paths → Instant → Sample
 sample_of path_of i =
-    record { hart = i.moment.hart; ordinal = i.moment.ordinal; path = path_of i.moment.pc i.registers (words_of i.memory) }
+    let path = path_of i.moment.pc i.registers (words_of i.memory) in
+    record { hart = i.moment.hart; ordinal = i.moment.ordinal; path = path }
 
 -- the samples of a run, in order
 abbrev pub samples : Paths → ℕ → List Instant → List Sample

@@ -1,5 +1,6 @@
 -- What a clock knows, and what it does at a time: definitions that only its proofs rest on.
-use Rattle.std.specs.Prelude.{◌≡◌, ℕ, ◌+◌, ◌≤◌, ◌<◌, ◌%◌, ◌^◌, true, Bool, List, [], ◌∷◌, length, slice_index, Result, Ok, Err}
+use Rattle.std.specs.Prelude.{◌≡◌, ℕ, ◌+◌, ◌≤◌, ◌<◌, ◌%◌, ◌^◌, true, Bool, List, [], ◌∷◌, length, slice_index, Result}
+use Rattle.std.specs.Prelude.{Ok, Err}
 use Rattle.prof_bytes.specs.declared.fail.Memory.{Memory}
 use Rattle.rv_run.specs.State.{hart_of}
 use Rattle.rv_run.specs.declared.machine.Due.{Due}

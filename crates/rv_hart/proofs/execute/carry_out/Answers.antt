@@ -1,25 +1,25 @@
 use Rattle.std.proofs.Common.{sym, ap, ◌∙◌}
 use Rattle.rv_table.specs.declared.inst.Op.{Op}
-use Rattle.rv_hart.specs.Step.{state, done}
-use Rattle.rv_hart.proofs.Computes.{computes-done}
+use Rattle.rv_hart.specs.Step.{state, executed}
+use Rattle.rv_hart.proofs.Computes.{computes-executed}
 use Rattle.rv_hart.proofs.execute.carry_out.Goals as goal
 
 pub returns-in-Lui-clause-ok : goal.returns-in-Lui-clause-ok
 returns-in-Lui-clause-ok c =
-    c.set.ensures c.args.space.now ∙ ap (λ (op : Op). done op c.args.inst.now (state c.args.hart.now.pc c.args.hart.now.regs c.args.space.now)) (sym c.in-Lui.is)
+    c.write_back.ensures c.args.space.now ∙ ap (λ (op : Op). executed op c.args.inst.now (state c.args.hart.now.pc c.args.hart.now.regs c.args.space.now)) (sym c.in-Lui.is)
 
 pub returns-in-Auipc-clause-ok : goal.returns-in-Auipc-clause-ok
 returns-in-Auipc-clause-ok c =
-    c.set-in-Auipc.ensures c.args.space.now ∙ ap (λ (op : Op). done op c.args.inst.now (state c.args.hart.now.pc c.args.hart.now.regs c.args.space.now)) (sym c.in-Auipc.is)
+    c.write_back-in-Auipc.ensures c.args.space.now ∙ ap (λ (op : Op). executed op c.args.inst.now (state c.args.hart.now.pc c.args.hart.now.regs c.args.space.now)) (sym c.in-Auipc.is)
 
 pub returns-in-Fence-clause-ok : goal.returns-in-Fence-clause-ok
 returns-in-Fence-clause-ok c =
-    c.go.ensures c.args.space.now ∙ ap (λ (op : Op). done op c.args.inst.now (state c.args.hart.now.pc c.args.hart.now.regs c.args.space.now)) (sym c.in-Fence.is)
+    c.continue_at.ensures c.args.space.now ∙ ap (λ (op : Op). executed op c.args.inst.now (state c.args.hart.now.pc c.args.hart.now.regs c.args.space.now)) (sym c.in-Fence.is)
 
 pub returns-in_default-clause-ok : goal.returns-in_default-clause-ok
 returns-in_default-clause-ok c =
-    c.set-in_default.ensures c.args.space.now
-    ∙ computes-done c.args.inst.now (state c.args.hart.now.pc c.args.hart.now.regs c.args.space.now) c.read-a.result c.read-b.result c.compute.result
+    c.write_back-in_default.ensures c.args.space.now
+    ∙ computes-executed c.args.inst.now (state c.args.hart.now.pc c.args.hart.now.regs c.args.space.now) c.read-a.result c.read-b.result c.compute.result
     (record {
       illegal = c.in_default.not-Illegal;
       lui = c.in_default.not-Lui;

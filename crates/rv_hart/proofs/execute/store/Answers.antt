@@ -7,14 +7,14 @@ use Rattle.rv_hart.proofs.execute.store.Goals as goal
 
 pub returns-clause-ok : goal.returns-clause-ok
 returns-clause-ok c =
-    store-ok (state c.args.hart.now.pc c.args.hart.now.regs c.args.space.now) (state c.put.new.hart.pc c.put.new.hart.regs c.put.new.space) c.args.inst.now c.args.size (sum c.read.result c.args.inst.now.imm) c.lowest_bytes.result.now c.put.result
+    store-ok (state c.args.hart.now.pc c.args.hart.now.regs c.args.space.now) (state c.finish_store.new.hart.pc c.finish_store.new.hart.regs c.finish_store.new.space) c.args.inst.now c.args.size (sum c.read.result c.args.inst.now.imm) c.lowest_bytes.result.now c.finish_store.result
     (ap (λ (n : ℕ). sum n c.args.inst.now.imm) c.read.ensures)
     (c.lowest_bytes.ensures ∙ ap (take c.args.size) c.to_le_bytes-bytes.ensures ∙ lowest c.args.size c.read-2.result c.requires.size ∙ ap (number_bytes c.args.size) c.read-2.ensures)
-    c.put.ensures.ok
+    c.finish_store.ensures.ok
 
 pub returns-clause-retires : goal.returns-clause-retires
 returns-clause-retires c =
-    store-err (state c.args.hart.now.pc c.args.hart.now.regs c.args.space.now) c.args.inst.now c.args.size (sum c.read.result c.args.inst.now.imm) c.lowest_bytes.result.now c.put.result
+    store-err (state c.args.hart.now.pc c.args.hart.now.regs c.args.space.now) c.args.inst.now c.args.size (sum c.read.result c.args.inst.now.imm) c.lowest_bytes.result.now c.finish_store.result
     (ap (λ (n : ℕ). sum n c.args.inst.now.imm) c.read.ensures)
     (c.lowest_bytes.ensures ∙ ap (take c.args.size) c.to_le_bytes-bytes.ensures ∙ lowest c.args.size c.read-2.result c.requires.size ∙ ap (number_bytes c.args.size) c.read-2.ensures)
-    c.put.ensures.retires
+    c.finish_store.ensures.retires

@@ -1,5 +1,5 @@
 use Rattle.std.proofs.Common.{◌≡◌, ℕ, ◌+◌, ◌-◌, length}
-use Rattle.rv_hart.specs.Pages.{page_at}
+use Rattle.rv_hart.specs.private.Pages.{page_at}
 use Rattle.rv_hart.proofs.write.lengthen_block.Given as goal
 
 abbrev pub invariant-loop-alloc : goal.invariant-loop-alloc

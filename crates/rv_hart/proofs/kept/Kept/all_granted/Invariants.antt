@@ -1,7 +1,0 @@
-use Rattle.std.proofs.Common.{◌≡◌, ℕ, ◌+◌, ◌<◌, true}
-use Rattle.rv_hart.specs.Memory.{may}
-use Rattle.rv_hart.specs.Stored.{bit_of}
-use Rattle.rv_hart.proofs.kept.Kept.all_granted.Given as goal
-
-abbrev pub invariant-loop-place : goal.invariant-loop-place
-invariant-loop-place l = (i : ℕ) → i < l.place → may (bit_of l.right) l.self.regions (l.at + i) ≡ true

@@ -1,9 +1,0 @@
-use Rattle.std.proofs.Common.{length, arith}
-use Rattle.rv_hart.specs.Stored.{value}
-use Rattle.rv_hart.proofs.Near.{spelled}
-use Rattle.rv_hart.proofs.kept.Kept.copy.Goals as goal
-
-pub returns : goal.returns
-returns c =
-    spelled c.loop-place.out (value c.args.self.now) c.args.at (length c.args.out.now) c.loop-place.auto.out
-    (λ i few. c.loop-place.invariant i (omega arith))

@@ -1,0 +1,3 @@
+-- Definitions that only private functions and proofs rest on.
+pub mod Pages
+pub mod Paging

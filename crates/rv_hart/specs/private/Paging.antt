@@ -1,0 +1,59 @@
+-- How memory is kept: what was written in pages of 4 KiB, these in blocks of 1 MiB; and what was never
+-- written as the file has it.
+use Rattle.std.specs.Prelude.{◌≡◌, ℕ, ◌+◌, ◌-◌, ◌/◌, ◌%◌, ◌^◌, ◌≤◌, ◌&&◌, Bool, true, false, List, length, slice_index}
+use Rattle.std.specs.Prelude.{Some, None, if◌then◌else◌, nat_le, nat_lt}
+use Rattle.std.specs.List.{slice_index_or}
+use Rattle.elf_image.specs.declared.part.Segment.{Segment}
+use Rattle.elf_image.specs.Image.{in_segment}
+use Rattle.rv_hart.specs.declared.paged_memory.PagedMemory.{PagedMemory}
+use Rattle.rv_hart.specs.declared.right.Right.{Right}
+use Rattle.rv_hart.specs.declared.right.Right.TheVariants.{Execute, Write, Read}
+use Rattle.rv_hart.specs.private.Pages.{Paged, page_in}
+use Rattle.elf_image.specs.declared.elf.TheConstants.{PF_R, PF_W, PF_X}
+use Rattle.rv_hart.specs.AddressSpace.{AddressSpace, first_byte, region_at, each_address, may}
+
+-- a page by its number, and the page of an address
+abbrev pub page_numbered : PagedMemory → ℕ → Paged
+page_numbered paged number = page_in paged.blocks.items number
+
+abbrev pub page_of : PagedMemory → ℕ → Paged
+page_of paged at = page_numbered paged (at / 2 ^ 12)
+
+-- the byte at an address: what its page holds, and else what it began with
+abbrev pub value : PagedMemory → ℕ → ℕ
+value paged at = slice_index_or (page_of paged at).bytes (at % 2 ^ 12) (first_byte paged.file.now paged.regions at)
+
+-- the same after these bytes were put in from another address on
+abbrev pub value_after : PagedMemory → ℕ → List ℕ → ℕ → ℕ
+value_after paged start bytes at =
+    if nat_le start at && nat_lt at (start + length bytes) then slice_index bytes (at - start) else value paged at
+
+abbrev pub memory_of : PagedMemory → AddressSpace
+memory_of paged = record { regions = paged.regions; bytes = each_address (value paged) }
+
+-- each address that this segment holds has it as its region
+abbrev pub IsHome : List Segment → Segment → Type 0
+IsHome regions home = (at : ℕ) → in_segment at home ≡ true → region_at regions at ≡ Some home
+
+-- an address that has a region shares it with all others that the region holds
+abbrev pub AreApart : List Segment → Type 0
+AreApart regions = (at : ℕ) (region : Segment) → region_at regions at ≡ Some region → IsHome regions region
+
+-- what keeps a memory: regions that are apart and below 2^32, pages that each know one region of
+-- theirs, and bytes as they began where nothing can be written
+pub record IsPaged (paged : PagedMemory) : Type 0 where
+  pub apart : AreApart paged.regions
+  pub homes : (number : ℕ) → IsHome paged.regions (page_numbered paged number).home
+  pub low : (at : ℕ) → 2 ^ 32 ≤ at → region_at paged.regions at ≡ None
+  pub intact : (at : ℕ) → may PF_W paged.regions at ≡ false
+      → value paged at ≡ first_byte paged.file.now paged.regions at
+
+-- the segment holds so many addresses from this one on
+abbrev pub covers_all : Segment → ℕ → ℕ → Bool
+covers_all segment at count = nat_le segment.start at && nat_le (at + count) segment.end
+
+-- the right as a bit of a region's flags
+abbrev pub bit_of : Right → ℕ
+bit_of Execute = PF_X
+bit_of Write = PF_W
+bit_of Read = PF_R

@@ -1,0 +1,109 @@
+//! How memory is kept: pages for what was written, and the file for what was not.
+ghost use Rattle.std.specs.Prelude.{◌≡◌, ◌<◌, ◌≤◌, IfSome, unwrap_or};
+ghost use Rattle.std.specs.Option.{option_copied};
+ghost use Rattle.rv_hart.specs.AddressSpace.{region_at, first_byte, byte_in};
+ghost use Rattle.rv_hart.specs.private.Paging.{page_of, value, IsHome};
+ghost use Rattle.rv_hart.specs.private.Pages.{blank};
+
+use crate::page::{Block, Page};
+use crate::right::NOWHERE;
+use elf_image::{RangeTable, Segment};
+
+/// The file, the regions, and what was written, in blocks of at most 256 pages.
+#[derive(Drop)]
+pub(crate) struct PagedMemory<'a> {
+    pub(crate) file: &'a [u8],
+    pub(crate) regions: RangeTable<Segment>,
+    pub(crate) blocks: Vec<Block>,
+}
+
+/// The byte that an address of the region begins with.
+#[inline(always)]
+fn first_in(file: &[u8], region: &Segment, at: u32) -> u8
+    requires { region.now.start ≤ at }
+    ensures { result ≡ byte_in file.now at (Some region.now) }
+{
+    let depth = at - region.start;
+    if depth >= region.filled {
+        return 0;
+    }
+    let place = region.offset as usize + depth as usize;
+    file.get(place).copied().unwrap_or(0)
+}
+
+impl<'a> PagedMemory<'a> {
+    pub(crate) fn region(&self, at: u32) -> Option<Segment>
+        ensures found { result ≡ region_at self.now.regions at }
+        ensures within { IfSome result (λ region. (region.start ≤ at) × (at < region.end)) }
+    {
+        self.regions.first(at).copied()
+    }
+
+    /// The address's page, if there is a place for it.
+    #[inline(always)]
+    pub(crate) fn page(&self, at: u32) -> Option<&Page>
+        ensures { unwrap_or (option_copied result) blank ≡ page_of self.now at }
+    {
+        let number = (at >> 12) as usize;
+        match self.blocks.get(number / 256) {
+            Some(block) => block.page(number % 256),
+            None => None,
+        }
+    }
+
+    /// The bytes of the address's page, none where it was not made.
+    #[inline(always)]
+    pub(crate) fn page_bytes(&self, at: u32) -> &[u8]
+        ensures { result.now ≡ (page_of self.now at).bytes }
+    {
+        match self.page(at) {
+            Some(page) => page.bytes(),
+            None => &[],
+        }
+    }
+
+    /// The region for which the address's page was made.
+    #[inline(always)]
+    pub(crate) fn page_home(&self, at: u32) -> Segment
+        ensures { result ≡ (page_of self.now at).home }
+    {
+        match self.page(at) {
+            Some(page) => page.home(),
+            None => NOWHERE,
+        }
+    }
+
+    /// The byte that the address began with. It is found at once where this region holds it.
+    #[inline(always)]
+    fn first(&self, home: &Segment, at: u32) -> u8
+        requires { IsHome self.now.regions home.now }
+        ensures { result ≡ first_byte self.now.file.now self.now.regions at }
+    {
+        if home.start <= at && at < home.end {
+            return first_in(self.file, home, at);
+        }
+        match self.region(at) {
+            Some(region) => first_in(self.file, &region, at),
+            None => 0,
+        }
+    }
+
+    /// The byte at the address. Where it was not written, it is found at once if this region holds it.
+    #[inline(always)]
+    pub(crate) fn byte_near(&self, home: &Segment, at: u32) -> u8
+        requires { IsHome self.now.regions home.now }
+        ensures { result ≡ value self.now at }
+    {
+        match self.page_bytes(at).get(at as usize % 4096) {
+            Some(byte) => *byte,
+            None => self.first(home, at),
+        }
+    }
+
+    /// The byte at the address.
+    pub(crate) fn byte(&self, at: u32) -> u8
+        ensures { result ≡ value self.now at }
+    {
+        self.byte_near(&NOWHERE, at)
+    }
+}
