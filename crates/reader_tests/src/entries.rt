@@ -1,6 +1,8 @@
 //! Two programs by gcc and clang are compared with what `llvm-dwarfdump --debug-info` prints of them; the
 //! numbers of files and lines of calls are those of `readelf --debug-dump=info`. A worked program, faults
 //! and absences are small units put together by hand after DWARF 5, chapter 7.
+ghost use Rattle.std.specs.Prelude.{◌<◌, ◌^◌, length};
+
 use crate::rows::digit;
 use dwarf_info::{Info, InfoFault, read_info};
 use elf_image::DebugParts;
@@ -12,6 +14,9 @@ mod gcc_program;
 mod lists;
 mod names;
 mod worked;
+
+/// The most bytes of `.debug_info` of a case.
+const SIZE_LIMIT: usize = 4096;
 
 /// What a subprogram or an inlined subroutine is to be.
 struct Row {
@@ -104,7 +109,9 @@ fn other_entry(
     parts: DebugParts<'_>,
     tags: &[(u64, usize)],
     rows: &[Row],
-) -> Option<u32> {
+) -> Option<u32>
+    requires { length parts.info.now < 2 ^ 31 }
+{
     match read_info(alloc, parts) {
         Ok(info) if are_counted(&info, tags) => {
             for row in rows {
@@ -137,6 +144,9 @@ fn a_program_by_clang(rt: HostRuntime) {
 
 fn other_worked_entry(alloc: Global) -> Result<Option<u32>, AllocError> {
     let info = part(alloc, worked::sections(), b'I')?;
+    if info.len() > SIZE_LIMIT {
+        return Ok(Some(u32::MAX));
+    }
     let abbrev = part(alloc, worked::sections(), b'A')?;
     let rnglists = part(alloc, worked::sections(), b'R')?;
     let parts = DebugParts {
@@ -199,6 +209,9 @@ fn is_case(alloc: Global, info: &Info<'_>, case: &Case) -> bool {
 
 fn case_holds(alloc: Global, case: &Case) -> Result<bool, AllocError> {
     let info = part(alloc, case.bytes, b'I')?;
+    if info.len() > SIZE_LIMIT {
+        return Ok(false);
+    }
     let abbrev = part(alloc, case.bytes, b'A')?;
     let str_bytes = part(alloc, case.bytes, b'S')?;
     let line_str = part(alloc, case.bytes, b'L')?;
@@ -313,6 +326,9 @@ static FAULTS: [(&[u8], InfoFault); 19] = [
 
 fn read_hex(alloc: Global, bytes: &[u8]) -> Result<Vec<(u32, u32)>, prof_bytes::Fail<InfoFault>> {
     let info = part(alloc, bytes, b'I')?;
+    if info.len() > SIZE_LIMIT {
+        return Ok(Vec::new(alloc));
+    }
     let abbrev = part(alloc, bytes, b'A')?;
     let parts = DebugParts {
         info: &info,

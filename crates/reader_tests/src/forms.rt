@@ -1,75 +1,100 @@
 //! The bytes of each form are those of DWARF 5, section 7.5.6; the values are read off them by hand. The
 //! abbreviation table is that of a program of two functions by `clang -g`, with the declarations that
 //! `llvm-dwarfdump --debug-abbrev` prints.
+use dwarf_forms::constants::{
+    DW_FORM_addr, DW_FORM_addrx, DW_FORM_addrx1, DW_FORM_addrx2, DW_FORM_addrx3, DW_FORM_addrx4,
+    DW_FORM_block, DW_FORM_block1, DW_FORM_block2, DW_FORM_block4, DW_FORM_data1, DW_FORM_data2,
+    DW_FORM_data4, DW_FORM_data8, DW_FORM_data16, DW_FORM_exprloc, DW_FORM_flag,
+    DW_FORM_flag_present, DW_FORM_implicit_const, DW_FORM_indirect, DW_FORM_line_strp,
+    DW_FORM_loclistx, DW_FORM_ref_addr, DW_FORM_ref_sig8, DW_FORM_ref_sup4, DW_FORM_ref_sup8,
+    DW_FORM_ref_udata, DW_FORM_ref1, DW_FORM_ref2, DW_FORM_ref4, DW_FORM_ref8, DW_FORM_rnglistx,
+    DW_FORM_sdata, DW_FORM_sec_offset, DW_FORM_string, DW_FORM_strp, DW_FORM_strp_sup,
+    DW_FORM_strx, DW_FORM_strx1, DW_FORM_strx2, DW_FORM_strx3, DW_FORM_strx4, DW_FORM_udata,
+};
 use dwarf_forms::{Abbrev, Abbrevs, BadTable, FormFault, Spec, Value, read_abbrevs, read_value};
+use dwarf_info::constants::{
+    DW_AT_byte_size, DW_AT_call_column, DW_AT_external, DW_AT_high_pc, DW_AT_inline,
+    DW_AT_loclists_base, DW_AT_type, DW_TAG_base_type, DW_TAG_compile_unit,
+    DW_TAG_inlined_subroutine, DW_TAG_lexical_block, DW_TAG_subprogram, DW_TAG_volatile_type,
+};
 use prof_bytes::{Cursor, Memory};
 use std::alloc::Global;
 use std::test::Fail;
 
 /// A form, bytes, the value that stands in them, and how many they are.
 static FORMS: [(u64, &[u8], Value<'static>, usize); 20] = [
-    (0x01, &[0, 0, 1, 0], Value::Address(0x10000), 4),
-    (0x03, &[2, 0, 7, 8, 9], Value::Bytes(&[7, 8]), 4),
-    (0x04, &[1, 0, 0, 0, 7], Value::Bytes(&[7]), 5),
-    (0x09, &[0x81, 0, 7], Value::Bytes(&[7]), 3),
-    (0x0a, &[0, 7], Value::Bytes(&[]), 1),
-    (0x18, &[2, 0x91, 0x7c], Value::Bytes(&[0x91, 0x7c]), 3),
-    (0x0b, &[0xff], Value::Number(255), 1),
-    (0x05, &[1, 2], Value::Number(0x201), 2),
-    (0x06, &[1, 2, 3, 4], Value::Number(0x0403_0201), 4),
+    (DW_FORM_addr, &[0, 0, 1, 0], Value::Address(0x10000), 4),
+    (DW_FORM_block2, &[2, 0, 7, 8, 9], Value::Bytes(&[7, 8]), 4),
+    (DW_FORM_block4, &[1, 0, 0, 0, 7], Value::Bytes(&[7]), 5),
+    (DW_FORM_block, &[0x81, 0, 7], Value::Bytes(&[7]), 3),
+    (DW_FORM_block1, &[0, 7], Value::Bytes(&[]), 1),
     (
-        0x07,
+        DW_FORM_exprloc,
+        &[2, 0x91, 0x7c],
+        Value::Bytes(&[0x91, 0x7c]),
+        3,
+    ),
+    (DW_FORM_data1, &[0xff], Value::Number(255), 1),
+    (DW_FORM_data2, &[1, 2], Value::Number(0x201), 2),
+    (DW_FORM_data4, &[1, 2, 3, 4], Value::Number(0x0403_0201), 4),
+    (
+        DW_FORM_data8,
         &[1, 0, 0, 0, 0, 0, 0, 0x80],
         Value::Number(0x8000_0000_0000_0001),
         8,
     ),
     (
-        0x1e,
+        DW_FORM_data16,
         &[1, 2, 3, 4, 5, 6, 7, 8, 9, 10, 11, 12, 13, 14, 15, 16, 17],
         Value::Bytes(&[1, 2, 3, 4, 5, 6, 7, 8, 9, 10, 11, 12, 13, 14, 15, 16]),
         16,
     ),
-    (0x0d, &[0x7f], Value::Signed(-1), 1),
-    (0x0f, &[0xe5, 0x8e, 0x26], Value::Number(624_485), 3),
-    (0x0c, &[2], Value::Flag(true), 1),
-    (0x0c, &[0], Value::Flag(false), 1),
-    (0x19, &[], Value::Flag(true), 0),
-    (0x21, &[5], Value::Signed(-3), 0),
-    (0x08, &[0x61, 0, 0x62], Value::Name(&[0x61]), 2),
-    (0x16, &[0x0b, 9], Value::Number(9), 2),
-    (0x16, &[0x85, 0, 1, 2], Value::Number(0x201), 4),
+    (DW_FORM_sdata, &[0x7f], Value::Signed(-1), 1),
+    (
+        DW_FORM_udata,
+        &[0xe5, 0x8e, 0x26],
+        Value::Number(624_485),
+        3,
+    ),
+    (DW_FORM_flag, &[2], Value::Flag(true), 1),
+    (DW_FORM_flag, &[0], Value::Flag(false), 1),
+    (DW_FORM_flag_present, &[], Value::Flag(true), 0),
+    (DW_FORM_implicit_const, &[5], Value::Signed(-3), 0),
+    (DW_FORM_string, &[0x61, 0, 0x62], Value::Name(&[0x61]), 2),
+    (DW_FORM_indirect, &[0x0b, 9], Value::Number(9), 2),
+    (DW_FORM_indirect, &[0x85, 0, 1, 2], Value::Number(0x201), 4),
 ];
 
 /// The forms that are numbers with another meaning: the form, the value of bytes that begin with a 5
 /// and zeros, and how many bytes.
 static MEANINGS: [(u64, Value<'static>, usize); 27] = [
-    (0x0e, Value::StrAt(5), 4),
-    (0x1f, Value::LineStrAt(5), 4),
-    (0x17, Value::Section(5), 4),
-    (0x10, Value::InfoRef(5), 4),
-    (0x11, Value::UnitRef(5), 1),
-    (0x12, Value::UnitRef(5), 2),
-    (0x13, Value::UnitRef(5), 4),
-    (0x14, Value::UnitRef(5), 8),
-    (0x15, Value::UnitRef(5), 1),
-    (0x1a, Value::StrIndex(5), 1),
-    (0x25, Value::StrIndex(5), 1),
-    (0x26, Value::StrIndex(5), 2),
-    (0x27, Value::StrIndex(5), 3),
-    (0x28, Value::StrIndex(5), 4),
-    (0x1b, Value::AddrIndex(5), 1),
-    (0x29, Value::AddrIndex(5), 1),
-    (0x2a, Value::AddrIndex(5), 2),
-    (0x2b, Value::AddrIndex(5), 3),
-    (0x2c, Value::AddrIndex(5), 4),
-    (0x23, Value::ListIndex(5), 1),
-    (0x22, Value::Passed, 1),
-    (0x1c, Value::Passed, 4),
-    (0x1d, Value::Passed, 4),
-    (0x20, Value::Passed, 8),
-    (0x24, Value::Passed, 8),
-    (0x0f, Value::Number(5), 1),
-    (0x0d, Value::Signed(5), 1),
+    (DW_FORM_strp, Value::StrAt(5), 4),
+    (DW_FORM_line_strp, Value::LineStrAt(5), 4),
+    (DW_FORM_sec_offset, Value::Section(5), 4),
+    (DW_FORM_ref_addr, Value::InfoRef(5), 4),
+    (DW_FORM_ref1, Value::UnitRef(5), 1),
+    (DW_FORM_ref2, Value::UnitRef(5), 2),
+    (DW_FORM_ref4, Value::UnitRef(5), 4),
+    (DW_FORM_ref8, Value::UnitRef(5), 8),
+    (DW_FORM_ref_udata, Value::UnitRef(5), 1),
+    (DW_FORM_strx, Value::StrIndex(5), 1),
+    (DW_FORM_strx1, Value::StrIndex(5), 1),
+    (DW_FORM_strx2, Value::StrIndex(5), 2),
+    (DW_FORM_strx3, Value::StrIndex(5), 3),
+    (DW_FORM_strx4, Value::StrIndex(5), 4),
+    (DW_FORM_addrx, Value::AddrIndex(5), 1),
+    (DW_FORM_addrx1, Value::AddrIndex(5), 1),
+    (DW_FORM_addrx2, Value::AddrIndex(5), 2),
+    (DW_FORM_addrx3, Value::AddrIndex(5), 3),
+    (DW_FORM_addrx4, Value::AddrIndex(5), 4),
+    (DW_FORM_rnglistx, Value::ListIndex(5), 1),
+    (DW_FORM_loclistx, Value::Passed, 1),
+    (DW_FORM_ref_sup4, Value::Passed, 4),
+    (DW_FORM_strp_sup, Value::Passed, 4),
+    (DW_FORM_ref_sig8, Value::Passed, 8),
+    (DW_FORM_ref_sup8, Value::Passed, 8),
+    (DW_FORM_udata, Value::Number(5), 1),
+    (DW_FORM_sdata, Value::Signed(5), 1),
 ];
 
 fn same(a: &Value<'_>, b: &Value<'_>) -> bool {
@@ -131,16 +156,16 @@ static REFUSED: [(u64, &[u8], FormFault); 12] = [
     (0x02, &[1, 2, 3, 4], FormFault::Unknown),
     (0x00, &[1], FormFault::Unknown),
     (0x2d, &[1], FormFault::Unknown),
-    (0x16, &[0x21, 1], FormFault::Unknown),
-    (0x16, &[0x16, 0x0b, 1], FormFault::Unknown),
-    (0x16, &[0x02], FormFault::Unknown),
-    (0x16, &[0x80], FormFault::Short),
-    (0x16, &[0x06, 1, 2, 3], FormFault::Short),
-    (0x06, &[1, 2, 3], FormFault::Short),
-    (0x0a, &[3, 1, 2], FormFault::Short),
-    (0x08, &[0x61, 0x62], FormFault::Short),
+    (DW_FORM_indirect, &[0x21, 1], FormFault::Unknown),
+    (DW_FORM_indirect, &[0x16, 0x0b, 1], FormFault::Unknown),
+    (DW_FORM_indirect, &[0x02], FormFault::Unknown),
+    (DW_FORM_indirect, &[0x80], FormFault::Short),
+    (DW_FORM_indirect, &[0x06, 1, 2, 3], FormFault::Short),
+    (DW_FORM_data4, &[1, 2, 3], FormFault::Short),
+    (DW_FORM_block1, &[3, 1, 2], FormFault::Short),
+    (DW_FORM_string, &[0x61, 0x62], FormFault::Short),
     (
-        0x0f,
+        DW_FORM_udata,
         &[0x80, 0x80, 0x80, 0x80, 0x80, 0x80, 0x80, 0x80, 0x80, 2],
         FormFault::Short,
     ),
@@ -190,13 +215,55 @@ static ABBREV: [u8; 204] = [
 
 /// Of some codes the tag, whether children follow, how many attributes, and the last of these.
 static DECLARED: [(u64, u64, bool, usize, (u64, u64, i64)); 7] = [
-    (1, 0x11, true, 10, (0x8c, 0x17, 0)),
-    (2, 0x2e, true, 6, (0x20, 0x21, 1)),
-    (4, 0x24, false, 3, (0x0b, 0x0b, 0)),
-    (7, 0x1d, true, 6, (0x57, 0x0b, 0)),
-    (9, 0x2e, true, 9, (0x3f, 0x19, 0)),
-    (11, 0x0b, true, 2, (0x12, 0x06, 0)),
-    (13, 0x35, false, 1, (0x49, 0x13, 0)),
+    (
+        1,
+        DW_TAG_compile_unit,
+        true,
+        10,
+        (DW_AT_loclists_base, DW_FORM_sec_offset, 0),
+    ),
+    (
+        2,
+        DW_TAG_subprogram,
+        true,
+        6,
+        (DW_AT_inline, DW_FORM_implicit_const, 1),
+    ),
+    (
+        4,
+        DW_TAG_base_type,
+        false,
+        3,
+        (DW_AT_byte_size, DW_FORM_data1, 0),
+    ),
+    (
+        7,
+        DW_TAG_inlined_subroutine,
+        true,
+        6,
+        (DW_AT_call_column, DW_FORM_data1, 0),
+    ),
+    (
+        9,
+        DW_TAG_subprogram,
+        true,
+        9,
+        (DW_AT_external, DW_FORM_flag_present, 0),
+    ),
+    (
+        11,
+        DW_TAG_lexical_block,
+        true,
+        2,
+        (DW_AT_high_pc, DW_FORM_data4, 0),
+    ),
+    (
+        13,
+        DW_TAG_volatile_type,
+        false,
+        1,
+        (DW_AT_type, DW_FORM_ref4, 0),
+    ),
 ];
 
 fn last_of(specs: &[Spec]) -> (u64, u64, i64) {
@@ -237,7 +304,8 @@ fn other_declaration(table: &Abbrevs) -> Option<u64> {
 fn other_in_program(alloc: Global) -> Result<Option<u64>, Memory> {
     match read_abbrevs(alloc, &ABBREV, 0) {
         Ok(table) => Ok(other_declaration(&table)),
-        Err(_) => Err(Memory),
+        Err(prof_bytes::Fail::Fault(BadTable)) => Ok(Some(0)),
+        Err(prof_bytes::Fail::Memory(memory)) => Err(memory),
     }
 }
 
@@ -249,15 +317,27 @@ fn declarations_of_a_program(rt: HostRuntime) -> Result<(), Fail> {
 
 /// Tables, an offset in them, and the tag that code 1 has there; `None` where the table is not whole.
 static TABLES: [(&[u8], u32, Option<u64>); 9] = [
-    (&[1, 0x11, 0, 0x10, 0x17, 0, 0, 0], 0, Some(0x11)),
+    (
+        &[1, 0x11, 0, 0x10, 0x17, 0, 0, 0],
+        0,
+        Some(DW_TAG_compile_unit),
+    ),
     (&[1, 0x11, 0, 0x10, 0x17, 0, 0, 0], 8, None),
     (&[1, 0x11, 0, 0x10, 0x17, 0, 0, 0], 9, None),
     (&[1, 0x11, 0, 0x10, 0x17, 0, 0], 0, None),
-    (&[1, 0x11, 0, 0, 0, 1, 0x2e, 0, 0, 0, 0], 0, Some(0x11)),
-    (&[9, 9, 1, 0x11, 7, 0, 0, 0], 2, Some(0x11)),
+    (
+        &[1, 0x11, 0, 0, 0, 1, 0x2e, 0, 0, 0, 0],
+        0,
+        Some(DW_TAG_compile_unit),
+    ),
+    (&[9, 9, 1, 0x11, 7, 0, 0, 0], 2, Some(DW_TAG_compile_unit)),
     (&[1, 0x11, 0, 3, 0x21, 0x80, 0, 0, 0], 0, None),
-    (&[1, 0x11, 0, 3, 0x21, 0, 0, 0, 0], 0, Some(0x11)),
-    (&[1, 0x11, 0, 0, 5, 0, 0, 0], 0, Some(0x11)),
+    (
+        &[1, 0x11, 0, 3, 0x21, 0, 0, 0, 0],
+        0,
+        Some(DW_TAG_compile_unit),
+    ),
+    (&[1, 0x11, 0, 0, 5, 0, 0, 0], 0, Some(DW_TAG_compile_unit)),
 ];
 
 fn tag_of(table: &Abbrevs) -> Option<u64> {
@@ -269,7 +349,7 @@ fn tag_at(alloc: Global, bytes: &[u8], offset: u32) -> Result<Option<u64>, Memor
     match read_abbrevs(alloc, bytes, offset) {
         Ok(table) => Ok(tag_of(&table)),
         Err(prof_bytes::Fail::Fault(BadTable)) => Ok(None),
-        Err(prof_bytes::Fail::Memory) => Err(Memory),
+        Err(prof_bytes::Fail::Memory(memory)) => Err(memory),
     }
 }
 

@@ -1,5 +1,10 @@
 //! Sections and entries of a program by clang 14 (one unit with -O2 and -ffunction-sections, one with -O0).
 use super::Row;
+use dwarf_info::constants::{
+    DW_TAG_base_type, DW_TAG_call_site, DW_TAG_compile_unit, DW_TAG_formal_parameter,
+    DW_TAG_inlined_subroutine, DW_TAG_lexical_block, DW_TAG_member, DW_TAG_structure_type,
+    DW_TAG_subprogram, DW_TAG_variable, DW_TAG_volatile_type,
+};
 
 pub(crate) static INFO: [u8; 492] = [
     0xa5, 0x01, 0x00, 0x00, 0x05, 0x00, 0x01, 0x04, 0x00, 0x00, 0x00, 0x00, 0x01, 0x00, 0x0c, 0x00,
@@ -114,17 +119,17 @@ pub(crate) static RNGLISTS: [u8; 139] = [
 
 /// How many entries of each tag.
 pub(crate) static TAGS: [(u64, usize); 11] = [
-    (0x5, 13),
-    (0xb, 4),
-    (0xd, 2),
-    (0x11, 2),
-    (0x13, 1),
-    (0x1d, 6),
-    (0x24, 2),
-    (0x2e, 7),
-    (0x34, 9),
-    (0x35, 1),
-    (0x48, 8),
+    (DW_TAG_formal_parameter, 13),
+    (DW_TAG_lexical_block, 4),
+    (DW_TAG_member, 2),
+    (DW_TAG_compile_unit, 2),
+    (DW_TAG_structure_type, 1),
+    (DW_TAG_inlined_subroutine, 6),
+    (DW_TAG_base_type, 2),
+    (DW_TAG_subprogram, 7),
+    (DW_TAG_variable, 9),
+    (DW_TAG_volatile_type, 1),
+    (DW_TAG_call_site, 8),
 ];
 
 /// Each subprogram and each inlined subroutine.
@@ -132,7 +137,7 @@ pub(crate) static ROWS: [Row; 13] = [
     Row {
         offset: 0x54,
         depth: 1,
-        tag: 0x2e,
+        tag: DW_TAG_subprogram,
         name: b"weigh",
         link: None,
         call: (None, None),
@@ -141,7 +146,7 @@ pub(crate) static ROWS: [Row; 13] = [
     Row {
         offset: 0x77,
         depth: 1,
-        tag: 0x2e,
+        tag: DW_TAG_subprogram,
         name: b"step",
         link: None,
         call: (None, None),
@@ -150,7 +155,7 @@ pub(crate) static ROWS: [Row; 13] = [
     Row {
         offset: 0x90,
         depth: 1,
-        tag: 0x2e,
+        tag: DW_TAG_subprogram,
         name: b"twice",
         link: None,
         call: (None, None),
@@ -159,7 +164,7 @@ pub(crate) static ROWS: [Row; 13] = [
     Row {
         offset: 0xa1,
         depth: 1,
-        tag: 0x2e,
+        tag: DW_TAG_subprogram,
         name: b"measure",
         link: None,
         call: (None, None),
@@ -168,7 +173,7 @@ pub(crate) static ROWS: [Row; 13] = [
     Row {
         offset: 0xc2,
         depth: 2,
-        tag: 0x1d,
+        tag: DW_TAG_inlined_subroutine,
         name: b"",
         link: Some(0x54),
         call: (Some(0), Some(15)),
@@ -177,7 +182,7 @@ pub(crate) static ROWS: [Row; 13] = [
     Row {
         offset: 0xdf,
         depth: 4,
-        tag: 0x1d,
+        tag: DW_TAG_inlined_subroutine,
         name: b"",
         link: Some(0x77),
         call: (Some(0), Some(11)),
@@ -186,7 +191,7 @@ pub(crate) static ROWS: [Row; 13] = [
     Row {
         offset: 0xea,
         depth: 2,
-        tag: 0x1d,
+        tag: DW_TAG_inlined_subroutine,
         name: b"",
         link: Some(0x54),
         call: (Some(0), Some(16)),
@@ -195,7 +200,7 @@ pub(crate) static ROWS: [Row; 13] = [
     Row {
         offset: 0x107,
         depth: 4,
-        tag: 0x1d,
+        tag: DW_TAG_inlined_subroutine,
         name: b"",
         link: Some(0x77),
         call: (Some(0), Some(11)),
@@ -204,7 +209,7 @@ pub(crate) static ROWS: [Row; 13] = [
     Row {
         offset: 0x112,
         depth: 2,
-        tag: 0x1d,
+        tag: DW_TAG_inlined_subroutine,
         name: b"",
         link: Some(0x77),
         call: (Some(0), Some(16)),
@@ -213,7 +218,7 @@ pub(crate) static ROWS: [Row; 13] = [
     Row {
         offset: 0x127,
         depth: 3,
-        tag: 0x1d,
+        tag: DW_TAG_inlined_subroutine,
         name: b"",
         link: Some(0x90),
         call: (Some(0), Some(6)),
@@ -222,7 +227,7 @@ pub(crate) static ROWS: [Row; 13] = [
     Row {
         offset: 0x13e,
         depth: 1,
-        tag: 0x2e,
+        tag: DW_TAG_subprogram,
         name: b"_start",
         link: None,
         call: (None, None),
@@ -231,7 +236,7 @@ pub(crate) static ROWS: [Row; 13] = [
     Row {
         offset: 0x195,
         depth: 1,
-        tag: 0x2e,
+        tag: DW_TAG_subprogram,
         name: b"other",
         link: None,
         call: (None, None),
@@ -240,7 +245,7 @@ pub(crate) static ROWS: [Row; 13] = [
     Row {
         offset: 0x1cc,
         depth: 1,
-        tag: 0x2e,
+        tag: DW_TAG_subprogram,
         name: b"other",
         link: None,
         call: (None, None),

@@ -1,5 +1,10 @@
 //! Sections and entries of a program by gcc 12 (-O2, a unit of version 5, a unit of version 4, a type unit).
 use super::Row;
+use dwarf_info::constants::{
+    DW_TAG_base_type, DW_TAG_call_site, DW_TAG_call_site_parameter, DW_TAG_compile_unit,
+    DW_TAG_formal_parameter, DW_TAG_inlined_subroutine, DW_TAG_lexical_block, DW_TAG_subprogram,
+    DW_TAG_variable, DW_TAG_volatile_type,
+};
 
 pub(crate) static INFO: [u8; 860] = [
     0x52, 0x00, 0x00, 0x00, 0x04, 0x00, 0x00, 0x00, 0x00, 0x00, 0x04, 0x01, 0x00, 0x00, 0x00, 0x00,
@@ -149,16 +154,16 @@ pub(crate) static RNGLISTS: [u8; 308] = [
 
 /// How many entries of each tag.
 pub(crate) static TAGS: [(u64, usize); 10] = [
-    (0x5, 23),
-    (0xb, 5),
-    (0x11, 1),
-    (0x1d, 10),
-    (0x24, 1),
-    (0x2e, 7),
-    (0x34, 9),
-    (0x35, 1),
-    (0x48, 2),
-    (0x49, 2),
+    (DW_TAG_formal_parameter, 23),
+    (DW_TAG_lexical_block, 5),
+    (DW_TAG_compile_unit, 1),
+    (DW_TAG_inlined_subroutine, 10),
+    (DW_TAG_base_type, 1),
+    (DW_TAG_subprogram, 7),
+    (DW_TAG_variable, 9),
+    (DW_TAG_volatile_type, 1),
+    (DW_TAG_call_site, 2),
+    (DW_TAG_call_site_parameter, 2),
 ];
 
 /// Each subprogram and each inlined subroutine.
@@ -166,7 +171,7 @@ pub(crate) static ROWS: [Row; 17] = [
     Row {
         offset: 0xec,
         depth: 1,
-        tag: 0x2e,
+        tag: DW_TAG_subprogram,
         name: b"other",
         link: None,
         call: (None, None),
@@ -175,7 +180,7 @@ pub(crate) static ROWS: [Row; 17] = [
     Row {
         offset: 0x102,
         depth: 1,
-        tag: 0x2e,
+        tag: DW_TAG_subprogram,
         name: b"_start",
         link: None,
         call: (None, None),
@@ -184,7 +189,7 @@ pub(crate) static ROWS: [Row; 17] = [
     Row {
         offset: 0x162,
         depth: 1,
-        tag: 0x2e,
+        tag: DW_TAG_subprogram,
         name: b"measure",
         link: None,
         call: (None, None),
@@ -193,7 +198,7 @@ pub(crate) static ROWS: [Row; 17] = [
     Row {
         offset: 0x186,
         depth: 1,
-        tag: 0x2e,
+        tag: DW_TAG_subprogram,
         name: b"weigh",
         link: None,
         call: (None, None),
@@ -202,7 +207,7 @@ pub(crate) static ROWS: [Row; 17] = [
     Row {
         offset: 0x1b5,
         depth: 1,
-        tag: 0x2e,
+        tag: DW_TAG_subprogram,
         name: b"step",
         link: None,
         call: (None, None),
@@ -211,7 +216,7 @@ pub(crate) static ROWS: [Row; 17] = [
     Row {
         offset: 0x1d7,
         depth: 1,
-        tag: 0x2e,
+        tag: DW_TAG_subprogram,
         name: b"twice",
         link: None,
         call: (None, None),
@@ -220,7 +225,7 @@ pub(crate) static ROWS: [Row; 17] = [
     Row {
         offset: 0x1f0,
         depth: 1,
-        tag: 0x2e,
+        tag: DW_TAG_subprogram,
         name: b"",
         link: Some(0x162),
         call: (None, None),
@@ -229,7 +234,7 @@ pub(crate) static ROWS: [Row; 17] = [
     Row {
         offset: 0x211,
         depth: 2,
-        tag: 0x1d,
+        tag: DW_TAG_inlined_subroutine,
         name: b"",
         link: Some(0x162),
         call: (Some(1), Some(14)),
@@ -238,7 +243,7 @@ pub(crate) static ROWS: [Row; 17] = [
     Row {
         offset: 0x22e,
         depth: 3,
-        tag: 0x1d,
+        tag: DW_TAG_inlined_subroutine,
         name: b"",
         link: Some(0x186),
         call: (Some(1), Some(16)),
@@ -247,7 +252,7 @@ pub(crate) static ROWS: [Row; 17] = [
     Row {
         offset: 0x261,
         depth: 5,
-        tag: 0x1d,
+        tag: DW_TAG_inlined_subroutine,
         name: b"",
         link: Some(0x1b5),
         call: (Some(1), Some(11)),
@@ -264,7 +269,7 @@ pub(crate) static ROWS: [Row; 17] = [
     Row {
         offset: 0x282,
         depth: 6,
-        tag: 0x1d,
+        tag: DW_TAG_inlined_subroutine,
         name: b"",
         link: Some(0x1d7),
         call: (Some(1), Some(5)),
@@ -278,7 +283,7 @@ pub(crate) static ROWS: [Row; 17] = [
     Row {
         offset: 0x29a,
         depth: 3,
-        tag: 0x1d,
+        tag: DW_TAG_inlined_subroutine,
         name: b"",
         link: Some(0x1b5),
         call: (Some(1), Some(16)),
@@ -287,7 +292,7 @@ pub(crate) static ROWS: [Row; 17] = [
     Row {
         offset: 0x2bb,
         depth: 4,
-        tag: 0x1d,
+        tag: DW_TAG_inlined_subroutine,
         name: b"",
         link: Some(0x1d7),
         call: (Some(1), Some(5)),
@@ -296,7 +301,7 @@ pub(crate) static ROWS: [Row; 17] = [
     Row {
         offset: 0x2d5,
         depth: 4,
-        tag: 0x1d,
+        tag: DW_TAG_inlined_subroutine,
         name: b"",
         link: Some(0x1d7),
         call: (Some(1), Some(6)),
@@ -305,7 +310,7 @@ pub(crate) static ROWS: [Row; 17] = [
     Row {
         offset: 0x2ec,
         depth: 2,
-        tag: 0x1d,
+        tag: DW_TAG_inlined_subroutine,
         name: b"",
         link: Some(0x186),
         call: (Some(1), Some(15)),
@@ -314,7 +319,7 @@ pub(crate) static ROWS: [Row; 17] = [
     Row {
         offset: 0x320,
         depth: 5,
-        tag: 0x1d,
+        tag: DW_TAG_inlined_subroutine,
         name: b"",
         link: Some(0x1b5),
         call: (Some(1), Some(11)),
@@ -331,7 +336,7 @@ pub(crate) static ROWS: [Row; 17] = [
     Row {
         offset: 0x341,
         depth: 6,
-        tag: 0x1d,
+        tag: DW_TAG_inlined_subroutine,
         name: b"",
         link: Some(0x1d7),
         call: (Some(1), Some(5)),

@@ -1,5 +1,6 @@
 //! A worked program: inlined code in two pieces, two levels deep.
 use super::Row;
+use dwarf_info::constants::{DW_TAG_compile_unit, DW_TAG_inlined_subroutine, DW_TAG_subprogram};
 
 /// The bytes of its sections; a letter before them says which: A abbrev, I info, R rnglists.
 pub(super) fn sections() -> &'static [u8] {
@@ -11,13 +12,17 @@ pub(super) fn sections() -> &'static [u8] {
     R15000000050004000000000007080001000807200001001000"
 }
 
-pub(super) const TAGS: [(u64, usize); 3] = [(0x11, 1), (0x1d, 2), (0x2e, 3)];
+pub(super) const TAGS: [(u64, usize); 3] = [
+    (DW_TAG_compile_unit, 1),
+    (DW_TAG_inlined_subroutine, 2),
+    (DW_TAG_subprogram, 3),
+];
 
 pub(super) static ROWS: [Row; 5] = [
     Row {
         offset: 0x11,
         depth: 1,
-        tag: 0x2e,
+        tag: DW_TAG_subprogram,
         name: b"inner",
         link: None,
         call: (None, None),
@@ -26,7 +31,7 @@ pub(super) static ROWS: [Row; 5] = [
     Row {
         offset: 0x19,
         depth: 1,
-        tag: 0x2e,
+        tag: DW_TAG_subprogram,
         name: b"outer",
         link: None,
         call: (None, None),
@@ -35,7 +40,7 @@ pub(super) static ROWS: [Row; 5] = [
     Row {
         offset: 0x21,
         depth: 1,
-        tag: 0x2e,
+        tag: DW_TAG_subprogram,
         name: b"main",
         link: None,
         call: (None, None),
@@ -44,7 +49,7 @@ pub(super) static ROWS: [Row; 5] = [
     Row {
         offset: 0x2f,
         depth: 2,
-        tag: 0x1d,
+        tag: DW_TAG_inlined_subroutine,
         name: b"",
         link: Some(0x19),
         call: (Some(0), Some(3)),
@@ -53,7 +58,7 @@ pub(super) static ROWS: [Row; 5] = [
     Row {
         offset: 0x3a,
         depth: 3,
-        tag: 0x1d,
+        tag: DW_TAG_inlined_subroutine,
         name: b"",
         link: Some(0x11),
         call: (Some(0), Some(11)),
