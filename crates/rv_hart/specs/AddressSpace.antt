@@ -1,6 +1,6 @@
 -- Memory as a whole: a fixed list of regions with their rights, and one byte for each address
 -- (RISC-V unprivileged manual, "Memory"; System V ABI, "Program Loading").
-use Rattle.std.specs.Prelude.{ℕ, ◌+◌, ◌-◌, ◌*◌, ◌/◌, ◌%◌, ◌^◌, ◌==◌, ◌&&◌, ◌||◌, Bool, true, false, List, ◌++◌, map}
+use Rattle.std.specs.Prelude.{ℕ, ◌+◌, ◌-◌, ◌*◌, ◌^◌, ◌==◌, ◌&&◌, ◌||◌, Bool, true, false, List, ◌++◌, map}
 use Rattle.std.specs.Prelude.{length, slice_index, Option, Some, None, if◌then◌else◌, nat_lt, nat_le}
 use Rattle.std.specs.List.{find, range_with_len, list_all}
 use Rattle.prof_bytes.specs.Number.{number_in}

@@ -7,3 +7,4 @@ pub mod Ranges
 pub mod Passing
 pub mod Ending
 pub mod Scheduling
+pub mod Cutting

@@ -8,6 +8,7 @@
 
 mod environment;
 mod hart;
+mod laws;
 mod lines;
 mod linux;
 mod machine;
@@ -17,6 +18,7 @@ mod schedule;
 mod slice_queue;
 
 pub use hart::HartEnd;
+pub use laws::{ended_harts_do_nothing, plain_instructions_end_by_themselves, slices_can_be_cut};
 pub use machine::{Due, Machine, Moment};
 pub use numerals::decimal;
 pub use schedule::{Schedule, ScheduleFault, Slice, read_schedule};
