@@ -3,6 +3,11 @@
 //!
 //! It promises that of the samples that were added each hart has its distinct raw paths in order of first
 //! sample, each with its count. Below stand `scope_types`, `prof_bytes` and `indexmap`.
+//!
+//! A loop that adds the samples of a run one by one keeps, of the samples so far, that `Ccts` is `distinct` of
+//! them and counts as many: `start` gives it of no samples, and `add` (clauses `all` and `samples`) of one more,
+//! or says that all have too many frames. What that means for the call paths of all samples is the law
+//! `samples_are_counted`.
 #![tactic(auto)]
 
 mod ccts;
