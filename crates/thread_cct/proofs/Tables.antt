@@ -88,6 +88,9 @@ sum_more f more tables s own grows =
 pub samples_more : (tables new : Tables) (s : HartRaw) → s.hart < length tables → new ≡ count_sample tables s → samples_in new ≡ samples_in tables + 1
 samples_more tables new s own is = ap samples_in is ∙ sum_more count_of 1 tables s own (samples_one s.raw (of_hart tables s.hart))
 
+pub harts_stay : (tables new : Tables) (s : HartRaw) → new ≡ count_sample tables s → length new ≡ length tables
+harts_stay tables new s is = ap (λ (t : Tables). length t) is ∙ length-set tables s.hart (count_one s.raw (of_hart tables s.hart))
+
 abbrev pub frames_new : Tables → HartRaw → ℕ
 frames_new tables s = cond (has_path s.raw (of_hart tables s.hart)) 0 (length s.raw.frames)
 

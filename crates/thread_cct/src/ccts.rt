@@ -115,6 +115,7 @@ impl Ccts {
         ensures answer { Gives (λ done. self.new) result
             (with_sample self.old (record { hart = hart; raw = raw.now })) }
         ensures err { OnErr result (self.new ≡ self.old) }
+        ensures harts { length self.new ≡ length self.old }
         ensures samples { OnOk result (samples_in self.new ≡ samples_in self.old + 1) }
         // the samples added so far and this one more give the counts of all
         ensures all { (samples : List HartRaw) → self.old ≡ distinct (length self.old) samples

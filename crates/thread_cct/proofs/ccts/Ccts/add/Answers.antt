@@ -3,7 +3,7 @@ use Rattle.scope_types.specs.Raw.{Raw}
 use Rattle.scope_types.specs.Distinct.{HartRaw, samples_in}
 use Rattle.scope_types.specs.Limits.{most_path_frames}
 use Rattle.thread_cct.specs.Adding.{count_sample}
-use Rattle.thread_cct.proofs.Tables.{Tables, all_for, known, too_much, few_enough, samples_more, within_known, within_new}
+use Rattle.thread_cct.proofs.Tables.{Tables, all_for, known, too_much, few_enough, harts_stay, samples_more, within_known, within_new}
 use Rattle.thread_cct.proofs.ccts.Ccts.add.Goals as goal
 
 -- the fields, as contracts see them
@@ -26,6 +26,12 @@ invariant_of-self c =
     let s : HartRaw = record { hart = c.args.hart; raw = c.args.raw.now } in
     within_known tables _ s _ (own_in tables _ c.args.hart c.self.view_is c.requires.hart) c.self.invariant (sym c.count_again.ensures.found ∙ c.if-count_again.true)
     (counted_is tables _ s _ c.count_again.ensures.counted c.if-count_again.true)
+
+pub returns-then-count_again-clause-harts : goal.returns-then-count_again-clause-harts
+returns-then-count_again-clause-harts c =
+    let tables : Tables = c.self.inside.tables.items in
+    let s : HartRaw = record { hart = c.args.hart; raw = c.args.raw.now } in
+    harts_stay tables _ s (counted_is tables _ s _ c.count_again.ensures.counted c.if-count_again.true) ∙ ap (λ (t : Tables). length t) c.self.view_is
 
 pub returns-then-count_again-clause-samples : goal.returns-then-count_again-clause-samples
 returns-then-count_again-clause-samples c =
@@ -58,6 +64,13 @@ invariant_of-self-2 c =
     within_new tables _ s c.self.inside.frames (length c.frames.result.now) (own_in tables _ c.args.hart c.self.view_is c.requires.hart) c.self.invariant
     (sym c.count_again.ensures.found ∙ c.if-count_again.false) c.frames.ensures.count.some (ap length c.frames.ensures.frames) fits
     (put_is tables _ _ c.args.hart c.args.raw.now _ same c.in_ok-path.ensures c.in_ok-put_path.ensures.ok)
+
+pub returns-clause-harts : goal.returns-clause-harts
+returns-clause-harts c =
+    let tables : Tables = c.self.inside.tables.items in
+    let s : HartRaw = record { hart = c.args.hart; raw = c.args.raw.now } in
+    let same = stays tables _ s _ c.count_again.ensures.counted c.if-count_again.false in
+    harts_stay tables _ s (put_is tables _ _ c.args.hart c.args.raw.now _ same c.in_ok-path.ensures c.in_ok-put_path.ensures.ok) ∙ ap (λ (t : Tables). length t) c.self.view_is
 
 pub returns-clause-samples : goal.returns-clause-samples
 returns-clause-samples c =
