@@ -57,12 +57,23 @@ impl Unwinder {
     }
 
     /// Walks from a hart's pc and registers to the root of its thread.
-    #[inline(never)]
+    #[inline(always)]
     pub fn walk(&mut self, pc: u32, regs: &[u32; 33], memory: &mut Memory, trail: &mut Trail) {
+        match self.step(pc) {
+            Step::Ends(end) => {
+                trail.frames[0] = pc;
+                (trail.count, trail.end, trail.hash) = (1, end, u64::from(pc).wrapping_mul(FACTOR));
+            }
+            step => self.walk_on(pc, step, regs, memory, trail),
+        }
+    }
+
+    #[inline(never)]
+    fn walk_on(&mut self, pc: u32, step: Step, regs: &[u32; 33], memory: &mut Memory, trail: &mut Trail) {
         let mut registers = [0u32; 32];
         registers.copy_from_slice(&regs[..32]);
         let (mut here, mut last, mut hash) = (pc, pc, 0u64);
-        let mut step = self.step(pc);
+        let mut step = step;
         trail.count = MOST_FRAMES;
         trail.end = End::Depth;
         for count in 0..MOST_FRAMES {
@@ -144,7 +155,6 @@ fn changed_apart(registers: &mut [u32; 32], changes: &[(u8, Rule)], cfa: u32, me
 /// A distinct path of a hart, and how often it was seen.
 #[derive(Clone, Copy)]
 pub struct Path {
-    hash: u32,
     pub first: u32,
     pub count: u32,
     pub frames: u16,
@@ -158,8 +168,9 @@ pub struct Paths {
     pub list: Vec<Path>,
     /// The frames of all paths, each path's innermost first.
     pub words: Vec<u32>,
-    /// Open addressing: a path's place in the list and 1, or 0. Its length is a power of 2.
-    slots: Vec<u32>,
+    /// Open addressing: a path's hash in the upper half, its place in the list and 1 in the lower; 0 where free. Its
+    /// length is a power of 2.
+    slots: Vec<u64>,
 }
 
 impl Paths {
@@ -167,47 +178,56 @@ impl Paths {
         Paths { list: Vec::new(), words: Vec::new(), slots: vec![0; 1 << 10] }
     }
 
-    pub fn frames(&self, path: &Path) -> &[u32] {
-        &self.words[path.first as usize..][..path.frames as usize]
-    }
-
     /// Counts a path; answers whether it is new.
     #[inline(always)]
     pub fn add(&mut self, hart: usize, trail: &Trail) -> bool {
         let frames = &trail.frames[..trail.count];
         let hash = ((trail.hash ^ (hart as u64) << 8 ^ trail.end as u64).wrapping_mul(FACTOR) >> 32) as u32;
-        let mut slot = hash as usize & (self.slots.len() - 1);
-        loop {
-            let Some(place) = self.slots[slot].checked_sub(1) else { break };
-            let path = self.list[place as usize];
-            let is_same = path.hash == hash && path.hart as usize == hart && path.end == trail.end;
-            if is_same && self.frames(&path) == frames {
-                self.list[place as usize].count += 1;
-                return false;
+        let mask = self.slots.len() - 1;
+        let mut slot = hash as usize & mask;
+        while self.slots[slot] != 0 {
+            let entry = self.slots[slot];
+            if (entry >> 32) as u32 == hash {
+                let path = &mut self.list[entry as u32 as usize - 1];
+                let is_same = path.hart as usize == hart && path.end == trail.end;
+                if is_same && self.words[path.first as usize..][..path.frames as usize] == *frames {
+                    path.count += 1;
+                    return false;
+                }
             }
-            slot = (slot + 1) & (self.slots.len() - 1);
+            slot = (slot + 1) & mask;
         }
-        self.slots[slot] = self.list.len() as u32 + 1;
-        let (first, is_whole) = (self.words.len() as u32, trail.end == End::Whole);
-        let (frames_count, hart, end) = (trail.count as u16, hart as u8, trail.end);
-        self.list.push(Path { hash, first, count: 1, frames: frames_count, hart, is_whole, end });
-        self.words.extend_from_slice(frames);
-        if 2 * self.list.len() > self.slots.len() {
-            self.grow();
-        }
+        self.insert(hart, trail, hash, slot);
         true
     }
 
     #[cold]
+    fn insert(&mut self, hart: usize, trail: &Trail, hash: u32, slot: usize) {
+        let path = Path {
+            first: self.words.len() as u32,
+            count: 1,
+            frames: trail.count as u16,
+            hart: hart as u8,
+            is_whole: trail.end == End::Whole,
+            end: trail.end,
+        };
+        self.list.push(path);
+        self.words.extend_from_slice(&trail.frames[..trail.count]);
+        self.slots[slot] = u64::from(hash) << 32 | self.list.len() as u64;
+        if 2 * self.list.len() > self.slots.len() {
+            self.grow();
+        }
+    }
+
     fn grow(&mut self) {
         let mask = 2 * self.slots.len() - 1;
         let mut slots = vec![0; mask + 1];
-        for (place, path) in self.list.iter().enumerate() {
-            let mut slot = path.hash as usize & mask;
+        for entry in self.slots.iter().filter(|entry| **entry != 0) {
+            let mut slot = (entry >> 32) as usize & mask;
             while slots[slot] != 0 {
                 slot = (slot + 1) & mask;
             }
-            slots[slot] = place as u32 + 1;
+            slots[slot] = *entry;
         }
         self.slots = slots;
     }
