@@ -1,15 +1,17 @@
 //! The rows of two programs by gcc and clang are those that `llvm-dwarfdump --debug-line` prints, and agree
 //! with `addr2line`, at every instruction. Other tables are put together by hand after DWARF 5, section 6.2.
-//! A text stands for bytes, two hexadecimal digits each, or has a case on each line.
+//! A text stands for bytes, two hexadecimal digits each, or has a run of instructions on each line.
 use crate::rows::{bytes_of, cut, number};
 use dwarf_line::{LineFault, LineTable, read_lines};
 use elf_image::{DebugParts, Image, read_image};
+use prof_bytes::Memory;
 use scope_types::LineId;
-use std::alloc::{AllocError, Global};
+use std::alloc::Global;
 use std::test::Fail;
 
 mod by_hand;
 mod clang_lines;
+mod faults;
 mod gcc_lines;
 mod worked;
 
@@ -108,7 +110,7 @@ struct Sections {
     line_str: Vec<u8>,
 }
 
-fn sections_of(alloc: Global, texts: [&[u8]; 3]) -> Result<Sections, AllocError> {
+fn sections_of(alloc: Global, texts: [&[u8]; 3]) -> Result<Sections, Memory> {
     Ok(Sections {
         line: bytes_of(alloc, texts[0])?,
         str_bytes: bytes_of(alloc, texts[1])?,
@@ -125,7 +127,7 @@ fn gcc_is_right(alloc: Global, lines: &LineTable<'_>) -> bool {
         && is_named(alloc, lines, 0, 1, b"<unknown file>")
 }
 
-fn gcc_holds(alloc: Global, image: &Image<'_>) -> Result<bool, AllocError> {
+fn gcc_holds(alloc: Global, image: &Image<'_>) -> Result<bool, Memory> {
     let texts = [
         gcc_lines::line(),
         gcc_lines::str_bytes(),
@@ -149,7 +151,7 @@ fn clang_is_right(alloc: Global, lines: &LineTable<'_>) -> bool {
         && is_named(alloc, lines, 692, 9, b"<unknown file>")
 }
 
-fn clang_holds(alloc: Global, image: &Image<'_>) -> Result<bool, AllocError> {
+fn clang_holds(alloc: Global, image: &Image<'_>) -> Result<bool, Memory> {
     let texts = [
         clang_lines::line(),
         clang_lines::str_bytes(),
@@ -189,61 +191,104 @@ fn call_holds(alloc: Global, image: &Image<'_>, line: &[u8]) -> bool {
     }
 }
 
-/// Whether each address has its row.
-fn rows_hold(lines: &LineTable<'_>, asked: &[u8]) -> bool {
-    let mut left = asked;
-    for _ in 0..9 {
-        let (one, rest) = cut(left, b',');
-        if one.is_empty() {
-            return true;
-        }
-        let (at, wanted) = cut(one, b' ');
-        if !is_line(lines.row_at(number(at, 16)), wanted) {
+/// Whether each address has its row, of the table at the section's beginning.
+fn rows_hold(lines: &LineTable<'_>, rows: &[(u32, Option<(u32, u32)>)]) -> bool {
+    for (pc, wanted) in rows {
+        let found = match lines.row_at(*pc) {
+            Some(
+                LineId::Row {
+                    table: 0,
+                    file,
+                    line,
+                },
+            ) => Some((file, line)),
+            Some(_) => return false,
+            None => None,
+        };
+        if found != *wanted {
             return false;
         }
-        left = rest;
     }
-    false
+    true
 }
 
-/// Whether the table of a case has the rows, or the fault, that stand behind it.
-fn case_holds(alloc: Global, image: &Image<'_>, case: &[u8]) -> Result<bool, AllocError> {
-    let (hex, rest) = cut(cut(case, b'>').1, b'>');
-    let (texts, wanted) = cut(rest, b'>');
-    let line = bytes_of(alloc, hex)?;
-    let str_bytes = bytes_of(alloc, texts)?;
-    match lines_of(alloc, &line, parts(&str_bytes, &[]), image, &[0]) {
-        Some(Ok(lines)) => Ok(rows_hold(&lines, wanted)),
-        Some(Err(prof_bytes::Fail::Fault(fault))) => {
-            let (word, offset) = cut(wanted, b' ');
-            Ok(word == b"fault".as_slice() && fault.offset == number(offset, 10))
-        }
-        _ => Ok(false),
+/// A table of this header, from its version on, and a program of these opcodes.
+fn table(alloc: Global, header: &str, opcodes: &[&[u8]]) -> Result<Vec<u8>, Memory> {
+    let mut unit = bytes_of(alloc, header.as_bytes())?;
+    for opcode in opcodes {
+        unit.extend_from_slice(opcode)?;
     }
+    let mut table = Vec::new(alloc);
+    for shift in [0, 8, 16, 24] {
+        table.push((unit.len() >> shift) as u8)?;
+    }
+    table.extend_from_slice(&unit)?;
+    Ok(table)
 }
 
-/// The number, from 1, of the first case that does not hold.
-fn failing_case(alloc: Global, image: &Image<'_>, cases: &[u8]) -> Result<Option<u32>, AllocError> {
-    let mut left = cases;
-    for number in 1..99 {
-        let (case, rest) = cut(left, b'\n');
-        if case.is_empty() {
-            return Ok(None);
+/// The first table whose rows are others.
+fn other_rows(alloc: Global, image: &Image<'_>) -> Result<Option<&'static str>, Memory> {
+    for case in &by_hand::ROWS {
+        let line = table(alloc, case.1, case.2)?;
+        match lines_of(alloc, &line, parts(&[], &[]), image, &[0]) {
+            Some(Ok(lines)) if rows_hold(&lines, case.3) => {}
+            _ => return Ok(Some(case.0)),
         }
-        if !case_holds(alloc, image, case)? {
-            return Ok(Some(number));
-        }
-        left = rest;
     }
-    Ok(Some(99))
+    Ok(None)
 }
 
-/// The offset of the fault, if there is one.
-fn fault_of(alloc: Global, image: &Image<'_>, line: &[u8], offsets: &[u32]) -> Option<u32> {
-    match lines_of(alloc, line, parts(&[], &[]), image, offsets) {
+/// The offset of the fault, if there is one, beside these texts.
+fn fault_beside(
+    alloc: Global,
+    image: &Image<'_>,
+    line: &[u8],
+    str_bytes: &[u8],
+    offsets: &[u32],
+) -> Option<u32> {
+    match lines_of(alloc, line, parts(str_bytes, &[]), image, offsets) {
         Some(Err(prof_bytes::Fail::Fault(fault))) => Some(fault.offset),
         _ => None,
     }
+}
+
+fn fault_of(alloc: Global, image: &Image<'_>, line: &[u8], offsets: &[u32]) -> Option<u32> {
+    fault_beside(alloc, image, line, &[], offsets)
+}
+
+/// The first table whose length is not at fault.
+fn other_length(alloc: Global, image: &Image<'_>) -> Result<Option<&'static str>, Memory> {
+    for (name, hex) in &faults::LENGTH_FAULTS {
+        let line = bytes_of(alloc, hex.as_bytes())?;
+        if fault_of(alloc, image, &line, &[0]) != Some(0) {
+            return Ok(Some(*name));
+        }
+    }
+    Ok(None)
+}
+
+/// The first table whose header is not at fault.
+fn other_header(alloc: Global, image: &Image<'_>) -> Result<Option<&'static str>, Memory> {
+    for (name, header, texts) in &faults::HEADER_FAULTS {
+        let line = table(alloc, header, &by_hand::PLAIN)?;
+        let str_bytes = bytes_of(alloc, texts.as_bytes())?;
+        if fault_beside(alloc, image, &line, &str_bytes, &[0]) != Some(0) {
+            return Ok(Some(*name));
+        }
+    }
+    Ok(None)
+}
+
+/// The first program that is not at fault at its opcode.
+fn other_program(alloc: Global, image: &Image<'_>) -> Result<Option<&'static str>, Memory> {
+    for (name, program, opcode) in &faults::PROGRAM_FAULTS {
+        let line = table(alloc, by_hand::HEADER, program)?;
+        let offset = by_hand::PROGRAM.wrapping_add(*opcode);
+        if fault_of(alloc, image, &line, &[0]) != Some(offset) {
+            return Ok(Some(*name));
+        }
+    }
+    Ok(None)
 }
 
 /// Whether the faults of the worked program's table stand at their offsets: outside the section, and in
@@ -258,8 +303,10 @@ fn worked_faults_hold(alloc: Global, image: &Image<'_>, line: &[u8]) -> bool {
 enum Trial {
     Gcc,
     Clang,
-    Opcodes,
-    Faults,
+    Rows,
+    LengthFaults,
+    HeaderFaults,
+    ProgramFaults,
     Worked,
     Recursive,
     TwoOperations,
@@ -278,45 +325,48 @@ fn table_holds(alloc: Global, image: &Image<'_>, line: &[u8], trial: Trial) -> b
     }
 }
 
+fn named_unless(holds: bool, name: &'static str) -> Option<&'static str> {
+    if holds { None } else { Some(name) }
+}
+
 /// The same of the table in these digits.
-fn worked_table_holds(
+fn worked_table(
     alloc: Global,
     image: &Image<'_>,
-    line: &[u8],
+    hex: &[u8],
     trial: Trial,
-) -> Result<bool, AllocError> {
-    let line = bytes_of(alloc, line)?;
-    Ok(table_holds(alloc, image, &line, trial))
+) -> Result<Option<&'static str>, Memory> {
+    let line = bytes_of(alloc, hex)?;
+    let holds = table_holds(alloc, image, &line, trial);
+    Ok(named_unless(holds, "the worked table"))
 }
 
-fn first_unless(holds: bool) -> Option<u32> {
-    if holds { None } else { Some(1) }
-}
-
-/// The number, from 1, of the first row that a trial does not meet in the image of a program.
-fn unmet_in(alloc: Global, image: &Image<'_>, trial: Trial) -> Result<Option<u32>, AllocError> {
+/// The name of the first row that a trial does not meet in the image of a program.
+fn unmet_in(
+    alloc: Global,
+    image: &Image<'_>,
+    trial: Trial,
+) -> Result<Option<&'static str>, Memory> {
     match trial {
-        Trial::Gcc => Ok(first_unless(gcc_holds(alloc, image)?)),
-        Trial::Clang => Ok(first_unless(clang_holds(alloc, image)?)),
-        Trial::Opcodes => failing_case(alloc, image, by_hand::rows()),
-        Trial::Faults => failing_case(alloc, image, by_hand::faults()),
-        Trial::Worked | Trial::Recursive => {
-            let holds = worked_table_holds(alloc, image, worked::line(), trial)?;
-            Ok(first_unless(holds))
-        }
+        Trial::Gcc => Ok(named_unless(gcc_holds(alloc, image)?, "gcc")),
+        Trial::Clang => Ok(named_unless(clang_holds(alloc, image)?, "clang")),
+        Trial::Rows => other_rows(alloc, image),
+        Trial::LengthFaults => other_length(alloc, image),
+        Trial::HeaderFaults => other_header(alloc, image),
+        Trial::ProgramFaults => other_program(alloc, image),
+        Trial::Worked | Trial::Recursive => worked_table(alloc, image, worked::line(), trial),
         Trial::TwoOperations => {
-            let line = worked::line_of_two_operations();
-            Ok(first_unless(worked_table_holds(alloc, image, line, trial)?))
+            worked_table(alloc, image, worked::line_of_two_operations(), trial)
         }
     }
 }
 
 /// The same in the program of these digits.
-fn unmet(alloc: Global, program: &[u8], trial: Trial) -> Result<Option<u32>, AllocError> {
+fn unmet(alloc: Global, program: &[u8], trial: Trial) -> Result<Option<&'static str>, Memory> {
     let file = bytes_of(alloc, program)?;
     match image_of(alloc, &file) {
         Some(image) => unmet_in(alloc, &image, trial),
-        None => Ok(Some(0)),
+        None => Ok(Some("the program")),
     }
 }
 
@@ -329,16 +379,16 @@ fn programs_by_gcc_and_clang(rt: HostRuntime) -> Result<(), Fail> {
 
 #[test]
 fn rows_of_each_opcode(rt: HostRuntime) -> Result<(), Fail> {
-    assert_eq!(rt;
-        unmet(rt.alloc(), by_hand::program(), Trial::Opcodes)?,
-        None
-    );
+    assert_eq!(rt; unmet(rt.alloc(), by_hand::program(), Trial::Rows)?, None);
     Ok(())
 }
 
 #[test]
 fn each_fault(rt: HostRuntime) -> Result<(), Fail> {
-    assert_eq!(rt; unmet(rt.alloc(), by_hand::program(), Trial::Faults)?, None);
+    let program = by_hand::program();
+    assert_eq!(rt; unmet(rt.alloc(), program, Trial::LengthFaults)?, None);
+    assert_eq!(rt; unmet(rt.alloc(), program, Trial::HeaderFaults)?, None);
+    assert_eq!(rt; unmet(rt.alloc(), program, Trial::ProgramFaults)?, None);
     Ok(())
 }
 

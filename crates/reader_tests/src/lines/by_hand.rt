@@ -1,4 +1,11 @@
-//! Line tables put together by hand after DWARF 5, section 6.2: what rows they give, and where they are at fault.
+//! Line tables put together by hand after DWARF 5, section 6.2, and what rows they give. A program is its opcodes.
+//! A header stands from its version to its end, two hexadecimal digits a byte.
+use dwarf_line::constants::{
+    DW_LNE_end_sequence, DW_LNE_set_address, DW_LNS_advance_line, DW_LNS_advance_pc,
+    DW_LNS_const_add_pc, DW_LNS_copy, DW_LNS_fixed_advance_pc, DW_LNS_negate_stmt,
+    DW_LNS_set_basic_block, DW_LNS_set_column, DW_LNS_set_epilogue_begin, DW_LNS_set_file,
+    DW_LNS_set_isa, DW_LNS_set_prologue_end,
+};
 
 /// A program of 640 bytes at 0x10000, of which the file has four.
 pub(super) fn program() -> &'static [u8] {
@@ -8,144 +15,312 @@ pub(super) fn program() -> &'static [u8] {
     13000000"
 }
 
-/// A table, no texts, and at some addresses the row in force: the offset of the table, the file and the line.
-pub(super) fn rows() -> &'static [u8] {
-    b"\
-    copy, advance_pc, advance_line>3e0000000500040024000000040101fb0e0d000101010100000001000001010108012f7300020108020b0161\
-    2e630000000502000001000102020305010202000101\
-    >>10000 0 1 1,10004 0 1 1,10008 0 1 6,1000c 0 1 6,10010 -\n\
-    a special opcode>3a0000000500040024000000040101fb0e0d000101010100000001000001010108012f7300020108020b0161\
-    2e6300000005020000010001220201000101\
-    >>10000 0 1 1,10004 0 1 3,10008 -\n\
-    const_add_pc, fixed_advance_pc>3e0000000500040024000000010101fb0e0d000101010100000001000001010108012f7300020108020b0161\
-    2e630000000502000001000108030101090300000101\
-    >>10010 0 1 1,10011 0 1 2,10013 0 1 2,10014 -\n\
-    const_add_pc adds no row>3c0000000500040024000000010101fb0e0d000101010100000001000001010108012f7300020108020b0161\
-    2e63000000050200000100010304080201000101\
-    >>10000 0 1 1,10011 0 1 1\n\
-    fixed_advance_pc is not scaled>3f0000000500040024000000040101fb0e0d000101010100000001000001010108012f7300020108020b0161\
-    2e63000000050200000100010904000301010201000101\
-    >>10003 0 1 1,10004 0 1 2,10007 0 1 2,10008 -\n\
-    set_file and what is not kept>430000000500040024000000010101fb0e0d000101010100000001000001010108012f7300020108020b0161\
-    2e630000000502000001000403050706070a0b0c01010204000101\
-    >>10000 0 3 1,10003 0 3 1,10004 -\n\
-    extended opcodes that are skipped>450000000500040024000000010101fb0e0d000101010100000001000001010108012f7300020108020b0161\
-    2e63000000050200000100000380aabb00020401000103010204000101\
-    >>10000 0 1 1,10004 -\n\
-    lines are modulo 2^32>3b0000000500040024000000010101fb0e0d000101010100000001000001010108012f7300020108020b0161\
-    2e63000000050200000100037e010204000101\
-    >>10000 0 1 4294967295\n\
-    the greatest address, also where rows go back>4d0000000500040024000000010101fb0e0d000101010100000001000001010108012f7300020108020b0161\
-    2e630000000502000001000208010900000005020400010003010100050210000100000101\
-    >>10000 -,10004 -,10008 0 1 1,1000c 0 1 1\n\
-    rows that go back>4d0000000500040024000000010101fb0e0d000101010100000001000001010108012f7300020108020b0161\
-    2e630000000502000001000102080301010005020400010003010100050210000100000101\
-    >>10000 0 1 1,10004 0 1 3,10007 0 1 3,10008 0 1 2,1000f 0 1 2,10010 -\n\
-    the first sequence that holds>480000000500040024000000010101fb0e0d000101010100000001000001010108012f7300020108020b0161\
-    2e63000000050200000100010208000101000502000001000301010210000101\
-    >>10000 0 1 1,10007 0 1 1,10008 0 1 2,1000f 0 1 2,10010 -\n\
-    rows without end_sequence>360000000500040024000000010101fb0e0d000101010100000001000001010108012f7300020108020b0161\
-    2e63000000050200000100010208\
-    >>10000 -\n\
-    a sequence outside the segment>390000000500040024000000010101fb0e0d000101010100000001000001010108012f7300020108020b0161\
-    2e63000000050200000200010204000101\
-    >>20000 -\n\
-    a sequence that passes the segment>3a0000000500040024000000010101fb0e0d000101010100000001000001010108012f7300020108020b0161\
-    2e6300000005020000010001028105000101\
-    >>10000 -\n\
-    an empty sequence>370000000500040024000000010101fb0e0d000101010100000001000001010108012f7300020108020b0161\
-    2e6300000005020000010001000101\
-    >>10000 -\n\
-    opcode_base below the standard opcodes>370000000500040021000000010101fb0e0a000101010100000001010108012f7300020108020b01612e6300\
-    0000050200000100010b0202000101\
-    >>10000 0 1 4294967293\n\
-    a standard opcode of later versions>3e0000000500040025000000010101fb0e0e00010101010000000100000102010108012f7300020108020b01\
-    612e630000000502000001000d810102010204000101\
-    >>10000 0 1 1,10004 -\n\
-    a line range of 1>39000000050004002400000001010103010d000101010100000001000001010108012f7300020108020b0161\
-    2e630000000502000001000e0204000101\
-    >>10001 0 1 4,10000 -\n"
-}
+/// Version 5, addresses of 4 bytes, a header_length of 36; a minimum_instruction_length of 1, a line_base of -5, a
+/// line_range of 14, an opcode_base of 13; the directory `/s`, and the file `a.c` in it.
+pub(super) const HEADER: &str =
+    "0500040024000000010101fb0e0d000101010100000001000001010108012f7300020108020b01612e630000";
 
-/// A table, the bytes of `.debug_str`, and the offset of the fault.
-pub(super) fn faults() -> &'static [u8] {
-    b"\
-    length not whole>010203\
-    >>fault 0\n\
-    length of 64-bit DWARF>f0ffffff0500040024000000010101fb0e0d000101010100000001000001010108012f7300020108020b0161\
-    2e63000000050200000100010204000101\
-    >>fault 0\n\
-    length past the section>390000000500040024000000010101fb0e0d000101010100000001000001010108012f7300020108020b0161\
-    2e630000000502000001000102040001\
-    >>fault 0\n\
-    version not whole>0100000005\
-    >>fault 0\n\
-    version 6>390000000600040024000000010101fb0e0d000101010100000001000001010108012f7300020108020b0161\
-    2e63000000050200000100010204000101\
-    >>fault 0\n\
-    version 1>390000000100040024000000010101fb0e0d000101010100000001000001010108012f7300020108020b0161\
-    2e63000000050200000100010204000101\
-    >>fault 0\n\
-    address size>390000000500080024000000010101fb0e0d000101010100000001000001010108012f7300020108020b0161\
-    2e63000000050200000100010204000101\
-    >>fault 0\n\
-    segment size>390000000500040124000000010101fb0e0d000101010100000001000001010108012f7300020108020b0161\
-    2e63000000050200000100010204000101\
-    >>fault 0\n\
-    line range>390000000500040024000000010101fb000d000101010100000001000001010108012f7300020108020b0161\
-    2e63000000050200000100010204000101\
-    >>fault 0\n\
-    opcode base>2d0000000500040018000000010101fb0e00010108012f7300020108020b01612e6300000005020000010001\
-    0204000101\
-    >>fault 0\n\
-    lengths past the table>210000000500040019000000010101fb0eff00010108012f7300020108020b01612e630000\
-    >>fault 0\n\
-    a form that is none>360000000500040021000000010101fb0e0d00010101010000000100000101010200020108020b01612e6300\
-    0000050200000100010204000101\
-    >>fault 0\n\
-    indirect>360000000500040021000000010101fb0e0d00010101010000000100000101011600020108020b01612e6300\
-    0000050200000100010204000101\
-    >>fault 0\n\
-    implicit_const>32000000050004001d000000010101fb0e0d000101010100000001000001010108012f730001012100000502\
-    00000100010204000101\
-    >>fault 0\n\
-    a path by a number>370000000500040022000000010101fb0e0d00010101010000000100000101010b0105020108020b01612e63\
-    000000050200000100010204000101\
-    >>fault 0\n\
-    a path outside its section>3a0000000500040025000000010101fb0e0d00010101010000000100000101010e0109000000020108020b01\
-    612e63000000050200000100010204000101\
-    >6100>fault 0\n\
-    a path without end in its section>3a0000000500040025000000010101fb0e0d00010101010000000100000101011f0100000000020108020b01\
-    612e63000000050200000100010204000101\
-    >>fault 0\n\
-    a directory index by a text>380000000500040023000000010101fb0e0d000101010100000001000001010108012f730002010802080161\
-    00620000050200000100010204000101\
-    >>fault 0\n\
-    more directories than bytes>34000000050004001f000000010101fb0e0d000101010100000001000001007f020108020b01612e63000000\
-    050200000100010204000101\
-    >>fault 0\n\
-    the program past the end>3900000005000400c8000000010101fb0e0d000101010100000001000001010108012f7300020108020b0161\
-    2e63000000050200000100010204000101\
-    >>fault 0\n\
-    opcode without operand>2e0000000500040024000000010101fb0e0d000101010100000001000001010108012f7300020108020b0161\
-    2e6300000102\
-    >>fault 49\n\
-    an operand too wide>370000000500040024000000010101fb0e0d000101010100000001000001010108012f7300020108020b0161\
-    2e63000002ffffffffffffffffff02\
-    >>fault 48\n\
-    extended size 0>300000000500040024000000010101fb0e0d000101010100000001000001010108012f7300020108020b0161\
-    2e63000001000001\
-    >>fault 49\n\
-    extended size past the table>320000000500040024000000010101fb0e0d000101010100000001000001010108012f7300020108020b0161\
-    2e630000000502000001\
-    >>fault 48\n\
-    set_address of four bytes>320000000500040024000000010101fb0e0d000101010100000001000001010108012f7300020108020b0161\
-    2e630000000402000001\
-    >>fault 48\n\
-    a file of 33 bits>320000000500040024000000010101fb0e0d000101010100000001000001010108012f7300020108020b0161\
-    2e630000048080808010\
-    >>fault 48\n\
-    half of a fixed advance>2e0000000500040024000000010101fb0e0d000101010100000001000001010108012f7300020108020b0161\
-    2e6300000901\
-    >>fault 48\n"
-}
+/// The same with a minimum_instruction_length of 4.
+const SCALED: &str =
+    "0500040024000000040101fb0e0d000101010100000001000001010108012f7300020108020b01612e630000";
+
+/// Where the program of these begins: behind 12 bytes up to header_length, and the 36 that this counts.
+pub(super) const PROGRAM: u32 = 48;
+
+/// A program with a sequence of one row, from 0x10000 to 0x10004.
+pub(super) static PLAIN: [&[u8]; 4] = [
+    &[0, 5, DW_LNE_set_address, 0, 0, 1, 0],
+    &[DW_LNS_copy],
+    &[DW_LNS_advance_pc, 4],
+    &[0, 1, DW_LNE_end_sequence],
+];
+
+/// A name, a header, a program, and at some addresses the file and the line of the row in force.
+pub(super) type Rows = (
+    &'static str,
+    &'static str,
+    &'static [&'static [u8]],
+    &'static [(u32, Option<(u32, u32)>)],
+);
+
+pub(super) static ROWS: [Rows; 18] = [
+    (
+        "copy, advance_pc, advance_line",
+        SCALED,
+        &[
+            &[0, 5, DW_LNE_set_address, 0, 0, 1, 0],
+            &[DW_LNS_copy],
+            &[DW_LNS_advance_pc, 2],
+            &[DW_LNS_advance_line, 5],
+            &[DW_LNS_copy],
+            &[DW_LNS_advance_pc, 2],
+            &[0, 1, DW_LNE_end_sequence],
+        ],
+        &[
+            (0x10000, Some((1, 1))),
+            (0x10004, Some((1, 1))),
+            (0x10008, Some((1, 6))),
+            (0x1000c, Some((1, 6))),
+            (0x10010, None),
+        ],
+    ),
+    (
+        "a special opcode",
+        SCALED,
+        &[
+            &[0, 5, DW_LNE_set_address, 0, 0, 1, 0],
+            &[DW_LNS_copy],
+            &[0x22],
+            &[DW_LNS_advance_pc, 1],
+            &[0, 1, DW_LNE_end_sequence],
+        ],
+        &[
+            (0x10000, Some((1, 1))),
+            (0x10004, Some((1, 3))),
+            (0x10008, None),
+        ],
+    ),
+    (
+        "const_add_pc, fixed_advance_pc",
+        HEADER,
+        &[
+            &[0, 5, DW_LNE_set_address, 0, 0, 1, 0],
+            &[DW_LNS_copy],
+            &[DW_LNS_const_add_pc],
+            &[DW_LNS_advance_line, 1],
+            &[DW_LNS_copy],
+            &[DW_LNS_fixed_advance_pc, 3, 0],
+            &[0, 1, DW_LNE_end_sequence],
+        ],
+        &[
+            (0x10010, Some((1, 1))),
+            (0x10011, Some((1, 2))),
+            (0x10013, Some((1, 2))),
+            (0x10014, None),
+        ],
+    ),
+    (
+        "const_add_pc adds no row",
+        HEADER,
+        &[
+            &[0, 5, DW_LNE_set_address, 0, 0, 1, 0],
+            &[DW_LNS_copy],
+            &[DW_LNS_advance_line, 4],
+            &[DW_LNS_const_add_pc],
+            &[DW_LNS_advance_pc, 1],
+            &[0, 1, DW_LNE_end_sequence],
+        ],
+        &[(0x10000, Some((1, 1))), (0x10011, Some((1, 1)))],
+    ),
+    (
+        "fixed_advance_pc is not scaled",
+        SCALED,
+        &[
+            &[0, 5, DW_LNE_set_address, 0, 0, 1, 0],
+            &[DW_LNS_copy],
+            &[DW_LNS_fixed_advance_pc, 4, 0],
+            &[DW_LNS_advance_line, 1],
+            &[DW_LNS_copy],
+            &[DW_LNS_advance_pc, 1],
+            &[0, 1, DW_LNE_end_sequence],
+        ],
+        &[
+            (0x10003, Some((1, 1))),
+            (0x10004, Some((1, 2))),
+            (0x10007, Some((1, 2))),
+            (0x10008, None),
+        ],
+    ),
+    (
+        "set_file and what is not kept",
+        HEADER,
+        &[
+            &[0, 5, DW_LNE_set_address, 0, 0, 1, 0],
+            &[DW_LNS_set_file, 3],
+            &[DW_LNS_set_column, 7],
+            &[DW_LNS_negate_stmt],
+            &[DW_LNS_set_basic_block],
+            &[DW_LNS_set_prologue_end],
+            &[DW_LNS_set_epilogue_begin],
+            &[DW_LNS_set_isa, 1],
+            &[DW_LNS_copy],
+            &[DW_LNS_advance_pc, 4],
+            &[0, 1, DW_LNE_end_sequence],
+        ],
+        &[
+            (0x10000, Some((3, 1))),
+            (0x10003, Some((3, 1))),
+            (0x10004, None),
+        ],
+    ),
+    (
+        "extended opcodes that are skipped",
+        HEADER,
+        &[
+            &[0, 5, DW_LNE_set_address, 0, 0, 1, 0],
+            &[0, 3, 0x80, 0xaa, 0xbb],
+            &[0, 2, 0x04, 1],
+            &[0, 1, 0x03],
+            &[DW_LNS_copy],
+            &[DW_LNS_advance_pc, 4],
+            &[0, 1, DW_LNE_end_sequence],
+        ],
+        &[(0x10000, Some((1, 1))), (0x10004, None)],
+    ),
+    (
+        "lines are modulo 2^32",
+        HEADER,
+        &[
+            &[0, 5, DW_LNE_set_address, 0, 0, 1, 0],
+            &[DW_LNS_advance_line, 0x7e],
+            &[DW_LNS_copy],
+            &[DW_LNS_advance_pc, 4],
+            &[0, 1, DW_LNE_end_sequence],
+        ],
+        &[(0x10000, Some((1, 4294967295)))],
+    ),
+    (
+        "the greatest address, also where rows go back",
+        HEADER,
+        &[
+            &[0, 5, DW_LNE_set_address, 0, 0, 1, 0],
+            &[DW_LNS_advance_pc, 8],
+            &[DW_LNS_copy],
+            &[DW_LNS_fixed_advance_pc, 0, 0],
+            &[0, 5, DW_LNE_set_address, 4, 0, 1, 0],
+            &[DW_LNS_advance_line, 1],
+            &[DW_LNS_copy],
+            &[0, 5, DW_LNE_set_address, 0x10, 0, 1, 0],
+            &[0, 1, DW_LNE_end_sequence],
+        ],
+        &[
+            (0x10000, None),
+            (0x10004, None),
+            (0x10008, Some((1, 1))),
+            (0x1000c, Some((1, 1))),
+        ],
+    ),
+    (
+        "rows that go back",
+        HEADER,
+        &[
+            &[0, 5, DW_LNE_set_address, 0, 0, 1, 0],
+            &[DW_LNS_copy],
+            &[DW_LNS_advance_pc, 8],
+            &[DW_LNS_advance_line, 1],
+            &[DW_LNS_copy],
+            &[0, 5, DW_LNE_set_address, 4, 0, 1, 0],
+            &[DW_LNS_advance_line, 1],
+            &[DW_LNS_copy],
+            &[0, 5, DW_LNE_set_address, 0x10, 0, 1, 0],
+            &[0, 1, DW_LNE_end_sequence],
+        ],
+        &[
+            (0x10000, Some((1, 1))),
+            (0x10004, Some((1, 3))),
+            (0x10007, Some((1, 3))),
+            (0x10008, Some((1, 2))),
+            (0x1000f, Some((1, 2))),
+            (0x10010, None),
+        ],
+    ),
+    (
+        "the first sequence that holds",
+        HEADER,
+        &[
+            &[0, 5, DW_LNE_set_address, 0, 0, 1, 0],
+            &[DW_LNS_copy],
+            &[DW_LNS_advance_pc, 8],
+            &[0, 1, DW_LNE_end_sequence],
+            &[0, 5, DW_LNE_set_address, 0, 0, 1, 0],
+            &[DW_LNS_advance_line, 1],
+            &[DW_LNS_copy],
+            &[DW_LNS_advance_pc, 0x10],
+            &[0, 1, DW_LNE_end_sequence],
+        ],
+        &[
+            (0x10000, Some((1, 1))),
+            (0x10007, Some((1, 1))),
+            (0x10008, Some((1, 2))),
+            (0x1000f, Some((1, 2))),
+            (0x10010, None),
+        ],
+    ),
+    (
+        "rows without end_sequence",
+        HEADER,
+        &[
+            &[0, 5, DW_LNE_set_address, 0, 0, 1, 0],
+            &[DW_LNS_copy],
+            &[DW_LNS_advance_pc, 8],
+        ],
+        &[(0x10000, None)],
+    ),
+    (
+        "a sequence outside the segment",
+        HEADER,
+        &[
+            &[0, 5, DW_LNE_set_address, 0, 0, 2, 0],
+            &[DW_LNS_copy],
+            &[DW_LNS_advance_pc, 4],
+            &[0, 1, DW_LNE_end_sequence],
+        ],
+        &[(0x20000, None)],
+    ),
+    (
+        "a sequence that passes the segment",
+        HEADER,
+        &[
+            &[0, 5, DW_LNE_set_address, 0, 0, 1, 0],
+            &[DW_LNS_copy],
+            &[DW_LNS_advance_pc, 0x81, 5],
+            &[0, 1, DW_LNE_end_sequence],
+        ],
+        &[(0x10000, None)],
+    ),
+    (
+        "an empty sequence",
+        HEADER,
+        &[
+            &[0, 5, DW_LNE_set_address, 0, 0, 1, 0],
+            &[DW_LNS_copy],
+            &[0, 1, DW_LNE_end_sequence],
+        ],
+        &[(0x10000, None)],
+    ),
+    (
+        "opcode_base below the standard opcodes",
+        "0500040021000000010101fb0e0a000101010100000001010108012f7300020108020b01612e630000",
+        &[
+            &[0, 5, DW_LNE_set_address, 0, 0, 1, 0],
+            &[DW_LNS_copy],
+            &[0x0b],
+            &[DW_LNS_advance_pc, 2],
+            &[0, 1, DW_LNE_end_sequence],
+        ],
+        &[(0x10000, Some((1, 4294967293)))],
+    ),
+    (
+        "a standard opcode of later versions",
+        "0500040025000000010101fb0e0e00010101010000000100000102010108012f7300020108020b01612e630000",
+        &[
+            &[0, 5, DW_LNE_set_address, 0, 0, 1, 0],
+            &[13, 0x81, 1, 2],
+            &[DW_LNS_copy],
+            &[DW_LNS_advance_pc, 4],
+            &[0, 1, DW_LNE_end_sequence],
+        ],
+        &[(0x10000, Some((1, 1))), (0x10004, None)],
+    ),
+    (
+        "a line range of 1",
+        "050004002400000001010103010d000101010100000001000001010108012f7300020108020b01612e630000",
+        &[
+            &[0, 5, DW_LNE_set_address, 0, 0, 1, 0],
+            &[0x0e],
+            &[DW_LNS_advance_pc, 4],
+            &[0, 1, DW_LNE_end_sequence],
+        ],
+        &[(0x10001, Some((1, 4))), (0x10000, None)],
+    ),
+];
