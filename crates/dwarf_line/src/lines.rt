@@ -204,9 +204,9 @@ fn push_some<'a>(tables: &mut Vec<Table<'a>>, table: Option<Table<'a>>) -> Resul
     Ok(())
 }
 
-/// The line tables at these offsets of `.debug_line`, each once and ascending, or the first fault in
-/// their order. Of the sequences those are kept that lie within one executed segment of the image.
-/// Linear in the bytes of the tables, but for the order of the sequences and of the tables.
+/// The line tables at these offsets of `.debug_line` (DWARF 5, section 6.2), or the first fault in their
+/// order. Of the sequences those are kept that lie within one executed segment of the program. Takes time
+/// linear in the bytes of the tables, and as n log n in the number of tables and of sequences.
 #[tactic(auto, using(crate::proofs::TableLists::lines_are, crate::proofs::TableLists::lines_fail))]
 pub fn read_lines<'a>(
     alloc: Global,
