@@ -16,7 +16,8 @@ struct Probe {
 }
 
 impl Unwind for Probe {
-    ghost path_of = { λ _ pc registers _. record { end = Whole; frames = record { pc = pc } ∷ record { pc = slice_index registers 10 } ∷ [] } };
+    ghost path_of = { λ _ pc registers _.
+        record { end = Whole; frames = record { pc = pc } ∷ record { pc = slice_index registers 10 } ∷ [] } };
 
     fn path<L: Look>(&self, pc: u32, regs: &[u32; 32], _memory: &L) -> Result<RawPath, Memory> {
         let mut frames = Vec::new(self.alloc);

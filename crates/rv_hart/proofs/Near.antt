@@ -29,7 +29,7 @@ get_or-any (x ∷ xs) (suc i) d e within = get_or-any xs i d e (omega arith)
 pub or_default : (pages : List Paged) (index : ℕ) (found : Option Paged) → found ≡ slice_get pages index → unwrap_or found blank ≡ page_at pages index
 or_default pages index found are = ap (λ (f : Option Paged). unwrap_or f blank) are ∙ unwrap_or-slice_get pages index blank
 
--- a list that has each element of a function's in its place
+-- a list that has each element of a function's in its offset
 pub spelled : (xs : List ℕ) (f : ℕ → ℕ) (at count : ℕ) → length xs ≡ count → ((i : ℕ) → i < count → get_or xs i 0 ≡ f (at + i)) → xs ≡ map f (range_with_len at count)
 spelled xs f at count long each =
     ext_get_or 0 xs (map f (range_with_len at count)) (long ∙ sym (length-map-range_with_len f at count))
@@ -37,12 +37,12 @@ spelled xs f at count long each =
     let inside : i < count = omega arith in
     each i inside ∙ sym (get_or-map-range_with_len f at count i (at + i) 0 inside refl))
 
--- so many elements of a list, from this place on
-pub part-get : (xs : List ℕ) (place count i : ℕ) → i < count → get_or (take count (drop place xs)) i 0 ≡ get_or xs (place + i) 0
-part-get xs place count i inside = get_or-take count (drop place xs) i 0 inside ∙ get_or-drop place xs i 0
+-- so many elements of a list, from this offset on
+pub part-get : (xs : List ℕ) (offset count i : ℕ) → i < count → get_or (take count (drop offset xs)) i 0 ≡ get_or xs (offset + i) 0
+part-get xs offset count i inside = get_or-take count (drop offset xs) i 0 inside ∙ get_or-drop offset xs i 0
 
-pub part-length : (xs : List ℕ) (place count : ℕ) → place + count ≤ length xs → length (take count (drop place xs)) ≡ count
-part-length xs place count within = omega (arith, length-take count (drop place xs), length-drop place xs)
+pub part-length : (xs : List ℕ) (offset count : ℕ) → offset + count ≤ length xs → length (take count (drop offset xs)) ≡ count
+part-length xs offset count within = omega (arith, length-take count (drop offset xs), length-drop offset xs)
 
 -- the segment holds each address that it covers
 pub covers-holds : (home : Segment) (at count i : ℕ) → covers_all home at count ≡ true → i < count → in_segment (at + i) home ≡ true
@@ -55,8 +55,8 @@ covers-region regions home at count i own covered inside = own (at + i) (covers-
 pub page-same : (paged : PagedMemory) (at i : ℕ) → at % 2 ^ 12 + i < 2 ^ 12 → page_of paged (at + i) ≡ page_of paged at
 page-same paged at i inside = ap (page_numbered paged) (let e : (at + i) / 2 ^ 12 ≡ at / 2 ^ 12 = omega arith in e)
 
-pub place-same : (at i : ℕ) → at % 2 ^ 12 + i < 2 ^ 12 → (at + i) % 2 ^ 12 ≡ at % 2 ^ 12 + i
-place-same at i inside = omega arith
+pub offset-same : (at i : ℕ) → at % 2 ^ 12 + i < 2 ^ 12 → (at + i) % 2 ^ 12 ≡ at % 2 ^ 12 + i
+offset-same at i inside = omega arith
 
 -- the bytes of a page, from an address on
 pub near-page : (paged : PagedMemory) (at count : ℕ) (bytes : List ℕ) → bytes ≡ (page_of paged at).bytes → at % 2 ^ 12 + count ≤ 2 ^ 12 → at % 2 ^ 12 + count ≤ length bytes → take count (drop (at % 2 ^ 12) bytes) ≡ map (value paged) (range_with_len at count)
@@ -67,7 +67,7 @@ near-page paged at count bytes are inside within =
     let here : (page_of paged (at + i)).bytes ≡ bytes = ap (λ (p : Paged). p.bytes) (page-same paged at i (omega arith)) ∙ sym are in
     part-get bytes (at % 2 ^ 12) count i few
     ∙ get_or-any bytes (at % 2 ^ 12 + i) 0 first (omega arith)
-    ∙ sym (ap₂ (λ (b : List ℕ) (p : ℕ). get_or b p first) here (place-same at i (omega arith))))
+    ∙ sym (ap₂ (λ (b : List ℕ) (p : ℕ). get_or b p first) here (offset-same at i (omega arith))))
 
 -- where a page was not made, the bytes are those that the region began with
 pub value-first : (paged : PagedMemory) (home : Segment) (at count i : ℕ) → [] ≡ (page_of paged at).bytes → at % 2 ^ 12 + count ≤ 2 ^ 12 → IsHome paged.regions home → covers_all home at count ≡ true → i < count → value paged (at + i) ≡ byte_in paged.file.now (at + i) (Some home)

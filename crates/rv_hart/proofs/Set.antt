@@ -11,30 +11,30 @@ use Rattle.rv_hart.specs.private.Pages.{Paged, spliced, with_bytes}
 use Rattle.elf_image.specs.declared.part.Segment.{Segment}
 use Rattle.rv_hart.specs.private.Paging.{IsHome, page_numbered, page_of, value, value_after}
 
-pub spliced-length : (bytes : List ℕ) (place : ℕ) (source : List ℕ) → place + length source ≤ length bytes → length (spliced bytes place source) ≡ length bytes
-spliced-length bytes place source within =
-    omega (arith, length-append (take place bytes ++ source) (drop (place + length source) bytes), length-append (take place bytes) source, length-take place bytes, length-drop (place + length source) bytes)
+pub spliced-length : (bytes : List ℕ) (offset : ℕ) (source : List ℕ) → offset + length source ≤ length bytes → length (spliced bytes offset source) ≡ length bytes
+spliced-length bytes offset source within =
+    omega (arith, length-append (take offset bytes ++ source) (drop (offset + length source) bytes), length-append (take offset bytes) source, length-take offset bytes, length-drop (offset + length source) bytes)
 
 -- before the bytes, in them and behind them
-pub spliced-before : (bytes : List ℕ) (place : ℕ) (source : List ℕ) (k d : ℕ) → place + length source ≤ length bytes → k < place → get_or (spliced bytes place source) k d ≡ get_or bytes k d
-spliced-before bytes place source k d within before =
-    get_or_append_left (take place bytes ++ source) (drop (place + length source) bytes) d k (omega (arith, length-append (take place bytes) source, length-take place bytes))
-    ∙ get_or_append_left (take place bytes) source d k (omega (arith, length-take place bytes))
-    ∙ get_or-take place bytes k d before
+pub spliced-before : (bytes : List ℕ) (offset : ℕ) (source : List ℕ) (k d : ℕ) → offset + length source ≤ length bytes → k < offset → get_or (spliced bytes offset source) k d ≡ get_or bytes k d
+spliced-before bytes offset source k d within before =
+    get_or_append_left (take offset bytes ++ source) (drop (offset + length source) bytes) d k (omega (arith, length-append (take offset bytes) source, length-take offset bytes))
+    ∙ get_or_append_left (take offset bytes) source d k (omega (arith, length-take offset bytes))
+    ∙ get_or-take offset bytes k d before
 
-pub spliced-in : (bytes : List ℕ) (place : ℕ) (source : List ℕ) (k d : ℕ) → place + length source ≤ length bytes → k < length source → get_or (spliced bytes place source) (place + k) d ≡ get_or source k d
-spliced-in bytes place source k d within inside =
-    let long : length (take place bytes) ≡ place = omega (arith, length-take place bytes) in
-    get_or_append_left (take place bytes ++ source) (drop (place + length source) bytes) d (place + k) (omega (arith, length-append (take place bytes) source))
-    ∙ ap (λ (n : ℕ). get_or (take place bytes ++ source) (n + k) d) (sym long)
-    ∙ get_or-append-add (take place bytes) source k d
+pub spliced-in : (bytes : List ℕ) (offset : ℕ) (source : List ℕ) (k d : ℕ) → offset + length source ≤ length bytes → k < length source → get_or (spliced bytes offset source) (offset + k) d ≡ get_or source k d
+spliced-in bytes offset source k d within inside =
+    let long : length (take offset bytes) ≡ offset = omega (arith, length-take offset bytes) in
+    get_or_append_left (take offset bytes ++ source) (drop (offset + length source) bytes) d (offset + k) (omega (arith, length-append (take offset bytes) source))
+    ∙ ap (λ (n : ℕ). get_or (take offset bytes ++ source) (n + k) d) (sym long)
+    ∙ get_or-append-add (take offset bytes) source k d
 
-pub spliced-behind : (bytes : List ℕ) (place : ℕ) (source : List ℕ) (k d : ℕ) → place + length source ≤ length bytes → get_or (spliced bytes place source) (place + length source + k) d ≡ get_or bytes (place + length source + k) d
-spliced-behind bytes place source k d within =
-    let long : length (take place bytes ++ source) ≡ place + length source = omega (arith, length-append (take place bytes) source, length-take place bytes) in
-    ap (λ (n : ℕ). get_or (spliced bytes place source) (n + k) d) (sym long)
-    ∙ get_or-append-add (take place bytes ++ source) (drop (place + length source) bytes) k d
-    ∙ get_or-drop (place + length source) bytes k d
+pub spliced-behind : (bytes : List ℕ) (offset : ℕ) (source : List ℕ) (k d : ℕ) → offset + length source ≤ length bytes → get_or (spliced bytes offset source) (offset + length source + k) d ≡ get_or bytes (offset + length source + k) d
+spliced-behind bytes offset source k d within =
+    let long : length (take offset bytes ++ source) ≡ offset + length source = omega (arith, length-append (take offset bytes) source, length-take offset bytes) in
+    ap (λ (n : ℕ). get_or (spliced bytes offset source) (n + k) d) (sym long)
+    ∙ get_or-append-add (take offset bytes ++ source) (drop (offset + length source) bytes) k d
+    ∙ get_or-drop (offset + length source) bytes k d
 
 unequal : (a b : ℕ) → (a == b) ≡ false → a ≢ b
 unequal a b differ same = let clash : true ≡ false = sym (eq-eqb a b same) ∙ differ in cc
@@ -203,11 +203,11 @@ put-intact old new at source intact granted values a fixed =
     ])
 
 -- pages keep the regions for which they were made
-pub put-homes : (regions : List Segment) (old new : ℕ → Paged) (number place : ℕ) (source : List ℕ) → ((n : ℕ) → new n ≡ cond (n == number) (with_bytes (old number) place source) (old n)) → ((n : ℕ) → IsHome regions (old n).home) → (n : ℕ) → IsHome regions (new n).home
-put-homes regions old new number place source pages homes n =
+pub put-homes : (regions : List Segment) (old new : ℕ → Paged) (number offset : ℕ) (source : List ℕ) → ((n : ℕ) → new n ≡ cond (n == number) (with_bytes (old number) offset source) (old n)) → ((n : ℕ) → IsHome regions (old n).home) → (n : ℕ) → IsHome regions (new n).home
+put-homes regions old new number offset source pages homes n =
     subst (λ (p : Paged). IsHome regions p.home) (sym (pages n)) (by_case (n == number))
   where
-    by_case : (b : Bool) → IsHome regions (cond b (with_bytes (old number) place source) (old n)).home
+    by_case : (b : Bool) → IsHome regions (cond b (with_bytes (old number) offset source) (old n)).home
     by_case true = homes number
     by_case false = homes n
 

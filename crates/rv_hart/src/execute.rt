@@ -199,7 +199,7 @@ pub fn step(hart: &mut Hart, space: &mut Space) -> Result<Stepped, Memory>
     ensures ok { IfOk result (λ stepped. (state_of hart.new space.new, stepped)
         ≡ step_of (state_of hart.old space.old)) }
     ensures err { OnErr result (state_of hart.new space.new ≡ state_of hart.old space.old) }
-    // Memory is wanted only where a store retires.
+    // Memory runs out only in a store that retires.
     ensures memory { OnErr result (StoresNow (state_of hart.old space.old)) }
 {
     match space.fetch(hart.pc) {

@@ -47,22 +47,22 @@ impl Page {
         self.bytes.as_slice()
     }
 
-    /// Puts other bytes from this place on.
+    /// Puts other bytes in, from this offset on.
     #[inline(always)]
-    pub(crate) fn put(&mut self, place: usize, source: &[u8])
-        requires { place + length source.now ≤ length self.old.bytes }
-        ensures { self.new ≡ with_bytes self.old place source.now }
+    pub(crate) fn put(&mut self, offset: usize, source: &[u8])
+        requires { offset + length source.now ≤ length self.old.bytes }
+        ensures { self.new ≡ with_bytes self.old offset source.now }
     {
-        splice(&mut self.bytes, place, source);
+        splice(&mut self.bytes, offset, source);
     }
 }
 
 #[inline(always)]
-fn splice(bytes: &mut Vec<u8>, place: usize, source: &[u8])
-    requires { place + length source.now ≤ length bytes.old.items }
-    ensures { bytes.new.items ≡ spliced bytes.old.items place source.now }
+fn splice(bytes: &mut Vec<u8>, offset: usize, source: &[u8])
+    requires { offset + length source.now ≤ length bytes.old.items }
+    ensures { bytes.new.items ≡ spliced bytes.old.items offset source.now }
 {
-    bytes.as_mut_slice()[place..place + source.len()].copy_from_slice(source);
+    bytes.as_mut_slice()[offset..offset + source.len()].copy_from_slice(source);
 }
 
 /// Pages that follow one another.
@@ -123,13 +123,13 @@ impl Block {
 
     /// Puts other bytes into a page.
     #[inline(always)]
-    pub(crate) fn put(&mut self, index: usize, place: usize, source: &[u8])
+    pub(crate) fn put(&mut self, index: usize, offset: usize, source: &[u8])
         requires index { index < length self.old }
-        requires place { place + length source.now ≤ length (page_at self.old index).bytes }
-        ensures { self.new ≡ slice_set self.old index (with_bytes (page_at self.old index) place source.now) }
+        requires offset { offset + length source.now ≤ length (page_at self.old index).bytes }
+        ensures { self.new ≡ slice_set self.old index (with_bytes (page_at self.old index) offset source.now) }
     {
         let page = &mut self.pages[index];
-        page.put(place, source);
+        page.put(offset, source);
     }
 }
 

@@ -27,8 +27,8 @@ fn first_in(file: &[u8], region: &Segment, at: u32) -> u8
     if depth >= region.filled {
         return 0;
     }
-    let place = region.offset as usize + depth as usize;
-    file.get(place).copied().unwrap_or(0)
+    let offset = region.offset as usize + depth as usize;
+    file.get(offset).copied().unwrap_or(0)
 }
 
 impl<'a> PagedMemory<'a> {
@@ -39,7 +39,7 @@ impl<'a> PagedMemory<'a> {
         self.regions.first(at).copied()
     }
 
-    /// The address's page, if there is a place for it.
+    /// The address's page, if its block is there.
     #[inline(always)]
     pub(crate) fn page(&self, at: u32) -> Option<&Page>
         ensures { unwrap_or (option_copied result) blank ≡ page_of self.now at }

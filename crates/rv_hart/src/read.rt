@@ -40,11 +40,11 @@ fn near_in_file<'a>(file: &'a [u8], home: &Segment, at: u32, count: usize) -> Op
     if depth >= filled {
         return Some(&ZEROS[..count]);
     }
-    let place = home.offset as usize + depth;
-    if depth + count > filled || place + count > file.len() {
+    let offset = home.offset as usize + depth;
+    if depth + count > filled || offset + count > file.len() {
         return None;
     }
-    Some(&file[place..place + count])
+    Some(&file[offset..offset + count])
 }
 
 impl<'a> PagedMemory<'a> {
@@ -60,18 +60,18 @@ impl<'a> PagedMemory<'a> {
         if !grants(home, Right::Write) {
             return near_in_file(self.file, home, at, count);
         }
-        let place = at as usize % 4096;
-        if place + count > 4096 {
+        let offset = at as usize % 4096;
+        if offset + count > 4096 {
             return None;
         }
         let bytes = self.page_bytes(at);
         if bytes.is_empty() {
             return near_in_file(self.file, home, at, count);
         }
-        if place + count > bytes.len() {
+        if offset + count > bytes.len() {
             return None;
         }
-        Some(&bytes[place..place + count])
+        Some(&bytes[offset..offset + count])
     }
 
     /// The bytes from `at` on, one by one.
@@ -79,8 +79,8 @@ impl<'a> PagedMemory<'a> {
         requires { at + length out.old ≤ 2 ^ 32 }
         ensures { out.new ≡ map (value self.now) (range_with_len at (length out.old)) }
     {
-        for (place, byte) in out.iter_mut().enumerate() {
-            *byte = self.byte(at + place as u32);
+        for (offset, byte) in out.iter_mut().enumerate() {
+            *byte = self.byte(at + offset as u32);
         }
     }
 
@@ -149,8 +149,8 @@ impl<'a> PagedMemory<'a> {
         requires count { count < 2 ^ 63 }
         ensures { result ≡ list_all (may (bit_of right) self.now.regions) (range_with_len at count) }
     {
-        for place in 0..count {
-            if !self.is_granted(right, at as usize + place) {
+        for offset in 0..count {
+            if !self.is_granted(right, at as usize + offset) {
                 return false;
             }
         }

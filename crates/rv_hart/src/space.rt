@@ -84,7 +84,7 @@ impl<'a> Space<'a> {
     pub fn store(&mut self, at: u32, bytes: &[u8]) -> Result<bool, Memory>
         ensures ok { IfOk result (λ answer. (answer, self.new) ≡ stored self.old at bytes.now) }
         ensures err { OnErr result (self.new ≡ self.old) }
-        // Memory is wanted only where the bytes may be written.
+        // Memory runs out only where the bytes may be written.
         ensures writable { OnErr result (may_all PF_W self.old at (length bytes.now) ≡ true) }
     {
         access::store(&mut self.paged, self.alloc, at, bytes)

@@ -77,8 +77,8 @@ impl<'a> PagedMemory<'a> {
             → slice_index bytes.items i ≡ value self.now (number * 2 ^ 12 + i)) }
     {
         let mut bytes = Vec::new(alloc);
-        for place in 0..4096u32 {
-            bytes.push(self.byte_near(home, number * 4096 + place))?;
+        for offset in 0..4096u32 {
+            bytes.push(self.byte_near(home, number * 4096 + offset))?;
         }
         Ok(bytes)
     }
@@ -173,8 +173,8 @@ impl<'a> PagedMemory<'a> {
         ensures values { (a : ℕ) → value self.new a ≡ value self.old a }
         ensures made { IfOk result (λ _. (i : ℕ) → i < count → 2 ^ 12 ≤ length (page_of self.new (at + i)).bytes) }
     {
-        for place in 0..count {
-            self.make(alloc, at + place as u32)?;
+        for offset in 0..count {
+            self.make(alloc, at + offset as u32)?;
         }
         Ok(())
     }
@@ -189,8 +189,8 @@ impl<'a> PagedMemory<'a> {
         ensures paged { IsPaged self.new }
         ensures values { (a : ℕ) → value self.new a ≡ value_after self.old at source.now a }
     {
-        for (place, byte) in source.iter().enumerate() {
-            self.put(at + place as u32, &[*byte]);
+        for (offset, byte) in source.iter().enumerate() {
+            self.put(at + offset as u32, &[*byte]);
         }
     }
 }

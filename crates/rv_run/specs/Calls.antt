@@ -64,13 +64,16 @@ writes_out at count s = record { state = record s { output = s.output ++ bytes_a
 abbrev pub all_readable : AddressSpace → ℕ → ℕ → Bool
 all_readable memory at count = nat_le (at + count) (2 ^ 32) && may_all PF_R memory at count
 
--- write: descriptors 1 and 2 are the output. All bytes must be readable, also where not all are taken
+-- the bytes go to the output as far as it has room. All must be readable, also where not all are taken
+abbrev pub written_from : ℕ → ℕ → MachineState → Answered
+written_from at count s =
+    if all_readable s.memory at count then writes_out at (taken count s.output) s
+    else only_answers (negative EFAULT) s
+
+-- write: descriptors 1 and 2 are the output
 abbrev pub writes : ℕ → ℕ → ℕ → MachineState → Answered
 writes descriptor at count s =
-    if (descriptor == 1) || (descriptor == 2)
-    then
-    (if all_readable s.memory at count then writes_out at (taken count s.output) s else only_answers (negative EFAULT) s)
-    else only_answers (negative EBADF) s
+    if (descriptor == 1) || (descriptor == 2) then written_from at count s else only_answers (negative EBADF) s
 
 -- a hart after a call that completes
 abbrev pub with_answer : ℕ → HartState → HartState

@@ -39,7 +39,7 @@ unfoldable pub numbered : ℕ → List (List ℕ) → List NumberedLine
 numbered first [] = []
 numbered first (line ∷ rest) = record { number = first; bytes = line } ∷ numbered (first + 1) rest
 
--- empty lines and those that begin with `#` are passed over
+-- empty lines and those that begin with `#` are ignored
 abbrev pub is_ignored : List ℕ → Bool
 is_ignored [] = true
 is_ignored (byte ∷ rest) = byte == 35

@@ -39,8 +39,12 @@ impl<'a> Model for Environment<'a> {
 
     ghost Value = { MachineState };
 
-    ghost view = { λ e.
-        record { memory = e.space; harts = e.harts.items; input = drop e.consumed e.input.items; output = e.output.items } };
+    ghost view = { λ e. record {
+      memory = e.space;
+      harts = e.harts.items;
+      input = drop e.consumed e.input.items;
+      output = e.output.items;
+    } };
 
     ghost invariant = { λ e. e.consumed ≤ length e.input.items };
 }
@@ -69,8 +73,8 @@ fn first_harts(alloc: Global, entry: u32, harts: u32) -> Result<Vec<MachineHart>
 fn finish_each(cores: &mut [MachineHart], status: u32)
     ensures { cores.new ≡ map (grouped status) cores.old }
 {
-    for place in 0..cores.len() {
-        let core = &mut cores[place];
+    for index in 0..cores.len() {
+        let core = &mut cores[index];
         core.finish_with_group(status);
     }
 }

@@ -16,7 +16,7 @@ pub(crate) struct Line<'a> {
 #[derive(Drop)]
 pub(crate) struct Lines<'a> {
     bytes: &'a [u8],
-    place: usize,
+    offset: usize,
     done: u32,
 }
 
@@ -27,9 +27,9 @@ impl<'a> Model for Lines<'a> {
 
     ghost Value = { Unread };
 
-    ghost view = { λ l. record { done = l.done; rest = lines (drop l.place l.bytes.now) } };
+    ghost view = { λ l. record { done = l.done; rest = lines (drop l.offset l.bytes.now) } };
 
-    ghost invariant = { λ l. IsWithin l.bytes.now l.place l.done };
+    ghost invariant = { λ l. IsWithin l.bytes.now l.offset l.done };
 }
 
 fn is_comment(line: &[u8]) -> bool
@@ -41,7 +41,7 @@ fn is_comment(line: &[u8]) -> bool
     }
 }
 
-/// The place of the first line feed, or the end.
+/// The offset of the first line feed, if there is one.
 fn line_end(bytes: &[u8]) -> Option<usize>
     ensures { result ≡ position (λ byte. byte == 10) bytes.now }
 {
@@ -56,7 +56,7 @@ impl<'a> Lines<'a> {
     {
         Lines {
             bytes,
-            place: 0,
+            offset: 0,
             done: 0,
         }
     }
@@ -77,21 +77,21 @@ impl<'a> Lines<'a> {
         ensures less { IfSome result (λ _. length self.new.rest < length self.old.rest) }
         ensures end { result ≡ None → self.new.rest ≡ [] }
     {
-        if self.place == self.bytes.len() {
+        if self.offset == self.bytes.len() {
             return None;
         }
-        let left = &self.bytes[self.place..];
+        let left = &self.bytes[self.offset..];
         self.done += 1;
         match line_end(left) {
             Some(end) => {
-                self.place += end + 1;
+                self.offset += end + 1;
                 Some(Line {
                     number: self.done,
                     bytes: &left[..end],
                 })
             }
             None => {
-                self.place = self.bytes.len();
+                self.offset = self.bytes.len();
                 Some(Line {
                     number: self.done,
                     bytes: left,
@@ -100,7 +100,7 @@ impl<'a> Lines<'a> {
         }
     }
 
-    /// The next line that is not passed over, if there is one.
+    /// The next line that is not ignored, if there is one.
     pub(crate) fn next_entry(&mut self) -> Option<Line<'a>>
         ensures line { line_told result ≡ first_of (entries (to_read self.old)) }
         ensures rest { entries (to_read self.new) ≡ rest_of (entries (to_read self.old)) }

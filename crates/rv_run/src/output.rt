@@ -16,8 +16,8 @@ pub(crate) fn are_readable(space: &Space<'_>, at: u32, count: u32) -> bool
     if u64::from(at) + u64::from(count) > 1 << 32 {
         return false;
     }
-    for place in 0..count {
-        if space.load(at + place, 1).is_none() {
+    for offset in 0..count {
+        if space.load(at + offset, 1).is_none() {
             return false;
         }
     }
@@ -46,8 +46,8 @@ pub(crate) fn copied(
     ensures { IfOk result (λ bytes. bytes.items ≡ bytes_at space.now at count) }
 {
     let mut bytes = Vec::new(alloc);
-    for place in 0..count {
-        bytes.push(byte(space, at + place))?;
+    for offset in 0..count {
+        bytes.push(byte(space, at + offset))?;
     }
     Ok(bytes)
 }

@@ -19,7 +19,7 @@ pub struct Slice {
 }
 
 /// The first line of a schedule that is not as it has to be, from 1; or the number of lines plus 1,
-/// where no line tells how many harts there are.
+/// where no line says how many harts there are.
 #[derive(Clone, Copy, Debug, PartialEq, Eq)]
 pub struct ScheduleFault {
     pub line: u32,
@@ -122,10 +122,10 @@ fn read_slices(
     Ok(slices)
 }
 
-/// The schedule that the bytes tell. They are cut into lines at line feeds; empty lines and lines that
-/// begin with `#` are passed over. The first other line is `harts N`, with N from 1 to 16, and each
+/// Reads a schedule. The bytes are cut into lines at line feeds; empty lines and lines that
+/// begin with `#` are ignored. The first other line is `harts N`, with N from 1 to 16, and each
 /// further one is `H C`: for hart H, below N, up to C instructions, from 1 on. All C together are at
-/// most 4294967295. Numbers are decimal without leading zeros. Refused is the first line that is not
+/// most 4294967295. Numbers are decimal without leading zeros. The fault is the first line that is not
 /// so, by its number from 1, or the number after the last where there is no `harts` line. It takes
 /// time in proportion to the bytes.
 pub fn read_schedule(alloc: Global, bytes: &[u8]) -> Result<Schedule, Fail<ScheduleFault>>

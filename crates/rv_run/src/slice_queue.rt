@@ -14,7 +14,7 @@ use std::marker::Model;
 #[derive(Drop)]
 pub(crate) struct SliceQueue {
     slices: Vec<Slice>,
-    place: usize,
+    index: usize,
     left: u32,
 }
 
@@ -25,16 +25,16 @@ impl Model for SliceQueue {
 
     ghost Value = { List Slice };
 
-    ghost view = { λ queue. with_left queue.left (drop queue.place queue.slices.items) };
+    ghost view = { λ queue. with_left queue.left (drop queue.index queue.slices.items) };
 
-    ghost invariant = { λ queue. queue.place ≤ length queue.slices.items };
+    ghost invariant = { λ queue. queue.index ≤ length queue.slices.items };
 }
 
-/// How many instructions the slice at this place has; 0 where there is none.
-fn count_at(slices: &[Slice], place: usize) -> u32
-    ensures { result ≡ count_of_first (drop place slices.now) }
+/// How many instructions the slice of this index has; 0 where there is none.
+fn count_at(slices: &[Slice], index: usize) -> u32
+    ensures { result ≡ count_of_first (drop index slices.now) }
 {
-    match slices.get(place) {
+    match slices.get(index) {
         Some(slice) => slice.count,
         None => 0,
     }
@@ -56,7 +56,7 @@ impl SliceQueue {
         let left = count_at(slices.as_slice(), 0);
         SliceQueue {
             slices,
-            place: 0,
+            index: 0,
             left,
         }
     }
@@ -66,7 +66,7 @@ impl SliceQueue {
     pub(crate) fn first(&self) -> Option<Slice>
         ensures { result ≡ first_of self.now }
     {
-        let slice = self.slices.as_slice().get(self.place)?;
+        let slice = self.slices.as_slice().get(self.index)?;
         Some(Slice {
             hart: slice.hart,
             count: self.left,
@@ -86,9 +86,9 @@ impl SliceQueue {
     fn drop_first(&mut self)
         ensures { self.new ≡ rest_of self.old }
     {
-        if self.place < self.slices.len() {
-            self.place += 1;
-            self.left = count_at(self.slices.as_slice(), self.place);
+        if self.index < self.slices.len() {
+            self.index += 1;
+            self.left = count_at(self.slices.as_slice(), self.index);
         }
     }
 

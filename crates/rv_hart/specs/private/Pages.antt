@@ -17,11 +17,11 @@ blank = record { home = nowhere; bytes = [] }
 
 -- bytes with others in place of some of them
 abbrev pub spliced : List ℕ → ℕ → List ℕ → List ℕ
-spliced bytes place source = take place bytes ++ source ++ drop (place + length source) bytes
+spliced bytes offset source = take offset bytes ++ source ++ drop (offset + length source) bytes
 
--- a page with other bytes from this place on
+-- a page with other bytes from this offset on
 abbrev pub with_bytes : Paged → ℕ → List ℕ → Paged
-with_bytes page place source = record { home = page.home; bytes = spliced page.bytes place source }
+with_bytes page offset source = record { home = page.home; bytes = spliced page.bytes offset source }
 
 -- a page of a block by its index, and a page of blocks of 256 by its number; blank where there is none
 abbrev pub page_at : List Paged → ℕ → Paged

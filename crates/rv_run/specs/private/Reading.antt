@@ -24,7 +24,7 @@ abbrev pub rest_of : {X : Type 0} → List X → List X
 rest_of [] = []
 rest_of (x ∷ rest) = rest
 
--- a line as it was told
+-- a line as the code has it
 abbrev pub numbered_line : Line → NumberedLine
 numbered_line line = record { number = line.number; bytes = line.bytes.now }
 
@@ -32,7 +32,7 @@ abbrev pub line_told : Option Line → Option NumberedLine
 line_told line = option_map numbered_line line
 
 -- lines that were read take a byte each at least
-pub record IsWithin (bytes : List ℕ) (place done : ℕ) : Type 0 where
-  pub place_in : place ≤ length bytes
-  pub done_few : done ≤ place
+pub record IsWithin (bytes : List ℕ) (offset done : ℕ) : Type 0 where
+  pub offset_in : offset ≤ length bytes
+  pub done_few : done ≤ offset
   pub size : length bytes ≤ 2 ^ 22

@@ -8,9 +8,9 @@ use Rattle.rv_run.proofs.output.are_readable.Goals as goal
 
 pub returns-then-is_none : goal.returns-then-is_none
 returns-then-is_none c =
-    let none : may PF_R c.args.space.now.regions (c.args.at + c.loop-place.place) ≡ false = loads-none c.args.space.now (c.args.at + c.loop-place.place) (sym (ap is_some c.load.ensures.number) ∙ c.if-is_none.ensures) in
-    sym (ap (λ (b : Bool). nat_le (c.args.at + c.args.count) (2 ^ 32) && b) (one-unreadable c.args.space.now c.args.at c.args.count c.loop-place.place c.loop-place-test.true none) ∙ and-false (nat_le (c.args.at + c.args.count) (2 ^ 32)))
+    let none : may PF_R c.args.space.now.regions (c.args.at + c.loop-offset.offset) ≡ false = loads-none c.args.space.now (c.args.at + c.loop-offset.offset) (sym (ap is_some c.load.ensures.number) ∙ c.if-is_none.ensures) in
+    sym (ap (λ (b : Bool). nat_le (c.args.at + c.args.count) (2 ^ 32) && b) (one-unreadable c.args.space.now c.args.at c.args.count c.loop-offset.offset c.loop-offset-test.true none) ∙ and-false (nat_le (c.args.at + c.args.count) (2 ^ 32)))
 
-pub loop-place-preserved : goal.loop-place-preserved
-loop-place-preserved c =
-    one-more-readable c.args.space.now c.args.at c.loop-place.place c.loop-place.invariant (loads-some c.args.space.now (c.args.at + c.loop-place.place) (sym (ap is_some c.load.ensures.number) ∙ c.if-is_none.ensures))
+pub loop-offset-preserved : goal.loop-offset-preserved
+loop-offset-preserved c =
+    one-more-readable c.args.space.now c.args.at c.loop-offset.offset c.loop-offset.invariant (loads-some c.args.space.now (c.args.at + c.loop-offset.offset) (sym (ap is_some c.load.ensures.number) ∙ c.if-is_none.ensures))

@@ -2,5 +2,5 @@ use Rattle.std.proofs.Common.{◌≡◌}
 use Rattle.rv_run.specs.Calls.{bytes_at}
 use Rattle.rv_run.proofs.output.copied.Given as goal
 
-abbrev pub invariant-loop-place : goal.invariant-loop-place
-invariant-loop-place l = l.bytes.items ≡ bytes_at l.space l.at l.place
+abbrev pub invariant-loop-offset : goal.invariant-loop-offset
+invariant-loop-offset l = l.bytes.items ≡ bytes_at l.space l.at l.offset

@@ -6,8 +6,8 @@ use Rattle.rv_hart.proofs.paged_memory.PagedMemory.all_granted.Goals as goal
 
 pub returns-then-not-is_granted : goal.returns-then-not-is_granted
 returns-then-not-is_granted c =
-    sym (all-not (may (bit_of c.args.right) c.args.self.now.regions) c.args.at c.args.count c.loop-place.place c.loop-place-test.true (sym c.is_granted.ensures ∙ c.if-not-is_granted.true))
+    sym (all-not (may (bit_of c.args.right) c.args.self.now.regions) c.args.at c.args.count c.loop-offset.offset c.loop-offset-test.true (sym c.is_granted.ensures ∙ c.if-not-is_granted.true))
 
 pub returns : goal.returns
 returns c =
-    sym (all-range (may (bit_of c.args.right) c.args.self.now.regions) c.args.at c.args.count (λ i few. c.loop-place.invariant i (omega arith)))
+    sym (all-range (may (bit_of c.args.right) c.args.self.now.regions) c.args.at c.args.count (λ i few. c.loop-offset.invariant i (omega arith)))

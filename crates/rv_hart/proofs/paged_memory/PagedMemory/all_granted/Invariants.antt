@@ -3,5 +3,5 @@ use Rattle.rv_hart.specs.AddressSpace.{may}
 use Rattle.rv_hart.specs.private.Paging.{bit_of}
 use Rattle.rv_hart.proofs.paged_memory.PagedMemory.all_granted.Given as goal
 
-abbrev pub invariant-loop-place : goal.invariant-loop-place
-invariant-loop-place l = (i : ℕ) → i < l.place → may (bit_of l.right) l.self.regions (l.at + i) ≡ true
+abbrev pub invariant-loop-offset : goal.invariant-loop-offset
+invariant-loop-offset l = (i : ℕ) → i < l.offset → may (bit_of l.right) l.self.regions (l.at + i) ≡ true

@@ -5,5 +5,5 @@ use Rattle.rv_hart.proofs.paged_memory.PagedMemory.copy.Goals as goal
 
 pub returns : goal.returns
 returns c =
-    spelled c.loop-place.out (value c.args.self.now) c.args.at (length c.args.out.now) c.loop-place.auto.out
-    (λ i few. c.loop-place.invariant i (omega arith))
+    spelled c.loop-offset.out (value c.args.self.now) c.args.at (length c.args.out.now) c.loop-offset.auto.out
+    (λ i few. c.loop-offset.invariant i (omega arith))

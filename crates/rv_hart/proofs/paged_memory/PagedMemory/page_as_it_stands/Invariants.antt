@@ -2,6 +2,6 @@ use Rattle.std.proofs.Common.{◌≡◌, ℕ, ◌+◌, ◌*◌, ◌^◌, ◌<◌
 use Rattle.rv_hart.specs.private.Paging.{value}
 use Rattle.rv_hart.proofs.paged_memory.PagedMemory.page_as_it_stands.Given as goal
 
-abbrev pub invariant-loop-place : goal.invariant-loop-place
-invariant-loop-place l =
-    (length l.bytes.items ≡ l.place) × ((i : ℕ) → i < l.place → get_or l.bytes.items i 0 ≡ value l.self (l.number * 2 ^ 12 + i))
+abbrev pub invariant-loop-offset : goal.invariant-loop-offset
+invariant-loop-offset l =
+    (length l.bytes.items ≡ l.offset) × ((i : ℕ) → i < l.offset → get_or l.bytes.items i 0 ≡ value l.self (l.number * 2 ^ 12 + i))

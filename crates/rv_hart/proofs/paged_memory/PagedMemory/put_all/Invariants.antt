@@ -2,10 +2,10 @@ use Rattle.std.proofs.Common.{◌≡◌, ℕ, ◌+◌, ◌^◌, ◌<◌, ◌≤�
 use Rattle.rv_hart.specs.private.Paging.{page_of, value, value_after, IsPaged}
 use Rattle.rv_hart.proofs.paged_memory.PagedMemory.put_all.Given as goal
 
-abbrev pub invariant-loop-place : goal.invariant-loop-place
-invariant-loop-place l = record {
+abbrev pub invariant-loop-offset : goal.invariant-loop-offset
+invariant-loop-offset l = record {
   rest : l.self ≡ record l.initial.self { blocks = l.self.blocks };
   paged : IsPaged l.self;
   made : (i : ℕ) → i < length l.source → 2 ^ 12 ≤ length (page_of l.self (l.at + i)).bytes;
-  values : (a : ℕ) → value l.self a ≡ value_after l.initial.self l.at (take l.place l.source) a;
+  values : (a : ℕ) → value l.self a ≡ value_after l.initial.self l.at (take l.offset l.source) a;
 }
