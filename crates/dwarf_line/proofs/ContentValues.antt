@@ -14,13 +14,6 @@ use Rattle.dwarf_line.specs.private.ContentValues.{ContentValues, content_values
 abbrev pub after_values : ContentValues → Result (ContentValues × Input LineFault) LineFault → Result (ContentValues × Input LineFault) LineFault
 after_values a read = read >>= (λ r. Ok (before a r.0, r.1))
 
-abbrev pub no_values : ContentValues
-no_values = record { path = None; directory_index = None }
-
-pub none_before : (read : Result (ContentValues × Input LineFault) LineFault) → after_values no_values read ≡ read
-none_before (Ok r) = refl
-none_before (Err f) = refl
-
 abbrev Typed : Type 0
 Typed = ℕ × FormValue
 
