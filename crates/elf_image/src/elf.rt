@@ -1,6 +1,6 @@
 //! Numbers of the format by the names that the standard gives them: System V ABI, chapters 4 and 5
 //! (`elf.h`), and the RISC-V ELF psABI.
-ghost use Rattle.std.specs.Prelude.{◌≡◌, ◌<◌};
+ghost use Rattle.std.specs.Prelude.{◌≡◌, ◌<◌, ◌∷◌, []};
 ghost use Rattle.elf_image.specs.Image.{has_flag};
 
 /// How an ELF file begins (`e_ident`).
@@ -64,6 +64,19 @@ pub const SHN_UNDEF: u16 = 0;
 
 /// The low four bits of `st_info`: a function.
 pub const STT_FUNC: u8 = 2;
+
+/// The numbers that the definitions cite by their names are those of the standard.
+pub fn number_laws()
+    ensures ident { ELFMAG0 ∷ ELFMAG1 ∷ ELFMAG2 ∷ ELFMAG3 ∷ ELFCLASS32 ∷ ELFDATA2LSB ∷ EV_CURRENT ∷ []
+        ≡ 0x7f ∷ 69 ∷ 76 ∷ 70 ∷ 1 ∷ 1 ∷ 1 ∷ [] }
+    ensures header { ET_EXEC ∷ EM_RISCV ∷ EF_RISCV_RVC ∷ SHN_UNDEF ∷ [] ≡ 2 ∷ 243 ∷ 1 ∷ 0 ∷ [] }
+    ensures sizes { ELF32_EHDR_SIZE ∷ ELF32_PHDR_SIZE ∷ ELF32_SHDR_SIZE ∷ ELF32_SYM_SIZE ∷ []
+        ≡ 52 ∷ 32 ∷ 40 ∷ 16 ∷ [] }
+    ensures segments { PT_LOAD ∷ PF_X ∷ PF_W ∷ PF_R ∷ [] ≡ 1 ∷ 1 ∷ 2 ∷ 4 ∷ [] }
+    ensures sections { SHT_NULL ∷ SHT_SYMTAB ∷ SHT_STRTAB ∷ SHT_NOBITS ∷ SHF_COMPRESSED ∷ []
+        ≡ 0 ∷ 2 ∷ 3 ∷ 8 ∷ 0x800 ∷ [] }
+    ensures symbols { STT_FUNC ≡ 2 }
+{}
 
 /// Whether a flag of one bit is set.
 pub(crate) fn has_flag(flag: u32, flags: u32) -> bool

@@ -20,7 +20,7 @@ mod texts;
 
 pub use address_ranges::{AddressRange, HasRange, RangeTable};
 pub use debug_parts::DebugParts;
-pub use elf::{PF_R, PF_W, PF_X};
+pub use elf::{PF_R, PF_W, PF_X, number_laws};
 pub use fault::{ElfFault, ElfRule};
 pub use image::{Image, read_image};
 pub use part::{Function, Segment};
