@@ -97,7 +97,7 @@ fn put_printed(out: &mut Vec<u8>, name: &[u8]) -> Result<(), Memory>
     Ok(())
 }
 
-fn proc_named_so(procs: &[ProcName], id: ProcId) -> Option<&ProcName>
+fn find_proc_name(procs: &[ProcName], id: ProcId) -> Option<&ProcName>
     ensures { option_copied result ≡ find (λ p. is_eq (proc_order id p.id)) procs.now }
 {
     procs.iter().find(|named| id.cmp(&named.id).is_eq())
@@ -108,13 +108,13 @@ fn proc_named_so(procs: &[ProcName], id: ProcId) -> Option<&ProcName>
 fn proc_name(names: &Names, id: ProcId) -> &[u8]
     ensures { result.now ≡ proc_named names.now.procs id }
 {
-    match proc_named_so(names.procs.items(), id) {
+    match find_proc_name(names.procs.items(), id) {
         Some(named) => named.name.bytes(),
         None => &[],
     }
 }
 
-fn file_named_so(files: &[FileName], file: (u32, u32)) -> Option<&FileName>
+fn find_file_name(files: &[FileName], file: (u32, u32)) -> Option<&FileName>
     ensures { option_copied result ≡ find (λ f. is_eq (file_order file (f.table, f.file))) files.now }
 {
     files
@@ -127,7 +127,7 @@ fn file_named_so(files: &[FileName], file: (u32, u32)) -> Option<&FileName>
 fn file_name(names: &Names, file: (u32, u32)) -> &[u8]
     ensures { result.now ≡ file_named names.now.files file.0 file.1 }
 {
-    match file_named_so(names.files.items(), file) {
+    match find_file_name(names.files.items(), file) {
         Some(named) => named.name.bytes(),
         None => &[],
     }
