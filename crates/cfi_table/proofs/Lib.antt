@@ -1,7 +1,9 @@
 pub mod Moves
 pub mod Runs
-pub mod Chains
-pub mod Least
+pub mod Forms
 pub mod Rising
-pub mod KnownCies
+pub mod Chains
+pub mod Entries
+pub mod Least
+pub mod Room
 pub mod Undone

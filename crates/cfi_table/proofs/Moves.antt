@@ -1,125 +1,146 @@
 -- Each instruction takes at least one byte, and leaves the bytes as they are.
-use Rattle.std.proofs.Common.{◌≡◌, ℕ, ◌+◌, ◌/◌, ◌%◌, ◌≤◌, ◌<◌, Bool, true, false, cond, List, length, Option, Some, None, refl, subst, ◌∙◌, arith}
-use Rattle.std.specs.Prelude.{IfSome, ◌==◌, nat_lt}
-use Rattle.prof_bytes.specs.Reading.{At, left_of, reading, bytes_at}
+use Rattle.std.proofs.Common.{◌≡◌, ℕ, ◌+◌, ◌/◌, ◌%◌, ◌≤◌, ◌<◌, Bool, true, false, cond, List, length, Option, Some, None, Result, Ok, Err, refl, subst, ◌∙◌, arith}
+use Rattle.std.specs.Prelude.{IfOk, ◌==◌, nat_lt}
+use Rattle.prof_bytes.specs.Outcome.{◌>>=◌}
+use Rattle.prof_bytes.specs.Reading.{left_of, bytes_at}
 use Rattle.prof_bytes.specs.Number.{number_at, number_in}
 use Rattle.prof_bytes.specs.Leb.{uleb_at, sleb_at}
-use Rattle.cfi_table.specs.declared.instruction.Instruction.{Instruction}
-use Rattle.cfi_table.specs.declared.instruction.Factors.{Factors}
-use Rattle.cfi_table.specs.Taking.{◌>>=◌, taken, byte_from, half_from, word_from, unsigned_from, signed_from, block_from}
-use Rattle.cfi_table.specs.Instructions.{plain, factored, factored_signed, cfa_of, rule_of, has_rule, register_then, other_of, instruction_of, instruction_at}
+use Rattle.prof_bytes.specs.Fields.{Input, taken, number_from, uleb_from, sleb_from, bytes_from}
+use Rattle.cfi_table.specs.declared.fault.FrameFault.{FrameFault}
+use Rattle.cfi_table.specs.declared.constants.TheConstants.{DW_CFA_advance_loc, DW_CFA_offset, DW_CFA_restore, DW_CFA_nop}
+use Rattle.cfi_table.specs.declared.constants.TheConstants.{DW_CFA_set_loc, DW_CFA_advance_loc1, DW_CFA_advance_loc2, DW_CFA_advance_loc4}
+use Rattle.cfi_table.specs.declared.constants.TheConstants.{DW_CFA_offset_extended, DW_CFA_restore_extended, DW_CFA_undefined}
+use Rattle.cfi_table.specs.declared.constants.TheConstants.{DW_CFA_same_value, DW_CFA_register, DW_CFA_remember_state}
+use Rattle.cfi_table.specs.declared.constants.TheConstants.{DW_CFA_restore_state, DW_CFA_def_cfa, DW_CFA_def_cfa_register}
+use Rattle.cfi_table.specs.declared.constants.TheConstants.{DW_CFA_def_cfa_offset, DW_CFA_def_cfa_expression, DW_CFA_expression}
+use Rattle.cfi_table.specs.declared.constants.TheConstants.{DW_CFA_offset_extended_sf, DW_CFA_def_cfa_sf, DW_CFA_def_cfa_offset_sf}
+use Rattle.cfi_table.specs.declared.constants.TheConstants.{DW_CFA_val_offset, DW_CFA_val_offset_sf, DW_CFA_val_expression}
+use Rattle.cfi_table.specs.declared.constants.TheConstants.{DW_CFA_GNU_args_size}
+use Rattle.cfi_table.specs.declared.instruction.CallFrameInstruction.{CallFrameInstruction}
+use Rattle.cfi_table.specs.declared.instruction.AlignmentFactors.{AlignmentFactors}
+use Rattle.cfi_table.specs.Instructions.{Reading, offset_from, factored_from, factored_sf_from, block_from, cfa_from, rule_from, is_rule}
+use Rattle.cfi_table.specs.Instructions.{register_rule_from, extended_from, opcode_then, instruction_from}
 
-pub record Moves (at next : At) : Type 0 where
-  pub whole : next.whole ≡ at.whole
-  pub place : at.offset ≤ next.offset
+pub record Moves (before after : Input FrameFault) : Type 0 where
+  pub whole : after.at.whole ≡ before.at.whole
+  pub offset : before.at.offset ≤ after.at.offset
 
-abbrev pub AllMove : {X : Type 0} → At → Option (X × At) → Type 0
-AllMove at o = IfSome o (λ x. Moves at x.1)
+abbrev pub AllMove : {X : Type 0} → Input FrameFault → Reading X → Type 0
+AllMove input r = IfOk r (λ x. Moves input x.1)
 
-stays : (at : At) → Moves at at
-stays at = record { whole = refl; place = omega arith }
+stays : (input : Input FrameFault) → Moves input input
+stays input = record { whole = refl; offset = omega arith }
 
-on : (a b c : At) → Moves a b → Moves b c → Moves a c
-on a b c p q = record { whole = q.whole ∙ p.whole; place = let x = p.place in let y = q.place in omega arith }
+on : (a b c : Input FrameFault) → Moves a b → Moves b c → Moves a c
+on a b c p q = record { whole = q.whole ∙ p.whole; offset = let x = p.offset in let y = q.offset in omega arith }
 
-reads : {X : Type 0} (at : At) (o : Option (X × ℕ)) → AllMove at (taken (reading at o))
-reads at None = tt
-reads at (Some r) = record { whole = refl; place = omega arith }
+takes : {X : Type 0} (input : Input FrameFault) (o : Option (X × ℕ)) → AllMove input (taken input o)
+takes input None = tt
+takes input (Some r) = record { whole = refl; offset = omega arith }
 
-binds : {X Y : Type 0} (at : At) (r : Option (X × At)) (next : X × At → Option (Y × At)) → AllMove at r → ((x : X × At) → AllMove x.1 (next x)) → AllMove at (r >>= next)
-binds at None next moves after = tt
-binds {X} {Y} at (Some x) next moves after = go (next x) (after x)
+binds : {X Y : Type 0} (input : Input FrameFault) (r : Reading X) (next : X × Input FrameFault → Reading Y) → AllMove input r → ((x : X × Input FrameFault) → AllMove x.1 (next x)) → AllMove input (r >>= next)
+binds input (Err fault) next moves after = tt
+binds {X} {Y} input (Ok x) next moves after = go (next x) (after x)
   where
-    go : (o : Option (Y × At)) → AllMove x.1 o → AllMove at o
-    go None then = tt
-    go (Some y) then = on at x.1 y.1 moves then
+    go : (r : Reading Y) → AllMove x.1 r → AllMove input r
+    go (Err fault) then = tt
+    go (Ok y) then = on input x.1 y.1 moves then
 
-either : {X : Type 0} (at : At) (b : Bool) (x y : Option (X × At)) → AllMove at x → AllMove at y → AllMove at (cond b x y)
-either at true x y p q = p
-either at false x y p q = q
+either : {X : Type 0} (input : Input FrameFault) (b : Bool) (x y : Reading X) → AllMove input x → AllMove input y → AllMove input (cond b x y)
+either input true x y p q = p
+either input false x y p q = q
 
-plain_moves : (at : At) → AllMove at (plain at)
-unfolding plain
-plain_moves at = binds at (unsigned_from at) _ (reads at (uleb_at (left_of at))) (λ n. stays n.1)
+number_moves : (count : ℕ) (input : Input FrameFault) → AllMove input (number_from count input)
+number_moves count input = takes input (number_at count (left_of input.at))
 
-factored_moves : (f : Factors) (at : At) → AllMove at (factored f at)
-unfolding factored
-factored_moves f at = binds at (unsigned_from at) _ (reads at (uleb_at (left_of at))) (λ n. stays n.1)
+uleb_moves : (input : Input FrameFault) → AllMove input (uleb_from input)
+uleb_moves input = takes input (uleb_at (left_of input.at))
 
-signed_moves : (f : Factors) (at : At) → AllMove at (factored_signed f at)
-unfolding factored_signed
-signed_moves f at = binds at (signed_from at) _ (reads at (sleb_at (left_of at))) (λ n. stays n.1)
+sleb_moves : (input : Input FrameFault) → AllMove input (sleb_from input)
+sleb_moves input = takes input (sleb_at (left_of input.at))
 
-unsigned_moves : (at : At) → AllMove at (unsigned_from at)
-unsigned_moves at = reads at (uleb_at (left_of at))
+bytes_move : (count : ℕ) (input : Input FrameFault) → AllMove {X = List ℕ} input (bytes_from count input)
+bytes_move count input = takes input (bytes_at count (left_of input.at))
 
-block_moves : (at : At) → AllMove at (block_from at)
-block_moves at =
-    binds at (unsigned_from at) (λ n. taken (reading n.1 (bytes_at n.0 (left_of n.1))) >>= λ b. Some (n.0, b.1)) (unsigned_moves at)
-    (λ n. binds {X = List ℕ} {Y = ℕ} n.1 (taken (reading n.1 (bytes_at n.0 (left_of n.1)))) (λ b. Some (n.0, b.1)) (reads n.1 (bytes_at n.0 (left_of n.1))) (λ b. stays b.1))
+offset_moves : (input : Input FrameFault) → AllMove input (offset_from input)
+unfolding offset_from
+offset_moves input = binds input (uleb_from input) _ (uleb_moves input) (λ n. stays n.1)
 
-cfa_moves : (f : Factors) (code : ℕ) (at : At) → AllMove at (cfa_of f code at)
-unfolding cfa_of
-cfa_moves f code at =
-    either at (code == 0x0c) _ _ (binds at (unsigned_from at) _ (unsigned_moves at) (λ r. binds r.1 (plain r.1) _ (plain_moves r.1) (λ n. stays n.1)))
-    (either at (code == 0x0d) _ _ (binds at (unsigned_from at) _ (unsigned_moves at) (λ r. stays r.1))
-    (either at (code == 0x0e) _ _ (binds at (plain at) _ (plain_moves at) (λ n. stays n.1))
-    (either at (code == 0x0f) _ _ (binds at (block_from at) _ (block_moves at) (λ b. stays b.1))
-    (either at (code == 0x12) _ _ (binds at (unsigned_from at) _ (unsigned_moves at) (λ r. binds r.1 (factored_signed f r.1) _ (signed_moves f r.1) (λ n. stays n.1)))
-    (either at (code == 0x13) _ _ (binds at (factored_signed f at) _ (signed_moves f at) (λ n. stays n.1)) tt)))))
+factored_moves : (f : AlignmentFactors) (input : Input FrameFault) → AllMove input (factored_from f input)
+unfolding factored_from
+factored_moves f input = binds input (uleb_from input) _ (uleb_moves input) (λ n. stays n.1)
 
-rule_moves : (f : Factors) (code register : ℕ) (at : At) → AllMove at (rule_of f code register at)
-unfolding rule_of
-rule_moves f code register at =
-    either at (code == 0x05) _ _ (binds at (factored f at) _ (factored_moves f at) (λ n. stays n.1))
-    (either at (code == 0x07) _ _ (stays at)
-    (either at (code == 0x08) _ _ (stays at)
-    (either at (code == 0x09) _ _ (binds at (unsigned_from at) _ (unsigned_moves at) (λ s. stays s.1))
-    (either at (code == 0x11) _ _ (binds at (factored_signed f at) _ (signed_moves f at) (λ n. stays n.1))
-    (either at (code == 0x14) _ _ (binds at (factored f at) _ (factored_moves f at) (λ n. stays n.1))
-    (either at (code == 0x15) _ _ (binds at (factored_signed f at) _ (signed_moves f at) (λ n. stays n.1))
-    (binds at (block_from at) _ (block_moves at) (λ b. stays b.1))))))))
+factored_sf_moves : (f : AlignmentFactors) (input : Input FrameFault) → AllMove input (factored_sf_from f input)
+unfolding factored_sf_from
+factored_sf_moves f input = binds input (sleb_from input) _ (sleb_moves input) (λ n. stays n.1)
 
-then_moves : (f : Factors) (code : ℕ) (at : At) → AllMove at (register_then f code at)
-unfolding register_then
-then_moves f code at = binds at (unsigned_from at) _ (unsigned_moves at) (λ r. rule_moves f code r.0 r.1)
+block_moves : (input : Input FrameFault) → AllMove input (block_from input)
+unfolding block_from
+block_moves input = binds input (uleb_from input) _ (uleb_moves input) (λ n. binds {X = List ℕ} {Y = ℕ} n.1 (bytes_from n.0 n.1) _ (bytes_move n.0 n.1) (λ b. stays b.1))
 
-other_moves : (f : Factors) (code : ℕ) (at : At) → AllMove at (other_of f code at)
-unfolding other_of
-other_moves f code at =
-    either at (code == 0x00) _ _ (stays at)
-    (either at (code == 0x01) _ _ (binds at (word_from at) _ (reads at (number_at 4 (left_of at))) (λ w. stays w.1))
-    (either at (code == 0x02) _ _ (binds at (byte_from at) _ (reads at (number_at 1 (left_of at))) (λ d. stays d.1))
-    (either at (code == 0x03) _ _ (binds at (half_from at) _ (reads at (number_at 2 (left_of at))) (λ d. stays d.1))
-    (either at (code == 0x04) _ _ (binds at (word_from at) _ (reads at (number_at 4 (left_of at))) (λ d. stays d.1))
-    (either at (code == 0x06) _ _ (binds at (unsigned_from at) _ (unsigned_moves at) (λ r. stays r.1))
-    (either at (code == 0x0a) _ _ (stays at)
-    (either at (code == 0x0b) _ _ (stays at)
-    (either at (code == 0x2e) _ _ (binds at (unsigned_from at) _ (unsigned_moves at) (λ n. stays n.1))
-    (either at (has_rule code) _ _ (then_moves f code at) (cfa_moves f code at))))))))))
+cfa_moves : (f : AlignmentFactors) (opcode : ℕ) (input : Input FrameFault) → AllMove input (cfa_from f opcode input)
+unfolding cfa_from
+cfa_moves f opcode input =
+    either input (opcode == DW_CFA_def_cfa) _ _ (binds input (uleb_from input) _ (uleb_moves input) (λ r. binds r.1 (offset_from r.1) _ (offset_moves r.1) (λ n. stays n.1)))
+    (either input (opcode == DW_CFA_def_cfa_sf) _ _ (binds input (uleb_from input) _ (uleb_moves input) (λ r. binds r.1 (factored_sf_from f r.1) _ (factored_sf_moves f r.1) (λ n. stays n.1)))
+    (either input (opcode == DW_CFA_def_cfa_register) _ _ (binds input (uleb_from input) _ (uleb_moves input) (λ r. stays r.1))
+    (either input (opcode == DW_CFA_def_cfa_offset) _ _ (binds input (offset_from input) _ (offset_moves input) (λ n. stays n.1))
+    (either input (opcode == DW_CFA_def_cfa_offset_sf) _ _ (binds input (factored_sf_from f input) _ (factored_sf_moves f input) (λ n. stays n.1))
+    (either input (opcode == DW_CFA_def_cfa_expression) _ _ (binds input (block_from input) _ (block_moves input) (λ b. stays b.1)) tt)))))
 
-all_moves : (f : Factors) (code : ℕ) (at : At) → AllMove at (instruction_of f code at)
-unfolding instruction_of
-all_moves f code at =
-    either at (code / 64 == 1) _ _ (stays at)
-    (either at (code / 64 == 2) _ _ (rule_moves f 0x05 (code % 64) at)
-    (either at (code / 64 == 3) _ _ (stays at) (other_moves f code at)))
+rule_moves : (f : AlignmentFactors) (opcode register : ℕ) (input : Input FrameFault) → AllMove input (rule_from f opcode register input)
+unfolding rule_from
+rule_moves f opcode register input =
+    either input (opcode == DW_CFA_undefined) _ _ (stays input)
+    (either input (opcode == DW_CFA_same_value) _ _ (stays input)
+    (either input (opcode == DW_CFA_offset_extended) _ _ (binds input (factored_from f input) _ (factored_moves f input) (λ n. stays n.1))
+    (either input (opcode == DW_CFA_offset_extended_sf) _ _ (binds input (factored_sf_from f input) _ (factored_sf_moves f input) (λ n. stays n.1))
+    (either input (opcode == DW_CFA_val_offset) _ _ (binds input (factored_from f input) _ (factored_moves f input) (λ n. stays n.1))
+    (either input (opcode == DW_CFA_val_offset_sf) _ _ (binds input (factored_sf_from f input) _ (factored_sf_moves f input) (λ n. stays n.1))
+    (either input (opcode == DW_CFA_register) _ _ (binds input (uleb_from input) _ (uleb_moves input) (λ s. stays s.1))
+    (either input (opcode == DW_CFA_expression) _ _ (binds input (block_from input) _ (block_moves input) (λ b. stays b.1))
+    (binds input (block_from input) _ (block_moves input) (λ b. stays b.1)))))))))
+
+register_rule_moves : (f : AlignmentFactors) (opcode : ℕ) (input : Input FrameFault) → AllMove input (register_rule_from f opcode input)
+unfolding register_rule_from
+register_rule_moves f opcode input = binds input (uleb_from input) _ (uleb_moves input) (λ r. rule_moves f opcode r.0 r.1)
+
+extended_moves : (f : AlignmentFactors) (opcode : ℕ) (input : Input FrameFault) → AllMove input (extended_from f opcode input)
+unfolding extended_from
+extended_moves f opcode input =
+    either input (opcode == DW_CFA_nop) _ _ (stays input)
+    (either input (opcode == DW_CFA_set_loc) _ _ (binds input (number_from 4 input) _ (number_moves 4 input) (λ w. stays w.1))
+    (either input (opcode == DW_CFA_advance_loc1) _ _ (binds input (number_from 1 input) _ (number_moves 1 input) (λ d. stays d.1))
+    (either input (opcode == DW_CFA_advance_loc2) _ _ (binds input (number_from 2 input) _ (number_moves 2 input) (λ d. stays d.1))
+    (either input (opcode == DW_CFA_advance_loc4) _ _ (binds input (number_from 4 input) _ (number_moves 4 input) (λ d. stays d.1))
+    (either input (opcode == DW_CFA_restore_extended) _ _ (binds input (uleb_from input) _ (uleb_moves input) (λ r. stays r.1))
+    (either input (opcode == DW_CFA_remember_state) _ _ (stays input)
+    (either input (opcode == DW_CFA_restore_state) _ _ (stays input)
+    (either input (opcode == DW_CFA_GNU_args_size) _ _ (binds input (uleb_from input) _ (uleb_moves input) (λ n. stays n.1))
+    (either input (is_rule opcode) _ _ (register_rule_moves f opcode input) (cfa_moves f opcode input))))))))))
+
+opcode_moves : (f : AlignmentFactors) (byte : ℕ) (input : Input FrameFault) → AllMove input (opcode_then f byte input)
+unfolding opcode_then
+opcode_moves f byte input =
+    either input (byte / 64 == DW_CFA_advance_loc / 64) _ _ (stays input)
+    (either input (byte / 64 == DW_CFA_offset / 64) _ _ (rule_moves f DW_CFA_offset_extended (byte % 64) input)
+    (either input (byte / 64 == DW_CFA_restore / 64) _ _ (stays input) (extended_moves f byte input)))
 
 -- an instruction ends behind its first byte
-pub instruction_moves : (f : Factors) (at next : At) (i : Instruction) → instruction_at f at ≡ Some (i, next) → (next.whole ≡ at.whole) × (at.offset < next.offset)
-unfolding instruction_at
-instruction_moves f at next i e = from (nat_lt (length (left_of at)) 1) (number_in 1 (left_of at)) e
+pub instruction_moves : (f : AlignmentFactors) (input next : Input FrameFault) (i : CallFrameInstruction) → instruction_from f input ≡ Ok (i, next) → (next.at.whole ≡ input.at.whole) × (input.at.offset < next.at.offset)
+unfolding instruction_from
+instruction_moves f input next i e = from (nat_lt (length (left_of input.at)) 1) (number_in 1 (left_of input.at)) e
   where
-    some_is : (a b : Instruction × At) → Some a ≡ Some b → a ≡ b
-    some_is a b e = cc
+    ok_is : (a b : CallFrameInstruction × Input FrameFault) → (let x : Reading CallFrameInstruction = Ok a in x) ≡ Ok b → a ≡ b
+    ok_is a b e = cc
 
-    ends : (mid : At) (o : Option (Instruction × At)) → o ≡ Some (i, next) → AllMove mid o → Moves mid next
-    ends mid None e moves = absurd cc
-    ends mid (Some x) e moves = let P : Instruction × At → Type 0 = λ y. Moves mid y.1 in subst P (some_is x (i, next) e) moves
+    ends : (mid : Input FrameFault) (r : Reading CallFrameInstruction) → r ≡ Ok (i, next) → AllMove mid r → Moves mid next
+    ends mid (Err fault) e moves = absurd cc
+    ends mid (Ok x) e moves = let P : CallFrameInstruction × Input FrameFault → Type 0 = λ y. Moves mid y.1 in subst P (ok_is x (i, next) e) moves
 
-    from : (b : Bool) (n : ℕ) → (taken (reading at (cond b None (Some (n, 1)))) >>= λ code. instruction_of f code.0 code.1) ≡ Some (i, next) → (next.whole ≡ at.whole) × (at.offset < next.offset)
+    from : (b : Bool) (n : ℕ) → (taken input (cond b None (Some (n, 1))) >>= λ byte. opcode_then f byte.0 byte.1) ≡ Ok (i, next) → (next.at.whole ≡ input.at.whole) × (input.at.offset < next.at.offset)
     from true n e = absurd cc
     from false n e =
-        let mid : At = record { whole = at.whole; offset = at.offset + 1 } in
-        let m = ends mid (instruction_of f n mid) e (all_moves f n mid) in
-        (m.whole, let le = m.place in omega arith)
+        let mid : Input FrameFault = record { at = record { whole = input.at.whole; offset = input.at.offset + 1 }; missing = input.missing } in
+        let m = ends mid (opcode_then f n mid) e (opcode_moves f n mid) in
+        (m.whole, let le = m.offset in omega arith)

@@ -6,7 +6,7 @@ use Rattle.std.specs.Ordering.{nat_cmp, ordering_index}
 use Rattle.std.proofs.lemmas.Cmp.{ranked}
 use Rattle.std.proofs.lemmas.Bool.{cases_lt}
 use Rattle.std.proofs.lemmas.Bool.Decides.{nat_tests}
-use Rattle.cfi_table.specs.Entries.{AreRising}
+use Rattle.cfi_table.specs.private.Placed.{AreRising}
 
 pub from_lower : (a b : ℕ) (ns : List ℕ) → a ≤ b → AreRising b ns → AreRising a ns
 from_lower a b [] le up = tt

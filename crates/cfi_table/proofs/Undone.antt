@@ -5,7 +5,7 @@ use Rattle.std.proofs.lemmas.List.{reverse-append, set-set, set-get_or}
 use Rattle.cfi_table.specs.declared.rules.Rule.{Rule}
 use Rattle.cfi_table.specs.declared.register_rules.Undo.{Undo}
 use Rattle.cfi_table.specs.declared.register_rules.Undo.TheVariants.{Change}
-use Rattle.cfi_table.specs.Undoing.{remembered_of}
+use Rattle.cfi_table.specs.private.Undoing.{remembered_of}
 
 pub latest : (undo next : List Undo) (u : Undo) → next ≡ undo ++ u ∷ [] → reverse next ≡ u ∷ reverse undo
 latest undo next u pushed = ap (λ (us : List Undo). reverse us) pushed ∙ reverse-append undo (u ∷ [])

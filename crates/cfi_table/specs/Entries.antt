@@ -1,132 +1,195 @@
--- The entries of `.debug_frame` and their fields (DWARF 5, section 6.4.1).
-use Rattle.std.specs.Prelude.{ℕ, ℤ, zero, suc, ◌+◌, ◌-◌, ◌≤◌, ◌==◌, ◌||◌, nat_lt, nat_le, List, [], ◌∷◌, length, drop, Option, Some, None, option_map, if◌then◌else◌}
-use Rattle.prof_bytes.specs.Number.{number_at}
-use Rattle.prof_bytes.specs.Reading.{At, left_of}
-use Rattle.cfi_table.specs.declared.entry.Entry.{Entry}
+-- The entries of `.debug_frame`: each is read once, to what it is or its fault (DWARF 5, section 6.4.1).
+use Rattle.std.specs.Prelude.{ℕ, ℤ, zero, suc, ◌+◌, ◌-◌, ◌==◌, ◌||◌, ◌&&◌, Bool, false, nat_lt, List, [], ◌∷◌, ◌++◌, length, take, map, find}
+use Rattle.std.specs.Prelude.{Option, Some, None, Result, Ok, Err, if◌then◌else◌}
+use Rattle.prof_bytes.specs.Reading.{left_of}
+use Rattle.prof_bytes.specs.Outcome.{◌>>=◌}
+use Rattle.prof_bytes.specs.Fields.{Input, number_from, uleb_from, sleb_from, text_from, part_from}
+use Rattle.cfi_table.specs.declared.constants.TheConstants.{DW_CIE_ID}
+use Rattle.cfi_table.specs.declared.fault.FrameFault.{FrameFault}
+use Rattle.cfi_table.specs.declared.extent.Extent.{Extent}
 use Rattle.cfi_table.specs.declared.cie.Cie.{Cie}
-use Rattle.cfi_table.specs.declared.cie.CieForm.{CieForm}
-use Rattle.cfi_table.specs.declared.cie.CieForm.TheVariants as forms
-use Rattle.cfi_table.specs.Taking.{◌>>=◌, part, is_empty, byte_from, word_from, unsigned_from, signed_from, text_from}
-use Rattle.cfi_table.specs.Instructions.{word_of, word_of_signed}
+use Rattle.cfi_table.specs.declared.fde.Fde.{Fde}
+use Rattle.cfi_table.specs.declared.entry.FrameEntry.{FrameEntry}
+use Rattle.cfi_table.specs.declared.entry.FrameEntry.TheVariants as entries
+use Rattle.cfi_table.specs.Instructions.{Reading, word_of, word_of_signed}
+use Rattle.cfi_table.specs.Rules.{State, no_rules, all_same_value, fault_at, run_all}
 
--- how many bytes the entry at an offset has behind its length; nothing where the length is at fault
-abbrev pub fitting : List ℕ → ℕ → ℕ → Option ℕ
-fitting section at size = if nat_le 0xfffffff0 size || nat_lt (length section) (at + 4 + size) then None else Some size
+-- ---- where the entries lie
 
-unfoldable pub size_at : List ℕ → ℕ → Option ℕ
-size_at section at = do
-  size ← number_at 4 (drop at section)
-  fitting section at size.0
+-- an entry before those behind it
+abbrev pub before_others : Extent → List Extent × Option FrameFault → List Extent × Option FrameFault
+before_others e others = (e ∷ others.0, others.1)
 
-abbrev pub chained : Entry → List Entry × Option ℕ → List Entry × Option ℕ
-chained e rest = (e ∷ rest.0, rest.1)
+-- the bytes that a length counts make an entry; a length of 0 is passed over, and a faulty one ends the section
+abbrev pub chained : Input FrameFault → (Input FrameFault → List Extent × Option FrameFault) → Reading (Input FrameFault)
+    → List Extent × Option FrameFault
+chained input others (Err fault) = ([], Some fault)
+chained input others (Ok found) =
+    if length (left_of found.0.at) == 0 then others found.1
+    else before_others (record { offset = input.at.offset; end = found.1.at.offset }) (others found.1)
 
-abbrev pub entry_of : ℕ → ℕ → Entry
-entry_of at size = record { offset = at; end = at + 4 + size }
-
--- an entry and those behind it; a length of 0 is passed over
-abbrev pub link : ℕ → (ℕ → List Entry × Option ℕ) → Option ℕ → List Entry × Option ℕ
-link at again None = ([], Some at)
-link at again (Some size) = if size == 0 then again (at + 4) else chained (entry_of at size) (again (at + 4 + size))
-
--- the entries from an offset on, one behind the other, and the offset of the first whose length is at fault. At most so many lengths are
--- read as the number says: as many as bytes are left are enough
-unfoldable pub chain : ℕ → List ℕ → ℕ → List Entry × Option ℕ
-chain zero section at = ([], None)
-chain (suc n) section at = if nat_le (length section) at then ([], None) else link at (λ next. chain n section next) (size_at section at)
+-- the entries one behind the other, and the fault of the first length that has one, at its offset. At most `room` lengths are read:
+-- as many as there are bytes are enough
+unfoldable pub chain_from : ℕ → Input FrameFault → List Extent × Option FrameFault
+chain_from zero input = ([], None)
+chain_from (suc room) input =
+    if length (left_of input.at) == 0 then ([], None)
+    else chained input (λ rest. chain_from room rest) (part_from (record input { missing = fault_at input }))
 
 -- the entries of the whole section
-abbrev pub chain_of : List ℕ → List Entry × Option ℕ
-chain_of section = chain (length section) section 0
+abbrev pub extents_of : List ℕ → List Extent × Option FrameFault
+extents_of section = chain_from (length section) (record { at = record { whole = section; offset = 0 }; missing = record { offset = 0 } })
 
--- the word behind an entry's length: a CIE's mark, or the offset of an FDE's CIE
-unfoldable pub id_of : List ℕ → Entry → Option ℕ
-id_of section e = option_map (λ w. w.0) (word_from (part section (e.offset + 4) e.end))
+-- an entry's bytes behind its length; a field that they lack is a fault at the entry
+abbrev pub body_of : List ℕ → Extent → Input FrameFault
+body_of section e = record { at = record { whole = take e.end section; offset = e.offset + 4 }; missing = record { offset = e.offset } }
 
-abbrev pub cie_mark : ℕ
-cie_mark = 0xffffffff
+-- ---- a CIE's fields. Nothing where it is passed over: its other fields are not read then
 
--- ---- a CIE's fields: nothing where one is not whole, and None where it is passed over
+abbrev pub register_from : ℕ → Input FrameFault → Reading ℕ
+register_from version input = if version == 1 then number_from 1 input else uleb_from input
 
-abbrev pub register_from : ℕ → At → Option (ℕ × At)
-register_from version at = if version == 1 then byte_from at else unsigned_from at
-
--- the instructions are the bytes that are left, up to the entry's end
-abbrev pub cie_with : ℕ → ℕ → ℤ → ℕ → At → Option Cie
-cie_with end code scale register at =
+-- the initial instructions are the bytes that are left, up to the entry's end
+abbrev pub cie_with : ℕ → ℕ → ℤ → ℕ → Input FrameFault → Option Cie
+cie_with end code_factor data_factor register input =
     if nat_lt register 32 then Some (record {
-      factors = record { code_alignment = word_of code; data_alignment = word_of_signed scale };
-      return_register = register;
-      from = end - length (left_of at);
-      end = end;
+      factors = record { code_alignment_factor = word_of code_factor; data_alignment_factor = word_of_signed data_factor };
+      return_address_register = register;
+      initial_instructions = record { offset = end - length (left_of input.at); end = end };
     }) else None
 
-unfoldable pub cie_from_factors : ℕ → ℕ → At → Option (Option Cie)
-cie_from_factors end version at = do
-  code ← unsigned_from at
-  scale ← signed_from code.1
-  register ← register_from version scale.1
-  Some (cie_with end code.0 scale.0 register.0 register.1)
+unfoldable pub cie_from_factors : ℕ → ℕ → Input FrameFault → Result (Option Cie) FrameFault
+cie_from_factors end version input = do
+  (code_factor, input) ← uleb_from input
+  (data_factor, input) ← sleb_from input
+  (register, input) ← register_from version input
+  Ok (cie_with end code_factor data_factor register input)
 
--- a segment selector's size is 0
-unfoldable pub cie_from_segment : ℕ → ℕ → At → Option (Option Cie)
-cie_from_segment end version at = do
-  segment ← byte_from at
-  if segment.0 == 0 then cie_from_factors end version segment.1 else Some None
+-- segment_selector_size is 0
+unfoldable pub cie_from_segment : ℕ → ℕ → Input FrameFault → Result (Option Cie) FrameFault
+cie_from_segment end version input = do
+  (segment_selector_size, input) ← number_from 1 input
+  if segment_selector_size == 0 then cie_from_factors end version input else Ok None
 
--- version 4 has the sizes of an address, which is 4 here, and of a segment selector
-unfoldable pub cie_from_sizes : ℕ → ℕ → At → Option (Option Cie)
-cie_from_sizes end version at =
+-- version 4 has address_size, which is 4, and segment_selector_size
+unfoldable pub cie_from_sizes : ℕ → ℕ → Input FrameFault → Result (Option Cie) FrameFault
+cie_from_sizes end version input =
     if version == 4 then (do
-      address ← byte_from at
-      if address.0 == 4 then cie_from_segment end version address.1 else Some None)
-    else cie_from_factors end version at
+      (address_size, input) ← number_from 1 input
+      if address_size == 4 then cie_from_segment end version input else Ok None)
+    else cie_from_factors end version input
 
 -- no augmentation is read
-unfoldable pub cie_from_augmentation : ℕ → ℕ → At → Option (Option Cie)
-cie_from_augmentation end version at = do
-  augmentation ← text_from at
-  if is_empty augmentation.0 then cie_from_sizes end version augmentation.1 else Some None
+unfoldable pub cie_from_augmentation : ℕ → ℕ → Input FrameFault → Result (Option Cie) FrameFault
+cie_from_augmentation end version input = do
+  (augmentation, input) ← text_from input
+  if length augmentation == 0 then cie_from_sizes end version input else Ok None
 
 -- versions 1, 3 and 4 are read
-unfoldable pub cie_from : ℕ → At → Option (Option Cie)
-cie_from end at = do
-  version ← byte_from at
-  if version.0 == 1 || version.0 == 3 || version.0 == 4 then cie_from_augmentation end version.0 version.1 else Some None
+unfoldable pub cie_from : ℕ → Input FrameFault → Result (Option Cie) FrameFault
+cie_from end input = do
+  (version, input) ← number_from 1 input
+  if version == 1 || version == 3 || version == 4 then cie_from_augmentation end version input else Ok None
 
-abbrev pub form_of : Option (Option Cie) → CieForm
-form_of None = forms.Broken
-form_of (Some None) = forms.PassedOver
-form_of (Some (Some cie)) = forms.Usable cie
+-- ---- rules after instructions
 
-unfoldable pub cie_form : List ℕ → Entry → CieForm
-cie_form section e = form_of (cie_from e.end (part section (e.offset + 8) e.end))
+-- instructions as an input
+abbrev pub instructions_of : List ℕ → Extent → Input FrameFault
+instructions_of section e = record { at = record { whole = take e.end section; offset = e.offset }; missing = record { offset = e.offset } }
 
--- an FDE's fields behind its CIE's offset: the first address, the number of addresses, and where its instructions begin
-unfoldable pub fde_from : ℕ → At → Option (ℕ × ℕ × ℕ)
-fde_from end at = do
-  start ← word_from at
-  size ← word_from start.1
-  Some (start.0, size.0, end - length (left_of size.1))
+-- the rules after a CIE's initial instructions
+unfoldable pub after_cie : List ℕ → Cie → Result State FrameFault
+after_cie section cie = run_all None all_same_value cie.factors (instructions_of section cie.initial_instructions) no_rules
 
--- ---- where things lie
+-- the rules after an FDE's instructions, up to the first that moves the location past the limit
+abbrev pub continued : Option ℕ → List ℕ → Fde → State → Result State FrameFault
+continued limit section fde initial =
+    run_all limit initial.regs fde.cie.factors (instructions_of section fde.instructions) (record initial { location = fde.initial_location })
 
--- each number is above the one before it
-abbrev pub AreRising : ℕ → List ℕ → Type 0
-AreRising low [] = Unit {0}
-AreRising low (n ∷ numbers) = (low ≤ n) × AreRising (n + 1) numbers
+unfoldable pub after_fde : Option ℕ → List ℕ → Fde → Result State FrameFault
+after_fde limit section fde = do
+  initial ← after_cie section fde.cie
+  continued limit section fde initial
 
--- an entry's length and its bytes lie in the section
-pub record IsPlaced (section : List ℕ) (e : Entry) : Type 0 where
-  pub order : e.offset + 4 ≤ e.end
-  pub within : e.end ≤ length section
+-- ---- what an entry is, or its fault
 
--- a CIE's instructions lie in the section
-pub record IsCieIn (section : List ℕ) (cie : Cie) : Type 0 where
-  pub order : cie.from ≤ cie.end
-  pub within : cie.end ≤ length section
+abbrev pub is_id : Reading ℕ → Bool
+is_id (Err fault) = false
+is_id (Ok found) = found.0 == DW_CIE_ID
 
-abbrev pub IsFormIn : List ℕ → CieForm → Type 0
-IsFormIn section forms.Broken = Unit {0}
-IsFormIn section forms.PassedOver = Unit {0}
-IsFormIn section (forms.Usable cie) = IsCieIn section cie
+-- the word behind its length says that an entry is a CIE
+abbrev pub is_cie : List ℕ → Extent → Bool
+is_cie section e = is_id (number_from 4 (body_of section e))
+
+-- the CIE with that offset
+unfoldable pub cie_at : List ℕ → List Extent → ℕ → Option Extent
+cie_at section extents offset = find (λ e. e.offset == offset && is_cie section e) extents
+
+unfoldable pub cie_of : List ℕ → Extent → Result (Option Cie) FrameFault
+cie_of section e = do
+  (id, input) ← number_from 4 (body_of section e)
+  cie_from e.end input
+
+-- a CIE's initial instructions are carried out
+abbrev pub checked_cie : List ℕ → Option Cie → Result FrameEntry FrameFault
+checked_cie section None = Ok entries.PassedOver
+checked_cie section (Some cie) = do
+  after ← after_cie section cie
+  Ok (entries.Cie cie)
+
+-- an FDE's instructions are carried out, unless its CIE's are at fault
+abbrev pub checked_fde : List ℕ → Fde → Result State FrameFault → Result FrameEntry FrameFault
+checked_fde section fde (Err fault) = Ok (entries.Fde fde)
+checked_fde section fde (Ok initial) = do
+  after ← continued None section fde initial
+  Ok (entries.Fde fde)
+
+-- an FDE's fields behind CIE_pointer: initial_location and address_range
+unfoldable pub fde_fields_from : Input FrameFault → Reading (ℕ × ℕ)
+fde_fields_from input = do
+  (initial_location, input) ← number_from 4 input
+  (address_range, input) ← number_from 4 input
+  Ok ((initial_location, address_range), input)
+
+-- the instructions are the bytes that are left, up to the entry's end
+abbrev pub fde_with : Extent → Cie → ℕ × ℕ → Input FrameFault → Fde
+fde_with e cie fields input = record {
+  offset = e.offset;
+  initial_location = fields.0;
+  address_range = fields.1;
+  instructions = record { offset = e.end - length (left_of input.at); end = e.end };
+  cie = cie;
+}
+
+-- an FDE of a CIE: with the CIE it is passed over, and where the CIE is at fault itself its fields alone are read
+abbrev pub fde_of : List ℕ → Extent → Input FrameFault → Result (Option Cie) FrameFault → Result FrameEntry FrameFault
+fde_of section e input (Ok None) = Ok entries.PassedOver
+fde_of section e input (Ok (Some cie)) = do
+  (fields, input) ← fde_fields_from input
+  checked_fde section (fde_with e cie fields input) (after_cie section cie)
+fde_of section e input (Err fault) = do
+  (fields, input) ← fde_fields_from input
+  Ok entries.PassedOver
+
+-- CIE_pointer is a CIE's offset
+abbrev pub fde_by : List ℕ → Extent → Input FrameFault → Option Extent → Result FrameEntry FrameFault
+fde_by section e input None = Err (record { offset = e.offset })
+fde_by section e input (Some c) = fde_of section e input (cie_of section c)
+
+-- an entry is read, where these are the section's entries
+unfoldable pub read_entry : List ℕ → List Extent → Extent → Result FrameEntry FrameFault
+read_entry section extents e = do
+  (id, input) ← number_from 4 (body_of section e)
+  if id == DW_CIE_ID then (do
+    cie ← cie_from e.end input
+    checked_cie section cie)
+    else fde_by section e input (cie_at section extents id)
+
+-- behind the entries may stand a faulty length
+abbrev pub at_end : Option FrameFault → List (Result FrameEntry FrameFault)
+at_end None = []
+at_end (Some fault) = Err fault ∷ []
+
+-- the section's entries in their order, each as what it is or its fault
+unfoldable pub entries_of : List ℕ → List (Result FrameEntry FrameFault)
+entries_of section = map (read_entry section (extents_of section).0) (extents_of section).0 ++ at_end (extents_of section).1

@@ -1,12 +1,29 @@
--- Call frame instructions: their codes and operands (DWARF 5, sections 6.4.2 and 7.24).
-use Rattle.std.specs.Prelude.{ℕ, ℤ, ◌*◌, ◌/◌, ◌%◌, ◌^◌, ◌==◌, ◌||◌, Bool, Option, Some, None, if◌then◌else◌}
+-- Call frame instructions: their opcodes and operands (DWARF 5, sections 6.4.2 and 7.24).
+use Rattle.std.specs.Prelude.{ℕ, ℤ, ◌*◌, ◌/◌, ◌%◌, ◌^◌, ◌==◌, ◌||◌, Bool, Result, Ok, Err, if◌then◌else◌}
 use Rattle.std.specs.Int.{w64, cast_unsigned}
-use Rattle.prof_bytes.specs.Reading.{At}
-use Rattle.cfi_table.specs.declared.instruction.Instruction.{Instruction}
-use Rattle.cfi_table.specs.declared.instruction.Instruction.TheVariants.{Nothing, Advance, SetLocation, SetRule, Copy, Restore, Remember, RestoreState, SetCfa, SetCfaRegister, SetCfaOffset, CfaExpression}
-use Rattle.cfi_table.specs.declared.instruction.Factors.{Factors}
-use Rattle.cfi_table.specs.declared.rules.Rule.TheVariants as rules
-use Rattle.cfi_table.specs.Taking.{◌>>=◌, byte_from, half_from, word_from, unsigned_from, signed_from, block_from}
+use Rattle.prof_bytes.specs.Outcome.{◌>>=◌}
+use Rattle.prof_bytes.specs.Fields.{Input, number_from, uleb_from, sleb_from, bytes_from}
+use Rattle.cfi_table.specs.declared.fault.FrameFault.{FrameFault}
+use Rattle.cfi_table.specs.declared.instruction.AlignmentFactors.{AlignmentFactors}
+use Rattle.cfi_table.specs.declared.instruction.CallFrameInstruction.{CallFrameInstruction}
+use Rattle.cfi_table.specs.declared.instruction.CallFrameInstruction.TheVariants.{Nop, SetLoc, AdvanceLoc}
+use Rattle.cfi_table.specs.declared.instruction.CallFrameInstruction.TheVariants.{DefCfa, DefCfaRegister, DefCfaOffset, DefCfaExpression}
+use Rattle.cfi_table.specs.declared.instruction.CallFrameInstruction.TheVariants.{Undefined, SameValue, Offset, ValOffset, Register}
+use Rattle.cfi_table.specs.declared.instruction.CallFrameInstruction.TheVariants.{Expression, ValExpression}
+use Rattle.cfi_table.specs.declared.instruction.CallFrameInstruction.TheVariants.{Restore, RememberState, RestoreState}
+use Rattle.cfi_table.specs.declared.constants.TheConstants.{DW_CFA_advance_loc, DW_CFA_offset, DW_CFA_restore, DW_CFA_nop}
+use Rattle.cfi_table.specs.declared.constants.TheConstants.{DW_CFA_set_loc, DW_CFA_advance_loc1, DW_CFA_advance_loc2, DW_CFA_advance_loc4}
+use Rattle.cfi_table.specs.declared.constants.TheConstants.{DW_CFA_offset_extended, DW_CFA_restore_extended, DW_CFA_undefined}
+use Rattle.cfi_table.specs.declared.constants.TheConstants.{DW_CFA_same_value, DW_CFA_register, DW_CFA_remember_state}
+use Rattle.cfi_table.specs.declared.constants.TheConstants.{DW_CFA_restore_state, DW_CFA_def_cfa, DW_CFA_def_cfa_register}
+use Rattle.cfi_table.specs.declared.constants.TheConstants.{DW_CFA_def_cfa_offset, DW_CFA_def_cfa_expression, DW_CFA_expression}
+use Rattle.cfi_table.specs.declared.constants.TheConstants.{DW_CFA_offset_extended_sf, DW_CFA_def_cfa_sf, DW_CFA_def_cfa_offset_sf}
+use Rattle.cfi_table.specs.declared.constants.TheConstants.{DW_CFA_val_offset, DW_CFA_val_offset_sf, DW_CFA_val_expression}
+use Rattle.cfi_table.specs.declared.constants.TheConstants.{DW_CFA_GNU_args_size}
+
+-- a value and the input behind it, or a fault
+abbrev pub Reading : Type 0 → Type 0
+Reading X = Result (X × Input FrameFault) FrameFault
 
 -- the low 32 bits, of a signed number in two's complement
 abbrev pub word_of : ℕ → ℕ
@@ -18,117 +35,139 @@ word_of_signed number = word_of (cast_unsigned w64 number)
 abbrev pub scaled : ℕ → ℕ → ℕ
 scaled number factor = number * factor % 2 ^ 32
 
--- operands: as they are, and times the data alignment
-unfoldable pub plain : At → Option (ℕ × At)
-plain at = do
-  n ← unsigned_from at
-  Some (word_of n.0, n.1)
+-- ---- operands
 
-unfoldable pub factored : Factors → At → Option (ℕ × At)
-factored f at = do
-  n ← unsigned_from at
-  Some (scaled (word_of n.0) f.data_alignment, n.1)
+-- an offset as it stands, and one times the data alignment factor
+unfoldable pub offset_from : Input FrameFault → Reading ℕ
+offset_from input = do
+  (offset, input) ← uleb_from input
+  Ok (word_of offset, input)
 
-unfoldable pub factored_signed : Factors → At → Option (ℕ × At)
-factored_signed f at = do
-  n ← signed_from at
-  Some (scaled (word_of_signed n.0) f.data_alignment, n.1)
+unfoldable pub factored_from : AlignmentFactors → Input FrameFault → Reading ℕ
+factored_from factors input = do
+  (offset, input) ← uleb_from input
+  Ok (scaled (word_of offset) factors.data_alignment_factor, input)
 
--- a step of the location, times the code alignment
-abbrev pub advance : Factors → Option (ℕ × At) → Option (Instruction × At)
-advance f delta = do
-  d ← delta
-  Some (Advance (scaled (word_of d.0) f.code_alignment), d.1)
+unfoldable pub factored_sf_from : AlignmentFactors → Input FrameFault → Reading ℕ
+factored_sf_from factors input = do
+  (offset, input) ← sleb_from input
+  Ok (scaled (word_of_signed offset) factors.data_alignment_factor, input)
 
--- def_cfa, def_cfa_register, def_cfa_offset, def_cfa_expression, def_cfa_sf, def_cfa_offset_sf
-unfoldable pub cfa_of : Factors → ℕ → At → Option (Instruction × At)
-cfa_of f code at =
-    if code == 0x0c then (do
-      r ← unsigned_from at
-      n ← plain r.1
-      Some (SetCfa r.0 n.0, n.1))
-    else if code == 0x0d then (do
-      r ← unsigned_from at
-      Some (SetCfaRegister r.0, r.1))
-    else if code == 0x0e then (do
-      n ← plain at
-      Some (SetCfaOffset n.0, n.1))
-    else if code == 0x0f then (do
-      b ← block_from at
-      Some (CfaExpression, b.1))
-    else if code == 0x12 then (do
-      r ← unsigned_from at
-      n ← factored_signed f r.1
-      Some (SetCfa r.0 n.0, n.1))
-    else if code == 0x13 then (do
-      n ← factored_signed f at
-      Some (SetCfaOffset n.0, n.1))
-    else None
+-- the length of a block, and that many bytes, which are passed over
+unfoldable pub block_from : Input FrameFault → Reading ℕ
+block_from input = do
+  (size, input) ← uleb_from input
+  (block, input) ← bytes_from size input
+  Ok (size, input)
 
--- the rule that a code gives to a register: offset_extended, undefined, same_value, register, expression, offset_extended_sf, val_offset,
--- val_offset_sf, val_expression
-unfoldable pub rule_of : Factors → ℕ → ℕ → At → Option (Instruction × At)
-rule_of f code register at =
-    if code == 0x05 then (do
-      n ← factored f at
-      Some (SetRule register (rules.Saved n.0), n.1))
-    else if code == 0x07 then Some (SetRule register rules.Undefined, at)
-    else if code == 0x08 then Some (SetRule register rules.Kept, at)
-    else if code == 0x09 then (do
-      s ← unsigned_from at
-      Some (Copy register s.0, s.1))
-    else if code == 0x11 then (do
-      n ← factored_signed f at
-      Some (SetRule register (rules.Saved n.0), n.1))
-    else if code == 0x14 then (do
-      n ← factored f at
-      Some (SetRule register (rules.Sum n.0), n.1))
-    else if code == 0x15 then (do
-      n ← factored_signed f at
-      Some (SetRule register (rules.Sum n.0), n.1))
+-- a step of the location, times the code alignment factor
+abbrev pub advance_loc : AlignmentFactors → ℕ → CallFrameInstruction
+advance_loc factors delta = AdvanceLoc (scaled delta factors.code_alignment_factor)
+
+-- ---- instructions by their opcodes
+
+-- the CFA's rule (section 6.4.2.2)
+unfoldable pub cfa_from : AlignmentFactors → ℕ → Input FrameFault → Reading CallFrameInstruction
+cfa_from factors opcode input =
+    if opcode == DW_CFA_def_cfa then (do
+      (register, input) ← uleb_from input
+      (offset, input) ← offset_from input
+      Ok (DefCfa register offset, input))
+    else if opcode == DW_CFA_def_cfa_sf then (do
+      (register, input) ← uleb_from input
+      (offset, input) ← factored_sf_from factors input
+      Ok (DefCfa register offset, input))
+    else if opcode == DW_CFA_def_cfa_register then (do
+      (register, input) ← uleb_from input
+      Ok (DefCfaRegister register, input))
+    else if opcode == DW_CFA_def_cfa_offset then (do
+      (offset, input) ← offset_from input
+      Ok (DefCfaOffset offset, input))
+    else if opcode == DW_CFA_def_cfa_offset_sf then (do
+      (offset, input) ← factored_sf_from factors input
+      Ok (DefCfaOffset offset, input))
+    else if opcode == DW_CFA_def_cfa_expression then (do
+      (size, input) ← block_from input
+      Ok (DefCfaExpression, input))
+    else Err input.missing
+
+-- a register's rule (section 6.4.2.3)
+unfoldable pub rule_from : AlignmentFactors → ℕ → ℕ → Input FrameFault → Reading CallFrameInstruction
+rule_from factors opcode register input =
+    if opcode == DW_CFA_undefined then Ok (Undefined register, input)
+    else if opcode == DW_CFA_same_value then Ok (SameValue register, input)
+    else if opcode == DW_CFA_offset_extended then (do
+      (offset, input) ← factored_from factors input
+      Ok (Offset register offset, input))
+    else if opcode == DW_CFA_offset_extended_sf then (do
+      (offset, input) ← factored_sf_from factors input
+      Ok (Offset register offset, input))
+    else if opcode == DW_CFA_val_offset then (do
+      (offset, input) ← factored_from factors input
+      Ok (ValOffset register offset, input))
+    else if opcode == DW_CFA_val_offset_sf then (do
+      (offset, input) ← factored_sf_from factors input
+      Ok (ValOffset register offset, input))
+    else if opcode == DW_CFA_register then (do
+      (source, input) ← uleb_from input
+      Ok (Register register source, input))
+    else if opcode == DW_CFA_expression then (do
+      (size, input) ← block_from input
+      Ok (Expression register, input))
     else (do
-      b ← block_from at
-      Some (SetRule register rules.Expression, b.1))
+      (size, input) ← block_from input
+      Ok (ValExpression register, input))
 
-abbrev pub has_rule : ℕ → Bool
-has_rule code = code == 0x05 || code == 0x07 || code == 0x08 || code == 0x09 || code == 0x10 || code == 0x11 || code == 0x14 || code == 0x15 || code == 0x16
+abbrev pub is_rule : ℕ → Bool
+is_rule opcode =
+    opcode == DW_CFA_undefined || opcode == DW_CFA_same_value || opcode == DW_CFA_offset_extended
+    || opcode == DW_CFA_offset_extended_sf || opcode == DW_CFA_val_offset || opcode == DW_CFA_val_offset_sf
+    || opcode == DW_CFA_register || opcode == DW_CFA_expression || opcode == DW_CFA_val_expression
 
-unfoldable pub register_then : Factors → ℕ → At → Option (Instruction × At)
-register_then f code at = do
-  r ← unsigned_from at
-  rule_of f code r.0 r.1
+-- a register's number, and its rule
+unfoldable pub register_rule_from : AlignmentFactors → ℕ → Input FrameFault → Reading CallFrameInstruction
+register_rule_from factors opcode input = do
+  (register, input) ← uleb_from input
+  rule_from factors opcode register input
 
--- nop, set_loc, advance_loc1, 2 and 4, restore_extended, remember_state, restore_state, GNU_args_size
-unfoldable pub other_of : Factors → ℕ → At → Option (Instruction × At)
-other_of f code at =
-    if code == 0x00 then Some (Nothing, at)
-    else if code == 0x01 then (do
-      w ← word_from at
-      Some (SetLocation w.0, w.1))
-    else if code == 0x02 then advance f (byte_from at)
-    else if code == 0x03 then advance f (half_from at)
-    else if code == 0x04 then advance f (word_from at)
-    else if code == 0x06 then (do
-      r ← unsigned_from at
-      Some (Restore r.0, r.1))
-    else if code == 0x0a then Some (Remember, at)
-    else if code == 0x0b then Some (RestoreState, at)
-    else if code == 0x2e then (do
-      n ← unsigned_from at
-      Some (Nothing, n.1))
-    else if has_rule code then register_then f code at
-    else cfa_of f code at
+-- the location, the states, and what says nothing (sections 6.4.2.1, 6.4.2.4 and 6.4.2.5)
+unfoldable pub extended_from : AlignmentFactors → ℕ → Input FrameFault → Reading CallFrameInstruction
+extended_from factors opcode input =
+    if opcode == DW_CFA_nop then Ok (Nop, input)
+    else if opcode == DW_CFA_set_loc then (do
+      (address, input) ← number_from 4 input
+      Ok (SetLoc address, input))
+    else if opcode == DW_CFA_advance_loc1 then (do
+      (delta, input) ← number_from 1 input
+      Ok (advance_loc factors delta, input))
+    else if opcode == DW_CFA_advance_loc2 then (do
+      (delta, input) ← number_from 2 input
+      Ok (advance_loc factors delta, input))
+    else if opcode == DW_CFA_advance_loc4 then (do
+      (delta, input) ← number_from 4 input
+      Ok (advance_loc factors delta, input))
+    else if opcode == DW_CFA_restore_extended then (do
+      (register, input) ← uleb_from input
+      Ok (Restore register, input))
+    else if opcode == DW_CFA_remember_state then Ok (RememberState, input)
+    else if opcode == DW_CFA_restore_state then Ok (RestoreState, input)
+    else if opcode == DW_CFA_GNU_args_size then (do
+      (size, input) ← uleb_from input
+      Ok (Nop, input))
+    else if is_rule opcode then register_rule_from factors opcode input
+    else cfa_from factors opcode input
 
--- the instruction of a code: the high two bits say advance_loc, offset and restore, with an operand in the low six
-unfoldable pub instruction_of : Factors → ℕ → At → Option (Instruction × At)
-instruction_of f code at =
-    if code / 64 == 1 then Some (Advance (scaled (code % 64) f.code_alignment), at)
-    else if code / 64 == 2 then rule_of f 0x05 (code % 64) at
-    else if code / 64 == 3 then Some (Restore (code % 64), at)
-    else other_of f code at
+-- the high two bits of a byte say advance_loc, offset or restore, with an operand in the low six; or that the byte is
+-- the opcode
+unfoldable pub opcode_then : AlignmentFactors → ℕ → Input FrameFault → Reading CallFrameInstruction
+opcode_then factors byte input =
+    if byte / 64 == DW_CFA_advance_loc / 64 then Ok (advance_loc factors (byte % 64), input)
+    else if byte / 64 == DW_CFA_offset / 64 then rule_from factors DW_CFA_offset_extended (byte % 64) input
+    else if byte / 64 == DW_CFA_restore / 64 then Ok (Restore (byte % 64), input)
+    else extended_from factors byte input
 
--- the instruction at a place, and the place behind it
-unfoldable pub instruction_at : Factors → At → Option (Instruction × At)
-instruction_at f at = do
-  code ← byte_from at
-  instruction_of f code.0 code.1
+-- an instruction, and the input behind it
+unfoldable pub instruction_from : AlignmentFactors → Input FrameFault → Reading CallFrameInstruction
+instruction_from factors input = do
+  (byte, input) ← number_from 1 input
+  opcode_then factors byte input

@@ -1,8 +1,6 @@
-pub mod Taking
-pub mod Entries
 pub mod Instructions
 pub mod Rules
-pub mod Kinds
+pub mod Entries
 pub mod Frames
-pub mod Cies
-pub mod Undoing
+pub mod Laws
+pub mod private

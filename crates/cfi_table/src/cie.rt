@@ -1,137 +1,157 @@
-//! Common information entries.
-ghost use Rattle.std.specs.Prelude.{◌≡◌, ◌+◌, ◌<◌, ◌≤◌, ◌^◌, Some, None, IfSome, length, option_map};
-ghost use Rattle.prof_bytes.specs.Reading.{At, left_of};
-ghost use Rattle.cfi_table.specs.Taking.{part};
-ghost use Rattle.cfi_table.specs.Entries.{register_from, cie_with, cie_from_factors, cie_from_segment, cie_from_sizes, cie_from_augmentation, cie_from, cie_form, IsCieIn, IsFormIn};
+//! Common information entries (DWARF 5, section 6.4.1).
+ghost use Rattle.std.specs.Prelude.{◌≡◌, ◌+◌, ◌<◌, ◌≤◌, ◌^◌, Some, None, IfOk, IfSome, length};
+ghost use Rattle.prof_bytes.specs.Reading.{left_of};
+ghost use Rattle.prof_bytes.specs.Fields.{Input};
+ghost use Rattle.prof_bytes.specs.Outcome.{GivesAt};
+ghost use Rattle.cfi_table.specs.declared.fault.FrameFault.{FrameFault};
+ghost use Rattle.cfi_table.specs.Entries.{register_from, cie_with, cie_from_factors, cie_from_segment, cie_from_sizes};
+ghost use Rattle.cfi_table.specs.Entries.{cie_from_augmentation, cie_from, cie_of};
+ghost use Rattle.cfi_table.specs.private.Placed.{IsPlaced, IsCieIn};
 
-use crate::entry::{Entry, part};
-use crate::instruction::{Factors, word_of, word_of_signed};
-use prof_bytes::Cursor;
+use crate::extent::{Extent, body};
+use crate::fault::FrameFault;
+use crate::instruction::{AlignmentFactors, word_of, word_of_signed};
+use prof_bytes::Reader;
 
-/// What a CIE says: the factors, the register that has the return address, and where its
-/// instructions begin and end in the section.
+/// A common information entry (CIE).
 #[derive(Clone, Copy, Debug, PartialEq, Eq)]
 pub(crate) struct Cie {
-    pub(crate) factors: Factors,
-    pub(crate) return_register: u8,
-    pub(crate) from: u32,
-    pub(crate) end: u32,
+    pub(crate) factors: AlignmentFactors,
+    pub(crate) return_address_register: u8,
+    pub(crate) initial_instructions: Extent,
 }
 
-/// What stands where a CIE is named.
-#[derive(Clone, Copy, PartialEq, Eq)]
-pub(crate) enum CieForm {
-    /// A field of it is not whole.
-    Broken,
-    /// It is of a form that is passed over, and so are its FDEs.
-    PassedOver,
-    Usable(Cie),
-}
-
-/// The return register. In version 1 it has one byte.
-fn register_from(version: u8, cursor: &mut Cursor<'_>) -> Option<u64>
-    ensures { option_map (λ n. (n, cursor.new)) result ≡ register_from version cursor.old }
+/// The return address register. In version 1 it has one byte.
+fn register(version: u8, reader: &mut Reader<'_, FrameFault>) -> Result<u64, FrameFault>
+    ensures { GivesAt (λ n. n) result reader.new (register_from version reader.old) }
 {
     if version == 1 {
-        Some(u64::from(cursor.u8()?))
+        Ok(u64::from(reader.u8()?))
     } else {
-        cursor.uleb()
+        reader.uleb()
     }
 }
 
-fn cie_with(end: u32, code: u64, scale: i64, register: u64, left: usize) -> Option<Cie>
-    ensures cie { (at : At) → left ≡ length (left_of at) → result ≡ cie_with end code scale register at }
-    ensures placed { IfSome result (λ c. (c.from ≤ c.end) × (c.end ≡ end)) }
+fn cie_with(
+    end: u32,
+    code_factor: u64,
+    data_factor: i64,
+    register: u64,
+    left: usize,
+) -> Option<Cie>
+    ensures cie { (input : Input FrameFault) → left ≡ length (left_of input.at) → result ≡ cie_with end code_factor data_factor register input }
+    ensures placed { IfSome result (λ c. (c.initial_instructions.offset ≤ c.initial_instructions.end) × (c.initial_instructions.end ≡ end)) }
 {
     if register >= 32 {
         return None;
     }
     Some(Cie {
-        factors: Factors {
-            code_alignment: word_of(code),
-            data_alignment: word_of_signed(scale),
+        factors: AlignmentFactors {
+            code_alignment_factor: word_of(code_factor),
+            data_alignment_factor: word_of_signed(data_factor),
         },
-        return_register: register as u8,
-        from: (end as usize).saturating_sub(left) as u32,
-        end,
+        return_address_register: register as u8,
+        initial_instructions: Extent {
+            offset: (end as usize).saturating_sub(left) as u32,
+            end,
+        },
     })
 }
 
 #[tactic(auto, unfolding(crate::specs::Entries::cie_from_factors))]
-fn cie_from_factors(end: u32, version: u8, cursor: &mut Cursor<'_>) -> Option<Option<Cie>>
-    ensures cie { result ≡ cie_from_factors end version cursor.old }
-    ensures placed { IfSome result (λ cie. IfSome cie (λ c. (c.from ≤ c.end) × (c.end ≡ end))) }
+fn from_factors(
+    end: u32,
+    version: u8,
+    reader: &mut Reader<'_, FrameFault>,
+) -> Result<Option<Cie>, FrameFault>
+    ensures cie { result ≡ cie_from_factors end version reader.old }
+    ensures placed { IfOk result (λ cie. IfSome cie (λ c. (c.initial_instructions.offset ≤ c.initial_instructions.end) × (c.initial_instructions.end ≡ end))) }
 {
-    let code = cursor.uleb()?;
-    let scale = cursor.sleb()?;
-    let register = register_from(version, cursor)?;
-    Some(cie_with(end, code, scale, register, cursor.left()))
+    let code_factor = reader.uleb()?;
+    let data_factor = reader.sleb()?;
+    let register = register(version, reader)?;
+    Ok(cie_with(end, code_factor, data_factor, register, reader.left()))
 }
 
 #[tactic(auto, unfolding(crate::specs::Entries::cie_from_segment))]
-fn cie_from_segment(end: u32, version: u8, cursor: &mut Cursor<'_>) -> Option<Option<Cie>>
-    ensures cie { result ≡ cie_from_segment end version cursor.old }
-    ensures placed { IfSome result (λ cie. IfSome cie (λ c. (c.from ≤ c.end) × (c.end ≡ end))) }
+fn from_segment(
+    end: u32,
+    version: u8,
+    reader: &mut Reader<'_, FrameFault>,
+) -> Result<Option<Cie>, FrameFault>
+    ensures cie { result ≡ cie_from_segment end version reader.old }
+    ensures placed { IfOk result (λ cie. IfSome cie (λ c. (c.initial_instructions.offset ≤ c.initial_instructions.end) × (c.initial_instructions.end ≡ end))) }
 {
-    if cursor.u8()? == 0 {
-        cie_from_factors(end, version, cursor)
+    let segment_selector_size = reader.u8()?;
+    if segment_selector_size == 0 {
+        from_factors(end, version, reader)
     } else {
-        Some(None)
+        Ok(None)
     }
 }
 
 #[tactic(auto, unfolding(crate::specs::Entries::cie_from_sizes))]
-fn cie_from_sizes(end: u32, version: u8, cursor: &mut Cursor<'_>) -> Option<Option<Cie>>
-    ensures cie { result ≡ cie_from_sizes end version cursor.old }
-    ensures placed { IfSome result (λ cie. IfSome cie (λ c. (c.from ≤ c.end) × (c.end ≡ end))) }
+fn from_sizes(
+    end: u32,
+    version: u8,
+    reader: &mut Reader<'_, FrameFault>,
+) -> Result<Option<Cie>, FrameFault>
+    ensures cie { result ≡ cie_from_sizes end version reader.old }
+    ensures placed { IfOk result (λ cie. IfSome cie (λ c. (c.initial_instructions.offset ≤ c.initial_instructions.end) × (c.initial_instructions.end ≡ end))) }
 {
     if version != 4 {
-        return cie_from_factors(end, version, cursor);
+        return from_factors(end, version, reader);
     }
-    if cursor.u8()? == 4 {
-        cie_from_segment(end, version, cursor)
+    let address_size = reader.u8()?;
+    if address_size == 4 {
+        from_segment(end, version, reader)
     } else {
-        Some(None)
+        Ok(None)
     }
 }
 
 #[tactic(auto, unfolding(crate::specs::Entries::cie_from_augmentation))]
-fn cie_from_augmentation(end: u32, version: u8, cursor: &mut Cursor<'_>) -> Option<Option<Cie>>
-    ensures cie { result ≡ cie_from_augmentation end version cursor.old }
-    ensures placed { IfSome result (λ cie. IfSome cie (λ c. (c.from ≤ c.end) × (c.end ≡ end))) }
+fn from_augmentation(
+    end: u32,
+    version: u8,
+    reader: &mut Reader<'_, FrameFault>,
+) -> Result<Option<Cie>, FrameFault>
+    ensures cie { result ≡ cie_from_augmentation end version reader.old }
+    ensures placed { IfOk result (λ cie. IfSome cie (λ c. (c.initial_instructions.offset ≤ c.initial_instructions.end) × (c.initial_instructions.end ≡ end))) }
 {
-    if cursor.cstr()?.is_empty() {
-        cie_from_sizes(end, version, cursor)
+    let augmentation = reader.cstr()?;
+    if augmentation.is_empty() {
+        from_sizes(end, version, reader)
     } else {
-        Some(None)
+        Ok(None)
     }
 }
 
+/// The fields behind a CIE's id, in an entry that ends there. `None` where it is passed over.
 #[tactic(auto, unfolding(crate::specs::Entries::cie_from))]
-fn cie_from(end: u32, cursor: &mut Cursor<'_>) -> Option<Option<Cie>>
-    ensures cie { result ≡ cie_from end cursor.old }
-    ensures placed { IfSome result (λ cie. IfSome cie (λ c. (c.from ≤ c.end) × (c.end ≡ end))) }
+pub(crate) fn cie_from(
+    end: u32,
+    reader: &mut Reader<'_, FrameFault>,
+) -> Result<Option<Cie>, FrameFault>
+    ensures cie { result ≡ cie_from end reader.old }
+    ensures placed { IfOk result (λ cie. IfSome cie (λ c. (c.initial_instructions.offset ≤ c.initial_instructions.end) × (c.initial_instructions.end ≡ end))) }
 {
-    let version = cursor.u8()?;
+    let version = reader.u8()?;
     if version == 1 || version == 3 || version == 4 {
-        cie_from_augmentation(end, version, cursor)
+        from_augmentation(end, version, reader)
     } else {
-        Some(None)
+        Ok(None)
     }
 }
 
-/// What the entry says as a CIE.
-#[tactic(auto, unfolding(crate::specs::Entries::cie_form))]
-pub(crate) fn cie_form(section: &[u8], entry: &Entry) -> CieForm
-    requires order { entry.now.offset + 8 ≤ entry.now.end }
-    requires within { entry.now.end ≤ length section.now }
-    ensures form { result ≡ cie_form section.now entry.now }
-    ensures placed { IsFormIn section.now result }
+/// What an entry says as a CIE.
+#[tactic(auto, unfolding(crate::specs::Entries::cie_of))]
+pub(crate) fn cie_of(section: &[u8], extent: &Extent) -> Result<Option<Cie>, FrameFault>
+    requires { IsPlaced section.now extent.now }
+    ensures cie { result ≡ cie_of section.now extent.now }
+    ensures placed { IsCieIn section.now result }
 {
-    let mut cursor = part(section, entry.offset as usize + 8, entry.end as usize);
-    match cie_from(entry.end, &mut cursor) {
-        None => CieForm::Broken,
-        Some(None) => CieForm::PassedOver,
-        Some(Some(cie)) => CieForm::Usable(cie),
-    }
+    let mut reader = body(section, extent);
+    reader.u32()?;
+    cie_from(extent.end, &mut reader)
 }

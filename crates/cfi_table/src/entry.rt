@@ -1,80 +1,179 @@
-//! The chain of a section's entries.
-ghost use Rattle.std.specs.Prelude.{◌≡◌, ◌+◌, ◌<◌, ◌≤◌, ◌^◌, Some, None, IfOk, IfSome, All, length, drop, map, option_map};
-ghost use Rattle.prof_bytes.specs.Number.{number_at};
-ghost use Rattle.prof_bytes.specs.Reading.{left_of};
-ghost use Rattle.cfi_table.specs.Taking.{part, word_from};
-ghost use Rattle.cfi_table.specs.Entries.{size_at, fitting, chain_of, id_of, AreRising, IsPlaced};
+//! Entries, each of which is read once: to what it is or its fault.
+ghost use Rattle.std.specs.Prelude.{◌≡◌, ◌+◌, ◌<◌, ◌≤◌, ◌^◌, List, Some, None, Ok, IfOk, All, map, filter};
+ghost use Rattle.std.specs.List.{filter_map};
+ghost use Rattle.prof_bytes.specs.Outcome.{Gives, viewed};
+ghost use Rattle.elf_image.specs.Image.{counts};
+ghost use Rattle.cfi_table.specs.declared.extent.Extent.{Extent};
+ghost use Rattle.cfi_table.specs.declared.entry.FrameEntry.TheVariants as entries;
+ghost use Rattle.cfi_table.specs.Entries.{is_cie, cie_of, after_cie, checked_cie, checked_fde, fde_with, fde_of, read_entry};
+ghost use Rattle.cfi_table.specs.Frames.{all_ok, counted};
+ghost use Rattle.cfi_table.specs.private.Placed.{AreRising, IsPlaced, IsWithin, IsCieIn, IsFdeIn, IsEntryIn};
+ghost use Rattle.cfi_table.specs.private.Checking.{forms_after};
+ghost use Rattle.cfi_table.specs.private.KnownCies.{end_seen, known, seen_cie, IsKnown};
 
-use prof_bytes::{Cursor, Memory};
+use crate::checker::{Checker, CieEnd};
+use crate::cie::{Cie, cie_from};
+use crate::constants::DW_CIE_ID;
+use crate::extent::{Extent, body, instructions};
+use crate::fault::FrameFault;
+use crate::fde::{Fde, fde_fields};
+use crate::known_cie::{KnownCie, cie_at, run_cie};
+use elf_image::Image;
+use prof_bytes::{Fail, Reader};
 use std::alloc::Global;
 
-/// Lengths from here on are not those of 32-bit sections.
-const FIRST_RESERVED_LENGTH: u32 = 0xffff_fff0;
-
-/// An entry: the offset of its length in the section, and where it ends.
-#[derive(Clone, Copy)]
-pub(crate) struct Entry {
-    pub(crate) offset: u32,
-    pub(crate) end: u32,
+/// What an entry is.
+#[derive(Clone, Copy, Debug, PartialEq, Eq)]
+pub(crate) enum FrameEntry {
+    /// A CIE of a form that is not read, or an FDE of one.
+    PassedOver,
+    Cie(Cie),
+    Fde(Fde),
 }
 
-/// The bytes of the section up to an end, from a place on.
-pub(crate) fn part(section: &[u8], place: usize, end: usize) -> Cursor<'_>
-    requires order { place ≤ end }
-    requires within { end ≤ length section.now }
-    ensures { result ≡ part section.now place end }
+/// A CIE, whose instructions are carried out.
+#[tactic(auto, using(crate::proofs::Entries::cie_runs, crate::proofs::Entries::cie_fails))]
+fn checked_cie(
+    alloc: Global,
+    section: &[u8],
+    cie: Option<Cie>,
+) -> Result<FrameEntry, Fail<FrameFault>>
+    requires { IsCieIn section.now (Ok cie) }
+    ensures { Gives (λ entry. entry) result (checked_cie section.now cie) }
 {
-    Cursor::at(&section[..end], place)
+    let Some(cie) = cie else {
+        return Ok(FrameEntry::PassedOver);
+    };
+    run_cie(alloc, section, &cie)?;
+    Ok(FrameEntry::Cie(cie))
 }
 
-/// How many bytes the entry at the offset has behind its length. `None` where the length is at fault.
-#[tactic(auto, unfolding(crate::specs::Entries::size_at))]
-fn size_at(section: &[u8], at: usize) -> Option<usize>
-    requires within { at ≤ length section.now }
-    requires small { length section.now < 2 ^ 31 }
-    ensures size { result ≡ size_at section.now at }
-    ensures fits { IfSome result (λ size. at + 4 + size ≤ length section.now) }
+/// An FDE, whose instructions are carried out from the end of its CIE's on, unless these are at fault.
+#[tactic(auto, using(crate::proofs::Entries::fde_runs, crate::proofs::Entries::fde_fails, crate::proofs::Entries::fde_unchecked))]
+fn checked_fde(
+    alloc: Global,
+    section: &[u8],
+    fde: Fde,
+    end: &Result<CieEnd, FrameFault>,
+) -> Result<FrameEntry, Fail<FrameFault>>
+    requires placed { IsFdeIn section.now fde }
+    requires known { viewed end_seen end.now ≡ forms_after (after_cie section.now fde.cie) }
+    ensures entry { Gives (λ entry. entry) result (checked_fde section.now fde (after_cie section.now fde.cie)) }
+    ensures placed { IfOk result (IsEntryIn section.now) }
 {
-    let mut cursor = Cursor::at(section, at);
-    let size = cursor.u32()?;
-    if size >= FIRST_RESERVED_LENGTH || at + 4 + size as usize > section.len() {
-        return None;
+    if let Ok(end) = end {
+        let mut checker = Checker::after(alloc, end);
+        let mut reader = instructions(section, &fde.instructions);
+        checker.run(&fde.cie.factors, &mut reader)?;
     }
-    Some(size as usize)
+    Ok(FrameEntry::Fde(fde))
 }
 
-/// The word behind the entry's length: a CIE's mark, or the offset of an FDE's CIE.
-#[tactic(auto, unfolding(crate::specs::Entries::id_of))]
-pub(crate) fn id_of(section: &[u8], entry: &Entry) -> Option<u32>
-    requires { IsPlaced section.now entry.now }
-    ensures id { result ≡ id_of section.now entry.now }
-    ensures whole { IfSome result (λ id. entry.now.offset + 8 ≤ entry.now.end) }
+fn fde_with(extent: &Extent, cie: Cie, fields: (u32, u32), reader: &Reader<'_, FrameFault>) -> Fde
+    ensures fde { result ≡ fde_with extent.now cie (fields.0, fields.1) reader.now }
+    ensures order { result.instructions.offset ≤ result.instructions.end }
 {
-    part(section, entry.offset as usize + 4, entry.end as usize).u32()
+    Fde {
+        offset: extent.offset,
+        initial_location: fields.0,
+        address_range: fields.1,
+        instructions: Extent {
+            offset: (extent.end as usize).saturating_sub(reader.left()) as u32,
+            end: extent.end,
+        },
+        cie,
+    }
 }
 
-/// The entries of the section, and the offset of the first whose length is at fault.
-pub(crate) fn chain_of(alloc: Global, section: &[u8]) -> Result<(Vec<Entry>, Option<u32>), Memory>
-    requires { length section.now < 2 ^ 31 }
-    ensures chain { IfOk result (λ found. (found.0.items, found.1) ≡ chain_of section.now) }
-    ensures few { IfOk result (λ found. length found.0.items ≤ length section.now) }
-    ensures within { IfOk result (λ found. All (IsPlaced section.now) found.0.items) }
-    ensures order { IfOk result (λ found. AreRising 0 (map (λ e. e.offset) found.0.items)) }
+/// An FDE of that CIE.
+fn read_fde(
+    alloc: Global,
+    section: &[u8],
+    extent: &Extent,
+    reader: &mut Reader<'_, FrameFault>,
+    known: &KnownCie,
+) -> Result<FrameEntry, Fail<FrameFault>>
+    requires within { IsPlaced section.now extent.now }
+    requires known { IsKnown section.now known.now }
+    ensures entry { Gives (λ entry. entry) result (fde_of section.now extent.now reader.old known.now.cie) }
+    ensures placed { IfOk result (IsEntryIn section.now) }
 {
-    let mut entries = Vec::new(alloc);
-    let mut at = 0;
-    while at < section.len() {
-        match size_at(section, at) {
-            Some(0) => at += 4,
-            Some(size) => {
-                entries.push(Entry {
-                    offset: at as u32,
-                    end: (at + 4 + size) as u32,
-                })?;
-                at += 4 + size;
-            }
-            None => return Ok((entries, Some(at as u32))),
+    match known.cie {
+        Ok(None) => Ok(FrameEntry::PassedOver),
+        Ok(Some(cie)) => {
+            let fields = fde_fields(reader)?;
+            let fde = fde_with(extent, cie, fields, reader);
+            checked_fde(alloc, section, fde, &known.end)
+        }
+        Err(_) => {
+            fde_fields(reader)?;
+            Ok(FrameEntry::PassedOver)
         }
     }
-    Ok((entries, None))
+}
+
+/// An entry, where these are the section's CIEs.
+fn read_entry(
+    alloc: Global,
+    section: &[u8],
+    cies: &[KnownCie],
+    extent: &Extent,
+) -> Result<FrameEntry, Fail<FrameFault>>
+    requires rising { AreRising 0 (map (λ cie. cie.offset) cies.now) }
+    requires known { All (IsKnown section.now) cies.now }
+    requires placed { IsPlaced section.now extent.now }
+    ensures entry { (extents : List Extent) → map seen_cie cies.now ≡ map (known section.now) (filter (is_cie section.now) extents)
+        → Gives (λ entry. entry) result (read_entry section.now extents extent.now) }
+    ensures within { IfOk result (IsEntryIn section.now) }
+{
+    let mut reader = body(section, extent);
+    let id = reader.u32()?;
+    if id == DW_CIE_ID {
+        let cie = cie_from(extent.end, &mut reader)?;
+        return checked_cie(alloc, section, cie);
+    }
+    match cie_at(cies, id) {
+        Some(known) => read_fde(alloc, section, extent, &mut reader, known),
+        None => Err(Fail::Fault(FrameFault {
+            offset: extent.offset,
+        })),
+    }
+}
+
+/// The entry as an FDE whose range counts.
+fn counted(image: &Image<'_>, entry: FrameEntry) -> Option<Fde>
+    ensures { result ≡ counted image.now.segments entry }
+{
+    match entry {
+        FrameEntry::Fde(fde) if image.counts_from(fde.initial_location, fde.address_range) => {
+            Some(fde)
+        }
+        _ => None,
+    }
+}
+
+/// The FDEs that count, in the order of the entries, or the entries' first fault.
+#[tactic(auto, using(crate::proofs::Entries::reads_none))]
+pub(crate) fn counted_fdes(
+    alloc: Global,
+    section: &[u8],
+    extents: &[Extent],
+    cies: &[KnownCie],
+    image: &Image<'_>,
+) -> Result<Vec<Fde>, Fail<FrameFault>>
+    requires all { All (IsPlaced section.now) extents.now }
+    requires rising { AreRising 0 (map (λ cie. cie.offset) cies.now) }
+    requires known { All (IsKnown section.now) cies.now }
+    requires cies { map seen_cie cies.now ≡ map (known section.now) (filter (is_cie section.now) extents.now) }
+    ensures fdes { Gives (λ fdes. fdes.items) result (viewed (filter_map (counted image.now.segments)) (all_ok (map (read_entry section.now extents.now) extents.now))) }
+    ensures within { IfOk result (λ fdes. All (IsFdeIn section.now) fdes.items) }
+{
+    let mut fdes = Vec::new(alloc);
+    for extent in extents {
+        let entry = read_entry(alloc, section, cies, extent)?;
+        if let Some(fde) = counted(image, entry) {
+            fdes.push(fde)?;
+        }
+    }
+    Ok(fdes)
 }

@@ -2,24 +2,22 @@
 ghost use Rattle.std.specs.Prelude.{◌≡◌, ◌+◌, ◌<◌, ◌≤◌, ◌^◌, Some, None, IfOk, IfSome, All, length, map, option_map};
 ghost use Rattle.std.specs.Option.{option_map_or};
 ghost use Rattle.prof_bytes.specs.Outcome.{Gives};
-ghost use Rattle.cfi_table.specs.Frames.{frames_of, fde_at, rules_of, instruction_bytes, least_above, lesser, range_of, IsFdeIn};
+ghost use Rattle.cfi_table.specs.Entries.{after_fde};
+ghost use Rattle.cfi_table.specs.Frames.{frames_of, fde_at, rules_of, rules_at, instruction_bytes, size_of, least_above, lesser};
+ghost use Rattle.cfi_table.specs.private.Placed.{IsFdeIn};
 
-use crate::cies::cies_of;
-use crate::entry::{chain_of, part};
-use crate::fde::{Fde, fdes_of, first_fault};
-use crate::machine::Machine;
+use crate::entry::counted_fdes;
+use crate::extent::{Extent, all_extents, instructions};
+use crate::fault::FrameFault;
+use crate::fde::Fde;
+use crate::interpreter::Interpreter;
+use crate::known_cie::known_cies;
 use crate::rules::{Rule, Rules};
-use address_ranges::{AddressRange, HasRange, RangeTable};
+use address_ranges::RangeTable;
 use elf_image::Image;
 use prof_bytes::{Fail, Memory};
 use std::alloc::Global;
 use std::marker::Model;
-
-/// The first fault of a section, by its offset in bytes.
-#[derive(Clone, Copy, Debug, PartialEq, Eq)]
-pub struct FrameFault {
-    pub offset: u32,
-}
 
 /// The FDEs of a section whose ranges count. It keeps a copy of the section.
 #[derive(Debug, Drop)]
@@ -29,24 +27,14 @@ pub struct FrameTable {
 }
 
 impl Model for FrameTable {
-    ghost use Rattle.cfi_table.specs.Frames.{Frames, IsTable};
+    ghost use Rattle.cfi_table.specs.Frames.{Frames};
+    ghost use Rattle.cfi_table.specs.private.Placed.{IsTable};
 
     ghost Value = { Frames };
 
     ghost view = { λ table. record { section = table.section.items; fdes = table.fdes } };
 
     ghost invariant = { λ table. IsTable table.section.items table.fdes };
-}
-
-impl HasRange for Fde {
-    ghost range_of = { range_of };
-
-    fn range(&self) -> AddressRange {
-        AddressRange {
-            start: self.start,
-            end: u64::from(self.start) + u64::from(self.size),
-        }
-    }
 }
 
 /// The table of the section's FDEs that count.
@@ -71,37 +59,58 @@ pub fn read_frames(
     requires { length bytes.now < 2 ^ 31 }
     ensures { Gives (λ table. table) result (frames_of bytes.now image.now.segments) }
 {
-    let (entries, broken) = chain_of(alloc, bytes)?;
-    let cies = cies_of(alloc, bytes, &entries)?;
-    let fault = first_fault(alloc, bytes, &entries, &cies)?;
-    if let Some(offset) = fault.or(broken) {
-        return Err(Fail::Fault(FrameFault { offset }));
+    let (extents, broken) = all_extents(alloc, bytes)?;
+    let cies = known_cies(alloc, bytes, &extents)?;
+    let fdes = counted_fdes(alloc, bytes, &extents, &cies, image)?;
+    match broken {
+        Some(fault) => Err(Fail::Fault(fault)),
+        None => Ok(table_of(alloc, bytes, fdes)?),
     }
-    let fdes = fdes_of(alloc, bytes, &entries, &cies, image)?;
-    Ok(table_of(alloc, bytes, fdes)?)
 }
 
-/// The rules at an address of the FDE: its CIE's instructions are run, and then its own up to the
+/// The state at an address of the FDE: its CIE's instructions are carried out, and then its own up to the
 /// first that moves the location past the address.
+#[tactic(auto, unfolding(crate::specs::Entries::after_fde, crate::specs::Entries::after_cie))]
+fn state_at(
+    alloc: Global,
+    section: &[u8],
+    fde: &Fde,
+    pc: u32,
+) -> Result<Interpreter, Fail<FrameFault>>
+    requires { IsFdeIn section.now fde.now }
+    ensures { Gives (λ interpreter. interpreter) result (after_fde (Some pc) section.now fde.now) }
+{
+    let mut interpreter = Interpreter::none(alloc);
+    let mut reader = instructions(section, &fde.cie.initial_instructions);
+    interpreter.run(None, &[Rule::Kept; 32], &fde.cie.factors, &mut reader)?;
+    let initial = interpreter.regs();
+    interpreter.go_to(fde.initial_location);
+    let mut reader = instructions(section, &fde.instructions);
+    interpreter.run(Some(pc), &initial, &fde.cie.factors, &mut reader)?;
+    Ok(interpreter)
+}
+
 #[tactic(auto, unfolding(crate::specs::Frames::rules_of))]
-fn rules_of(alloc: Global, section: &[u8], fde: &Fde, pc: u32) -> Result<Rules, Memory>
+fn rules_of(alloc: Global, section: &[u8], fde: &Fde, pc: u32) -> Result<Option<Rules>, Memory>
     requires { IsFdeIn section.now fde.now }
     ensures { IfOk result (λ rules. rules ≡ rules_of section.now pc fde.now) }
 {
-    let cie = fde.cie;
-    let mut machine = Machine::none(alloc);
-    let mut cursor = part(section, cie.from as usize, cie.end as usize);
-    machine.run(None, &[Rule::Kept; 32], &cie.factors, &mut cursor)?;
-    let defaults = machine.regs();
-    machine.go_to(fde.start);
-    let mut cursor = part(section, fde.from as usize, fde.end as usize);
-    machine.run(Some(pc), &defaults, &cie.factors, &mut cursor)?;
-    let regs = machine.regs();
-    Ok(Rules {
-        cfa: machine.cfa(),
-        regs,
-        return_register: cie.return_register,
-    })
+    match state_at(alloc, section, fde, pc) {
+        Ok(state) => Ok(Some(Rules {
+            cfa: state.cfa(),
+            regs: state.regs(),
+            return_register: fde.cie.return_address_register,
+        })),
+        Err(Fail::Fault(_)) => Ok(None),
+        Err(Fail::Memory(memory)) => Err(memory),
+    }
+}
+
+fn size_of(extent: &Extent) -> u64
+    ensures size { result ≡ size_of extent.now }
+    ensures small { result < 2 ^ 32 }
+{
+    u64::from(extent.end.saturating_sub(extent.offset))
 }
 
 fn lesser(number: u32, other: Option<u32>) -> Option<u32>
@@ -114,12 +123,12 @@ fn lesser(number: u32, other: Option<u32>) -> Option<u32>
 }
 
 fn least_start_above(fdes: &[Fde], low: u32) -> Option<u32>
-    ensures { result ≡ least_above low (map (λ fde. fde.start) fdes.now) }
+    ensures { result ≡ least_above low (map (λ fde. fde.initial_location) fdes.now) }
 {
     let mut least = None;
     for fde in fdes {
-        if low < fde.start {
-            least = lesser(fde.start, least);
+        if low < fde.initial_location {
+            least = lesser(fde.initial_location, least);
         }
     }
     least
@@ -143,7 +152,7 @@ impl FrameTable {
 
     /// The least start above `low` of an FDE whose range counts.
     pub fn starts_above(&self, low: u32) -> Option<u32>
-        ensures { result ≡ least_above low (map (λ fde. fde.start) self.now.fdes) }
+        ensures { result ≡ least_above low (map (λ fde. fde.initial_location) self.now.fdes) }
     {
         least_start_above(self.fdes.items(), low)
     }
@@ -154,7 +163,7 @@ impl FrameTable {
         ensures { result ≡ option_map_or instruction_bytes (fde_at self.now pc) 0 }
     {
         match self.holder(pc) {
-            Some(fde) => u64::from(fde.end - fde.from) + u64::from(fde.cie.end - fde.cie.from),
+            Some(fde) => size_of(&fde.instructions) + size_of(&fde.cie.initial_instructions),
             None => 0,
         }
     }
@@ -162,12 +171,12 @@ impl FrameTable {
     /// The rules at an address, by the first FDE that holds it. The instructions are run from the
     /// start, in time as they have bytes.
     pub fn rules_at(&self, pc: u32) -> Result<Option<Rules>, Memory>
-        ensures { IfOk result (λ rules. rules ≡ option_map (rules_of self.now.section pc) (fde_at self.now pc)) }
+        ensures { IfOk result (λ rules. rules ≡ rules_at self.now pc) }
     {
         let Some(fde) = self.holder(pc) else {
             return Ok(None);
         };
         let alloc = *self.section.allocator();
-        Ok(Some(rules_of(alloc, &self.section, &fde, pc)?))
+        rules_of(alloc, &self.section, &fde, pc)
     }
 }

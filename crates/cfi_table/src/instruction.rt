@@ -1,36 +1,51 @@
-//! Call frame instructions, by DWARF 5, section 6.4.2.
-ghost use Rattle.std.specs.Prelude.{◌≡◌, ◌+◌, ◌*◌, ◌/◌, ◌%◌, ◌<◌, ◌≤◌, ◌^◌, Some, None, IfSome, length, option_map};
+//! Call frame instructions (DWARF 5, section 6.4.2).
+ghost use Rattle.std.specs.Prelude.{◌≡◌, ◌*◌, ◌/◌, ◌%◌, ◌^◌};
 ghost use Rattle.std.specs.Int.{w64, cast_unsigned};
-ghost use Rattle.prof_bytes.specs.Reading.{left_of};
-ghost use Rattle.cfi_table.specs.Taking.{byte_from, half_from, word_from, unsigned_from, signed_from, block_from};
-ghost use Rattle.cfi_table.specs.Instructions.{scaled, word_of, word_of_signed, plain, factored, factored_signed, advance, cfa_of, rule_of, has_rule, register_then, other_of, instruction_of, instruction_at};
+ghost use Rattle.prof_bytes.specs.Outcome.{GivesAt};
+ghost use Rattle.cfi_table.specs.Instructions.{scaled, word_of, word_of_signed, offset_from, factored_from, factored_sf_from};
+ghost use Rattle.cfi_table.specs.Instructions.{block_from, advance_loc, cfa_from, rule_from, is_rule, register_rule_from};
+ghost use Rattle.cfi_table.specs.Instructions.{extended_from, opcode_then, instruction_from};
 
-use crate::rules::Rule;
-use prof_bytes::Cursor;
+use crate::constants::{
+    DW_CFA_advance_loc, DW_CFA_offset, DW_CFA_restore, DW_CFA_nop, DW_CFA_set_loc,
+    DW_CFA_advance_loc1, DW_CFA_advance_loc2, DW_CFA_advance_loc4, DW_CFA_offset_extended,
+    DW_CFA_restore_extended, DW_CFA_undefined, DW_CFA_same_value, DW_CFA_register,
+    DW_CFA_remember_state, DW_CFA_restore_state, DW_CFA_def_cfa, DW_CFA_def_cfa_register,
+    DW_CFA_def_cfa_offset, DW_CFA_def_cfa_expression, DW_CFA_expression,
+    DW_CFA_offset_extended_sf, DW_CFA_def_cfa_sf, DW_CFA_def_cfa_offset_sf, DW_CFA_val_offset,
+    DW_CFA_val_offset_sf, DW_CFA_val_expression, DW_CFA_GNU_args_size,
+};
+use crate::fault::FrameFault;
+use prof_bytes::Reader;
 
-/// What one instruction does. Offsets and steps are whole and modulo 2^32; registers are as the
+/// What an instruction does. Offsets and steps are multiplied already and modulo 2^32; registers are as the
 /// instruction names them.
 #[derive(Clone, Copy)]
-pub(crate) enum Instruction {
-    Nothing,
-    Advance(u32),
-    SetLocation(u32),
-    SetRule { register: u64, rule: Rule },
-    Copy { register: u64, source: u64 },
+pub(crate) enum CallFrameInstruction {
+    Nop,
+    SetLoc(u32),
+    AdvanceLoc(u32),
+    DefCfa { register: u64, offset: u32 },
+    DefCfaRegister(u64),
+    DefCfaOffset(u32),
+    DefCfaExpression,
+    Undefined(u64),
+    SameValue(u64),
+    Offset { register: u64, offset: u32 },
+    ValOffset { register: u64, offset: u32 },
+    Register { register: u64, source: u64 },
+    Expression(u64),
+    ValExpression(u64),
     Restore(u64),
-    Remember,
+    RememberState,
     RestoreState,
-    SetCfa { register: u64, offset: u32 },
-    SetCfaRegister(u64),
-    SetCfaOffset(u32),
-    CfaExpression,
 }
 
-/// What steps of the location and offsets are multiplied by, modulo 2^32.
+/// A CIE's factors, by which steps of the location and offsets are multiplied, modulo 2^32.
 #[derive(Clone, Copy, Debug, PartialEq, Eq)]
-pub(crate) struct Factors {
-    pub(crate) code_alignment: u32,
-    pub(crate) data_alignment: u32,
+pub(crate) struct AlignmentFactors {
+    pub(crate) code_alignment_factor: u32,
+    pub(crate) data_alignment_factor: u32,
 }
 
 /// The low 32 bits.
@@ -53,151 +68,206 @@ fn scaled(number: u32, factor: u32) -> u32
     number.wrapping_mul(factor)
 }
 
-#[tactic(auto, unfolding(crate::specs::Instructions::plain))]
-fn plain(cursor: &mut Cursor<'_>) -> Option<u32>
-    ensures { option_map (λ n. (n, cursor.new)) result ≡ plain cursor.old }
+#[tactic(auto, unfolding(crate::specs::Instructions::offset_from))]
+fn offset(reader: &mut Reader<'_, FrameFault>) -> Result<u32, FrameFault>
+    ensures { GivesAt (λ n. n) result reader.new (offset_from reader.old) }
 {
-    let number = cursor.uleb()?;
-    Some(word_of(number))
+    let offset = reader.uleb()?;
+    Ok(word_of(offset))
 }
 
-#[tactic(auto, unfolding(crate::specs::Instructions::factored))]
-fn factored(factors: &Factors, cursor: &mut Cursor<'_>) -> Option<u32>
-    ensures { option_map (λ n. (n, cursor.new)) result ≡ factored factors.now cursor.old }
+#[tactic(auto, unfolding(crate::specs::Instructions::factored_from))]
+fn factored(
+    factors: &AlignmentFactors,
+    reader: &mut Reader<'_, FrameFault>,
+) -> Result<u32, FrameFault>
+    ensures { GivesAt (λ n. n) result reader.new (factored_from factors.now reader.old) }
 {
-    let number = cursor.uleb()?;
-    Some(scaled(word_of(number), factors.data_alignment))
+    let offset = reader.uleb()?;
+    Ok(scaled(word_of(offset), factors.data_alignment_factor))
 }
 
-#[tactic(auto, unfolding(crate::specs::Instructions::factored_signed))]
-fn factored_signed(factors: &Factors, cursor: &mut Cursor<'_>) -> Option<u32>
-    ensures { option_map (λ n. (n, cursor.new)) result ≡ factored_signed factors.now cursor.old }
+#[tactic(auto, unfolding(crate::specs::Instructions::factored_sf_from))]
+fn factored_sf(
+    factors: &AlignmentFactors,
+    reader: &mut Reader<'_, FrameFault>,
+) -> Result<u32, FrameFault>
+    ensures { GivesAt (λ n. n) result reader.new (factored_sf_from factors.now reader.old) }
 {
-    let number = cursor.sleb()?;
-    Some(scaled(word_of_signed(number), factors.data_alignment))
+    let offset = reader.sleb()?;
+    Ok(scaled(word_of_signed(offset), factors.data_alignment_factor))
 }
 
-/// A length and that many bytes, which are passed over.
-fn block(cursor: &mut Cursor<'_>) -> Option<u64>
-    ensures { option_map (λ n. (n, cursor.new)) result ≡ block_from cursor.old }
+/// Passes over a block: its length, and that many bytes.
+#[tactic(auto, unfolding(crate::specs::Instructions::block_from))]
+fn block(reader: &mut Reader<'_, FrameFault>) -> Result<u64, FrameFault>
+    ensures { GivesAt (λ n. n) result reader.new (block_from reader.old) }
 {
-    let size = cursor.uleb()?;
-    cursor.take(size as usize)?;
-    Some(size)
+    let size = reader.uleb()?;
+    reader.take(size as usize)?;
+    Ok(size)
 }
 
-#[tactic(auto, unfolding(crate::specs::Instructions::cfa_of))]
-fn cfa_of(factors: &Factors, code: u8, cursor: &mut Cursor<'_>) -> Option<Instruction>
-    ensures { option_map (λ i. (i, cursor.new)) result ≡ cfa_of factors.now code cursor.old }
+fn advance_loc(factors: &AlignmentFactors, delta: u32) -> CallFrameInstruction
+    ensures { result ≡ advance_loc factors.now delta }
 {
-    match code {
-        0x0c => {
-            let register = cursor.uleb()?;
-            let offset = plain(cursor)?;
-            Some(Instruction::SetCfa { register, offset })
+    CallFrameInstruction::AdvanceLoc(scaled(delta, factors.code_alignment_factor))
+}
+
+#[tactic(auto, unfolding(crate::specs::Instructions::cfa_from))]
+fn cfa_instruction(
+    factors: &AlignmentFactors,
+    opcode: u8,
+    reader: &mut Reader<'_, FrameFault>,
+) -> Result<CallFrameInstruction, FrameFault>
+    ensures { GivesAt (λ i. i) result reader.new (cfa_from factors.now opcode reader.old) }
+{
+    match opcode {
+        DW_CFA_def_cfa => {
+            let register = reader.uleb()?;
+            let offset = offset(reader)?;
+            Ok(CallFrameInstruction::DefCfa { register, offset })
         }
-        0x0d => Some(Instruction::SetCfaRegister(cursor.uleb()?)),
-        0x0e => Some(Instruction::SetCfaOffset(plain(cursor)?)),
-        0x0f => {
-            block(cursor)?;
-            Some(Instruction::CfaExpression)
+        DW_CFA_def_cfa_sf => {
+            let register = reader.uleb()?;
+            let offset = factored_sf(factors, reader)?;
+            Ok(CallFrameInstruction::DefCfa { register, offset })
         }
-        0x12 => {
-            let register = cursor.uleb()?;
-            let offset = factored_signed(factors, cursor)?;
-            Some(Instruction::SetCfa { register, offset })
+        DW_CFA_def_cfa_register => Ok(CallFrameInstruction::DefCfaRegister(reader.uleb()?)),
+        DW_CFA_def_cfa_offset => Ok(CallFrameInstruction::DefCfaOffset(offset(reader)?)),
+        DW_CFA_def_cfa_offset_sf => {
+            Ok(CallFrameInstruction::DefCfaOffset(factored_sf(factors, reader)?))
         }
-        0x13 => Some(Instruction::SetCfaOffset(factored_signed(factors, cursor)?)),
-        _ => None,
+        DW_CFA_def_cfa_expression => {
+            block(reader)?;
+            Ok(CallFrameInstruction::DefCfaExpression)
+        }
+        _ => Err(reader.missing()),
     }
 }
 
-/// The rule that the code gives to the register.
-#[tactic(auto, unfolding(crate::specs::Instructions::rule_of))]
-fn rule_of(
-    factors: &Factors,
-    code: u8,
+/// The rule that the opcode gives to the register.
+#[tactic(auto, unfolding(crate::specs::Instructions::rule_from))]
+fn rule_instruction(
+    factors: &AlignmentFactors,
+    opcode: u8,
     register: u64,
-    cursor: &mut Cursor<'_>,
-) -> Option<Instruction>
-    ensures { option_map (λ i. (i, cursor.new)) result ≡ rule_of factors.now code register cursor.old }
+    reader: &mut Reader<'_, FrameFault>,
+) -> Result<CallFrameInstruction, FrameFault>
+    ensures { GivesAt (λ i. i) result reader.new (rule_from factors.now opcode register reader.old) }
 {
-    let rule = match code {
-        0x05 => Rule::Saved(factored(factors, cursor)?),
-        0x07 => Rule::Undefined,
-        0x08 => Rule::Kept,
-        0x09 => {
-            let source = cursor.uleb()?;
-            return Some(Instruction::Copy { register, source });
+    match opcode {
+        DW_CFA_undefined => Ok(CallFrameInstruction::Undefined(register)),
+        DW_CFA_same_value => Ok(CallFrameInstruction::SameValue(register)),
+        DW_CFA_offset_extended => {
+            let offset = factored(factors, reader)?;
+            Ok(CallFrameInstruction::Offset { register, offset })
         }
-        0x11 => Rule::Saved(factored_signed(factors, cursor)?),
-        0x14 => Rule::Sum(factored(factors, cursor)?),
-        0x15 => Rule::Sum(factored_signed(factors, cursor)?),
+        DW_CFA_offset_extended_sf => {
+            let offset = factored_sf(factors, reader)?;
+            Ok(CallFrameInstruction::Offset { register, offset })
+        }
+        DW_CFA_val_offset => {
+            let offset = factored(factors, reader)?;
+            Ok(CallFrameInstruction::ValOffset { register, offset })
+        }
+        DW_CFA_val_offset_sf => {
+            let offset = factored_sf(factors, reader)?;
+            Ok(CallFrameInstruction::ValOffset { register, offset })
+        }
+        DW_CFA_register => {
+            let source = reader.uleb()?;
+            Ok(CallFrameInstruction::Register { register, source })
+        }
+        DW_CFA_expression => {
+            block(reader)?;
+            Ok(CallFrameInstruction::Expression(register))
+        }
         _ => {
-            block(cursor)?;
-            Rule::Expression
+            block(reader)?;
+            Ok(CallFrameInstruction::ValExpression(register))
         }
-    };
-    Some(Instruction::SetRule { register, rule })
-}
-
-#[tactic(auto, unfolding(crate::specs::Instructions::register_then))]
-fn register_then(factors: &Factors, code: u8, cursor: &mut Cursor<'_>) -> Option<Instruction>
-    ensures { option_map (λ i. (i, cursor.new)) result ≡ register_then factors.now code cursor.old }
-{
-    let register = cursor.uleb()?;
-    rule_of(factors, code, register, cursor)
-}
-
-fn advance(factors: &Factors, delta: u32) -> Instruction
-    ensures { result ≡ Instruction.Advance (scaled (word_of delta) factors.now.code_alignment) }
-{
-    Instruction::Advance(scaled(delta, factors.code_alignment))
-}
-
-#[tactic(auto, unfolding(crate::specs::Instructions::other_of))]
-fn other_of(factors: &Factors, code: u8, cursor: &mut Cursor<'_>) -> Option<Instruction>
-    ensures { option_map (λ i. (i, cursor.new)) result ≡ other_of factors.now code cursor.old }
-{
-    match code {
-        0x00 => Some(Instruction::Nothing),
-        0x01 => Some(Instruction::SetLocation(cursor.u32()?)),
-        0x02 => Some(advance(factors, u32::from(cursor.u8()?))),
-        0x03 => Some(advance(factors, u32::from(cursor.u16()?))),
-        0x04 => Some(advance(factors, cursor.u32()?)),
-        0x06 => Some(Instruction::Restore(cursor.uleb()?)),
-        0x0a => Some(Instruction::Remember),
-        0x0b => Some(Instruction::RestoreState),
-        0x2e => {
-            cursor.uleb()?;
-            Some(Instruction::Nothing)
-        }
-        0x05 | 0x07 | 0x08 | 0x09 | 0x10 | 0x11 | 0x14 | 0x15 | 0x16 => {
-            register_then(factors, code, cursor)
-        }
-        _ => cfa_of(factors, code, cursor),
     }
 }
 
-#[tactic(auto, unfolding(crate::specs::Instructions::instruction_of))]
-fn instruction_of(factors: &Factors, code: u8, cursor: &mut Cursor<'_>) -> Option<Instruction>
-    ensures { option_map (λ i. (i, cursor.new)) result ≡ instruction_of factors.now code cursor.old }
+#[tactic(auto, unfolding(crate::specs::Instructions::register_rule_from))]
+fn register_rule(
+    factors: &AlignmentFactors,
+    opcode: u8,
+    reader: &mut Reader<'_, FrameFault>,
+) -> Result<CallFrameInstruction, FrameFault>
+    ensures { GivesAt (λ i. i) result reader.new (register_rule_from factors.now opcode reader.old) }
 {
-    let operand = code % 64;
-    match code / 64 {
-        1 => Some(Instruction::Advance(scaled(u32::from(operand), factors.code_alignment))),
-        2 => rule_of(factors, 0x05, u64::from(operand), cursor),
-        3 => Some(Instruction::Restore(u64::from(operand))),
-        _ => other_of(factors, code, cursor),
+    let register = reader.uleb()?;
+    rule_instruction(factors, opcode, register, reader)
+}
+
+/// The instruction of an opcode that has the whole byte.
+#[tactic(auto, unfolding(crate::specs::Instructions::extended_from))]
+fn extended(
+    factors: &AlignmentFactors,
+    opcode: u8,
+    reader: &mut Reader<'_, FrameFault>,
+) -> Result<CallFrameInstruction, FrameFault>
+    ensures { GivesAt (λ i. i) result reader.new (extended_from factors.now opcode reader.old) }
+{
+    match opcode {
+        DW_CFA_nop => Ok(CallFrameInstruction::Nop),
+        DW_CFA_set_loc => Ok(CallFrameInstruction::SetLoc(reader.u32()?)),
+        DW_CFA_advance_loc1 => Ok(advance_loc(factors, u32::from(reader.u8()?))),
+        DW_CFA_advance_loc2 => Ok(advance_loc(factors, u32::from(reader.u16()?))),
+        DW_CFA_advance_loc4 => Ok(advance_loc(factors, reader.u32()?)),
+        DW_CFA_restore_extended => Ok(CallFrameInstruction::Restore(reader.uleb()?)),
+        DW_CFA_remember_state => Ok(CallFrameInstruction::RememberState),
+        DW_CFA_restore_state => Ok(CallFrameInstruction::RestoreState),
+        DW_CFA_GNU_args_size => {
+            reader.uleb()?;
+            Ok(CallFrameInstruction::Nop)
+        }
+        DW_CFA_undefined
+        | DW_CFA_same_value
+        | DW_CFA_offset_extended
+        | DW_CFA_offset_extended_sf
+        | DW_CFA_val_offset
+        | DW_CFA_val_offset_sf
+        | DW_CFA_register
+        | DW_CFA_expression
+        | DW_CFA_val_expression => register_rule(factors, opcode, reader),
+        _ => cfa_instruction(factors, opcode, reader),
     }
 }
 
-/// The instruction at the cursor. `None` where its code is none of those that are read, or an
+#[tactic(auto, unfolding(crate::specs::Instructions::opcode_then))]
+fn opcode_then(
+    factors: &AlignmentFactors,
+    byte: u8,
+    reader: &mut Reader<'_, FrameFault>,
+) -> Result<CallFrameInstruction, FrameFault>
+    ensures { GivesAt (λ i. i) result reader.new (opcode_then factors.now byte reader.old) }
+{
+    let high = byte / 64;
+    let operand = byte % 64;
+    if high == DW_CFA_advance_loc / 64 {
+        return Ok(advance_loc(factors, u32::from(operand)));
+    }
+    if high == DW_CFA_offset / 64 {
+        return rule_instruction(factors, DW_CFA_offset_extended, u64::from(operand), reader);
+    }
+    if high == DW_CFA_restore / 64 {
+        return Ok(CallFrameInstruction::Restore(u64::from(operand)));
+    }
+    extended(factors, byte, reader)
+}
+
+/// The instruction that is next. It is at fault where its opcode is none of those that are read, or an
 /// operand runs past the end or is too wide.
-#[tactic(auto, unfolding(crate::specs::Instructions::instruction_at))]
-pub(crate) fn instruction_at(factors: &Factors, cursor: &mut Cursor<'_>) -> Option<Instruction>
-    ensures { option_map (λ i. (i, cursor.new)) result ≡ instruction_at factors.now cursor.old }
+#[tactic(auto, unfolding(crate::specs::Instructions::instruction_from))]
+pub(crate) fn next_instruction(
+    factors: &AlignmentFactors,
+    reader: &mut Reader<'_, FrameFault>,
+) -> Result<CallFrameInstruction, FrameFault>
+    ensures { GivesAt (λ i. i) result reader.new (instruction_from factors.now reader.old) }
 {
-    let code = cursor.u8()?;
-    instruction_of(factors, code, cursor)
+    let byte = reader.u8()?;
+    opcode_then(factors, byte, reader)
 }

@@ -1,8 +1,8 @@
 //! The rules of the registers, and how they were when remember_state kept them.
 ghost use Rattle.std.specs.Prelude.{◌≡◌, ◌∷◌, [], ◌<◌, IfOk, MatchOption, length, reverse};
 ghost use Rattle.std.specs.List.{slice_set};
-ghost use Rattle.cfi_table.specs.Rules.{kept_all};
-ghost use Rattle.cfi_table.specs.Undoing.{remembered_of, IsMarked, changed};
+ghost use Rattle.cfi_table.specs.Rules.{all_same_value};
+ghost use Rattle.cfi_table.specs.private.Undoing.{remembered_of, IsMarked, changed};
 
 use crate::rules::{Cfa, Rule};
 use prof_bytes::Memory;
@@ -28,7 +28,7 @@ pub(crate) struct RegisterRules {
 
 impl Model for RegisterRules {
     ghost use Rattle.std.specs.Prelude.{reverse};
-    ghost use Rattle.cfi_table.specs.Undoing.{RuleStates, remembered_of, IsMarked};
+    ghost use Rattle.cfi_table.specs.private.Undoing.{RuleStates, remembered_of, IsMarked};
 
     ghost Value = { RuleStates };
 
@@ -73,7 +73,7 @@ fn undone(regs: &mut [Rule; 32], undo: &mut Vec<Undo>) -> Option<Cfa>
 impl RegisterRules {
     /// Every register keeps its value, and nothing is remembered.
     pub(crate) fn kept(alloc: Global) -> RegisterRules
-        ensures { result ≡ record { regs = kept_all; remembered = [] } }
+        ensures { result ≡ record { regs = all_same_value; remembered = [] } }
     {
         RegisterRules {
             regs: [Rule::Kept; 32],

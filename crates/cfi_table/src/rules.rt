@@ -1,29 +1,31 @@
-/// Where the canonical frame address is.
+//! Rules for the canonical frame address and for registers (DWARF 5, section 6.4.1).
+
+/// Where the canonical frame address (CFA) is.
 #[derive(Clone, Copy, Debug, PartialEq, Eq)]
 pub enum Cfa {
     /// No rule is in force.
     Missing,
-    /// The register's value and an offset, modulo 2^32.
+    /// A register and an offset: the register's value plus the offset in bytes, modulo 2^32.
     Register { reg: u8, offset: u32 },
-    /// What a DWARF expression gives.
+    /// A DWARF expression.
     Expression,
 }
 
-/// How a register's value in the caller is found. Offsets are from the canonical frame address, in
-/// bytes and modulo 2^32.
+/// How a register's value in the caller is found. Offsets are in bytes from the canonical frame address,
+/// modulo 2^32.
 #[derive(Clone, Copy, Debug, PartialEq, Eq)]
 pub enum Rule {
-    /// It is the same as here.
+    /// Same value: it is the same as here.
     Kept,
-    /// It is not kept.
+    /// Undefined: it is lost.
     Undefined,
-    /// It is saved in memory there.
+    /// offset(N): it is saved in memory there.
     Saved(u32),
-    /// It is this address itself.
+    /// val_offset(N): it is this address itself.
     Sum(u32),
-    /// It is in another register.
+    /// register(R): it is in another register.
     Copy(u8),
-    /// It is what a DWARF expression gives.
+    /// expression(E) or val_expression(E): what a DWARF expression gives.
     Expression,
 }
 

@@ -11,7 +11,7 @@ use Rattle.cfi_table.specs.declared.rules.Rule.TheVariants as rules
 use Rattle.cfi_table.specs.Rules.{rule_at}
 use Rattle.cfi_unwind.specs.declared.prepared.Change.{Change}
 use Rattle.cfi_unwind.specs.Caller.{Words, is_unmapped, recovered, recovered_all}
-use Rattle.cfi_unwind.specs.Prepared.{is_kept, is_unmapped_change, changed, AreChanges}
+use Rattle.cfi_unwind.specs.private.Prepared.{is_kept, is_unmapped_change, changed, AreChanges}
 use Rattle.cfi_unwind.proofs.Recovering.{value_at, given_by, rule_here}
 
 -- ---- one change more

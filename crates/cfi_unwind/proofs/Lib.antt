@@ -1,4 +1,5 @@
 mod Chains
+pub mod Ending
 mod Changing
 mod Indexing
 mod Recovering

@@ -3,10 +3,13 @@ use Rattle.std.proofs.Common.{◌≡◌, ℕ, ◌==◌, if◌then◌else◌, Lis
 use Rattle.scope_types.specs.declared.frame.End.TheVariants.{Whole}
 use Rattle.elf_image.specs.declared.part.Segment.{Segment}
 use Rattle.elf_image.specs.Image.{ProgramImage}
-use Rattle.cfi_table.specs.Instructions.{cfa_of, factored, factored_signed, instruction_at, instruction_of, other_of, plain, register_then, rule_of}
-use Rattle.cfi_table.specs.Rules.{run, step}
-use Rattle.cfi_table.specs.Entries.{chain, cie_form, cie_from, cie_from_augmentation, cie_from_factors, cie_from_segment, cie_from_sizes, fde_from, id_of, size_at}
-use Rattle.cfi_table.specs.Frames.{Frames, after_cie, after_fde, cie_of, fault_of, fde_of, frames_of, rules_of}
+use Rattle.cfi_table.specs.Instructions.{offset_from, factored_from, rule_from, cfa_from, extended_from, opcode_then, instruction_from}
+use Rattle.cfi_table.specs.Rules.{run_by}
+use Rattle.cfi_table.specs.Entries.{chain_from, cie_from, cie_from_augmentation, cie_from_factors, cie_from_segment, cie_from_sizes, cie_of, cie_at}
+use Rattle.cfi_table.specs.Entries.{fde_fields_from, after_cie, after_fde, read_entry, entries_of}
+use Rattle.cfi_table.specs.Frames.{Frames, frames_of, rules_of}
+use Rattle.cfi_table.specs.declared.cie.Cie.{Cie}
+use Rattle.cfi_table.specs.declared.fde.Fde.{Fde}
 use Rattle.cfi_unwind.specs.Region.{entry_region}
 use Rattle.cfi_unwind.specs.Caller.{caller_of, recovered_all}
 use Rattle.cfi_unwind.specs.Path.{path_from, path_of, unwinding_of}
@@ -21,8 +24,18 @@ segments = record { start = 0x10000; end = 0x10030; flags = 5; offset = 84; fill
 abbrev image : ProgramImage
 image = record { file = []; entry = 0x10000; segments = segments; sections = []; functions = record { start = 0x10000; size = 16; name = codes "_start" } ∷ record { start = 0x10010; size = 32; name = codes "f" } ∷ [] }
 
+abbrev cie : Cie
+cie = record {
+  factors = record { code_alignment_factor = 1; data_alignment_factor = 0xfffffffc };
+  return_address_register = 1;
+  initial_instructions = record { offset = 13; end = 16 };
+}
+
+abbrev fde : Fde
+fde = record { offset = 16; initial_location = 0x10010; address_range = 32; instructions = record { offset = 32; end = 44 }; cie = cie }
+
 abbrev frames : Frames
-frames = record { section = section; fdes = record { offset = 16; start = 0x10010; size = 32; from = 32; end = 44; cie = record { factors = record { code_alignment = 1; data_alignment = 0xfffffffc }; return_register = 1; from = 13; end = 16 } } ∷ [] }
+frames = record { section = section; fdes = fde ∷ [] }
 
 -- x1 and x2 before the instruction
 abbrev registers : List ℕ
@@ -33,9 +46,9 @@ abbrev words : ℕ → Option ℕ
 words at = if at == 0xf00fffec then Some 0x10008 else Some 0x10024
 
 pub frames_of_recursion : frames_of section segments ≡ Ok frames
-unfolding cfa_of factored factored_signed instruction_at instruction_of other_of plain register_then rule_of run step chain cie_form cie_from cie_from_augmentation cie_from_factors cie_from_segment cie_from_sizes fde_from id_of size_at after_cie after_fde cie_of fault_of fde_of frames_of
+unfolding offset_from factored_from rule_from cfa_from extended_from opcode_then instruction_from run_by chain_from cie_from cie_from_augmentation cie_from_factors cie_from_segment cie_from_sizes cie_of cie_at fde_fields_from after_cie after_fde read_entry entries_of frames_of
 frames_of_recursion = refl
 
 pub path_of_recursion : path_of (unwinding_of frames image) 0x10024 registers words ≡ record { end = Whole; frames = record { pc = 0x10024 } ∷ record { pc = 0x10020 } ∷ record { pc = 0x10020 } ∷ record { pc = 0x10020 } ∷ record { pc = 0x10020 } ∷ record { pc = 0x10020 } ∷ record { pc = 0x10004 } ∷ [] }
-unfolding cfa_of factored instruction_at instruction_of other_of plain rule_of run step after_cie after_fde rules_of entry_region caller_of recovered_all path_from
+unfolding offset_from factored_from rule_from cfa_from extended_from opcode_then instruction_from run_by after_cie after_fde rules_of entry_region caller_of recovered_all path_from
 path_of_recursion = refl

@@ -1,6 +1,8 @@
 -- The caller of an activation by the rules of call frame information (DWARF 5, section 6.4.4; RISC-V psABI, "DWARF register numbers").
-use Rattle.std.specs.Prelude.{ℕ, ◌+◌, ◌-◌, ◌%◌, ◌^◌, ◌==◌, ◌||◌, Bool, true, false, List, map, get_or, slice_set, Option, Some, None, is_none, unwrap_or, option_map, if◌then◌else◌}
+use Rattle.std.specs.Prelude.{ℕ, ◌+◌, ◌-◌, ◌%◌, ◌^◌, ◌==◌, ◌||◌, Bool, true, false, List, [], ◌∷◌, map, get_or, slice_set, find, Option, Some, None}
+use Rattle.std.specs.Prelude.{is_none, unwrap_or, option_map}
 use Rattle.std.specs.List.{list_any, range_with_len}
+use Rattle.scope_types.specs.declared.frame.End.{End}
 use Rattle.scope_types.specs.declared.frame.End.TheVariants.{Whole, Partial}
 use Rattle.scope_types.specs.declared.frame.PartialCause.TheVariants as causes
 use Rattle.cfi_table.specs.declared.rules.Cfa.{Cfa}
@@ -9,7 +11,7 @@ use Rattle.cfi_table.specs.declared.rules.Rule.{Rule}
 use Rattle.cfi_table.specs.declared.rules.Rule.TheVariants as rules
 use Rattle.cfi_table.specs.declared.rules.Rules.{Rules}
 use Rattle.cfi_table.specs.Rules.{rule_at}
-use Rattle.cfi_table.specs.Frames.{Frames, fde_at, rules_of}
+use Rattle.cfi_table.specs.Frames.{Frames, rules_at}
 use Rattle.cfi_unwind.specs.declared.caller.Activation.{Activation}
 use Rattle.cfi_unwind.specs.declared.caller.Unwound.{Unwound}
 use Rattle.cfi_unwind.specs.declared.caller.Unwound.TheVariants.{Caller, Ends}
@@ -84,52 +86,56 @@ recovered_all words registers cfa regs = map (λ number. recovered words registe
 abbrev pub callers_registers : Words → List ℕ → ℕ → List Rule → List ℕ
 callers_registers words registers cfa regs = slice_set (slice_set (recovered_all words registers cfa regs) 0 0) 2 cfa
 
--- ---- the tests of an activation; they are made in this order, which is that of these definitions from the last one up:
--- it stands in the entry region: whole; no frame description holds its pc: partial; the return register's rule is undefined: whole; a rule
--- is an expression: partial; no CFA rule is in force: partial; a register saved in memory can't be loaded: partial; the return address is 0:
--- whole; else it has a caller (and a path that has no room for it is partial)
+-- ---- the tests of an activation
 
--- the return address is 0: whole; else the caller stands at its call, 4 below
-abbrev pub caller_at : List ℕ → ℕ → Unwound
-caller_at registers return_register =
-    if get_or registers return_register 0 == 0 then Ends Whole
-    else Caller (record { pc = sum (get_or registers return_register 0) (2 ^ 32 - 4); registers = registers })
-
--- a register saved in memory can't be loaded: partial
-abbrev pub caller_over : Words → List ℕ → Rules → ℕ → Unwound
-caller_over words registers found cfa =
-    if list_any (is_unmapped words cfa) found.regs then Ends (Partial causes.Unmapped)
-    else caller_at (callers_registers words registers cfa found.regs) found.return_register
-
--- no CFA rule is in force: partial
-abbrev pub caller_with : Words → List ℕ → Rules → Option ℕ → Unwound
-caller_with words registers found None = Ends (Partial causes.NoCfa)
-caller_with words registers found (Some cfa) = caller_over words registers found cfa
-
--- the return register's rule is undefined: whole; a rule is an expression: partial
-abbrev pub caller_by : Words → List ℕ → Rules → Unwound
-caller_by words registers found =
-    if is_undefined (rule_at found.regs found.return_register) then Ends Whole
-    else if has_expression found then Ends (Partial causes.Expression)
-    else caller_with words registers found (cfa_of registers found.cfa)
-
--- no frame description holds the pc: partial
-abbrev pub caller_if : Words → List ℕ → Option Rules → Unwound
-caller_if words registers None = Ends (Partial causes.NoFde)
-caller_if words registers (Some found) = caller_by words registers found
-
--- the rules where an activation stands
-abbrev pub rules_at : Frames → ℕ → Option Rules
-rules_at frames pc = option_map (rules_of frames.section pc) (fde_at frames pc)
+-- the first test that holds says how the path ends
+abbrev pub first_end : List (Bool × End) → Option End
+first_end tests = option_map (λ t. t.1) (find (λ t. t.0) tests)
 
 -- what the rules are found by, and the entry region
 pub record Unwinding : Type 0 where
   pub frames : Frames
   pub region : ℕ × ℕ
 
--- the caller of an activation, or how the path ends there
--- the pc lies in the entry region: whole
+-- where no FDE holds the pc, and where no CFA is found, an earlier test holds; what stands for these then says nothing
+abbrev pub no_rules : Rules
+no_rules = record { cfa = cfas.Missing; regs = []; return_register = 0 }
+
+abbrev pub rules_or_none : Option Rules → Rules
+rules_or_none found = unwrap_or found no_rules
+
+abbrev pub cfa_or_zero : List ℕ → Rules → ℕ
+cfa_or_zero registers found = unwrap_or (cfa_of registers found.cfa) 0
+
+-- the return address in the caller's registers
+abbrev pub return_address : Words → List ℕ → Rules → ℕ
+return_address words registers found = get_or (callers_registers words registers (cfa_or_zero registers found) found.regs) found.return_register 0
+
+-- by the rules at the pc, if there are any: each test in its order, and how the path ends where it is the first that holds
+abbrev pub end_tests : Unwinding → Words → Activation → Option Rules → List (Bool × End)
+end_tests u words here found =
+    let rules = rules_or_none found in
+    (is_in u.region here.pc, Whole)
+    ∷ (is_none found, Partial causes.NoFde)
+    ∷ (is_undefined (rule_at rules.regs rules.return_register), Whole)
+    ∷ (has_expression rules, Partial causes.Expression)
+    ∷ (is_none (cfa_of here.registers rules.cfa), Partial causes.NoCfa)
+    ∷ (list_any (is_unmapped words (cfa_or_zero here.registers rules)) rules.regs, Partial causes.Unmapped)
+    ∷ (return_address words here.registers rules == 0, Whole)
+    ∷ []
+
+-- the caller stands at its call, which is 4 below the return address
+abbrev pub caller_by : Words → Activation → Rules → Activation
+caller_by words here found = record {
+  pc = sum (return_address words here.registers found) (2 ^ 32 - 4);
+  registers = callers_registers words here.registers (cfa_or_zero here.registers found) found.regs;
+}
+
+abbrev pub unwound_as : Option End → Activation → Unwound
+unwound_as None caller = Caller caller
+unwound_as (Some end) caller = Ends end
+
+-- the caller of an activation, or how the path ends there (and a path that has no room for the caller is partial)
 unfoldable pub caller_of : Unwinding → Words → Activation → Unwound
 caller_of u words here =
-    if is_in u.region here.pc then Ends Whole
-    else caller_if words here.registers (rules_at u.frames here.pc)
+    unwound_as (first_end (end_tests u words here (rules_at u.frames here.pc))) (caller_by words here (rules_or_none (rules_at u.frames here.pc)))

@@ -6,7 +6,7 @@ use Rattle.cfi_table.specs.Frames.{Frames, least_above}
 
 -- where frame descriptions and function symbols begin
 abbrev pub starts : Frames → ProgramImage → List ℕ
-starts frames image = map (λ fde. fde.start) frames.fdes ++ map (λ f. f.start) image.functions
+starts frames image = map (λ fde. fde.initial_location) frames.fdes ++ map (λ f. f.start) image.functions
 
 -- the lesser of a number and another, if there is one
 abbrev pub at_most : ℕ → Option ℕ → ℕ

@@ -3,8 +3,9 @@ ghost use Rattle.std.specs.Prelude.{◌≡◌, ◌==◌, ◌-◌, ◌^◌, Optio
 ghost use Rattle.std.specs.List.{list_any};
 ghost use Rattle.cfi_table.specs.Rules.{rule_at};
 ghost use Rattle.scope_types.specs.Raw.{Raw};
-ghost use Rattle.cfi_unwind.specs.Prepared.{after};
-ghost use Rattle.cfi_unwind.specs.Caller.{is_undefined, is_expression, has_expression, cfa_of, is_unmapped, recovered, recovered_all, callers_registers, caller_at, caller_over, caller_by, sum};
+ghost use Rattle.cfi_unwind.specs.private.Prepared.{after};
+ghost use Rattle.cfi_unwind.specs.Caller.{is_undefined, is_expression, has_expression, cfa_of, is_unmapped, recovered, recovered_all, callers_registers, sum};
+ghost use Rattle.cfi_unwind.specs.private.Stepwise.{caller_at, caller_over, caller_from};
 
 use cfi_table::{Cfa, Rule, Rules};
 use scope_types::{End, Look, PartialCause};
@@ -146,8 +147,8 @@ fn caller_over<L: Look>(memory: &L, registers: &[u32; 32], rules: &Rules, cfa: u
 }
 
 /// What is found of an activation with these registers by the rules where it stands.
-fn caller_by<L: Look>(memory: &L, registers: &[u32; 32], rules: &Rules) -> Unwound
-    ensures { result ≡ caller_by (L.words memory.now) registers.now rules.now }
+fn caller_from<L: Look>(memory: &L, registers: &[u32; 32], rules: &Rules) -> Unwound
+    ensures { result ≡ caller_from (L.words memory.now) registers.now rules.now }
 {
     if is_outermost(rules) {
         return Unwound::Ends(End::Whole);
@@ -168,9 +169,9 @@ pub(crate) fn caller_to<L: Look>(
     registers: &mut [u32; 32],
     rules: &Rules,
 ) -> Result<u32, End>
-    ensures { after result registers.new ≡ caller_by (L.words memory.now) registers.old rules.now }
+    ensures { after result registers.new ≡ caller_from (L.words memory.now) registers.old rules.now }
 {
-    match caller_by(memory, registers, rules) {
+    match caller_from(memory, registers, rules) {
         Unwound::Caller(caller) => {
             let values = caller.registers;
             *registers = values;

@@ -1,9 +1,9 @@
 //! The steps at a program's addresses, made ready before any path is looked for.
 ghost use Rattle.std.specs.Prelude.{◌≡◌, ◌+◌, ◌<◌, ◌≤◌, ◌^◌, ◌*◌, IfOk, IfSome, length, true};
-ghost use Rattle.cfi_unwind.specs.Caller.{rules_at};
-ghost use Rattle.cfi_unwind.specs.Prepared.{Follows};
+ghost use Rattle.cfi_table.specs.Frames.{rules_at};
+ghost use Rattle.cfi_unwind.specs.private.Prepared.{Follows};
 ghost use Rattle.cfi_table.specs.Frames.{Frames};
-ghost use Rattle.cfi_unwind.specs.Index.{HasGrown, IsAt, IsIndex, KeepsSteps, IsGrowing};
+ghost use Rattle.cfi_unwind.specs.private.Index.{HasGrown, IsAt, IsIndex, KeepsSteps, IsGrowing};
 
 use crate::prepared::{Step, prepare};
 use cfi_table::{Cfa, FrameTable, Rule, Rules};

@@ -3,7 +3,7 @@
 ghost use Rattle.std.specs.Prelude.{◌≡◌, IfOk, MatchBool, get_or, false, true};
 ghost use Rattle.std.specs.List.{list_any, slice_set};
 ghost use Rattle.cfi_unwind.specs.Caller.{sum};
-ghost use Rattle.cfi_unwind.specs.Prepared.{is_kept, after, changed, is_unmapped_change, moved, stepped, AreChanges, Follows, FollowsSome};
+ghost use Rattle.cfi_unwind.specs.private.Prepared.{is_kept, after, changed, is_unmapped_change, moved, stepped, AreChanges, Follows, FollowsSome};
 
 use crate::caller::{call_of, has_expression, is_outermost, recovered, value_of};
 use cfi_table::{Cfa, Rule, Rules};

@@ -1,7 +1,9 @@
 //! The call path of an instruction.
 ghost use Rattle.std.specs.Prelude.{◌≡◌, IfOk};
-ghost use Rattle.cfi_unwind.specs.Caller.{rules_at, caller_if, caller_of};
-ghost use Rattle.cfi_unwind.specs.Prepared.{after};
+ghost use Rattle.cfi_table.specs.Frames.{rules_at};
+ghost use Rattle.cfi_unwind.specs.Caller.{caller_of};
+ghost use Rattle.cfi_unwind.specs.private.Stepwise.{caller_if};
+ghost use Rattle.cfi_unwind.specs.private.Prepared.{after};
 ghost use Rattle.cfi_unwind.specs.Path.{path_of, unwinding_of};
 
 use crate::caller::caller_to;
@@ -25,7 +27,7 @@ pub struct Unwinder<'a> {
 
 impl<'a> Model for Unwinder<'a> {
     ghost use Rattle.cfi_unwind.specs.Caller.{Unwinding};
-    ghost use Rattle.cfi_unwind.specs.Index.{IsIndex};
+    ghost use Rattle.cfi_unwind.specs.private.Index.{IsIndex};
 
     ghost Value = { Unwinding };
 
@@ -78,7 +80,7 @@ impl<'a> Unwinder<'a> {
 
     /// Goes to the caller of the activation at `pc` with these registers: its pc, and its registers in
     /// place of those here. Or how the path ends, where the registers are then of no use.
-    #[tactic(auto, unfolding(crate::specs::Caller::caller_of))]
+    #[tactic(auto, using(crate::proofs::Ending::one_by_one))]
     fn next<L: Look>(
         &self,
         memory: &L,

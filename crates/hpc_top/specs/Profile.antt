@@ -5,7 +5,7 @@ use Rattle.scope_types.specs.CallPaths.{HartPath}
 use Rattle.elf_image.specs.declared.fault.ElfFault.{ElfFault}
 use Rattle.elf_image.specs.Image.{FunctionSymbol, ProgramImage, bytes_of_name}
 use Rattle.elf_image.specs.Reading.{image_of}
-use Rattle.cfi_table.specs.declared.frames.FrameFault.{FrameFault}
+use Rattle.cfi_table.specs.declared.fault.FrameFault.{FrameFault}
 use Rattle.cfi_table.specs.Frames.{frames_of, Frames as Described}
 use Rattle.cfi_unwind.specs.Path.{unwinding_of, path_of as unwound_by}
 use Rattle.scope_types.specs.declared.scope.ProcId.{ProcId}

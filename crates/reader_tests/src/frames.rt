@@ -1,8 +1,12 @@
-use crate::rows::{bytes_of, changed, cut, number};
-use cfi_table::{Cfa, FrameFault, FrameTable, Rule, read_frames};
+use crate::rows::{bytes_of, cut, number};
+use cfi_table::{
+    Cfa, DW_CFA_GNU_args_size, DW_CFA_def_cfa_expression, DW_CFA_def_cfa_offset,
+    DW_CFA_def_cfa_register, DW_CFA_expression, DW_CFA_nop, DW_CFA_offset, DW_CFA_register,
+    DW_CFA_remember_state, DW_CFA_restore_state, FrameFault, FrameTable, Rule, read_frames,
+};
 use elf_image::{Image, read_image};
 use prof_bytes::Memory;
-use std::alloc::{AllocError, Global};
+use std::alloc::Global;
 use std::fmt::Write;
 use std::test::Fail;
 
@@ -21,41 +25,44 @@ fn frames(
     image: &Image<'_>,
 ) -> Result<FrameTable, prof_bytes::Fail<FrameFault>> {
     if section.len() >= 1 << 31 {
-        return Err(prof_bytes::Fail::Memory);
+        return Err(prof_bytes::Fail::Fault(FrameFault { offset: u32::MAX }));
     }
     read_frames(alloc, section, image)
 }
 
-fn with_offset(out: &mut String, letter: &str, offset: u32) -> Result<(), AllocError> {
+fn with_offset(out: &mut String, letter: &str, offset: u32) -> Result<(), Memory> {
     if offset < 1 << 31 {
-        write!(out, "{letter}+{offset}")
+        write!(out, "{letter}+{offset}")?;
     } else {
-        write!(out, "{letter}-{}", 0u32.wrapping_sub(offset))
+        write!(out, "{letter}-{}", 0u32.wrapping_sub(offset))?;
     }
+    Ok(())
 }
 
-fn cfa(out: &mut String, cfa: Cfa) -> Result<(), AllocError> {
+fn cfa(out: &mut String, cfa: Cfa) -> Result<(), Memory> {
     match cfa {
-        Cfa::Missing => out.push_str("none"),
+        Cfa::Missing => out.push_str("none")?,
         Cfa::Register { reg, offset } => {
             write!(out, "{reg}")?;
-            with_offset(out, "", offset)
+            with_offset(out, "", offset)?;
         }
-        Cfa::Expression => out.push_str("exp"),
+        Cfa::Expression => out.push_str("exp")?,
     }
+    Ok(())
 }
 
-fn rule(out: &mut String, register: usize, rule: Rule) -> Result<(), AllocError> {
+fn rule(out: &mut String, register: usize, rule: Rule) -> Result<(), Memory> {
     if rule == Rule::Kept || rule == Rule::Undefined {
         return Ok(());
     }
     write!(out, " {register}=")?;
     match rule {
-        Rule::Saved(offset) => with_offset(out, "c", offset),
-        Rule::Sum(offset) => with_offset(out, "v", offset),
-        Rule::Copy(source) => write!(out, "r{source}"),
-        _ => out.push_str("exp"),
+        Rule::Saved(offset) => with_offset(out, "c", offset)?,
+        Rule::Sum(offset) => with_offset(out, "v", offset)?,
+        Rule::Copy(source) => write!(out, "r{source}")?,
+        _ => out.push_str("exp")?,
     }
+    Ok(())
 }
 
 /// The rules at an address, as the rows have them.
@@ -106,7 +113,8 @@ fn failing(alloc: Global, table: &FrameTable, rows: &[u8]) -> Result<Option<u32>
     Ok(Some(999))
 }
 
-/// The number of the first row that does not hold of a section of the program.
+/// The number of the first row that does not hold of a section of the program; 0 where the section is at
+/// fault.
 fn failing_rules(
     alloc: Global,
     image: &Image<'_>,
@@ -116,50 +124,55 @@ fn failing_rules(
     let section = bytes_of(alloc, hex)?;
     match frames(alloc, &section, image) {
         Ok(table) => failing(alloc, &table, rows),
-        Err(_) => Err(Memory),
+        Err(prof_bytes::Fail::Fault(_)) => Ok(Some(0)),
+        Err(prof_bytes::Fail::Memory(memory)) => Err(memory),
     }
 }
 
-/// Changes of single bytes of the section, and what is answered: the first fault's offset, or the
-/// number of the FDE that holds 0x10010 and its rules at 0x10018.
-fn fault_rows() -> &'static [u8] {
-    b"\
-    > 16 2+16 1=c-4\n\
-    13=63 > fault 13\n\
-    13=63 39=11 > fault 13\n\
-    16=255 17=255 18=255 19=255 > fault 16\n\
-    0=255 > fault 0\n\
-    0=240 1=255 2=255 3=255 > fault 0\n\
-    13=13 > 16 2+16 1=c-4\n\
-    13=14 14=0 15=0 > fault 13\n\
-    8=2 > none\n\
-    8=1 > 16 2+16 1=c-4\n\
-    8=5 > none\n\
-    8=4 > none\n\
-    9=122 > none\n\
-    9=122 15=1 > fault 0\n\
-    12=32 > none\n\
-    20=1 > fault 16\n\
-    20=16 > fault 16\n\
-    16=4 > fault 16\n\
-    16=2 > fault 16\n\
-    14=32 > fault 13\n\
-    13=15 > fault 13\n\
-    13=15 14=1 > fault 33\n\
-    13=15 14=1 33=13 > fault 33\n\
-    33=10 > fault 34\n\
-    39=11 > fault 39\n\
-    38=10 39=11 > 16 2+16 1=c-4\n\
-    36=9 37=1 38=32 > fault 36\n\
-    36=9 37=32 38=32 > 16 2+16\n\
-    36=9 37=1 38=5 39=0 > 16 2+16 1=r5\n\
-    43=46 > fault 43\n\
-    43=129 > fault 43\n\
-    43=11 > fault 43\n\
-    27=240 > none\n\
-    29=16 > none\n\
-    28=0 > none"
-}
+/// A row's name, bytes of the section that are others, and what is answered: the first fault's offset, or
+/// the offset of the FDE that holds 0x10010 and its rules at 0x10018.
+///
+/// The CIE's length stands at 0, its version at 8, its augmentation at 9, its return register at 12, and its
+/// instruction, def_cfa, at 13. The FDE's length stands at 16, CIE_pointer at 20, initial_location at 24,
+/// address_range at 28, and its instructions from 32 on: advance_loc, def_cfa_offset (33), advance_loc,
+/// offset (36), advance_loc (38), restore (39), advance_loc, def_cfa_offset (41) and nop (43).
+static CHANGES: [(&str, &[(usize, u8)], &str); 35] = [
+    ("as it stands", &[], "16 2+16 1=c-4"),
+    ("the CIE's first instruction, at 13, has an unknown opcode", &[(13, 0x3f)], "fault 13"),
+    ("the CIE's fault comes before the FDE's", &[(13, 0x3f), (39, DW_CFA_restore_state)], "fault 13"),
+    ("the FDE's length, at 16, is reserved", &[(16, 0xff), (17, 0xff), (18, 0xff), (19, 0xff)], "fault 16"),
+    ("the CIE's length, at 0, is past the section's end", &[(0, 0xff)], "fault 0"),
+    ("the CIE's length is the first that is reserved", &[(0, 0xf0), (1, 0xff), (2, 0xff), (3, 0xff)], "fault 0"),
+    ("def_cfa_register with no rule yet has the offset 0", &[(13, DW_CFA_def_cfa_register)], "16 2+16 1=c-4"),
+    ("def_cfa_offset, at 13, with no register", &[(13, DW_CFA_def_cfa_offset), (14, 0), (15, 0)], "fault 13"),
+    ("version 2 is passed over", &[(8, 2)], "none"),
+    ("version 1 is read", &[(8, 1)], "16 2+16 1=c-4"),
+    ("version 5 is passed over", &[(8, 5)], "none"),
+    ("version 4 with another address_size is passed over", &[(8, 4)], "none"),
+    ("an augmentation is passed over", &[(9, b'z')], "none"),
+    ("an augmentation without its 0 byte is the CIE's fault", &[(9, b'z'), (15, 1)], "fault 0"),
+    ("return register 32 is passed over", &[(12, 32)], "none"),
+    ("CIE_pointer leads to no entry: the FDE's fault", &[(20, 1)], "fault 16"),
+    ("CIE_pointer leads to an FDE", &[(20, 16)], "fault 16"),
+    ("the FDE ends behind CIE_pointer", &[(16, 4)], "fault 16"),
+    ("the FDE ends within CIE_pointer", &[(16, 2)], "fault 16"),
+    ("def_cfa, at 13, of register 32", &[(14, 32)], "fault 13"),
+    ("def_cfa_expression, at 13, past the entry's end", &[(13, DW_CFA_def_cfa_expression)], "fault 13"),
+    ("def_cfa_offset, at 33, after an expression", &[(13, DW_CFA_def_cfa_expression), (14, 1)], "fault 33"),
+    ("def_cfa_register, at 33, after an expression", &[(13, DW_CFA_def_cfa_expression), (14, 1), (33, DW_CFA_def_cfa_register)], "fault 33"),
+    ("expression, at 34, past the entry's end", &[(33, DW_CFA_remember_state), (34, DW_CFA_expression)], "fault 34"),
+    ("restore_state, at 39, with nothing remembered", &[(39, DW_CFA_restore_state)], "fault 39"),
+    ("restore_state after remember_state", &[(38, DW_CFA_remember_state), (39, DW_CFA_restore_state)], "16 2+16 1=c-4"),
+    ("register, at 36, of a source of 32", &[(36, DW_CFA_register), (37, 1), (38, 32)], "fault 36"),
+    ("register for register 32 is passed over", &[(36, DW_CFA_register), (37, 32), (38, 32)], "16 2+16"),
+    ("register of x5 for x1", &[(36, DW_CFA_register), (37, 1), (38, 5), (39, DW_CFA_nop)], "16 2+16 1=r5"),
+    ("GNU_args_size, at 43, without its operand", &[(43, DW_CFA_GNU_args_size)], "fault 43"),
+    ("offset, at 43, without its operand", &[(43, DW_CFA_offset + 1)], "fault 43"),
+    ("restore_state at the end, at 43", &[(43, DW_CFA_restore_state)], "fault 43"),
+    ("initial_location lies in no segment", &[(27, 0xf0)], "none"),
+    ("address_range passes the segment's end", &[(29, 16)], "none"),
+    ("address_range is 0", &[(28, 0)], "none"),
+];
 
 /// The FDE that holds 0x10010 with the rules at 0x10018, as text.
 fn answer_of(alloc: Global, table: &FrameTable) -> Result<String, Memory> {
@@ -175,42 +188,43 @@ fn answer_of(alloc: Global, table: &FrameTable) -> Result<String, Memory> {
 fn answer(alloc: Global, section: &[u8], image: &Image<'_>) -> Result<String, Memory> {
     match frames(alloc, section, image) {
         Ok(table) => answer_of(alloc, &table),
-        Err(prof_bytes::Fail::Memory) => Err(Memory),
+        Err(prof_bytes::Fail::Memory(memory)) => Err(memory),
         Err(prof_bytes::Fail::Fault(fault)) => Ok(format!(in alloc; "fault {}", fault.offset)?),
     }
 }
 
-/// Whether a section is answered with this text.
-fn answer_is(
-    alloc: Global,
-    image: &Image<'_>,
-    section: &[u8],
-    wanted: &[u8],
-) -> Result<bool, Memory> {
-    let found = answer(alloc, section, image)?;
-    Ok(found.as_str().as_bytes() == wanted)
+/// The section with some bytes that are others.
+fn section_with(alloc: Global, changes: &[(usize, u8)]) -> Result<Vec<u8>, Memory> {
+    let mut section = bytes_of(alloc, sections::recursive())?;
+    for (offset, value) in changes {
+        if let Some(byte) = section.get_mut(*offset) {
+            *byte = *value;
+        }
+    }
+    Ok(section)
 }
 
-fn fault_row_holds(alloc: Global, image: &Image<'_>, row: &[u8]) -> Result<bool, Memory> {
-    let (changes, expected) = cut(row, b'>');
-    let section = changed(alloc, sections::recursive(), changes)?;
-    answer_is(alloc, image, &section, cut(expected, b' ').1)
+fn change_holds(
+    alloc: Global,
+    image: &Image<'_>,
+    changes: &[(usize, u8)],
+    wanted: &str,
+) -> Result<bool, Memory> {
+    let section = section_with(alloc, changes)?;
+    let found = answer(alloc, &section, image)?;
+    Ok(found.as_str() == wanted)
 }
 
 /// The number, from 1, of the first change that is answered in another way.
-fn failing_change(alloc: Global, image: &Image<'_>, rows: &[u8]) -> Result<Option<u32>, Memory> {
-    let mut rows = rows;
-    for number in 1..99 {
-        let (row, rest) = cut(rows, b'\n');
-        if row.is_empty() {
-            return Ok(None);
-        }
-        if !fault_row_holds(alloc, image, row)? {
+fn failing_change(alloc: Global, image: &Image<'_>) -> Result<Option<u32>, Memory> {
+    let mut number = 1u32;
+    for (_, changes, wanted) in &CHANGES {
+        if !change_holds(alloc, image, changes, wanted)? {
             return Ok(Some(number));
         }
-        rows = rest;
+        number = number.wrapping_add(1);
     }
-    Ok(Some(99))
+    Ok(None)
 }
 
 /// Addresses, and how many bytes the rules there are made from: 3 of the CIE and 12 of the FDE.
@@ -237,7 +251,8 @@ fn failing_bytes(alloc: Global, image: &Image<'_>) -> Result<Option<u32>, Memory
     let section = bytes_of(alloc, sections::recursive())?;
     match frames(alloc, &section, image) {
         Ok(table) => Ok(other_bytes(&table)),
-        Err(_) => Err(Memory),
+        Err(prof_bytes::Fail::Fault(_)) => Ok(Some(0)),
+        Err(prof_bytes::Fail::Memory(memory)) => Err(memory),
     }
 }
 
@@ -262,7 +277,7 @@ fn failing_of(alloc: Global, image: &Image<'_>, rows: Rows) -> Result<Option<u32
             sections::directives(),
             sections::directives_rules(),
         ),
-        Rows::Faults => failing_change(alloc, image, fault_rows()),
+        Rows::Faults => failing_change(alloc, image),
         Rows::Bytes => failing_bytes(alloc, image),
     }
 }
@@ -270,11 +285,12 @@ fn failing_of(alloc: Global, image: &Image<'_>, rows: Rows) -> Result<Option<u32
 /// The number or the address of the first row that does not hold of the program in this file.
 fn failing_in(alloc: Global, file: &[u8], rows: Rows) -> Result<Option<u32>, Memory> {
     if file.len() > 1 << 26 {
-        return Err(Memory);
+        return Ok(Some(0));
     }
     match read_image(alloc, file) {
         Ok(image) => failing_of(alloc, &image, rows),
-        Err(_) => Err(Memory),
+        Err(prof_bytes::Fail::Fault(_)) => Ok(Some(0)),
+        Err(prof_bytes::Fail::Memory(memory)) => Err(memory),
     }
 }
 

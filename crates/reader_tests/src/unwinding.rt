@@ -26,25 +26,34 @@ fn program(alloc: Global, hex: &[u8], changes: &[(usize, u8)]) -> Result<Vec<u8>
     Ok(file)
 }
 
+/// A program or a section that can't be read.
+#[derive(Clone, Copy, Debug)]
+struct Unreadable;
+
+/// Why a test can't be made.
+type Unread = prof_bytes::Fail<Unreadable>;
+
 /// The image of a program that can be read.
-fn image_of(alloc: Global, file: &[u8]) -> Result<Image<'_>, Memory> {
+fn image_of(alloc: Global, file: &[u8]) -> Result<Image<'_>, Unread> {
     if file.len() > 1 << 26 {
-        return Err(Memory);
+        return Err(prof_bytes::Fail::Fault(Unreadable));
     }
     match read_image(alloc, file) {
         Ok(image) => Ok(image),
-        Err(_) => Err(Memory),
+        Err(prof_bytes::Fail::Memory(memory)) => Err(prof_bytes::Fail::Memory(memory)),
+        Err(prof_bytes::Fail::Fault(_)) => Err(prof_bytes::Fail::Fault(Unreadable)),
     }
 }
 
 /// The frames of a section that can be read.
-fn table_of(alloc: Global, section: &[u8], image: &Image<'_>) -> Result<FrameTable, Memory> {
+fn table_of(alloc: Global, section: &[u8], image: &Image<'_>) -> Result<FrameTable, Unread> {
     if section.len() >= 1 << 31 {
-        return Err(Memory);
+        return Err(prof_bytes::Fail::Fault(Unreadable));
     }
     match read_frames(alloc, section, image) {
         Ok(table) => Ok(table),
-        Err(_) => Err(Memory),
+        Err(prof_bytes::Fail::Memory(memory)) => Err(prof_bytes::Fail::Memory(memory)),
+        Err(prof_bytes::Fail::Fault(_)) => Err(prof_bytes::Fail::Fault(Unreadable)),
     }
 }
 
@@ -145,9 +154,10 @@ fn other_by_unwinder(
     alloc: Global,
     image: &Image<'_>,
     unwinding: Unwinding,
-) -> Result<Option<usize>, Memory> {
+) -> Result<Option<usize>, Unread> {
     let table = table_of(alloc, image.section(b".debug_frame"), image)?;
-    other_in_unwinder(&Unwinder::of(alloc, &table, image), unwinding)
+    let unwinder = Unwinder::of(alloc, &table, image);
+    Ok(other_in_unwinder(&unwinder, unwinding)?)
 }
 
 /// The place of the first row that is otherwise than a table says, in a program's image.
@@ -155,7 +165,7 @@ fn other_in_image(
     alloc: Global,
     image: &Image<'_>,
     question: Question,
-) -> Result<Option<usize>, Memory> {
+) -> Result<Option<usize>, Unread> {
     match question {
         Question::OfUnwinder(unwinding) => other_by_unwinder(alloc, image, unwinding),
         Question::Ends => causes::other_end(alloc, image),
@@ -170,7 +180,7 @@ fn other_row(
     hex: &[u8],
     changes: &[(usize, u8)],
     question: Question,
-) -> Result<Option<usize>, Memory> {
+) -> Result<Option<usize>, Unread> {
     let file = program(alloc, hex, changes)?;
     let image = image_of(alloc, &file)?;
     other_in_image(alloc, &image, question)
@@ -181,7 +191,7 @@ fn other_unwinding(
     alloc: Global,
     hex: &[u8],
     unwinding: Unwinding,
-) -> Result<Option<usize>, Memory> {
+) -> Result<Option<usize>, Unread> {
     other_row(alloc, hex, &[], Question::OfUnwinder(unwinding))
 }
 

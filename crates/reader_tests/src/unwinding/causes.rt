@@ -1,6 +1,9 @@
 //! How paths end, and what a caller's registers are. The instructions of the entries are encoded by
 //! hand by DWARF 5, section 7.24.
 use super::*;
+use cfi_table::{
+    DW_CIE_ID, DW_CFA_def_cfa, DW_CFA_def_cfa_expression, DW_CFA_expression, DW_CFA_offset, DW_CFA_register, DW_CFA_undefined, DW_CFA_val_expression, DW_CFA_val_offset,
+};
 use End::{Partial, Whole};
 use PartialCause::{Expression, NoCfa, NoFde, Unmapped};
 
@@ -14,7 +17,8 @@ fn section_of(alloc: Global, instructions: &[u8]) -> Result<Vec<u8>, Memory> {
             .unwrap_or(0)
             .wrapping_add(9),
     )?;
-    bytes.extend_from_slice(&[0xff, 0xff, 0xff, 0xff, 3, 0, 1, 0x7c, 1])?;
+    put_u32(&mut bytes, DW_CIE_ID)?;
+    bytes.extend_from_slice(&[3, 0, 1, 0x7c, 1])?;
     bytes.extend_from_slice(instructions)?;
     for word in [12, 0, 0x1_0010, 32] {
         put_u32(&mut bytes, word)?;
@@ -29,80 +33,80 @@ fn path_in(
     instructions: &[u8],
     values: &[(usize, u32)],
     words: &[(u32, u32)],
-) -> Result<RawPath, Memory> {
+) -> Result<RawPath, Unread> {
     let section = section_of(alloc, instructions)?;
     let table = table_of(alloc, &section, image)?;
     let unwinder = Unwinder::of(alloc, &table, image);
-    unwinder.path(0x1_0010, &registers(values), &Words { words })
+    Ok(unwinder.path(0x1_0010, &registers(values), &Words { words })?)
 }
 
 /// Instructions, and how the path of one frame ends, where x1 is 0x10008 and x2 is 0xf00ffff0.
 static ENDS: [(&str, &[u8], End); 17] = [
-    ("no return address", &[0x0c, 2, 0, 0x07, 1], Whole),
-    ("none, before an expression", &[0x07, 1, 0x10, 5, 0], Whole),
-    ("none, before a missing CFA", &[0x07, 1], Whole),
-    ("a CFA of an expression", &[0x0f, 0], Partial(Expression)),
+    ("no return address", &[DW_CFA_def_cfa, 2, 0, DW_CFA_undefined, 1], Whole),
+    ("none, before an expression", &[DW_CFA_undefined, 1, DW_CFA_expression, 5, 0], Whole),
+    ("none, before a missing CFA", &[DW_CFA_undefined, 1], Whole),
+    ("a CFA of an expression", &[DW_CFA_def_cfa_expression, 0], Partial(Expression)),
     (
         "x5 is an expression",
-        &[0x0c, 2, 0, 0x10, 5, 0],
+        &[DW_CFA_def_cfa, 2, 0, DW_CFA_expression, 5, 0],
         Partial(Expression),
     ),
     (
         "x0 is an expression",
-        &[0x0c, 2, 0, 0x10, 0, 0],
+        &[DW_CFA_def_cfa, 2, 0, DW_CFA_expression, 0, 0],
         Partial(Expression),
     ),
     (
         "x2 is an expression",
-        &[0x0c, 2, 0, 0x16, 2, 0],
+        &[DW_CFA_def_cfa, 2, 0, DW_CFA_val_expression, 2, 0],
         Partial(Expression),
     ),
     (
         "x31 is an expression",
-        &[0x0c, 2, 0, 0x16, 31, 0],
+        &[DW_CFA_def_cfa, 2, 0, DW_CFA_val_expression, 31, 0],
         Partial(Expression),
     ),
     (
         "an expression, before a missing CFA",
-        &[0x10, 5, 0],
+        &[DW_CFA_expression, 5, 0],
         Partial(Expression),
     ),
     (
         "an expression, before memory",
-        &[0x0c, 2, 0, 0x85, 1, 0x10, 6, 0],
+        &[DW_CFA_def_cfa, 2, 0, DW_CFA_offset + 5, 1, DW_CFA_expression, 6, 0],
         Partial(Expression),
     ),
     ("no CFA", &[], Partial(NoCfa)),
-    ("no CFA, before memory", &[0x81, 1], Partial(NoCfa)),
+    ("no CFA, before memory", &[DW_CFA_offset + 1, 1], Partial(NoCfa)),
     (
         "x1 is not in memory",
-        &[0x0c, 2, 0, 0x81, 1],
+        &[DW_CFA_def_cfa, 2, 0, DW_CFA_offset + 1, 1],
         Partial(Unmapped),
     ),
     (
         "x0 is not in memory",
-        &[0x0c, 2, 0, 0x80, 1],
+        &[DW_CFA_def_cfa, 2, 0, DW_CFA_offset, 1],
         Partial(Unmapped),
     ),
     (
         "x2 is not in memory",
-        &[0x0c, 2, 0, 0x82, 1],
+        &[DW_CFA_def_cfa, 2, 0, DW_CFA_offset + 2, 1],
         Partial(Unmapped),
     ),
     (
         "x31 is not in memory",
-        &[0x0c, 2, 0, 0x9f, 1],
+        &[DW_CFA_def_cfa, 2, 0, DW_CFA_offset + 31, 1],
         Partial(Unmapped),
     ),
     (
         "not in memory, before a return to 0",
-        &[0x0c, 2, 0, 0x09, 1, 0, 0x85, 1],
+        &[DW_CFA_def_cfa, 2, 0, DW_CFA_register, 1, 0, DW_CFA_offset + 5, 1],
         Partial(Unmapped),
     ),
 ];
 
 /// The place of the first of these instructions whose path ends otherwise, or has other frames.
-pub(super) fn other_end(alloc: Global, image: &Image<'_>) -> Result<Option<usize>, Memory> {
+pub(super) fn other_end(alloc: Global, image: &Image<'_>) -> Result<Option<usize>, Unread> {
     let values = [(1, 0x1_0008), (2, 0xf00f_fff0)];
     for (place, (_, instructions, end)) in ENDS.iter().enumerate() {
         let path = path_in(alloc, image, instructions, &values, &[])?;
@@ -125,7 +129,7 @@ fn a_path_ends_by_the_first_test_that_holds(rt: HostRuntime) -> Result<(), Fail>
 static CALLERS: [(&str, &[u8], &[(usize, u32)], &[(u32, u32)], End, &[u32]); 13] = [
     (
         "x1 keeps its value, and a rule of x40 is passed over",
-        &[0x0c, 2, 0, 0x10, 40, 0],
+        &[DW_CFA_def_cfa, 2, 0, DW_CFA_expression, 40, 0],
         &[(1, 0x1_0008)],
         &[],
         Whole,
@@ -133,7 +137,7 @@ static CALLERS: [(&str, &[u8], &[(usize, u32)], &[(u32, u32)], End, &[u32]); 13]
     ),
     (
         "the caller has no frame description",
-        &[0x0c, 2, 0],
+        &[DW_CFA_def_cfa, 2, 0],
         &[(1, 0x1_0034)],
         &[],
         Partial(NoFde),
@@ -141,16 +145,16 @@ static CALLERS: [(&str, &[u8], &[(usize, u32)], &[(u32, u32)], End, &[u32]); 13]
     ),
     (
         "a return to 1",
-        &[0x0c, 2, 0],
+        &[DW_CFA_def_cfa, 2, 0],
         &[(1, 1)],
         &[],
         Partial(NoFde),
         &[0x1_0010, 0xffff_fffd],
     ),
-    ("a return to 0", &[0x0c, 2, 0], &[], &[], Whole, &[0x1_0010]),
+    ("a return to 0", &[DW_CFA_def_cfa, 2, 0], &[], &[], Whole, &[0x1_0010]),
     (
         "a return to a 0 in memory",
-        &[0x0c, 2, 0, 0x81, 1],
+        &[DW_CFA_def_cfa, 2, 0, DW_CFA_offset + 1, 1],
         &[(2, 0xf00f_fff0)],
         &[(0xf00f_ffec, 0)],
         Whole,
@@ -158,7 +162,7 @@ static CALLERS: [(&str, &[u8], &[(usize, u32)], &[(u32, u32)], End, &[u32]); 13]
     ),
     (
         "a CFA past 2^32",
-        &[0x0c, 2, 16, 0x81, 1],
+        &[DW_CFA_def_cfa, 2, 16, DW_CFA_offset + 1, 1],
         &[(2, 0xffff_fff8)],
         &[(4, 0x1_0008)],
         Whole,
@@ -166,7 +170,7 @@ static CALLERS: [(&str, &[u8], &[(usize, u32)], &[(u32, u32)], End, &[u32]); 13]
     ),
     (
         "x1 is 4 below the CFA, which is x8",
-        &[0x0c, 8, 0, 0x14, 1, 1],
+        &[DW_CFA_def_cfa, 8, 0, DW_CFA_val_offset, 1, 1],
         &[(8, 0x1_0010)],
         &[],
         Whole,
@@ -174,7 +178,7 @@ static CALLERS: [(&str, &[u8], &[(usize, u32)], &[(u32, u32)], End, &[u32]); 13]
     ),
     (
         "x1 is in x5",
-        &[0x0c, 2, 0, 0x09, 1, 5],
+        &[DW_CFA_def_cfa, 2, 0, DW_CFA_register, 1, 5],
         &[(1, 0x2_0000), (5, 0x1_0008)],
         &[],
         Whole,
@@ -182,7 +186,7 @@ static CALLERS: [(&str, &[u8], &[(usize, u32)], &[(u32, u32)], End, &[u32]); 13]
     ),
     (
         "x5 is not kept, and is 0 in the caller",
-        &[0x0c, 2, 0, 0x09, 1, 5, 0x07, 5],
+        &[DW_CFA_def_cfa, 2, 0, DW_CFA_register, 1, 5, DW_CFA_undefined, 5],
         &[(5, 0x1_0018)],
         &[],
         Whole,
@@ -190,7 +194,7 @@ static CALLERS: [(&str, &[u8], &[(usize, u32)], &[(u32, u32)], End, &[u32]); 13]
     ),
     (
         "x0 is 0 in the caller",
-        &[0x0c, 2, 0, 0x09, 1, 0],
+        &[DW_CFA_def_cfa, 2, 0, DW_CFA_register, 1, 0],
         &[(0, 0x1_0018)],
         &[],
         Whole,
@@ -198,7 +202,7 @@ static CALLERS: [(&str, &[u8], &[(usize, u32)], &[(u32, u32)], End, &[u32]); 13]
     ),
     (
         "x2 is the CFA in the caller",
-        &[0x0c, 2, 16, 0x09, 1, 2],
+        &[DW_CFA_def_cfa, 2, 16, DW_CFA_register, 1, 2],
         &[(2, 0x1_0018)],
         &[],
         Partial(NoFde),
@@ -206,7 +210,7 @@ static CALLERS: [(&str, &[u8], &[(usize, u32)], &[(u32, u32)], End, &[u32]); 13]
     ),
     (
         "x2 is the CFA in the caller, also where it is saved",
-        &[0x0c, 2, 16, 0x09, 1, 2, 0x82, 1],
+        &[DW_CFA_def_cfa, 2, 16, DW_CFA_register, 1, 2, DW_CFA_offset + 2, 1],
         &[(2, 0x1_0018)],
         &[(0x1_0024, 7), (0x1_0034, 7), (0x1_0044, 7)],
         Partial(NoFde),
@@ -214,7 +218,7 @@ static CALLERS: [(&str, &[u8], &[(usize, u32)], &[(u32, u32)], End, &[u32]); 13]
     ),
     (
         "x8 is saved, and the caller's CFA is by it",
-        &[0x0c, 8, 0, 0x81, 1, 0x88, 2],
+        &[DW_CFA_def_cfa, 8, 0, DW_CFA_offset + 1, 1, DW_CFA_offset + 8, 2],
         &[(8, 0xf00f_ffe0)],
         &[
             (0xf00f_ffdc, 0x1_0018),
@@ -228,7 +232,7 @@ static CALLERS: [(&str, &[u8], &[(usize, u32)], &[(u32, u32)], End, &[u32]); 13]
 ];
 
 /// The place of the first of these instructions whose path ends otherwise, or has other frames.
-pub(super) fn other_caller(alloc: Global, image: &Image<'_>) -> Result<Option<usize>, Memory> {
+pub(super) fn other_caller(alloc: Global, image: &Image<'_>) -> Result<Option<usize>, Unread> {
     for (place, (_, instructions, values, words, end, frames)) in CALLERS.iter().enumerate() {
         let path = path_in(alloc, image, instructions, values, words)?;
         if !is_path(&path, *end, frames) {

@@ -36,7 +36,7 @@ static REGIONS: [(&[(usize, u8)], (u32, u32)); 11] = [
 ];
 
 /// The place of the first of these changes whose program has another entry region.
-fn other_region(alloc: Global) -> Result<Option<usize>, Memory> {
+fn other_region(alloc: Global) -> Result<Option<usize>, Unread> {
     for (place, (changes, (start, end))) in REGIONS.iter().enumerate() {
         let region = Question::OfUnwinder(Unwinding::Region(*start, *end));
         if other_row(alloc, RECURSION, changes, region)?.is_some() {

@@ -1,5 +1,5 @@
 use Rattle.std.proofs.Common.{◌≡◌, ◌<◌, length, reverse}
-use Rattle.cfi_table.specs.Undoing.{remembered_of, IsMarked}
+use Rattle.cfi_table.specs.private.Undoing.{remembered_of, IsMarked}
 use Rattle.cfi_table.proofs.register_rules.undone.Given as goal
 
 abbrev pub invariant-loop-last : goal.invariant-loop-last

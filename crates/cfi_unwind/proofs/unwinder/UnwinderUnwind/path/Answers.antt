@@ -1,5 +1,5 @@
 use Rattle.std.proofs.Common.{ap, sym, ◌∙◌}
-use Rattle.cfi_unwind.specs.Prepared.{after}
+use Rattle.cfi_unwind.specs.private.Prepared.{after}
 use Rattle.cfi_unwind.proofs.Walking.{walks, ends_here, is_full}
 use Rattle.cfi_unwind.proofs.unwinder.UnwinderUnwind.path.Goals as goal
 

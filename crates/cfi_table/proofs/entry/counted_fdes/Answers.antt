@@ -1,0 +1,44 @@
+use Rattle.std.proofs.Common.{rules, List, [], ◌++◌, Option, sym, ap, ◌∙◌, arith}
+use Rattle.std.specs.List.{filter_map, cons_option}
+use Rattle.std.specs.Prelude.{map}
+use Rattle.std.proofs.lemmas.List.{append-nil}
+use Rattle.std.proofs.lemmas.List.Elements.{All-push}
+use Rattle.prof_bytes.specs.Outcome.{FailsBy, viewed}
+use Rattle.cfi_table.specs.declared.extent.Extent.{Extent}
+use Rattle.cfi_table.specs.declared.fde.Fde.{Fde}
+use Rattle.cfi_table.specs.Entries.{read_entry}
+use Rattle.cfi_table.specs.Frames.{all_ok, counted}
+use Rattle.cfi_table.specs.private.Placed.{IsFdeIn}
+use Rattle.cfi_table.proofs.Entries.{reads_more, reads_fault, reads_all, counted_in}
+use Rattle.cfi_table.proofs.entry.counted_fdes.Goals as goal
+use Rattle.cfi_table.proofs.entry.counted_fdes.Goals.{in-Some+in_ok-push, in_default}
+
+abbrev none : Extent
+none = record { offset = 0; end = 0 }
+
+pub loop-extent-preserved : goal.loop-extent-preserved
+loop-extent-preserved c =
+    let segments = c.args.image.now.segments in
+    let is = c.in_ok-entry.ensures.entry c.args.extents.now c.requires.cies in
+    elim c.match-counted.branch [
+      | in-Some+in_ok-push w ↦ rw w.fdes-is (record {
+        reads = reads_more c.args.section.now c.args.extents.now segments c.loop-extent.extent-index none c.in_ok-entry.entry c.loop-extent.fdes.items _ c.loop-extent-test.true is
+        (w.in_ok-push.ensures.items ∙ ap (λ (o : Option Fde). c.loop-extent.fdes.items ++ cons_option o []) w.in-Some.ensures) c.loop-extent.invariant.reads;
+        within = rw w.in_ok-push.ensures.items (All-push (IsFdeIn c.args.section.now) c.loop-extent.fdes.items w.in-Some.fde c.loop-extent.invariant.within (counted_in c.args.section.now segments c.in_ok-entry.entry w.in-Some.fde w.in-Some.ensures c.in_ok-entry.ensures.within));
+      })
+      | in_default w ↦ rw w.fdes-is (record {
+        reads = reads_more c.args.section.now c.args.extents.now segments c.loop-extent.extent-index none c.in_ok-entry.entry c.loop-extent.fdes.items c.loop-extent.fdes.items c.loop-extent-test.true is
+        (sym (append-nil c.loop-extent.fdes.items) ∙ ap (λ (o : Option Fde). c.loop-extent.fdes.items ++ cons_option o []) w.in_default.ensures) c.loop-extent.invariant.reads;
+        within = c.loop-extent.invariant.within;
+      })
+    ]
+
+pub returns-in_err-entry-clause-fdes : goal.returns-in_err-entry-clause-fdes
+returns-in_err-entry-clause-fdes c =
+    let failed : FailsBy c.in_err-entry.field-0.0 (viewed (filter_map (counted c.args.image.now.segments)) (all_ok (map (read_entry c.args.section.now c.args.extents.now) c.args.extents.now))) =
+    reads_fault c.args.section.now c.args.extents.now c.args.image.now.segments c.loop-extent.extent-index none c.in_err-entry.field-0.0 c.loop-extent.fdes.items c.loop-extent-test.true
+    (c.in_err-entry.ensures.entry c.args.extents.now c.requires.cies) c.loop-extent.invariant.reads in
+    search rules
+
+pub returns-clause-fdes : goal.returns-clause-fdes
+returns-clause-fdes c = reads_all c.args.section.now c.args.extents.now c.args.image.now.segments c.loop-extent.extent-index c.loop-extent.fdes.items c.loop-extent-test.false c.loop-extent.invariant.reads

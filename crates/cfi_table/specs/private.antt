@@ -1,0 +1,4 @@
+pub mod Checking
+pub mod Placed
+pub mod KnownCies
+pub mod Undoing

@@ -1,0 +1,86 @@
+-- Which instruction is at fault depends on the forms of the CFA's rules alone, now and as they were remembered.
+use Rattle.std.specs.Prelude.{ℕ, Bool, false, nat_lt, List, [], ◌∷◌, length, Option, Some, None, Result, if◌then◌else◌}
+use Rattle.prof_bytes.specs.Reading.{left_of}
+use Rattle.prof_bytes.specs.Fields.{Input}
+use Rattle.prof_bytes.specs.Outcome.{viewed}
+use Rattle.cfi_table.specs.declared.fault.FrameFault.{FrameFault}
+use Rattle.cfi_table.specs.declared.instruction.AlignmentFactors.{AlignmentFactors}
+use Rattle.cfi_table.specs.declared.instruction.CallFrameInstruction.{CallFrameInstruction}
+use Rattle.cfi_table.specs.declared.instruction.CallFrameInstruction.TheVariants as instructions
+use Rattle.cfi_table.specs.declared.rules.Cfa.{Cfa}
+use Rattle.cfi_table.specs.declared.rules.Cfa.TheVariants as cfas
+use Rattle.cfi_table.specs.declared.checker.CfaForm.{CfaForm}
+use Rattle.cfi_table.specs.declared.checker.CfaForm.TheVariants as forms
+use Rattle.cfi_table.specs.Rules.{State, Remembered, run_by}
+
+-- the form of the CFA's rule, and the forms that were remembered, the latest first
+pub record CfaForms : Type 0 where
+  pub now : CfaForm
+  pub remembered : List CfaForm
+
+-- no rule is in force
+abbrev pub no_forms : CfaForms
+no_forms = record { now = forms.Missing; remembered = [] }
+
+abbrev pub to_register : ℕ → CfaForms → Option CfaForms
+to_register register k = if nat_lt register 32 then Some (record k { now = forms.Register }) else None
+
+abbrev pub to_new_register : ℕ → CfaForm → CfaForms → Option CfaForms
+to_new_register register forms.Missing k = to_register register k
+to_new_register register forms.Register k = to_register register k
+to_new_register register forms.Expression k = None
+
+abbrev pub to_new_offset : CfaForm → CfaForms → Option CfaForms
+to_new_offset forms.Missing k = None
+to_new_offset forms.Register k = Some k
+to_new_offset forms.Expression k = None
+
+abbrev pub to_source : ℕ → ℕ → CfaForms → Option CfaForms
+to_source register source k = if nat_lt register 32 then (if nat_lt source 32 then Some k else None) else Some k
+
+abbrev pub to_remembered : List CfaForm → CfaForms → Option CfaForms
+to_remembered [] k = None
+to_remembered (r ∷ older) k = Some (record { now = r; remembered = older })
+
+abbrev pub execute_forms : CallFrameInstruction → CfaForms → Option CfaForms
+execute_forms instructions.Nop k = Some k
+execute_forms (instructions.SetLoc address) k = Some k
+execute_forms (instructions.AdvanceLoc delta) k = Some k
+execute_forms (instructions.DefCfa register offset) k = to_register register k
+execute_forms (instructions.DefCfaRegister register) k = to_new_register register k.now k
+execute_forms (instructions.DefCfaOffset offset) k = to_new_offset k.now k
+execute_forms instructions.DefCfaExpression k = Some (record k { now = forms.Expression })
+execute_forms (instructions.Undefined register) k = Some k
+execute_forms (instructions.SameValue register) k = Some k
+execute_forms (instructions.Offset register offset) k = Some k
+execute_forms (instructions.ValOffset register offset) k = Some k
+execute_forms (instructions.Register register source) k = to_source register source k
+execute_forms (instructions.Expression register) k = Some k
+execute_forms (instructions.ValExpression register) k = Some k
+execute_forms (instructions.Restore register) k = Some k
+execute_forms instructions.RememberState k = Some (record k { remembered = k.now ∷ k.remembered })
+execute_forms instructions.RestoreState k = to_remembered k.remembered k
+
+abbrev pub never : CfaForms → Bool
+never k = false
+
+-- the forms after the instructions, or the fault of the first that has one
+abbrev pub run_forms : AlignmentFactors → Input FrameFault → CfaForms → Result CfaForms FrameFault
+run_forms factors input k = run_by execute_forms never (length (left_of input.at)) factors input k
+
+-- ---- the forms of rules
+
+abbrev pub form_of : Cfa → CfaForm
+form_of cfas.Missing = forms.Missing
+form_of (cfas.Register register offset) = forms.Register
+form_of cfas.Expression = forms.Expression
+
+abbrev pub remembered_forms : List Remembered → List CfaForm
+remembered_forms [] = []
+remembered_forms (r ∷ older) = form_of r.cfa ∷ remembered_forms older
+
+abbrev pub forms_of : State → CfaForms
+forms_of s = record { now = form_of s.cfa; remembered = remembered_forms s.remembered }
+
+abbrev pub forms_after : Result State FrameFault → Result CfaForms FrameFault
+forms_after r = viewed forms_of r

@@ -1,0 +1,37 @@
+-- What is kept of each CIE while a section's FDEs are read.
+use Rattle.std.specs.Prelude.{◌≡◌, ℕ, List, reverse, Option, Some, None, Result, Ok, Err}
+use Rattle.prof_bytes.specs.Outcome.{viewed}
+use Rattle.cfi_table.specs.declared.fault.FrameFault.{FrameFault}
+use Rattle.cfi_table.specs.declared.extent.Extent.{Extent}
+use Rattle.cfi_table.specs.declared.cie.Cie.{Cie}
+use Rattle.cfi_table.specs.declared.checker.CieEnd.{CieEnd}
+use Rattle.cfi_table.specs.declared.known_cie.KnownCie.{KnownCie}
+use Rattle.cfi_table.specs.Entries.{cie_of, after_cie}
+use Rattle.cfi_table.specs.private.Checking.{CfaForms, no_forms, forms_after}
+use Rattle.cfi_table.specs.private.Placed.{IsCieIn}
+
+-- a CIE: its offset, and what it says
+pub record Known : Type 0 where
+  pub offset : ℕ
+  pub cie : Result (Option Cie) FrameFault
+
+abbrev pub known : List ℕ → Extent → Known
+known section e = record { offset = e.offset; cie = cie_of section e }
+
+-- the forms after a CIE's instructions, or their fault
+abbrev pub end_of : List ℕ → Result (Option Cie) FrameFault → Result CfaForms FrameFault
+end_of section (Err fault) = Ok no_forms
+end_of section (Ok None) = Ok no_forms
+end_of section (Ok (Some cie)) = forms_after (after_cie section cie)
+
+-- what the code's values show of these
+abbrev pub end_seen : CieEnd → CfaForms
+end_seen end = record { now = end.now; remembered = reverse end.remembered.items }
+
+abbrev pub seen_cie : KnownCie → Known
+seen_cie c = record { offset = c.offset; cie = c.cie }
+
+-- its instructions lie in the section, and its end is theirs
+pub record IsKnown (section : List ℕ) (c : KnownCie) : Type 0 where
+  pub placed : IsCieIn section c.cie
+  pub ends : viewed end_seen c.end ≡ end_of section c.cie

@@ -1,0 +1,70 @@
+//! Where the entries of a section lie, and their instructions.
+ghost use Rattle.std.specs.Prelude.{◌≡◌, ◌+◌, ◌<◌, ◌≤◌, ◌^◌, Some, None, IfOk, All, length, map};
+ghost use Rattle.cfi_table.specs.Entries.{body_of, instructions_of, extents_of};
+ghost use Rattle.cfi_table.specs.private.Placed.{AreRising, IsPlaced, IsWithin};
+
+use crate::fault::FrameFault;
+use prof_bytes::{Memory, Reader};
+use std::alloc::Global;
+
+/// Bytes of a section, from an offset up to an end. Those of an entry begin with its length.
+#[derive(Clone, Copy, Debug, PartialEq, Eq)]
+pub(crate) struct Extent {
+    pub(crate) offset: u32,
+    pub(crate) end: u32,
+}
+
+/// An entry's bytes behind its length. A field that they lack is a fault at the entry.
+pub(crate) fn body<'a>(section: &'a [u8], extent: &Extent) -> Reader<'a, FrameFault>
+    requires { IsPlaced section.now extent.now }
+    ensures { result ≡ body_of section.now extent.now }
+{
+    let missing = FrameFault {
+        offset: extent.offset,
+    };
+    let bytes = &section[..extent.end as usize];
+    Reader::new(bytes, extent.offset as usize + 4, missing)
+}
+
+/// Instructions as they are read.
+pub(crate) fn instructions<'a>(section: &'a [u8], extent: &Extent) -> Reader<'a, FrameFault>
+    requires { IsWithin section.now extent.now }
+    ensures reader { result ≡ instructions_of section.now extent.now }
+    ensures short { length result.at.whole < 2 ^ 32 }
+{
+    let missing = FrameFault {
+        offset: extent.offset,
+    };
+    let bytes = &section[..extent.end as usize];
+    Reader::new(bytes, extent.offset as usize, missing)
+}
+
+/// The section's entries, and the fault of the first length that has one.
+pub(crate) fn all_extents(
+    alloc: Global,
+    section: &[u8],
+) -> Result<(Vec<Extent>, Option<FrameFault>), Memory>
+    requires { length section.now < 2 ^ 31 }
+    ensures extents { IfOk result (λ found. (found.0.items, found.1) ≡ extents_of section.now) }
+    ensures within { IfOk result (λ found. All (IsPlaced section.now) found.0.items) }
+    ensures order { IfOk result (λ found. AreRising 0 (map (λ e. e.offset) found.0.items)) }
+{
+    let mut extents = Vec::new(alloc);
+    let mut reader = Reader::new(section, 0, FrameFault { offset: 0 });
+    while reader.left() > 0 {
+        let fault = FrameFault {
+            offset: reader.offset() as u32,
+        };
+        reader.set_missing(fault);
+        let Ok(body) = reader.part() else {
+            return Ok((extents, Some(fault)));
+        };
+        if body.left() > 0 {
+            extents.push(Extent {
+                offset: fault.offset,
+                end: reader.offset() as u32,
+            })?;
+        }
+    }
+    Ok((extents, None))
+}
