@@ -63,11 +63,14 @@ by_rules words here (Some found) =
     let memory = (is_none cfa, Partial causes.NoCfa) ∷ memory_tests words here.registers found (unwrap_or cfa 0) in
     one_test undefined Whole ((expression, Partial causes.Expression) ∷ memory) caller
     ∙ ap (λ (x : Unwound). cond undefined (Ends Whole) x) (
-      one_test expression (Partial causes.Expression) memory caller
-      ∙ ap (λ (x : Unwound). cond expression (Ends (Partial causes.Expression)) x) (by_cfa words here.registers found cfa))
+    one_test expression (Partial causes.Expression) memory caller
+    ∙ ap (λ (x : Unwound). cond expression (Ends (Partial causes.Expression)) x) (by_cfa words here.registers found cfa))
 
 pub one_by_one : (u : Unwinding) (words : Words) (here : Activation) → caller_of u words here ≡ cond (is_in u.region here.pc) (Ends Whole) (caller_if words here.registers (rules_at u.frames here.pc))
 unfolding caller_of
 one_by_one u words here =
     one_test (is_in u.region here.pc) Whole (later_tests words here (rules_at u.frames here.pc)) (caller_by words here (rules_or_none (rules_at u.frames here.pc)))
     ∙ ap (λ (x : Unwound). cond (is_in u.region here.pc) (Ends Whole) x) (by_rules words here (rules_at u.frames here.pc))
+
+pub outside_region : (u : Unwinding) (words : Words) (here : Activation) → is_in u.region here.pc ≡ false → caller_of u words here ≡ caller_if words here.registers (rules_at u.frames here.pc)
+outside_region u words here e = one_by_one u words here ∙ ap (λ (b : Bool). cond b (Ends Whole) (caller_if words here.registers (rules_at u.frames here.pc))) e

@@ -1,5 +1,7 @@
--- The caller of an activation by the rules of call frame information (DWARF 5, section 6.4.4; RISC-V psABI, "DWARF register numbers").
-use Rattle.std.specs.Prelude.{ℕ, ◌+◌, ◌-◌, ◌%◌, ◌^◌, ◌==◌, ◌||◌, Bool, true, false, List, [], ◌∷◌, map, get_or, slice_set, find, Option, Some, None}
+-- The caller of an activation by the rules of call frame information (DWARF 5, section 6.4.4; RISC-V psABI, "DWARF
+-- register numbers").
+use Rattle.std.specs.Prelude.{ℕ, ◌+◌, ◌-◌, ◌%◌, ◌^◌, ◌==◌, ◌||◌, Bool, true, false, List, [], ◌∷◌, map, get_or}
+use Rattle.std.specs.Prelude.{slice_set, find, Option, Some, None}
 use Rattle.std.specs.Prelude.{is_none, unwrap_or, option_map}
 use Rattle.std.specs.List.{list_any, range_with_len}
 use Rattle.scope_types.specs.declared.frame.End.{End}
@@ -80,7 +82,8 @@ recovered words registers cfa own rules.Expression = 0
 
 -- of each register, by its rule
 unfoldable pub recovered_all : Words → List ℕ → ℕ → List Rule → List ℕ
-recovered_all words registers cfa regs = map (λ number. recovered words registers cfa (get_or registers number 0) (rule_at regs number)) (range_with_len 0 32)
+recovered_all words registers cfa regs = map (λ number. recovered words registers cfa (get_or registers number 0)
+    (rule_at regs number)) (range_with_len 0 32)
 
 -- x0 is 0, and x2, the stack pointer, is the canonical frame address
 abbrev pub callers_registers : Words → List ℕ → ℕ → List Rule → List ℕ
@@ -109,9 +112,11 @@ cfa_or_zero registers found = unwrap_or (cfa_of registers found.cfa) 0
 
 -- the return address in the caller's registers
 abbrev pub return_address : Words → List ℕ → Rules → ℕ
-return_address words registers found = get_or (callers_registers words registers (cfa_or_zero registers found) found.regs) found.return_register 0
+return_address words registers found = get_or (callers_registers words registers
+    (cfa_or_zero registers found) found.regs) found.return_register 0
 
--- by the rules at the pc, if there are any: each test in its order, and how the path ends where it is the first that holds
+-- by the rules at the pc, if there are any: each test in its order, and how the path ends where it is the first that
+-- holds
 abbrev pub end_tests : Unwinding → Words → Activation → Option Rules → List (Bool × End)
 end_tests u words here found =
     let rules = rules_or_none found in
@@ -138,4 +143,5 @@ unwound_as (Some end) caller = Ends end
 -- the caller of an activation, or how the path ends there (and a path that has no room for the caller is partial)
 unfoldable pub caller_of : Unwinding → Words → Activation → Unwound
 caller_of u words here =
-    unwound_as (first_end (end_tests u words here (rules_at u.frames here.pc))) (caller_by words here (rules_or_none (rules_at u.frames here.pc)))
+    unwound_as (first_end (end_tests u words here (rules_at u.frames here.pc)))
+    (caller_by words here (rules_or_none (rules_at u.frames here.pc)))

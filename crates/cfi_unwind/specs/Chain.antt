@@ -28,7 +28,8 @@ pub record IsCut (most : ℕ) (u : Unwinding) (words : Words) (last : Activation
   pub full : length path.frames ≡ most
   pub depth : path.end ≡ Partial causes.Depth
 
--- the frames are those of an activation and its callers, up to the first that has none, which says how the path ends; or so many of them
+-- the frames are those of an activation and its callers, up to the first that has none, which says how the path ends;
+-- or so many of them
 pub record IsPath (most : ℕ) (u : Unwinding) (words : Words) (here : Activation) (path : Raw) : Type 0 where
   pub outer : List Activation
   pub callers : AreCallers u words here outer
@@ -38,8 +39,10 @@ pub record IsPath (most : ℕ) (u : Unwinding) (words : Words) (here : Activatio
 
 -- a path as it is defined is one
 abbrev pub PathsAreChains : Type 0
-PathsAreChains = (u : Unwinding) (pc : ℕ) (registers : List ℕ) (words : Words) → IsPath most_frames u words (record { pc = pc; registers = registers }) (path_of u pc registers words)
+PathsAreChains = (u : Unwinding) (pc : ℕ) (registers : List ℕ) (words : Words)
+    → IsPath most_frames u words (record { pc = pc; registers = registers }) (path_of u pc registers words)
 
 -- and there is no other
 abbrev pub ChainsArePaths : Type 0
-ChainsArePaths = (u : Unwinding) (pc : ℕ) (registers : List ℕ) (words : Words) (path : Raw) → IsPath most_frames u words (record { pc = pc; registers = registers }) path → path ≡ path_of u pc registers words
+ChainsArePaths = (u : Unwinding) (pc : ℕ) (registers : List ℕ) (words : Words) (path : Raw)
+    → IsPath most_frames u words (record { pc = pc; registers = registers }) path → path ≡ path_of u pc registers words

@@ -23,7 +23,8 @@ outside again (Ends end) = record { end = end; frames = [] }
 -- the path from an activation outwards, where it may have so many frames: where another one has no room, it is partial
 unfoldable pub path_from : ℕ → Unwinding → Words → Activation → Raw
 path_from zero u words here = record { end = Partial causes.Depth; frames = [] }
-path_from (suc n) u words here = within here.pc (outside (λ caller. path_from n u words caller) (caller_of u words here))
+path_from (suc n) u words here = within here.pc (outside (λ caller. path_from n u words caller)
+    (caller_of u words here))
 
 -- the path of an instruction at a pc with the registers and the memory before it
 abbrev pub path_of : Unwinding → ℕ → List ℕ → Words → Raw

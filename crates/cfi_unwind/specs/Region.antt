@@ -1,5 +1,6 @@
 -- Where a program's first procedure lies. No frame of it has a caller.
-use Rattle.std.specs.Prelude.{ℕ, ◌+◌, ◌++◌, ◌&&◌, Bool, nat_le, nat_lt, min, List, map, find, Option, Some, None, if◌then◌else◌}
+use Rattle.std.specs.Prelude.{ℕ, ◌+◌, ◌++◌, ◌&&◌, Bool, nat_le, nat_lt, min, List, map, find, Option, Some, None}
+use Rattle.std.specs.Prelude.{if◌then◌else◌}
 use Rattle.elf_image.specs.declared.part.Segment.{Segment}
 use Rattle.elf_image.specs.Image.{FunctionSymbol, ProgramImage, in_function, in_segment, is_executable}
 use Rattle.cfi_table.specs.Frames.{Frames, least_above}
@@ -13,11 +14,13 @@ abbrev pub at_most : ℕ → Option ℕ → ℕ
 at_most most None = most
 at_most most (Some number) = min most number
 
--- from the entry to the least of these: the end of its executable segment, and each start above the entry; empty where it is in no such segment
+-- from the entry to the least of these: the end of its executable segment, and each start above the entry; empty where
+-- it is in no such segment
 abbrev pub region_in : Frames → ProgramImage → Option Segment → ℕ × ℕ
 region_in frames image None = (image.entry, image.entry)
 region_in frames image (Some segment) =
-    if is_executable segment then (image.entry, at_most segment.end (least_above image.entry (starts frames image))) else (image.entry, image.entry)
+    if is_executable segment then (image.entry, at_most segment.end (least_above image.entry (starts frames image)))
+    else (image.entry, image.entry)
 
 -- the extent of the function symbol that holds the entry, if there is one
 abbrev pub region_by : Frames → ProgramImage → Option FunctionSymbol → ℕ × ℕ

@@ -4,7 +4,8 @@ ghost use Rattle.std.specs.List.{list_any};
 ghost use Rattle.cfi_table.specs.Rules.{rule_at};
 ghost use Rattle.scope_types.specs.Raw.{Raw};
 ghost use Rattle.cfi_unwind.specs.private.Prepared.{after};
-ghost use Rattle.cfi_unwind.specs.Caller.{is_undefined, is_expression, has_expression, cfa_of, is_unmapped, recovered, recovered_all, callers_registers, sum};
+ghost use Rattle.cfi_unwind.specs.Caller.{is_undefined, is_expression, has_expression, cfa_of, is_unmapped, recovered};
+ghost use Rattle.cfi_unwind.specs.Caller.{recovered_all, callers_registers, sum};
 ghost use Rattle.cfi_unwind.specs.private.Stepwise.{caller_at, caller_over, caller_from};
 
 use cfi_table::{Cfa, Rule, Rules};
@@ -78,7 +79,8 @@ pub(crate) fn recovered<L: Look>(
     own: u32,
     rule: &Rule,
 ) -> Option<u32>
-    ensures { result ≡ (if is_unmapped (L.words memory.now) cfa rule.now then None else Some (recovered (L.words memory.now) registers.now cfa own rule.now)) }
+    ensures { result ≡ (if is_unmapped (L.words memory.now) cfa rule.now then None
+        else Some (recovered (L.words memory.now) registers.now cfa own rule.now)) }
 {
     match *rule {
         Rule::Kept => Some(own),
@@ -97,7 +99,8 @@ fn recovered_all<L: Look>(
     cfa: u32,
     rules: &[Rule; 32],
 ) -> Option<[u32; 32]>
-    ensures { result ≡ (if list_any (is_unmapped (L.words memory.now) cfa) rules.now then None else Some (recovered_all (L.words memory.now) registers.now cfa rules.now)) }
+    ensures { result ≡ (if list_any (is_unmapped (L.words memory.now) cfa) rules.now then None
+        else Some (recovered_all (L.words memory.now) registers.now cfa rules.now)) }
 {
     let mut values = *registers;
     for number in 0..32usize {
@@ -109,7 +112,8 @@ fn recovered_all<L: Look>(
 /// Where the caller stands whose registers these are: at its call, which lies 4 below the return
 /// address. `None` where that is 0.
 pub(crate) fn call_of(registers: &[u32; 32], return_register: u8) -> Option<u32>
-    ensures { result ≡ (if get_or registers.now return_register 0 == 0 then None else Some (sum (get_or registers.now return_register 0) (2 ^ 32 - 4))) }
+    ensures { result ≡ (if get_or registers.now return_register 0 == 0 then None
+        else Some (sum (get_or registers.now return_register 0) (2 ^ 32 - 4))) }
 {
     let address = value_of(registers, return_register);
     if address == 0 {

@@ -1,5 +1,6 @@
 //! The steps at a program's addresses, made ready before any path is looked for.
-ghost use Rattle.std.specs.Prelude.{◌≡◌, ◌+◌, ◌<◌, ◌≤◌, ◌^◌, ◌*◌, IfOk, IfSome, length, true};
+ghost use Rattle.std.specs.Prelude.{◌≡◌, ◌+◌, ◌<◌, ◌≤◌, ◌^◌, ◌*◌, IfOk, IfSome, length, slice_get, true};
+ghost use Rattle.std.specs.Option.{option_copied};
 ghost use Rattle.cfi_table.specs.Frames.{rules_at};
 ghost use Rattle.cfi_unwind.specs.private.Prepared.{Follows};
 ghost use Rattle.cfi_table.specs.Frames.{Frames};
@@ -119,6 +120,18 @@ fn rules_within(table: &FrameTable, pc: u32, left: &mut u64) -> Option<Option<Ru
     table.rules_at(pc).ok()
 }
 
+fn place_at(places: &[u32], number: usize) -> Option<u32>
+    ensures { result ≡ slice_get places.now number }
+{
+    places.get(number).copied()
+}
+
+fn step_at(steps: &[Step], place: u32) -> Option<&Step>
+    ensures { option_copied result ≡ slice_get steps.now place }
+{
+    steps.get(place as usize)
+}
+
 impl Index {
     /// Adds the rules at the next address.
     fn add(
@@ -131,7 +144,8 @@ impl Index {
         ensures few { length self.new.steps.items ≤ length self.old.steps.items + 1 }
         ensures index { IsGrowing self.old.steps.items latest.now → HasGrown self.old self.new rules.now }
         ensures next { IfOk result (λ done. length self.new.places.items ≡ length self.old.places.items + 1) }
-        ensures grows { IsGrowing self.old.steps.items latest.now → IfOk result (λ done. IsGrowing self.new.steps.items rules.now) }
+        ensures grows { IsGrowing self.old.steps.items latest.now
+            → IfOk result (λ done. IsGrowing self.new.steps.items rules.now) }
     {
         let place = place_of(alloc, &mut self.steps, latest, rules)?;
         self.places.push(place)?;
@@ -165,13 +179,14 @@ impl Index {
 
     /// The step at an address, if it was made ready.
     pub(crate) fn at(&self, pc: u32) -> Option<&Step>
-        ensures { (frames : Frames) → IsIndex frames self.now → IfSome result (λ step. Follows step.now (rules_at frames pc)) }
+        ensures { (frames : Frames) → IsIndex frames self.now
+            → IfSome result (λ step. Follows step.now (rules_at frames pc)) }
     {
         let word = pc / 4;
         if pc % 4 != 0 || word < self.first {
             return None;
         }
-        let place = self.places.get((word - self.first) as usize)?;
-        self.steps.get(*place as usize)
+        let place = place_at(&self.places, (word - self.first) as usize)?;
+        step_at(&self.steps, place)
     }
 }

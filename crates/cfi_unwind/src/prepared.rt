@@ -3,7 +3,8 @@
 ghost use Rattle.std.specs.Prelude.{◌≡◌, IfOk, MatchBool, get_or, false, true};
 ghost use Rattle.std.specs.List.{list_any, slice_set};
 ghost use Rattle.cfi_unwind.specs.Caller.{sum};
-ghost use Rattle.cfi_unwind.specs.private.Prepared.{is_kept, after, changed, is_unmapped_change, moved, stepped, AreChanges, Follows, FollowsSome};
+ghost use Rattle.cfi_unwind.specs.private.Prepared.{is_kept, after, changed, is_unmapped_change, moved, stepped};
+ghost use Rattle.cfi_unwind.specs.private.Prepared.{AreChanges, Follows, FollowsSome};
 
 use crate::caller::{call_of, has_expression, is_outermost, recovered, value_of};
 use cfi_table::{Cfa, Rule, Rules};
@@ -98,7 +99,9 @@ fn put(registers: &mut [u32; 32], number: u8, value: u32)
 /// Makes the changes. False where a register is saved where no word can be loaded; the registers are
 /// then of no use.
 fn change_all<L: Look>(memory: &L, registers: &mut [u32; 32], cfa: u32, changes: &[Change]) -> bool
-    ensures { MatchBool result ((list_any (is_unmapped_change (L.words memory.now) cfa) changes.now ≡ false) × (registers.new ≡ changed (L.words memory.now) registers.old cfa changes.now registers.old)) (list_any (is_unmapped_change (L.words memory.now) cfa) changes.now ≡ true) }
+    ensures { MatchBool result ((list_any (is_unmapped_change (L.words memory.now) cfa) changes.now ≡ false)
+        × (registers.new ≡ changed (L.words memory.now) registers.old cfa changes.now registers.old))
+        (list_any (is_unmapped_change (L.words memory.now) cfa) changes.now ≡ true) }
 {
     let before = *registers;
     for change in changes {
@@ -113,7 +116,8 @@ fn change_all<L: Look>(memory: &L, registers: &mut [u32; 32], cfa: u32, changes:
 
 impl Move {
     fn go<L: Look>(&self, memory: &L, registers: &mut [u32; 32]) -> Result<u32, End>
-        ensures { after result registers.new ≡ moved (L.words memory.now) registers.old self.now (sum (get_or registers.old self.now.cfa_register 0) self.now.cfa_offset) }
+        ensures { after result registers.new ≡ moved (L.words memory.now) registers.old self.now
+            (sum (get_or registers.old self.now.cfa_register 0) self.now.cfa_offset) }
     {
         let cfa = value_of(registers, self.cfa_register).wrapping_add(self.cfa_offset);
         if !change_all(memory, registers, cfa, self.changes.as_slice()) {

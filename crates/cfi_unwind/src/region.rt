@@ -2,7 +2,7 @@
 ghost use Rattle.std.specs.Prelude.{◌≡◌, ◌++◌, ℕ, List, map};
 ghost use Rattle.elf_image.specs.Image.{symbol_view};
 ghost use Rattle.cfi_table.specs.Frames.{least_above};
-ghost use Rattle.cfi_unwind.specs.Region.{entry_region, at_most};
+ghost use Rattle.cfi_unwind.specs.Region.{entry_region, at_most, is_in};
 
 use cfi_table::FrameTable;
 use elf_image::{Function, Image};
@@ -20,7 +20,8 @@ fn at_most(most: u32, number: Option<u32>) -> u32
 /// The least start above `low` among the functions and those that were looked at before, of which
 /// `least` is the least.
 fn least_start(functions: &[Function<'_>], low: u32, least: Option<u32>) -> Option<u32>
-    ensures { (before : List ℕ) → least ≡ least_above low before → result ≡ least_above low (before ++ map (λ f. f.start) (map symbol_view functions.now)) }
+    ensures { (before : List ℕ) → least ≡ least_above low before → result
+        ≡ least_above low (before ++ map (λ f. f.start) (map symbol_view functions.now)) }
 {
     let mut result = least;
     for function in functions {
@@ -49,4 +50,11 @@ pub(crate) fn entry_region(table: &FrameTable, image: &Image<'_>) -> (u32, u32)
         }
         _ => (entry, entry),
     }
+}
+
+/// Whether the address lies in the region.
+pub(crate) fn is_in(region: (u32, u32), address: u32) -> bool
+    ensures { result ≡ is_in (region.0, region.1) address }
+{
+    region.0 <= address && address < region.1
 }

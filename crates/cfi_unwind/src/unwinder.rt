@@ -8,7 +8,7 @@ ghost use Rattle.cfi_unwind.specs.Path.{path_of, unwinding_of};
 
 use crate::caller::caller_to;
 use crate::index::Index;
-use crate::region::entry_region;
+use crate::region::{entry_region, is_in};
 use cfi_table::FrameTable;
 use elf_image::Image;
 use prof_bytes::Memory;
@@ -70,7 +70,8 @@ impl<'a> Unwinder<'a> {
         pc: u32,
         registers: &mut [u32; 32],
     ) -> Result<Result<u32, End>, Memory>
-        ensures { IfOk result (λ next. after next registers.new ≡ caller_if (L.words memory.now) registers.old (rules_at self.now.frames pc)) }
+        ensures { IfOk result (λ next. after next registers.new
+            ≡ caller_if (L.words memory.now) registers.old (rules_at self.now.frames pc)) }
     {
         match self.table.rules_at(pc)? {
             Some(rules) => Ok(caller_to(memory, registers, &rules)),
@@ -87,9 +88,10 @@ impl<'a> Unwinder<'a> {
         pc: u32,
         registers: &mut [u32; 32],
     ) -> Result<Result<u32, End>, Memory>
-        ensures { IfOk result (λ next. after next registers.new ≡ caller_of self.now (L.words memory.now) (record { pc = pc; registers = registers.old })) }
+        ensures { IfOk result (λ next. after next registers.new
+            ≡ caller_of self.now (L.words memory.now) (record { pc = pc; registers = registers.old })) }
     {
-        if self.region.0 <= pc && pc < self.region.1 {
+        if is_in(self.region, pc) {
             return Ok(Err(End::Whole));
         }
         match self.index.at(pc) {

@@ -19,7 +19,8 @@ KeepsSteps steps after = (place : ℕ) (found : Option Rules) → IsAt steps pla
 
 -- the places from an address on are those of steps that follow the rules there
 abbrev pub ArePlaces : Frames → ℕ → List ℕ → List Step → Type 0
-ArePlaces frames first places steps = (k : ℕ) → k < length places → IsAt steps (get_or places k 0) (rules_at frames (4 * (first + k)))
+ArePlaces frames first places steps = (k : ℕ) → k < length places
+    → IsAt steps (get_or places k 0) (rules_at frames (4 * (first + k)))
 
 abbrev pub IsIndex : Frames → Index → Type 0
 IsIndex frames index = ArePlaces frames index.first index.places.items index.steps.items
@@ -30,4 +31,6 @@ IsGrowing steps latest = (place : ℕ) → place + 1 ≡ length steps → IsAt s
 
 -- it is an index still, where the rules are those at the address behind it
 abbrev pub HasGrown : Index → Index → Option Rules → Type 0
-HasGrown index after found = (frames : Frames) → IsIndex frames index → found ≡ rules_at frames (4 * (index.first + length index.places.items)) → IsIndex frames after × (after.first ≡ index.first)
+HasGrown index after found = (frames : Frames) → IsIndex frames index → found
+    ≡ rules_at frames (4 * (index.first + length index.places.items)) → IsIndex frames after
+    × (after.first ≡ index.first)
