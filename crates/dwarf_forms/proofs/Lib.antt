@@ -4,3 +4,4 @@ pub mod Runs
 pub mod Past
 pub mod Moves
 pub mod FormMoves
+pub mod Rooms

@@ -8,6 +8,7 @@
 pub mod constants;
 mod declaration;
 mod encoding;
+mod laws;
 mod read;
 mod section;
 mod table;
@@ -15,6 +16,7 @@ mod value;
 
 pub use declaration::{Abbrev, Abbrevs, BadTable, Spec, Specs};
 pub use encoding::is_value_form;
+pub use laws::a_byte_an_item;
 pub use read::{read_form, read_value};
 pub use section::{reader_at, text_in, wrapped};
 pub use table::read_abbrevs;

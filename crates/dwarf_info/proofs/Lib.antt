@@ -7,3 +7,4 @@ pub mod EntryIndices
 pub mod UnitEntries
 pub mod CodedEntries
 pub mod UnitMoves
+pub mod Rooms

@@ -5,7 +5,9 @@ pub const DW_TAG_formal_parameter: u64 = 0x05;
 pub const DW_TAG_lexical_block: u64 = 0x0b;
 
 pub const DW_TAG_member: u64 = 0x0d;
+
 pub const DW_TAG_compile_unit: u64 = 0x11;
+
 pub const DW_TAG_structure_type: u64 = 0x13;
 
 pub const DW_TAG_inlined_subroutine: u64 = 0x1d;
