@@ -1,6 +1,6 @@
 -- Each item takes a byte or more, so more room than there are bytes changes nothing.
 use Rattle.std.proofs.Common.{◌≡◌, ℕ, zero, suc, ◌+◌, ◌≤◌, Bool, true, false, List, [], ◌∷◌, length, Option, Some, None, Result, Ok, Err}
-use Rattle.std.proofs.Common.{refl, sym, ap, ◌∙◌, arith, ◌==◌, pos}
+use Rattle.std.proofs.Common.{refl, ap, ◌∙◌, arith, ◌==◌, pos}
 use Rattle.std.specs.Prelude.{if◌then◌else◌, not}
 use Rattle.prof_bytes.specs.Fields.{Input, taken, number_from, uleb_from, sleb_from}
 use Rattle.prof_bytes.specs.Leb.{uleb_at}

@@ -1,19 +1,18 @@
 -- Each entry, unit and entry of a range list takes a byte or more, so more room than there are bytes changes nothing.
-use Rattle.std.proofs.Common.{◌≡◌, ℕ, ◌+◌, ◌≤◌, List, [], ◌∷◌, length, Option, Some, None, Result, Ok, Err, refl, arith, ◌==◌}
+use Rattle.std.proofs.Common.{◌≡◌, ℕ, ◌+◌, ◌≤◌, List, [], ◌∷◌, length, Option, Some, None, Result, Ok, Err, arith, ◌==◌}
 use Rattle.prof_bytes.specs.Fields.{Input, number_from, uleb_from}
 use Rattle.prof_bytes.specs.Reading.{left_of}
 use Rattle.prof_bytes.specs.Outcome.{◌>>=◌}
 use Rattle.dwarf_forms.specs.declared.declaration.Abbrev.{Abbrev}
 use Rattle.dwarf_forms.specs.declared.declaration.Spec.{Spec}
 use Rattle.dwarf_forms.specs.Lists.{list_from}
-use Rattle.dwarf_forms.specs.Runs.{Step, run_from}
+use Rattle.dwarf_forms.specs.Runs.{run_from}
 use Rattle.dwarf_forms.specs.Values.{value_from}
 use Rattle.dwarf_forms.proofs.FormMoves.{value_moves}
 use Rattle.dwarf_forms.proofs.Moves.{Moves, number_moves, uleb_moves, moves_then, moves_less, moves_if, stays}
 use Rattle.dwarf_forms.proofs.Rooms.{Takes, Misses, StepMoves, step_then, step_if, same_list, same_run, byte_misses, misses_first}
 use Rattle.dwarf_info.specs.declared.constants.TheConstants.{DW_RLE_end_of_list, DW_RLE_base_addressx, DW_RLE_startx_endx, DW_RLE_startx_length}
 use Rattle.dwarf_info.specs.declared.constants.TheConstants.{DW_RLE_offset_pair, DW_RLE_base_address, DW_RLE_start_end, DW_RLE_start_length}
-use Rattle.dwarf_info.specs.declared.entry.InfoEntry.{InfoEntry}
 use Rattle.dwarf_info.specs.declared.entry.UnitBases.{UnitBases}
 use Rattle.dwarf_info.specs.declared.unit_header.UnitHeader.{UnitHeader}
 use Rattle.dwarf_info.specs.declared.fault.InfoFault.{InfoFault}
