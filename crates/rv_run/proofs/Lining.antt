@@ -33,22 +33,6 @@ last (byte ∷ next ∷ rest) others some =
     ap (λ (b : Bool). cond b ([] ∷ lines (next ∷ rest)) (with_first byte (lines (next ∷ rest)))) (others 0 (omega arith))
     ∙ ap (with_first byte) (last (next ∷ rest) (λ k less. others (suc k) (omega arith)) (omega arith))
 
-drop_nil : (n : ℕ) → drop {A = ℕ} n [] ≡ []
-drop_nil zero = refl
-drop_nil (suc n) = refl
-
-drop_drop : (bytes : List ℕ) (place end : ℕ) → drop (suc end) (drop place bytes) ≡ drop (place + suc end) bytes
-drop_drop bytes zero end = ap (λ (n : ℕ). drop n bytes) (let e : suc end ≡ 0 + suc end = omega arith in e)
-drop_drop [] (suc place) end = sym (drop_nil (suc place + suc end))
-drop_drop (byte ∷ rest) (suc place) end = drop_drop rest place end ∙ ap (λ (n : ℕ). drop n (byte ∷ rest)) (let e : suc (place + suc end) ≡ suc place + suc end = omega arith in e)
-
-pub lines-cut : (bytes : List ℕ) (place end : ℕ) → position is_feed (drop place bytes) ≡ Some end
-    → lines (drop place bytes) ≡ take end (drop place bytes) ∷ lines (drop (place + (end + 1)) bytes)
-lines-cut bytes place end found =
-    let at : (end < length (drop place bytes)) × (is_feed (get_or (drop place bytes) end 0) ≡ true) × ((k : ℕ) → k < end → is_feed (get_or (drop place bytes) k 0) ≡ false) = position-Some is_feed (drop place bytes) end 0 found in
-    cut (drop place bytes) end at.0 at.1 at.2
-    ∙ ap (λ (rest : List ℕ). take end (drop place bytes) ∷ lines rest) (drop_drop bytes place end ∙ ap (λ (n : ℕ). drop (place + n) bytes) (let e : suc end ≡ end + 1 = omega arith in e))
-
 none-passes : (p : ℕ → Bool) (xs : List ℕ) → position p xs ≡ None → (k : ℕ) → k < length xs → p (get_or xs k 0) ≡ false
 none-passes p xs none k less =
     elim (cases_lt (position_or_len p xs) (length xs)) [
@@ -60,28 +44,21 @@ drop_all : (bytes : List ℕ) → drop (length bytes) bytes ≡ []
 drop_all [] = refl
 drop_all (byte ∷ rest) = drop_all rest
 
-left-some : (bytes : List ℕ) (place : ℕ) → place < length bytes → 0 < length (drop place bytes)
-left-some [] place within = absurd (omega arith)
-left-some (byte ∷ rest) zero within = omega arith
-left-some (byte ∷ rest) (suc place) within = left-some rest place (omega arith)
+-- the first line, and the bytes behind it
+pub split-some : (bytes : List ℕ) (end : ℕ) → position is_feed bytes ≡ Some end → lines bytes ≡ take end bytes ∷ lines (drop (end + 1) bytes)
+split-some bytes end found =
+    let at : (end < length bytes) × (is_feed (get_or bytes end 0) ≡ true) × ((k : ℕ) → k < end → is_feed (get_or bytes k 0) ≡ false) = position-Some is_feed bytes end 0 found in
+    cut bytes end at.0 at.1 at.2 ∙ ap (λ (n : ℕ). take end bytes ∷ lines (drop n bytes)) (let e : suc end ≡ end + 1 = omega arith in e)
 
-pub lines-none : (bytes : List ℕ) (place : ℕ) → place ≡ length bytes → lines (drop place bytes) ≡ []
+pub split-none : (bytes : List ℕ) → position is_feed bytes ≡ None → 0 < length bytes → lines bytes ≡ bytes ∷ lines (drop (length bytes) bytes)
 unfolding lines
-lines-none bytes place end = ap (λ (n : ℕ). lines (drop n bytes)) end ∙ ap lines (drop_all bytes)
+split-none bytes none some =
+    last bytes (none-passes is_feed bytes none) some ∙ ap (λ (rest : List ℕ). bytes ∷ lines rest) (sym (drop_all bytes))
 
-pub lines-last : (bytes : List ℕ) (place : ℕ) → position is_feed (drop place bytes) ≡ None → place < length bytes → lines (drop place bytes) ≡ drop place bytes ∷ lines (drop (length bytes) bytes)
-lines-last bytes place none within =
-    last (drop place bytes) (none-passes is_feed (drop place bytes) none) (left-some bytes place within)
-    ∙ ap (λ (rest : List (List ℕ)). drop place bytes ∷ rest) (sym (lines-none bytes (length bytes) refl))
-
--- the same, where the bytes that are left are given as they are
-pub left-cut : (bytes left : List ℕ) (place end : ℕ) → left ≡ drop place bytes → position is_feed left ≡ Some end → lines (drop place bytes) ≡ take end left ∷ lines (drop (place + (end + 1)) bytes)
-left-cut bytes left place end is found =
-    lines-cut bytes place end (sym (ap (position is_feed) is) ∙ found) ∙ ap (λ (xs : List ℕ). take end xs ∷ lines (drop (place + (end + 1)) bytes)) (sym is)
-
-pub left-last : (bytes left : List ℕ) (place : ℕ) → left ≡ drop place bytes → position is_feed left ≡ None → place < length bytes → lines (drop place bytes) ≡ left ∷ lines (drop (length bytes) bytes)
-left-last bytes left place is none within =
-    lines-last bytes place (sym (ap (position is_feed) is) ∙ none) within ∙ ap (λ (xs : List ℕ). xs ∷ lines (drop (length bytes) bytes)) (sym is)
+pub no-lines : (bytes : List ℕ) → length bytes ≡ 0 → lines bytes ≡ []
+unfolding lines
+no-lines [] none = refl
+no-lines (byte ∷ rest) none = absurd (omega arith)
 
 -- a text whose next line is this one, with these after it; and one that has none
 numbered-length : (first : ℕ) (all : List (List ℕ)) → length (numbered first all) ≡ length all

@@ -1,5 +1,5 @@
 //! The lines of a text, one after another.
-ghost use Rattle.std.specs.Prelude.{◌≡◌, ◌==◌, ◌<◌, ◌≤◌, ◌^◌, [], IfSome, None, length, position};
+ghost use Rattle.std.specs.Prelude.{◌≡◌, ◌==◌, ◌<◌, ◌≤◌, ◌^◌, [], ◌∷◌, IfSome, None, length, position};
 ghost use Rattle.rv_run.specs.Schedule.{is_ignored, lines, entries};
 ghost use Rattle.rv_run.specs.private.Reading.{all_lines, to_read, first_of, rest_of, line_told};
 
@@ -15,21 +15,20 @@ pub(crate) struct Line<'a> {
 /// The lines of a text that are still to be read.
 #[derive(Drop)]
 pub(crate) struct Lines<'a> {
-    bytes: &'a [u8],
-    offset: usize,
+    left: &'a [u8],
     done: u32,
 }
 
 impl<'a> Model for Lines<'a> {
-    ghost use Rattle.std.specs.Prelude.{◌≤◌, ◌+◌, ◌^◌, drop, length};
+    ghost use Rattle.std.specs.Prelude.{◌≤◌, ◌+◌, ◌^◌, length};
     ghost use Rattle.rv_run.specs.Schedule.{lines};
-    ghost use Rattle.rv_run.specs.private.Reading.{Unread, IsWithin};
+    ghost use Rattle.rv_run.specs.private.Reading.{Unread};
 
     ghost Value = { Unread };
 
-    ghost view = { λ l. record { done = l.done; rest = lines (drop l.offset l.bytes.now) } };
+    ghost view = { λ l. record { done = l.done; rest = lines l.left.now } };
 
-    ghost invariant = { λ l. IsWithin l.bytes.now l.offset l.done };
+    ghost invariant = { λ l. l.done + length l.left.now ≤ 2 ^ 22 };
 }
 
 fn is_comment(line: &[u8]) -> bool
@@ -48,6 +47,18 @@ fn line_end(bytes: &[u8]) -> Option<usize>
     bytes.iter().position(|byte| *byte == 10)
 }
 
+/// The first line without its line feed, and what stands behind it.
+fn split_line(bytes: &[u8]) -> (&[u8], &[u8])
+    requires { 0 < length bytes.now }
+    ensures lines { lines bytes.now ≡ result.0.now ∷ lines result.1.now }
+    ensures shorter { length result.1.now < length bytes.now }
+{
+    match line_end(bytes) {
+        Some(end) => (&bytes[..end], &bytes[end + 1..]),
+        None => (bytes, &bytes[bytes.len()..]),
+    }
+}
+
 impl<'a> Lines<'a> {
     /// All lines of the text.
     pub(crate) fn of(bytes: &'a [u8]) -> Lines<'a>
@@ -55,8 +66,7 @@ impl<'a> Lines<'a> {
         ensures { result ≡ record { done = 0; rest = lines bytes.now } }
     {
         Lines {
-            bytes,
-            offset: 0,
+            left: bytes,
             done: 0,
         }
     }
@@ -77,27 +87,16 @@ impl<'a> Lines<'a> {
         ensures less { IfSome result (λ _. length self.new.rest < length self.old.rest) }
         ensures end { result ≡ None → self.new.rest ≡ [] }
     {
-        if self.offset == self.bytes.len() {
+        if self.left.is_empty() {
             return None;
         }
-        let left = &self.bytes[self.offset..];
+        let (bytes, left) = split_line(self.left);
+        self.left = left;
         self.done += 1;
-        match line_end(left) {
-            Some(end) => {
-                self.offset += end + 1;
-                Some(Line {
-                    number: self.done,
-                    bytes: &left[..end],
-                })
-            }
-            None => {
-                self.offset = self.bytes.len();
-                Some(Line {
-                    number: self.done,
-                    bytes: left,
-                })
-            }
-        }
+        Some(Line {
+            number: self.done,
+            bytes,
+        })
     }
 
     /// The next line that is not ignored, if there is one.

@@ -1,5 +1,5 @@
 -- What is still to be read of a text, line by line.
-use Rattle.std.specs.Prelude.{ℕ, ◌+◌, ◌≤◌, ◌^◌, List, [], ◌∷◌, length, Option, Some, None, option_map}
+use Rattle.std.specs.Prelude.{ℕ, ◌+◌, List, [], ◌∷◌, length, Option, Some, None, option_map}
 use Rattle.rv_run.specs.declared.lines.Line.{Line}
 use Rattle.rv_run.specs.Schedule.{NumberedLine, numbered}
 
@@ -30,9 +30,3 @@ numbered_line line = record { number = line.number; bytes = line.bytes.now }
 
 abbrev pub line_told : Option Line → Option NumberedLine
 line_told line = option_map numbered_line line
-
--- lines that were read take a byte each at least
-pub record IsWithin (bytes : List ℕ) (offset done : ℕ) : Type 0 where
-  pub offset_in : offset ≤ length bytes
-  pub done_few : done ≤ offset
-  pub size : length bytes ≤ 2 ^ 22
