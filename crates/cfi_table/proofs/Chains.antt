@@ -1,5 +1,5 @@
 -- A chain of entries, one more at a time.
-use Rattle.std.proofs.Common.{◌≡◌, ℕ, zero, suc, ◌+◌, ◌-◌, ◌≤◌, ◌<◌, ◌^◌, Bool, true, false, cond, List, [], ◌∷◌, ◌++◌, length, length-drop, map, Option, Some, None, Result, Ok, Err, refl, sym, ap, subst, ◌∙◌, append_assoc, arith}
+use Rattle.std.proofs.Common.{◌≡◌, ℕ, zero, suc, ◌+◌, ◌-◌, ◌≤◌, ◌<◌, Bool, true, false, cond, List, [], ◌∷◌, ◌++◌, length, length-drop, map, Option, Some, None, Result, Ok, Err, refl, sym, ap, subst, ◌∙◌, append_assoc, arith}
 use Rattle.std.specs.Prelude.{◌==◌, ◌||◌, All, nat_lt, nat_le}
 use Rattle.std.proofs.lemmas.Bool.Decides.{nat_tests}
 use Rattle.std.proofs.lemmas.List.{append-nil}
@@ -75,8 +75,8 @@ follows input body rest e = from (nat_lt (length (left_of input.at)) 4) refl (nu
 
     from : (b : Bool) → nat_lt (length (left_of input.at)) 4 ≡ b → (n : ℕ)
         → (taken input (cond b None (Some (n, 4)))
-          >>= (λ sized. (let u : Reading ℕ = cond (nat_le first_reserved_length sized.0 || nat_lt (length (left_of sized.1.at)) sized.0) (Err input.missing) (Ok (sized.0, sized.1)) in u))
-          >>= λ sized. parted sized.0 sized.1) ≡ Ok (body, rest)
+        >>= (λ sized. (let u : Reading ℕ = cond (nat_le first_reserved_length sized.0 || nat_lt (length (left_of sized.1.at)) sized.0) (Err input.missing) (Ok (sized.0, sized.1)) in u))
+        >>= λ sized. parted sized.0 sized.1) ≡ Ok (body, rest)
         → Follows input rest
     from true four n e = absurd cc
     from false four n e = sized (nat_le first_reserved_length n) (nat_lt (length (left_of mid.at)) n) n four refl e
@@ -202,16 +202,13 @@ fault_is input fault e = from (nat_lt (length (left_of input.at)) 4) (number_in 
 
     from : (b : Bool) (n : ℕ)
         → (taken input (cond b None (Some (n, 4)))
-          >>= (λ sized. (let u : Reading ℕ = cond (nat_le first_reserved_length sized.0 || nat_lt (length (left_of sized.1.at)) sized.0) (Err input.missing) (Ok (sized.0, sized.1)) in u))
-          >>= λ sized. parted sized.0 sized.1) ≡ Err fault
+        >>= (λ sized. (let u : Reading ℕ = cond (nat_le first_reserved_length sized.0 || nat_lt (length (left_of sized.1.at)) sized.0) (Err input.missing) (Ok (sized.0, sized.1)) in u))
+        >>= λ sized. parted sized.0 sized.1) ≡ Err fault
         → fault ≡ input.missing
     from true n e = err_is _ _ e
     from false n e = sized (nat_le first_reserved_length n || nat_lt (length (left_of (moved 4 input.at))) n) n (record input { at = moved 4 input.at }) e
 
 -- ---- entries lie one behind the other
-
-
-
 
 chain_rises : (n : ℕ) (input : Input FrameFault) → AreRising input.at.offset (map (λ e. e.offset) (chain_from n input).0)
 unfolding chain_from

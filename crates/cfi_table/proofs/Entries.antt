@@ -17,9 +17,8 @@ use Rattle.cfi_table.specs.declared.fde.Fde.{Fde}
 use Rattle.cfi_table.specs.declared.known_cie.KnownCie.{KnownCie}
 use Rattle.cfi_table.specs.declared.entry.FrameEntry.{FrameEntry}
 use Rattle.cfi_table.specs.declared.entry.FrameEntry.TheVariants as entries
-use Rattle.cfi_table.specs.Instructions.{Reading}
 use Rattle.cfi_table.specs.Rules.{State, no_rules, all_same_value}
-use Rattle.cfi_table.specs.Entries.{body_of, after_cie, cie_from, cie_of, cie_at, is_cie, checked_cie, checked_fde, continued, fde_of, read_entry, instructions_of}
+use Rattle.cfi_table.specs.Entries.{body_of, after_cie, cie_from, cie_at, is_cie, checked_cie, checked_fde, continued, fde_of, read_entry, instructions_of}
 use Rattle.cfi_table.specs.Entries.{extents_of, at_end, entries_of}
 use Rattle.elf_image.specs.declared.part.Segment.{Segment}
 use Rattle.cfi_table.specs.Frames.{Frames, all_ok, counted, frames_of}
@@ -315,9 +314,9 @@ unfolding frames_of entries_of
 frames_read section extents broken segments fdes all whole made =
     let g = given (filter_map (counted segments)) (all_ok (map (read_entry section extents) extents)) fdes made in
     rw (← all, whole) (
-      ap (λ (rs : List (Result FrameEntry FrameFault)). all_ok rs >>= λ read. (let u : Result Frames FrameFault = Ok (record { section = section; fdes = filter_map (counted segments) read }) in u)) (append-nil (map (read_entry section extents) extents))
-      ∙ ap (λ (r : Result (List FrameEntry) FrameFault). r >>= λ read. (let u : Result Frames FrameFault = Ok (record { section = section; fdes = filter_map (counted segments) read }) in u)) g.1
-      ∙ ap (λ (ws : List Fde). Ok (record { section = section; fdes = ws })) g.2)
+    ap (λ (rs : List (Result FrameEntry FrameFault)). all_ok rs >>= λ read. (let u : Result Frames FrameFault = Ok (record { section = section; fdes = filter_map (counted segments) read }) in u)) (append-nil (map (read_entry section extents) extents))
+    ∙ ap (λ (r : Result (List FrameEntry) FrameFault). r >>= λ read. (let u : Result Frames FrameFault = Ok (record { section = section; fdes = filter_map (counted segments) read }) in u)) g.1
+    ∙ ap (λ (ws : List Fde). Ok (record { section = section; fdes = ws })) g.2)
 
 pub frames_broken : (section : List ℕ) (extents : List Extent) (broken : Option FrameFault) (fault : FrameFault) (segments : List Segment) (fdes : List Fde) → (extents, broken) ≡ extents_of section → broken ≡ Some fault
     → viewed (filter_map (counted segments)) (all_ok (map (read_entry section extents) extents)) ≡ Ok fdes → frames_of section segments ≡ Err fault
@@ -325,8 +324,8 @@ unfolding frames_of entries_of
 frames_broken section extents broken fault segments fdes all cut made =
     let g = given (filter_map (counted segments)) (all_ok (map (read_entry section extents) extents)) fdes made in
     rw (← all, cut) (
-      ap (λ (r : Result (List FrameEntry) FrameFault). r >>= λ read. (let u : Result Frames FrameFault = Ok (record { section = section; fdes = filter_map (counted segments) read }) in u))
-      (all_ok_fault (map (read_entry section extents) extents) [] g.0 fault g.1))
+    ap (λ (r : Result (List FrameEntry) FrameFault). r >>= λ read. (let u : Result Frames FrameFault = Ok (record { section = section; fdes = filter_map (counted segments) read }) in u))
+    (all_ok_fault (map (read_entry section extents) extents) [] g.0 fault g.1))
 
 pub frames_fail : (section : List ℕ) (extents : List Extent) (broken : Option FrameFault) (fail : Fail FrameFault) (segments : List Segment) → (extents, broken) ≡ extents_of section
     → FailsBy fail (viewed (filter_map (counted segments)) (all_ok (map (read_entry section extents) extents))) → FailsBy fail (frames_of section segments)
@@ -334,5 +333,5 @@ unfolding frames_of entries_of
 frames_fail section extents broken (fails.Memory memory) segments all failed = tt
 frames_fail section extents broken (fails.Fault fault) segments all failed =
     rw (← all) (
-      ap (λ (r : Result (List FrameEntry) FrameFault). r >>= λ read. (let u : Result Frames FrameFault = Ok (record { section = section; fdes = filter_map (counted segments) read }) in u))
-      (all_ok_early (map (read_entry section extents) extents) (at_end broken) fault (refused (filter_map (counted segments)) (all_ok (map (read_entry section extents) extents)) fault failed)))
+    ap (λ (r : Result (List FrameEntry) FrameFault). r >>= λ read. (let u : Result Frames FrameFault = Ok (record { section = section; fdes = filter_map (counted segments) read }) in u))
+    (all_ok_early (map (read_entry section extents) extents) (at_end broken) fault (refused (filter_map (counted segments)) (all_ok (map (read_entry section extents) extents)) fault failed)))

@@ -1,5 +1,5 @@
 -- Each instruction takes at least one byte, and leaves the bytes as they are.
-use Rattle.std.proofs.Common.{◌≡◌, ℕ, ◌+◌, ◌/◌, ◌%◌, ◌≤◌, ◌<◌, Bool, true, false, cond, List, length, Option, Some, None, Result, Ok, Err, refl, subst, ◌∙◌, arith}
+use Rattle.std.proofs.Common.{◌≡◌, ℕ, ◌+◌, ◌/◌, ◌%◌, ◌≤◌, ◌<◌, Bool, true, false, cond, List, length, Option, Some, None, Ok, Err, refl, subst, ◌∙◌, arith}
 use Rattle.std.specs.Prelude.{IfOk, ◌==◌, nat_lt}
 use Rattle.prof_bytes.specs.Outcome.{◌>>=◌}
 use Rattle.prof_bytes.specs.Reading.{left_of, bytes_at}
@@ -14,7 +14,7 @@ use Rattle.cfi_table.specs.declared.constants.TheConstants.{DW_CFA_same_value, D
 use Rattle.cfi_table.specs.declared.constants.TheConstants.{DW_CFA_restore_state, DW_CFA_def_cfa, DW_CFA_def_cfa_register}
 use Rattle.cfi_table.specs.declared.constants.TheConstants.{DW_CFA_def_cfa_offset, DW_CFA_def_cfa_expression, DW_CFA_expression}
 use Rattle.cfi_table.specs.declared.constants.TheConstants.{DW_CFA_offset_extended_sf, DW_CFA_def_cfa_sf, DW_CFA_def_cfa_offset_sf}
-use Rattle.cfi_table.specs.declared.constants.TheConstants.{DW_CFA_val_offset, DW_CFA_val_offset_sf, DW_CFA_val_expression}
+use Rattle.cfi_table.specs.declared.constants.TheConstants.{DW_CFA_val_offset, DW_CFA_val_offset_sf}
 use Rattle.cfi_table.specs.declared.constants.TheConstants.{DW_CFA_GNU_args_size}
 use Rattle.cfi_table.specs.declared.instruction.CallFrameInstruction.{CallFrameInstruction}
 use Rattle.cfi_table.specs.declared.instruction.AlignmentFactors.{AlignmentFactors}

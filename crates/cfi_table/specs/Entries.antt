@@ -1,5 +1,6 @@
 -- The entries of `.debug_frame`: each is read once, to what it is or its fault (DWARF 5, section 6.4.1).
-use Rattle.std.specs.Prelude.{ℕ, ℤ, zero, suc, ◌+◌, ◌-◌, ◌==◌, ◌||◌, ◌&&◌, Bool, false, nat_lt, List, [], ◌∷◌, ◌++◌, length, take, map, find}
+use Rattle.std.specs.Prelude.{ℕ, ℤ, zero, suc, ◌+◌, ◌-◌, ◌==◌, ◌||◌, ◌&&◌, Bool, false, nat_lt, List, [], ◌∷◌, ◌++◌}
+use Rattle.std.specs.Prelude.{length, take, map, find}
 use Rattle.std.specs.Prelude.{Option, Some, None, Result, Ok, Err, if◌then◌else◌}
 use Rattle.prof_bytes.specs.Reading.{left_of}
 use Rattle.prof_bytes.specs.Outcome.{◌>>=◌}
@@ -21,14 +22,16 @@ abbrev pub before_others : Extent → List Extent × Option FrameFault → List 
 before_others e others = (e ∷ others.0, others.1)
 
 -- the bytes that a length counts make an entry; a length of 0 is passed over, and a faulty one ends the section
-abbrev pub chained : Input FrameFault → (Input FrameFault → List Extent × Option FrameFault) → Reading (Input FrameFault)
+abbrev pub chained : Input FrameFault → (Input FrameFault → List Extent × Option FrameFault)
+    → Reading (Input FrameFault)
     → List Extent × Option FrameFault
 chained input others (Err fault) = ([], Some fault)
 chained input others (Ok found) =
     if length (left_of found.0.at) == 0 then others found.1
     else before_others (record { offset = input.at.offset; end = found.1.at.offset }) (others found.1)
 
--- the entries one behind the other, and the fault of the first length that has one, at its offset. At most `room` lengths are read:
+-- the entries one behind the other, and the fault of the first length that has one, at its offset. At most `room`
+-- lengths are read:
 -- as many as there are bytes are enough
 unfoldable pub chain_from : ℕ → Input FrameFault → List Extent × Option FrameFault
 chain_from zero input = ([], None)
@@ -38,11 +41,15 @@ chain_from (suc room) input =
 
 -- the entries of the whole section
 abbrev pub extents_of : List ℕ → List Extent × Option FrameFault
-extents_of section = chain_from (length section) (record { at = record { whole = section; offset = 0 }; missing = record { offset = 0 } })
+extents_of section = chain_from (length section)
+    (record { at = record { whole = section; offset = 0 }; missing = record { offset = 0 } })
 
 -- an entry's bytes behind its length; a field that they lack is a fault at the entry
 abbrev pub body_of : List ℕ → Extent → Input FrameFault
-body_of section e = record { at = record { whole = take e.end section; offset = e.offset + 4 }; missing = record { offset = e.offset } }
+body_of section e = record {
+  at = record { whole = take e.end section; offset = e.offset + 4 };
+  missing = record { offset = e.offset };
+}
 
 -- ---- a CIE's fields. Nothing where it is passed over: its other fields are not read then
 
@@ -53,7 +60,10 @@ register_from version input = if version == 1 then number_from 1 input else uleb
 abbrev pub cie_with : ℕ → ℕ → ℤ → ℕ → Input FrameFault → Option Cie
 cie_with end code_factor data_factor register input =
     if nat_lt register 32 then Some (record {
-      factors = record { code_alignment_factor = word_of code_factor; data_alignment_factor = word_of_signed data_factor };
+      factors = record {
+        code_alignment_factor = word_of code_factor;
+        data_alignment_factor = word_of_signed data_factor;
+      };
       return_address_register = register;
       initial_instructions = record { offset = end - length (left_of input.at); end = end };
     }) else None
@@ -95,16 +105,21 @@ cie_from end input = do
 
 -- instructions as an input
 abbrev pub instructions_of : List ℕ → Extent → Input FrameFault
-instructions_of section e = record { at = record { whole = take e.end section; offset = e.offset }; missing = record { offset = e.offset } }
+instructions_of section e = record {
+  at = record { whole = take e.end section; offset = e.offset };
+  missing = record { offset = e.offset };
+}
 
 -- the rules after a CIE's initial instructions
 unfoldable pub after_cie : List ℕ → Cie → Result State FrameFault
-after_cie section cie = run_all None all_same_value cie.factors (instructions_of section cie.initial_instructions) no_rules
+after_cie section cie = run_all None all_same_value cie.factors
+    (instructions_of section cie.initial_instructions) no_rules
 
 -- the rules after an FDE's instructions, up to the first that moves the location past the limit
 abbrev pub continued : Option ℕ → List ℕ → Fde → State → Result State FrameFault
 continued limit section fde initial =
-    run_all limit initial.regs fde.cie.factors (instructions_of section fde.instructions) (record initial { location = fde.initial_location })
+    run_all limit initial.regs fde.cie.factors (instructions_of section fde.instructions)
+    (record initial { location = fde.initial_location })
 
 unfoldable pub after_fde : Option ℕ → List ℕ → Fde → Result State FrameFault
 after_fde limit section fde = do
@@ -183,7 +198,7 @@ read_entry section extents e = do
   if id == DW_CIE_ID then (do
     cie ← cie_from e.end input
     checked_cie section cie)
-    else fde_by section e input (cie_at section extents id)
+      else fde_by section e input (cie_at section extents id)
 
 -- behind the entries may stand a faulty length
 abbrev pub at_end : Option FrameFault → List (Result FrameEntry FrameFault)
@@ -192,4 +207,5 @@ at_end (Some fault) = Err fault ∷ []
 
 -- the section's entries in their order, each as what it is or its fault
 unfoldable pub entries_of : List ℕ → List (Result FrameEntry FrameFault)
-entries_of section = map (read_entry section (extents_of section).0) (extents_of section).0 ++ at_end (extents_of section).1
+entries_of section = map (read_entry section (extents_of section).0) (extents_of section).0 ++ at_end
+    (extents_of section).1

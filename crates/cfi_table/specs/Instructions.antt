@@ -7,18 +7,27 @@ use Rattle.cfi_table.specs.declared.fault.FrameFault.{FrameFault}
 use Rattle.cfi_table.specs.declared.instruction.AlignmentFactors.{AlignmentFactors}
 use Rattle.cfi_table.specs.declared.instruction.CallFrameInstruction.{CallFrameInstruction}
 use Rattle.cfi_table.specs.declared.instruction.CallFrameInstruction.TheVariants.{Nop, SetLoc, AdvanceLoc}
-use Rattle.cfi_table.specs.declared.instruction.CallFrameInstruction.TheVariants.{DefCfa, DefCfaRegister, DefCfaOffset, DefCfaExpression}
-use Rattle.cfi_table.specs.declared.instruction.CallFrameInstruction.TheVariants.{Undefined, SameValue, Offset, ValOffset, Register}
+use Rattle.cfi_table.specs.declared.instruction.CallFrameInstruction.TheVariants.{DefCfa, DefCfaRegister, DefCfaOffset}
+use Rattle.cfi_table.specs.declared.instruction.CallFrameInstruction.TheVariants.{DefCfaExpression}
+use Rattle.cfi_table.specs.declared.instruction.CallFrameInstruction.TheVariants.{Undefined, SameValue, Offset}
+use Rattle.cfi_table.specs.declared.instruction.CallFrameInstruction.TheVariants.{ValOffset, Register}
 use Rattle.cfi_table.specs.declared.instruction.CallFrameInstruction.TheVariants.{Expression, ValExpression}
 use Rattle.cfi_table.specs.declared.instruction.CallFrameInstruction.TheVariants.{Restore, RememberState, RestoreState}
-use Rattle.cfi_table.specs.declared.constants.TheConstants.{DW_CFA_advance_loc, DW_CFA_offset, DW_CFA_restore, DW_CFA_nop}
-use Rattle.cfi_table.specs.declared.constants.TheConstants.{DW_CFA_set_loc, DW_CFA_advance_loc1, DW_CFA_advance_loc2, DW_CFA_advance_loc4}
-use Rattle.cfi_table.specs.declared.constants.TheConstants.{DW_CFA_offset_extended, DW_CFA_restore_extended, DW_CFA_undefined}
+use Rattle.cfi_table.specs.declared.constants.TheConstants.{DW_CFA_advance_loc, DW_CFA_offset, DW_CFA_restore}
+use Rattle.cfi_table.specs.declared.constants.TheConstants.{DW_CFA_nop}
+use Rattle.cfi_table.specs.declared.constants.TheConstants.{DW_CFA_set_loc, DW_CFA_advance_loc1, DW_CFA_advance_loc2}
+use Rattle.cfi_table.specs.declared.constants.TheConstants.{DW_CFA_advance_loc4}
+use Rattle.cfi_table.specs.declared.constants.TheConstants.{DW_CFA_offset_extended, DW_CFA_restore_extended}
+use Rattle.cfi_table.specs.declared.constants.TheConstants.{DW_CFA_undefined}
 use Rattle.cfi_table.specs.declared.constants.TheConstants.{DW_CFA_same_value, DW_CFA_register, DW_CFA_remember_state}
-use Rattle.cfi_table.specs.declared.constants.TheConstants.{DW_CFA_restore_state, DW_CFA_def_cfa, DW_CFA_def_cfa_register}
-use Rattle.cfi_table.specs.declared.constants.TheConstants.{DW_CFA_def_cfa_offset, DW_CFA_def_cfa_expression, DW_CFA_expression}
-use Rattle.cfi_table.specs.declared.constants.TheConstants.{DW_CFA_offset_extended_sf, DW_CFA_def_cfa_sf, DW_CFA_def_cfa_offset_sf}
-use Rattle.cfi_table.specs.declared.constants.TheConstants.{DW_CFA_val_offset, DW_CFA_val_offset_sf, DW_CFA_val_expression}
+use Rattle.cfi_table.specs.declared.constants.TheConstants.{DW_CFA_restore_state, DW_CFA_def_cfa}
+use Rattle.cfi_table.specs.declared.constants.TheConstants.{DW_CFA_def_cfa_register}
+use Rattle.cfi_table.specs.declared.constants.TheConstants.{DW_CFA_def_cfa_offset, DW_CFA_def_cfa_expression}
+use Rattle.cfi_table.specs.declared.constants.TheConstants.{DW_CFA_expression}
+use Rattle.cfi_table.specs.declared.constants.TheConstants.{DW_CFA_offset_extended_sf, DW_CFA_def_cfa_sf}
+use Rattle.cfi_table.specs.declared.constants.TheConstants.{DW_CFA_def_cfa_offset_sf}
+use Rattle.cfi_table.specs.declared.constants.TheConstants.{DW_CFA_val_offset, DW_CFA_val_offset_sf}
+use Rattle.cfi_table.specs.declared.constants.TheConstants.{DW_CFA_val_expression}
 use Rattle.cfi_table.specs.declared.constants.TheConstants.{DW_CFA_GNU_args_size}
 
 -- a value and the input behind it, or a fault

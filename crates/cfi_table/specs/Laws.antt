@@ -1,4 +1,5 @@
--- As much room as there are bytes is enough for the definitions that read entry by entry and instruction by instruction.
+-- As much room as there are bytes is enough for the definitions that read entry by entry and instruction by
+-- instruction.
 use Rattle.std.specs.Prelude.{◌≡◌, ℕ, ◌≤◌, List, length, Option}
 use Rattle.prof_bytes.specs.Reading.{left_of}
 use Rattle.prof_bytes.specs.Fields.{Input}
@@ -15,5 +16,7 @@ EntriesHaveRoom = (room : ℕ) (input : Input FrameFault) → length (left_of in
 
 -- and so are the rules after instructions
 abbrev pub InstructionsHaveRoom : Type 0
-InstructionsHaveRoom = (room : ℕ) (limit : Option ℕ) (initial : List Rule) (factors : AlignmentFactors) (input : Input FrameFault) (s : State)
-    → length (left_of input.at) ≤ room → run_by (execute initial) (is_past limit) room factors input s ≡ run_all limit initial factors input s
+InstructionsHaveRoom = (room : ℕ) (limit : Option ℕ) (initial : List Rule) (factors : AlignmentFactors)
+    (input : Input FrameFault) (s : State)
+    → length (left_of input.at) ≤ room → run_by (execute initial) (is_past limit) room factors input s
+    ≡ run_all limit initial factors input s

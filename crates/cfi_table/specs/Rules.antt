@@ -1,5 +1,6 @@
 -- The rules that call frame instructions make (DWARF 5, sections 6.4.2 and 6.4.3).
-use Rattle.std.specs.Prelude.{ℕ, ◌+◌, ◌%◌, ◌^◌, ◌==◌, Bool, false, nat_lt, List, [], ◌∷◌, length, zero, suc, replicate, slice_get}
+use Rattle.std.specs.Prelude.{ℕ, ◌+◌, ◌%◌, ◌^◌, ◌==◌, Bool, false, nat_lt, List, [], ◌∷◌, length, zero, suc, replicate}
+use Rattle.std.specs.Prelude.{slice_get}
 use Rattle.std.specs.Prelude.{Option, Some, None, Result, Ok, Err, if◌then◌else◌, unwrap_or}
 use Rattle.std.specs.List.{slice_set}
 use Rattle.std.specs.Option.{option_map_or}
@@ -46,7 +47,8 @@ rule_at regs register = unwrap_or (slice_get regs register) rules.Kept
 
 -- def_cfa: no register above 31
 abbrev pub with_cfa : ℕ → ℕ → State → Option State
-with_cfa register offset s = if nat_lt register 32 then Some (record s { cfa = cfas.Register register offset }) else None
+with_cfa register offset s = if nat_lt register 32 then Some (record s { cfa = cfas.Register register offset })
+    else None
 
 -- def_cfa_register keeps the offset, which is 0 where no rule has been given yet
 abbrev pub with_cfa_register : ℕ → Cfa → State → Option State
@@ -63,7 +65,8 @@ with_cfa_offset offset cfas.Expression s = None
 -- register(R): no source above 31
 abbrev pub with_source : ℕ → ℕ → State → Option State
 with_source register source s =
-    if nat_lt register 32 then (if nat_lt source 32 then Some (with_rule register (rules.Copy source) s) else None) else Some s
+    if nat_lt register 32 then (if nat_lt source 32 then Some (with_rule register (rules.Copy source) s) else None)
+    else Some s
 
 abbrev pub with_remembered : List Remembered → State → Option State
 with_remembered [] s = None
@@ -104,7 +107,8 @@ abbrev pub fault_at : Input FrameFault → FrameFault
 fault_at input = record { offset = input.at.offset }
 
 -- one instruction, carried out in a state by `execution`
-abbrev pub step_by : {S : Type 0} → (CallFrameInstruction → S → Option S) → AlignmentFactors → Input FrameFault → S → Reading S
+abbrev pub step_by : {S : Type 0} → (CallFrameInstruction → S → Option S) → AlignmentFactors → Input FrameFault → S
+    → Reading S
 step_by execution factors input s = do
   (instruction, next) ← instruction_from factors (record input { missing = fault_at input })
   t ← or_fault (fault_at input) (execution instruction s)
@@ -112,7 +116,8 @@ step_by execution factors input s = do
 
 -- the state after the instructions up to the first after which it stops, or the fault of the first that has one.
 -- At most `room` instructions are carried out: as many as there are bytes are enough
-unfoldable pub run_by : {S : Type 0} → (CallFrameInstruction → S → Option S) → (S → Bool) → ℕ → AlignmentFactors → Input FrameFault → S
+unfoldable pub run_by : {S : Type 0} → (CallFrameInstruction → S → Option S) → (S → Bool) → ℕ → AlignmentFactors
+    → Input FrameFault → S
     → Result S FrameFault
 run_by execution stops zero factors input s = Ok s
 run_by execution stops (suc room) factors input s =
@@ -126,4 +131,5 @@ is_past limit s = option_map_or (λ address. nat_lt address s.location) limit fa
 
 -- the rules after the instructions, up to the first that moves the location past the limit
 abbrev pub run_all : Option ℕ → List Rule → AlignmentFactors → Input FrameFault → State → Result State FrameFault
-run_all limit initial factors input s = run_by (execute initial) (is_past limit) (length (left_of input.at)) factors input s
+run_all limit initial factors input s = run_by (execute initial) (is_past limit)
+    (length (left_of input.at)) factors input s

@@ -75,7 +75,8 @@ impl<'a> Checker<'a> {
 
     /// The CFA is a register and an offset from now on. False where there is no such register.
     fn to_register(&mut self, register: u64) -> bool
-        ensures { MatchBool result (to_register register self.old ≡ Some self.new) ((to_register register self.old ≡ None) × (self.new ≡ self.old)) }
+        ensures { MatchBool result (to_register register self.old ≡ Some self.new)
+            ((to_register register self.old ≡ None) × (self.new ≡ self.old)) }
     {
         if register >= 32 {
             return false;
@@ -85,7 +86,8 @@ impl<'a> Checker<'a> {
     }
 
     fn restore(&mut self) -> bool
-        ensures { MatchBool result (to_remembered self.old.remembered self.old ≡ Some self.new) ((to_remembered self.old.remembered self.old ≡ None) × (self.new ≡ self.old)) }
+        ensures { MatchBool result (to_remembered self.old.remembered self.old ≡ Some self.new)
+            ((to_remembered self.old.remembered self.old ≡ None) × (self.new ≡ self.old)) }
     {
         match self.remembered.pop() {
             Some(form) => {
@@ -98,7 +100,8 @@ impl<'a> Checker<'a> {
 
     /// Carries out an instruction. False where it is at fault.
     fn execute(&mut self, instruction: CallFrameInstruction) -> Result<bool, Memory>
-        ensures { IfOk result (λ done. MatchBool done (execute_forms instruction self.old ≡ Some self.new) ((execute_forms instruction self.old ≡ None) × (self.new ≡ self.old))) }
+        ensures { IfOk result (λ done. MatchBool done (execute_forms instruction self.old ≡ Some self.new)
+            ((execute_forms instruction self.old ≡ None) × (self.new ≡ self.old))) }
     {
         match instruction {
             CallFrameInstruction::RememberState => {
@@ -133,7 +136,8 @@ impl<'a> Checker<'a> {
         reader: &mut Reader<'_, FrameFault>,
     ) -> Result<(), Fail<FrameFault>>
         requires { length reader.old.at.whole < 2 ^ 32 }
-        ensures { GivesFrom (λ done. self.new) result reader.new (step_by execute_forms factors.now reader.old self.old) }
+        ensures { GivesFrom (λ done. self.new) result reader.new
+            (step_by execute_forms factors.now reader.old self.old) }
     {
         let fault = FrameFault {
             offset: reader.offset() as u32,

@@ -32,15 +32,11 @@ fn register(version: u8, reader: &mut Reader<'_, FrameFault>) -> Result<u64, Fra
     }
 }
 
-fn cie_with(
-    end: u32,
-    code_factor: u64,
-    data_factor: i64,
-    register: u64,
-    left: usize,
-) -> Option<Cie>
-    ensures cie { (input : Input FrameFault) → left ≡ length (left_of input.at) → result ≡ cie_with end code_factor data_factor register input }
-    ensures placed { IfSome result (λ c. (c.initial_instructions.offset ≤ c.initial_instructions.end) × (c.initial_instructions.end ≡ end)) }
+fn cie_with(end: u32, code_factor: u64, data_factor: i64, register: u64, left: usize) -> Option<Cie>
+    ensures cie { (input : Input FrameFault) → left ≡ length (left_of input.at) → result
+        ≡ cie_with end code_factor data_factor register input }
+    ensures placed { IfSome result (λ c. (c.initial_instructions.offset ≤ c.initial_instructions.end)
+        × (c.initial_instructions.end ≡ end)) }
 {
     if register >= 32 {
         return None;
@@ -65,7 +61,8 @@ fn from_factors(
     reader: &mut Reader<'_, FrameFault>,
 ) -> Result<Option<Cie>, FrameFault>
     ensures cie { result ≡ cie_from_factors end version reader.old }
-    ensures placed { IfOk result (λ cie. IfSome cie (λ c. (c.initial_instructions.offset ≤ c.initial_instructions.end) × (c.initial_instructions.end ≡ end))) }
+    ensures placed { IfOk result (λ cie. IfSome cie
+        (λ c. (c.initial_instructions.offset ≤ c.initial_instructions.end) × (c.initial_instructions.end ≡ end))) }
 {
     let code_factor = reader.uleb()?;
     let data_factor = reader.sleb()?;
@@ -80,7 +77,8 @@ fn from_segment(
     reader: &mut Reader<'_, FrameFault>,
 ) -> Result<Option<Cie>, FrameFault>
     ensures cie { result ≡ cie_from_segment end version reader.old }
-    ensures placed { IfOk result (λ cie. IfSome cie (λ c. (c.initial_instructions.offset ≤ c.initial_instructions.end) × (c.initial_instructions.end ≡ end))) }
+    ensures placed { IfOk result (λ cie. IfSome cie
+        (λ c. (c.initial_instructions.offset ≤ c.initial_instructions.end) × (c.initial_instructions.end ≡ end))) }
 {
     let segment_selector_size = reader.u8()?;
     if segment_selector_size == 0 {
@@ -97,7 +95,8 @@ fn from_sizes(
     reader: &mut Reader<'_, FrameFault>,
 ) -> Result<Option<Cie>, FrameFault>
     ensures cie { result ≡ cie_from_sizes end version reader.old }
-    ensures placed { IfOk result (λ cie. IfSome cie (λ c. (c.initial_instructions.offset ≤ c.initial_instructions.end) × (c.initial_instructions.end ≡ end))) }
+    ensures placed { IfOk result (λ cie. IfSome cie
+        (λ c. (c.initial_instructions.offset ≤ c.initial_instructions.end) × (c.initial_instructions.end ≡ end))) }
 {
     if version != 4 {
         return from_factors(end, version, reader);
@@ -117,7 +116,8 @@ fn from_augmentation(
     reader: &mut Reader<'_, FrameFault>,
 ) -> Result<Option<Cie>, FrameFault>
     ensures cie { result ≡ cie_from_augmentation end version reader.old }
-    ensures placed { IfOk result (λ cie. IfSome cie (λ c. (c.initial_instructions.offset ≤ c.initial_instructions.end) × (c.initial_instructions.end ≡ end))) }
+    ensures placed { IfOk result (λ cie. IfSome cie
+        (λ c. (c.initial_instructions.offset ≤ c.initial_instructions.end) × (c.initial_instructions.end ≡ end))) }
 {
     let augmentation = reader.cstr()?;
     if augmentation.is_empty() {
@@ -134,7 +134,8 @@ pub(crate) fn cie_from(
     reader: &mut Reader<'_, FrameFault>,
 ) -> Result<Option<Cie>, FrameFault>
     ensures cie { result ≡ cie_from end reader.old }
-    ensures placed { IfOk result (λ cie. IfSome cie (λ c. (c.initial_instructions.offset ≤ c.initial_instructions.end) × (c.initial_instructions.end ≡ end))) }
+    ensures placed { IfOk result (λ cie. IfSome cie
+        (λ c. (c.initial_instructions.offset ≤ c.initial_instructions.end) × (c.initial_instructions.end ≡ end))) }
 {
     let version = reader.u8()?;
     if version == 1 || version == 3 || version == 4 {

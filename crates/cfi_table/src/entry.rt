@@ -5,7 +5,8 @@ ghost use Rattle.prof_bytes.specs.Outcome.{Gives, viewed};
 ghost use Rattle.elf_image.specs.Image.{counts};
 ghost use Rattle.cfi_table.specs.declared.extent.Extent.{Extent};
 ghost use Rattle.cfi_table.specs.declared.entry.FrameEntry.TheVariants as entries;
-ghost use Rattle.cfi_table.specs.Entries.{is_cie, cie_of, after_cie, checked_cie, checked_fde, fde_with, fde_of, read_entry};
+ghost use Rattle.cfi_table.specs.Entries.{is_cie, cie_of, after_cie, checked_cie, checked_fde, fde_with, fde_of};
+ghost use Rattle.cfi_table.specs.Entries.{read_entry};
 ghost use Rattle.cfi_table.specs.Frames.{all_ok, counted};
 ghost use Rattle.cfi_table.specs.private.Placed.{AreRising, IsPlaced, IsWithin, IsCieIn, IsFdeIn, IsEntryIn};
 ghost use Rattle.cfi_table.specs.private.Checking.{forms_after};
@@ -49,7 +50,7 @@ fn checked_cie(
 }
 
 /// An FDE, whose instructions are carried out from the end of its CIE's on, unless these are at fault.
-#[tactic(auto, using(crate::proofs::Entries::fde_runs, crate::proofs::Entries::fde_fails, crate::proofs::Entries::fde_unchecked))]
+#[tactic(auto, using(crate::proofs::Entries::fde_unchecked))]
 fn checked_fde(
     alloc: Global,
     section: &[u8],
@@ -122,7 +123,8 @@ fn read_entry(
     requires rising { AreRising 0 (map (λ cie. cie.offset) cies.now) }
     requires known { All (IsKnown section.now) cies.now }
     requires placed { IsPlaced section.now extent.now }
-    ensures entry { (extents : List Extent) → map seen_cie cies.now ≡ map (known section.now) (filter (is_cie section.now) extents)
+    ensures entry { (extents : List Extent) → map seen_cie cies.now
+        ≡ map (known section.now) (filter (is_cie section.now) extents)
         → Gives (λ entry. entry) result (read_entry section.now extents extent.now) }
     ensures within { IfOk result (IsEntryIn section.now) }
 {
@@ -165,7 +167,9 @@ pub(crate) fn counted_fdes(
     requires rising { AreRising 0 (map (λ cie. cie.offset) cies.now) }
     requires known { All (IsKnown section.now) cies.now }
     requires cies { map seen_cie cies.now ≡ map (known section.now) (filter (is_cie section.now) extents.now) }
-    ensures fdes { Gives (λ fdes. fdes.items) result (viewed (filter_map (counted image.now.segments)) (all_ok (map (read_entry section.now extents.now) extents.now))) }
+    ensures fdes { Gives (λ fdes. fdes.items) result
+        (viewed (filter_map (counted image.now.segments))
+        (all_ok (map (read_entry section.now extents.now) extents.now))) }
     ensures within { IfOk result (λ fdes. All (IsFdeIn section.now) fdes.items) }
 {
     let mut fdes = Vec::new(alloc);

@@ -3,7 +3,8 @@ ghost use Rattle.std.specs.Prelude.{◌≡◌, ◌+◌, ◌<◌, ◌≤◌, ◌^
 ghost use Rattle.std.specs.Option.{option_map_or};
 ghost use Rattle.prof_bytes.specs.Outcome.{Gives};
 ghost use Rattle.cfi_table.specs.Entries.{after_fde};
-ghost use Rattle.cfi_table.specs.Frames.{frames_of, fde_at, rules_of, rules_at, instruction_bytes, size_of, least_above, lesser};
+ghost use Rattle.cfi_table.specs.Frames.{frames_of, fde_at, rules_of, rules_at, instruction_bytes, size_of};
+ghost use Rattle.cfi_table.specs.Frames.{least_above, lesser};
 ghost use Rattle.cfi_table.specs.private.Placed.{IsFdeIn};
 
 use crate::entry::counted_fdes;

@@ -2,18 +2,20 @@
 ghost use Rattle.std.specs.Prelude.{◌≡◌, ◌*◌, ◌/◌, ◌%◌, ◌^◌};
 ghost use Rattle.std.specs.Int.{w64, cast_unsigned};
 ghost use Rattle.prof_bytes.specs.Outcome.{GivesAt};
-ghost use Rattle.cfi_table.specs.Instructions.{scaled, word_of, word_of_signed, offset_from, factored_from, factored_sf_from};
-ghost use Rattle.cfi_table.specs.Instructions.{block_from, advance_loc, cfa_from, rule_from, is_rule, register_rule_from};
+ghost use Rattle.cfi_table.specs.Instructions.{scaled, word_of, word_of_signed, offset_from, factored_from};
+ghost use Rattle.cfi_table.specs.Instructions.{factored_sf_from};
+ghost use Rattle.cfi_table.specs.Instructions.{block_from, advance_loc, cfa_from, rule_from, is_rule};
+ghost use Rattle.cfi_table.specs.Instructions.{register_rule_from};
 ghost use Rattle.cfi_table.specs.Instructions.{extended_from, opcode_then, instruction_from};
 
 use crate::constants::{
-    DW_CFA_advance_loc, DW_CFA_offset, DW_CFA_restore, DW_CFA_nop, DW_CFA_set_loc,
-    DW_CFA_advance_loc1, DW_CFA_advance_loc2, DW_CFA_advance_loc4, DW_CFA_offset_extended,
-    DW_CFA_restore_extended, DW_CFA_undefined, DW_CFA_same_value, DW_CFA_register,
-    DW_CFA_remember_state, DW_CFA_restore_state, DW_CFA_def_cfa, DW_CFA_def_cfa_register,
-    DW_CFA_def_cfa_offset, DW_CFA_def_cfa_expression, DW_CFA_expression,
-    DW_CFA_offset_extended_sf, DW_CFA_def_cfa_sf, DW_CFA_def_cfa_offset_sf, DW_CFA_val_offset,
-    DW_CFA_val_offset_sf, DW_CFA_val_expression, DW_CFA_GNU_args_size,
+    DW_CFA_GNU_args_size, DW_CFA_advance_loc, DW_CFA_advance_loc1, DW_CFA_advance_loc2,
+    DW_CFA_advance_loc4, DW_CFA_def_cfa, DW_CFA_def_cfa_expression, DW_CFA_def_cfa_offset,
+    DW_CFA_def_cfa_offset_sf, DW_CFA_def_cfa_register, DW_CFA_def_cfa_sf, DW_CFA_expression,
+    DW_CFA_nop, DW_CFA_offset, DW_CFA_offset_extended, DW_CFA_offset_extended_sf, DW_CFA_register,
+    DW_CFA_remember_state, DW_CFA_restore, DW_CFA_restore_extended, DW_CFA_restore_state,
+    DW_CFA_same_value, DW_CFA_set_loc, DW_CFA_undefined, DW_CFA_val_expression, DW_CFA_val_offset,
+    DW_CFA_val_offset_sf,
 };
 use crate::fault::FrameFault;
 use prof_bytes::Reader;

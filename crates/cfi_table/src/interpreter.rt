@@ -3,7 +3,8 @@ ghost use Rattle.std.specs.Prelude.{◌≡◌, ◌<◌, ◌^◌, [], ◌∷◌, 
 ghost use Rattle.std.specs.List.{slice_set};
 ghost use Rattle.prof_bytes.specs.Outcome.{Gives, GivesFrom};
 ghost use Rattle.cfi_table.specs.Rules.{no_rules, all_same_value, rule_at, with_rule, with_cfa, with_cfa_register};
-ghost use Rattle.cfi_table.specs.Rules.{with_cfa_offset, with_source, with_remembered, remembering, execute, step_by, is_past, run_all};
+ghost use Rattle.cfi_table.specs.Rules.{with_cfa_offset, with_source, with_remembered, remembering, execute, step_by};
+ghost use Rattle.cfi_table.specs.Rules.{is_past, run_all};
 
 use crate::fault::FrameFault;
 use crate::instruction::{AlignmentFactors, CallFrameInstruction, next_instruction};
@@ -26,7 +27,12 @@ impl Model for Interpreter {
 
     ghost Value = { State };
 
-    ghost view = { λ interpreter. record { location = interpreter.location; cfa = interpreter.cfa; regs = interpreter.rules.regs; remembered = interpreter.rules.remembered } };
+    ghost view = { λ interpreter. record {
+      location = interpreter.location;
+      cfa = interpreter.cfa;
+      regs = interpreter.rules.regs;
+      remembered = interpreter.rules.remembered;
+    } };
 }
 
 impl Interpreter {
@@ -47,7 +53,8 @@ impl Interpreter {
     }
 
     fn set_cfa(&mut self, register: u64, offset: u32) -> bool
-        ensures { MatchBool result (with_cfa register offset self.old ≡ Some self.new) ((with_cfa register offset self.old ≡ None) × (self.new ≡ self.old)) }
+        ensures { MatchBool result (with_cfa register offset self.old ≡ Some self.new)
+            ((with_cfa register offset self.old ≡ None) × (self.new ≡ self.old)) }
     {
         if register >= 32 {
             return false;
@@ -60,7 +67,8 @@ impl Interpreter {
     }
 
     fn set_cfa_register(&mut self, register: u64) -> bool
-        ensures { MatchBool result (with_cfa_register register self.old.cfa self.old ≡ Some self.new) ((with_cfa_register register self.old.cfa self.old ≡ None) × (self.new ≡ self.old)) }
+        ensures { MatchBool result (with_cfa_register register self.old.cfa self.old ≡ Some self.new)
+            ((with_cfa_register register self.old.cfa self.old ≡ None) × (self.new ≡ self.old)) }
     {
         match self.cfa {
             Cfa::Missing => self.set_cfa(register, 0),
@@ -70,7 +78,8 @@ impl Interpreter {
     }
 
     fn set_cfa_offset(&mut self, offset: u32) -> bool
-        ensures { MatchBool result (with_cfa_offset offset self.old.cfa self.old ≡ Some self.new) ((with_cfa_offset offset self.old.cfa self.old ≡ None) × (self.new ≡ self.old)) }
+        ensures { MatchBool result (with_cfa_offset offset self.old.cfa self.old ≡ Some self.new)
+            ((with_cfa_offset offset self.old.cfa self.old ≡ None) × (self.new ≡ self.old)) }
     {
         match self.cfa {
             Cfa::Register { reg, .. } => {
@@ -82,7 +91,8 @@ impl Interpreter {
     }
 
     fn copy_register(&mut self, register: u64, source: u64) -> Result<bool, Memory>
-        ensures { IfOk result (λ done. MatchBool done (with_source register source self.old ≡ Some self.new) ((with_source register source self.old ≡ None) × (self.new ≡ self.old))) }
+        ensures { IfOk result (λ done. MatchBool done (with_source register source self.old ≡ Some self.new)
+            ((with_source register source self.old ≡ None) × (self.new ≡ self.old))) }
     {
         if register >= 32 {
             return Ok(true);
@@ -95,7 +105,8 @@ impl Interpreter {
     }
 
     fn restore_state(&mut self) -> bool
-        ensures { MatchBool result (with_remembered self.old.remembered self.old ≡ Some self.new) ((with_remembered self.old.remembered self.old ≡ None) × (self.new ≡ self.old)) }
+        ensures { MatchBool result (with_remembered self.old.remembered self.old ≡ Some self.new)
+            ((with_remembered self.old.remembered self.old ≡ None) × (self.new ≡ self.old)) }
     {
         match self.rules.restore() {
             Some(cfa) => {
@@ -112,7 +123,8 @@ impl Interpreter {
         initial: &[Rule; 32],
         instruction: CallFrameInstruction,
     ) -> Result<bool, Memory>
-        ensures { IfOk result (λ done. MatchBool done (execute initial.now instruction self.old ≡ Some self.new) ((execute initial.now instruction self.old ≡ None) × (self.new ≡ self.old))) }
+        ensures { IfOk result (λ done. MatchBool done (execute initial.now instruction self.old ≡ Some self.new)
+            ((execute initial.now instruction self.old ≡ None) × (self.new ≡ self.old))) }
     {
         match instruction {
             CallFrameInstruction::Nop => {}
@@ -164,7 +176,8 @@ impl Interpreter {
         reader: &mut Reader<'_, FrameFault>,
     ) -> Result<(), Fail<FrameFault>>
         requires { length reader.old.at.whole < 2 ^ 32 }
-        ensures { GivesFrom (λ done. self.new) result reader.new (step_by (execute initial.now) factors.now reader.old self.old) }
+        ensures { GivesFrom (λ done. self.new) result reader.new
+            (step_by (execute initial.now) factors.now reader.old self.old) }
     {
         let fault = FrameFault {
             offset: reader.offset() as u32,

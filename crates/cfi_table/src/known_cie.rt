@@ -1,5 +1,6 @@
 //! The CIEs of a section, each with the forms after its instructions, found by halving.
-ghost use Rattle.std.specs.Prelude.{◌≡◌, ◌==◌, ℕ, ◌+◌, ◌<◌, ◌≤◌, ◌^◌, Some, None, IfOk, IfSome, IsTrue, All, length, map, find, filter};
+ghost use Rattle.std.specs.Prelude.{◌≡◌, ◌==◌, ℕ, ◌+◌, ◌<◌, ◌≤◌, ◌^◌, Some, None, IfOk, IfSome, IsTrue, All, length};
+ghost use Rattle.std.specs.Prelude.{map, find, filter};
 ghost use Rattle.std.specs.Option.{option_copied};
 ghost use Rattle.prof_bytes.specs.Outcome.{Gives, viewed};
 ghost use Rattle.cfi_table.specs.Entries.{cie_of, is_cie, after_cie};
@@ -87,7 +88,8 @@ pub(crate) fn known_cies(
 ) -> Result<Vec<KnownCie>, Memory>
     requires all { All (IsPlaced section.now) extents.now }
     requires order { AreRising 0 (map (λ e. e.offset) extents.now) }
-    ensures each { IfOk result (λ cies. map seen_cie cies.items ≡ map (known section.now) (filter (is_cie section.now) extents.now)) }
+    ensures each { IfOk result (λ cies. map seen_cie cies.items
+        ≡ map (known section.now) (filter (is_cie section.now) extents.now)) }
     ensures are { IfOk result (λ cies. All (IsKnown section.now) cies.items) }
     ensures order { IfOk result (λ cies. AreRising 0 (map (λ cie. cie.offset) cies.items)) }
 {

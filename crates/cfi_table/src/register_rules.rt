@@ -32,7 +32,11 @@ impl Model for RegisterRules {
 
     ghost Value = { RuleStates };
 
-    ghost view = { λ rules. record { regs = rules.regs; remembered = remembered_of rules.regs (reverse rules.undo.items) } };
+    ghost view = { λ rules. record {
+      regs = rules.regs;
+      remembered = remembered_of rules.regs
+          (reverse rules.undo.items);
+    } };
 
     ghost invariant = { λ rules. IsMarked (reverse rules.undo.items) };
 }
@@ -40,7 +44,9 @@ impl Model for RegisterRules {
 /// Keeps the register's rule before it is changed, where a state was remembered.
 fn keep(undo: &mut Vec<Undo>, regs: &[Rule; 32], register: u8) -> Result<(), Memory>
     requires { register < 32 }
-    ensures same { IfOk result (λ done. (rule : Rule) → remembered_of (slice_set regs.now register rule) (reverse undo.new.items) ≡ remembered_of regs.now (reverse undo.old.items)) }
+    ensures same { IfOk result (λ done. (rule : Rule)
+        → remembered_of (slice_set regs.now register rule) (reverse undo.new.items)
+        ≡ remembered_of regs.now (reverse undo.old.items)) }
     ensures marked { IsMarked (reverse undo.old.items) → IsMarked (reverse undo.new.items) }
 {
     if undo.is_empty() {
@@ -54,8 +60,10 @@ fn keep(undo: &mut Vec<Undo>, regs: &[Rule; 32], register: u8) -> Result<(), Mem
 /// Goes back to the state that was remembered last, and gives its rule for the canonical frame address.
 fn undone(regs: &mut [Rule; 32], undo: &mut Vec<Undo>) -> Option<Cfa>
     requires { IsMarked (reverse undo.old.items) }
-    ensures state { MatchOption result ((remembered_of regs.old (reverse undo.old.items) ≡ []) × (regs.new ≡ regs.old) × (undo.new.items ≡ []))
-        (λ cfa. remembered_of regs.old (reverse undo.old.items) ≡ record { cfa = cfa; regs = regs.new } ∷ remembered_of regs.new (reverse undo.new.items)) }
+    ensures state { MatchOption result ((remembered_of regs.old (reverse undo.old.items) ≡ []) × (regs.new ≡ regs.old)
+        × (undo.new.items ≡ []))
+        (λ cfa. remembered_of regs.old (reverse undo.old.items)
+        ≡ record { cfa = cfa; regs = regs.new } ∷ remembered_of regs.new (reverse undo.new.items)) }
     ensures marked { IsMarked (reverse undo.new.items) }
 {
     if undo.is_empty() {
@@ -100,7 +108,8 @@ impl RegisterRules {
     }
 
     pub(crate) fn remember(&mut self, cfa: Cfa) -> Result<(), Memory>
-        ensures { IfOk result (λ done. self.new ≡ record self.old { remembered = record { cfa = cfa; regs = self.old.regs } ∷ self.old.remembered }) }
+        ensures { IfOk result (λ done. self.new
+            ≡ record self.old { remembered = record { cfa = cfa; regs = self.old.regs } ∷ self.old.remembered }) }
     {
         self.undo.push(Undo::Mark(cfa))?;
         Ok(())
@@ -108,7 +117,8 @@ impl RegisterRules {
 
     /// Goes back to the state that was remembered last. `None` where there is none.
     pub(crate) fn restore(&mut self) -> Option<Cfa>
-        ensures { MatchOption result ((self.old.remembered ≡ []) × (self.new ≡ self.old)) (λ cfa. self.old.remembered ≡ record { cfa = cfa; regs = self.new.regs } ∷ self.new.remembered) }
+        ensures { MatchOption result ((self.old.remembered ≡ []) × (self.new ≡ self.old))
+            (λ cfa. self.old.remembered ≡ record { cfa = cfa; regs = self.new.regs } ∷ self.new.remembered) }
     {
         undone(&mut self.regs, &mut self.undo)
     }

@@ -1,11 +1,12 @@
 //! How paths end, and what a caller's registers are. The instructions of the entries are encoded by
 //! hand by DWARF 5, section 7.24.
 use super::*;
-use cfi_table::{
-    DW_CIE_ID, DW_CFA_def_cfa, DW_CFA_def_cfa_expression, DW_CFA_expression, DW_CFA_offset, DW_CFA_register, DW_CFA_undefined, DW_CFA_val_expression, DW_CFA_val_offset,
-};
 use End::{Partial, Whole};
 use PartialCause::{Expression, NoCfa, NoFde, Unmapped};
+use cfi_table::{
+    DW_CFA_def_cfa, DW_CFA_def_cfa_expression, DW_CFA_expression, DW_CFA_offset, DW_CFA_register,
+    DW_CFA_undefined, DW_CFA_val_expression, DW_CFA_val_offset, DW_CIE_ID,
+};
 
 /// One CIE, with code alignment 1, data alignment -4 and return register x1, with these instructions,
 /// and one FDE, for the addresses from 0x10010 up to 0x10030, without any.
@@ -42,10 +43,22 @@ fn path_in(
 
 /// Instructions, and how the path of one frame ends, where x1 is 0x10008 and x2 is 0xf00ffff0.
 static ENDS: [(&str, &[u8], End); 17] = [
-    ("no return address", &[DW_CFA_def_cfa, 2, 0, DW_CFA_undefined, 1], Whole),
-    ("none, before an expression", &[DW_CFA_undefined, 1, DW_CFA_expression, 5, 0], Whole),
+    (
+        "no return address",
+        &[DW_CFA_def_cfa, 2, 0, DW_CFA_undefined, 1],
+        Whole,
+    ),
+    (
+        "none, before an expression",
+        &[DW_CFA_undefined, 1, DW_CFA_expression, 5, 0],
+        Whole,
+    ),
     ("none, before a missing CFA", &[DW_CFA_undefined, 1], Whole),
-    ("a CFA of an expression", &[DW_CFA_def_cfa_expression, 0], Partial(Expression)),
+    (
+        "a CFA of an expression",
+        &[DW_CFA_def_cfa_expression, 0],
+        Partial(Expression),
+    ),
     (
         "x5 is an expression",
         &[DW_CFA_def_cfa, 2, 0, DW_CFA_expression, 5, 0],
@@ -73,11 +86,24 @@ static ENDS: [(&str, &[u8], End); 17] = [
     ),
     (
         "an expression, before memory",
-        &[DW_CFA_def_cfa, 2, 0, DW_CFA_offset + 5, 1, DW_CFA_expression, 6, 0],
+        &[
+            DW_CFA_def_cfa,
+            2,
+            0,
+            DW_CFA_offset + 5,
+            1,
+            DW_CFA_expression,
+            6,
+            0,
+        ],
         Partial(Expression),
     ),
     ("no CFA", &[], Partial(NoCfa)),
-    ("no CFA, before memory", &[DW_CFA_offset + 1, 1], Partial(NoCfa)),
+    (
+        "no CFA, before memory",
+        &[DW_CFA_offset + 1, 1],
+        Partial(NoCfa),
+    ),
     (
         "x1 is not in memory",
         &[DW_CFA_def_cfa, 2, 0, DW_CFA_offset + 1, 1],
@@ -100,7 +126,16 @@ static ENDS: [(&str, &[u8], End); 17] = [
     ),
     (
         "not in memory, before a return to 0",
-        &[DW_CFA_def_cfa, 2, 0, DW_CFA_register, 1, 0, DW_CFA_offset + 5, 1],
+        &[
+            DW_CFA_def_cfa,
+            2,
+            0,
+            DW_CFA_register,
+            1,
+            0,
+            DW_CFA_offset + 5,
+            1,
+        ],
         Partial(Unmapped),
     ),
 ];
@@ -151,7 +186,14 @@ static CALLERS: [(&str, &[u8], &[(usize, u32)], &[(u32, u32)], End, &[u32]); 13]
         Partial(NoFde),
         &[0x1_0010, 0xffff_fffd],
     ),
-    ("a return to 0", &[DW_CFA_def_cfa, 2, 0], &[], &[], Whole, &[0x1_0010]),
+    (
+        "a return to 0",
+        &[DW_CFA_def_cfa, 2, 0],
+        &[],
+        &[],
+        Whole,
+        &[0x1_0010],
+    ),
     (
         "a return to a 0 in memory",
         &[DW_CFA_def_cfa, 2, 0, DW_CFA_offset + 1, 1],
@@ -186,7 +228,16 @@ static CALLERS: [(&str, &[u8], &[(usize, u32)], &[(u32, u32)], End, &[u32]); 13]
     ),
     (
         "x5 is not kept, and is 0 in the caller",
-        &[DW_CFA_def_cfa, 2, 0, DW_CFA_register, 1, 5, DW_CFA_undefined, 5],
+        &[
+            DW_CFA_def_cfa,
+            2,
+            0,
+            DW_CFA_register,
+            1,
+            5,
+            DW_CFA_undefined,
+            5,
+        ],
         &[(5, 0x1_0018)],
         &[],
         Whole,
@@ -210,7 +261,16 @@ static CALLERS: [(&str, &[u8], &[(usize, u32)], &[(u32, u32)], End, &[u32]); 13]
     ),
     (
         "x2 is the CFA in the caller, also where it is saved",
-        &[DW_CFA_def_cfa, 2, 16, DW_CFA_register, 1, 2, DW_CFA_offset + 2, 1],
+        &[
+            DW_CFA_def_cfa,
+            2,
+            16,
+            DW_CFA_register,
+            1,
+            2,
+            DW_CFA_offset + 2,
+            1,
+        ],
         &[(2, 0x1_0018)],
         &[(0x1_0024, 7), (0x1_0034, 7), (0x1_0044, 7)],
         Partial(NoFde),
@@ -218,7 +278,15 @@ static CALLERS: [(&str, &[u8], &[(usize, u32)], &[(u32, u32)], End, &[u32]); 13]
     ),
     (
         "x8 is saved, and the caller's CFA is by it",
-        &[DW_CFA_def_cfa, 8, 0, DW_CFA_offset + 1, 1, DW_CFA_offset + 8, 2],
+        &[
+            DW_CFA_def_cfa,
+            8,
+            0,
+            DW_CFA_offset + 1,
+            1,
+            DW_CFA_offset + 8,
+            2,
+        ],
         &[(8, 0xf00f_ffe0)],
         &[
             (0xf00f_ffdc, 0x1_0018),

@@ -1,4 +1,4 @@
-use Rattle.std.proofs.Common.{rules, List, [], ◌++◌, Option, sym, ap, ◌∙◌, arith}
+use Rattle.std.proofs.Common.{rules, [], ◌++◌, Option, sym, ap, ◌∙◌}
 use Rattle.std.specs.List.{filter_map, cons_option}
 use Rattle.std.specs.Prelude.{map}
 use Rattle.std.proofs.lemmas.List.{append-nil}
@@ -23,12 +23,12 @@ loop-extent-preserved c =
     elim c.match-counted.branch [
       | in-Some+in_ok-push w ↦ rw w.fdes-is (record {
         reads = reads_more c.args.section.now c.args.extents.now segments c.loop-extent.extent-index none c.in_ok-entry.entry c.loop-extent.fdes.items _ c.loop-extent-test.true is
-        (w.in_ok-push.ensures.items ∙ ap (λ (o : Option Fde). c.loop-extent.fdes.items ++ cons_option o []) w.in-Some.ensures) c.loop-extent.invariant.reads;
+            (w.in_ok-push.ensures.items ∙ ap (λ (o : Option Fde). c.loop-extent.fdes.items ++ cons_option o []) w.in-Some.ensures) c.loop-extent.invariant.reads;
         within = rw w.in_ok-push.ensures.items (All-push (IsFdeIn c.args.section.now) c.loop-extent.fdes.items w.in-Some.fde c.loop-extent.invariant.within (counted_in c.args.section.now segments c.in_ok-entry.entry w.in-Some.fde w.in-Some.ensures c.in_ok-entry.ensures.within));
       })
       | in_default w ↦ rw w.fdes-is (record {
         reads = reads_more c.args.section.now c.args.extents.now segments c.loop-extent.extent-index none c.in_ok-entry.entry c.loop-extent.fdes.items c.loop-extent.fdes.items c.loop-extent-test.true is
-        (sym (append-nil c.loop-extent.fdes.items) ∙ ap (λ (o : Option Fde). c.loop-extent.fdes.items ++ cons_option o []) w.in_default.ensures) c.loop-extent.invariant.reads;
+            (sym (append-nil c.loop-extent.fdes.items) ∙ ap (λ (o : Option Fde). c.loop-extent.fdes.items ++ cons_option o []) w.in_default.ensures) c.loop-extent.invariant.reads;
         within = c.loop-extent.invariant.within;
       })
     ]

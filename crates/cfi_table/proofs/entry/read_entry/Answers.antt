@@ -1,4 +1,4 @@
-use Rattle.std.proofs.Common.{◌≡◌, ◌==◌, rules, Ok, Err, sym, ◌∙◌}
+use Rattle.std.proofs.Common.{◌≡◌, ◌==◌, rules, Err, sym, ◌∙◌}
 use Rattle.cfi_table.specs.Entries.{body_of, read_entry}
 use Rattle.cfi_table.specs.private.KnownCies.{IsKnown}
 use Rattle.cfi_table.proofs.Chains.{number_read, number_fault}

@@ -1,6 +1,5 @@
-use Rattle.std.proofs.Common.{◌≡◌, ℕ, List, [], ◌∷◌, ◌++◌, Some, None, ap, ap₂, ◌∙◌, arith}
+use Rattle.std.proofs.Common.{◌≡◌, ℕ, [], ◌∷◌, ◌++◌, Some, None, ap, ap₂, ◌∙◌, arith}
 use Rattle.std.proofs.lemmas.List.Elements.{All-push}
-use Rattle.cfi_table.specs.declared.extent.Extent.{Extent}
 use Rattle.cfi_table.specs.declared.fault.FrameFault.{FrameFault}
 use Rattle.prof_bytes.specs.Fields.{Input}
 use Rattle.cfi_table.specs.Rules.{fault_at}

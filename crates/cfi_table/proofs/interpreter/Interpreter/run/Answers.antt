@@ -1,4 +1,4 @@
-use Rattle.std.proofs.Common.{rules, refl, sym, ◌∙◌, arith}
+use Rattle.std.proofs.Common.{rules, sym, ◌∙◌, arith}
 use Rattle.prof_bytes.specs.Outcome.{FailsBy}
 use Rattle.cfi_table.specs.Rules.{execute, is_past, run_all}
 use Rattle.cfi_table.proofs.Runs.{begins, keeps_short, turns, shortens, stops_here, fails_by, ends_here}
