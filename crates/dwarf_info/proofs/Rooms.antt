@@ -50,9 +50,9 @@ entry_moves declared index depth input =
     step_if 0 code.1 (code.0 == 0) _ (declared_entry index depth input.at.offset (declaration_of declared code.0) code.1) (omega arith)
     (declared_moves index depth input.at.offset (declaration_of declared code.0) code.1))
 
-pub entries_room : (declared : List Abbrev) (index room : ℕ) (input : Input InfoFault) → length (left_of input.at) ≤ room
+pub entries : (declared : List Abbrev) (index room : ℕ) (input : Input InfoFault) → length (left_of input.at) ≤ room
     → run_from (entry_from declared index) room 0 input ≡ entries_from declared index input
-entries_room declared index room input le = same_run (entry_from declared index) (entry_moves declared index) room (length (left_of input.at)) 0 input le (omega arith)
+entries declared index room input le = same_run (entry_from declared index) (entry_moves declared index) room (length (left_of input.at)) 0 input le (omega arith)
 
 -- ---- units
 
@@ -61,22 +61,22 @@ unfolding unit_from
 unit_moves sections index input = parted (part_from (record input { missing = BadUnit input.at.offset })) (parts (record input { missing = BadUnit input.at.offset }))
   where
     given : (next : Input InfoFault) → length (left_of next.at) + 1 ≤ length (left_of input.at) → (read : Result (List UnitBases) InfoFault)
-        → StepMoves 1 input (read >>= (λ units. Ok (units, index + length units, next)))
+        → StepMoves 1 input (read >>= (λ found. Ok (found, index + length found, next)))
     given next le (Err fault) = tt
     given next le (Ok units) = le
 
     headed : (next : Input InfoFault) → length (left_of next.at) + 1 ≤ length (left_of input.at) → (read : Result (Option UnitHeader × Input InfoFault) InfoFault)
-        → StepMoves 1 input (read >>= (λ (header, body). read_unit sections index header >>= (λ units. Ok (units, index + length units, next))))
+        → StepMoves 1 input (read >>= (λ (header, body). read_unit sections index header >>= (λ found. Ok (found, index + length found, next))))
     headed next le (Err fault) = tt
     headed next le (Ok h) = given next le (read_unit sections index h.0)
 
     parted : (read : Result (Input InfoFault × Input InfoFault) InfoFault) → Parts input read
-        → StepMoves 1 input (read >>= (λ (part, next). header_from input.at.offset next.at.offset part >>= (λ (header, body). read_unit sections index header >>= (λ units. Ok (units, index + length units, next)))))
+        → StepMoves 1 input (read >>= (λ (part, next). header_from input.at.offset next.at.offset part >>= (λ (header, body). read_unit sections index header >>= (λ found. Ok (found, index + length found, next)))))
     parted (Err fault) p = tt
     parted (Ok r) p = headed r.1 (let l = p.1 in omega arith) (header_from input.at.offset r.1.at.offset r.0)
 
-pub units_room : (sections : Sections) (room : ℕ) → length sections.info ≤ room → run_from (unit_from sections) room 0 (info_input sections) ≡ units_of sections
-units_room sections room le = same_run (unit_from sections) (unit_moves sections) room (length (left_of (info_input sections).at)) 0 (info_input sections) le (omega arith)
+pub units : (sections : Sections) (room : ℕ) → length sections.info ≤ room → run_from (unit_from sections) room 0 (info_input sections) ≡ units_of sections
+units sections room le = same_run (unit_from sections) (unit_moves sections) room (length (left_of (info_input sections).at)) 0 (info_input sections) le (omega arith)
 
 -- ---- range lists
 
@@ -125,7 +125,7 @@ range_misses : (sections : Sections) (addr_base : Option ℕ) → Misses (range_
 unfolding range_entry_from
 range_misses sections addr_base input none = misses_first (number_from 1 input) _ input.missing (byte_misses input none)
 
-pub ranges_room : (sections : Sections) (addr_base : Option ℕ) (room : ℕ) (input : Input Absent) → length (left_of input.at) ≤ room
+pub ranges : (sections : Sections) (addr_base : Option ℕ) (room : ℕ) (input : Input Absent) → length (left_of input.at) ≤ room
     → list_from (range_entry_from sections addr_base) room input ≡ range_list_from sections addr_base input
-ranges_room sections addr_base room input le =
+ranges sections addr_base room input le =
     same_list (range_entry_from sections addr_base) (range_takes sections addr_base) (range_misses sections addr_base) room (length (left_of input.at)) input le (omega arith)

@@ -14,7 +14,7 @@ ghost use Rattle.dwarf_info.specs.Ranges.{range_entry_from, range_list_from};
 
 /// Each unit, each entry and each entry of a range list takes a byte or more, so room for as many as
 /// there are bytes is enough: with more room the lists are the same.
-#[tactic(auto, using(crate::proofs::Rooms::units_room, crate::proofs::Rooms::entries_room, crate::proofs::Rooms::ranges_room))]
+#[tactic(auto, using(crate::proofs::Rooms::units, crate::proofs::Rooms::entries, crate::proofs::Rooms::ranges))]
 pub fn a_byte_an_entry()
     ensures units { (sections : Sections) (room : ℕ) → length sections.info ≤ room
         → run_from (unit_from sections) room 0 (info_input sections) ≡ units_of sections }

@@ -1,5 +1,5 @@
-//! Debug information: the units and entries of `.debug_info` by DWARF 5, with names, links, call
-//! places and address ranges.
+//! Debug information: the units and entries of `.debug_info` by DWARF 5, with names, links,
+//! calls and address ranges.
 //!
 //! It promises that the entries are the flat list that the section's bytes give, or the first fault in
 //! section order, and that each attribute that is asked for is what its form, its offset and its base

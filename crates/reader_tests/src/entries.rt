@@ -350,12 +350,12 @@ fn read_hex(alloc: Global, bytes: &[u8]) -> Result<Vec<(u32, u32)>, prof_bytes::
     Ok(seen)
 }
 
-/// The place in the table of the first sections that have another fault.
+/// The index in the table of the first sections that have another fault.
 fn other_fault(alloc: Global) -> Option<usize> {
-    for (place, (bytes, fault)) in FAULTS.iter().enumerate() {
+    for (index, (bytes, fault)) in FAULTS.iter().enumerate() {
         match read_hex(alloc, bytes) {
             Err(prof_bytes::Fail::Fault(found)) if found == *fault => {}
-            _ => return Some(place),
+            _ => return Some(index),
         }
     }
     None
@@ -388,12 +388,12 @@ static SHAPES: [(&[u8], &[(u32, u32)]); 5] = [
     (b"A00", &[]),
 ];
 
-/// The place in the table of the first sections that have other entries or units.
+/// The index in the table of the first sections that have other entries or units.
 fn other_shape(alloc: Global) -> Option<usize> {
-    for (place, (bytes, wanted)) in SHAPES.iter().enumerate() {
+    for (index, (bytes, wanted)) in SHAPES.iter().enumerate() {
         match read_hex(alloc, bytes) {
             Ok(seen) if seen.as_slice() == *wanted => {}
-            _ => return Some(place),
+            _ => return Some(index),
         }
     }
     None

@@ -353,11 +353,11 @@ fn tag_at(alloc: Global, bytes: &[u8], offset: u32) -> Result<Option<u64>, Memor
     }
 }
 
-/// The place of the first table in which code 1 has another tag.
+/// The index of the first table in which code 1 has another tag.
 fn other_tag(alloc: Global) -> Result<Option<usize>, Memory> {
-    for (place, (bytes, offset, wanted)) in TABLES.iter().enumerate() {
+    for (index, (bytes, offset, wanted)) in TABLES.iter().enumerate() {
         if tag_at(alloc, bytes, *offset)? != *wanted {
-            return Ok(Some(place));
+            return Ok(Some(index));
         }
     }
     Ok(None)
