@@ -9,7 +9,7 @@ pub mod constants;
 mod encoding;
 mod fault;
 mod header;
-pub mod laws;
+mod laws;
 mod lines;
 mod names;
 mod program;
@@ -20,4 +20,5 @@ mod sequence;
 mod tables;
 
 pub use fault::LineFault;
+pub use laws::bytes_are_room_enough;
 pub use lines::{LineTable, read_lines};
