@@ -4,9 +4,9 @@
 //! far as folders and streams do what they say. Below stand `hpc_top` and `prof_devices`.
 #![tactic(auto)]
 
-use hpc_top::{Status, hpc_main};
+use hpc_top::{Status, hpc_main, out_of_memory};
 use prof_bytes::{Memory, Text};
-use prof_devices::{ErrSink, FolderShelf, OpenGate, OutSink, Sink};
+use prof_devices::{ErrSink, FolderShelf, OpenGate, OutSink};
 use std::env::FillError;
 use std::process::ExitCode;
 use std::rt::{Env, Files};
@@ -15,7 +15,8 @@ use std::thread::Threads;
 /// The most bytes that Linux takes as one word of a command.
 const MOST_BYTES: usize = 131_072;
 
-/// The words after the program's name, byte for byte: a file's name need not be text.
+/// The words after the program's name, byte for byte: a file's name need not be text. Where one is longer than a
+/// word of a command can be there are none, which is an invalid command line.
 fn words_of<R: Env + AllocGlobal>(rt: &R) -> Result<Vec<Text>, Memory> {
     let mut word = Vec::new(rt.alloc());
     word.resize(MOST_BYTES, 0u8)?;
@@ -24,7 +25,7 @@ fn words_of<R: Env + AllocGlobal>(rt: &R) -> Result<Vec<Text>, Memory> {
         match rt.arg(number, word.as_mut_slice()) {
             Ok(length) => words.push(Text::of(rt.alloc(), &word[..length])?)?,
             Err(FillError::NotPresent) => break,
-            Err(FillError::TooLong) => return Err(Memory),
+            Err(FillError::TooLong) => return Ok(Vec::new(rt.alloc())),
         }
     }
     Ok(words)
@@ -32,9 +33,9 @@ fn words_of<R: Env + AllocGlobal>(rt: &R) -> Result<Vec<Text>, Memory> {
 
 fn run<R: Threads + Sync + AllocGlobal + Files + Print + Eprint + Env>(rt: &R) -> Status {
     let mut err = ErrSink::of(rt);
-    let Ok(words) = words_of(rt) else {
-        let _ = err.put(b"hpc: memory\n");
-        return Status::Memory;
+    let words = match words_of(rt) {
+        Ok(words) => words,
+        Err(memory) => return out_of_memory(memory, &mut err),
     };
     let mut shelf = FolderShelf::of(rt);
     let mut out = OutSink::of(rt);
@@ -54,6 +55,6 @@ fn main(rt: HostRuntime) -> ExitCode {
         Status::Usage => 2,
         Status::Input(_) => 3,
         Status::Device(_) => 4,
-        Status::Memory => 5,
+        Status::Memory(_) => 5,
     })
 }

@@ -1,144 +1,27 @@
--- The samples that were taken so far, their counted paths and the frames of these.
-use Rattle.std.proofs.Common.{◌≡◌, inl, inr, ℕ, zero, suc, ◌+◌, ◌-◌, ◌<◌, ◌≤◌, ◌^◌, Bool, true, false, cond, not, ◌&&◌, ◌||◌, nat_eq, nat_lt, List, [], ◌∷◌, ◌++◌, length, map, take, fold, filter, count_by, sum_by, Vec, Option, Some, None, Result, Ok, Err, refl, sym, ap, ap₂, subst, ◌∙◌, arith, append-nil, append_assoc, take_all}
-use Rattle.std.specs.Cmp.Lexicographic.{pointwise, bytes_decides}
+-- The samples that were counted so far.
+use Rattle.std.proofs.Common.{◌≡◌, ℕ, zero, suc, ◌+◌, ◌-◌, ◌<◌, ◌≤◌, Bool, true, false, cond, nat_lt, List, [], ◌∷◌, ◌++◌, length, map, take, filter, sum_by, All, Option, Some, None, Result, Ok, Err, refl, sym, ap, subst, ◌∙◌, arith, append-nil, append_assoc, take_all}
+use Rattle.std.specs.List.{range_with_len}
 use Rattle.std.proofs.lemmas.Bool.Decides.{nat_tests}
-use Rattle.std.proofs.lemmas.List.{length-append, length-map, map-append, take-append-le}
-use Rattle.std.proofs.lemmas.List.Sums.{sum_by-append, sum_by-cons, fold-append}
+use Rattle.std.proofs.lemmas.List.{length-append, length-map, take-append-le}
+use Rattle.std.proofs.lemmas.List.Sums.{sum_by-cons}
+use Rattle.std.proofs.lemmas.List.Elements.{All-head, All-tail, All-append, All-take, All-map, All-filter}
 use Rattle.prof_bytes.specs.declared.fail.Fail.{Fail}
 use Rattle.prof_bytes.specs.declared.fail.Fail.TheVariants as fails
-use Rattle.rv_run.specs.Run.{Run}
+use Rattle.prof_bytes.specs.Outcome.{◌>>=◌, FailsBy}
+use Rattle.rv_run.specs.Run.{Instant, Run}
 use Rattle.rv_run.specs.Progress.{to_come}
 use Rattle.sample_clock.specs.declared.clock.Sample.{Sample}
-use Rattle.scope_types.specs.Limits.{most_samples}
-use Rattle.sample_clock.specs.Samples.{Paths}
-use Rattle.sample_clock.specs.Clock.{Sampling, samples_to_come}
-use Rattle.sample_clock.proofs.Meeting.{met-samples}
-use Rattle.tree_types.proofs.Counting.{one, count_by-cons}
-use Rattle.hpc_top.specs.declared.path_counts.PathCounts.{PathCounts}
+use Rattle.sample_clock.specs.Samples.{Paths, is_sampled, sample_of}
+use Rattle.sample_clock.specs.Clock.{Sampling, Given, IsOver, samples_to_come}
+use Rattle.scope_types.specs.declared.frame.Counted.{Counted}
+use Rattle.scope_types.specs.Distinct.{HartRaw, distinct, frames_in, samples_in}
+use Rattle.scope_types.specs.Limits.{most_samples, most_path_frames}
+use Rattle.thread_cct.specs.declared.ccts.TooManyFrames.{TooManyFrames}
+use Rattle.thread_cct.specs.Adding.{few_frames, too_many}
 use Rattle.hpc_top.specs.declared.status.InputFault.{InputFault}
-use Rattle.hpc_top.specs.declared.status.InputFault.TheVariants.{TooManySamples, TooManyFrames}
-use Rattle.hpc_top.specs.Samples.{pc_of, sample_words, has_path_of, distinct, frame_count, most_path_frames, few_samples}
-use Rattle.hpc_top.specs.PathCounts.{Counted, AreCounted, IsCounted, AllCollected, Takes, Ends, Exceeds, Goes, Stops, Refuses, is_among, seen_with, word_frames, each_words, words_in, frames_added}
-use Rattle.hpc_top.proofs.Counted.{count-append}
-
-all_true : {X : Type 0} (xs : List X) → count_by (λ x. true) xs ≡ length xs
-all_true [] = refl
-all_true {X} (x ∷ xs) = let first = count_by-cons (λ (x : X). true) x xs in let rest = all_true xs in omega (arith, first, rest)
-
--- ---- distinct paths
-
-abbrev words_of : List Sample → List (List ℕ)
-words_of all = map sample_words all
-
--- the words that were met, each once
-abbrev met_words : List Sample → List (List ℕ)
-met_words all = fold seen_with [] (words_of all)
-
--- one sample more
-met_more : (done : List Sample) (s : Sample) → met_words (done ++ s ∷ []) ≡ seen_with (met_words done) (sample_words s)
-met_more done s = ap (fold seen_with []) (map-append sample_words done (s ∷ [])) ∙ fold-append seen_with [] (words_of done) (sample_words s ∷ [])
-
-filter_twice : {X : Type 0} (p q r : X → Bool) → ((x : X) → r x ≡ (q x && p x)) → (xs : List X) → filter p (filter q xs) ≡ filter r xs
-filter_twice p q r is [] = refl
-filter_twice {X} p q r is (x ∷ xs) =
-    let rest : filter p (filter q xs) ≡ filter r xs = filter_twice p q r is xs in
-    elim (q x) as (λ b. r x ≡ (b && p x) → filter p (cond b (x ∷ filter q xs) (filter q xs)) ≡ cond (r x) (x ∷ filter r xs) (filter r xs)) [
-      | true ↦ λ e. ap₂ (λ (b : Bool) (l : List X). cond b (x ∷ l) l) (sym e) rest
-      | false ↦ λ e. rest ∙ ap (λ (b : Bool). cond b (x ∷ filter r xs) (filter r xs)) (sym e)
-    ] (is x)
-
-filter_all : {X : Type 0} (xs : List X) → filter (λ x. true) xs ≡ xs
-filter_all [] = refl
-filter_all {X} (x ∷ xs) = ap (λ (l : List X). x ∷ l) (filter_all xs)
-
-among_more : (seen : List (List ℕ)) (w v : List ℕ) → is_among (seen ++ w ∷ []) v ≡ (is_among seen v || pointwise nat_eq v w)
-among_more [] w v = or_false (pointwise nat_eq v w)
-  where
-    or_false : (b : Bool) → (b || false) ≡ b
-    or_false true = refl
-    or_false false = refl
-among_more (u ∷ seen) w v =
-    elim (pointwise nat_eq v u) as (λ b. (b || is_among (seen ++ w ∷ []) v) ≡ ((b || is_among seen v) || pointwise nat_eq v w)) [ true ↦ refl | false ↦ among_more seen w v ]
-
-abbrev is_new : List (List ℕ) → Sample → Bool
-is_new seen s = not (is_among seen (sample_words s))
-
--- words are met where a sample has them that is the first to do so
-met_from : (seen : List (List ℕ)) (all : List Sample) → fold seen_with seen (words_of all) ≡ seen ++ words_of (filter (is_new seen) (distinct all))
-met_from seen [] = sym (append-nil seen)
-met_from seen (s ∷ all) =
-    elim (is_among seen (sample_words s)) as (λ b. is_among seen (sample_words s) ≡ b
-    → fold seen_with (cond b seen (seen ++ sample_words s ∷ [])) (words_of all) ≡ seen ++ words_of (cond (not b) (s ∷ filter (is_new seen) others) (filter (is_new seen) others))) [
-      | true ↦ λ old. met_from seen all ∙ ap (λ (l : List Sample). seen ++ words_of l) (sym (filter_twice (is_new seen) (λ t. not (has_path_of s t)) (is_new seen) (no_other old) (distinct all)))
-      | false ↦ λ new.
-          met_from (seen ++ sample_words s ∷ []) all ∙ append_assoc seen (sample_words s ∷ []) (words_of (filter (is_new (seen ++ sample_words s ∷ [])) (distinct all)))
-          ∙ ap (λ (l : List Sample). seen ++ sample_words s ∷ words_of l) (sym (filter_twice (is_new seen) (λ t. not (has_path_of s t)) (is_new (seen ++ sample_words s ∷ [])) both (distinct all)))
-    ] refl
-  where
-    others : List Sample
-    others = filter (λ t. not (has_path_of s t)) (distinct all)
-
-    no_other : is_among seen (sample_words s) ≡ true → (t : Sample) → is_new seen t ≡ (not (has_path_of s t) && is_new seen t)
-    no_other old t =
-        elim (has_path_of s t) as (λ b. has_path_of s t ≡ b → is_new seen t ≡ (not b && is_new seen t)) [
-          | true ↦ λ same. ap (λ (w : List ℕ). not (is_among seen w)) ((bytes_decides (sample_words t) (sample_words s)).0 same) ∙ ap not old
-          | false ↦ λ apart. refl
-        ] refl
-
-    not_or : (a b : Bool) → not (a || b) ≡ (not b && not a)
-    not_or true true = refl
-    not_or true false = refl
-    not_or false true = refl
-    not_or false false = refl
-
-    both : (t : Sample) → is_new (seen ++ sample_words s ∷ []) t ≡ (not (has_path_of s t) && is_new seen t)
-    both t = ap not (among_more seen (sample_words s) (sample_words t)) ∙ not_or (is_among seen (sample_words t)) (has_path_of s t)
-
-met_distinct : (all : List Sample) → met_words all ≡ words_of (distinct all)
-met_distinct all = met_from [] all ∙ ap words_of (filter_all (distinct all))
-
--- ---- their frames
-
-frames_told : (ss : List Sample) → sum_by word_frames (words_of ss) ≡ sum_by (λ s. length s.path.frames) ss
-frames_told [] = refl
-frames_told (s ∷ ss) =
-    let words = sum_by-cons word_frames (sample_words s) (words_of ss) in
-    let samples = sum_by-cons (λ (t : Sample). length t.path.frames) s ss in
-    let long = length-map s.path.frames pc_of in
-    let rest = frames_told ss in
-    omega (arith, words, samples, long, rest)
-
-frames_met : (all : List Sample) → sum_by word_frames (met_words all) ≡ frame_count all
-frames_met all = ap (sum_by word_frames) (met_distinct all) ∙ frames_told (distinct all)
-
-frames_with : (seen : List (List ℕ)) (w : List ℕ) → sum_by word_frames (seen_with seen w) ≡ sum_by word_frames seen + frames_added seen w
-frames_with seen w =
-    elim (is_among seen w) as (λ b. sum_by word_frames (cond b seen (seen ++ w ∷ [])) ≡ sum_by word_frames seen + cond b 0 (word_frames w)) [
-      | true ↦ omega arith
-      | false ↦ let parts = sum_by-append word_frames seen (w ∷ []) in let last = sum_by-cons word_frames w [] in omega (arith, parts, last)
-    ]
-
--- more samples have no fewer
-frames_grow : (ws seen : List (List ℕ)) → sum_by word_frames seen ≤ sum_by word_frames (fold seen_with seen ws)
-frames_grow [] seen = omega arith
-frames_grow (w ∷ ws) seen =
-    let rest = frames_grow ws (seen_with seen w) in
-    let first = frames_with seen w in
-    omega (arith, rest, first)
-
-frame_count_more : (done : List Sample) (s : Sample) → frame_count (done ++ s ∷ []) ≡ frame_count done + frames_added (met_words done) (sample_words s)
-frame_count_more done s =
-    sym (frames_met (done ++ s ∷ [])) ∙ ap (sum_by word_frames) (met_more done s) ∙ frames_with (met_words done) (sample_words s)
-    ∙ ap (λ (n : ℕ). n + frames_added (met_words done) (sample_words s)) (frames_met done)
-
-frame_count_grows : (done rest : List Sample) → frame_count done ≤ frame_count (done ++ rest)
-frame_count_grows done rest =
-    let grown : sum_by word_frames (met_words (done ++ rest)) ≡ sum_by word_frames (fold seen_with (met_words done) (words_of rest)) =
-    ap (λ (ws : List (List ℕ)). sum_by word_frames (fold seen_with [] ws)) (map-append sample_words done rest) ∙ ap (sum_by word_frames) (fold-append seen_with [] (words_of done) (words_of rest)) in
-    let grows = frames_grow (words_of rest) (met_words done) in
-    let few = frames_met done in
-    let many = frames_met (done ++ rest) in
-    omega (arith, grown, grows, few, many)
+use Rattle.hpc_top.specs.declared.status.InputFault.TheVariants.{TooManySamples, TooManyFrames as TooMany}
+use Rattle.hpc_top.specs.Samples.{hart_raw, within_frames, within_samples, few_samples}
+use Rattle.hpc_top.specs.private.Collecting.{AllCounted, Exceeds, Goes, Stops, raws_to_come}
 
 -- ---- the limits
 
@@ -148,152 +31,215 @@ above a b lt = grind (arith, nat_tests)
 not_above : (a b : ℕ) → b ≤ a → nat_lt a b ≡ false
 not_above a b le = grind (arith, nat_tests)
 
--- what the front has fits
-abbrev by_length : List Sample → Result (List Sample) InputFault
-by_length all = cond (nat_lt most_samples (length all)) (Err TooManySamples) (Ok all)
+-- a test of two
+abbrev tested : {X F : Type 0} → Bool → F → X → Result X F
+tested many fault x = cond many (Err fault) (Ok x)
 
-within_frames : (all : List Sample) → frame_count (take most_samples all) ≤ most_path_frames → few_samples all ≡ by_length all
-within_frames all few = ap (λ (b : Bool). cond b (Err TooManyFrames) (by_length all)) (not_above most_path_frames (frame_count (take most_samples all)) few)
+tested_ok : {X F : Type 0} (many : Bool) (fault : F) (x y : X) → tested many fault x ≡ Ok y → (many ≡ false) × (x ≡ y)
+tested_ok true fault x y e = absurd cc
+tested_ok false fault x y e = (refl, (let same : x ≡ y = cc in same))
 
-too_many_frames : (all : List Sample) → most_path_frames < frame_count (take most_samples all) → few_samples all ≡ Err TooManyFrames
-too_many_frames all many = ap (λ (b : Bool). cond b (Err TooManyFrames) (by_length all)) (above most_path_frames (frame_count (take most_samples all)) many)
+tested_err : {X F : Type 0} (many : Bool) (fault other : F) (x : X) → tested many fault x ≡ Err other → (many ≡ true) × (fault ≡ other)
+tested_err true fault other x e = (refl, (let same : fault ≡ other = cc in same))
+tested_err false fault other x e = absurd cc
+
+at_most : (a b : ℕ) → nat_lt a b ≡ false → b ≤ a
+at_most a b e = grind (arith, nat_tests)
+
+is_above : (a b : ℕ) → nat_lt a b ≡ true → a < b
+is_above a b e = grind (arith, nat_tests)
+
+-- the same limit under the top call's fault
+pub frames_ok : (tables after : List (List Counted)) → few_frames tables ≡ Ok after → within_frames tables ≡ Ok after
+frames_ok tables after e =
+    let is = tested_ok (nat_lt most_path_frames (frames_in tables)) too_many tables after e in
+    ap (λ (b : Bool). tested b TooMany tables) is.0 ∙ ap Ok is.1
+
+pub frames_err : (tables : List (List Counted)) (fault : TooManyFrames) → few_frames tables ≡ Err fault → within_frames tables ≡ Err TooMany
+frames_err tables fault e =
+    let is = tested_err (nat_lt most_path_frames (frames_in tables)) too_many fault tables e in
+    ap (λ (b : Bool). tested b TooMany tables) is.0
+
+pub frames_refused : (tables : List (List Counted)) (fail : Fail TooManyFrames) (fault : TooManyFrames) → fail ≡ fails.Fault fault → FailsBy fail (few_frames tables) → within_frames tables ≡ Err TooMany
+frames_refused tables fail fault is refused = frames_err tables fault (subst (λ (f : Fail TooManyFrames). FailsBy f (few_frames tables)) is refused)
 
 -- ---- so far
 
--- what is counted of the samples that were taken so far
-pub record SoFar {A : Type 0} (path_of : Paths) (start now : Sampling) (counted : Counted A) (frames : ℕ) : Type 0 where
-  pub done : List Sample
-  pub parts : samples_to_come path_of start ≡ done ++ samples_to_come path_of now
+pub record SoFar (path_of : Paths) (harts : ℕ) (start now : Sampling) (ccts : List (List Counted)) : Type 0 where
+  pub done : List HartRaw
+  pub parts : raws_to_come path_of start ≡ done ++ raws_to_come path_of now
   pub met : now.met ≡ length done
   pub few : length done ≤ most_samples
   pub at_end : (to_come now.machine).final ≡ (to_come start.machine).final
-  pub counts : AreCounted counted (map sample_words done)
-  pub kept : words_in counted ≡ met_words done
-  pub many : frames ≡ frame_count done
-  pub fits : frames ≤ most_path_frames
+  pub done_harts : All (λ s. s.hart < harts) done
+  pub left_harts : All (λ s. s.hart < harts) (raws_to_come path_of now)
+  pub counts : ccts ≡ distinct harts done
+  pub count : samples_in ccts ≡ length done
+  pub fits : frames_in ccts ≤ most_path_frames
 
-pub so_far_first : {A : Type 0} (path_of : Paths) (start : Sampling) → start.met ≡ 0 → SoFar {A = A} path_of start start [] 0
-unfolding each_words
-so_far_first path_of start none =
-    record { done = []; parts = refl; met = none; few = omega arith; at_end = refl; counts = record { same = λ t. refl }; kept = refl; many = refl; fits = omega arith }
+no_frames : (harts : List ℕ) → sum_by (sum_by (λ (c : Counted). length c.path.frames)) (map (λ (hart : ℕ). []) harts) ≡ 0
+no_frames [] = refl
+no_frames (hart ∷ harts) =
+    let first = sum_by-cons (sum_by (λ (c : Counted). length c.path.frames)) [] (map (λ (hart : ℕ). []) harts) in
+    let rest = no_frames harts in
+    omega (arith, first, rest)
 
-pub so_far_small : {A : Type 0} (path_of : Paths) (start now : Sampling) (counted : Counted A) (frames : ℕ) → SoFar path_of start now counted frames → length (each_words counted) < 2 ^ 32 - 1
-so_far_small path_of start now counted frames sofar =
-    let many : length (each_words counted) ≡ length (map sample_words sofar.done) = sym (all_true (each_words counted)) ∙ sofar.counts.same (λ w. true) ∙ all_true (map sample_words sofar.done) in
-    let long = length-map sofar.done sample_words in
-    let few = sofar.few in
-    omega (arith, many, long, few)
+none_counted : (harts : ℕ) → frames_in (distinct harts []) ≡ 0
+unfolding distinct
+none_counted harts = no_frames (range_with_len 0 harts)
 
--- the frames with those of one sample more
-pub added_so_far : {A : Type 0} (path_of : Paths) (start old new : Sampling) (counted : Counted A) (frames added : ℕ) (words : Vec ℕ A) (sofar : SoFar path_of start old counted frames) (takes : Takes path_of words old new)
-    → added ≡ frames_added (words_in counted) words.items → frames + added ≡ frame_count (sofar.done ++ takes.sample ∷ [])
-added_so_far path_of start old new counted frames added words sofar takes is =
-    let more = frame_count_more sofar.done takes.sample in
-    let same : added ≡ frames_added (met_words sofar.done) (sample_words takes.sample) =
-    is ∙ ap (λ (seen : List (List ℕ)). frames_added seen words.items) sofar.kept ∙ ap (frames_added (met_words sofar.done)) takes.told in
-    let was = sofar.many in
-    omega (arith, more, same, was)
+samples_harts : (path_of : Paths) (harts period : ℕ) (instants : List Instant) → All (λ i. i.moment.hart < harts) instants → All (λ s. s.hart < harts) (map hart_raw (map (sample_of path_of) (filter (is_sampled period) instants)))
+samples_harts path_of harts period instants all =
+    All-map (λ (s : HartRaw). s.hart < harts) hart_raw (map (sample_of path_of) (filter (is_sampled period) instants))
+    (All-map (λ (s : Sample). s.hart < harts) (sample_of path_of) (filter (is_sampled period) instants) (All-filter (is_sampled period) (λ (i : Instant). i.moment.hart < harts) instants all))
 
-pub so_far_more : {A : Type 0} (path_of : Paths) (start old new : Sampling) (counted counted' : Counted A) (frames added : ℕ) (words : Vec ℕ A) → SoFar path_of start old counted frames → Takes path_of words old new
-    → added ≡ frames_added (words_in counted) words.items → frames + added ≤ most_path_frames → IsCounted counted counted' words.items → SoFar path_of start new counted' (frames + added)
-so_far_more path_of start old new counted counted' frames added words sofar takes is fits once =
-    let sample : Sample = takes.sample in
-    let long : length (sofar.done ++ sample ∷ []) ≡ length sofar.done + 1 = length-append sofar.done (sample ∷ []) in
-    let met : new.met ≡ old.met + 1 = takes.given.meets.met in
-    let many : new.met ≡ length (sofar.done ++ sample ∷ []) = (let was = sofar.met in omega (arith, long, met, was)) in
+pub so_far_first : (path_of : Paths) (harts : ℕ) (start : Sampling) (ccts : List (List Counted)) → start.met ≡ 0 → All (λ i. i.moment.hart < harts) (to_come start.machine).instants → ccts ≡ distinct harts [] → samples_in ccts ≡ 0
+    → SoFar path_of harts start start ccts
+so_far_first path_of harts start ccts none all are count =
     record {
-      done = sofar.done ++ sample ∷ [];
-      parts = sofar.parts ∙ ap (λ (l : List Sample). sofar.done ++ l) takes.given.to_come ∙ sym (append_assoc sofar.done (sample ∷ []) (samples_to_come path_of new));
-      met = many;
-      few = (let few = takes.given.few in omega (arith, many, few));
-      at_end = takes.last ∙ sofar.at_end;
-      counts = record {
-        same = λ t.
-            let now = once.same t in
-            let before = sofar.counts.same t in
-            let first = count_by-cons t words.items (each_words counted) in
-            let added : count_by t (map sample_words (sofar.done ++ sample ∷ [])) ≡ count_by t (map sample_words sofar.done) + count_by t (sample_words sample ∷ []) =
-            ap (count_by t) (map-append sample_words sofar.done (sample ∷ [])) ∙ count-append t (map sample_words sofar.done) (sample_words sample ∷ []) in
-            let single : count_by t (sample_words sample ∷ []) ≡ one (t words.items) + 0 = count_by-cons t (sample_words sample) [] ∙ ap (λ (w : List ℕ). one (t w) + 0) (sym takes.told) in
-            omega (arith, now, before, first, added, single);
-      };
-      kept =
-          once.kept ∙ ap (λ (seen : List (List ℕ)). seen_with seen words.items) sofar.kept ∙ ap (seen_with (met_words sofar.done)) takes.told ∙ sym (met_more sofar.done sample);
-      many = added_so_far path_of start old new counted frames added words sofar takes is;
-      fits = fits;
+      done = [];
+      parts = refl;
+      met = none;
+      few = omega arith;
+      at_end = refl;
+      done_harts = λ k d lt. absurd (omega arith);
+      left_harts = samples_harts path_of harts start.period (to_come start.machine).instants all;
+      counts = are;
+      count = count;
+      fits = (let zero_is = ap frames_in are ∙ none_counted harts in omega (arith, zero_is));
     }
 
--- too many frames with this sample
-pub so_far_exceeds : {A : Type 0} (path_of : Paths) (start old new : Sampling) (counted : Counted A) (frames added : ℕ) (words : Vec ℕ A) → SoFar path_of start old counted frames → Takes path_of words old new
-    → added ≡ frames_added (words_in counted) words.items → most_path_frames < frames + added → few_samples (samples_to_come path_of start) ≡ Err TooManyFrames
-so_far_exceeds path_of start old new counted frames added words sofar takes is many =
-    let sample : Sample = takes.sample in
-    let front : List Sample = sofar.done ++ sample ∷ [] in
-    let all : List Sample = samples_to_come path_of start in
-    let rest : List Sample = samples_to_come path_of new in
-    let long : length front ≡ length sofar.done + 1 = length-append sofar.done (sample ∷ []) in
-    let met : new.met ≡ old.met + 1 = takes.given.meets.met in
-    let few : length front ≤ most_samples = (let was = sofar.met in let below = takes.given.few in omega (arith, long, met, was, below)) in
-    let parts : all ≡ front ++ rest = sofar.parts ∙ ap (λ (l : List Sample). sofar.done ++ l) takes.given.to_come ∙ sym (append_assoc sofar.done (sample ∷ []) rest) in
-    let taken : (tail : List Sample) × (take most_samples all ≡ front ++ tail) = (let t = taken_front most_samples front rest few in (t.0, ap (take most_samples) parts ∙ t.1)) in
-    let total = added_so_far path_of start old new counted frames added words sofar takes is in
-    let grows : frame_count front ≤ frame_count (take most_samples all) = subst (λ (l : List Sample). frame_count front ≤ frame_count l) (sym taken.1) (frame_count_grows front taken.0) in
-    too_many_frames all (chain most_path_frames (frames + added) (frame_count front) (frame_count (take most_samples all)) many total grows)
-  where
-    chain : (a b c d : ℕ) → a < b → b ≡ c → c ≤ d → a < d
-    chain a b c d lt same le = omega arith
+-- the next sample's
+next_raws : (path_of : Paths) (sample : Sample) (old new : Sampling) → Given path_of sample old new → raws_to_come path_of old ≡ hart_raw sample ∷ raws_to_come path_of new
+next_raws path_of sample old new given = ap (map hart_raw) given.to_come
 
-    taken_front : (n : ℕ) (xs ys : List Sample) → length xs ≤ n → (zs : List Sample) × (take n (xs ++ ys) ≡ xs ++ zs)
-    taken_front n [] ys le = (take n ys, refl)
-    taken_front zero (x ∷ xs) ys le = absurd (omega arith)
-    taken_front (suc n) (x ∷ xs) ys le = let rest = taken_front n xs ys (omega arith) in (rest.0, ap (λ (l : List Sample). x ∷ l) rest.1)
+module _ (path_of : Paths) (harts : ℕ) (start old new : Sampling) (ccts : List (List Counted)) (sofar : SoFar path_of harts start old ccts) where
+  left : (sample : Sample) → Given path_of sample old new → All (λ s. s.hart < harts) (hart_raw sample ∷ raws_to_come path_of new)
+  left sample given = subst (All (λ (s : HartRaw). s.hart < harts)) (next_raws path_of sample old new given) sofar.left_harts
 
-pub so_far_over : (path_of : Paths) (start old new : Sampling) (found : PathCounts) → SoFar path_of start old found.counts.entries found.frames → Ends path_of old new → AllCollected path_of found start new
-so_far_over path_of start old new found sofar ends =
-    let all : samples_to_come path_of start ≡ sofar.done = sofar.parts ∙ ap (λ (l : List Sample). sofar.done ++ l) ends.over.none ∙ append-nil sofar.done in
-    let fits : frame_count (take most_samples sofar.done) ≤ most_path_frames = (let e = ap frame_count (take_all most_samples sofar.done sofar.few) in let m = sofar.many in let f = sofar.fits in omega (arith, e, m, f)) in
-    let few : few_samples sofar.done ≡ Ok sofar.done = within_frames sofar.done fits ∙ ap (λ (b : Bool). cond b (Err TooManySamples) (Ok sofar.done)) (not_above most_samples (length sofar.done) sofar.few) in
-    record {
-      few = subst (λ (l : List Sample). few_samples l ≡ Ok l) (sym all) few;
-      counts = record { same = λ t. sofar.counts.same t ∙ ap (λ (l : List Sample). count_by t (map sample_words l)) (sym all) };
-      paths = ap length (sofar.kept ∙ met_distinct sofar.done) ∙ length-map (distinct sofar.done) sample_words ∙ ap (λ (l : List Sample). length (distinct l)) (sym all);
-      frames = sofar.many ∙ ap frame_count (sym all);
-      fits = sofar.fits;
-      ended = sym (ap (λ (r : Run). r.final) ends.over.ended) ∙ ends.last ∙ sofar.at_end;
-    }
+  pub so_far_hart : (sample : Sample) → Given path_of sample old new → length (distinct harts sofar.done) ≡ harts → sample.hart < length ccts
+  so_far_hart sample given many =
+      let lt : sample.hart < harts = All-head (λ (s : HartRaw). s.hart < harts) (hart_raw sample) (raws_to_come path_of new) (left sample given) in
+      let long : length ccts ≡ harts = ap (λ (ts : List (List Counted)). length ts) sofar.counts ∙ many in
+      omega (arith, lt, long)
 
-pub so_far_many : {A : Type 0} (path_of : Paths) (start old new : Sampling) (counted : Counted A) (frames : ℕ) (fault : InputFault) → SoFar path_of start old counted frames → Exceeds fault old new
-    → few_samples (samples_to_come path_of start) ≡ Err fault
-so_far_many path_of start old new counted frames fault sofar exceeds =
-    elim exceeds.many [
-      | inl now ↦
-          let full : old.met ≡ most_samples = now.full in
-          let long : most_samples ≤ length sofar.done = (let met = sofar.met in omega (arith, met, full)) in
-          let rest : List Sample = samples_to_come path_of old in
-          let some : length rest ≡ suc (length (samples_to_come path_of new)) = ap length (met-samples path_of old new now.meets) in
-          let front : take most_samples (sofar.done ++ rest) ≡ sofar.done = take-append-le most_samples sofar.done rest long ∙ take_all most_samples sofar.done sofar.few in
-          let fits : frame_count (take most_samples (sofar.done ++ rest)) ≤ most_path_frames = (let e = ap frame_count front in let m = sofar.many in let f = sofar.fits in omega (arith, e, m, f)) in
-          let total : length (sofar.done ++ rest) ≡ length sofar.done + length rest = length-append sofar.done rest in
-          let over : most_samples < length (sofar.done ++ rest) = omega (arith, total, some, long) in
-          ap few_samples sofar.parts ∙ within_frames (sofar.done ++ rest) fits
-          ∙ ap (λ (b : Bool). cond b (Err TooManySamples) (Ok (sofar.done ++ rest))) (above most_samples (length (sofar.done ++ rest)) over)
-          ∙ ap Err (sym exceeds.is)
-      | inr was ↦ let met = sofar.met in let few = sofar.few in let over : most_samples < old.met = was.over in absurd (omega (arith, met, few, over))
-    ]
+  pub so_far_room : (sample : Sample) → Given path_of sample old new → samples_in ccts < most_samples
+  so_far_room sample given =
+      let count = sofar.count in
+      let met = sofar.met in
+      let one = given.met in
+      let few = given.few in
+      omega (arith, count, met, one, few)
 
-pub so_far_stops : {A : Type 0} (path_of : Paths) (start old new : Sampling) (counted : Counted A) (frames : ℕ) (fail : Fail InputFault) → SoFar path_of start old counted frames → Stops fail old new → Refuses path_of fail start
-so_far_stops path_of start old new counted frames (fails.Fault fault) sofar stops = so_far_many path_of start old new counted frames fault sofar stops
-so_far_stops path_of start old new counted frames fails.Memory sofar stops = tt
+  -- those that were counted, with this sample
+  module _ (sample : Sample) (given : Given path_of sample old new) (many : length (distinct harts sofar.done) ≡ harts) where
+    all_parts : raws_to_come path_of start ≡ (sofar.done ++ hart_raw sample ∷ []) ++ raws_to_come path_of new
+    all_parts = sofar.parts ∙ ap (λ (l : List HartRaw). sofar.done ++ l) (next_raws path_of sample old new given) ∙ sym (append_assoc sofar.done (hart_raw sample ∷ []) (raws_to_come path_of new))
+
+    now_long : new.met ≡ length (sofar.done ++ hart_raw sample ∷ [])
+    now_long = (let long = length-append sofar.done (hart_raw sample ∷ []) in let met = sofar.met in let one = given.met in omega (arith, long, met, one))
+
+    now_few : length (sofar.done ++ hart_raw sample ∷ []) ≤ most_samples
+    now_few = (let long = now_long in let few = given.few in omega (arith, long, few))
+
+    long_ccts : length ccts ≡ harts
+    long_ccts = ap (λ (ts : List (List Counted)). length ts) sofar.counts ∙ many
+
+    pub so_far_counts : ccts ≡ distinct (length ccts) sofar.done
+    so_far_counts = sofar.counts ∙ ap (λ (n : ℕ). distinct n sofar.done) (sym long_ccts)
+
+    pub so_far_more : (ccts' : List (List Counted)) → (to_come new.machine).final ≡ (to_come old.machine).final → within_frames (distinct (length ccts) (sofar.done ++ hart_raw sample ∷ [])) ≡ Ok ccts' → samples_in ccts' ≡ samples_in ccts + 1
+        → SoFar path_of harts start new ccts'
+    so_far_more ccts' last within count =
+        let tables : List (List Counted) = distinct harts (sofar.done ++ hart_raw sample ∷ []) in
+        let fine : within_frames tables ≡ Ok ccts' = subst (λ (n : ℕ). within_frames (distinct n (sofar.done ++ hart_raw sample ∷ [])) ≡ Ok ccts') long_ccts within in
+        let is = tested_ok (nat_lt most_path_frames (frames_in tables)) TooMany tables ccts' fine in
+        record {
+          done = sofar.done ++ hart_raw sample ∷ [];
+          parts = all_parts;
+          met = now_long;
+          few = now_few;
+          at_end = last ∙ sofar.at_end;
+          done_harts = All-append (λ (s : HartRaw). s.hart < harts) sofar.done (hart_raw sample ∷ []) sofar.done_harts (All-take (λ (s : HartRaw). s.hart < harts) 1 (hart_raw sample ∷ raws_to_come path_of new) (left sample given));
+          left_harts = All-tail (λ (s : HartRaw). s.hart < harts) (hart_raw sample) (raws_to_come path_of new) (left sample given);
+          counts = sym is.1;
+          count = (let was = sofar.count in let long = length-append sofar.done (hart_raw sample ∷ []) in omega (arith, was, long, count));
+          fits = (let few = at_most most_path_frames (frames_in tables) is.0 in let same = ap frames_in is.1 in omega (arith, few, same));
+        }
+
+    -- too many frames with it
+    pub so_far_frames : (fault : InputFault) → within_frames (distinct (length ccts) (sofar.done ++ hart_raw sample ∷ [])) ≡ Err fault
+        → ((more : List HartRaw) → All (λ s. s.hart < harts) more → frames_in (distinct harts (sofar.done ++ hart_raw sample ∷ [])) ≤ frames_in (distinct harts ((sofar.done ++ hart_raw sample ∷ []) ++ more)))
+        → few_samples harts (raws_to_come path_of start) ≡ Err fault
+    so_far_frames fault within grow =
+        let front : List HartRaw = sofar.done ++ hart_raw sample ∷ [] in
+        let rest : List HartRaw = raws_to_come path_of new in
+        let more : List HartRaw = take (most_samples - length front) rest in
+        let refused : within_frames (distinct harts front) ≡ Err fault = subst (λ (n : ℕ). within_frames (distinct n front) ≡ Err fault) long_ccts within in
+        let is = tested_err (nat_lt most_path_frames (frames_in (distinct harts front))) TooMany fault (distinct harts front) refused in
+        let over : most_path_frames < frames_in (distinct harts front) = is_above most_path_frames (frames_in (distinct harts front)) is.0 in
+        let grows : frames_in (distinct harts front) ≤ frames_in (distinct harts (front ++ more)) = grow more (All-take (λ (s : HartRaw). s.hart < harts) (most_samples - length front) rest (All-tail (λ (s : HartRaw). s.hart < harts) (hart_raw sample) rest (left sample given))) in
+        let taken : take most_samples (raws_to_come path_of start) ≡ front ++ more = ap (take most_samples) all_parts ∙ take_front most_samples front rest now_few in
+        let many_frames : nat_lt most_path_frames (frames_in (distinct harts (take most_samples (raws_to_come path_of start)))) ≡ true =
+        ap (λ (l : List HartRaw). nat_lt most_path_frames (frames_in (distinct harts l))) taken ∙ above most_path_frames (frames_in (distinct harts (front ++ more))) (omega (arith, over, grows)) in
+        ap (λ (b : Bool). tested b TooMany (distinct harts (take most_samples (raws_to_come path_of start))) >>= λ _. within_samples (raws_to_come path_of start)) many_frames ∙ ap Err is.1
+      where
+        take_front : (n : ℕ) (xs ys : List HartRaw) → length xs ≤ n → take n (xs ++ ys) ≡ xs ++ take (n - length xs) ys
+        take_front n [] ys le = ap (λ (k : ℕ). take k ys) (let e : n ≡ n - 0 = omega arith in e)
+        take_front zero (x ∷ xs) ys le = absurd (omega arith)
+        take_front (suc n) (x ∷ xs) ys le = ap (λ (l : List HartRaw). x ∷ l) (take_front n xs ys (omega arith) ∙ ap (λ (k : ℕ). xs ++ take k ys) (let e : n - length xs ≡ suc n - length (x ∷ xs) = omega arith in e))
+
+    pub so_far_refused : (fail : Fail InputFault) → FailsBy fail (within_frames (distinct (length ccts) (sofar.done ++ hart_raw sample ∷ [])))
+        → ((more : List HartRaw) → All (λ s. s.hart < harts) more → frames_in (distinct harts (sofar.done ++ hart_raw sample ∷ [])) ≤ frames_in (distinct harts ((sofar.done ++ hart_raw sample ∷ []) ++ more)))
+        → FailsBy fail (few_samples harts (raws_to_come path_of start))
+    so_far_refused (fails.Fault fault) within grow = so_far_frames fault within grow
+    so_far_refused (fails.Memory memory) within grow = tt
+
+  -- the frames of what was counted fit
+  fit : (rest : List HartRaw) → take most_samples (raws_to_come path_of start) ≡ sofar.done → few_samples harts (raws_to_come path_of start) ≡ within_samples (raws_to_come path_of start)
+  fit rest front =
+      let few : frames_in (distinct harts (take most_samples (raws_to_come path_of start))) ≤ most_path_frames =
+      (let same = ap (λ (l : List HartRaw). frames_in (distinct harts l)) front in let are = ap frames_in sofar.counts in let fits = sofar.fits in omega (arith, same, are, fits)) in
+      ap (λ (b : Bool). tested b TooMany (distinct harts (take most_samples (raws_to_come path_of start))) >>= λ _. within_samples (raws_to_come path_of start)) (not_above most_path_frames (frames_in (distinct harts (take most_samples (raws_to_come path_of start)))) few)
+
+  -- none is left
+  pub so_far_over : IsOver path_of old new → (to_come new.machine).final ≡ (to_come old.machine).final → AllCounted path_of harts ccts start new
+  so_far_over over last =
+      let all : raws_to_come path_of start ≡ sofar.done = sofar.parts ∙ ap (λ (l : List Sample). sofar.done ++ map hart_raw l) over.none ∙ append-nil sofar.done in
+      let front : take most_samples (raws_to_come path_of start) ≡ sofar.done = ap (take most_samples) all ∙ take_all most_samples sofar.done sofar.few in
+      let long : length (raws_to_come path_of start) ≤ most_samples = (let same = ap (λ (l : List HartRaw). length l) all in let few = sofar.few in omega (arith, same, few)) in
+      record {
+        few = fit [] front ∙ ap (λ (b : Bool). tested b TooManySamples (raws_to_come path_of start)) (not_above most_samples (length (raws_to_come path_of start)) long);
+        counts = sofar.counts ∙ ap (distinct harts) (sym all);
+        of_harts = subst (All (λ (s : HartRaw). s.hart < harts)) (sym all) sofar.done_harts;
+        ended = sym (ap (λ (r : Run). r.final) over.ended) ∙ last ∙ sofar.at_end;
+      }
+
+  -- one more than there may be
+  pub so_far_many : (fault : InputFault) → Exceeds path_of fault old new → few_samples harts (raws_to_come path_of start) ≡ Err fault
+  so_far_many fault exceeds =
+      let rest : List HartRaw = raws_to_come path_of old in
+      let long : most_samples ≤ length sofar.done = (let met = sofar.met in let full = exceeds.many.full in omega (arith, met, full)) in
+      let front : take most_samples (raws_to_come path_of start) ≡ sofar.done = ap (take most_samples) sofar.parts ∙ take-append-le most_samples sofar.done rest long ∙ take_all most_samples sofar.done sofar.few in
+      let total : length (raws_to_come path_of start) ≡ length sofar.done + length rest = ap (λ (l : List HartRaw). length l) sofar.parts ∙ length-append sofar.done rest in
+      let more : most_samples < length (raws_to_come path_of start) =
+      (let met = sofar.met in let few = sofar.few in let now = exceeds.many.over in let all = exceeds.many.all in let a = raws_long old in omega (arith, total, long, met, few, now, all, a)) in
+      fit rest front ∙ ap (λ (b : Bool). tested b TooManySamples (raws_to_come path_of start)) (above most_samples (length (raws_to_come path_of start)) more) ∙ ap Err (sym exceeds.is)
+    where
+      raws_long : (s : Sampling) → length (raws_to_come path_of s) ≡ length (samples_to_come path_of s)
+      raws_long s = length-map (samples_to_come path_of s) hart_raw
+
+  pub so_far_stops : (fail : Fail InputFault) → Stops path_of fail old new → FailsBy fail (few_samples harts (raws_to_come path_of start))
+  so_far_stops (fails.Fault fault) stops = so_far_many fault stops
+  so_far_stops (fails.Memory memory) stops = tt
 
 -- fewer are left
-pub fewer_left : {A : Type 0} (path_of : Paths) (words : Vec ℕ A) (old new : Sampling) → Takes path_of words old new → length (samples_to_come path_of new) < length (samples_to_come path_of old)
-fewer_left path_of words old new takes = let e : length (samples_to_come path_of old) ≡ suc (length (samples_to_come path_of new)) = ap length takes.given.to_come in omega (arith, e)
+pub fewer_left : (path_of : Paths) (sample : Sample) (old new : Sampling) → Given path_of sample old new → length (samples_to_come path_of new) < length (samples_to_come path_of old)
+fewer_left path_of sample old new given = let e : length (samples_to_come path_of old) ≡ suc (length (samples_to_come path_of new)) = ap (λ (l : List Sample). length l) given.to_come in omega (arith, e)
 
 -- what the answer says
-pub takes_by : {A : Type 0} (path_of : Paths) (answer : Option (Vec ℕ A)) (words : Vec ℕ A) (old new : Sampling) → answer ≡ Some words → Goes path_of (Ok answer) old new → Takes path_of words old new
-takes_by {A} path_of answer words old new is goes = subst (λ (o : Option (Vec ℕ A)). Goes path_of (Ok o) old new) is goes
+pub given_by : (path_of : Paths) (answer : Option Sample) (sample : Sample) (old new : Sampling) → answer ≡ Some sample → Goes path_of (Ok answer) old new → Given path_of sample old new
+given_by path_of answer sample old new is goes = subst (λ (o : Option Sample). Goes path_of (Ok o) old new) is goes
 
-pub ends_by : {A : Type 0} (path_of : Paths) (answer : Option (Vec ℕ A)) (old new : Sampling) → answer ≡ None → Goes path_of (Ok answer) old new → Ends path_of old new
-ends_by {A} path_of answer old new is goes = subst (λ (o : Option (Vec ℕ A)). Goes path_of (Ok o) old new) is goes
-
-pub ruleset collecting_steps = (so_far_first, so_far_small, so_far_more, so_far_exceeds, so_far_over, so_far_stops, fewer_left)
+pub over_by : (path_of : Paths) (answer : Option Sample) (old new : Sampling) → answer ≡ None → Goes path_of (Ok answer) old new → IsOver path_of old new
+over_by path_of answer old new is goes = subst (λ (o : Option Sample). Goes path_of (Ok o) old new) is goes

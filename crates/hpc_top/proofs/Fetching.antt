@@ -1,29 +1,28 @@
 -- Files fetched one after the other.
-use Rattle.std.proofs.Common.{◌≡◌, ℕ, suc, ◌+◌, ◌<◌, ◌≤◌, List, [], ◌∷◌, ◌++◌, length, get_or, map, take, drop, refl, sym, ap, subst, ◌∙◌, arith, Result, Ok, Err, IsTrue}
-use Rattle.std.specs.Prelude.{Contains}
+use Rattle.std.proofs.Common.{◌≡◌, ℕ, suc, ◌+◌, ◌<◌, ◌≤◌, List, [], ◌∷◌, ◌++◌, length, get_or, map, take, drop, refl, sym, ap, subst, ◌∙◌, arith, Result, Ok, Err, IsTrue, is_ok}
 use Rattle.std.proofs.lemmas.List.{take_more, take-append-drop, length-map, get_or-map}
-use Rattle.std.proofs.lemmas.List.Elements.{Contains-get_or}
 use Rattle.std.proofs.Math.Seq.{drop-cons}
 use Rattle.prof_bytes.specs.Outcome.{◌>>=◌}
 use Rattle.prof_devices.specs.Files.{Files}
-use Rattle.prof_devices.specs.Outside.{ShelfState}
+use Rattle.prof_devices.specs.Outside.{ShelfState, Fails}
 use Rattle.hpc_top.specs.declared.status.InputFault.{InputFault}
 use Rattle.hpc_top.specs.declared.status.Stop.{Stop}
 use Rattle.hpc_top.specs.declared.status.Stop.TheVariants.{Input, Device, Memory}
 use Rattle.hpc_top.specs.declared.status.Place.TheVariants.{Read, Store, Print}
 use Rattle.hpc_top.specs.declared.steps.Want.{Want}
-use Rattle.hpc_top.specs.Wanted.{view_want}
+use Rattle.hpc_top.specs.private.Views.{view_want}
 use Rattle.hpc_top.specs.Task.{Wanted, within, contents}
-use Rattle.hpc_top.specs.Steps.{Looked, FetchStops, AreWithin}
+use Rattle.hpc_top.specs.Outcome.{ReadFailed}
+use Rattle.hpc_top.specs.private.Steps.{Looked, FetchStops, AreWithin}
 
 pub looked_same : (s : ShelfState) → Looked s s
-looked_same s = record { tells = refl; files = refl; stores = refl; reads = omega arith }
+looked_same s = record { known = refl; files = refl; stores = refl; reads = omega arith }
 
 pub looked_on : (s t u : ShelfState) → Looked s t → Looked t u → Looked s u
-looked_on s t u a b = record { tells = b.tells ∙ a.tells; files = b.files ∙ a.files; stores = b.stores ∙ a.stores; reads = (let x = a.reads in let y = b.reads in omega arith) }
+looked_on s t u a b = record { known = b.known ∙ a.known; files = b.files ∙ a.files; stores = b.stores ∙ a.stores; reads = (let x = a.reads in let y = b.reads in omega arith) }
 
-pub told_on : (s t : ShelfState) → Looked s t → IsTrue s.tells → IsTrue t.tells
-told_on s t looked told = looked.tells ∙ told
+pub told_on : (s t : ShelfState) → Looked s t → IsTrue s.known → IsTrue t.known
+told_on s t looked told = looked.known ∙ told
 
 pub bind_ok : {X Y F : Type 0} (r : Result X F) (f : X → Result Y F) (y : Y) → (r >>= f) ≡ Ok y → (x : X) × (r ≡ Ok x) × (f x ≡ Ok y)
 bind_ok (Ok x) f y e = (x, refl, e)
@@ -52,13 +51,12 @@ contents_stops files (v ∷ ws) w vs texts fault so_far one =
     ∙ ap (λ (r : Result (List (List ℕ)) InputFault). r >>= λ rest. Ok (first.0 ∷ rest)) (contents_stops files ws w vs later.0 fault later.1 one)
 
 -- fetches that went well, and then one that stops
-pub stops_on : {X Y : Type 0} (P Q : List ℕ → Type 0) (s t u : ShelfState) (x : Result X InputFault) (y : Result Y InputFault) → Looked s t → ((name : List ℕ) → P name → Q name) → ((fault : InputFault) → IsTrue s.tells → x ≡ Err fault → y ≡ Err fault) → (stop : Stop) → FetchStops P t u x stop → FetchStops Q s u y stop
-stops_on P Q s t u x y looked names faults (Input fault) h = (looked_on s t u looked h.0, (λ told. faults fault told (h.1 (told_on s t looked told))))
-stops_on P Q s t u x y looked names faults (Device Read) h =
-    (looked_on s t u looked h.0, (let more = looked.reads in record { rose = (let r = h.1.rose in omega arith); named = names u.reads.name h.1.named }))
-stops_on P Q s t u x y looked names faults (Device Store) h = absurd h
-stops_on P Q s t u x y looked names faults (Device Print) h = absurd h
-stops_on P Q s t u x y looked names faults Memory h = looked_on s t u looked h
+pub stops_on : {X Y : Type 0} (P Q : Type 0) (s t u : ShelfState) (x : Result X InputFault) (y : Result Y InputFault) → Looked s t → (P → Q) → ((fault : InputFault) → IsTrue s.known → x ≡ Err fault → y ≡ Err fault) → (stop : Stop) → FetchStops P t u x stop → FetchStops Q s u y stop
+stops_on P Q s t u x y looked failed faults (Input fault) h = (looked_on s t u looked h.0, (λ told. faults fault told (h.1 (told_on s t looked told))))
+stops_on P Q s t u x y looked failed faults (Device Read) h = (looked_on s t u looked h.0, failed h.1)
+stops_on P Q s t u x y looked failed faults (Device Store) h = absurd h
+stops_on P Q s t u x y looked failed faults (Device Print) h = absurd h
+stops_on P Q s t u x y looked failed faults (Memory memory) h = looked_on s t u looked h
 
 -- the wanted file at a place, as the code holds it
 wanted_at : (ws : List Want) (i : ℕ) (w : Want) → i < length ws → w ≡ get_or ws i w → view_want w ≡ get_or (map view_want ws) i (view_want w)
@@ -66,9 +64,9 @@ wanted_at ws i w less is = ap view_want is ∙ sym (get_or-map view_want ws i w 
 
 -- so far, and one more
 pub fetched_more : (s t u : ShelfState) (ws : List Want) (i : ℕ) (w : Want) (texts texts' : List (List ℕ)) (text : List ℕ) → i < length ws → w ≡ get_or ws i w
-    → Looked s t → (IsTrue s.tells → contents s.files (take i (map view_want ws)) ≡ Ok texts)
-    → Looked t u → (IsTrue t.tells → within t.files (view_want w) ≡ Ok text) → texts' ≡ texts ++ text ∷ []
-    → IsTrue s.tells → contents s.files (take (i + 1) (map view_want ws)) ≡ Ok texts'
+    → Looked s t → (IsTrue s.known → contents s.files (take i (map view_want ws)) ≡ Ok texts)
+    → Looked t u → (IsTrue t.known → within t.files (view_want w) ≡ Ok text) → texts' ≡ texts ++ text ∷ []
+    → IsTrue s.known → contents s.files (take (i + 1) (map view_want ws)) ≡ Ok texts'
 fetched_more s t u ws i w texts texts' text less is looked so_far later one texts_are told =
     let all : List Wanted = map view_want ws in
     let inside : i < length all = (let e = length-map ws view_want in omega arith) in
@@ -78,19 +76,24 @@ fetched_more s t u ws i w texts texts' text less is looked so_far later one text
 
 -- so far, and one that stops
 pub fetch_all_stops : (s t u : ShelfState) (ws : List Want) (i : ℕ) (w : Want) (texts : List (List ℕ)) (stop : Stop) → i < length ws → w ≡ get_or ws i w
-    → Looked s t → (IsTrue s.tells → contents s.files (take i (map view_want ws)) ≡ Ok texts)
-    → FetchStops (λ name. name ≡ (view_want w).name) t u (within t.files (view_want w)) stop
-    → FetchStops (Contains (map (λ w. w.name) (map view_want ws))) s u (contents s.files (map view_want ws)) stop
+    → Looked s t → (IsTrue s.known → contents s.files (take i (map view_want ws)) ≡ Ok texts)
+    → FetchStops (Fails t.reads u.reads (view_want w).name) t u (within t.files (view_want w)) stop
+    → FetchStops (ReadFailed (map view_want ws) s u) s u (contents s.files (map view_want ws)) stop
 fetch_all_stops s t u ws i w texts stop less is looked so_far stops =
     let all : List Wanted = map view_want ws in
     let inside : i < length all = (let e = length-map ws view_want in omega arith) in
-    let names : List (List ℕ) = map (λ (w : Wanted). w.name) all in
-    let named : Contains names (view_want w).name =
-    subst (λ (name : List ℕ). Contains names name) (get_or-map (λ (w : Wanted). w.name) all i (view_want w) (view_want w).name inside ∙ ap (λ (w : Wanted). w.name) (sym (wanted_at ws i w less is))) (Contains-get_or names i (view_want w).name (let e = length-map all (λ (w : Wanted). w.name) in omega arith)) in
     let parts : all ≡ take i all ++ view_want w ∷ drop (suc i) all =
     sym (take-append-drop i all) ∙ ap (λ (rest : List Wanted). take i all ++ rest) (drop-cons all i (view_want w) inside ∙ ap (λ (v : Wanted). v ∷ drop (suc i) all) (sym (wanted_at ws i w less is))) in
-    stops_on (λ name. name ≡ (view_want w).name) (Contains names) s t u (within t.files (view_want w)) (contents s.files all) looked
-    (λ name same. subst (λ (n : List ℕ). Contains names n) (sym same) named)
+    stops_on (Fails t.reads u.reads (view_want w).name) (ReadFailed all s u) s t u (within t.files (view_want w)) (contents s.files all) looked
+    (λ failed. record {
+      rose = (let more = looked.reads in let rose = failed.rose in omega arith);
+      earlier = take i all;
+      failed = view_want w;
+      later = drop (suc i) all;
+      wanted = parts;
+      named = failed.named;
+      within_limits = λ told. ap is_ok (so_far told);
+    })
     (λ fault told refused. ap (contents s.files) parts ∙ contents_stops s.files (take i all) (view_want w) (drop (suc i) all) texts fault (so_far told) (subst (λ (files : Files). within files (view_want w) ≡ Err fault) looked.files refused))
     stop stops
 

@@ -9,7 +9,7 @@ use Rattle.scope_types.specs.declared.scope.LineId.TheVariants.{Address}
 use Rattle.scope_types.specs.declared.scope.Scope.{Scope}
 use Rattle.scope_types.specs.declared.scope.Scope.TheVariants.{Root, Proc, Call, Stmt}
 use Rattle.scope_types.specs.Expansion.{expansion, frame_scopes}
-use Rattle.hpc_top.specs.Samples.{found_at, procedure_at}
+use Rattle.hpc_top.specs.Symbols.{found_at, procedure_at}
 
 -- the scopes of callers, outermost first
 abbrev pub caller_scopes : ProgramImage → List ℕ → List Scope

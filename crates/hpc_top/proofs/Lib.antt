@@ -1,11 +1,9 @@
-pub mod Complete
+pub mod Following
 pub mod Outcomes
 pub mod Line
 pub mod Fetching
 pub mod Lines
-pub mod Counted
 pub mod Products
-pub mod Scopes
 pub mod Frames
 pub mod Collecting
 pub mod Entries

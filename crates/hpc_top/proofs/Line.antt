@@ -15,7 +15,7 @@ line_put err err' line Fault taken = record {
   part = taken.2;
   whole = λ told steady _. absurd (steady taken.1);
 }
-line_put err err' line Memory taken = record {
+line_put err err' line (Memory memory) taken = record {
   part = taken.2;
   whole = λ told _ steady. absurd (steady taken.1);
 }

@@ -1,12 +1,11 @@
 pub mod Words
+pub mod Symbols
 pub mod Samples
-pub mod PathCounts
 pub mod Report
 pub mod Profile
 pub mod Task
 pub mod Outcome
 pub mod Message
-pub mod Stop
+pub mod Follows
 pub mod Made
-pub mod Steps
-pub mod Wanted
+pub mod private

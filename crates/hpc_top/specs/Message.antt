@@ -1,12 +1,13 @@
 -- The one line on the stream of errors.
-use Rattle.std.specs.Prelude.{◌≡◌, ℕ, ◌⊎◌, List, [], ◌++◌, IsTrue, codes, decimal}
+use Rattle.std.specs.Prelude.{◌≡◌, ℕ, List, [], ◌++◌, IsTrue, codes, decimal}
 use Rattle.elf_image.specs.declared.fault.ElfRule.{ElfRule}
 use Rattle.elf_image.specs.declared.fault.ElfRule.TheVariants as rules
 use Rattle.prof_devices.specs.Outside.{SinkState, Rose, Appends, AppendsPart}
 use Rattle.hpc_top.specs.declared.status.FileKind.{FileKind}
 use Rattle.hpc_top.specs.declared.status.FileKind.TheVariants as kinds
 use Rattle.hpc_top.specs.declared.status.InputFault.{InputFault}
-use Rattle.hpc_top.specs.declared.status.InputFault.TheVariants.{TooLong, Schedule, Program, Frames, Unbuilt, TooManySamples, TooManyFrames, TooManyScopes}
+use Rattle.hpc_top.specs.declared.status.InputFault.TheVariants.{TooLong, Schedule, Program, Frames, Unbuilt}
+use Rattle.hpc_top.specs.declared.status.InputFault.TheVariants.{TooManySamples, TooManyFrames, TooManyScopes}
 use Rattle.hpc_top.specs.declared.status.Part.{Part}
 use Rattle.hpc_top.specs.declared.status.Part.TheVariants as parts
 use Rattle.hpc_top.specs.declared.status.Place.{Place}
@@ -47,9 +48,11 @@ place_text Read = codes "device read"
 place_text Store = codes "device store"
 place_text Print = codes "device print"
 
--- the forms of words, also of those commands that are not built yet
+-- all commands with their words, also those that are not built yet
 abbrev pub usage_text : List ℕ
-usage_text = codes "usage: hpc profile ELF INPUT SCHEDULE PERIOD WORKERS DB | run ELF INPUT SCHEDULE PERIOD MEASURE | prof ELF MEASURE WORKERS DB | struct ELF | view DB top|callers|flat | drill NUMBER WORKERS\n"
+usage_text =
+    codes "usage: hpc profile ELF INPUT SCHEDULE PERIOD WORKERS DB | run ELF INPUT SCHEDULE PERIOD MEASURE"
+    ++ codes " | prof ELF MEASURE WORKERS DB | struct ELF | view DB top|callers|flat | drill NUMBER WORKERS\n"
 
 -- the line of an answer
 abbrev pub line_of : Status → List ℕ
@@ -57,24 +60,18 @@ line_of Done = []
 line_of Usage = usage_text
 line_of (Input fault) = codes "hpc: " ++ fault_text fault ++ codes "\n"
 line_of (Device place) = codes "hpc: " ++ place_text place ++ codes "\n"
-line_of Memory = codes "hpc: memory\n"
+line_of (Memory memory) = codes "hpc: memory\n"
 
--- a front of the line was put, and the whole of it unless a count rose
+-- a front of the line was put, and the whole of it unless a count of failures rose
 pub record PutsLine (err err' : SinkState) (line : List ℕ) : Type 0 where
-  pub part : IsTrue err.tells → AppendsPart err.taken err'.taken line
-  pub whole : IsTrue err.tells → ¬ Rose err.faults err'.faults → ¬ Rose err.shortages err'.shortages → Appends err.taken err'.taken line
+  pub part : IsTrue err.known → AppendsPart err.taken err'.taken line
+  pub whole : IsTrue err.known → ¬ Rose err.faults err'.faults → ¬ Rose err.shortages err'.shortages
+      → Appends err.taken err'.taken line
 
+-- what a call leaves of the stream of errors: as it was after `Done`, and with the one line after other answers
 abbrev pub Says : SinkState → SinkState → Status → Type 0
 Says err err' Done = err' ≡ err
 Says err err' Usage = PutsLine err err' (line_of Usage)
 Says err err' (Input fault) = PutsLine err err' (line_of (Input fault))
 Says err err' (Device place) = PutsLine err err' (line_of (Device place))
-Says err err' Memory = PutsLine err err' (line_of Memory)
-
--- the answer stays, or it wasn't Done and is Memory now
-abbrev pub StaysOrMemory : Status → Status → Type 0
-StaysOrMemory Done after = after ≡ Done
-StaysOrMemory Usage after = (after ≡ Usage) ⊎ (after ≡ Memory)
-StaysOrMemory (Input fault) after = (after ≡ Input fault) ⊎ (after ≡ Memory)
-StaysOrMemory (Device place) after = (after ≡ Device place) ⊎ (after ≡ Memory)
-StaysOrMemory Memory after = after ≡ Memory
+Says err err' (Memory memory) = PutsLine err err' (line_of (Memory memory))

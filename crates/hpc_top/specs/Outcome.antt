@@ -1,86 +1,104 @@
--- When each answer comes, and what stands after it.
-use Rattle.std.specs.Prelude.{◌≡◌, ℕ, ◌⊎◌, List, Option, Some, None, Ok, Err, IsTrue, IsOk, Contains}
-use Rattle.prof_devices.specs.Files.{Files, Holds, HoldsPart}
+-- When each answer comes, and what it leaves of the files and the output.
+use Rattle.std.specs.Prelude.{◌≡◌, ◌⊎◌, List, ℕ, ◌∷◌, ◌++◌, Option, Some, None, Ok, Err, IsTrue, IsOk}
+use Rattle.prof_devices.specs.Files.{Holds, HoldsPart}
 use Rattle.prof_devices.specs.Outside.{ShelfState, SinkState, Rose, Appends, AppendsPart}
 use Rattle.hpc_top.specs.declared.status.Status.{Status}
 use Rattle.hpc_top.specs.declared.status.Status.TheVariants.{Done, Usage, Input, Device, Memory}
 use Rattle.hpc_top.specs.declared.status.Place.TheVariants.{Read, Store, Print}
 use Rattle.hpc_top.specs.Profile.{Product}
-use Rattle.hpc_top.specs.Task.{Task, task_of, fetched_names, verdict}
-use Rattle.hpc_top.specs.Words.{Asked}
+use Rattle.hpc_top.specs.Task.{Task, Wanted, task_of, contents, verdict}
+use Rattle.hpc_top.specs.Words.{Request}
 
--- the command's file, where it has one, is these bytes or a front of them. All other files are as before
-abbrev pub Keeps : Option (List ℕ) → Files → Files → List ℕ → Type 0
-Keeps None old new bytes = new ≡ old
-Keeps (Some name) old new bytes = Holds old new name bytes
+-- what the shelf of files and the output show
+pub record World : Type 0 where
+  pub shelf : ShelfState
+  pub out : SinkState
 
-abbrev pub KeepsPart : Option (List ℕ) → Files → Files → List ℕ → Type 0
-KeepsPart None old new bytes = new ≡ old
-KeepsPart (Some name) old new bytes = HoldsPart old new name bytes
+-- a call, by what they show before and after it
+pub record Call : Type 0 where
+  pub before : World
+  pub after : World
 
--- where the files are told, they are accepted, and the product has P
-abbrev pub Makes : Task → ShelfState → (Product → Type 0) → Type 0
-Makes task shelf P = IsTrue shelf.tells → (p : Product) × (verdict task shelf.files ≡ Ok p) × P p
+abbrev pub call_of : ShelfState → ShelfState → SinkState → SinkState → Call
+call_of shelf shelf' out out' =
+    record { before = record { shelf = shelf; out = out }; after = record { shelf = shelf'; out = out' } }
+
+-- ---- files and output after a call
+
+-- the file of this name, where there is a name, is these bytes, and all other files are as before
+abbrev pub Keeps : Option (List ℕ) → Call → List ℕ → Type 0
+Keeps None call bytes = call.after.shelf.files ≡ call.before.shelf.files
+Keeps (Some name) call bytes = Holds call.before.shelf.files call.after.shelf.files name bytes
+
+-- the same of a front of these bytes
+abbrev pub KeepsPart : Option (List ℕ) → Call → List ℕ → Type 0
+KeepsPart None call bytes = call.after.shelf.files ≡ call.before.shelf.files
+KeepsPart (Some name) call bytes = HoldsPart call.before.shelf.files call.after.shelf.files name bytes
 
 -- all files and the output are as before
-abbrev pub Untouched : Task → ShelfState → ShelfState → SinkState → SinkState → Type 0
-Untouched task shelf shelf' out out' = (shelf'.files ≡ shelf.files) × (out' ≡ out)
+abbrev pub Untouched : Call → Type 0
+Untouched call = (call.after.shelf.files ≡ call.before.shelf.files) × (call.after.out ≡ call.before.out)
 
--- the command's file is partly stored, and the output is as before
-abbrev pub Storing : Task → ShelfState → ShelfState → SinkState → SinkState → Type 0
-Storing task shelf shelf' out out' =
-    Makes task shelf (λ p. KeepsPart task.stores shelf.files shelf'.files p.database) × (out' ≡ out)
+-- the product's file is partly stored, and the output is as before
+abbrev pub Storing : Option (List ℕ) → Product → Call → Type 0
+Storing name product call =
+    (IsTrue call.before.shelf.known → KeepsPart name call product.database) × (call.after.out ≡ call.before.out)
 
--- the file is whole, and the text is partly put
-abbrev pub Printing : Task → ShelfState → ShelfState → SinkState → SinkState → Type 0
-Printing task shelf shelf' out out' =
-    Makes task shelf (λ p. Keeps task.stores shelf.files shelf'.files p.database
-    × (IsTrue out.tells → AppendsPart out.taken out'.taken p.text))
+-- the file is whole, and a front of the product's text was put
+abbrev pub Printing : Option (List ℕ) → Product → Call → Type 0
+Printing name product call =
+    (IsTrue call.before.shelf.known → Keeps name call product.database)
+    × (IsTrue call.before.out.known → AppendsPart call.before.out.taken call.after.out.taken product.text)
 
 -- the file and the text are whole
-abbrev pub Finished : Task → ShelfState → ShelfState → SinkState → SinkState → Type 0
-Finished task shelf shelf' out out' =
-    Makes task shelf (λ p. Keeps task.stores shelf.files shelf'.files p.database
-    × (IsTrue out.tells → Appends out.taken out'.taken p.text))
+abbrev pub Finished : Option (List ℕ) → Product → Call → Type 0
+Finished name product call =
+    (IsTrue call.before.shelf.known → Keeps name call product.database)
+    × (IsTrue call.before.out.known → Appends call.before.out.taken call.after.out.taken product.text)
 
--- one row for each answer to a request that the words have
-abbrev pub Outcome : Task → ShelfState → ShelfState → SinkState → SinkState → Status → Type 0
-Outcome task shelf shelf' out out' Done = Finished task shelf shelf' out out'
-Outcome task shelf shelf' out out' Usage = ⊥
-Outcome task shelf shelf' out out' (Input fault) =
-    Untouched task shelf shelf' out out' × (IsTrue shelf.tells → verdict task shelf.files ≡ Err fault)
-Outcome task shelf shelf' out out' (Device Read) =
-    Untouched task shelf shelf' out out' × Rose shelf.reads.count shelf'.reads.count × Contains (fetched_names task) shelf'.reads.name
-Outcome task shelf shelf' out out' (Device Store) =
-    Storing task shelf shelf' out out' × Rose shelf.stores.count shelf'.stores.count × (task.stores ≡ Some shelf'.stores.name)
-Outcome task shelf shelf' out out' (Device Print) =
-    Printing task shelf shelf' out out' × Rose out.faults out'.faults
-Outcome task shelf shelf' out out' Memory =
-    Untouched task shelf shelf' out out' ⊎ Storing task shelf shelf' out out' ⊎ Printing task shelf shelf' out out'
+-- this stands of some product. Where the shelf shows its files, they are accepted, and it is the definition's
+abbrev pub Makes : Task → (Option (List ℕ) → Product → Call → Type 0) → Call → Type 0
+Makes task Stands call =
+    (product : Product) × (IsTrue call.before.shelf.known → verdict task call.before.shelf.files ≡ Ok product)
+    × Stands task.stores product call
 
--- words without a form: nothing was fetched, stored or put
-abbrev pub Refuses : ShelfState → ShelfState → SinkState → SinkState → Status → Type 0
-Refuses shelf shelf' out out' Usage = (shelf' ≡ shelf) × (out' ≡ out)
-Refuses shelf shelf' out out' Memory = (shelf' ≡ shelf) × (out' ≡ out)
-Refuses shelf shelf' out out' Done = ⊥
-Refuses shelf shelf' out out' (Input fault) = ⊥
-Refuses shelf shelf' out out' (Device place) = ⊥
+-- ---- the answers
 
-abbrev pub Answers : Option Asked → ShelfState → ShelfState → SinkState → SinkState → Status → Type 0
-Answers None shelf shelf' out out' status = Refuses shelf shelf' out out' status
-Answers (Some asked) shelf shelf' out out' status = Outcome (task_of asked) shelf shelf' out out' status
+-- a read of one of the wanted files failed, and those before it are within their limits
+pub record ReadFailed (wants : List Wanted) (old new : ShelfState) : Type 0 where
+  pub rose : Rose old.reads.count new.reads.count
+  pub earlier : List Wanted
+  pub failed : Wanted
+  pub later : List Wanted
+  pub wanted : wants ≡ earlier ++ failed ∷ later
+  pub named : new.reads.name ≡ failed.name
+  pub within_limits : IsTrue old.known → IsOk (contents old.files earlier)
 
--- where the files are told and accepted, and no count rose, the answer is Done or Memory
-abbrev pub IsDoneOrMemory : Status → Type 0
-IsDoneOrMemory Done = Unit {0}
-IsDoneOrMemory Memory = Unit {0}
-IsDoneOrMemory Usage = ⊥
-IsDoneOrMemory (Input fault) = ⊥
-IsDoneOrMemory (Device place) = ⊥
+-- the store of the command's file failed
+pub record StoreFailed (name : Option (List ℕ)) (old new : ShelfState) : Type 0 where
+  pub rose : Rose old.stores.count new.stores.count
+  pub named : name ≡ Some new.stores.name
 
-abbrev pub Completes : Option Asked → ShelfState → ShelfState → SinkState → SinkState → Status → Type 0
-Completes None shelf shelf' out out' status = Unit {0}
-Completes (Some asked) shelf shelf' out out' status =
-    IsTrue shelf.tells → IsOk (verdict (task_of asked) shelf.files)
-    → ¬ Rose shelf.reads.count shelf'.reads.count → ¬ Rose shelf.stores.count shelf'.stores.count → ¬ Rose out.faults out'.faults
-    → IsDoneOrMemory status
+-- a row for each answer to a valid command line
+abbrev pub Outcome : Task → Call → Status → Type 0
+Outcome task call Done = Makes task Finished call
+Outcome task call Usage = ⊥
+Outcome task call (Input fault) =
+    Untouched call × (IsTrue call.before.shelf.known → verdict task call.before.shelf.files ≡ Err fault)
+Outcome task call (Device Read) = Untouched call × ReadFailed task.wants call.before.shelf call.after.shelf
+Outcome task call (Device Store) = Makes task Storing call × StoreFailed task.stores call.before.shelf call.after.shelf
+Outcome task call (Device Print) = Makes task Printing call × Rose call.before.out.faults call.after.out.faults
+Outcome task call (Memory memory) = Untouched call ⊎ Makes task Storing call ⊎ Makes task Printing call
+
+-- an invalid command line: no file was fetched or stored, and nothing was put
+abbrev pub Refuses : Call → Status → Type 0
+Refuses call Usage = call.after ≡ call.before
+Refuses call (Memory memory) = call.after ≡ call.before
+Refuses call Done = ⊥
+Refuses call (Input fault) = ⊥
+Refuses call (Device place) = ⊥
+
+-- when each answer comes, and what it leaves
+abbrev pub Answers : Option Request → Call → Status → Type 0
+Answers None call status = Refuses call status
+Answers (Some request) call status = Outcome (task_of request) call status

@@ -1,31 +1,29 @@
 -- The main job as a function of its files: what is stored and what is put, or the first refusal.
-use Rattle.std.specs.Prelude.{ℕ, List, length, map, take, count_by, find, Option, Some, None, Result, Ok, Err, if◌then◌else◌, ◌==◌, codes}
+use Rattle.std.specs.Prelude.{ℕ, List, length, map, Result, Ok, Err, if◌then◌else◌, ◌==◌, codes}
 use Rattle.prof_bytes.specs.Outcome.{◌>>=◌}
 use Rattle.scope_types.specs.CallPaths.{HartPath}
 use Rattle.elf_image.specs.declared.fault.ElfFault.{ElfFault}
-use Rattle.elf_image.specs.Image.{FunctionSymbol, ProgramImage, bytes_of_name}
+use Rattle.elf_image.specs.Image.{ProgramImage, bytes_of_name}
 use Rattle.elf_image.specs.Reading.{image_of}
 use Rattle.cfi_table.specs.declared.fault.FrameFault.{FrameFault}
 use Rattle.cfi_table.specs.Frames.{frames_of, Frames as Described}
 use Rattle.cfi_unwind.specs.Path.{unwinding_of, path_of as unwound_by}
-use Rattle.scope_types.specs.declared.scope.ProcId.{ProcId}
-use Rattle.scope_types.specs.declared.scope.ProcId.TheVariants as procs
+use Rattle.scope_types.specs.Expansion.{FoundAt}
 use Rattle.sample_clock.specs.Samples.{Paths}
 use Rattle.rv_run.specs.declared.schedule.ScheduleFault.{ScheduleFault}
 use Rattle.rv_run.specs.Schedule.{Scheduled, schedule_of}
-use Rattle.rv_run.specs.State.{MachineState, hart_of}
+use Rattle.rv_run.specs.State.{MachineState}
 use Rattle.rv_run.specs.Run.{Run, run_of}
 use Rattle.tree_types.specs.Naming.{Naming}
 use Rattle.tree_types.specs.Database.{content_of}
 use Rattle.tree_types.specs.TopDown.{top_down}
-use Rattle.tree_types.specs.Values.{harts_below}
 use Rattle.prof_db.specs.Spelling.{spelling}
 use Rattle.hpc_top.specs.declared.status.InputFault.{InputFault}
 use Rattle.hpc_top.specs.declared.status.InputFault.TheVariants.{Schedule, Program, Frames, Unbuilt}
 use Rattle.hpc_top.specs.declared.status.Part.TheVariants as parts
-use Rattle.hpc_top.specs.Samples.{sample_path, sampled, few_scopes}
-use Rattle.hpc_top.specs.declared.report.HartLine.{HartLine}
-use Rattle.hpc_top.specs.Report.{report_of, total_line}
+use Rattle.hpc_top.specs.Samples.{sample_path, sampled, few_samples, few_scopes}
+use Rattle.hpc_top.specs.Symbols.{found_at, naming_of}
+use Rattle.hpc_top.specs.Report.{report_of}
 
 -- what is stored, where the command stores a file, and what is put
 pub record Product : Type 0 where
@@ -58,55 +56,24 @@ frame_information image = frames_from (frames_of (bytes_of_name image.sections (
 
 -- a program with debug information is not taken yet
 abbrev pub no_entries : ProgramImage → Result (Unit {0}) InputFault
-no_entries image = if length (bytes_of_name image.sections (codes ".debug_info")) == 0 then Ok tt else Err (Unbuilt parts.Entries 0)
-
--- ---- names
-
-abbrev pub most_name : ℕ
-most_name = 4096
-
--- a function symbol's name, cut
-abbrev pub symbol_name : Option FunctionSymbol → List ℕ
-symbol_name (Some function) = take most_name function.name
-symbol_name None = codes "<unnamed>"
-
--- a procedure is called as the first function symbol that starts where it does
-abbrev pub proc_name_in : ProgramImage → ProcId → List ℕ
-proc_name_in image (procs.Sym start) = symbol_name (find (λ function. function.start == start) image.functions)
-proc_name_in image (procs.Die offset) = codes "<unnamed>"
-proc_name_in image procs.Nameless = codes "<unknown procedure>"
-
--- how procedures and files are called, where no line is known
-abbrev pub naming_of : ProgramImage → Naming
-naming_of image = record { proc_name = proc_name_in image; file_name = λ table file. codes "<unknown file>" }
+no_entries image =
+    if length (bytes_of_name image.sections (codes ".debug_info")) == 0 then Ok tt else Err (Unbuilt parts.Entries 0)
 
 -- ---- the product
-
--- how many of the paths are a hart's
-abbrev pub samples_of : List HartPath → ℕ → ℕ
-samples_of paths hart = count_by (λ p. p.hart == hart) paths
-
-abbrev pub hart_line_of : List HartPath → MachineState → ℕ → HartLine
-hart_line_of paths final hart =
-    let state = hart_of final hart in
-    record { retired = state.retired; samples = samples_of paths hart; end = state.end }
-
-abbrev pub hart_lines : ℕ → List HartPath → MachineState → List HartLine
-hart_lines harts paths final = map (hart_line_of paths final) (harts_below harts)
 
 -- of the call paths of the samples, and the machine at the end of the run
 abbrev pub product_from : ℕ → ℕ → Naming → List HartPath → MachineState → Product
 product_from period harts naming paths final = record {
   database = spelling (content_of period harts naming paths);
-  text = report_of final.output (total_line harts period (length paths)) (hart_lines harts paths final) (top_down period harts naming paths);
+  text = report_of period harts final paths (top_down period harts naming paths);
 }
 
 -- of the samples of a run, unless there are too many of them, their frames or their scopes
-abbrev pub product_of : Paths → ℕ → ℕ → ProgramImage → Run → Result Product InputFault
-product_of path_of period harts image run = do
-  samples ← sampled path_of period run
-  samples ← few_scopes image samples
-  Ok (product_from period harts (naming_of image) (map (sample_path image) samples) run.final)
+unfoldable pub product_of : Paths → ℕ → ℕ → (ℕ → FoundAt) → Naming → Run → Result Product InputFault
+product_of path_of period harts found naming run = do
+  samples ← few_samples harts (sampled path_of period run)
+  samples ← few_scopes found harts samples
+  Ok (product_from period harts naming (map (sample_path found) samples) run.final)
 
 -- the product of a program, an input and a schedule, or the first of their refusals
 unfoldable pub profile_of : List ℕ → List ℕ → List ℕ → ℕ → Result Product InputFault
@@ -115,4 +82,5 @@ profile_of elf input schedule period = do
   image ← program elf
   described ← frame_information image
   _ ← no_entries image
-  product_of (unwound_by (unwinding_of described image)) period schedule.harts image (run_of image schedule input)
+  product_of (unwound_by (unwinding_of described image)) period schedule.harts (found_at image) (naming_of image)
+      (run_of image schedule input)

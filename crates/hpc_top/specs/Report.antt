@@ -1,16 +1,20 @@
 -- The report of a run as text.
-use Rattle.std.specs.Prelude.{ℕ, ◌-◌, ◌*◌, List, [], ◌∷◌, ◌++◌, length, codes, decimal, slice_index, if◌then◌else◌, ◌==◌, ◌||◌}
-use Rattle.std.specs.List.{flat_map, enumerate_from}
+use Rattle.std.specs.Prelude.{ℕ, ◌-◌, ◌*◌, ◌==◌, ◌||◌, if◌then◌else◌}
+use Rattle.std.specs.Prelude.{List, [], ◌∷◌, ◌++◌, length, slice_index, count_by, codes, decimal}
+use Rattle.std.specs.List.{flat_map}
+use Rattle.scope_types.specs.CallPaths.{HartPath}
 use Rattle.tree_types.specs.TopDown.{address_text}
+use Rattle.tree_types.specs.Values.{harts_below}
 use Rattle.rv_hart.specs.declared.outcome.Cause.{Cause}
 use Rattle.rv_hart.specs.declared.outcome.Cause.TheVariants.{Illegal, Fetch, Load, Store, Target}
+use Rattle.rv_run.specs.State.{MachineState, hart_of}
 use Rattle.rv_run.specs.declared.hart.HartEnd.{HartEnd}
-use Rattle.hpc_top.specs.declared.report.HartLine.{HartLine}
 use Rattle.rv_run.specs.declared.hart.HartEnd.TheVariants.{Running, Exit, Group, Trap, Break}
 
 -- the guest's output ends in a line feed, unless it is empty
 abbrev pub closed : List ℕ → List ℕ
-closed output = if length output == 0 || slice_index output (length output - 1) == 10 then output else output ++ 10 ∷ []
+closed output =
+    if length output == 0 || slice_index output (length output - 1) == 10 then output else output ++ 10 ∷ []
 
 abbrev pub cause_text : Cause → List ℕ
 cause_text Illegal = codes "illegal"
@@ -32,11 +36,21 @@ total_line harts period samples =
     codes "harts " ++ decimal harts ++ codes " period " ++ decimal period
     ++ codes " samples " ++ decimal samples ++ codes " total " ++ decimal (period * samples) ++ codes "\n"
 
-abbrev pub hart_line : ℕ × HartLine → List ℕ
-hart_line h =
-    codes "hart " ++ decimal h.0 ++ codes " retired " ++ decimal h.1.retired
-    ++ codes " samples " ++ decimal h.1.samples ++ codes " end " ++ end_text h.1.end ++ codes "\n"
+-- how many of the paths are a hart's
+abbrev pub samples_of : List HartPath → ℕ → ℕ
+samples_of paths hart = count_by (λ p. p.hart == hart) paths
+
+-- what a hart did: the instructions that it retired, its samples, and how it stands at the end
+abbrev pub hart_line : MachineState → List HartPath → ℕ → List ℕ
+hart_line final paths hart =
+    codes "hart " ++ decimal hart ++ codes " retired " ++ decimal (hart_of final hart).retired
+    ++ codes " samples " ++ decimal (samples_of paths hart)
+    ++ codes " end " ++ end_text (hart_of final hart).end ++ codes "\n"
+
+abbrev pub hart_lines : ℕ → MachineState → List HartPath → List ℕ
+hart_lines harts final paths = flat_map (hart_line final paths) (harts_below harts)
 
 -- the guest's output, the totals, a line for each hart, and the top-down table
-abbrev pub report_of : List ℕ → List ℕ → List HartLine → List ℕ → List ℕ
-report_of output totals harts table = closed output ++ totals ++ flat_map hart_line (enumerate_from 0 harts) ++ table
+abbrev pub report_of : ℕ → ℕ → MachineState → List HartPath → List ℕ → List ℕ
+report_of period harts final paths table =
+    closed final.output ++ total_line harts period (length paths) ++ hart_lines harts final paths ++ table

@@ -1,40 +1,25 @@
 -- The samples of a run as call paths (HPCToolkit's manual, "Call Path Profiling").
-use Rattle.std.specs.Prelude.{ℕ, List, [], ◌∷◌, map, length, take, filter, sum_by, Bool, not, Option, Some, None, Result, Ok, Err, if◌then◌else◌, nat_lt, nat_eq, find}
-use Rattle.std.specs.Cmp.Lexicographic.{pointwise}
+use Rattle.std.specs.Prelude.{ℕ, List, map, length, take, sum_by, Result, Ok, Err, if◌then◌else◌, nat_lt}
+use Rattle.prof_bytes.specs.Outcome.{◌>>=◌}
+use Rattle.scope_types.specs.declared.frame.Counted.{Counted}
 use Rattle.scope_types.specs.declared.frame.Frame.{Frame}
 use Rattle.scope_types.specs.declared.frame.End.{End}
 use Rattle.scope_types.specs.declared.frame.End.TheVariants.{Whole, Partial as Stopped}
-use Rattle.scope_types.specs.declared.frame.PartialCause.{PartialCause}
-use Rattle.scope_types.specs.declared.frame.PartialCause.TheVariants.{NoFde, NoCfa, Expression, Unmapped, Depth}
 use Rattle.scope_types.specs.declared.scope.RootKind.{RootKind}
 use Rattle.scope_types.specs.declared.scope.RootKind.TheVariants.{Thread, Partial}
-use Rattle.scope_types.specs.declared.scope.ProcId.{ProcId}
-use Rattle.scope_types.specs.declared.scope.ProcId.TheVariants.{Nameless, Sym}
-use Rattle.scope_types.specs.declared.scope.LineId.TheVariants.{Address}
+use Rattle.scope_types.specs.declared.scope.Scope.{Scope}
 use Rattle.scope_types.specs.CallPaths.{HartPath}
+use Rattle.scope_types.specs.Distinct.{HartRaw, distinct, frames_in}
 use Rattle.scope_types.specs.Expansion.{FoundAt, expansion}
-use Rattle.elf_image.specs.Image.{FunctionSymbol, ProgramImage, in_function}
+use Rattle.scope_types.specs.Limits.{most_samples, most_path_frames}
+use Rattle.scope_types.specs.Raw.{Raw}
 use Rattle.sample_clock.specs.declared.clock.Sample.{Sample}
-use Rattle.scope_types.specs.Limits.{most_samples}
 use Rattle.sample_clock.specs.Samples.{Paths, samples}
 use Rattle.rv_run.specs.Run.{Run}
 use Rattle.hpc_top.specs.declared.status.InputFault.{InputFault}
 use Rattle.hpc_top.specs.declared.status.InputFault.TheVariants.{TooManySamples, TooManyFrames, TooManyScopes}
 
 -- ---- call paths
-
--- a function symbol's procedure
-abbrev pub procedure_of : Option FunctionSymbol → ProcId
-procedure_of (Some function) = Sym function.start
-procedure_of None = Nameless
-
--- the procedure at an address, by the first function symbol that holds it
-abbrev pub procedure_at : ProgramImage → ℕ → ProcId
-procedure_at image address = procedure_of (find (in_function address) image.functions)
-
--- what the symbols say of an address; no inlines and no line are known
-abbrev pub found_at : ProgramImage → ℕ → FoundAt
-found_at image address = record { procedure = procedure_at image address; inlines = []; line = Address address }
 
 -- a path that ends whole begins at a thread's root, and any other among the partial ones
 abbrev pub root_of : End → RootKind
@@ -44,62 +29,48 @@ root_of (Stopped cause) = Partial
 abbrev pub pc_of : Frame → ℕ
 pc_of frame = frame.pc
 
--- the call path of a sample
-abbrev pub sample_path : ProgramImage → Sample → HartPath
-sample_path image s = record { hart = s.hart; path = expansion (found_at image) (root_of s.path.end) (map pc_of s.path.frames) }
+-- the call path of a raw path, by what is found at each address
+abbrev pub raw_path : (ℕ → FoundAt) → Raw → List Scope
+raw_path found raw = expansion found (root_of raw.end) (map pc_of raw.frames)
 
--- ---- distinct paths
+-- and of a sample
+abbrev pub sample_path : (ℕ → FoundAt) → HartRaw → HartPath
+sample_path found s = record { hart = s.hart; path = raw_path found s.raw }
 
--- how a path ends, as a number
-abbrev pub cause_word : PartialCause → ℕ
-cause_word NoFde = 1
-cause_word NoCfa = 2
-cause_word Expression = 3
-cause_word Unmapped = 4
-cause_word Depth = 5
+-- how many scopes the call paths of distinct raw paths have together
+abbrev pub path_scopes : (ℕ → FoundAt) → Counted → ℕ
+path_scopes found counted = length (raw_path found counted.path)
 
-abbrev pub end_word : End → ℕ
-end_word Whole = 0
-end_word (Stopped cause) = cause_word cause
+abbrev pub scopes_in : (ℕ → FoundAt) → List (List Counted) → ℕ
+scopes_in found tables = sum_by (sum_by (path_scopes found)) tables
 
--- a raw path of a hart as words: the hart, how the path ends, and the program counters, innermost first
-abbrev pub sample_words : Sample → List ℕ
-sample_words s = s.hart ∷ end_word s.path.end ∷ map pc_of s.path.frames
-
--- whether two samples have the same raw path on the same hart
-abbrev pub has_path_of : Sample → Sample → Bool
-has_path_of s t = pointwise nat_eq (sample_words t) (sample_words s)
-
--- for each raw path of a hart the first sample that has it
-abbrev pub distinct : List Sample → List Sample
-distinct [] = []
-distinct (s ∷ all) = s ∷ filter (λ t. not (has_path_of s t)) (distinct all)
-
--- how many frames and scopes the distinct paths of samples have together
-abbrev pub frame_count : List Sample → ℕ
-frame_count all = sum_by (λ s. length s.path.frames) (distinct all)
-
-abbrev pub scope_count : ProgramImage → List Sample → ℕ
-scope_count image all = sum_by (λ s. length (sample_path image s).path) (distinct all)
-
--- how many of them there may be
-abbrev pub most_path_frames : ℕ
-most_path_frames = 4194304
-
+-- how many they may have
 abbrev pub most_path_scopes : ℕ
 most_path_scopes = 8388608
 
 -- ---- the samples that are taken
 
--- the first of the two limits that the run meets: too many frames, or too many samples
-abbrev pub few_samples : List Sample → Result (List Sample) InputFault
-few_samples all =
-    if nat_lt most_path_frames (frame_count (take most_samples all)) then Err TooManyFrames
-    else if nat_lt most_samples (length all) then Err TooManySamples
-    else Ok all
+abbrev pub within_frames : List (List Counted) → Result (List (List Counted)) InputFault
+within_frames tables = if nat_lt most_path_frames (frames_in tables) then Err TooManyFrames else Ok tables
 
-abbrev pub few_scopes : ProgramImage → List Sample → Result (List Sample) InputFault
-few_scopes image all = if nat_lt most_path_scopes (scope_count image all) then Err TooManyScopes else Ok all
+abbrev pub within_samples : List HartRaw → Result (List HartRaw) InputFault
+within_samples all = if nat_lt most_samples (length all) then Err TooManySamples else Ok all
 
-abbrev pub sampled : Paths → ℕ → Run → Result (List Sample) InputFault
-sampled path_of period run = few_samples (samples path_of period run.instants)
+-- the first of two limits that the run meets: too many frames of distinct raw paths, or too many samples
+abbrev pub few_samples : ℕ → List HartRaw → Result (List HartRaw) InputFault
+few_samples harts all = do
+  _ ← within_frames (distinct harts (take most_samples all))
+  within_samples all
+
+-- the third limit: too many scopes of the call paths of distinct raw paths
+abbrev pub few_scopes : (ℕ → FoundAt) → ℕ → List HartRaw → Result (List HartRaw) InputFault
+few_scopes found harts all =
+    if nat_lt most_path_scopes (scopes_in found (distinct harts all)) then Err TooManyScopes else Ok all
+
+-- a sample as its hart and its raw path
+abbrev pub hart_raw : Sample → HartRaw
+hart_raw s = record { hart = s.hart; raw = s.path }
+
+-- the samples of a run
+abbrev pub sampled : Paths → ℕ → Run → List HartRaw
+sampled path_of period run = map hart_raw (samples path_of period run.instants)

@@ -1,15 +1,14 @@
 //! The top call: the words, the command, and its answer.
-ghost use Rattle.std.specs.Prelude.{◌≡◌, ◌≢◌, ◌⊎◌, [], ◌∷◌, IsNone, IfNone, IfSome, IsTrue, Err, length, map};
+ghost use Rattle.std.specs.Prelude.{◌≡◌, ◌≢◌, [], ◌∷◌, IsNone, IfNone, IfSome, length, map};
 ghost use Rattle.std.specs.Option.{option_copied};
-ghost use Rattle.prof_devices.specs.Outside.{Rose};
-ghost use Rattle.hpc_top.specs.declared.status.InputFault.{InputFault};
-ghost use Rattle.hpc_top.specs.Words.{Profile, request_of, view_asked, view_profile};
-ghost use Rattle.hpc_top.specs.Task.{profile_files, task_of, verdict};
-ghost use Rattle.hpc_top.specs.Wanted.{view_want};
-ghost use Rattle.hpc_top.specs.Outcome.{Outcome, Answers, Completes, Finished};
-ghost use Rattle.hpc_top.specs.Steps.{Prepares};
-ghost use Rattle.hpc_top.specs.Stop.{answer_of};
+ghost use Rattle.hpc_top.specs.Words.{Profile, request_of};
+ghost use Rattle.hpc_top.specs.Task.{profile_files, task_of};
+ghost use Rattle.hpc_top.specs.Outcome.{Outcome, Answers, call_of};
 ghost use Rattle.hpc_top.specs.Message.{Says};
+ghost use Rattle.hpc_top.specs.Follows.{Follows};
+ghost use Rattle.hpc_top.specs.private.Stop.{answer_of};
+ghost use Rattle.hpc_top.specs.private.Steps.{Prepares};
+ghost use Rattle.hpc_top.specs.private.Views.{view_profile, view_request, view_want};
 
 use crate::main_job::{Job, profile};
 use crate::message::tell;
@@ -90,7 +89,7 @@ fn prepare<R: Threads + Sync + AllocGlobal, F: Shelf>(
     request: Request<'_>,
     shelf: &mut F,
 ) -> Result<Made, Stop>
-    ensures { Prepares (task_of (view_asked request.entry)) (F.shown shelf.old) (F.shown shelf.new) result }
+    ensures { Prepares (task_of (view_request request.entry)) (F.shown shelf.old) (F.shown shelf.new) result }
 {
     match request {
         Request::Profile(words) => prepare_profile(rt, words, shelf),
@@ -98,7 +97,7 @@ fn prepare<R: Threads + Sync + AllocGlobal, F: Shelf>(
 }
 
 fn stored_name(request: Request<'_>) -> Option<&[u8]>
-    ensures { option_copied result ≡ (task_of (view_asked request.entry)).stores }
+    ensures { option_copied result ≡ (task_of (view_request request.entry)).stores }
 {
     match request {
         Request::Profile(words) => Some(words.database),
@@ -111,7 +110,8 @@ fn carry_out<R: Threads + Sync + AllocGlobal, F: Shelf, O: Sink>(
     shelf: &mut F,
     out: &mut O,
 ) -> Result<(), Stop>
-    ensures { Outcome (task_of (view_asked request.entry)) (F.shown shelf.old) (F.shown shelf.new) (O.shown out.old) (O.shown out.new) (answer_of result) }
+    ensures { Outcome (task_of (view_request request.entry))
+        (call_of (F.shown shelf.old) (F.shown shelf.new) (O.shown out.old) (O.shown out.new)) (answer_of result) }
 {
     let made = prepare(rt, request, shelf)?;
     deliver(shelf, out, stored_name(request), &made)
@@ -123,7 +123,8 @@ fn answer<R: Threads + Sync + AllocGlobal, F: Shelf, O: Sink>(
     shelf: &mut F,
     out: &mut O,
 ) -> Status
-    ensures answer { Answers (request_of words.now) (F.shown shelf.old) (F.shown shelf.new) (O.shown out.old) (O.shown out.new) result }
+    ensures answer { Answers (request_of words.now)
+        (call_of (F.shown shelf.old) (F.shown shelf.new) (O.shown out.old) (O.shown out.new)) result }
     ensures untouched { IsNone (request_of words.now) → (shelf.new ≡ shelf.old) × (out.new ≡ out.old) }
 {
     match read_words(words) {
@@ -139,7 +140,8 @@ fn respond<R: Threads + Sync + AllocGlobal, F: Shelf, O: Sink, E: Sink>(
     out: &mut O,
     err: &mut E,
 ) -> Status
-    ensures answer { Answers (request_of words.now) (F.shown shelf.old) (F.shown shelf.new) (O.shown out.old) (O.shown out.new) result }
+    ensures answer { Answers (request_of words.now)
+        (call_of (F.shown shelf.old) (F.shown shelf.new) (O.shown out.old) (O.shown out.new)) result }
     ensures line { Says (E.shown err.old) (E.shown err.new) result }
     ensures untouched { IsNone (request_of words.now) → (shelf.new ≡ shelf.old) × (out.new ≡ out.old) }
 {
@@ -160,25 +162,14 @@ pub fn hpc_main<R: Threads + Sync + AllocGlobal, F: Shelf, O: Sink, E: Sink, G: 
 ) -> Status
     // When each answer comes, and what it leaves of the files and the output.
     ensures answer { Answers (request_of words.now)
-        (F.shown shelf.old) (F.shown shelf.new) (O.shown out.old) (O.shown out.new) result }
-    // Where the files are told and accepted and no device failed, it is `Done`, unless memory ran out.
-    ensures complete { Completes (request_of words.now)
-        (F.shown shelf.old) (F.shown shelf.new) (O.shown out.old) (O.shown out.new) result }
+        (call_of (F.shown shelf.old) (F.shown shelf.new) (O.shown out.old) (O.shown out.new)) result }
     // The one line of each answer but `Done`, which leaves `err` as it was.
     ensures line { Says (E.shown err.old) (E.shown err.new) result }
-    // Words without a form: no device is called.
+    // For an invalid command line neither files nor output are called.
     ensures untouched { IsNone (request_of words.now) → (shelf.new ≡ shelf.old) × (out.new ≡ out.old) }
-    // The words alone decide on `Usage`.
-    ensures usage { result ≡ Status.Usage → IsNone (request_of words.now) }
-    ensures usage_only { IsNone (request_of words.now) → (result ≡ Status.Usage) ⊎ (result ≡ Status.Memory) }
-    // The headline: after `Done` the database and the report are the definitions', and all other files stay.
-    ensures done { result ≡ Status.Done → IfSome (request_of words.now) (λ asked. Finished (task_of asked)
-        (F.shown shelf.old) (F.shown shelf.new) (O.shown out.old) (O.shown out.new)) }
-    // A refusal of the files is the verdict on them.
-    ensures input { (fault : InputFault) → result ≡ Status.Input fault → IfSome (request_of words.now) (λ asked.
-        IsTrue (F.shown shelf.old).tells → verdict (task_of asked) (F.shown shelf.old).files ≡ Err fault) }
-    // A device's failure rose in this call.
-    ensures read { result ≡ Status.Device Place.Read → Rose (F.shown shelf.old).reads.count (F.shown shelf.new).reads.count }
+    // What follows from the first: the headline, and each answer with its cause, one sentence each.
+    ensures follows { Follows (request_of words.now)
+        (call_of (F.shown shelf.old) (F.shown shelf.new) (O.shown out.old) (O.shown out.new)) result }
 {
     respond(rt, words, shelf, out, err)
 }

@@ -1,24 +1,47 @@
-//! The call paths of distinct raw paths, by the program's function symbols.
-ghost use Rattle.std.specs.Prelude.{◌≡◌, ◌++◌, ◌∷◌, [], map, IfOk, OnOk};
-ghost use Rattle.scope_types.specs.CallPaths.{each_path, entry_path};
+//! The call paths of counted raw paths, by the program's function symbols.
+ghost use Rattle.std.specs.Prelude.{◌≡◌, ◌<◌, ◌≤◌, ◌++◌, ◌∷◌, [], length, map, IfOk, OnOk};
+ghost use Rattle.scope_types.specs.CallPaths.{entry_path};
 ghost use Rattle.scope_types.specs.Expansion.{expansion};
-ghost use Rattle.hpc_top.specs.Samples.{found_at, procedure_at};
-ghost use Rattle.hpc_top.specs.PathCounts.{each_words, root_from, words_path};
+ghost use Rattle.thread_cct.specs.Adding.{of_hart};
+ghost use Rattle.hpc_top.specs.Samples.{most_path_scopes, pc_of, root_of, sample_path};
+ghost use Rattle.hpc_top.specs.Symbols.{found_at, procedure_at};
+ghost use Rattle.hpc_top.specs.private.Collecting.{AddsOr, ExpandsAll};
 
+use crate::status::InputFault;
 use elf_image::Image;
-use indexmap::IndexMap;
-use prof_bytes::{Listed, Memory};
-use scope_types::{Entry, LineId, ProcId, RootKind, Scope, ScopePath};
+use prof_bytes::{Fail, Listed, Memory};
+use scope_types::{Counted, End, Entry, Frame, LineId, ProcId, RootKind, Scope, ScopePath};
 use std::alloc::Global;
+use thread_cct::Ccts;
 
-fn root_of(end: u32) -> RootKind
-    ensures { result ≡ root_from end }
+/// The most scopes that the distinct call paths may have together.
+const MOST_SCOPES: u64 = 8_388_608;
+
+/// Entries of call paths, and how many scopes these have together.
+#[derive(Debug, Drop)]
+struct Expanded {
+    entries: Vec<Entry>,
+    scopes: u64,
+}
+
+fn root_of(end: End) -> RootKind
+    ensures { result ≡ root_of end }
 {
-    if end == 0 {
-        RootKind::Thread
-    } else {
-        RootKind::Partial
+    match end {
+        End::Whole => RootKind::Thread,
+        End::Partial(_) => RootKind::Partial,
     }
+}
+
+/// The program counters of frames.
+fn pcs_of(alloc: Global, frames: &[Frame]) -> Result<Vec<u32>, Memory>
+    ensures { IfOk result (λ pcs. pcs.items ≡ map pc_of frames.now) }
+{
+    let mut pcs = Vec::new(alloc);
+    for frame in frames {
+        pcs.push(frame.pc)?;
+    }
+    Ok(pcs)
 }
 
 /// The procedure at an address.
@@ -64,38 +87,84 @@ fn expand(
     Ok(ScopePath::of(scopes))
 }
 
-fn entry_of(alloc: Global, image: &Image<'_>, words: &[u32], count: u32) -> Result<Entry, Memory>
-    ensures path { IfOk result (λ e. entry_path e ≡ words_path image.now words.now) }
-    ensures count { IfOk result (λ e. e.count ≡ count) }
+/// The call path of a hart's raw path, with its count.
+fn entry_of(
+    alloc: Global,
+    image: &Image<'_>,
+    hart: u32,
+    counted: &Counted,
+) -> Result<Entry, Memory>
+    ensures path { IfOk result (λ e.
+        entry_path e ≡ sample_path (found_at image.now) (record { hart = hart; raw = counted.now.path })) }
+    ensures count { IfOk result (λ e. e.count ≡ counted.now.count) }
 {
-    match words {
-        [hart, end, pcs @ ..] => Ok(Entry {
-            hart: *hart,
-            count,
-            path: expand(alloc, image, root_of(*end), pcs)?,
-        }),
-        _ => Ok(Entry {
-            hart: 0,
-            count,
-            path: ScopePath::of(Vec::new(alloc)),
-        }),
-    }
+    let pcs = pcs_of(alloc, counted.path.frames())?;
+    let path = expand(
+        alloc,
+        image,
+        root_of(counted.path.end()),
+        pcs.as_slice(),
+    )?;
+    Ok(Entry {
+        hart,
+        count: counted.count,
+        path,
+    })
 }
 
-/// The call paths of the words of raw paths, each with its count.
-#[tactic(auto, using(crate::proofs::Entries::entry_steps))]
+fn put_entry(
+    alloc: Global,
+    image: &Image<'_>,
+    hart: u32,
+    counted: &Counted,
+    expanded: &mut Expanded,
+) -> Result<(), Fail<InputFault>>
+    requires { expanded.old.scopes ≤ most_path_scopes }
+    ensures { AddsOr (found_at image.now) hart (counted.now ∷ []) result expanded.old expanded.new }
+{
+    let entry = entry_of(alloc, image, hart, counted)?;
+    let scopes = expanded.scopes + entry.path.scopes().len() as u64;
+    if scopes > MOST_SCOPES {
+        return Err(Fail::Fault(InputFault::TooManyScopes));
+    }
+    expanded.entries.push(entry)?;
+    expanded.scopes = scopes;
+    Ok(())
+}
+
+/// The call paths of a hart's raw paths.
+fn put_hart(
+    alloc: Global,
+    image: &Image<'_>,
+    ccts: &Ccts,
+    hart: u32,
+    expanded: &mut Expanded,
+) -> Result<(), Fail<InputFault>>
+    requires hart { hart < length ccts.now }
+    requires few { expanded.old.scopes ≤ most_path_scopes }
+    ensures { AddsOr (found_at image.now) hart (of_hart ccts.now hart) result expanded.old expanded.new }
+{
+    for index in 0..ccts.len(hart) {
+        let counted = ccts.path(hart, index)?;
+        put_entry(alloc, image, hart, &counted, expanded)?;
+    }
+    Ok(())
+}
+
+/// The call paths of counted raw paths, each with its count, unless they have too many scopes together.
 pub fn entries_of(
     alloc: Global,
     image: &Image<'_>,
-    counts: &IndexMap<Vec<u32>, u32>,
-) -> Result<Listed<Entry>, Memory>
-    ensures { IfOk result (λ entries. each_path entries ≡ map (words_path image.now) (each_words counts.now.entries)) }
+    ccts: &Ccts,
+) -> Result<Listed<Entry>, Fail<InputFault>>
+    ensures { ExpandsAll (found_at image.now) ccts.now result }
 {
-    let mut entries = Vec::new(alloc);
-    for place in 0..counts.len() {
-        if let Some((words, count)) = counts.get_index(place) {
-            entries.push(entry_of(alloc, image, words.as_slice(), *count)?)?;
-        }
+    let mut expanded = Expanded {
+        entries: Vec::new(alloc),
+        scopes: 0,
+    };
+    for hart in 0..ccts.harts() {
+        put_hart(alloc, image, ccts, hart, &mut expanded)?;
     }
-    Ok(Listed::of(entries))
+    Ok(Listed::of(expanded.entries))
 }

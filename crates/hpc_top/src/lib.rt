@@ -2,7 +2,7 @@
 //!
 //! It promises that what `profile` stores and prints is byte for byte what the definitions make of the
 //! files, that each refusal comes exactly where they have it, and what stands after every other
-//! answer. The modules `path_counts` and `expand` are layers on their way to crates of their own.
+//! answer. The module `expand` is a layer on its way to a crate of its own.
 //! Below stand the crates for files and streams, programs, the machine and its samples, scopes and the
 //! tree.
 #![tactic(auto)]
@@ -12,7 +12,7 @@ mod expand;
 mod main_job;
 mod message;
 mod names;
-mod path_counts;
+mod collect;
 mod report;
 mod request;
 mod status;
@@ -20,5 +20,6 @@ mod steps;
 mod words;
 
 pub use call::hpc_main;
+pub use message::out_of_memory;
 pub use main_job::{Job, profile};
 pub use status::{FileKind, InputFault, Made, Part, Place, Status};

@@ -1,5 +1,5 @@
 //! The main job over bytes: a program, its input and a schedule to a database and a report.
-ghost use Rattle.std.specs.Prelude.{◌≡◌, ◌≤◌, ◌^◌, ◌<◌, ◌+◌, ◌*◌, length, nat_lt, Ok, IfOk};
+ghost use Rattle.std.specs.Prelude.{◌≡◌, ◌≤◌, ◌^◌, ◌<◌, All, length, sum_by, Ok, IfOk};
 ghost use Rattle.prof_bytes.specs.Outcome.{Gives};
 ghost use Rattle.scope_types.specs.CallPaths.{each_path};
 ghost use Rattle.rv_run.specs.Run.{run_of};
@@ -12,12 +12,15 @@ ghost use Rattle.tree_types.specs.Database.{content_of, names_used};
 ghost use Rattle.prof_db.specs.Spelling.{spelling};
 ghost use Rattle.hpc_top.specs.Made.{view};
 ghost use Rattle.hpc_top.specs.Samples.{most_path_scopes};
-ghost use Rattle.hpc_top.specs.PathCounts.{Expands, words_in};
-ghost use Rattle.hpc_top.specs.Profile.{frame_information, naming_of, no_entries, product_from, product_of, profile_of, program, scheduled};
+ghost use Rattle.hpc_top.specs.private.Collecting.{Expands};
+ghost use Rattle.hpc_top.specs.Symbols.{found_at, naming_of};
+ghost use Rattle.hpc_top.specs.Profile.{frame_information, no_entries, program, scheduled};
+ghost use Rattle.hpc_top.specs.Profile.{product_from, product_of, profile_of};
 
+use crate::collect::collect;
 use crate::expand::entries_of;
 use crate::names::names_of;
-use crate::path_counts::{PathCounts, collect};
+
 use crate::report::report;
 use crate::status::{InputFault, Made, Part};
 use cfi_table::{FrameTable, read_frames};
@@ -30,11 +33,11 @@ use sample_clock::Samples;
 use scope_types::{Entry, ScopePath};
 use std::alloc::Global;
 use std::thread::Threads;
-use tree_types::{NO_PARENT, Names, content_of_paths, nodes_of};
+use thread_cct::samples_are_counted;
+use tree_types::{
+    Names, content_of_paths, counts_decide, nodes_are_few, nodes_of, used_names_suffice,
+};
 use view_tables::top_down_table;
-
-/// The most scopes that the distinct call paths may have together.
-const MOST_SCOPES: u64 = 8_388_608;
 
 /// A program, its input and schedule, the period in retired instructions, and the number of workers
 /// that merge.
@@ -55,7 +58,7 @@ fn schedule_of(alloc: Global, bytes: &[u8]) -> Result<Schedule, Fail<InputFault>
     match read_schedule(alloc, bytes) {
         Ok(schedule) => Ok(schedule),
         Err(Fail::Fault(fault)) => Err(Fail::Fault(InputFault::Schedule { line: fault.line })),
-        Err(Fail::Memory) => Err(Fail::Memory),
+        Err(Fail::Memory(memory)) => Err(Fail::Memory(memory)),
     }
 }
 
@@ -67,26 +70,22 @@ fn program_of(alloc: Global, elf: &[u8]) -> Result<Image<'_>, Fail<InputFault>>
     match read_image(alloc, elf) {
         Ok(image) => Ok(image),
         Err(Fail::Fault(fault)) => Err(Fail::Fault(InputFault::Program(fault))),
-        Err(Fail::Memory) => Err(Fail::Memory),
+        Err(Fail::Memory(memory)) => Err(Fail::Memory(memory)),
     }
 }
 
-/// The call frame information of a program, or its first fault. A section of 2^31 bytes, which no file
-/// within its limit has, is more than memory holds.
+/// The call frame information of a program, or its first fault.
 fn frames_of(alloc: Global, image: &Image<'_>) -> Result<FrameTable, Fail<InputFault>>
     ensures { Gives (λ table. table) result (frame_information image.now) }
 {
     let bytes = image.section(b".debug_frame");
-    if bytes.len() >= 1 << 31 {
-        return Err(Fail::Memory);
-    }
     match read_frames(alloc, bytes, image) {
         Ok(table) => Ok(table),
         Err(Fail::Fault(fault)) => {
             let offset = fault.offset;
             Err(Fail::Fault(InputFault::Frames { offset }))
         }
-        Err(Fail::Memory) => Err(Fail::Memory),
+        Err(Fail::Memory(memory)) => Err(Fail::Memory(memory)),
     }
 }
 
@@ -103,20 +102,17 @@ fn check_no_entries(image: &Image<'_>) -> Result<(), Fail<InputFault>>
     }))
 }
 
-/// The nodes of the paths. More than their numbers can tell apart are more than memory holds.
+/// The nodes of the paths, which are no more than the scopes of these.
 fn tree_of(alloc: Global, entries: &[Entry]) -> Result<Listed<ScopePath>, Memory>
+    requires { sum_by (λ e. length e.path) entries.now ≤ most_path_scopes }
     ensures nodes { IfOk result (λ tree. tree ≡ nodes (each_path entries.now)) }
     ensures numbers { IfOk result (λ tree. length tree ≤ no_parent) }
 {
-    let tree = nodes_of(alloc, entries)?;
-    if tree.items().len() > NO_PARENT as usize {
-        return Err(Memory);
-    }
-    Ok(tree)
+    nodes_are_few();
+    Ok(nodes_of(alloc, entries)?)
 }
 
 /// The report of samples under these names, which the nodes of their paths use.
-#[tactic(auto, using(crate::proofs::Products::text_named))]
 fn report_named(
     alloc: Global,
     period: u32,
@@ -130,8 +126,10 @@ fn report_named(
     requires nodes { tree.now ≡ nodes (each_path entries.now) }
     requires period { 0 < period }
     requires harts { harts ≡ length machine.now.state.harts }
-    ensures { (naming : Naming) → names.now ≡ names_used naming (each_path entries.now) → IfOk result (λ text. text ≡ (product_from period harts naming (each_path entries.now) machine.now.state).text) }
+    ensures { (naming : Naming) → names.now ≡ names_used naming (each_path entries.now) → IfOk result (λ text.
+        text ≡ (product_from period harts naming (each_path entries.now) machine.now.state).text) }
 {
+    used_names_suffice();
     let table = top_down_table(alloc, period, harts, names, entries, tree)?;
     report(alloc, period, harts, entries, machine, table.as_slice())
 }
@@ -148,7 +146,8 @@ fn database_named(
     requires few { length (each_path entries.now) ≤ 2 ^ 20 }
     requires nodes { tree.now ≡ nodes (each_path entries.now) }
     requires numbers { length tree.now ≤ no_parent }
-    ensures { (naming : Naming) → names ≡ names_used naming (each_path entries.now) → IfOk result (λ text. text ≡ spelling (content_of period harts naming (each_path entries.now))) }
+    ensures { (naming : Naming) → names ≡ names_used naming (each_path entries.now) → IfOk result (λ text.
+        text ≡ spelling (content_of period harts naming (each_path entries.now))) }
 {
     let content = content_of_paths(alloc, period, harts, names, entries, tree)?;
     write_db(alloc, &content)
@@ -164,9 +163,11 @@ fn made_of(
     machine: &Machine<'_>,
 ) -> Result<Made, Memory>
     requires few { length (each_path entries.now) ≤ 2 ^ 20 }
+    requires scopes { sum_by (λ e. length e.path) entries.now ≤ most_path_scopes }
     requires period { 0 < period }
     requires harts { harts ≡ length machine.now.state.harts }
-    ensures { IfOk result (λ made. view made ≡ product_from period harts (naming_of image.now) (each_path entries.now) machine.now.state) }
+    ensures { IfOk result (λ made.
+        view made ≡ product_from period harts (naming_of image.now) (each_path entries.now) machine.now.state) }
 {
     let tree = tree_of(alloc, entries)?;
     let tree = tree.items();
@@ -176,32 +177,22 @@ fn made_of(
     Ok(Made { database, report })
 }
 
-/// Whether distinct paths of so many frames have more scopes than they may: a root each, and for each
-/// frame a procedure and an address.
-#[tactic(auto, using(crate::proofs::Scopes::scope_steps))]
-fn has_many_scopes(found: &PathCounts) -> bool
-    requires { found.now.frames < 2 ^ 32 }
-    ensures { result ≡ nat_lt most_path_scopes (length (words_in found.now.counts.entries) + 2 * found.now.frames) }
-{
-    found.counts.len() as u64 + 2 * found.frames > MOST_SCOPES
-}
-
 /// The call paths of the samples that are to come, in any order, unless there are too many samples,
 /// frames or scopes. The machine then stands at the end of its run.
 fn call_paths(
     alloc: Global,
+    harts: u32,
     image: &Image<'_>,
     unwinder: &Unwinder<'_>,
     samples: &mut Samples<'_>,
 ) -> Result<Listed<Entry>, Fail<InputFault>>
-    requires { samples.old.met ≡ 0 }
-    ensures { Expands (unwound_by unwinder.now) image.now result samples.old samples.new }
+    requires start { samples.old.met ≡ 0 }
+    requires instants { All (λ i. i.moment.hart < harts) (to_come samples.old.machine).instants }
+    ensures { Expands (unwound_by unwinder.now) (found_at image.now) harts result samples.old samples.new }
 {
-    let found = collect(alloc, samples, unwinder)?;
-    if has_many_scopes(&found) {
-        return Err(Fail::Fault(InputFault::TooManyScopes));
-    }
-    Ok(entries_of(alloc, image, &found.counts)?)
+    samples_are_counted();
+    let ccts = collect(alloc, harts, samples, unwinder)?;
+    entries_of(alloc, image, &ccts)
 }
 
 /// What is stored and printed of the samples that are to come, unless there are too many samples,
@@ -217,10 +208,13 @@ fn profile_samples(
     requires some { 0 < period }
     requires period { period ≡ samples.old.period }
     requires harts { harts ≡ length (to_come samples.old.machine).final.harts }
+    requires instants { All (λ i. i.moment.hart < harts) (to_come samples.old.machine).instants }
     requires start { samples.old.met ≡ 0 }
-    ensures { Gives view result (product_of (unwound_by unwinder.now) period harts image.now (to_come samples.old.machine)) }
+    ensures { Gives view result (product_of (unwound_by unwinder.now) period harts
+        (found_at image.now) (naming_of image.now) (to_come samples.old.machine)) }
 {
-    let entries = call_paths(alloc, image, unwinder, samples)?;
+    counts_decide();
+    let entries = call_paths(alloc, harts, image, unwinder, samples)?;
     let machine = samples.machine();
     Ok(made_of(alloc, period, harts, image, entries.items(), machine)?)
 }
@@ -233,8 +227,17 @@ fn samples_of<'a>(
     schedule: Schedule,
 ) -> Result<Samples<'a>, Memory>
     requires { 0 < job.now.period }
-    ensures start { IfOk result (λ samples. samples ≡ record { machine = record { state = first_state image.now schedule.harts job.now.input.now; left = schedule.slices }; period = job.now.period; met = 0 }) }
+    ensures start { IfOk result (λ samples. samples ≡ record {
+        machine = record {
+          state = first_state image.now schedule.harts job.now.input.now;
+          left = schedule.slices;
+        };
+        period = job.now.period;
+        met = 0;
+      }) }
     ensures harts { IfOk result (λ samples. schedule.harts ≡ length (to_come samples.machine).final.harts) }
+    ensures instants { IfOk result (λ samples.
+        All (λ i. i.moment.hart < schedule.harts) (to_come samples.machine).instants) }
 {
     let machine = Machine::start(alloc, image, schedule, job.input)?;
     Ok(Samples::start(machine, job.period))
@@ -250,7 +253,8 @@ fn run_job(
     schedule: Schedule,
 ) -> Result<Made, Fail<InputFault>>
     requires period { 0 < job.now.period }
-    ensures { Gives view result (product_of (unwound_by unwinder.now) job.now.period schedule.harts image.now (run_of image.now schedule job.now.input.now)) }
+    ensures { Gives view result (product_of (unwound_by unwinder.now) job.now.period schedule.harts
+        (found_at image.now) (naming_of image.now) (run_of image.now schedule job.now.input.now)) }
 {
     let harts = schedule.harts();
     let mut samples = samples_of(alloc, job, image, schedule)?;

@@ -1,5 +1,7 @@
 ghost use Rattle.std.specs.Prelude.{◌≡◌, Some, IfOk, string_bytes};
-ghost use Rattle.hpc_top.specs.Message.{fault_text, file_text, part_text, place_text, rule_text, line_of, PutsLine, Says, StaysOrMemory};
+ghost use Rattle.hpc_top.specs.Message.{fault_text, file_text, part_text, place_text, rule_text};
+ghost use Rattle.hpc_top.specs.Message.{line_of, PutsLine, Says};
+ghost use Rattle.hpc_top.specs.private.Stop.{StaysOrMemory};
 
 use crate::status::{FileKind, InputFault, Part, Place, Status};
 use elf_image::ElfRule;
@@ -86,9 +88,10 @@ fn put_line<E: Sink>(err: &mut E, line: &[u8])
     let _: Put = err.put(line);
 }
 
-/// The forms of words, also of those commands that are not built yet.
+/// All commands with their words, also those that are not built yet.
 const USAGE: &str =
-    "usage: hpc profile ELF INPUT SCHEDULE PERIOD WORKERS DB | run ELF INPUT SCHEDULE PERIOD MEASURE | prof ELF MEASURE WORKERS DB | struct ELF | view DB top|callers|flat | drill NUMBER WORKERS\n";
+    "usage: hpc profile ELF INPUT SCHEDULE PERIOD WORKERS DB | run ELF INPUT SCHEDULE PERIOD MEASURE \
+     | prof ELF MEASURE WORKERS DB | struct ELF | view DB top|callers|flat | drill NUMBER WORKERS\n";
 
 fn line(alloc: Global, status: Status) -> Result<String, Memory>
     ensures { IfOk result (λ line. string_bytes line ≡ line_of status) }
@@ -98,8 +101,17 @@ fn line(alloc: Global, status: Status) -> Result<String, Memory>
         Status::Usage => Ok(String::from_str(alloc, USAGE)?),
         Status::Input(fault) => Ok(format!(in alloc; "hpc: {fault}\n")?),
         Status::Device(place) => Ok(format!(in alloc; "hpc: {place}\n")?),
-        Status::Memory => Ok(format!(in alloc; "hpc: memory\n")?),
+        Status::Memory(_) => Ok(format!(in alloc; "hpc: memory\n")?),
     }
+}
+
+/// Puts the line of `Memory`, which takes no memory, and gives this answer.
+pub fn out_of_memory<E: Sink>(memory: Memory, err: &mut E) -> Status
+    ensures answer { result ≡ Status.Memory memory }
+    ensures line { Says (E.shown err.old) (E.shown err.new) result }
+{
+    put_line(err, b"hpc: memory\n");
+    Status::Memory(memory)
 }
 
 /// Puts the line of an answer that is not `Done`. Where there is no memory for the line, the answer is `Memory`,
@@ -115,10 +127,7 @@ pub fn tell<E: Sink>(alloc: Global, status: Status, err: &mut E) -> Status
                 put_line(err, text.as_bytes());
                 status
             }
-            Err(_) => {
-                put_line(err, b"hpc: memory\n");
-                Status::Memory
-            }
+            Err(memory) => out_of_memory(memory, err),
         },
     }
 }

@@ -4,7 +4,7 @@ ghost use Rattle.std.specs.Option.{option_copied};
 ghost use Rattle.scope_types.specs.CallPaths.{each_path};
 ghost use Rattle.tree_types.specs.Nodes.{nodes};
 ghost use Rattle.tree_types.specs.Database.{names_used};
-ghost use Rattle.hpc_top.specs.Profile.{most_name, naming_of, proc_name_in};
+ghost use Rattle.hpc_top.specs.Symbols.{naming_of, proc_name_in};
 
 use elf_image::{Function, Image};
 use prof_bytes::{Listed, Memory, Text};
@@ -53,7 +53,8 @@ fn proc_name<'a>(image: &Image<'a>, id: ProcId) -> &'a [u8]
 }
 
 fn named_procs(alloc: Global, image: &Image<'_>, ids: &[ProcId]) -> Result<Listed<ProcName>, Memory>
-    ensures { IfOk result (λ procs. procs ≡ map (λ id. record { id = id; name = (naming_of image.now).proc_name id }) ids.now) }
+    ensures { IfOk result (λ procs.
+        procs ≡ map (λ id. record { id = id; name = (naming_of image.now).proc_name id }) ids.now) }
 {
     let mut procs = Vec::new(alloc);
     for id in ids {
@@ -64,7 +65,8 @@ fn named_procs(alloc: Global, image: &Image<'_>, ids: &[ProcId]) -> Result<Liste
 }
 
 fn named_files(alloc: Global, files: &[(u32, u32)]) -> Result<Listed<FileName>, Memory>
-    ensures { IfOk result (λ named. named ≡ map (λ f. record { table = f.0; file = f.1; name = codes "<unknown file>" }) files.now) }
+    ensures { IfOk result (λ named.
+        named ≡ map (λ f. record { table = f.0; file = f.1; name = codes "<unknown file>" }) files.now) }
 {
     let mut named = Vec::new(alloc);
     for (table, file) in files {

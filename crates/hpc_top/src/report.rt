@@ -1,9 +1,8 @@
 //! The report of a run as text.
 ghost use Rattle.std.specs.Prelude.{◌≡◌, ◌<◌, ◌≤◌, ◌^◌, ◌++◌, ◌*◌, length, codes, decimal, IfOk, OnOk};
-ghost use Rattle.std.specs.List.{flat_map, enumerate_from};
 ghost use Rattle.scope_types.specs.CallPaths.{each_path};
-ghost use Rattle.hpc_top.specs.Report.{cause_text, closed, end_text, hart_line, report_of, total_line};
-ghost use Rattle.hpc_top.specs.Profile.{hart_line_of, hart_lines, samples_of};
+ghost use Rattle.hpc_top.specs.Report.{cause_text, closed, end_text, total_line};
+ghost use Rattle.hpc_top.specs.Report.{hart_line, hart_lines, report_of, samples_of};
 
 use prof_bytes::{Memory, Text};
 use rv_hart::Cause;
@@ -12,14 +11,6 @@ use scope_types::Entry;
 use std::alloc::Global;
 use tree_types::{Kind, total_of, value_of};
 use view_tables::{put_address, put_decimal};
-
-/// What a hart did: the instructions that it retired, the samples taken, and how it stands.
-#[derive(Clone, Copy, Debug)]
-pub struct HartLine {
-    pub retired: u64,
-    pub samples: u64,
-    pub end: HartEnd,
-}
 
 fn cause_name(cause: Cause) -> &'static str
     ensures { result.now ≡ cause_text cause }
@@ -97,18 +88,6 @@ fn put_total_line(out: &mut Vec<u8>, harts: u32, period: u32, samples: u64) -> R
     Ok(())
 }
 
-fn put_hart_line(out: &mut Vec<u8>, hart: u32, line: HartLine) -> Result<(), Memory>
-    ensures { OnOk result (out.new.items ≡ out.old.items ++ hart_line (hart, line)) }
-{
-    put_count(out, "hart ", u64::from(hart))?;
-    put_count(out, " retired ", line.retired)?;
-    put_count(out, " samples ", line.samples)?;
-    put_words(out, " end ")?;
-    put_end(out, line.end)?;
-    out.push(b'\n')?;
-    Ok(())
-}
-
 /// How many samples a hart has.
 #[tactic(auto, using(crate::proofs::Lines::all_of_hart))]
 fn samples_in(entries: &[Entry], hart: u32) -> u64
@@ -116,6 +95,25 @@ fn samples_in(entries: &[Entry], hart: u32) -> u64
     ensures { result ≡ samples_of (each_path entries.now) hart }
 {
     value_of(1, entries, hart, &[], Kind::Inclusive)
+}
+
+fn put_hart_line(
+    out: &mut Vec<u8>,
+    hart: u32,
+    entries: &[Entry],
+    machine: &Machine<'_>,
+) -> Result<(), Memory>
+    requires few { length (each_path entries.now) ≤ 2 ^ 20 }
+    requires hart { hart < length machine.now.state.harts }
+    ensures { OnOk result (out.new.items ≡ out.old.items ++ hart_line machine.now.state (each_path entries.now) hart) }
+{
+    put_count(out, "hart ", u64::from(hart))?;
+    put_count(out, " retired ", machine.retired(hart))?;
+    put_count(out, " samples ", samples_in(entries, hart))?;
+    put_words(out, " end ")?;
+    put_end(out, machine.end(hart))?;
+    out.push(b'\n')?;
+    Ok(())
 }
 
 /// A line for each hart.
@@ -128,15 +126,11 @@ fn put_hart_lines(
 ) -> Result<(), Memory>
     requires few { length (each_path entries.now) ≤ 2 ^ 20 }
     requires harts { harts ≡ length machine.now.state.harts }
-    ensures { OnOk result (out.new.items ≡ out.old.items ++ flat_map hart_line (enumerate_from 0 (hart_lines harts (each_path entries.now) machine.now.state))) }
+    ensures { OnOk result (out.new.items
+        ≡ out.old.items ++ hart_lines harts machine.now.state (each_path entries.now)) }
 {
     for hart in 0..harts {
-        let line = HartLine {
-            retired: machine.retired(hart),
-            samples: samples_in(entries, hart),
-            end: machine.end(hart),
-        };
-        put_hart_line(out, hart, line)?;
+        put_hart_line(out, hart, entries, machine)?;
     }
     Ok(())
 }
@@ -152,7 +146,7 @@ pub fn report(
 ) -> Result<Text, Memory>
     requires few { length (each_path entries.now) ≤ 2 ^ 20 }
     requires harts { harts ≡ length machine.now.state.harts }
-    ensures { IfOk result (λ text. text ≡ report_of machine.now.state.output (total_line harts period (length (each_path entries.now))) (hart_lines harts (each_path entries.now) machine.now.state) table.now) }
+    ensures { IfOk result (λ text. text ≡ report_of period harts machine.now.state (each_path entries.now) table.now) }
 {
     let mut bytes = Vec::new(alloc);
     put_output(&mut bytes, machine.output())?;

@@ -1,10 +1,9 @@
 ghost use Rattle.std.specs.Prelude.{◌≡◌};
-ghost use Rattle.hpc_top.specs.Stop.{IsStopOf, answer_of};
+ghost use Rattle.hpc_top.specs.private.Stop.{IsStopOf, answer_of};
 ghost use Rattle.hpc_top.specs.declared.status.Stop.TheVariants as stops;
 
 use elf_image::ElfFault;
 use prof_bytes::{Fail, Memory, Text};
-use std::alloc::{AllocError, AllocFailed};
 
 /// The files that commands fetch.
 #[derive(Clone, Copy, Debug, PartialEq, Eq)]
@@ -25,7 +24,7 @@ pub enum Part {
 pub enum InputFault {
     /// The file has more bytes than its limit.
     TooLong { file: FileKind, limit: u64 },
-    /// The first bad line of the schedule, from 1; the number of lines plus 1 where none tells the harts.
+    /// The first bad line of the schedule, from 1; the number of lines plus 1 where no line has the harts.
     Schedule { line: u32 },
     /// The program's file breaks a rule, at an offset in it.
     Program(ElfFault),
@@ -49,14 +48,15 @@ pub enum Place {
     Print,
 }
 
-/// What the program answers.
+/// What the program answers: done, an invalid command line, files that are refused, a device that failed, or
+/// out of memory.
 #[derive(Clone, Copy, Debug, PartialEq, Eq)]
 pub enum Status {
     Done,
     Usage,
     Input(InputFault),
     Device(Place),
-    Memory,
+    Memory(Memory),
 }
 
 /// What a command makes: a database, and the report on it.
@@ -71,30 +71,14 @@ pub struct Made {
 pub enum Stop {
     Input(InputFault),
     Device(Place),
-    Memory,
+    Memory(Memory),
 }
 
 impl From<Memory> for Stop {
-    ghost from_gives = { λ _ stop. stop ≡ stops.Memory };
+    ghost from_gives = { λ memory stop. stop ≡ stops.Memory memory };
 
-    fn from(_: Memory) -> Stop {
-        Stop::Memory
-    }
-}
-
-impl From<AllocError> for Stop {
-    ghost from_gives = { λ _ stop. stop ≡ stops.Memory };
-
-    fn from(_: AllocError) -> Stop {
-        Stop::Memory
-    }
-}
-
-impl<T: Drop> From<AllocFailed<T>> for Stop {
-    ghost from_gives = { λ _ stop. stop ≡ stops.Memory };
-
-    fn from(_: AllocFailed<T>) -> Stop {
-        Stop::Memory
+    fn from(memory: Memory) -> Stop {
+        Stop::Memory(memory)
     }
 }
 
@@ -104,7 +88,7 @@ impl From<Fail<InputFault>> for Stop {
     fn from(fail: Fail<InputFault>) -> Stop {
         match fail {
             Fail::Fault(fault) => Stop::Input(fault),
-            Fail::Memory => Stop::Memory,
+            Fail::Memory(memory) => Stop::Memory(memory),
         }
     }
 }
@@ -117,6 +101,6 @@ pub fn status_of(end: Result<(), Stop>) -> Status
         Ok(()) => Status::Done,
         Err(Stop::Input(fault)) => Status::Input(fault),
         Err(Stop::Device(place)) => Status::Device(place),
-        Err(Stop::Memory) => Status::Memory,
+        Err(Stop::Memory(memory)) => Status::Memory(memory),
     }
 }

@@ -1,12 +1,13 @@
 //! The steps of every command: its fetches, and the store and the put at its end.
-ghost use Rattle.std.specs.Prelude.{◌≡◌, map};
+ghost use Rattle.std.specs.Prelude.{◌≡◌, ◌++◌, ◌∷◌, [], map, OnOk};
 ghost use Rattle.std.specs.Option.{option_copied};
 ghost use Rattle.hpc_top.specs.Made.{view};
-ghost use Rattle.hpc_top.specs.Steps.{Fetches, FetchesAll, PutsText, Delivers};
-ghost use Rattle.hpc_top.specs.Wanted.{view_want};
+ghost use Rattle.hpc_top.specs.Outcome.{call_of};
+ghost use Rattle.hpc_top.specs.private.Steps.{Fetches, FetchesAll, PutsText, Delivers};
+ghost use Rattle.hpc_top.specs.private.Views.{view_want};
 
 use crate::status::{FileKind, InputFault, Made, Place, Stop};
-use prof_bytes::{Listed, Text};
+use prof_bytes::{Listed, Memory, Text};
 use prof_devices::{Fetch, Put, Shelf, Sink};
 use std::alloc::Global;
 
@@ -28,8 +29,15 @@ fn fetch_file<F: Shelf>(shelf: &mut F, want: &Want<'_>) -> Result<Text, Stop>
         Fetch::Whole(text) if text.bytes().len() as u64 <= limit => Ok(text),
         Fetch::Whole(_) | Fetch::TooLong => Err(Stop::Input(InputFault::TooLong { file, limit })),
         Fetch::Fault => Err(Stop::Device(Place::Read)),
-        Fetch::Memory => Err(Stop::Memory),
+        Fetch::Memory(memory) => Err(Stop::Memory(memory)),
     }
+}
+
+fn push_text(texts: &mut Vec<Text>, text: Text) -> Result<(), Memory>
+    ensures { OnOk result (texts.new.items ≡ texts.old.items ++ text ∷ []) }
+{
+    texts.push(text)?;
+    Ok(())
 }
 
 /// The files of a command in their order, or why it stops.
@@ -43,7 +51,7 @@ pub fn fetch_all<F: Shelf>(
     let mut texts = Vec::new(alloc);
     for want in wants {
         let text = fetch_file(shelf, want)?;
-        texts.push(text)?;
+        push_text(&mut texts, text)?;
     }
     Ok(Listed::of(texts))
 }
@@ -54,7 +62,7 @@ fn put_text<O: Sink>(out: &mut O, text: &Text) -> Result<(), Stop>
     match out.put(text.bytes()) {
         Put::Done => Ok(()),
         Put::Fault => Err(Stop::Device(Place::Print)),
-        Put::Memory => Err(Stop::Memory),
+        Put::Memory(memory) => Err(Stop::Memory(memory)),
     }
 }
 
@@ -65,7 +73,8 @@ pub fn deliver<F: Shelf, O: Sink>(
     name: Option<&[u8]>,
     made: &Made,
 ) -> Result<(), Stop>
-    ensures { Delivers (F.shown shelf.old) (F.shown shelf.new) (O.shown out.old) (O.shown out.new) (option_copied name.entry) (view made.now) result }
+    ensures { Delivers (option_copied name.entry) (view made.now)
+        (call_of (F.shown shelf.old) (F.shown shelf.new) (O.shown out.old) (O.shown out.new)) result }
 {
     let Some(name) = name else {
         return put_text(out, &made.report);
@@ -73,6 +82,6 @@ pub fn deliver<F: Shelf, O: Sink>(
     match shelf.store(name, made.database.bytes()) {
         Put::Done => put_text(out, &made.report),
         Put::Fault => Err(Stop::Device(Place::Store)),
-        Put::Memory => Err(Stop::Memory),
+        Put::Memory(memory) => Err(Stop::Memory(memory)),
     }
 }

@@ -1,27 +1,27 @@
-//! What the program's words ask for.
+//! What the words of a command line ask for.
 ghost use Rattle.std.specs.Prelude.{◌≡◌, ◌∷◌, []};
-ghost use Rattle.std.specs.Option.{option_copied};
-ghost use Rattle.hpc_top.specs.Words.{command_of, file_name, profile_words, request_of, view_profiles, view_request};
+ghost use Rattle.std.specs.List.{list_all};
+ghost use Rattle.hpc_top.specs.Words.{is_file_name, profile_words, request_of};
+ghost use Rattle.hpc_top.specs.private.Views.{view_profiles, view_requests};
 
 use crate::request::{ProfileWords, Request};
 use prof_bytes::Text;
 use rv_run::decimal;
 
-/// The most workers that are built, and the largest period.
-const MOST_WORKERS: u32 = 1;
-
+/// The largest period.
 const MOST_PERIOD: u32 = u32::MAX;
 
-fn name(word: &Text) -> Option<&[u8]>
-    ensures { option_copied result ≡ file_name word.now }
+/// The most workers that are built.
+const MOST_WORKERS: u32 = 1;
+
+/// Whether the words can be names of files.
+fn are_file_names(words: &[&Text]) -> bool
+    ensures { result ≡ list_all (λ word. is_file_name word.now) words.now }
 {
-    if word.bytes().is_empty() {
-        return None;
-    }
-    Some(word.bytes())
+    words.iter().all(|word| !word.bytes().is_empty())
 }
 
-/// The names and numbers of a profile, each from its word.
+/// The names and numbers of a profile, each from its word; `None` where one is invalid.
 fn profile_named<'a>(
     elf: &'a Text,
     input: &'a Text,
@@ -30,15 +30,21 @@ fn profile_named<'a>(
     workers: &Text,
     database: &'a Text,
 ) -> Option<ProfileWords<'a>>
-    ensures { view_profiles result ≡ profile_words (elf.now ∷ input.now ∷ schedule.now ∷ period.now ∷ workers.now ∷ database.now ∷ []) }
+    ensures { view_profiles result ≡ profile_words
+        (elf.now ∷ input.now ∷ schedule.now ∷ period.now ∷ workers.now ∷ database.now ∷ []) }
 {
+    if !are_file_names(&[elf, input, schedule, database]) {
+        return None;
+    }
+    let period = decimal(period.bytes(), 1, MOST_PERIOD)?;
+    let workers = decimal(workers.bytes(), 1, MOST_WORKERS)?;
     Some(ProfileWords {
-        elf: name(elf)?,
-        input: name(input)?,
-        schedule: name(schedule)?,
-        period: decimal(period.bytes(), 1, MOST_PERIOD)?,
-        workers: decimal(workers.bytes(), 1, MOST_WORKERS)?,
-        database: name(database)?,
+        elf: elf.bytes(),
+        input: input.bytes(),
+        schedule: schedule.bytes(),
+        period,
+        workers,
+        database: database.bytes(),
     })
 }
 
@@ -53,30 +59,14 @@ fn read_profile(words: &[Text]) -> Option<ProfileWords<'_>>
     }
 }
 
-/// The first word of a request.
-#[derive(Clone, Copy)]
-enum Command {
-    Profile,
-}
-
-fn read_command(word: &[u8]) -> Option<Command>
-    ensures { result ≡ command_of word.now }
-{
-    if word == b"profile".as_slice() {
-        Some(Command::Profile)
-    } else {
-        None
-    }
-}
-
-/// What the words ask for, or `None` where they have no form of a command.
+/// What the words ask for; `None` where the command line is invalid.
 pub fn read_words(words: &[Text]) -> Option<Request<'_>>
-    ensures { view_request result ≡ request_of words.now }
+    ensures { view_requests result ≡ request_of words.now }
 {
     match words {
-        [word, rest @ ..] => match read_command(word.bytes())? {
-            Command::Profile => Some(Request::Profile(read_profile(rest)?)),
-        },
+        [word, rest @ ..] if word.bytes() == b"profile".as_slice() => {
+            Some(Request::Profile(read_profile(rest)?))
+        }
         _ => None,
     }
 }

@@ -16,7 +16,7 @@ pub(crate) enum Call<'a> {
 fn is_whole(answer: &Fetch, bytes: &[u8]) -> bool {
     match answer {
         Fetch::Whole(text) => text.bytes() == bytes,
-        Fetch::TooLong | Fetch::Fault | Fetch::Memory => false,
+        Fetch::TooLong | Fetch::Fault | Fetch::Memory(_) => false,
     }
 }
 

@@ -6,12 +6,22 @@
 #![tactic(auto)]
 
 #[cfg(test)]
+mod call_paths;
+#[cfg(test)]
 mod calls;
+#[cfg(test)]
+mod databases;
 #[cfg(test)]
 mod devices;
 #[cfg(test)]
 mod edges;
 #[cfg(test)]
-mod jobs;
+mod failures;
+#[cfg(test)]
+mod programs;
+#[cfg(test)]
+mod refusals;
+#[cfg(test)]
+mod reports;
 #[cfg(test)]
 mod scopes;

@@ -1,5 +1,5 @@
 //! The machine that a program runs on.
-ghost use Rattle.std.specs.Prelude.{◌≡◌, ◌+◌, ◌<◌, ◌≤◌, IfOk, IfSome, OnOk, OnErr, None, Some, length};
+ghost use Rattle.std.specs.Prelude.{All, ◌≡◌, ◌+◌, ◌<◌, ◌≤◌, IfOk, IfSome, OnOk, OnErr, None, Some, length};
 ghost use Rattle.rv_run.specs.Schedule.{most_instructions};
 ghost use Rattle.rv_run.specs.State.{first_state, hart_of};
 ghost use Rattle.rv_run.specs.Run.{finished};
@@ -65,6 +65,9 @@ impl<'a> Machine<'a> {
             ≡ record { state = first_state image.now schedule.harts input.now; left = schedule.slices }) }
         // The harts of the schedule stand at the end of the run too.
         ensures harts { IfOk result (λ machine. length (to_come machine).final.harts ≡ schedule.harts) }
+        // Each instruction of the run is one of theirs.
+        ensures instants { IfOk result (λ machine.
+            All (λ i. i.moment.hart < schedule.harts) (to_come machine).instants) }
     {
         let environment = Environment::first(alloc, image, schedule.harts(), input)?;
         let queue = SliceQueue::of(schedule.into_slices());

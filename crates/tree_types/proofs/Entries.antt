@@ -1,9 +1,10 @@
 -- What a walk over entries has counted, and which nodes it has put, so far.
-use Rattle.std.proofs.Common.{◌≡◌, ℕ, zero, suc, ◌+◌, ◌<◌, ◌≤◌, ◌^◌, ◌==◌, ◌&&◌, ◌||◌, Bool, true, false, List, [], ◌∷◌, ◌++◌, length, get_or, take, drop, replicate, count_by, refl, sym, ap, ◌∙◌, arith, append-nil, take_all}
+use Rattle.std.proofs.Common.{◌≡◌, ℕ, zero, suc, ◌+◌, ◌<◌, ◌≤◌, ◌^◌, ◌==◌, ◌&&◌, ◌||◌, Bool, true, false, List, [], ◌∷◌, ◌++◌, length, get_or, take, drop, replicate, count_by, sum_by, Ordering, refl, sym, ap, ◌∙◌, arith, append-nil, take_all}
 use Rattle.std.specs.List.{flat_map}
 use Rattle.std.specs.Ordering.{eq_by_cmp}
+use Rattle.std.specs.declared.cmp.Ordering.TheVariants.{Less, Equal, Greater}
 use Rattle.std.proofs.lemmas.List.{take_more, take-append-drop, length-append, length-replicate}
-use Rattle.std.proofs.lemmas.List.Sums.{count_by-le-length, sum_by-append}
+use Rattle.std.proofs.lemmas.List.Sums.{count_by-le-length, sum_by-append, sum_by-cons}
 use Rattle.std.proofs.lemmas.List.Concat.{flat_map-append}
 use Rattle.std.proofs.lemmas.List.Folds.{list_any-append}
 use Rattle.scope_types.specs.declared.path.Entry.{Entry}
@@ -12,12 +13,12 @@ use Rattle.scope_types.specs.Order.{path_order}
 use Rattle.scope_types.proofs.Orders.{path_order_total, path_order_tells}
 use Rattle.tree_types.specs.declared.content.Kind.{Kind}
 use Rattle.tree_types.specs.Paths.{Path, prefixes, after_prefix, rest_passes}
-use Rattle.tree_types.specs.Ascending.{ascending}
+use Rattle.tree_types.specs.Ascending.{put, by_order, ascending}
 use Rattle.tree_types.specs.private.Putting.{put_all}
 use Rattle.tree_types.specs.Nodes.{nodes}
 use Rattle.tree_types.specs.Values.{counts_for, count_below}
 use Rattle.tree_types.proofs.Counting.{one, count_by-cons}
-use Rattle.tree_types.proofs.Putting.{put_all_ascending}
+use Rattle.tree_types.proofs.Putting.{length-prefixes, put_all_ascending}
 use Rattle.tree_types.proofs.Sorting.{has, same_ascending}
 
 -- one entry more
@@ -168,3 +169,42 @@ pub ruleset total_steps = (total_none, total_more, total_all, total_small)
 pub ruleset count_steps = (counted_first, counted_more, counted_same, counted_small, counted_all)
 
 pub ruleset node_steps = (no_nodes, nodes_more, nodes_same, nodes_all)
+
+-- ---- how many nodes there are
+
+module _ {K : Type 0} (R : K → K → Ordering) where
+  put_long : (x : K) (ys : List K) → length (put R x ys) ≤ length ys + 1
+  put_long x [] = omega arith
+  put_long x (y ∷ ys) =
+      let rest = put_long x ys in
+      elim (R x y) as (λ r. length (by_order r (x ∷ y ∷ ys) (y ∷ ys) (y ∷ put R x ys)) ≤ length (y ∷ ys) + 1) [ Less ↦ omega arith | Equal ↦ omega arith | Greater ↦ omega (arith, rest) ]
+
+  ascending_long : (xs zs : List K) → length (ascending R (xs ++ zs)) ≤ length xs + length (ascending R zs)
+  unfolding ascending
+  ascending_long [] zs = omega arith
+  ascending_long (x ∷ xs) zs = let one = put_long x (ascending R (xs ++ zs)) in let rest = ascending_long xs zs in omega (arith, one, rest)
+
+-- a path adds as many nodes as it has scopes at most, however often it stands there
+few_with : (p : HartPath) (ps : List HartPath) (n : ℕ) → length (nodes (replicate n p ++ ps)) ≤ length p.path + length (nodes ps)
+unfolding nodes
+few_with p ps zero = omega arith
+few_with p ps (suc n) =
+    let same : ascending path_order (every_prefix (replicate (suc n) p ++ ps)) ≡ ascending path_order (prefixes p.path ++ every_prefix ps) =
+    same_ascending path_order_total path_order_tells (every_prefix (replicate (suc n) p ++ ps)) (prefixes p.path ++ every_prefix ps) (λ q.
+    ap (has path_order q) (flat_map-append (λ (p : HartPath). prefixes p.path) (replicate (suc n) p) ps)
+    ∙ list_any-append (eq_by_cmp path_order q) (every_prefix (replicate (suc n) p)) (every_prefix ps)
+    ∙ ap (λ b. b || has path_order q (every_prefix ps)) (has_once q p (suc n) (omega arith))
+    ∙ sym (list_any-append (eq_by_cmp path_order q) (prefixes p.path) (every_prefix ps))) in
+    let long = ap (λ (ns : List Path). length ns) same in
+    let parts = ascending_long path_order (prefixes p.path) (every_prefix ps) in
+    let front = length-prefixes p.path in
+    omega (arith, long, parts, front)
+
+pub nodes_few : (es : List Entry) → length (nodes (each_path es)) ≤ sum_by (λ e. length e.path) es
+unfolding each_path
+nodes_few [] = (let none = ap (λ (ns : List Path). length ns) no_nodes in omega (arith, none))
+nodes_few (e ∷ es) =
+    let all = sum_by-cons (λ (e : Entry). length e.path) e es in
+    let one = few_with (entry_path e) (each_path es) e.count in
+    let rest = nodes_few es in
+    omega (arith, all, one, rest)

@@ -20,8 +20,9 @@ pub use content::{
     Content, ContextEntry, FileName, Kind, NO_PARENT, Names, Node, ProcName, ProfileEntry,
 };
 pub use laws::{
-    content_holds_its_paths, counts_decide, nodes_are_prefixes, order_does_not_matter,
-    parents_stand_before, pieces_keep_the_paths, values_add_up,
+    content_holds_its_paths, counts_decide, nodes_are_few, nodes_are_prefixes,
+    order_does_not_matter, parents_stand_before, pieces_keep_the_paths, used_names_suffice,
+    values_add_up,
 };
 pub use named::{files_of, procs_of};
 pub use plain::{node_list_of, nodes_of, own_scope_of, rest_after, total_of, value_of};

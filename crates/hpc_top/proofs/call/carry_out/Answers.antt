@@ -1,20 +1,21 @@
 use Rattle.std.proofs.Common.{List, ℕ, Option, subst}
 use Rattle.std.proofs.lemmas.Result.{err_from_is_err_and}
 use Rattle.hpc_top.specs.Made.{view}
-use Rattle.hpc_top.specs.Steps.{Delivers}
+use Rattle.hpc_top.specs.Outcome.{call_of}
+use Rattle.hpc_top.specs.private.Steps.{Delivers}
 use Rattle.hpc_top.specs.Task.{task_of}
-use Rattle.hpc_top.specs.Words.{view_asked}
+use Rattle.hpc_top.specs.private.Views.{view_request}
 use Rattle.hpc_top.proofs.Outcomes.{delivered, unprepared}
 use Rattle.hpc_top.proofs.call.carry_out.Goals as goal
 
 pub returns-in_err-made : goal.returns-in_err-made
 returns-in_err-made g c =
     let p = err_from_is_err_and c.from_residual.result c.from_residual.ensures.1 in
-    rw (p.1, p.2) (unprepared (task_of (view_asked c.args.request)) (g.F.Shelf.shown c.args.shelf.now) _ _ _ c.in_err-made.ensures)
+    rw (p.1, p.2) (unprepared (task_of (view_request c.args.request)) (g.F.Shelf.shown c.args.shelf.now) _ _ _ c.in_err-made.ensures)
 
 pub returns : goal.returns
 returns g c =
-    delivered (task_of (view_asked c.args.request)) (g.F.Shelf.shown c.args.shelf.now) (g.F.Shelf.shown c.prepare.new.shelf) (g.F.Shelf.shown c.deliver.new.shelf) (g.O.Sink.shown c.args.out.now) (g.O.Sink.shown c.deliver.new.out) (view c.in_ok-made.made) c.in_ok-made.ensures.0 c.in_ok-made.ensures.1 c.deliver.result
+    delivered (task_of (view_request c.args.request)) (g.F.Shelf.shown c.args.shelf.now) (g.F.Shelf.shown c.prepare.new.shelf) (g.F.Shelf.shown c.deliver.new.shelf) (g.O.Sink.shown c.args.out.now) (g.O.Sink.shown c.deliver.new.out) (view c.in_ok-made.made) c.in_ok-made.ensures.0 c.in_ok-made.ensures.1 c.deliver.result
     (subst
-    (λ (name : Option (List ℕ)). Delivers (g.F.Shelf.shown c.prepare.new.shelf) (g.F.Shelf.shown c.deliver.new.shelf) (g.O.Sink.shown c.args.out.now) (g.O.Sink.shown c.deliver.new.out) name (view c.in_ok-made.made) c.deliver.result)
+    (λ (name : Option (List ℕ)). Delivers name (view c.in_ok-made.made) (call_of (g.F.Shelf.shown c.prepare.new.shelf) (g.F.Shelf.shown c.deliver.new.shelf) (g.O.Sink.shown c.args.out.now) (g.O.Sink.shown c.deliver.new.out)) c.deliver.result)
     c.stored_name.ensures c.deliver.ensures)

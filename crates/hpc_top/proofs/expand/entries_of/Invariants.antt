@@ -1,7 +1,6 @@
-use Rattle.std.proofs.Common.{◌≡◌, map, take}
-use Rattle.scope_types.specs.CallPaths.{each_path}
-use Rattle.hpc_top.specs.PathCounts.{words_path, each_words}
+use Rattle.hpc_top.specs.Symbols.{found_at}
+use Rattle.hpc_top.proofs.Entries.{ExpandedSoFar}
 use Rattle.hpc_top.proofs.expand.entries_of.Given as goal
 
-abbrev pub invariant-loop-place : goal.invariant-loop-place
-invariant-loop-place l = each_path l.entries.items ≡ map (words_path l.image) (each_words (take l.place l.counts.entries))
+abbrev pub invariant-loop-hart : goal.invariant-loop-hart
+invariant-loop-hart l = ExpandedSoFar (found_at l.image) l.ccts l.hart l.expanded

@@ -1,18 +1,17 @@
 use Rattle.std.proofs.lemmas.Result.{err_from_is_err_and}
 use Rattle.cfi_unwind.specs.Path.{path_of as unwound_by}
-use Rattle.hpc_top.proofs.Products.{all_expanded, refused_samples, refused_scopes}
+use Rattle.hpc_top.specs.Samples.{sample_path}
+use Rattle.hpc_top.specs.Symbols.{found_at}
+use Rattle.hpc_top.specs.private.Collecting.{raws_to_come}
+use Rattle.hpc_top.proofs.Products.{expanded_by, refused_samples}
 use Rattle.hpc_top.proofs.main_job.call_paths.Goals as goal
-
-pub returns-then-has_many_scopes : goal.returns-then-has_many_scopes
-returns-then-has_many_scopes c =
-    refused_scopes (unwound_by c.args.unwinder.now) c.args.image.now c.in_ok-found.found c.args.samples.now c.collect.new.samples _ c.in_ok-found.ensures c.has_many_scopes.ensures c.if-has_many_scopes.true
 
 pub returns : goal.returns
 returns c =
-    all_expanded (unwound_by c.args.unwinder.now) c.args.image.now c.in_ok-found.found c.args.samples.now c.collect.new.samples _ _ c.in_ok-found.ensures c.has_many_scopes.ensures c.if-has_many_scopes.false
-    c.in_ok-entries_of.ensures
+    expanded_by (unwound_by c.args.unwinder.now) (found_at c.args.image.now) c.args.harts c.in_ok-ccts.ccts c.args.samples.now c.collect.new.samples _ c.in_ok-ccts.ensures c.entries_of.ensures
+    (c.samples_are_counted.ensures.alike c.args.harts (raws_to_come (unwound_by c.args.unwinder.now) c.args.samples.now) (sample_path (found_at c.args.image.now)))
 
-pub returns-in_err-found : goal.returns-in_err-found
-returns-in_err-found c =
+pub returns-in_err-ccts : goal.returns-in_err-ccts
+returns-in_err-ccts c =
     let p = err_from_is_err_and c.from_residual.result c.from_residual.ensures.1 in
-    rw (p.1, p.2) (refused_samples (unwound_by c.args.unwinder.now) c.args.image.now c.args.samples.now _ c.in_err-found.ensures)
+    rw (p.1, p.2) (refused_samples (unwound_by c.args.unwinder.now) (found_at c.args.image.now) c.args.harts c.args.samples.now _ c.in_err-ccts.ensures)

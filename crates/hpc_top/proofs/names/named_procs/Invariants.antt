@@ -1,5 +1,5 @@
 use Rattle.std.proofs.Common.{◌≡◌, map, take}
-use Rattle.hpc_top.specs.Profile.{naming_of}
+use Rattle.hpc_top.specs.Symbols.{naming_of}
 use Rattle.hpc_top.proofs.names.named_procs.Given as goal
 
 abbrev pub invariant-loop-id : goal.invariant-loop-id

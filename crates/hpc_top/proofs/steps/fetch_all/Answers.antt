@@ -11,6 +11,6 @@ returns-in_err-text g c =
 pub loop-want-preserved : goal.loop-want-preserved
 loop-want-preserved g c = (
   looked_on _ (g.F.Shelf.shown c.loop-want.shelf) _ c.loop-want.invariant.0 c.in_ok-text.ensures.0,
-  fetched_within c.args.wants.now c.loop-want.want-index _ _ _ _ c.loop-want-test.true (get_or_default c.args.wants.now c.loop-want.want-index _ _ c.loop-want-test.true) c.loop-want.invariant.1 c.in_ok-text.ensures.1 c.in_ok-push.ensures.items,
-  fetched_more (g.F.Shelf.shown c.args.shelf.now) (g.F.Shelf.shown c.loop-want.shelf) _ c.args.wants.now c.loop-want.want-index _ _ _ _ c.loop-want-test.true (get_or_default c.args.wants.now c.loop-want.want-index _ _ c.loop-want-test.true) c.loop-want.invariant.0 c.loop-want.invariant.2 c.in_ok-text.ensures.0 c.in_ok-text.ensures.2 c.in_ok-push.ensures.items,
+  fetched_within c.args.wants.now c.loop-want.want-index _ _ _ _ c.loop-want-test.true (get_or_default c.args.wants.now c.loop-want.want-index _ _ c.loop-want-test.true) c.loop-want.invariant.1 c.in_ok-text.ensures.1 c.in_ok-push_text.ensures,
+  fetched_more (g.F.Shelf.shown c.args.shelf.now) (g.F.Shelf.shown c.loop-want.shelf) _ c.args.wants.now c.loop-want.want-index _ _ _ _ c.loop-want-test.true (get_or_default c.args.wants.now c.loop-want.want-index _ _ c.loop-want-test.true) c.loop-want.invariant.0 c.loop-want.invariant.2 c.in_ok-text.ensures.0 c.in_ok-text.ensures.2 c.in_ok-push_text.ensures,
 )

@@ -1,8 +1,16 @@
-//! Programs with symbols and call frame information, as files, and their reports, written by hand from the
-//! formats.
+//! Call paths of programs with symbols and call frame information, as reports; programs and reports are written
+//! by hand from the formats. A path that is cut at 512 frames is tried with the built program alone
+//! (`.ci/checks`): before they are proved tests are interpreted, and its 1,025 nodes then take more than a minute.
+use crate::databases::EMPTY_DATABASE;
+use crate::programs::{ADDING, program};
+use crate::reports::NO_SAMPLES;
+use hpc_top::{Job, profile};
+use std::alloc::Global;
+use std::test::Fail;
+use std::thread::Threads;
 
 /// `_start` calls `f`, which calls itself five times. `.debug_frame` stands at 132.
-pub(super) const RECURSION: &[u8] = b"\
+pub(crate) const RECURSION: &[u8] = b"\
 \x7fELF\x01\x01\x01\0\0\0\0\0\0\0\0\0\x02\0\xf3\0\x01\0\0\0\0\0\x01\04\0\0\0\x12\x01\0\0\0\0\
 \0\04\0 \0\x01\0(\0\x05\0\x04\0\x01\0\0\0T\0\0\0\0\0\x01\0\0\0\x01\00\0\0\00\0\0\0\x05\0\0\0\
 \x04\0\0\0\x13\x05P\0\xef\0\xc0\0\x93\x08\xd0\x05s\0\0\0\x13\x01\x01\xff#&\x11\0c\x06\x05\0\
@@ -17,7 +25,7 @@ pub(super) const RECURSION: &[u8] = b"\
 \0\0\0\0\0\0\0\0\xea\0\0\0(\0\0\0\0\0\0\0\0\0\0\0\0\0\0\0\0\0\0\0";
 
 /// `_start` calls `g`, which calls `h` at its end, so that the return address is where `h` begins.
-pub(super) const LAST_CALL: &[u8] = b"\
+const LAST_CALL: &[u8] = b"\
 \x7fELF\x01\x01\x01\0\0\0\0\0\0\0\0\0\x02\0\xf3\0\x01\0\0\0\0\0\x01\04\0\0\0 \x01\0\0\0\0\0\
 \04\0 \0\x01\0(\0\x05\0\x04\0\x01\0\0\0T\0\0\0\0\0\x01\0\0\0\x01\0 \0\0\0 \0\0\0\x05\0\0\0\
 \x04\0\0\0\xef\0\xc0\0\x93\x08\xd0\x05s\0\0\0\x13\x01\x01\xff#&\x11\0\xef\0@\0\x13\x05\x15\0\
@@ -31,28 +39,8 @@ o\xf0\xdf\xff\x0c\0\0\0\xff\xff\xff\xff\x03\0\x01|\x01\x0c\x02\0\x14\0\0\0\0\0\0
 \x10\0\0\0\x16\0\0\0\x03\0\0\0\0\0\0\0\0\0\0\0\xec\0\0\0\x0c\0\0\0\0\0\0\0\0\0\0\0\0\0\0\0\0\
 \0\0\0\x1e\0\0\0\x03\0\0\0\0\0\0\0\0\0\0\0\xf8\0\0\0(\0\0\0\0\0\0\0\0\0\0\0\0\0\0\0\0\0\0\0";
 
-/// A program with debug information.
-pub(super) const WITH_ENTRIES: &[u8] = b"\
-\x7fELF\x01\x01\x01\0\0\0\0\0\0\0\0\0\x02\0\xf3\0\x01\0\0\0\0\0\x01\04\0\0\0\\\x01\0\0\0\0\0\
-\04\0 \0\x01\0(\0\x07\0\x06\0\x01\0\0\0T\0\0\0\0\0\x01\0\0\0\x01\0T\0\0\0T\0\0\0\x05\0\0\0\
-\x04\0\0\0\x13\x05\x15\0\x13\x05\x15\0\x13\x05\x15\0\x13\x05\x15\0\x13\x05\x15\0\x13\x05\x15\
-\0\x13\x05\x15\0\x13\x05\x15\0\x13\x05\x15\0\x13\x05\x15\0\x13\x05\x15\0\x13\x05\x15\0\x13\
-\x05\x15\0\x13\x05\x15\0\x13\x05\x15\0\x13\x05\x15\0\x13\x05\x15\0\x13\x05\x15\0\x13\x05\x15\
-\0\x93\x08\xd0\x05s\0\0\0\x0d\0\0\0\x05\0\x01\x04\0\0\0\0\x01\0\0\0\0\x01\x11\0\x10\x17\0\0\
-\0E\0\0\0\x05\0\x04\0$\0\0\0\x01\x01\x01\xfb\x0e\x0d\0\x01\x01\x01\x01\0\0\0\x01\0\0\x01\x01\
-\x01\x08\x01/s\0\x02\x01\x08\x02\x0b\x01a.c\0\0\x04\0\0\x05\x02\0\0\x01\0\x03\x02\x01\x03\
-\x04\x01\x02\x08\x03\x01\x01\x02\x10\0\x01\x01\0\0\0\0\0\0\0\0\0\0\0\0\0\0\0\0\0\0.debug_inf\
-o\0.debug_abbrev\0.debug_line\0.symtab\0.strtab\0.shstrtab\0\0\0\0\0\0\0\0\0\0\0\0\0\0\0\0\0\
-\0\0\0\0\0\0\0\0\0\0\0\0\0\0\0\0\0\0\0\0\0\0\0\0\x01\0\0\0\x01\0\0\0\0\0\0\0\0\0\0\0\xa8\0\0\
-\0\x11\0\0\0\0\0\0\0\0\0\0\0\0\0\0\0\0\0\0\0\x0d\0\0\0\x01\0\0\0\0\0\0\0\0\0\0\0\xb9\0\0\0\
-\x08\0\0\0\0\0\0\0\0\0\0\0\0\0\0\0\0\0\0\0\x1b\0\0\0\x01\0\0\0\0\0\0\0\0\0\0\0\xc1\0\0\0I\0\
-\0\0\0\0\0\0\0\0\0\0\0\0\0\0\0\0\0\0'\0\0\0\x02\0\0\0\0\0\0\0\0\0\0\0\x0a\x01\0\0\x10\0\0\0\
-\x05\0\0\0\x01\0\0\0\0\0\0\0\x10\0\0\0/\0\0\0\x03\0\0\0\0\0\0\0\0\0\0\0\x1a\x01\0\0\x01\0\0\
-\0\0\0\0\0\0\0\0\0\0\0\0\0\0\0\0\07\0\0\0\x03\0\0\0\0\0\0\0\0\0\0\0\x1b\x01\0\0A\0\0\0\0\0\0\
-\0\0\0\0\0\0\0\0\0\0\0\0\0";
-
 /// One path of seven frames.
-pub(super) const SEVEN_FRAMES: &str = "\
+const SEVEN_FRAMES: &str = "\
 harts 1 period 31 samples 1 total 31
 hart 0 retired 49 samples 1 end exit 0
        inclusive      %            frame  scope
@@ -74,7 +62,7 @@ hart 0 retired 49 samples 1 end exit 0
 ";
 
 /// A sample before x2 moves and one right after have the same caller.
-pub(super) const MOVED_FRAME: &str = "\
+const MOVED_FRAME: &str = "\
 harts 1 period 1 samples 4 total 4
 hart 0 retired 4 samples 4 end stopped
        inclusive      %            frame  scope
@@ -89,7 +77,7 @@ hart 0 retired 4 samples 4 end stopped
 ";
 
 /// The sampled instruction is the one to which the callee returns.
-pub(super) const AT_ITS_START: &str = "\
+const AT_ITS_START: &str = "\
 harts 1 period 5 samples 1 total 5
 hart 0 retired 5 samples 1 end stopped
        inclusive      %            frame  scope
@@ -101,3 +89,138 @@ hart 0 retired 5 samples 1 end stopped
                5  100.0                5            h
                5  100.0                5              0x00010018
 ";
+
+/// A program with changes of single bytes, its schedule and period, and the report.
+#[derive(Clone, Copy)]
+struct Unwound {
+    name: &'static str,
+    file: &'static [u8],
+    changes: &'static [(usize, u8)],
+    schedule: &'static [u8],
+    period: u32,
+    report: &'static str,
+}
+
+const UNWOUND: Unwound = Unwound {
+    name: "a recursion of seven frames",
+    file: RECURSION,
+    changes: &[],
+    schedule: b"harts 1\n0 1000\n",
+    period: 31,
+    report: SEVEN_FRAMES,
+};
+
+/// In the CIE, `DW_CFA_def_cfa_register` x2 and `DW_CFA_nop` in place of `DW_CFA_def_cfa` x2, 0.
+const REGISTER_ALONE: &[(usize, u8)] = &[(145, 0x0d)];
+
+static ALL_UNWOUND: [Unwound; 5] = [
+    UNWOUND,
+    Unwound {
+        name: "a sample before x2 moves, and one right after",
+        schedule: b"harts 1\n0 4\n",
+        period: 1,
+        report: MOVED_FRAME,
+        ..UNWOUND
+    },
+    Unwound {
+        name: "the CFA's register alone, and a recursion",
+        changes: REGISTER_ALONE,
+        ..UNWOUND
+    },
+    Unwound {
+        name: "the CFA's register alone, before x2 moves and right after",
+        changes: REGISTER_ALONE,
+        schedule: b"harts 1\n0 4\n",
+        period: 1,
+        report: MOVED_FRAME,
+        ..UNWOUND
+    },
+    Unwound {
+        name: "a return address where the sampled procedure begins",
+        file: LAST_CALL,
+        schedule: b"harts 1\n0 5\n",
+        period: 5,
+        report: AT_ITS_START,
+        ..UNWOUND
+    },
+];
+
+/// A file with these bytes changed.
+pub(crate) fn changed(
+    alloc: Global,
+    file: &[u8],
+    changes: &[(usize, u8)],
+) -> Result<Vec<u8>, Fail> {
+    let mut file = Vec::from_slice(alloc, file)?;
+    for (at, byte) in changes {
+        if *at < file.len() {
+            file[*at] = *byte;
+        }
+    }
+    Ok(file)
+}
+
+/// Whether this database, where one is given, and this report are made of a program.
+fn is_made(
+    rt: &(impl Threads + Sync + AllocGlobal),
+    elf: &[u8],
+    schedule: &[u8],
+    period: u32,
+    database: Option<&[u8]>,
+    report: &[u8],
+) -> Result<bool, Fail> {
+    if elf.len() > 1000 || schedule.len() > 1000 || period == 0 {
+        return Err("not a job".into());
+    }
+    let job = Job {
+        elf,
+        input: b"",
+        schedule,
+        period,
+        workers: 1,
+    };
+    let made = profile(rt, &job).ok().ok_or("refused")?;
+    let is_stored = match database {
+        Some(bytes) => made.database.bytes() == bytes,
+        None => true,
+    };
+    Ok(is_stored && made.report.bytes() == report)
+}
+
+/// The name of the first program that has another report.
+fn other_call_paths(
+    rt: &(impl Threads + Sync + AllocGlobal),
+) -> Result<Option<&'static str>, Fail> {
+    for row in &ALL_UNWOUND {
+        let elf = changed(rt.alloc(), row.file, row.changes)?;
+        let report = row.report.as_bytes();
+        if !is_made(rt, elf.as_slice(), row.schedule, row.period, None, report)? {
+            return Ok(Some(row.name));
+        }
+    }
+    Ok(None)
+}
+
+#[test]
+fn call_paths_of_programs(rt: HostRuntime) -> Result<(), Fail> {
+    assert_eq!(rt; other_call_paths(&rt)?, None);
+    Ok(())
+}
+
+fn is_empty_database(rt: &(impl Threads + Sync + AllocGlobal)) -> Result<bool, Fail> {
+    let elf = program(rt.alloc(), &ADDING)?;
+    is_made(
+        rt,
+        elf.as_slice(),
+        b"harts 1\n0 100000\n",
+        21,
+        Some(EMPTY_DATABASE),
+        NO_SAMPLES.as_bytes(),
+    )
+}
+
+#[test]
+fn no_sample_gives_the_empty_database(rt: HostRuntime) -> Result<(), Fail> {
+    assert!(rt; is_empty_database(&rt)?);
+    Ok(())
+}

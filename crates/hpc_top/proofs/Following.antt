@@ -1,0 +1,97 @@
+-- What follows from the table of answers.
+use Rattle.std.proofs.Common.{◌≡◌, Option, Some, None, Result, Ok, Err, IsTrue, IsOk, is_ok, true, false, refl, ap, sym, subst, ◌∙◌}
+use Rattle.std.specs.Prelude.{IsNone, IsSomeAnd}
+use Rattle.prof_devices.specs.Outside.{Rose}
+use Rattle.hpc_top.specs.declared.status.InputFault.{InputFault}
+use Rattle.hpc_top.specs.declared.status.Status.{Status}
+use Rattle.hpc_top.specs.declared.status.Status.TheVariants.{Done, Usage, Input, Device, Memory}
+use Rattle.hpc_top.specs.declared.status.Place.TheVariants.{Read, Store, Print}
+use Rattle.hpc_top.specs.Profile.{Product}
+use Rattle.hpc_top.specs.Task.{task_of, verdict}
+use Rattle.hpc_top.specs.Words.{Request}
+use Rattle.hpc_top.specs.Outcome.{Call, Answers, Makes, Finished}
+use Rattle.hpc_top.specs.Follows.{Follows, IsUsage, IsRefusal, IsDone, NothingFailed}
+
+-- ---- a verdict is one thing
+
+accepted_or_not : (r : Result Product InputFault) (p : Product) (fault : InputFault) → r ≡ Ok p → r ≡ Err fault → ⊥
+accepted_or_not r p fault accepted refused = absurd cc
+
+one_refusal : (r : Result Product InputFault) (f g : InputFault) → r ≡ Err f → r ≡ Err g → f ≡ g
+one_refusal r f g a b = cc
+
+not_refused : (r : Result Product InputFault) (fault : InputFault) → IsOk r → r ≡ Err fault → ⊥
+not_refused r fault ok refused = let e : is_ok r ≡ false = ap is_ok refused in absurd (let k : true ≡ false = sym ok ∙ e in cc)
+
+module _ (call : Call) where
+  -- ---- the rows of single answers
+
+  done : (asked : Option Request) → Answers asked call Done → IsSomeAnd asked (λ request. Makes (task_of request) Finished call)
+  done None row = absurd row
+  done (Some request) row = row
+
+  usage : (asked : Option Request) → Answers asked call Usage → IsNone asked
+  usage None row = refl
+  usage (Some request) row = absurd row
+
+  input : (asked : Option Request) (fault : InputFault) → Answers asked call (Input fault)
+      → IsSomeAnd asked (λ request. IsTrue call.before.shelf.known → verdict (task_of request) call.before.shelf.files ≡ Err fault)
+  input None fault row = absurd row
+  input (Some request) fault row = row.1
+
+  read : (asked : Option Request) → Answers asked call (Device Read) → Rose call.before.shelf.reads.count call.after.shelf.reads.count
+  read None row = absurd row
+  read (Some request) row = row.1.rose
+
+  store : (asked : Option Request) → Answers asked call (Device Store) → Rose call.before.shelf.stores.count call.after.shelf.stores.count
+  store None row = absurd row
+  store (Some request) row = row.1.rose
+
+  print : (asked : Option Request) → Answers asked call (Device Print) → Rose call.before.out.faults call.after.out.faults
+  print None row = absurd row
+  print (Some request) row = row.1
+
+  -- ---- the answers that may come
+
+  invalid : (status : Status) → Answers None call status → IsUsage status
+  invalid Usage row = tt
+  invalid (Memory memory) row = tt
+  invalid Done row = row
+  invalid (Input fault) row = row
+  invalid (Device place) row = row
+
+  module _ (request : Request) (told : IsTrue call.before.shelf.known) where
+    refused : (fault : InputFault) → verdict (task_of request) call.before.shelf.files ≡ Err fault → (status : Status) → Answers (Some request) call status → IsRefusal fault status
+    refused fault is Done row = accepted_or_not (verdict (task_of request) call.before.shelf.files) row.0 fault (row.1 told) is
+    refused fault is Usage row = row
+    refused fault is (Input other) row = one_refusal (verdict (task_of request) call.before.shelf.files) other fault (row.1 told) is
+    refused fault is (Device Read) row = tt
+    refused fault is (Device Store) row = accepted_or_not (verdict (task_of request) call.before.shelf.files) row.0.0 fault (row.0.1 told) is
+    refused fault is (Device Print) row = accepted_or_not (verdict (task_of request) call.before.shelf.files) row.0.0 fault (row.0.1 told) is
+    refused fault is (Memory memory) row = tt
+
+    complete : IsOk (verdict (task_of request) call.before.shelf.files) → NothingFailed call → (status : Status) → Answers (Some request) call status → IsDone status
+    complete ok nothing Done row = tt
+    complete ok nothing (Memory memory) row = tt
+    complete ok nothing Usage row = row
+    complete ok nothing (Input fault) row = not_refused (verdict (task_of request) call.before.shelf.files) fault ok (row.1 told)
+    complete ok nothing (Device Read) row = nothing.reads row.1.rose
+    complete ok nothing (Device Store) row = nothing.stores row.1.rose
+    complete ok nothing (Device Print) row = nothing.puts row.1
+
+  unasked : (asked : Option Request) → IsNone asked → asked ≡ None
+  unasked None none = refl
+  unasked (Some request) none = absurd cc
+
+  pub follows : (asked : Option Request) (status : Status) → Answers asked call status → Follows asked call status
+  follows asked status row = record {
+    done = λ is. done asked (subst (Answers asked call) is row);
+    usage = λ is. usage asked (subst (Answers asked call) is row);
+    invalid = λ none. invalid status (subst (λ (a : Option Request). Answers a call status) (unasked asked none) row);
+    input = λ fault is. input asked fault (subst (Answers asked call) is row);
+    refused = λ request fault is told verdict_is. refused request told fault verdict_is status (subst (λ (a : Option Request). Answers a call status) is row);
+    complete = λ request is told ok nothing. complete request told ok nothing status (subst (λ (a : Option Request). Answers a call status) is row);
+    read = λ is. read asked (subst (Answers asked call) is row);
+    store = λ is. store asked (subst (Answers asked call) is row);
+    print = λ is. print asked (subst (Answers asked call) is row);
+  }

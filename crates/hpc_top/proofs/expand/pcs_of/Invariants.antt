@@ -1,0 +1,6 @@
+use Rattle.std.proofs.Common.{◌≡◌, map, take}
+use Rattle.hpc_top.specs.Samples.{pc_of}
+use Rattle.hpc_top.proofs.expand.pcs_of.Given as goal
+
+abbrev pub invariant-loop-frame : goal.invariant-loop-frame
+invariant-loop-frame l = l.pcs.items ≡ map pc_of (take l.frame-index l.frames)

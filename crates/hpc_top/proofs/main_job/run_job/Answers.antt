@@ -1,0 +1,23 @@
+use Rattle.std.proofs.Common.{◌≡◌, ◌<◌, ℕ, All, subst, sym, ap}
+use Rattle.prof_bytes.specs.Outcome.{Gives}
+use Rattle.rv_run.specs.Run.{Instant, Run, run_of}
+use Rattle.rv_run.specs.Progress.{to_come}
+use Rattle.cfi_unwind.specs.Path.{path_of as unwound_by}
+use Rattle.sample_clock.specs.Clock.{Sampling}
+use Rattle.hpc_top.specs.Made.{view}
+use Rattle.hpc_top.specs.Symbols.{found_at, naming_of}
+use Rattle.hpc_top.specs.Profile.{product_of}
+use Rattle.hpc_top.proofs.main_job.run_job.Goals as goal
+
+pub returns : goal.returns
+returns c =
+    let run : to_come c.in_ok-samples.samples.machine ≡ run_of c.args.image.now c.args.schedule c.args.job.now.input.now = ap (λ (s : Sampling). to_come s.machine) c.in_ok-samples.ensures.start in
+    subst
+    (λ (r : Run). Gives view c.profile_samples.result (product_of (unwound_by c.args.unwinder.now) c.args.job.now.period c.args.schedule.harts (found_at c.args.image.now) (naming_of c.args.image.now) r)) run
+    (subst
+    (λ (n : ℕ). Gives view c.profile_samples.result (product_of (unwound_by c.args.unwinder.now) c.args.job.now.period n (found_at c.args.image.now) (naming_of c.args.image.now) (to_come c.in_ok-samples.samples.machine))) c.harts-harts.ensures.harts
+    c.profile_samples.ensures)
+
+pub profile_samples-requires-clause-instants : goal.profile_samples-requires-clause-instants
+profile_samples-requires-clause-instants c =
+    subst (λ (n : ℕ). All (λ (i : Instant). i.moment.hart < n) (to_come c.in_ok-samples.samples.machine).instants) (sym c.harts-harts.ensures.harts) c.in_ok-samples.ensures.instants

@@ -1,0 +1,62 @@
+-- What follows from the table of answers, one sentence each, for readers and callers.
+use Rattle.std.specs.Prelude.{◌≡◌, Option, Some, Ok, Err, IsTrue, IsNone, IsOk, IsSomeAnd}
+use Rattle.prof_devices.specs.Outside.{Rose}
+use Rattle.hpc_top.specs.declared.status.InputFault.{InputFault}
+use Rattle.hpc_top.specs.declared.status.Status.{Status}
+use Rattle.hpc_top.specs.declared.status.Status.TheVariants.{Done, Usage, Input, Device, Memory}
+use Rattle.hpc_top.specs.declared.status.Place.TheVariants.{Read, Store, Print}
+use Rattle.hpc_top.specs.Words.{Request}
+use Rattle.hpc_top.specs.Task.{task_of, verdict}
+use Rattle.hpc_top.specs.Outcome.{Call, Makes, Finished}
+
+-- the answers to an invalid command line
+abbrev pub IsUsage : Status → Type 0
+IsUsage Usage = Unit {0}
+IsUsage (Memory memory) = Unit {0}
+IsUsage Done = ⊥
+IsUsage (Input fault) = ⊥
+IsUsage (Device place) = ⊥
+
+-- the answers where the verdict is a refusal
+abbrev pub IsRefusal : InputFault → Status → Type 0
+IsRefusal refusal (Input fault) = fault ≡ refusal
+IsRefusal refusal (Device Read) = Unit {0}
+IsRefusal refusal (Memory memory) = Unit {0}
+IsRefusal refusal (Device Store) = ⊥
+IsRefusal refusal (Device Print) = ⊥
+IsRefusal refusal Usage = ⊥
+IsRefusal refusal Done = ⊥
+
+-- the answers where the files are accepted and no device failed
+abbrev pub IsDone : Status → Type 0
+IsDone Done = Unit {0}
+IsDone (Memory memory) = Unit {0}
+IsDone Usage = ⊥
+IsDone (Input fault) = ⊥
+IsDone (Device place) = ⊥
+
+-- no count of failures rose
+pub record NothingFailed (call : Call) : Type 0 where
+  pub reads : ¬ Rose call.before.shelf.reads.count call.after.shelf.reads.count
+  pub stores : ¬ Rose call.before.shelf.stores.count call.after.shelf.stores.count
+  pub puts : ¬ Rose call.before.out.faults call.after.out.faults
+
+pub record Follows (asked : Option Request) (call : Call) (status : Status) : Type 0 where
+  -- the headline: after `Done` the database and the report are the definition's, and all other files are as before
+  pub done : status ≡ Done → IsSomeAnd asked (λ request. Makes (task_of request) Finished call)
+  -- the words alone decide on `Usage`
+  pub usage : status ≡ Usage → IsNone asked
+  pub invalid : IsNone asked → IsUsage status
+  -- a refusal is the verdict on the files
+  pub input : (fault : InputFault) → status ≡ Input fault → IsSomeAnd asked (λ request.
+      IsTrue call.before.shelf.known → verdict (task_of request) call.before.shelf.files ≡ Err fault)
+  -- and where the verdict is a refusal, it is answered, unless a read failed or memory ran out
+  pub refused : (request : Request) (fault : InputFault) → asked ≡ Some request → IsTrue call.before.shelf.known
+      → verdict (task_of request) call.before.shelf.files ≡ Err fault → IsRefusal fault status
+  -- where the files are accepted and no device failed, the answer is `Done`, unless memory ran out
+  pub complete : (request : Request) → asked ≡ Some request → IsTrue call.before.shelf.known
+      → IsOk (verdict (task_of request) call.before.shelf.files) → NothingFailed call → IsDone status
+  -- a failure of a device is one of this call
+  pub read : status ≡ Device Read → Rose call.before.shelf.reads.count call.after.shelf.reads.count
+  pub store : status ≡ Device Store → Rose call.before.shelf.stores.count call.after.shelf.stores.count
+  pub print : status ≡ Device Print → Rose call.before.out.faults call.after.out.faults

@@ -1,0 +1,5 @@
+-- What only private functions and proofs use.
+pub mod Stop
+pub mod Views
+pub mod Steps
+pub mod Collecting

@@ -1,0 +1,83 @@
+-- What the steps of a command do: its fetches, what is made of them, and the store and the put at its end.
+use Rattle.std.specs.Prelude.{◌≡◌, ℕ, ◌≤◌, ◌⊎◌, List, [], ◌∷◌, length, Option, Result, Ok, Err, IsTrue}
+use Rattle.prof_bytes.specs.declared.text.Text.{Text}
+use Rattle.prof_devices.specs.Outside.{ShelfState, SinkState, Fails, Rose, Appends, AppendsPart}
+use Rattle.hpc_top.specs.declared.status.InputFault.{InputFault}
+use Rattle.hpc_top.specs.declared.status.Stop.{Stop}
+use Rattle.hpc_top.specs.declared.status.Stop.TheVariants.{Input, Device, Memory}
+use Rattle.hpc_top.specs.declared.status.Place.TheVariants.{Read, Store, Print}
+use Rattle.hpc_top.specs.declared.status.Made.{Made}
+use Rattle.hpc_top.specs.Profile.{Product}
+use Rattle.hpc_top.specs.Made.{view}
+use Rattle.hpc_top.specs.Task.{Task, Wanted, within, contents, verdict}
+use Rattle.hpc_top.specs.Outcome.{Call, Storing, Printing, Finished, ReadFailed, StoreFailed}
+
+-- ---- fetches
+
+-- fetches change no file and no failed store, and the count of failed reads never falls
+pub record Looked (old new : ShelfState) : Type 0 where
+  pub known : new.known ≡ old.known
+  pub files : new.files ≡ old.files
+  pub stores : new.stores ≡ old.stores
+  pub reads : old.reads.count ≤ new.reads.count
+
+-- why fetches stop, where the definition of what they give is `wanted`, and a read that failed is a fact `Failed`
+abbrev pub FetchStops : {X : Type 0} → Type 0 → ShelfState → ShelfState → Result X InputFault → Stop → Type 0
+FetchStops Failed old new wanted (Input fault) = Looked old new × (IsTrue old.known → wanted ≡ Err fault)
+FetchStops Failed old new wanted (Device Read) = Looked old new × Failed
+FetchStops Failed old new wanted (Device Store) = ⊥
+FetchStops Failed old new wanted (Device Print) = ⊥
+FetchStops Failed old new wanted (Memory memory) = Looked old new
+
+-- one file is fetched
+abbrev pub Fetches : ShelfState → ShelfState → Wanted → Result Text Stop → Type 0
+Fetches old new w (Ok text) =
+    Looked old new × (length text ≤ w.limit) × (IsTrue old.known → within old.files w ≡ Ok text)
+Fetches old new w (Err stop) = FetchStops (Fails old.reads new.reads w.name) old new (within old.files w) stop
+
+-- one text for each file, and within its limit
+abbrev pub AreWithin : List (List ℕ) → List Wanted → Type 0
+AreWithin [] [] = Unit {0}
+AreWithin (text ∷ texts) (w ∷ ws) = (length text ≤ w.limit) × AreWithin texts ws
+AreWithin [] (w ∷ ws) = ⊥
+AreWithin (text ∷ texts) [] = ⊥
+
+-- all files of a command are fetched, in their order
+abbrev pub FetchesAll : ShelfState → ShelfState → List Wanted → Result (List (List ℕ)) Stop → Type 0
+FetchesAll old new wants (Ok texts) =
+    Looked old new × AreWithin texts wants × (IsTrue old.known → contents old.files wants ≡ Ok texts)
+FetchesAll old new wants (Err stop) = FetchStops (ReadFailed wants old new) old new (contents old.files wants) stop
+
+-- the fetches of a command and what is made of them
+abbrev pub Prepares : Task → ShelfState → ShelfState → Result Made Stop → Type 0
+Prepares task old new (Ok made) = Looked old new × (IsTrue old.known → verdict task old.files ≡ Ok (view made))
+Prepares task old new (Err stop) = FetchStops (ReadFailed task.wants old new) old new (verdict task old.files) stop
+
+-- ---- the end of a command
+
+abbrev pub TextStops : SinkState → SinkState → List ℕ → Stop → Type 0
+TextStops out out' text (Input fault) = ⊥
+TextStops out out' text (Device Read) = ⊥
+TextStops out out' text (Device Store) = ⊥
+TextStops out out' text (Device Print) =
+    (IsTrue out.known → AppendsPart out.taken out'.taken text) × Rose out.faults out'.faults
+TextStops out out' text (Memory memory) = IsTrue out.known → AppendsPart out.taken out'.taken text
+
+-- a text is put, or why not
+abbrev pub PutsText : SinkState → SinkState → List ℕ → Result (Unit {0}) Stop → Type 0
+PutsText out out' text (Ok _) = IsTrue out.known → Appends out.taken out'.taken text
+PutsText out out' text (Err stop) = TextStops out out' text stop
+
+abbrev pub DeliveryStops : Option (List ℕ) → Product → Call → Stop → Type 0
+DeliveryStops name product call (Input fault) = ⊥
+DeliveryStops name product call (Device Read) = ⊥
+DeliveryStops name product call (Device Store) =
+    Storing name product call × StoreFailed name call.before.shelf call.after.shelf
+DeliveryStops name product call (Device Print) =
+    Printing name product call × Rose call.before.out.faults call.after.out.faults
+DeliveryStops name product call (Memory memory) = Storing name product call ⊎ Printing name product call
+
+-- its file is stored, where it has one, and then its text is put
+abbrev pub Delivers : Option (List ℕ) → Product → Call → Result (Unit {0}) Stop → Type 0
+Delivers name product call (Ok _) = Finished name product call
+Delivers name product call (Err stop) = DeliveryStops name product call stop

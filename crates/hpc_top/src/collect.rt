@@ -1,0 +1,67 @@
+//! The samples of a run, counted hart by hart by their raw paths.
+ghost use Rattle.std.specs.Prelude.{◌≡◌, ◌+◌, ◌<◌, ◌++◌, ◌∷◌, [], All, List, length, OnOk};
+ghost use Rattle.prof_bytes.specs.Outcome.{Gives};
+ghost use Rattle.rv_run.specs.Progress.{to_come};
+ghost use Rattle.scope_types.specs.Distinct.{HartRaw, distinct, samples_in};
+ghost use Rattle.scope_types.specs.Limits.{most_samples};
+ghost use Rattle.hpc_top.specs.Samples.{hart_raw, within_frames};
+ghost use Rattle.hpc_top.specs.private.Collecting.{Collects, Goes};
+
+use crate::status::InputFault;
+use prof_bytes::Fail;
+use sample_clock::{Sample, Samples};
+use scope_types::Unwind;
+use std::alloc::Global;
+use thread_cct::{Ccts, samples_are_counted};
+
+/// Counts a sample by its raw path.
+fn count_sample(ccts: &mut Ccts, sample: &Sample) -> Result<(), Fail<InputFault>>
+    requires hart { sample.now.hart < length ccts.old }
+    requires few { samples_in ccts.old < most_samples }
+    ensures counts { (done : List HartRaw) → ccts.old ≡ distinct (length ccts.old) done →
+        Gives (λ _. ccts.new) result (within_frames (distinct (length ccts.old) (done ++ hart_raw sample.now ∷ []))) }
+    ensures samples { OnOk result (samples_in ccts.new ≡ samples_in ccts.old + 1) }
+{
+    match ccts.add(sample.hart, &sample.path) {
+        Ok(()) => Ok(()),
+        Err(Fail::Fault(_)) => Err(Fail::Fault(InputFault::TooManyFrames)),
+        Err(Fail::Memory(memory)) => Err(Fail::Memory(memory)),
+    }
+}
+
+/// The next sample; `None` where the run has ended.
+fn next_sample<U: Unwind>(
+    samples: &mut Samples<'_>,
+    unwinder: &U,
+) -> Result<Option<Sample>, Fail<InputFault>>
+    ensures answer { Goes (U.path_of unwinder.now) result samples.old samples.new }
+    ensures last { (to_come samples.new.machine).final ≡ (to_come samples.old.machine).final }
+{
+    match samples.next(unwinder) {
+        Ok(sample) => Ok(sample),
+        Err(Fail::Fault(_)) => Err(Fail::Fault(InputFault::TooManySamples)),
+        Err(Fail::Memory(memory)) => Err(Fail::Memory(memory)),
+    }
+}
+
+/// Runs the machine to its end, and counts its samples hart by hart.
+pub fn collect<U: Unwind>(
+    alloc: Global,
+    harts: u32,
+    samples: &mut Samples<'_>,
+    unwinder: &U,
+) -> Result<Ccts, Fail<InputFault>>
+    requires start { samples.old.met ≡ 0 }
+    requires harts { All (λ i. i.moment.hart < harts) (to_come samples.old.machine).instants }
+    ensures { Collects (U.path_of unwinder.now) harts result samples.old samples.new }
+{
+    samples_are_counted();
+    let mut ccts = Ccts::start(alloc, harts)?;
+    loop {
+        match next_sample(samples, unwinder) {
+            Ok(Some(sample)) => count_sample(&mut ccts, &sample)?,
+            Ok(None) => return Ok(ccts),
+            Err(fail) => return Err(fail),
+        }
+    }
+}

@@ -1,0 +1,305 @@
+//! What is refused in the words and in the files, by its place, with the line on standard error.
+use crate::call_paths::{RECURSION, changed};
+use crate::programs::{ADDING, answer, files, program};
+use elf_image::{ElfFault, ElfRule};
+use hpc_top::{InputFault, Part, Status};
+use prof_devices::{MemShelf, MemSink};
+use std::alloc::Global;
+use std::test::Fail;
+use std::thread::Threads;
+
+/// A program with debug information: a unit and its line table.
+const WITH_ENTRIES: &[u8] = b"\
+\x7fELF\x01\x01\x01\0\0\0\0\0\0\0\0\0\x02\0\xf3\0\x01\0\0\0\0\0\x01\04\0\0\0\\\x01\0\0\0\0\0\
+\04\0 \0\x01\0(\0\x07\0\x06\0\x01\0\0\0T\0\0\0\0\0\x01\0\0\0\x01\0T\0\0\0T\0\0\0\x05\0\0\0\
+\x04\0\0\0\x13\x05\x15\0\x13\x05\x15\0\x13\x05\x15\0\x13\x05\x15\0\x13\x05\x15\0\x13\x05\x15\
+\0\x13\x05\x15\0\x13\x05\x15\0\x13\x05\x15\0\x13\x05\x15\0\x13\x05\x15\0\x13\x05\x15\0\x13\
+\x05\x15\0\x13\x05\x15\0\x13\x05\x15\0\x13\x05\x15\0\x13\x05\x15\0\x13\x05\x15\0\x13\x05\x15\
+\0\x93\x08\xd0\x05s\0\0\0\x0d\0\0\0\x05\0\x01\x04\0\0\0\0\x01\0\0\0\0\x01\x11\0\x10\x17\0\0\
+\0E\0\0\0\x05\0\x04\0$\0\0\0\x01\x01\x01\xfb\x0e\x0d\0\x01\x01\x01\x01\0\0\0\x01\0\0\x01\x01\
+\x01\x08\x01/s\0\x02\x01\x08\x02\x0b\x01a.c\0\0\x04\0\0\x05\x02\0\0\x01\0\x03\x02\x01\x03\
+\x04\x01\x02\x08\x03\x01\x01\x02\x10\0\x01\x01\0\0\0\0\0\0\0\0\0\0\0\0\0\0\0\0\0\0.debug_inf\
+o\0.debug_abbrev\0.debug_line\0.symtab\0.strtab\0.shstrtab\0\0\0\0\0\0\0\0\0\0\0\0\0\0\0\0\0\
+\0\0\0\0\0\0\0\0\0\0\0\0\0\0\0\0\0\0\0\0\0\0\0\0\x01\0\0\0\x01\0\0\0\0\0\0\0\0\0\0\0\xa8\0\0\
+\0\x11\0\0\0\0\0\0\0\0\0\0\0\0\0\0\0\0\0\0\0\x0d\0\0\0\x01\0\0\0\0\0\0\0\0\0\0\0\xb9\0\0\0\
+\x08\0\0\0\0\0\0\0\0\0\0\0\0\0\0\0\0\0\0\0\x1b\0\0\0\x01\0\0\0\0\0\0\0\0\0\0\0\xc1\0\0\0I\0\
+\0\0\0\0\0\0\0\0\0\0\0\0\0\0\0\0\0\0'\0\0\0\x02\0\0\0\0\0\0\0\0\0\0\0\x0a\x01\0\0\x10\0\0\0\
+\x05\0\0\0\x01\0\0\0\0\0\0\0\x10\0\0\0/\0\0\0\x03\0\0\0\0\0\0\0\0\0\0\0\x1a\x01\0\0\x01\0\0\
+\0\0\0\0\0\0\0\0\0\0\0\0\0\0\0\0\07\0\0\0\x03\0\0\0\0\0\0\0\0\0\0\0\x1b\x01\0\0A\0\0\0\0\0\0\
+\0\0\0\0\0\0\0\0\0\0\0\0\0";
+
+/// The same code with inlined procedures, of two levels and in two pieces.
+const WITH_INLINES: &[u8] = b"\
+\x7fELF\x01\x01\x01\0\0\0\0\0\0\0\0\0\x02\0\xf3\0\x01\0\0\0\0\0\x01\04\0\0\0\xf0\x01\0\0\0\0\0\04\0 \
+\0\x01\0(\0\x08\0\x07\0\x01\0\0\0T\0\0\0\0\0\x01\0\0\0\x01\0T\0\0\0T\0\0\0\x05\0\0\0\x04\0\0\0\x13\
+\x05\x15\0\x13\x05\x15\0\x13\x05\x15\0\x13\x05\x15\0\x13\x05\x15\0\x13\x05\x15\0\x13\x05\x15\0\x13\
+\x05\x15\0\x13\x05\x15\0\x13\x05\x15\0\x13\x05\x15\0\x13\x05\x15\0\x13\x05\x15\0\x13\x05\x15\0\x13\
+\x05\x15\0\x13\x05\x15\0\x13\x05\x15\0\x13\x05\x15\0\x13\x05\x15\0\x93\x08\xd0\x05s\0\0\0H\0\0\0\
+\x05\0\x01\x04\0\0\0\0\x01\0\0\0\0\x02inner\0\x01\x02outer\0\x01\x03main\0\0\0\x01\0T\0\0\0\x04\x19\
+\0\0\0\x0c\0\0\0\0\x03\x05\x11\0\0\0$\0\x01\0\x08\0\0\0\0\x0b\0\0\0\x01\x11\x01\x10\x17\0\0\x02.\0\
+\x03\x08 \x0b\0\0\x03.\x01\x03\x08\x11\x01\x12\x06\0\0\x04\x1d\x011\x13U\x17X\x0bY\x0b\0\0\x05\x1d\
+\01\x13\x11\x01\x12\x06X\x0bY\x0b\0\0\0E\0\0\0\x05\0\x04\0$\0\0\0\x01\x01\x01\xfb\x0e\x0d\0\x01\x01\
+\x01\x01\0\0\0\x01\0\0\x01\x01\x01\x08\x01/s\0\x02\x01\x08\x02\x0b\x01a.c\0\0\x04\0\0\x05\x02\0\0\
+\x01\0\x03\x02\x01\x03\x04\x01\x02\x08\x03\x01\x01\x02\x10\0\x01\x01\x15\0\0\0\x05\0\x04\0\0\0\0\0\
+\x07\x08\0\x01\0\x08\x07 \0\x01\0\x10\0\0\0\0\0\0\0\0\0\0\0\0\0\0\0\0\0\0\0.debug_info\0.debug_abbr\
+ev\0.debug_line\0.debug_rnglists\0.symtab\0.strtab\0.shstrtab\0\0\0\0\0\0\0\0\0\0\0\0\0\0\0\0\0\0\0\
+\0\0\0\0\0\0\0\0\0\0\0\0\0\0\0\0\0\0\0\0\0\0\x01\0\0\0\x01\0\0\0\0\0\0\0\0\0\0\0\xa8\0\0\0L\0\0\0\0\
+\0\0\0\0\0\0\0\0\0\0\0\0\0\0\0\x0d\0\0\0\x01\0\0\0\0\0\0\0\0\0\0\0\xf4\0\0\08\0\0\0\0\0\0\0\0\0\0\0\
+\0\0\0\0\0\0\0\0\x1b\0\0\0\x01\0\0\0\0\0\0\0\0\0\0\0,\x01\0\0I\0\0\0\0\0\0\0\0\0\0\0\0\0\0\0\0\0\0\
+\0'\0\0\0\x01\0\0\0\0\0\0\0\0\0\0\0u\x01\0\0\x19\0\0\0\0\0\0\0\0\0\0\0\0\0\0\0\0\0\0\07\0\0\0\x02\0\
+\0\0\0\0\0\0\0\0\0\0\x8e\x01\0\0\x10\0\0\0\x06\0\0\0\x01\0\0\0\0\0\0\0\x10\0\0\0?\0\0\0\x03\0\0\0\0\
+\0\0\0\0\0\0\0\x9e\x01\0\0\x01\0\0\0\0\0\0\0\0\0\0\0\0\0\0\0\0\0\0\0G\0\0\0\x03\0\0\0\0\0\0\0\0\0\0\
+\0\x9f\x01\0\0Q\0\0\0\0\0\0\0\0\0\0\0\0\0\0\0\0\0\0\0";
+
+/// A call that is refused: the words, what differs in the files, the answer and its line.
+struct Case {
+    name: &'static str,
+    words: &'static str,
+    schedule: &'static [u8],
+    /// The program's file, where it is not the adding program.
+    file: &'static [u8],
+    /// How many bytes of it are kept, and the bytes of it that are others.
+    cut: usize,
+    changes: &'static [(usize, u8)],
+    input: &'static [u8],
+    status: Status,
+    line: &'static str,
+}
+
+const CASE: Case = Case {
+    name: "",
+    words: "profile p i s 5 1 d",
+    schedule: b"harts 1\n0 100000\n",
+    file: b"",
+    cut: 168,
+    changes: &[],
+    input: b"",
+    status: Status::Usage,
+    line: USAGE,
+};
+
+const USAGE: &str = "\
+usage: hpc profile ELF INPUT SCHEDULE PERIOD WORKERS DB | run ELF INPUT SCHEDULE PERIOD MEASURE \
+| prof ELF MEASURE WORKERS DB | struct ELF | view DB top|callers|flat | drill NUMBER WORKERS\n";
+
+static REFUSALS: [Case; 21] = [
+    Case {
+        name: "no words",
+        words: "",
+        status: Status::Usage,
+        ..CASE
+    },
+    Case {
+        name: "a view that is none",
+        words: "view d sideways",
+        ..CASE
+    },
+    Case {
+        name: "a period of 0",
+        words: "profile p i s 0 1 d",
+        ..CASE
+    },
+    Case {
+        name: "a period past 32 bits",
+        words: "profile p i s 4294967296 1 d",
+        ..CASE
+    },
+    Case {
+        name: "a period with a zero in front",
+        words: "profile p i s 05 1 d",
+        ..CASE
+    },
+    Case {
+        name: "no worker",
+        words: "profile p i s 5 0 d",
+        ..CASE
+    },
+    Case {
+        name: "seventeen workers",
+        words: "profile p i s 5 17 d",
+        ..CASE
+    },
+    Case {
+        name: "a word too many",
+        words: "profile p i s 5 1 d d",
+        ..CASE
+    },
+    Case {
+        name: "a drill's number with a zero in front",
+        words: "drill 01 1",
+        ..CASE
+    },
+    Case {
+        name: "a schedule without a line",
+        schedule: b"",
+        status: Status::Input(InputFault::Schedule { line: 1 }),
+        line: "hpc: schedule line 1\n",
+        ..CASE
+    },
+    Case {
+        name: "a hart that there is not, before a bad program",
+        schedule: b"harts 1\n1 5\n",
+        cut: 51,
+        status: Status::Input(InputFault::Schedule { line: 2 }),
+        line: "hpc: schedule line 2\n",
+        ..CASE
+    },
+    Case {
+        name: "cut to 51 bytes",
+        cut: 51,
+        status: Status::Input(InputFault::Program(ElfFault {
+            rule: ElfRule::NotElf,
+            offset: 51,
+        })),
+        line: "hpc: program NotElf at 51\n",
+        ..CASE
+    },
+    Case {
+        name: "another magic number",
+        changes: &[(2, 0)],
+        status: Status::Input(InputFault::Program(ElfFault {
+            rule: ElfRule::NotElf,
+            offset: 2,
+        })),
+        line: "hpc: program NotElf at 2\n",
+        ..CASE
+    },
+    Case {
+        name: "compressed code",
+        changes: &[(36, 1)],
+        status: Status::Input(InputFault::Program(ElfFault {
+            rule: ElfRule::CompressedCode,
+            offset: 36,
+        })),
+        line: "hpc: program CompressedCode at 36\n",
+        ..CASE
+    },
+    Case {
+        name: "section headers that are not there",
+        file: RECURSION,
+        cut: 473,
+        status: Status::Input(InputFault::Program(ElfFault {
+            rule: ElfRule::HeaderPlace,
+            offset: 32,
+        })),
+        line: "hpc: program HeaderPlace at 32\n",
+        ..CASE
+    },
+    Case {
+        name: "an instruction of call frames that there is not",
+        file: RECURSION,
+        cut: 474,
+        changes: &[(145, 0x3f)],
+        status: Status::Input(InputFault::Frames { offset: 13 }),
+        line: "hpc: frames at 13\n",
+        ..CASE
+    },
+    Case {
+        name: "an offset of the CFA without a register",
+        file: RECURSION,
+        cut: 474,
+        changes: &[(145, 0x0e), (146, 0), (147, 0)],
+        status: Status::Input(InputFault::Frames { offset: 13 }),
+        line: "hpc: frames at 13\n",
+        ..CASE
+    },
+    Case {
+        name: "debug information",
+        file: WITH_ENTRIES,
+        cut: 628,
+        status: Status::Input(InputFault::Unbuilt {
+            part: Part::Entries,
+            at: 0,
+        }),
+        line: "hpc: unbuilt entries at 0\n",
+        ..CASE
+    },
+    Case {
+        name: "debug information with inlined procedures",
+        file: WITH_INLINES,
+        cut: 816,
+        status: Status::Input(InputFault::Unbuilt {
+            part: Part::Entries,
+            at: 0,
+        }),
+        line: "hpc: unbuilt entries at 0\n",
+        ..CASE
+    },
+    Case {
+        name: "a program header cut short",
+        cut: 70,
+        status: Status::Input(InputFault::Program(ElfFault {
+            rule: ElfRule::HeaderPlace,
+            offset: 28,
+        })),
+        line: "hpc: program HeaderPlace at 28\n",
+        ..CASE
+    },
+    Case {
+        name: "a segment past the end of the file",
+        cut: 167,
+        status: Status::Input(InputFault::Program(ElfFault {
+            rule: ElfRule::SegmentPlace,
+            offset: 52,
+        })),
+        line: "hpc: program SegmentPlace at 52\n",
+        ..CASE
+    },
+];
+
+fn changed_program(alloc: Global, case: &Case) -> Result<Vec<u8>, Fail> {
+    let adding = program(alloc, &ADDING)?;
+    let file = if case.file.is_empty() {
+        adding.as_slice()
+    } else {
+        case.file
+    };
+    let mut file = changed(alloc, file, case.changes)?;
+    file.truncate(case.cut);
+    Ok(file)
+}
+
+fn is(found: Option<&[u8]>, wanted: &[u8]) -> bool {
+    match found {
+        Some(bytes) => bytes == wanted,
+        None => false,
+    }
+}
+
+/// The files of a case on a shelf that does not fail.
+fn shelf_of(alloc: Global, case: &Case) -> Result<MemShelf, Fail> {
+    let elf = changed_program(alloc, case)?;
+    let files = files(alloc, elf.as_slice(), case.input, case.schedule)?;
+    Ok(MemShelf::of(alloc, files, Vec::new(alloc), 0))
+}
+
+/// Whether the answer and the line are the case's, and nothing is stored or printed.
+fn is_refused(rt: &(impl Threads + Sync + AllocGlobal), case: &Case) -> Result<bool, Fail> {
+    let alloc = rt.alloc();
+    let mut shelf = shelf_of(alloc, case)?;
+    let mut out = MemSink::of(alloc, Vec::new(alloc), 0);
+    let mut err = MemSink::of(alloc, Vec::new(alloc), 0);
+    let status = answer(rt, case.words, &mut shelf, &mut out, &mut err)?;
+    Ok(
+        status == case.status
+            && is(shelf.file(b"d"), b"before")
+            && out.taken().is_empty()
+            && err.taken() == case.line.as_bytes(),
+    )
+}
+
+/// The name of the first case that has another answer.
+fn other_refusal(rt: &(impl Threads + Sync + AllocGlobal)) -> Result<Option<&'static str>, Fail> {
+    for case in &REFUSALS {
+        if !is_refused(rt, case)? {
+            return Ok(Some(case.name));
+        }
+    }
+    Ok(None)
+}
+
+#[test]
+fn refusals_by_their_places(rt: HostRuntime) -> Result<(), Fail> {
+    assert_eq!(rt; other_refusal(&rt)?, None);
+    Ok(())
+}

@@ -1,0 +1,279 @@
+//! Reports of runs: programs without symbols and call frame information, on one hart and on two, and each
+//! way in which a hart ends. The reports are written by hand from their layout. That 1,048,576 samples are
+//! taken and one more is refused is tried with the built program alone (`.ci/checks`): before they are proved
+//! tests are interpreted, and a run of so many samples then takes minutes.
+use crate::programs::{ADDING, BRANCHING, ECHO, GROUP, answer, files, program};
+use hpc_top::Status;
+use prof_devices::{SureShelf, SureSink};
+use std::alloc::Global;
+use std::test::Fail;
+use std::thread::Threads;
+
+pub(crate) const FOUR_SAMPLES: &str = "\
+harts 1 period 5 samples 4 total 20
+hart 0 retired 20 samples 4 end exit 19
+       inclusive      %            frame  scope
+              20  100.0                0  <thread root>
+              20  100.0               20    <unknown procedure>
+               5   25.0                5      0x00010010
+               5   25.0                5      0x00010024
+               5   25.0                5      0x00010038
+               5   25.0                5      0x0001004c
+";
+
+pub(crate) const NO_SAMPLES: &str = "\
+harts 1 period 21 samples 0 total 0
+hart 0 retired 20 samples 0 end exit 19
+       inclusive      %            frame  scope
+";
+
+const TWENTY_SAMPLES: &str = "\
+harts 1 period 1 samples 20 total 20
+hart 0 retired 20 samples 20 end exit 19
+       inclusive      %            frame  scope
+              20  100.0                0  <thread root>
+              20  100.0               20    <unknown procedure>
+               1    5.0                1      0x00010000
+               1    5.0                1      0x00010004
+               1    5.0                1      0x00010008
+               1    5.0                1      0x0001000c
+               1    5.0                1      0x00010010
+               1    5.0                1      0x00010014
+               1    5.0                1      0x00010018
+               1    5.0                1      0x0001001c
+               1    5.0                1      0x00010020
+               1    5.0                1      0x00010024
+               1    5.0                1      0x00010028
+               1    5.0                1      0x0001002c
+               1    5.0                1      0x00010030
+               1    5.0                1      0x00010034
+               1    5.0                1      0x00010038
+               1    5.0                1      0x0001003c
+               1    5.0                1      0x00010040
+               1    5.0                1      0x00010044
+               1    5.0                1      0x00010048
+               1    5.0                1      0x0001004c
+";
+
+const CUT_SHORT: &str = "\
+harts 1 period 5 samples 1 total 5
+hart 0 retired 7 samples 1 end stopped
+       inclusive      %            frame  scope
+               5  100.0                0  <thread root>
+               5  100.0                5    <unknown procedure>
+               5  100.0                5      0x00010010
+";
+
+/// Ordinals are counted by hart.
+const TWO_HARTS: &str = "\
+harts 2 period 5 samples 1 total 5
+hart 0 retired 7 samples 1 end stopped
+hart 1 retired 3 samples 0 end stopped
+       inclusive      %            frame  scope
+               5  100.0                0  <thread root>
+               5  100.0                5    <unknown procedure>
+               5  100.0                5      0x00010010
+";
+
+/// A trap ends one hart alone.
+const ONE_TRAPS: &str = "\
+harts 2 period 1 samples 3 total 3
+hart 0 retired 2 samples 2 end exit 0
+hart 1 retired 1 samples 1 end trap illegal at 0x00010004
+       inclusive      %            frame  scope
+               3  100.0                0  <thread root>
+               3  100.0                3    <unknown procedure>
+               2   66.6                2      0x00010000
+               1   33.3                1      0x00010008
+";
+
+/// An exit of the group by hart 1 ends hart 0 too.
+const GROUP_ENDS: &str = "\
+harts 2 period 1 samples 2 total 2
+hart 0 retired 1 samples 1 end group 1
+hart 1 retired 1 samples 1 end group 1
+       inclusive      %            frame  scope
+               2  100.0                0  <thread root>
+               2  100.0                2    <unknown procedure>
+               2  100.0                2      0x00010000
+";
+
+/// What the guest wrote has no line feed at its end, and gets one.
+const ECHOED: &str = "\
+hi
+harts 1 period 5 samples 2 total 10
+hart 0 retired 11 samples 2 end exit 3
+       inclusive      %            frame  scope
+              10  100.0                0  <thread root>
+              10  100.0               10    <unknown procedure>
+               5   50.0                5      0x00010010
+               5   50.0                5      0x00010024
+";
+
+#[derive(Clone, Copy)]
+struct Run {
+    name: &'static str,
+    code: &'static [u32],
+    input: &'static [u8],
+    schedule: &'static [u8],
+    period: &'static str,
+    report: &'static str,
+}
+
+const RUN: Run = Run {
+    name: "four samples",
+    code: &ADDING,
+    input: b"",
+    schedule: b"harts 1\n0 100000\n",
+    period: "5",
+    report: FOUR_SAMPLES,
+};
+
+static RUNS: [Run; 8] = [
+    RUN,
+    Run {
+        name: "no sample, and a schedule without a line feed at its end",
+        period: "21",
+        schedule: b"harts 1\n0 100000",
+        report: NO_SAMPLES,
+        ..RUN
+    },
+    Run {
+        name: "every instruction sampled",
+        period: "1",
+        report: TWENTY_SAMPLES,
+        ..RUN
+    },
+    Run {
+        name: "a schedule that ends before the program",
+        schedule: b"harts 1\n0 7\n",
+        report: CUT_SHORT,
+        ..RUN
+    },
+    Run {
+        name: "ordinals counted by hart",
+        schedule: b"harts 2\n0 7\n1 3\n",
+        report: TWO_HARTS,
+        ..RUN
+    },
+    Run {
+        name: "a trap of one hart",
+        code: &BRANCHING,
+        schedule: b"harts 2\n0 9\n1 9\n",
+        period: "1",
+        report: ONE_TRAPS,
+        ..RUN
+    },
+    Run {
+        name: "an exit of all harts",
+        code: &GROUP,
+        schedule: b"harts 2\n0 1\n1 2\n0 5\n",
+        period: "1",
+        report: GROUP_ENDS,
+        ..RUN
+    },
+    Run {
+        name: "output without a line feed at its end",
+        code: &ECHO,
+        input: b"hi",
+        report: ECHOED,
+        ..RUN
+    },
+];
+
+/// The files of a run on a shelf that never fails.
+fn sure_shelf(alloc: Global, run: &Run) -> Result<SureShelf, Fail> {
+    let elf = program(alloc, run.code)?;
+    let files = files(alloc, elf.as_slice(), run.input, run.schedule)?;
+    Ok(SureShelf::of(alloc, files))
+}
+
+/// Whether a run is done, with just this report and nothing on standard error.
+fn is_reported(
+    rt: &(impl Threads + Sync + AllocGlobal),
+    run: &Run,
+    period: &'static str,
+    report: &[u8],
+) -> Result<bool, Fail> {
+    let alloc = rt.alloc();
+    let mut shelf = sure_shelf(alloc, run)?;
+    let mut out = SureSink::new(alloc);
+    let mut err = SureSink::new(alloc);
+    let line = format!(in alloc; "profile p i s {period} 1 d")?;
+    let status = answer(rt, line.as_str(), &mut shelf, &mut out, &mut err)?;
+    Ok(status == Status::Done && err.taken().is_empty() && out.taken() == report)
+}
+
+/// The name of the first run that has another report.
+fn other_report(rt: &(impl Threads + Sync + AllocGlobal)) -> Result<Option<&'static str>, Fail> {
+    for run in &RUNS {
+        if !is_reported(rt, run, run.period, run.report.as_bytes())? {
+            return Ok(Some(run.name));
+        }
+    }
+    Ok(None)
+}
+
+#[test]
+fn reports_of_runs(rt: HostRuntime) -> Result<(), Fail> {
+    assert_eq!(rt; other_report(&rt)?, None);
+    Ok(())
+}
+
+/// A program's words, and the line on its one hart: how a hart ends otherwise.
+static ENDS: [(&[u32], &str); 6] = [
+    (
+        &[0x0010_0073],
+        "retired 0 samples 0 end break at 0x00010000",
+    ),
+    (
+        &[0x0000_2283],
+        "retired 0 samples 0 end trap load at 0x00010000",
+    ),
+    (
+        &[0x0050_2023],
+        "retired 0 samples 0 end trap store at 0x00010000",
+    ),
+    (
+        &[0x0020_0067],
+        "retired 0 samples 0 end trap target at 0x00010000",
+    ),
+    (
+        &[0x0000_0067],
+        "retired 1 samples 0 end trap fetch at 0x00000000",
+    ),
+    (&[0x0000_006f], "retired 9 samples 0 end stopped"),
+];
+
+/// The report of a run without samples whose one hart has this line.
+fn report_of_end(alloc: Global, line: &str) -> Result<Vec<u8>, Fail> {
+    let mut report = Vec::from_slice(
+        alloc,
+        b"harts 1 period 4294967295 samples 0 total 0\nhart 0 ",
+    )?;
+    report.extend_from_slice(line.as_bytes())?;
+    report.extend_from_slice(b"\n       inclusive      %            frame  scope\n")?;
+    Ok(report)
+}
+
+/// The first line that is another one.
+fn other_end(rt: &(impl Threads + Sync + AllocGlobal)) -> Result<Option<&'static str>, Fail> {
+    for (code, line) in ENDS {
+        let run = Run {
+            code,
+            schedule: b"harts 1\n0 9\n",
+            ..RUN
+        };
+        let report = report_of_end(rt.alloc(), line)?;
+        if !is_reported(rt, &run, "4294967295", report.as_slice())? {
+            return Ok(Some(line));
+        }
+    }
+    Ok(None)
+}
+
+#[test]
+fn other_ends_of_a_hart(rt: HostRuntime) -> Result<(), Fail> {
+    assert_eq!(rt; other_end(&rt)?, None);
+    Ok(())
+}
