@@ -39,15 +39,15 @@ abbrev pub profile_words : List (List ℕ) → Option ProfileWords
 profile_words (elf ∷ input ∷ schedule ∷ period ∷ workers ∷ database ∷ []) =
     if list_all is_file_name (elf ∷ input ∷ schedule ∷ database ∷ [])
     then of_both
-        (λ period workers. record {
-          elf = elf;
-          input = input;
-          schedule = schedule;
-          period = period;
-          workers = workers;
-          database = database;
-        })
-        (decimal_in 1 most_period period) (decimal_in 1 most_workers workers)
+    (λ period workers. record {
+      elf = elf;
+      input = input;
+      schedule = schedule;
+      period = period;
+      workers = workers;
+      database = database;
+    })
+    (decimal_in 1 most_period period) (decimal_in 1 most_workers workers)
     else None
 profile_words words = None
 

@@ -88,23 +88,13 @@ fn expand(
 }
 
 /// The call path of a hart's raw path, with its count.
-fn entry_of(
-    alloc: Global,
-    image: &Image<'_>,
-    hart: u32,
-    counted: &Counted,
-) -> Result<Entry, Memory>
+fn entry_of(alloc: Global, image: &Image<'_>, hart: u32, counted: &Counted) -> Result<Entry, Memory>
     ensures path { IfOk result (λ e.
         entry_path e ≡ sample_path (found_at image.now) (record { hart = hart; raw = counted.now.path })) }
     ensures count { IfOk result (λ e. e.count ≡ counted.now.count) }
 {
     let pcs = pcs_of(alloc, counted.path.frames())?;
-    let path = expand(
-        alloc,
-        image,
-        root_of(counted.path.end()),
-        pcs.as_slice(),
-    )?;
+    let path = expand(alloc, image, root_of(counted.path.end()), pcs.as_slice())?;
     Ok(Entry {
         hart,
         count: counted.count,

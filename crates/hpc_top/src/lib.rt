@@ -8,11 +8,11 @@
 #![tactic(auto)]
 
 mod call;
+mod collect;
 mod expand;
 mod main_job;
 mod message;
 mod names;
-mod collect;
 mod report;
 mod request;
 mod status;
@@ -20,6 +20,6 @@ mod steps;
 mod words;
 
 pub use call::hpc_main;
-pub use message::out_of_memory;
 pub use main_job::{Job, profile};
+pub use message::out_of_memory;
 pub use status::{FileKind, InputFault, Made, Part, Place, Status};

@@ -20,7 +20,6 @@ ghost use Rattle.hpc_top.specs.Profile.{product_from, product_of, profile_of};
 use crate::collect::collect;
 use crate::expand::entries_of;
 use crate::names::names_of;
-
 use crate::report::report;
 use crate::status::{InputFault, Made, Part};
 use cfi_table::{FrameTable, read_frames};
@@ -228,13 +227,13 @@ fn samples_of<'a>(
 ) -> Result<Samples<'a>, Memory>
     requires { 0 < job.now.period }
     ensures start { IfOk result (λ samples. samples ≡ record {
-        machine = record {
-          state = first_state image.now schedule.harts job.now.input.now;
-          left = schedule.slices;
-        };
-        period = job.now.period;
-        met = 0;
-      }) }
+      machine = record {
+        state = first_state image.now schedule.harts job.now.input.now;
+        left = schedule.slices;
+      };
+      period = job.now.period;
+      met = 0;
+    }) }
     ensures harts { IfOk result (λ samples. schedule.harts ≡ length (to_come samples.machine).final.harts) }
     ensures instants { IfOk result (λ samples.
         All (λ i. i.moment.hart < schedule.harts) (to_come samples.machine).instants) }
