@@ -1,3 +1,4 @@
 pub mod Places
 pub mod ShownInMemory
 pub mod ShownByFolder
+pub mod Known

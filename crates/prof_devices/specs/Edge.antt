@@ -1,6 +1,7 @@
 -- The devices over a folder and over streams: nothing is known of what they hold, and a count rises in just the calls
 -- that answer a fault.
-use Rattle.std.specs.Prelude.{◌≡◌, ℕ, ◌<◌, ◌≤◌, List, length, Option, IfSome}
+use Rattle.std.specs.Prelude.{◌≡◌, ℕ, ◌<◌, ◌≤◌, List, length, take, Option, IfSome, Bool, true, false}
+use Rattle.std.specs.Io.KnownBytes.{Consumes, IsAtEnd}
 use Rattle.core.specs.Str.{IsUtf8}
 use Rattle.prof_devices.specs.declared.shelf.Fetch.{Fetch}
 use Rattle.prof_devices.specs.declared.shelf.Fetch.TheVariants as fetches
@@ -36,7 +37,18 @@ LinePuts old new bytes (Memory memory) = ⊥
 
 -- ---- a file that is read to its end
 
--- all bytes that a reader has left, unless they are more than the limit; a reader may also fail
+-- a source gave so many of the bytes that it had left, none only at their end
+pub record GivesSome (before after : Option (List ℕ)) (part : List ℕ) (count : ℕ) : Type 0 where
+  pub within : count ≤ length part
+  pub given : Consumes before after (take count part)
+  pub end : count ≡ 0 → 0 < length part → IsAtEnd after
+
+-- the answer is that the device failed
+abbrev pub is_fault : Fetch → Bool
+is_fault fetches.Fault = true
+is_fault _ = false
+
+-- all bytes that a source has left, unless they are more than the limit; a source may also fail
 abbrev pub FetchesFrom : Option (List ℕ) → ℕ → Fetch → Type 0
 FetchesFrom known limit (fetches.Whole bytes) = (length bytes ≤ limit) × IfSome known (λ left. bytes ≡ left)
 FetchesFrom known limit fetches.TooLong = IfSome known (λ left. limit < length left)

@@ -4,7 +4,7 @@ ghost use Rattle.prof_devices.specs.Edge.{FolderFetches, FolderStores};
 ghost use Rattle.prof_devices.specs.private.Parts.{IsAtMost};
 ghost use Rattle.prof_devices.specs.InMemory.{failed_at, no_failures};
 
-use crate::read::fetch_from;
+use crate::read::{ReadSource, fetch_from};
 use crate::shelf::{Fetch, Put, Shelf};
 use prof_bytes::Text;
 use std::io::ErrorKind;
@@ -80,7 +80,7 @@ impl<'a, R: Files + AllocGlobal> FolderShelf<'a, R> {
             return Fetch::Fault;
         };
         match fs::open(self.rt, name) {
-            Ok(mut file) => fetch_from(self.rt.alloc(), &mut file, limit),
+            Ok(file) => fetch_from(self.rt.alloc(), &mut ReadSource::of(file), limit),
             Err(_) => Fetch::Fault,
         }
     }

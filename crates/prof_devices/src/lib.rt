@@ -23,7 +23,7 @@ pub use folder::FolderShelf;
 pub use gate::{Gate, OpenGate};
 pub use memory_shelf::MemShelf;
 pub use memory_sink::MemSink;
-pub use read::fetch_from;
+pub use read::{Source, fetch_from};
 pub use shelf::{Fetch, Put, Shelf};
 pub use sink::Sink;
 pub use streams::{ErrSink, OutSink};

@@ -5,6 +5,8 @@ use Rattle.prof_devices.specs.declared.shelf.Fetch.{Fetch}
 use Rattle.prof_devices.specs.declared.shelf.Fetch.TheVariants as fetches
 use Rattle.prof_devices.specs.declared.shelf.Put.{Put}
 use Rattle.prof_devices.specs.declared.shelf.Put.TheVariants.{Done, Fault, Memory}
+use Rattle.prof_devices.specs.declared.read.Stop.{Stop}
+use Rattle.prof_devices.specs.declared.read.Stop.TheVariants as stops
 use Rattle.prof_devices.specs.Files.{file_of, Holds}
 use Rattle.prof_devices.specs.InMemory.{MemoryShelf, MemorySink, failed_at, raised}
 
@@ -51,3 +53,8 @@ IsAtMost limit (fetches.Whole bytes) = length bytes ≤ limit
 IsAtMost limit fetches.TooLong = Unit {0}
 IsAtMost limit fetches.Fault = Unit {0}
 IsAtMost limit (fetches.Memory memory) = Unit {0}
+
+-- the source failed, and memory was there
+abbrev pub is_failure : Stop → Bool
+is_failure stops.Failed = true
+is_failure (stops.Memory memory) = false
