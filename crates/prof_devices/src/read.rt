@@ -1,5 +1,6 @@
 //! Reading a whole file, or seeing that it is too long.
-ghost use Rattle.std.specs.Prelude.{◌≡◌, ◌+◌, ◌<◌, ◌≤◌, ◌||◌, [], true, false, IfOk, IfErr, IfSome, OnOk, OnErr, length, is_none};
+ghost use Rattle.std.specs.Prelude.{◌≡◌, ◌+◌, ◌<◌, ◌≤◌, ◌||◌, [], true, false, IfOk, IfErr, IfSome, OnOk};
+ghost use Rattle.std.specs.Prelude.{length, is_none};
 ghost use Rattle.prof_devices.specs.Edge.{FetchesFrom, GivesSome, is_fault};
 ghost use Rattle.prof_devices.specs.private.Parts.{TakesFrom, AtEnd, is_failure};
 
