@@ -6,7 +6,8 @@ ghost use Rattle.std.specs.Prelude.{◌<◌, ◌^◌, length};
 use crate::rows::digit;
 use dwarf_info::{Info, InfoFault, read_info};
 use elf_image::DebugParts;
-use std::alloc::{AllocError, Global};
+use prof_bytes::Memory;
+use std::alloc::Global;
 use std::test::Fail;
 
 mod clang_program;
@@ -142,7 +143,7 @@ fn a_program_by_clang(rt: HostRuntime) {
     assert_eq!(rt; other, None);
 }
 
-fn other_worked_entry(alloc: Global) -> Result<Option<u32>, AllocError> {
+fn other_worked_entry(alloc: Global) -> Result<Option<u32>, Memory> {
     let info = part(alloc, worked::sections(), b'I')?;
     if info.len() > SIZE_LIMIT {
         return Ok(Some(u32::MAX));
@@ -168,7 +169,7 @@ fn a_worked_program(rt: HostRuntime) -> Result<(), Fail> {
 }
 
 /// The bytes of a case's section, which stand behind its letter.
-fn part(alloc: Global, text: &[u8], letter: u8) -> Result<Vec<u8>, AllocError> {
+fn part(alloc: Global, text: &[u8], letter: u8) -> Result<Vec<u8>, Memory> {
     let mut out = Vec::new(alloc);
     let mut here = false;
     let mut high = None;
@@ -207,7 +208,7 @@ fn is_case(alloc: Global, info: &Info<'_>, case: &Case) -> bool {
         && ranges.pairs() == case.ranges
 }
 
-fn case_holds(alloc: Global, case: &Case) -> Result<bool, AllocError> {
+fn case_holds(alloc: Global, case: &Case) -> Result<bool, Memory> {
     let info = part(alloc, case.bytes, b'I')?;
     if info.len() > SIZE_LIMIT {
         return Ok(false);
@@ -234,7 +235,7 @@ fn case_holds(alloc: Global, case: &Case) -> Result<bool, AllocError> {
 }
 
 /// The first case that does not hold.
-fn failing_case(alloc: Global, cases: &[Case]) -> Result<Option<&'static str>, AllocError> {
+fn failing_case(alloc: Global, cases: &[Case]) -> Result<Option<&'static str>, Memory> {
     for case in cases {
         if !case_holds(alloc, case)? {
             return Ok(Some(case.what));
@@ -243,11 +244,11 @@ fn failing_case(alloc: Global, cases: &[Case]) -> Result<Option<&'static str>, A
     Ok(None)
 }
 
-fn failing_name(alloc: Global) -> Result<Option<&'static str>, AllocError> {
+fn failing_name(alloc: Global) -> Result<Option<&'static str>, Memory> {
     failing_case(alloc, &names::CASES)
 }
 
-fn failing_list(alloc: Global) -> Result<Option<&'static str>, AllocError> {
+fn failing_list(alloc: Global) -> Result<Option<&'static str>, Memory> {
     failing_case(alloc, &lists::CASES)
 }
 

@@ -59,10 +59,8 @@ impl<'a> Model for Samples<'a> {
 /// The call path of the instruction that is due.
 fn path_due<U: Unwind>(machine: &Machine<'_>, due: &Due, unwinder: &U) -> Result<RawPath, Memory>
     requires { due.now.hart < length machine.now.state.harts }
-    ensures {
-        let registers = (hart_of machine.now.state due.now.hart).registers in
-        IfOk result (λ path. path ≡ U.path_of unwinder.now due.now.pc registers (words_of machine.now.state.memory))
-    }
+    ensures { let registers = (hart_of machine.now.state due.now.hart).registers in
+        IfOk result (λ path. path ≡ U.path_of unwinder.now due.now.pc registers (words_of machine.now.state.memory)) }
 {
     unwinder.path(due.pc, machine.regs(due.hart), machine.space())
 }
