@@ -220,7 +220,7 @@ fn table(alloc: Global, header: &str, opcodes: &[&[u8]]) -> Result<Vec<u8>, Memo
     }
     let mut table = Vec::new(alloc);
     for shift in [0, 8, 16, 24] {
-        table.push((unit.len() >> shift) as u8)?;
+        table.push(((unit.len() >> shift) % 256) as u8)?;
     }
     table.extend_from_slice(&unit)?;
     Ok(table)
