@@ -10,13 +10,14 @@ use Rattle.prof_bytes.specs.declared.fail.Fail.TheVariants as fails
 use Rattle.scope_types.specs.declared.frame.Counted.{Counted}
 use Rattle.scope_types.specs.declared.path.Entry.{Entry}
 use Rattle.scope_types.specs.CallPaths.{HartPath, entry_path, each_path}
-use Rattle.scope_types.specs.Distinct.{HartRaw, each_of_hart, each_sample}
-use Rattle.scope_types.specs.Expansion.{FoundAt}
+use Rattle.scope_types.specs.Distinct.{HartRaw, each_of_hart, each_sample, path_scopes, scopes_in}
+use Rattle.scope_types.specs.Expansion.{FoundAt, call_path}
+use Rattle.scope_types.specs.Limits.{most_path_scopes}
 use Rattle.thread_cct.specs.Adding.{of_hart}
 use Rattle.hpc_top.specs.declared.expand.Expanded.{Expanded}
 use Rattle.hpc_top.specs.declared.status.InputFault.{InputFault}
 use Rattle.hpc_top.specs.declared.status.InputFault.TheVariants.{TooManyScopes}
-use Rattle.hpc_top.specs.Samples.{sample_path, path_scopes, scopes_in, most_path_scopes}
+use Rattle.hpc_top.specs.Samples.{sample_path}
 use Rattle.hpc_top.specs.private.Collecting.{Adds, AddsOr, Passes, AreExpanded, AreMany, ExpandsAll, total_scopes}
 
 -- ---- one entry
@@ -34,8 +35,8 @@ module _ (found : ℕ → FoundAt) (hart : ℕ) where
       → new.entries.items ≡ old.entries.items ++ e ∷ [] → new.scopes ≡ old.scopes + length e.path → new.scopes ≤ most_path_scopes → Adds found hart (c ∷ []) old new
   one_entry c e old new path count entries scopes few =
       let s : HartRaw = record { hart = hart; raw = c.path } in
-      let long : length e.path ≡ path_scopes found c = ap (λ (p : HartPath). length p.path) path in
-      let one = sum_by-cons (path_scopes found) c [] in
+      let long : length e.path ≡ path_scopes (call_path found) c = ap (λ (p : HartPath). length p.path) path in
+      let one = sum_by-cons (path_scopes (call_path found)) c [] in
       record {
         paths =
             ap each_path entries ∙ entries_parts old.entries.items e
@@ -52,8 +53,8 @@ module _ (found : ℕ → FoundAt) (hart : ℕ) where
 
   pub passes_one : (c : Counted) (e : Entry) (old : Expanded) → entry_path e ≡ sample_path found (record { hart = hart; raw = c.path }) → most_path_scopes < old.scopes + length e.path → Passes found (c ∷ []) old TooManyScopes
   passes_one c e old path many =
-      let long : length e.path ≡ path_scopes found c = ap (λ (p : HartPath). length p.path) path in
-      let one = sum_by-cons (path_scopes found) c [] in
+      let long : length e.path ≡ path_scopes (call_path found) c = ap (λ (p : HartPath). length p.path) path in
+      let one = sum_by-cons (path_scopes (call_path found)) c [] in
       record { is = refl; many = omega (arith, many, long, one) }
 
   -- ---- one more of a hart
@@ -66,7 +67,7 @@ module _ (found : ℕ → FoundAt) (hart : ℕ) where
       let f : Counted → List HartRaw = λ c. replicate c.count (record { hart = hart; raw = c.path }) in
       let parts : map (sample_path found) (each_of_hart (hart, cs ++ c ∷ [])) ≡ map (sample_path found) (each_of_hart (hart, cs)) ++ map (sample_path found) (each_of_hart (hart, c ∷ [])) =
       ap (map (sample_path found)) (flat_map-append f cs (c ∷ [])) ∙ map-append (sample_path found) (each_of_hart (hart, cs)) (each_of_hart (hart, c ∷ [])) in
-      let sums = sum_by-append (path_scopes found) cs (c ∷ []) in
+      let sums = sum_by-append (path_scopes (call_path found)) cs (c ∷ []) in
       let one = first.scopes in
       let two = second.scopes in
       record {
@@ -94,10 +95,10 @@ module _ (found : ℕ → FoundAt) (hart : ℕ) where
 
   pub passes_next : (cs : List Counted) (i : ℕ) (c : Counted) (a b : Expanded) (fault : InputFault) → slice_get cs i ≡ Some c → Adds found hart (take i cs) a b → Passes found (c ∷ []) b fault → Passes found cs a fault
   passes_next cs i c a b fault here first passes =
-      let parts = sum_by-append (path_scopes found) (take i cs) (c ∷ []) in
-      let front = ap (sum_by (path_scopes found)) (one_taken cs i c here) in
-      let whole = sum_by-append (path_scopes found) (take (i + 1) cs) (drop (i + 1) cs) in
-      let all = ap (sum_by (path_scopes found)) (take-append-drop (i + 1) cs) in
+      let parts = sum_by-append (path_scopes (call_path found)) (take i cs) (c ∷ []) in
+      let front = ap (sum_by (path_scopes (call_path found))) (one_taken cs i c here) in
+      let whole = sum_by-append (path_scopes (call_path found)) (take (i + 1) cs) (drop (i + 1) cs) in
+      let all = ap (sum_by (path_scopes (call_path found))) (take-append-drop (i + 1) cs) in
       let one = first.scopes in
       let many = passes.many in
       record { is = passes.is; many = omega (arith, parts, front, whole, all, one, many) }
@@ -114,7 +115,7 @@ module _ (found : ℕ → FoundAt) (hart : ℕ) where
 
 pub record ExpandedSoFar (found : ℕ → FoundAt) (tables : List (List Counted)) (hart : ℕ) (e : Expanded) : Type 0 where
   pub paths : each_path e.entries.items ≡ map (sample_path found) (each_sample (take hart tables))
-  pub scopes : e.scopes ≡ scopes_in found (take hart tables)
+  pub scopes : e.scopes ≡ scopes_in (call_path found) (take hart tables)
   pub few : e.scopes ≤ most_path_scopes
   pub total : e.scopes ≡ total_scopes e.entries.items
 
@@ -140,11 +141,11 @@ module _ (found : ℕ → FoundAt) (tables : List (List Counted)) where
       ∙ flat_map-append each_of_hart (enumerate_from 0 (take hart tables)) ((hart, t) ∷ [])
       ∙ ap (λ (l : List HartRaw). each_sample (take hart tables) ++ l) (append-nil (each_of_hart (hart, t)))
 
-  next_scopes : (hart : ℕ) → hart < length tables → scopes_in found (take (hart + 1) tables) ≡ scopes_in found (take hart tables) + sum_by (path_scopes found) (of_hart tables hart)
+  next_scopes : (hart : ℕ) → hart < length tables → scopes_in (call_path found) (take (hart + 1) tables) ≡ scopes_in (call_path found) (take hart tables) + sum_by (path_scopes (call_path found)) (of_hart tables hart)
   next_scopes hart lt =
-      let front = ap (scopes_in found) (next_taken hart lt) in
-      let parts = sum_by-append (sum_by (path_scopes found)) (take hart tables) (of_hart tables hart ∷ []) in
-      let last = sum_by-cons (sum_by (path_scopes found)) (of_hart tables hart) [] in
+      let front = ap (scopes_in (call_path found)) (next_taken hart lt) in
+      let parts = sum_by-append (sum_by (path_scopes (call_path found))) (take hart tables) (of_hart tables hart ∷ []) in
+      let last = sum_by-cons (sum_by (path_scopes (call_path found))) (of_hart tables hart) [] in
       omega (arith, front, parts, last)
 
   pub hart_more : (hart : ℕ) (a b : Expanded) → hart < length tables → ExpandedSoFar found tables hart a → Adds found hart (of_hart tables hart) a b → ExpandedSoFar found tables (hart + 1) b
@@ -163,8 +164,8 @@ module _ (found : ℕ → FoundAt) (tables : List (List Counted)) where
       let next = next_scopes hart lt in
       let was = so_far.scopes in
       let over = passes.many in
-      let whole = sum_by-append (sum_by (path_scopes found)) (take (hart + 1) tables) (drop (hart + 1) tables) in
-      let all = ap (scopes_in found) (take-append-drop (hart + 1) tables) in
+      let whole = sum_by-append (sum_by (path_scopes (call_path found))) (take (hart + 1) tables) (drop (hart + 1) tables) in
+      let all = ap (scopes_in (call_path found)) (take-append-drop (hart + 1) tables) in
       record { is = passes.is; many = omega (arith, next, was, over, whole, all) }
 
   -- why all stop
@@ -176,7 +177,7 @@ module _ (found : ℕ → FoundAt) (tables : List (List Counted)) where
   all_expanded hart e le so_far =
       let all : take hart tables ≡ tables = take_all hart tables le in
       let scopes = so_far.scopes in
-      let same = ap (scopes_in found) all in
+      let same = ap (scopes_in (call_path found)) all in
       let few = so_far.few in
       let total = so_far.total in
       record {

@@ -11,9 +11,9 @@ use Rattle.scope_types.specs.declared.frame.Counted.{Counted}
 use Rattle.scope_types.specs.declared.path.Entry.{Entry}
 use Rattle.scope_types.specs.Alike.{Alike}
 use Rattle.scope_types.specs.CallPaths.{HartPath, each_path}
-use Rattle.scope_types.specs.Distinct.{HartRaw, distinct, each_sample, frames_in}
-use Rattle.scope_types.specs.Expansion.{FoundAt}
-use Rattle.scope_types.specs.Limits.{most_samples, most_path_frames}
+use Rattle.scope_types.specs.Distinct.{HartRaw, distinct, each_sample, frames_in, scopes_in}
+use Rattle.scope_types.specs.Expansion.{FoundAt, call_path}
+use Rattle.scope_types.specs.Limits.{most_samples, most_path_frames, most_path_scopes}
 use Rattle.rv_run.specs.State.{MachineState, hart_of}
 use Rattle.rv_run.specs.Progress.{to_come}
 use Rattle.tree_types.specs.declared.content.Names.{Names}
@@ -26,7 +26,7 @@ use Rattle.sample_clock.specs.Samples.{Paths}
 use Rattle.sample_clock.specs.Clock.{Sampling}
 use Rattle.hpc_top.specs.declared.status.InputFault.{InputFault}
 use Rattle.hpc_top.specs.declared.status.InputFault.TheVariants.{TooManySamples, TooManyFrames, TooManyScopes}
-use Rattle.hpc_top.specs.Samples.{sampled, sample_path, scopes_in, most_path_scopes, few_samples, few_scopes}
+use Rattle.hpc_top.specs.Samples.{sampled, sample_path, few_samples, few_scopes}
 use Rattle.hpc_top.specs.private.Collecting.{AllCounted, AllExpanded, Expands, ExpandsAll, raws_to_come, taken}
 use Rattle.hpc_top.specs.Report.{report_of, closed, end_text, total_line, hart_line, hart_lines}
 use Rattle.hpc_top.specs.Profile.{Product, product_from, product_of}
@@ -105,12 +105,12 @@ refused_samples path_of found_at harts old (fails.Memory memory) many = tt
 abbrev by_scopes : Bool → List HartRaw → Result (List HartRaw) InputFault
 by_scopes many all = if many then Err TooManyScopes else Ok all
 
-taken_by_scopes : (path_of : Paths) (found_at : ℕ → FoundAt) (harts : ℕ) (ccts : List (List Counted)) (old new : Sampling) (many : Bool) → AllCounted path_of harts ccts old new → nat_lt most_path_scopes (scopes_in found_at ccts) ≡ many
+taken_by_scopes : (path_of : Paths) (found_at : ℕ → FoundAt) (harts : ℕ) (ccts : List (List Counted)) (old new : Sampling) (many : Bool) → AllCounted path_of harts ccts old new → nat_lt most_path_scopes (scopes_in (call_path found_at) ccts) ≡ many
     → taken path_of found_at harts old ≡ by_scopes many (raws_to_come path_of old)
 taken_by_scopes path_of found_at harts ccts old new many counted is =
     let whole : List HartRaw = raws_to_come path_of old in
     ap (λ (r : Result (List HartRaw) InputFault). r >>= few_scopes found_at harts) counted.few
-    ∙ ap (λ (b : Bool). by_scopes b whole) (ap (λ (ts : List (List Counted)). nat_lt most_path_scopes (scopes_in found_at ts)) (sym counted.counts) ∙ is)
+    ∙ ap (λ (b : Bool). by_scopes b whole) (ap (λ (ts : List (List Counted)). nat_lt most_path_scopes (scopes_in (call_path found_at) ts)) (sym counted.counts) ∙ is)
 
 -- what expanding the counted paths gives
 pub expanded_by : (path_of : Paths) (found_at : ℕ → FoundAt) (harts : ℕ) (ccts : List (List Counted)) (old new : Sampling) (result : Result (List Entry) (Fail InputFault)) → AllCounted path_of harts ccts old new → ExpandsAll found_at ccts result

@@ -1,9 +1,10 @@
 //! The call paths of counted raw paths, by the program's function symbols.
 ghost use Rattle.std.specs.Prelude.{◌≡◌, ◌<◌, ◌≤◌, ◌++◌, ◌∷◌, [], length, map, IfOk, OnOk};
 ghost use Rattle.scope_types.specs.CallPaths.{entry_path};
-ghost use Rattle.scope_types.specs.Expansion.{expansion};
+ghost use Rattle.scope_types.specs.Expansion.{expansion, pc_of, root_of};
+ghost use Rattle.scope_types.specs.Limits.{most_path_scopes};
 ghost use Rattle.thread_cct.specs.Adding.{of_hart};
-ghost use Rattle.hpc_top.specs.Samples.{most_path_scopes, pc_of, root_of, sample_path};
+ghost use Rattle.hpc_top.specs.Samples.{sample_path};
 ghost use Rattle.hpc_top.specs.Symbols.{found_at, procedure_at};
 ghost use Rattle.hpc_top.specs.private.Collecting.{AddsOr, ExpandsAll};
 

@@ -11,7 +11,7 @@ ghost use Rattle.tree_types.specs.Nodes.{nodes, no_parent};
 ghost use Rattle.tree_types.specs.Database.{content_of, names_used};
 ghost use Rattle.prof_db.specs.Spelling.{spelling};
 ghost use Rattle.hpc_top.specs.Made.{view};
-ghost use Rattle.hpc_top.specs.Samples.{most_path_scopes};
+ghost use Rattle.scope_types.specs.Limits.{most_path_scopes};
 ghost use Rattle.hpc_top.specs.private.Collecting.{Expands};
 ghost use Rattle.hpc_top.specs.Symbols.{found_at, naming_of};
 ghost use Rattle.hpc_top.specs.Profile.{frame_information, no_entries, program, scheduled};

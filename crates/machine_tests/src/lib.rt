@@ -12,6 +12,8 @@ mod instructions;
 #[cfg(test)]
 mod memory;
 #[cfg(test)]
+mod own_code;
+#[cfg(test)]
 mod runs;
 #[cfg(test)]
 mod samples;

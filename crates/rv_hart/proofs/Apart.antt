@@ -13,14 +13,14 @@ use Rattle.rv_hart.specs.AddressSpace.{regions_of, stack_of, first_byte}
 use Rattle.rv_hart.specs.private.Pages.{Paged, nowhere, page_in}
 use Rattle.rv_hart.specs.private.Paging.{IsHome, AreApart, IsPaged}
 
-lt-leb : (a b : ℕ) → b < a → nat_le a b ≡ false
+pub lt-leb : (a b : ℕ) → b < a → nat_le a b ≡ false
 lt-leb a b less = elim (leb_tells a b) [ inl h ↦ absurd (omega (arith, h.1)) | inr h ↦ h.0 ]
 
 true-or : (a b : Bool) → a ≡ true → IsTrue (a || b)
 true-or a b e = ap (λ (x : Bool). x || b) e
 
 -- what is found is an element
-find-all : (P : Segment → Type 0) (p : Segment → Bool) (xs : List Segment) (r : Segment) → ((k : ℕ) (d : Segment) → k < length xs → P (get_or xs k d)) → find p xs ≡ Some r → P r
+pub find-all : {X : Type 0} (P : X → Type 0) (p : X → Bool) (xs : List X) (r : X) → ((k : ℕ) (d : X) → k < length xs → P (get_or xs k d)) → find p xs ≡ Some r → P r
 find-all P p [] r all found = absurd cc
 find-all P p (x ∷ xs) r all found = by_case (p x) refl (find-all P p xs r (λ k d few. all (suc k) d (omega arith)))
   where
@@ -131,6 +131,7 @@ of-paged paged program harts is few regions blocks =
       record {
         apart = subst AreApart (sym regions) (pairs-apart (regions_of program harts) stacked.pairs);
         homes = λ number. subst (λ (b : List (List Paged)). IsHome paged.regions (page_in b number).home) (sym blocks) (nowhere-home paged.regions);
+        short = λ number. let e : length (page_in paged.blocks.items number).bytes ≡ 0 = ap (λ (b : List (List Paged)). length (page_in b number).bytes) blocks in omega (arith, e);
         intact = λ at fixed. ap (λ (b : List (List Paged)). get_or (page_in b (at / 2 ^ 12)).bytes (at % 2 ^ 12) (first_byte paged.file.now paged.regions at)) blocks;
         low = λ at past. ap (find (in_segment at)) regions ∙ find-none (in_segment at) (regions_of program harts) (high at past);
       },

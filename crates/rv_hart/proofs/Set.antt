@@ -215,3 +215,12 @@ put-homes regions old new number offset source pages homes n =
 pub granted-one : (old new : PagedMemory) (at i : ℕ) → new ≡ record old { blocks = new.blocks } → may PF_W old.regions at ≡ true → i < 1 → may PF_W new.regions (at + i) ≡ true
 granted-one old new at i rest granted few =
     ap (λ (k : PagedMemory). may PF_W k.regions (at + i)) rest ∙ ap (may PF_W old.regions) (let same : at + i ≡ at = omega arith in same) ∙ granted
+
+-- pages keep their lengths
+pub put-short : (old new : ℕ → Paged) (number offset : ℕ) (source : List ℕ) → ((n : ℕ) → new n ≡ cond (n == number) (with_bytes (old number) offset source) (old n)) → offset + length source ≤ length (old number).bytes → ((n : ℕ) → length (old n).bytes ≤ 2 ^ 12) → (n : ℕ) → length (new n).bytes ≤ 2 ^ 12
+put-short old new number offset source pages within short n =
+    subst (λ (p : Paged). length p.bytes ≤ 2 ^ 12) (sym (pages n)) (by_case (n == number))
+  where
+    by_case : (b : Bool) → length (cond b (with_bytes (old number) offset source) (old n)).bytes ≤ 2 ^ 12
+    by_case true = let e : length (spliced (old number).bytes offset source) ≡ length (old number).bytes = spliced-length (old number).bytes offset source within in let f = short number in omega (arith, e, f)
+    by_case false = short n

@@ -1,5 +1,5 @@
 -- What is kept, as whole memory.
-use Rattle.std.proofs.Common.{◌≡◌, ℕ, zero, suc, ◌+◌, ◌-◌, ◌%◌, ◌^◌, ◌<◌, ◌≤◌, ◌&&◌, Bool, true, false, cond, List, map, length, slice_index, Some, None, nat_le, nat_lt, refl, sym, ap, ap₂, ◌∙◌, arith}
+use Rattle.std.proofs.Common.{◌≡◌, ℕ, zero, suc, ◌+◌, ◌-◌, ◌/◌, ◌%◌, ◌^◌, ◌<◌, ◌≤◌, ◌&&◌, Bool, true, false, cond, List, map, length, slice_index, take, drop, Some, None, nat_le, nat_lt, refl, sym, ap, ap₂, subst, ◌∙◌, arith}
 use Rattle.std.specs.List.{range_with_len, list_all}
 use Rattle.std.proofs.lemmas.List.FromFn.{get_or-map-range_with_len, length-map-range_with_len}
 use Rattle.elf_image.specs.declared.part.Segment.{Segment}
@@ -13,7 +13,9 @@ use Rattle.rv_hart.specs.AddressSpace.{has}
 use Rattle.rv_hart.specs.Step.{is_fetched_from, fetched_at}
 use Rattle.rv_hart.specs.private.Paging.{IsHome, covers_all}
 use Rattle.std.proofs.lemmas.Bool.{and_parts, eq-eqb}
-use Rattle.rv_hart.proofs.Near.{spelled, all-each, granted-low, covers-low}
+use Rattle.rv_hart.specs.private.Pages.{Paged}
+use Rattle.rv_hart.specs.private.Paging.{page_of}
+use Rattle.rv_hart.proofs.Near.{spelled, all-each, granted-low, covers-low, all-granted, near-page, part-length}
 
 -- the byte at an address
 pub byte-paged : (paged : PagedMemory) (at : ℕ) → at < 2 ^ 32 → byte_at (memory_of paged) at ≡ value paged at
@@ -87,3 +89,21 @@ fetched-paged paged home pc is own found aligned small granted covered =
     ap (is_fetched_from pc) found ∙ ap₂ (λ (a b : Bool). a && b) granted (and_parts _ _ covered).1 in
     ap (λ (t : Bool). cond t (Some (number_at (memory_of paged) pc 4)) None) (ap₂ (λ (a b : Bool). a && b) (eq-eqb (pc % 4) 0 aligned) fetched)
     ∙ ap (λ (b : List ℕ). Some (number_in 4 b)) (bytes-paged paged pc 4 (λ i few. fetch-low pc i end few))
+
+-- a load from a page
+page-load : (paged : PagedMemory) (at count n : ℕ) (bytes : List ℕ) → IsPaged paged → covers_all (page_of paged at).home at count ≡ true → has PF_R (page_of paged at).home ≡ true → at % 2 ^ 12 + count ≤ length (page_of paged at).bytes → bytes ≡ take count (drop (at % 2 ^ 12) (page_of paged at).bytes) → n ≡ number_in (length bytes) bytes → loaded (memory_of paged) at count ≡ Some n
+page-load paged at count n bytes is covered granted within are number =
+    let inside : at % 2 ^ 12 + count ≤ 2 ^ 12 = (let short = is.short (at / 2 ^ 12) in omega (arith, short, within)) in
+    let long : length bytes ≡ count = ap length are ∙ part-length (page_of paged at).bytes (at % 2 ^ 12) count within in
+    loaded-paged paged at count is (all-granted paged.regions (page_of paged at).home PF_R at count (is.homes (at / 2 ^ 12)) covered granted)
+    ∙ ap (λ (b : List ℕ). Some (number_in count b)) (sym (are ∙ near-page paged at count (page_of paged at).bytes refl inside within))
+    ∙ ap (λ (k : ℕ). Some (number_in k bytes)) (sym long)
+    ∙ ap (λ (k : ℕ). Some k) (sym number)
+
+pub page-loaded : (paged : PagedMemory) (at count n : ℕ) (page : Paged) (bytes : List ℕ) → IsPaged paged → page ≡ page_of paged at → covers_all page.home at count ≡ true → has PF_R page.home ≡ true → at % 2 ^ 12 + count ≤ length page.bytes → bytes ≡ take count (drop (at % 2 ^ 12) page.bytes) → n ≡ number_in (length bytes) bytes → loaded (memory_of paged) at count ≡ Some n
+page-loaded paged at count n page bytes is same covered granted within are number =
+    page-load paged at count n bytes is
+    (subst (λ (p : Paged). covers_all p.home at count ≡ true) same covered)
+    (subst (λ (p : Paged). has PF_R p.home ≡ true) same granted)
+    (subst (λ (p : Paged). at % 2 ^ 12 + count ≤ length p.bytes) same within)
+    (subst (λ (p : Paged). bytes ≡ take count (drop (at % 2 ^ 12) p.bytes)) same are) number

@@ -1,3 +1,4 @@
 -- Definitions that only private functions and proofs rest on.
+pub mod Decoding
 pub mod Pages
 pub mod Paging

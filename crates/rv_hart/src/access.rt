@@ -19,11 +19,75 @@ pub(crate) fn load(paged: &PagedMemory, at: u32, count: usize) -> Option<u32>
     ensures number { result ≡ loaded (memory_of paged.now) at count }
     ensures fits { IfSome result (λ number. number < 2 ^ (8 * count)) }
 {
+    match paged.number_in_page(at, count) {
+        Some(number) => Some(number),
+        None => load_unpaged(paged, at, count),
+    }
+}
+
+/// The same where the bytes stand in no page.
+fn load_unpaged(paged: &PagedMemory, at: u32, count: usize) -> Option<u32>
+    requires paged { IsPaged paged.now }
+    requires count { is_size count ≡ true }
+    ensures number { result ≡ loaded (memory_of paged.now) at count }
+    ensures fits { IfSome result (λ number. number < 2 ^ (8 * count)) }
+{
     let home = paged.home(at, count);
     if covers(&home, at, count) && grants(&home, Right::Read) {
         return Some(paged.number(&home, at, count));
     }
     load_apart(paged, at, count)
+}
+
+/// The same, and the page of the address is made where the file has bytes of it, so that the next load finds it. No
+/// byte changes, and where there is no memory for the page it is not made.
+#[inline(always)]
+pub(crate) fn load_paging(
+    paged: &mut PagedMemory,
+    alloc: Global,
+    at: u32,
+    count: usize,
+) -> Option<u32>
+    requires paged { IsPaged paged.old }
+    requires count { is_size count ≡ true }
+    ensures rest { paged.new ≡ record paged.old { blocks = paged.new.blocks } }
+    ensures paged { IsPaged paged.new }
+    ensures same { memory_of paged.new ≡ memory_of paged.old }
+    ensures number { result ≡ loaded (memory_of paged.old) at count }
+    ensures fits { IfSome result (λ number. number < 2 ^ (8 * count)) }
+{
+    match paged.number_in_page(at, count) {
+        Some(number) => Some(number),
+        None => load_first(paged, alloc, at, count),
+    }
+}
+
+/// The same where the bytes stand in no page yet.
+#[cold]
+#[inline(never)]
+fn load_first(paged: &mut PagedMemory, alloc: Global, at: u32, count: usize) -> Option<u32>
+    requires paged { IsPaged paged.old }
+    requires count { is_size count ≡ true }
+    ensures rest { paged.new ≡ record paged.old { blocks = paged.new.blocks } }
+    ensures paged { IsPaged paged.new }
+    ensures same { memory_of paged.new ≡ memory_of paged.old }
+    ensures number { result ≡ loaded (memory_of paged.old) at count }
+    ensures fits { IfSome result (λ number. number < 2 ^ (8 * count)) }
+{
+    prepare_page(paged, alloc, at);
+    load_unpaged(paged, at, count)
+}
+
+/// Makes the page of the address, where the file has bytes of it and there is memory for it.
+fn prepare_page(paged: &mut PagedMemory, alloc: Global, at: u32)
+    requires { IsPaged paged.old }
+    ensures rest { paged.new ≡ record paged.old { blocks = paged.new.blocks } }
+    ensures paged { IsPaged paged.new }
+    ensures same { memory_of paged.new ≡ memory_of paged.old }
+{
+    if paged.is_page_wanted(at) {
+        let _ = paged.make(alloc, at);
+    }
 }
 
 /// The same where the bytes do not stand in one region.

@@ -19,7 +19,7 @@ fn mixed_product(a: i32, b: u32) -> i64
     i64::from(a) * i64::from(b)
 }
 
-#[inline(always)]
+#[inline(never)]
 fn upper_signed(a: u32, b: u32) -> u32
     ensures { result ≡ upper_word (signed a *ℤ signed b) }
 {
@@ -27,7 +27,7 @@ fn upper_signed(a: u32, b: u32) -> u32
     (product.cast_unsigned() >> 32) as u32
 }
 
-#[inline(always)]
+#[inline(never)]
 fn upper_mixed(a: u32, b: u32) -> u32
     ensures { result ≡ upper_word (signed a *ℤ pos b) }
 {
@@ -35,7 +35,7 @@ fn upper_mixed(a: u32, b: u32) -> u32
     (product.cast_unsigned() >> 32) as u32
 }
 
-#[inline(always)]
+#[inline(never)]
 fn upper_unsigned(a: u32, b: u32) -> u32
     ensures { result ≡ upper_word (pos a *ℤ pos b) }
 {

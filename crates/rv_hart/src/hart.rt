@@ -25,7 +25,6 @@ pub(crate) fn write(hart: &mut Hart, number: u8, value: u32)
     ensures registers { hart.new.regs ≡ with_register hart.old.regs number value }
     ensures pc { hart.new.pc ≡ hart.old.pc }
 {
-    if number != 0 {
-        hart.regs[number as usize] = value;
-    }
+    hart.regs[number as usize] = value;
+    hart.regs[0] = 0;
 }

@@ -1,3 +1,6 @@
+//! How a step ends.
+ghost use Rattle.std.specs.Prelude.{◌≡◌, ◌≢◌, true, false};
+
 /// How one step ended.
 #[derive(Clone, Copy, Debug, PartialEq, Eq)]
 pub enum Stepped {
@@ -24,4 +27,13 @@ pub enum Cause {
     Store,
     /// A jump or a taken branch to an address that is no multiple of 4.
     Target,
+}
+
+/// Whether a step retired its instruction.
+#[inline(always)]
+pub(crate) fn has_retired(stepped: Stepped) -> bool
+    ensures yes { result ≡ true → stepped ≡ Stepped.Retired }
+    ensures no { result ≡ false → stepped ≢ Stepped.Retired }
+{
+    matches!(stepped, Stepped::Retired)
 }

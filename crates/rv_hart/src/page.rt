@@ -2,9 +2,13 @@
 ghost use Rattle.std.specs.Prelude.{◌≡◌, ◌++◌, ◌∷◌, [], ◌+◌, ◌<◌, ◌≤◌, length, slice_get, slice_set, OnOk, OnErr};
 ghost use Rattle.std.specs.Prelude.{unwrap_or};
 ghost use Rattle.std.specs.Option.{option_copied};
-ghost use Rattle.rv_hart.specs.private.Pages.{blank, spliced, with_bytes, page_at};
+ghost use Rattle.std.specs.Prelude.{◌&&◌};
+ghost use Rattle.elf_image.specs.declared.elf.TheConstants.{PF_R, PF_W};
+ghost use Rattle.rv_hart.specs.AddressSpace.{has};
+ghost use Rattle.rv_hart.specs.private.Pages.{blank, spliced, with_bytes, page_at, end_with};
+ghost use Rattle.rv_hart.specs.private.Paging.{bit_of, covers_all};
 
-use crate::right::NOWHERE;
+use crate::right::{NOWHERE, Right, grants};
 use elf_image::Segment;
 use prof_bytes::Memory;
 use std::alloc::Global;
@@ -15,6 +19,9 @@ use std::marker::Model;
 #[derive(Drop)]
 pub(crate) struct Page {
     home: Segment,
+    /// Where the region ends, if it may be read and if it may be written; and else 0.
+    read_end: u32,
+    write_end: u32,
     bytes: Vec<u8>,
 }
 
@@ -24,13 +31,42 @@ impl Model for Page {
     ghost Value = { Paged };
 
     ghost view = { λ page. record { home = page.home; bytes = page.bytes.items } };
+
+    ghost use Rattle.std.specs.Prelude.{◌≡◌};
+    ghost use Rattle.elf_image.specs.declared.elf.TheConstants.{PF_R, PF_W};
+    ghost use Rattle.rv_hart.specs.private.Pages.{end_with};
+
+    ghost invariant = { λ page. (page.read_end ≡ end_with PF_R page.home)
+        × (page.write_end ≡ end_with PF_W page.home) };
+}
+
+/// Where the region ends if it has the right, and else 0.
+fn end_with(home: &Segment, right: Right) -> u32
+    ensures { result ≡ end_with (bit_of right) home.now }
+{
+    if grants(home, right) { home.end } else { 0 }
+}
+
+/// Whether a region holds so many addresses from `at` on and has a right, by where it ends if it has it.
+#[inline(always)]
+fn reaches(home: &Segment, end: u32, at: u32, count: usize, right: Right) -> bool
+    requires end { end ≡ end_with (bit_of right) home.now }
+    requires count { (0 < count) × (count ≤ 4) }
+    ensures { result ≡ (covers_all home.now at count && has (bit_of right) home.now) }
+{
+    home.start <= at && at as usize + count <= end as usize
 }
 
 impl Page {
     pub(crate) fn new(home: Segment, bytes: Vec<u8>) -> Page
         ensures { result ≡ record { home = home; bytes = bytes.items } }
     {
-        Page { home, bytes }
+        Page {
+            home,
+            read_end: end_with(&home, Right::Read),
+            write_end: end_with(&home, Right::Write),
+            bytes,
+        }
     }
 
     #[inline(always)]
@@ -45,6 +81,24 @@ impl Page {
         ensures { result.now ≡ self.now.bytes }
     {
         self.bytes.as_slice()
+    }
+
+    /// Whether the page's region holds so many addresses from `at` on and may be read.
+    #[inline(always)]
+    pub(crate) fn is_readable(&self, at: u32, count: usize) -> bool
+        requires { (0 < count) × (count ≤ 4) }
+        ensures { result ≡ (covers_all self.now.home at count && has PF_R self.now.home) }
+    {
+        reaches(&self.home, self.read_end, at, count, Right::Read)
+    }
+
+    /// Whether the page's region holds so many addresses from `at` on and may be written.
+    #[inline(always)]
+    pub(crate) fn is_writable(&self, at: u32, count: usize) -> bool
+        requires { (0 < count) × (count ≤ 4) }
+        ensures { result ≡ (covers_all self.now.home at count && has PF_W self.now.home) }
+    {
+        reaches(&self.home, self.write_end, at, count, Right::Write)
     }
 
     /// Puts other bytes in, from this offset on.

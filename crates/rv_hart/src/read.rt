@@ -2,8 +2,8 @@
 ghost use Rattle.std.specs.Prelude.{◌≡◌, ◌+◌, ◌<◌, ◌≤◌, ◌^◌, ◌*◌, ℕ, true, IfSome, length, map, slice_index, Some};
 ghost use Rattle.std.specs.List.{range_with_len, list_all};
 ghost use Rattle.prof_bytes.specs.Number.{number_in};
-ghost use Rattle.rv_hart.specs.AddressSpace.{region_at, may, byte_in, is_size};
-ghost use Rattle.rv_hart.specs.private.Paging.{value, covers_all, IsHome, IsPaged, bit_of};
+ghost use Rattle.rv_hart.specs.AddressSpace.{region_at, may, byte_in, is_size, loaded};
+ghost use Rattle.rv_hart.specs.private.Paging.{value, covers_all, IsHome, IsPaged, bit_of, memory_of};
 
 use crate::paged_memory::PagedMemory;
 use crate::right::{NOWHERE, Right, covers, grants};
@@ -28,7 +28,12 @@ pub(crate) fn number(bytes: &[u8]) -> u32
 
 /// Bytes of a region that was never written there, where they stand together.
 #[inline(always)]
-fn near_in_file<'a>(file: &'a [u8], home: &Segment, at: u32, count: usize) -> Option<&'a [u8]>
+pub(crate) fn near_in_file<'a>(
+    file: &'a [u8],
+    home: &Segment,
+    at: u32,
+    count: usize,
+) -> Option<&'a [u8]>
     requires covered { covers_all home.now at count ≡ true }
     requires count { count ≤ 4 }
     ensures length { IfSome result (λ bytes. length bytes.now ≡ count) }
@@ -111,6 +116,26 @@ impl<'a> PagedMemory<'a> {
             Some(bytes) => number(bytes),
             None => self.number_apart(at, count),
         }
+    }
+
+    /// The number in so many bytes from `at` on, where they stand together in a page of a region that may be read.
+    #[inline(always)]
+    pub(crate) fn number_in_page(&self, at: u32, count: usize) -> Option<u32>
+        requires paged { IsPaged self.now }
+        requires count { is_size count ≡ true }
+        ensures number { IfSome result (λ number. loaded (memory_of self.now) at count ≡ Some number) }
+        ensures fits { IfSome result (λ number. number < 2 ^ (8 * count)) }
+    {
+        let page = self.page(at)?;
+        if !page.is_readable(at, count) {
+            return None;
+        }
+        let offset = at as usize % 4096;
+        let bytes = page.bytes();
+        if offset + count > bytes.len() {
+            return None;
+        }
+        Some(number(&bytes[offset..offset + count]))
     }
 
     /// A region that holds so many addresses from `at` on, if there is one.

@@ -1,5 +1,5 @@
 //! The rights of a region.
-ghost use Rattle.std.specs.Prelude.{◌≡◌, ◌≤◌};
+ghost use Rattle.std.specs.Prelude.{◌≡◌, ◌≤◌, ◌^◌};
 ghost use Rattle.rv_hart.specs.AddressSpace.{has};
 ghost use Rattle.rv_hart.specs.private.Paging.{bit_of, covers_all};
 
@@ -37,7 +37,7 @@ pub(crate) fn grants(region: &Segment, right: Right) -> bool
 /// Whether the segment holds so many addresses from `at` on.
 #[inline(always)]
 pub(crate) fn covers(segment: &Segment, at: u32, count: usize) -> bool
-    requires { count ≤ 4 }
+    requires { count ≤ 2 ^ 12 }
     ensures { result ≡ covers_all segment.now at count }
 {
     segment.start <= at && at as usize + count <= segment.end as usize

@@ -1,27 +1,36 @@
-ghost use Rattle.std.specs.Prelude.{◌≡◌, ◌<◌, ◌≤◌, ◌*◌, ◌^◌, ◌++◌, map, true, IfOk, IfSome, OnErr, length};
+ghost use Rattle.std.specs.Prelude.{◌≡◌, ◌<◌, ◌≤◌, ◌*◌, ◌^◌, ◌++◌, map, true, IfOk, IfSome, Ok, OnErr, length};
 ghost use Rattle.std.specs.List.{range_with_len};
 ghost use Rattle.elf_image.specs.declared.elf.TheConstants.{PF_W};
 ghost use Rattle.rv_hart.specs.AddressSpace.{is_size, loaded, stored, may_all, first_memory, stack_of};
-ghost use Rattle.rv_hart.specs.Step.{fetched_at};
+ghost use Rattle.rv_hart.specs.Running.{Ran};
+ghost use Rattle.rv_hart.specs.Step.{fetched_at, step_of, StoresNow};
+ghost use Rattle.rv_hart.specs.Stepping.{state_of};
 
 use crate::access;
+use crate::decoded_code::{DecodedCode, code_at, decoded_regions};
+use crate::hart::Hart;
+use crate::outcome::{Cause, Stepped};
 use crate::paged_memory::PagedMemory;
 use crate::right::{NOWHERE, covers};
 use crate::stack::stack_of;
+use crate::window::run_kept;
 use elf_image::{Image, RangeTable, Segment};
 use prof_bytes::Memory;
+use rv_table::decode;
 use scope_types::Look;
 use std::alloc::Global;
 use std::marker::Model;
 
 /// The memory of a program that runs: its segments, and a stack for each hart (`stack_of`). Contracts see
-/// it whole, with a byte for each address. In the code a page of 4 KiB is made when it is first written;
-/// what was never written is read from the file, or is 0.
+/// it whole, with a byte for each address. In the code a page of 4 KiB is made when it is first written, or when an
+/// instruction first loads from it and the file has bytes of it; else what was never written is read from the file, or
+/// is 0. The words of segments that may be executed and not written are decoded at the start, 2^21 of them at most.
 #[derive(Drop)]
 pub struct Space<'a> {
     alloc: Global,
     paged: PagedMemory<'a>,
     code: Segment,
+    decoded: RangeTable<DecodedCode>,
 }
 
 impl<'a> Model for Space<'a> {
@@ -29,11 +38,12 @@ impl<'a> Model for Space<'a> {
 
     ghost Value = { AddressSpace };
 
-    ghost use Rattle.rv_hart.specs.private.Paging.{memory_of, IsPaged, IsHome};
+    ghost use Rattle.rv_hart.specs.private.Paging.{memory_of};
+    ghost use Rattle.rv_hart.specs.private.Decoding.{KeepsSpace};
 
     ghost view = { λ space. memory_of space.paged };
 
-    ghost invariant = { λ space. IsPaged space.paged × IsHome space.paged.regions space.code };
+    ghost invariant = { λ space. KeepsSpace space.paged space.code space.decoded };
 }
 
 /// The program's segments and the stacks.
@@ -60,10 +70,12 @@ impl<'a> Space<'a> {
             regions: RangeTable::of(alloc, listed(alloc, image.segments(), harts)?)?,
             blocks: Vec::new(alloc),
         };
+        let decoded = decoded_regions(alloc, &paged)?;
         Ok(Space {
             alloc,
             paged,
             code: NOWHERE,
+            decoded: RangeTable::of(alloc, decoded)?,
         })
     }
 
@@ -90,9 +102,34 @@ impl<'a> Space<'a> {
         access::store(&mut self.paged, self.alloc, at, bytes)
     }
 
+    /// Does instructions of the hart as long as they retire, up to so many, and one at least: the one at pc, and those
+    /// that follow it as long as their words are kept decoded.
+    pub(crate) fn run_some(&mut self, hart: &mut Hart, most: u32) -> (u32, Result<Stepped, Memory>)
+        requires { 0 < most }
+        ensures few { result.0 ≤ most }
+        ensures ran { Ran result.0 (state_of hart.old self.old) (state_of hart.new self.new) }
+        ensures some { result.1 ≡ Ok Stepped.Retired → 0 < result.0 }
+        ensures ends { IfOk result.1 (λ how. ¬ (how ≡ Stepped.Retired)
+            → (state_of hart.new self.new, how) ≡ step_of (state_of hart.new self.new)) }
+        ensures early { IfOk result.1 (λ how. ¬ (how ≡ Stepped.Retired) → result.0 < most) }
+        ensures memory { OnErr result.1 (StoresNow (state_of hart.new self.new)) }
+        ensures short { OnErr result.1 (result.0 < most) }
+    {
+        let Some(word) = self.fetch(hart.pc) else {
+            return (0, Ok(Stepped::Trap(Cause::Fetch)));
+        };
+        let first = decode(word);
+        match code_at(&self.decoded, &self.paged, hart.pc) {
+            Some(code) => run_kept(&first, code, hart, &mut self.paged, self.alloc, most),
+            None => {
+                let code = DecodedCode::none(self.alloc);
+                run_kept(&first, &code, hart, &mut self.paged, self.alloc, most)
+            }
+        }
+    }
+
     /// The word at pc, where it may be fetched.
-    #[inline(always)]
-    pub(crate) fn fetch(&mut self, pc: u32) -> Option<u32>
+    fn fetch(&mut self, pc: u32) -> Option<u32>
         ensures same { self.new ≡ self.old }
         ensures word { result ≡ fetched_at self.old pc }
     {

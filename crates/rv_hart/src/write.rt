@@ -1,15 +1,15 @@
 //! Writing: pages are made when they are first written, and hold what their addresses had.
 ghost use Rattle.std.specs.Prelude.{◌≡◌, ◌==◌, [], ◌+◌, ◌*◌, ◌/◌, ◌%◌, ◌<◌, ◌≤◌, ◌^◌, ℕ, true, false, if◌then◌else◌};
-ghost use Rattle.std.specs.Prelude.{IfOk, OnOk, OnErr, length, slice_index};
+ghost use Rattle.std.specs.Prelude.{IfOk, OnOk, OnErr, ◌-◌, drop, length, min, slice_index, take, Some};
 ghost use Rattle.std.specs.List.{slice_index_or, range_with_len, list_all};
 ghost use Rattle.elf_image.specs.declared.elf.TheConstants.{PF_W};
-ghost use Rattle.rv_hart.specs.AddressSpace.{may};
+ghost use Rattle.rv_hart.specs.AddressSpace.{byte_in, may};
 ghost use Rattle.rv_hart.specs.private.Pages.{page_at, page_in, with_bytes, IsSetAt};
-ghost use Rattle.rv_hart.specs.private.Paging.{page_numbered, page_of, value, value_after, IsHome, IsPaged};
+ghost use Rattle.rv_hart.specs.private.Paging.{page_numbered, page_of, value, value_after, covers_all, IsHome, IsPaged};
 
 use crate::page::{Block, Page};
 use crate::paged_memory::PagedMemory;
-use crate::right::{NOWHERE, Right, covers, grants};
+use crate::right::{NOWHERE, covers};
 use elf_image::Segment;
 use prof_bytes::Memory;
 use std::alloc::Global;
@@ -62,14 +62,56 @@ fn put_in(blocks: &mut Vec<Block>, at: u32, source: &[u8])
     block.put(number % 256, at as usize % 4096, source);
 }
 
+/// The bytes from an offset of the file on, at most so many: fewer where the file ends.
+fn part_of(file: &[u8], offset: usize, count: usize) -> &[u8]
+    requires { offset + count < 2 ^ 63 }
+    ensures { let start = min offset (length file.now) in
+        result.now ≡ take (min (offset + count) (length file.now) - start) (drop start file.now) }
+{
+    &file[offset.min(file.len())..(offset + count).min(file.len())]
+}
+
+/// What the 4,096 addresses of a region from `low` on began with: bytes of the file, and 0 past them.
+fn first_page(alloc: Global, file: &[u8], home: &Segment, low: u32) -> Result<Vec<u8>, Memory>
+    requires { covers_all home.now low 4096 ≡ true }
+    ensures long { IfOk result (λ bytes. length bytes.items ≡ 2 ^ 12) }
+    ensures bytes { IfOk result (λ bytes. (i : ℕ) → i < 2 ^ 12
+        → slice_index bytes.items i ≡ byte_in file.now (low + i) (Some home.now)) }
+{
+    let depth = low - home.start;
+    let count = home.filled.saturating_sub(depth).min(4096);
+    let part = part_of(file, home.offset as usize + depth as usize, count as usize);
+    let mut bytes = Vec::new(alloc);
+    bytes.extend_from_slice(part)?;
+    bytes.resize(4096, 0)?;
+    Ok(bytes)
+}
+
 impl<'a> PagedMemory<'a> {
-    /// The bytes of a page as they stand.
+    /// The bytes of a page as they stand. They are taken from the file at once where this region holds the whole page
+    /// and it was not made.
     fn page_as_it_stands(
         &self,
         alloc: Global,
         home: &Segment,
         number: u32,
     ) -> Result<Vec<u8>, Memory>
+        requires home { IsHome self.now.regions home.now }
+        requires number { number < 2 ^ 20 }
+        ensures long { IfOk result (λ bytes. length bytes.items ≡ 2 ^ 12) }
+        ensures bytes { IfOk result (λ bytes. (i : ℕ) → i < 2 ^ 12
+            → slice_index bytes.items i ≡ value self.now (number * 2 ^ 12 + i)) }
+    {
+        let low = number * 4096;
+        if covers(home, low, 4096) && self.page_bytes(low).is_empty() {
+            let bytes = first_page(alloc, self.file, home, low)?;
+            return Ok(bytes);
+        }
+        self.page_by_bytes(alloc, home, number)
+    }
+
+    /// The same, byte by byte.
+    fn page_by_bytes(&self, alloc: Global, home: &Segment, number: u32) -> Result<Vec<u8>, Memory>
         requires home { IsHome self.now.regions home.now }
         requires number { number < 2 ^ 20 }
         ensures long { IfOk result (λ bytes. length bytes.items ≡ 2 ^ 12) }
@@ -83,8 +125,19 @@ impl<'a> PagedMemory<'a> {
         Ok(bytes)
     }
 
+    /// Whether a load is to make the address's page: it was not made, and the file has bytes of it.
+    pub(crate) fn is_page_wanted(&self, at: u32) -> bool {
+        match self.region(at) {
+            Some(region) => {
+                let depth = (at / 4096 * 4096).saturating_sub(region.start);
+                depth < region.filled && self.page_bytes(at).is_empty()
+            }
+            None => false,
+        }
+    }
+
     /// Makes the address's page, if it was not made.
-    fn make(&mut self, alloc: Global, at: u32) -> Result<(), Memory>
+    pub(crate) fn make(&mut self, alloc: Global, at: u32) -> Result<(), Memory>
         requires { IsPaged self.old }
         ensures rest { self.new ≡ record self.old { blocks = self.new.blocks } }
         ensures paged { IsPaged self.new }
@@ -147,21 +200,19 @@ impl<'a> PagedMemory<'a> {
     #[inline(always)]
     fn is_near(&self, at: u32, count: usize) -> bool
         requires paged { IsPaged self.now }
-        requires count { count ≤ 4 }
+        requires count { (0 < count) × (count ≤ 4) }
         ensures page { result ≡ true → at % 2 ^ 12 + count ≤ 2 ^ 12 }
         ensures within { result ≡ true → at % 2 ^ 12 + count ≤ length (page_of self.now at).bytes }
         ensures granted { result ≡ true
             → list_all (may PF_W self.now.regions) (range_with_len at count) ≡ true }
     {
-        let end = at as usize % 4096 + count;
-        if end > 4096 || end > self.page_bytes(at).len() {
+        let Some(page) = self.page(at) else {
+            return false;
+        };
+        if at as usize % 4096 + count > page.bytes().len() {
             return false;
         }
-        let home = self.page_home(at);
-        if !covers(&home, at, count) {
-            return false;
-        }
-        grants(&home, Right::Write)
+        page.is_writable(at, count)
     }
 
     /// Makes the pages of so many addresses.

@@ -8,3 +8,4 @@ pub mod Passing
 pub mod Ending
 pub mod Scheduling
 pub mod Cutting
+pub mod Running

@@ -1,6 +1,6 @@
 //! The execution environment: the harts of a machine, the memory that they share, and the environment calls by
 //! which they read, write and exit.
-ghost use Rattle.std.specs.Prelude.{◌≡◌, ◌≢◌, ◌+◌, true, false, ◌<◌, ◌≤◌, ◌^◌, ◌-◌, IfOk, OnErr, length, map};
+ghost use Rattle.std.specs.Prelude.{◌≡◌, ◌+◌, true, false, ◌<◌, ◌≤◌, ◌^◌, ◌-◌, IfOk, OnErr, length, map};
 ghost use Rattle.std.specs.List.{range_with_len};
 ghost use Rattle.rv_run.specs.State.{first_hart, first_state, hart_of, is_running, hart_step};
 ghost use Rattle.rv_run.specs.Calls.{negative, reads, writes, calls, completes, grouped, ends_by, ends_all};
@@ -77,15 +77,6 @@ fn finish_each(cores: &mut [MachineHart], status: u32)
         let core = &mut cores[index];
         core.finish_with_group(status);
     }
-}
-
-/// Whether a step retired its instruction.
-#[inline(always)]
-fn has_retired(stepped: Stepped) -> bool
-    ensures yes { result ≡ true → stepped ≡ Stepped.Retired }
-    ensures no { result ≡ false → stepped ≢ Stepped.Retired }
-{
-    matches!(stepped, Stepped::Retired)
 }
 
 impl<'a> Environment<'a> {
@@ -233,7 +224,6 @@ impl<'a> Environment<'a> {
     }
 
     /// Does a step of the hart.
-    #[inline(always)]
     fn step(&mut self, hart: u32) -> Result<Stepped, Memory>
         requires hart { hart < length self.old.harts }
         requires room { (hart_of self.old hart).retired < 2 ^ 32 }
@@ -247,9 +237,7 @@ impl<'a> Environment<'a> {
     }
 
     /// Does instructions of the hart as long as they retire by themselves, up to so many. It says how
-    /// many retired, and how the last step ended. All steps of a machine are done here, so that the
-    /// loop holds a copy of one step's code, and no call.
-    #[inline(never)]
+    /// many retired, and how the last step ended.
     pub(crate) fn steps(&mut self, hart: u32, most: u32) -> (u32, Result<Stepped, Memory>)
         requires some { 0 < most }
         requires hart { hart < length self.old.harts }
@@ -257,37 +245,9 @@ impl<'a> Environment<'a> {
         ensures passed { is_running (hart_of self.old hart) ≡ true → Passing hart result.0 self.old self.new }
         ensures few { result.0 ≤ most }
         ensures stops { StopsBy result.1 result.0 most hart self.new }
-        ensures ok { most ≡ 1
-            → IfOk result.1 (λ stepped. self.new ≡ stepped_machine hart (hart_step hart self.old) self.old) }
-        ensures how { most ≡ 1 → IfOk result.1 (λ stepped. stepped ≡ (hart_step hart self.old).1) }
-        ensures err { most ≡ 1 → OnErr result.1 (self.new ≡ self.old) }
     {
-        let mut count = 0;
-        loop {
-            let stepped = match self.step(hart) {
-                Ok(stepped) => stepped,
-                Err(error) => return (count, Err(error)),
-            };
-            if !has_retired(stepped) {
-                return (count, Ok(stepped));
-            }
-            count += 1;
-            if count == most {
-                return (count, Ok(stepped));
-            }
-        }
-    }
-
-    /// Does one step of the hart.
-    fn step_once(&mut self, hart: u32) -> Result<Stepped, Memory>
-        requires hart { hart < length self.old.harts }
-        requires room { (hart_of self.old hart).retired < 2 ^ 32 - 1 }
-        ensures ok { IfOk result (λ stepped. self.new ≡ stepped_machine hart (hart_step hart self.old) self.old) }
-        ensures how { IfOk result (λ stepped. stepped ≡ (hart_step hart self.old).1) }
-        ensures err { OnErr result (self.new ≡ self.old) }
-    {
-        let (_, last) = self.steps(hart, 1);
-        last
+        let core = &mut self.harts[hart as usize];
+        core.run(&mut self.space, most)
     }
 
     /// Does the next instruction of the hart, and says whether it retired.
@@ -297,7 +257,7 @@ impl<'a> Environment<'a> {
         ensures ok { IfOk result (λ retired. record { state = self.new; retired = retired } ≡ acts hart self.old) }
         ensures err { OnErr result (self.new ≡ self.old) }
     {
-        match self.step_once(hart)? {
+        match self.step(hart)? {
             Stepped::Retired => Ok(true),
             Stepped::Ecall => self.call(hart),
             Stepped::Break => {

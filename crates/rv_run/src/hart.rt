@@ -1,12 +1,13 @@
 //! One hart of a machine: what it computes with, how far it came, and how it stands.
-ghost use Rattle.std.specs.Prelude.{◌≡◌, ◌<◌, ◌^◌, IfOk, OnErr};
+ghost use Rattle.std.specs.Prelude.{◌≡◌, ◌+◌, ◌<◌, ◌≤◌, ◌^◌, IfOk, Ok, OnErr};
+ghost use Rattle.rv_hart.specs.Running.{Ran};
 ghost use Rattle.rv_hart.specs.Step.{step_of, register, StoresNow};
 ghost use Rattle.rv_run.specs.State.{first_hart, is_running, step_state, stepped_hart};
 ghost use Rattle.rv_run.specs.Calls.{with_answer, with_end, grouped};
 
 use crate::linux::{A0, A1, SP};
 use prof_bytes::Memory;
-use rv_hart::{Cause, Hart, Space, Stepped, stack_of, step};
+use rv_hart::{Cause, Hart, Space, Stepped, run, stack_of, step};
 use std::marker::Model;
 
 /// How a hart stands.
@@ -102,7 +103,6 @@ impl MachineHart {
     }
 
     /// Does one instruction, and counts it if it retired.
-    #[inline(always)]
     pub(crate) fn step(&mut self, space: &mut Space<'_>) -> Result<Stepped, Memory>
         requires { self.old.retired < 2 ^ 32 }
         ensures hart { IfOk result (λ stepped. self.new
@@ -118,6 +118,25 @@ impl MachineHart {
             self.retired += 1;
         }
         Ok(stepped)
+    }
+
+    /// Does instructions as long as they retire, up to so many, and counts them. It says how many there were, and how
+    /// the last step ended.
+    pub(crate) fn run(&mut self, space: &mut Space<'_>, most: u32) -> (u32, Result<Stepped, Memory>)
+        requires { self.old.retired + most < 2 ^ 32 }
+        ensures few { result.0 ≤ most }
+        ensures ran { Ran result.0 (step_state self.old space.old) (step_state self.new space.new) }
+        ensures retired { self.new.retired ≡ self.old.retired + result.0 }
+        ensures end { self.new.end ≡ self.old.end }
+        ensures all { result.1 ≡ Ok Stepped.Retired → result.0 ≡ most }
+        ensures ends { IfOk result.1 (λ how. ¬ (how ≡ Stepped.Retired)
+            → (step_state self.new space.new, how) ≡ step_of (step_state self.new space.new)) }
+        ensures memory { OnErr result.1 (StoresNow (step_state self.new space.new)) }
+        ensures short { OnErr result.1 (result.0 < most) }
+    {
+        let (count, last) = run(&mut self.hart, space, most);
+        self.retired += u64::from(count);
+        (count, last)
     }
 
     /// Completes an environment call with this answer.

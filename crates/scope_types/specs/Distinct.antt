@@ -2,6 +2,7 @@
 use Rattle.std.specs.Prelude.{ℕ, ◌+◌, ◌==◌, not, List, [], ◌∷◌, length, map, filter, replicate, count_by, sum_by}
 use Rattle.std.specs.List.{flat_map, enumerate_from, range_with_len}
 use Rattle.scope_types.specs.declared.frame.Counted.{Counted}
+use Rattle.scope_types.specs.declared.scope.Scope.{Scope}
 use Rattle.scope_types.specs.Raw.{Raw, same_raw}
 
 -- a sample: its hart, and the raw path that it has there. Two samples have the same raw path where both hart
@@ -28,6 +29,14 @@ distinct harts samples = map (λ hart. counted_paths (raws_of samples hart)) (ra
 -- how many frames distinct paths have together
 abbrev pub frames_in : List (List Counted) → ℕ
 frames_in tables = sum_by (sum_by (λ c. length c.path.frames)) tables
+
+-- how many scopes the call path of a raw path has
+abbrev pub path_scopes : (Raw → List Scope) → Counted → ℕ
+path_scopes call_path counted = length (call_path counted.path)
+
+-- and those of distinct raw paths together
+abbrev pub scopes_in : (Raw → List Scope) → List (List Counted) → ℕ
+scopes_in call_path tables = sum_by (sum_by (path_scopes call_path)) tables
 
 -- how many samples are counted
 abbrev pub samples_in : List (List Counted) → ℕ

@@ -8,3 +8,7 @@ most_samples = 1048576
 -- and how many frames its distinct raw paths may have together
 abbrev pub most_path_frames : ℕ
 most_path_frames = 4194304
+
+-- and how many scopes the call paths of its distinct raw paths may have together
+abbrev pub most_path_scopes : ℕ
+most_path_scopes = 8388608

@@ -2,18 +2,20 @@
 //!
 //! It promises one total order of scopes and of paths, by which the nodes of every tree, the rows of
 //! every table and the bytes of every database are ordered. The scopes are those of HPCToolkit's
-//! manual: procedures, inlined procedures, call sites and statements. Raw paths and the traits of what
-//! an unwinder looks into and of the unwinder stand here too. Below stand the bytes.
+//! manual: procedures, inlined procedures, call sites and statements. Raw paths stand here too, and the
+//! traits of an unwinder, of what it looks into, and of what expands raw paths to call paths. Below stand the bytes.
 #![tactic(auto)]
 
+mod expand;
 mod frame;
 mod hash;
 mod look;
 mod path;
 mod scope;
 
+pub use expand::Expand;
 pub use frame::{Counted, End, Frame, PartialCause, RawPath};
 pub use hash::key;
 pub use look::{Look, Unwind};
-pub use path::{Entry, ScopePath};
+pub use path::{Entry, Piece, ScopePath};
 pub use scope::{LineId, ProcId, RootKind, Scope, compare, compare_paths, order_laws};

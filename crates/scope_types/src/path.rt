@@ -1,6 +1,7 @@
 ghost use Rattle.std.specs.Prelude.{◌≡◌};
 
 use crate::scope::Scope;
+use prof_bytes::Listed;
 use std::marker::Model;
 
 /// A call path, the outermost scope first. Contracts see it as the list of its scopes.
@@ -40,4 +41,13 @@ pub struct Entry {
     pub hart: u32,
     pub count: u32,
     pub path: ScopePath,
+}
+
+/// A batch of call paths that one stripe takes in: those of one chunk of the plan that are dealt to the stripe,
+/// in the plan's order.
+#[derive(Debug, Drop)]
+pub struct Piece {
+    pub chunk: u32,
+    pub stripe: u32,
+    pub entries: Listed<Entry>,
 }

@@ -12,13 +12,13 @@ use Rattle.scope_types.specs.declared.frame.Counted.{Counted}
 use Rattle.scope_types.specs.declared.path.Entry.{Entry}
 use Rattle.scope_types.specs.Alike.{Alike}
 use Rattle.scope_types.specs.CallPaths.{HartPath, each_path}
-use Rattle.scope_types.specs.Distinct.{HartRaw, distinct, each_of_hart, each_sample}
-use Rattle.scope_types.specs.Expansion.{FoundAt}
+use Rattle.scope_types.specs.Distinct.{HartRaw, distinct, each_of_hart, each_sample, path_scopes, scopes_in}
+use Rattle.scope_types.specs.Expansion.{FoundAt, call_path}
+use Rattle.scope_types.specs.Limits.{most_path_scopes}
 use Rattle.hpc_top.specs.declared.expand.Expanded.{Expanded}
 use Rattle.hpc_top.specs.declared.status.InputFault.{InputFault}
 use Rattle.hpc_top.specs.declared.status.InputFault.TheVariants.{TooManySamples, TooManyScopes}
-use Rattle.hpc_top.specs.Samples.{sampled, sample_path, path_scopes, scopes_in}
-use Rattle.hpc_top.specs.Samples.{most_path_scopes, few_samples, few_scopes}
+use Rattle.hpc_top.specs.Samples.{sampled, sample_path, few_samples, few_scopes}
 
 -- ---- counting
 
@@ -62,14 +62,14 @@ total_scopes entries = sum_by (λ e. length e.path) entries
 pub record Adds (found : ℕ → FoundAt) (hart : ℕ) (counted : List Counted) (old new : Expanded) : Type 0 where
   pub paths : each_path new.entries.items
       ≡ each_path old.entries.items ++ map (sample_path found) (each_of_hart (hart, counted))
-  pub scopes : new.scopes ≡ old.scopes + sum_by (path_scopes found) counted
+  pub scopes : new.scopes ≡ old.scopes + sum_by (path_scopes (call_path found)) counted
   pub few : new.scopes ≤ most_path_scopes
   pub total : old.scopes ≡ total_scopes old.entries.items → new.scopes ≡ total_scopes new.entries.items
 
 -- or they have too many scopes
 pub record Passes (found : ℕ → FoundAt) (counted : List Counted) (old : Expanded) (fault : InputFault) : Type 0 where
   pub is : fault ≡ TooManyScopes
-  pub many : most_path_scopes < old.scopes + sum_by (path_scopes found) counted
+  pub many : most_path_scopes < old.scopes + sum_by (path_scopes (call_path found)) counted
 
 abbrev pub AddsOr : (ℕ → FoundAt) → ℕ → List Counted → Result (Unit {0}) (Fail InputFault) → Expanded → Expanded
     → Type 0
@@ -80,13 +80,13 @@ AddsOr found hart counted (Err (fails.Memory memory)) old new = Unit {0}
 -- all were expanded
 pub record AreExpanded (found : ℕ → FoundAt) (tables : List (List Counted)) (entries : List Entry) : Type 0 where
   pub paths : each_path entries ≡ map (sample_path found) (each_sample tables)
-  pub few : scopes_in found tables ≤ most_path_scopes
+  pub few : scopes_in (call_path found) tables ≤ most_path_scopes
   pub fits : total_scopes entries ≤ most_path_scopes
 
 -- or they have too many scopes
 pub record AreMany (found : ℕ → FoundAt) (tables : List (List Counted)) (fault : InputFault) : Type 0 where
   pub is : fault ≡ TooManyScopes
-  pub many : most_path_scopes < scopes_in found tables
+  pub many : most_path_scopes < scopes_in (call_path found) tables
 
 abbrev pub ExpandsAll : (ℕ → FoundAt) → List (List Counted) → Result (List Entry) (Fail InputFault) → Type 0
 ExpandsAll found tables (Ok entries) = AreExpanded found tables entries

@@ -2,6 +2,7 @@
 use Rattle.std.specs.Prelude.{◌≡◌, ◌==◌, if◌then◌else◌, ℕ, ◌+◌, ◌/◌, ◌%◌, ◌^◌, List, [], ◌++◌, length, take, drop}
 use Rattle.std.specs.List.{slice_index_or}
 use Rattle.elf_image.specs.declared.part.Segment.{Segment}
+use Rattle.rv_hart.specs.AddressSpace.{has}
 
 -- a page: its bytes, none where it was not made, and the region for which it was made
 pub record Paged : Type 0 where
@@ -33,3 +34,7 @@ page_in blocks number = page_at (slice_index_or blocks (number / 2 ^ 8) []) (num
 -- blocks in which the page of this number is this one, and all others are as before
 abbrev pub IsSetAt : List (List Paged) → List (List Paged) → ℕ → Paged → Type 0
 IsSetAt old new number page = (n : ℕ) → page_in new n ≡ (if n == number then page else page_in old n)
+
+-- where a region ends if it has a right, and else 0
+abbrev pub end_with : ℕ → Segment → ℕ
+end_with right home = if has right home then home.end else 0

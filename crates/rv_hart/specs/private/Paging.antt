@@ -11,6 +11,9 @@ use Rattle.rv_hart.specs.declared.right.Right.TheVariants.{Execute, Write, Read}
 use Rattle.rv_hart.specs.private.Pages.{Paged, page_in}
 use Rattle.elf_image.specs.declared.elf.TheConstants.{PF_R, PF_W, PF_X}
 use Rattle.rv_hart.specs.AddressSpace.{AddressSpace, first_byte, region_at, each_address, may}
+use Rattle.rv_hart.specs.declared.hart.Hart.{Hart}
+use Rattle.rv_hart.specs.Step.{State}
+use Rattle.rv_hart.specs.Stepping.{state_of}
 
 -- a page by its number, and the page of an address
 abbrev pub page_numbered : PagedMemory → ℕ → Paged
@@ -31,6 +34,10 @@ value_after paged start bytes at =
 abbrev pub memory_of : PagedMemory → AddressSpace
 memory_of paged = record { regions = paged.regions; bytes = each_address (value paged) }
 
+-- a hart with the memory that is kept
+abbrev pub kept_state : Hart → PagedMemory → State
+kept_state hart paged = state_of hart (memory_of paged)
+
 -- each address that this segment holds has it as its region
 abbrev pub IsHome : List Segment → Segment → Type 0
 IsHome regions home = (at : ℕ) → in_segment at home ≡ true → region_at regions at ≡ Some home
@@ -39,11 +46,12 @@ IsHome regions home = (at : ℕ) → in_segment at home ≡ true → region_at r
 abbrev pub AreApart : List Segment → Type 0
 AreApart regions = (at : ℕ) (region : Segment) → region_at regions at ≡ Some region → IsHome regions region
 
--- what keeps a memory: regions that are apart and below 2^32, pages that each know one region of
+-- what keeps a memory: regions that are apart and below 2^32, pages of 4 KiB at most that each know one region of
 -- theirs, and bytes as they began where nothing can be written
 pub record IsPaged (paged : PagedMemory) : Type 0 where
   pub apart : AreApart paged.regions
   pub homes : (number : ℕ) → IsHome paged.regions (page_numbered paged number).home
+  pub short : (number : ℕ) → length (page_numbered paged number).bytes ≤ 2 ^ 12
   pub low : (at : ℕ) → 2 ^ 32 ≤ at → region_at paged.regions at ≡ None
   pub intact : (at : ℕ) → may PF_W paged.regions at ≡ false
       → value paged at ≡ first_byte paged.file.now paged.regions at

@@ -1,5 +1,5 @@
 use Rattle.std.proofs.Common.{◌≡◌, map, take}
-use Rattle.hpc_top.specs.Samples.{pc_of}
+use Rattle.scope_types.specs.Expansion.{pc_of}
 use Rattle.hpc_top.proofs.expand.pcs_of.Given as goal
 
 abbrev pub invariant-loop-frame : goal.invariant-loop-frame

@@ -1,13 +1,26 @@
-use Rattle.std.proofs.Common.{◌≡◌, true, sym, subst, ◌∙◌}
-use Rattle.elf_image.specs.declared.part.Segment.{Segment}
+use Rattle.std.proofs.Common.{◌≡◌, ◌+◌, ◌/◌, ◌%◌, ◌^◌, ◌≤◌, ◌&&◌, ℕ, true, List, length, sym, subst, ◌∙◌, arith}
+use Rattle.std.proofs.lemmas.Bool.{and_parts}
 use Rattle.elf_image.specs.declared.elf.TheConstants.{PF_W}
-use Rattle.rv_hart.specs.private.Paging.{IsHome, covers_all}
+use Rattle.rv_hart.specs.AddressSpace.{has}
+use Rattle.rv_hart.specs.private.Pages.{Paged}
+use Rattle.rv_hart.specs.private.Paging.{IsHome, covers_all, page_of}
 use Rattle.rv_hart.proofs.Near.{all-granted}
 use Rattle.rv_hart.proofs.paged_memory.PagedMemory.is_near.Goals as goal
 
+pub returns-clause-within : goal.returns-clause-within
+returns-clause-within c given =
+    subst (λ (page : Paged). c.args.at % 4096 + c.args.count ≤ length page.bytes) c.in-Some.ensures
+    (subst (λ (bytes : List ℕ). c.args.at % 4096 + c.args.count ≤ length bytes) c.bytes.ensures c.if-at-count.false)
+
+pub returns-clause-page : goal.returns-clause-page
+returns-clause-page c given =
+    let within : c.args.at % 4096 + c.args.count ≤ length (page_of c.args.self.now c.args.at).bytes = returns-clause-within c given in
+    let short : length (page_of c.args.self.now c.args.at).bytes ≤ 2 ^ 12 = c.requires.paged.short (c.args.at / 2 ^ 12) in
+    omega (arith, within, short)
+
 pub returns-clause-granted : goal.returns-clause-granted
 returns-clause-granted c given =
-    let covered : true ≡ covers_all c.page_home-home.result c.args.at c.args.count = c.if-not-covers.ensures in
-    let own : IsHome c.args.self.now.regions c.page_home-home.result =
-    subst (λ (home : Segment). IsHome c.args.self.now.regions home) (sym c.page_home-home.ensures) (c.requires.paged.homes _) in
-    all-granted c.args.self.now.regions c.page_home-home.result PF_W c.args.at c.args.count own (sym covered) (sym c.grants.ensures ∙ given)
+    let writable : (covers_all c.in-Some.page.now.home c.args.at c.args.count && has PF_W c.in-Some.page.now.home) ≡ true = sym c.is_writable.ensures ∙ given in
+    let own : IsHome c.args.self.now.regions c.in-Some.page.now.home =
+    subst (λ (page : Paged). IsHome c.args.self.now.regions page.home) (sym c.in-Some.ensures) (c.requires.paged.homes _) in
+    all-granted c.args.self.now.regions c.in-Some.page.now.home PF_W c.args.at c.args.count own (and_parts _ _ writable).0 (and_parts _ _ writable).1

@@ -1,7 +1,7 @@
 use Rattle.std.proofs.Common.{◌/◌, ◌%◌, ◌^◌, refl}
 use Rattle.rv_hart.specs.private.Pages.{page_in}
 use Rattle.rv_hart.specs.declared.paged_memory.PagedMemory.{PagedMemory}
-use Rattle.rv_hart.proofs.Set.{put-value, put-intact, put-homes}
+use Rattle.rv_hart.proofs.Set.{put-value, put-intact, put-homes, put-short}
 use Rattle.rv_hart.proofs.paged_memory.PagedMemory.put.Goals as goal
 
 pub returns-clause-values : goal.returns-clause-values
@@ -17,6 +17,9 @@ returns-clause-paged c =
       homes =
           put-homes c.args.self.now.regions (page_in c.args.self.now.blocks.items) (page_in c.put_in.new.blocks.items) (c.args.at / 2 ^ 12) (c.args.at % 2 ^ 12) c.args.source.now
           c.put_in.ensures c.requires.paged.homes;
+      short =
+          put-short (page_in c.args.self.now.blocks.items) (page_in c.put_in.new.blocks.items) (c.args.at / 2 ^ 12) (c.args.at % 2 ^ 12) c.args.source.now
+          c.put_in.ensures c.requires.within c.requires.paged.short;
       low = c.requires.paged.low;
       intact =
           put-intact c.args.self.now after c.args.at c.args.source.now c.requires.paged.intact c.requires.granted

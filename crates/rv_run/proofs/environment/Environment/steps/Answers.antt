@@ -1,46 +1,35 @@
-use Rattle.std.proofs.Common.{inr, true, sym, ◌∙◌, subst, arith}
-use Rattle.rv_run.specs.State.{MachineState}
-use Rattle.rv_run.specs.Progress.{Counts}
+use Rattle.std.proofs.Common.{◌≡◌, ◌+◌, ◌<◌, true, drop, length, set, sym, ap, subst, ◌∙◌}
+use Rattle.std.proofs.lemmas.List.{get_or_default}
+use Rattle.rv_hart.specs.Running.{Ran}
+use Rattle.rv_run.specs.State.{HartState, MachineState, hart_of, is_running, no_hart, step_state}
 use Rattle.rv_run.specs.private.Queue.{Passing}
-use Rattle.rv_run.proofs.Counting.{counts-of, same-as}
-use Rattle.rv_run.proofs.Passing.{Plain, passing-more, step-plain, stops-here}
+use Rattle.rv_run.proofs.Running.{with_memory, passing-run, stops-run}
 use Rattle.rv_run.proofs.environment.Environment.steps.Goals as goal
 
-pub step-requires-clause-hart : goal.step-requires-clause-hart
-step-requires-clause-hart c = omega (arith, c.requires.hart, c.loop-stepped.invariant.harts)
+pub returns-clause-passed : goal.returns-clause-passed
+returns-clause-passed c =
+    let s : MachineState = record {
+      memory = c.self.inside.space;
+      harts = c.self.inside.harts.items;
+      input = drop c.self.inside.consumed c.self.inside.input.items;
+      output = c.self.inside.output.items;
+    } in
+    let within : c.args.hart < length s.harts = subst (λ (t : MachineState). c.args.hart < length t.harts) (sym c.self.view_is) c.requires.hart in
+    let core : c.index_mut-core.result.now ≡ hart_of s c.args.hart = c.index_mut-core.ensures.value ∙ get_or_default s.harts c.args.hart c.index_mut-core.result.now no_hart within in
+    subst (λ (t : MachineState). is_running (hart_of t c.args.hart) ≡ true → Passing c.args.hart c.run.result.0 t (with_memory s c.run.new.space (set s.harts c.args.hart c.run.new.self))) c.self.view_is
+    (passing-run c.args.hart c.run.result.0 c.run.new.self c.run.new.space s within
+    (c.run.ensures.retired ∙ ap (λ (h : HartState). h.retired + c.run.result.0) core)
+    (c.run.ensures.end ∙ ap (λ (h : HartState). h.end) core)
+    (subst (λ (h : HartState). Ran c.run.result.0 (step_state h s.memory) (step_state c.run.new.self c.run.new.space)) core c.run.ensures.ran))
 
-pub step-requires-clause-room : goal.step-requires-clause-room
-step-requires-clause-room c = omega (arith, c.requires.room, c.loop-stepped.invariant.count, c.loop-stepped.invariant.few)
-
-pub returns-then-not-has_retired-clause-passed : goal.returns-then-not-has_retired-clause-passed
-returns-then-not-has_retired-clause-passed c running =
-    subst (λ (s : MachineState). Passing c.args.hart c.loop-stepped.count c.args.self.now s)
-    (sym (same-as c.args.hart c.loop-stepped.self c.step.new.self c.in-Ok.stepped c.in-Ok.ensures.ok c.in-Ok.ensures.how (c.has_retired.ensures.no c.if-not-has_retired.true)))
-    (c.loop-stepped.invariant.passed running)
-
-pub returns-then-count-most-clause-passed : goal.returns-then-count-most-clause-passed
-returns-then-count-most-clause-passed c running =
-    passing-more c.args.hart c.loop-stepped.count c.args.self.now c.loop-stepped.self c.step.new.self (c.loop-stepped.invariant.passed running)
-    (step-plain c.args.hart c.loop-stepped.self c.step.new.self c.in-Ok.stepped (omega (arith, c.requires.hart, c.loop-stepped.invariant.harts)) c.in-Ok.ensures.ok c.in-Ok.ensures.how (c.has_retired.ensures.yes c.if-not-has_retired.false))
-    c.requires.hart
-
-pub loop-stepped-preserved : goal.loop-stepped-preserved
-loop-stepped-preserved c =
-    let plain : Plain c.args.hart c.loop-stepped.self c.step.new.self =
-    step-plain c.args.hart c.loop-stepped.self c.step.new.self c.in-Ok.stepped (omega (arith, c.requires.hart, c.loop-stepped.invariant.harts)) c.in-Ok.ensures.ok c.in-Ok.ensures.how (c.has_retired.ensures.yes c.if-not-has_retired.false)
-    in
-    let counts : Counts c.args.hart true c.loop-stepped.self c.step.new.self = counts-of c.args.hart c.loop-stepped.self c.step.new.self true plain.0 (omega (arith, c.requires.hart, c.loop-stepped.invariant.harts)) in
-    record {
-      passed = λ running. passing-more c.args.hart c.loop-stepped.count c.args.self.now c.loop-stepped.self c.step.new.self (c.loop-stepped.invariant.passed running) plain c.requires.hart;
-      first = λ e. absurd (omega arith);
-      count = omega (arith, counts.own, c.loop-stepped.invariant.count);
-      harts = counts.harts ∙ c.loop-stepped.invariant.harts;
-      few = omega (arith, c.loop-stepped.invariant.few);
-    }
-
-pub returns-then-not-has_retired-clause-stops : goal.returns-then-not-has_retired-clause-stops
-returns-then-not-has_retired-clause-stops c =
-    inr
-    (stops-here c.args.hart c.loop-stepped.self c.step.new.self c.in-Ok.stepped
-    (same-as c.args.hart c.loop-stepped.self c.step.new.self c.in-Ok.stepped c.in-Ok.ensures.ok c.in-Ok.ensures.how (c.has_retired.ensures.no c.if-not-has_retired.true)) c.in-Ok.ensures.how
-    (c.has_retired.ensures.no c.if-not-has_retired.true))
+pub returns-clause-stops : goal.returns-clause-stops
+returns-clause-stops c =
+    let s : MachineState = record {
+      memory = c.self.inside.space;
+      harts = c.self.inside.harts.items;
+      input = drop c.self.inside.consumed c.self.inside.input.items;
+      output = c.self.inside.output.items;
+    } in
+    let within : c.args.hart < length s.harts = subst (λ (t : MachineState). c.args.hart < length t.harts) (sym c.self.view_is) c.requires.hart in
+    stops-run c.run.new.self c.run.new.space c.run.result.0 c.args.most c.args.hart s c.run.result.1 within
+    c.run.ensures.all c.run.ensures.ends c.run.ensures.memory c.run.ensures.short

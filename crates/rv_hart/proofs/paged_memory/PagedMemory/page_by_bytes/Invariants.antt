@@ -1,6 +1,6 @@
 use Rattle.std.proofs.Common.{◌≡◌, ℕ, ◌+◌, ◌*◌, ◌^◌, ◌<◌, length, get_or}
 use Rattle.rv_hart.specs.private.Paging.{value}
-use Rattle.rv_hart.proofs.paged_memory.PagedMemory.page_as_it_stands.Given as goal
+use Rattle.rv_hart.proofs.paged_memory.PagedMemory.page_by_bytes.Given as goal
 
 abbrev pub invariant-loop-offset : goal.invariant-loop-offset
 invariant-loop-offset l =

@@ -2,7 +2,7 @@ use Rattle.std.proofs.Common.{ℕ, Some, sym, ap, ◌∙◌}
 use Rattle.elf_image.specs.declared.elf.TheConstants.{PF_R}
 use Rattle.rv_hart.proofs.Near.{all-granted}
 use Rattle.rv_hart.proofs.Whole.{loaded-paged}
-use Rattle.rv_hart.proofs.access.load.Goals as goal
+use Rattle.rv_hart.proofs.access.load_unpaged.Goals as goal
 
 pub returns-then-grants-clause-number : goal.returns-then-grants-clause-number
 returns-then-grants-clause-number c =

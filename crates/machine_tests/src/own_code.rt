@@ -1,0 +1,93 @@
+//! Programs whose code lies in a segment that may be written, and beside one.
+use crate::guests::{Trouble, machine_of};
+use rv_hart::Cause;
+use rv_run::{HartEnd, Machine};
+use scope_types::Look;
+use std::alloc::Global;
+use std::test::Fail as Failed;
+
+/// A program of one segment with all three rights, as the GNU assembler makes it: `auipc x5, 0`, `addi x10, x0, 0`;
+/// three times `addi x10, x10, 1`, over which `lw x6, 40(x5)` and `sw x6, 8(x5)` write `addi x10, x10, 16`, with
+/// `addi x7, x7, 1`, `addi x8, x0, 3` and `blt x7, x8, -20`; and an exit with what x10 holds.
+static OWN: [u8; 128] = [
+    127, 69, 76, 70, 1, 1, 1, 0, 0, 0, 0, 0, 0, 0, 0, 0, 2, 0, 243, 0, 1, 0, 0, 0, 0, 0, 1, 0, 52,
+    0, 0, 0, 0, 0, 0, 0, 0, 0, 0, 0, 52, 0, 32, 0, 1, 0, 40, 0, 0, 0, 0, 0, 1, 0, 0, 0, 84, 0, 0,
+    0, 0, 0, 1, 0, 0, 0, 1, 0, 44, 0, 0, 0, 44, 0, 0, 0, 7, 0, 0, 0, 4, 0, 0, 0, 151, 2, 0, 0, 19,
+    5, 0, 0, 19, 5, 21, 0, 3, 163, 130, 2, 35, 164, 98, 0, 147, 131, 19, 0, 19, 4, 48, 0, 227, 198,
+    131, 254, 147, 8, 208, 5, 115, 0, 0, 0, 19, 5, 5, 1,
+];
+
+/// A program of a segment to read and execute, and in the same page, with no gap, one to read and write that
+/// holds 7: `auipc x5, 0`, `addi x10, x0, 0`; three times `lw x6, 40(x5)`, `add x10, x10, x6`, `addi x6, x6, 1`,
+/// `sw x6, 40(x5)`, with `addi x7, x7, 1`, `addi x8, x0, 3` and `blt x7, x8, -24`; and `sw x6, 0(x5)`, into the code.
+static BESIDE: [u8; 160] = [
+    127, 69, 76, 70, 1, 1, 1, 0, 0, 0, 0, 0, 0, 0, 0, 0, 2, 0, 243, 0, 1, 0, 0, 0, 0, 0, 1, 0, 52,
+    0, 0, 0, 0, 0, 0, 0, 0, 0, 0, 0, 52, 0, 32, 0, 2, 0, 40, 0, 0, 0, 0, 0, 1, 0, 0, 0, 116, 0, 0,
+    0, 0, 0, 1, 0, 0, 0, 1, 0, 40, 0, 0, 0, 40, 0, 0, 0, 5, 0, 0, 0, 4, 0, 0, 0, 1, 0, 0, 0, 156,
+    0, 0, 0, 40, 0, 1, 0, 40, 0, 1, 0, 4, 0, 0, 0, 4, 0, 0, 0, 6, 0, 0, 0, 4, 0, 0, 0, 151, 2, 0,
+    0, 19, 5, 0, 0, 3, 163, 130, 2, 51, 5, 101, 0, 19, 3, 19, 0, 35, 164, 98, 2, 147, 131, 19, 0,
+    19, 4, 48, 0, 227, 196, 131, 254, 35, 160, 98, 0, 7, 0, 0, 0,
+];
+
+/// What is left of a run: x10, how many instructions retired, how the hart stands, and a word of the memory.
+#[derive(Clone, Copy, Debug, PartialEq, Eq)]
+struct Ended {
+    x10: u32,
+    retired: u64,
+    end: HartEnd,
+    word: Option<u32>,
+}
+
+/// Carries out a run, many instructions at a time.
+fn carry_out(machine: &mut Machine<'_>) -> Result<(), Trouble> {
+    for _ in 0..8 {
+        let Some(due) = machine.due() else {
+            return Ok(());
+        };
+        machine.pass(&due, 1000)?;
+    }
+    Ok(())
+}
+
+/// What is left of the run of the program in a file, with the word at this address.
+fn after_run(alloc: Global, file: &[u8], at: u32) -> Result<Option<Ended>, Trouble> {
+    let mut machine = machine_of(alloc, file, b"harts 1\n0 1000\n", b"")?;
+    carry_out(&mut machine)?;
+    if machine.harts() == 0 {
+        return Ok(None);
+    }
+    let regs = *machine.regs(0);
+    Ok(Some(Ended {
+        x10: regs[10],
+        retired: machine.retired(0),
+        end: machine.end(0),
+        word: machine.space().word(at),
+    }))
+}
+
+#[test]
+fn code_that_writes_itself(rt: HostRuntime) -> Result<(), Failed> {
+    let wanted = Ended {
+        x10: 33,
+        retired: 21,
+        end: HartEnd::Exit(33),
+        word: Some(0x0105_0513),
+    };
+    assert_eq!(rt; after_run(rt.alloc(), &OWN, 0x1_0008)?, Some(wanted));
+    Ok(())
+}
+
+#[test]
+fn code_beside_a_segment_that_is_written(rt: HostRuntime) -> Result<(), Failed> {
+    let wanted = Ended {
+        x10: 24,
+        retired: 23,
+        end: HartEnd::Trap {
+            cause: Cause::Store,
+            pc: 0x1_0024,
+        },
+        word: Some(10),
+    };
+    assert_eq!(rt; after_run(rt.alloc(), &BESIDE, 0x1_0028)?, Some(wanted));
+    Ok(())
+}
