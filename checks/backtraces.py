@@ -25,11 +25,13 @@ CLEARED = ["ra", "gp", "tp", "fp"] + [
 
 
 def frames():
-    """The pcs of the present frames, innermost first. A caller's pc is the return address."""
+    """The pcs of the present frames, innermost first. A caller's pc is the return address. An inlined procedure shares
+    the frame of what it is inlined into."""
     found = []
     frame = gdb.newest_frame()
     while frame is not None:
-        found.append(frame.pc())
+        if frame.type() != gdb.INLINE_FRAME:
+            found.append(frame.pc())
         try:
             frame = frame.older()
         except gdb.error:

@@ -20,13 +20,11 @@ CFLAGS ?= -O2
 CROSS = riscv64-unknown-elf-
 MACHINE = --specs=picolibc.specs -march=rv32im -mabi=ilp32
 C_CPP = $(filter %.cc %.cpp %.cxx,$(PROGRAM))
-# -g writes .debug_frame, by which call paths are found.
+# -g writes .debug_frame, by which call paths are found, and .debug_info and .debug_line, which give procedures, inlined
+# procedures and lines.
 GUEST_CFLAGS = $(MACHINE) -g
 GUEST_CXXFLAGS = $(GUEST_CFLAGS) -fno-exceptions -fno-rtti -fno-threadsafe-statics
 GUEST_LDFLAGS = -nostartfiles -static -T $(GUEST)/guest.ld $(if $(C_CPP),-u __guest_main)
-
-# What of the debugging sections the profiler takes: .debug_frame alone today. Empty, once it takes .debug_info.
-LEFT_OUT = --remove-section='.debug_*' --remove-section='!.debug_frame'
 
 # In place of what the libraries have without frame rules; what a program doesn't use isn't linked.
 GUEST_PARTS ?= string.c divide.c save_restore.S
@@ -38,10 +36,7 @@ LINKED = $(call objects,$(GUEST_SOURCES)) $(call objects,$(PROGRAM))
 $(NAME).ready: $(NAME).elf $(NAME).input $(NAME).schedule
 	@echo $(realpath $(GUEST)/..)/hpc profile $(NAME).elf $(NAME).input $(NAME).schedule $(PERIOD) 1 $(NAME).db
 
-$(NAME).elf: $(BUILD)/whole
-	$(CROSS)objcopy $(LEFT_OUT) $< $@
-
-$(BUILD)/whole: $(LINKED) $(BUILD)/libguest.a $(GUEST)/guest.ld
+$(NAME).elf: $(LINKED) $(BUILD)/libguest.a $(GUEST)/guest.ld
 	$(CROSS)gcc $(MACHINE) $(GUEST_LDFLAGS) $(LDFLAGS) -o $@ $(LINKED) \
 	  -Wl,--start-group $(BUILD)/libguest.a $(LDLIBS) -lc -lgcc -Wl,--end-group
 

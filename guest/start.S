@@ -11,10 +11,9 @@
 _start:
         .cfi_startproc
         .cfi_undefined ra
-        .option push
+        # The linker's relaxation would make this code shorter than the assembler's debug information says.
         .option norelax
         la      gp, __global_pointer$
-        .option pop
         .weak   __guest_main
         call    __guest_main
         li      a7, 93                  # exit of this hart, with main's result as its status

@@ -1,7 +1,9 @@
 //! The database's bytes: docs/FORMATS.md has the format.
 
 use crate::columns::Column;
-use crate::tree::{CALL, NO_PARENT, PROC, ROOT, STMT, Tree};
+use crate::dwarf::Line;
+use crate::scopes::ProcId;
+use crate::tree::{INLINE, NO_PARENT, PROC, ROOT, STMT, Tree};
 
 const EXCLUSIVE: u32 = 0;
 const FRAME: u32 = 1;
@@ -33,20 +35,25 @@ fn put_entry(bytes: &mut Vec<u8>, first: u32, second: u32, value: u64) {
 pub fn bytes(tree: &Tree, columns: &[Column], period: u32) -> Vec<u8> {
     let counts: Vec<usize> = columns.iter().map(|column| entries(tree, column)).collect();
     let nodes = tree.scopes.len();
-    let names: usize = tree.procs.iter().map(|proc| 12 + proc.name.len()).sum();
-    let places = tree.scopes.iter().filter(|scope| scope.kind() >= CALL).count();
-    let fixed = 28 + names + 12 * nodes + 4 * places + 4 * columns.len() + 4 * nodes;
+    let names = tree.procs.iter().map(|proc| proc.1.len()).chain(tree.files.iter().map(|file| file.2.len()));
+    let listed: usize = names.map(|length| 12 + length).sum();
+    let fixed = 28 + listed + 24 * nodes + 4 * columns.len() + 4 * nodes;
     let mut bytes = Vec::with_capacity(fixed + 32 * counts.iter().sum::<usize>());
     bytes.extend_from_slice(b"HPCPROF1");
-    for word in [period, columns.len() as u32, tree.procs.len() as u32, 0, nodes as u32] {
+    let lists = [tree.procs.len(), tree.files.len(), nodes].map(|length| length as u32);
+    for word in [period, columns.len() as u32].into_iter().chain(lists) {
         put(&mut bytes, word);
     }
-    for proc in &tree.procs {
-        let (kind, number) = proc.symbol.map_or((2, 0), |symbol| (1, symbol));
-        for word in [kind, number, proc.name.len() as u32] {
-            put(&mut bytes, word);
-        }
-        bytes.extend_from_slice(proc.name);
+    for (procedure, name) in &tree.procs {
+        let (kind, number) = match procedure {
+            ProcId::Die(offset) => (0, *offset),
+            ProcId::Symbol(start) => (1, *start),
+            ProcId::Nameless => (2, 0),
+        };
+        put_name(&mut bytes, kind, number, name);
+    }
+    for (table, file, name) in &tree.files {
+        put_name(&mut bytes, *table, *file, name);
     }
     put_nodes(&mut bytes, tree);
     for (column, count) in columns.iter().zip(&counts) {
@@ -57,19 +64,40 @@ pub fn bytes(tree: &Tree, columns: &[Column], period: u32) -> Vec<u8> {
     bytes
 }
 
+fn put_name(bytes: &mut Vec<u8>, first: u32, second: u32, name: &[u8]) {
+    for word in [first, second, name.len() as u32] {
+        put(bytes, word);
+    }
+    bytes.extend_from_slice(name);
+}
+
 fn put_nodes(bytes: &mut Vec<u8>, tree: &Tree) {
     for (parent, scope) in tree.parents.iter().zip(&tree.scopes) {
         put(bytes, *parent);
+        put(bytes, scope.kind());
         match scope.kind() {
-            kind @ (ROOT | PROC) => {
-                put(bytes, kind);
-                put(bytes, scope.number());
+            ROOT | PROC => put(bytes, scope.number()),
+            INLINE => {
+                let (callee, call) = tree.inlines[scope.number() as usize];
+                put(bytes, callee);
+                put_line(bytes, tree, call);
             }
-            kind => {
-                put(bytes, kind + 1);
-                put(bytes, 1);
-                put(bytes, tree.addresses[scope.number() as usize]);
-            }
+            _ => put_line(bytes, tree, scope.number()),
+        }
+    }
+}
+
+fn put_line(bytes: &mut Vec<u8>, tree: &Tree, place: u32) {
+    match tree.lines[place as usize] {
+        Line::Address(address) => {
+            put(bytes, 1);
+            put(bytes, address);
+        }
+        Line::Row { table, file, line } => {
+            let order = |other: &(u32, u32, Vec<u8>)| (other.0, other.1).cmp(&(table, file));
+            put(bytes, 0);
+            put(bytes, tree.files.binary_search_by(order).expect("a file of the list") as u32);
+            put(bytes, line);
         }
     }
 }

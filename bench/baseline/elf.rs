@@ -24,12 +24,26 @@ pub struct Function<'a> {
     pub name: &'a [u8],
 }
 
+/// The sections of debug information; empty where they are absent.
+#[derive(Clone, Copy)]
+pub struct Debug<'a> {
+    pub info: &'a [u8],
+    pub abbrev: &'a [u8],
+    pub line: &'a [u8],
+    pub str_bytes: &'a [u8],
+    pub line_str: &'a [u8],
+    pub str_offsets: &'a [u8],
+    pub addr: &'a [u8],
+    pub rnglists: &'a [u8],
+}
+
 pub struct Program<'a> {
     pub file: &'a [u8],
     pub entry: u32,
     pub segments: Vec<Segment>,
     pub functions: Vec<Function<'a>>,
     pub debug_frame: &'a [u8],
+    pub debug: Debug<'a>,
 }
 
 pub fn half(bytes: &[u8], at: usize) -> u32 {
@@ -41,7 +55,7 @@ pub fn word(bytes: &[u8], at: usize) -> u32 {
 }
 
 /// The text at a place, up to its 0 byte.
-fn text(bytes: &[u8], at: usize) -> &[u8] {
+pub fn text(bytes: &[u8], at: usize) -> &[u8] {
     let rest = &bytes[at..];
     &rest[..rest.iter().position(|byte| *byte == 0).expect("a text's end")]
 }
@@ -69,8 +83,17 @@ impl<'a> Program<'a> {
             None => Vec::new(),
         };
         let debug_frame = named(b".debug_frame");
-        assert!(named(b".debug_info").is_empty(), "no .debug_info: inlined procedures and lines are not attributed");
-        Program { file, entry: word(file, 24), segments, functions, debug_frame }
+        let debug = Debug {
+            info: named(b".debug_info"),
+            abbrev: named(b".debug_abbrev"),
+            line: named(b".debug_line"),
+            str_bytes: named(b".debug_str"),
+            line_str: named(b".debug_line_str"),
+            str_offsets: named(b".debug_str_offsets"),
+            addr: named(b".debug_addr"),
+            rnglists: named(b".debug_rnglists"),
+        };
+        Program { file, entry: word(file, 24), segments, functions, debug_frame, debug }
     }
 
     /// Whether a range is not empty and lies within one segment that may be executed.

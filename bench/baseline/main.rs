@@ -1,18 +1,23 @@
 //! A plain call-path profiler for RV32IM: what the proved program does, written for speed alone, as its measure.
 //!
-//! `baseline [--workers N] [--phases] [--until PHASE] ELF INPUT SCHEDULE PERIOD DB` runs a static ELF32 program
-//! without debug information, stores the database, and prints the report. It takes well-formed files alone.
+//! `baseline [--workers N] [--phases] [--until PHASE] ELF INPUT SCHEDULE PERIOD DB` runs a static ELF32 program, stores
+//! the database, and prints the report. It takes well-formed files alone.
 //! `--phases` writes to standard error what each phase took; `--until` ends after one.
 
 mod cfi;
 mod columns;
 mod database;
 mod decode;
+mod dwarf;
 mod elf;
+mod forms;
 mod frames;
+mod lines;
 mod machine;
 mod memory;
+mod ordered;
 mod ranges;
+mod scopes;
 mod table;
 mod tree;
 mod unwind;
@@ -23,12 +28,12 @@ use std::time::Instant;
 use columns::Column;
 use frames::Rows;
 use machine::Machine;
+use scopes::Scopes;
 use tree::Tree;
 use unwind::{Paths, Trail, Unwinder};
 
 const MOST_SAMPLES: u64 = 1 << 20;
 const MOST_FRAMES: usize = 1 << 22;
-const MOST_SCOPES: u64 = 1 << 23;
 const PHASES: [&str; 7] = ["start", "run", "tree", "values", "database", "store", "report"];
 
 fn refuse(text: &str) -> ! {
@@ -145,15 +150,12 @@ fn main() -> std::io::Result<()> {
     let program = elf::Program::read(&file);
     let rows = Rows::read(&program).unwrap_or_else(|fault| refuse(&format!("frames at {}", fault.0)));
     let mut unwinder = Unwinder::of(rows);
+    let scopes = Scopes::read(&program);
     let mut machine = Machine::start(&program, harts, &input);
     clock.done("start");
     let paths = run(&mut machine, &mut unwinder, &slices, u64::from(period));
     clock.done("run");
-    let scopes: u64 = paths.list.iter().map(|path| 1 + 2 * u64::from(path.frames)).sum();
-    if scopes > MOST_SCOPES {
-        refuse("more than 8388608 scopes");
-    }
-    let tree = Tree::of(&program, paths, harts as usize, words.workers);
+    let tree = Tree::of(&scopes, paths, harts as usize, words.workers);
     clock.done("tree");
     let columns = Column::all(&tree, words.workers);
     clock.done("values");

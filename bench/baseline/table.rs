@@ -3,8 +3,9 @@
 use std::io::{Result, Write};
 
 use crate::columns::Column;
+use crate::dwarf::Line;
 use crate::machine::{End, Machine};
-use crate::tree::{CALL, NO_PARENT, PROC, ROOT, Tree};
+use crate::tree::{CALL, INLINE, NO_PARENT, PROC, ROOT, Tree};
 
 const PIECE: usize = 1 << 16;
 const SPACES: [u8; 64] = [b' '; 64];
@@ -53,6 +54,18 @@ impl<W: Write> Text<W> {
         self.bytes.extend_from_slice(b"0x");
         for shift in (0..8).rev() {
             self.bytes.push(b"0123456789abcdef"[(address >> (4 * shift)) as usize & 15]);
+        }
+    }
+
+    fn place(&mut self, tree: &Tree, place: u32) {
+        match tree.lines[place as usize] {
+            Line::Address(address) => self.address(address),
+            Line::Row { table, file, line } => {
+                let order = |other: &(u32, u32, Vec<u8>)| (other.0, other.1).cmp(&(table, file));
+                self.name(&tree.files[tree.files.binary_search_by(order).expect("a file of the list")].2);
+                self.bytes.push(b':');
+                self.number(u64::from(line), 0, false);
+            }
         }
     }
 
@@ -124,10 +137,17 @@ fn rows<W: Write>(text: &mut Text<W>, tree: &Tree, columns: &[Column], period: u
         match scope.kind() {
             ROOT if scope.number() == 0 => text.bytes.extend_from_slice(b"<thread root>"),
             ROOT => text.bytes.extend_from_slice(b"<partial call paths>"),
-            PROC => text.name(tree.procs[scope.number() as usize].name),
+            PROC => text.name(tree.procs[scope.number() as usize].1),
+            INLINE => {
+                let (callee, call) = tree.inlines[scope.number() as usize];
+                text.bytes.extend_from_slice(b"[I] ");
+                text.name(tree.procs[callee as usize].1);
+                text.bytes.extend_from_slice(b" called at ");
+                text.place(tree, call);
+            }
             kind => {
                 text.bytes.extend_from_slice(if kind == CALL { b"call at " } else { b"" });
-                text.address(tree.addresses[scope.number() as usize]);
+                text.place(tree, scope.number());
             }
         }
         text.bytes.push(b'\n');

@@ -4,6 +4,12 @@
 #include <unistd.h>
 #include "sqlite3.h"
 
+/* What clang calls on a machine without atomic instructions; one hart alone runs. */
+unsigned load_word(const volatile void *from, int order) __asm__("__atomic_load_4");
+unsigned load_word(const volatile void *from, int order) { (void)order; return *(const volatile unsigned *)from; }
+void store_word(volatile void *to, unsigned value, int order) __asm__("__atomic_store_4");
+void store_word(volatile void *to, unsigned value, int order) { (void)order; *(volatile unsigned *)to = value; }
+
 static int no_file(sqlite3_vfs *vfs, const char *name, sqlite3_file *file, int flags, int *out) {
     (void)vfs, (void)name, (void)flags, (void)out;
     file->pMethods = NULL;

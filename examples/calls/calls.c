@@ -10,7 +10,7 @@ static char text[MOST_BYTES];
 static const char *words[MOST_WORDS];
 
 /* An environment call, as Linux numbers them. */
-static long call(long number, long first, long second, long third)
+static long environment_call(long number, long first, long second, long third)
 {
     register long a0 __asm__("a0") = first;
     register long a1 __asm__("a1") = second;
@@ -53,13 +53,13 @@ void print_backwards(const char *word)
     for (size_t i = 0; i < length; i++)
         backwards[i] = word[length - 1 - i];
     backwards[length] = ' ';
-    call(64, 1, (long)backwards, (long)length + 1);
+    environment_call(64, 1, (long)backwards, (long)length + 1);
 }
 
 /* Hart 0. */
 int sort_input(void)
 {
-    long length = call(63, 0, (long)text, MOST_BYTES - 1);
+    long length = environment_call(63, 0, (long)text, MOST_BYTES - 1);
     size_t count = split(text, text + (length > 0 ? length : 0));
     qsort(words, count, sizeof words[0], compare_words);
     for (size_t i = 0; i < count; i++)

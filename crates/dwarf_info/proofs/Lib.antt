@@ -8,3 +8,4 @@ pub mod UnitEntries
 pub mod CodedEntries
 pub mod UnitMoves
 pub mod Rooms
+pub mod Bounds

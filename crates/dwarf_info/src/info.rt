@@ -1,6 +1,6 @@
 //! Debug information that was read, and what is asked of its entries.
 ghost use Rattle.std.specs.Prelude.{◌≡◌, ◌<◌, ◌^◌, ℕ, List, true, is_some, nat_eq, length, map, IfOk, option_map};
-ghost use Rattle.std.specs.Prelude.{option_copied, option_and_then};
+ghost use Rattle.std.specs.Prelude.{option_copied, option_and_then, IfSome};
 ghost use Rattle.std.specs.HashMap.{get};
 ghost use Rattle.prof_bytes.specs.Outcome.{Gives};
 ghost use Rattle.dwarf_forms.specs.declared.value.FormFault.TheVariants.{Short};
@@ -88,9 +88,10 @@ impl<'a> Info<'a> {
         self.units.as_slice()
     }
 
-    /// The entries of all units that were read, in section order.
+    /// The entries of all units that were read, in section order. They are fewer than the bytes of `.debug_info`.
     pub fn entries(&self) -> &[InfoEntry]
-        ensures { result.now ≡ self.now.entries }
+        ensures entries { result.now ≡ self.now.entries }
+        ensures few { length self.now.entries < 2 ^ 31 }
     {
         self.entries.as_slice()
     }
@@ -107,9 +108,11 @@ impl<'a> Info<'a> {
     }
 
     /// The entry that this one completes: its abstract origin, or else its specification.
+    #[tactic(auto, using(crate::proofs::Bounds::link_bound))]
     pub fn link(&self, i: u32) -> Option<u32>
         requires { i < length self.now.entries }
-        ensures { result ≡ link_of self.now i }
+        ensures link { result ≡ link_of self.now i }
+        ensures in_range { IfSome result (λ j. j < length self.now.entries) }
     {
         match self.reference(i, DW_AT_abstract_origin) {
             Some(entry) => Some(entry),
@@ -212,10 +215,13 @@ impl<'a> Info<'a> {
 
     /// The entry's address ranges: those of its range list, or else the one from its low to its high
     /// address. Also empty ones are among them.
+    #[tactic(auto, using(crate::proofs::Bounds::ranges_bound))]
     pub fn ranges(&self, alloc: Global, i: u32) -> Result<Ranges, Memory>
         requires { i < length self.now.entries }
-        ensures { IfOk result (λ ranges. ranges ≡ ranges_of self.now i) }
+        ensures ranges { IfOk result (λ ranges. ranges ≡ ranges_of self.now i) }
+        ensures few { length (ranges_of self.now i) < 2 ^ 31 }
     {
+        let _ = &self.sections;
         match self.listed(alloc, i)? {
             Some(pairs) => Ok(Ranges::from_vec(pairs)),
             None => one_or_none(alloc, self.bounds(i)),
@@ -250,7 +256,8 @@ fn shown_units(alloc: Global, bases: &[UnitBases]) -> Result<Vec<Unit>, Memory>
 /// `.debug_info`, and in those of each abbreviation table that units name, read once each.
 #[tactic(auto, unfolding(crate::specs::Units::debug_info_of))]
 pub fn read_info<'a>(alloc: Global, sections: DebugParts<'a>) -> Result<Info<'a>, Fail<InfoFault>>
-    requires { length sections.info.now < 2 ^ 31 }
+    requires info { length sections.info.now < 2 ^ 31 }
+    requires lists { length sections.rnglists.now < 2 ^ 31 }
     ensures { Gives (λ info. info) result (debug_info_of (sections_of sections.entry)) }
 {
     let mut tables = HashMap::new(alloc);

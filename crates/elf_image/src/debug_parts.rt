@@ -35,6 +35,7 @@ impl<'a> DebugParts<'a> {
         ensures addr_of { result.addr.now ≡ bytes_of_name image.now.sections (codes ".debug_addr") }
         ensures rnglists_of { result.rnglists.now ≡ bytes_of_name image.now.sections (codes ".debug_rnglists") }
         ensures few { length result.info.now ≤ 2 ^ 26 }
+        ensures few_lists { length result.rnglists.now ≤ 2 ^ 26 }
     {
         DebugParts {
             info: image.section(b".debug_info"),

@@ -4,7 +4,5 @@ pub mod Line
 pub mod Fetching
 pub mod Lines
 pub mod Products
-pub mod Frames
 pub mod Collecting
 pub mod Entries
-pub mod SymbolsFound

@@ -10,7 +10,7 @@ use Rattle.hpc_top.specs.declared.status.Place.TheVariants.{Read, Store, Print}
 use Rattle.hpc_top.specs.Profile.{Product}
 use Rattle.hpc_top.specs.Task.{Task, verdict}
 use Rattle.hpc_top.specs.Words.{Request}
-use Rattle.hpc_top.specs.Outcome.{Call, call_of, Keeps, KeepsPart, Storing, Printing, Finished, ReadFailed, StoreFailed, Outcome, Answers}
+use Rattle.hpc_top.specs.Outcome.{Call, call_of, Keeps, KeepsPart, Storing, Printing, ReadFailed, StoreFailed, Outcome, Answers}
 use Rattle.hpc_top.specs.private.Steps.{Looked, FetchStops, Delivers}
 use Rattle.hpc_top.specs.private.Stop.{StaysOrMemory, answer_of, stopped}
 use Rattle.hpc_top.proofs.Fetching.{told_on}

@@ -1,5 +1,5 @@
 -- What follows from the table of answers, one sentence each, for readers and callers.
-use Rattle.std.specs.Prelude.{◌≡◌, Option, Some, Ok, Err, IsTrue, IsNone, IsOk, IsSomeAnd}
+use Rattle.std.specs.Prelude.{◌≡◌, Option, Some, Err, IsTrue, IsNone, IsOk, IsSomeAnd}
 use Rattle.prof_devices.specs.Outside.{Rose}
 use Rattle.hpc_top.specs.declared.status.InputFault.{InputFault}
 use Rattle.hpc_top.specs.declared.status.Status.{Status}

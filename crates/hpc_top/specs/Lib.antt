@@ -1,5 +1,5 @@
 pub mod Words
-pub mod Symbols
+pub mod Scopes
 pub mod Samples
 pub mod Report
 pub mod Profile

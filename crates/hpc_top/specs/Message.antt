@@ -2,14 +2,17 @@
 use Rattle.std.specs.Prelude.{◌≡◌, ℕ, List, [], ◌++◌, IsTrue, codes, decimal}
 use Rattle.elf_image.specs.declared.fault.ElfRule.{ElfRule}
 use Rattle.elf_image.specs.declared.fault.ElfRule.TheVariants as rules
+use Rattle.dwarf_info.specs.declared.fault.InfoFault.{InfoFault}
+use Rattle.dwarf_info.specs.declared.fault.InfoFault.TheVariants as infos
+use Rattle.dwarf_inline.specs.declared.fault.StructureFault.{StructureFault}
+use Rattle.dwarf_inline.specs.declared.fault.StructureFault.TheVariants as structures
 use Rattle.prof_devices.specs.Outside.{SinkState, Rose, Appends, AppendsPart}
 use Rattle.hpc_top.specs.declared.status.FileKind.{FileKind}
 use Rattle.hpc_top.specs.declared.status.FileKind.TheVariants as kinds
 use Rattle.hpc_top.specs.declared.status.InputFault.{InputFault}
-use Rattle.hpc_top.specs.declared.status.InputFault.TheVariants.{TooLong, Schedule, Program, Frames, Unbuilt}
+use Rattle.hpc_top.specs.declared.status.InputFault.TheVariants.{TooLong, Schedule, Program, Frames}
+use Rattle.hpc_top.specs.declared.status.InputFault.TheVariants.{Entries, Lines, Structure}
 use Rattle.hpc_top.specs.declared.status.InputFault.TheVariants.{TooManySamples, TooManyFrames, TooManyScopes}
-use Rattle.hpc_top.specs.declared.status.Part.{Part}
-use Rattle.hpc_top.specs.declared.status.Part.TheVariants as parts
 use Rattle.hpc_top.specs.declared.status.Place.{Place}
 use Rattle.hpc_top.specs.declared.status.Place.TheVariants.{Read, Store, Print}
 use Rattle.hpc_top.specs.declared.status.Status.{Status}
@@ -30,15 +33,35 @@ rule_text rules.SectionPlace = codes "SectionPlace"
 rule_text rules.CompressedSection = codes "CompressedSection"
 rule_text rules.SymbolPlace = codes "SymbolPlace"
 
-abbrev pub part_text : Part → List ℕ
-part_text parts.Entries = codes "entries"
+abbrev pub info_text : InfoFault → List ℕ
+info_text (infos.BadUnit offset) = codes "BadUnit"
+info_text (infos.SplitUnit offset) = codes "SplitUnit"
+info_text (infos.BadAbbrev offset) = codes "BadAbbrev"
+info_text (infos.UnknownForm offset) = codes "UnknownForm"
+
+abbrev pub info_offset : InfoFault → ℕ
+info_offset (infos.BadUnit offset) = offset
+info_offset (infos.SplitUnit offset) = offset
+info_offset (infos.BadAbbrev offset) = offset
+info_offset (infos.UnknownForm offset) = offset
+
+abbrev pub structure_text : StructureFault → List ℕ
+structure_text (structures.TooDeep offset) = codes "TooDeep"
+structure_text (structures.LinkCycle offset) = codes "LinkCycle"
+
+abbrev pub structure_offset : StructureFault → ℕ
+structure_offset (structures.TooDeep offset) = offset
+structure_offset (structures.LinkCycle offset) = offset
 
 abbrev pub fault_text : InputFault → List ℕ
 fault_text (TooLong file limit) = file_text file ++ codes " longer than " ++ decimal limit ++ codes " bytes"
 fault_text (Schedule line) = codes "schedule line " ++ decimal line
 fault_text (Program fault) = codes "program " ++ rule_text fault.rule ++ codes " at " ++ decimal fault.offset
 fault_text (Frames offset) = codes "frames at " ++ decimal offset
-fault_text (Unbuilt part at) = codes "unbuilt " ++ part_text part ++ codes " at " ++ decimal at
+fault_text (Entries fault) = codes "entries " ++ info_text fault ++ codes " at " ++ decimal (info_offset fault)
+fault_text (Lines offset) = codes "lines at " ++ decimal offset
+fault_text (Structure fault) =
+    codes "structure " ++ structure_text fault ++ codes " at " ++ decimal (structure_offset fault)
 fault_text TooManySamples = codes "more than 1048576 samples"
 fault_text TooManyFrames = codes "more than 4194304 frames"
 fault_text TooManyScopes = codes "more than 8388608 scopes"

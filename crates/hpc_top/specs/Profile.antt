@@ -1,5 +1,5 @@
 -- The main job as a function of its files: what is stored and what is put, or the first refusal.
-use Rattle.std.specs.Prelude.{ℕ, List, length, map, Result, Ok, Err, if◌then◌else◌, ◌==◌, codes}
+use Rattle.std.specs.Prelude.{ℕ, List, map, Result, Ok, Err, codes}
 use Rattle.prof_bytes.specs.Outcome.{◌>>=◌}
 use Rattle.scope_types.specs.CallPaths.{HartPath}
 use Rattle.elf_image.specs.declared.fault.ElfFault.{ElfFault}
@@ -8,7 +8,10 @@ use Rattle.elf_image.specs.Reading.{image_of}
 use Rattle.cfi_table.specs.declared.fault.FrameFault.{FrameFault}
 use Rattle.cfi_table.specs.Frames.{frames_of, Frames as Described}
 use Rattle.cfi_unwind.specs.Path.{unwinding_of, path_of as unwound_by}
-use Rattle.scope_types.specs.Expansion.{FoundAt}
+use Rattle.scope_types.specs.declared.scope.Scope.{Scope}
+use Rattle.scope_types.specs.Raw.{Raw}
+use Rattle.scope_types.specs.Expansion.{call_path}
+use Rattle.scope_find.specs.Found.{ProgramScopes, found_at, naming_of}
 use Rattle.sample_clock.specs.Samples.{Paths}
 use Rattle.rv_run.specs.declared.schedule.ScheduleFault.{ScheduleFault}
 use Rattle.rv_run.specs.Schedule.{Scheduled, schedule_of}
@@ -19,10 +22,9 @@ use Rattle.tree_types.specs.Database.{content_of}
 use Rattle.tree_types.specs.TopDown.{top_down}
 use Rattle.prof_db.specs.Spelling.{spelling}
 use Rattle.hpc_top.specs.declared.status.InputFault.{InputFault}
-use Rattle.hpc_top.specs.declared.status.InputFault.TheVariants.{Schedule, Program, Frames, Unbuilt}
-use Rattle.hpc_top.specs.declared.status.Part.TheVariants as parts
+use Rattle.hpc_top.specs.declared.status.InputFault.TheVariants.{Schedule, Program, Frames}
 use Rattle.hpc_top.specs.Samples.{sample_path, sampled, few_samples, few_scopes}
-use Rattle.hpc_top.specs.Symbols.{found_at, naming_of}
+use Rattle.hpc_top.specs.Scopes.{program_scopes}
 use Rattle.hpc_top.specs.Report.{report_of}
 
 -- what is stored, where the command stores a file, and what is put
@@ -54,11 +56,6 @@ frames_from (Err fault) = Err (Frames fault.offset)
 abbrev pub frame_information : ProgramImage → Result Described InputFault
 frame_information image = frames_from (frames_of (bytes_of_name image.sections (codes ".debug_frame")) image.segments)
 
--- a program with debug information is not taken yet
-abbrev pub no_entries : ProgramImage → Result (Unit {0}) InputFault
-no_entries image =
-    if length (bytes_of_name image.sections (codes ".debug_info")) == 0 then Ok tt else Err (Unbuilt parts.Entries 0)
-
 -- ---- the product
 
 -- of the call paths of the samples, and the machine at the end of the run
@@ -69,11 +66,23 @@ product_from period harts naming paths final = record {
 }
 
 -- of the samples of a run, unless there are too many of them, their frames or their scopes
-unfoldable pub product_of : Paths → ℕ → ℕ → (ℕ → FoundAt) → Naming → Run → Result Product InputFault
-product_of path_of period harts found naming run = do
+unfoldable pub product_of : Paths → ℕ → ℕ → (Raw → List Scope) → Naming → Run → Result Product InputFault
+product_of path_of period harts expand naming run = do
   samples ← few_samples harts (sampled path_of period run)
-  samples ← few_scopes found harts samples
-  Ok (product_from period harts naming (map (sample_path found) samples) run.final)
+  samples ← few_scopes expand harts samples
+  Ok (product_from period harts naming (map (sample_path expand) samples) run.final)
+
+-- of a program whose call frame information and debug information were read
+abbrev pub program_product : Described → ProgramScopes → Scheduled → List ℕ → ℕ → Result Product InputFault
+program_product described scopes schedule input period =
+    product_of (unwound_by (unwinding_of described scopes.image)) period schedule.harts (call_path (found_at scopes))
+    (naming_of scopes) (run_of scopes.image schedule input)
+
+-- of a program whose call frame information was read, or the first refusal of its debug information or of its run
+abbrev pub code_product : ProgramImage → Described → Scheduled → List ℕ → ℕ → Result Product InputFault
+code_product image described schedule input period = do
+  scopes ← program_scopes image
+  program_product described scopes schedule input period
 
 -- the product of a program, an input and a schedule, or the first of their refusals
 unfoldable pub profile_of : List ℕ → List ℕ → List ℕ → ℕ → Result Product InputFault
@@ -81,6 +90,4 @@ profile_of elf input schedule period = do
   schedule ← scheduled schedule
   image ← program elf
   described ← frame_information image
-  _ ← no_entries image
-  product_of (unwound_by (unwinding_of described image)) period schedule.harts (found_at image) (naming_of image)
-      (run_of image schedule input)
+  code_product image described schedule input period

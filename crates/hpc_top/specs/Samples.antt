@@ -1,10 +1,11 @@
 -- The samples of a run as call paths (HPCToolkit's manual, "Call Path Profiling").
-use Rattle.std.specs.Prelude.{ℕ, List, map, length, take, sum_by, Result, Ok, Err, if◌then◌else◌, nat_lt}
+use Rattle.std.specs.Prelude.{ℕ, List, map, length, take, Result, Ok, Err, if◌then◌else◌, nat_lt}
 use Rattle.prof_bytes.specs.Outcome.{◌>>=◌}
 use Rattle.scope_types.specs.declared.frame.Counted.{Counted}
+use Rattle.scope_types.specs.declared.scope.Scope.{Scope}
 use Rattle.scope_types.specs.CallPaths.{HartPath}
+use Rattle.scope_types.specs.Raw.{Raw}
 use Rattle.scope_types.specs.Distinct.{HartRaw, distinct, frames_in, scopes_in}
-use Rattle.scope_types.specs.Expansion.{FoundAt, call_path}
 use Rattle.scope_types.specs.Limits.{most_samples, most_path_frames, most_path_scopes}
 use Rattle.sample_clock.specs.declared.clock.Sample.{Sample}
 use Rattle.sample_clock.specs.Samples.{Paths, samples}
@@ -14,9 +15,9 @@ use Rattle.hpc_top.specs.declared.status.InputFault.TheVariants.{TooManySamples,
 
 -- ---- call paths
 
--- the call path of a sample, by what is found at each address
-abbrev pub sample_path : (ℕ → FoundAt) → HartRaw → HartPath
-sample_path found s = record { hart = s.hart; path = call_path found s.raw }
+-- the call path of a sample, as raw paths are expanded
+abbrev pub sample_path : (Raw → List Scope) → HartRaw → HartPath
+sample_path expand s = record { hart = s.hart; path = expand s.raw }
 
 -- ---- the samples that are taken
 
@@ -33,9 +34,9 @@ few_samples harts all = do
   within_samples all
 
 -- the third limit: too many scopes of the call paths of distinct raw paths
-abbrev pub few_scopes : (ℕ → FoundAt) → ℕ → List HartRaw → Result (List HartRaw) InputFault
-few_scopes found harts all =
-    if nat_lt most_path_scopes (scopes_in (call_path found) (distinct harts all)) then Err TooManyScopes else Ok all
+abbrev pub few_scopes : (Raw → List Scope) → ℕ → List HartRaw → Result (List HartRaw) InputFault
+few_scopes expand harts all =
+    if nat_lt most_path_scopes (scopes_in expand (distinct harts all)) then Err TooManyScopes else Ok all
 
 -- a sample as its hart and its raw path
 abbrev pub hart_raw : Sample → HartRaw

@@ -2,9 +2,8 @@
 //!
 //! It promises that what `profile` stores and prints is byte for byte what the definitions make of the
 //! files, that each refusal comes exactly where they have it, and what stands after every other
-//! answer. The module `expand` is a layer on its way to a crate of its own.
-//! Below stand the crates for files and streams, programs, the machine and its samples, scopes and the
-//! tree.
+//! answer. Below stand the crates for files and streams, programs and their debug information, the machine
+//! and its samples, scopes and the tree.
 #![tactic(auto)]
 
 mod call;
@@ -15,6 +14,7 @@ mod message;
 mod names;
 mod report;
 mod request;
+mod scopes;
 mod status;
 mod steps;
 mod words;
@@ -22,4 +22,4 @@ mod words;
 pub use call::hpc_main;
 pub use main_job::{Job, profile};
 pub use message::out_of_memory;
-pub use status::{FileKind, InputFault, Made, Part, Place, Status};
+pub use status::{FileKind, InputFault, Made, Place, Status};

@@ -2,6 +2,8 @@
 ghost use Rattle.std.specs.Prelude.{◌≡◌, ◌≤◌, ◌^◌, ◌<◌, All, length, sum_by, Ok, IfOk};
 ghost use Rattle.prof_bytes.specs.Outcome.{Gives};
 ghost use Rattle.scope_types.specs.CallPaths.{each_path};
+ghost use Rattle.scope_types.specs.Expansion.{call_path};
+ghost use Rattle.scope_find.specs.Found.{found_at, naming_of};
 ghost use Rattle.rv_run.specs.Run.{run_of};
 ghost use Rattle.rv_run.specs.State.{first_state};
 ghost use Rattle.rv_run.specs.Progress.{to_come};
@@ -13,22 +15,26 @@ ghost use Rattle.prof_db.specs.Spelling.{spelling};
 ghost use Rattle.hpc_top.specs.Made.{view};
 ghost use Rattle.scope_types.specs.Limits.{most_path_scopes};
 ghost use Rattle.hpc_top.specs.private.Collecting.{Expands};
-ghost use Rattle.hpc_top.specs.Symbols.{found_at, naming_of};
-ghost use Rattle.hpc_top.specs.Profile.{frame_information, no_entries, program, scheduled};
-ghost use Rattle.hpc_top.specs.Profile.{product_from, product_of, profile_of};
+ghost use Rattle.hpc_top.specs.Profile.{frame_information, program, scheduled};
+ghost use Rattle.hpc_top.specs.Profile.{product_from, product_of, program_product, code_product, profile_of};
 
 use crate::collect::collect;
 use crate::expand::entries_of;
 use crate::names::names_of;
 use crate::report::report;
-use crate::status::{InputFault, Made, Part};
+use crate::scopes::{info_of, lines_of, structure_of};
+use crate::status::{InputFault, Made};
 use cfi_table::{FrameTable, read_frames};
 use cfi_unwind::Unwinder;
+use dwarf_inline::Structure;
+use dwarf_line::LineTable;
 use elf_image::{Image, read_image};
 use prof_bytes::{Fail, Listed, Memory, Text};
 use prof_db::write_db;
 use rv_run::{Machine, Schedule, read_schedule};
 use sample_clock::Samples;
+use scope_expand::Expander;
+use scope_find::Finder;
 use scope_types::{Entry, ScopePath};
 use std::alloc::Global;
 use std::thread::Threads;
@@ -88,19 +94,6 @@ fn frames_of(alloc: Global, image: &Image<'_>) -> Result<FrameTable, Fail<InputF
     }
 }
 
-/// Refuses a program with debug information.
-fn check_no_entries(image: &Image<'_>) -> Result<(), Fail<InputFault>>
-    ensures { Gives (λ _. tt) result (no_entries image.now) }
-{
-    if image.section(b".debug_info").is_empty() {
-        return Ok(());
-    }
-    Err(Fail::Fault(InputFault::Unbuilt {
-        part: Part::Entries,
-        at: 0,
-    }))
-}
-
 /// The nodes of the paths, which are no more than the scopes of these.
 fn tree_of(alloc: Global, entries: &[Entry]) -> Result<Listed<ScopePath>, Memory>
     requires { sum_by (λ e. length e.path) entries.now ≤ most_path_scopes }
@@ -157,7 +150,7 @@ fn made_of(
     alloc: Global,
     period: u32,
     harts: u32,
-    image: &Image<'_>,
+    finder: &Finder<'_>,
     entries: &[Entry],
     machine: &Machine<'_>,
 ) -> Result<Made, Memory>
@@ -166,11 +159,11 @@ fn made_of(
     requires period { 0 < period }
     requires harts { harts ≡ length machine.now.state.harts }
     ensures { IfOk result (λ made.
-        view made ≡ product_from period harts (naming_of image.now) (each_path entries.now) machine.now.state) }
+        view made ≡ product_from period harts (naming_of finder.now) (each_path entries.now) machine.now.state) }
 {
     let tree = tree_of(alloc, entries)?;
     let tree = tree.items();
-    let names = names_of(alloc, image, tree, entries)?;
+    let names = names_of(alloc, finder, tree, entries)?;
     let report = report_named(alloc, period, harts, &names, entries, tree, machine)?;
     let database = database_named(alloc, period, harts, names, entries, tree)?;
     Ok(Made { database, report })
@@ -181,17 +174,18 @@ fn made_of(
 fn call_paths(
     alloc: Global,
     harts: u32,
-    image: &Image<'_>,
+    finder: &Finder<'_>,
     unwinder: &Unwinder<'_>,
     samples: &mut Samples<'_>,
 ) -> Result<Listed<Entry>, Fail<InputFault>>
     requires start { samples.old.met ≡ 0 }
     requires instants { All (λ i. i.moment.hart < harts) (to_come samples.old.machine).instants }
-    ensures { Expands (unwound_by unwinder.now) (found_at image.now) harts result samples.old samples.new }
+    ensures { Expands (unwound_by unwinder.now) (call_path (found_at finder.now)) harts result samples.old samples.new }
 {
     samples_are_counted();
     let ccts = collect(alloc, harts, samples, unwinder)?;
-    entries_of(alloc, image, &ccts)
+    let expander = Expander::of(alloc, finder);
+    entries_of(alloc, &expander, &ccts)
 }
 
 /// What is stored and printed of the samples that are to come, unless there are too many samples,
@@ -200,7 +194,7 @@ fn profile_samples(
     alloc: Global,
     period: u32,
     harts: u32,
-    image: &Image<'_>,
+    finder: &Finder<'_>,
     unwinder: &Unwinder<'_>,
     samples: &mut Samples<'_>,
 ) -> Result<Made, Fail<InputFault>>
@@ -210,12 +204,12 @@ fn profile_samples(
     requires instants { All (λ i. i.moment.hart < harts) (to_come samples.old.machine).instants }
     requires start { samples.old.met ≡ 0 }
     ensures { Gives view result (product_of (unwound_by unwinder.now) period harts
-        (found_at image.now) (naming_of image.now) (to_come samples.old.machine)) }
+        (call_path (found_at finder.now)) (naming_of finder.now) (to_come samples.old.machine)) }
 {
     counts_decide();
-    let entries = call_paths(alloc, harts, image, unwinder, samples)?;
+    let entries = call_paths(alloc, harts, finder, unwinder, samples)?;
     let machine = samples.machine();
-    Ok(made_of(alloc, period, harts, image, entries.items(), machine)?)
+    Ok(made_of(alloc, period, harts, finder, entries.items(), machine)?)
 }
 
 /// The samples of a program's run under a schedule, from its start.
@@ -248,20 +242,62 @@ fn run_job(
     alloc: Global,
     job: &Job<'_>,
     image: &Image<'_>,
+    finder: &Finder<'_>,
     unwinder: &Unwinder<'_>,
     schedule: Schedule,
 ) -> Result<Made, Fail<InputFault>>
     requires period { 0 < job.now.period }
     ensures { Gives view result (product_of (unwound_by unwinder.now) job.now.period schedule.harts
-        (found_at image.now) (naming_of image.now) (run_of image.now schedule job.now.input.now)) }
+        (call_path (found_at finder.now)) (naming_of finder.now) (run_of image.now schedule job.now.input.now)) }
 {
     let harts = schedule.harts();
     let mut samples = samples_of(alloc, job, image, schedule)?;
-    profile_samples(alloc, job.period, harts, image, unwinder, &mut samples)
+    profile_samples(alloc, job.period, harts, finder, unwinder, &mut samples)
+}
+
+/// What is stored and printed of a program whose call frame information and debug information were read, or the
+/// first refusal of its run.
+fn profile_scopes(
+    alloc: Global,
+    job: &Job<'_>,
+    schedule: Schedule,
+    image: &Image<'_>,
+    table: &FrameTable,
+    lines: &LineTable<'_>,
+    structure: &Structure<'_>,
+) -> Result<Made, Fail<InputFault>>
+    requires { 0 < job.now.period }
+    ensures { Gives view result (program_product table.now
+        (record { structure = structure.now; lines = lines.now; image = image.now })
+        schedule job.now.input.now job.now.period) }
+{
+    let finder = Finder::of(alloc, structure, lines, image)?;
+    let unwinder = Unwinder::of(alloc, table, image);
+    run_job(alloc, job, image, &finder, &unwinder, schedule)
+}
+
+/// What is stored and printed of a program whose call frame information was read, or the first refusal of its
+/// debug information or of its run.
+#[tactic(auto, unfolding(crate::specs::Scopes::program_scopes))]
+fn profile_code(
+    alloc: Global,
+    job: &Job<'_>,
+    schedule: Schedule,
+    image: &Image<'_>,
+    table: &FrameTable,
+) -> Result<Made, Fail<InputFault>>
+    requires { 0 < job.now.period }
+    ensures { Gives view result (code_product image.now table.now schedule job.now.input.now job.now.period) }
+{
+    let info = info_of(alloc, image)?;
+    let lines = lines_of(alloc, image, info.units())?;
+    let structure = structure_of(alloc, image, &info, &lines)?;
+    drop(info);
+    profile_scopes(alloc, job, schedule, image, table, &lines, &structure)
 }
 
 /// What is stored and printed of a job whose schedule and program were read, or the first refusal of
-/// its call frame information or of its run.
+/// its call frame information, its debug information or its run.
 #[tactic(auto, unfolding(crate::specs::Profile::profile_of))]
 fn profile_program(
     alloc: Global,
@@ -275,9 +311,7 @@ fn profile_program(
     ensures { Gives view result (profile_of job.now.elf.now job.now.input.now job.now.schedule.now job.now.period) }
 {
     let table = frames_of(alloc, image)?;
-    check_no_entries(image)?;
-    let unwinder = Unwinder::of(alloc, &table, image);
-    run_job(alloc, job, image, &unwinder, schedule)
+    profile_code(alloc, job, schedule, image, &table)
 }
 
 /// What is stored and printed of a job, or the first refusal of its files.

@@ -1,9 +1,12 @@
 ghost use Rattle.std.specs.Prelude.{◌≡◌, Some, IfOk, string_bytes};
-ghost use Rattle.hpc_top.specs.Message.{fault_text, file_text, part_text, place_text, rule_text};
+ghost use Rattle.hpc_top.specs.Message.{fault_text, file_text, info_offset, info_text, place_text, rule_text};
+ghost use Rattle.hpc_top.specs.Message.{structure_offset, structure_text};
 ghost use Rattle.hpc_top.specs.Message.{line_of, PutsLine, Says};
 ghost use Rattle.hpc_top.specs.private.Stop.{StaysOrMemory};
 
-use crate::status::{FileKind, InputFault, Part, Place, Status};
+use crate::status::{FileKind, InputFault, Place, Status};
+use dwarf_info::InfoFault;
+use dwarf_inline::StructureFault;
 use elf_image::ElfRule;
 use prof_bytes::Memory;
 use prof_devices::{Put, Sink};
@@ -18,16 +21,6 @@ impl fmt::Display for FileKind {
             FileKind::Program => write!(f, "program"),
             FileKind::Input => write!(f, "input"),
             FileKind::Schedule => write!(f, "schedule"),
-        }
-    }
-}
-
-impl fmt::Display for Part {
-    ghost output = { λ part. Some (part_text part) };
-
-    fn fmt<W: fmt::Write>(&self, f: &mut fmt::Formatter<W>) -> fmt::Result {
-        match self {
-            Part::Entries => write!(f, "entries"),
         }
     }
 }
@@ -48,6 +41,47 @@ fn rule_name(rule: ElfRule) -> &'static str
     }
 }
 
+/// The rule of debug information that is broken, as it is printed.
+fn info_name(fault: InfoFault) -> &'static str
+    ensures { result.now ≡ info_text fault }
+{
+    match fault {
+        InfoFault::BadUnit { .. } => "BadUnit",
+        InfoFault::SplitUnit { .. } => "SplitUnit",
+        InfoFault::BadAbbrev { .. } => "BadAbbrev",
+        InfoFault::UnknownForm { .. } => "UnknownForm",
+    }
+}
+
+fn info_offset(fault: InfoFault) -> u32
+    ensures { result ≡ info_offset fault }
+{
+    match fault {
+        InfoFault::BadUnit { offset }
+        | InfoFault::SplitUnit { offset }
+        | InfoFault::BadAbbrev { offset }
+        | InfoFault::UnknownForm { offset } => offset,
+    }
+}
+
+/// The limit of the structure that is passed, as it is printed.
+fn structure_name(fault: StructureFault) -> &'static str
+    ensures { result.now ≡ structure_text fault }
+{
+    match fault {
+        StructureFault::TooDeep { .. } => "TooDeep",
+        StructureFault::LinkCycle { .. } => "LinkCycle",
+    }
+}
+
+fn structure_offset(fault: StructureFault) -> u32
+    ensures { result ≡ structure_offset fault }
+{
+    match fault {
+        StructureFault::TooDeep { offset } | StructureFault::LinkCycle { offset } => offset,
+    }
+}
+
 impl fmt::Display for InputFault {
     ghost output = { λ fault. Some (fault_text fault) };
 
@@ -61,7 +95,17 @@ impl fmt::Display for InputFault {
                 write!(f, "program {rule} at {offset}")
             }
             InputFault::Frames { offset } => write!(f, "frames at {offset}"),
-            InputFault::Unbuilt { part, at } => write!(f, "unbuilt {part} at {at}"),
+            InputFault::Entries(fault) => {
+                let rule = info_name(*fault);
+                let offset = info_offset(*fault);
+                write!(f, "entries {rule} at {offset}")
+            }
+            InputFault::Lines { offset } => write!(f, "lines at {offset}"),
+            InputFault::Structure(fault) => {
+                let rule = structure_name(*fault);
+                let offset = structure_offset(*fault);
+                write!(f, "structure {rule} at {offset}")
+            }
             InputFault::TooManySamples => write!(f, "more than 1048576 samples"),
             InputFault::TooManyFrames => write!(f, "more than 4194304 frames"),
             InputFault::TooManyScopes => write!(f, "more than 8388608 scopes"),

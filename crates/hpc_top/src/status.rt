@@ -2,6 +2,8 @@ ghost use Rattle.std.specs.Prelude.{◌≡◌};
 ghost use Rattle.hpc_top.specs.private.Stop.{IsStopOf, answer_of};
 ghost use Rattle.hpc_top.specs.declared.status.Stop.TheVariants as stops;
 
+use dwarf_info::InfoFault;
+use dwarf_inline::StructureFault;
 use elf_image::ElfFault;
 use prof_bytes::{Fail, Memory, Text};
 
@@ -11,12 +13,6 @@ pub enum FileKind {
     Program,
     Input,
     Schedule,
-}
-
-/// The parts of what is to be built.
-#[derive(Clone, Copy, Debug, PartialEq, Eq)]
-pub enum Part {
-    Entries,
 }
 
 /// What is refused in the files, and where.
@@ -30,8 +26,12 @@ pub enum InputFault {
     Program(ElfFault),
     /// The call frame information breaks a rule, at an offset in `.debug_frame`.
     Frames { offset: u32 },
-    /// The files need a part that is not built yet, at a place in its section.
-    Unbuilt { part: Part, at: u64 },
+    /// The units or the entries break a rule, at an offset in `.debug_info`.
+    Entries(InfoFault),
+    /// A line table breaks a rule, at an offset in `.debug_line`.
+    Lines { offset: u32 },
+    /// An entry is nested or linked too deep, at an offset in `.debug_info`.
+    Structure(StructureFault),
     /// The run has more than 1,048,576 samples.
     TooManySamples,
     /// The distinct call paths of the samples have more than 4,194,304 frames together.

@@ -6,11 +6,15 @@
 #![tactic(auto)]
 
 #[cfg(test)]
+mod attribution;
+#[cfg(test)]
 mod call_paths;
 #[cfg(test)]
 mod calls;
 #[cfg(test)]
 mod databases;
+#[cfg(test)]
+mod debug_programs;
 #[cfg(test)]
 mod devices;
 #[cfg(test)]

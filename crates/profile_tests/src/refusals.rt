@@ -1,55 +1,15 @@
 //! What is refused in the words and in the files, by its place, with the line on standard error.
 use crate::call_paths::{RECURSION, changed};
+use crate::debug_programs::{WITH_ENTRIES, WITH_INLINES};
 use crate::programs::{ADDING, answer, files, program};
+use dwarf_info::InfoFault;
+use dwarf_inline::StructureFault;
 use elf_image::{ElfFault, ElfRule};
-use hpc_top::{InputFault, Part, Status};
+use hpc_top::{InputFault, Status};
 use prof_devices::{MemShelf, MemSink};
 use std::alloc::Global;
 use std::test::Fail;
 use std::thread::Threads;
-
-/// A program with debug information: a unit and its line table.
-const WITH_ENTRIES: &[u8] = b"\
-\x7fELF\x01\x01\x01\0\0\0\0\0\0\0\0\0\x02\0\xf3\0\x01\0\0\0\0\0\x01\04\0\0\0\\\x01\0\0\0\0\0\
-\04\0 \0\x01\0(\0\x07\0\x06\0\x01\0\0\0T\0\0\0\0\0\x01\0\0\0\x01\0T\0\0\0T\0\0\0\x05\0\0\0\
-\x04\0\0\0\x13\x05\x15\0\x13\x05\x15\0\x13\x05\x15\0\x13\x05\x15\0\x13\x05\x15\0\x13\x05\x15\
-\0\x13\x05\x15\0\x13\x05\x15\0\x13\x05\x15\0\x13\x05\x15\0\x13\x05\x15\0\x13\x05\x15\0\x13\
-\x05\x15\0\x13\x05\x15\0\x13\x05\x15\0\x13\x05\x15\0\x13\x05\x15\0\x13\x05\x15\0\x13\x05\x15\
-\0\x93\x08\xd0\x05s\0\0\0\x0d\0\0\0\x05\0\x01\x04\0\0\0\0\x01\0\0\0\0\x01\x11\0\x10\x17\0\0\
-\0E\0\0\0\x05\0\x04\0$\0\0\0\x01\x01\x01\xfb\x0e\x0d\0\x01\x01\x01\x01\0\0\0\x01\0\0\x01\x01\
-\x01\x08\x01/s\0\x02\x01\x08\x02\x0b\x01a.c\0\0\x04\0\0\x05\x02\0\0\x01\0\x03\x02\x01\x03\
-\x04\x01\x02\x08\x03\x01\x01\x02\x10\0\x01\x01\0\0\0\0\0\0\0\0\0\0\0\0\0\0\0\0\0\0.debug_inf\
-o\0.debug_abbrev\0.debug_line\0.symtab\0.strtab\0.shstrtab\0\0\0\0\0\0\0\0\0\0\0\0\0\0\0\0\0\
-\0\0\0\0\0\0\0\0\0\0\0\0\0\0\0\0\0\0\0\0\0\0\0\0\x01\0\0\0\x01\0\0\0\0\0\0\0\0\0\0\0\xa8\0\0\
-\0\x11\0\0\0\0\0\0\0\0\0\0\0\0\0\0\0\0\0\0\0\x0d\0\0\0\x01\0\0\0\0\0\0\0\0\0\0\0\xb9\0\0\0\
-\x08\0\0\0\0\0\0\0\0\0\0\0\0\0\0\0\0\0\0\0\x1b\0\0\0\x01\0\0\0\0\0\0\0\0\0\0\0\xc1\0\0\0I\0\
-\0\0\0\0\0\0\0\0\0\0\0\0\0\0\0\0\0\0'\0\0\0\x02\0\0\0\0\0\0\0\0\0\0\0\x0a\x01\0\0\x10\0\0\0\
-\x05\0\0\0\x01\0\0\0\0\0\0\0\x10\0\0\0/\0\0\0\x03\0\0\0\0\0\0\0\0\0\0\0\x1a\x01\0\0\x01\0\0\
-\0\0\0\0\0\0\0\0\0\0\0\0\0\0\0\0\07\0\0\0\x03\0\0\0\0\0\0\0\0\0\0\0\x1b\x01\0\0A\0\0\0\0\0\0\
-\0\0\0\0\0\0\0\0\0\0\0\0\0";
-
-/// The same code with inlined procedures, of two levels and in two pieces.
-const WITH_INLINES: &[u8] = b"\
-\x7fELF\x01\x01\x01\0\0\0\0\0\0\0\0\0\x02\0\xf3\0\x01\0\0\0\0\0\x01\04\0\0\0\xf0\x01\0\0\0\0\0\04\0 \
-\0\x01\0(\0\x08\0\x07\0\x01\0\0\0T\0\0\0\0\0\x01\0\0\0\x01\0T\0\0\0T\0\0\0\x05\0\0\0\x04\0\0\0\x13\
-\x05\x15\0\x13\x05\x15\0\x13\x05\x15\0\x13\x05\x15\0\x13\x05\x15\0\x13\x05\x15\0\x13\x05\x15\0\x13\
-\x05\x15\0\x13\x05\x15\0\x13\x05\x15\0\x13\x05\x15\0\x13\x05\x15\0\x13\x05\x15\0\x13\x05\x15\0\x13\
-\x05\x15\0\x13\x05\x15\0\x13\x05\x15\0\x13\x05\x15\0\x13\x05\x15\0\x93\x08\xd0\x05s\0\0\0H\0\0\0\
-\x05\0\x01\x04\0\0\0\0\x01\0\0\0\0\x02inner\0\x01\x02outer\0\x01\x03main\0\0\0\x01\0T\0\0\0\x04\x19\
-\0\0\0\x0c\0\0\0\0\x03\x05\x11\0\0\0$\0\x01\0\x08\0\0\0\0\x0b\0\0\0\x01\x11\x01\x10\x17\0\0\x02.\0\
-\x03\x08 \x0b\0\0\x03.\x01\x03\x08\x11\x01\x12\x06\0\0\x04\x1d\x011\x13U\x17X\x0bY\x0b\0\0\x05\x1d\
-\01\x13\x11\x01\x12\x06X\x0bY\x0b\0\0\0E\0\0\0\x05\0\x04\0$\0\0\0\x01\x01\x01\xfb\x0e\x0d\0\x01\x01\
-\x01\x01\0\0\0\x01\0\0\x01\x01\x01\x08\x01/s\0\x02\x01\x08\x02\x0b\x01a.c\0\0\x04\0\0\x05\x02\0\0\
-\x01\0\x03\x02\x01\x03\x04\x01\x02\x08\x03\x01\x01\x02\x10\0\x01\x01\x15\0\0\0\x05\0\x04\0\0\0\0\0\
-\x07\x08\0\x01\0\x08\x07 \0\x01\0\x10\0\0\0\0\0\0\0\0\0\0\0\0\0\0\0\0\0\0\0.debug_info\0.debug_abbr\
-ev\0.debug_line\0.debug_rnglists\0.symtab\0.strtab\0.shstrtab\0\0\0\0\0\0\0\0\0\0\0\0\0\0\0\0\0\0\0\
-\0\0\0\0\0\0\0\0\0\0\0\0\0\0\0\0\0\0\0\0\0\0\x01\0\0\0\x01\0\0\0\0\0\0\0\0\0\0\0\xa8\0\0\0L\0\0\0\0\
-\0\0\0\0\0\0\0\0\0\0\0\0\0\0\0\x0d\0\0\0\x01\0\0\0\0\0\0\0\0\0\0\0\xf4\0\0\08\0\0\0\0\0\0\0\0\0\0\0\
-\0\0\0\0\0\0\0\0\x1b\0\0\0\x01\0\0\0\0\0\0\0\0\0\0\0,\x01\0\0I\0\0\0\0\0\0\0\0\0\0\0\0\0\0\0\0\0\0\
-\0'\0\0\0\x01\0\0\0\0\0\0\0\0\0\0\0u\x01\0\0\x19\0\0\0\0\0\0\0\0\0\0\0\0\0\0\0\0\0\0\07\0\0\0\x02\0\
-\0\0\0\0\0\0\0\0\0\0\x8e\x01\0\0\x10\0\0\0\x06\0\0\0\x01\0\0\0\0\0\0\0\x10\0\0\0?\0\0\0\x03\0\0\0\0\
-\0\0\0\0\0\0\0\x9e\x01\0\0\x01\0\0\0\0\0\0\0\0\0\0\0\0\0\0\0\0\0\0\0G\0\0\0\x03\0\0\0\0\0\0\0\0\0\0\
-\0\x9f\x01\0\0Q\0\0\0\0\0\0\0\0\0\0\0\0\0\0\0\0\0\0\0";
 
 /// A call that is refused: the words, what differs in the files, the answer and its line.
 struct Case {
@@ -82,7 +42,7 @@ const USAGE: &str = "\
 usage: hpc profile ELF INPUT SCHEDULE PERIOD WORKERS DB | run ELF INPUT SCHEDULE PERIOD MEASURE \
 | prof ELF MEASURE WORKERS DB | struct ELF | view DB top|callers|flat | drill NUMBER WORKERS\n";
 
-static REFUSALS: [Case; 21] = [
+static REFUSALS: [Case; 25] = [
     Case {
         name: "no words",
         words: "",
@@ -204,25 +164,57 @@ static REFUSALS: [Case; 21] = [
         ..CASE
     },
     Case {
-        name: "debug information",
-        file: WITH_ENTRIES,
-        cut: 628,
-        status: Status::Input(InputFault::Unbuilt {
-            part: Part::Entries,
-            at: 0,
-        }),
-        line: "hpc: unbuilt entries at 0\n",
+        name: "a unit that ends before its length",
+        file: WITH_INLINES,
+        cut: 816,
+        changes: &[(556, 75)],
+        status: Status::Input(InputFault::Entries(InfoFault::BadUnit { offset: 0 })),
+        line: "hpc: entries BadUnit at 0\n",
         ..CASE
     },
     Case {
-        name: "debug information with inlined procedures",
+        name: "a skeleton unit",
+        file: WITH_ENTRIES,
+        cut: 628,
+        changes: &[(174, 4)],
+        status: Status::Input(InputFault::Entries(InfoFault::SplitUnit { offset: 0 })),
+        line: "hpc: entries SplitUnit at 0\n",
+        ..CASE
+    },
+    Case {
+        name: "a form that there is not",
+        file: WITH_ENTRIES,
+        cut: 628,
+        changes: &[(189, 2)],
+        status: Status::Input(InputFault::Entries(InfoFault::UnknownForm { offset: 12 })),
+        line: "hpc: entries UnknownForm at 12\n",
+        ..CASE
+    },
+    Case {
+        name: "an entry whose code is not declared",
+        file: WITH_ENTRIES,
+        cut: 628,
+        changes: &[(185, 2)],
+        status: Status::Input(InputFault::Entries(InfoFault::BadAbbrev { offset: 12 })),
+        line: "hpc: entries BadAbbrev at 12\n",
+        ..CASE
+    },
+    Case {
+        name: "a line table with two operations an instruction",
+        file: WITH_ENTRIES,
+        cut: 628,
+        changes: &[(206, 2)],
+        status: Status::Input(InputFault::Lines { offset: 0 }),
+        line: "hpc: lines at 0\n",
+        ..CASE
+    },
+    Case {
+        name: "an entry that links to itself",
         file: WITH_INLINES,
         cut: 816,
-        status: Status::Input(InputFault::Unbuilt {
-            part: Part::Entries,
-            at: 0,
-        }),
-        line: "hpc: unbuilt entries at 0\n",
+        changes: &[(216, 0x2f)],
+        status: Status::Input(InputFault::Structure(StructureFault::LinkCycle { offset: 47 })),
+        line: "hpc: structure LinkCycle at 47\n",
         ..CASE
     },
     Case {

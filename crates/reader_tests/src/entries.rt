@@ -111,7 +111,8 @@ fn other_entry(
     tags: &[(u64, usize)],
     rows: &[Row],
 ) -> Option<u32>
-    requires { length parts.info.now < 2 ^ 31 }
+    requires info { length parts.info.now < 2 ^ 31 }
+    requires lists { length parts.rnglists.now < 2 ^ 31 }
 {
     match read_info(alloc, parts) {
         Ok(info) if are_counted(&info, tags) => {
@@ -150,6 +151,9 @@ fn other_worked_entry(alloc: Global) -> Result<Option<u32>, Memory> {
     }
     let abbrev = part(alloc, worked::sections(), b'A')?;
     let rnglists = part(alloc, worked::sections(), b'R')?;
+    if rnglists.len() > SIZE_LIMIT {
+        return Ok(Some(u32::MAX));
+    }
     let parts = DebugParts {
         info: &info,
         abbrev: &abbrev,
@@ -219,6 +223,9 @@ fn case_holds(alloc: Global, case: &Case) -> Result<bool, Memory> {
     let str_offsets = part(alloc, case.bytes, b'O')?;
     let addr = part(alloc, case.bytes, b'D')?;
     let rnglists = part(alloc, case.bytes, b'R')?;
+    if rnglists.len() > SIZE_LIMIT {
+        return Ok(false);
+    }
     let parts = DebugParts {
         info: &info,
         abbrev: &abbrev,

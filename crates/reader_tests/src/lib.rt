@@ -12,6 +12,8 @@ mod elf;
 #[cfg(test)]
 mod entries;
 #[cfg(test)]
+mod expand;
+#[cfg(test)]
 mod forms;
 #[cfg(test)]
 mod frames;
@@ -21,5 +23,9 @@ mod lines;
 mod ranges;
 #[cfg(test)]
 mod rows;
+#[cfg(test)]
+mod scopes;
+#[cfg(test)]
+mod structure;
 #[cfg(test)]
 mod unwinding;

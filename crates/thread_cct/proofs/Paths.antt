@@ -116,7 +116,30 @@ some_known r (c ∷ cs) there all =
       | false ↦ λ h. All-cons HasSome c (count_one r cs) first (some_known r cs h rest)
     ] there
 
--- so there are no more paths than frames
+-- and samples
+abbrev pub HasCount : Counted → Type 0
+HasCount c = 0 < c.count
+
+pub some_counts : (r : Raw) (cs : List Counted) → All HasCount cs → All HasCount (count_one r cs)
+some_counts r [] all = All-cons HasCount (record { path = r; count = 1 }) [] (omega arith) all
+some_counts r (c ∷ cs) all =
+    let first = All-head HasCount c cs all in
+    let rest = All-tail HasCount c cs all in
+    elim (same_raw r c.path) as (λ b. All HasCount (cond b (once_more c ∷ cs) (c ∷ count_one r cs))) [
+      | true ↦ All-cons HasCount (once_more c) cs (omega arith) rest
+      | false ↦ All-cons HasCount c (count_one r cs) first (some_counts r cs rest)
+    ]
+
+-- so there are no more paths than samples
+pub paths_below : (cs : List Counted) → All HasCount cs → length cs ≤ sum_by count_of cs
+paths_below [] all = omega arith
+paths_below (c ∷ cs) all =
+    let parts = sum_by-cons count_of c cs in
+    let first = All-head HasCount c cs all in
+    let rest = paths_below cs (All-tail HasCount c cs all) in
+    omega (arith, parts, first, rest)
+
+-- and no more than frames
 pub paths_few : (cs : List Counted) → All HasSome cs → length cs ≤ sum_by frames_of cs
 paths_few [] all = omega arith
 paths_few (c ∷ cs) all =

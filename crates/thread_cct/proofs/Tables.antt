@@ -11,11 +11,11 @@ use Rattle.std.proofs.lemmas.List.Sums.{sum_by-cons, sum_by-set, get_or-le-sum_b
 use Rattle.scope_types.specs.declared.frame.Counted.{Counted}
 use Rattle.scope_types.specs.Raw.{Raw}
 use Rattle.scope_types.specs.Distinct.{HartRaw, raws_of, counted_paths, distinct, frames_in, samples_in}
-use Rattle.scope_types.specs.Limits.{most_path_frames}
+use Rattle.scope_types.specs.Limits.{most_path_frames, most_samples}
 use Rattle.thread_cct.specs.declared.ccts.TooManyFrames.{TooManyFrames}
 use Rattle.thread_cct.specs.Adding.{has_path, count_one, of_hart, count_sample, too_many, with_sample, few_frames}
 use Rattle.thread_cct.specs.private.Fields.{FramesFit}
-use Rattle.thread_cct.proofs.Paths.{count_of, frames_of, HasSome, paths_more, samples_one, frames_one, some_frames, some_known, paths_few}
+use Rattle.thread_cct.proofs.Paths.{count_of, frames_of, HasSome, HasCount, some_counts, paths_more, samples_one, frames_one, some_frames, some_known, paths_few}
 
 abbrev pub Tables : Type 0
 Tables = List (List Counted)
@@ -154,8 +154,8 @@ stay tables s own one some = All-set (All HasSome) tables s.hart (count_one s.ra
 own_some : (tables : Tables) (s : HartRaw) → s.hart < length tables → All (All HasSome) tables → All HasSome (of_hart tables s.hart)
 own_some tables s own some = All-get_or (All HasSome) tables s.hart [] own some
 
-within_one : (tables : Tables) (s : HartRaw) (frames more : ℕ) → s.hart < length tables → FramesFit tables frames → frames_new tables s ≡ more → frames + more ≤ most_path_frames → All HasSome (count_one s.raw (of_hart tables s.hart)) → FramesFit (count_sample tables s) (frames + more)
-within_one tables s frames more own within adds fits one =
+within_one : (tables : Tables) (s : HartRaw) (frames more : ℕ) → s.hart < length tables → FramesFit tables frames → samples_in tables < most_samples → frames_new tables s ≡ more → frames + more ≤ most_path_frames → All HasSome (count_one s.raw (of_hart tables s.hart)) → FramesFit (count_sample tables s) (frames + more)
+within_one tables s frames more own within room adds fits one =
     let total = frames_more tables s own in
     let old = within.is in
     let few = within.harts in
@@ -165,20 +165,23 @@ within_one tables s frames more own within adds fits one =
       is = omega (arith, total, adds, old);
       few = fits;
       some = stay tables s own one within.some;
+      samples = (let all = samples_more tables (count_sample tables s) s own refl in omega (arith, all, room));
+      counted = All-set (All HasCount) tables s.hart (count_one s.raw (of_hart tables s.hart))
+          (some_counts s.raw (of_hart tables s.hart) (All-get_or (All HasCount) tables s.hart [] own within.counted)) within.counted;
     }
 
-pub within_known : (tables new : Tables) (s : HartRaw) (frames : ℕ) → s.hart < length tables → FramesFit tables frames → has_path s.raw (of_hart tables s.hart) ≡ true → new ≡ count_sample tables s → FramesFit new frames
-within_known tables new s frames own within there is =
+pub within_known : (tables new : Tables) (s : HartRaw) (frames : ℕ) → s.hart < length tables → FramesFit tables frames → samples_in tables < most_samples → has_path s.raw (of_hart tables s.hart) ≡ true → new ≡ count_sample tables s → FramesFit new frames
+within_known tables new s frames own within room there is =
     let few : frames + 0 ≤ most_path_frames = (let f = within.few in omega (arith, f)) in
     let one = some_known s.raw (of_hart tables s.hart) there (own_some tables s own within.some) in
-    let all : FramesFit (count_sample tables s) (frames + 0) = within_one tables s frames 0 own within (ap (λ (b : Bool). cond b 0 (length s.raw.frames)) there) few one in
+    let all : FramesFit (count_sample tables s) (frames + 0) = within_one tables s frames 0 own within room (ap (λ (b : Bool). cond b 0 (length s.raw.frames)) there) few one in
     let same : frames + 0 ≡ frames = omega arith in
     subst (λ (t : Tables). FramesFit t frames) (sym is) (subst (FramesFit (count_sample tables s)) same all)
 
-pub within_new : (tables new : Tables) (s : HartRaw) (frames more : ℕ) → s.hart < length tables → FramesFit tables frames → has_path s.raw (of_hart tables s.hart) ≡ false → 0 < length s.raw.frames → more ≡ length s.raw.frames → frames + more ≤ most_path_frames → new ≡ count_sample tables s → FramesFit new (frames + more)
-within_new tables new s frames more own within apart has long fits is =
+pub within_new : (tables new : Tables) (s : HartRaw) (frames more : ℕ) → s.hart < length tables → FramesFit tables frames → samples_in tables < most_samples → has_path s.raw (of_hart tables s.hart) ≡ false → 0 < length s.raw.frames → more ≡ length s.raw.frames → frames + more ≤ most_path_frames → new ≡ count_sample tables s → FramesFit new (frames + more)
+within_new tables new s frames more own within room apart has long fits is =
     let one = some_frames s.raw (of_hart tables s.hart) has (own_some tables s own within.some) in
-    subst (λ (t : Tables). FramesFit t (frames + more)) (sym is) (within_one tables s frames more own within (ap (λ (b : Bool). cond b 0 (length s.raw.frames)) apart ∙ sym long) fits one)
+    subst (λ (t : Tables). FramesFit t (frames + more)) (sym is) (within_one tables s frames more own within room (ap (λ (b : Bool). cond b 0 (length s.raw.frames)) apart ∙ sym long) fits one)
 
 -- how many paths a hart has
 pub few_paths : (tables : Tables) (frames hart : ℕ) → FramesFit tables frames → hart < length tables → length (of_hart tables hart) < 2 ^ 32
@@ -226,6 +229,8 @@ none_within tables harts empty =
       is = sym (no_sum frames_of tables empty);
       few = omega arith;
       some = no_paths tables empty;
+      samples = (let none = no_samples tables empty in omega (arith, none));
+      counted = All-weaker IsEmpty (All HasCount) (λ table is. subst (All HasCount) (sym is) (All-nil HasCount)) tables empty;
     }
 
 pub set_same : (tables : Tables) (hart : ℕ) (table : List Counted) → hart < length tables → table ≡ of_hart tables hart → slice_set tables hart table ≡ tables

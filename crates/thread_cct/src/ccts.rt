@@ -1,5 +1,5 @@
 ghost use Rattle.std.specs.Prelude.{◌≡◌, ◌+◌, ◌<◌, ◌∷◌, ◌++◌, [], false, if◌then◌else◌, List, length, slice_get};
-ghost use Rattle.std.specs.Prelude.{Some, IfOk, OnOk, OnErr};
+ghost use Rattle.std.specs.Prelude.{Some, IfOk, OnOk, OnErr, All, ◌≤◌};
 ghost use Rattle.prof_bytes.specs.Outcome.{Gives};
 ghost use Rattle.scope_types.specs.Distinct.{HartRaw, distinct, samples_in};
 ghost use Rattle.scope_types.specs.Limits.{most_samples};
@@ -100,7 +100,9 @@ impl Ccts {
 
     /// How many harts there are.
     pub fn harts(&self) -> u32
-        ensures { result ≡ length self.now }
+        ensures harts { result ≡ length self.now }
+        ensures samples { samples_in self.now ≤ most_samples }
+        ensures counted { All (All (λ c. 0 < c.count)) self.now }
     {
         self.tables.len() as u32
     }
@@ -150,10 +152,19 @@ impl Ccts {
         requires index { index < length (of_hart self.now hart) }
         ensures { IfOk result (λ counted. slice_get (of_hart self.now hart) index ≡ Some counted) }
     {
-        let (raw, count) = self.tables[hart as usize].entry(index as usize);
+        let (raw, count) = self.entry(hart, index);
         Ok(Counted {
             path: copied(self.alloc, raw)?,
             count,
         })
+    }
+
+    /// A hart's distinct raw path at an index, and its count.
+    pub(crate) fn entry(&self, hart: u32, index: u32) -> (&RawPath, u32)
+        requires hart { hart < length self.now }
+        requires index { index < length (of_hart self.now hart) }
+        ensures { slice_get (of_hart self.now hart) index ≡ Some (record { path = result.0.now; count = result.1 }) }
+    {
+        self.tables[hart as usize].entry(index as usize)
     }
 }

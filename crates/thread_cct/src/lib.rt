@@ -1,8 +1,10 @@
 //! The raw paths of samples, counted hart by hart: what the calling context trees of the threads are made
-//! of (HPCToolkit's manual, "Calling Context Tree").
+//! of (HPCToolkit's manual, "Calling Context Tree"); and the plan of their merge.
 //!
 //! It promises that of the samples that were added each hart has its distinct raw paths in order of first
-//! sample, each with its count. Below stand `scope_types`, `prof_bytes` and `indexmap`.
+//! sample, each with its count; and that a plan cuts these into chunks of 64, and each chunk, expanded to call
+//! paths, into the pieces of sixteen stripes, so that the pieces have each path once. Below stand `scope_types`,
+//! `prof_bytes` and `indexmap`.
 //!
 //! A loop that adds the samples of a run one by one keeps, of the samples so far, that `Ccts` is `distinct` of
 //! them and counts as many: `start` gives it of no samples, and `add` (clauses `all` and `samples`) of one more,
@@ -11,9 +13,15 @@
 #![tactic(auto)]
 
 mod ccts;
+mod dealt;
 mod laws;
+mod merge_plan;
+mod plan_laws;
 mod table;
 
 pub use ccts::{Ccts, TooManyFrames};
+pub use dealt::Pieces;
 pub use laws::samples_are_counted;
+pub use merge_plan::{Plan, TooManyScopes};
+pub use plan_laws::{pieces_make_the_plan, plans_hold_counted_paths};
 pub use scope_types::Counted;

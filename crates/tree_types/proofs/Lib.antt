@@ -21,3 +21,11 @@ pub mod Numbers
 pub mod PlaneSteps
 pub mod Bounds
 pub mod Entries
+mod Searched
+mod Places
+pub mod PathSteps
+pub mod SortedOnce
+pub mod TreeLaws
+pub mod TreeValues
+pub mod Enclosed
+pub mod WholeValues

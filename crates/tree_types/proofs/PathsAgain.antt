@@ -32,7 +32,7 @@ use Rattle.tree_types.proofs.NodeLaws.{sorted_nodes, has_nodes, prefix_is_node}
 use Rattle.tree_types.proofs.Totals.{one_within}
 use Rattle.tree_types.proofs.TreePaths.{tree_paths_is}
 
-sum_by-flat_map : {X Y : Type 0} (g : Y → ℕ) (f : X → List Y) (xs : List X) → sum_by g (flat_map f xs) ≡ sum_by (λ x. sum_by g (f x)) xs
+pub sum_by-flat_map : {X Y : Type 0} (g : Y → ℕ) (f : X → List Y) (xs : List X) → sum_by g (flat_map f xs) ≡ sum_by (λ x. sum_by g (f x)) xs
 sum_by-flat_map g f [] = refl
 sum_by-flat_map g f (x ∷ xs) =
     sum_by-append g (f x) (flat_map f xs) ∙ ap (λ k. sum_by g (f x) + k) (sum_by-flat_map g f xs) ∙ sym (sum_by-cons (λ x. sum_by g (f x)) x xs)

@@ -9,8 +9,8 @@ ghost use Rattle.tree_types.specs.Database.{content_of, names_used, node_list};
 
 use crate::content::{Content, Names};
 use crate::plain::node_list_of;
+use crate::plane_columns::{column_of, context_column_of};
 use crate::planes::{ContextPlane, ProfilePlane};
-use crate::values::{column_of, context_column_of};
 use prof_bytes::{Listed, Memory};
 use scope_types::{Entry, ScopePath};
 use std::alloc::Global;

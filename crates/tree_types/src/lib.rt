@@ -2,29 +2,37 @@
 //! of both over plain lists of call paths.
 //!
 //! It promises what the nodes, the values, the planes and the content of a list of call paths are,
-//! with their laws, and plain bodies that compute just that. Views and attribution are those of
-//! HPCToolkit's manual: exclusive and inclusive cost of a calling context. Below stand `scope_types`
-//! and `prof_bytes`.
+//! with their laws, and plain bodies that compute just that; and what a tree with counts and its values
+//! are. Views and attribution are those of HPCToolkit's manual: exclusive and inclusive cost of a calling
+//! context. Below stand `scope_types` and `prof_bytes`.
 #![tactic(auto)]
 
+mod ascending;
 mod build;
 mod content;
+mod counted_tree;
 mod laws;
 mod named;
+mod node_values;
 mod plain;
+mod plane_columns;
 mod planes;
-mod values;
+mod tree_laws;
 
+pub use ascending::ascend;
 pub use build::content_of_paths;
 pub use content::{
     Content, ContextEntry, FileName, Kind, NO_PARENT, Names, Node, ProcName, ProfileEntry,
 };
+pub use counted_tree::{NodeCount, Tree};
 pub use laws::{
     content_holds_its_paths, counts_decide, nodes_are_few, nodes_are_prefixes,
     order_does_not_matter, parents_stand_before, pieces_keep_the_paths, used_names_suffice,
     values_add_up,
 };
 pub use named::{files_of, procs_of};
+pub use node_values::{NodeValue, Values};
 pub use plain::{node_list_of, nodes_of, own_scope_of, rest_after, total_of, value_of};
+pub use plane_columns::{column_of, context_column_of};
 pub use planes::{ContextPlane, ProfilePlane};
-pub use values::{column_of, context_column_of};
+pub use tree_laws::{parents_enclose, tree_counts_add_up, tree_has_values, trees_hold_paths};

@@ -11,9 +11,10 @@ use Rattle.sample_clock.specs.Clock.{Sampling, Given, IsOver, AreTooMany}
 use Rattle.scope_types.specs.declared.frame.Counted.{Counted}
 use Rattle.scope_types.specs.declared.path.Entry.{Entry}
 use Rattle.scope_types.specs.Alike.{Alike}
-use Rattle.scope_types.specs.CallPaths.{HartPath, each_path}
+use Rattle.scope_types.specs.declared.scope.Scope.{Scope}
+use Rattle.scope_types.specs.CallPaths.{each_path}
+use Rattle.scope_types.specs.Raw.{Raw}
 use Rattle.scope_types.specs.Distinct.{HartRaw, distinct, each_of_hart, each_sample, path_scopes, scopes_in}
-use Rattle.scope_types.specs.Expansion.{FoundAt, call_path}
 use Rattle.scope_types.specs.Limits.{most_path_scopes}
 use Rattle.hpc_top.specs.declared.expand.Expanded.{Expanded}
 use Rattle.hpc_top.specs.declared.status.InputFault.{InputFault}
@@ -59,55 +60,55 @@ abbrev pub total_scopes : List Entry → ℕ
 total_scopes entries = sum_by (λ e. length e.path) entries
 
 -- the counted raw paths of a hart were expanded
-pub record Adds (found : ℕ → FoundAt) (hart : ℕ) (counted : List Counted) (old new : Expanded) : Type 0 where
+pub record Adds (expand : Raw → List Scope) (hart : ℕ) (counted : List Counted) (old new : Expanded) : Type 0 where
   pub paths : each_path new.entries.items
-      ≡ each_path old.entries.items ++ map (sample_path found) (each_of_hart (hart, counted))
-  pub scopes : new.scopes ≡ old.scopes + sum_by (path_scopes (call_path found)) counted
+      ≡ each_path old.entries.items ++ map (sample_path expand) (each_of_hart (hart, counted))
+  pub scopes : new.scopes ≡ old.scopes + sum_by (path_scopes expand) counted
   pub few : new.scopes ≤ most_path_scopes
   pub total : old.scopes ≡ total_scopes old.entries.items → new.scopes ≡ total_scopes new.entries.items
 
 -- or they have too many scopes
-pub record Passes (found : ℕ → FoundAt) (counted : List Counted) (old : Expanded) (fault : InputFault) : Type 0 where
+pub record Passes (expand : Raw → List Scope) (counted : List Counted) (old : Expanded) (fault : InputFault) : Type 0 where
   pub is : fault ≡ TooManyScopes
-  pub many : most_path_scopes < old.scopes + sum_by (path_scopes (call_path found)) counted
+  pub many : most_path_scopes < old.scopes + sum_by (path_scopes expand) counted
 
-abbrev pub AddsOr : (ℕ → FoundAt) → ℕ → List Counted → Result (Unit {0}) (Fail InputFault) → Expanded → Expanded
+abbrev pub AddsOr : (Raw → List Scope) → ℕ → List Counted → Result (Unit {0}) (Fail InputFault) → Expanded → Expanded
     → Type 0
-AddsOr found hart counted (Ok _) old new = Adds found hart counted old new
-AddsOr found hart counted (Err (fails.Fault fault)) old new = Passes found counted old fault
-AddsOr found hart counted (Err (fails.Memory memory)) old new = Unit {0}
+AddsOr expand hart counted (Ok _) old new = Adds expand hart counted old new
+AddsOr expand hart counted (Err (fails.Fault fault)) old new = Passes expand counted old fault
+AddsOr expand hart counted (Err (fails.Memory memory)) old new = Unit {0}
 
 -- all were expanded
-pub record AreExpanded (found : ℕ → FoundAt) (tables : List (List Counted)) (entries : List Entry) : Type 0 where
-  pub paths : each_path entries ≡ map (sample_path found) (each_sample tables)
-  pub few : scopes_in (call_path found) tables ≤ most_path_scopes
+pub record AreExpanded (expand : Raw → List Scope) (tables : List (List Counted)) (entries : List Entry) : Type 0 where
+  pub paths : each_path entries ≡ map (sample_path expand) (each_sample tables)
+  pub few : scopes_in expand tables ≤ most_path_scopes
   pub fits : total_scopes entries ≤ most_path_scopes
 
 -- or they have too many scopes
-pub record AreMany (found : ℕ → FoundAt) (tables : List (List Counted)) (fault : InputFault) : Type 0 where
+pub record AreMany (expand : Raw → List Scope) (tables : List (List Counted)) (fault : InputFault) : Type 0 where
   pub is : fault ≡ TooManyScopes
-  pub many : most_path_scopes < scopes_in (call_path found) tables
+  pub many : most_path_scopes < scopes_in expand tables
 
-abbrev pub ExpandsAll : (ℕ → FoundAt) → List (List Counted) → Result (List Entry) (Fail InputFault) → Type 0
-ExpandsAll found tables (Ok entries) = AreExpanded found tables entries
-ExpandsAll found tables (Err (fails.Fault fault)) = AreMany found tables fault
-ExpandsAll found tables (Err (fails.Memory memory)) = Unit {0}
+abbrev pub ExpandsAll : (Raw → List Scope) → List (List Counted) → Result (List Entry) (Fail InputFault) → Type 0
+ExpandsAll expand tables (Ok entries) = AreExpanded expand tables entries
+ExpandsAll expand tables (Err (fails.Fault fault)) = AreMany expand tables fault
+ExpandsAll expand tables (Err (fails.Memory memory)) = Unit {0}
 
 -- the samples that are to come, unless there are too many of them, of their frames or of their scopes
-abbrev pub taken : Paths → (ℕ → FoundAt) → ℕ → Sampling → Result (List HartRaw) InputFault
-taken path_of found harts s = few_samples harts (raws_to_come path_of s) >>= few_scopes found harts
+abbrev pub taken : Paths → (Raw → List Scope) → ℕ → Sampling → Result (List HartRaw) InputFault
+taken path_of expand harts s = few_samples harts (raws_to_come path_of s) >>= few_scopes expand harts
 
 -- no limit is passed, these are the call paths of the samples in any order, and the machine stands at the end of
 -- its run
-pub record AllExpanded (path_of : Paths) (found : ℕ → FoundAt) (harts : ℕ) (entries : List Entry)
+pub record AllExpanded (path_of : Paths) (expand : Raw → List Scope) (harts : ℕ) (entries : List Entry)
     (old new : Sampling) : Type 0 where
-  pub few : taken path_of found harts old ≡ Ok (raws_to_come path_of old)
+  pub few : taken path_of expand harts old ≡ Ok (raws_to_come path_of old)
   pub fits : total_scopes entries ≤ most_path_scopes
-  pub alike : Alike (each_path entries) (map (sample_path found) (raws_to_come path_of old))
+  pub alike : Alike (each_path entries) (map (sample_path expand) (raws_to_come path_of old))
   pub ended : new.machine.state ≡ (to_come old.machine).final
 
 -- what counting and expanding the samples gives
-abbrev pub Expands : Paths → (ℕ → FoundAt) → ℕ → Result (List Entry) (Fail InputFault) → Sampling → Sampling
+abbrev pub Expands : Paths → (Raw → List Scope) → ℕ → Result (List Entry) (Fail InputFault) → Sampling → Sampling
     → Type 0
-Expands path_of found harts (Ok entries) old new = AllExpanded path_of found harts entries old new
-Expands path_of found harts (Err fail) old new = FailsBy fail (taken path_of found harts old)
+Expands path_of expand harts (Ok entries) old new = AllExpanded path_of expand harts entries old new
+Expands path_of expand harts (Err fail) old new = FailsBy fail (taken path_of expand harts old)

@@ -1,5 +1,5 @@
 -- Words and files as the code holds them.
-use Rattle.std.specs.Prelude.{List, Option, option_map}
+use Rattle.std.specs.Prelude.{Option, option_map}
 use Rattle.hpc_top.specs.declared.request.ProfileWords as held
 use Rattle.hpc_top.specs.declared.request.Request as held_request
 use Rattle.hpc_top.specs.declared.request.Request.TheVariants as requests

@@ -2,8 +2,8 @@
 use Rattle.std.specs.Prelude.{◌≡◌, ℕ, ◌<◌, ◌≤◌, ◌^◌, List, length, map, All}
 use Rattle.scope_types.specs.declared.frame.Counted.{Counted}
 use Rattle.scope_types.specs.Raw.{Raw}
-use Rattle.scope_types.specs.Distinct.{frames_in}
-use Rattle.scope_types.specs.Limits.{most_path_frames}
+use Rattle.scope_types.specs.Distinct.{frames_in, samples_in}
+use Rattle.scope_types.specs.Limits.{most_path_frames, most_samples}
 
 -- the counted paths of the table's entries
 abbrev pub counted_of : Raw × ℕ → Counted
@@ -12,9 +12,12 @@ counted_of e = record { path = e.0; count = e.1 }
 abbrev pub counted_in : List (Raw × ℕ) → List Counted
 counted_in entries = map counted_of entries
 
--- what stands in counted paths of several harts: so many frames, which are few, and some in each path
+-- what stands in counted paths of several harts: so many frames, which are few, and some in each path; few samples,
+-- and some of each path
 pub record FramesFit (tables : List (List Counted)) (frames : ℕ) : Type 0 where
   pub harts : length tables < 2 ^ 32
   pub is : frames ≡ frames_in tables
   pub few : frames ≤ most_path_frames
   pub some : All (All (λ c. 0 < length c.path.frames)) tables
+  pub samples : samples_in tables ≤ most_samples
+  pub counted : All (All (λ c. 0 < c.count)) tables

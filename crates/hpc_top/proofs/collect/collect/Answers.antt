@@ -1,4 +1,4 @@
-use Rattle.std.proofs.Common.{◌≡◌, ◌++◌, ◌∷◌, [], length, sym}
+use Rattle.std.proofs.Common.{◌≡◌, ◌++◌, ◌∷◌, [], length}
 use Rattle.std.proofs.lemmas.Result.{err_from_is_err_and}
 use Rattle.sample_clock.specs.Clock.{Given}
 use Rattle.scope_types.specs.Distinct.{distinct}

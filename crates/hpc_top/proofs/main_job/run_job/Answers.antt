@@ -5,7 +5,8 @@ use Rattle.rv_run.specs.Progress.{to_come}
 use Rattle.cfi_unwind.specs.Path.{path_of as unwound_by}
 use Rattle.sample_clock.specs.Clock.{Sampling}
 use Rattle.hpc_top.specs.Made.{view}
-use Rattle.hpc_top.specs.Symbols.{found_at, naming_of}
+use Rattle.scope_types.specs.Expansion.{call_path}
+use Rattle.scope_find.specs.Found.{found_at, naming_of}
 use Rattle.hpc_top.specs.Profile.{product_of}
 use Rattle.hpc_top.proofs.main_job.run_job.Goals as goal
 
@@ -13,9 +14,9 @@ pub returns : goal.returns
 returns c =
     let run : to_come c.in_ok-samples.samples.machine ≡ run_of c.args.image.now c.args.schedule c.args.job.now.input.now = ap (λ (s : Sampling). to_come s.machine) c.in_ok-samples.ensures.start in
     subst
-    (λ (r : Run). Gives view c.profile_samples.result (product_of (unwound_by c.args.unwinder.now) c.args.job.now.period c.args.schedule.harts (found_at c.args.image.now) (naming_of c.args.image.now) r)) run
+    (λ (r : Run). Gives view c.profile_samples.result (product_of (unwound_by c.args.unwinder.now) c.args.job.now.period c.args.schedule.harts (call_path (found_at c.args.finder.now)) (naming_of c.args.finder.now) r)) run
     (subst
-    (λ (n : ℕ). Gives view c.profile_samples.result (product_of (unwound_by c.args.unwinder.now) c.args.job.now.period n (found_at c.args.image.now) (naming_of c.args.image.now) (to_come c.in_ok-samples.samples.machine))) c.harts-harts.ensures.harts
+    (λ (n : ℕ). Gives view c.profile_samples.result (product_of (unwound_by c.args.unwinder.now) c.args.job.now.period n (call_path (found_at c.args.finder.now)) (naming_of c.args.finder.now) (to_come c.in_ok-samples.samples.machine))) c.harts-harts.ensures.harts
     c.profile_samples.ensures)
 
 pub profile_samples-requires-clause-instants : goal.profile_samples-requires-clause-instants

@@ -1,7 +1,7 @@
 use Rattle.std.proofs.Common.{◌≡◌, ◌+◌, ◌<◌, ◌≤◌, ℕ, Bool, true, false, cond, Ok, length, subst, sym, ap, ◌∙◌, arith}
 use Rattle.scope_types.specs.Raw.{Raw}
 use Rattle.scope_types.specs.Distinct.{HartRaw, samples_in}
-use Rattle.scope_types.specs.Limits.{most_path_frames}
+use Rattle.scope_types.specs.Limits.{most_path_frames, most_samples}
 use Rattle.thread_cct.specs.Adding.{count_sample}
 use Rattle.thread_cct.proofs.Tables.{Tables, all_for, known, too_much, few_enough, harts_stay, samples_more, within_known, within_new}
 use Rattle.thread_cct.proofs.ccts.Ccts.add.Goals as goal
@@ -9,6 +9,9 @@ use Rattle.thread_cct.proofs.ccts.Ccts.add.Goals as goal
 -- the fields, as contracts see them
 own_in : (tables now : Tables) (hart : ℕ) → tables ≡ now → hart < length now → hart < length tables
 own_in tables now hart view own = subst (λ (t : Tables). hart < length t) (sym view) own
+
+room_in : (tables now : Tables) → tables ≡ now → samples_in now < most_samples → samples_in tables < most_samples
+room_in tables now view room = subst (λ (t : Tables). samples_in t < most_samples) (sym view) room
 
 counted_is : (old new : Tables) (s : HartRaw) (found : Bool) → new ≡ cond found (count_sample old s) old → found ≡ true → new ≡ count_sample old s
 counted_is old new s found counted there = counted ∙ ap (λ (b : Bool). cond b (count_sample old s) old) there
@@ -24,7 +27,7 @@ pub invariant_of-self : goal.invariant_of-self
 invariant_of-self c =
     let tables : Tables = c.self.inside.tables.items in
     let s : HartRaw = record { hart = c.args.hart; raw = c.args.raw.now } in
-    within_known tables _ s _ (own_in tables _ c.args.hart c.self.view_is c.requires.hart) c.self.invariant (sym c.count_again.ensures.found ∙ c.if-count_again.true)
+    within_known tables _ s _ (own_in tables _ c.args.hart c.self.view_is c.requires.hart) c.self.invariant (room_in tables _ c.self.view_is c.requires.few) (sym c.count_again.ensures.found ∙ c.if-count_again.true)
     (counted_is tables _ s _ c.count_again.ensures.counted c.if-count_again.true)
 
 pub returns-then-count_again-clause-harts : goal.returns-then-count_again-clause-harts
@@ -61,7 +64,7 @@ invariant_of-self-2 c =
     let s : HartRaw = record { hart = c.args.hart; raw = c.args.raw.now } in
     let same = stays tables _ s _ c.count_again.ensures.counted c.if-count_again.false in
     let fits : c.self.inside.frames + length c.frames.result.now ≤ most_path_frames = (let test = c.if-frames-gt-MOST_PATH_FRAMES.false in omega (arith, test)) in
-    within_new tables _ s c.self.inside.frames (length c.frames.result.now) (own_in tables _ c.args.hart c.self.view_is c.requires.hart) c.self.invariant
+    within_new tables _ s c.self.inside.frames (length c.frames.result.now) (own_in tables _ c.args.hart c.self.view_is c.requires.hart) c.self.invariant (room_in tables _ c.self.view_is c.requires.few)
     (sym c.count_again.ensures.found ∙ c.if-count_again.false) c.frames.ensures.count.some (ap length c.frames.ensures.frames) fits
     (put_is tables _ _ c.args.hart c.args.raw.now _ same c.in_ok-path.ensures c.in_ok-put_path.ensures.ok)
 

@@ -1,0 +1,10 @@
+pub mod Lists
+pub mod EntryEnds
+pub mod Linked
+pub mod ItemLists
+pub mod Items
+pub mod OpenLevels
+pub mod CheckedItems
+pub mod FirstNumbers
+pub mod Whole
+pub mod Named

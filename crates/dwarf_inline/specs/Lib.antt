@@ -1,0 +1,4 @@
+pub mod Links
+pub mod Nesting
+pub mod Structure
+pub mod private

@@ -1,0 +1,72 @@
+-- Which entry gives a subprogram or an inlined subroutine its name and its identity. DWARF 5, sections 2.13.2, 2.15
+-- and 3.3.8.1.
+use Rattle.std.specs.Prelude.{ℕ, zero, suc, ◌==◌, ◌||◌, Bool, List, filter, take, slice_get, is_some}
+use Rattle.std.specs.Prelude.{unwrap_or, codes}
+use Rattle.std.specs.List.{enumerate_from}
+use Rattle.std.specs.Option.{option_map_or}
+use Rattle.dwarf_info.specs.declared.constants.TheConstants.{DW_TAG_subprogram, DW_TAG_inlined_subroutine}
+use Rattle.dwarf_info.specs.declared.entry.InfoEntry.{InfoEntry}
+use Rattle.dwarf_info.specs.Units.{DebugInfo}
+use Rattle.dwarf_info.specs.Queries.{name_of, link_of}
+
+abbrev pub is_subprogram : InfoEntry → Bool
+is_subprogram e = e.tag == DW_TAG_subprogram
+
+abbrev pub is_inlined : InfoEntry → Bool
+is_inlined e = e.tag == DW_TAG_inlined_subroutine
+
+-- the entries that become items of the structure
+abbrev pub is_item : InfoEntry → Bool
+is_item e = is_subprogram e || is_inlined e
+
+-- an entry beside its index
+abbrev pub Indexed : Type 0
+Indexed = ℕ × InfoEntry
+
+-- the entries of debug information, each beside its index
+abbrev pub indexed : DebugInfo → List Indexed
+indexed info = enumerate_from 0 info.entries
+
+-- the subprograms and inlined subroutines, in section order
+abbrev pub item_entries : DebugInfo → List Indexed
+item_entries info = filter (λ e. is_item e.1) (indexed info)
+
+-- ---- links
+
+-- how many links from entry to entry may follow one another
+abbrev pub most_links : ℕ
+most_links = 8
+
+-- the entry that so many links lead to, or fewer where there are no more: each link is the abstract origin, else the
+-- specification
+unfoldable pub linked : DebugInfo → ℕ → ℕ → ℕ
+linked info zero i = i
+linked info (suc n) i = option_map_or (linked info n) (link_of info i) i
+
+-- the entry to which all links lead
+abbrev pub identity : DebugInfo → ℕ → ℕ
+identity info i = linked info most_links i
+
+-- a link is left after as many as there may be
+abbrev pub has_more_links : DebugInfo → ℕ → Bool
+has_more_links info i = is_some (link_of info (identity info i))
+
+abbrev pub entry_offset : DebugInfo → ℕ → ℕ
+entry_offset info i = option_map_or (λ e. e.offset) (slice_get info.entries i) 0
+
+-- what identifies a procedure, and all inlined calls of it: the offset of the entry to which the links lead
+abbrev pub identity_offset : DebugInfo → ℕ → ℕ
+identity_offset info i = entry_offset info (identity info i)
+
+-- ---- names
+
+-- the most bytes of a name
+abbrev pub most_name : ℕ
+most_name = 4096
+
+abbrev pub unnamed : List ℕ
+unnamed = codes "<unnamed>"
+
+-- the name of an entry's identity, cut
+abbrev pub entry_name : DebugInfo → ℕ → List ℕ
+entry_name info i = take most_name (unwrap_or (name_of info (identity info i)) unnamed)

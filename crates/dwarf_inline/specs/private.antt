@@ -1,0 +1,3 @@
+pub mod Ends
+pub mod Levels
+pub mod Parts

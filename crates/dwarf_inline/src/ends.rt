@@ -1,0 +1,93 @@
+//! Where entries end, and which of them are items.
+ghost use Rattle.std.specs.Prelude.{◌≡◌, ◌+◌, ◌<◌, ◌^◌, length, map, IfOk};
+ghost use Rattle.dwarf_inline.specs.Links.{item_entries};
+ghost use Rattle.dwarf_inline.specs.Nesting.{item_after};
+ghost use Rattle.dwarf_inline.specs.private.Ends.{AreEndsFrom, AreItemsBefore, entry_end, items_among};
+
+use crate::links::is_item;
+use dwarf_info::{Info, InfoEntry};
+use prof_bytes::Memory;
+use std::alloc::Global;
+
+/// The index behind the entry of a depth at an index and its descendants, by the ends of later entries.
+fn end_from(entries: &[InfoEntry], ends: &[u32], at: usize, depth: u32) -> u32
+    requires few { length entries.now < 2 ^ 31 }
+    requires here { at < length entries.now }
+    requires ends { AreEndsFrom entries.now (at + 1) ends.now }
+    ensures { result ≡ entry_end entries.now at depth }
+{
+    let mut end = at + 1;
+    while end < entries.len() && entries[end].depth > depth {
+        end = ends[end] as usize;
+    }
+    end as u32
+}
+
+/// The index behind each entry and its descendants. Linear: from the last entry to the first, each is passed once.
+pub(crate) fn ends_of(alloc: Global, entries: &[InfoEntry]) -> Result<Vec<u32>, Memory>
+    requires { length entries.now < 2 ^ 31 }
+    ensures { IfOk result (λ ends. AreEndsFrom entries.now 0 ends.items) }
+{
+    let mut ends = vec![in alloc; 0u32; entries.len()]?;
+    let mut at = entries.len();
+    while at > 0 {
+        at -= 1;
+        let end = end_from(entries, ends.as_slice(), at, entries[at].depth);
+        ends[at] = end;
+    }
+    Ok(ends)
+}
+
+/// How many items stand before each index, and before the end.
+pub(crate) fn items_before(alloc: Global, entries: &[InfoEntry]) -> Result<Vec<u32>, Memory>
+    requires { length entries.now < 2 ^ 31 }
+    ensures { IfOk result (λ counts. AreItemsBefore entries.now counts.items) }
+{
+    let mut counts = Vec::new(alloc);
+    let mut count = 0u32;
+    for entry in entries {
+        counts.push(count)?;
+        if is_item(entry) {
+            count += 1;
+        }
+    }
+    counts.push(count)?;
+    Ok(counts)
+}
+
+/// The items, each with its index among the entries.
+pub(crate) fn items_among(
+    alloc: Global,
+    entries: &[InfoEntry],
+) -> Result<Vec<(u32, InfoEntry)>, Memory>
+    requires { length entries.now < 2 ^ 31 }
+    ensures { IfOk result (λ items. items.items ≡ items_among entries.now) }
+{
+    let mut items = Vec::new(alloc);
+    for (index, entry) in entries.iter().enumerate() {
+        if is_item(entry) {
+            items.push((index as u32, *entry))?;
+        }
+    }
+    Ok(items)
+}
+
+/// For each item the number of the first later one that is no descendant.
+pub(crate) fn afters_of(
+    alloc: Global,
+    info: &Info<'_>,
+    items: &[(u32, InfoEntry)],
+    ends: &[u32],
+) -> Result<Vec<u32>, Memory>
+    requires items { items.now ≡ item_entries info.now }
+    requires ends { AreEndsFrom info.now.entries 0 ends.now }
+    ensures { IfOk result (λ afters. afters.items ≡ map (item_after info.now) items.now) }
+{
+    let counts = items_before(alloc, info.entries())?;
+    let mut afters = Vec::new(alloc);
+    for item in items {
+        let end = ends[item.0 as usize];
+        afters.push(counts[end as usize])?;
+    }
+    Ok(afters)
+}

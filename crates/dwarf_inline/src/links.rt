@@ -1,0 +1,40 @@
+//! Links from entries to those that they complete (DWARF 5, sections 2.13.2 and 3.3.8.1).
+ghost use Rattle.std.specs.Prelude.{◌≡◌, ◌<◌, length, IfSome, Some, None, if◌then◌else◌};
+ghost use Rattle.dwarf_inline.specs.Links.{is_item, is_inlined, identity, has_more_links, identity_offset};
+
+use dwarf_info::constants::{DW_TAG_inlined_subroutine, DW_TAG_subprogram};
+use dwarf_info::{Info, InfoEntry};
+
+/// How many links may follow one another.
+const MOST_LINKS: u32 = 8;
+
+pub(crate) fn is_inlined(entry: &InfoEntry) -> bool
+    ensures { result ≡ is_inlined entry.now }
+{
+    entry.tag == DW_TAG_inlined_subroutine
+}
+
+pub(crate) fn is_item(entry: &InfoEntry) -> bool
+    ensures { result ≡ is_item entry.now }
+{
+    entry.tag == DW_TAG_subprogram || is_inlined(entry)
+}
+
+/// The entry to which all links lead; `None` where more follow one another than may.
+pub(crate) fn identity_of(info: &Info<'_>, entry: u32) -> Option<u32>
+    requires { entry < length info.now.entries }
+    ensures identity { result ≡ (if has_more_links info.now entry then None else Some (identity info.now entry)) }
+    ensures in_range { IfSome result (λ i. i < length info.now.entries) }
+{
+    let mut at = entry;
+    for _ in 0..MOST_LINKS {
+        match info.link(at) {
+            Some(next) => at = next,
+            None => return Some(at),
+        }
+    }
+    match info.link(at) {
+        Some(_) => None,
+        None => Some(at),
+    }
+}

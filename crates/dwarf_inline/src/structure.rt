@@ -1,0 +1,117 @@
+//! A structure that was read.
+ghost use Rattle.std.specs.Prelude.{◌≡◌, ◌<◌, length, slice_get, Some};
+ghost use Rattle.prof_bytes.specs.Outcome.{Gives};
+ghost use Rattle.dwarf_inline.specs.Structure.{IsWhole, proc_name, structure_of};
+
+use crate::ends::{afters_of, ends_of, items_among};
+use crate::fault::StructureFault;
+use crate::item::Item;
+use crate::levels::checked_items;
+use crate::numbers::numbers_of;
+use crate::parts::{Sources, read_parts};
+use dwarf_info::Info;
+use dwarf_line::LineTable;
+use elf_image::Image;
+use prof_bytes::Fail;
+use std::alloc::Global;
+use std::collections::HashMap;
+use std::marker::Model;
+
+/// The structure of a program. It lends the sections' bytes.
+#[derive(Drop)]
+pub struct Structure<'a> {
+    items: Vec<Item>,
+    names: Vec<&'a [u8]>,
+    ranges: Vec<(u32, u32)>,
+    numbers: HashMap<u32, u32>,
+}
+
+impl<'a> Model for Structure<'a> {
+    ghost use Rattle.dwarf_inline.specs.Structure.{ProgramStructure};
+    ghost use Rattle.dwarf_inline.specs.private.Parts.{IsIndexed};
+    ghost use Rattle.std.specs.Prelude.{map};
+
+    ghost Value = { ProgramStructure };
+
+    ghost view = { λ structure. record {
+      items = structure.items.items;
+      names = map (λ name. name.now) structure.names.items;
+      ranges = structure.ranges.items;
+    } };
+
+    ghost invariant = { λ structure. IsIndexed (record {
+      items = structure.items.items;
+      names = map (λ name. name.now) structure.names.items;
+      ranges = structure.ranges.items;
+    }) structure.numbers };
+}
+
+impl<'a> Structure<'a> {
+    /// How many items there are.
+    pub fn len(&self) -> u32
+        ensures count { result ≡ length self.now.items }
+        ensures whole { IsWhole self.now }
+    {
+        self.items.len() as u32
+    }
+
+    /// The item with a number. Takes no memory.
+    pub fn item(&self, at: u32) -> Item
+        requires { at < length self.now.items }
+        ensures { slice_get self.now.items at ≡ Some result }
+    {
+        self.items[at as usize]
+    }
+
+    /// A range of an item that counts, from its start up to its end: an item's ranges stand from its `first` on, as
+    /// many as it has. Takes no memory.
+    pub fn range(&self, at: u64) -> (u32, u32)
+        requires { at < length self.now.ranges }
+        ensures { slice_get self.now.ranges at ≡ Some result }
+    {
+        self.ranges[at as usize]
+    }
+
+    /// What the procedure with an identity is called, of at most 4,096 bytes; `<unnamed>` where it has no name, or
+    /// no item has this identity. Takes no memory.
+    pub fn proc_name(&self, offset: u32) -> &'a [u8]
+        ensures { result.now ≡ proc_name self.now offset }
+    {
+        match self.numbers.get(&offset) {
+            Some(number) => self.names[*number as usize],
+            None => b"<unnamed>",
+        }
+    }
+}
+
+/// The structure of a program by its debug information, or the first fault in section order. Linear in the entries, and
+/// in the ranges of the items.
+#[tactic(auto, unfolding(crate::specs::Structure::structure_of))]
+pub fn read_structure<'a>(
+    alloc: Global,
+    info: &Info<'a>,
+    lines: &LineTable<'_>,
+    image: &Image<'_>,
+) -> Result<Structure<'a>, Fail<StructureFault>>
+    ensures { Gives (λ structure. structure) result (structure_of info.now lines.now image.now) }
+{
+    let items = items_among(alloc, info.entries())?;
+    let ends = ends_of(alloc, info.entries())?;
+    let identities = checked_items(alloc, info, items.as_slice(), ends.as_slice())?;
+    let afters = afters_of(alloc, info, items.as_slice(), ends.as_slice())?;
+    let sources = Sources { info, lines, image };
+    let parts = read_parts(
+        alloc,
+        sources,
+        items.as_slice(),
+        afters.as_slice(),
+        identities.as_slice(),
+    )?;
+    let numbers = numbers_of(alloc, parts.items.as_slice())?;
+    Ok(Structure {
+        items: parts.items,
+        names: parts.names,
+        ranges: parts.ranges,
+        numbers,
+    })
+}

@@ -1,0 +1,84 @@
+//! The debug information of a program, read.
+ghost use Rattle.std.specs.Prelude.{◌≡◌, IfOk, filter_map};
+ghost use Rattle.prof_bytes.specs.Outcome.{Gives};
+ghost use Rattle.dwarf_inline.specs.Structure.{structure_of as structure_by};
+ghost use Rattle.hpc_top.specs.Scopes.{debug_entries, line_tables, structure_from, table_offsets};
+
+use crate::status::InputFault;
+use dwarf_info::{DebugParts, Info, Unit, read_info};
+use dwarf_inline::{Structure, read_structure};
+use dwarf_line::{LineTable, read_lines};
+use elf_image::Image;
+use prof_bytes::{Fail, Memory};
+use std::alloc::Global;
+use tree_types::ascend;
+
+/// The units and entries of a program, or their first fault.
+pub fn info_of<'a>(alloc: Global, image: &Image<'a>) -> Result<Info<'a>, Fail<InputFault>>
+    ensures { Gives (λ info. info) result (debug_entries image.now) }
+{
+    match read_info(alloc, DebugParts::of(image)) {
+        Ok(info) => Ok(info),
+        Err(Fail::Fault(fault)) => Err(Fail::Fault(InputFault::Entries(fault))),
+        Err(Fail::Memory(memory)) => Err(Fail::Memory(memory)),
+    }
+}
+
+/// The offsets of the line tables that units name.
+fn tables_named(alloc: Global, units: &[Unit]) -> Result<Vec<u32>, Memory>
+    ensures { IfOk result (λ offsets. offsets.items ≡ filter_map (λ u. u.table) units.now) }
+{
+    let offsets = units.iter().filter_map(|unit| unit.table).collect(alloc)?;
+    Ok(offsets)
+}
+
+/// The offsets of the line tables that units name, ascending, each once.
+fn table_offsets(alloc: Global, units: &[Unit]) -> Result<Vec<u32>, Memory>
+    ensures { IfOk result (λ offsets. offsets.items ≡ table_offsets units.now) }
+{
+    let mut offsets = tables_named(alloc, units)?;
+    ascend(&mut offsets);
+    Ok(offsets)
+}
+
+/// The line tables that units name, or their first fault.
+pub fn lines_of<'a>(
+    alloc: Global,
+    image: &Image<'a>,
+    units: &[Unit],
+) -> Result<LineTable<'a>, Fail<InputFault>>
+    ensures { Gives (λ lines. lines) result (line_tables image.now (table_offsets units.now)) }
+{
+    let offsets = table_offsets(alloc, units)?;
+    let line = image.section(b".debug_line");
+    match read_lines(
+        alloc,
+        line,
+        DebugParts::of(image),
+        image,
+        offsets.as_slice(),
+    ) {
+        Ok(lines) => Ok(lines),
+        Err(Fail::Fault(fault)) => {
+            let offset = fault.offset;
+            Err(Fail::Fault(InputFault::Lines { offset }))
+        }
+        Err(Fail::Memory(memory)) => Err(Fail::Memory(memory)),
+    }
+}
+
+/// The structure of a program, or its first fault.
+pub fn structure_of<'a>(
+    alloc: Global,
+    image: &Image<'a>,
+    info: &Info<'a>,
+    lines: &LineTable<'a>,
+) -> Result<Structure<'a>, Fail<InputFault>>
+    ensures { Gives (λ structure. structure) result (structure_from (structure_by info.now lines.now image.now)) }
+{
+    match read_structure(alloc, info, lines, image) {
+        Ok(structure) => Ok(structure),
+        Err(Fail::Fault(fault)) => Err(Fail::Fault(InputFault::Structure(fault))),
+        Err(Fail::Memory(memory)) => Err(Fail::Memory(memory)),
+    }
+}

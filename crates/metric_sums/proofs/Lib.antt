@@ -1,0 +1,5 @@
+mod Counting
+mod Emitted
+mod Lasts
+mod Shares
+mod Stepping

@@ -1,0 +1,78 @@
+//! The values of a node, from the last to the first.
+ghost use Rattle.std.specs.Prelude.{◌≡◌, ◌<◌, ◌^◌, ◌++◌, ◌∷◌, [], length, OnOk, reverse};
+ghost use Rattle.tree_types.specs.NodeValues.{nonzero};
+ghost use Rattle.metric_sums.specs.private.Lines.{row_value, row_values, sum_values};
+ghost use Rattle.tree_types.specs.declared.content.Kind.TheVariants.{Exclusive, Frame, Inclusive};
+
+use crate::row::Sum;
+use prof_bytes::Memory;
+use tree_types::{Kind, NodeValue};
+
+/// Puts a value, unless it is 0.
+fn put_value(out: &mut Vec<NodeValue>, value: NodeValue) -> Result<(), Memory>
+    ensures { OnOk result (reverse out.new.items ≡ nonzero (value ∷ []) ++ reverse out.old.items) }
+{
+    if value.value != 0 {
+        out.push(value)?;
+    }
+    Ok(())
+}
+
+/// Puts the value of a node for a hart, in retired instructions: the period times the number of its paths.
+fn put_kind(
+    out: &mut Vec<NodeValue>,
+    period: u32,
+    node: u32,
+    hart: u32,
+    kind: Kind,
+    paths: u32,
+) -> Result<(), Memory>
+    ensures { OnOk result
+        (reverse out.new.items ≡ nonzero (row_value period node hart kind paths ∷ []) ++ reverse out.old.items) }
+{
+    let value = u64::from(period) * u64::from(paths);
+    put_value(
+        out,
+        NodeValue {
+            node,
+            hart,
+            kind,
+            value,
+        },
+    )
+}
+
+/// Puts the three values of a node for a hart, the last one first.
+fn put_sum(
+    out: &mut Vec<NodeValue>,
+    period: u32,
+    node: u32,
+    hart: u32,
+    sum: Sum,
+) -> Result<(), Memory>
+    ensures { OnOk result
+        (reverse out.new.items ≡ nonzero (sum_values period node hart sum) ++ reverse out.old.items) }
+{
+    put_kind(out, period, node, hart, Kind::Inclusive, sum.inclusive)?;
+    put_kind(out, period, node, hart, Kind::Frame, sum.frame)?;
+    put_kind(out, period, node, hart, Kind::Exclusive, sum.exclusive)
+}
+
+/// Puts the values of a node, hart by hart, the last one first.
+#[tactic(auto, using(crate::proofs::Emitted::one_hart_more))]
+pub(crate) fn put_row(
+    out: &mut Vec<NodeValue>,
+    period: u32,
+    node: u32,
+    row: &[Sum],
+) -> Result<(), Memory>
+    requires { length row.now < 2 ^ 32 }
+    ensures { OnOk result
+        (reverse out.new.items ≡ row_values period node row.now 0 (length row.now) ++ reverse out.old.items) }
+{
+    for done in 0..row.len() {
+        let hart = row.len() - 1 - done;
+        put_sum(out, period, node, hart as u32, row[hart])?;
+    }
+    Ok(())
+}

@@ -1,0 +1,113 @@
+//! The walk over the nodes of a tree, from the last to the first.
+ghost use Rattle.std.specs.Prelude.{◌≡◌, ◌≢◌, ℕ, ◌+◌, ◌-◌, ◌*◌, ◌<◌, ◌≤◌, length, reverse, IfOk, OnOk, All};
+ghost use Rattle.std.specs.Prelude.{slice_index_or};
+ghost use Rattle.scope_types.specs.Limits.{most_samples};
+ghost use Rattle.tree_types.specs.Nodes.{no_parent};
+ghost use Rattle.tree_types.specs.NodeValues.{value_at, values_of};
+ghost use Rattle.tree_types.specs.Tree.{counts_in, node_path, paths_in};
+ghost use Rattle.tree_types.specs.Values.{value};
+ghost use Rattle.tree_types.specs.declared.content.Kind.{Kind};
+ghost use Rattle.tree_types.specs.declared.counted_tree.NodeCount.{NodeCount};
+ghost use Rattle.metric_sums.specs.private.Lines.{HandsUp};
+ghost use Rattle.metric_sums.specs.private.Rows.{IsSmall};
+ghost use Rattle.metric_sums.specs.private.Walking.{At};
+
+use crate::line::{Open, hand_up, row_of};
+use crate::put::put_row;
+use crate::row::Row;
+use prof_bytes::Memory;
+use std::alloc::Global;
+use tree_types::{NO_PARENT, Node, NodeCount, NodeValue, Tree, Values};
+
+/// A walk over the nodes, from the last to the first: the ancestors of those that are done, how many counts are left,
+/// and the values so far, the last one first.
+#[derive(Debug, Drop)]
+struct Walk {
+    line: Vec<Open>,
+    spare: Vec<Row>,
+    left: usize,
+    out: Vec<NodeValue>,
+}
+
+/// The index of a node's first count, where all counts from `end` on are of later nodes.
+fn first_own(counts: &[NodeCount], end: usize, node: u32) -> usize
+    requires { end ≤ length counts.now }
+    ensures within { result ≤ end }
+    ensures own { (k : ℕ) (d : NodeCount) → result ≤ k → k < end → (slice_index_or counts.now k d).node ≡ node }
+    ensures before { (d : NodeCount) → 0 < result → (slice_index_or counts.now (result - 1) d).node ≢ node }
+{
+    let mut first = end;
+    while first > 0 && counts[first - 1].node == node {
+        first -= 1;
+    }
+    first
+}
+
+/// Passes a node's row on to its parent, if it has one.
+fn pass_on(line: &mut Vec<Open>, spare: &mut Vec<Row>, node: Node, row: Row) -> Result<(), Memory>
+    requires long { All (λ o. length o.row ≡ length row) line.old.items }
+    requires small { All (λ o. All IsSmall o.row) line.old.items }
+    requires row { All IsSmall row }
+    ensures root { OnOk result (node.parent ≡ no_parent → line.new.items ≡ line.old.items) }
+    ensures inner { OnOk result
+        (node.parent ≢ no_parent → HandsUp node.parent node.scope row line.old.items line.new.items) }
+{
+    if node.parent == NO_PARENT {
+        spare.push(row)?;
+        return Ok(());
+    }
+    hand_up(line, spare, node.parent, node.scope, row)
+}
+
+/// Sums up a node, whose later ones are done: its own paths, and what its children handed up.
+fn step(alloc: Global, tree: &Tree, period: u32, node: u32, walk: &mut Walk) -> Result<(), Memory>
+    requires node { node < length tree.now.nodes }
+    requires few { counts_in tree.now.counts ≤ most_samples }
+    requires at { At period tree.now (node + 1) walk.old.line.items walk.old.left walk.old.out.items }
+    ensures { OnOk result (At period tree.now node walk.new.line.items walk.new.left walk.new.out.items) }
+{
+    let counts = tree.counts();
+    let mut row = row_of(alloc, &mut walk.line, &mut walk.spare, tree.harts(), node)?;
+    let first = first_own(counts, walk.left, node);
+    row.count(&counts[first..walk.left]);
+    put_row(&mut walk.out, period, node, row.sums())?;
+    walk.left = first;
+    pass_on(
+        &mut walk.line,
+        &mut walk.spare,
+        tree.nodes()[node as usize],
+        row,
+    )
+}
+
+/// These values, the last one first.
+fn turned(values: Vec<NodeValue>) -> Vec<NodeValue>
+    ensures { result.items ≡ reverse values.items }
+{
+    let mut turned = values;
+    turned.reverse();
+    turned
+}
+
+/// The values of the nodes of a tree, in one walk over the nodes, in time as there are nodes times harts. The period
+/// is in retired instructions.
+pub fn sums(alloc: Global, tree: &Tree, period: u32) -> Result<Values, Memory>
+    requires { counts_in tree.now.counts ≤ most_samples }
+    ensures values { IfOk result (λ values. values ≡ values_of period tree.now) }
+    ensures each { IfOk result (λ values. (node hart : ℕ) (kind : Kind)
+        → node < length tree.now.nodes → hart < tree.now.harts
+        → value_at values.entries node hart kind
+        ≡ value period (paths_in tree.now) hart (node_path tree.now.nodes node) kind) }
+{
+    let nodes = tree.nodes().len();
+    let mut walk = Walk {
+        line: Vec::new(alloc),
+        spare: Vec::new(alloc),
+        left: tree.counts().len(),
+        out: Vec::new(alloc),
+    };
+    for done in 0..nodes {
+        step(alloc, tree, period, (nodes - 1 - done) as u32, &mut walk)?;
+    }
+    Ok(Values::of(nodes as u32, tree.harts(), turned(walk.out)))
+}

@@ -1,0 +1,8 @@
+pub mod Places
+pub mod Merging
+pub mod Walking
+pub mod Kept
+pub mod Seen
+pub mod Nodes
+pub mod Samples
+pub mod Joined

@@ -1,0 +1,107 @@
+-- The fields of a trie, and what holds of them.
+use Rattle.std.specs.Prelude.{◌≡◌, ℕ, ◌+◌, ◌<◌, ◌≤◌, ◌%◌, ◌^◌, ◌≢◌, ◌==◌, ◌&&◌, List, [], length, map, All}
+use Rattle.std.specs.Prelude.{slice_index_or, Option, Some, Bool, if◌then◌else◌}
+use Rattle.std.specs.Map.{lookup}
+use Rattle.scope_types.specs.declared.scope.RootKind.TheVariants.{Thread}
+use Rattle.scope_types.specs.declared.scope.Scope.{Scope}
+use Rattle.scope_types.specs.declared.scope.Scope.TheVariants.{Root}
+use Rattle.scope_types.specs.declared.path.Entry.{Entry}
+use Rattle.scope_types.specs.Limits.{most_samples, most_path_scopes}
+use Rattle.scope_types.specs.contracts.scope.ScopePartialEq.TheImpl.{ghosts as scopes}
+use Rattle.tree_types.specs.declared.content.Node.{Node}
+use Rattle.tree_types.specs.Paths.{Path}
+use Rattle.tree_types.specs.Nodes.{no_parent}
+use Rattle.tree_types.specs.PathsOf.{tree_paths, path_below}
+use Rattle.path_trie.specs.declared.trie.PathEnd.{PathEnd}
+use Rattle.path_trie.specs.Trie.{IsPlace, path_at, entry_of, trie_nodes, samples_of}
+
+-- a parent's index and a scope
+abbrev pub Key : Type 0
+Key = ℕ × Scope
+
+abbrev pub Branches : Type 0
+Branches = List (Key × ℕ)
+
+abbrev pub same_key : Key → Key → Bool
+same_key a b = a.0 == b.0 && scopes.eq a.1 b.1
+
+-- the index of the branch with a key
+abbrev pub branch_at : Branches → Key → Option ℕ
+branch_at branches key = lookup (same_key key) branches
+
+abbrev pub no_node : Node
+no_node = record { parent = no_parent; scope = Root Thread }
+
+abbrev pub node_at : List Node → ℕ → Node
+node_at nodes i = slice_index_or nodes i no_node
+
+abbrev pub node_with : ℕ → Scope → Node
+node_with parent scope = record { parent = parent; scope = scope }
+
+-- the index right after a node's; after no node's it is 0
+abbrev pub next_index : ℕ → ℕ
+next_index parent = (parent + 1) % 2 ^ 32
+
+-- no node has this parent and scope
+abbrev pub IsAbsent : List Node → ℕ → Scope → Type 0
+IsAbsent nodes parent scope = (i : ℕ) → i < length nodes → node_at nodes i ≡ node_with parent scope → ⊥
+
+-- the branch that a key has once another is put at an index, unless the index is the next one
+abbrev pub with_branch : Bool → Key → ℕ → Option ℕ → Key → Option ℕ
+with_branch is_next key place old q = if is_next then old else if same_key key q then Some place else old
+
+-- nodes, each after its parent, each path once
+pub record Rooted (nodes : List Node) : Type 0 where
+  pub long : length (tree_paths nodes) ≡ length nodes
+  pub before : (i : ℕ) → i < length nodes → IsPlace (node_at nodes i).parent i
+  pub below : (i : ℕ) → i < length nodes
+      → slice_index_or (tree_paths nodes) i [] ≡ path_below (tree_paths nodes) (node_at nodes i)
+  pub once : (i j : ℕ) → i < length nodes → j < length nodes
+      → slice_index_or (tree_paths nodes) i [] ≡ slice_index_or (tree_paths nodes) j [] → i ≡ j
+
+-- and those of them that do not stand right after their parents, by key
+pub record Linked (nodes : List Node) (branches : Branches) : Type 0 where
+  pub rooted : Rooted nodes
+  pub listed : (i : ℕ) → i < length nodes → i ≢ next_index (node_at nodes i).parent
+      → branch_at branches ((node_at nodes i).parent, (node_at nodes i).scope) ≡ Some i
+  pub found : (parent : ℕ) (scope : Scope) (i : ℕ) → branch_at branches (parent, scope) ≡ Some i
+      → (i < length nodes) × (node_at nodes i ≡ node_with parent scope)
+
+-- the places of the first paths are places of all, with the same paths
+pub record Extends (old new : List Path) : Type 0 where
+  pub longer : length old ≤ length new
+  pub same : (place : ℕ) → IsPlace place (length old) → path_at new place ≡ path_at old place
+
+-- where a place of one table is in another
+abbrev pub moved : List ℕ → ℕ → ℕ
+moved places place = if place == no_parent then no_parent else slice_index_or places place no_parent
+
+-- the places of the first k nodes of one table in another, with the same paths
+pub record AreMoved (nodes others : List Node) (places : List ℕ) (k : ℕ) : Type 0 where
+  pub long : length places ≡ k
+  pub within : (i : ℕ) → i < k → slice_index_or places i no_parent < length others
+  pub same : (i : ℕ) → i < k
+      → path_at (tree_paths others) (slice_index_or places i no_parent) ≡ slice_index_or (tree_paths nodes) i []
+
+-- 1 where the place is the last node's, which has no children, and else 0
+abbrev pub last_one : List Node → ℕ → ℕ
+last_one nodes place = if next_index place == length nodes then 1 else 0
+
+abbrev pub entries_at : List Node → List PathEnd → List Entry
+entries_at nodes ends = map (entry_of (tree_paths nodes)) ends
+
+-- an end at its place in another table
+abbrev pub moved_end : List ℕ → PathEnd → PathEnd
+moved_end places e = record { node = moved places e.node; hart = e.hart; count = e.count }
+
+-- an end of a hart at a node
+abbrev pub ends_at : ℕ → ℕ → PathEnd → Bool
+ends_at node hart e = e.node == node && e.hart == hart
+
+-- what holds of the nodes and the ends
+pub record IsTrie (nodes : List Node) (branches : Branches) (ends : List PathEnd) : Type 0 where
+  pub linked : Linked nodes branches
+  pub places : All (λ e. IsPlace e.node (length nodes)) ends
+  pub nodes_are : tree_paths nodes ≡ trie_nodes (entries_at nodes ends)
+  pub few_nodes : length nodes ≤ most_path_scopes
+  pub few_samples : samples_of (entries_at nodes ends) ≤ most_samples

@@ -1,0 +1,183 @@
+//! The nodes of a trie. A node is sought right after its parent first, and else among the branches.
+ghost use Rattle.std.specs.Prelude.{◌≡◌, ℕ, ◌+◌, ◌<◌, ◌≤◌, ◌≢◌, ◌==◌, ◌∷◌, ◌++◌, [], length, fold, MatchOption};
+ghost use Rattle.std.specs.Prelude.{vec_len, vec_capacity, IfOk, OnOk};
+ghost use Rattle.indexmap.specs.IndexMap.{spare};
+ghost use Rattle.scope_types.specs.Limits.{most_path_scopes};
+ghost use Rattle.tree_types.specs.Nodes.{no_parent};
+ghost use Rattle.tree_types.specs.Paths.{prefixes};
+ghost use Rattle.tree_types.specs.PathsOf.{tree_paths};
+ghost use Rattle.path_trie.specs.Trie.{IsPlace, path_at, with_node};
+ghost use Rattle.path_trie.specs.private.Linked.{Linked, Rooted, Extends, IsAbsent, Key, AreMoved, node_at, node_with};
+ghost use Rattle.path_trie.specs.private.Linked.{next_index, last_one, branch_at, with_branch, moved};
+
+use indexmap::IndexMap;
+use prof_bytes::Memory;
+use scope_types::Scope;
+use std::alloc::Global;
+use tree_types::{NO_PARENT, Node};
+
+/// Nodes in order of first appearance, each after its parent; and the indices of those that do not stand right
+/// after their parents, by parent and scope.
+#[derive(Drop)]
+pub struct NodeTable {
+    pub nodes: Vec<Node>,
+    pub branches: IndexMap<(u32, Scope), u32>,
+}
+
+impl NodeTable {
+    /// No nodes.
+    pub fn new(alloc: Global) -> NodeTable
+        ensures nodes { result.nodes.items ≡ [] }
+        ensures branches { result.branches.entries ≡ [] }
+    {
+        NodeTable {
+            nodes: Vec::new(alloc),
+            branches: IndexMap::new(alloc),
+        }
+    }
+
+    /// Makes room for so many nodes and branches more.
+    pub fn reserve(&mut self, nodes: usize, branches: usize) -> Result<(), Memory>
+        ensures nodes { self.new.nodes.items ≡ self.old.nodes.items }
+        ensures branches { self.new.branches.entries ≡ self.old.branches.entries }
+        ensures room { OnOk result (vec_len self.new.nodes + nodes ≤ vec_capacity self.new.nodes) }
+        ensures branch_room { OnOk result (branches ≤ spare self.new.branches) }
+    {
+        self.nodes.reserve(nodes)?;
+        self.branches.reserve(branches)?;
+        Ok(())
+    }
+
+    /// The child of a node with this scope; of no node, a root.
+    fn child(&self, parent: u32, scope: Scope) -> Option<u32>
+        requires linked { Linked self.now.nodes.items self.now.branches.entries }
+        requires few { length self.now.nodes.items ≤ most_path_scopes }
+        ensures { MatchOption result (IsAbsent self.now.nodes.items parent scope)
+            (λ i. (i < length self.now.nodes.items) × (node_at self.now.nodes.items i ≡ node_with parent scope)) }
+    {
+        let next = parent.wrapping_add(1);
+        let node = self.nodes.get(next as usize)?;
+        if *node == (Node { parent, scope }) {
+            Some(next)
+        } else {
+            self.branches.get(&(parent, scope)).copied()
+        }
+    }
+
+    /// The child of a node with this scope. It is put last unless it is there.
+    fn enter(&mut self, parent: u32, scope: Scope) -> u32
+        requires linked { Linked self.old.nodes.items self.old.branches.entries }
+        requires place { IsPlace parent (length self.old.nodes.items) }
+        requires few { length self.old.nodes.items < most_path_scopes }
+        requires room { length self.old.nodes.items < vec_capacity self.old.nodes }
+        requires branch_room { 0 < spare self.old.branches + last_one self.old.nodes.items parent }
+        ensures linked { Linked self.new.nodes.items self.new.branches.entries }
+        ensures paths { tree_paths self.new.nodes.items ≡ with_node (tree_paths self.old.nodes.items)
+            (path_at (tree_paths self.old.nodes.items) parent ++ scope ∷ []) }
+        ensures path { path_at (tree_paths self.new.nodes.items) result
+            ≡ path_at (tree_paths self.old.nodes.items) parent ++ scope ∷ [] }
+        ensures place { result < length self.new.nodes.items }
+        ensures extends { Extends (tree_paths self.old.nodes.items) (tree_paths self.new.nodes.items) }
+        ensures len { length self.new.nodes.items ≤ length self.old.nodes.items + 1 }
+        ensures capacity { vec_capacity self.old.nodes ≤ vec_capacity self.new.nodes }
+        ensures branch_room { spare self.old.branches + last_one self.old.nodes.items parent
+            ≤ spare self.new.branches + last_one self.new.nodes.items result }
+    {
+        if let Some(child) = self.child(parent, scope) {
+            return child;
+        }
+        let place = self.nodes.len() as u32;
+        put_branch(&mut self.branches, parent, scope, place);
+        self.nodes.push(Node { parent, scope }).unwrap();
+        place
+    }
+
+    /// Puts in each prefix of a path. The index of the last, or `NO_PARENT` where there is none.
+    pub fn put_path(&mut self, path: &[Scope]) -> u32
+        requires linked { Linked self.old.nodes.items self.old.branches.entries }
+        requires few { length self.old.nodes.items + length path.now ≤ most_path_scopes }
+        requires room { length self.old.nodes.items + length path.now ≤ vec_capacity self.old.nodes }
+        requires branch_room { 0 < spare self.old.branches }
+        ensures linked { Linked self.new.nodes.items self.new.branches.entries }
+        ensures paths { tree_paths self.new.nodes.items
+            ≡ fold with_node (tree_paths self.old.nodes.items) (prefixes path.now) }
+        ensures path { path_at (tree_paths self.new.nodes.items) result ≡ path.now }
+        ensures place { IsPlace result (length self.new.nodes.items) }
+        ensures extends { Extends (tree_paths self.old.nodes.items) (tree_paths self.new.nodes.items) }
+        ensures len { length self.new.nodes.items ≤ length self.old.nodes.items + length path.now }
+        ensures capacity { vec_capacity self.old.nodes ≤ vec_capacity self.new.nodes }
+        ensures branch_room { spare self.old.branches ≤ spare self.new.branches + 1 }
+    {
+        let mut node = NO_PARENT;
+        for scope in path {
+            node = self.enter(node, *scope);
+        }
+        node
+    }
+
+    /// The child of a node with this scope, put last unless it is there.
+    fn enter_with_room(&mut self, parent: u32, scope: Scope) -> Result<u32, Memory>
+        requires linked { Linked self.old.nodes.items self.old.branches.entries }
+        requires place { IsPlace parent (length self.old.nodes.items) }
+        requires few { length self.old.nodes.items < most_path_scopes }
+        ensures linked { OnOk result (Linked self.new.nodes.items self.new.branches.entries) }
+        ensures paths { OnOk result (tree_paths self.new.nodes.items ≡ with_node (tree_paths self.old.nodes.items)
+            (path_at (tree_paths self.old.nodes.items) parent ++ scope ∷ [])) }
+        ensures path { IfOk result (λ place. path_at (tree_paths self.new.nodes.items) place
+            ≡ path_at (tree_paths self.old.nodes.items) parent ++ scope ∷ []) }
+        ensures place { IfOk result (λ place. place < length self.new.nodes.items) }
+        ensures extends { OnOk result (Extends (tree_paths self.old.nodes.items) (tree_paths self.new.nodes.items)) }
+        ensures len { OnOk result (length self.new.nodes.items ≤ length self.old.nodes.items + 1) }
+    {
+        self.reserve(1, 1)?;
+        let place = self.enter(parent, scope);
+        Ok(place)
+    }
+
+    /// Puts in the nodes of another table. The place of each.
+    pub fn put_nodes(&mut self, alloc: Global, nodes: &[Node]) -> Result<Vec<u32>, Memory>
+        requires linked { Linked self.old.nodes.items self.old.branches.entries }
+        requires nodes { Rooted nodes.now }
+        requires few { length self.old.nodes.items + length nodes.now ≤ most_path_scopes }
+        ensures linked { OnOk result (Linked self.new.nodes.items self.new.branches.entries) }
+        ensures paths { OnOk result (tree_paths self.new.nodes.items
+            ≡ fold with_node (tree_paths self.old.nodes.items) (tree_paths nodes.now)) }
+        ensures places { IfOk result
+            (λ places. AreMoved nodes.now self.new.nodes.items places.items (length nodes.now)) }
+        ensures extends { OnOk result (Extends (tree_paths self.old.nodes.items) (tree_paths self.new.nodes.items)) }
+        ensures len { OnOk result (length self.new.nodes.items ≤ length self.old.nodes.items + length nodes.now) }
+    {
+        let mut places = Vec::new(alloc);
+        for node in nodes {
+            let parent = moved_place(places.as_slice(), node.parent);
+            let place = self.enter_with_room(parent, node.scope)?;
+            places.push(place)?;
+        }
+        Ok(places)
+    }
+}
+
+/// Where a place of one table is in another, by its list of places.
+pub fn moved_place(places: &[u32], place: u32) -> u32
+    requires { place ≢ no_parent → place < length places.now }
+    ensures { result ≡ moved places.now place }
+{
+    if place == NO_PARENT {
+        NO_PARENT
+    } else {
+        places[place as usize]
+    }
+}
+
+/// Puts a node among the branches, unless it stands right after its parent.
+fn put_branch(branches: &mut IndexMap<(u32, Scope), u32>, parent: u32, scope: Scope, place: u32)
+    requires { (next_index parent ≡ place → ⊥) → 0 < spare branches.old }
+    ensures branches { (q : Key) → branch_at branches.new.entries q
+        ≡ with_branch (next_index parent == place) (parent, scope) place (branch_at branches.old.entries q) q }
+    ensures kept { next_index parent ≡ place → spare branches.old ≤ spare branches.new }
+    ensures room { spare branches.old ≤ spare branches.new + 1 }
+{
+    if parent.wrapping_add(1) != place {
+        branches.insert((parent, scope), place).unwrap();
+    }
+}

@@ -1,0 +1,212 @@
+ghost use Rattle.std.specs.Prelude.{◌≡◌, ℕ, ◌+◌, ◌<◌, ◌≤◌, ◌≢◌, ◌||◌, [], ◌++◌, length, map, sum_by, filter, All};
+ghost use Rattle.std.specs.Prelude.{vec_capacity, IfOk, OnOk, OnErr};
+ghost use Rattle.std.specs.List.{flat_map};
+ghost use Rattle.indexmap.specs.IndexMap.{spare};
+ghost use Rattle.scope_types.specs.Limits.{most_samples, most_path_scopes};
+ghost use Rattle.tree_types.specs.Nodes.{no_parent};
+ghost use Rattle.tree_types.specs.Paths.{Path};
+ghost use Rattle.tree_types.specs.PathsOf.{tree_paths};
+ghost use Rattle.path_trie.specs.Trie.{has_node, all_prefixes, trie_nodes, node_path, node_of, IsPlace, entry_of};
+ghost use Rattle.path_trie.specs.Trie.{count_of, samples_of, scopes_of, StandBefore};
+ghost use Rattle.path_trie.specs.private.Linked.{IsTrie, entries_at, ends_at, moved_end};
+
+use crate::table::{NodeTable, moved_place};
+use prof_bytes::Memory;
+use scope_types::{Entry, Piece};
+use std::alloc::Global;
+use std::marker::Model;
+use tree_types::Node;
+
+/// Samples of a hart whose path ends at a node: the node's index, or `NO_PARENT` where the path has no scopes.
+#[derive(Clone, Copy, Debug, PartialEq, Eq, Drop)]
+pub struct PathEnd {
+    pub node: u32,
+    pub hart: u32,
+    pub count: u32,
+}
+
+/// The calling context tree of the entries that were merged. Contracts see it as the list of them.
+#[derive(Drop)]
+pub struct Trie {
+    table: NodeTable,
+    ends: Vec<PathEnd>,
+}
+
+impl Model for Trie {
+    ghost use Rattle.std.specs.Prelude.{List};
+    ghost use Rattle.scope_types.specs.declared.path.Entry.{Entry};
+    ghost use Rattle.path_trie.specs.private.Linked.{IsTrie, entries_at};
+
+    ghost Value = { List Entry };
+
+    ghost view = { λ trie. entries_at trie.table.nodes.items trie.ends.items };
+
+    ghost invariant = { λ trie. IsTrie trie.table.nodes.items trie.table.branches.entries trie.ends.items };
+}
+
+/// How many scopes the entries' paths have together.
+fn scope_count(entries: &[Entry]) -> usize
+    requires { scopes_of entries.now ≤ most_path_scopes }
+    ensures { result ≡ scopes_of entries.now }
+{
+    entries.iter().map(|entry| entry.path.scopes().len()).sum()
+}
+
+/// Puts in entries, for whose nodes and ends there is room.
+fn put_entries(table: &mut NodeTable, ends: &mut Vec<PathEnd>, entries: &[Entry])
+    requires fits { IsTrie table.old.nodes.items table.old.branches.entries ends.old.items }
+    requires samples { samples_of (entries_at table.old.nodes.items ends.old.items) + samples_of entries.now
+        ≤ most_samples }
+    requires nodes { length table.old.nodes.items + scopes_of entries.now ≤ most_path_scopes }
+    requires room { length table.old.nodes.items + scopes_of entries.now ≤ vec_capacity table.old.nodes }
+    requires branch_room { length entries.now ≤ spare table.old.branches }
+    requires end_room { length ends.old.items + length entries.now ≤ vec_capacity ends.old }
+    ensures fits { IsTrie table.new.nodes.items table.new.branches.entries ends.new.items }
+    ensures entries { entries_at table.new.nodes.items ends.new.items
+        ≡ entries_at table.old.nodes.items ends.old.items ++ entries.now }
+{
+    for entry in entries {
+        let node = table.put_path(entry.path.scopes());
+        ends.push(PathEnd {
+            node,
+            hart: entry.hart,
+            count: entry.count,
+        })
+        .unwrap();
+    }
+}
+
+impl Trie {
+    /// No entries, and no nodes. Takes no memory.
+    #[tactic(auto, using(crate::proofs::Merging::no_nodes))]
+    pub fn empty(alloc: Global) -> Trie
+        ensures entries { result ≡ [] }
+        ensures nodes { trie_nodes result ≡ [] }
+    {
+        Trie {
+            table: NodeTable::new(alloc),
+            ends: Vec::new(alloc),
+        }
+    }
+
+    /// Merges a piece's entries: each count grows by the piece's for its hart and path, and the nodes become those
+    /// that were there and the nonempty prefixes of the piece's paths. Where memory runs out the trie stays as it is.
+    #[tactic(auto, using(crate::proofs::Nodes::merge_steps))]
+    pub fn merge(&mut self, piece: &Piece) -> Result<(), Memory>
+        requires samples { samples_of self.old + samples_of piece.now.entries ≤ most_samples }
+        requires nodes { length (trie_nodes self.old) + scopes_of piece.now.entries ≤ most_path_scopes }
+        ensures ok { OnOk result (self.new ≡ self.old ++ piece.now.entries) }
+        ensures err { OnErr result (self.new ≡ self.old) }
+        ensures counts { OnOk result ((hart : ℕ) (path : Path)
+            → count_of self.new hart path ≡ count_of self.old hart path + count_of piece.now.entries hart path) }
+        ensures nodes { OnOk result ((n : Path) → has_node (trie_nodes self.new) n
+            ≡ (has_node (trie_nodes self.old) n || has_node (all_prefixes piece.now.entries) n)) }
+        ensures grow { length (trie_nodes self.new) ≤ length (trie_nodes self.old) + scopes_of piece.now.entries }
+        ensures samples { OnOk result (samples_of self.new ≡ samples_of self.old + samples_of piece.now.entries) }
+    {
+        let entries = piece.entries.items();
+        self.table.reserve(scope_count(entries), entries.len())?;
+        self.ends.reserve(entries.len())?;
+        put_entries(&mut self.table, &mut self.ends, entries);
+        Ok(())
+    }
+
+    /// A trie of the entries of several, in their order.
+    pub fn joined(alloc: Global, tries: &[&Trie]) -> Result<Trie, Memory>
+        requires samples { sum_by (λ t. samples_of t.now) tries.now ≤ most_samples }
+        requires nodes { sum_by (λ t. length (trie_nodes t.now)) tries.now ≤ most_path_scopes }
+        ensures { IfOk result (λ trie. trie ≡ flat_map (λ t. t.now) tries.now) }
+    {
+        let mut all = Trie::empty(alloc);
+        for trie in tries {
+            all = all.joined_with(alloc, trie)?;
+        }
+        Ok(all)
+    }
+
+    /// A trie of these entries, and then another's.
+    fn joined_with(self, alloc: Global, other: &Trie) -> Result<Trie, Memory>
+        requires samples { samples_of self + samples_of other.now ≤ most_samples }
+        requires nodes { length (trie_nodes self) + length (trie_nodes other.now) ≤ most_path_scopes }
+        ensures { IfOk result (λ trie. trie ≡ self ++ other.now) }
+    {
+        let Trie {
+            mut table,
+            mut ends,
+        } = self;
+        let places = table.put_nodes(alloc, other.table.nodes.as_slice())?;
+        put_ends(&mut ends, other.ends.as_slice(), places.as_slice())?;
+        Ok(Trie { table, ends })
+    }
+
+    /// How many nodes there are.
+    pub fn len(&self) -> u32
+        ensures { result ≡ length (trie_nodes self.now) }
+    {
+        self.table.nodes.len() as u32
+    }
+
+    /// The node with an index.
+    pub fn node(&self, at: u32) -> Node
+        requires { at < length (trie_nodes self.now) }
+        ensures node { result ≡ node_of (trie_nodes self.now) (node_path (trie_nodes self.now) at) }
+        ensures before { result.parent ≢ no_parent → result.parent < at }
+    {
+        self.table.nodes[at as usize]
+    }
+
+    /// The nodes, in order of first appearance.
+    pub fn nodes(&self) -> &[Node]
+        ensures nodes { result.now ≡ map (node_of (trie_nodes self.now)) (trie_nodes self.now) }
+        ensures paths { tree_paths result.now ≡ trie_nodes self.now }
+        ensures before { StandBefore result.now }
+        ensures few { length result.now ≤ most_path_scopes }
+    {
+        self.table.nodes.as_slice()
+    }
+
+    /// Where the paths of the merged entries end, in order of merging.
+    pub fn ends(&self) -> &[PathEnd]
+        ensures entries { map (entry_of (trie_nodes self.now)) result.now ≡ self.now }
+        ensures places { All (λ e. IsPlace e.node (length (trie_nodes self.now))) result.now }
+        ensures few { samples_of self.now ≤ most_samples }
+    {
+        self.ends.as_slice()
+    }
+
+    /// How many samples of a hart end at a node. The time is that of a walk over all ends.
+    pub fn count(&self, node: u32, hart: u32) -> u64
+        requires { node < length (trie_nodes self.now) }
+        ensures { result ≡ count_of self.now hart (node_path (trie_nodes self.now) node) }
+    {
+        count_ends(self.ends.as_slice(), node, hart)
+    }
+}
+
+/// Puts in another trie's ends, whose nodes have these places.
+fn put_ends(ends: &mut Vec<PathEnd>, others: &[PathEnd], places: &[u32]) -> Result<(), Memory>
+    requires { All (λ e. IsPlace e.node (length places.now)) others.now }
+    ensures { OnOk result (ends.new.items ≡ ends.old.items ++ map (moved_end places.now) others.now) }
+{
+    for end in others {
+        ends.push(PathEnd {
+            node: moved_place(places, end.node),
+            hart: end.hart,
+            count: end.count,
+        })?;
+    }
+    Ok(())
+}
+
+fn count_ends(ends: &[PathEnd], node: u32, hart: u32) -> u64
+    requires { sum_by (λ e. e.count) ends.now ≤ most_samples }
+    ensures { result ≡ sum_by (λ e. e.count) (filter (ends_at node hart) ends.now) }
+{
+    let mut total = 0;
+    for end in ends {
+        if end.node == node && end.hart == hart {
+            total += u64::from(end.count);
+        }
+    }
+    total
+}

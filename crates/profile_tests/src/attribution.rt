@@ -1,0 +1,122 @@
+//! Reports of programs with debug information: inlined procedures, source lines, and what has neither. The reports are
+//! written by hand from the entries and the rows of the line tables.
+use crate::debug_programs::{WITH_ENTRIES, WITH_INLINES, WITH_OLDER_UNITS};
+use crate::programs::{answer, files};
+use hpc_top::Status;
+use prof_devices::{SureShelf, SureSink};
+use std::test::Fail;
+use std::thread::Threads;
+
+/// Inlined code in two pieces and of two levels; the entries have calls, and the line table three rows.
+const INLINED: &str = "\
+harts 1 period 2 samples 10 total 20
+hart 0 retired 20 samples 10 end exit 19
+       inclusive      %            frame  scope
+              20  100.0                0  <thread root>
+              20  100.0               20    main
+               6   30.0                6      [I] outer called at /s/a.c:3
+               2   10.0                2        [I] inner called at /s/a.c:11
+               2   10.0                2          0x00010024
+               2   10.0                2        /s/a.c:8
+               2   10.0                2        0x0001002c
+               2   10.0                2      /s/a.c:7
+               2   10.0                2      /s/a.c:8
+               2   10.0                2      0x0001001c
+               2   10.0                2      0x00010034
+               2   10.0                2      0x0001003c
+               2   10.0                2      0x00010044
+               2   10.0                2      0x0001004c
+";
+
+/// Two rows at one address, and the end of a sequence right at a sample.
+const LINES: &str = "\
+harts 1 period 1 samples 7 total 7
+hart 0 retired 7 samples 7 end stopped
+       inclusive      %            frame  scope
+               7  100.0                0  <thread root>
+               7  100.0                7    <unknown procedure>
+               2   28.5                2      /s/a.c:7
+               4   57.1                4      /s/a.c:8
+               1   14.2                1      0x00010018
+";
+
+/// Units of older versions are passed over.
+const OLDER: &str = "\
+harts 1 period 31 samples 1 total 31
+hart 0 retired 49 samples 1 end exit 0
+       inclusive      %            frame  scope
+              31  100.0                0  <thread root>
+              31  100.0                0    <unknown procedure>
+              31  100.0                0      call at /s/a.c:7
+              31  100.0                0        f
+              31  100.0                0          call at 0x00010020
+              31  100.0                0            f
+              31  100.0                0              call at 0x00010020
+              31  100.0                0                f
+              31  100.0                0                  call at 0x00010020
+              31  100.0                0                    f
+              31  100.0                0                      call at 0x00010020
+              31  100.0                0                        f
+              31  100.0                0                          call at 0x00010020
+              31  100.0               31                            f
+              31  100.0               31                              0x00010024
+";
+
+/// A program, the words and the schedule of its run, and the report.
+struct Run {
+    name: &'static str,
+    file: &'static [u8],
+    words: &'static str,
+    schedule: &'static [u8],
+    report: &'static str,
+}
+
+static RUNS: [Run; 3] = [
+    Run {
+        name: "inlined procedures",
+        file: WITH_INLINES,
+        words: "profile p i s 2 1 d",
+        schedule: b"harts 1\n0 100000\n",
+        report: INLINED,
+    },
+    Run {
+        name: "rows of a line table",
+        file: WITH_ENTRIES,
+        words: "profile p i s 1 1 d",
+        schedule: b"harts 1\n0 7\n",
+        report: LINES,
+    },
+    Run {
+        name: "units of older versions",
+        file: WITH_OLDER_UNITS,
+        words: "profile p i s 31 1 d",
+        schedule: b"harts 1\n0 100000\n",
+        report: OLDER,
+    },
+];
+
+/// Whether a run is done, with just its report and nothing on standard error.
+fn is_reported(rt: &(impl Threads + Sync + AllocGlobal), run: &Run) -> Result<bool, Fail> {
+    let alloc = rt.alloc();
+    let mut shelf = SureShelf::of(alloc, files(alloc, run.file, b"", run.schedule)?);
+    let mut out = SureSink::new(alloc);
+    let mut err = SureSink::new(alloc);
+    let status = answer(rt, run.words, &mut shelf, &mut out, &mut err)?;
+    Ok(status == Status::Done && err.taken().is_empty() && out.taken() == run.report.as_bytes())
+}
+
+/// The name of the first run that has another report.
+fn other_report(rt: &(impl Threads + Sync + AllocGlobal)) -> Result<Option<&'static str>, Fail> {
+    for run in &RUNS {
+        if !is_reported(rt, run)? {
+            return Ok(Some(run.name));
+        }
+    }
+    Ok(None)
+}
+
+#[test]
+fn reports_of_programs_with_debug_information(rt: HostRuntime) -> Result<(), Fail> {
+    assert_eq!(rt; other_report(&rt)?, None);
+    Ok(())
+}

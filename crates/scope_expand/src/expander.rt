@@ -1,0 +1,202 @@
+//! What expands raw paths by the scopes at their addresses.
+ghost use Rattle.std.specs.Prelude.{◌≡◌, ◌++◌, List, length, reverse, IfOk, OnOk};
+ghost use Rattle.scope_types.specs.CallPaths.{HartPath};
+ghost use Rattle.scope_types.specs.Expansion.{call_path, frame_scopes, root_of};
+ghost use Rattle.scope_find.specs.Found.{found_at, naming_of};
+ghost use Rattle.scope_find.specs.Views.{found_view};
+ghost use Rattle.tree_types.specs.Database.{names_used};
+ghost use Rattle.tree_types.specs.Nodes.{nodes};
+ghost use Rattle.tree_types.specs.PathsOf.{tree_paths};
+ghost use Rattle.scope_expand.specs.Kept.{Fits};
+ghost use Rattle.scope_expand.specs.TreeNames.{names_of};
+ghost use Rattle.scope_expand.specs.private.Frames.{caller_scopes, last_scope};
+
+use crate::names::names_of;
+use lru::LruCache;
+use prof_bytes::Memory;
+use scope_find::{Finder, Found};
+use scope_types::{End, Expand, Frame, LineId, RawPath, RootKind, Scope, ScopePath};
+use std::alloc::Global;
+use std::marker::Model;
+use std::num::NonZeroUsize;
+use tree_types::{Names, Tree};
+
+/// How many addresses a memo keeps.
+const MOST_KEPT: usize = 4_096;
+
+/// What was found at addresses, the one that was used last first.
+type Kept = LruCache<u32, Found>;
+
+/// What expands raw paths to call paths by the scopes that a finder finds at their addresses. Contracts see it as what
+/// the finder knows of the program.
+#[derive(Drop)]
+pub struct Expander<'a> {
+    alloc: Global,
+    finder: &'a Finder<'a>,
+}
+
+impl<'a> Model for Expander<'a> {
+    ghost use Rattle.scope_find.specs.Found.{ProgramScopes};
+
+    ghost Value = { ProgramScopes };
+
+    ghost view = { λ expander. expander.finder.now };
+}
+
+/// Where a frame stands in its path.
+#[derive(Clone, Copy, Debug, PartialEq, Eq)]
+enum Standing {
+    /// It calls the next frame.
+    Caller,
+    /// The sample was taken in it.
+    Innermost,
+}
+
+fn root_of(end: End) -> RootKind
+    ensures { result ≡ root_of end }
+{
+    match end {
+        End::Whole => RootKind::Thread,
+        End::Partial(_) => RootKind::Partial,
+    }
+}
+
+fn last_scope(standing: Standing, line: LineId) -> Scope
+    ensures { result ≡ last_scope standing line }
+{
+    match standing {
+        Standing::Caller => Scope::Call(line),
+        Standing::Innermost => Scope::Stmt(line),
+    }
+}
+
+/// Appends the scopes of a frame at whose address this was found.
+fn put_found(scopes: &mut Vec<Scope>, found: &Found, standing: Standing) -> Result<(), Memory>
+    ensures { OnOk result (scopes.new.items
+        ≡ scopes.old.items ++ frame_scopes (last_scope standing) (found_view found.now)) }
+{
+    scopes.push(Scope::Proc(found.procedure))?;
+    for inline in found.inlines.items() {
+        scopes.push(Scope::Inline {
+            callee: inline.callee,
+            call: inline.call,
+        })?;
+    }
+    scopes.push(last_scope(standing, found.line))?;
+    Ok(())
+}
+
+/// Appends the scopes of a frame. What is found at its address is kept, where memory is found for it.
+fn put_frame(
+    finder: &Finder<'_>,
+    memo: &mut Kept,
+    scopes: &mut Vec<Scope>,
+    pc: u32,
+    standing: Standing,
+) -> Result<(), Memory>
+    requires { Fits finder.now memo.old }
+    ensures memo { Fits finder.now memo.new }
+    ensures scopes { OnOk result (scopes.new.items
+        ≡ scopes.old.items ++ frame_scopes (last_scope standing) (found_at finder.now pc)) }
+{
+    if let Some(found) = memo.get(&pc) {
+        return put_found(scopes, found, standing);
+    }
+    let found = finder.scopes_at(pc)?;
+    put_found(scopes, &found, standing)?;
+    let _ = memo.put(pc, found);
+    Ok(())
+}
+
+/// Appends the scopes of callers, which are innermost first, from the outermost in.
+fn put_callers(
+    finder: &Finder<'_>,
+    memo: &mut Kept,
+    scopes: &mut Vec<Scope>,
+    callers: &[Frame],
+) -> Result<(), Memory>
+    requires { Fits finder.now memo.old }
+    ensures memo { Fits finder.now memo.new }
+    ensures scopes { OnOk result (scopes.new.items
+        ≡ scopes.old.items ++ caller_scopes finder.now (reverse callers.now)) }
+{
+    for caller in callers.iter().rev() {
+        put_frame(finder, memo, scopes, caller.pc, Standing::Caller)?;
+    }
+    Ok(())
+}
+
+/// The call path of a raw path.
+fn expand_with(
+    alloc: Global,
+    finder: &Finder<'_>,
+    memo: &mut Kept,
+    raw: &RawPath,
+) -> Result<ScopePath, Memory>
+    requires { Fits finder.now memo.old }
+    ensures memo { Fits finder.now memo.new }
+    ensures path { IfOk result (λ path. path ≡ call_path (found_at finder.now) raw.now) }
+{
+    let mut scopes = Vec::new(alloc);
+    scopes.push(Scope::Root(root_of(raw.end())))?;
+    let [innermost, callers @ ..] = raw.frames() else {
+        return Ok(ScopePath::of(scopes));
+    };
+    put_callers(finder, memo, &mut scopes, callers)?;
+    put_frame(finder, memo, &mut scopes, innermost.pc, Standing::Innermost)?;
+    Ok(ScopePath::of(scopes))
+}
+
+/// How many scopes the call path of a raw path has.
+fn length_of(finder: &Finder<'_>, raw: &RawPath) -> u64
+    ensures { result ≡ length (call_path (found_at finder.now) raw.now) }
+{
+    let mut total = 1;
+    for frame in raw.frames() {
+        total += 2 + u64::from(finder.levels_at(frame.pc));
+    }
+    total
+}
+
+impl<'a> Expander<'a> {
+    /// The expander by what this finder finds. Takes no memory.
+    pub fn of(alloc: Global, finder: &'a Finder<'a>) -> Expander<'a>
+        ensures { result ≡ finder.now }
+    {
+        Expander { alloc, finder }
+    }
+
+    /// The procedures and files that a tree's scopes use, ascending, each once, each with its name.
+    pub fn names(&self, tree: &Tree) -> Result<Names, Memory>
+        ensures nodes { IfOk result (λ names. names ≡ names_of (naming_of self.now) tree.now.nodes) }
+        ensures paths { (paths : List HartPath) → tree_paths tree.now.nodes ≡ nodes paths
+            → IfOk result (λ names. names ≡ names_used (naming_of self.now) paths) }
+    {
+        names_of(self.alloc, self.finder, tree.nodes())
+    }
+}
+
+impl<'a> Expand for Expander<'a> {
+    ghost use Rattle.scope_types.specs.Expansion.{call_path};
+    ghost use Rattle.scope_find.specs.Found.{found_at};
+    ghost use Rattle.scope_expand.specs.Kept.{Fits};
+
+    /// What was found at the addresses that were used last, of at most 4,096.
+    type Memo = Kept;
+
+    ghost call_path = { λ program raw. call_path (found_at program) raw };
+
+    ghost fits = { λ program memo. Fits program memo };
+
+    fn fresh(&self) -> Result<Kept, Memory> {
+        Ok(Kept::sparse(self.alloc, NonZeroUsize::new(MOST_KEPT).unwrap())?)
+    }
+
+    fn length(&self, raw: &RawPath) -> u64 {
+        length_of(self.finder, raw)
+    }
+
+    fn expand(&self, memo: &mut Kept, raw: &RawPath) -> Result<ScopePath, Memory> {
+        expand_with(self.alloc, self.finder, memo, raw)
+    }
+}

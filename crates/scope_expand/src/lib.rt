@@ -1,0 +1,12 @@
+//! Raw paths expanded to call paths, with a bounded memo of what was found at addresses; and the names of what a tree
+//! uses.
+//!
+//! It promises that each raw path becomes its root and then, for each frame from the outermost in, its procedure, the
+//! calls inlined there, and its call or its statement (HPCToolkit's manual, "Calling Context Tree"), whatever the memo
+//! keeps. Below stand `scope_find`, `tree_types`, `scope_types` and `prof_bytes`.
+#![tactic(auto)]
+
+mod expander;
+mod names;
+
+pub use expander::Expander;

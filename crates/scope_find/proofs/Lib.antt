@@ -1,0 +1,12 @@
+pub mod Orders
+pub mod Taking
+pub mod FirstHeld
+pub mod Holding
+pub mod Procedures
+pub mod Chains
+pub mod Events
+pub mod Sweeping
+pub mod PartsMade
+pub mod PartsFound
+pub mod SymbolsFound
+pub mod Scopes

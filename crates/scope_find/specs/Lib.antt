@@ -1,0 +1,4 @@
+pub mod Symbols
+pub mod Found
+pub mod Views
+pub mod private

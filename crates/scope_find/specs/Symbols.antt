@@ -1,0 +1,24 @@
+-- What the program's function symbols say of an address, and how procedures are called by them.
+use Rattle.std.specs.Prelude.{ℕ, List, take, find, Option, Some, None, ◌==◌}
+use Rattle.elf_image.specs.Image.{FunctionSymbol, ProgramImage, in_function}
+use Rattle.scope_types.specs.declared.scope.ProcId.{ProcId}
+use Rattle.scope_types.specs.declared.scope.ProcId.TheVariants.{Sym, Nameless}
+use Rattle.dwarf_inline.specs.Links.{most_name, unnamed}
+
+-- a function symbol's procedure
+abbrev pub symbol_procedure : Option FunctionSymbol → ProcId
+symbol_procedure (Some function) = Sym function.start
+symbol_procedure None = Nameless
+
+-- the procedure at an address, by the first function symbol that holds it
+abbrev pub symbol_at : ProgramImage → ℕ → ProcId
+symbol_at image address = symbol_procedure (find (in_function address) image.functions)
+
+-- a function symbol's name, cut
+abbrev pub name_or_unnamed : Option FunctionSymbol → List ℕ
+name_or_unnamed (Some function) = take most_name function.name
+name_or_unnamed None = unnamed
+
+-- a procedure of a symbol is called as the first function symbol that starts where it does
+abbrev pub symbol_name : ProgramImage → ℕ → List ℕ
+symbol_name image start = name_or_unnamed (find (λ function. function.start == start) image.functions)

@@ -1,0 +1,28 @@
+-- The scopes at an address, by the part that holds it.
+use Rattle.std.specs.Prelude.{ℕ, List, [], map, Option, Some, None, slice_get, unwrap_or}
+use Rattle.scope_types.specs.declared.scope.ProcId.{ProcId}
+use Rattle.scope_types.specs.declared.scope.ProcId.TheVariants.{Die}
+use Rattle.scope_types.specs.declared.scope.LineId.{LineId}
+use Rattle.elf_image.specs.Image.{ProgramImage}
+use Rattle.dwarf_inline.specs.Structure.{ProgramStructure}
+use Rattle.scope_find.specs.declared.parts.Part.{Part}
+use Rattle.scope_find.specs.Symbols.{symbol_at}
+use Rattle.scope_find.specs.Found.{inline_scope}
+use Rattle.scope_find.specs.private.Spans.{item_at}
+
+abbrev pub subprogram_of : Option Part → Option ℕ
+subprogram_of None = None
+subprogram_of (Some p) = p.subprogram
+
+-- the numbers of the calls that are inlined in a part
+abbrev pub numbers_in : List (List ℕ) → Option Part → List ℕ
+numbers_in lists None = []
+numbers_in lists (Some p) = unwrap_or (slice_get lists p.inlines) []
+
+-- the procedure by its number, else by symbols
+abbrev pub procedure_by : ProgramStructure → ProgramImage → ℕ → Option ℕ → ProcId
+procedure_by s image address None = symbol_at image address
+procedure_by s image address (Some number) = Die (item_at s number).identity
+
+abbrev pub scopes_by : ProgramStructure → List ℕ → List (ProcId × LineId)
+scopes_by s numbers = map (λ number. inline_scope (item_at s number)) numbers

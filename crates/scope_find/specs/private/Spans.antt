@@ -1,0 +1,123 @@
+-- The ranges of items as spans, the events where they start and end, and what is open at an address.
+use Rattle.std.specs.Prelude.{◌≡◌, ◌≢◌, ◌⊎◌, ℕ, ◌+◌, ◌<◌, ◌≤◌, Bool, false, List, [], ◌∷◌, map, drop}
+use Rattle.std.specs.Prelude.{Option, Some, None, slice_get, slice_index_or}
+use Rattle.std.specs.List.{flat_map, Contains}
+use Rattle.dwarf_inline.specs.declared.item.Item.{Item}
+use Rattle.dwarf_inline.specs.Structure.{ProgramStructure}
+use Rattle.scope_find.specs.declared.span.Span.{Span}
+use Rattle.scope_find.specs.declared.span.Event.{Event}
+use Rattle.scope_find.specs.Found.{Numbered, numbered, item_ranges, subprogram_at, inlined_before, inlined_into}
+
+-- ---- spans
+
+-- a range of an item that counts
+pub record IsSpan (s : ProgramStructure) (q : Span) : Type 0 where
+  pub item : Item
+  pub there : slice_get s.items q.item ≡ Some item
+  pub kind : q.inlined ≡ item.inlined
+  pub counted : Contains (item_ranges s item) (q.start, q.end)
+
+abbrev pub span_of : Numbered → ℕ × ℕ → Span
+span_of i r = record { inlined = i.1.inlined; item = i.0; start = r.0; end = r.1 }
+
+-- ---- events
+
+abbrev pub starting : Span → Event
+starting q = record { address = q.start; span = q }
+
+abbrev pub ending : Span → Event
+ending q = record { address = q.end; span = q }
+
+abbrev pub range_events : Numbered → ℕ × ℕ → List Event
+range_events i r = starting (span_of i r) ∷ ending (span_of i r) ∷ []
+
+abbrev pub item_events : ProgramStructure → Numbered → List Event
+item_events s i = flat_map (range_events i) (item_ranges s i.1)
+
+abbrev pub all_events : ProgramStructure → List Event
+all_events s = flat_map (item_events s) (numbered s)
+
+-- the events are those of all ranges of items
+pub record AreEventsOf (s : ProgramStructure) (events : List Event) : Type 0 where
+  pub spans : (e : Event) → Contains events e → IsSpan s e.span
+  pub places : (e : Event) → Contains events e → (e.address ≡ e.span.start) ⊎ (e.address ≡ e.span.end)
+  pub some : (e : Event) → Contains events e → e.span.start < e.span.end
+  pub starts : (q : Span) → IsSpan s q → Contains events (starting q)
+  pub ends : (q : Span) → IsSpan s q → Contains events (ending q)
+
+-- ---- what is open
+
+-- after an event: its range is open where it starts there, and closed where it ends
+pub record Takes (e : Event) (held before : List Span) : Type 0 where
+  pub opens : e.address ≡ e.span.start → Contains held e.span
+  pub closes : e.address ≢ e.span.start → Contains held e.span → ⊥
+  pub keeps : (q : Span) → e.span ≢ q → Contains before q → Contains held q
+  pub adds : (q : Span) → e.span ≢ q → Contains held q → Contains before q
+
+-- after events: the ranges that have started and not ended
+pub record IsOpenAfter (events : List Event) (held : List Span) : Type 0 where
+  pub started : (q : Span) → Contains held q → Contains events (starting q)
+  pub lasting : (q : Span) → Contains held q → Contains events (ending q) → ⊥
+  pub all : (q : Span) → Contains events (starting q) → (Contains events (ending q) → ⊥) → Contains held q
+
+abbrev pub AreSpans : ProgramStructure → List Span → Type 0
+AreSpans s held = (q : Span) → Contains held q → IsSpan s q
+
+-- the ranges that hold an address
+pub record IsOpenAt (s : ProgramStructure) (held : List Span) (address : ℕ) : Type 0 where
+  pub spans : AreSpans s held
+  pub from : (q : Span) → Contains held q → q.start ≤ address
+  pub to : (q : Span) → Contains held q → address < q.end
+  pub all : (q : Span) → IsSpan s q → q.start ≤ address → address < q.end → Contains held q
+
+-- ---- the first item of a kind, from a number on, with an open range
+
+abbrev pub NoneOpen : List Span → Bool → ℕ → Type 0
+NoneOpen held inlined low = (q : Span) → Contains held q → q.inlined ≡ inlined → q.item < low
+
+pub record IsFirstOpen (held : List Span) (inlined : Bool) (low number : ℕ) : Type 0 where
+  pub span : Span
+  pub there : Contains held span
+  pub kinds : span.inlined ≡ inlined
+  pub same : span.item ≡ number
+  pub above : low ≤ number
+  pub least : (q : Span) → Contains held q → q.inlined ≡ inlined → low ≤ q.item → number ≤ q.item
+
+-- ---- the procedure at an address, and the calls inlined there
+
+pub record IsProcedure (s : ProgramStructure) (address number : ℕ) : Type 0 where
+  pub item : Item
+  pub there : slice_get s.items number ≡ Some item
+  pub found : subprogram_at s address ≡ Some (number, item)
+
+-- the number is that of the first subprogram at the address
+abbrev pub IsProcedureAt : ProgramStructure → ℕ → Option ℕ → Type 0
+IsProcedureAt s address None = subprogram_at s address ≡ None
+IsProcedureAt s address (Some number) = IsProcedure s address number
+
+abbrev pub inlined_from : ProgramStructure → ℕ → ℕ → ℕ → List Item
+inlined_from s address low end = inlined_before s address end (drop low (numbered s))
+
+pub record IsInlinedNext (s : ProgramStructure) (address low end number : ℕ) : Type 0 where
+  pub item : Item
+  pub there : slice_get s.items number ≡ Some item
+  pub next : inlined_from s address low end ≡ item ∷ inlined_from s address (number + 1) item.after
+
+-- the number is that of the first inlined subroutine at the address, of the items from `low` up to `end`
+abbrev pub IsNextInlined : ProgramStructure → ℕ → ℕ → ℕ → Option ℕ → Type 0
+IsNextInlined s address low end None = inlined_from s address low end ≡ []
+IsNextInlined s address low end (Some number) = IsInlinedNext s address low end number
+
+abbrev pub no_item : Item
+no_item = record { offset = 0; inlined = false; after = 0; identity = 0; call = None; first = 0; ranges = 0 }
+
+abbrev pub item_at : ProgramStructure → ℕ → Item
+item_at s number = slice_index_or s.items number no_item
+
+-- the items with these numbers
+abbrev pub items_at : ProgramStructure → List ℕ → List Item
+items_at s numbers = map (item_at s) numbers
+
+-- the calls that are inlined at an address into the subprogram with a number
+abbrev pub into_number : ProgramStructure → ℕ → ℕ → List Item
+into_number s address number = inlined_into s address (number, item_at s number)

@@ -1,0 +1,178 @@
+//! What finds the scopes at an address.
+ghost use Rattle.std.specs.Prelude.{◌≡◌, ◌<◌, length, map, All, IfOk, IfSome, unwrap_or};
+ghost use Rattle.dwarf_line.specs.Sequences.{line_at};
+ghost use Rattle.scope_types.specs.declared.scope.LineId.TheVariants as lines;
+ghost use Rattle.scope_find.specs.Found.{inline_scope, found_at, naming_of};
+ghost use Rattle.scope_find.specs.Views.{inline_view, found_view};
+ghost use Rattle.scope_find.specs.private.Parts.{numbers_of};
+ghost use Rattle.scope_find.specs.private.Scopes.{subprogram_of, numbers_in, procedure_by, scopes_by};
+
+use crate::found::{Found, InlineAt};
+use crate::names::{symbol_at, symbol_name};
+use crate::parts::{Part, Parts, part_at, parts_of};
+use dwarf_inline::{Item, Structure};
+use dwarf_line::LineTable;
+use elf_image::Image;
+use prof_bytes::{Listed, Memory, Text};
+use scope_types::{LineId, ProcId};
+use std::alloc::Global;
+use std::marker::Model;
+
+/// What finds the scopes at an address of a program.
+#[derive(Drop)]
+pub struct Finder<'a> {
+    alloc: Global,
+    structure: &'a Structure<'a>,
+    lines: &'a LineTable<'a>,
+    image: &'a Image<'a>,
+    found: Parts,
+}
+
+impl<'a> Model for Finder<'a> {
+    ghost use Rattle.scope_find.specs.Found.{ProgramScopes};
+    ghost use Rattle.scope_find.specs.private.Parts.{numbers_of, IsFoundIn};
+
+    ghost Value = { ProgramScopes };
+
+    ghost view = { λ finder. record {
+      structure = finder.structure.now;
+      lines = finder.lines.now;
+      image = finder.image.now;
+    } };
+
+    ghost invariant = { λ finder.
+        IsFoundIn finder.structure.now finder.found.parts.items (numbers_of finder.found.lists.keys) };
+}
+
+fn subprogram_of(part: Option<Part>) -> Option<u32>
+    ensures { result ≡ subprogram_of part }
+{
+    match part {
+        Some(part) => part.subprogram,
+        None => None,
+    }
+}
+
+/// The numbers of the calls that are inlined in a part, the outermost first.
+fn numbers_in(found: &Parts, part: Option<Part>) -> &[u32]
+    ensures { result.now ≡ numbers_in (numbers_of found.now.lists.keys) part }
+{
+    let Some(part) = part else {
+        return &[];
+    };
+    match found.lists.get_index(part.inlines) {
+        Some(list) => list.as_slice(),
+        None => &[],
+    }
+}
+
+fn procedure_of(
+    structure: &Structure<'_>,
+    image: &Image<'_>,
+    pc: u32,
+    subprogram: Option<u32>,
+) -> ProcId
+    requires { IfSome subprogram (λ number. number < length structure.now.items) }
+    ensures { result ≡ procedure_by structure.now image.now pc subprogram }
+{
+    match subprogram {
+        Some(number) => ProcId::Die(structure.item(number).identity),
+        None => symbol_at(image, pc),
+    }
+}
+
+fn inline_of(item: Item) -> InlineAt
+    ensures { inline_view result ≡ inline_scope item }
+{
+    InlineAt {
+        callee: ProcId::Die(item.identity),
+        call: item.call.unwrap_or(LineId::Address(0)),
+    }
+}
+
+fn inlines_of(
+    alloc: Global,
+    structure: &Structure<'_>,
+    numbers: &[u32],
+) -> Result<Vec<InlineAt>, Memory>
+    requires { All (λ number. number < length structure.now.items) numbers.now }
+    ensures { IfOk result (λ inlines. map inline_view inlines.items ≡ scopes_by structure.now numbers.now) }
+{
+    let mut inlines = Vec::new(alloc);
+    for number in numbers {
+        inlines.push(inline_of(structure.item(*number)))?;
+    }
+    Ok(inlines)
+}
+
+fn line_of(table: &LineTable<'_>, pc: u32) -> LineId
+    ensures { result ≡ unwrap_or (line_at table.now.sequences pc) (lines.Address pc) }
+{
+    table.row_at(pc).unwrap_or(LineId::Address(pc))
+}
+
+impl<'a> Finder<'a> {
+    /// What finds the scopes of a program. Takes time as n log n in the number of ranges, for each of the calls
+    /// that are inlined at an address.
+    pub fn of(
+        alloc: Global,
+        structure: &'a Structure<'a>,
+        lines: &'a LineTable<'a>,
+        image: &'a Image<'a>,
+    ) -> Result<Finder<'a>, Memory>
+        ensures { IfOk result (λ finder.
+            finder ≡ record { structure = structure.now; lines = lines.now; image = image.now }) }
+    {
+        let found = parts_of(alloc, structure)?;
+        Ok(Finder {
+            alloc,
+            structure,
+            lines,
+            image,
+            found,
+        })
+    }
+
+    /// How many inlined calls there are at an address. Takes no memory, and time as the logarithm of the number
+    /// of ranges.
+    pub fn levels_at(&self, pc: u32) -> u32
+        ensures { result ≡ length (found_at self.now pc).inlines }
+    {
+        let part = part_at(self.found.parts.as_slice(), pc);
+        numbers_in(&self.found, part).len() as u32
+    }
+
+    /// The scopes at an address. Takes time as the logarithm of the number of ranges, and linear in the inlined
+    /// calls.
+    pub fn scopes_at(&self, pc: u32) -> Result<Found, Memory>
+        ensures { IfOk result (λ found. found_view found ≡ found_at self.now pc) }
+    {
+        let part = part_at(self.found.parts.as_slice(), pc);
+        let procedure = procedure_of(self.structure, self.image, pc, subprogram_of(part));
+        let inlines = inlines_of(self.alloc, self.structure, numbers_in(&self.found, part))?;
+        Ok(Found {
+            procedure,
+            inlines: Listed::of(inlines),
+            line: line_of(self.lines, pc),
+        })
+    }
+
+    /// What a procedure is called, of at most 4,096 bytes. Takes time linear in the number of function symbols
+    /// where it is known by a symbol alone.
+    pub fn proc_name(&self, id: ProcId) -> Result<Text, Memory>
+        ensures { IfOk result (λ name. name ≡ (naming_of self.now).proc_name id) }
+    {
+        match id {
+            ProcId::Die(offset) => Text::of(self.alloc, self.structure.proc_name(offset)),
+            ProcId::Sym(start) => Text::of(self.alloc, symbol_name(self.image, start)),
+            ProcId::Nameless => Text::of(self.alloc, b"<unknown procedure>"),
+        }
+    }
+
+    /// What a file of a line table is called, of at most 4,096 bytes.
+    pub fn file_name(&self, table: u32, file: u32) -> Result<Text, Memory>
+        ensures { IfOk result (λ name. name ≡ (naming_of self.now).file_name table file) }
+    {
+        self.lines.file_name(self.alloc, table, file)
+    }
+}

@@ -1,0 +1,49 @@
+//! What the program's function symbols say.
+ghost use Rattle.std.specs.Prelude.{◌≡◌, ◌==◌, find, take};
+ghost use Rattle.std.specs.Option.{option_copied};
+ghost use Rattle.scope_find.specs.Symbols.{symbol_at, symbol_name};
+
+use elf_image::{Function, Image};
+use scope_types::ProcId;
+
+/// The most bytes of a name.
+const MOST_NAME: usize = 4096;
+
+/// The first function symbol that starts at an address.
+fn starting<'a, 'f>(functions: &'f [Function<'a>], start: u32) -> Option<&'f Function<'a>>
+    ensures { option_copied result ≡ find (λ function. function.start == start) functions.now }
+{
+    functions.iter().find(|function| function.start == start)
+}
+
+/// So many bytes from the front, or all where there are fewer.
+fn front(bytes: &[u8], count: usize) -> &[u8]
+    ensures { result.now ≡ take count bytes.now }
+{
+    if count > bytes.len() {
+        return bytes;
+    }
+    &bytes[..count]
+}
+
+/// What a procedure of a symbol is called. Takes time linear in the number of function symbols.
+#[tactic(auto, using(crate::proofs::SymbolsFound::symbol_steps))]
+pub(crate) fn symbol_name<'a>(image: &Image<'a>, start: u32) -> &'a [u8]
+    ensures { result.now ≡ symbol_name image.now start }
+{
+    match starting(image.functions(), start) {
+        Some(function) => front(function.name, MOST_NAME),
+        None => b"<unnamed>",
+    }
+}
+
+/// The procedure at an address, by the first function symbol that holds it.
+#[tactic(auto, using(crate::proofs::SymbolsFound::at_steps))]
+pub(crate) fn symbol_at(image: &Image<'_>, pc: u32) -> ProcId
+    ensures { result ≡ symbol_at image.now pc }
+{
+    match image.function_at(pc) {
+        Some(function) => ProcId::Sym(function.start),
+        None => ProcId::Nameless,
+    }
+}

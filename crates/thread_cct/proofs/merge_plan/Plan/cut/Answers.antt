@@ -1,0 +1,40 @@
+use Rattle.std.proofs.Common.{◌+◌, ◌*◌, ◌<◌, length, ap, ◌∙◌, refl, arith}
+use Rattle.std.proofs.lemmas.List.{length-map}
+use Rattle.thread_cct.specs.Plan.{expanded, expanded_path}
+use Rattle.thread_cct.proofs.Hands.{dealt_none, dealt_length, next_dealt, all_pieces, each_piece}
+use Rattle.thread_cct.proofs.Located.{chunk_in, place_in, chunk_whole}
+use Rattle.thread_cct.proofs.merge_plan.Plan.cut.Goals as goal
+
+pub overflow_mul-first : goal.overflow_mul-first
+overflow_mul-first g c = (let few = chunk_in _ _ _ c.self.inside.paths c.args.chunk c.self.invariant c.self.view_is c.requires.chunk in omega (arith, few.0))
+
+pub loop-place-init : goal.loop-place-init
+loop-place-init g c = record {
+  hands = c.in_ok-hands.ensures ∙ dealt_none;
+  memo = c.requires.memo;
+}
+
+pub deal-requires : goal.deal-requires
+deal-requires g c = ap length c.loop-place.invariant.hands ∙ dealt_length _
+
+pub loop-place-preserved : goal.loop-place-preserved
+loop-place-preserved g c =
+    let inside : c.args.chunk * 64 + c.loop-place.place < length c.args.self.now.paths =
+    place_in _ _ _ c.self.inside.paths c.args.chunk c.loop-place.place _ c.self.invariant c.self.view_is c.requires.chunk c.min-place-end.ensures c.loop-place-test.true in
+    let size = length-map c.args.self.now.paths (expanded_path (g.E.Expand.call_path c.args.expand.now)) in
+    record {
+      hands = next_dealt _ (c.args.chunk * 64) c.loop-place.place _ _ _ _ refl (omega (arith, inside, size)) c.in_ok-entry.ensures.entry c.loop-place.invariant.hands c.in_ok-deal.ensures;
+      memo = c.in_ok-entry.ensures.memo;
+    }
+
+pub of-requires : goal.of-requires
+of-requires g c = ap length c.loop-place.invariant.hands ∙ dealt_length _
+
+pub returns-clause-pieces : goal.returns-clause-pieces
+returns-clause-pieces g c =
+    all_pieces c.of.result (expanded c.args.self.now (g.E.Expand.call_path c.args.expand.now)) c.args.chunk _ _ c.loop-place.invariant.hands
+    (chunk_whole (g.E.Expand.call_path c.args.expand.now) _ _ _ c.self.inside.paths c.args.chunk c.loop-place.place _ c.self.invariant c.self.view_is c.requires.chunk c.min-place-end.ensures (omega arith) (omega arith))
+    c.of.ensures
+
+pub returns-clause-each : goal.returns-clause-each
+returns-clause-each g c = each_piece c.of.result (expanded c.args.self.now (g.E.Expand.call_path c.args.expand.now)) c.args.chunk (returns-clause-pieces g c)

@@ -1,0 +1,180 @@
+//! The plan of a merge: which call paths there are, in chunks that are expanded one by one.
+ghost use Rattle.std.specs.Prelude.{◌≡◌, ℕ, ◌-◌, ◌<◌, ◌≤◌, ◌^◌, length, map, IfOk, Some, All, sum_by, min};
+ghost use Rattle.std.specs.Prelude.{slice_get, slice_index};
+ghost use Rattle.prof_bytes.specs.Outcome.{Gives};
+ghost use Rattle.scope_types.specs.Distinct.{path_scopes};
+ghost use Rattle.scope_types.specs.Limits.{most_samples};
+ghost use Rattle.thread_cct.specs.Adding.{of_hart};
+ghost use Rattle.thread_cct.specs.Plan.{FitsExpansion, chunks_in, expanded, expanded_path, few_scopes, most_chunks};
+ghost use Rattle.thread_cct.specs.Plan.{piece_of, pieces_of, stripes};
+ghost use Rattle.thread_cct.specs.private.Index.{IsLastFrom};
+ghost use Rattle.std.specs.List.Sorted.{IsNonDecreasing};
+
+use crate::ccts::Ccts;
+use crate::dealt::{Pieces, deal, empty_hands};
+use prof_bytes::{Fail, Memory};
+use scope_types::{Entry, Expand, RawPath};
+use std::alloc::Global;
+use std::marker::Model;
+
+/// The most scopes that the call paths of all distinct raw paths may have together.
+const MOST_PATH_SCOPES: u64 = 8_388_608;
+
+/// How many paths a chunk of the plan has; the last may have fewer.
+const CHUNK_PATHS: u32 = 64;
+
+/// The call paths of the distinct raw paths have more than 8,388,608 scopes together.
+#[derive(Clone, Copy, Debug, PartialEq, Eq, Drop)]
+pub struct TooManyScopes;
+
+impl From<TooManyScopes> for Fail<TooManyScopes> {
+    ghost use Rattle.prof_bytes.specs.declared.fail.Fail.TheVariants as fails;
+
+    ghost from_gives = { λ fault fail. fail ≡ fails.Fault fault };
+
+    fn from(fault: TooManyScopes) -> Fail<TooManyScopes> {
+        Fail::Fault(fault)
+    }
+}
+
+/// The distinct raw paths of all harts with their counts, hart by hart in order of first sample, in chunks of 64.
+/// Contracts see the number of harts and the list of the paths.
+#[derive(Drop)]
+pub struct Plan<'a> {
+    ccts: &'a Ccts,
+    /// The number of each hart's first path.
+    firsts: Vec<u32>,
+    paths: u32,
+}
+
+impl<'a> Model for Plan<'a> {
+    ghost use Rattle.thread_cct.specs.Plan.{Planned, plan_of};
+    ghost use Rattle.thread_cct.specs.private.Index.{IsIndexed};
+
+    ghost Value = { Planned };
+
+    ghost view = { λ plan. plan_of plan.ccts.now };
+
+    ghost invariant = { λ plan. IsIndexed plan.ccts.now plan.firsts.items plan.paths };
+}
+
+/// How many scopes the call paths of a hart's distinct raw paths have together, or 2^64 - 1 where they have more.
+fn scopes_of<E: Expand>(ccts: &Ccts, expand: &E, hart: u32) -> u64
+    requires { hart < length ccts.now }
+    ensures { result ≡ min (sum_by (path_scopes (E.call_path expand.now)) (of_hart ccts.now hart)) (2 ^ 64 - 1) }
+{
+    let mut scopes: u64 = 0;
+    for index in 0..ccts.len(hart) {
+        let (raw, _) = ccts.entry(hart, index);
+        scopes = scopes.saturating_add(expand.length(raw));
+    }
+    scopes
+}
+
+/// The last of some numbers, which do not fall, that isn't above `number`.
+fn last_from(numbers: &[u32], number: u32) -> usize
+    requires some { 0 < length numbers.now }
+    requires low { slice_index numbers.now 0 ≤ number }
+    requires rise { IsNonDecreasing numbers.now }
+    ensures within { result < length numbers.now }
+    ensures last { IsLastFrom numbers.now number result }
+{
+    numbers.partition_point(|first| *first <= number) - 1
+}
+
+impl<'a> Plan<'a> {
+    /// The plan of counted raw paths. `TooManyScopes` comes exactly where their call paths have more than 8,388,608
+    /// scopes together.
+    #[tactic(auto, using(crate::proofs::Located::starting))]
+    pub fn of<E: Expand>(
+        alloc: Global,
+        ccts: &'a Ccts,
+        expand: &E,
+    ) -> Result<Plan<'a>, Fail<TooManyScopes>>
+        ensures answer { Gives (λ plan. plan) result (few_scopes (E.call_path expand.now) ccts.now) }
+        ensures fits { IfOk result (λ plan. FitsExpansion plan (E.call_path expand.now)) }
+    {
+        let mut firsts = Vec::new(alloc);
+        let mut paths: u32 = 0;
+        let mut scopes: u64 = 0;
+        for hart in 0..ccts.harts() {
+            firsts.push(paths)?;
+            paths += ccts.len(hart);
+            scopes = scopes.saturating_add(scopes_of(ccts, expand, hart));
+        }
+        if scopes > MOST_PATH_SCOPES {
+            return Err(Fail::Fault(TooManyScopes));
+        }
+        Ok(Plan {
+            ccts,
+            firsts,
+            paths,
+        })
+    }
+
+    /// How many chunks there are.
+    pub fn chunks(&self) -> u32
+        ensures chunks { result ≡ chunks_in self.now }
+        ensures few { result ≤ most_chunks }
+        ensures counts { sum_by (λ p. p.count) self.now.paths ≤ most_samples }
+    {
+        (self.paths + (CHUNK_PATHS - 1)) / CHUNK_PATHS
+    }
+
+    /// How many harts there are. Each hart in the plan is below that.
+    pub fn harts(&self) -> u32
+        ensures harts { result ≡ self.now.harts }
+        ensures below { All (λ p. p.hart < result) self.now.paths }
+    {
+        self.ccts.harts()
+    }
+
+    /// The path of the plan with this number: its hart, the raw path and its count.
+    fn path(&self, number: u32) -> (u32, &RawPath, u32)
+        requires { number < length self.now.paths }
+        ensures { slice_get self.now.paths number
+            ≡ Some (record { hart = result.0; path = result.1.now; count = result.2 }) }
+    {
+        let hart = last_from(self.firsts.as_slice(), number);
+        let (raw, count) = self.ccts.entry(hart as u32, number - self.firsts[hart]);
+        (hart as u32, raw, count)
+    }
+
+    /// The path with this number, expanded.
+    fn entry<E: Expand>(&self, expand: &E, memo: &mut E::Memo, number: u32) -> Result<Entry, Memory>
+        requires number { number < length self.now.paths }
+        requires memo { E.fits expand.now memo.old }
+        ensures memo { E.fits expand.now memo.new }
+        ensures entry { IfOk result (λ entry.
+            slice_get (map (expanded_path (E.call_path expand.now)) self.now.paths) number ≡ Some entry) }
+    {
+        let (hart, raw, count) = self.path(number);
+        let path = expand.expand(memo, raw)?;
+        Ok(Entry { hart, count, path })
+    }
+
+    /// The sixteen pieces of a chunk: its paths, expanded, dealt to the stripes by their keys.
+    pub fn cut<E: Expand>(
+        &self,
+        alloc: Global,
+        expand: &E,
+        memo: &mut E::Memo,
+        chunk: u32,
+    ) -> Result<Pieces, Memory>
+        requires chunk { chunk < chunks_in self.now }
+        requires memo { E.fits expand.now memo.old }
+        ensures memo { E.fits expand.now memo.new }
+        ensures pieces { IfOk result (λ pieces. pieces ≡ pieces_of (expanded self.now (E.call_path expand.now)) chunk) }
+        ensures each { IfOk result (λ pieces. (stripe : ℕ) → stripe < stripes
+            → slice_get pieces stripe ≡ Some (piece_of (expanded self.now (E.call_path expand.now)) chunk stripe)) }
+    {
+        let paths = self.paths;
+        let mut hands = empty_hands(alloc)?;
+        let first = chunk * CHUNK_PATHS;
+        for place in 0..CHUNK_PATHS.min(paths - first) {
+            let entry = self.entry(expand, memo, first + place)?;
+            deal(&mut hands, entry)?;
+        }
+        Pieces::of(alloc, chunk, hands)
+    }
+}

@@ -1,0 +1,64 @@
+-- The order of paths where they part.
+use Rattle.std.proofs.Common.{◌≡◌, [], ◌∷◌, ◌++◌, Less, Equal, Greater, refl, sym, ap, subst, ◌∙◌, append_assoc}
+use Rattle.std.specs.Ordering.{ordering_then}
+use Rattle.std.proofs.lemmas.Cmp.{tied_itself}
+use Rattle.scope_types.specs.declared.scope.Scope.{Scope}
+use Rattle.scope_types.specs.Order.{scope_order, path_order}
+use Rattle.scope_types.proofs.Orders.{scope_order_total}
+use Rattle.tree_types.specs.Paths.{Path}
+use Rattle.tree_join.specs.private.Walk.{Parts}
+
+-- a proper prefix stands before what extends it
+pub prefix_less : (n : Path) (s : Scope) (r : Path) → path_order n (n ++ s ∷ r) ≡ Less
+prefix_less [] s r = refl
+prefix_less (t ∷ n) s r = ap (λ o. ordering_then o (path_order n (n ++ s ∷ r))) (tied_itself scope_order_total t) ∙ prefix_less n s r
+
+-- what stands before a path stands before what extends it
+pub less_longer : (a b r : Path) → path_order a b ≡ Less → path_order a (b ++ r) ≡ Less
+less_longer [] [] r e = absurd cc
+less_longer [] (t ∷ b) r e = refl
+less_longer (s ∷ a) [] r e = absurd cc
+less_longer (s ∷ a) (t ∷ b) r e =
+    elim (scope_order s t) as (λ o. ordering_then o (path_order a b) ≡ Less → ordering_then o (path_order a (b ++ r)) ≡ Less) [
+      | Less ↦ λ f. refl
+      | Equal ↦ λ f. less_longer a b r f
+      | Greater ↦ λ f. absurd cc
+    ] e
+
+parting : (front a b : Path) (s t : Scope) → scope_order s t ≡ Less → path_order (front ++ s ∷ a) (front ++ t ∷ b) ≡ Less
+parting [] a b s t less = ap (λ o. ordering_then o (path_order a b)) less
+parting (u ∷ front) a b s t less = ap (λ o. ordering_then o (path_order (front ++ s ∷ a) (front ++ t ∷ b))) (tied_itself scope_order_total u) ∙ parting front a b s t less
+
+pub parts_less : (a b : Path) → Parts a b → path_order a b ≡ Less
+parts_less a b p =
+    ap (λ (x : Path). path_order x b) p.is_left ∙ ap (path_order (p.front ++ p.left ∷ p.left_rest)) p.is_right
+    ∙ parting p.front p.left_rest p.right_rest p.left p.right p.less
+
+-- what extends the first parts from the second too
+pub parts_longer : (a b r : Path) → Parts a b → Parts (a ++ r) b
+parts_longer a b r p = record {
+  front = p.front;
+  left = p.left;
+  right = p.right;
+  left_rest = p.left_rest ++ r;
+  right_rest = p.right_rest;
+  is_left = ap (λ (x : Path). x ++ r) p.is_left ∙ append_assoc p.front (p.left ∷ p.left_rest) r;
+  is_right = p.is_right;
+  less = p.less;
+}
+
+pub parts_same : (a b c d : Path) → a ≡ c → b ≡ d → Parts c d → Parts a b
+parts_same a b c d ac bd p = subst (λ (x : Path). Parts x b) (sym ac) (subst (Parts c) (sym bd) p)
+
+-- two children of one node
+pub siblings_part : (f : Path) (s t : Scope) → scope_order s t ≡ Less → Parts (f ++ s ∷ []) (f ++ t ∷ [])
+siblings_part f s t less = record {
+  front = f;
+  left = s;
+  right = t;
+  left_rest = [];
+  right_rest = [];
+  is_left = refl;
+  is_right = refl;
+  less = less;
+}

@@ -1,0 +1,32 @@
+-- Counts by node and hart, added up.
+use Rattle.std.specs.Prelude.{◌≡◌, ℕ, ◌+◌, ◌<◌, ◌==◌, ◌&&◌, nat_lt, not, List, map, filter, All, AllPairs, Bool}
+use Rattle.std.specs.declared.cmp.Ordering.TheVariants.{Less}
+use Rattle.tree_types.specs.declared.counted_tree.NodeCount.{NodeCount}
+use Rattle.tree_types.specs.Nodes.{no_parent}
+use Rattle.tree_types.specs.Tree.{count_order, count_at, counts_in}
+use Rattle.path_trie.specs.declared.trie.PathEnd.{PathEnd}
+use Rattle.tree_join.specs.private.Walk.{number_at}
+
+-- an end at a node, of some samples
+abbrev pub counts_some : PathEnd → Bool
+counts_some e = not (e.node == no_parent) && nat_lt 0 e.count
+
+-- its count, by the node's number
+abbrev pub count_of_end : List ℕ → PathEnd → NodeCount
+count_of_end numbers e = record { node = number_at numbers e.node; hart = e.hart; count = e.count }
+
+abbrev pub counts_of : List ℕ → List PathEnd → List NodeCount
+counts_of numbers ends = map (count_of_end numbers) (filter counts_some ends)
+
+-- a count with another added
+abbrev pub grown : NodeCount → NodeCount → NodeCount
+grown a b = record { node = a.node; hart = a.hart; count = a.count + b.count }
+
+-- the counts of each node and hart added up, in order
+pub record AreSums (counts sums : List NodeCount) : Type 0 where
+  pub ascend : AllPairs (λ a b. count_order a b ≡ Less) sums
+  pub same : (node hart : ℕ) → count_at sums node hart ≡ count_at counts node hart
+  pub total : counts_in sums ≡ counts_in counts
+  pub nodes : (n : ℕ) → All (λ c. c.node < n) counts → All (λ c. c.node < n) sums
+  pub harts : (n : ℕ) → All (λ c. c.hart < n) counts → All (λ c. c.hart < n) sums
+  pub some : All (λ c. 0 < c.count) counts → All (λ c. 0 < c.count) sums

@@ -1,0 +1,84 @@
+//! The counts of nodes and harts, in order.
+ghost use Rattle.std.specs.Prelude.{◌≡◌, ◌<◌, ◌≤◌, ◌≢◌, ◌==◌, ◌&&◌, length, All, AllPairs, IfOk};
+ghost use Rattle.std.specs.List.Sorted.{IsPermutation};
+ghost use Rattle.std.specs.declared.cmp.Ordering.TheVariants.{Less};
+ghost use Rattle.scope_types.specs.Limits.{most_samples};
+ghost use Rattle.tree_types.specs.Tree.{count_order, counts_in};
+ghost use Rattle.path_trie.specs.Trie.{IsPlace};
+ghost use Rattle.tree_join.specs.private.Sums.{counts_of, AreSums};
+
+use path_trie::PathEnd;
+use prof_bytes::Memory;
+use std::alloc::Global;
+use tree_types::{NO_PARENT, NodeCount};
+
+/// The counts of ends at nodes, by the nodes' numbers.
+fn renumbered_counts(
+    alloc: Global,
+    ends: &[PathEnd],
+    numbers: &[u32],
+) -> Result<Vec<NodeCount>, Memory>
+    requires { All (λ e. IsPlace e.node (length numbers.now)) ends.now }
+    ensures { IfOk result (λ counts. counts.items ≡ counts_of numbers.now ends.now) }
+{
+    let mut counts = Vec::new(alloc);
+    for end in ends {
+        if end.node != NO_PARENT && end.count > 0 {
+            counts.push(NodeCount {
+                node: numbers[end.node as usize],
+                hart: end.hart,
+                count: end.count,
+            })?;
+        }
+    }
+    Ok(counts)
+}
+
+/// Sorts counts by node, then hart.
+fn sort(counts: &mut Vec<NodeCount>)
+    ensures moved { IsPermutation counts.old.items counts.new.items }
+    ensures sorted { AllPairs (λ a b. count_order b a ≢ Less) counts.new.items }
+{
+    counts.sort_unstable_by_key(|c| (c.node, c.hart));
+}
+
+/// Whether two counts are of one node and hart.
+fn is_same_place(a: &NodeCount, b: &NodeCount) -> bool
+    ensures { result ≡ (a.now.node == b.now.node && a.now.hart == b.now.hart) }
+{
+    a.node == b.node && a.hart == b.hart
+}
+
+/// Adds up sorted counts of one node and hart.
+fn add_up(alloc: Global, counts: &[NodeCount]) -> Result<Vec<NodeCount>, Memory>
+    requires sorted { AllPairs (λ a b. count_order b a ≢ Less) counts.now }
+    requires few { counts_in counts.now ≤ most_samples }
+    ensures { IfOk result (λ sums. AreSums counts.now sums.items) }
+{
+    let mut sums = Vec::new(alloc);
+    let Some((first, rest)) = counts.split_first() else {
+        return Ok(sums);
+    };
+    let mut last = *first;
+    for count in rest {
+        if is_same_place(&last, count) {
+            last.count += count.count;
+        } else {
+            sums.push(last)?;
+            last = *count;
+        }
+    }
+    sums.push(last)?;
+    Ok(sums)
+}
+
+/// The counts of ends by the nodes' numbers, those of each node and hart added up, in order.
+pub fn summed(alloc: Global, ends: &[PathEnd], numbers: &[u32]) -> Result<Vec<NodeCount>, Memory>
+    requires places { All (λ e. IsPlace e.node (length numbers.now)) ends.now }
+    requires few { counts_in (counts_of numbers.now ends.now) ≤ most_samples }
+    ensures { IfOk result (λ sums. AreSums (counts_of numbers.now ends.now) sums.items) }
+{
+    let mut counts = renumbered_counts(alloc, ends, numbers)?;
+    sort(&mut counts);
+    add_up(alloc, counts.as_slice())
+}

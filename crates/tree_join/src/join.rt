@@ -1,0 +1,45 @@
+//! The tree of one trie, and of several.
+ghost use Rattle.std.specs.Prelude.{◌≡◌, ℕ, ◌<◌, ◌≤◌, length, map, sum_by, All, IfOk};
+ghost use Rattle.scope_types.specs.Limits.{most_samples, most_path_scopes};
+ghost use Rattle.tree_types.specs.Tree.{count_at};
+ghost use Rattle.path_trie.specs.Trie.{trie_nodes, node_of, node_path, count_of, samples_of};
+ghost use Rattle.tree_join.specs.Join.{joined_nodes, nodes_of_all};
+
+use crate::counts::summed;
+use crate::walk::{Preorder, in_preorder};
+use path_trie::Trie;
+use prof_bytes::Memory;
+use std::alloc::Global;
+use tree_types::Tree;
+
+/// The tree of a trie, for so many harts: its nodes in preorder, siblings by their scopes, and the counts.
+pub fn join_trie(alloc: Global, trie: &Trie, harts: u32) -> Result<Tree, Memory>
+    requires { All (λ e. 0 < e.count → e.hart < harts) trie.now }
+    ensures harts { IfOk result (λ tree. tree.harts ≡ harts) }
+    ensures nodes { IfOk result (λ tree. tree.nodes
+        ≡ map (node_of (joined_nodes trie.now)) (joined_nodes trie.now)) }
+    ensures counts { IfOk result (λ tree. (node hart : ℕ) → node < length tree.nodes
+        → count_at tree.counts node hart ≡ count_of trie.now hart (node_path (joined_nodes trie.now) node)) }
+{
+    let Preorder { nodes, numbers } = in_preorder(alloc, trie.nodes())?;
+    let counts = summed(alloc, trie.ends(), numbers.as_slice())?;
+    Ok(Tree::of(harts, nodes, counts))
+}
+
+/// The tree of several tries together, for so many harts: their nodes, each once and in preorder, and the sums of
+/// their counts.
+pub fn join_tries(alloc: Global, tries: &[&Trie], harts: u32) -> Result<Tree, Memory>
+    requires samples { sum_by (λ t. samples_of t.now) tries.now ≤ most_samples }
+    requires nodes { sum_by (λ t. length (trie_nodes t.now)) tries.now ≤ most_path_scopes }
+    requires harts { All (λ t. All (λ e. 0 < e.count → e.hart < harts) t.now) tries.now }
+    ensures harts { IfOk result (λ tree. tree.harts ≡ harts) }
+    ensures nodes { let parts = map (λ t. t.now) tries.now in
+        IfOk result (λ tree. tree.nodes ≡ map (node_of (nodes_of_all parts)) (nodes_of_all parts)) }
+    ensures counts { let parts = map (λ t. t.now) tries.now in
+        IfOk result (λ tree. (node hart : ℕ) → node < length tree.nodes
+        → count_at tree.counts node hart
+        ≡ sum_by (λ es. count_of es hart (node_path (nodes_of_all parts) node)) parts) }
+{
+    let all = Trie::joined(alloc, tries)?;
+    join_trie(alloc, &all, harts)
+}

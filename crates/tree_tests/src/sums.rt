@@ -1,0 +1,117 @@
+//! The values of a tree of six nodes and two harts.
+ghost use Rattle.std.specs.Prelude.{◌≡◌, ◌≤◌, length, IfOk};
+ghost use Rattle.tree_types.specs.Tree.{counts_in};
+
+use metric_sums::sums;
+use prof_bytes::Memory;
+use scope_types::{LineId, ProcId, RootKind, Scope};
+use std::alloc::Global;
+use std::test::Fail;
+use tree_types::{Kind, NO_PARENT, Node, NodeCount, Tree, Values};
+
+/// Node 1 is a procedure that calls the procedure of node 3, and has a statement, node 5.
+static NODES: [Node; 6] = [
+    Node {
+        parent: NO_PARENT,
+        scope: Scope::Root(RootKind::Thread),
+    },
+    Node {
+        parent: 0,
+        scope: Scope::Proc(ProcId::Sym(0x1_0000)),
+    },
+    Node {
+        parent: 1,
+        scope: Scope::Call(LineId::Address(0x1_0004)),
+    },
+    Node {
+        parent: 2,
+        scope: Scope::Proc(ProcId::Sym(0x1_0020)),
+    },
+    Node {
+        parent: 3,
+        scope: Scope::Stmt(LineId::Address(0x1_0024)),
+    },
+    Node {
+        parent: 1,
+        scope: Scope::Stmt(LineId::Address(0x1_0008)),
+    },
+];
+
+static COUNTS: [NodeCount; 3] = [
+    NodeCount {
+        node: 4,
+        hart: 0,
+        count: 2,
+    },
+    NodeCount {
+        node: 4,
+        hart: 1,
+        count: 1,
+    },
+    NodeCount {
+        node: 5,
+        hart: 0,
+        count: 3,
+    },
+];
+
+/// The nodes' values by hart, with a period of 10: exclusive, frame, inclusive.
+static VALUES: [[[u64; 3]; 2]; 6] = [
+    [[0, 0, 50], [0, 0, 10]],
+    [[0, 30, 50], [0, 0, 10]],
+    [[0, 0, 20], [0, 0, 10]],
+    [[0, 20, 20], [0, 10, 10]],
+    [[20, 20, 20], [10, 10, 10]],
+    [[30, 30, 30], [0, 0, 0]],
+];
+
+/// The tree of these nodes and counts.
+fn six_nodes(alloc: Global) -> Result<Tree, Memory>
+    ensures nodes { IfOk result (λ tree. length tree.nodes ≡ 6) }
+    ensures harts { IfOk result (λ tree. tree.harts ≡ 2) }
+    ensures paths { IfOk result (λ tree. counts_in tree.counts ≤ 6) }
+{
+    let mut nodes = Vec::new(alloc);
+    nodes.extend_from_slice(&NODES)?;
+    let mut counts = Vec::new(alloc);
+    counts.extend_from_slice(&COUNTS)?;
+    Ok(Tree::of(2, nodes, counts))
+}
+
+/// The values of a node for a hart.
+fn values_at(values: &Values, node: u32, hart: u32) -> Option<[u64; 3]> {
+    if node >= values.nodes() || hart >= values.harts() {
+        return None;
+    }
+    Some([
+        values.value(node, hart, Kind::Exclusive),
+        values.value(node, hart, Kind::Frame),
+        values.value(node, hart, Kind::Inclusive),
+    ])
+}
+
+/// The first node and hart with other values than the table's.
+fn other_values(values: &Values) -> Option<(u32, u32)> {
+    for node in 0..6u32 {
+        let row = VALUES[node as usize];
+        if values_at(values, node, 0) != Some(row[0]) {
+            return Some((node, 0));
+        }
+        if values_at(values, node, 1) != Some(row[1]) {
+            return Some((node, 1));
+        }
+    }
+    None
+}
+
+#[test]
+fn values_of_a_tree(rt: HostRuntime) -> Result<(), Fail> {
+    let tree = six_nodes(rt.alloc())?;
+    assert_eq!(rt; tree.harts(), 2);
+    assert_eq!(rt; tree.count(4, 1), 1);
+    assert_eq!(rt; tree.count(3, 1), 0);
+    let values = sums(rt.alloc(), &tree, 10)?;
+    assert_eq!(rt; other_values(&values), None);
+    assert_eq!(rt; values.entries().len(), 20);
+    Ok(())
+}

@@ -1,0 +1,206 @@
+ghost use Rattle.std.specs.Prelude.{◌<◌, ◌≤◌, length, All, IfOk};
+ghost use Rattle.path_trie.specs.Trie.{samples_of, scopes_of};
+
+use path_trie::{PathEnd, Trie, parts_add_up, trie_is_of_samples, trie_nodes_are_prefixes};
+use prof_bytes::{Listed, Memory};
+use scope_types::{Entry, LineId, Piece, ProcId, RootKind, Scope, ScopePath};
+use std::alloc::Global;
+use std::test::Fail;
+use tree_types::{NO_PARENT, Node};
+
+/// An entry of a piece, as a test's table has it.
+pub(crate) struct Row {
+    pub(crate) hart: u32,
+    pub(crate) count: u32,
+    pub(crate) path: &'static [Scope],
+}
+
+pub(crate) const ROOT: Scope = Scope::Root(RootKind::Thread);
+
+pub(crate) const F: Scope = Scope::Proc(ProcId::Sym(0x1_0000));
+
+pub(crate) const G: Scope = Scope::Proc(ProcId::Sym(0x1_0020));
+
+pub(crate) const IN_F: Scope = Scope::Stmt(LineId::Address(0x1_0004));
+
+pub(crate) const NEXT_IN_F: Scope = Scope::Stmt(LineId::Address(0x1_0008));
+
+static FIRST: [Row; 3] = [
+    Row {
+        hart: 0,
+        count: 2,
+        path: &[ROOT, F, IN_F],
+    },
+    Row {
+        hart: 1,
+        count: 3,
+        path: &[ROOT, F, NEXT_IN_F],
+    },
+    Row {
+        hart: 1,
+        count: 1,
+        path: &[ROOT, F, NEXT_IN_F],
+    },
+];
+
+/// The last path has no scopes, and the one before it ends at a root.
+pub(crate) static SECOND: [Row; 4] = [
+    Row {
+        hart: 0,
+        count: 5,
+        path: &[ROOT, F, IN_F],
+    },
+    Row {
+        hart: 0,
+        count: 1,
+        path: &[ROOT, G, IN_F],
+    },
+    Row {
+        hart: 1,
+        count: 7,
+        path: &[ROOT],
+    },
+    Row {
+        hart: 1,
+        count: 4,
+        path: &[],
+    },
+];
+
+static NODES: [Node; 6] = [
+    Node {
+        parent: NO_PARENT,
+        scope: ROOT,
+    },
+    Node {
+        parent: 0,
+        scope: F,
+    },
+    Node {
+        parent: 1,
+        scope: IN_F,
+    },
+    Node {
+        parent: 1,
+        scope: NEXT_IN_F,
+    },
+    Node {
+        parent: 0,
+        scope: G,
+    },
+    Node {
+        parent: 4,
+        scope: IN_F,
+    },
+];
+
+static ENDS: [PathEnd; 7] = [
+    PathEnd {
+        node: 2,
+        hart: 0,
+        count: 2,
+    },
+    PathEnd {
+        node: 3,
+        hart: 1,
+        count: 3,
+    },
+    PathEnd {
+        node: 3,
+        hart: 1,
+        count: 1,
+    },
+    PathEnd {
+        node: 2,
+        hart: 0,
+        count: 5,
+    },
+    PathEnd {
+        node: 5,
+        hart: 0,
+        count: 1,
+    },
+    PathEnd {
+        node: 0,
+        hart: 1,
+        count: 7,
+    },
+    PathEnd {
+        node: NO_PARENT,
+        hart: 1,
+        count: 4,
+    },
+];
+
+/// A node, a hart, and how many of its samples end there.
+static COUNTS: [(u32, u32, u64); 8] = [
+    (0, 0, 0),
+    (0, 1, 7),
+    (1, 1, 0),
+    (2, 0, 7),
+    (2, 1, 0),
+    (3, 1, 4),
+    (5, 0, 1),
+    (5, 2, 0),
+];
+
+fn entry(alloc: Global, row: &Row) -> Result<Entry, Memory>
+    ensures count { IfOk result (λ e. e.count ≤ 100) }
+    ensures hart { IfOk result (λ e. e.hart < 3) }
+    ensures path { IfOk result (λ e. length e.path ≤ 16) }
+{
+    let mut scopes = Vec::new(alloc);
+    scopes.extend_from_slice(&row.path[..row.path.len().min(16)])?;
+    Ok(Entry {
+        hart: row.hart.min(2),
+        count: row.count.min(100),
+        path: ScopePath::of(scopes),
+    })
+}
+
+/// A piece of up to a hundred short paths of three harts.
+pub(crate) fn piece(alloc: Global, rows: &[Row]) -> Result<Piece, Memory>
+    requires { length rows.now ≤ 100 }
+    ensures samples { IfOk result (λ p. samples_of p.entries ≤ 10000) }
+    ensures scopes { IfOk result (λ p. scopes_of p.entries ≤ 1600) }
+    ensures harts { IfOk result (λ p. All (λ e. 0 < e.count → e.hart < 3) p.entries) }
+{
+    let mut entries = Vec::new(alloc);
+    for row in rows {
+        entries.push(entry(alloc, row)?)?;
+    }
+    Ok(Piece {
+        chunk: 0,
+        stripe: 6,
+        entries: Listed::of(entries),
+    })
+}
+
+#[test]
+fn no_nodes_in_an_empty_trie(rt: HostRuntime) {
+    let trie = Trie::empty(rt.alloc());
+    assert_eq!(rt; trie.len(), 0);
+    assert!(rt; trie.ends().is_empty());
+}
+
+#[test]
+fn pieces_are_merged(rt: HostRuntime) -> Result<(), Fail> {
+    let mut trie = Trie::empty(rt.alloc());
+    let first = piece(rt.alloc(), &FIRST)?;
+    let second = piece(rt.alloc(), &SECOND)?;
+    trie.merge(&first)?;
+    assert_eq!(rt; trie.len(), 4);
+    trie.merge(&second)?;
+    assert_eq!(rt; trie.len(), 6);
+    assert!(rt; trie.nodes() == NODES.as_slice());
+    assert!(rt; trie.ends() == ENDS.as_slice());
+    assert_eq!(rt; trie.node(5), NODES[5]);
+    for (node, hart, count) in COUNTS {
+        assert!(rt; node < 6);
+        assert_eq!(rt; trie.count(node, hart), count);
+    }
+    trie_nodes_are_prefixes();
+    trie_is_of_samples();
+    parts_add_up();
+    Ok(())
+}
