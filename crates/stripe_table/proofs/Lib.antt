@@ -1,0 +1,12 @@
+pub mod Sums
+pub mod Keeps
+pub mod Passes
+pub mod Laying
+pub mod Reaching
+pub mod Allowed
+pub mod Always
+pub mod Settling
+pub mod Starting
+pub mod Marks
+pub mod Owing
+pub mod Tested

@@ -1,0 +1,8 @@
+use Rattle.stripe_table.proofs.Tested.{keeps_took, took_held}
+use Rattle.stripe_table.proofs.tests.take_sixth.Goals as goal
+
+pub returns-clause-held : goal.returns-clause-held
+returns-clause-held c = λ is. took_held 6 c.args.pass.now.view c.take.new.pass.view c.take.result c.take.ensures.took is
+
+pub returns-clause-same : goal.returns-clause-same
+returns-clause-same c = keeps_took 6 c.args.pass.now.view c.take.new.pass.view c.take.result c.take.ensures.took

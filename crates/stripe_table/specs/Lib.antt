@@ -1,0 +1,10 @@
+pub mod Limits
+pub mod Stripe
+pub mod Views
+pub mod Fits
+pub mod Machine
+pub mod Laws
+pub mod Values
+pub mod Calls
+pub mod Ends
+pub mod private

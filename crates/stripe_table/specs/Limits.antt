@@ -1,0 +1,27 @@
+-- Expanded plans, their pieces, and their limits.
+use Rattle.std.specs.Prelude.{ℕ, ◌≡◌, ◌<◌, ◌≤◌, List, length, sum_by}
+use Rattle.scope_types.specs.declared.path.Entry.{Entry}
+use Rattle.scope_types.specs.declared.path.Piece.{Piece}
+use Rattle.scope_types.specs.Limits.{most_samples, most_path_scopes}
+use Rattle.thread_cct.specs.Plan.{piece_of, most_chunks, stripes}
+use Rattle.path_trie.specs.Trie.{samples_of, scopes_of}
+
+-- an expanded plan: the entries of each chunk
+abbrev pub Chunks : Type 0
+Chunks = List (List Entry)
+
+-- the limits of an expanded plan: so many chunks, samples and scopes at most
+pub record IsLimited (plan : Chunks) : Type 0 where
+  pub chunks : length plan ≤ most_chunks
+  pub samples : sum_by samples_of plan ≤ most_samples
+  pub scopes : sum_by scopes_of plan ≤ most_path_scopes
+
+-- the entries that chunk c deals to stripe s
+abbrev pub dealt : Chunks → ℕ → ℕ → List Entry
+dealt plan c s = (piece_of plan c s).entries
+
+-- the piece is the plan's
+pub record IsPieceOf (plan : Chunks) (piece : Piece) : Type 0 where
+  pub chunk : piece.chunk < length plan
+  pub stripe : piece.stripe < stripes
+  pub is : piece ≡ piece_of plan piece.chunk piece.stripe

@@ -1,0 +1,12 @@
+-- What lies in a slot of the table.
+use Rattle.std.specs.Prelude.{ℕ, List, []}
+use Rattle.scope_types.specs.declared.path.Entry.{Entry}
+
+-- the chunks that a stripe has a piece of; a place among them; and the entries that its trie stands for
+pub record StripeValue : Type 0 where
+  pub names : List ℕ
+  pub place : ℕ
+  pub trie : List Entry
+
+abbrev pub empty_stripe : StripeValue
+empty_stripe = record { names = []; place = 0; trie = [] }

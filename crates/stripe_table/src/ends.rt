@@ -1,0 +1,194 @@
+//! How a table begins and ends.
+ghost use Rattle.std.specs.Prelude.{◌≡◌, ℕ, ◌<◌, ◌≤◌, ◌+◌, ◌++◌, ◌∷◌, ◌≢◌, true, [], IfOk, OnOk, OnErr, replicate};
+ghost use Rattle.std.specs.Prelude.{length};
+ghost use Rattle.std.specs.Prelude.{vec_capacity};
+ghost use Rattle.core.specs.Mem.Slots.{slots_items, slots_len, IsFull};
+ghost use Rattle.stripe_table.specs.Ends.{AllFit, FitsAt, names_of, trie_of};
+ghost use Rattle.stripe_table.specs.Limits.{IsLimited, IsPieceOf};
+ghost use Rattle.stripe_table.specs.Stripe.{StripeValue, empty_stripe};
+ghost use Rattle.stripe_table.specs.private.Adding.{TakesIn};
+ghost use Rattle.stripe_table.specs.Values.{IsPassOf};
+ghost use Rattle.stripe_table.specs.Views.{done, first_view, times, up_to};
+ghost use Rattle.stripe_table.specs.declared.view.Hold.TheVariants.{Free};
+ghost use Rattle.thread_cct.specs.Plan.{FitsExpansion, expanded, stripes};
+
+use crate::plays::Rule;
+use crate::stripe::Stripe;
+use crate::table::{Pass, Place, Stripes};
+use crate::view::{ExpandedPlan, PassView};
+use atomic_table::{Closed, Table};
+use ghost_value::{Determines, GhostValue};
+use path_trie::Trie;
+use prof_bytes::Memory;
+use scope_types::{Expand, Piece};
+use std::alloc::{AllocError, Global};
+use std::marker::{Model, PhantomData};
+use std::snapshot::Snapshot;
+use thread_cct::Plan;
+
+const STRIPES: usize = 16;
+
+/// A plan and what expands its paths determine the expanded plan.
+pub(crate) struct Expanded<E> {
+    expand: PhantomData<E>,
+}
+
+impl<'a, E: Expand> Determines<Plan<'a>, E, ExpandedPlan> for Expanded<E> {
+    ghost use Rattle.thread_cct.specs.Plan.{expanded};
+
+    ghost value = { λ plan expand. expanded plan (E.call_path expand) };
+}
+
+/// Sixteen stripes that no pass shares any more. Contracts see them, and what the pass knew that closed them.
+#[derive(Drop)]
+pub struct StripeSet {
+    stripes: Vec<Stripe>,
+    closer: Snapshot<Pass>,
+}
+
+impl Model for StripeSet {
+    ghost use Rattle.stripe_table.specs.private.Fields.{IsSet};
+    ghost use Rattle.stripe_table.specs.Ends.{SetValue};
+
+    ghost Value = { SetValue };
+
+    ghost view = { λ s. record { stripes = s.stripes.items; view = s.closer.value.view } };
+
+    ghost invariant = { λ s. IsSet s.closer.value.view.plan s.stripes.items };
+}
+
+fn empty_stripes(alloc: Global, chunks: u32) -> Result<Vec<Stripe>, Memory>
+    ensures { IfOk result (λ v. v.items ≡ replicate stripes empty_stripe) }
+{
+    let mut all = Vec::with_capacity(alloc, STRIPES)?;
+    for _ in 0..STRIPES {
+        all.push(Stripe::empty(alloc, chunks)?)?;
+    }
+    Ok(all)
+}
+
+/// The table of an expanded plan, and the first pass's seat at it.
+fn open(
+    alloc: Global,
+    chunks: u32,
+    plan: &GhostValue<ExpandedPlan>,
+) -> Result<
+    (
+        Table<Stripe, PassView, GhostValue<ExpandedPlan>, Rule, Global>,
+        Place,
+    ),
+    Memory,
+>
+    ensures { IfOk result (λ t. (t.0.shared.table_id.words ≡ 17) × (t.0.shared.table_id.slots ≡ 16)
+        × (t.1.table_id ≡ t.0.shared.table_id) × (t.1.me ≡ (first_view plan.now.value, []))
+        × (t.0.shared.key ≡ plan.now)) }
+{
+    let all = empty_stripes(alloc, chunks)?;
+    match Table::new(alloc, &[0; 17], all, plan) {
+        Ok(made) => Ok(made),
+        // the table's two allocations are all that can fail
+        Err(_) => Err(Memory::from(AllocError)),
+    }
+}
+
+/// The stripes of a closed table, in order.
+fn gather(mut closed: Closed<Stripe, Global>, mut into: Vec<Stripe>) -> Vec<Stripe>
+    requires { IsFull closed.slots × (slots_len closed.slots ≡ 16) × (into.items ≡ [])
+        × (16 ≤ vec_capacity into) }
+    ensures { result.items ≡ slots_items closed.slots }
+{
+    let mut i = 0;
+    while i < closed.slot_count() {
+        into.push_reserved(closed.take(i));
+        i += 1;
+    }
+    closed.free();
+    into
+}
+
+impl Stripes {
+    /// Empty stripes for a plan, and the first pass. Takes all memory that `close` needs.
+    pub fn start<E: Expand>(
+        alloc: Global,
+        plan: &Plan<'_>,
+        expand: &E,
+    ) -> Result<(Stripes, Pass), Memory>
+        requires { FitsExpansion plan.now (E.call_path expand.now) }
+        ensures { IfOk result (λ r. (r.0.plan ≡ expanded plan.now (E.call_path expand.now))
+            × IsPassOf r.0 r.1 × (r.1.view ≡ first_view r.0.plan)) }
+    {
+        let key = GhostValue::of::<Plan<'_>, E, Expanded<E>>(plan, expand);
+        let spare = Vec::with_capacity(alloc, STRIPES)?;
+        let chunks = plan.chunks();
+        let (table, seat) = open(alloc, chunks, &key)?;
+        let stripes = Stripes {
+            table,
+            chunks,
+            spare,
+        };
+        Ok((stripes, Pass { seat, at: 0 }))
+    }
+
+    /// Ends the sharing, by the first pass, which has taken in all others. Takes no memory.
+    pub fn close(self, pass: Pass) -> StripeSet
+        requires of { IsPassOf self pass }
+        requires first { (pass.view.first ≡ true) × (pass.view.hold ≡ Free)
+            × (pass.view.splits ≡ pass.view.joins) }
+        ensures view { result.view ≡ pass.view }
+        ensures fits { (s : ℕ) → s < stripes → FitsAt self.plan result.stripes s (done s pass.view) }
+        ensures names { (s : ℕ) → s < stripes → length (names_of result.stripes s) ≡ done s pass.view }
+        ensures drawn { 0 < pass.view.over → length self.plan ≤ pass.view.got }
+        ensures busy { pass.view.splits ≡ 0 → pass.view.busy ≡ 0 }
+        ensures sum { up_to 16 (λ s. done s pass.view) ≡ length pass.view.puts }
+    {
+        let closer = Snapshot::of(&pass);
+        let Stripes {
+            table,
+            chunks: _,
+            spare,
+        } = self;
+        let Pass { seat, at: _ } = pass;
+        let closed = table.close_with(seat);
+        StripeSet {
+            stripes: gather(closed, spare),
+            closer,
+        }
+    }
+}
+
+impl StripeSet {
+    /// The chunks that a stripe has its pieces of, in the order in which they were merged.
+    pub fn names(&self, stripe: u32) -> &[u32]
+        requires { stripe < stripes }
+        ensures names { result.now ≡ names_of self.now.stripes stripe }
+        ensures fits { AllFit self.now.view.plan self.now.stripes }
+    {
+        let _kept = &self.closer;
+        self.stripes[stripe as usize].names()
+    }
+
+    /// The trie of a stripe's pieces.
+    pub fn trie(&self, stripe: u32) -> &Trie
+        requires { stripe < stripes }
+        ensures trie { result.now ≡ trie_of self.now.stripes stripe }
+        ensures fits { AllFit self.now.view.plan self.now.stripes }
+    {
+        let _kept = &self.closer;
+        self.stripes[stripe as usize].trie()
+    }
+
+    /// Merges a piece that its stripe does not name. Where memory runs out the set stays as it is.
+    pub fn settle(&mut self, piece: &Piece) -> Result<(), Memory>
+        requires piece { IsPieceOf self.old.view.plan piece.now }
+        requires missing { times piece.now.chunk (names_of self.old.stripes piece.now.stripe) ≡ 0 }
+        ensures view { self.new.view ≡ self.old.view }
+        ensures ok { OnOk result (names_of self.new.stripes piece.now.stripe
+            ≡ names_of self.old.stripes piece.now.stripe ++ piece.now.chunk ∷ []) }
+        ensures others { (s : ℕ) → s ≢ piece.now.stripe
+            → names_of self.new.stripes s ≡ names_of self.old.stripes s }
+        ensures err { OnErr result (self.new ≡ self.old) }
+        ensures fits { AllFit self.new.view.plan self.new.stripes }
+    {
+        self.stripes[piece.stripe as usize].add(piece)
+    }
+}

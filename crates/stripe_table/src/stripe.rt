@@ -1,0 +1,160 @@
+//! What lies in a slot of the table.
+ghost use Rattle.std.specs.Prelude.{◌≡◌, ◌≢◌, ℕ, ◌<◌, ◌≤◌, ◌+◌, ◌^◌, ◌++◌, ◌∷◌, [], length, slice_index};
+ghost use Rattle.std.specs.Prelude.{slice_index_or, slice_set, true, false, MatchOption, OnErr, IfOk, OnOk};
+ghost use Rattle.path_trie.specs.Trie.{samples_of, scopes_of, trie_nodes};
+ghost use Rattle.scope_types.specs.Limits.{most_samples, most_path_scopes};
+ghost use Rattle.stripe_table.specs.Stripe.{empty_stripe};
+ghost use Rattle.stripe_table.specs.private.Adding.{pointing_at, HasRoom, TakesIn};
+ghost use Rattle.stripe_table.specs.Views.{times};
+ghost use Rattle.stripe_table.specs.private.Adding.{AddedAs};
+
+use path_trie::Trie;
+use prof_bytes::Memory;
+use scope_types::Piece;
+use std::alloc::Global;
+use std::marker::Model;
+
+/// The chunks whose pieces were merged, in order; the trie of these pieces; and a place among the names, which the
+/// holder of the stripe points at before it puts the stripe back.
+#[derive(Drop)]
+pub struct Stripe {
+    names: Vec<u32>,
+    /// For each chunk, whether it may be among the names.
+    marks: Vec<bool>,
+    place: u32,
+    trie: Trie,
+}
+
+impl Model for Stripe {
+    ghost use Rattle.stripe_table.specs.Stripe.{StripeValue};
+
+    ghost Value = { StripeValue };
+
+    ghost use Rattle.stripe_table.specs.private.Fields.{MarksNames};
+
+    ghost view = { λ s. record { names = s.names.items; place = s.place; trie = s.trie } };
+
+    ghost invariant = { λ s. MarksNames s.marks.items s.names.items };
+}
+
+/// What became of a piece, with the number of names before it.
+#[derive(Drop)]
+pub(crate) enum Addition {
+    Added(u64),
+    /// And the place of the name.
+    There(u64, u32),
+    /// And the failed allocation.
+    Failed(u64, Memory),
+}
+
+impl Stripe {
+    /// No pieces, of a plan with so many chunks.
+    pub(crate) fn empty(alloc: Global, chunks: u32) -> Result<Stripe, Memory>
+        ensures { IfOk result (λ stripe. stripe ≡ empty_stripe) }
+    {
+        Ok(Stripe {
+            names: Vec::new(alloc),
+            marks: no_marks(alloc, chunks)?,
+            place: 0,
+            trie: Trie::empty(alloc),
+        })
+    }
+
+    /// How many pieces there are.
+    pub(crate) fn len(&self) -> usize
+        ensures { result ≡ length self.now.names }
+    {
+        self.names.len()
+    }
+
+    pub(crate) fn names(&self) -> &[u32]
+        ensures { result.now ≡ self.now.names }
+    {
+        self.names.as_slice()
+    }
+
+    pub(crate) fn trie(&self) -> &Trie
+        ensures { result.now ≡ self.now.trie }
+    {
+        &self.trie
+    }
+
+    /// Merges a piece and puts its chunk behind the names. Where memory runs out the stripe stays as it is.
+    pub(crate) fn add(&mut self, piece: &Piece) -> Result<(), Memory>
+        requires room { HasRoom self.old piece.now }
+        ensures ok { OnOk result (TakesIn self.old piece.now self.new) }
+        ensures err { OnErr result (self.new ≡ self.old) }
+    {
+        self.names.reserve(1)?;
+        self.trie.merge(piece)?;
+        self.names.push_reserved(piece.chunk);
+        mark(&mut self.marks, piece.chunk);
+        Ok(())
+    }
+
+    /// Where a chunk stands among the names. Walks over them only where the chunk may be there.
+    fn place(&self, chunk: u32) -> Option<usize>
+        ensures { MatchOption result (times chunk self.now.names ≡ 0)
+            (λ place. (place < length self.now.names) × (slice_index self.now.names place ≡ chunk)) }
+    {
+        if is_unmarked(self.marks.as_slice(), chunk) {
+            return None;
+        }
+        place_of(self.names.as_slice(), chunk)
+    }
+
+    /// Adds a piece, or points at its chunk's name where the stripe has it.
+    pub(crate) fn try_add(&mut self, piece: &Piece) -> Addition
+        requires few { length self.old.names < 2 ^ 32 }
+        requires room { times piece.now.chunk self.old.names ≡ 0 → HasRoom self.old piece.now }
+        ensures { AddedAs piece.now self.old self.new result }
+    {
+        let len = self.names.len() as u64;
+        if let Some(place) = self.place(piece.chunk) {
+            self.place = place as u32;
+            return Addition::There(len, place as u32);
+        }
+        match self.add(piece) {
+            Ok(()) => Addition::Added(len),
+            Err(memory) => Addition::Failed(len, memory),
+        }
+    }
+}
+
+fn no_marks(alloc: Global, chunks: u32) -> Result<Vec<bool>, Memory> {
+    let mut marks = Vec::new(alloc);
+    for _ in 0..chunks {
+        marks.push(false)?;
+    }
+    Ok(marks)
+}
+
+fn mark(marks: &mut Vec<bool>, chunk: u32)
+    ensures { marks.new.items ≡ slice_set marks.old.items chunk true }
+{
+    if let Some(mark) = marks.get_mut(chunk as usize) {
+        *mark = true;
+    }
+}
+
+fn is_unmarked(marks: &[bool], chunk: u32) -> bool
+    ensures { result ≡ true → slice_index_or marks.now chunk true ≡ false }
+{
+    match marks.get(chunk as usize) {
+        Some(mark) => !*mark,
+        None => false,
+    }
+}
+
+/// Where a name stands.
+fn place_of(names: &[u32], name: u32) -> Option<usize>
+    ensures { MatchOption result (times name names.now ≡ 0)
+        (λ place. (place < length names.now) × (slice_index names.now place ≡ name)) }
+{
+    for i in 0..names.len() {
+        if names[i] == name {
+            return Some(i);
+        }
+    }
+    None
+}
