@@ -30,6 +30,8 @@ pub fn run(hart: &mut Hart, space: &mut Space, most: u32) -> (u32, Result<Steppe
     ensures all { result.1 ≡ Ok Stepped.Retired → result.0 ≡ most }
     ensures ends { IfOk result.1 (λ how. ¬ (how ≡ Stepped.Retired)
         → (state_of hart.new space.new, how) ≡ step_of (state_of hart.new space.new)) }
+    // A step that does not retire is looked at only where fewer than `most` retired.
+    ensures early { IfOk result.1 (λ how. ¬ (how ≡ Stepped.Retired) → result.0 < most) }
     // Memory runs out only in a store that retires.
     ensures memory { OnErr result.1 (StoresNow (state_of hart.new space.new)) }
     ensures short { OnErr result.1 (result.0 < most) }

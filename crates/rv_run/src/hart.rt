@@ -131,6 +131,7 @@ impl MachineHart {
         ensures all { result.1 ≡ Ok Stepped.Retired → result.0 ≡ most }
         ensures ends { IfOk result.1 (λ how. ¬ (how ≡ Stepped.Retired)
             → (step_state self.new space.new, how) ≡ step_of (step_state self.new space.new)) }
+        ensures early { IfOk result.1 (λ how. ¬ (how ≡ Stepped.Retired) → result.0 < most) }
         ensures memory { OnErr result.1 (StoresNow (step_state self.new space.new)) }
         ensures short { OnErr result.1 (result.0 < most) }
     {
