@@ -211,6 +211,7 @@ module _ (path_of : Paths) (harts : ℕ) (start old new : Sampling) (ccts : List
       record {
         few = fit [] front ∙ ap (λ (b : Bool). tested b TooManySamples (raws_to_come path_of start)) (not_above most_samples (length (raws_to_come path_of start)) long);
         counts = sofar.counts ∙ ap (distinct harts) (sym all);
+        all = sofar.count ∙ ap (λ (l : List HartRaw). length l) (sym all);
         of_harts = subst (All (λ (s : HartRaw). s.hart < harts)) (sym all) sofar.done_harts;
         ended = sym (ap (λ (r : Run). r.final) over.ended) ∙ last ∙ sofar.at_end;
       }

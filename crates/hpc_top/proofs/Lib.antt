@@ -5,4 +5,4 @@ pub mod Fetching
 pub mod Lines
 pub mod Products
 pub mod Collecting
-pub mod Entries
+pub mod Contents

@@ -1,53 +1,76 @@
--- The samples as the code counts them have the paths of the definition, in another order.
-use Rattle.std.proofs.Common.{◌≡◌, ℕ, ◌^◌, ◌<◌, ◌≤◌, ◌==◌, nat_lt, Bool, true, false, cond, if◌then◌else◌, List, [], ◌∷◌, ◌++◌, length, codes, decimal, map, take, count_by, All, Result, Ok, Err, refl, sym, ap, ap₂, ◌∙◌, arith}
-use Rattle.std.proofs.lemmas.Bool.Decides.{nat_tests}
-use Rattle.std.proofs.lemmas.List.{length-map}
+-- What is made of a run's samples that were counted, planned and merged.
+use Rattle.std.proofs.Common.{◌≡◌, ℕ, zero, suc, ◌+◌, ◌<◌, ◌==◌, nat_lt, Bool, true, false, cond, if◌then◌else◌, IsTrue, List, [], ◌∷◌, ◌++◌, length, map, count_by, All, Result, Ok, Err, refl, sym, ap, ap₂, subst, ◌∙◌, arith, append-nil, zero-add}
+use Rattle.std.proofs.lemmas.List.{length-map, map-id}
+use Rattle.std.proofs.lemmas.List.Concat.{flat_map-append}
+use Rattle.std.proofs.lemmas.List.FromFn.{map-range_with_len_more}
 use Rattle.std.proofs.lemmas.List.Sums.{sum_by-cons}
 use Rattle.std.specs.List.{flat_map}
 use Rattle.prof_bytes.specs.declared.fail.Fail.{Fail}
 use Rattle.prof_bytes.specs.declared.fail.Fail.TheVariants as fails
-use Rattle.prof_bytes.specs.Outcome.{◌>>=◌, FailsBy}
+use Rattle.prof_bytes.specs.Outcome.{◌>>=◌, FailsBy, Gives}
 use Rattle.scope_types.specs.declared.frame.Counted.{Counted}
-use Rattle.scope_types.specs.declared.path.Entry.{Entry}
 use Rattle.scope_types.specs.Alike.{Alike}
 use Rattle.scope_types.specs.declared.scope.Scope.{Scope}
-use Rattle.scope_types.specs.CallPaths.{HartPath, each_path}
+use Rattle.scope_types.specs.CallPaths.{HartPath}
 use Rattle.scope_types.specs.Raw.{Raw}
-use Rattle.scope_types.specs.Distinct.{HartRaw, distinct, each_sample, frames_in, scopes_in}
-use Rattle.scope_types.specs.Limits.{most_samples, most_path_frames, most_path_scopes}
-use Rattle.rv_run.specs.State.{MachineState, hart_of}
+use Rattle.scope_types.specs.Expansion.{call_path}
+use Rattle.scope_find.specs.Found.{ProgramScopes, found_at, naming_of}
+use Rattle.scope_types.specs.Distinct.{HartRaw, distinct, samples_in, scopes_in}
+use Rattle.scope_types.specs.Limits.{most_path_scopes}
+use Rattle.rv_run.specs.State.{MachineState}
 use Rattle.rv_run.specs.Progress.{to_come}
-use Rattle.tree_types.specs.declared.content.Names.{Names}
+use Rattle.rv_run.specs.Run.{Run}
+use Rattle.thread_cct.specs.Adding.{samples_of_hart}
+use Rattle.thread_cct.specs.Plan.{Planned, expanded, plan_of}
+use Rattle.stripe_table.specs.Ends.{AllFit, NamesAll, SetValue, named_paths}
+use Rattle.tree_join.specs.Join.{sampled_paths}
+use Rattle.stripe_table.specs.Limits.{Chunks}
+use Rattle.merge_crew.specs.declared.merge.Crew.{Crew}
+use Rattle.merge_crew.specs.Merged.{IsOfPlan, IsWhole, NamesEach}
+use Rattle.tree_types.specs.declared.content.Content.{Content}
 use Rattle.tree_types.specs.Naming.{Naming}
-use Rattle.tree_types.specs.Database.{content_of, names_used, naming_in}
+use Rattle.tree_types.specs.Database.{content_of}
+use Rattle.tree_types.specs.OfContent.{content_table}
 use Rattle.tree_types.specs.TopDown.{top_down}
 use Rattle.tree_types.specs.Values.{harts_below}
 use Rattle.prof_db.specs.Spelling.{spelling}
 use Rattle.sample_clock.specs.Samples.{Paths}
 use Rattle.sample_clock.specs.Clock.{Sampling}
 use Rattle.hpc_top.specs.declared.status.InputFault.{InputFault}
-use Rattle.hpc_top.specs.declared.status.InputFault.TheVariants.{TooManySamples, TooManyFrames, TooManyScopes}
+use Rattle.hpc_top.specs.declared.status.InputFault.TheVariants.{TooManyScopes}
+use Rattle.hpc_top.specs.declared.status.Made.{Made}
+use Rattle.hpc_top.specs.Made.{view}
+use Rattle.hpc_top.specs.Merged.{IsMadeOf, Makes, Merging, run_plan}
 use Rattle.hpc_top.specs.Samples.{sampled, sample_path, few_samples, few_scopes}
-use Rattle.hpc_top.specs.private.Collecting.{AllCounted, AllExpanded, Expands, ExpandsAll, raws_to_come, taken}
-use Rattle.hpc_top.specs.Report.{report_of, closed, end_text, total_line, hart_line, hart_lines}
-use Rattle.hpc_top.specs.Profile.{Product, product_from, product_of}
+use Rattle.hpc_top.specs.private.Collecting.{AllCounted, raws_to_come}
+use Rattle.hpc_top.specs.private.Merging.{few_planned, profiled}
+use Rattle.hpc_top.specs.Report.{closed, hart_line, hart_lines, report_of, samples_of, total_line}
+use Rattle.hpc_top.specs.Profile.{Product, Profiled, product_from, product_of, profile_of, profiled_of, profiled_run, call_paths_of}
+use Rattle.hpc_top.proofs.Lines.{lines_same}
 
--- ---- what is made of alike paths
+-- ---- where crews merge all
 
-long_alike : (ps qs : List HartPath) → Alike ps qs → length ps ≡ length qs
-long_alike ps qs alike = sym (all_counted ps) ∙ alike.same (λ p. true) ∙ all_counted qs
-  where
-    all_counted : (xs : List HartPath) → count_by (λ p. true) xs ≡ length xs
-    all_counted [] = refl
-    all_counted (x ∷ xs) = let first = sum_by-cons (λ (p : HartPath). 1) x xs in let rest = all_counted xs in omega (arith, first, rest)
+pub whole_product : (merging : Merging) (period : ℕ) (result : Result Made (Fail InputFault)) (elf input schedule : List ℕ) → IsTrue merging.whole → Makes merging period result (profiled_of elf input schedule period) → Gives view result (profile_of elf input schedule period)
+unfolding profile_of
+whole_product merging period (Ok made) elf input schedule whole (p, is, made_of) =
+    ap (λ (r : Result Profiled InputFault). r >>= λ p. Ok (product_of period p)) is ∙ ap Ok (sym (made_of.whole whole))
+whole_product merging period (Err (fails.Fault fault)) elf input schedule whole refused =
+    ap (λ (r : Result Profiled InputFault). r >>= λ p. Ok (product_of period p)) refused
+whole_product merging period (Err (fails.Memory memory)) elf input schedule whole refused = tt
 
-lines_alike : (ps qs : List HartPath) (final : MachineState) → Alike ps qs → (harts : List ℕ) → flat_map (hart_line final ps) harts ≡ flat_map (hart_line final qs) harts
-lines_alike ps qs final alike [] = refl
-lines_alike ps qs final alike (hart ∷ harts) = ap₂ (λ (l rest : List ℕ). l ++ rest) (one_line hart) (lines_alike ps qs final alike harts)
-  where
-    one_line : (hart : ℕ) → hart_line final ps hart ≡ hart_line final qs hart
-    one_line hart =
-        ap (λ (n : ℕ). codes "hart " ++ decimal hart ++ codes " retired " ++ decimal (hart_of final hart).retired ++ codes " samples " ++ decimal n ++ codes " end " ++ end_text (hart_of final hart).end ++ codes "\n") (alike.same (λ p. p.hart == hart))
+-- ---- the samples of a run
+
+count-map : {X Y : Type 0} (t : Y → Bool) (f : X → Y) (xs : List X) → count_by t (map f xs) ≡ count_by (λ x. t (f x)) xs
+count-map t f [] = refl
+count-map {X} t f (x ∷ xs) =
+    let new = sum_by-cons (λ y. cond (t y) 1 0) (f x) (map f xs) in
+    let old = sum_by-cons (λ (x : X). cond (t (f x)) 1 0) x xs in
+    let rest = count-map t f xs in
+    omega (arith, new, old, rest)
+
+-- what the counted paths' law says
+abbrev pub EachCounted : Type 0
+EachCounted = (harts hart : ℕ) (samples : List HartRaw) → hart < harts → samples_of_hart (distinct harts samples) hart ≡ count_by (λ s. s.hart == hart) samples
 
 -- what the tree's laws say of alike paths
 abbrev pub ContentsAlike : Type 0
@@ -56,108 +79,119 @@ ContentsAlike = (period harts : ℕ) (naming : Naming) (ps qs : List HartPath) �
 abbrev pub TablesAlike : Type 0
 TablesAlike = (period harts : ℕ) (naming : Naming) (ps qs : List HartPath) → Alike ps qs → top_down period harts naming ps ≡ top_down period harts naming qs
 
-product_alike : ContentsAlike → TablesAlike → (period harts : ℕ) (naming : Naming) (ps qs : List HartPath) (final : MachineState) → Alike ps qs → product_from period harts naming ps final ≡ product_from period harts naming qs final
-product_alike content_alike table_alike period harts naming ps qs final alike =
-    let contents : content_of period harts naming ps ≡ content_of period harts naming qs = content_alike period harts naming ps qs alike in
-    let tables : top_down period harts naming ps ≡ top_down period harts naming qs = table_alike period harts naming ps qs alike in
-    let longs : length ps ≡ length qs = long_alike ps qs alike in
-    let lines : hart_lines harts final ps ≡ hart_lines harts final qs = lines_alike ps qs final alike (harts_below harts) in
-    λ i. record { database = spelling (contents i); text = closed final.output ++ total_line harts period (longs i) ++ lines i ++ tables i }
+-- what the stripes' law says
+abbrev pub SamplesHeld : Type 0
+SamplesHeld = (set : SetValue) (harts : ℕ) (samples : List HartRaw) (call_path : Raw → List Scope) → AllFit set.view.plan set.stripes → NamesAll set
+    → set.view.plan ≡ expanded (plan_of (distinct harts samples)) call_path → All (λ s. s.hart < harts) samples
+    → Alike (named_paths set) (sampled_paths call_path samples)
 
--- a report with the table under the names that the nodes use
-pub text_named : (period harts : ℕ) (naming : Naming) (ps : List HartPath) (final : MachineState) (names : Names) (table : List ℕ) (text : List ℕ) → top_down period harts (naming_in (names_used naming ps)) ps ≡ top_down period harts naming ps → names ≡ names_used naming ps → table ≡ top_down period harts (naming_in names) ps
-    → text ≡ report_of period harts final ps table → text ≡ (product_from period harts naming ps final).text
-text_named period harts naming ps final names table text own named tabled is =
-    is
-    ∙ ap (report_of period harts final ps)
-    (tabled ∙ ap (λ (n : Names). top_down period harts (naming_in n) ps) named ∙ own)
+-- ---- what is made of them
 
--- ---- the paths of samples that were counted
+names_all : (crew : Crew) (plan : Chunks) → crew.stripes.view.plan ≡ plan → NamesEach plan crew → NamesAll crew.stripes
+names_all crew plan is each c s chunk stripe = (let one = each s c stripe (subst (λ (p : Chunks). c < length p) is chunk) in omega (arith, one))
 
--- paths that are as many as samples that were taken
-pub few_alike : (path_of : Paths) (expand : Raw → List Scope) (harts : ℕ) (es : List Entry) (old new : Sampling) → AllExpanded path_of expand harts es old new → length (each_path es) ≤ 2 ^ 20
-few_alike path_of expand harts es old new expanded =
-    let whole : List HartRaw = raws_to_come path_of old in
-    let same = long_alike (each_path es) (map (sample_path expand) whole) expanded.alike in
-    let long = length-map whole (sample_path expand) in
-    let most = within_limit whole expanded.few in
-    omega (arith, same, long, most)
-  where
-    by_tests : {T : Type 0} (a b : Bool) (tables : T) (all taken : List HartRaw) (next : List HartRaw → Result (List HartRaw) InputFault)
-        → (cond a (Err TooManyFrames) (Ok tables) >>= λ _. cond b (Err TooManySamples) (Ok all)) >>= next ≡ Ok taken → b ≡ false
-    by_tests true b tables all taken next e = absurd cc
-    by_tests false true tables all taken next e = absurd cc
-    by_tests false false tables all taken next e = refl
+module _ (merging : Merging) (period harts : ℕ) (naming : Naming) (expand : Raw → List Scope) (final : MachineState) (ccts : List (List Counted)) (samples : List HartRaw) (counts : ccts ≡ distinct harts samples) where
+  abbrev run : Profiled
+  run = record { harts = harts; naming = naming; expand = expand; samples = samples; final = final }
 
-    at_most : (a b : ℕ) → nat_lt a b ≡ false → b ≤ a
-    at_most a b e = grind (arith, nat_tests)
+  abbrev scopes_decide : Bool → Result Profiled InputFault
+  scopes_decide many = (if many then Err TooManyScopes else Ok samples) >>= λ samples. Ok (record { harts = harts; naming = naming; expand = expand; samples = samples; final = final })
 
-    within_limit : (all : List HartRaw) → few_samples harts all >>= few_scopes expand harts ≡ Ok all → length all ≤ most_samples
-    within_limit all few =
-        at_most most_samples (length all)
-        (by_tests (nat_lt most_path_frames (frames_in (distinct harts (take most_samples all)))) (nat_lt most_samples (length all)) (distinct harts (take most_samples all)) all all (few_scopes expand harts) few)
+  by_scopes : (many : Bool) → nat_lt most_path_scopes (scopes_in expand ccts) ≡ many → profiled harts naming expand final samples ≡ scopes_decide many
+  by_scopes many is = ap scopes_decide (ap (λ (ts : List (List Counted)). nat_lt most_path_scopes (scopes_in expand ts)) (sym counts) ∙ is)
 
--- too many samples or frames
-pub refused_samples : (path_of : Paths) (expand : Raw → List Scope) (harts : ℕ) (old : Sampling) (fail : Fail InputFault) → FailsBy fail (few_samples harts (raws_to_come path_of old)) → FailsBy fail (taken path_of expand harts old)
-refused_samples path_of expand harts old (fails.Fault fault) many = ap (λ (r : Result (List HartRaw) InputFault). r >>= few_scopes expand harts) many
-refused_samples path_of expand harts old (fails.Memory memory) many = tt
+  -- a plan, or too many scopes
+  planned : (many : Bool) (plan : Planned) → (if many then Err TooManyScopes else Ok (plan_of ccts)) ≡ Ok plan → (many ≡ false) × (plan ≡ plan_of ccts)
+  planned true plan e = absurd cc
+  planned false plan e = (refl, (let same : plan ≡ plan_of ccts = cc in same))
 
--- the scopes decide
-abbrev by_scopes : Bool → List HartRaw → Result (List HartRaw) InputFault
-by_scopes many all = if many then Err TooManyScopes else Ok all
+  unplanned : (many : Bool) (fault : InputFault) → (if many then Err TooManyScopes else Ok (plan_of ccts)) ≡ Err fault → (many ≡ true) × (fault ≡ TooManyScopes)
+  unplanned true fault e = (refl, (let same : fault ≡ TooManyScopes = cc in same))
+  unplanned false fault e = absurd cc
 
-taken_by_scopes : (path_of : Paths) (expand : Raw → List Scope) (harts : ℕ) (ccts : List (List Counted)) (old new : Sampling) (many : Bool) → AllCounted path_of harts ccts old new → nat_lt most_path_scopes (scopes_in expand ccts) ≡ many
-    → taken path_of expand harts old ≡ by_scopes many (raws_to_come path_of old)
-taken_by_scopes path_of expand harts ccts old new many counted is =
-    let whole : List HartRaw = raws_to_come path_of old in
-    ap (λ (r : Result (List HartRaw) InputFault). r >>= few_scopes expand harts) counted.few
-    ∙ ap (λ (b : Bool). by_scopes b whole) (ap (λ (ts : List (List Counted)). nat_lt most_path_scopes (scopes_in expand ts)) (sym counted.counts) ∙ is)
+  pub plan_harts : (plan : Planned) → few_planned expand ccts ≡ Ok plan → plan.harts ≡ length ccts
+  plan_harts plan planned_by = ap (λ (p : Planned). p.harts) (planned (nat_lt most_path_scopes (scopes_in expand ccts)) plan planned_by).1
 
--- what expanding the counted paths gives
-pub expanded_by : (path_of : Paths) (expand : Raw → List Scope) (harts : ℕ) (ccts : List (List Counted)) (old new : Sampling) (result : Result (List Entry) (Fail InputFault)) → AllCounted path_of harts ccts old new → ExpandsAll expand ccts result
-    → (All (λ s. s.hart < harts) (raws_to_come path_of old) → Alike (map (sample_path expand) (each_sample (distinct harts (raws_to_come path_of old)))) (map (sample_path expand) (raws_to_come path_of old)))
-    → Expands path_of expand harts result old new
-expanded_by path_of expand harts ccts old new (Ok entries) counted all alike =
-    let law = alike counted.of_harts in
-    record {
-      few = taken_by_scopes path_of expand harts ccts old new false counted (let few = all.few in grind (arith, nat_tests));
-      fits = all.fits;
-      alike = record { same = λ t. ap (count_by t) (all.paths ∙ ap (λ (ts : List (List Counted)). map (sample_path expand) (each_sample ts)) counted.counts) ∙ law.same t };
-      ended = counted.ended;
-    }
-expanded_by path_of expand harts ccts old new (Err (fails.Fault fault)) counted all alike =
-    taken_by_scopes path_of expand harts ccts old new true counted (let many = all.many in grind (arith, nat_tests)) ∙ ap Err (sym all.is)
-expanded_by path_of expand harts ccts old new (Err (fails.Memory memory)) counted all alike = tt
+  pub refused_plan : (fail : Fail InputFault) → FailsBy fail (few_planned expand ccts) → FailsBy fail (profiled harts naming expand final samples)
+  refused_plan (fails.Fault fault) refused =
+      let is = unplanned (nat_lt most_path_scopes (scopes_in expand ccts)) fault refused in
+      by_scopes true is.0 ∙ ap Err (sym is.1)
+  refused_plan (fails.Memory memory) refused = tt
 
--- ---- what is made of samples that are to come
+  module _ (each : EachCounted) (all : samples_in ccts ≡ length samples) where
+    text_is : (content : Content) (text : List ℕ) (paths : List HartPath) → content.period ≡ period → content_table content ≡ top_down period harts naming paths
+        → text ≡ closed final.output ++ total_line harts content.period (samples_in ccts) ++ hart_lines harts final (samples_of_hart ccts) ++ content_table content
+        → text ≡ (product_from period run paths).text
+    text_is content text paths same table is =
+        let long : samples_in ccts ≡ length (call_paths_of run) = all ∙ sym (length-map samples (sample_path expand)) in
+        let lines : hart_lines harts final (samples_of_hart ccts) ≡ hart_lines harts final (samples_of (call_paths_of run)) =
+        lines_same harts final (samples_of_hart ccts) (samples_of (call_paths_of run))
+        (λ hart own. ap (λ (ts : List (List Counted)). samples_of_hart ts hart) counts ∙ each harts hart samples own ∙ sym (count-map (λ p. p.hart == hart) (sample_path expand) samples)) in
+        is ∙ (λ i. closed final.output ++ total_line harts (same i) (long i) ++ lines i ++ table i)
 
-module _ (path_of : Paths) (period harts : ℕ) (expand : Raw → List Scope) (naming : Naming) (old : Sampling) (same : period ≡ old.period) where
-  -- the product of samples that are taken
-  abbrev made_from : MachineState → List HartRaw → Result Product InputFault
-  made_from final all = Ok (product_from period harts naming (map (sample_path expand) all) final)
+    pub made_is : ContentsAlike → TablesAlike → SamplesHeld → All (λ s. s.hart < harts) samples → (plan : Planned) (made : Made) (content : Content)
+        → few_planned expand ccts ≡ Ok plan → merging.gives made.crew → IsOfPlan (expanded plan expand) made.crew → (IsTrue merging.whole → IsWhole (expanded plan expand) merging.workers made.crew)
+        → content ≡ content_of period harts naming (named_paths made.crew.stripes) → content.period ≡ period → content_table content ≡ top_down period harts naming (named_paths made.crew.stripes)
+        → made.database ≡ spelling content
+        → made.report ≡ closed final.output ++ total_line harts content.period (samples_in ccts) ++ hart_lines harts final (samples_of_hart ccts) ++ content_table content
+        → Makes merging period (Ok made) (profiled harts naming expand final samples)
+    made_is contents tables held own plan made content planned_by gives of whole content_is same table database report =
+        let is = planned (nat_lt most_path_scopes (scopes_in expand ccts)) plan planned_by in
+        let named : List HartPath = named_paths made.crew.stripes in
+        let is_plan : expanded plan expand ≡ run_plan run = ap (λ (p : Planned). expanded p expand) is.1 ∙ ap (λ (ts : List (List Counted)). expanded (plan_of ts) expand) counts in
+        let plan_is : made.crew.stripes.view.plan ≡ run_plan run = of.plan ∙ is_plan in
+        let stored : made.database ≡ spelling (content_of period harts naming named) = database ∙ ap spelling content_is in
+        let printed : made.report ≡ (product_from period run named).text = text_is content made.report named same table report in
+        let product : view made ≡ product_from period run named = λ i. record { database = stored i; text = printed i } in (
+          run,
+          by_scopes false is.0,
+          record {
+            gives = gives;
+            plan = subst (λ (chunks : Chunks). IsOfPlan chunks made.crew) is_plan of;
+            product = product;
+            crew = λ all_merged. subst (λ (chunks : Chunks). IsWhole chunks merging.workers made.crew) is_plan (whole all_merged);
+            whole = λ all_merged.
+                let fit : AllFit made.crew.stripes.view.plan made.crew.stripes.stripes = subst (λ (chunks : Chunks). AllFit chunks made.crew.stripes.stripes) (sym of.plan) of.fit in
+                let paths : Alike named (call_paths_of run) = held made.crew.stripes harts samples expand fit (names_all made.crew (expanded plan expand) of.plan (whole all_merged).names) plan_is own in
+                let c = contents period harts naming named (call_paths_of run) paths in
+                let t = tables period harts naming named (call_paths_of run) paths in
+                product ∙ (λ i. record { database = spelling (c i); text = report_of period harts final (call_paths_of run) (t i) });
+          },
+        )
 
-  -- the limits come first, in one step or in two
-  in_two : (final : MachineState) (few : Result (List HartRaw) InputFault) → (few >>= λ all. few_scopes expand harts all >>= made_from final) ≡ ((few >>= few_scopes expand harts) >>= made_from final)
-  in_two final (Ok all) = refl
-  in_two final (Err fault) = refl
+-- where what expands raw paths is over the same program
+pub refused_of : (merging : Merging) (period harts : ℕ) (final : MachineState) (ccts : List (List Counted)) (samples : List HartRaw) → ccts ≡ distinct harts samples → (expander finder : ProgramScopes) → expander ≡ finder → (fail : Fail InputFault)
+    → FailsBy fail (few_planned (call_path (found_at expander)) ccts) → FailsBy fail (profiled harts (naming_of finder) (call_path (found_at finder)) final samples)
+refused_of merging period harts final ccts samples counts expander finder same fail refused =
+    subst (λ (q : ProgramScopes). FailsBy fail (profiled harts (naming_of q) (call_path (found_at q)) final samples)) same
+    (refused_plan merging period harts (naming_of expander) (call_path (found_at expander)) final ccts samples counts fail refused)
 
-  in_steps : product_of path_of period harts expand naming (to_come old.machine) ≡ (taken path_of expand harts old >>= made_from (to_come old.machine).final)
-  unfolding product_of
-  in_steps =
-      in_two (to_come old.machine).final (few_samples harts (sampled path_of period (to_come old.machine)))
-      ∙ ap (λ (n : ℕ). (few_samples harts (sampled path_of n (to_come old.machine)) >>= few_scopes expand harts) >>= made_from (to_come old.machine).final) same
+-- ---- from the counted samples to the run
 
-  then_made : (r : Result (List HartRaw) InputFault) → taken path_of expand harts old ≡ r → product_of path_of period harts expand naming (to_come old.machine) ≡ (r >>= made_from (to_come old.machine).final)
-  then_made r is = in_steps ∙ ap (λ (r : Result (List HartRaw) InputFault). r >>= made_from (to_come old.machine).final) is
+module _ (merging : Merging) (path_of : Paths) (period harts : ℕ) (expand : Raw → List Scope) (naming : Naming) (old : Sampling) (same : period ≡ old.period) where
+  abbrev then_scopes : MachineState → Result (List HartRaw) InputFault → Result Profiled InputFault
+  then_scopes final few = few >>= λ samples. profiled harts naming expand final samples
 
-  pub refused_job : (fail : Fail InputFault) → FailsBy fail (taken path_of expand harts old) → FailsBy fail (product_of path_of period harts expand naming (to_come old.machine))
-  refused_job (fails.Memory memory) many = tt
-  refused_job (fails.Fault fault) many = then_made (Err fault) many
+  in_steps : profiled_run path_of period harts expand naming (to_come old.machine) ≡ then_scopes (to_come old.machine).final (few_samples harts (raws_to_come path_of old))
+  unfolding profiled_run
+  in_steps = ap (λ (n : ℕ). then_scopes (to_come old.machine).final (few_samples harts (sampled path_of n (to_come old.machine)))) same
 
-  pub whole_job : ContentsAlike → TablesAlike → (new : Sampling) (es : List Entry) (final : MachineState) (made : Product) → AllExpanded path_of expand harts es old new → final ≡ new.machine.state
-      → made ≡ product_from period harts naming (each_path es) final → product_of path_of period harts expand naming (to_come old.machine) ≡ Ok made
-  whole_job content_alike table_alike new es final made expanded ended is_made =
-      then_made (Ok (raws_to_come path_of old)) expanded.few
-      ∙ ap Ok
-      (sym (product_alike content_alike table_alike period harts naming (each_path es) (map (sample_path expand) (raws_to_come path_of old)) (to_come old.machine).final expanded.alike)
-      ∙ ap (product_from period harts naming (each_path es)) (sym (ended ∙ expanded.ended)) ∙ sym is_made)
+  pub refused_run : (fail : Fail InputFault) → FailsBy fail (few_samples harts (raws_to_come path_of old)) → FailsBy fail (profiled_run path_of period harts expand naming (to_come old.machine))
+  refused_run (fails.Fault fault) many = in_steps ∙ ap (then_scopes (to_come old.machine).final) many
+  refused_run (fails.Memory memory) many = tt
+
+  pub whole_run : (ccts : List (List Counted)) (new : Sampling) (final : MachineState) (result : Result Made (Fail InputFault)) → AllCounted path_of harts ccts old new → final ≡ new.machine.state
+      → Makes merging period result (profiled harts naming expand final (raws_to_come path_of old)) → Makes merging period result (profiled_run path_of period harts expand naming (to_come old.machine))
+  whole_run ccts new final result counted at makes =
+      subst (Makes merging period result)
+      (ap (λ (m : MachineState). profiled harts naming expand m (raws_to_come path_of old)) (at ∙ counted.ended)
+      ∙ sym (in_steps ∙ ap (then_scopes (to_come old.machine).final) counted.few)) makes
+
+  pub counted_run : (ccts : List (List Counted)) (new : Sampling) (final : MachineState) (result : Result Made (Fail InputFault)) → AllCounted path_of harts ccts old new → final ≡ new.machine.state → length ccts ≡ harts
+      → ((samples : List HartRaw) → ccts ≡ distinct (length ccts) samples → samples_in ccts ≡ length samples → All (λ s. s.hart < length ccts) samples → Makes merging period result (profiled (length ccts) naming expand final samples))
+      → Makes merging period result (profiled_run path_of period harts expand naming (to_come old.machine))
+  counted_run ccts new final result counted at long makes =
+      let raws : List HartRaw = raws_to_come path_of old in
+      let are : ccts ≡ distinct (length ccts) raws = counted.counts ∙ ap (λ (n : ℕ). distinct n raws) (sym long) in
+      let own : All (λ s. s.hart < length ccts) raws = subst (λ (n : ℕ). All (λ s. s.hart < n) raws) (sym long) counted.of_harts in
+      whole_run ccts new final result counted at (subst (λ (n : ℕ). Makes merging period result (profiled n naming expand final raws)) long (makes raws are counted.all own))

@@ -4,8 +4,10 @@ pub mod Samples
 pub mod Report
 pub mod Profile
 pub mod Task
+pub mod Job
 pub mod Outcome
 pub mod Message
 pub mod Follows
 pub mod Made
+pub mod Merged
 pub mod private

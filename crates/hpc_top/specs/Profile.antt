@@ -10,6 +10,7 @@ use Rattle.cfi_table.specs.Frames.{frames_of, Frames as Described}
 use Rattle.cfi_unwind.specs.Path.{unwinding_of, path_of as unwound_by}
 use Rattle.scope_types.specs.declared.scope.Scope.{Scope}
 use Rattle.scope_types.specs.Raw.{Raw}
+use Rattle.scope_types.specs.Distinct.{HartRaw}
 use Rattle.scope_types.specs.Expansion.{call_path}
 use Rattle.scope_find.specs.Found.{ProgramScopes, found_at, naming_of}
 use Rattle.sample_clock.specs.Samples.{Paths}
@@ -56,38 +57,63 @@ frames_from (Err fault) = Err (Frames fault.offset)
 abbrev pub frame_information : ProgramImage → Result Described InputFault
 frame_information image = frames_from (frames_of (bytes_of_name image.sections (codes ".debug_frame")) image.segments)
 
--- ---- the product
+-- ---- the run
 
--- of the call paths of the samples, and the machine at the end of the run
-abbrev pub product_from : ℕ → ℕ → Naming → List HartPath → MachineState → Product
-product_from period harts naming paths final = record {
-  database = spelling (content_of period harts naming paths);
-  text = report_of period harts final paths (top_down period harts naming paths);
-}
+-- what is profiled of a run: its harts, the names of its program, how raw paths are expanded, the samples, and the machine
+-- at the end
+pub record Profiled : Type 0 where
+  pub harts : ℕ
+  pub naming : Naming
+  pub expand : Raw → List Scope
+  pub samples : List HartRaw
+  pub final : MachineState
 
--- of the samples of a run, unless there are too many of them, their frames or their scopes
-unfoldable pub product_of : Paths → ℕ → ℕ → (Raw → List Scope) → Naming → Run → Result Product InputFault
-product_of path_of period harts expand naming run = do
+-- a run, unless it has too many samples, or these have too many frames or scopes
+unfoldable pub profiled_run : Paths → ℕ → ℕ → (Raw → List Scope) → Naming → Run → Result Profiled InputFault
+profiled_run path_of period harts expand naming run = do
   samples ← few_samples harts (sampled path_of period run)
   samples ← few_scopes expand harts samples
-  Ok (product_from period harts naming (map (sample_path expand) samples) run.final)
+  Ok (record { harts = harts; naming = naming; expand = expand; samples = samples; final = run.final })
 
 -- of a program whose call frame information and debug information were read
-abbrev pub program_product : Described → ProgramScopes → Scheduled → List ℕ → ℕ → Result Product InputFault
-program_product described scopes schedule input period =
-    product_of (unwound_by (unwinding_of described scopes.image)) period schedule.harts (call_path (found_at scopes))
+abbrev pub profiled_program : Described → ProgramScopes → Scheduled → List ℕ → ℕ → Result Profiled InputFault
+profiled_program described scopes schedule input period =
+    profiled_run (unwound_by (unwinding_of described scopes.image)) period schedule.harts (call_path (found_at scopes))
     (naming_of scopes) (run_of scopes.image schedule input)
 
 -- of a program whose call frame information was read, or the first refusal of its debug information or of its run
-abbrev pub code_product : ProgramImage → Described → Scheduled → List ℕ → ℕ → Result Product InputFault
-code_product image described schedule input period = do
+abbrev pub profiled_code : ProgramImage → Described → Scheduled → List ℕ → ℕ → Result Profiled InputFault
+profiled_code image described schedule input period = do
   scopes ← program_scopes image
-  program_product described scopes schedule input period
+  profiled_program described scopes schedule input period
+
+-- the run of a program, an input and a schedule, or the first of their refusals
+unfoldable pub profiled_of : List ℕ → List ℕ → List ℕ → ℕ → Result Profiled InputFault
+profiled_of elf input schedule period = do
+  schedule ← scheduled schedule
+  image ← program elf
+  described ← frame_information image
+  profiled_code image described schedule input period
+
+-- ---- the product
+
+-- the call paths of the samples
+abbrev pub call_paths_of : Profiled → List HartPath
+call_paths_of p = map (sample_path p.expand) p.samples
+
+-- the product whose database and table are those of these paths. The lines before the table are those of all samples
+abbrev pub product_from : ℕ → Profiled → List HartPath → Product
+product_from period p paths = record {
+  database = spelling (content_of period p.harts p.naming paths);
+  text = report_of period p.harts p.final (call_paths_of p) (top_down period p.harts p.naming paths);
+}
+
+-- the product of a run is that of all its samples
+abbrev pub product_of : ℕ → Profiled → Product
+product_of period p = product_from period p (call_paths_of p)
 
 -- the product of a program, an input and a schedule, or the first of their refusals
 unfoldable pub profile_of : List ℕ → List ℕ → List ℕ → ℕ → Result Product InputFault
 profile_of elf input schedule period = do
-  schedule ← scheduled schedule
-  image ← program elf
-  described ← frame_information image
-  code_product image described schedule input period
+  p ← profiled_of elf input schedule period
+  Ok (product_of period p)

@@ -41,16 +41,17 @@ abbrev pub samples_of : List HartPath → ℕ → ℕ
 samples_of paths hart = count_by (λ p. p.hart == hart) paths
 
 -- what a hart did: the instructions that it retired, its samples, and how it stands at the end
-abbrev pub hart_line : MachineState → List HartPath → ℕ → List ℕ
-hart_line final paths hart =
+abbrev pub hart_line : MachineState → ℕ → ℕ → List ℕ
+hart_line final samples hart =
     codes "hart " ++ decimal hart ++ codes " retired " ++ decimal (hart_of final hart).retired
-    ++ codes " samples " ++ decimal (samples_of paths hart)
+    ++ codes " samples " ++ decimal samples
     ++ codes " end " ++ end_text (hart_of final hart).end ++ codes "\n"
 
-abbrev pub hart_lines : ℕ → MachineState → List HartPath → List ℕ
-hart_lines harts final paths = flat_map (hart_line final paths) (harts_below harts)
+-- a line for each hart, where each has so many samples
+abbrev pub hart_lines : ℕ → MachineState → (ℕ → ℕ) → List ℕ
+hart_lines harts final samples = flat_map (λ hart. hart_line final (samples hart) hart) (harts_below harts)
 
 -- the guest's output, the totals, a line for each hart, and the top-down table
 abbrev pub report_of : ℕ → ℕ → MachineState → List HartPath → List ℕ → List ℕ
 report_of period harts final paths table =
-    closed final.output ++ total_line harts period (length paths) ++ hart_lines harts final paths ++ table
+    closed final.output ++ total_line harts period (length paths) ++ hart_lines harts final (samples_of paths) ++ table

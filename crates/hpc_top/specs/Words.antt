@@ -27,7 +27,7 @@ abbrev pub most_period : ℕ
 most_period = 4294967295
 
 abbrev pub most_workers : ℕ
-most_workers = 1
+most_workers = 16
 
 -- what is made of two numbers, where both are there
 abbrev pub of_both : {X : Type 0} → (ℕ → ℕ → X) → Option ℕ → Option ℕ → Option X

@@ -3,3 +3,4 @@ pub mod Stop
 pub mod Views
 pub mod Steps
 pub mod Collecting
+pub mod Merging

@@ -16,6 +16,7 @@ use crate::request::{ProfileWords, Request};
 use crate::status::{FileKind, Made, Place, Status, Stop, status_of};
 use crate::steps::{Want, deliver, fetch_all};
 use crate::words::read_words;
+use merge_crew::WorkCrew;
 use prof_bytes::Text;
 use prof_devices::{Gate, Shelf, Sink};
 use std::thread::Threads;
@@ -62,10 +63,11 @@ fn three(texts: &[Text]) -> Option<(&[u8], &[u8], &[u8])>
 }
 
 /// What `profile` makes of its files.
-fn prepare_profile<R: Threads + Sync + AllocGlobal, F: Shelf>(
+fn prepare_profile<R: Threads + Sync + AllocGlobal, F: Shelf, G: Gate>(
     rt: &R,
     words: ProfileWords<'_>,
     shelf: &mut F,
+    gate: &G,
 ) -> Result<Made, Stop>
     ensures { Prepares (task_of (Profile (view_profile words.entry))) (F.shown shelf.old) (F.shown shelf.new) result }
 {
@@ -81,18 +83,19 @@ fn prepare_profile<R: Threads + Sync + AllocGlobal, F: Shelf>(
         period: words.period,
         workers: words.workers,
     };
-    Ok(profile(rt, &job)?)
+    Ok(profile(rt, &job, &WorkCrew::of(gate))?)
 }
 
-fn prepare<R: Threads + Sync + AllocGlobal, F: Shelf>(
+fn prepare<R: Threads + Sync + AllocGlobal, F: Shelf, G: Gate>(
     rt: &R,
     request: Request<'_>,
     shelf: &mut F,
+    gate: &G,
 ) -> Result<Made, Stop>
     ensures { Prepares (task_of (view_request request.entry)) (F.shown shelf.old) (F.shown shelf.new) result }
 {
     match request {
-        Request::Profile(words) => prepare_profile(rt, words, shelf),
+        Request::Profile(words) => prepare_profile(rt, words, shelf, gate),
     }
 }
 
@@ -104,61 +107,64 @@ fn stored_name(request: Request<'_>) -> Option<&[u8]>
     }
 }
 
-fn carry_out<R: Threads + Sync + AllocGlobal, F: Shelf, O: Sink>(
+fn carry_out<R: Threads + Sync + AllocGlobal, F: Shelf, O: Sink, G: Gate>(
     rt: &R,
     request: Request<'_>,
     shelf: &mut F,
     out: &mut O,
+    gate: &G,
 ) -> Result<(), Stop>
     ensures { Outcome (task_of (view_request request.entry))
         (call_of (F.shown shelf.old) (F.shown shelf.new) (O.shown out.old) (O.shown out.new)) (answer_of result) }
 {
-    let made = prepare(rt, request, shelf)?;
+    let made = prepare(rt, request, shelf, gate)?;
     deliver(shelf, out, stored_name(request), &made)
 }
 
-fn answer<R: Threads + Sync + AllocGlobal, F: Shelf, O: Sink>(
+fn answer<R: Threads + Sync + AllocGlobal, F: Shelf, O: Sink, G: Gate>(
     rt: &R,
     words: &[Text],
     shelf: &mut F,
     out: &mut O,
+    gate: &G,
 ) -> Status
     ensures answer { Answers (request_of words.now)
         (call_of (F.shown shelf.old) (F.shown shelf.new) (O.shown out.old) (O.shown out.new)) result }
     ensures untouched { IsNone (request_of words.now) → (shelf.new ≡ shelf.old) × (out.new ≡ out.old) }
 {
     match read_words(words) {
-        Some(request) => status_of(carry_out(rt, request, shelf, out)),
+        Some(request) => status_of(carry_out(rt, request, shelf, out, gate)),
         None => Status::Usage,
     }
 }
 
-fn respond<R: Threads + Sync + AllocGlobal, F: Shelf, O: Sink, E: Sink>(
+fn respond<R: Threads + Sync + AllocGlobal, F: Shelf, O: Sink, E: Sink, G: Gate>(
     rt: &R,
     words: &[Text],
     shelf: &mut F,
     out: &mut O,
     err: &mut E,
+    gate: &G,
 ) -> Status
     ensures answer { Answers (request_of words.now)
         (call_of (F.shown shelf.old) (F.shown shelf.new) (O.shown out.old) (O.shown out.new)) result }
     ensures line { Says (E.shown err.old) (E.shown err.new) result }
     ensures untouched { IsNone (request_of words.now) → (shelf.new ≡ shelf.old) × (out.new ≡ out.old) }
 {
-    let status = answer(rt, words, shelf, out);
+    let status = answer(rt, words, shelf, out, gate);
     tell(rt.alloc(), status, err)
 }
 
 /// All that the program does: what its words ask for, over the files of `shelf`, with the report on
-/// `out` and a line on `err` for every answer but `Done`. Merging is not by threads yet, so that `gate`
-/// is not passed.
+/// `out` and a line on `err` for every answer but `Done`. Each worker of a merge passes `gate` before it offers a piece
+/// first.
 pub fn hpc_main<R: Threads + Sync + AllocGlobal, F: Shelf, O: Sink, E: Sink, G: Gate>(
     rt: &R,
     words: &[Text],
     shelf: &mut F,
     out: &mut O,
     err: &mut E,
-    _gate: &G,
+    gate: &G,
 ) -> Status
     // When each answer comes, and what it leaves of the files and the output.
     ensures answer { Answers (request_of words.now)
@@ -171,5 +177,5 @@ pub fn hpc_main<R: Threads + Sync + AllocGlobal, F: Shelf, O: Sink, E: Sink, G: 
     ensures follows { Follows (request_of words.now)
         (call_of (F.shown shelf.old) (F.shown shelf.new) (O.shown out.old) (O.shown out.new)) result }
 {
-    respond(rt, words, shelf, out, err)
+    respond(rt, words, shelf, out, err, gate)
 }

@@ -8,10 +8,9 @@
 
 mod call;
 mod collect;
-mod expand;
 mod main_job;
+mod merged;
 mod message;
-mod names;
 mod report;
 mod request;
 mod scopes;

@@ -1,16 +1,18 @@
 //! The report of a run as text.
 ghost use Rattle.std.specs.Prelude.{◌≡◌, ◌<◌, ◌≤◌, ◌^◌, ◌++◌, ◌*◌, length, codes, decimal, IfOk, OnOk};
-ghost use Rattle.scope_types.specs.CallPaths.{each_path};
-ghost use Rattle.hpc_top.specs.Report.{cause_text, closed, end_text, total_line};
-ghost use Rattle.hpc_top.specs.Report.{hart_line, hart_lines, report_of, samples_of};
+ghost use Rattle.scope_types.specs.Distinct.{samples_in};
+ghost use Rattle.scope_types.specs.Limits.{most_samples};
+ghost use Rattle.thread_cct.specs.Adding.{samples_of_hart};
+ghost use Rattle.tree_types.specs.OfContent.{IsProfile, content_table};
+ghost use Rattle.hpc_top.specs.Report.{cause_text, closed, end_text, hart_line, hart_lines, total_line};
 
 use prof_bytes::{Memory, Text};
 use rv_hart::Cause;
 use rv_run::{HartEnd, Machine};
-use scope_types::Entry;
 use std::alloc::Global;
-use tree_types::{Kind, total_of, value_of};
-use view_tables::{put_address, put_decimal};
+use thread_cct::Ccts;
+use tree_types::Content;
+use view_tables::{put_address, put_decimal, put_top_down, top_down_length};
 
 fn cause_name(cause: Cause) -> &'static str
     ensures { result.now ≡ cause_text cause }
@@ -88,28 +90,18 @@ fn put_total_line(out: &mut Vec<u8>, harts: u32, period: u32, samples: u64) -> R
     Ok(())
 }
 
-/// How many samples a hart has.
-#[tactic(auto, using(crate::proofs::Lines::all_of_hart))]
-fn samples_in(entries: &[Entry], hart: u32) -> u64
-    requires { length (each_path entries.now) ≤ 2 ^ 20 }
-    ensures { result ≡ samples_of (each_path entries.now) hart }
-{
-    value_of(1, entries, hart, &[], Kind::Inclusive)
-}
-
 fn put_hart_line(
     out: &mut Vec<u8>,
     hart: u32,
-    entries: &[Entry],
+    samples: u64,
     machine: &Machine<'_>,
 ) -> Result<(), Memory>
-    requires few { length (each_path entries.now) ≤ 2 ^ 20 }
-    requires hart { hart < length machine.now.state.harts }
-    ensures { OnOk result (out.new.items ≡ out.old.items ++ hart_line machine.now.state (each_path entries.now) hart) }
+    requires { hart < length machine.now.state.harts }
+    ensures { OnOk result (out.new.items ≡ out.old.items ++ hart_line machine.now.state samples hart) }
 {
     put_count(out, "hart ", u64::from(hart))?;
     put_count(out, " retired ", machine.retired(hart))?;
-    put_count(out, " samples ", samples_in(entries, hart))?;
+    put_count(out, " samples ", samples)?;
     put_words(out, " end ")?;
     put_end(out, machine.end(hart))?;
     out.push(b'\n')?;
@@ -118,40 +110,48 @@ fn put_hart_line(
 
 /// A line for each hart.
 #[tactic(auto, using(crate::proofs::Lines::line_steps))]
-fn put_hart_lines(
-    out: &mut Vec<u8>,
-    harts: u32,
-    entries: &[Entry],
-    machine: &Machine<'_>,
-) -> Result<(), Memory>
-    requires few { length (each_path entries.now) ≤ 2 ^ 20 }
-    requires harts { harts ≡ length machine.now.state.harts }
+fn put_hart_lines(out: &mut Vec<u8>, ccts: &Ccts, machine: &Machine<'_>) -> Result<(), Memory>
+    requires { length ccts.now ≡ length machine.now.state.harts }
     ensures { OnOk result (out.new.items
-        ≡ out.old.items ++ hart_lines harts machine.now.state (each_path entries.now)) }
+        ≡ out.old.items ++ hart_lines (length ccts.now) machine.now.state (samples_of_hart ccts.now)) }
 {
-    for hart in 0..harts {
-        put_hart_line(out, hart, entries, machine)?;
+    for hart in 0..ccts.harts() {
+        put_hart_line(out, hart, ccts.samples(hart), machine)?;
     }
     Ok(())
 }
 
-/// The report of samples and of the machine at the end of its run, with this table.
+/// How many samples all harts have.
+fn all_samples(ccts: &Ccts) -> u64
+    ensures all { result ≡ samples_in ccts.now }
+    ensures few { result ≤ most_samples }
+{
+    let mut samples: u64 = 0;
+    for hart in 0..ccts.harts() {
+        samples += ccts.samples(hart);
+    }
+    samples
+}
+
+/// The report of a profile: the machine at the end of its run, its samples, and the content's table.
 pub fn report(
     alloc: Global,
-    period: u32,
-    harts: u32,
-    entries: &[Entry],
+    content: &Content,
+    ccts: &Ccts,
     machine: &Machine<'_>,
-    table: &[u8],
 ) -> Result<Text, Memory>
-    requires few { length (each_path entries.now) ≤ 2 ^ 20 }
-    requires harts { harts ≡ length machine.now.state.harts }
-    ensures { IfOk result (λ text. text ≡ report_of period harts machine.now.state (each_path entries.now) table.now) }
+    requires profile { IsProfile content.now }
+    requires harts { length ccts.now ≡ length machine.now.state.harts }
+    ensures { IfOk result (λ text. text ≡ closed machine.now.state.output
+        ++ total_line (length ccts.now) content.now.period (samples_in ccts.now)
+        ++ hart_lines (length ccts.now) machine.now.state (samples_of_hart ccts.now) ++ content_table content.now) }
 {
     let mut bytes = Vec::new(alloc);
     put_output(&mut bytes, machine.output())?;
-    put_total_line(&mut bytes, harts, period, total_of(entries))?;
-    put_hart_lines(&mut bytes, harts, entries, machine)?;
-    bytes.extend_from_slice(table)?;
+    put_total_line(&mut bytes, ccts.harts(), content.period, all_samples(ccts))?;
+    put_hart_lines(&mut bytes, ccts, machine)?;
+    // A table may have gigabytes: where there is no room for it, memory runs out here, and not in the middle.
+    bytes.reserve(top_down_length(content) as usize)?;
+    put_top_down(&mut bytes, content)?;
     Ok(Text::from_vec(bytes))
 }

@@ -1,5 +1,5 @@
 //! The commands with their words.
-ghost use Rattle.std.specs.Prelude.{◌<◌};
+ghost use Rattle.std.specs.Prelude.{◌<◌, ◌≤◌};
 
 /// The words of `profile ELF INPUT SCHEDULE PERIOD WORKERS DB`.
 #[derive(Clone, Copy)]
@@ -11,6 +11,8 @@ pub struct ProfileWords<'a> {
     pub workers: u32,
     pub database: &'a [u8],
     pub ghost some_period: { 0 < period },
+    pub ghost some_workers: { 0 < workers },
+    pub ghost few_workers: { workers ≤ 16 },
 }
 
 /// A command with its words.

@@ -5,6 +5,7 @@ ghost use Rattle.hpc_top.specs.declared.status.Stop.TheVariants as stops;
 use dwarf_info::InfoFault;
 use dwarf_inline::StructureFault;
 use elf_image::ElfFault;
+use merge_crew::Crew;
 use prof_bytes::{Fail, Memory, Text};
 
 /// The files that commands fetch.
@@ -59,11 +60,12 @@ pub enum Status {
     Memory(Memory),
 }
 
-/// What a command makes: a database, and the report on it.
-#[derive(Debug, Drop)]
+/// What a command makes: a database, the report on it, and what the crew that merged it has done.
+#[derive(Drop)]
 pub struct Made {
     pub database: Text,
     pub report: Text,
+    pub crew: Crew,
 }
 
 /// Why a command stops early.

@@ -11,8 +11,8 @@ use rv_run::decimal;
 /// The largest period.
 const MOST_PERIOD: u32 = u32::MAX;
 
-/// The most workers that are built.
-const MOST_WORKERS: u32 = 1;
+/// The most workers.
+const MOST_WORKERS: u32 = 16;
 
 /// Whether the words can be names of files.
 fn are_file_names(words: &[&Text]) -> bool

@@ -1,3 +1,4 @@
 pub mod Writing
+pub mod Profiles
 pub mod FourSamples
 pub mod TwentySamples

@@ -4,6 +4,8 @@
 //! `scope_types` and `prof_bytes`.
 #![tactic(auto)]
 
+mod laws;
 mod write;
 
+pub use laws::profiles_are_writable;
 pub use write::write_db;

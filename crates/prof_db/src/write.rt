@@ -3,17 +3,18 @@ ghost use Rattle.std.specs.Prelude.{◌≡◌, ◌<◌, ◌≤◌, ◌^◌, ◌+
 ghost use Rattle.std.specs.List.{flat_map, position_or_len};
 ghost use Rattle.std.specs.Ordering.{is_eq};
 ghost use Rattle.scope_types.specs.Words.{root_words, proc_words};
-ghost use Rattle.tree_types.specs.Naming.{proc_order, file_order};
+ghost use Rattle.tree_types.specs.NamesAscend.{NamesAscend};
+ghost use Rattle.prof_db.specs.Writable.{IsWritable};
 ghost use Rattle.prof_db.specs.Spelling.{word, words, text_bytes, procedure_bytes, file_bytes, node_bytes};
 ghost use Rattle.prof_db.specs.Spelling.{kind_number, line_numbers, scope_numbers, proc_index, file_index};
 ghost use Rattle.prof_db.specs.Spelling.{profile_entry_bytes, context_entry_bytes, with_count, head_bytes, spelling};
 
-use prof_bytes::{Listed, Memory, Text, put_u32, put_u64};
+use prof_bytes::{Memory, Text, put_u32, put_u64};
 use scope_types::{LineId, ProcId, RootKind, Scope};
 use std::alloc::Global;
 use tree_types::{
     Content, ContextEntry, ContextPlane, FileName, Kind, Names, Node, ProcName, ProfileEntry,
-    ProfilePlane,
+    ProfilePlane, find_file, find_proc,
 };
 
 /// A count as it is written: its lowest four bytes.
@@ -87,51 +88,28 @@ fn put_files(out: &mut Vec<u8>, files: &[FileName]) -> Result<(), Memory>
     Ok(())
 }
 
-fn same_proc(a: ProcId, b: ProcId) -> bool
-    ensures { result ≡ is_eq (proc_order a b) }
-{
-    a.cmp(&b).is_eq()
-}
-
-fn same_file(a: (u32, u32), b: (u32, u32)) -> bool
-    ensures { result ≡ is_eq (file_order a b) }
-{
-    a.cmp(&b).is_eq()
-}
-
-fn find_proc(procs: &[ProcName], id: ProcId) -> Option<usize>
-    ensures { result ≡ position (λ p. is_eq (proc_order id p.id)) procs.now }
-{
-    procs.iter().position(|p| same_proc(id, p.id))
-}
-
 /// The index of a procedure in the list of names.
 #[tactic(auto, using(tree_types::proofs::Numbers::index_is_number))]
 fn index_of_proc(names: &Names, id: ProcId) -> u32
+    requires { NamesAscend names.now }
     ensures { word result ≡ word (proc_index names.now id) }
 {
     let procs = names.procs.items();
-    count(find_proc(procs, id).unwrap_or(procs.len()))
-}
-
-fn find_file(files: &[FileName], table: u32, number: u32) -> Option<usize>
-    ensures { result ≡ position (λ f. is_eq (file_order (table, number) (f.table, f.file))) files.now }
-{
-    files
-        .iter()
-        .position(|f| same_file((table, number), (f.table, f.file)))
+    count(find_proc(names, id).unwrap_or(procs.len()))
 }
 
 /// The index of a file in the list of names.
 #[tactic(auto, using(tree_types::proofs::Numbers::index_is_number))]
 fn index_of_file(names: &Names, table: u32, number: u32) -> u32
+    requires { NamesAscend names.now }
     ensures { word result ≡ word (file_index names.now table number) }
 {
     let files = names.files.items();
-    count(find_file(files, table, number).unwrap_or(files.len()))
+    count(find_file(names, table, number).unwrap_or(files.len()))
 }
 
 fn put_line(out: &mut Vec<u8>, names: &Names, line: LineId) -> Result<(), Memory>
+    requires { NamesAscend names.now }
     ensures { OnOk result (out.new.items ≡ out.old.items ++ words (line_numbers names.now line)) }
 {
     match line {
@@ -154,6 +132,7 @@ fn root_word(kind: RootKind) -> u32
 
 #[tactic(auto, using(crate::proofs::Writing::words_parts))]
 fn put_inline(out: &mut Vec<u8>, names: &Names, callee: ProcId, call: LineId) -> Result<(), Memory>
+    requires { NamesAscend names.now }
     ensures { OnOk result (out.new.items
         ≡ out.old.items ++ words (scope_numbers names.now (Scope.Inline callee call))) }
 {
@@ -165,6 +144,7 @@ fn put_inline(out: &mut Vec<u8>, names: &Names, callee: ProcId, call: LineId) ->
 
 #[tactic(auto, using(crate::proofs::Writing::words_parts))]
 fn put_scope(out: &mut Vec<u8>, names: &Names, scope: Scope) -> Result<(), Memory>
+    requires { NamesAscend names.now }
     ensures { OnOk result (out.new.items ≡ out.old.items ++ words (scope_numbers names.now scope)) }
 {
     match scope {
@@ -188,6 +168,7 @@ fn put_scope(out: &mut Vec<u8>, names: &Names, scope: Scope) -> Result<(), Memor
 }
 
 fn put_node(out: &mut Vec<u8>, names: &Names, n: &Node) -> Result<(), Memory>
+    requires { NamesAscend names.now }
     ensures { OnOk result (out.new.items ≡ out.old.items ++ node_bytes names.now n.now) }
 {
     put_u32(out, n.parent)?;
@@ -196,6 +177,7 @@ fn put_node(out: &mut Vec<u8>, names: &Names, n: &Node) -> Result<(), Memory>
 }
 
 fn put_nodes(out: &mut Vec<u8>, names: &Names, nodes: &[Node]) -> Result<(), Memory>
+    requires { NamesAscend names.now }
     ensures { OnOk result (out.new.items ≡ out.old.items ++ flat_map (node_bytes names.now) nodes.now) }
 {
     for n in nodes {
@@ -266,20 +248,22 @@ fn put_context_column(out: &mut Vec<u8>, entries: &[ContextEntry]) -> Result<(),
     Ok(())
 }
 
-fn put_profiles(out: &mut Vec<u8>, columns: &[Listed<ProfileEntry>]) -> Result<(), Memory>
-    ensures { OnOk result (out.new.items ≡ out.old.items ++ flat_map (with_count profile_entry_bytes) columns.now) }
+fn put_profiles(out: &mut Vec<u8>, harts: u32, plane: &ProfilePlane) -> Result<(), Memory>
+    requires { length plane.now ≡ harts }
+    ensures { OnOk result (out.new.items ≡ out.old.items ++ flat_map (with_count profile_entry_bytes) plane.now) }
 {
-    for column in columns {
-        put_profile_column(out, column.items())?;
+    for hart in 0..harts {
+        put_profile_column(out, plane.hart(hart))?;
     }
     Ok(())
 }
 
-fn put_contexts(out: &mut Vec<u8>, columns: &[Listed<ContextEntry>]) -> Result<(), Memory>
-    ensures { OnOk result (out.new.items ≡ out.old.items ++ flat_map (with_count context_entry_bytes) columns.now) }
+fn put_contexts(out: &mut Vec<u8>, plane: &ContextPlane) -> Result<(), Memory>
+    requires { length plane.now < 2 ^ 32 }
+    ensures { OnOk result (out.new.items ≡ out.old.items ++ flat_map (with_count context_entry_bytes) plane.now) }
 {
-    for column in columns {
-        put_context_column(out, column.items())?;
+    for node in 0..plane.nodes() {
+        put_context_column(out, plane.node(node))?;
     }
     Ok(())
 }
@@ -295,10 +279,11 @@ fn put_head(out: &mut Vec<u8>, content: &Content) -> Result<(), Memory>
     Ok(())
 }
 
-/// The bytes of a database with this content. Each name is looked for in the whole list of names: slow on
-/// purpose, until the list is looked up by its order.
+/// The bytes of a database with this content. Names are looked up by halving; the time grows as the number of nodes and
+/// entries otherwise.
 #[tactic(auto, using(crate::proofs::Writing::six_parts), unfolding(crate::specs::Spelling::spelling))]
 pub fn write_db(alloc: Global, content: &Content) -> Result<Text, Memory>
+    requires { IsWritable content.now }
     ensures { IfOk result (λ text. text ≡ spelling content.now) }
 {
     let names = &content.names;
@@ -307,7 +292,7 @@ pub fn write_db(alloc: Global, content: &Content) -> Result<Text, Memory>
     put_procs(&mut out, names.procs.items())?;
     put_files(&mut out, names.files.items())?;
     put_nodes(&mut out, names, content.nodes.items())?;
-    put_profiles(&mut out, content.profiles.columns())?;
-    put_contexts(&mut out, content.contexts.columns())?;
+    put_profiles(&mut out, content.harts, &content.profiles)?;
+    put_contexts(&mut out, &content.contexts)?;
     Ok(Text::from_vec(out))
 }

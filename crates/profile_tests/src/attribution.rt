@@ -71,11 +71,25 @@ struct Run {
     report: &'static str,
 }
 
-static RUNS: [Run; 3] = [
+static RUNS: [Run; 5] = [
     Run {
         name: "inlined procedures",
         file: WITH_INLINES,
         words: "profile p i s 2 1 d",
+        schedule: b"harts 1\n0 100000\n",
+        report: INLINED,
+    },
+    Run {
+        name: "inlined procedures, merged by two workers",
+        file: WITH_INLINES,
+        words: "profile p i s 2 2 d",
+        schedule: b"harts 1\n0 100000\n",
+        report: INLINED,
+    },
+    Run {
+        name: "inlined procedures, merged by sixteen workers",
+        file: WITH_INLINES,
+        words: "profile p i s 2 16 d",
         schedule: b"harts 1\n0 100000\n",
         report: INLINED,
     },

@@ -5,6 +5,8 @@ use crate::databases::EMPTY_DATABASE;
 use crate::programs::{ADDING, program};
 use crate::reports::NO_SAMPLES;
 use hpc_top::{Job, profile};
+use merge_crew::WorkCrew;
+use prof_devices::OpenGate;
 use std::alloc::Global;
 use std::test::Fail;
 use std::thread::Threads;
@@ -179,7 +181,9 @@ fn is_made(
         period,
         workers: 1,
     };
-    let made = profile(rt, &job).ok().ok_or("refused")?;
+    let made = profile(rt, &job, &WorkCrew::of(&OpenGate))
+        .ok()
+        .ok_or("refused")?;
     let is_stored = match database {
         Some(bytes) => made.database.bytes() == bytes,
         None => true,

@@ -12,6 +12,8 @@ mod call_paths;
 #[cfg(test)]
 mod calls;
 #[cfg(test)]
+mod crews;
+#[cfg(test)]
 mod databases;
 #[cfg(test)]
 mod debug_programs;

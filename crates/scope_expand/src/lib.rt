@@ -7,6 +7,8 @@
 #![tactic(auto)]
 
 mod expander;
+mod laws;
 mod names;
 
 pub use expander::Expander;
+pub use laws::call_paths_have_roots;

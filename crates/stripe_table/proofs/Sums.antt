@@ -58,7 +58,7 @@ up_to_most : (n : ℕ) (f : ℕ → ℕ) → ((c : ℕ) → f c ≤ 1) → up_to
 up_to_most zero f h = omega arith
 up_to_most (suc n) f h = let a = h n in let r = up_to_most n f h in omega arith
 
-up_to_sum : (n : ℕ) (f g : ℕ → ℕ) → up_to n (λ c. f c + g c) ≡ up_to n f + up_to n g
+pub up_to_sum : (n : ℕ) (f g : ℕ → ℕ) → up_to n (λ c. f c + g c) ≡ up_to n f + up_to n g
 up_to_sum zero f g = refl
 up_to_sum (suc n) f g = let r = up_to_sum n f g in omega arith
 
@@ -201,3 +201,34 @@ up_to_shift (suc n) g = let r = up_to_shift n g in omega arith
 pub up_to_list : {X : Type 0} (f : List X → ℕ) (xs : List (List X)) → up_to (length xs) (λ i. f (get_or xs i [])) ≡ sum_by f xs
 up_to_list f [] = refl
 up_to_list f (x ∷ xs) = let s = up_to_shift (length xs) (λ i. f (get_or (x ∷ xs) i [])) in let r = up_to_list f xs in let c = sum_by-cons f x xs in omega arith
+
+up_to_none : (n : ℕ) (f : ℕ → ℕ) → up_to n (λ c. 0 * f c) ≡ 0
+up_to_none zero f = refl
+up_to_none (suc n) f = let z = zero-mul (f n) in let r = up_to_none n f in omega arith
+
+up_to_above : (n y : ℕ) (f : ℕ → ℕ) → n ≤ y → up_to n (λ c. weight (c == y) * f c) ≡ 0
+up_to_above zero y f h = refl
+up_to_above (suc n) y f h = let a : weight (n == y) * f n ≡ 0 * f n = ap (λ (k : ℕ). k * f n) (ap weight (ne_eqb n y (λ e. omega arith))) in let z = zero-mul (f n) in let r = up_to_above n y f (omega arith) in omega arith
+
+up_to_own : (n y : ℕ) (f : ℕ → ℕ) → y < n → up_to n (λ c. weight (c == y) * f c) ≡ f y
+up_to_own zero y f h = absurd (omega arith)
+up_to_own (suc n) y f h = dite (ℕ_discrete n y)
+    (λ e. let a : weight (n == y) * f n ≡ 1 * f n = ap (λ (k : ℕ). k * f n) (ap weight (eq-eqb n y e)) in let z = one-mul (f n) in let g : f n ≡ f y = ap f e in let r = up_to_above n y f (omega arith) in omega arith)
+    (λ ne. let a : weight (n == y) * f n ≡ 0 * f n = ap (λ (k : ℕ). k * f n) (ap weight (ne_eqb n y ne)) in let z = zero-mul (f n) in let r = up_to_own n y f (omega arith) in omega arith)
+
+-- the sum over numbers below n takes each as often as it is there
+sum_by_times : (f : ℕ → ℕ) (n : ℕ) (xs : List ℕ) → ((c : ℕ) → 0 < times c xs → c < n) → sum_by f xs ≡ up_to n (λ c. times c xs * f c)
+sum_by_times f n [] h = sym (up_to_none n f)
+sum_by_times f n (y ∷ ys) h = let r = sum_by_times f n ys (λ c z. h c (omega arith)) in let b : y < n = h y (let a : weight (y == y) ≡ 1 = ap weight (eq-eqb y y refl) in omega arith) in
+    let k = sum_by-cons f y ys in let s = up_to_sum n (λ c. weight (c == y) * f c) (λ c. times c ys * f c) in let o = up_to_own n y f b in let e = split_up n y ys f in omega arith
+
+up_to_same : (n : ℕ) (f g : ℕ → ℕ) → ((c : ℕ) → c < n → f c ≡ g c) → up_to n f ≡ up_to n g
+up_to_same zero f g h = refl
+up_to_same (suc n) f g h = let a = h n (omega arith) in let r = up_to_same n f g (λ c lt. h c (omega arith)) in omega arith
+
+once_each : (k x : ℕ) → k ≤ 1 → 0 < k → k * x ≡ x
+once_each k x few more = let e : k ≡ 1 = omega arith in ap (λ (m : ℕ). m * x) e ∙ one-mul x
+
+-- distinct numbers below n that are all of them sum up to all
+pub sum_over_all : (f : ℕ → ℕ) (n : ℕ) (xs : List ℕ) → ((c : ℕ) → times c xs ≤ 1) → ((c : ℕ) → 0 < times c xs → c < n) → ((c : ℕ) → c < n → 0 < times c xs) → sum_by f xs ≡ up_to n f
+sum_over_all f n xs d h all = sum_by_times f n xs h ∙ up_to_same n (λ c. times c xs * f c) f (λ c lt. once_each (times c xs) (f c) (d c) (all c lt))

@@ -25,6 +25,9 @@ keeps_took s v w (Busy l f) o = kept v _ w o (refl, refl, refl)
 pub took_held : (s : ℕ) (v w : PassView) (r : Take) → Took s v w r → r ≡ Held → (k : ℕ) × (w.hold ≡ Holds s k)
 took_held s v w r o is = let q = subst (Took s v w) is o in (q.0 / 2, ap (λ (z : PassView). z.hold) q.1)
 
+pub took_busy : (s : ℕ) (v w : PassView) (r : Take) → Took s v w r → v.hold ≡ Free → (l f : ℕ) → r ≡ Busy l f → w.hold ≡ Free
+took_busy s v w r o free l f is = let q = subst (Took s v w) is o in ap (λ (z : PassView). z.hold) q ∙ free
+
 pub keeps_laid : (s k c : ℕ) (v w : PassView) (r : Laid) → LaidAs s k c v w r → Keeps v w × (w.hold ≡ Free)
 keeps_laid s k c v w Merged o = (kept v _ w o (refl, refl, refl), ap (λ (z : PassView). z.hold) o)
 keeps_laid s k c v w (Present p) o = (kept v _ w o (refl, refl, refl), ap (λ (z : PassView). z.hold) o)

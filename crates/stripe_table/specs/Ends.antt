@@ -1,13 +1,17 @@
 -- What a closed set of stripes says.
 use Rattle.std.specs.Prelude.{◌≡◌, ℕ, ◌<◌, List, length, slice_index_or}
+use Rattle.std.specs.List.{flat_map, range_with_len}
 use mathlib.Core.Option.{some}
 use lib.ListN.{get_elem?}
+use Rattle.scope_types.specs.CallPaths.{HartPath, each_path}
 use Rattle.scope_types.specs.declared.path.Entry.{Entry}
-use Rattle.stripe_table.specs.Limits.{Chunks}
+use Rattle.thread_cct.specs.Plan.{stripes}
+use Rattle.stripe_table.specs.Limits.{Chunks, dealt}
 use Rattle.stripe_table.specs.declared.view.PassView.{PassView}
 use Rattle.stripe_table.specs.declared.stripe.Stripe.{Stripe}
 use Rattle.stripe_table.specs.Stripe.{empty_stripe}
 use Rattle.stripe_table.specs.Fits.{Fits}
+use Rattle.stripe_table.specs.Views.{times}
 
 -- the stripes, and what the pass did that closed them
 pub record SetValue : Type 0 where
@@ -30,3 +34,15 @@ trie_of all s = (slice_index_or all s empty_stripe).trie
 abbrev pub AllFit : Chunks → List Stripe → Type 0
 AllFit plan all = (length all ≡ 16)
     × ((s : ℕ) → s < 16 → Fits plan s (length (names_of all s)) (slice_index_or all s empty_stripe))
+
+-- the call paths of the pieces that a stripe names: of each chunk that it names, those that the plan deals to it
+abbrev pub paths_named_by : SetValue → ℕ → List HartPath
+paths_named_by set s = flat_map (λ c. each_path (dealt set.view.plan c s)) (names_of set.stripes s)
+
+-- and of all sixteen stripes, one after the other
+unfoldable pub named_paths : SetValue → List HartPath
+named_paths set = flat_map (paths_named_by set) (range_with_len 0 stripes)
+
+-- each stripe names each chunk of the plan
+abbrev pub NamesAll : SetValue → Type 0
+NamesAll set = (c s : ℕ) → c < length set.view.plan → s < stripes → 0 < times c (names_of set.stripes s)

@@ -172,6 +172,7 @@ impl StripeSet {
         requires { stripe < stripes }
         ensures trie { result.now ≡ trie_of self.now.stripes stripe }
         ensures fits { AllFit self.now.view.plan self.now.stripes }
+        ensures limited { IsLimited self.now.view.plan }
     {
         let _kept = &self.closer;
         self.stripes[stripe as usize].trie()

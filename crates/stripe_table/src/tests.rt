@@ -7,6 +7,7 @@ ghost use Rattle.stripe_table.specs.Values.{IsPassOf};
 ghost use Rattle.stripe_table.specs.Views.{owes};
 ghost use Rattle.stripe_table.specs.declared.offer.Offered.TheVariants.{Busy};
 ghost use Rattle.stripe_table.specs.declared.table.Take.TheVariants.{Held};
+ghost use Rattle.stripe_table.specs.declared.table.Take.TheVariants as takes;
 ghost use Rattle.stripe_table.specs.declared.view.Hold.TheVariants.{Free, Holds};
 ghost use Rattle.stripe_table.specs.private.Tested.{Keeps};
 ghost use Rattle.thread_cct.specs.Plan.{piece_of};
@@ -15,8 +16,11 @@ use crate::{Laid, Offered, Pass, Stripes, Take};
 use prof_bytes::{Fail as Refused, Memory};
 use scope_types::{End, Expand, Frame, LineId, Piece, ProcId, RawPath, RootKind, Scope, ScopePath};
 use std::alloc::Global;
+use std::process::Abort;
 use std::test::Fail;
 use thread_cct::{Ccts, Pieces, Plan, TooManyFrames};
+
+mod threads;
 
 /// Expands a frame to its address, in a procedure without a name.
 #[derive(Drop)]
@@ -100,6 +104,7 @@ fn take_sixth(stripes: &Stripes, pass: &mut Pass) -> Take
     requires free { pass.old.view.hold ≡ Free }
     ensures of { IsPassOf stripes.now pass.new }
     ensures held { result ≡ Held → (k : ℕ) × (pass.new.view.hold ≡ Holds 6 k) }
+    ensures busy { (l f : ℕ) → result ≡ takes.Busy l f → pass.new.view.hold ≡ Free }
     ensures same { Keeps pass.old.view pass.new.view }
 {
     stripes.take(pass, 6)
@@ -139,6 +144,26 @@ fn offer_sixth(stripes: &Stripes, pass: &mut Pass, piece: &Piece) -> Offered
     stripes.offer(pass, piece)
 }
 
+/// Ends a test in which a call was out of memory. Stripe 6 has the names and the nodes that it had before that call.
+fn out_of_memory<R: Abort>(
+    rt: &R,
+    stripes: Stripes,
+    mut first: Pass,
+    other: Pass,
+    names: &[u32],
+    nodes: u32,
+) -> Result<(), Fail>
+    requires of { IsPassOf stripes first × IsPassOf stripes other }
+    requires first { (first.view.first ≡ true) × (first.view.splits ≡ first.view.joins + 1) }
+    requires free { (first.view.hold ≡ Free) × (other.view.hold ≡ Free) }
+{
+    stripes.join(&mut first, other);
+    let set = stripes.close(first);
+    assert!(rt; set.names(6) == names);
+    assert_eq!(rt; set.trie(6).len(), nodes);
+    Err(Fail::new("out of memory in a merge, and the stripe is as before"))
+}
+
 #[test]
 fn two_passes_at_a_stripe(rt: HostRuntime) -> Result<(), Fail> {
     let ccts = paths(rt.alloc())?;
@@ -163,8 +188,16 @@ fn two_passes_at_a_stripe(rt: HostRuntime) -> Result<(), Fail> {
             found: 1
         }
     );
-    assert_eq!(rt; lay_sixth(&stripes, &mut p, low), Laid::Merged);
-    assert_eq!(rt; offer_sixth(&stripes, &mut q, high), Offered::Merged);
+    let laid = lay_sixth(&stripes, &mut p, low);
+    if let Laid::Memory(_) = laid {
+        return out_of_memory(&rt, stripes, p, q, &[], 0);
+    }
+    assert_eq!(rt; laid, Laid::Merged);
+    let offered = offer_sixth(&stripes, &mut q, high);
+    if let Offered::Memory(_) = offered {
+        return out_of_memory(&rt, stripes, p, q, &[0], 66);
+    }
+    assert_eq!(rt; offered, Offered::Merged);
     assert_eq!(rt; take_sixth(&stripes, &mut p), Take::Held);
     assert_eq!(rt;
         lay_sixth(&stripes, &mut p, low),

@@ -2,6 +2,8 @@ pub mod Entries
 pub mod Paths
 pub mod Tables
 pub mod Samples
+pub mod Counts
 mod Hands
 mod Located
-mod PlanLaws
+pub mod PlanLaws
+mod Mergeable

@@ -89,7 +89,8 @@ module _ (f : Entry → ℕ) where
   none_held [] = refl
   none_held (s ∷ stripes) = (let a = sum_by-cons (held []) s stripes in let rest = none_held stripes in omega (arith, a, rest))
 
-  all_held : (entries : List Entry) → sum_by (held entries) (range_with_len 0 16) ≡ sum_by f entries
+  -- the stripes hold all entries together
+  pub all_held : (entries : List Entry) → sum_by (held entries) (range_with_len 0 16) ≡ sum_by f entries
   all_held [] = none_held (range_with_len 0 16)
   all_held (e ∷ entries) =
       let own = one_share (f e) (stripe e.path) 0 16 (omega arith) (let lt = below_sixteen (path_key e.path) in omega (arith, lt)) in
@@ -111,7 +112,7 @@ module _ (f : Entry → ℕ) where
       let inside : k < length chunks = omega (arith, lt, long) in
       get_or-map-range_with_len (λ chunk. slice_index_or chunks chunk []) 0 (length chunks) k k d inside (omega arith) ∙ get_or_default chunks k [] d inside)
 
-  pieces_sum : (chunks : List (List Entry)) → sum_by f (all_entries chunks) ≡ sum_by (sum_by f) chunks
+  pub pieces_sum : (chunks : List (List Entry)) → sum_by f (all_entries chunks) ≡ sum_by (sum_by f) chunks
   pieces_sum chunks =
       sum-flat_map f (λ chunk. flat_map (λ (piece : Piece). piece.entries) (pieces_of chunks chunk)) (range_with_len 0 (length chunks))
       ∙ (λ i. sum_by (λ chunk. chunk_sum chunks chunk i) (range_with_len 0 (length chunks)))
@@ -147,7 +148,7 @@ pieces_alike plan call_path = record { same = λ t. pieces_add_up plan call_path
 
 -- ---- the paths of all samples
 
-each_counted : (t : HartPath → Bool) (es : List Entry) → count_by t (each_path es) ≡ sum_by (λ e. count_by t (replicate e.count (entry_path e))) es
+pub each_counted : (t : HartPath → Bool) (es : List Entry) → count_by t (each_path es) ≡ sum_by (λ e. count_by t (replicate e.count (entry_path e))) es
 unfolding each_path
 each_counted t es = sum-flat_map (λ (p : HartPath). cond (t p) 1 0) (λ (e : Entry). replicate e.count (entry_path e)) es
 

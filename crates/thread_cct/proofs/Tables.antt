@@ -48,7 +48,7 @@ tables_of harts samples = map (paths_at samples) (range_with_len 0 harts)
 pub many : (harts : ℕ) (samples : List HartRaw) → length (tables_of harts samples) ≡ harts
 many harts samples = length-map-range_with_len (paths_at samples) 0 harts
 
-table_at : (harts : ℕ) (samples : List HartRaw) (hart : ℕ) (d : List Counted) → hart < harts → slice_index_or (tables_of harts samples) hart d ≡ paths_at samples hart
+pub table_at : (harts : ℕ) (samples : List HartRaw) (hart : ℕ) (d : List Counted) → hart < harts → slice_index_or (tables_of harts samples) hart d ≡ paths_at samples hart
 table_at harts samples hart d own = get_or-map-range_with_len (paths_at samples) 0 harts hart hart d own (omega arith)
 
 tables_more : (harts : ℕ) (samples : List HartRaw) (s : HartRaw) → s.hart < harts → count_sample (tables_of harts samples) s ≡ tables_of harts (samples ++ s ∷ [])

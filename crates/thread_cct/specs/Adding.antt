@@ -1,5 +1,5 @@
 -- One sample more among counted raw paths.
-use Rattle.std.specs.Prelude.{ℕ, ◌+◌, ◌&&◌, not, nat_lt, Bool, List, [], ◌∷◌, length, slice_index_or, slice_set}
+use Rattle.std.specs.Prelude.{ℕ, ◌+◌, ◌&&◌, not, nat_lt, Bool, List, [], ◌∷◌, length, slice_index_or, slice_set, sum_by}
 use Rattle.std.specs.Prelude.{Result, Ok, Err, if◌then◌else◌}
 use Rattle.std.specs.List.{list_any}
 use Rattle.scope_types.specs.declared.frame.Counted.{Counted}
@@ -21,6 +21,10 @@ count_one raw (c ∷ rest) = if same_raw raw c.path then record { path = c.path;
 -- the counted paths of a hart
 abbrev pub of_hart : List (List Counted) → ℕ → List Counted
 of_hart tables hart = slice_index_or tables hart []
+
+-- how many samples a hart's counted paths count
+abbrev pub samples_of_hart : List (List Counted) → ℕ → ℕ
+samples_of_hart tables hart = sum_by (λ c. c.count) (of_hart tables hart)
 
 -- a sample counted
 abbrev pub count_sample : List (List Counted) → HartRaw → List (List Counted)

@@ -1,6 +1,6 @@
 -- The plan of a merge: the distinct raw paths of all harts, dealt out in chunks, and what they expand to.
-use Rattle.std.specs.Prelude.{ℕ, ◌+◌, ◌*◌, ◌/◌, ◌≤◌, ◌==◌, nat_lt, List, [], length, map, filter, sum_by}
-use Rattle.std.specs.Prelude.{take, drop, slice_index_or, Result, Ok, Err, if◌then◌else◌}
+use Rattle.std.specs.Prelude.{ℕ, ◌+◌, ◌*◌, ◌/◌, ◌<◌, ◌≤◌, ◌==◌, nat_lt, List, [], length, map, filter, sum_by}
+use Rattle.std.specs.Prelude.{take, drop, slice_index_or, All, Result, Ok, Err, if◌then◌else◌}
 use Rattle.std.specs.List.{flat_map, enumerate_from, range_with_len}
 use Rattle.scope_types.specs.declared.frame.Counted.{Counted}
 use Rattle.scope_types.specs.declared.path.Entry.{Entry}
@@ -99,3 +99,13 @@ pieces_of chunks chunk = map (piece_of chunks chunk) (range_with_len 0 stripes)
 abbrev pub all_entries : List (List Entry) → List Entry
 all_entries chunks = flat_map (λ chunk. flat_map (λ piece. piece.entries) (pieces_of chunks chunk))
     (range_with_len 0 (length chunks))
+
+-- the entry counts samples: some, of one of so many harts, at a path that has scopes
+pub record CountsSamples (harts : ℕ) (e : Entry) : Type 0 where
+  pub some : 0 < e.count
+  pub path : 0 < length e.path
+  pub hart : e.hart < harts
+
+-- whether an expanded plan can be merged: each of its entries counts samples of one of so many harts
+pub record IsMergeable (chunks : List (List Entry)) (harts : ℕ) : Type 0 where
+  pub entries : All (All (CountsSamples harts)) chunks

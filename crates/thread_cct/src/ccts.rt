@@ -3,7 +3,7 @@ ghost use Rattle.std.specs.Prelude.{Some, IfOk, OnOk, OnErr, All, ◌≤◌};
 ghost use Rattle.prof_bytes.specs.Outcome.{Gives};
 ghost use Rattle.scope_types.specs.Distinct.{HartRaw, distinct, samples_in};
 ghost use Rattle.scope_types.specs.Limits.{most_samples};
-ghost use Rattle.thread_cct.specs.Adding.{with_sample, count_sample, few_frames, has_path, of_hart};
+ghost use Rattle.thread_cct.specs.Adding.{with_sample, count_sample, few_frames, has_path, of_hart, samples_of_hart};
 
 use crate::table::PathTable;
 use prof_bytes::{Fail, Memory};
@@ -144,6 +144,20 @@ impl Ccts {
         ensures { result ≡ length (of_hart self.now hart) }
     {
         self.tables[hart as usize].len() as u32
+    }
+
+    /// How many samples a hart has.
+    pub fn samples(&self, hart: u32) -> u64
+        requires { hart < length self.now }
+        ensures { result ≡ samples_of_hart self.now hart }
+    {
+        let table = &self.tables[hart as usize];
+        let mut samples: u64 = 0;
+        for index in 0..table.len() {
+            let (_, count) = table.entry(index);
+            samples += u64::from(count);
+        }
+        samples
     }
 
     /// A copy of a hart's distinct raw path at an index, with its count.

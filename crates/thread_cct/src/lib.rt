@@ -23,5 +23,5 @@ pub use ccts::{Ccts, TooManyFrames};
 pub use dealt::Pieces;
 pub use laws::samples_are_counted;
 pub use merge_plan::{Plan, TooManyScopes};
-pub use plan_laws::{pieces_make_the_plan, plans_hold_counted_paths};
+pub use plan_laws::{pieces_make_the_plan, plans_can_be_merged, plans_hold_counted_paths};
 pub use scope_types::Counted;

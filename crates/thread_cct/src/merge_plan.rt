@@ -121,10 +121,11 @@ impl<'a> Plan<'a> {
         (self.paths + (CHUNK_PATHS - 1)) / CHUNK_PATHS
     }
 
-    /// How many harts there are. Each hart in the plan is below that.
+    /// How many harts there are. Each hart in the plan is below that, and each path has a sample at least.
     pub fn harts(&self) -> u32
         ensures harts { result ≡ self.now.harts }
         ensures below { All (λ p. p.hart < result) self.now.paths }
+        ensures counted { All (λ p. 0 < p.count) self.now.paths }
     {
         self.ccts.harts()
     }

@@ -8,7 +8,7 @@ ghost use Rattle.scope_types.specs.declared.frame.Counted.{Counted};
 ghost use Rattle.scope_types.specs.declared.path.Entry.{Entry};
 ghost use Rattle.scope_types.specs.declared.scope.Scope.{Scope};
 ghost use Rattle.thread_cct.specs.Plan.{Planned, all_entries, chunks_in, expanded, expanded_paths, plan_of};
-ghost use Rattle.thread_cct.specs.Plan.{planned_scopes};
+ghost use Rattle.thread_cct.specs.Plan.{IsMergeable, planned_scopes};
 
 /// The chunks of a plan are all its paths, in order, and the pieces of all chunks and stripes together have each of
 /// them once. So they have the call paths of all samples.
@@ -38,4 +38,11 @@ pub fn plans_hold_counted_paths()
     ensures paths { (tables : List (List Counted)) (call_path : Raw → List Scope)
         → each_path (expanded_paths call_path (plan_of tables))
         ≡ map (λ s. record { hart = s.hart; path = call_path s.raw }) (each_sample tables) }
+{}
+
+/// A plan whose paths are counted and are of so many harts can be merged, where no call path is empty.
+pub fn plans_can_be_merged()
+    ensures { (plan : Planned) (call_path : Raw → List Scope) (harts : ℕ)
+        → All (λ p. 0 < p.count) plan.paths → All (λ p. p.hart < harts) plan.paths
+        → ((raw : Raw) → 0 < length (call_path raw)) → IsMergeable (expanded plan call_path) harts }
 {}

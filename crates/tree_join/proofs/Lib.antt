@@ -5,3 +5,7 @@ pub mod Ends
 pub mod Sums
 pub mod Joining
 pub mod Several
+pub mod Paths
+pub mod Named
+pub mod Parts
+pub mod Sampled

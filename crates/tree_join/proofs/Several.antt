@@ -10,13 +10,13 @@ use Rattle.path_trie.specs.Trie.{node_of, node_path, count_of}
 use Rattle.path_trie.proofs.Samples.{nodes_of_parts, counts_of_parts}
 use Rattle.tree_join.specs.Join.{joined_nodes, nodes_of_all}
 
-abbrev entries_in : Bor (List Entry) → List Entry
+abbrev pub entries_in : Bor (List Entry) → List Entry
 entries_in t = t.now
 
-abbrev parts_of : List (Bor (List Entry)) → List (List Entry)
+abbrev pub parts_of : List (Bor (List Entry)) → List (List Entry)
 parts_of ts = map entries_in ts
 
-flat_parts : (ts : List (Bor (List Entry))) → flat_map entries_in ts ≡ flat_map (λ es. es) (parts_of ts)
+pub flat_parts : (ts : List (Bor (List Entry))) → flat_map entries_in ts ≡ flat_map (λ es. es) (parts_of ts)
 flat_parts [] = refl
 flat_parts (t ∷ ts) = ap (λ (l : List Entry). entries_in t ++ l) (flat_parts ts)
 

@@ -1,7 +1,13 @@
 //! The tree of one trie, and of several.
 ghost use Rattle.std.specs.Prelude.{◌≡◌, ℕ, ◌<◌, ◌≤◌, length, map, sum_by, All, IfOk};
+ghost use Rattle.std.specs.List.{flat_map};
+ghost use Rattle.scope_types.specs.Alike.{Alike};
+ghost use Rattle.scope_types.specs.CallPaths.{each_path};
+ghost use Rattle.thread_cct.specs.Plan.{CountsSamples};
 ghost use Rattle.scope_types.specs.Limits.{most_samples, most_path_scopes};
-ghost use Rattle.tree_types.specs.Tree.{count_at};
+ghost use Rattle.tree_types.specs.Database.{node_list};
+ghost use Rattle.tree_types.specs.Nodes.{no_parent};
+ghost use Rattle.tree_types.specs.Tree.{count_at, paths_in};
 ghost use Rattle.path_trie.specs.Trie.{trie_nodes, node_of, node_path, count_of, samples_of};
 ghost use Rattle.tree_join.specs.Join.{joined_nodes, nodes_of_all};
 
@@ -20,6 +26,10 @@ pub fn join_trie(alloc: Global, trie: &Trie, harts: u32) -> Result<Tree, Memory>
         ≡ map (node_of (joined_nodes trie.now)) (joined_nodes trie.now)) }
     ensures counts { IfOk result (λ tree. (node hart : ℕ) → node < length tree.nodes
         → count_at tree.counts node hart ≡ count_of trie.now hart (node_path (joined_nodes trie.now) node)) }
+    ensures few { IfOk result (λ tree. length tree.nodes < no_parent) }
+    ensures paths { All (CountsSamples harts) trie.now
+        → IfOk result (λ tree. Alike (paths_in tree) (each_path trie.now)
+        × (tree.nodes ≡ node_list (each_path trie.now))) }
 {
     let Preorder { nodes, numbers } = in_preorder(alloc, trie.nodes())?;
     let counts = summed(alloc, trie.ends(), numbers.as_slice())?;
@@ -39,6 +49,9 @@ pub fn join_tries(alloc: Global, tries: &[&Trie], harts: u32) -> Result<Tree, Me
         IfOk result (λ tree. (node hart : ℕ) → node < length tree.nodes
         → count_at tree.counts node hart
         ≡ sum_by (λ es. count_of es hart (node_path (nodes_of_all parts) node)) parts) }
+    ensures few { IfOk result (λ tree. length tree.nodes < no_parent) }
+    ensures paths { let es = flat_map (λ es. es) (map (λ t. t.now) tries.now) in All (CountsSamples harts) es
+        → IfOk result (λ tree. Alike (paths_in tree) (each_path es) × (tree.nodes ≡ node_list (each_path es))) }
 {
     let all = Trie::joined(alloc, tries)?;
     join_trie(alloc, &all, harts)

@@ -1,1 +1,2 @@
 mod SixNodes
+mod Missing

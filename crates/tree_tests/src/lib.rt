@@ -1,14 +1,22 @@
+//! Tests of calling context trees: tries of counted call paths, the trees that are made of them and of stripes, the plan
+//! of a merge and its pieces, the workers of a merge, the values of a tree, and their planes.
 //! Tests of calling context trees: tries of counted call paths, the trees that are made of them, the plan of a merge and
-//! its pieces, and the values of a tree.
+//! its pieces, the workers of a merge, and the values of a tree.
 //!
 //! It has no code of its own: a crate with tests is proved twice, and these prove none of the crates
 //! below again. The expected values are written by hand from the definitions.
 #![tactic(auto)]
 
 #[cfg(test)]
+mod crew;
+#[cfg(test)]
 mod joins;
 #[cfg(test)]
 mod plan;
+#[cfg(test)]
+mod planes;
+#[cfg(test)]
+mod stripes;
 #[cfg(test)]
 mod sums;
 #[cfg(test)]

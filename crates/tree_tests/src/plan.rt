@@ -14,7 +14,7 @@ use thread_cct::{Ccts, Plan, TooManyFrames, TooManyScopes, samples_are_counted};
 
 /// A memo that keeps nothing.
 #[derive(Drop)]
-struct NoMemo;
+pub(crate) struct NoMemo;
 
 /// Expands a raw path to so many roots.
 #[derive(Drop)]
@@ -49,8 +49,8 @@ impl Expand for Roots {
 
 /// Expands a raw path by its innermost frame alone: a root, a procedure and a statement at its address.
 #[derive(Drop)]
-struct Innermost {
-    alloc: Global,
+pub(crate) struct Innermost {
+    pub(crate) alloc: Global,
 }
 
 fn sampled_pc(raw: &RawPath) -> u32
@@ -109,7 +109,7 @@ fn add(alloc: Global, ccts: &mut Ccts, hart: u32, pc: u32) -> Result<(), Fail<To
 }
 
 /// Samples of hart 0 at 1000 to 1064, and of hart 1 at 2000, 2001 and 2000.
-fn samples(alloc: Global) -> Result<Ccts, Fail<TooManyFrames>> {
+pub(crate) fn samples(alloc: Global) -> Result<Ccts, Fail<TooManyFrames>> {
     let mut ccts = started(alloc, 2)?;
     for place in 0..65u32 {
         add(alloc, &mut ccts, 0, 1000 + place)?;

@@ -66,7 +66,7 @@ static VALUES: [[[u64; 3]; 2]; 6] = [
 ];
 
 /// The tree of these nodes and counts.
-fn six_nodes(alloc: Global) -> Result<Tree, Memory>
+pub(crate) fn six_nodes(alloc: Global) -> Result<Tree, Memory>
     ensures nodes { IfOk result (λ tree. length tree.nodes ≡ 6) }
     ensures harts { IfOk result (λ tree. tree.harts ≡ 2) }
     ensures paths { IfOk result (λ tree. counts_in tree.counts ≤ 6) }

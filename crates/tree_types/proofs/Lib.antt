@@ -10,6 +10,7 @@ pub mod TwentyRows
 pub mod Putting
 pub mod InlinedRows
 pub mod Columns
+pub mod Cutting
 pub mod TreePaths
 pub mod PathsAgain
 pub mod CalledRows
@@ -22,6 +23,8 @@ pub mod PlaneSteps
 pub mod Bounds
 pub mod Entries
 mod Searched
+mod NamePlaces
+pub mod ContentParts
 mod Places
 pub mod PathSteps
 pub mod SortedOnce
@@ -29,3 +32,6 @@ pub mod TreeLaws
 pub mod TreeValues
 pub mod Enclosed
 pub mod WholeValues
+pub mod CountedPaths
+pub mod Selecting
+pub mod ValuePlanes

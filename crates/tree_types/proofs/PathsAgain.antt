@@ -37,12 +37,12 @@ sum_by-flat_map g f [] = refl
 sum_by-flat_map g f (x ∷ xs) =
     sum_by-append g (f x) (flat_map f xs) ∙ ap (λ k. sum_by g (f x) + k) (sum_by-flat_map g f xs) ∙ sym (sum_by-cons (λ x. sum_by g (f x)) x xs)
 
-sum_by-map : {X Y : Type 0} (g : Y → ℕ) (f : X → Y) (xs : List X) → sum_by g (map f xs) ≡ sum_by (λ x. g (f x)) xs
+pub sum_by-map : {X Y : Type 0} (g : Y → ℕ) (f : X → Y) (xs : List X) → sum_by g (map f xs) ≡ sum_by (λ x. g (f x)) xs
 sum_by-map g f [] = refl
 sum_by-map g f (x ∷ xs) = sum_by-cons g (f x) (map f xs) ∙ ap (λ k. g (f x) + k) (sum_by-map g f xs) ∙ sym (sum_by-cons (λ x. g (f x)) x xs)
 
 -- elements that add nothing may be left out
-sum_by-filter : {X : Type 0} (g : X → ℕ) (t : X → Bool) → ((x : X) → t x ≡ false → g x ≡ 0) → (xs : List X) → sum_by g (filter t xs) ≡ sum_by g xs
+pub sum_by-filter : {X : Type 0} (g : X → ℕ) (t : X → Bool) → ((x : X) → t x ≡ false → g x ≡ 0) → (xs : List X) → sum_by g (filter t xs) ≡ sum_by g xs
 sum_by-filter g t nothing [] = refl
 sum_by-filter {X} g t nothing (x ∷ xs) =
     elim (t x) as (λ b. t x ≡ b → sum_by g (cond b (x ∷ filter t xs) (filter t xs)) ≡ g x + sum_by g xs) [
@@ -50,7 +50,7 @@ sum_by-filter {X} g t nothing (x ∷ xs) =
       | false ↦ λ e. let z = nothing x e in let r = sum_by-filter g t nothing xs in omega arith
     ] refl ∙ sym (sum_by-cons g x xs)
 
-enumerated : {X : Type 0} (F : ℕ → X) (a m : ℕ) → enumerate_from a (map F (range_with_len a m)) ≡ map (λ h. (h, F h)) (range_with_len a m)
+pub enumerated : {X : Type 0} (F : ℕ → X) (a m : ℕ) → enumerate_from a (map F (range_with_len a m)) ≡ map (λ h. (h, F h)) (range_with_len a m)
 enumerated F a zero = refl
 enumerated {X} F a (suc m) = ap (λ (z : List (ℕ × X)). (a, F a) ∷ z) (enumerated F (a + 1) m)
 
@@ -70,7 +70,7 @@ count_copies q (suc k) x =
 pub count_by-flat_map : {X Y : Type 0} (q : Y → Bool) (f : X → List Y) (xs : List X) → count_by q (flat_map f xs) ≡ sum_by (λ x. count_by q (f x)) xs
 count_by-flat_map q f xs = sum_by-flat_map (λ y. one (q y)) f xs
 
-abbrev at_hart : ℕ → Path → HartPath
+abbrev pub at_hart : ℕ → Path → HartPath
 at_hart hart path = record { hart = hart; path = path }
 
 -- what counts below n
@@ -187,21 +187,27 @@ over_harts q harts (p ∷ qs) all =
     once true = (λ i. count_by (λ h. and-true (p.hart == h) i) (harts_below harts)) ∙ one_within 0 harts p.hart (omega arith) (let k = all.0 in omega arith)
     once false = count_never (λ h. (p.hart == h) && false) (harts_below harts) (λ h. and-false (p.hart == h))
 
+-- where each path is a node and each hart is below the number of harts, the counts at the nodes are all
+pub counted_at_nodes : (ns : List Path) (harts : ℕ) (q : HartPath → Bool) (qs : List HartPath) → IsStrictlySortedBy path_order ns → AllByRecursion (λ p. has path_order p.path ns ≡ true) qs → AllByRecursion (λ p. p.hart < harts) qs
+    → sum_by (λ h. sum_by (λ m. one (q (at_hart h m)) * count_below ends_here qs h m) ns) (harts_below harts) ≡ count_by q qs
+unfolding count_below
+counted_at_nodes ns harts q qs sorted there below =
+    let each : (h : ℕ) → sum_by (λ m. one (q (at_hart h m)) * count_below ends_here qs h m) ns ≡ count_by (λ p. (p.hart == h) && q p) qs = λ h.
+    (λ i. sum_by (λ m. one_times_count (q (at_hart h m)) (counts ends_here h m) qs i) ns)
+    ∙ sums_swap (λ (m : Path) (p : HartPath). q (at_hart h m) && counts ends_here h m p) ns qs ∙ of_hart q h ns sorted qs there in
+    (λ i. sum_by (λ h. each h i) (harts_below harts))
+    ∙ sums_swap (λ (h : ℕ) (p : HartPath). (p.hart == h) && q p) (harts_below harts) qs
+    ∙ over_harts q harts qs below
+
 -- the paths of a content count as the paths that it was made of
 pub counts_again : (period harts : ℕ) (naming : Naming) (ps : List HartPath) (q : HartPath → Bool) → 0 < period → length (nodes ps) ≤ no_parent → All (λ p. 0 < length p.path) ps → All (λ p. p.hart < harts) ps
     → count_by q (paths_of (content_of period harts naming ps)) ≡ count_by q ps
-unfolding count_below
 counts_again period harts naming ps q positive few some below =
     let ns : List Path = nodes ps in
     let there : AllByRecursion (λ (p : HartPath). has path_order p.path ns ≡ true) ps =
     are_nodes ps ps (recursion_from_All (Contains ps) ps (All-contains_itself ps)) (recursion_from_All (λ (p : HartPath). 0 < length p.path) ps some) in
-    let each : (h : ℕ) → sum_by (λ m. one (q (at_hart h m)) * count_below ends_here ps h m) ns ≡ count_by (λ p. (p.hart == h) && q p) ps = λ h.
-    (λ i. sum_by (λ m. one_times_count (q (at_hart h m)) (counts ends_here h m) ps i) ns)
-    ∙ sums_swap (λ (m : Path) (p : HartPath). q (at_hart h m) && counts ends_here h m p) ns ps ∙ of_hart q h ns (sorted_nodes ps) ps there in
     from_all period ps positive q harts naming few
-    ∙ (λ i. sum_by (λ h. each h i) (harts_below harts))
-    ∙ sums_swap (λ (h : ℕ) (p : HartPath). (p.hart == h) && q p) (harts_below harts) ps
-    ∙ over_harts q harts ps (recursion_from_All (λ (p : HartPath). p.hart < harts) ps below)
+    ∙ counted_at_nodes ns harts q ps (sorted_nodes ps) there (recursion_from_All (λ (p : HartPath). p.hart < harts) ps below)
   where
     are_nodes : (ps qs : List HartPath) → AllByRecursion (Contains ps) qs → AllByRecursion (λ (p : HartPath). 0 < length p.path) qs → AllByRecursion (λ (p : HartPath). has path_order p.path (nodes ps) ≡ true) qs
     are_nodes ps [] all some = tt

@@ -1,12 +1,15 @@
 -- What halving finds in a list that strictly ascends by a key.
-use Rattle.std.proofs.Common.{◌≡◌, ℕ, zero, suc, ◌<◌, ◌≤◌, Bool, true, false, List, [], ◌∷◌, length, get_or, filter, sum_by, Ordering, Less, Equal, Greater, is_eq, AllPairs, Result, Ok, Err, refl, ap, subst, ◌∙◌, arith, inl, inr}
-use Rattle.std.specs.Prelude.{◌≢◌, MatchResult}
+use Rattle.std.proofs.Common.{◌≡◌, ℕ, zero, suc, ◌<◌, ◌≤◌, Bool, true, false, List, [], ◌∷◌, length, get_or, filter, sum_by, Ordering, Less, Equal, Greater, is_eq, AllPairs, Result, Ok, Err, Some, None, cond, nat_lt, refl, ap, subst, ◌∙◌, arith, inl, inr}
+use Rattle.std.specs.Prelude.{◌≢◌, MatchResult, position}
+use Rattle.std.specs.List.{position_or_len}
 use Rattle.std.specs.Cmp.{IsTotalOrder}
 use Rattle.std.specs.FinMap.{IsAntisymmetric, nat_cmp-IsAntisymmetric, slice_cmp-IsAntisymmetric}
 use Rattle.std.specs.Cmp.Lexicographic.{slice_cmp}
 use Rattle.std.specs.List.Sorted.{IsSearchInRange, IsBinarySearchResult, IsNonDecreasingBy}
 use Rattle.std.specs.Ordering.{nat_cmp, ordering_index, ordering_reverse}
 use Rattle.std.proofs.lemmas.Bool.{cases_lt, cases_order}
+use Rattle.std.proofs.lemmas.Bool.Decides.{nat_tests}
+use Rattle.std.proofs.lemmas.List.Sums.{position_or_len_is}
 
 pub filter_none : {X : Type 0} (t : X → Bool) (xs : List X) (d : X) → ((k : ℕ) → k < length xs → t (get_or xs k d) ≡ false) → filter t xs ≡ []
 filter_none t [] d none = refl
@@ -20,6 +23,26 @@ filter_one t (x ∷ xs) zero d lt e others =
 filter_one t (x ∷ xs) (suc i) d lt e others =
     rw (others 0 (omega arith) (λ z. absurd (omega arith)))
     (filter_one t xs i d (omega arith) e (λ k below apart. others (suc k) (omega arith) (λ z. apart (omega arith))))
+
+lt_test : (i n : ℕ) → i < n → nat_lt i n ≡ true
+lt_test i n lt = grind (arith, nat_tests)
+
+not_lt_itself : (n : ℕ) → nat_lt n n ≡ false
+not_lt_itself n = grind (arith, nat_tests)
+
+-- the first that passes, where it is known; and none
+position_some : {X : Type 0} (t : X → Bool) (xs : List X) (i : ℕ) → i < length xs → ((k : ℕ) (d : X) → k < i → t (get_or xs k d) ≡ false) → ((d : X) → t (get_or xs i d) ≡ true) → position t xs ≡ Some i
+position_some t [] i lt before here = absurd (omega arith)
+position_some t (x ∷ xs) i lt before here =
+    let e : position_or_len t (x ∷ xs) ≡ i = position_or_len_is t (x ∷ xs) i x (omega arith) (λ k less. before k x less) (λ inside. here x) in
+    ap (λ (j : ℕ). cond (nat_lt j (length (x ∷ xs))) (Some j) None) e ∙ ap (λ b. cond b (Some i) None) (lt_test i (length (x ∷ xs)) lt)
+
+position_none : {X : Type 0} (t : X → Bool) (xs : List X) → ((k : ℕ) (d : X) → k < length xs → t (get_or xs k d) ≡ false) → position t xs ≡ None
+position_none t [] fails = refl
+position_none t (x ∷ xs) fails =
+    let n : ℕ = length (x ∷ xs) in
+    let e : position_or_len t (x ∷ xs) ≡ n = position_or_len_is t (x ∷ xs) n x (omega arith) (λ k less. fails k x less) (λ inside. absurd (omega arith)) in
+    ap (λ (j : ℕ). cond (nat_lt j n) (Some j) None) e ∙ ap (λ b. cond b (Some n) None) (not_lt_itself n)
 
 module _ {X K : Type 0} {R : K → K → Ordering} (o : IsTotalOrder R) (apart : IsAntisymmetric R) (key : X → K) (p : K) where
   turned : (a b : K) → R a b ≡ Less → R b a ≡ Greater
@@ -71,6 +94,17 @@ module _ {X K : Type 0} {R : K → K → Ordering} (o : IsTotalOrder R) (apart :
           | inl less ↦ fails_below (get_or xs k d) ((parted answers_rise).0 k d (omega arith) less)
           | inr more ↦ fails_above (get_or xs k d) ((parted answers_rise).1 k d more inside)
         ]))
+
+    -- the place of p is that of the element that was found; p has none where none was
+    pub found_position : (r : Result ℕ ℕ) → IsSearchInRange r (length xs) → IsBinarySearchResult (λ x. R (key x) p) xs r
+        → MatchResult r (λ i. position t xs ≡ Some i) (λ i. position t xs ≡ None)
+    found_position (Ok i) lt equal = position_some t xs i lt
+        (λ k d less. fails_below (get_or xs k d) (below (key (get_or xs k d)) (key (get_or xs i d)) (equal d) (ascend k i d less lt)))
+        (λ d. tells (get_or xs i d) ∙ ap is_eq (equal d))
+    found_position (Err i) le parted = position_none t xs (λ k d inside. elim (cases_lt k i) [
+      | inl less ↦ fails_below (get_or xs k d) ((parted answers_rise).0 k d (omega arith) less)
+      | inr more ↦ fails_above (get_or xs k d) ((parted answers_rise).1 k d more inside)
+    ])
 
 -- the order of lists of numbers tells any two apart
 pub nat_lists_apart : IsAntisymmetric (slice_cmp nat_cmp)

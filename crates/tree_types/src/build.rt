@@ -1,7 +1,8 @@
 //! The whole content of a list of call paths, by the plain bodies.
-ghost use Rattle.std.specs.Prelude.{◌≡◌, ◌<◌, ◌≤◌, ◌^◌, length, map, IfOk};
+ghost use Rattle.std.specs.Prelude.{◌≡◌, ◌<◌, ◌≤◌, ◌^◌, ◌++◌, ◌∷◌, [], length, map, IfOk, OnOk};
 ghost use Rattle.scope_types.specs.CallPaths.{each_path};
 ghost use Rattle.scope_types.specs.Limits.{most_samples};
+ghost use Rattle.tree_types.specs.Columns.{AreStarts, cut};
 ghost use Rattle.tree_types.specs.Nodes.{nodes, no_parent};
 ghost use Rattle.tree_types.specs.Planes.{profile_plane, context_plane, node_column};
 ghost use Rattle.tree_types.specs.Naming.{Naming};
@@ -11,11 +12,28 @@ use crate::content::{Content, Names};
 use crate::plain::node_list_of;
 use crate::plane_columns::{column_of, context_column_of};
 use crate::planes::{ContextPlane, ProfilePlane};
-use prof_bytes::{Listed, Memory};
+use prof_bytes::Memory;
 use scope_types::{Entry, ScopePath};
 use std::alloc::Global;
 
-#[tactic(auto, using(crate::proofs::PlaneSteps::one_column_more))]
+/// Puts a column behind the others.
+#[tactic(auto, using(crate::proofs::Cutting::starts_more, crate::proofs::Cutting::cut_more))]
+fn put_column<T: Copy>(
+    starts: &mut Vec<u64>,
+    entries: &mut Vec<T>,
+    column: &[T],
+) -> Result<(), Memory>
+    requires { AreStarts starts.old.items (length entries.old.items) }
+    ensures starts { OnOk result (AreStarts starts.new.items (length entries.new.items)) }
+    ensures columns { OnOk result
+        (cut starts.new.items entries.new.items ≡ cut starts.old.items entries.old.items ++ column.now ∷ []) }
+{
+    entries.extend_from_slice(column)?;
+    starts.push(entries.len() as u64)?;
+    Ok(())
+}
+
+#[tactic(auto, using(crate::proofs::PlaneSteps::one_column_more, crate::proofs::Cutting::no_starts, crate::proofs::Cutting::no_columns))]
 fn profiles_of(
     alloc: Global,
     period: u32,
@@ -28,13 +46,17 @@ fn profiles_of(
     requires numbers { length tree.now ≤ no_parent }
     ensures { IfOk result (λ plane. plane ≡ profile_plane period harts (each_path entries.now)) }
 {
-    let mut columns = Vec::new(alloc);
+    let mut starts = Vec::new(alloc);
+    let mut values = Vec::new(alloc);
+    starts.push(0)?;
     for hart in 0..harts {
-        columns.push(Listed::of(column_of(alloc, period, entries, hart, tree)?))?;
+        let column = column_of(alloc, period, entries, hart, tree)?;
+        put_column(&mut starts, &mut values, column.as_slice())?;
     }
-    Ok(ProfilePlane::of(columns))
+    Ok(ProfilePlane::of(starts, values))
 }
 
+#[tactic(auto, using(crate::proofs::Cutting::no_starts, crate::proofs::Cutting::no_columns))]
 fn contexts_of(
     alloc: Global,
     period: u32,
@@ -45,12 +67,14 @@ fn contexts_of(
     requires { length (each_path entries.now) ≤ most_samples }
     ensures { IfOk result (λ plane. plane ≡ map (node_column period harts (each_path entries.now)) tree.now) }
 {
-    let mut columns = Vec::new(alloc);
+    let mut starts = Vec::new(alloc);
+    let mut values = Vec::new(alloc);
+    starts.push(0)?;
     for n in tree {
         let column = context_column_of(alloc, period, harts, entries, n.scopes())?;
-        columns.push(Listed::of(column))?;
+        put_column(&mut starts, &mut values, column.as_slice())?;
     }
-    Ok(ContextPlane::of(columns))
+    Ok(ContextPlane::of(starts, values))
 }
 
 /// The content of a list of call paths whose nodes are `tree`, under these names. The period is in

@@ -74,6 +74,13 @@ impl Tree {
         self.nodes.as_slice()
     }
 
+    /// The nodes alone. Takes no memory.
+    pub fn into_nodes(self) -> Vec<Node>
+        ensures { result.items ≡ self.nodes }
+    {
+        self.nodes
+    }
+
     /// The counts, by node, then hart. A node and a hart without paths have none.
     pub fn counts(&self) -> &[NodeCount]
         ensures counts { result.now ≡ self.now.counts }

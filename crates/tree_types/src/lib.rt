@@ -10,8 +10,10 @@
 mod ascending;
 mod build;
 mod content;
+mod content_laws;
 mod counted_tree;
 mod laws;
+mod lookup;
 mod named;
 mod node_values;
 mod plain;
@@ -24,15 +26,19 @@ pub use build::content_of_paths;
 pub use content::{
     Content, ContextEntry, FileName, Kind, NO_PARENT, Names, Node, ProcName, ProfileEntry,
 };
+pub use content_laws::{content_has_its_paths_values, paths_make_a_profile, used_names_ascend};
 pub use counted_tree::{NodeCount, Tree};
 pub use laws::{
     content_holds_its_paths, counts_decide, nodes_are_few, nodes_are_prefixes,
     order_does_not_matter, parents_stand_before, pieces_keep_the_paths, used_names_suffice,
     values_add_up,
 };
+pub use lookup::{find_file, find_proc};
 pub use named::{files_of, procs_of};
 pub use node_values::{NodeValue, Values};
 pub use plain::{node_list_of, nodes_of, own_scope_of, rest_after, total_of, value_of};
 pub use plane_columns::{column_of, context_column_of};
 pub use planes::{ContextPlane, ProfilePlane};
-pub use tree_laws::{parents_enclose, tree_counts_add_up, tree_has_values, trees_hold_paths};
+pub use tree_laws::{
+    parents_enclose, tree_counts_add_up, tree_has_values, trees_hold_paths, values_make_planes,
+};

@@ -1,5 +1,6 @@
 ghost use Rattle.std.specs.Prelude.{◌≡◌, ◌≢◌, ℕ, ◌+◌, ◌<◌, ◌≤◌, ◌==◌, ◌&&◌, not};
 ghost use Rattle.std.specs.Prelude.{if◌then◌else◌, Bool, List, length, sum_by};
+ghost use Rattle.scope_types.specs.Alike.{Alike};
 ghost use Rattle.scope_types.specs.CallPaths.{HartPath};
 ghost use Rattle.tree_types.specs.Database.{node_list};
 ghost use Rattle.tree_types.specs.Nodes.{nodes, no_parent};
@@ -8,6 +9,8 @@ ghost use Rattle.tree_types.specs.Tree.{CountedTree, IsPreorder, IsTree, count_a
 ghost use Rattle.tree_types.specs.Tree.{nodes_behind, paths_in};
 ghost use Rattle.tree_types.specs.Paths.{Path, is_proc};
 ghost use Rattle.tree_types.specs.NodeValues.{AreValues, value_at, values_of};
+ghost use Rattle.tree_types.specs.Planes.{context_plane, profile_plane};
+ghost use Rattle.tree_types.specs.ValueColumns.{columns_by_hart, columns_by_node};
 ghost use Rattle.tree_types.specs.Values.{anything, count_below, ends_here, value, within_frame};
 ghost use Rattle.tree_types.specs.declared.content.Kind.{Kind};
 
@@ -61,4 +64,15 @@ pub fn tree_has_values()
         → node < length tree.nodes → hart < tree.harts
         → value_at (values_of period tree).entries node hart kind
         ≡ value period (paths_in tree) hart (node_path tree.nodes node) kind }
+{}
+
+/// The columns of a tree's values are the planes of its paths, and of all lists with the same paths equally often.
+#[tactic(auto, using(crate::proofs::ValuePlanes::plane_laws))]
+pub fn values_make_planes()
+    ensures profiles { (period : ℕ) (tree : CountedTree) (ps : List HartPath) → Alike (paths_in tree) ps
+        → tree.nodes ≡ node_list ps → length (nodes ps) ≤ no_parent
+        → columns_by_hart (values_of period tree) ≡ profile_plane period tree.harts ps }
+    ensures contexts { (period : ℕ) (tree : CountedTree) (ps : List HartPath) → Alike (paths_in tree) ps
+        → tree.nodes ≡ node_list ps → length (nodes ps) ≤ no_parent
+        → columns_by_node (values_of period tree) ≡ context_plane period tree.harts ps }
 {}

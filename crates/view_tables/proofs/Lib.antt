@@ -1,3 +1,6 @@
-pub mod OverHarts
 pub mod NamesFound
+pub mod Blanks
+pub mod ColumnSums
+pub mod Depths
+pub mod TextLengths
 pub mod TableRows

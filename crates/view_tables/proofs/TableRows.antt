@@ -1,20 +1,73 @@
 -- The rows of a table, a node at a time.
-use Rattle.std.proofs.Common.{◌≡◌, ℕ, ◌≤◌, List, [], ◌∷◌, ◌++◌, length, take, sym, ap, ◌∙◌, arith, append-nil, take_all}
+use Rattle.std.proofs.Common.{◌≡◌, ℕ, ◌+◌, ◌-◌, ◌<◌, ◌≤◌, ◌^◌, List, [], ◌∷◌, ◌++◌, length, take, get_or, refl, sym, ap, ◌∙◌, arith, take_all, length-append}
+use Rattle.std.specs.Prelude.{min}
+use Rattle.std.proofs.lemmas.List.{get_or_default}
 use Rattle.std.specs.List.{flat_map}
-use Rattle.scope_types.specs.CallPaths.{HartPath}
+use Rattle.tree_types.specs.declared.content.Content.{Content}
+use Rattle.tree_types.specs.Database.{naming_in}
+use Rattle.tree_types.specs.NamesAscend.{NamesAscend}
+use Rattle.tree_types.specs.Nodes.{nodes, no_parent}
+use Rattle.tree_types.specs.OfContent.{IsProfile, content_table}
 use Rattle.tree_types.specs.Paths.{Path}
-use Rattle.tree_types.specs.Ascending.{ascending}
-use Rattle.tree_types.specs.Nodes.{nodes}
-use Rattle.tree_types.specs.Naming.{Naming}
+use Rattle.tree_types.specs.PathsOf.{paths_of}
 use Rattle.tree_types.specs.TopDown.{header, node_row, top_down}
+use Rattle.tree_types.proofs.ContentParts.{own_names_ascend}
+use Rattle.prof_bytes.proofs.Appending.{append_more, two_parts}
+use Rattle.view_tables.specs.private.Lengths.{capped}
+use Rattle.view_tables.specs.private.Rows.{number_before, path_at, row_of, row_text}
+use Rattle.view_tables.proofs.ColumnSums.{as_many_columns, as_many_nodes}
+use Rattle.view_tables.proofs.Depths.{no_depth, number_after}
+use Rattle.view_tables.proofs.TextLengths.{capped_sum}
 
-pub no_rows : (period harts : ℕ) (naming : Naming) (ps : List HartPath) (out : List ℕ) → length ps ≡ 0 → out ≡ [] ++ header → out ≡ top_down period harts naming ps
-unfolding top_down nodes ascending
-no_rows period harts naming [] out none is = is ∙ sym (append-nil header)
-no_rows period harts naming (p ∷ ps) out none is = absurd (omega arith)
+-- the row of a node, by its path
+abbrev path_row : Content → Path → List ℕ
+path_row c n = node_row c.period c.harts (naming_in c.names) (paths_of c) n
 
-pub all_rows : (period harts : ℕ) (naming : Naming) (ps : List HartPath) (ns : List Path) (i : ℕ) → ns ≡ nodes ps → length ns ≤ i → header ++ flat_map (node_row period harts naming ps) (take i ns) ≡ top_down period harts naming ps
+-- the rows of so many nodes
+abbrev pub rows : Content → ℕ → List ℕ
+rows c count = flat_map (path_row c) (take count (nodes (paths_of c)))
+
+pub names_ascend : (c : Content) → IsProfile c → NamesAscend c.names
+names_ascend c profile = own_names_ascend c profile.own
+
+pub row_more : (c : Content) (start out after : List ℕ) (number : ℕ) → IsProfile c → number < length c.nodes
+    → out ≡ start ++ rows c number → after ≡ out ++ row_text c.names (row_of c number) → after ≡ start ++ rows c (number + 1)
+row_more c start out after number profile lt so_far one =
+    let ns : List Path = nodes (paths_of c) in
+    let inside : number < length ns = omega (arith, lt, as_many_nodes c profile) in
+    append_more (path_row c) start out after ns number (path_at c number) inside (default number inside) so_far one
+  where
+    default : (number : ℕ) → number < length (nodes (paths_of c)) → path_at c number ≡ get_or (nodes (paths_of c)) number (path_at c number)
+    default number lt = get_or_default (nodes (paths_of c)) number [] (path_at c number) lt
+
+pub all_rows : (c : Content) (start middle out : List ℕ) (number : ℕ) → IsProfile c → length c.contexts ≤ number
+    → middle ≡ start ++ header → out ≡ middle ++ rows c number → out ≡ start ++ content_table c
 unfolding top_down
-all_rows period harts naming ps ns i is le = ap (λ (ms : List Path). header ++ flat_map (node_row period harts naming ps) ms) (take_all i ns le ∙ is)
+all_rows c start middle out number profile le first rest =
+    let past : length (nodes (paths_of c)) ≤ number = omega (arith, le, as_many_nodes c profile, as_many_columns c profile) in
+    two_parts start middle out header (flat_map (path_row c) (nodes (paths_of c))) first
+    (rest ∙ ap (λ (ns : List Path). middle ++ flat_map (path_row c) ns) (take_all number (nodes (paths_of c)) past))
 
-pub ruleset table_steps = (no_rows, all_rows)
+pub nodes_few : (c : Content) → IsProfile c → length c.contexts < 2 ^ 32
+nodes_few c profile = omega (arith, profile.nodes, as_many_columns c profile)
+
+-- ---- lengths
+
+pub rows_longer : (c : Content) (sum one number : ℕ) → IsProfile c → number < length c.nodes → sum ≡ capped (length (header ++ rows c number)) → one ≡ capped (length (row_text c.names (row_of c number)))
+    → min (sum + one) (2 ^ 64 - 1) ≡ capped (length (header ++ rows c (number + 1)))
+rows_longer c sum one number profile lt so_far last =
+    let more : header ++ rows c (number + 1) ≡ (header ++ rows c number) ++ row_text c.names (row_of c number) = sym (row_more c header (header ++ rows c number) ((header ++ rows c number) ++ row_text c.names (row_of c number)) number profile lt refl refl) in
+    (λ i. min (so_far i + last i) (2 ^ 64 - 1)) ∙ capped_sum (length (header ++ rows c number)) (length (row_text c.names (row_of c number)))
+    ∙ ap capped (sym (ap length more ∙ length-append (header ++ rows c number) (row_text c.names (row_of c number))))
+
+pub all_longer : (c : Content) (sum number : ℕ) → IsProfile c → length c.contexts ≤ number → sum ≡ capped (length (header ++ rows c number)) → sum ≡ capped (length (content_table c))
+all_longer c sum number profile le so_far = so_far ∙ ap (λ (l : List ℕ). capped (length l)) (all_rows c [] header (header ++ rows c number) number profile le refl refl)
+
+pub header_long : (c : Content) → 48 ≡ capped (length (header ++ rows c 0))
+header_long c = refl
+
+pub ruleset length_steps = (rows_longer, all_longer, header_long, nodes_few, as_many_columns, no_depth, number_after, names_ascend)
+
+pub ruleset row_steps = (names_ascend, own_names_ascend)
+
+pub ruleset table_steps = (row_more, all_rows, nodes_few, as_many_columns, no_depth, number_after)

@@ -3,5 +3,5 @@ use Rattle.std.specs.List.{flat_map}
 use Rattle.prof_db.specs.Spelling.{with_count, context_entry_bytes}
 use Rattle.prof_db.proofs.write.put_contexts.Given as goal
 
-abbrev pub invariant-loop-column : goal.invariant-loop-column
-invariant-loop-column l = l.out.items ≡ l.fn.out.items ++ flat_map (with_count context_entry_bytes) (take l.column-index l.columns)
+abbrev pub invariant-loop-node : goal.invariant-loop-node
+invariant-loop-node l = l.out.items ≡ l.fn.out.items ++ flat_map (with_count context_entry_bytes) (take l.node l.plane)

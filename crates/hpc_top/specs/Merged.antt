@@ -1,0 +1,39 @@
+-- What `profile` makes of a run by a crew, which need not merge all samples.
+use Rattle.std.specs.Prelude.{◌≡◌, ℕ, Bool, IsTrue, Result, Ok, Err}
+use Rattle.prof_bytes.specs.declared.fail.Fail.{Fail}
+use Rattle.prof_bytes.specs.Outcome.{FailsBy}
+use Rattle.scope_types.specs.Distinct.{distinct}
+use Rattle.thread_cct.specs.Plan.{expanded, plan_of}
+use Rattle.stripe_table.specs.Ends.{named_paths}
+use Rattle.stripe_table.specs.Limits.{Chunks}
+use Rattle.merge_crew.specs.declared.merge.Crew.{Crew}
+use Rattle.merge_crew.specs.Merged.{IsOfPlan, IsWhole}
+use Rattle.hpc_top.specs.declared.status.InputFault.{InputFault}
+use Rattle.hpc_top.specs.declared.status.Made.{Made}
+use Rattle.hpc_top.specs.Made.{view}
+use Rattle.hpc_top.specs.Profile.{Profiled, product_from, product_of}
+
+-- the plan of a run: its distinct raw paths in chunks, expanded
+abbrev pub run_plan : Profiled → Chunks
+run_plan p = expanded (plan_of (distinct p.harts p.samples)) p.expand
+
+-- how a run is merged: which crews may come, whether they merge all, and by how many workers
+pub record Merging : Type 1 where
+  pub gives : Crew → Type 0
+  pub whole : Bool
+  pub workers : ℕ
+
+-- what is made of a run: its crew is one that may come, its stripes are those of the run's plan and fit it, and database
+-- and table are those of the pieces that the stripes name. Where crews merge all, the stripes name every piece, and it is
+-- the product of the run
+pub record IsMadeOf (merging : Merging) (period : ℕ) (p : Profiled) (made : Made) : Type 0 where
+  pub gives : merging.gives made.crew
+  pub plan : IsOfPlan (run_plan p) made.crew
+  pub product : view made ≡ product_from period p (named_paths made.crew.stripes)
+  pub crew : IsTrue merging.whole → IsWhole (run_plan p) merging.workers made.crew
+  pub whole : IsTrue merging.whole → view made ≡ product_of period p
+
+-- what is made of a run that is profiled, or its refusal, unless memory ran out
+abbrev pub Makes : Merging → ℕ → Result Made (Fail InputFault) → Result Profiled InputFault → Type 0
+Makes merging period (Ok made) run = (p : Profiled) × (run ≡ Ok p) × IsMadeOf merging period p made
+Makes merging period (Err fail) run = FailsBy fail run

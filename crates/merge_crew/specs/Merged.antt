@@ -1,0 +1,37 @@
+-- What the workers of a merge leave.
+use Rattle.std.specs.Prelude.{◌≡◌, ℕ, ◌+◌, ◌*◌, ◌<◌, ◌≤◌, length}
+use Rattle.stripe_table.specs.Limits.{Chunks}
+use Rattle.stripe_table.specs.Ends.{AllFit, names_of}
+use Rattle.stripe_table.specs.Views.{times}
+use Rattle.merge_crew.specs.declared.merge.Crew.{Crew}
+
+-- the stripes are those of an expanded plan, and each of the sixteen fits it
+pub record IsOfPlan (chunks : Chunks) (crew : Crew) : Type 0 where
+  pub plan : crew.stripes.view.plan ≡ chunks
+  pub fit : AllFit chunks crew.stripes.stripes
+
+-- each stripe names each chunk of the plan, once
+abbrev pub NamesEach : Chunks → Crew → Type 0
+NamesEach plan crew = (s c : ℕ) → s < 16 → c < length plan → times c (names_of crew.stripes.stripes s) ≡ 1
+
+-- every chunk's piece is in each stripe, by so many workers or by the caller: the passes merged `merged` pieces, and
+-- the caller settled the others of the sixteen of each chunk, no more than the workers left busy or found there
+-- already. The passes found a stripe held or changed 64 times for each piece left busy, and no piece is left busy by a
+-- worker that is alone
+pub record IsWhole (plan : Chunks) (workers : ℕ) (crew : Crew) : Type 0 where
+  pub names : NamesEach plan crew
+  pub merged : crew.merged ≡ length crew.stripes.view.puts
+  pub sum : crew.merged + crew.settled ≡ 16 * length plan
+  pub busy : 64 * crew.busy_left ≤ crew.stripes.view.busy
+  pub present : crew.present ≤ crew.stripes.view.met
+  pub settled : crew.settled ≤ crew.busy_left + crew.present
+  pub alone : workers ≡ 1 → crew.busy_left ≡ 0
+
+-- stripes of an expanded plan that no worker filled
+pub record IsUnfilled (chunks : Chunks) (crew : Crew) : Type 0 where
+  pub of : IsOfPlan chunks crew
+  pub none : (s : ℕ) → s < 16 → length (names_of crew.stripes.stripes s) ≡ 0
+  pub merged : crew.merged ≡ 0
+  pub busy_left : crew.busy_left ≡ 0
+  pub present : crew.present ≡ 0
+  pub settled : crew.settled ≡ 0

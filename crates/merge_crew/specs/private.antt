@@ -1,0 +1,4 @@
+pub mod Offers
+pub mod Counts
+pub mod Workers
+pub mod Settling

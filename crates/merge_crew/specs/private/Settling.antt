@@ -1,0 +1,37 @@
+-- Marks of the chunks that stripes name, and what settling does to the names.
+use Rattle.std.specs.Prelude.{◌≡◌, ℕ, ◌<◌, Bool, false, ltb, List, [], length, slice_index_or}
+use Rattle.stripe_table.specs.Ends.{SetValue, names_of}
+use Rattle.stripe_table.specs.Views.{times, up_to}
+use Rattle.stripe_table.specs.declared.stripe.Stripe.{Stripe}
+
+-- whether a stripe names a chunk
+abbrev pub is_named : List Stripe → ℕ → ℕ → Bool
+is_named all s c = ltb 0 (times c (names_of all s))
+
+-- the mark of chunk c in the marks of stripe s
+abbrev pub mark_at : List (List Bool) → ℕ → ℕ → Bool
+mark_at marks s c = slice_index_or (slice_index_or marks s []) c false
+
+-- stripe s has a mark of chunk c, and it says whether the stripe names the chunk
+pub record MarkIsExact (all : List Stripe) (marks : List (List Bool)) (s c : ℕ) : Type 0 where
+  pub stripe : s < length marks
+  pub chunk : c < length (slice_index_or marks s [])
+  pub exact : mark_at marks s c ≡ is_named all s c
+
+-- of so many chunks, those are marked that are among the names
+pub record MarksNames (chunks : ℕ) (names : List ℕ) (marks : List Bool) : Type 0 where
+  pub count : length marks ≡ chunks
+  pub exact : (c : ℕ) → c < chunks → slice_index_or marks c false ≡ ltb 0 (times c names)
+
+-- the marks of each stripe
+pub record MarksAll (chunks : ℕ) (all : List Stripe) (marks : List (List Bool)) : Type 0 where
+  pub count : length marks ≡ 16
+  pub each : (s : ℕ) → s < 16 → MarksNames chunks (names_of all s) (slice_index_or marks s [])
+
+-- how many names the sixteen stripes have
+abbrev pub names_in : List Stripe → ℕ
+names_in all = up_to 16 (λ s. length (names_of all s))
+
+-- the stripes name the chunk c as often as before
+abbrev pub SameNames : List Stripe → List Stripe → ℕ → Type 0
+SameNames old new c = (s : ℕ) → times c (names_of new s) ≡ times c (names_of old s)

@@ -1,0 +1,109 @@
+ghost use Rattle.std.specs.Prelude.{◌≡◌, ℕ, ◌+◌, ◌*◌, ◌<◌, ◌≤◌, IfOk, length};
+ghost use Rattle.stripe_table.specs.Ends.{AllFit, names_of};
+ghost use Rattle.thread_cct.specs.Plan.{FitsExpansion, expanded};
+ghost use Rattle.merge_crew.specs.Merged.{IsOfPlan, IsUnfilled, NamesEach};
+
+use crate::settle::settle_rest;
+use crate::work::Worker;
+use crate::workers::run;
+use prof_bytes::Memory;
+use prof_devices::Gate;
+use scope_types::Expand;
+use std::alloc::Global;
+use std::thread::Threads;
+use stripe_table::{StripeSet, Stripes};
+use thread_cct::Plan;
+
+/// The stripes that workers filled, and how: how many pieces the workers merged, left busy, or found there already, and
+/// how many were settled at the end.
+#[derive(Drop)]
+pub struct Crew {
+    pub stripes: StripeSet,
+    pub merged: u64,
+    /// The pieces whose last offer found the stripe held or changed.
+    pub busy_left: u64,
+    /// The pieces that their stripes had at the last offer.
+    pub present: u64,
+    pub settled: u64,
+}
+
+/// Merges the pieces of a plan into sixteen stripes, by so many workers in threads side by side, numbered from 0. A
+/// worker passes the gate before it offers a piece for the first time.
+pub fn merge_all<R: Threads + Sync, E: Expand + Sync, G: Gate>(
+    rt: &R,
+    alloc: Global,
+    plan: &Plan<'_>,
+    expand: &E,
+    workers: u32,
+    gate: &G,
+) -> Result<Crew, Memory>
+    requires workers { (1 ≤ workers) × (workers ≤ 16) }
+    requires fits { FitsExpansion plan.now (E.call_path expand.now) }
+    ensures plan { IfOk result (IsOfPlan (expanded plan.now (E.call_path expand.now))) }
+    ensures whole { IfOk result (NamesEach (expanded plan.now (E.call_path expand.now))) }
+    ensures merged { IfOk result (λ crew. crew.merged ≡ length crew.stripes.view.puts) }
+    ensures sum { IfOk result (λ crew. crew.merged + crew.settled
+        ≡ 16 * length (expanded plan.now (E.call_path expand.now))) }
+    ensures busy { IfOk result (λ crew. 64 * crew.busy_left ≤ crew.stripes.view.busy) }
+    ensures present { IfOk result (λ crew. crew.present ≤ crew.stripes.view.met) }
+    ensures settled { IfOk result (λ crew. crew.settled ≤ crew.busy_left + crew.present) }
+    ensures alone { IfOk result (λ crew. workers ≡ 1 → crew.busy_left ≡ 0) }
+{
+    let (stripes, first) = Stripes::start(alloc, plan, expand)?;
+    let all = run(rt, alloc, &stripes, first, workers, plan, expand, gate)?;
+    let Worker {
+        pass,
+        number: _,
+        merged,
+        busy_left,
+        present,
+        failed,
+    } = all;
+    if let Some(memory) = failed {
+        return Err(memory);
+    }
+    let mut set = stripes.close(pass);
+    let settled = settle_rest(alloc, &mut set, plan, expand)?;
+    Ok(Crew {
+        stripes: set,
+        merged,
+        busy_left,
+        present,
+        settled,
+    })
+}
+
+/// Stripes of a plan that are closed as soon as they are started.
+fn unfilled_stripes<E: Expand>(
+    alloc: Global,
+    plan: &Plan<'_>,
+    expand: &E,
+) -> Result<StripeSet, Memory>
+    requires fits { FitsExpansion plan.now (E.call_path expand.now) }
+    ensures plan { IfOk result (λ set. set.view.plan ≡ expanded plan.now (E.call_path expand.now)) }
+    ensures fit { IfOk result (λ set. AllFit set.view.plan set.stripes) }
+    ensures none { IfOk result (λ set. (s : ℕ) → s < 16 → length (names_of set.stripes s) ≡ 0) }
+{
+    let (stripes, first) = Stripes::start(alloc, plan, expand)?;
+    let set = stripes.close(first);
+    let _none = set.names(0);
+    Ok(set)
+}
+
+/// What workers leave that do nothing.
+pub(crate) fn unfilled<E: Expand>(
+    alloc: Global,
+    plan: &Plan<'_>,
+    expand: &E,
+) -> Result<Crew, Memory>
+    requires fits { FitsExpansion plan.now (E.call_path expand.now) }
+    ensures unfilled { IfOk result (IsUnfilled (expanded plan.now (E.call_path expand.now))) }
+{
+    Ok(Crew {
+        stripes: unfilled_stripes(alloc, plan, expand)?,
+        merged: 0,
+        busy_left: 0,
+        present: 0,
+        settled: 0,
+    })
+}

@@ -1,0 +1,13 @@
+//! The values of a calling context tree as two planes: by hart and by node, the profile-major and the context-major
+//! form of HPCToolkit's databases.
+//!
+//! It promises that each plane has just the values other than 0, in order: a hart's by node, then kind, and a node's by
+//! kind, then hart. Both are made in time as there are values, nodes and harts, and each is one list. Below stand
+//! `tree_types` and `scope_types`.
+#![tactic(auto)]
+
+mod contexts;
+mod profiles;
+
+pub use contexts::by_context;
+pub use profiles::by_profile;

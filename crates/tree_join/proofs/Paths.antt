@@ -1,0 +1,72 @@
+-- The paths of a joined tree are those of the entries.
+use Rattle.std.proofs.Common.{◌≡◌, ℕ, ◌<◌, ◌≤◌, List, [], ◌∷◌, ◌++◌, length, get_or, map, replicate, sum_by, All, Bor, Result, Ok, Err, IfOk, refl, sym, ap, subst, ◌∙◌, arith}
+use Rattle.std.specs.List.{flat_map}
+use Rattle.std.proofs.lemmas.List.Elements.{All-nil, All-append, All-head, All-replicate, All-tail, All-weaker}
+use Rattle.prof_bytes.specs.declared.fail.Memory.{Memory}
+use Rattle.scope_types.specs.declared.path.Entry.{Entry}
+use Rattle.scope_types.specs.Alike.{Alike}
+use Rattle.thread_cct.specs.Plan.{CountsSamples}
+use Rattle.scope_types.specs.CallPaths.{HartPath, entry_path, each_path}
+use Rattle.tree_types.specs.Database.{node_list}
+use Rattle.tree_types.specs.Nodes.{nodes, no_parent}
+use Rattle.tree_types.specs.Paths.{Path}
+use Rattle.tree_types.specs.PathsOf.{tree_paths}
+use Rattle.tree_types.specs.Tree.{CountedTree, IsTree, count_at, node_path as tree_path, paths_in}
+use Rattle.tree_types.specs.Values.{ends_here, count_below}
+use Rattle.tree_types.proofs.CountedPaths.{paths_made}
+use Rattle.tree_types.proofs.TreeLaws.{nodes_listed}
+use Rattle.tree_types.proofs.TreePaths.{tree_paths_is}
+use Rattle.path_trie.specs.Trie.{node_of, node_path, count_of}
+use Rattle.path_trie.proofs.Samples.{nodes_of_samples, counts_of_samples}
+use Rattle.tree_join.specs.Join.{joined_nodes}
+use Rattle.tree_join.proofs.Several.{entries_in, parts_of, flat_parts}
+
+-- the tree has the paths of these entries
+abbrev pub HasPaths : List Entry → CountedTree → Type 0
+HasPaths es tree = Alike (paths_in tree) (each_path es) × (tree.nodes ≡ node_list (each_path es))
+
+module _ (harts : ℕ) where
+  -- a path that has scopes, of a hart that there is
+  abbrev pub IsOwn : HartPath → Type 0
+  IsOwn p = (p.hart < harts) × (0 < length p.path)
+
+  pub each_own : (es : List Entry) → All (CountsSamples harts) es → All IsOwn (each_path es)
+  unfolding each_path
+  each_own [] all = All-nil IsOwn
+  each_own (e ∷ es) all =
+      let first = All-head (CountsSamples harts) e es all in
+      All-append IsOwn (replicate e.count (entry_path e)) (each_path es) (All-replicate IsOwn e.count (entry_path e) (first.hart, first.path))
+      (each_own es (All-tail (CountsSamples harts) e es all))
+
+module _ (es : List Entry) (tree : CountedTree) (is : IsTree tree) (nodes_are : tree.nodes ≡ map (node_of (joined_nodes es)) (joined_nodes es))
+    (counts_are : (node hart : ℕ) → node < length tree.nodes → count_at tree.counts node hart ≡ count_of es hart (node_path (joined_nodes es) node)) (all : All (CountsSamples tree.harts) es) where
+  abbrev ps : List HartPath
+  ps = each_path es
+
+  joined_is : joined_nodes es ≡ nodes ps
+  joined_is = nodes_of_samples es (All-weaker (CountsSamples tree.harts) (λ e. 0 < e.count) (λ e c. c.some) es all)
+
+  listed : tree.nodes ≡ node_list ps
+  listed = nodes_are ∙ ap (λ (ns : List Path). map (node_of ns) ns) joined_is
+
+  few : length (nodes ps) ≤ no_parent
+  few = (let long = nodes_listed ps in let same = ap length listed in let small = is.few in omega arith)
+
+  paths_are : tree_paths tree.nodes ≡ nodes ps
+  paths_are = ap tree_paths listed ∙ tree_paths_is ps few
+
+  own : All (IsOwn tree.harts) ps
+  own = each_own tree.harts es all
+
+  counted : (node hart : ℕ) → node < length tree.nodes → count_at tree.counts node hart ≡ count_below ends_here ps hart (tree_path tree.nodes node)
+  counted node hart lt =
+      counts_are node hart lt ∙ counts_of_samples es hart (node_path (joined_nodes es) node)
+      ∙ ap (λ (ns : List Path). count_below ends_here ps hart (get_or ns node [])) (joined_is ∙ sym paths_are)
+
+  pub paths_joined : HasPaths es tree
+  paths_joined =
+      (paths_made tree ps is listed few (All-weaker (IsOwn tree.harts) (λ p. p.hart < tree.harts) (λ p o. o.0) ps own) (All-weaker (IsOwn tree.harts) (λ p. 0 < length p.path) (λ p o. o.1) ps own) counted, listed)
+
+pub paths_several : (harts : ℕ) (ts : List (Bor (List Entry))) (es : List Entry) (r : Result CountedTree Memory) → es ≡ flat_map entries_in ts → (All (CountsSamples harts) es → IfOk r (HasPaths es))
+    → All (CountsSamples harts) (flat_map (λ es. es) (parts_of ts)) → IfOk r (HasPaths (flat_map (λ es. es) (parts_of ts)))
+paths_several harts ts es r is h = subst (λ (l : List Entry). All (CountsSamples harts) l → IfOk r (HasPaths l)) (is ∙ flat_parts ts) h

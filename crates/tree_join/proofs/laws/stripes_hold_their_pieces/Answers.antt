@@ -1,0 +1,8 @@
+use Rattle.tree_join.proofs.Sampled.{nodes_named, own_stripe}
+use Rattle.tree_join.proofs.laws.stripes_hold_their_pieces.Goals as goal
+
+pub returns-clause-nodes : goal.returns-clause-nodes
+returns-clause-nodes c = nodes_named
+
+pub returns-clause-own : goal.returns-clause-own
+returns-clause-own c = own_stripe

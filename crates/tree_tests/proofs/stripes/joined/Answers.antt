@@ -1,0 +1,11 @@
+use Rattle.std.proofs.Common.{sym, subst}
+use Rattle.scope_types.specs.declared.path.Entry.{Entry}
+use Rattle.thread_cct.specs.Plan.{IsMergeable}
+use Rattle.stripe_table.specs.Limits.{Chunks}
+use Rattle.tree_tests.proofs.stripes.joined.Goals as goal
+
+pub join_stripes-requires : goal.join_stripes-requires
+join_stripes-requires g c = record {
+  plan = subst (λ (chunks : Chunks). IsMergeable chunks c.harts.result) (sym c.requires.plan)
+      (c.plans_can_be_merged.ensures c.args.plan.now (g.E.Expand.call_path c.args.expand.now) c.harts.result c.harts.ensures.counted c.harts.ensures.below c.requires.roots);
+}

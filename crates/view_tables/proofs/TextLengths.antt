@@ -1,0 +1,79 @@
+-- The lengths of the parts of a row.
+use Rattle.std.proofs.Common.{◌≡◌, ℕ, ◌+◌, ◌-◌, ◌*◌, ◌/◌, ◌%◌, ◌^◌, ◌≤◌, ◌<◌, List, [], ◌∷◌, ◌++◌, length, codes, decimal, refl, sym, ap, ◌∙◌, arith, length-append}
+use Rattle.std.specs.Prelude.{min}
+use Rattle.std.proofs.lemmas.List.{length-map, length-replicate}
+use Rattle.scope_types.specs.declared.scope.ProcId.{ProcId}
+use Rattle.scope_types.specs.declared.scope.LineId.{LineId}
+use Rattle.scope_types.specs.declared.scope.LineId.TheVariants.{Row, Address}
+use Rattle.scope_types.specs.declared.scope.Scope.TheVariants.{Proc, Inline, Call}
+use Rattle.tree_types.specs.Naming.{Naming}
+use Rattle.tree_types.specs.TopDown.{label, line_label, percent, printed, right, spaces, table_row}
+use Rattle.view_tables.specs.private.Lengths.{capped}
+
+pub capped_sum : (a b : ℕ) → min (capped a + capped b) (2 ^ 64 - 1) ≡ capped (a + b)
+capped_sum a b = omega arith
+
+pub capped_add : (a b : ℕ) → min (capped a + b) (2 ^ 64 - 1) ≡ capped (a + b)
+capped_add a b = omega arith
+
+long_printed : (name : List ℕ) → length (printed name) ≡ length name
+long_printed name = length-map name _
+
+-- parts one after the other, with their lengths
+three_long : (a b c : List ℕ) (x y z : ℕ) → length a ≡ x → length b ≡ y → length c ≡ z → length (a ++ b ++ c) ≡ x + y + z
+three_long a b c x y z ea eb ec = length-append (a ++ b) c ∙ ap (λ (k : ℕ). k + length c) (length-append a b) ∙ (λ i. ea i + eb i + ec i)
+
+five_long : (a b c d e : List ℕ) (x y z w v : ℕ) → length a ≡ x → length b ≡ y → length c ≡ z → length d ≡ w → length e ≡ v → length (a ++ b ++ c ++ d ++ e) ≡ x + y + z + w + v
+five_long a b c d e x y z w v ea eb ec ed ee =
+    length-append (a ++ b ++ c ++ d) e ∙ ap (λ (k : ℕ). k + length e) (length-append (a ++ b ++ c) d ∙ ap (λ (k : ℕ). k + length d) (three_long a b c x y z ea eb ec)) ∙ (λ i. x + y + z + ed i + ee i)
+
+pub percent_length : (part total : ℕ) → length (percent part total) ≡ length (decimal (part * 1000 / total / 10)) + 1 + length (decimal (part * 1000 / total % 10))
+percent_length part total = three_long (decimal (part * 1000 / total / 10)) (codes ".") (decimal (part * 1000 / total % 10)) _ 1 _ refl refl refl
+
+pub right_length : (width : ℕ) (bytes : List ℕ) → length (right width bytes) ≡ width - length bytes + length bytes
+right_length width bytes = length-append (spaces (width - length bytes)) bytes ∙ ap (λ (k : ℕ). k + length bytes) (length-replicate {A = ℕ} (width - length bytes) 32)
+
+pub values_length : (a b c : List ℕ) → length (right 16 a ++ spaces 1 ++ right 6 b ++ spaces 1 ++ right 16 c)
+    ≡ (16 - length a + length a) + 1 + (6 - length b + length b) + 1 + (16 - length c + length c)
+values_length a b c = five_long (right 16 a) (spaces 1) (right 6 b) (spaces 1) (right 16 c) _ 1 _ 1 _ (right_length 16 a) refl (right_length 6 b) refl (right_length 16 c)
+
+pub row_parts : (values name : List ℕ) (level : ℕ) → length (values ++ spaces (2 + 2 * level) ++ name ++ 10 ∷ []) ≡ length name + (length values + 2 + 2 * level + 1)
+row_parts values name level =
+    length-append (values ++ spaces (2 + 2 * level) ++ name) (10 ∷ [])
+    ∙ ap (λ (k : ℕ). k + 1) (three_long values (spaces (2 + 2 * level)) name (length values) (2 + 2 * level) (length name) refl (length-replicate {A = ℕ} (2 + 2 * level) 32) refl)
+    ∙ turned (length values) (2 * level) (length name)
+  where
+    turned : (v l n : ℕ) → v + (2 + l) + n + 1 ≡ n + (v + 2 + l + 1)
+    turned v l n = omega arith
+
+-- ---- labels
+
+pub row_line_length : (naming : Naming) (table file line : ℕ) → length (line_label naming (Row table file line)) ≡ length (naming.file_name table file) + (1 + length (decimal line))
+row_line_length naming table file line =
+    three_long (printed (naming.file_name table file)) (codes ":") (decimal line) _ 1 _ (long_printed (naming.file_name table file)) refl refl ∙ grouped (length (naming.file_name table file)) (length (decimal line))
+  where
+    grouped : (n k : ℕ) → n + 1 + k ≡ n + (1 + k)
+    grouped n k = omega arith
+
+pub address_length : (naming : Naming) (address : ℕ) → length (line_label naming (Address address)) ≡ 10
+address_length naming address = refl
+
+pub proc_length : (naming : Naming) (id : ProcId) → length (label naming (Proc id)) ≡ length (naming.proc_name id)
+proc_length naming id = long_printed (naming.proc_name id)
+
+pub call_length : (naming : Naming) (line : LineId) → length (label naming (Call line)) ≡ length (line_label naming line) + 8
+call_length naming line = long (codes "call at ") (line_label naming line) refl
+  where
+    long : (a b : List ℕ) → length a ≡ 8 → length (a ++ b) ≡ length b + 8
+    long a b e = let l = length-append a b in omega (arith, l, e)
+
+pub inline_length : (naming : Naming) (callee : ProcId) (call : LineId) → length (label naming (Inline callee call)) ≡ length (naming.proc_name callee) + 15 + length (line_label naming call)
+inline_length naming callee call =
+    long (codes "[I] ") (printed (naming.proc_name callee)) (codes " called at ") (line_label naming call) (length (naming.proc_name callee)) refl (long_printed (naming.proc_name callee)) refl
+  where
+    long : (a b c d : List ℕ) (x : ℕ) → length a ≡ 4 → length b ≡ x → length c ≡ 11 → length (a ++ b ++ c ++ d) ≡ x + 15 + length d
+    long a b c d x ea eb ec = let l = length-append (a ++ b ++ c) d in let m = three_long a b c 4 x 11 ea eb ec in omega (arith, l, m)
+
+pub ruleset label_lengths = (row_line_length, address_length, proc_length, call_length, inline_length, capped_sum, capped_add)
+
+pub ruleset row_length = (row_parts, capped_add)

@@ -1,0 +1,42 @@
+//! The rows of a table, by the numbers of their nodes.
+ghost use Rattle.std.specs.Prelude.{◌≡◌, ◌<◌, ◌≤◌, ◌^◌, length};
+ghost use Rattle.tree_types.specs.OfContent.{IsProfile};
+ghost use Rattle.view_tables.specs.private.Rows.{path_at, row_of, total_value};
+
+use crate::values::column_sum;
+use scope_types::Scope;
+use tree_types::{Content, Kind};
+
+/// What the row of a node shows: its inclusive value, the total of all paths and its frame's value, in retired
+/// instructions; how many ancestors it has; and its own scope.
+#[derive(Clone, Copy, Debug, Drop)]
+pub struct Row {
+    pub inclusive: u64,
+    pub total: u64,
+    pub frame: u64,
+    pub level: u32,
+    pub scope: Scope,
+}
+
+/// The row of a node whose path has `depth` scopes.
+#[tactic(auto, using(crate::proofs::ColumnSums::value_steps))]
+pub fn row_at(content: &Content, number: u32, depth: u32, total: u64) -> Row
+    requires profile { IsProfile content.now }
+    requires number { number < length content.now.nodes }
+    requires depth { depth ≡ length (path_at content.now number) }
+    requires some { 0 < depth }
+    requires total { total ≡ total_value content.now }
+    requires small { total ≤ 2 ^ 52 }
+    ensures row { result ≡ row_of content.now number }
+    ensures small { result.inclusive ≤ 2 ^ 52 }
+    ensures some { 0 < result.total }
+{
+    let column = content.contexts.node(number);
+    Row {
+        inclusive: column_sum(column, Kind::Inclusive),
+        total,
+        frame: column_sum(column, Kind::Frame),
+        level: depth - 1,
+        scope: content.nodes.items()[number as usize].scope,
+    }
+}

@@ -1,0 +1,72 @@
+//! The values of a node over all harts, and how many paths there are.
+ghost use Rattle.std.specs.Prelude.{◌≡◌, ◌<◌, ◌≤◌, ◌^◌, length, sum_by};
+ghost use Rattle.scope_types.specs.Limits.{most_samples};
+ghost use Rattle.tree_types.specs.OfContent.{IsProfile};
+ghost use Rattle.tree_types.specs.PathsOf.{paths_of};
+ghost use Rattle.view_tables.specs.private.Rows.{amount, samples, total_value};
+
+use tree_types::{Content, ContextEntry, Kind, ProfileEntry};
+
+fn amount_of(e: &ContextEntry, kind: Kind) -> u64
+    ensures { result ≡ amount kind e.now }
+{
+    if e.kind == kind { e.value } else { 0 }
+}
+
+/// The values of one kind in a node's column, summed up over the harts.
+pub fn column_sum(column: &[ContextEntry], kind: Kind) -> u64
+    requires { sum_by (amount kind) column.now ≤ 2 ^ 52 }
+    ensures { result ≡ sum_by (amount kind) column.now }
+{
+    let mut sum: u64 = 0;
+    for e in column {
+        sum += amount_of(e, kind);
+    }
+    sum
+}
+
+/// How many paths an entry counts as ending at its node.
+fn samples_of(period: u32, e: &ProfileEntry) -> u64
+    requires { 0 < period }
+    ensures { result ≡ samples period e.now }
+{
+    match e.kind {
+        Kind::Exclusive => e.value / u64::from(period),
+        Kind::Frame | Kind::Inclusive => 0,
+    }
+}
+
+fn hart_samples(period: u32, column: &[ProfileEntry]) -> u64
+    requires period { 0 < period }
+    requires few { sum_by (samples period) column.now ≤ most_samples }
+    ensures { result ≡ sum_by (samples period) column.now }
+{
+    let mut count: u64 = 0;
+    for e in column {
+        count += samples_of(period, e);
+    }
+    count
+}
+
+/// How many paths a content holds.
+#[tactic(auto, using(crate::proofs::ColumnSums::sample_steps))]
+fn path_count(content: &Content) -> u64
+    requires { IsProfile content.now }
+    ensures { result ≡ length (paths_of content.now) }
+{
+    let mut count: u64 = 0;
+    for hart in 0..content.harts {
+        count += hart_samples(content.period, content.profiles.hart(hart));
+    }
+    count
+}
+
+/// The period times the number of paths.
+#[tactic(auto, using(crate::proofs::ColumnSums::total_steps))]
+pub fn total_of(content: &Content) -> u64
+    requires { IsProfile content.now }
+    ensures total { result ≡ total_value content.now }
+    ensures small { result ≤ 2 ^ 52 }
+{
+    u64::from(content.period) * path_count(content)
+}
