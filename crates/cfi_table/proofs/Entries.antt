@@ -31,7 +31,7 @@ use Rattle.cfi_table.proofs.Rising.{other}
 
 -- ---- a CIE among those that are kept
 
-find_map : {X Y : Type 0} (p : Y → Bool) (f : X → Y) (xs : List X) → find p (map f xs) ≡ option_map f (find (λ x. p (f x)) xs)
+pub find_map : {X Y : Type 0} (p : Y → Bool) (f : X → Y) (xs : List X) → find p (map f xs) ≡ option_map f (find (λ x. p (f x)) xs)
 find_map p f [] = refl
 find_map {X} {Y} p f (x ∷ xs) = go (p (f x)) (find_map p f xs)
   where
@@ -39,7 +39,7 @@ find_map {X} {Y} p f (x ∷ xs) = go (p (f x)) (find_map p f xs)
     go true rest = refl
     go false rest = rest
 
-find_filter : {X : Type 0} (p q : X → Bool) (xs : List X) → find p (filter q xs) ≡ find (λ x. p x && q x) xs
+pub find_filter : {X : Type 0} (p q : X → Bool) (xs : List X) → find p (filter q xs) ≡ find (λ x. p x && q x) xs
 find_filter p q [] = refl
 find_filter {X} p q (x ∷ xs) = go (p x) (q x) refl (find_filter p q xs)
   where
@@ -227,7 +227,7 @@ all_ok_early {X} {F} (Ok y ∷ rs) others f e = go (all_ok rs) refl e (λ h. all
 
 -- ---- the entries that are read one after another
 
-fault_at_index : {X Y F : Type 0} (g : X → Result Y F) (xs : List X) (k : ℕ) (d : X) (found : List Y) (f : F) → all_ok (map g (take k xs)) ≡ Ok found → k < length xs → g (get_or xs k d) ≡ Err f → all_ok (map g xs) ≡ Err f
+pub fault_at_index : {X Y F : Type 0} (g : X → Result Y F) (xs : List X) (k : ℕ) (d : X) (found : List Y) (f : F) → all_ok (map g (take k xs)) ≡ Ok found → k < length xs → g (get_or xs k d) ≡ Err f → all_ok (map g xs) ≡ Err f
 fault_at_index g [] k d found f read lt is = absurd (omega arith)
 fault_at_index g (x ∷ xs) zero d found f read lt is = rw is refl
 fault_at_index {X} {Y} {F} g (x ∷ xs) (suc k) d found f read lt is =
@@ -294,14 +294,14 @@ reads_all section extents segments k fdes le kept =
 
 -- ---- the frames of the entries, and of a faulty length behind them
 
-given : {X Y F : Type 0} (h : X → Y) (r : Result X F) (y : Y) → viewed h r ≡ Ok y → (x : X) × (r ≡ Ok x) × (h x ≡ y)
+pub given : {X Y F : Type 0} (h : X → Y) (r : Result X F) (y : Y) → viewed h r ≡ Ok y → (x : X) × (r ≡ Ok x) × (h x ≡ y)
 given h (Err f) y e = absurd cc
 given {X} {Y} {F} h (Ok x) y e = (x, refl, same (h x) y e)
   where
     same : (a b : Y) → (let u : Result Y F = Ok a in u) ≡ Ok b → a ≡ b
     same a b e = cc
 
-refused : {X Y F : Type 0} (h : X → Y) (r : Result X F) (f : F) → viewed h r ≡ Err f → r ≡ Err f
+pub refused : {X Y F : Type 0} (h : X → Y) (r : Result X F) (f : F) → viewed h r ≡ Err f → r ≡ Err f
 refused {X} {Y} {F} h (Err g) f e = ap (λ (k : F). Err k) (same g f e)
   where
     same : (a b : F) → (let u : Result Y F = Err a in u) ≡ Err b → a ≡ b

@@ -61,7 +61,7 @@ with_remembered_forms : (rs : List Remembered) (s : State) → option_map forms_
 with_remembered_forms [] s = refl
 with_remembered_forms (r ∷ older) s = refl
 
-execute_as_forms : (initial : List Rule) (i : CallFrameInstruction) (s : State) → option_map forms_of (execute initial i s) ≡ execute_forms i (forms_of s)
+pub execute_as_forms : (initial : List Rule) (i : CallFrameInstruction) (s : State) → option_map forms_of (execute initial i s) ≡ execute_forms i (forms_of s)
 execute_as_forms initial instructions.Nop s = refl
 execute_as_forms initial (instructions.SetLoc address) s = refl
 execute_as_forms initial (instructions.AdvanceLoc delta) s = refl

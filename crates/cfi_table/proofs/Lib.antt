@@ -7,3 +7,5 @@ pub mod Entries
 pub mod Least
 pub mod Room
 pub mod Undone
+pub mod Resuming
+pub mod Walking

@@ -28,7 +28,7 @@ pub record Moves (before after : Input FrameFault) : Type 0 where
 abbrev pub AllMove : {X : Type 0} → Input FrameFault → Reading X → Type 0
 AllMove input r = IfOk r (λ x. Moves input x.1)
 
-stays : (input : Input FrameFault) → Moves input input
+pub stays : (input : Input FrameFault) → Moves input input
 stays input = record { whole = refl; offset = omega arith }
 
 on : (a b c : Input FrameFault) → Moves a b → Moves b c → Moves a c
@@ -38,7 +38,7 @@ takes : {X : Type 0} (input : Input FrameFault) (o : Option (X × ℕ)) → AllM
 takes input None = tt
 takes input (Some r) = record { whole = refl; offset = omega arith }
 
-binds : {X Y : Type 0} (input : Input FrameFault) (r : Reading X) (next : X × Input FrameFault → Reading Y) → AllMove input r → ((x : X × Input FrameFault) → AllMove x.1 (next x)) → AllMove input (r >>= next)
+pub binds : {X Y : Type 0} (input : Input FrameFault) (r : Reading X) (next : X × Input FrameFault → Reading Y) → AllMove input r → ((x : X × Input FrameFault) → AllMove x.1 (next x)) → AllMove input (r >>= next)
 binds input (Err fault) next moves after = tt
 binds {X} {Y} input (Ok x) next moves after = go (next x) (after x)
   where
@@ -50,7 +50,7 @@ either : {X : Type 0} (input : Input FrameFault) (b : Bool) (x y : Reading X) �
 either input true x y p q = p
 either input false x y p q = q
 
-number_moves : (count : ℕ) (input : Input FrameFault) → AllMove input (number_from count input)
+pub number_moves : (count : ℕ) (input : Input FrameFault) → AllMove input (number_from count input)
 number_moves count input = takes input (number_at count (left_of input.at))
 
 uleb_moves : (input : Input FrameFault) → AllMove input (uleb_from input)
@@ -119,7 +119,7 @@ extended_moves f opcode input =
     (either input (opcode == DW_CFA_GNU_args_size) _ _ (binds input (uleb_from input) _ (uleb_moves input) (λ n. stays n.1))
     (either input (is_rule opcode) _ _ (register_rule_moves f opcode input) (cfa_moves f opcode input))))))))))
 
-opcode_moves : (f : AlignmentFactors) (byte : ℕ) (input : Input FrameFault) → AllMove input (opcode_then f byte input)
+pub opcode_moves : (f : AlignmentFactors) (byte : ℕ) (input : Input FrameFault) → AllMove input (opcode_then f byte input)
 unfolding opcode_then
 opcode_moves f byte input =
     either input (byte / 64 == DW_CFA_advance_loc / 64) _ _ (stays input)

@@ -14,7 +14,7 @@ use std::marker::Model;
 
 /// The form of the rule for the canonical frame address.
 #[derive(Clone, Copy)]
-pub(crate) enum CfaForm {
+pub enum CfaForm {
     Missing,
     Register,
     Expression,
@@ -22,14 +22,14 @@ pub(crate) enum CfaForm {
 
 /// The form in force after instructions, and those that they remembered, the latest last.
 #[derive(Drop)]
-pub(crate) struct CieEnd {
-    pub(crate) now: CfaForm,
-    pub(crate) remembered: Vec<CfaForm>,
+pub struct CieEnd {
+    pub now: CfaForm,
+    pub remembered: Vec<CfaForm>,
 }
 
 /// The form in force, and those that were remembered.
 #[derive(Drop)]
-pub(crate) struct Checker<'a> {
+pub struct Checker<'a> {
     now: CfaForm,
     remembered: CfaFormStack<'a>,
 }
@@ -44,7 +44,7 @@ impl<'a> Model for Checker<'a> {
 
 impl<'a> Checker<'a> {
     /// No rule is in force.
-    pub(crate) fn none(alloc: Global) -> Checker<'static>
+    pub fn none(alloc: Global) -> Checker<'static>
         ensures { result ≡ no_forms }
     {
         Checker {
@@ -54,7 +54,7 @@ impl<'a> Checker<'a> {
     }
 
     /// The forms are those after a CIE's instructions.
-    pub(crate) fn after(alloc: Global, end: &'a CieEnd) -> Checker<'a>
+    pub fn after(alloc: Global, end: &'a CieEnd) -> Checker<'a>
         ensures { result ≡ end_seen end.entry.now }
     {
         Checker {
@@ -63,7 +63,7 @@ impl<'a> Checker<'a> {
         }
     }
 
-    pub(crate) fn end(&self, alloc: Global) -> Result<CieEnd, Memory>
+    pub fn end(&self, alloc: Global) -> Result<CieEnd, Memory>
         ensures { IfOk result (λ end. end_seen end ≡ self.entry.now) }
     {
         let remembered = self.remembered.all(alloc)?;
@@ -99,7 +99,7 @@ impl<'a> Checker<'a> {
     }
 
     /// Carries out an instruction. False where it is at fault.
-    fn execute(&mut self, instruction: CallFrameInstruction) -> Result<bool, Memory>
+    pub fn execute(&mut self, instruction: CallFrameInstruction) -> Result<bool, Memory>
         ensures { IfOk result (λ done. MatchBool done (execute_forms instruction self.old ≡ Some self.new)
             ((execute_forms instruction self.old ≡ None) × (self.new ≡ self.old))) }
     {

@@ -1,6 +1,7 @@
 //! Where the entries of a section lie, and their instructions.
 ghost use Rattle.std.specs.Prelude.{◌≡◌, ◌+◌, ◌<◌, ◌≤◌, ◌^◌, Some, None, IfOk, All, length, map};
 ghost use Rattle.cfi_table.specs.Entries.{body_of, instructions_of, extents_of};
+ghost use Rattle.cfi_table.specs.Frames.{size_of};
 ghost use Rattle.cfi_table.specs.private.Placed.{AreRising, IsPlaced, IsWithin};
 
 use crate::fault::FrameFault;
@@ -9,13 +10,13 @@ use std::alloc::Global;
 
 /// Bytes of a section, from an offset up to an end. Those of an entry begin with its length.
 #[derive(Clone, Copy, Debug, PartialEq, Eq)]
-pub(crate) struct Extent {
-    pub(crate) offset: u32,
-    pub(crate) end: u32,
+pub struct Extent {
+    pub offset: u32,
+    pub end: u32,
 }
 
 /// An entry's bytes behind its length. A field that they lack is a fault at the entry.
-pub(crate) fn body<'a>(section: &'a [u8], extent: &Extent) -> Reader<'a, FrameFault>
+pub fn body<'a>(section: &'a [u8], extent: &Extent) -> Reader<'a, FrameFault>
     requires { IsPlaced section.now extent.now }
     ensures { result ≡ body_of section.now extent.now }
 {
@@ -27,7 +28,7 @@ pub(crate) fn body<'a>(section: &'a [u8], extent: &Extent) -> Reader<'a, FrameFa
 }
 
 /// Instructions as they are read.
-pub(crate) fn instructions<'a>(section: &'a [u8], extent: &Extent) -> Reader<'a, FrameFault>
+pub fn instructions<'a>(section: &'a [u8], extent: &Extent) -> Reader<'a, FrameFault>
     requires { IsWithin section.now extent.now }
     ensures reader { result ≡ instructions_of section.now extent.now }
     ensures short { length result.at.whole < 2 ^ 32 }
@@ -37,6 +38,14 @@ pub(crate) fn instructions<'a>(section: &'a [u8], extent: &Extent) -> Reader<'a,
     };
     let bytes = &section[..extent.end as usize];
     Reader::new(bytes, extent.offset as usize, missing)
+}
+
+/// How many bytes instructions have.
+pub(crate) fn size_of(extent: &Extent) -> u64
+    ensures size { result ≡ size_of extent.now }
+    ensures small { result < 2 ^ 32 }
+{
+    u64::from(extent.end.saturating_sub(extent.offset))
 }
 
 /// The section's entries, and the fault of the first length that has one.

@@ -9,7 +9,7 @@ use std::marker::Model;
 /// The forms that were remembered, a byte each, the latest last: first those that were there before,
 /// which are lent, and then its own. Contracts see them with the latest first.
 #[derive(Drop)]
-pub(crate) struct CfaFormStack<'a> {
+pub struct CfaFormStack<'a> {
     lent: &'a [CfaForm],
     own: Vec<CfaForm>,
 }

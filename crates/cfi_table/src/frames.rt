@@ -1,20 +1,22 @@
 //! A section's call frames, and the rules at an address.
-ghost use Rattle.std.specs.Prelude.{◌≡◌, ◌+◌, ◌<◌, ◌≤◌, ◌^◌, Some, None, IfOk, IfSome, All, length, map, option_map};
+ghost use Rattle.std.specs.Prelude.{◌≡◌, ◌+◌, ◌<◌, ◌≤◌, ◌^◌, Some, None, IfOk, IfSome, All, length, map, option_map, slice_get};
 ghost use Rattle.std.specs.Option.{option_map_or};
 ghost use Rattle.prof_bytes.specs.Outcome.{Gives};
 ghost use Rattle.cfi_table.specs.Entries.{after_fde};
-ghost use Rattle.cfi_table.specs.Frames.{frames_of, fde_at, rules_of, rules_at, instruction_bytes, size_of};
+ghost use Rattle.cfi_table.specs.Frames.{frames_of, fde_at, rules_of, rules_at, instruction_bytes};
 ghost use Rattle.cfi_table.specs.Frames.{least_above, lesser};
+ghost use Rattle.cfi_table.specs.Rows.{AreFirst};
 ghost use Rattle.cfi_table.specs.private.Placed.{IsFdeIn};
 
 use crate::entry::counted_fdes;
-use crate::extent::{Extent, all_extents, instructions};
+use crate::extent::{all_extents, instructions, size_of};
 use crate::fault::FrameFault;
 use crate::fde::Fde;
 use crate::interpreter::Interpreter;
 use crate::known_cie::known_cies;
+use crate::rows::Rows;
 use crate::rules::{Rule, Rules};
-use address_ranges::RangeTable;
+use address_ranges::{HasRange, RangeTable};
 use elf_image::Image;
 use prof_bytes::{Fail, Memory};
 use std::alloc::Global;
@@ -107,13 +109,6 @@ fn rules_of(alloc: Global, section: &[u8], fde: &Fde, pc: u32) -> Result<Option<
     }
 }
 
-fn size_of(extent: &Extent) -> u64
-    ensures size { result ≡ size_of extent.now }
-    ensures small { result < 2 ^ 32 }
-{
-    u64::from(extent.end.saturating_sub(extent.offset))
-}
-
 fn lesser(number: u32, other: Option<u32>) -> Option<u32>
     ensures { result ≡ lesser number other }
 {
@@ -133,6 +128,12 @@ fn least_start_above(fdes: &[Fde], low: u32) -> Option<u32>
         }
     }
     least
+}
+
+fn fde_with(fdes: &[Fde], number: usize) -> Option<Fde>
+    ensures { result ≡ slice_get fdes.now number }
+{
+    fdes.get(number).copied()
 }
 
 impl FrameTable {
@@ -167,6 +168,27 @@ impl FrameTable {
             Some(fde) => size_of(&fde.instructions) + size_of(&fde.cie.initial_instructions),
             None => 0,
         }
+    }
+
+    /// How many FDEs have a range that counts.
+    pub fn fde_count(&self) -> usize
+        ensures { result ≡ length self.now.fdes }
+    {
+        self.fdes.items().len()
+    }
+
+    /// The rows of the FDE with that number, in section order, where it is the first to hold each of its
+    /// addresses; nothing where another one is.
+    pub fn rows_of(&self, number: usize) -> Result<Option<Rows<'_>>, Memory>
+        ensures { IfOk result (λ rows. IfSome rows (AreFirst self.now)) }
+    {
+        let Some(fde) = fde_with(self.fdes.items(), number) else {
+            return Ok(None);
+        };
+        if !self.fdes.is_first(fde.range(), number) {
+            return Ok(None);
+        }
+        Rows::of(*self.section.allocator(), &self.section, &fde)
     }
 
     /// The rules at an address, by the first FDE that holds it. The instructions are run from the

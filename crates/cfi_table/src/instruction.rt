@@ -23,7 +23,7 @@ use prof_bytes::Reader;
 /// What an instruction does. Offsets and steps are multiplied already and modulo 2^32; registers are as the
 /// instruction names them.
 #[derive(Clone, Copy)]
-pub(crate) enum CallFrameInstruction {
+pub enum CallFrameInstruction {
     Nop,
     SetLoc(u32),
     AdvanceLoc(u32),
@@ -45,20 +45,20 @@ pub(crate) enum CallFrameInstruction {
 
 /// A CIE's factors, by which steps of the location and offsets are multiplied, modulo 2^32.
 #[derive(Clone, Copy, Debug, PartialEq, Eq)]
-pub(crate) struct AlignmentFactors {
-    pub(crate) code_alignment_factor: u32,
-    pub(crate) data_alignment_factor: u32,
+pub struct AlignmentFactors {
+    pub code_alignment_factor: u32,
+    pub data_alignment_factor: u32,
 }
 
 /// The low 32 bits.
-pub(crate) fn word_of(number: u64) -> u32
+pub fn word_of(number: u64) -> u32
     ensures { result ≡ word_of number }
 {
     (number % (1 << 32)) as u32
 }
 
 /// The low 32 bits, in two's complement.
-pub(crate) fn word_of_signed(number: i64) -> u32
+pub fn word_of_signed(number: i64) -> u32
     ensures { result ≡ word_of_signed number }
 {
     word_of(number.cast_unsigned())
@@ -240,7 +240,7 @@ fn extended(
 }
 
 #[tactic(auto, unfolding(crate::specs::Instructions::opcode_then))]
-fn opcode_then(
+pub fn opcode_then(
     factors: &AlignmentFactors,
     byte: u8,
     reader: &mut Reader<'_, FrameFault>,
@@ -264,7 +264,7 @@ fn opcode_then(
 /// The instruction that is next. It is at fault where its opcode is none of those that are read, or an
 /// operand runs past the end or is too wide.
 #[tactic(auto, unfolding(crate::specs::Instructions::instruction_from))]
-pub(crate) fn next_instruction(
+pub fn next_instruction(
     factors: &AlignmentFactors,
     reader: &mut Reader<'_, FrameFault>,
 ) -> Result<CallFrameInstruction, FrameFault>

@@ -1,10 +1,12 @@
 //! The rules as call frame instructions change them.
-ghost use Rattle.std.specs.Prelude.{◌≡◌, ◌<◌, ◌^◌, [], ◌∷◌, None, Some, IfOk, MatchBool, length};
+ghost use Rattle.std.specs.Prelude.{◌≡◌, ℕ, ◌<◌, ◌≤◌, ◌^◌, [], ◌∷◌, None, Some, IfOk, MatchBool, false, length};
 ghost use Rattle.std.specs.List.{slice_set};
 ghost use Rattle.prof_bytes.specs.Outcome.{Gives, GivesFrom};
+ghost use Rattle.prof_bytes.specs.Reading.{left_of};
 ghost use Rattle.cfi_table.specs.Rules.{no_rules, all_same_value, rule_at, with_rule, with_cfa, with_cfa_register};
 ghost use Rattle.cfi_table.specs.Rules.{with_cfa_offset, with_source, with_remembered, remembering, execute, step_by};
 ghost use Rattle.cfi_table.specs.Rules.{is_past, run_all};
+ghost use Rattle.cfi_table.specs.private.Resuming.{resumed, GoesOn};
 
 use crate::fault::FrameFault;
 use crate::instruction::{AlignmentFactors, CallFrameInstruction, next_instruction};
@@ -208,7 +210,13 @@ impl Interpreter {
         reader: &mut Reader<'_, FrameFault>,
     ) -> Result<(), Fail<FrameFault>>
         requires { length reader.old.at.whole < 2 ^ 32 }
-        ensures { Gives (λ done. self.new) result (run_all limit initial.now factors.now reader.old self.old) }
+        ensures state { Gives (λ done. self.new) result (run_all limit initial.now factors.now reader.old self.old) }
+        ensures ended { IfOk result (λ done. is_past limit self.new ≡ false → length (left_of reader.new.at) ≡ 0) }
+        ensures short { IfOk result (λ done. length reader.new.at.whole < 2 ^ 32) }
+        // and by each later limit
+        ensures later { (address later : ℕ) → limit ≡ Some address → address ≤ later → GoesOn result
+            (run_all (Some later) initial.now factors.now reader.old self.old)
+            (resumed (Some later) initial.now factors.now reader.new self.new) }
     {
         while reader.left() > 0 {
             self.step(initial, factors, reader)?;
@@ -223,6 +231,12 @@ impl Interpreter {
         ensures { result ≡ self.now.regs }
     {
         self.rules.regs()
+    }
+
+    pub(crate) fn location(&self) -> u32
+        ensures { result ≡ self.now.location }
+    {
+        self.location
     }
 
     pub(crate) fn cfa(&self) -> Cfa

@@ -20,8 +20,10 @@ mod interpreter;
 mod known_cie;
 mod laws;
 mod register_rules;
+mod rows;
 mod rules;
 
+pub use checker::{CfaForm, Checker, CieEnd};
 pub use constants::{
     DW_CFA_GNU_args_size, DW_CFA_advance_loc, DW_CFA_advance_loc1, DW_CFA_advance_loc2,
     DW_CFA_advance_loc4, DW_CFA_def_cfa, DW_CFA_def_cfa_expression, DW_CFA_def_cfa_offset,
@@ -31,7 +33,12 @@ pub use constants::{
     DW_CFA_same_value, DW_CFA_set_loc, DW_CFA_undefined, DW_CFA_val_expression, DW_CFA_val_offset,
     DW_CFA_val_offset_sf, DW_CIE_ID,
 };
+pub use extent::{Extent, body, instructions};
 pub use fault::FrameFault;
 pub use frames::{FrameTable, read_frames};
+pub use instruction::{
+    AlignmentFactors, CallFrameInstruction, opcode_then, word_of, word_of_signed,
+};
 pub use laws::bytes_are_room_enough;
+pub use rows::{Row, Rows};
 pub use rules::{Cfa, Rule, Rules};

@@ -1,7 +1,9 @@
 pub mod Items
 pub mod Indices
+pub mod Numbered
 pub mod Runs
 pub mod Past
 pub mod Moves
 pub mod FormMoves
 pub mod Rooms
+pub mod FixedSizes

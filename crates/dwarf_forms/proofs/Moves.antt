@@ -21,7 +21,7 @@ abbrev Within : {X : Type 0} → ℕ → ℕ → Option (X × ℕ) → Type 0
 Within count long None = Unit {0}
 Within count long (Some r) = (count ≤ r.1) × (r.1 ≤ long)
 
-left_moved : (at : At) (count : ℕ) → count ≤ length (left_of at) → length (left_of (moved count at)) + count ≡ length (left_of at)
+pub left_moved : (at : At) (count : ℕ) → count ≤ length (left_of at) → length (left_of (moved count at)) + count ≡ length (left_of at)
 left_moved at count le =
     let long = length-drop at.offset at.whole in
     let rest = length-drop (at.offset + count) at.whole in

@@ -1,4 +1,5 @@
 pub mod Forms
+pub mod Sizes
 pub mod Values
 pub mod Lists
 pub mod Abbreviations

@@ -11,6 +11,7 @@ mod encoding;
 mod laws;
 mod read;
 mod section;
+mod sizes;
 mod table;
 mod value;
 

@@ -1,20 +1,21 @@
 //! Reading an abbreviation table.
-ghost use Rattle.std.specs.Prelude.{◌≡◌, ◌==◌, ℕ, length, IfOk, OnOk, nat_eq, if◌then◌else◌};
+ghost use Rattle.std.specs.Prelude.{◌≡◌, ◌==◌, ℕ, length, IfOk, OnOk, if◌then◌else◌};
 ghost use Rattle.std.specs.Option.{option_or};
-ghost use Rattle.std.specs.HashMap.{get};
+ghost use Rattle.std.specs.Ordering.{nat_cmp};
+ghost use Rattle.std.specs.BTreeMap.{get};
 ghost use Rattle.prof_bytes.specs.Outcome.{Gives, GivesAt, GivesFrom};
 ghost use Rattle.prof_bytes.specs.Reading.{left_of};
 ghost use Rattle.dwarf_forms.specs.Lists.{list_from};
-ghost use Rattle.dwarf_forms.specs.private.Indices.{AreIndices};
+ghost use Rattle.dwarf_forms.specs.private.Indices.{IsNumbered, AreIndices};
 ghost use Rattle.dwarf_forms.specs.Abbreviations.{implicit_from, unless_closing, attribute_from, attributes_from};
 ghost use Rattle.dwarf_forms.specs.Abbreviations.{declared_from, declaration_from, table_from, table_at};
 
 use crate::constants::{DW_CHILDREN_no, DW_FORM_implicit_const};
-use crate::declaration::{Abbrev, Abbrevs, BadTable, Spec, Specs};
+use crate::declaration::{Abbrev, Abbrevs, BadTable, Spec, Specs, behind};
 use crate::section::reader_at;
 use prof_bytes::{Fail, Memory, Reader};
 use std::alloc::Global;
-use std::collections::HashMap;
+use std::collections::BTreeMap;
 
 fn implicit(reader: &mut Reader<'_, BadTable>, form: u64) -> Result<i64, BadTable>
     ensures { GivesAt (λ z. z) result reader.new (implicit_from form reader.old) }
@@ -114,10 +115,22 @@ fn declarations(
     Err(Fail::Fault(reader.missing()))
 }
 
+/// How many declarations at the front have the codes 1, 2, 3 and so on.
+fn numbered(items: &[Abbrev]) -> usize
+    ensures { IsNumbered items.now result }
+{
+    for (index, declared) in items.iter().enumerate() {
+        if declared.code != index as u64 + 1 {
+            return index;
+        }
+    }
+    items.len()
+}
+
 /// Notes an index for a code that has none yet.
-fn add_index(indices: &mut HashMap<u64, usize>, code: u64, index: usize) -> Result<(), Memory>
-    ensures { OnOk result ((q : ℕ) → get nat_eq indices.new q
-        ≡ option_or (get nat_eq indices.old q) (if code == q then Some index else None)) }
+fn add_index(indices: &mut BTreeMap<u64, usize>, code: u64, index: usize) -> Result<(), Memory>
+    ensures { OnOk result ((q : ℕ) → get nat_cmp indices.new q
+        ≡ option_or (get nat_cmp indices.old q) (if code == q then Some index else None)) }
 {
     if !indices.contains_key(&code) {
         indices.insert(code, index)?;
@@ -126,22 +139,24 @@ fn add_index(indices: &mut HashMap<u64, usize>, code: u64, index: usize) -> Resu
 }
 
 /// The index of the first declaration of each code.
-fn first_indices(alloc: Global, items: &[Abbrev]) -> Result<HashMap<u64, usize>, Memory>
+fn first_indices(alloc: Global, items: &[Abbrev]) -> Result<BTreeMap<u64, usize>, Memory>
     ensures { IfOk result (λ indices. AreIndices items.now indices) }
 {
-    let mut indices = HashMap::new(alloc);
+    let mut indices = BTreeMap::new(alloc);
     for (index, declared) in items.iter().enumerate() {
         add_index(&mut indices, declared.code, index)?;
     }
     Ok(indices)
 }
 
-/// The abbreviation table at an offset of the bytes of `.debug_abbrev`. Linear in the table's bytes.
+/// The abbreviation table at an offset of the bytes of `.debug_abbrev`. Linear in the table's bytes where its codes are
+/// 1, 2, 3 and so on; else n log n in the number of its declarations.
 pub fn read_abbrevs(alloc: Global, bytes: &[u8], offset: u32) -> Result<Abbrevs, Fail<BadTable>>
     ensures { Gives (λ table. table) result (table_at bytes.now offset) }
 {
     let mut reader = reader_at(bytes, offset as usize, BadTable)?;
     let items = declarations(alloc, &mut reader)?;
-    let indices = first_indices(alloc, items.as_slice())?;
-    Ok(Abbrevs::of(items, indices))
+    let count = numbered(items.as_slice());
+    let indices = first_indices(alloc, behind(items.as_slice(), count))?;
+    Ok(Abbrevs::of(items, count, indices))
 }

@@ -3,9 +3,11 @@ pub mod Past
 pub mod Bodies
 pub mod UnitLists
 pub mod RangeLists
-pub mod EntryIndices
+pub mod HalvedEntries
 pub mod UnitEntries
 pub mod CodedEntries
 pub mod UnitMoves
 pub mod Rooms
 pub mod Bounds
+pub mod Rising
+pub mod FixedValues

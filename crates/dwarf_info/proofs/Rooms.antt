@@ -31,7 +31,7 @@ use Rattle.prof_bytes.specs.Fields.{part_from}
 
 -- ---- entries
 
-passed_moves : (unknown : InfoFault) (specs : List Spec) (input : Input InfoFault) → Moves 0 input (passed_from unknown specs input)
+pub passed_moves : (unknown : InfoFault) (specs : List Spec) (input : Input InfoFault) → Moves 0 input (passed_from unknown specs input)
 unfolding passed_from
 passed_moves unknown [] input = stays {X = Unit {0}} input tt
 passed_moves unknown (spec ∷ specs) input =

@@ -29,7 +29,7 @@ fn declared_entry(
     let unknown = InfoFault::UnknownForm {
         offset: entry.offset,
     };
-    pass_values(reader, declared.specs.as_slice(), unknown)?;
+    pass_values(reader, &declared.specs, unknown)?;
     if declared.children {
         return Ok((Some(entry), entry.depth + 1));
     }

@@ -1,7 +1,8 @@
 //! Debug information that was read, and what is asked of its entries.
-ghost use Rattle.std.specs.Prelude.{◌≡◌, ◌<◌, ◌^◌, ℕ, List, true, is_some, nat_eq, length, map, IfOk, option_map};
+ghost use Rattle.std.specs.Prelude.{◌≡◌, ◌<◌, ◌^◌, ℕ, List, true, is_some, length, map, IfOk, option_map};
 ghost use Rattle.std.specs.Prelude.{option_copied, option_and_then, IfSome};
-ghost use Rattle.std.specs.HashMap.{get};
+ghost use Rattle.std.specs.Ordering.{nat_cmp};
+ghost use Rattle.std.specs.BTreeMap.{get};
 ghost use Rattle.prof_bytes.specs.Outcome.{Gives};
 ghost use Rattle.dwarf_forms.specs.declared.value.FormFault.TheVariants.{Short};
 ghost use Rattle.dwarf_forms.specs.Abbreviations.{table_at};
@@ -21,7 +22,7 @@ use crate::constants::{
 };
 use crate::entry::{InfoEntry, Unit, UnitBases};
 use crate::fault::InfoFault;
-use crate::indices::{indices_of, referred};
+use crate::indices::referred;
 use crate::pairs::Ranges;
 use crate::ranges::{high_value, list_value, ranges_at};
 use crate::units::{read_units, value_at};
@@ -29,19 +30,19 @@ use dwarf_forms::{Abbrevs, Value};
 use elf_image::DebugParts;
 use prof_bytes::{Fail, Memory};
 use std::alloc::Global;
-use std::collections::HashMap;
+use std::collections::BTreeMap;
 use std::marker::Model;
 
 /// The first value of an attribute of the entry at an offset of a unit.
 fn tabled_value<'a>(
     info: &'a [u8],
-    tables: &HashMap<u32, Abbrevs>,
+    tables: &BTreeMap<u32, Abbrevs>,
     bases: UnitBases,
     offset: u32,
     attribute: u64,
 ) -> Option<Value<'a>>
     ensures { (section : List ℕ) → AreTables section tables.now
-        → is_some (get nat_eq tables.now bases.header.debug_abbrev_offset) ≡ true
+        → is_some (get nat_cmp tables.now bases.header.debug_abbrev_offset) ≡ true
         → option_map form_value result ≡ value_of attribute
         (entry_values (or_none (table_at section bases.header.debug_abbrev_offset))
         (up_to bases.header.end info.now offset Short)) }
@@ -59,8 +60,7 @@ pub struct Info<'a> {
     units: Vec<Unit>,
     bases: Vec<UnitBases>,
     entries: Vec<InfoEntry>,
-    tables: HashMap<u32, Abbrevs>,
-    indices: HashMap<u32, u32>,
+    tables: BTreeMap<u32, Abbrevs>,
 }
 
 impl<'a> Model for Info<'a> {
@@ -77,7 +77,7 @@ impl<'a> Model for Info<'a> {
     } };
 
     ghost invariant = { λ info. IsWhole (sections_of info.sections) info.units.items info.bases.items
-        info.entries.items info.tables info.indices };
+        info.entries.items info.tables };
 }
 
 impl<'a> Info<'a> {
@@ -166,7 +166,7 @@ impl<'a> Info<'a> {
     {
         let (bases, _) = self.unit_entry(i)?;
         let value = self.value(i, attribute)?;
-        referred(&self.indices, bases.header.offset, value)
+        referred(self.entries.as_slice(), bases.header.offset, value)
     }
 
     fn small(&self, i: u32, attribute: u64) -> Option<u32>
@@ -260,17 +260,15 @@ pub fn read_info<'a>(alloc: Global, sections: DebugParts<'a>) -> Result<Info<'a>
     requires lists { length sections.rnglists.now < 2 ^ 31 }
     ensures { Gives (λ info. info) result (debug_info_of (sections_of sections.entry)) }
 {
-    let mut tables = HashMap::new(alloc);
+    let mut tables = BTreeMap::new(alloc);
     let mut entries = Vec::new(alloc);
     let bases = read_units(alloc, &sections, &mut tables, &mut entries)?;
     let units = shown_units(alloc, bases.as_slice())?;
-    let indices = indices_of(alloc, entries.as_slice())?;
     Ok(Info {
         sections,
         units,
         bases,
         entries,
         tables,
-        indices,
     })
 }

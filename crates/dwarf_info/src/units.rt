@@ -1,8 +1,9 @@
 //! The units of `.debug_info`, each with its entries (DWARF 5, sections 3.1.1 and 7.5.1).
 ghost use Rattle.std.specs.Prelude.{◌≡◌, ◌+◌, ◌<◌, ◌≤◌, ◌++◌, ◌∷◌, [], ◌^◌, IfOk, IfSome, true, option_map, slice_get};
-ghost use Rattle.std.specs.Prelude.{option_and_then, is_some, nat_eq, length, option_to_list, List, Result, Ok, Some};
+ghost use Rattle.std.specs.Prelude.{option_and_then, is_some, length, option_to_list, List, Result, Ok, Some};
 ghost use Rattle.std.specs.List.{flat_map};
-ghost use Rattle.std.specs.HashMap.{get};
+ghost use Rattle.std.specs.Ordering.{nat_cmp};
+ghost use Rattle.std.specs.BTreeMap.{get};
 ghost use Rattle.prof_bytes.specs.Outcome.{Gives, FailsBy};
 ghost use Rattle.prof_bytes.specs.Reading.{left_of};
 ghost use Rattle.dwarf_forms.specs.declared.declaration.Abbrev.{Abbrev};
@@ -32,7 +33,7 @@ use dwarf_forms::{Abbrevs, BadTable, FormFault, Value, reader_at};
 use elf_image::DebugParts;
 use prof_bytes::{Fail, Reader};
 use std::alloc::Global;
-use std::collections::HashMap;
+use std::collections::BTreeMap;
 
 /// The first value of an attribute of the entry at an offset, in a unit that ends at `end`.
 #[tactic(auto, using(crate::proofs::Past::no_value_past))]
@@ -162,7 +163,7 @@ fn read_headed<'a>(
     sections: &DebugParts<'a>,
     unit: (u32, UnitHeader),
     body: &mut Reader<'a, InfoFault>,
-    tables: &mut HashMap<u32, Abbrevs>,
+    tables: &mut BTreeMap<u32, Abbrevs>,
     entries: &mut Vec<InfoEntry>,
 ) -> Result<UnitBases, Fail<InfoFault>>
     requires small { length sections.now.info.now < 2 ^ 31 }
@@ -175,7 +176,7 @@ fn read_headed<'a>(
         ≤ length entries.old.items + length (left_of body.old.at)) }
     ensures are { IfOk result (λ _. AreTables sections.now.«abbrev».now tables.new) }
     ensures keep { IfOk result (λ _. KeepTables tables.old tables.new) }
-    ensures has { IfOk result (λ u. is_some (get nat_eq tables.new u.header.debug_abbrev_offset) ≡ true) }
+    ensures has { IfOk result (λ u. is_some (get nat_cmp tables.new u.header.debug_abbrev_offset) ≡ true) }
 {
     let header = unit.1;
     match know_table(alloc, tables, sections.abbrev, header.debug_abbrev_offset) {
@@ -193,7 +194,7 @@ fn read_unit<'a>(
     sections: &DebugParts<'a>,
     index: u32,
     reader: &mut Reader<'a, InfoFault>,
-    tables: &mut HashMap<u32, Abbrevs>,
+    tables: &mut BTreeMap<u32, Abbrevs>,
     entries: &mut Vec<InfoEntry>,
 ) -> Result<(Option<UnitBases>, u32), Fail<InfoFault>>
     requires small { length sections.now.info.now < 2 ^ 31 }
@@ -210,7 +211,7 @@ fn read_unit<'a>(
     ensures are { IfOk result (λ _. AreTables sections.now.«abbrev».now tables.new) }
     ensures keep { IfOk result (λ _. KeepTables tables.old tables.new) }
     ensures has { IfOk result (λ r. IfSome r.0
-        (λ u. is_some (get nat_eq tables.new u.header.debug_abbrev_offset) ≡ true)) }
+        (λ u. is_some (get nat_cmp tables.new u.header.debug_abbrev_offset) ≡ true)) }
     ensures whole { IfOk result (λ _. reader.new.at.whole ≡ reader.old.at.whole) }
 {
     let offset = offset_of(reader);
@@ -230,7 +231,7 @@ fn read_unit<'a>(
 pub(crate) fn read_units(
     alloc: Global,
     sections: &DebugParts<'_>,
-    tables: &mut HashMap<u32, Abbrevs>,
+    tables: &mut BTreeMap<u32, Abbrevs>,
     entries: &mut Vec<InfoEntry>,
 ) -> Result<Vec<UnitBases>, Fail<InfoFault>>
     requires small { length sections.now.info.now < 2 ^ 31 }

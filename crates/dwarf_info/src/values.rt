@@ -1,11 +1,13 @@
 //! The values of one entry (DWARF 5, section 7.5.3).
 ghost use Rattle.std.specs.Prelude.{◌≡◌, IfOk, find, option_map};
 ghost use Rattle.prof_bytes.specs.Outcome.{GivesAt};
+ghost use Rattle.prof_bytes.specs.Fields.{bytes_from};
+ghost use Rattle.dwarf_forms.specs.Sizes.{passed_by};
 ghost use Rattle.dwarf_forms.specs.Values.{form_value, value_from};
 ghost use Rattle.dwarf_info.specs.Values.{passed_from, values_from, value_of, declaration_of, entry_values};
 
 use crate::fault::InfoFault;
-use dwarf_forms::{Abbrevs, FormFault, Spec, Value, read_form};
+use dwarf_forms::{Abbrevs, FormFault, Spec, Specs, Value, read_form};
 use prof_bytes::Reader;
 
 fn one_value<'a, F: Copy>(
@@ -20,8 +22,16 @@ fn one_value<'a, F: Copy>(
     read_form(reader, spec.form, spec.implicit, unknown)
 }
 
-/// Passes the values of these attributes; `unknown` is the fault of one of an unknown form.
-pub(crate) fn pass_values(
+/// Passes so many bytes.
+fn pass_bytes(reader: &mut Reader<'_, InfoFault>, count: u32) -> Result<(), InfoFault>
+    ensures { GivesAt (λ u. u) result reader.new (passed_by (bytes_from count reader.old)) }
+{
+    reader.take(count as usize)?;
+    Ok(())
+}
+
+/// Passes the values of these attributes one after the other.
+fn pass_each(
     reader: &mut Reader<'_, InfoFault>,
     specs: &[Spec],
     unknown: InfoFault,
@@ -37,6 +47,22 @@ pub(crate) fn pass_values(
         }
     }
     Ok(())
+}
+
+/// Passes the values of these attributes, in one step where their forms say how many bytes they are; `unknown` is the
+/// fault of one of an unknown form.
+pub(crate) fn pass_values(
+    reader: &mut Reader<'_, InfoFault>,
+    specs: &Specs,
+    unknown: InfoFault,
+) -> Result<(), InfoFault>
+    ensures passed { GivesAt (λ u. u) result reader.new (passed_from unknown specs.now reader.old) }
+    ensures keeps { IfOk result (λ _. reader.new.at.whole ≡ reader.old.at.whole) }
+{
+    match specs.size() {
+        Some(size) => pass_bytes(reader, size),
+        None => pass_each(reader, specs.as_slice(), unknown),
+    }
 }
 
 /// The first value of an attribute among those of a declaration.

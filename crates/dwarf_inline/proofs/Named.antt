@@ -1,9 +1,10 @@
 -- The name of the first item with an identity.
-use Rattle.std.proofs.Common.{◌≡◌, ◌==◌, ℕ, suc, ◌+◌, ◌<◌, ◌≤◌, Bool, true, false, cond, List, [], ◌∷◌, length, get_or, Option, Some, None, refl, sym, ap, ◌∙◌, nat_eq, arith}
+use Rattle.std.proofs.Common.{◌≡◌, ◌==◌, ℕ, suc, ◌+◌, ◌<◌, ◌≤◌, Bool, true, false, cond, List, [], ◌∷◌, length, get_or, Option, Some, None, refl, sym, ap, ◌∙◌, arith}
 use Rattle.std.specs.Prelude.{find, zip, slice_get, option_map, unwrap_or, nat_lt}
 use Rattle.std.specs.List.{position_or_len}
 use Rattle.std.specs.Option.{option_map_or}
-use Rattle.std.specs.HashMap.{get}
+use Rattle.std.specs.Ordering.{nat_cmp}
+use Rattle.std.specs.BTreeMap.{get}
 use Rattle.std.proofs.lemmas.Option.{cond_some, slice_get-get_or, slice_get_past}
 use Rattle.std.proofs.lemmas.Bool.{ltb-true, ltb-false}
 use Rattle.dwarf_inline.specs.Links.{unnamed}
@@ -41,7 +42,7 @@ none_is : (b : Bool) (x : ℕ) → cond b (Some x) None ≡ None → b ≡ false
 none_is true x e = absurd cc
 none_is false x e = refl
 
-pub named_by : (s : ProgramStructure) (numbers : Numbers) (offset k : ℕ) (name : List ℕ) → IsIndexed s numbers → get nat_eq numbers offset ≡ Some k → name ≡ get_or s.names k name
+pub named_by : (s : ProgramStructure) (numbers : Numbers) (offset k : ℕ) (name : List ℕ) → IsIndexed s numbers → get nat_cmp numbers offset ≡ Some k → name ≡ get_or s.names k name
     → name ≡ proc_name s offset
 named_by s numbers offset k name is there own =
     let found = cond_some (nat_lt (at s offset) (length s.items)) (at s offset) k (sym (is.found offset) ∙ there) in
@@ -51,7 +52,7 @@ named_by s numbers offset k name is there own =
     own ∙ ap (λ (n : ℕ). get_or s.names n name) (sym found.1)
     ∙ ap (λ (o : Option (List ℕ)). unwrap_or o unnamed) (sym read) ∙ sym (name_at s numbers offset is)
 
-pub not_named : (s : ProgramStructure) (numbers : Numbers) (offset : ℕ) → IsIndexed s numbers → get nat_eq numbers offset ≡ None → unnamed ≡ proc_name s offset
+pub not_named : (s : ProgramStructure) (numbers : Numbers) (offset : ℕ) → IsIndexed s numbers → get nat_cmp numbers offset ≡ None → unnamed ≡ proc_name s offset
 not_named s numbers offset is there =
     let past : length s.items ≤ at s offset = ltb-false (at s offset) (length s.items) (none_is (nat_lt (at s offset) (length s.items)) (at s offset) (sym (is.found offset) ∙ there)) in
     let same : length s.names ≡ length s.items = is.whole.named in

@@ -1,18 +1,19 @@
 //! The number of the first item with an identity.
-ghost use Rattle.std.specs.Prelude.{◌≡◌, ◌==◌, ◌<◌, ◌^◌, ℕ, length, Some, None, nat_eq, IfOk, OnOk, if◌then◌else◌};
+ghost use Rattle.std.specs.Prelude.{◌≡◌, ◌==◌, ◌<◌, ◌^◌, ℕ, length, Some, None, IfOk, OnOk, if◌then◌else◌};
 ghost use Rattle.std.specs.Option.{option_or};
-ghost use Rattle.std.specs.HashMap.{get};
+ghost use Rattle.std.specs.Ordering.{nat_cmp};
+ghost use Rattle.std.specs.BTreeMap.{get};
 ghost use Rattle.dwarf_inline.specs.private.Parts.{AreNumbers};
 
 use crate::item::Item;
 use prof_bytes::Memory;
 use std::alloc::Global;
-use std::collections::HashMap;
+use std::collections::BTreeMap;
 
 /// Notes the number of an item, unless its identity has one.
-fn add_number(numbers: &mut HashMap<u32, u32>, item: &Item, number: u32) -> Result<(), Memory>
-    ensures { OnOk result ((q : ℕ) → get nat_eq numbers.new q
-        ≡ option_or (get nat_eq numbers.old q) (if item.now.identity == q then Some number else None)) }
+fn add_number(numbers: &mut BTreeMap<u32, u32>, item: &Item, number: u32) -> Result<(), Memory>
+    ensures { OnOk result ((q : ℕ) → get nat_cmp numbers.new q
+        ≡ option_or (get nat_cmp numbers.old q) (if item.now.identity == q then Some number else None)) }
 {
     let identity = item.identity;
     if !numbers.contains_key(&identity) {
@@ -22,11 +23,11 @@ fn add_number(numbers: &mut HashMap<u32, u32>, item: &Item, number: u32) -> Resu
 }
 
 /// The number of the first item of each identity.
-pub(crate) fn numbers_of(alloc: Global, items: &[Item]) -> Result<HashMap<u32, u32>, Memory>
+pub(crate) fn numbers_of(alloc: Global, items: &[Item]) -> Result<BTreeMap<u32, u32>, Memory>
     requires { length items.now < 2 ^ 31 }
     ensures { IfOk result (λ numbers. AreNumbers items.now numbers) }
 {
-    let mut numbers = HashMap::new(alloc);
+    let mut numbers = BTreeMap::new(alloc);
     for (number, item) in items.iter().enumerate() {
         add_number(&mut numbers, item, number as u32)?;
     }

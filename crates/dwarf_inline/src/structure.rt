@@ -14,7 +14,7 @@ use dwarf_line::LineTable;
 use elf_image::Image;
 use prof_bytes::Fail;
 use std::alloc::Global;
-use std::collections::HashMap;
+use std::collections::BTreeMap;
 use std::marker::Model;
 
 /// The structure of a program. It lends the sections' bytes.
@@ -23,7 +23,7 @@ pub struct Structure<'a> {
     items: Vec<Item>,
     names: Vec<&'a [u8]>,
     ranges: Vec<(u32, u32)>,
-    numbers: HashMap<u32, u32>,
+    numbers: BTreeMap<u32, u32>,
 }
 
 impl<'a> Model for Structure<'a> {
@@ -84,8 +84,8 @@ impl<'a> Structure<'a> {
     }
 }
 
-/// The structure of a program by its debug information, or the first fault in section order. Linear in the entries, and
-/// in the ranges of the items.
+/// The structure of a program by its debug information, or the first fault in section order. Linear in the entries and in
+/// the ranges of the items, and n log n in the items.
 #[tactic(auto, unfolding(crate::specs::Structure::structure_of))]
 pub fn read_structure<'a>(
     alloc: Global,

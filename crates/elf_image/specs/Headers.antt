@@ -30,6 +30,7 @@ section_header_at file offset = record {
   sh_name = word_at file offset;
   sh_type = word_at file (offset + 4);
   sh_flags = word_at file (offset + 8);
+  sh_addr = word_at file (offset + 12);
   sh_offset = word_at file (offset + 16);
   sh_size = word_at file (offset + 20);
   sh_link = word_at file (offset + 24);
@@ -114,7 +115,8 @@ name_of file h =
     if e_shstrndx file == SHN_UNDEF then Some [] else text_in (bytes_of_index file (e_shstrndx file)) h.sh_name
 
 abbrev pub section_of : List ℕ → SectionHeader → Named
-section_of file h = record { name = unwrap_or (name_of file h) []; bytes = bytes_of file h }
+section_of file h =
+    record { name = unwrap_or (name_of file h) []; address = h.sh_addr; bytes = bytes_of file h }
 
 unfoldable pub sections : List ℕ → List Named
 sections file = map (section_of file) (filter is_section (section_headers file))

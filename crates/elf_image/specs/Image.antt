@@ -11,9 +11,10 @@ use Rattle.elf_image.specs.declared.part.Segment.{Segment}
 use Rattle.elf_image.specs.declared.part.Function.{Function}
 use Rattle.elf_image.specs.declared.part.Section.{Section}
 
--- a section's name and bytes
+-- a section's name, its address in memory, and its bytes
 pub record Named : Type 0 where
   pub name : List ℕ
+  pub address : ℕ
   pub bytes : List ℕ
 
 -- a function symbol: where the function begins, how many bytes it has, what it is symbol_view
@@ -33,7 +34,7 @@ pub record ProgramImage : Type 0 where
 
 -- what contracts see of the code's values
 abbrev pub named : Section → Named
-named s = record { name = s.name.now; bytes = s.bytes.now }
+named s = record { name = s.name.now; address = s.address; bytes = s.bytes.now }
 
 abbrev pub symbol_view : Function → FunctionSymbol
 symbol_view f = record { start = f.start; size = f.size; name = f.name.now }
@@ -76,6 +77,10 @@ counts segments low high =
 -- the bytes of the first section of that name
 abbrev pub bytes_of_name : List Named → List ℕ → List ℕ
 bytes_of_name sections name = option_map_or (λ s. s.bytes) (find (λ s. same_bytes s.name name) sections) []
+
+-- the address of the first section of that name, or 0
+abbrev pub address_of_name : List Named → List ℕ → ℕ
+address_of_name sections name = option_map_or (λ s. s.address) (find (λ s. same_bytes s.name name) sections) 0
 
 -- a segment is not empty and lies below the stacks, and the bytes that it takes from the file are there
 pub record IsWithin (file : List ℕ) (s : Segment) : Type 0 where

@@ -5,7 +5,7 @@ ghost use Rattle.std.specs.Option.{option_copied};
 ghost use Rattle.elf_image.specs.Fields.{same_bytes};
 ghost use Rattle.prof_bytes.specs.Outcome.{Gives};
 ghost use Rattle.elf_image.specs.Image.{IsLoaded, IsWithin, are_apart, named, symbol_view, in_segment, in_function};
-ghost use Rattle.elf_image.specs.Image.{counts, bytes_of_name};
+ghost use Rattle.elf_image.specs.Image.{counts, bytes_of_name, address_of_name};
 ghost use Rattle.elf_image.specs.Headers.{segments, section_headers, sections, symbol_table, functions};
 ghost use Rattle.elf_image.specs.Reading.{header_of, segments_of, sections_of, symbols_in, image_of};
 ghost use Rattle.elf_image.specs.private.Checks.{after};
@@ -91,6 +91,15 @@ fn section_named<'a>(sections: &[Section<'a>], name: &[u8]) -> &'a [u8]
     }
 }
 
+fn address_named(sections: &[Section<'_>], name: &[u8]) -> u32
+    ensures { result ≡ address_of_name (map named sections.now) name.now }
+{
+    match find_section(sections, name) {
+        Some(section) => section.address,
+        None => 0,
+    }
+}
+
 impl<'a> Image<'a> {
     /// The address at which the program begins to run.
     pub fn entry(&self) -> u32
@@ -151,6 +160,14 @@ impl<'a> Image<'a> {
         ensures few { length result.now ≤ 2 ^ 26 }
     {
         section_named(&self.sections, name)
+    }
+
+    /// The address in memory (`sh_addr`) of the first section of that name, and 0 where there is no such
+    /// section.
+    pub fn section_address(&self, name: &[u8]) -> u32
+        ensures { result ≡ address_of_name self.now.sections name.now }
+    {
+        address_named(&self.sections, name)
     }
 
     /// The function symbols whose ranges count, in symbol order.

@@ -71,9 +71,10 @@ impl<'a> HasRange for Function<'a> {
     }
 }
 
-/// A section's name and bytes.
+/// A section's name, its address in memory (`sh_addr`) and its bytes.
 #[derive(Clone, Copy, Debug)]
 pub(crate) struct Section<'a> {
     pub(crate) name: &'a [u8],
+    pub(crate) address: u32,
     pub(crate) bytes: &'a [u8],
 }

@@ -166,6 +166,7 @@ fn section_of<'a>(file: &'a [u8], names: &Texts<'a>, header: &SectionHeader) -> 
             Some(name) => name,
             None => &[],
         },
+        address: header.sh_addr,
         bytes: bytes_of(file, header),
     }
 }

@@ -32,10 +32,10 @@ not_above : (a b : ℕ) → b ≤ a → nat_lt a b ≡ false
 not_above a b le = grind (arith, nat_tests)
 
 -- a test of two
-abbrev tested : {X F : Type 0} → Bool → F → X → Result X F
+abbrev pub tested : {X F : Type 0} → Bool → F → X → Result X F
 tested many fault x = cond many (Err fault) (Ok x)
 
-tested_ok : {X F : Type 0} (many : Bool) (fault : F) (x y : X) → tested many fault x ≡ Ok y → (many ≡ false) × (x ≡ y)
+pub tested_ok : {X F : Type 0} (many : Bool) (fault : F) (x y : X) → tested many fault x ≡ Ok y → (many ≡ false) × (x ≡ y)
 tested_ok true fault x y e = absurd cc
 tested_ok false fault x y e = (refl, (let same : x ≡ y = cc in same))
 
@@ -43,7 +43,7 @@ tested_err : {X F : Type 0} (many : Bool) (fault other : F) (x : X) → tested m
 tested_err true fault other x e = (refl, (let same : fault ≡ other = cc in same))
 tested_err false fault other x e = absurd cc
 
-at_most : (a b : ℕ) → nat_lt a b ≡ false → b ≤ a
+pub at_most : (a b : ℕ) → nat_lt a b ≡ false → b ≤ a
 at_most a b e = grind (arith, nat_tests)
 
 is_above : (a b : ℕ) → nat_lt a b ≡ true → a < b

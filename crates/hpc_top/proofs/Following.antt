@@ -6,7 +6,7 @@ use Rattle.hpc_top.specs.declared.status.InputFault.{InputFault}
 use Rattle.hpc_top.specs.declared.status.Status.{Status}
 use Rattle.hpc_top.specs.declared.status.Status.TheVariants.{Done, Usage, Input, Device, Memory}
 use Rattle.hpc_top.specs.declared.status.Place.TheVariants.{Read, Store, Print}
-use Rattle.hpc_top.specs.Profile.{Product}
+use Rattle.hpc_top.specs.Product.{Product}
 use Rattle.hpc_top.specs.Task.{task_of, verdict}
 use Rattle.hpc_top.specs.Words.{Request}
 use Rattle.hpc_top.specs.Outcome.{Call, Answers, Makes, Finished}

@@ -6,3 +6,4 @@ pub mod Lines
 pub mod Products
 pub mod Collecting
 pub mod Contents
+pub mod Measuring

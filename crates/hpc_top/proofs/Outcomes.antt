@@ -7,7 +7,7 @@ use Rattle.hpc_top.specs.declared.status.Status.TheVariants as answers
 use Rattle.hpc_top.specs.declared.status.Stop.{Stop}
 use Rattle.hpc_top.specs.declared.status.Stop.TheVariants.{Input, Device, Memory}
 use Rattle.hpc_top.specs.declared.status.Place.TheVariants.{Read, Store, Print}
-use Rattle.hpc_top.specs.Profile.{Product}
+use Rattle.hpc_top.specs.Product.{Product}
 use Rattle.hpc_top.specs.Task.{Task, verdict}
 use Rattle.hpc_top.specs.Words.{Request}
 use Rattle.hpc_top.specs.Outcome.{Call, call_of, Keeps, KeepsPart, Storing, Printing, ReadFailed, StoreFailed, Outcome, Answers}
@@ -25,13 +25,13 @@ unprepared task s t o (Memory memory) h = inl (h.files, refl)
 
 -- what was made is delivered, whole or in part
 module _ (task : Task) (s t u : ShelfState) (o o' : SinkState) (p : Product) (looked : Looked s t) (made : IsTrue s.known → verdict task s.files ≡ Ok p) where
-  keeps : (name : Option (List ℕ)) → Keeps name (call_of t u o o') p.database → Keeps name (call_of s u o o') p.database
+  keeps : (name : Option (List ℕ)) → Keeps name (call_of t u o o') p.stored → Keeps name (call_of s u o o') p.stored
   keeps None h = subst (λ (files : Files). u.files ≡ files) looked.files h
-  keeps (Some name) h = subst (λ (files : Files). Holds files u.files name p.database) looked.files h
+  keeps (Some name) h = subst (λ (files : Files). Holds files u.files name p.stored) looked.files h
 
-  keeps_part : (name : Option (List ℕ)) → KeepsPart name (call_of t u o o') p.database → KeepsPart name (call_of s u o o') p.database
+  keeps_part : (name : Option (List ℕ)) → KeepsPart name (call_of t u o o') p.stored → KeepsPart name (call_of s u o o') p.stored
   keeps_part None h = subst (λ (files : Files). u.files ≡ files) looked.files h
-  keeps_part (Some name) h = subst (λ (files : Files). HoldsPart files u.files name p.database) looked.files h
+  keeps_part (Some name) h = subst (λ (files : Files). HoldsPart files u.files name p.stored) looked.files h
 
   storing : Storing task.stores p (call_of t u o o') → Storing task.stores p (call_of s u o o')
   storing h = ((λ told. keeps_part task.stores (h.0 (told_on s t looked told))), h.1)

@@ -1,10 +1,5 @@
 -- What is made of a run's samples that were counted, planned and merged.
-use Rattle.std.proofs.Common.{◌≡◌, ℕ, zero, suc, ◌+◌, ◌<◌, ◌==◌, nat_lt, Bool, true, false, cond, if◌then◌else◌, IsTrue, List, [], ◌∷◌, ◌++◌, length, map, count_by, All, Result, Ok, Err, refl, sym, ap, ap₂, subst, ◌∙◌, arith, append-nil, zero-add}
-use Rattle.std.proofs.lemmas.List.{length-map, map-id}
-use Rattle.std.proofs.lemmas.List.Concat.{flat_map-append}
-use Rattle.std.proofs.lemmas.List.FromFn.{map-range_with_len_more}
-use Rattle.std.proofs.lemmas.List.Sums.{sum_by-cons}
-use Rattle.std.specs.List.{flat_map}
+use Rattle.std.proofs.Common.{◌≡◌, ℕ, zero, suc, ◌+◌, ◌<◌, ◌==◌, nat_lt, Bool, true, false, cond, if◌then◌else◌, IsTrue, List, [], ◌∷◌, ◌++◌, length, map, count_by, All, Result, Ok, Err, refl, sym, ap, subst, ◌∙◌, arith}
 use Rattle.prof_bytes.specs.declared.fail.Fail.{Fail}
 use Rattle.prof_bytes.specs.declared.fail.Fail.TheVariants as fails
 use Rattle.prof_bytes.specs.Outcome.{◌>>=◌, FailsBy, Gives}
@@ -32,20 +27,25 @@ use Rattle.tree_types.specs.Naming.{Naming}
 use Rattle.tree_types.specs.Database.{content_of}
 use Rattle.tree_types.specs.OfContent.{content_table}
 use Rattle.tree_types.specs.TopDown.{top_down}
-use Rattle.tree_types.specs.Values.{harts_below}
 use Rattle.prof_db.specs.Spelling.{spelling}
 use Rattle.sample_clock.specs.Samples.{Paths}
 use Rattle.sample_clock.specs.Clock.{Sampling}
 use Rattle.hpc_top.specs.declared.status.InputFault.{InputFault}
 use Rattle.hpc_top.specs.declared.status.InputFault.TheVariants.{TooManyScopes}
+use Rattle.hpc_top.specs.declared.merged.Merged.{Merged}
 use Rattle.hpc_top.specs.declared.status.Made.{Made}
 use Rattle.hpc_top.specs.Made.{view}
-use Rattle.hpc_top.specs.Merged.{IsMadeOf, Makes, Merging, run_plan}
+use Rattle.hpc_top.specs.Merged.{IsMadeOf, Makes, Merging, sample_plan}
 use Rattle.hpc_top.specs.Samples.{sampled, sample_path, few_samples, few_scopes}
+use Rattle.hpc_top.specs.declared.status.Prepared.{Prepared}
 use Rattle.hpc_top.specs.private.Collecting.{AllCounted, raws_to_come}
-use Rattle.hpc_top.specs.private.Merging.{few_planned, profiled}
-use Rattle.hpc_top.specs.Report.{closed, hart_line, hart_lines, report_of, samples_of, total_line}
-use Rattle.hpc_top.specs.Profile.{Product, Profiled, product_from, product_of, profile_of, profiled_of, profiled_run, call_paths_of}
+use Rattle.hpc_top.specs.private.Measuring.{attribution_or}
+use Rattle.hpc_top.specs.private.Steps.{ready}
+use Rattle.hpc_top.specs.private.Merging.{IsMergeOf, Merges, counted_text, few_planned, profiled}
+use Rattle.hpc_top.specs.Report.{closed, hart_lines, run_text, samples_of, total_line}
+use Rattle.hpc_top.specs.Attribution.{Attributed, attributed, attribution_of, call_paths_of}
+use Rattle.hpc_top.specs.Product.{Product}
+use Rattle.hpc_top.specs.Profile.{Profiled, product_from, product_of, profile_of, profiled_of, profiled_run}
 use Rattle.hpc_top.proofs.Lines.{lines_same}
 
 -- ---- where crews merge all
@@ -58,19 +58,21 @@ whole_product merging period (Err (fails.Fault fault)) elf input schedule whole 
     ap (λ (r : Result Profiled InputFault). r >>= λ p. Ok (product_of period p)) refused
 whole_product merging period (Err (fails.Memory memory)) elf input schedule whole refused = tt
 
--- ---- the samples of a run
-
-count-map : {X Y : Type 0} (t : Y → Bool) (f : X → Y) (xs : List X) → count_by t (map f xs) ≡ count_by (λ x. t (f x)) xs
-count-map t f [] = refl
-count-map {X} t f (x ∷ xs) =
-    let new = sum_by-cons (λ y. cond (t y) 1 0) (f x) (map f xs) in
-    let old = sum_by-cons (λ (x : X). cond (t (f x)) 1 0) x xs in
-    let rest = count-map t f xs in
-    omega (arith, new, old, rest)
+-- ---- the lines on a run
 
 -- what the counted paths' law says
 abbrev pub EachCounted : Type 0
 EachCounted = (harts hart : ℕ) (samples : List HartRaw) → hart < harts → samples_of_hart (distinct harts samples) hart ≡ count_by (λ s. s.hart == hart) samples
+
+pub counted_is : EachCounted → (period harts : ℕ) (final : MachineState) (ccts : List (List Counted)) (samples : List HartRaw) → ccts ≡ distinct harts samples → length ccts ≡ harts → samples_in ccts ≡ length samples
+    → counted_text period ccts final ≡ run_text period harts final samples
+counted_is each period harts final ccts samples counts many all =
+    let lines : hart_lines harts final (samples_of_hart ccts) ≡ hart_lines harts final (samples_of samples) =
+    lines_same harts final (samples_of_hart ccts) (samples_of samples) (λ hart own. ap (λ (ts : List (List Counted)). samples_of_hart ts hart) counts ∙ each harts hart samples own) in
+    (λ i. closed final.output ++ total_line (many i) period (all i) ++ hart_lines (many i) final (samples_of_hart ccts))
+    ∙ ap (λ (l : List ℕ). closed final.output ++ total_line harts period (length samples) ++ l) lines
+
+-- ---- what is merged of counted samples
 
 -- what the tree's laws say of alike paths
 abbrev pub ContentsAlike : Type 0
@@ -85,86 +87,137 @@ SamplesHeld = (set : SetValue) (harts : ℕ) (samples : List HartRaw) (call_path
     → set.view.plan ≡ expanded (plan_of (distinct harts samples)) call_path → All (λ s. s.hart < harts) samples
     → Alike (named_paths set) (sampled_paths call_path samples)
 
--- ---- what is made of them
-
 names_all : (crew : Crew) (plan : Chunks) → crew.stripes.view.plan ≡ plan → NamesEach plan crew → NamesAll crew.stripes
 names_all crew plan is each c s chunk stripe = (let one = each s c stripe (subst (λ (p : Chunks). c < length p) is chunk) in omega (arith, one))
 
-module _ (merging : Merging) (period harts : ℕ) (naming : Naming) (expand : Raw → List Scope) (final : MachineState) (ccts : List (List Counted)) (samples : List HartRaw) (counts : ccts ≡ distinct harts samples) where
-  abbrev run : Profiled
-  run = record { harts = harts; naming = naming; expand = expand; samples = samples; final = final }
+-- samples, or too many scopes
+abbrev pub scopes_decide : ℕ → Naming → (Raw → List Scope) → List HartRaw → Bool → Result Attributed InputFault
+scopes_decide harts naming expand samples many =
+    (if many then Err TooManyScopes else Ok samples) >>= λ samples. Ok (record { harts = harts; naming = naming; expand = expand; samples = samples })
 
-  abbrev scopes_decide : Bool → Result Profiled InputFault
-  scopes_decide many = (if many then Err TooManyScopes else Ok samples) >>= λ samples. Ok (record { harts = harts; naming = naming; expand = expand; samples = samples; final = final })
+-- a plan, or too many scopes
+planned : (ccts : List (List Counted)) (many : Bool) (plan : Planned) → (if many then Err TooManyScopes else Ok (plan_of ccts)) ≡ Ok plan → (many ≡ false) × (plan ≡ plan_of ccts)
+planned ccts true plan e = absurd cc
+planned ccts false plan e = (refl, (let same : plan ≡ plan_of ccts = cc in same))
 
-  by_scopes : (many : Bool) → nat_lt most_path_scopes (scopes_in expand ccts) ≡ many → profiled harts naming expand final samples ≡ scopes_decide many
-  by_scopes many is = ap scopes_decide (ap (λ (ts : List (List Counted)). nat_lt most_path_scopes (scopes_in expand ts)) (sym counts) ∙ is)
+unplanned : (ccts : List (List Counted)) (many : Bool) (fault : InputFault) → (if many then Err TooManyScopes else Ok (plan_of ccts)) ≡ Err fault → (many ≡ true) × (fault ≡ TooManyScopes)
+unplanned ccts true fault e = (refl, (let same : fault ≡ TooManyScopes = cc in same))
+unplanned ccts false fault e = absurd cc
 
-  -- a plan, or too many scopes
-  planned : (many : Bool) (plan : Planned) → (if many then Err TooManyScopes else Ok (plan_of ccts)) ≡ Ok plan → (many ≡ false) × (plan ≡ plan_of ccts)
-  planned true plan e = absurd cc
-  planned false plan e = (refl, (let same : plan ≡ plan_of ccts = cc in same))
+-- what is attributed
+pub attributed_as : (harts : ℕ) (naming : Naming) (expand : Raw → List Scope) (samples : List HartRaw) (a : Attributed) → attributed harts naming expand samples ≡ Ok a
+    → a ≡ record { harts = harts; naming = naming; expand = expand; samples = samples }
+attributed_as harts naming expand samples a is = tested (nat_lt most_path_scopes (scopes_in expand (distinct harts samples))) is
+  where
+    tested : (many : Bool) → scopes_decide harts naming expand samples many ≡ Ok a → a ≡ record { harts = harts; naming = naming; expand = expand; samples = samples }
+    tested true e = absurd cc
+    tested false e = (let same : a ≡ record { harts = harts; naming = naming; expand = expand; samples = samples } = cc in same)
 
-  unplanned : (many : Bool) (fault : InputFault) → (if many then Err TooManyScopes else Ok (plan_of ccts)) ≡ Err fault → (many ≡ true) × (fault ≡ TooManyScopes)
-  unplanned true fault e = (refl, (let same : fault ≡ TooManyScopes = cc in same))
-  unplanned false fault e = absurd cc
+module _ (harts : ℕ) (expand : Raw → List Scope) (ccts : List (List Counted)) (samples : List HartRaw) (counts : ccts ≡ distinct harts samples) where
+  by_scopes : (naming : Naming) (many : Bool) → nat_lt most_path_scopes (scopes_in expand ccts) ≡ many → attributed harts naming expand samples ≡ scopes_decide harts naming expand samples many
+  by_scopes naming many is = ap (scopes_decide harts naming expand samples) (ap (λ (ts : List (List Counted)). nat_lt most_path_scopes (scopes_in expand ts)) (sym counts) ∙ is)
 
   pub plan_harts : (plan : Planned) → few_planned expand ccts ≡ Ok plan → plan.harts ≡ length ccts
-  plan_harts plan planned_by = ap (λ (p : Planned). p.harts) (planned (nat_lt most_path_scopes (scopes_in expand ccts)) plan planned_by).1
+  plan_harts plan planned_by = ap (λ (p : Planned). p.harts) (planned ccts (nat_lt most_path_scopes (scopes_in expand ccts)) plan planned_by).1
 
-  pub refused_plan : (fail : Fail InputFault) → FailsBy fail (few_planned expand ccts) → FailsBy fail (profiled harts naming expand final samples)
-  refused_plan (fails.Fault fault) refused =
-      let is = unplanned (nat_lt most_path_scopes (scopes_in expand ccts)) fault refused in
-      by_scopes true is.0 ∙ ap Err (sym is.1)
-  refused_plan (fails.Memory memory) refused = tt
-
-  module _ (each : EachCounted) (all : samples_in ccts ≡ length samples) where
-    text_is : (content : Content) (text : List ℕ) (paths : List HartPath) → content.period ≡ period → content_table content ≡ top_down period harts naming paths
-        → text ≡ closed final.output ++ total_line harts content.period (samples_in ccts) ++ hart_lines harts final (samples_of_hart ccts) ++ content_table content
-        → text ≡ (product_from period run paths).text
-    text_is content text paths same table is =
-        let long : samples_in ccts ≡ length (call_paths_of run) = all ∙ sym (length-map samples (sample_path expand)) in
-        let lines : hart_lines harts final (samples_of_hart ccts) ≡ hart_lines harts final (samples_of (call_paths_of run)) =
-        lines_same harts final (samples_of_hart ccts) (samples_of (call_paths_of run))
-        (λ hart own. ap (λ (ts : List (List Counted)). samples_of_hart ts hart) counts ∙ each harts hart samples own ∙ sym (count-map (λ p. p.hart == hart) (sample_path expand) samples)) in
-        is ∙ (λ i. closed final.output ++ total_line harts (same i) (long i) ++ lines i ++ table i)
-
-    pub made_is : ContentsAlike → TablesAlike → SamplesHeld → All (λ s. s.hart < harts) samples → (plan : Planned) (made : Made) (content : Content)
-        → few_planned expand ccts ≡ Ok plan → merging.gives made.crew → IsOfPlan (expanded plan expand) made.crew → (IsTrue merging.whole → IsWhole (expanded plan expand) merging.workers made.crew)
-        → content ≡ content_of period harts naming (named_paths made.crew.stripes) → content.period ≡ period → content_table content ≡ top_down period harts naming (named_paths made.crew.stripes)
-        → made.database ≡ spelling content
-        → made.report ≡ closed final.output ++ total_line harts content.period (samples_in ccts) ++ hart_lines harts final (samples_of_hart ccts) ++ content_table content
-        → Makes merging period (Ok made) (profiled harts naming expand final samples)
-    made_is contents tables held own plan made content planned_by gives of whole content_is same table database report =
-        let is = planned (nat_lt most_path_scopes (scopes_in expand ccts)) plan planned_by in
-        let named : List HartPath = named_paths made.crew.stripes in
-        let is_plan : expanded plan expand ≡ run_plan run = ap (λ (p : Planned). expanded p expand) is.1 ∙ ap (λ (ts : List (List Counted)). expanded (plan_of ts) expand) counts in
-        let plan_is : made.crew.stripes.view.plan ≡ run_plan run = of.plan ∙ is_plan in
-        let stored : made.database ≡ spelling (content_of period harts naming named) = database ∙ ap spelling content_is in
-        let printed : made.report ≡ (product_from period run named).text = text_is content made.report named same table report in
-        let product : view made ≡ product_from period run named = λ i. record { database = stored i; text = printed i } in (
-          run,
-          by_scopes false is.0,
-          record {
-            gives = gives;
-            plan = subst (λ (chunks : Chunks). IsOfPlan chunks made.crew) is_plan of;
-            product = product;
-            crew = λ all_merged. subst (λ (chunks : Chunks). IsWhole chunks merging.workers made.crew) is_plan (whole all_merged);
-            whole = λ all_merged.
-                let fit : AllFit made.crew.stripes.view.plan made.crew.stripes.stripes = subst (λ (chunks : Chunks). AllFit chunks made.crew.stripes.stripes) (sym of.plan) of.fit in
-                let paths : Alike named (call_paths_of run) = held made.crew.stripes harts samples expand fit (names_all made.crew (expanded plan expand) of.plan (whole all_merged).names) plan_is own in
-                let c = contents period harts naming named (call_paths_of run) paths in
-                let t = tables period harts naming named (call_paths_of run) paths in
-                product ∙ (λ i. record { database = spelling (c i); text = report_of period harts final (call_paths_of run) (t i) });
-          },
-        )
+  pub refused_plan : (naming : Naming) (fail : Fail InputFault) → FailsBy fail (few_planned expand ccts) → FailsBy fail (attributed harts naming expand samples)
+  refused_plan naming (fails.Fault fault) refused =
+      let is = unplanned ccts (nat_lt most_path_scopes (scopes_in expand ccts)) fault refused in
+      by_scopes naming true is.0 ∙ ap Err (sym is.1)
+  refused_plan naming (fails.Memory memory) refused = tt
 
 -- where what expands raw paths is over the same program
-pub refused_of : (merging : Merging) (period harts : ℕ) (final : MachineState) (ccts : List (List Counted)) (samples : List HartRaw) → ccts ≡ distinct harts samples → (expander finder : ProgramScopes) → expander ≡ finder → (fail : Fail InputFault)
-    → FailsBy fail (few_planned (call_path (found_at expander)) ccts) → FailsBy fail (profiled harts (naming_of finder) (call_path (found_at finder)) final samples)
-refused_of merging period harts final ccts samples counts expander finder same fail refused =
-    subst (λ (q : ProgramScopes). FailsBy fail (profiled harts (naming_of q) (call_path (found_at q)) final samples)) same
-    (refused_plan merging period harts (naming_of expander) (call_path (found_at expander)) final ccts samples counts fail refused)
+pub refused_of : (harts : ℕ) (ccts : List (List Counted)) (samples : List HartRaw) → ccts ≡ distinct harts samples → (expander finder : ProgramScopes) → expander ≡ finder → (fail : Fail InputFault)
+    → FailsBy fail (few_planned (call_path (found_at expander)) ccts) → FailsBy fail (attributed harts (naming_of finder) (call_path (found_at finder)) samples)
+refused_of harts ccts samples counts expander finder same fail refused =
+    subst (λ (q : ProgramScopes). FailsBy fail (attributed harts (naming_of q) (call_path (found_at q)) samples)) same
+    (refused_plan harts (call_path (found_at expander)) ccts samples counts (naming_of expander) fail refused)
+
+module _ (by : Merging) (period harts : ℕ) (naming : Naming) (expand : Raw → List Scope) where
+  abbrev whole_of : List HartRaw → Attributed
+  whole_of samples = record { harts = harts; naming = naming; expand = expand; samples = samples }
+
+  pub merge_is : (ccts : List (List Counted)) (samples : List HartRaw) → ccts ≡ distinct harts samples → SamplesHeld → All (λ s. s.hart < harts) samples → (plan : Planned) (m : Merged)
+      → few_planned expand ccts ≡ Ok plan → by.gives m.crew → IsOfPlan (expanded plan expand) m.crew → (IsTrue by.whole → IsWhole (expanded plan expand) by.workers m.crew)
+      → m.content ≡ content_of period harts naming (named_paths m.crew.stripes) → content_table m.content ≡ top_down period harts naming (named_paths m.crew.stripes)
+      → Merges by period (Ok m) (attributed harts naming expand samples)
+  merge_is ccts samples counts held own plan m planned_by gives of whole content_is table =
+      let is = planned ccts (nat_lt most_path_scopes (scopes_in expand ccts)) plan planned_by in
+      let a : Attributed = whole_of samples in
+      let is_plan : expanded plan expand ≡ sample_plan a = ap (λ (p : Planned). expanded p expand) is.1 ∙ ap (λ (ts : List (List Counted)). expanded (plan_of ts) expand) counts in
+      let plan_is : m.crew.stripes.view.plan ≡ sample_plan a = of.plan ∙ is_plan in (
+        a,
+        by_scopes harts expand ccts samples counts naming false is.0,
+        record {
+          gives = gives;
+          plan = subst (λ (chunks : Chunks). IsOfPlan chunks m.crew) is_plan of;
+          content = content_is;
+          table = table;
+          crew = λ all_merged. subst (λ (chunks : Chunks). IsWhole chunks by.workers m.crew) is_plan (whole all_merged);
+          paths = λ all_merged.
+              let fit : AllFit m.crew.stripes.view.plan m.crew.stripes.stripes = subst (λ (chunks : Chunks). AllFit chunks m.crew.stripes.stripes) (sym of.plan) of.fit in
+              held m.crew.stripes harts samples expand fit (names_all m.crew (expanded plan expand) of.plan (whole all_merged).names) plan_is own;
+        },
+      )
+
+  -- ---- what is made of it
+
+  module _ (contents : ContentsAlike) (tables : TablesAlike) where
+    all_content : (a : Attributed) (m : Merged) → IsMergeOf by period a m → IsTrue by.whole → m.content ≡ content_of period a.harts a.naming (call_paths_of a)
+    all_content a m is all_merged = is.content ∙ contents period a.harts a.naming (named_paths m.crew.stripes) (call_paths_of a) (is.paths all_merged)
+
+    all_table : (a : Attributed) (m : Merged) → IsMergeOf by period a m → IsTrue by.whole → content_table m.content ≡ top_down period a.harts a.naming (call_paths_of a)
+    all_table a m is all_merged = is.table ∙ tables period a.harts a.naming (named_paths m.crew.stripes) (call_paths_of a) (is.paths all_merged)
+
+    -- database and table alone
+    pub attribution_is : (samples : List HartRaw) (m : Merged) (made : Prepared) → Merges by period (Ok m) (attributed harts naming expand samples) → IsTrue by.whole → made.stored ≡ spelling m.content → made.text ≡ content_table m.content
+        → attribution_or period (attributed harts naming expand samples) ≡ Ok (ready made)
+    attribution_is samples m made (a, is, merged) all_merged stored text =
+        let s : made.stored ≡ spelling (content_of period a.harts a.naming (call_paths_of a)) = stored ∙ ap spelling (all_content a m merged all_merged) in
+        let t : made.text ≡ top_down period a.harts a.naming (call_paths_of a) = text ∙ all_table a m merged all_merged in
+        let product : attribution_of period a ≡ ready made = (λ i. record { stored = sym s i; text = sym t i }) in
+        ap (λ (r : Result Attributed InputFault). attribution_or period r) is ∙ ap Ok product
+
+    -- and the lines on the run before the table
+    module _ (final : MachineState) (ccts : List (List Counted)) (samples : List HartRaw) (counts : ccts ≡ distinct harts samples) (each : EachCounted) (many : length ccts ≡ harts) (all : samples_in ccts ≡ length samples) where
+      text_is : (a : Attributed) (text table wanted : List ℕ) → a ≡ whole_of samples → text ≡ counted_text period ccts final ++ table → table ≡ wanted → text ≡ run_text period a.harts final a.samples ++ wanted
+      text_is a text table wanted same is table_is =
+          is ∙ ap (λ (l : List ℕ). l ++ table) (counted_is each period harts final ccts samples counts many all)
+          ∙ ap (λ (b : Attributed). run_text period b.harts final b.samples ++ table) (sym same)
+          ∙ ap (λ (l : List ℕ). run_text period a.harts final a.samples ++ l) table_is
+
+      pub made_is : (m : Merged) (made : Made) → Merges by period (Ok m) (attributed harts naming expand samples) → made.database ≡ spelling m.content → made.report ≡ counted_text period ccts final ++ content_table m.content → made.crew ≡ m.crew
+          → Makes by period (Ok made) (profiled harts naming expand final samples)
+      made_is m made (a, is, merged) database report crew =
+          let p : Profiled = record { attributed = a; final = final } in
+          let same = attributed_as harts naming expand samples a is in
+          let named : List HartPath = named_paths made.crew.stripes in
+          let here : IsMergeOf by period a (record { content = m.content; crew = made.crew }) = subst (λ (c : Crew). IsMergeOf by period a (record { content = m.content; crew = c })) (sym crew) merged in
+          let stored : made.database ≡ spelling (content_of period a.harts a.naming named) = database ∙ ap spelling here.content in
+          let printed : made.report ≡ run_text period a.harts final a.samples ++ top_down period a.harts a.naming named = text_is a made.report (content_table m.content) (top_down period a.harts a.naming named) same report here.table in (
+            p,
+            ap (λ (r : Result Attributed InputFault). r >>= λ a. Ok (record { attributed = a; final = final })) is,
+            record {
+              gives = here.gives;
+              plan = here.plan;
+              product = λ i. record { stored = stored i; text = printed i };
+              crew = here.crew;
+              whole = λ all_merged.
+                  let s : made.database ≡ spelling (content_of period a.harts a.naming (call_paths_of a)) = database ∙ ap spelling (all_content a (record { content = m.content; crew = made.crew }) here all_merged) in
+                  let t : made.report ≡ run_text period a.harts final a.samples ++ top_down period a.harts a.naming (call_paths_of a) =
+                  text_is a made.report (content_table m.content) (top_down period a.harts a.naming (call_paths_of a)) same report (all_table a (record { content = m.content; crew = made.crew }) here all_merged) in
+                  λ i. record { stored = s i; text = t i };
+            },
+          )
+
+-- a refusal stays one
+pub refused_profile : (harts : ℕ) (naming : Naming) (expand : Raw → List Scope) (final : MachineState) (samples : List HartRaw) (fail : Fail InputFault) → FailsBy fail (attributed harts naming expand samples) → FailsBy fail (profiled harts naming expand final samples)
+refused_profile harts naming expand final samples (fails.Fault fault) refused = ap (λ (r : Result Attributed InputFault). r >>= λ a. Ok (record { attributed = a; final = final })) refused
+refused_profile harts naming expand final samples (fails.Memory memory) refused = tt
+
+pub refused_attribution : (period : ℕ) (wanted : Result Attributed InputFault) (fail : Fail InputFault) → FailsBy fail wanted → FailsBy fail (attribution_or period wanted)
+refused_attribution period wanted (fails.Fault fault) refused = ap (λ (r : Result Attributed InputFault). attribution_or period r) refused
+refused_attribution period wanted (fails.Memory memory) refused = tt
 
 -- ---- from the counted samples to the run
 

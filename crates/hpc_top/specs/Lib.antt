@@ -2,7 +2,12 @@ pub mod Words
 pub mod Scopes
 pub mod Samples
 pub mod Report
+pub mod Product
+pub mod Program
+pub mod Measure
+pub mod Attribution
 pub mod Profile
+pub mod Listed
 pub mod Task
 pub mod Job
 pub mod Outcome

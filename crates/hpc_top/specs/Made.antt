@@ -1,6 +1,6 @@
 -- What a function over bytes gives, beside the definition's product.
 use Rattle.hpc_top.specs.declared.status.Made.{Made}
-use Rattle.hpc_top.specs.Profile.{Product}
+use Rattle.hpc_top.specs.Product.{Product}
 
 abbrev pub view : Made → Product
-view made = record { database = made.database; text = made.report }
+view made = record { stored = made.database; text = made.report }

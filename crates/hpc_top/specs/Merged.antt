@@ -11,11 +11,16 @@ use Rattle.merge_crew.specs.Merged.{IsOfPlan, IsWhole}
 use Rattle.hpc_top.specs.declared.status.InputFault.{InputFault}
 use Rattle.hpc_top.specs.declared.status.Made.{Made}
 use Rattle.hpc_top.specs.Made.{view}
+use Rattle.hpc_top.specs.Attribution.{Attributed}
 use Rattle.hpc_top.specs.Profile.{Profiled, product_from, product_of}
 
--- the plan of a run: its distinct raw paths in chunks, expanded
+-- the plan of samples: their distinct raw paths in chunks, expanded
+abbrev pub sample_plan : Attributed → Chunks
+sample_plan a = expanded (plan_of (distinct a.harts a.samples)) a.expand
+
+-- the plan of a run is that of its samples
 abbrev pub run_plan : Profiled → Chunks
-run_plan p = expanded (plan_of (distinct p.harts p.samples)) p.expand
+run_plan p = sample_plan p.attributed
 
 -- how a run is merged: which crews may come, whether they merge all, and by how many workers
 pub record Merging : Type 1 where

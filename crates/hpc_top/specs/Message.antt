@@ -10,9 +10,10 @@ use Rattle.prof_devices.specs.Outside.{SinkState, Rose, Appends, AppendsPart}
 use Rattle.hpc_top.specs.declared.status.FileKind.{FileKind}
 use Rattle.hpc_top.specs.declared.status.FileKind.TheVariants as kinds
 use Rattle.hpc_top.specs.declared.status.InputFault.{InputFault}
-use Rattle.hpc_top.specs.declared.status.InputFault.TheVariants.{TooLong, Schedule, Program, Frames}
+use Rattle.hpc_top.specs.declared.status.InputFault.TheVariants.{TooLong, Schedule, Program, Frames, EhFrames}
 use Rattle.hpc_top.specs.declared.status.InputFault.TheVariants.{Entries, Lines, Structure}
 use Rattle.hpc_top.specs.declared.status.InputFault.TheVariants.{TooManySamples, TooManyFrames, TooManyScopes}
+use Rattle.hpc_top.specs.declared.status.InputFault.TheVariants.{Measurement, WrongProgram}
 use Rattle.hpc_top.specs.declared.status.Place.{Place}
 use Rattle.hpc_top.specs.declared.status.Place.TheVariants.{Read, Store, Print}
 use Rattle.hpc_top.specs.declared.status.Status.{Status}
@@ -22,6 +23,7 @@ abbrev pub file_text : FileKind → List ℕ
 file_text kinds.Program = codes "program"
 file_text kinds.Input = codes "input"
 file_text kinds.Schedule = codes "schedule"
+file_text kinds.Measurement = codes "measurement"
 
 abbrev pub rule_text : ElfRule → List ℕ
 rule_text rules.NotElf = codes "NotElf"
@@ -58,6 +60,7 @@ fault_text (TooLong file limit) = file_text file ++ codes " longer than " ++ dec
 fault_text (Schedule line) = codes "schedule line " ++ decimal line
 fault_text (Program fault) = codes "program " ++ rule_text fault.rule ++ codes " at " ++ decimal fault.offset
 fault_text (Frames offset) = codes "frames at " ++ decimal offset
+fault_text (EhFrames offset) = codes "eh frames at " ++ decimal offset
 fault_text (Entries fault) = codes "entries " ++ info_text fault ++ codes " at " ++ decimal (info_offset fault)
 fault_text (Lines offset) = codes "lines at " ++ decimal offset
 fault_text (Structure fault) =
@@ -65,6 +68,10 @@ fault_text (Structure fault) =
 fault_text TooManySamples = codes "more than 1048576 samples"
 fault_text TooManyFrames = codes "more than 4194304 frames"
 fault_text TooManyScopes = codes "more than 8388608 scopes"
+fault_text (Measurement offset) = codes "measurement at " ++ decimal offset
+fault_text (WrongProgram kept_length kept_entry found_length found_entry) =
+    codes "measurement of another program: kept " ++ decimal kept_length ++ codes " " ++ decimal kept_entry
+    ++ codes " found " ++ decimal found_length ++ codes " " ++ decimal found_entry
 
 abbrev pub place_text : Place → List ℕ
 place_text Read = codes "device read"

@@ -5,7 +5,7 @@ use Rattle.prof_devices.specs.Outside.{ShelfState, SinkState, Rose, Appends, App
 use Rattle.hpc_top.specs.declared.status.Status.{Status}
 use Rattle.hpc_top.specs.declared.status.Status.TheVariants.{Done, Usage, Input, Device, Memory}
 use Rattle.hpc_top.specs.declared.status.Place.TheVariants.{Read, Store, Print}
-use Rattle.hpc_top.specs.Profile.{Product}
+use Rattle.hpc_top.specs.Product.{Product}
 use Rattle.hpc_top.specs.Task.{Task, Wanted, task_of, contents, verdict}
 use Rattle.hpc_top.specs.Words.{Request}
 
@@ -42,18 +42,18 @@ Untouched call = (call.after.shelf.files ≡ call.before.shelf.files) × (call.a
 -- the product's file is partly stored, and the output is as before
 abbrev pub Storing : Option (List ℕ) → Product → Call → Type 0
 Storing name product call =
-    (IsTrue call.before.shelf.known → KeepsPart name call product.database) × (call.after.out ≡ call.before.out)
+    (IsTrue call.before.shelf.known → KeepsPart name call product.stored) × (call.after.out ≡ call.before.out)
 
 -- the file is whole, and a front of the product's text was put
 abbrev pub Printing : Option (List ℕ) → Product → Call → Type 0
 Printing name product call =
-    (IsTrue call.before.shelf.known → Keeps name call product.database)
+    (IsTrue call.before.shelf.known → Keeps name call product.stored)
     × (IsTrue call.before.out.known → AppendsPart call.before.out.taken call.after.out.taken product.text)
 
 -- the file and the text are whole
 abbrev pub Finished : Option (List ℕ) → Product → Call → Type 0
 Finished name product call =
-    (IsTrue call.before.shelf.known → Keeps name call product.database)
+    (IsTrue call.before.shelf.known → Keeps name call product.stored)
     × (IsTrue call.before.out.known → Appends call.before.out.taken call.after.out.taken product.text)
 
 -- this stands of some product. Where the shelf shows its files, they are accepted, and it is the definition's

@@ -1,8 +1,8 @@
--- The report of a run as text.
+-- A run as text, which stands before its table.
 use Rattle.std.specs.Prelude.{ℕ, ◌-◌, ◌*◌, ◌==◌, ◌||◌, if◌then◌else◌}
 use Rattle.std.specs.Prelude.{List, [], ◌∷◌, ◌++◌, length, slice_index, count_by, codes, decimal}
 use Rattle.std.specs.List.{flat_map}
-use Rattle.scope_types.specs.CallPaths.{HartPath}
+use Rattle.scope_types.specs.Distinct.{HartRaw}
 use Rattle.tree_types.specs.TopDown.{address_text}
 use Rattle.tree_types.specs.Values.{harts_below}
 use Rattle.rv_hart.specs.declared.outcome.Cause.{Cause}
@@ -36,9 +36,9 @@ total_line harts period samples =
     codes "harts " ++ decimal harts ++ codes " period " ++ decimal period
     ++ codes " samples " ++ decimal samples ++ codes " total " ++ decimal (period * samples) ++ codes "\n"
 
--- how many of the paths are a hart's
-abbrev pub samples_of : List HartPath → ℕ → ℕ
-samples_of paths hart = count_by (λ p. p.hart == hart) paths
+-- how many of the samples are a hart's
+abbrev pub samples_of : List HartRaw → ℕ → ℕ
+samples_of samples hart = count_by (λ s. s.hart == hart) samples
 
 -- what a hart did: the instructions that it retired, its samples, and how it stands at the end
 abbrev pub hart_line : MachineState → ℕ → ℕ → List ℕ
@@ -51,7 +51,7 @@ hart_line final samples hart =
 abbrev pub hart_lines : ℕ → MachineState → (ℕ → ℕ) → List ℕ
 hart_lines harts final samples = flat_map (λ hart. hart_line final (samples hart) hart) (harts_below harts)
 
--- the guest's output, the totals, a line for each hart, and the top-down table
-abbrev pub report_of : ℕ → ℕ → MachineState → List HartPath → List ℕ → List ℕ
-report_of period harts final paths table =
-    closed final.output ++ total_line harts period (length paths) ++ hart_lines harts final (samples_of paths) ++ table
+-- the guest's output, the totals, and a line for each hart
+abbrev pub run_text : ℕ → ℕ → MachineState → List HartRaw → List ℕ
+run_text period harts final samples =
+    closed final.output ++ total_line harts period (length samples) ++ hart_lines harts final (samples_of samples)

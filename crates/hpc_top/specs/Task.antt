@@ -1,13 +1,17 @@
 -- A command as data: the files that it fetches, the file that it stores, and what it makes of their contents.
-use Rattle.std.specs.Prelude.{ℕ, List, [], ◌∷◌, length, Option, Some, Result, Ok, Err, if◌then◌else◌, nat_lt}
+use Rattle.std.specs.Prelude.{ℕ, List, [], ◌∷◌, length, Option, Some, None, Result, Ok, Err, if◌then◌else◌, nat_lt}
 use Rattle.prof_bytes.specs.Outcome.{◌>>=◌}
 use Rattle.prof_devices.specs.Files.{Files, bytes_of}
 use Rattle.hpc_top.specs.declared.status.FileKind.{FileKind}
 use Rattle.hpc_top.specs.declared.status.FileKind.TheVariants as kinds
 use Rattle.hpc_top.specs.declared.status.InputFault.{InputFault}
 use Rattle.hpc_top.specs.declared.status.InputFault.TheVariants.{TooLong}
-use Rattle.hpc_top.specs.Words.{ProfileWords, Request, Profile}
-use Rattle.hpc_top.specs.Profile.{Product, profile_of}
+use Rattle.hpc_top.specs.Words.{ProfileWords, RunWords, ProfWords, Request, Profile, Run, Prof, Struct}
+use Rattle.hpc_top.specs.Product.{Product, no_product}
+use Rattle.hpc_top.specs.Profile.{profile_of}
+use Rattle.hpc_top.specs.Measure.{run_product}
+use Rattle.hpc_top.specs.Attribution.{prof_product}
+use Rattle.hpc_top.specs.Listed.{struct_product}
 
 -- a file to be fetched, and the most bytes that it may have
 pub record Wanted : Type 0 where
@@ -39,6 +43,8 @@ verdict task files = do
   texts ← contents files task.wants
   task.makes texts
 
+-- ---- the files
+
 abbrev pub program_limit : ℕ
 program_limit = 67108864
 
@@ -48,17 +54,56 @@ input_limit = 1048576
 abbrev pub schedule_limit : ℕ
 schedule_limit = 4194304
 
-abbrev pub profile_files : ProfileWords → List Wanted
-profile_files words =
-    record { file = kinds.Program; name = words.elf; limit = program_limit }
-    ∷ record { file = kinds.Input; name = words.input; limit = input_limit }
-    ∷ record { file = kinds.Schedule; name = words.schedule; limit = schedule_limit } ∷ []
+abbrev pub measurement_limit : ℕ
+measurement_limit = 33554432
 
--- the contents come in the order in which they are wanted, and in no other number
+abbrev pub program_file : List ℕ → Wanted
+program_file name = record { file = kinds.Program; name = name; limit = program_limit }
+
+abbrev pub input_file : List ℕ → Wanted
+input_file name = record { file = kinds.Input; name = name; limit = input_limit }
+
+abbrev pub schedule_file : List ℕ → Wanted
+schedule_file name = record { file = kinds.Schedule; name = name; limit = schedule_limit }
+
+abbrev pub measurement_file : List ℕ → Wanted
+measurement_file name = record { file = kinds.Measurement; name = name; limit = measurement_limit }
+
+abbrev pub profile_files : ProfileWords → List Wanted
+profile_files words = program_file words.elf ∷ input_file words.input ∷ schedule_file words.schedule ∷ []
+
+abbrev pub run_files : RunWords → List Wanted
+run_files words = program_file words.elf ∷ input_file words.input ∷ schedule_file words.schedule ∷ []
+
+abbrev pub prof_files : ProfWords → List Wanted
+prof_files words = program_file words.elf ∷ measurement_file words.measurement ∷ []
+
+abbrev pub struct_files : List ℕ → List Wanted
+struct_files elf = program_file elf ∷ []
+
+-- ---- what is made of them: their contents come in the order in which they are wanted, and in no other number
+
 abbrev pub profile_makes : ℕ → List (List ℕ) → Result Product InputFault
 profile_makes period (elf ∷ input ∷ schedule ∷ []) = profile_of elf input schedule period
-profile_makes period texts = Ok (record { database = []; text = [] })
+profile_makes period texts = Ok no_product
+
+abbrev pub run_makes : ℕ → List (List ℕ) → Result Product InputFault
+run_makes period (elf ∷ input ∷ schedule ∷ []) = run_product elf input schedule period
+run_makes period texts = Ok no_product
+
+abbrev pub prof_makes : List (List ℕ) → Result Product InputFault
+prof_makes (elf ∷ measurement ∷ []) = prof_product elf measurement
+prof_makes texts = Ok no_product
+
+abbrev pub struct_makes : List (List ℕ) → Result Product InputFault
+struct_makes (elf ∷ []) = struct_product elf
+struct_makes texts = Ok no_product
 
 abbrev pub task_of : Request → Task
 task_of (Profile words) =
     record { wants = profile_files words; stores = Some words.database; makes = profile_makes words.period }
+task_of (Run words) =
+    record { wants = run_files words; stores = Some words.measurement; makes = run_makes words.period }
+task_of (Prof words) =
+    record { wants = prof_files words; stores = Some words.database; makes = prof_makes }
+task_of (Struct elf) = record { wants = struct_files elf; stores = None; makes = struct_makes }

@@ -14,9 +14,27 @@ pub record ProfileWords : Type 0 where
   pub workers : ℕ
   pub database : List ℕ
 
--- a command with its words
+-- the words of `run ELF INPUT SCHEDULE PERIOD MEASURE`
+pub record RunWords : Type 0 where
+  pub elf : List ℕ
+  pub input : List ℕ
+  pub schedule : List ℕ
+  pub period : ℕ
+  pub measurement : List ℕ
+
+-- the words of `prof ELF MEASURE WORKERS DB`
+pub record ProfWords : Type 0 where
+  pub elf : List ℕ
+  pub measurement : List ℕ
+  pub workers : ℕ
+  pub database : List ℕ
+
+-- a command with its words; `struct ELF` has the program's name alone
 pub data Request : Type 0 where
   Profile : ProfileWords → Request
+  Run : RunWords → Request
+  Prof : ProfWords → Request
+  Struct : List ℕ → Request
 
 -- a file's name is any word that is not empty
 abbrev pub is_file_name : List ℕ → Bool
@@ -51,10 +69,43 @@ profile_words (elf ∷ input ∷ schedule ∷ period ∷ workers ∷ database �
     else None
 profile_words words = None
 
+abbrev pub run_words : List (List ℕ) → Option RunWords
+run_words (elf ∷ input ∷ schedule ∷ period ∷ measurement ∷ []) =
+    if list_all is_file_name (elf ∷ input ∷ schedule ∷ measurement ∷ [])
+    then option_map
+    (λ period. record {
+      elf = elf;
+      input = input;
+      schedule = schedule;
+      period = period;
+      measurement = measurement;
+    })
+    (decimal_in 1 most_period period)
+    else None
+run_words words = None
+
+abbrev pub prof_words : List (List ℕ) → Option ProfWords
+prof_words (elf ∷ measurement ∷ workers ∷ database ∷ []) =
+    if list_all is_file_name (elf ∷ measurement ∷ database ∷ [])
+    then option_map
+    (λ workers. record { elf = elf; measurement = measurement; workers = workers; database = database })
+    (decimal_in 1 most_workers workers)
+    else None
+prof_words words = None
+
+abbrev pub struct_words : List (List ℕ) → Option (List ℕ)
+struct_words (elf ∷ []) = if is_file_name elf then Some elf else None
+struct_words words = None
+
 abbrev pub is_word : List ℕ → List ℕ → Bool
 is_word word name = pointwise nat_eq word name
 
 -- what the words ask for. `None`: the command line is invalid
 abbrev pub request_of : List (List ℕ) → Option Request
 request_of [] = None
-request_of (word ∷ rest) = if is_word word (codes "profile") then option_map Profile (profile_words rest) else None
+request_of (word ∷ rest) =
+    if is_word word (codes "profile") then option_map Profile (profile_words rest)
+    else if is_word word (codes "run") then option_map Run (run_words rest)
+    else if is_word word (codes "prof") then option_map Prof (prof_words rest)
+    else if is_word word (codes "struct") then option_map Struct (struct_words rest)
+    else None

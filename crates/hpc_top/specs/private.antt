@@ -4,3 +4,4 @@ pub mod Views
 pub mod Steps
 pub mod Collecting
 pub mod Merging
+pub mod Measuring

@@ -1,18 +1,43 @@
 //! The samples of a run, counted hart by hart by their raw paths.
-ghost use Rattle.std.specs.Prelude.{◌≡◌, ◌+◌, ◌<◌, ◌++◌, ◌∷◌, [], All, List, length, OnOk};
+ghost use Rattle.std.specs.Prelude.{◌≡◌, ◌+◌, ◌<◌, ◌++◌, ◌∷◌, [], All, IfOk, List, length, OnOk};
 ghost use Rattle.prof_bytes.specs.Outcome.{Gives};
 ghost use Rattle.rv_run.specs.Progress.{to_come};
+ghost use Rattle.rv_run.specs.State.{first_state};
 ghost use Rattle.scope_types.specs.Distinct.{HartRaw, distinct, samples_in};
 ghost use Rattle.scope_types.specs.Limits.{most_samples};
 ghost use Rattle.hpc_top.specs.Samples.{hart_raw, within_frames};
 ghost use Rattle.hpc_top.specs.private.Collecting.{Collects, Goes};
 
 use crate::status::InputFault;
-use prof_bytes::Fail;
+use elf_image::Image;
+use prof_bytes::{Fail, Memory};
+use rv_run::{Machine, Schedule};
 use sample_clock::{Sample, Samples};
 use scope_types::Unwind;
 use std::alloc::Global;
 use thread_cct::{Ccts, samples_are_counted};
+
+/// The samples of a program's run under a schedule, from its start.
+pub fn samples_of<'a>(
+    alloc: Global,
+    image: &Image<'a>,
+    schedule: Schedule,
+    input: &[u8],
+    period: u32,
+) -> Result<Samples<'a>, Memory>
+    requires { 0 < period }
+    ensures start { IfOk result (λ samples. samples ≡ record {
+      machine = record { state = first_state image.now schedule.harts input.now; left = schedule.slices };
+      period = period;
+      met = 0;
+    }) }
+    ensures harts { IfOk result (λ samples. schedule.harts ≡ length (to_come samples.machine).final.harts) }
+    ensures instants { IfOk result (λ samples.
+        All (λ i. i.moment.hart < schedule.harts) (to_come samples.machine).instants) }
+{
+    let machine = Machine::start(alloc, image, schedule, input)?;
+    Ok(Samples::start(machine, period))
+}
 
 /// Counts a sample by its raw path.
 fn count_sample(ccts: &mut Ccts, sample: &Sample) -> Result<(), Fail<InputFault>>

@@ -6,11 +6,16 @@
 //! and its samples, scopes and the tree.
 #![tactic(auto)]
 
+mod attribution;
 mod call;
 mod collect;
+mod listed;
 mod main_job;
+mod measure;
 mod merged;
 mod message;
+mod prepare;
+mod program;
 mod report;
 mod request;
 mod scopes;

@@ -1,34 +1,40 @@
 //! The main job over bytes: a program, its input and a schedule to a database and a report.
-ghost use Rattle.std.specs.Prelude.{◌≡◌, ◌≤◌, ◌^◌, ◌<◌, All, length, Ok, IfOk, IsTrue};
+ghost use Rattle.std.specs.Prelude.{◌≡◌, ◌≤◌, ◌<◌, All, List, length, Ok, IsTrue};
 ghost use Rattle.prof_bytes.specs.Outcome.{Gives};
+ghost use Rattle.scope_types.specs.Distinct.{HartRaw, distinct, samples_in};
 ghost use Rattle.scope_types.specs.Expansion.{call_path};
 ghost use Rattle.scope_find.specs.Found.{found_at, naming_of};
 ghost use Rattle.rv_run.specs.Run.{run_of};
-ghost use Rattle.rv_run.specs.State.{first_state};
 ghost use Rattle.rv_run.specs.Progress.{to_come};
 ghost use Rattle.cfi_unwind.specs.Path.{path_of as unwound_by};
 ghost use Rattle.hpc_top.specs.Job.{IsJob};
 ghost use Rattle.hpc_top.specs.Made.{view};
 ghost use Rattle.hpc_top.specs.Merged.{Makes};
-ghost use Rattle.hpc_top.specs.Profile.{frame_information, profile_of, profiled_code, profiled_of, profiled_program};
-ghost use Rattle.hpc_top.specs.Profile.{profiled_run, program, scheduled};
-ghost use Rattle.hpc_top.specs.private.Merging.{merging};
+ghost use Rattle.hpc_top.specs.Profile.{profile_of, profiled_code, profiled_of, profiled_program, profiled_run};
+ghost use Rattle.hpc_top.specs.Program.{program, scheduled};
+ghost use Rattle.hpc_top.specs.private.Merging.{merging, profiled};
 
-use crate::merged::{Merge, profile_samples};
+use crate::collect::{collect, samples_of};
+use crate::merged::{Merge, Merged, merge_samples};
+use crate::program::{frames_of, program_of, schedule_of};
+use crate::report::report;
 use crate::scopes::{info_of, lines_of, structure_of};
 use crate::status::{InputFault, Made};
-use cfi_table::{FrameTable, read_frames};
+use cfi_table::FrameTable;
 use cfi_unwind::Unwinder;
 use dwarf_inline::Structure;
 use dwarf_line::LineTable;
-use elf_image::{Image, read_image};
+use elf_image::Image;
 use merge_crew::Crews;
-use prof_bytes::{Fail, Memory};
-use rv_run::{Machine, Schedule, read_schedule};
+use prof_bytes::Fail;
+use prof_db::{profiles_are_writable, write_db};
+use rv_run::{Machine, Schedule};
 use sample_clock::Samples;
 use scope_find::Finder;
 use std::alloc::Global;
 use std::thread::Threads;
+use thread_cct::{Ccts, samples_are_counted};
+use tree_types::counts_decide;
 
 /// A program, its input and schedule, the period in retired instructions, and the number of workers
 /// that merge.
@@ -41,67 +47,63 @@ pub struct Job<'a> {
     pub workers: u32,
 }
 
-/// The schedule, or its first bad line.
-fn schedule_of(alloc: Global, bytes: &[u8]) -> Result<Schedule, Fail<InputFault>>
-    requires { length bytes.now ≤ 2 ^ 22 }
-    ensures { Gives (λ schedule. schedule) result (scheduled bytes.now) }
-{
-    match read_schedule(alloc, bytes) {
-        Ok(schedule) => Ok(schedule),
-        Err(Fail::Fault(fault)) => Err(Fail::Fault(InputFault::Schedule { line: fault.line })),
-        Err(Fail::Memory(memory)) => Err(Fail::Memory(memory)),
-    }
-}
-
-/// The program, or the refusal of its file.
-fn program_of(alloc: Global, elf: &[u8]) -> Result<Image<'_>, Fail<InputFault>>
-    requires { length elf.now ≤ 2 ^ 26 }
-    ensures { Gives (λ image. image) result (program elf.now) }
-{
-    match read_image(alloc, elf) {
-        Ok(image) => Ok(image),
-        Err(Fail::Fault(fault)) => Err(Fail::Fault(InputFault::Program(fault))),
-        Err(Fail::Memory(memory)) => Err(Fail::Memory(memory)),
-    }
-}
-
-/// The call frame information of a program, or its first fault.
-fn frames_of(alloc: Global, image: &Image<'_>) -> Result<FrameTable, Fail<InputFault>>
-    ensures { Gives (λ table. table) result (frame_information image.now) }
-{
-    let bytes = image.section(b".debug_frame");
-    match read_frames(alloc, bytes, image) {
-        Ok(table) => Ok(table),
-        Err(Fail::Fault(fault)) => {
-            let offset = fault.offset;
-            Err(Fail::Fault(InputFault::Frames { offset }))
-        }
-        Err(Fail::Memory(memory)) => Err(Fail::Memory(memory)),
-    }
-}
-
-/// The samples of a program's run under a schedule, from its start.
-fn samples_of<'a>(
+/// What is made of counted samples, and of the machine at the end of its run, unless these have too many scopes.
+fn profile_counted<R: Threads + Sync, C: Crews>(
+    rt: &R,
     alloc: Global,
-    job: &Job<'_>,
-    image: &Image<'a>,
-    schedule: Schedule,
-) -> Result<Samples<'a>, Memory>
-    requires { 0 < job.now.period }
-    ensures start { IfOk result (λ samples. samples ≡ record {
-      machine = record {
-        state = first_state image.now schedule.harts job.now.input.now;
-        left = schedule.slices;
-      };
-      period = job.now.period;
-      met = 0;
-    }) }
-    ensures harts { IfOk result (λ samples. schedule.harts ≡ length (to_come samples.machine).final.harts) }
-    ensures instants { IfOk result (λ samples.
-        All (λ i. i.moment.hart < schedule.harts) (to_come samples.machine).instants) }
+    merge: &Merge<'_, C>,
+    finder: &Finder<'_>,
+    ccts: &Ccts,
+    machine: &Machine<'_>,
+) -> Result<Made, Fail<InputFault>>
+    requires period { 0 < merge.now.period }
+    requires workers { (1 ≤ merge.now.workers) × (merge.now.workers ≤ 16) }
+    requires harts { length ccts.now ≡ length machine.now.state.harts }
+    ensures { (samples : List HartRaw) → ccts.now ≡ distinct (length ccts.now) samples
+        → samples_in ccts.now ≡ length samples → All (λ s. s.hart < length ccts.now) samples
+        → Makes (merging (C.gives merge.now.crews.now) (C.whole merge.now.crews.now) merge.now.workers)
+        merge.now.period result
+        (profiled (length ccts.now) (naming_of finder.now) (call_path (found_at finder.now)) machine.now.state samples) }
 {
-    let machine = Machine::start(alloc, image, schedule, job.input)?;
-    Ok(Samples::start(machine, job.period))
+    counts_decide();
+    samples_are_counted();
+    profiles_are_writable();
+    let merged = merge_samples(rt, alloc, merge, finder, ccts)?;
+    let report = report(alloc, merge.period, &merged.content, ccts, machine)?;
+    let database = write_db(alloc, &merged.content)?;
+    let Merged { crew, .. } = merged;
+    Ok(Made {
+        database,
+        report,
+        crew,
+    })
+}
+
+/// What is made of the samples that are to come, unless there are too many samples, frames or scopes. The machine then
+/// stands at the end of its run.
+fn profile_samples<R: Threads + Sync, C: Crews>(
+    rt: &R,
+    alloc: Global,
+    merge: &Merge<'_, C>,
+    harts: u32,
+    finder: &Finder<'_>,
+    unwinder: &Unwinder<'_>,
+    samples: &mut Samples<'_>,
+) -> Result<Made, Fail<InputFault>>
+    requires some { 0 < merge.now.period }
+    requires workers { (1 ≤ merge.now.workers) × (merge.now.workers ≤ 16) }
+    requires period { merge.now.period ≡ samples.old.period }
+    requires harts { harts ≡ length (to_come samples.old.machine).final.harts }
+    requires instants { All (λ i. i.moment.hart < harts) (to_come samples.old.machine).instants }
+    requires start { samples.old.met ≡ 0 }
+    ensures { Makes (merging (C.gives merge.now.crews.now) (C.whole merge.now.crews.now) merge.now.workers)
+        merge.now.period result
+        (profiled_run (unwound_by unwinder.now) merge.now.period harts (call_path (found_at finder.now))
+        (naming_of finder.now) (to_come samples.old.machine)) }
+{
+    samples_are_counted();
+    let ccts = collect(alloc, harts, samples, unwinder)?;
+    profile_counted(rt, alloc, merge, finder, &ccts, samples.machine())
 }
 
 /// What is made of a program's run under a schedule, unless it has too many samples, frames or scopes.
@@ -122,7 +124,7 @@ fn run_job<R: Threads + Sync, C: Crews>(
         (naming_of finder.now) (run_of image.now schedule job.now.input.now)) }
 {
     let harts = schedule.harts();
-    let mut samples = samples_of(alloc, job, image, schedule)?;
+    let mut samples = samples_of(alloc, image, schedule, job.input, job.period)?;
     let merge = Merge {
         crews,
         workers: job.workers,

@@ -21,6 +21,7 @@ impl fmt::Display for FileKind {
             FileKind::Program => write!(f, "program"),
             FileKind::Input => write!(f, "input"),
             FileKind::Schedule => write!(f, "schedule"),
+            FileKind::Measurement => write!(f, "measurement"),
         }
     }
 }
@@ -95,6 +96,7 @@ impl fmt::Display for InputFault {
                 write!(f, "program {rule} at {offset}")
             }
             InputFault::Frames { offset } => write!(f, "frames at {offset}"),
+            InputFault::EhFrames { offset } => write!(f, "eh frames at {offset}"),
             InputFault::Entries(fault) => {
                 let rule = info_name(*fault);
                 let offset = info_offset(*fault);
@@ -109,6 +111,16 @@ impl fmt::Display for InputFault {
             InputFault::TooManySamples => write!(f, "more than 1048576 samples"),
             InputFault::TooManyFrames => write!(f, "more than 4194304 frames"),
             InputFault::TooManyScopes => write!(f, "more than 8388608 scopes"),
+            InputFault::Measurement { offset } => write!(f, "measurement at {offset}"),
+            InputFault::WrongProgram {
+                kept_length,
+                kept_entry,
+                found_length,
+                found_entry,
+            } => write!(
+                f,
+                "measurement of another program: kept {kept_length} {kept_entry} found {found_length} {found_entry}"
+            ),
         }
     }
 }

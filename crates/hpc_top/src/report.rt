@@ -1,10 +1,11 @@
-//! The report of a run as text.
+//! A run and its profile as text.
 ghost use Rattle.std.specs.Prelude.{◌≡◌, ◌<◌, ◌≤◌, ◌^◌, ◌++◌, ◌*◌, length, codes, decimal, IfOk, OnOk};
 ghost use Rattle.scope_types.specs.Distinct.{samples_in};
 ghost use Rattle.scope_types.specs.Limits.{most_samples};
 ghost use Rattle.thread_cct.specs.Adding.{samples_of_hart};
 ghost use Rattle.tree_types.specs.OfContent.{IsProfile, content_table};
 ghost use Rattle.hpc_top.specs.Report.{cause_text, closed, end_text, hart_line, hart_lines, total_line};
+ghost use Rattle.hpc_top.specs.private.Merging.{counted_text};
 
 use prof_bytes::{Memory, Text};
 use rv_hart::Cause;
@@ -133,25 +134,67 @@ fn all_samples(ccts: &Ccts) -> u64
     samples
 }
 
-/// The report of a profile: the machine at the end of its run, its samples, and the content's table.
+/// The lines on a run: its output, the totals, and a line for each hart.
+fn put_run(out: &mut Vec<u8>, period: u32, ccts: &Ccts, machine: &Machine<'_>) -> Result<(), Memory>
+    requires { length ccts.now ≡ length machine.now.state.harts }
+    ensures { OnOk result (out.new.items
+        ≡ out.old.items ++ counted_text period ccts.now machine.now.state) }
+{
+    put_output(out, machine.output())?;
+    put_total_line(out, ccts.harts(), period, all_samples(ccts))?;
+    put_hart_lines(out, ccts, machine)
+}
+
+/// The report of a run: the machine at its end, and its samples.
+pub fn run_report(
+    alloc: Global,
+    period: u32,
+    ccts: &Ccts,
+    machine: &Machine<'_>,
+) -> Result<Text, Memory>
+    requires { length ccts.now ≡ length machine.now.state.harts }
+    ensures { IfOk result (λ text. text ≡ counted_text period ccts.now machine.now.state) }
+{
+    let mut lines = Vec::new(alloc);
+    put_run(&mut lines, period, ccts, machine)?;
+    Ok(Text::from_vec(lines))
+}
+
+/// The content's table behind what stands there.
+fn put_table(bytes: &mut Vec<u8>, content: &Content) -> Result<(), Memory>
+    requires { IsProfile content.now }
+    ensures { OnOk result (bytes.new.items ≡ bytes.old.items ++ content_table content.now) }
+{
+    // A table may have gigabytes: where there is no room for it, memory runs out here, and not in the middle.
+    bytes.reserve(top_down_length(content) as usize)?;
+    put_top_down(bytes, content)
+}
+
+/// The content's table.
+pub fn table(alloc: Global, content: &Content) -> Result<Text, Memory>
+    requires { IsProfile content.now }
+    ensures { IfOk result (λ text. text ≡ content_table content.now) }
+{
+    let mut bytes = Vec::new(alloc);
+    put_table(&mut bytes, content)?;
+    Ok(Text::from_vec(bytes))
+}
+
+/// The report of a profile: the lines on its run, and the content's table.
 pub fn report(
     alloc: Global,
+    period: u32,
     content: &Content,
     ccts: &Ccts,
     machine: &Machine<'_>,
 ) -> Result<Text, Memory>
     requires profile { IsProfile content.now }
     requires harts { length ccts.now ≡ length machine.now.state.harts }
-    ensures { IfOk result (λ text. text ≡ closed machine.now.state.output
-        ++ total_line (length ccts.now) content.now.period (samples_in ccts.now)
-        ++ hart_lines (length ccts.now) machine.now.state (samples_of_hart ccts.now) ++ content_table content.now) }
+    ensures { IfOk result (λ text.
+        text ≡ counted_text period ccts.now machine.now.state ++ content_table content.now) }
 {
     let mut bytes = Vec::new(alloc);
-    put_output(&mut bytes, machine.output())?;
-    put_total_line(&mut bytes, ccts.harts(), content.period, all_samples(ccts))?;
-    put_hart_lines(&mut bytes, ccts, machine)?;
-    // A table may have gigabytes: where there is no room for it, memory runs out here, and not in the middle.
-    bytes.reserve(top_down_length(content) as usize)?;
-    put_top_down(&mut bytes, content)?;
+    put_run(&mut bytes, period, ccts, machine)?;
+    put_table(&mut bytes, content)?;
     Ok(Text::from_vec(bytes))
 }

@@ -15,8 +15,34 @@ pub struct ProfileWords<'a> {
     pub ghost few_workers: { workers ≤ 16 },
 }
 
+/// The words of `run ELF INPUT SCHEDULE PERIOD MEASURE`.
+#[derive(Clone, Copy)]
+pub struct RunWords<'a> {
+    pub elf: &'a [u8],
+    pub input: &'a [u8],
+    pub schedule: &'a [u8],
+    pub period: u32,
+    pub measurement: &'a [u8],
+    pub ghost some_period: { 0 < period },
+}
+
+/// The words of `prof ELF MEASURE WORKERS DB`.
+#[derive(Clone, Copy)]
+pub struct ProfWords<'a> {
+    pub elf: &'a [u8],
+    pub measurement: &'a [u8],
+    pub workers: u32,
+    pub database: &'a [u8],
+    pub ghost some_workers: { 0 < workers },
+    pub ghost few_workers: { workers ≤ 16 },
+}
+
 /// A command with its words.
 #[derive(Clone, Copy)]
 pub enum Request<'a> {
     Profile(ProfileWords<'a>),
+    Run(RunWords<'a>),
+    Prof(ProfWords<'a>),
+    /// `struct ELF`: the program.
+    Struct(&'a [u8]),
 }

@@ -1,4 +1,6 @@
 ghost use Rattle.std.specs.Prelude.{◌≡◌};
+ghost use Rattle.hpc_top.specs.Made.{view};
+ghost use Rattle.hpc_top.specs.private.Steps.{ready};
 ghost use Rattle.hpc_top.specs.private.Stop.{IsStopOf, answer_of};
 ghost use Rattle.hpc_top.specs.declared.status.Stop.TheVariants as stops;
 
@@ -14,23 +16,37 @@ pub enum FileKind {
     Program,
     Input,
     Schedule,
+    Measurement,
 }
 
 /// What is refused in the files, and where.
 #[derive(Clone, Copy, Debug, PartialEq, Eq)]
 pub enum InputFault {
     /// The file has more bytes than its limit.
-    TooLong { file: FileKind, limit: u64 },
+    TooLong {
+        file: FileKind,
+        limit: u64,
+    },
     /// The first bad line of the schedule, from 1; the number of lines plus 1 where no line has the harts.
-    Schedule { line: u32 },
+    Schedule {
+        line: u32,
+    },
     /// The program's file breaks a rule, at an offset in it.
     Program(ElfFault),
     /// The call frame information breaks a rule, at an offset in `.debug_frame`.
-    Frames { offset: u32 },
+    Frames {
+        offset: u32,
+    },
+    /// The call frame information for exceptions breaks a rule, at an offset in `.eh_frame`.
+    EhFrames {
+        offset: u32,
+    },
     /// The units or the entries break a rule, at an offset in `.debug_info`.
     Entries(InfoFault),
     /// A line table breaks a rule, at an offset in `.debug_line`.
-    Lines { offset: u32 },
+    Lines {
+        offset: u32,
+    },
     /// An entry is nested or linked too deep, at an offset in `.debug_info`.
     Structure(StructureFault),
     /// The run has more than 1,048,576 samples.
@@ -39,6 +55,18 @@ pub enum InputFault {
     TooManyFrames,
     /// The distinct call paths of the samples have more than 8,388,608 scopes together.
     TooManyScopes,
+    /// The measurement breaks a rule, at an offset in its file.
+    Measurement {
+        offset: u64,
+    },
+    /// The measurement is of another program: the length and the entry address that it keeps are not those that were
+    /// found in the program's file.
+    WrongProgram {
+        kept_length: u32,
+        kept_entry: u32,
+        found_length: u32,
+        found_entry: u32,
+    },
 }
 
 /// Which device failed: a read or a store of a file, or the output.
@@ -60,12 +88,34 @@ pub enum Status {
     Memory(Memory),
 }
 
-/// What a command makes: a database, the report on it, and what the crew that merged it has done.
+/// What is made of a run: a database, the report on it, and what the crew that merged it has done.
 #[derive(Drop)]
 pub struct Made {
     pub database: Text,
     pub report: Text,
     pub crew: Crew,
+}
+
+/// What a command has ready: the bytes of the file that it stores, where it stores one, and the text that it puts.
+#[derive(Drop)]
+pub struct Prepared {
+    pub stored: Text,
+    pub text: Text,
+}
+
+/// What was made, ready to be stored and put.
+pub fn made_ready(made: Made) -> Prepared
+    ensures { ready result ≡ view made }
+{
+    let Made {
+        database,
+        report,
+        ..
+    } = made;
+    Prepared {
+        stored: database,
+        text: report,
+    }
 }
 
 /// Why a command stops early.

@@ -1,12 +1,11 @@
 //! The steps of every command: its fetches, and the store and the put at its end.
 ghost use Rattle.std.specs.Prelude.{◌≡◌, ◌++◌, ◌∷◌, [], map, OnOk};
 ghost use Rattle.std.specs.Option.{option_copied};
-ghost use Rattle.hpc_top.specs.Made.{view};
 ghost use Rattle.hpc_top.specs.Outcome.{call_of};
-ghost use Rattle.hpc_top.specs.private.Steps.{Fetches, FetchesAll, PutsText, Delivers};
+ghost use Rattle.hpc_top.specs.private.Steps.{Fetches, FetchesAll, PutsText, Delivers, ready};
 ghost use Rattle.hpc_top.specs.private.Views.{view_want};
 
-use crate::status::{FileKind, InputFault, Made, Place, Stop};
+use crate::status::{FileKind, InputFault, Place, Prepared, Stop};
 use prof_bytes::{Listed, Memory, Text};
 use prof_devices::{Fetch, Put, Shelf, Sink};
 use std::alloc::Global;
@@ -66,21 +65,21 @@ fn put_text<O: Sink>(out: &mut O, text: &Text) -> Result<(), Stop>
     }
 }
 
-/// Stores the database, where the command has a file for it, and then puts the report.
+/// Stores the file, where the command has one, and then puts the text.
 pub fn deliver<F: Shelf, O: Sink>(
     shelf: &mut F,
     out: &mut O,
     name: Option<&[u8]>,
-    made: &Made,
+    made: &Prepared,
 ) -> Result<(), Stop>
-    ensures { Delivers (option_copied name.entry) (view made.now)
+    ensures { Delivers (option_copied name.entry) (ready made.now)
         (call_of (F.shown shelf.old) (F.shown shelf.new) (O.shown out.old) (O.shown out.new)) result }
 {
     let Some(name) = name else {
-        return put_text(out, &made.report);
+        return put_text(out, &made.text);
     };
-    match shelf.store(name, made.database.bytes()) {
-        Put::Done => put_text(out, &made.report),
+    match shelf.store(name, made.stored.bytes()) {
+        Put::Done => put_text(out, &made.text),
         Put::Fault => Err(Stop::Device(Place::Store)),
         Put::Memory(memory) => Err(Stop::Memory(memory)),
     }

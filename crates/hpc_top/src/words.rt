@@ -1,10 +1,11 @@
 //! What the words of a command line ask for.
 ghost use Rattle.std.specs.Prelude.{◌≡◌, ◌∷◌, []};
 ghost use Rattle.std.specs.List.{list_all};
-ghost use Rattle.hpc_top.specs.Words.{is_file_name, profile_words, request_of};
-ghost use Rattle.hpc_top.specs.private.Views.{view_profiles, view_requests};
+ghost use Rattle.std.specs.Option.{option_copied};
+ghost use Rattle.hpc_top.specs.Words.{is_file_name, prof_words, profile_words, request_of, run_words, struct_words};
+ghost use Rattle.hpc_top.specs.private.Views.{view_profiles, view_profs, view_requests, view_runs};
 
-use crate::request::{ProfileWords, Request};
+use crate::request::{ProfWords, ProfileWords, Request, RunWords};
 use prof_bytes::Text;
 use rv_run::decimal;
 
@@ -59,6 +60,80 @@ fn read_profile(words: &[Text]) -> Option<ProfileWords<'_>>
     }
 }
 
+/// The names and the number of a run, each from its word; `None` where one is invalid.
+fn run_named<'a>(
+    elf: &'a Text,
+    input: &'a Text,
+    schedule: &'a Text,
+    period: &Text,
+    measurement: &'a Text,
+) -> Option<RunWords<'a>>
+    ensures { view_runs result
+        ≡ run_words (elf.now ∷ input.now ∷ schedule.now ∷ period.now ∷ measurement.now ∷ []) }
+{
+    if !are_file_names(&[elf, input, schedule, measurement]) {
+        return None;
+    }
+    let period = decimal(period.bytes(), 1, MOST_PERIOD)?;
+    Some(RunWords {
+        elf: elf.bytes(),
+        input: input.bytes(),
+        schedule: schedule.bytes(),
+        period,
+        measurement: measurement.bytes(),
+    })
+}
+
+fn read_run(words: &[Text]) -> Option<RunWords<'_>>
+    ensures { view_runs result ≡ run_words words.now }
+{
+    match words {
+        [elf, input, schedule, period, measurement] => {
+            run_named(elf, input, schedule, period, measurement)
+        }
+        _ => None,
+    }
+}
+
+/// The names and the number of an attribution, each from its word; `None` where one is invalid.
+fn prof_named<'a>(
+    elf: &'a Text,
+    measurement: &'a Text,
+    workers: &Text,
+    database: &'a Text,
+) -> Option<ProfWords<'a>>
+    ensures { view_profs result ≡ prof_words (elf.now ∷ measurement.now ∷ workers.now ∷ database.now ∷ []) }
+{
+    if !are_file_names(&[elf, measurement, database]) {
+        return None;
+    }
+    let workers = decimal(workers.bytes(), 1, MOST_WORKERS)?;
+    Some(ProfWords {
+        elf: elf.bytes(),
+        measurement: measurement.bytes(),
+        workers,
+        database: database.bytes(),
+    })
+}
+
+fn read_prof(words: &[Text]) -> Option<ProfWords<'_>>
+    ensures { view_profs result ≡ prof_words words.now }
+{
+    match words {
+        [elf, measurement, workers, database] => prof_named(elf, measurement, workers, database),
+        _ => None,
+    }
+}
+
+fn read_struct(words: &[Text]) -> Option<&[u8]>
+    ensures { option_copied result ≡ struct_words words.now }
+{
+    match words {
+        [elf] if !elf.bytes().is_empty() => Some(elf.bytes()),
+        _ => None,
+    }
+}
+
 /// What the words ask for; `None` where the command line is invalid.
 pub fn read_words(words: &[Text]) -> Option<Request<'_>>
     ensures { view_requests result ≡ request_of words.now }
@@ -66,6 +141,15 @@ pub fn read_words(words: &[Text]) -> Option<Request<'_>>
     match words {
         [word, rest @ ..] if word.bytes() == b"profile".as_slice() => {
             Some(Request::Profile(read_profile(rest)?))
+        }
+        [word, rest @ ..] if word.bytes() == b"run".as_slice() => {
+            Some(Request::Run(read_run(rest)?))
+        }
+        [word, rest @ ..] if word.bytes() == b"prof".as_slice() => {
+            Some(Request::Prof(read_prof(rest)?))
+        }
+        [word, rest @ ..] if word.bytes() == b"struct".as_slice() => {
+            Some(Request::Struct(read_struct(rest)?))
         }
         _ => None,
     }

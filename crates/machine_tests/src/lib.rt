@@ -1,10 +1,13 @@
-//! Tests of the machine: the instruction table, steps of one hart, its memory, schedules, runs, and samples.
+//! Tests of the machine: the instruction table, steps of one hart, its memory, schedules, runs, and samples; and of
+//! the guests that are made from numbers.
 //!
 //! It has no code of its own: a crate with tests is proved twice, and these prove none of the machine
 //! again. The expected values come from the GNU assembler, from qemu, and from the manual. Below stand
 //! the crates of the machine.
 #![tactic(auto)]
 
+#[cfg(test)]
+mod guest_files;
 #[cfg(test)]
 mod guests;
 #[cfg(test)]

@@ -6,9 +6,9 @@ use mathlib.Core.Logic.{dite}
 use native.Mathlib.Decide.{ℕ_discrete}
 use Rattle.stripe_table.specs.Views.{times, weight}
 use Rattle.stripe_table.proofs.Sums.{times_snoc}
-use Rattle.merge_crew.specs.private.Settling.{MarksNames}
+use Rattle.merge_crew.specs.private.Settling.{MarksChunks}
 
-module _ (n : ℕ) (names : List ℕ) (i d : ℕ) (marks : List Bool) (lt : i < length names) (old : MarksNames n (take i names) marks) where
+module _ (n : ℕ) (names : List ℕ) (i d : ℕ) (marks : List Bool) (lt : i < length names) (old : MarksChunks n (take i names) marks) where
   abbrev name : ℕ
   name = get_or names i d
 
@@ -23,5 +23,5 @@ module _ (n : ℕ) (names : List ℕ) (i d : ℕ) (marks : List Bool) (lt : i < 
       let same : times c (take i names) ≡ times c (take (i + 1) names) = omega arith in
       get_or-set_other marks name c true false ne ∙ (old.exact c h ∙ ap (ltb 0) same))
 
-  pub marked_more : MarksNames n (take (i + 1) names) (set marks (get_or names i d) true)
+  pub marked_more : MarksChunks n (take (i + 1) names) (set marks (get_or names i d) true)
   marked_more = record { count = length-set marks name true ∙ old.count; exact = exact_more }

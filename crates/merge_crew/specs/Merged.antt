@@ -23,7 +23,7 @@ pub record IsWhole (plan : Chunks) (workers : ℕ) (crew : Crew) : Type 0 where
   pub merged : crew.merged ≡ length crew.stripes.view.puts
   pub sum : crew.merged + crew.settled ≡ 16 * length plan
   pub busy : 64 * crew.busy_left ≤ crew.stripes.view.busy
-  pub present : crew.present ≤ crew.stripes.view.met
+  pub present : crew.present ≡ crew.stripes.view.met
   pub settled : crew.settled ≤ crew.busy_left + crew.present
   pub alone : workers ≡ 1 → crew.busy_left ≡ 0
 

@@ -45,7 +45,7 @@ pub fn merge_all<R: Threads + Sync, E: Expand + Sync, G: Gate>(
     ensures sum { IfOk result (λ crew. crew.merged + crew.settled
         ≡ 16 * length (expanded plan.now (E.call_path expand.now))) }
     ensures busy { IfOk result (λ crew. 64 * crew.busy_left ≤ crew.stripes.view.busy) }
-    ensures present { IfOk result (λ crew. crew.present ≤ crew.stripes.view.met) }
+    ensures present { IfOk result (λ crew. crew.present ≡ crew.stripes.view.met) }
     ensures settled { IfOk result (λ crew. crew.settled ≤ crew.busy_left + crew.present) }
     ensures alone { IfOk result (λ crew. workers ≡ 1 → crew.busy_left ≡ 0) }
 {

@@ -5,7 +5,7 @@ ghost use Rattle.stripe_table.specs.Ends.{AllFit, names_of};
 ghost use Rattle.stripe_table.specs.Limits.{IsPieceOf};
 ghost use Rattle.stripe_table.specs.Views.{times};
 ghost use Rattle.thread_cct.specs.Plan.{expanded, piece_of};
-ghost use Rattle.merge_crew.specs.private.Settling.{MarkIsExact, MarksAll, MarksNames, SameNames, mark_at, names_in};
+ghost use Rattle.merge_crew.specs.private.Settling.{MarkIsExact, MarksAll, MarksChunks, SameNames, mark_at, names_in};
 
 use prof_bytes::Memory;
 use scope_types::{Expand, Piece};
@@ -42,7 +42,7 @@ fn mark(marks: &mut Vec<bool>, chunk: u32)
 impl Marks {
     /// Of so many chunks, those among the names.
     fn of(alloc: Global, names: &[u32], chunks: u32) -> Result<Marks, Memory>
-        ensures { IfOk result (MarksNames chunks names.now) }
+        ensures { IfOk result (MarksChunks chunks names.now) }
     {
         let mut marks = vec![in alloc; false; chunks as usize]?;
         for i in 0..names.len() {

@@ -5,7 +5,7 @@ ghost use Rattle.stripe_table.specs.Values.{IsPassOf};
 ghost use Rattle.stripe_table.specs.Views.{owes};
 ghost use Rattle.stripe_table.specs.declared.view.Hold.TheVariants.{Free};
 ghost use Rattle.thread_cct.specs.Plan.{expanded, piece_of};
-ghost use Rattle.merge_crew.specs.private.Offers.{Keeps, OffersOnce, OffersUpTo, OwesOthers};
+ghost use Rattle.merge_crew.specs.private.Offers.{OnlyOffers, OffersOnce, OffersUpTo, OwesOthers};
 ghost use Rattle.merge_crew.specs.private.Counts.{Counts, HasEnded, KeepsDraws, KeepsPasses};
 
 use prof_bytes::Memory;
@@ -43,7 +43,7 @@ fn offer_once(stripes: &Stripes, pass: &mut Pass, piece: &Piece) -> Offered
     requires owed { 0 < owes piece.now.chunk piece.now.stripe pass.old.view }
     requires piece { IsPieceOf stripes.now.plan piece.now }
     ensures of { IsPassOf stripes.now pass.new }
-    ensures keeps { Keeps pass.old.view pass.new.view }
+    ensures keeps { OnlyOffers pass.old.view pass.new.view }
     ensures offers { OffersOnce pass.old.view pass.new.view result }
     ensures owed { OwesOthers piece.now.chunk piece.now.stripe pass.old.view pass.new.view }
 {
@@ -57,7 +57,7 @@ fn offer_up(stripes: &Stripes, pass: &mut Pass, piece: &Piece) -> Offered
     requires owed { 0 < owes piece.now.chunk piece.now.stripe pass.old.view }
     requires piece { IsPieceOf stripes.now.plan piece.now }
     ensures of { IsPassOf stripes.now pass.new }
-    ensures keeps { Keeps pass.old.view pass.new.view }
+    ensures keeps { OnlyOffers pass.old.view pass.new.view }
     ensures offers { OffersUpTo 64 pass.old.view pass.new.view result }
     ensures owed { OwesOthers piece.now.chunk piece.now.stripe pass.old.view pass.new.view }
 {

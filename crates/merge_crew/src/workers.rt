@@ -5,7 +5,7 @@ ghost use Rattle.std.specs.Prelude.{length, slice_index_or};
 ghost use Rattle.stripe_table.specs.Values.{IsPassOf};
 ghost use Rattle.stripe_table.specs.Views.{first_view};
 ghost use Rattle.thread_cct.specs.Plan.{expanded};
-ghost use Rattle.merge_crew.specs.private.Counts.{HasEnded, IsFirst, IsIdle, KeepsPasses};
+ghost use Rattle.merge_crew.specs.private.Counts.{HasEnded, IsFirstWorker, IsIdle, KeepsPasses};
 ghost use Rattle.merge_crew.specs.private.Workers.{LastIsFirst, Made, idle_worker, split_view};
 
 use crate::work::{Worker, work};
@@ -111,7 +111,7 @@ fn work_all<R: Threads + Sync, E: Expand + Sync, G: Gate>(
     requires idle { All (IsIdle stripes.now) all.items }
     requires last { LastIsFirst (length all.items - 1) all.items }
     requires plan { stripes.now.plan ≡ expanded plan.now (E.call_path expand.now) }
-    ensures first { IsFirst stripes.now result.0 }
+    ensures first { IsFirstWorker stripes.now result.0 }
     ensures splits { (result.0.pass.view.splits ≡ length result.1.items) × (result.0.pass.view.joins ≡ 0) }
     ensures others { All (HasEnded stripes.now) result.1.items }
     ensures count { length result.1.items + 1 ≡ length all.items }
@@ -123,10 +123,10 @@ fn work_all<R: Threads + Sync, E: Expand + Sync, G: Gate>(
 
 /// The first worker takes in another.
 fn take_in(stripes: &Stripes, first: &mut Worker, other: Worker)
-    requires first { IsFirst stripes.now first.old }
+    requires first { IsFirstWorker stripes.now first.old }
     requires few { first.old.pass.view.joins < 16 }
     requires other { HasEnded stripes.now other }
-    ensures first { IsFirst stripes.now first.new }
+    ensures first { IsFirstWorker stripes.now first.new }
     ensures splits { first.new.pass.view.splits ≡ first.old.pass.view.splits }
     ensures joins { first.new.pass.view.joins ≡ first.old.pass.view.joins + 1 }
 {
@@ -149,11 +149,11 @@ fn take_in(stripes: &Stripes, first: &mut Worker, other: Worker)
 
 /// The first worker takes in all others.
 fn take_in_all(stripes: &Stripes, first: &mut Worker, mut others: Vec<Worker>)
-    requires first { IsFirst stripes.now first.old }
+    requires first { IsFirstWorker stripes.now first.old }
     requires joins { first.old.pass.view.joins ≡ 0 }
     requires few { length others.items < 16 }
     requires others { All (HasEnded stripes.now) others.items }
-    ensures first { IsFirst stripes.now first.new }
+    ensures first { IsFirstWorker stripes.now first.new }
     ensures splits { first.new.pass.view.splits ≡ first.old.pass.view.splits }
     ensures joins { first.new.pass.view.joins ≡ length others.items }
 {
@@ -177,7 +177,7 @@ pub(crate) fn run<R: Threads + Sync, E: Expand + Sync, G: Gate>(
     requires fresh { first.view ≡ first_view stripes.now.plan }
     requires workers { (1 ≤ workers) × (workers ≤ 16) }
     requires plan { stripes.now.plan ≡ expanded plan.now (E.call_path expand.now) }
-    ensures first { IfOk result (IsFirst stripes.now) }
+    ensures first { IfOk result (IsFirstWorker stripes.now) }
     ensures splits { IfOk result (λ w. w.pass.view.splits + 1 ≡ workers) }
     ensures joins { IfOk result (λ w. w.pass.view.joins ≡ w.pass.view.splits) }
 {

@@ -1,3 +1,4 @@
 pub mod Again
 pub mod Spans
 pub mod Appending
+pub mod Groups

@@ -1,6 +1,6 @@
 //! LEB128 numbers at the front of bytes, by DWARF 5, section 7.6.
 ghost use Rattle.std.specs.Prelude.{◌≡◌, ◌<◌, ◌≤◌, ◌-◌, ◌^◌, ◌-ℤ◌, pos, IfSome, Some, None, if◌then◌else◌, nat_le};
-ghost use Rattle.std.specs.Prelude.{length, position};
+ghost use Rattle.std.specs.Prelude.{length, position, take};
 ghost use Rattle.std.specs.Option.{option_copied};
 ghost use Rattle.prof_bytes.specs.Leb.{is_last, leb_group, seven_bits, unsigned_of, signed_of, uleb_at, sleb_at, span};
 
@@ -14,6 +14,17 @@ fn last_place(bytes: &[u8]) -> Option<usize>
     bytes.iter().position(|byte| *byte < 128)
 }
 
+/// As many of the first bytes as a number may have.
+fn front(bytes: &[u8]) -> &[u8]
+    ensures { result.now ≡ take 10 bytes.now }
+{
+    if bytes.len() > MOST_BYTES {
+        return &bytes[..MOST_BYTES];
+    }
+    bytes
+}
+
+/// The bytes of the number at the front, up to its last one; `None` where that is not among the bytes.
 fn group_front(bytes: &[u8]) -> Option<&[u8]>
     ensures { option_copied result ≡ leb_group bytes.now }
 {
@@ -48,10 +59,22 @@ fn unsigned(group: &[u8]) -> Option<(u64, usize)>
     Some((value as u64, group.len()))
 }
 
+#[tactic(auto, using(crate::proofs::Groups::unsigned_in_ten))]
+fn any_uleb_front(bytes: &[u8]) -> Option<(u64, usize)>
+    ensures { result ≡ uleb_at bytes.now }
+{
+    unsigned(group_front(front(bytes))?)
+}
+
+/// The unsigned number at the front. Looks at ten bytes at most; one of a single byte, as most are, is read at once.
+#[tactic(auto, using(crate::proofs::Groups::one_byte))]
 pub(crate) fn uleb_front(bytes: &[u8]) -> Option<(u64, usize)>
     ensures { result ≡ uleb_at bytes.now }
 {
-    unsigned(group_front(bytes)?)
+    match bytes {
+        [byte, ..] if *byte < 128 => Some((u64::from(*byte), 1)),
+        _ => any_uleb_front(bytes),
+    }
 }
 
 /// One more than the largest number that the bytes of the group hold.
@@ -92,8 +115,10 @@ fn signed(group: &[u8]) -> Option<(i64, usize)>
     Some((value as i64, group.len()))
 }
 
+/// The signed number at the front. Looks at ten bytes at most.
+#[tactic(auto, using(crate::proofs::Groups::signed_in_ten))]
 pub(crate) fn sleb_front(bytes: &[u8]) -> Option<(i64, usize)>
     ensures { result ≡ sleb_at bytes.now }
 {
-    signed(group_front(bytes)?)
+    signed(group_front(front(bytes))?)
 }

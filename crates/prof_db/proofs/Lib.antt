@@ -2,3 +2,11 @@ pub mod Writing
 pub mod Profiles
 pub mod FourSamples
 pub mod TwentySamples
+pub mod Repeated
+pub mod FieldSteps
+pub mod Marking
+pub mod Preorder
+pub mod Exclusive
+pub mod Contents
+pub mod Broken
+pub mod LineUp

@@ -1,2 +1,10 @@
 pub mod Spelling
 pub mod Writable
+pub mod Fields
+pub mod Layout
+pub mod Broken
+pub mod NameRules
+pub mod NodeRules
+pub mod ValueRules
+pub mod Rules
+pub mod private

@@ -1,11 +1,25 @@
 //! The database file: a content as bytes, by this project's format of version 1.
 //!
-//! It promises that what is written is byte for byte the content's spelling. Below stand `tree_types`,
-//! `scope_types` and `prof_bytes`.
+//! It promises that what is written is byte for byte the content's spelling, and that what is read is just what the
+//! bytes say, or the first of the format's seven rules that they break, with its offset. Below stand `sparse_planes` and
+//! `metric_sums`, which make the planes that the bytes are compared with, `tree_types`, `scope_types` and `prof_bytes`.
 #![tactic(auto)]
 
+mod entry_rules;
+mod fault;
+mod fields;
+mod items;
 mod laws;
+mod layout;
+mod marks;
+mod name_rules;
+mod node_rules;
+mod plane_fields;
+mod raw;
+mod read;
 mod write;
 
+pub use fault::DbFault;
 pub use laws::profiles_are_writable;
+pub use read::read_db;
 pub use write::write_db;

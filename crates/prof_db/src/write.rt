@@ -186,7 +186,7 @@ fn put_nodes(out: &mut Vec<u8>, names: &Names, nodes: &[Node]) -> Result<(), Mem
     Ok(())
 }
 
-fn kind_word(kind: Kind) -> u32
+pub(crate) fn kind_word(kind: Kind) -> u32
     ensures { result ≡ kind_number kind }
 {
     match kind {

@@ -4,17 +4,22 @@ ghost use Rattle.prof_devices.specs.Edge.{FolderFetches, FolderStores};
 ghost use Rattle.prof_devices.specs.private.Parts.{IsAtMost};
 ghost use Rattle.prof_devices.specs.InMemory.{failed_at, no_failures};
 
-use crate::read::{ReadSource, fetch_from};
+use crate::read::{ReadSource, Stop, fetch_from};
 use crate::shelf::{Fetch, Put, Shelf};
+use crate::store::store_file;
 use prof_bytes::Text;
-use std::io::ErrorKind;
+use std::fs;
 use std::marker::Model;
 use std::rt::Files;
-use std::{fs, io};
 
 /// The files of the current folder, and of every other folder that a name leads to. A name is UTF-8 text.
 /// Its content is not known. A file that can't be opened is a fault, and so is a name that isn't UTF-8 text; a
 /// fetch reads at most `limit + 1` bytes.
+///
+/// A store to a regular file, or to a name that no file has, is whole or not at all: a new file is written in the same
+/// folder, brought to the disk, and renamed. After a failure what stood stands, and nothing is left beside it; a process
+/// that is killed may leave a file `.hpc-store-NUMBER` there. A device, a pipe, and what a symbolic link leads to is
+/// written as it is, and may hold a front of the bytes after a failure.
 #[derive(Drop)]
 pub struct FolderShelf<'a, R> {
     rt: &'a R,
@@ -85,10 +90,15 @@ impl<'a, R: Files + AllocGlobal> FolderShelf<'a, R> {
         }
     }
 
-    fn write(&self, name: &[u8], bytes: &[u8]) -> io::Result<()> {
-        match str::from_utf8(name) {
-            Ok(name) => fs::write(self.rt, name, bytes),
-            Err(_) => Err(io::Error::from(ErrorKind::InvalidInput)),
+    /// What a store answers, where a fault isn't counted yet.
+    fn write(&self, name: &[u8], bytes: &[u8]) -> Put {
+        let Ok(name) = str::from_utf8(name) else {
+            return Put::Fault;
+        };
+        match store_file(self.rt, self.rt.alloc(), name, bytes) {
+            Ok(()) => Put::Done,
+            Err(Stop::Memory(memory)) => Put::Memory(memory),
+            Err(Stop::Failed) => Put::Fault,
         }
     }
 }
@@ -122,11 +132,11 @@ impl<'a, R: Files + AllocGlobal> Shelf for FolderShelf<'a, R> {
             Err(memory) => return Put::Memory(memory),
         };
         match self.write(name, bytes) {
-            Ok(()) => Put::Done,
-            Err(_) => {
+            Put::Fault => {
                 self.fail_store(owned);
                 Put::Fault
             }
+            answer => answer,
         }
     }
 }

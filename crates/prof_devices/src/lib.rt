@@ -16,6 +16,7 @@ mod named_files;
 mod read;
 mod shelf;
 mod sink;
+mod store;
 mod streams;
 mod sure;
 

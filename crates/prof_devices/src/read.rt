@@ -67,11 +67,18 @@ impl<R: Read> Source for ReadSource<R> {
     }
 }
 
-/// Why a source gave no more bytes.
+/// Why a call stopped before its end.
 #[derive(Drop)]
-enum Stop {
+pub(crate) enum Stop {
+    /// The device failed.
     Failed,
     Memory(Memory),
+}
+
+impl From<Memory> for Stop {
+    fn from(memory: Memory) -> Stop {
+        Stop::Memory(memory)
+    }
 }
 
 /// Reads on, at most `most` bytes. False where the source is at its end.

@@ -26,6 +26,21 @@ pub(crate) const RECURSION: &[u8] = b"\
 \0\0\0\0\0\0\0\0\0\0\xe0\0\0\0\x0a\0\0\0\0\0\0\0\0\0\0\0\0\0\0\0\0\0\0\0\x1e\0\0\0\x03\0\0\0\
 \0\0\0\0\0\0\0\0\xea\0\0\0(\0\0\0\0\0\0\0\0\0\0\0\0\0\0\0\0\0\0\0";
 
+/// The same with `.eh_frame`, at 132, in place of `.debug_frame`.
+pub(crate) const RECURSION_WITH_EH_FRAME: &[u8] = b"\
+\x7fELF\x01\x01\x01\0\0\0\0\0\0\0\0\0\x02\0\xf3\0\x01\0\0\0\0\0\x01\04\0\0\0\x17\x01\0\0\0\0\
+\0\04\0 \0\x01\0(\0\x05\0\x04\0\x01\0\0\0T\0\0\0\0\0\x01\0\0\0\x01\00\0\0\00\0\0\0\x05\0\0\0\
+\x04\0\0\0\x13\x05P\0\xef\0\xc0\0\x93\x08\xd0\x05s\0\0\0\x13\x01\x01\xff#&\x11\0c\x06\x05\0\
+\x13\x05\xf5\xff\xef\xf0\x1f\xff\x83 \xc1\0\x13\x01\x01\x01g\x80\0\0\x10\0\0\0\0\0\0\0\x01zR\
+\0\x01|\x01\x01\x1b\x0c\x02\0\x18\0\0\0\x18\0\0\0\xf4\xff\0\0 \0\0\0\0D\x0e\x10D\x81\x01P\
+\xc1D\x0e\0\0\0\0\0\0\0\0\0\0\0\0\0\0\0\0\0\0\0\0\0\x01\0\0\0\0\0\x01\0\x10\0\0\0\x12\0\xf1\
+\xff\x08\0\0\0\x10\0\x01\0 \0\0\0\x12\0\xf1\xff\0_start\0f\0\0.eh_frame\0.symtab\0.strtab\0.\
+shstrtab\0\0\0\0\0\0\0\0\0\0\0\0\0\0\0\0\0\0\0\0\0\0\0\0\0\0\0\0\0\0\0\0\0\0\0\0\0\0\0\0\0\
+\x01\0\0\0\x01\0\0\0\0\0\0\0\0\0\0\0\x84\0\0\04\0\0\0\0\0\0\0\0\0\0\0\0\0\0\0\0\0\0\0\x0b\0\
+\0\0\x02\0\0\0\0\0\0\0\0\0\0\0\xb8\0\0\00\0\0\0\x03\0\0\0\x01\0\0\0\0\0\0\0\x10\0\0\0\x13\0\
+\0\0\x03\0\0\0\0\0\0\0\0\0\0\0\xe8\0\0\0\x0a\0\0\0\0\0\0\0\0\0\0\0\0\0\0\0\0\0\0\0\x1b\0\0\0\
+\x03\0\0\0\0\0\0\0\0\0\0\0\xf2\0\0\0%\0\0\0\0\0\0\0\0\0\0\0\0\0\0\0\0\0\0\0";
+
 /// `_start` calls `g`, which calls `h` at its end, so that the return address is where `h` begins.
 const LAST_CALL: &[u8] = b"\
 \x7fELF\x01\x01\x01\0\0\0\0\0\0\0\0\0\x02\0\xf3\0\x01\0\0\0\0\0\x01\04\0\0\0 \x01\0\0\0\0\0\
@@ -115,7 +130,7 @@ const UNWOUND: Unwound = Unwound {
 /// In the CIE, `DW_CFA_def_cfa_register` x2 and `DW_CFA_nop` in place of `DW_CFA_def_cfa` x2, 0.
 const REGISTER_ALONE: &[(usize, u8)] = &[(145, 0x0d)];
 
-static ALL_UNWOUND: [Unwound; 5] = [
+static ALL_UNWOUND: [Unwound; 7] = [
     UNWOUND,
     Unwound {
         name: "a sample before x2 moves, and one right after",
@@ -132,6 +147,19 @@ static ALL_UNWOUND: [Unwound; 5] = [
     Unwound {
         name: "the CFA's register alone, before x2 moves and right after",
         changes: REGISTER_ALONE,
+        schedule: b"harts 1\n0 4\n",
+        period: 1,
+        report: MOVED_FRAME,
+        ..UNWOUND
+    },
+    Unwound {
+        name: "`.eh_frame`, and a recursion",
+        file: RECURSION_WITH_EH_FRAME,
+        ..UNWOUND
+    },
+    Unwound {
+        name: "`.eh_frame`, before x2 moves and right after",
+        file: RECURSION_WITH_EH_FRAME,
         schedule: b"harts 1\n0 4\n",
         period: 1,
         report: MOVED_FRAME,

@@ -24,6 +24,8 @@ mod edges;
 #[cfg(test)]
 mod failures;
 #[cfg(test)]
+mod measurements;
+#[cfg(test)]
 mod programs;
 #[cfg(test)]
 mod refusals;
@@ -31,3 +33,5 @@ mod refusals;
 mod reports;
 #[cfg(test)]
 mod scopes;
+#[cfg(test)]
+mod structures;

@@ -1,5 +1,5 @@
 //! What is refused in the words and in the files, by its place, with the line on standard error.
-use crate::call_paths::{RECURSION, changed};
+use crate::call_paths::{RECURSION, RECURSION_WITH_EH_FRAME, changed};
 use crate::debug_programs::{WITH_ENTRIES, WITH_INLINES};
 use crate::programs::{ADDING, answer, files, program};
 use dwarf_info::InfoFault;
@@ -42,7 +42,7 @@ const USAGE: &str = "\
 usage: hpc profile ELF INPUT SCHEDULE PERIOD WORKERS DB | run ELF INPUT SCHEDULE PERIOD MEASURE \
 | prof ELF MEASURE WORKERS DB | struct ELF | view DB top|callers|flat | drill NUMBER WORKERS\n";
 
-static REFUSALS: [Case; 25] = [
+static REFUSALS: [Case; 32] = [
     Case {
         name: "no words",
         words: "",
@@ -52,6 +52,36 @@ static REFUSALS: [Case; 25] = [
     Case {
         name: "a view that is none",
         words: "view d sideways",
+        ..CASE
+    },
+    Case {
+        name: "a run without a file for the measurement",
+        words: "run p i s 5",
+        ..CASE
+    },
+    Case {
+        name: "a run with a period of 0",
+        words: "run p i s 0 m",
+        ..CASE
+    },
+    Case {
+        name: "an attribution by no worker",
+        words: "prof p m 0 d",
+        ..CASE
+    },
+    Case {
+        name: "an attribution by seventeen workers",
+        words: "prof p m 17 d",
+        ..CASE
+    },
+    Case {
+        name: "a structure of no program",
+        words: "struct",
+        ..CASE
+    },
+    Case {
+        name: "a drill of a number with a zero in front",
+        words: "drill 01 1",
         ..CASE
     },
     Case {
@@ -215,6 +245,15 @@ static REFUSALS: [Case; 25] = [
         changes: &[(216, 0x2f)],
         status: Status::Input(InputFault::Structure(StructureFault::LinkCycle { offset: 47 })),
         line: "hpc: structure LinkCycle at 47\n",
+        ..CASE
+    },
+    Case {
+        name: "an unknown instruction of `.eh_frame`",
+        file: RECURSION_WITH_EH_FRAME,
+        cut: 479,
+        changes: &[(152, 0x7f)],
+        status: Status::Input(InputFault::EhFrames { offset: 20 }),
+        line: "hpc: eh frames at 20\n",
         ..CASE
     },
     Case {

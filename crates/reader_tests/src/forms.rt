@@ -316,7 +316,7 @@ fn declarations_of_a_program(rt: HostRuntime) -> Result<(), Fail> {
 }
 
 /// Tables, an offset in them, and the tag that code 1 has there; `None` where the table is not whole.
-static TABLES: [(&[u8], u32, Option<u64>); 9] = [
+static TABLES: [(&[u8], u32, Option<u64>); 11] = [
     (
         &[1, 0x11, 0, 0x10, 0x17, 0, 0, 0],
         0,
@@ -330,6 +330,12 @@ static TABLES: [(&[u8], u32, Option<u64>); 9] = [
         0,
         Some(DW_TAG_compile_unit),
     ),
+    (
+        &[2, 0x2e, 0, 0, 0, 1, 0x11, 0, 0, 0, 1, 0x2e, 0, 0, 0, 0],
+        0,
+        Some(DW_TAG_compile_unit),
+    ),
+    (&[2, 0x2e, 0, 0, 0, 3, 0x11, 0, 0, 0, 0], 0, None),
     (&[9, 9, 1, 0x11, 7, 0, 0, 0], 2, Some(DW_TAG_compile_unit)),
     (&[1, 0x11, 0, 3, 0x21, 0x80, 0, 0, 0], 0, None),
     (

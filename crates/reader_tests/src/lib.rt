@@ -20,6 +20,8 @@ mod frames;
 #[cfg(test)]
 mod lines;
 #[cfg(test)]
+mod listing;
+#[cfg(test)]
 mod ranges;
 #[cfg(test)]
 mod rows;

@@ -13,7 +13,7 @@ use Rattle.tree_types.specs.Database.{names_used}
 use Rattle.tree_types.specs.Nodes.{nodes, no_parent, own_scope}
 use Rattle.tree_types.specs.Paths.{Path}
 use Rattle.tree_types.specs.PathsOf.{path_below, tree_paths}
-use Rattle.scope_expand.specs.TreeNames.{named_proc, named_file, node_procs, node_files, names_of}
+use Rattle.scope_expand.specs.TreeNames.{named_proc, named_file, node_procs, node_files, node_names}
 
 own_last : (f : Path) (s : Scope) → own_scope (f ++ s ∷ []) ≡ s
 own_last [] s = refl
@@ -49,7 +49,7 @@ module _ {A : Type 0} (of : Scope → List A) where
 
 -- the names of nodes whose paths are those of call paths
 names_of_paths : (naming : Naming) (ns : List Node) (paths : List HartPath) (names : Names) → tree_paths ns ≡ nodes paths
-    → names ≡ names_of naming ns → names ≡ names_used naming paths
+    → names ≡ node_names naming ns → names ≡ names_used naming paths
 unfolding procs_used files_used
 names_of_paths naming ns paths names same is =
     let procs : ascending proc_order (node_procs ns) ≡ procs_used (nodes paths) =
@@ -59,6 +59,6 @@ names_of_paths naming ns paths names same is =
     is ∙ (λ i. record { procs = map (named_proc naming) (procs i); files = map (named_file naming) (files i) })
 
 pub names_of_tree : (naming : Naming) (ns : List Node) (paths : List HartPath) {E : Type 0} (result : Result Names E)
-    → IfOk result (λ names. names ≡ names_of naming ns) → tree_paths ns ≡ nodes paths → IfOk result (λ names. names ≡ names_used naming paths)
+    → IfOk result (λ names. names ≡ node_names naming ns) → tree_paths ns ≡ nodes paths → IfOk result (λ names. names ≡ names_used naming paths)
 names_of_tree naming ns paths (Ok names) is same = names_of_paths naming ns paths names same is
 names_of_tree naming ns paths (Err e) is same = is

@@ -24,8 +24,8 @@ abbrev pub node_files : List Node → List FileId
 node_files nodes = flat_map (λ n. scope_files n.scope) nodes
 
 -- each of them once, ascending, with its name
-abbrev pub names_of : Naming → List Node → Names
-names_of naming nodes = record {
+abbrev pub node_names : Naming → List Node → Names
+node_names naming nodes = record {
   procs = map (named_proc naming) (ascending proc_order (node_procs nodes));
   files = map (named_file naming) (ascending file_order (node_files nodes));
 }

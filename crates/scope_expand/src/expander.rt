@@ -8,10 +8,10 @@ ghost use Rattle.tree_types.specs.Database.{names_used};
 ghost use Rattle.tree_types.specs.Nodes.{nodes};
 ghost use Rattle.tree_types.specs.PathsOf.{tree_paths};
 ghost use Rattle.scope_expand.specs.Kept.{Fits};
-ghost use Rattle.scope_expand.specs.TreeNames.{names_of};
+ghost use Rattle.scope_expand.specs.TreeNames.{node_names};
 ghost use Rattle.scope_expand.specs.private.Frames.{caller_scopes, last_scope};
 
-use crate::names::names_of;
+use crate::names::node_names;
 use lru::LruCache;
 use prof_bytes::Memory;
 use scope_find::{Finder, Found};
@@ -137,9 +137,10 @@ fn expand_with(
     ensures memo { Fits finder.now memo.new }
     ensures path { IfOk result (λ path. path ≡ call_path (found_at finder.now) raw.now) }
 {
-    let mut scopes = Vec::new(alloc);
+    let frames = raw.frames();
+    let mut scopes = Vec::with_capacity(alloc, 1 + 2 * frames.len())?;
     scopes.push(Scope::Root(root_of(raw.end())))?;
-    let [innermost, callers @ ..] = raw.frames() else {
+    let [innermost, callers @ ..] = frames else {
         return Ok(ScopePath::of(scopes));
     };
     put_callers(finder, memo, &mut scopes, callers)?;
@@ -168,11 +169,11 @@ impl<'a> Expander<'a> {
 
     /// The procedures and files that a tree's scopes use, ascending, each once, each with its name.
     pub fn names(&self, tree: &Tree) -> Result<Names, Memory>
-        ensures nodes { IfOk result (λ names. names ≡ names_of (naming_of self.now) tree.now.nodes) }
+        ensures nodes { IfOk result (λ names. names ≡ node_names (naming_of self.now) tree.now.nodes) }
         ensures paths { (paths : List HartPath) → tree_paths tree.now.nodes ≡ nodes paths
             → IfOk result (λ names. names ≡ names_used (naming_of self.now) paths) }
     {
-        names_of(self.alloc, self.finder, tree.nodes())
+        node_names(self.alloc, self.finder, tree.nodes())
     }
 }
 

@@ -4,7 +4,7 @@ ghost use Rattle.std.specs.Option.{option_to_list};
 ghost use Rattle.scope_find.specs.Found.{naming_of};
 ghost use Rattle.tree_types.specs.Ascending.{ascending};
 ghost use Rattle.tree_types.specs.Naming.{line_files, scope_files, scope_procs};
-ghost use Rattle.scope_expand.specs.TreeNames.{named_file, named_proc, names_of, node_files, node_procs};
+ghost use Rattle.scope_expand.specs.TreeNames.{named_file, named_proc, node_names, node_files, node_procs};
 
 use prof_bytes::{Listed, Memory};
 use scope_find::Finder;
@@ -112,8 +112,12 @@ fn named_files(
 }
 
 /// The names of the procedures and files that nodes' own scopes use.
-pub(crate) fn names_of(alloc: Global, finder: &Finder<'_>, nodes: &[Node]) -> Result<Names, Memory>
-    ensures { IfOk result (λ names. names ≡ names_of (naming_of finder.now) nodes.now) }
+pub(crate) fn node_names(
+    alloc: Global,
+    finder: &Finder<'_>,
+    nodes: &[Node],
+) -> Result<Names, Memory>
+    ensures { IfOk result (λ names. names ≡ node_names (naming_of finder.now) nodes.now) }
 {
     let mut procs = procs_in(alloc, nodes)?;
     let mut files = files_in(alloc, nodes)?;

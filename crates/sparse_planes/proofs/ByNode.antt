@@ -17,7 +17,7 @@ use Rattle.tree_types.specs.NodeValues.{AreValues, NodeValues, kind_rank, value_
 use Rattle.tree_types.specs.Planes.{kinds}
 use Rattle.tree_types.specs.ValueColumns.{in_context, kind_entries, node_entries, columns_by_node}
 use Rattle.tree_types.proofs.Cutting.{no_starts, no_columns, starts_more, cut_more}
-use Rattle.sparse_planes.specs.private.Filling.{of_kind, IsFirst, AtNode}
+use Rattle.sparse_planes.specs.private.Filling.{of_kind, IsFirstOwn, AtNode}
 
 -- ---- a node's values of a kind
 
@@ -58,7 +58,7 @@ nodes_rise a b less = elim (cases_order a.node b.node) [
 ]
 
 module _ (values : List NodeValue) (node first end : ℕ)
-    (ascend : AllPairs (λ a b. value_order a b ≡ Less) values) (at : IsFirst values node first)
+    (ascend : AllPairs (λ a b. value_order a b ≡ Less) values) (at : IsFirstOwn values node first)
     (after : first ≤ end) (within : end ≤ length values)
     (own : (k : ℕ) (d : NodeValue) → first ≤ k → k < end → (get_or values k d).node ≡ node)
     (behind : (d : NodeValue) → end < length values → (get_or values end d).node ≢ node) where
@@ -83,7 +83,7 @@ module _ (values : List NodeValue) (node first end : ℕ)
       between : end ≢ k → end < k
       between apart = omega arith
 
-  pub next_first : IsFirst values (node + 1) end
+  pub next_first : IsFirstOwn values (node + 1) end
   next_first = record {
     within = within;
     before = λ k d lt. elim (cases_order k first) [

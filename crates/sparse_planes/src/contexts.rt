@@ -79,7 +79,7 @@ fn node_end(values: &[NodeValue], first: usize, node: u32) -> usize
 
 /// The columns of all nodes, one node after another.
 #[tactic(auto, using(crate::proofs::ByNode::no_node))]
-fn filled(alloc: Global, values: &Values) -> Result<ContextPlane, Memory>
+pub fn filled(alloc: Global, values: &Values) -> Result<ContextPlane, Memory>
     ensures { IfOk result (λ plane. plane ≡ columns_by_node values.now) }
 {
     let entries = values.entries();

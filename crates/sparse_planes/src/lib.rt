@@ -9,5 +9,5 @@
 mod contexts;
 mod profiles;
 
-pub use contexts::by_context;
-pub use profiles::by_profile;
+pub use contexts::{by_context, filled as context_columns};
+pub use profiles::{by_profile, filled as profile_columns};

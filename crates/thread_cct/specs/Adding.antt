@@ -1,5 +1,6 @@
 -- One sample more among counted raw paths.
-use Rattle.std.specs.Prelude.{ℕ, ◌+◌, ◌&&◌, not, nat_lt, Bool, List, [], ◌∷◌, length, slice_index_or, slice_set, sum_by}
+use Rattle.std.specs.Prelude.{ℕ, ◌+◌, ◌&&◌, not, nat_lt, Bool, List, [], ◌∷◌, ◌++◌, length, slice_index_or, slice_set}
+use Rattle.std.specs.Prelude.{sum_by}
 use Rattle.std.specs.Prelude.{Result, Ok, Err, if◌then◌else◌}
 use Rattle.std.specs.List.{list_any}
 use Rattle.scope_types.specs.declared.frame.Counted.{Counted}
@@ -45,3 +46,7 @@ with_sample tables s = if is_too_much tables s then Err too_many else Ok (count_
 -- counted paths, unless they have too many frames
 abbrev pub few_frames : List (List Counted) → Result (List (List Counted)) TooManyFrames
 few_frames tables = if nat_lt most_path_frames (frames_in tables) then Err too_many else Ok tables
+
+-- a counted path put last in its hart's
+abbrev pub with_path : List (List Counted) → ℕ → Counted → List (List Counted)
+with_path tables hart counted = slice_set tables hart (of_hart tables hart ++ counted ∷ [])

@@ -1,9 +1,10 @@
 ghost use Rattle.std.specs.Prelude.{◌≡◌, ◌+◌, ◌<◌, ◌∷◌, ◌++◌, [], false, if◌then◌else◌, List, length, slice_get};
-ghost use Rattle.std.specs.Prelude.{Some, IfOk, OnOk, OnErr, All, ◌≤◌};
+ghost use Rattle.std.specs.Prelude.{Some, IfOk, OnOk, OnErr, All, ◌≤◌, replicate};
 ghost use Rattle.prof_bytes.specs.Outcome.{Gives};
-ghost use Rattle.scope_types.specs.Distinct.{HartRaw, distinct, samples_in};
-ghost use Rattle.scope_types.specs.Limits.{most_samples};
-ghost use Rattle.thread_cct.specs.Adding.{with_sample, count_sample, few_frames, has_path, of_hart, samples_of_hart};
+ghost use Rattle.scope_types.specs.Distinct.{HartRaw, distinct, frames_in, samples_in};
+ghost use Rattle.scope_types.specs.Limits.{most_path_frames, most_samples};
+ghost use Rattle.thread_cct.specs.Adding.{with_path, with_sample, count_sample, few_frames, has_path, of_hart};
+ghost use Rattle.thread_cct.specs.Adding.{samples_of_hart};
 
 use crate::table::PathTable;
 use prof_bytes::{Fail, Memory};
@@ -80,11 +81,28 @@ fn put_path(tables: &mut Vec<PathTable>, hart: usize, raw: RawPath) -> Result<()
     tables[hart].put(raw)
 }
 
+/// Puts a counted path that is new to its hart.
+fn put_last(
+    tables: &mut Vec<PathTable>,
+    hart: usize,
+    raw: RawPath,
+    count: u32,
+) -> Result<(), Memory>
+    requires hart { hart < length tables.old.items }
+    requires new { has_path raw (of_hart tables.old.items hart) ≡ false }
+    ensures ok { OnOk result (tables.new.items
+        ≡ with_path tables.old.items hart (record { path = raw; count = count })) }
+    ensures err { OnErr result (tables.new.items ≡ tables.old.items) }
+{
+    tables[hart].put_counted(raw, count)
+}
+
 impl Ccts {
     /// No samples, for so many harts.
-    #[tactic(auto, using(crate::proofs::Tables::starting_steps))]
+    #[tactic(auto, using(crate::proofs::Tables::starting_steps, crate::proofs::Putting::all_empty))]
     pub fn start(alloc: Global, harts: u32) -> Result<Ccts, Memory>
         ensures distinct { IfOk result (λ ccts. ccts ≡ distinct harts []) }
+        ensures empty { IfOk result (λ ccts. ccts ≡ replicate harts []) }
         ensures samples { IfOk result (λ ccts. samples_in ccts ≡ 0) }
     {
         let mut tables = Vec::new(alloc);
@@ -103,6 +121,7 @@ impl Ccts {
         ensures harts { result ≡ length self.now }
         ensures samples { samples_in self.now ≤ most_samples }
         ensures counted { All (All (λ c. 0 < c.count)) self.now }
+        ensures frames { frames_in self.now ≤ most_path_frames }
     {
         self.tables.len() as u32
     }
@@ -133,6 +152,34 @@ impl Ccts {
         }
         let path = copied(self.alloc, raw)?;
         put_path(&mut self.tables, hart as usize, path)?;
+        self.frames = frames;
+        Ok(())
+    }
+
+    /// Whether a hart has this raw path.
+    pub fn has(&self, hart: u32, raw: &RawPath) -> bool
+        requires { hart < length self.now }
+        ensures { result ≡ has_path raw.now (of_hart self.now hart) }
+    {
+        self.tables[hart as usize].has(raw)
+    }
+
+    /// Puts a raw path that is new to its hart last, with its count. Where memory runs out nothing is changed.
+    #[tactic(auto, using(crate::proofs::Putting::putting_steps))]
+    pub fn put(&mut self, hart: u32, raw: RawPath, count: u32) -> Result<(), Memory>
+        requires hart { hart < length self.old }
+        requires new { has_path raw (of_hart self.old hart) ≡ false }
+        requires count { 0 < count }
+        requires few { samples_in self.old + count ≤ most_samples }
+        requires frames { frames_in self.old + length raw.frames ≤ most_path_frames }
+        ensures ok { OnOk result (self.new ≡ with_path self.old hart (record { path = raw; count = count })) }
+        ensures err { OnErr result (self.new ≡ self.old) }
+        ensures harts { length self.new ≡ length self.old }
+        ensures samples { OnOk result (samples_in self.new ≡ samples_in self.old + count) }
+        ensures paths { OnOk result (frames_in self.new ≡ frames_in self.old + length raw.frames) }
+    {
+        let frames = self.frames + raw.frames().len() as u64;
+        put_last(&mut self.tables, hart as usize, raw, count)?;
         self.frames = frames;
         Ok(())
     }

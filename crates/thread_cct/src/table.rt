@@ -1,6 +1,6 @@
 //! The distinct raw paths of one hart. A table by hashing finds them.
-ghost use Rattle.std.specs.Prelude.{◌≡◌, ◌<◌, ◌-◌, ◌^◌, [], false, if◌then◌else◌, length, slice_get, sum_by, Some};
-ghost use Rattle.std.specs.Prelude.{OnOk, OnErr};
+ghost use Rattle.std.specs.Prelude.{◌≡◌, ◌<◌, ◌-◌, ◌^◌, ◌++◌, ◌∷◌, [], false, if◌then◌else◌, length, slice_get};
+ghost use Rattle.std.specs.Prelude.{sum_by, Some, OnOk, OnErr};
 ghost use Rattle.thread_cct.specs.Adding.{count_one, has_path};
 
 use indexmap::IndexMap;
@@ -64,6 +64,25 @@ impl PathTable {
         ensures err { OnErr result (self.new ≡ self.old) }
     {
         self.counts.insert(raw, 1)?;
+        Ok(())
+    }
+
+    /// Whether a path is there.
+    #[tactic(auto, using(crate::proofs::Putting::entry_put))]
+    pub fn has(&self, raw: &RawPath) -> bool
+        ensures { result ≡ has_path raw.now self.now }
+    {
+        self.counts.contains_key(raw)
+    }
+
+    /// Puts a new path last, with its count.
+    #[tactic(auto, using(crate::proofs::Putting::entry_put))]
+    pub fn put_counted(&mut self, raw: RawPath, count: u32) -> Result<(), Memory>
+        requires { has_path raw self.old ≡ false }
+        ensures ok { OnOk result (self.new ≡ self.old ++ record { path = raw; count = count } ∷ []) }
+        ensures err { OnErr result (self.new ≡ self.old) }
+    {
+        self.counts.insert(raw, count)?;
         Ok(())
     }
 

@@ -1,7 +1,5 @@
-//! Tests of calling context trees: tries of counted call paths, the trees that are made of them and of stripes, the plan
-//! of a merge and its pieces, the workers of a merge, the values of a tree, and their planes.
 //! Tests of calling context trees: tries of counted call paths, the trees that are made of them, the plan of a merge and
-//! its pieces, the workers of a merge, and the values of a tree.
+//! its pieces, the workers of a merge, the values of a tree and their planes, and measurement files.
 //!
 //! It has no code of its own: a crate with tests is proved twice, and these prove none of the crates
 //! below again. The expected values are written by hand from the definitions.
@@ -11,6 +9,8 @@
 mod crew;
 #[cfg(test)]
 mod joins;
+#[cfg(test)]
+mod measurements;
 #[cfg(test)]
 mod plan;
 #[cfg(test)]

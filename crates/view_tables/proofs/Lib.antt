@@ -4,3 +4,11 @@ pub mod ColumnSums
 pub mod Depths
 pub mod TextLengths
 pub mod TableRows
+pub mod Ups
+pub mod Narrowed
+pub mod Cuts
+pub mod Gathered
+pub mod ViewOrders
+pub mod Groups
+pub mod ViewTexts
+pub mod SortedSeen

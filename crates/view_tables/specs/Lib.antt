@@ -1,1 +1,4 @@
+pub mod Views
+pub mod Callers
+pub mod Flat
 pub mod private

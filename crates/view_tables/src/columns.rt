@@ -95,17 +95,18 @@ pub fn put_header(out: &mut Vec<u8>) -> Result<(), Memory>
     Ok(())
 }
 
-fn put_values(out: &mut Vec<u8>, row: &Row) -> Result<(), Memory>
-    requires some { 0 < row.now.total }
-    requires small { row.now.inclusive ≤ 2 ^ 52 }
-    ensures { OnOk result (out.new.items ≡ out.old.items ++ (right 16 (decimal row.now.inclusive) ++ spaces 1
-        ++ right 6 (percent row.now.inclusive row.now.total) ++ spaces 1 ++ right 16 (decimal row.now.frame))) }
+/// The columns of values: a value, its share of a total that is not 0, another value.
+pub fn put_values(out: &mut Vec<u8>, first: u64, total: u64, third: u64) -> Result<(), Memory>
+    requires some { 0 < total }
+    requires small { first ≤ 2 ^ 52 }
+    ensures { OnOk result (out.new.items ≡ out.old.items ++ (right 16 (decimal first) ++ spaces 1
+        ++ right 6 (percent first total) ++ spaces 1 ++ right 16 (decimal third))) }
 {
-    put_number(out, 16, row.inclusive)?;
+    put_number(out, 16, first)?;
     put_spaces(out, 1)?;
-    put_percent(out, 6, row.inclusive, row.total)?;
+    put_percent(out, 6, first, total)?;
     put_spaces(out, 1)?;
-    put_number(out, 16, row.frame)
+    put_number(out, 16, third)
 }
 
 /// A row with the names of its scope.
@@ -115,7 +116,7 @@ pub fn put_row(out: &mut Vec<u8>, names: &Names, row: &Row) -> Result<(), Memory
     requires small { row.now.inclusive ≤ 2 ^ 52 }
     ensures { OnOk result (out.new.items ≡ out.old.items ++ row_text names.now row.now) }
 {
-    put_values(out, row)?;
+    put_values(out, row.inclusive, row.total, row.frame)?;
     put_spaces(out, 2 + 2 * row.level as usize)?;
     put_label(out, names, row.scope)?;
     out.extend_from_slice(b"\n")?;

@@ -10,7 +10,7 @@ use scope_types::{LineId, ProcId, RootKind, Scope};
 use tree_types::{Names, find_file, find_proc};
 
 /// A name as it is printed: bytes below 32 and 127 as a question mark.
-fn put_printed(out: &mut Vec<u8>, name: &[u8]) -> Result<(), Memory>
+pub fn put_printed(out: &mut Vec<u8>, name: &[u8]) -> Result<(), Memory>
     ensures { OnOk result (out.new.items ≡ out.old.items ++ printed name.now) }
 {
     for byte in name {

@@ -1,19 +1,28 @@
 //! Tables of a profile as text.
 //!
-//! It promises that the top-down table of a content is byte for byte that of the definition (HPCToolkit's
-//! manual, "Top-down view"): a header, and a row for each node with its inclusive value, its share of the
-//! total, what is spent in it without calls, and its label. Below stand the tree's definitions and the content.
+//! It promises that the top-down table, the callers table and the flat table of a content are byte for byte those of
+//! their definitions (HPCToolkit's manual, "Top-down view", "Bottom-up view" and "Flat view"): a header, and rows with
+//! values, shares of the total and labels. The top-down table has a row for each node; the callers table one for each
+//! procedure and, under it, its chains of callers; the flat table one for each file, procedure and line. Below stand the
+//! tree's definitions and the content.
 #![tactic(auto)]
 
 mod columns;
 mod depth;
+mod gather;
+mod group;
+mod item;
 mod label;
 mod length;
+mod place;
 mod row;
 mod table;
 mod text;
 mod values;
+mod view;
 
+pub use label::put_printed;
 pub use length::top_down_length;
 pub use table::{put_top_down, top_down};
 pub use text::{put_address, put_decimal};
+pub use view::{callers, flat};

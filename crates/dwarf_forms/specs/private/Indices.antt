@@ -1,13 +1,22 @@
 -- Where the declarations of an abbreviation table are found by their code.
-use Rattle.std.specs.Prelude.{◌≡◌, ℕ, ◌==◌, nat_eq, List, position}
-use Rattle.std.specs.declared.hash.FoldHasher.{FoldHasher}
-use Rattle.std.specs.declared.hash.BuildHasherDefault.{BuildHasherDefault}
-use Rattle.std.specs.HashMap.{get, HashMap}
+use Rattle.std.specs.Prelude.{◌≡◌, ℕ, ◌+◌, ◌<◌, ◌≤◌, ◌==◌, List, length, drop, position, slice_index_or}
+use Rattle.std.specs.Ordering.{nat_cmp}
+use Rattle.std.specs.BTreeMap.{get, BTreeMap}
 use Rattle.dwarf_forms.specs.declared.declaration.Abbrev.{Abbrev}
 
 abbrev pub Indices : Type 0
-Indices = HashMap ℕ ℕ (BuildHasherDefault FoldHasher)
+Indices = BTreeMap ℕ ℕ
+
+-- the codes of so many declarations at the front are 1, 2, 3 and so on
+pub record IsNumbered (declared : List Abbrev) (count : ℕ) : Type 0 where
+  pub within : count ≤ length declared
+  pub codes : (i : ℕ) (d : Abbrev) → i < count → (slice_index_or declared i d).code ≡ i + 1
 
 -- each code leads to the index of its first declaration
 abbrev pub AreIndices : List Abbrev → Indices → Type 0
-AreIndices declared indices = (code : ℕ) → get nat_eq indices code ≡ position (λ d. d.code == code) declared
+AreIndices declared indices = (code : ℕ) → get nat_cmp indices code ≡ position (λ d. d.code == code) declared
+
+-- the declarations at the front are numbered, and the codes of the others lead to their indices among these
+pub record AreKept (declared : List Abbrev) (count : ℕ) (indices : Indices) : Type 0 where
+  pub front : IsNumbered declared count
+  pub others : AreIndices (drop count declared) indices

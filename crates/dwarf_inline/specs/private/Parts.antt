@@ -1,17 +1,16 @@
 -- What is kept of a structure beside its content.
-use Rattle.std.specs.Prelude.{◌≡◌, ◌==◌, ℕ, nat_eq, List, position}
-use Rattle.std.specs.declared.hash.FoldHasher.{FoldHasher}
-use Rattle.std.specs.declared.hash.BuildHasherDefault.{BuildHasherDefault}
-use Rattle.std.specs.HashMap.{get, HashMap}
+use Rattle.std.specs.Prelude.{◌≡◌, ◌==◌, ℕ, List, position}
+use Rattle.std.specs.Ordering.{nat_cmp}
+use Rattle.std.specs.BTreeMap.{get, BTreeMap}
 use Rattle.dwarf_inline.specs.declared.item.Item.{Item}
 use Rattle.dwarf_inline.specs.Structure.{ProgramStructure, IsWhole}
 
 abbrev pub Numbers : Type 0
-Numbers = HashMap ℕ ℕ (BuildHasherDefault FoldHasher)
+Numbers = BTreeMap ℕ ℕ
 
 -- each identity leads to the number of the first item that has it
 abbrev pub AreNumbers : List Item → Numbers → Type 0
-AreNumbers items numbers = (offset : ℕ) → get nat_eq numbers offset ≡ position (λ i. i.identity == offset) items
+AreNumbers items numbers = (offset : ℕ) → get nat_cmp numbers offset ≡ position (λ i. i.identity == offset) items
 
 pub record IsIndexed (s : ProgramStructure) (numbers : Numbers) : Type 0 where
   pub whole : IsWhole s

@@ -6,9 +6,8 @@ use Rattle.hpc_top.specs.declared.status.InputFault.{InputFault}
 use Rattle.hpc_top.specs.declared.status.Stop.{Stop}
 use Rattle.hpc_top.specs.declared.status.Stop.TheVariants.{Input, Device, Memory}
 use Rattle.hpc_top.specs.declared.status.Place.TheVariants.{Read, Store, Print}
-use Rattle.hpc_top.specs.declared.status.Made.{Made}
-use Rattle.hpc_top.specs.Profile.{Product}
-use Rattle.hpc_top.specs.Made.{view}
+use Rattle.hpc_top.specs.declared.status.Prepared.{Prepared}
+use Rattle.hpc_top.specs.Product.{Product}
 use Rattle.hpc_top.specs.Task.{Task, Wanted, within, contents, verdict}
 use Rattle.hpc_top.specs.Outcome.{Call, Storing, Printing, Finished, ReadFailed, StoreFailed}
 
@@ -48,9 +47,13 @@ FetchesAll old new wants (Ok texts) =
     Looked old new × AreWithin texts wants × (IsTrue old.known → contents old.files wants ≡ Ok texts)
 FetchesAll old new wants (Err stop) = FetchStops (ReadFailed wants old new) old new (contents old.files wants) stop
 
+-- what is to be stored and put
+abbrev pub ready : Prepared → Product
+ready prepared = record { stored = prepared.stored; text = prepared.text }
+
 -- the fetches of a command and what is made of them
-abbrev pub Prepares : Task → ShelfState → ShelfState → Result Made Stop → Type 0
-Prepares task old new (Ok made) = Looked old new × (IsTrue old.known → verdict task old.files ≡ Ok (view made))
+abbrev pub Prepares : Task → ShelfState → ShelfState → Result Prepared Stop → Type 0
+Prepares task old new (Ok made) = Looked old new × (IsTrue old.known → verdict task old.files ≡ Ok (ready made))
 Prepares task old new (Err stop) = FetchStops (ReadFailed task.wants old new) old new (verdict task old.files) stop
 
 -- ---- the end of a command

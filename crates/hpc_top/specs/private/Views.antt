@@ -1,11 +1,13 @@
 -- Words and files as the code holds them.
 use Rattle.std.specs.Prelude.{Option, option_map}
 use Rattle.hpc_top.specs.declared.request.ProfileWords as held
+use Rattle.hpc_top.specs.declared.request.RunWords as held_run
+use Rattle.hpc_top.specs.declared.request.ProfWords as held_prof
 use Rattle.hpc_top.specs.declared.request.Request as held_request
 use Rattle.hpc_top.specs.declared.request.Request.TheVariants as requests
 use Rattle.hpc_top.specs.declared.steps.Want.{Want}
 use Rattle.hpc_top.specs.Task.{Wanted}
-use Rattle.hpc_top.specs.Words.{ProfileWords, Request, Profile}
+use Rattle.hpc_top.specs.Words.{ProfileWords, RunWords, ProfWords, Request, Profile, Run, Prof, Struct}
 
 abbrev pub view_want : Want → Wanted
 view_want w = record { file = w.file; name = w.name.now; limit = w.limit }
@@ -23,8 +25,34 @@ view_profile w = record {
 abbrev pub view_profiles : Option held.ProfileWords → Option ProfileWords
 view_profiles o = option_map view_profile o
 
+abbrev pub view_run : held_run.RunWords → RunWords
+view_run w = record {
+  elf = w.elf.now;
+  input = w.input.now;
+  schedule = w.schedule.now;
+  period = w.period;
+  measurement = w.measurement.now;
+}
+
+abbrev pub view_runs : Option held_run.RunWords → Option RunWords
+view_runs o = option_map view_run o
+
+abbrev pub view_prof : held_prof.ProfWords → ProfWords
+view_prof w = record {
+  elf = w.elf.now;
+  measurement = w.measurement.now;
+  workers = w.workers;
+  database = w.database.now;
+}
+
+abbrev pub view_profs : Option held_prof.ProfWords → Option ProfWords
+view_profs o = option_map view_prof o
+
 abbrev pub view_request : held_request.Request → Request
 view_request (requests.Profile w) = Profile (view_profile w)
+view_request (requests.Run w) = Run (view_run w)
+view_request (requests.Prof w) = Prof (view_prof w)
+view_request (requests.Struct elf) = Struct elf.now
 
 abbrev pub view_requests : Option held_request.Request → Option Request
 view_requests o = option_map view_request o

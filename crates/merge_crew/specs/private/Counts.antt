@@ -14,7 +14,7 @@ pub record Counts (stripes : StripesValue) (left : ℕ) (w : Worker) : Type 0 wh
   pub free : w.pass.view.hold ≡ Free
   pub merged : w.merged ≡ length w.pass.view.puts
   pub busy : 64 * w.busy_left ≤ w.pass.view.busy
-  pub present : w.present ≤ w.pass.view.met
+  pub present : w.present ≡ w.pass.view.met
   pub few : counted w + left ≤ 16 * w.pass.view.got
   pub all : w.failed ≡ None → counted w + left ≡ 16 * w.pass.view.got
 
@@ -46,7 +46,7 @@ pub record HasEnded (stripes : StripesValue) (w : Worker) : Type 0 where
   pub drew : DrewAll stripes w
 
 -- the first worker, which takes in the others
-pub record IsFirst (stripes : StripesValue) (w : Worker) : Type 0 where
+pub record IsFirstWorker (stripes : StripesValue) (w : Worker) : Type 0 where
   pub counts : Counts stripes 0 w
   pub few : w.pass.view.got < 2 ^ 32 * (w.pass.view.joins + 1)
   pub drew : DrewAll stripes w

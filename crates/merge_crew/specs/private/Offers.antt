@@ -7,7 +7,7 @@ use Rattle.stripe_table.specs.declared.offer.Offered.{Offered}
 use Rattle.stripe_table.specs.declared.offer.Offered.TheVariants.{Merged, Present, Busy, Memory}
 
 -- the pass has drawn nothing since, made and taken in no pass, and holds nothing
-pub record Keeps (v w : PassView) : Type 0 where
+pub record OnlyOffers (v w : PassView) : Type 0 where
   pub plan : w.plan ≡ v.plan
   pub first : w.first ≡ v.first
   pub got : w.got ≡ v.got

@@ -19,14 +19,14 @@ pub record MarkIsExact (all : List Stripe) (marks : List (List Bool)) (s c : ℕ
   pub exact : mark_at marks s c ≡ is_named all s c
 
 -- of so many chunks, those are marked that are among the names
-pub record MarksNames (chunks : ℕ) (names : List ℕ) (marks : List Bool) : Type 0 where
+pub record MarksChunks (chunks : ℕ) (names : List ℕ) (marks : List Bool) : Type 0 where
   pub count : length marks ≡ chunks
   pub exact : (c : ℕ) → c < chunks → slice_index_or marks c false ≡ ltb 0 (times c names)
 
 -- the marks of each stripe
 pub record MarksAll (chunks : ℕ) (all : List Stripe) (marks : List (List Bool)) : Type 0 where
   pub count : length marks ≡ 16
-  pub each : (s : ℕ) → s < 16 → MarksNames chunks (names_of all s) (slice_index_or marks s [])
+  pub each : (s : ℕ) → s < 16 → MarksChunks chunks (names_of all s) (slice_index_or marks s [])
 
 -- how many names the sixteen stripes have
 abbrev pub names_in : List Stripe → ℕ

@@ -3,7 +3,7 @@
 //! are: A abbrev, I info, S str, L line_str, O str_offsets, D addr, R rnglists.
 use super::Case;
 
-pub(crate) static CASES: [Case; 24] = [
+pub(crate) static CASES: [Case; 27] = [
     Case {
         what: "a text in place",
         bytes: b"A0111010000022e000308000000 I0d00000005000104000000000102660000",
@@ -145,6 +145,30 @@ pub(crate) static CASES: [Case; 24] = [
         bytes: b"A0111010000022e003111000000 I0c000000050001040000000001020c00",
         name: None,
         link: Some(0),
+        call: (None, None),
+        ranges: &[],
+    },
+    Case {
+        what: "a reference into an entry",
+        bytes: b"A0111010000022e003111000000 I0c000000050001040000000001020e00",
+        name: None,
+        link: None,
+        call: (None, None),
+        ranges: &[],
+    },
+    Case {
+        what: "a reference to a null entry",
+        bytes: b"A0111010000022e003111000000 I0c000000050001040000000001020f00",
+        name: None,
+        link: None,
+        call: (None, None),
+        ranges: &[],
+    },
+    Case {
+        what: "a reference behind the unit",
+        bytes: b"A0111010000022e003111000000 I0c000000050001040000000001021000",
+        name: None,
+        link: None,
         call: (None, None),
         ranges: &[],
     },

@@ -1,27 +1,17 @@
-use Rattle.std.proofs.Common.{◌≡◌, ◌∙◌, ◌∷◌, [], List, sym, ap, arith}
-use Rattle.std.proofs.lemmas.Grind.{common_steps}
-use Rattle.dwarf_forms.specs.declared.declaration.Spec.{Spec}
-use Rattle.dwarf_forms.specs.Values.{form_value}
+use Rattle.std.proofs.Common.{sym, subst}
+use Rattle.prof_bytes.specs.Outcome.{GivesAt}
+use Rattle.dwarf_forms.proofs.Moves.{keeps}
 use Rattle.dwarf_info.specs.Values.{passed_from}
-use Rattle.dwarf_info.proofs.OneValue.{passed_one, stopped_at, none_passed}
+use Rattle.dwarf_info.proofs.FixedValues.{passed_fixed}
+use Rattle.dwarf_info.proofs.Rooms.{passed_moves}
 use Rattle.dwarf_info.proofs.values.pass_values.Goals as goal
 
-pub loop-spec-preserved : goal.loop-spec-preserved
-loop-spec-preserved c =
-    let split : c.loop-spec.rest.now ≡ c.in-Some.spec.now ∷ c.in-Some.others.now = grind (arith, common_steps) in
-    record {
-      passed = sym (passed_one c.args.unknown c.in-Some.spec.now c.in-Some.others.now (form_value c.in-Ok.field-0) c.loop-spec.reader c.one_value.new.reader c.in-Ok.ensures.value)
-          ∙ ap (λ (s : List Spec). passed_from c.args.unknown s c.loop-spec.reader) (sym split) ∙ c.loop-spec.invariant.passed;
-      keeps = c.in-Ok.ensures.keeps ∙ c.loop-spec.invariant.keeps;
-    }
+pub returns-in-Some-clause-passed : goal.returns-in-Some-clause-passed
+returns-in-Some-clause-passed c =
+    subst (λ r. GivesAt (λ u. u) c.pass_bytes.result c.pass_bytes.new.reader r) (sym (passed_fixed c.args.unknown c.args.specs.now c.in-Some.size c.args.reader.now c.in-Some.ensures)) c.pass_bytes.ensures
 
-pub returns-in-Err-clause-passed : goal.returns-in-Err-clause-passed
-returns-in-Err-clause-passed c =
-    let split : c.loop-spec.rest.now ≡ c.in-Some.spec.now ∷ c.in-Some.others.now = grind (arith, common_steps) in
-    sym c.loop-spec.invariant.passed ∙ ap (λ (s : List Spec). passed_from c.args.unknown s c.loop-spec.reader) split
-    ∙ stopped_at c.args.unknown c.in-Err.fault c.in-Some.spec.now c.in-Some.others.now c.loop-spec.reader c.in-Err.ensures.value
-
-pub returns-clause-passed : goal.returns-clause-passed
-returns-clause-passed c =
-    let none : c.loop-spec.rest.now ≡ [] = grind (arith, common_steps) in
-    sym c.loop-spec.invariant.passed ∙ ap (λ (s : List Spec). passed_from c.args.unknown s c.loop-spec.reader) none ∙ none_passed c.args.unknown c.loop-spec.reader
+pub returns-in-Some-clause-keeps : goal.returns-in-Some-clause-keeps
+returns-in-Some-clause-keeps c =
+    keeps 0 (λ u. u) c.pass_bytes.result c.args.reader.now c.pass_bytes.new.reader (passed_from c.args.unknown c.args.specs.now c.args.reader.now)
+    (passed_moves c.args.unknown c.args.specs.now c.args.reader.now)
+    (subst (λ r. GivesAt (λ u. u) c.pass_bytes.result c.pass_bytes.new.reader r) (sym (passed_fixed c.args.unknown c.args.specs.now c.in-Some.size c.args.reader.now c.in-Some.ensures)) c.pass_bytes.ensures)

@@ -1,8 +1,7 @@
 use Rattle.std.proofs.Common.{List, ℕ, Option, subst}
 use Rattle.std.proofs.lemmas.Result.{err_from_is_err_and}
-use Rattle.hpc_top.specs.Made.{view}
 use Rattle.hpc_top.specs.Outcome.{call_of}
-use Rattle.hpc_top.specs.private.Steps.{Delivers}
+use Rattle.hpc_top.specs.private.Steps.{Delivers, ready}
 use Rattle.hpc_top.specs.Task.{task_of}
 use Rattle.hpc_top.specs.private.Views.{view_request}
 use Rattle.hpc_top.proofs.Outcomes.{delivered, unprepared}
@@ -15,7 +14,7 @@ returns-in_err-made g c =
 
 pub returns : goal.returns
 returns g c =
-    delivered (task_of (view_request c.args.request)) (g.F.Shelf.shown c.args.shelf.now) (g.F.Shelf.shown c.prepare.new.shelf) (g.F.Shelf.shown c.deliver.new.shelf) (g.O.Sink.shown c.args.out.now) (g.O.Sink.shown c.deliver.new.out) (view c.in_ok-made.made) c.in_ok-made.ensures.0 c.in_ok-made.ensures.1 c.deliver.result
+    delivered (task_of (view_request c.args.request)) (g.F.Shelf.shown c.args.shelf.now) (g.F.Shelf.shown c.prepare.new.shelf) (g.F.Shelf.shown c.deliver.new.shelf) (g.O.Sink.shown c.args.out.now) (g.O.Sink.shown c.deliver.new.out) (ready c.in_ok-made.made) c.in_ok-made.ensures.0 c.in_ok-made.ensures.1 c.deliver.result
     (subst
-    (λ (name : Option (List ℕ)). Delivers name (view c.in_ok-made.made) (call_of (g.F.Shelf.shown c.prepare.new.shelf) (g.F.Shelf.shown c.deliver.new.shelf) (g.O.Sink.shown c.args.out.now) (g.O.Sink.shown c.deliver.new.out)) c.deliver.result)
+    (λ (name : Option (List ℕ)). Delivers name (ready c.in_ok-made.made) (call_of (g.F.Shelf.shown c.prepare.new.shelf) (g.F.Shelf.shown c.deliver.new.shelf) (g.O.Sink.shown c.args.out.now) (g.O.Sink.shown c.deliver.new.out)) c.deliver.result)
     c.stored_name.ensures c.deliver.ensures)

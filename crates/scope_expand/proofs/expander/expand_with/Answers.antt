@@ -8,7 +8,7 @@ use Rattle.scope_expand.proofs.expander.expand_with.Goals as goal
 pub returns-clause-path : goal.returns-clause-path
 returns-clause-path c =
     c.of-2.ensures
-    ∙ whole_path c.args.finder.now c.args.raw.now c.root_of.result c.frames.result.now _ _ _ c.in-len1-up.len_at_least c.frames.ensures.frames
+    ∙ whole_path c.args.finder.now c.args.raw.now c.root_of.result c.frames-frames.result.now _ _ _ c.in-len1-up.len_at_least c.frames-frames.ensures.frames
     (c.root_of.ensures ∙ ap root_of c.end.ensures)
-    (c.in_ok-push.ensures.items ∙ ap (λ (l : List Scope). l ++ Root c.root_of.result ∷ []) c.new-scopes.ensures.items)
+    (c.in_ok-push.ensures.items ∙ ap (λ (l : List Scope). l ++ Root c.root_of.result ∷ []) c.in_ok-scopes.ensures.items)
     c.in_ok-put_callers.ensures.scopes _ c.in_ok-put_frame.ensures.scopes

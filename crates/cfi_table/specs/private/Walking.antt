@@ -1,0 +1,23 @@
+-- Rows that are made one after another.
+use Rattle.std.specs.Prelude.{◌≡◌, ℕ, ◌≤◌, ◌<◌, ◌^◌, List, length, Option, Some, IfSome}
+use Rattle.prof_bytes.specs.Fields.{Input}
+use Rattle.cfi_table.specs.declared.fault.FrameFault.{FrameFault}
+use Rattle.cfi_table.specs.declared.fde.Fde.{Fde}
+use Rattle.cfi_table.specs.declared.rules.Rule.{Rule}
+use Rattle.cfi_table.specs.Rules.{State}
+use Rattle.cfi_table.specs.Entries.{after_fde}
+use Rattle.cfi_table.specs.Frames.{range_of}
+use Rattle.cfi_table.specs.private.Resuming.{resumed}
+
+-- the state at each address from `start` on is the one to which the instructions that are left lead
+pub record IsAtRow (section : List ℕ) (fde : Fde) (initial : List Rule) (s : State) (input : Input FrameFault)
+    (start : ℕ) : Type 0 where
+  pub short : length input.at.whole < 2 ^ 32
+  pub some : start < (range_of fde).end
+  pub low : fde.initial_location ≤ start
+  pub here : s.location ≤ start
+  pub states : (address : ℕ) → start ≤ address → after_fde (Some address) section fde
+      ≡ resumed (Some address) initial fde.cie.factors input s
+
+abbrev pub AreRows : List ℕ → Fde → List Rule → State → Input FrameFault → Option ℕ → Type 0
+AreRows section fde initial s input next = IfSome next (IsAtRow section fde initial s input)

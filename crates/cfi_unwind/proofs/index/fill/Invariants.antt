@@ -1,0 +1,5 @@
+use Rattle.cfi_unwind.specs.private.Index.{IsFilled}
+use Rattle.cfi_unwind.proofs.index.fill.Given as goal
+
+abbrev pub invariant-loop-number : goal.invariant-loop-number
+invariant-loop-number l = IsFilled l.initial.places.items l.places.items l.low l.number l.place

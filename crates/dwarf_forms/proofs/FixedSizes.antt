@@ -1,0 +1,122 @@
+-- Values of a fixed size are passed as so many bytes are.
+use Rattle.std.proofs.Common.{◌≡◌, ℕ, ℤ, zero, suc, ◌+◌, ◌-◌, ◌≤◌, ◌<◌, ◌==◌, Bool, true, false, inl, inr, List, [], ◌∷◌, length, take, Option, Some, None, Result, Ok, Err, refl, sym, ap, ◌∙◌, arith}
+use Rattle.std.specs.Prelude.{option_map, option_and_then, if◌then◌else◌, nat_lt}
+use Rattle.std.proofs.lemmas.Bool.{cases_lt, lt-ltb, le-ltb, eqb-true}
+use Rattle.prof_bytes.specs.Fields.{Input, taken, number_from, bytes_from}
+use Rattle.prof_bytes.specs.Reading.{At, left_of, moved, bytes_at}
+use Rattle.prof_bytes.specs.Number.{number_at}
+use Rattle.dwarf_forms.specs.declared.constants.TheConstants.{DW_FORM_indirect}
+use Rattle.dwarf_forms.specs.declared.declaration.Spec.{Spec}
+use Rattle.dwarf_forms.specs.declared.encoding.Size.{Size}
+use Rattle.dwarf_forms.specs.declared.encoding.Size.TheVariants as sizes
+use Rattle.dwarf_forms.specs.declared.encoding.Encoding.{Encoding}
+use Rattle.dwarf_forms.specs.declared.encoding.Encoding.TheVariants as encodings
+use Rattle.dwarf_forms.specs.Forms.{encoding_of}
+use Rattle.dwarf_forms.specs.Values.{FormValue, Flag, Signed, Bytes, as_value, word_value, number_value, sized_from, encoded_from, known_from, indirect_from, direct_from, value_from}
+use Rattle.dwarf_forms.specs.Sizes.{number_size, encoding_size, form_size, fixed_size, passed_by}
+use Rattle.dwarf_forms.proofs.Moves.{left_moved}
+
+-- ---- the size of a list
+
+sizes_join : (total first : ℕ) (others : Option ℕ) → option_map (λ n. total + n) (option_map (λ n. first + n) others) ≡ option_map (λ n. total + first + n) others
+sizes_join total first None = refl
+sizes_join total first (Some n) = ap Some (let e : total + (first + n) ≡ total + first + n = omega arith in e)
+
+-- one more form says its size
+pub one_more : (specs others : List Spec) (spec : Spec) (total more : ℕ) → total ≤ more → form_size spec.form ≡ Some (more - total)
+    → fixed_size specs ≡ option_map (λ n. total + n) (fixed_size (spec ∷ others)) → fixed_size specs ≡ option_map (λ n. more + n) (fixed_size others)
+one_more specs others spec total more le size so_far =
+    let e : total + (more - total) ≡ more = omega arith in
+    so_far ∙ ap (λ (o : Option ℕ). option_map (λ n. total + n) (option_and_then (λ first. option_map (λ n. first + n) (fixed_size others)) o)) size
+    ∙ sizes_join total (more - total) (fixed_size others) ∙ ap (λ (k : ℕ). option_map (λ n. k + n) (fixed_size others)) e
+
+-- ---- bytes
+
+pub few_left : {F : Type 0} (count : ℕ) (input : Input F) → length (left_of input.at) < count → bytes_from count input ≡ Err input.missing
+few_left count input lt = rw (lt-ltb (length (left_of input.at)) count lt) refl
+
+pub some_left : {F : Type 0} (count : ℕ) (input : Input F) → count ≤ length (left_of input.at) → bytes_from count input ≡ Ok (take count (left_of input.at), record input { at = moved count input.at })
+some_left count input le = rw (le-ltb (length (left_of input.at)) count le) refl
+
+none_moved : (at : At) → moved 0 at ≡ at
+none_moved at = ap (λ (n : ℕ). record { whole = at.whole; offset = n }) (let e : at.offset + 0 ≡ at.offset = omega arith in e)
+
+pub none_passed : {F : Type 0} (input : Input F) → Ok (tt, input) ≡ passed_by (bytes_from 0 input)
+none_passed {F = F} input =
+    sym (ap passed_by (some_left 0 input (omega arith)) ∙ ap (λ (at : At). Ok (tt, record input { at = at })) (none_moved input.at))
+
+twice_moved : (first others : ℕ) (at : At) → moved others (moved first at) ≡ moved (first + others) at
+twice_moved first others at = ap (λ (n : ℕ). record { whole = at.whole; offset = n }) (let e : at.offset + first + others ≡ at.offset + (first + others) = omega arith in e)
+
+-- bytes behind others
+pub passed_twice : {F : Type 0} (first others : ℕ) (input : Input F) → first ≤ length (left_of input.at)
+    → passed_by (bytes_from others (record input { at = moved first input.at })) ≡ passed_by (bytes_from (first + others) input)
+passed_twice {F = F} first others input le =
+    let after : Input F = record input { at = moved first input.at } in
+    let long : length (left_of (moved first input.at)) + first ≡ length (left_of input.at) = left_moved input.at first le in
+    elim (cases_lt (length (left_of (moved first input.at))) others) [
+      | inl lt ↦ ap passed_by (few_left others after lt) ∙ sym (ap passed_by (few_left (first + others) input (omega arith)))
+      | inr ge ↦
+          ap passed_by (some_left others after ge) ∙ ap (λ (at : At). Ok (tt, record input { at = at })) (twice_moved first others input.at)
+          ∙ sym (ap passed_by (some_left (first + others) input (omega arith)))
+    ]
+
+-- ---- values
+
+number_passed : {F : Type 0} (count : ℕ) (value : ℕ → FormValue) (input : Input F) → passed_by (as_value value (number_from count input)) ≡ passed_by (bytes_from count input)
+number_passed count value input =
+    elim (cases_lt (length (left_of input.at)) count) [
+      | inl lt ↦ rw (lt-ltb (length (left_of input.at)) count lt) refl
+      | inr ge ↦ rw (le-ltb (length (left_of input.at)) count ge) refl
+    ]
+
+bytes_passed : {F : Type 0} (count : ℕ) (value : List ℕ → FormValue) (input : Input F) → passed_by (as_value value (bytes_from count input)) ≡ passed_by (bytes_from count input)
+bytes_passed count value input =
+    elim (cases_lt (length (left_of input.at)) count) [
+      | inl lt ↦ rw (lt-ltb (length (left_of input.at)) count lt) refl
+      | inr ge ↦ rw (le-ltb (length (left_of input.at)) count ge) refl
+    ]
+
+same_count : {F : Type 0} (a b : ℕ) (input : Input F) → Some a ≡ Some b → passed_by (bytes_from a input) ≡ passed_by (bytes_from b input)
+same_count a b input e = let same : a ≡ b = cc in ap (λ (n : ℕ). passed_by (bytes_from n input)) same
+
+sized_passed : {F : Type 0} (size : Size) (count : ℕ) (value : ℕ → FormValue) (input : Input F) → number_size size ≡ Some count
+    → passed_by (as_value value (sized_from size input)) ≡ passed_by (bytes_from count input)
+sized_passed sizes.One count value input is = number_passed 1 value input ∙ same_count 1 count input is
+sized_passed sizes.Two count value input is = number_passed 2 value input ∙ same_count 2 count input is
+sized_passed sizes.Three count value input is = number_passed 3 value input ∙ same_count 3 count input is
+sized_passed sizes.Four count value input is = number_passed 4 value input ∙ same_count 4 count input is
+sized_passed sizes.Eight count value input is = number_passed 8 value input ∙ same_count 8 count input is
+sized_passed sizes.Uleb count value input is = absurd cc
+
+encoded_passed : {F : Type 0} (encoding : Encoding) (implicit : ℤ) (count : ℕ) (input : Input F) → encoding_size encoding ≡ Some count
+    → passed_by (encoded_from encoding implicit input) ≡ passed_by (bytes_from count input)
+encoded_passed (encodings.Word class) implicit count input is = number_passed 4 (word_value class) input ∙ same_count 4 count input is
+encoded_passed (encodings.Number size class) implicit count input is = sized_passed size count (number_value class) input is
+encoded_passed encodings.Sleb implicit count input is = absurd cc
+encoded_passed (encodings.Block size) implicit count input is = absurd cc
+encoded_passed encodings.Data16 implicit count input is = bytes_passed 16 Bytes input ∙ same_count 16 count input is
+encoded_passed encodings.String implicit count input is = absurd cc
+encoded_passed encodings.FlagPresent implicit count input is = none_passed input ∙ same_count 0 count input is
+encoded_passed encodings.ImplicitConst implicit count input is = none_passed input ∙ same_count 0 count input is
+
+known_passed : {F : Type 0} (unknown : F) (found : Option Encoding) (implicit : ℤ) (count : ℕ) (input : Input F) → option_and_then encoding_size found ≡ Some count
+    → passed_by (known_from unknown found implicit input) ≡ passed_by (bytes_from count input)
+known_passed unknown None implicit count input is = absurd cc
+known_passed unknown (Some encoding) implicit count input is = encoded_passed encoding implicit count input is
+
+by_form : {F : Type 0} (unknown : F) (form : ℕ) (implicit : ℤ) (count : ℕ) (input : Input F) (b : Bool) → (form == DW_FORM_indirect) ≡ b → form_size form ≡ Some count
+    → passed_by (if b then indirect_from unknown input else direct_from unknown form implicit input) ≡ passed_by (bytes_from count input)
+by_form unknown form implicit count input true same is =
+    let one : form ≡ DW_FORM_indirect = eqb-true form DW_FORM_indirect same in
+    absurd (no (sym (ap form_size one) ∙ is))
+  where
+    no : form_size DW_FORM_indirect ≡ Some count → ⊥
+    no e = cc
+by_form unknown form implicit count input false same is = known_passed unknown (encoding_of form) implicit count input is
+
+-- a value whose form says its size
+pub value_passed : {F : Type 0} (unknown : F) (form : ℕ) (implicit : ℤ) (count : ℕ) (input : Input F) → form_size form ≡ Some count
+    → passed_by (value_from unknown form implicit input) ≡ passed_by (bytes_from count input)
+unfolding value_from
+value_passed unknown form implicit count input is = by_form unknown form implicit count input (form == DW_FORM_indirect) refl is

@@ -1,0 +1,42 @@
+-- How many bytes values take whose forms say it. DWARF 5, sections 7.5.5 and 7.5.6.
+use Rattle.std.specs.Prelude.{ℕ, ◌+◌, List, [], ◌∷◌, Option, Some, None, option_map, option_and_then, Result, Ok, Err}
+use Rattle.prof_bytes.specs.Fields.{Input}
+use Rattle.dwarf_forms.specs.declared.encoding.Size.{Size}
+use Rattle.dwarf_forms.specs.declared.encoding.Size.TheVariants.{One, Two, Three, Four, Eight, Uleb}
+use Rattle.dwarf_forms.specs.declared.encoding.Encoding.{Encoding}
+use Rattle.dwarf_forms.specs.declared.encoding.Encoding.TheVariants as encodings
+use Rattle.dwarf_forms.specs.declared.declaration.Spec.{Spec}
+use Rattle.dwarf_forms.specs.Forms.{encoding_of}
+
+abbrev pub number_size : Size → Option ℕ
+number_size One = Some 1
+number_size Two = Some 2
+number_size Three = Some 3
+number_size Four = Some 4
+number_size Eight = Some 8
+number_size Uleb = None
+
+-- the bytes of each value of an encoding, where they are as many for all
+abbrev pub encoding_size : Encoding → Option ℕ
+encoding_size (encodings.Word class) = Some 4
+encoding_size (encodings.Number size class) = number_size size
+encoding_size encodings.Sleb = None
+encoding_size (encodings.Block size) = None
+encoding_size encodings.Data16 = Some 16
+encoding_size encodings.String = None
+encoding_size encodings.FlagPresent = Some 0
+encoding_size encodings.ImplicitConst = Some 0
+
+-- the bytes of each value of a form
+abbrev pub form_size : ℕ → Option ℕ
+form_size form = option_and_then encoding_size (encoding_of form)
+
+-- the bytes of all values of these attributes, where each form says how many
+abbrev pub fixed_size : List Spec → Option ℕ
+fixed_size [] = Some 0
+fixed_size (spec ∷ specs) = option_and_then (λ first. option_map (λ others. first + others) (fixed_size specs)) (form_size spec.form)
+
+-- the input behind a value
+abbrev pub passed_by : {X F : Type 0} → Result (X × Input F) F → Result (Unit {0} × Input F) F
+passed_by (Ok r) = Ok (tt, r.1)
+passed_by (Err fault) = Err fault

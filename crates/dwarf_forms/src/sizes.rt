@@ -1,0 +1,64 @@
+//! How many bytes values take whose forms say it.
+ghost use Rattle.std.specs.Prelude.{◌≡◌, ◌-◌, ◌≤◌, Some, IfSome};
+ghost use Rattle.dwarf_forms.specs.Sizes.{number_size, encoding_size, form_size, fixed_size};
+
+use crate::declaration::Spec;
+use crate::encoding::{Encoding, Size, encoding_of};
+
+fn number_size(size: Size) -> Option<u32>
+    ensures { result ≡ number_size size }
+{
+    match size {
+        Size::One => Some(1),
+        Size::Two => Some(2),
+        Size::Three => Some(3),
+        Size::Four => Some(4),
+        Size::Eight => Some(8),
+        Size::Uleb => None,
+    }
+}
+
+fn encoding_size(encoding: Encoding) -> Option<u32>
+    ensures { result ≡ encoding_size encoding }
+{
+    match encoding {
+        Encoding::Word(_) => Some(4),
+        Encoding::Number(size, _) => number_size(size),
+        Encoding::Data16 => Some(16),
+        Encoding::FlagPresent | Encoding::ImplicitConst => Some(0),
+        Encoding::Sleb | Encoding::Block(_) | Encoding::String => None,
+    }
+}
+
+fn form_size(form: u64) -> Option<u32>
+    ensures { result ≡ form_size form }
+{
+    encoding_size(encoding_of(form)?)
+}
+
+/// So many bytes and those of a value more; `None` where its form doesn't say them, or they are too many.
+fn with_form(total: u32, form: u64) -> Option<u32>
+    ensures more { IfSome result (λ n. total ≤ n) }
+    ensures form { IfSome result (λ n. form_size form ≡ Some (n - total)) }
+{
+    let size = form_size(form)?;
+    total.checked_add(size)
+}
+
+/// The bytes of all values of these attributes; `None` where a form doesn't say them, or they are 2^32 or more.
+pub(crate) fn fixed_size(specs: &[Spec]) -> Option<u32>
+    ensures { IfSome result (λ n. fixed_size specs.now ≡ Some n) }
+{
+    let mut total = 0u32;
+    let mut rest = specs;
+    while let Some((spec, others)) = rest.split_first() {
+        match with_form(total, spec.form) {
+            Some(more) => {
+                total = more;
+                rest = others;
+            }
+            None => return None,
+        }
+    }
+    Some(total)
+}

@@ -1,0 +1,235 @@
+-- What is known of an entry of .eh_frame that was read.
+use Rattle.std.proofs.Common.{◌≡◌, ℕ, ◌+◌, ◌<◌, ◌^◌, Bool, true, false, cond, List, [], ◌∷◌, take, Option, Some, None, Result, Ok, Err, refl, subst, arith}
+use Rattle.std.specs.Prelude.{◌==◌, ◌&&◌, ◌||◌, All, IfOk, IfSome, nat_lt, option_map}
+use Rattle.std.proofs.lemmas.Bool.Decides.{nat_tests}
+use Rattle.prof_bytes.specs.Outcome.{◌>>=◌}
+use Rattle.prof_bytes.specs.Number.{IsBytes}
+use Rattle.prof_bytes.specs.Fields.{Input, number_from, uleb_from, sleb_from, text_from, bytes_from}
+use Rattle.cfi_table.specs.declared.fault.FrameFault.{FrameFault}
+use Rattle.cfi_table.specs.declared.extent.Extent.{Extent}
+use Rattle.cfi_table.specs.declared.instruction.AlignmentFactors.{AlignmentFactors}
+use Rattle.cfi_table.specs.declared.instruction.CallFrameInstruction.{CallFrameInstruction}
+use Rattle.cfi_table.specs.Instructions.{Reading}
+use Rattle.cfi_table.specs.Rules.{State, no_rules, all_same_value}
+use Rattle.cfi_table.specs.Entries.{body_of, register_from, instructions_of}
+use Rattle.cfi_table.proofs.Moves.{AllMove, number_moves}
+use Rattle.eh_frame.specs.declared.constants.TheConstants.{EH_CIE_ID}
+use Rattle.eh_frame.specs.declared.address.Application.{Application}
+use Rattle.eh_frame.specs.declared.address.Application.TheVariants as applications
+use Rattle.eh_frame.specs.declared.cie.EhCie.{EhCie}
+use Rattle.eh_frame.specs.Addresses.{address_from}
+use Rattle.eh_frame.specs.Cies.{is_read, starts_from, until, cie_with, factors_of, cie_from_letters, cie_from_data, cie_from_factors, cie_from_augmentation, cie_from}
+use Rattle.eh_frame.specs.Runs.{addresses_of, cie_instructions, fde_instructions, rules_after}
+use Rattle.eh_frame.specs.Entries.{EhFde, Content, PassedOver, Common, Description, past_data, eh_fields_from, fde_with, content_of_cie, content_of_fde, content_by, is_eh_id, is_eh_cie, is_cie_before, cie_back, eh_cie_of, content_of}
+use Rattle.eh_frame.specs.Laws.{HasWords}
+use Rattle.eh_frame.proofs.Bounds.{fields_move}
+use Rattle.eh_frame.proofs.Listed.{address_moves}
+use Rattle.eh_frame.proofs.Members.{IsIn, found_in}
+use Rattle.eh_frame.proofs.Runs.{listed_rules}
+use Rattle.eh_frame.proofs.Words.{take_bytes, number_small, address_small, words_of}
+
+-- ---- return address registers are below 32
+
+abbrev HasRegister : Result (Option EhCie) FrameFault → Type 0
+HasRegister r = IfOk r (λ o. IfSome o (λ c. c.return_address_register < 32))
+
+register_bind : {X : Type 0} (r : Result X FrameFault) (next : X → Result (Option EhCie) FrameFault) → ((x : X) → HasRegister (next x)) → HasRegister (r >>= next)
+register_bind (Err fault) next has = tt
+register_bind (Ok x) next has = has x
+
+register_either : (b : Bool) (x y : Result (Option EhCie) FrameFault) → (b ≡ true → HasRegister x) → HasRegister y → HasRegister (cond b x y)
+register_either true x y p q = p refl
+register_either false x y p q = q
+
+letters_register : (end : ℕ) (factors : AlignmentFactors) (register : ℕ) (letters : List ℕ) (input : Input FrameFault) → register < 32 → HasRegister (cie_from_letters end factors register letters input)
+unfolding cie_from_letters
+letters_register end factors register letters input small =
+    register_bind (uleb_from input) _ (λ size. register_bind {X = List ℕ × Input FrameFault} (bytes_from size.0 size.1) _ (λ bytes. register_bind (starts_from letters applications.Absolute (until bytes.1 size.1)) _ (λ a. with bytes.1 a)))
+  where
+    with : (behind : Input FrameFault) (a : Option Application) → HasRegister (Ok (option_map (cie_with end factors register true behind) a))
+    with behind None = tt
+    with behind (Some a) = small
+
+data_register : (end : ℕ) (factors : AlignmentFactors) (register : ℕ) (augmentation : List ℕ) (input : Input FrameFault) → register < 32 → HasRegister (cie_from_data end factors register augmentation input)
+data_register end factors register [] input small = small
+data_register end factors register (first ∷ letters) input small = letters_register end factors register letters input small
+
+low : (n : ℕ) → nat_lt n 32 ≡ true → n < 32
+low n e = grind (arith, nat_tests)
+
+factors_register : (end version : ℕ) (augmentation : List ℕ) (input : Input FrameFault) → HasRegister (cie_from_factors end version augmentation input)
+unfolding cie_from_factors
+factors_register end version augmentation input =
+    register_bind (uleb_from input) _ (λ c. register_bind (sleb_from c.1) _ (λ d. register_bind (register_from version d.1) _ (λ r.
+    register_either (nat_lt r.0 32) _ _ (λ small. data_register end (factors_of c.0 d.0) r.0 augmentation r.1 (low r.0 small)) tt)))
+
+augmentation_register : (end version : ℕ) (input : Input FrameFault) → HasRegister (cie_from_augmentation end version input)
+unfolding cie_from_augmentation
+augmentation_register end version input =
+    register_bind {X = List ℕ × Input FrameFault} (text_from input) _ (λ t. register_either (is_read t.0) _ _ (λ is. factors_register end version t.0 t.1) tt)
+
+from_register : (end : ℕ) (input : Input FrameFault) → HasRegister (cie_from end input)
+unfolding cie_from
+from_register end input = register_bind (number_from 1 input) _ (λ v. register_either (v.0 == 1 || v.0 == 3) _ _ (λ is. augmentation_register end v.0 v.1) tt)
+
+register_is : (end : ℕ) (input : Input FrameFault) (cie : EhCie) → cie_from end input ≡ Ok (Some cie) → cie.return_address_register < 32
+register_is end input cie is = let P : Result (Option EhCie) FrameFault → Type 0 = λ r. HasRegister r in subst P is (from_register end input)
+
+-- ---- an FDE's fields
+
+abbrev AreSmall : Reading (ℕ × ℕ) → Type 0
+AreSmall r = IfOk r (λ f. (f.0.0 < 2 ^ 32) × (f.0.1 < 2 ^ 32))
+
+fields_small : (address : ℕ) (cie : EhCie) (input : Input FrameFault) → IsBytes input.at.whole → AreSmall (eh_fields_from address cie input)
+unfolding eh_fields_from
+fields_small address cie input are = start (address_from (addresses_of address cie) input) (address_small (addresses_of address cie) input are) (address_moves (addresses_of address cie) input)
+  where
+    last : (a b : ℕ) (r : Result (Input FrameFault) FrameFault) → a < 2 ^ 32 → b < 2 ^ 32 → AreSmall (r >>= λ next. (let u : Reading (ℕ × ℕ) = Ok ((a, b), next) in u))
+    last a b (Err fault) p q = tt
+    last a b (Ok next) p q = (p, q)
+
+    range : (a : ℕ) (r : Reading ℕ) → a < 2 ^ 32 → IfOk r (λ n. n.0 < 2 ^ 32) → AreSmall (r >>= λ n. past_data cie.has_data n.1 >>= λ next. (let u : Reading (ℕ × ℕ) = Ok ((a, n.0), next) in u))
+    range a (Err fault) p small = tt
+    range a (Ok n) p small = last a n.0 (past_data cie.has_data n.1) p small
+
+    start : (r : Reading ℕ) → IfOk r (λ n. n.0 < 2 ^ 32) → AllMove input r
+        → AreSmall (r >>= λ a. number_from 4 a.1 >>= λ n. past_data cie.has_data n.1 >>= λ next. (let u : Reading (ℕ × ℕ) = Ok ((a.0, n.0), next) in u))
+    start (Err fault) small moves = tt
+    start (Ok a) small moves = range a.0 (number_from 4 a.1) small (number_small a.1 (rw moves.whole are))
+
+-- ---- what an entry is
+
+-- a CIE's instructions
+pub record CommonRead (section : List ℕ) (address : ℕ) (cie : EhCie) (own : List CallFrameInstruction) : Type 0 where
+  pub final : State
+  pub ran : cie_instructions section address cie ≡ Ok (own, final)
+  pub register : cie.return_address_register < 32
+
+-- an FDE's fields, and the rules after its instructions and after its CIE's
+pub record DescriptionRead (section : List ℕ) (address : ℕ) (extents : List Extent) (fde : EhFde) : Type 0 where
+  pub c : Extent
+  pub there : IsIn c extents
+  pub marked : is_eh_cie section c ≡ true
+  pub cie : eh_cie_of section c ≡ Ok (Some fde.cie)
+  pub offset : fde.cie_offset ≡ c.offset
+  pub initial : State
+  pub initial_ran : cie_instructions section address fde.cie ≡ Ok (fde.initial, initial)
+  pub own : State
+  pub own_rules : rules_after None initial.regs fde.instructions (record initial { location = fde.initial_location }) ≡ Some own
+  pub words : All HasWords fde.instructions
+  pub start : fde.initial_location < 2 ^ 32
+  pub range : fde.address_range < 2 ^ 32
+
+abbrev pub Facts : List ℕ → ℕ → List Extent → Content → Type 0
+Facts section address extents PassedOver = Unit {0}
+Facts section address extents (Common cie own) = CommonRead section address cie own
+Facts section address extents (Description fde) = DescriptionRead section address extents fde
+
+abbrev AllFacts : List ℕ → ℕ → List Extent → Result Content FrameFault → Type 0
+AllFacts section address extents r = IfOk r (Facts section address extents)
+
+common_facts : (section : List ℕ) (address : ℕ) (extents : List Extent) (end : ℕ) (input : Input FrameFault) (o : Option EhCie) → cie_from end input ≡ Ok o → AllFacts section address extents (content_of_cie section address o)
+common_facts section address extents end input None is = tt
+common_facts section address extents end input (Some cie) is = go (cie_instructions section address cie) refl
+  where
+    go : (r : Result (List CallFrameInstruction × State) FrameFault) → cie_instructions section address cie ≡ r → AllFacts section address extents (r >>= λ own. (let u : Result Content FrameFault = Ok (Common cie own.0) in u))
+    go (Err fault) ran = tt
+    go (Ok own) ran = record { final = own.1; ran = ran; register = register_is end input cie is }
+
+both_true : (a b : Bool) → (a && b) ≡ true → (a ≡ true) × (b ≡ true)
+both_true true b e = (refl, e)
+both_true false b e = absurd cc
+
+fde_facts : (section : List ℕ) (address : ℕ) (extents : List Extent) (e c : Extent) (distance : ℕ) (input : Input FrameFault) (o : Option EhCie) → IsBytes input.at.whole → cie_back section extents e distance ≡ Some c → eh_cie_of section c ≡ Ok o
+    → AllFacts section address extents (content_of_fde section address c.offset input o)
+unfolding cie_back
+fde_facts section address extents e c distance input None are found is = tt
+fde_facts section address extents e c distance input (Some cie) are found is = fields (eh_fields_from address cie input) (fields_small address cie input are) (fields_move address cie input)
+  where
+    place : IsIn c extents × ((c.offset + distance == e.offset + 4 && is_cie_before section e c) ≡ true)
+    place = found_in (λ (x : Extent). x.offset + distance == e.offset + 4 && is_cie_before section e x) extents c found
+
+    own : (f : ℕ × ℕ) (next : Input FrameFault) (initial : List CallFrameInstruction × State) (r : Result (List CallFrameInstruction × State) FrameFault) → f.0 < 2 ^ 32 → f.1 < 2 ^ 32 → IsBytes next.at.whole
+        → cie_instructions section address cie ≡ Ok initial → fde_instructions address cie f.0 next initial.1 ≡ r
+        → AllFacts section address extents (r >>= λ own. (let u : Result Content FrameFault = Ok (Description (fde_with cie c.offset initial.0 f own.0)) in u))
+    own f next initial (Err fault) start range bytes before ran = tt
+    own f next initial (Ok o) start range bytes before ran =
+        let s : State = record initial.1 { location = f.0 } in
+        record {
+          c = c;
+          there = place.0;
+          marked = (both_true (nat_lt c.offset e.offset) (is_eh_cie section c) (both_true (c.offset + distance == e.offset + 4) (is_cie_before section e c) place.1).1).1;
+          cie = is;
+          offset = refl;
+          initial = initial.1;
+          initial_ran = before;
+          own = o.1;
+          own_rules = listed_rules initial.1.regs _ (addresses_of address cie) cie.factors next s o ran;
+          words = words_of initial.1.regs _ (addresses_of address cie) cie.factors next s o bytes ran;
+          start = start;
+          range = range;
+        }
+
+    initial : (f : ℕ × ℕ) (next : Input FrameFault) (r : Result (List CallFrameInstruction × State) FrameFault) → f.0 < 2 ^ 32 → f.1 < 2 ^ 32 → IsBytes next.at.whole → cie_instructions section address cie ≡ r
+        → AllFacts section address extents (r >>= λ initial. fde_instructions address cie f.0 next initial.1 >>= λ own. (let u : Result Content FrameFault = Ok (Description (fde_with cie c.offset initial.0 f own.0)) in u))
+    initial f next (Err fault) start range bytes before = tt
+    initial f next (Ok i) start range bytes before = own f next i (fde_instructions address cie f.0 next i.1) start range bytes before refl
+
+    fields : (r : Reading (ℕ × ℕ)) → AreSmall r → AllMove input r
+        → AllFacts section address extents (r >>= λ f. cie_instructions section address cie >>= λ initial. fde_instructions address cie f.0.0 f.1 initial.1 >>= λ own. (let u : Result Content FrameFault = Ok (Description (fde_with cie c.offset initial.0 f.0 own.0)) in u))
+    fields (Err fault) small moves = tt
+    fields (Ok f) small moves = initial f.0 f.1 (cie_instructions section address cie) small.0 small.1 (rw moves.whole are) refl
+
+by_facts : (section : List ℕ) (address : ℕ) (extents : List Extent) (e : Extent) (distance : ℕ) (input : Input FrameFault) (o : Option Extent) → IsBytes input.at.whole → cie_back section extents e distance ≡ o → AllFacts section address extents (content_by section address e input o)
+by_facts section address extents e distance input None are found = tt
+by_facts section address extents e distance input (Some c) are found = go (eh_cie_of section c) refl
+  where
+    go : (r : Result (Option EhCie) FrameFault) → eh_cie_of section c ≡ r → AllFacts section address extents (r >>= λ cie. content_of_fde section address c.offset input cie)
+    go (Err fault) is = tt
+    go (Ok o) is = fde_facts section address extents e c distance input o are found is
+
+content_facts : (section : List ℕ) (address : ℕ) (extents : List Extent) (e : Extent) → IsBytes section → AllFacts section address extents (content_of section address extents e)
+unfolding content_of
+content_facts section address extents e are = go (number_from 4 (body_of section e)) (number_moves 4 (body_of section e))
+  where
+    bytes : IsBytes (take e.end section)
+    bytes = take_bytes e.end section are
+
+    read : (input : Input FrameFault) (r : Result (Option EhCie) FrameFault) → cie_from e.end input ≡ r → AllFacts section address extents (r >>= λ cie. content_of_cie section address cie)
+    read input (Err fault) is = tt
+    read input (Ok o) is = common_facts section address extents e.end input o is
+
+    either : (b : Bool) (id : ℕ) (input : Input FrameFault) → IsBytes input.at.whole
+        → AllFacts section address extents (cond b (cie_from e.end input >>= λ cie. content_of_cie section address cie) (content_by section address e input (cie_back section extents e id)))
+    either true id input bytes = read input (cie_from e.end input) refl
+    either false id input bytes = by_facts section address extents e id input (cie_back section extents e id) bytes refl
+
+    go : (r : Reading ℕ) → AllMove (body_of section e) r
+        → AllFacts section address extents (r >>= λ id. cond (id.0 == EH_CIE_ID) (cie_from e.end id.1 >>= λ cie. content_of_cie section address cie) (content_by section address e id.1 (cie_back section extents e id.0)))
+    go (Err fault) moves = tt
+    go (Ok id) moves = either (id.0 == EH_CIE_ID) id.0 id.1 (rw moves.whole bytes)
+
+pub facts_of : (section : List ℕ) (address : ℕ) (extents : List Extent) (e : Extent) (content : Content) → IsBytes section → content_of section address extents e ≡ Ok content → Facts section address extents content
+facts_of section address extents e content are is = let P : Result Content FrameFault → Type 0 = λ r. AllFacts section address extents r in subst P is (content_facts section address extents e are)
+
+-- ---- a CIE's instructions, and the rules after them
+
+pub initial_rules : (section : List ℕ) (address : ℕ) (cie : EhCie) (own : List CallFrameInstruction) (final : State) → cie_instructions section address cie ≡ Ok (own, final) → rules_after None all_same_value own no_rules ≡ Some final
+unfolding cie_instructions
+initial_rules section address cie own final ran = listed_rules all_same_value _ (addresses_of address cie) cie.factors (instructions_of section cie.initial_instructions) no_rules (own, final) ran
+
+pub initial_words : (section : List ℕ) (address : ℕ) (cie : EhCie) (own : List CallFrameInstruction) (final : State) → IsBytes section → cie_instructions section address cie ≡ Ok (own, final) → All HasWords own
+unfolding cie_instructions
+initial_words section address cie own final are ran =
+    words_of all_same_value _ (addresses_of address cie) cie.factors (instructions_of section cie.initial_instructions) no_rules (own, final) (take_bytes cie.initial_instructions.end section are) ran
+
+-- an FDE's CIE is read with the same instructions
+pub cie_content : (section : List ℕ) (address : ℕ) (extents : List Extent) (c : Extent) (cie : EhCie) (own : List CallFrameInstruction) (final : State) → is_eh_cie section c ≡ true → eh_cie_of section c ≡ Ok (Some cie) → cie_instructions section address cie ≡ Ok (own, final)
+    → content_of section address extents c ≡ Ok (Common cie own)
+unfolding content_of eh_cie_of
+cie_content section address extents c cie own final mark is ran = go (number_from 4 (body_of section c)) mark is
+  where
+    go : (r : Reading ℕ) → is_eh_id r ≡ true → (r >>= λ id. cie_from c.end id.1) ≡ Ok (Some cie)
+        → (r >>= λ id. cond (id.0 == EH_CIE_ID) (cie_from c.end id.1 >>= λ cie. content_of_cie section address cie) (content_by section address c id.1 (cie_back section extents c id.0))) ≡ Ok (Common cie own)
+    go (Err fault) mark is = absurd cc
+    go (Ok id) mark is = rw (mark, is, ran) refl

@@ -1,0 +1,284 @@
+-- Entries as they are read, with the CIEs that are kept.
+use Rattle.std.proofs.Common.{Bor, ◌≡◌, ◌≢◌, ℕ, zero, suc, ◌+◌, ◌<◌, ◌≤◌, Bool, true, false, cond, List, [], ◌∷◌, ◌++◌, length, get_or, take, map, Option, Some, None, Result, Ok, Err, refl, sym, ap, ◌∙◌, arith}
+use Rattle.std.specs.Prelude.{◌==◌, ◌&&◌, nat_lt, IfOk, find, filter, option_map}
+use Rattle.std.specs.Option.{option_copied}
+use Rattle.std.specs.List.{flat_map}
+use Rattle.std.proofs.lemmas.Bool.Decides.{nat_tests}
+use Rattle.std.proofs.lemmas.List.{take_more, take_all, append-nil, map_push}
+use Rattle.std.proofs.lemmas.List.Concat.{flat_map-append}
+use Rattle.std.proofs.lemmas.List.Elements.{filter_more}
+use Rattle.std.proofs.lemmas.Simd.{map-map}
+use Rattle.prof_bytes.specs.Outcome.{◌>>=◌, FailsBy, viewed}
+use Rattle.prof_bytes.specs.Fields.{Input, number_from}
+use Rattle.prof_bytes.specs.declared.fail.Fail.{Fail}
+use Rattle.prof_bytes.specs.declared.fail.Fail.TheVariants as fails
+use Rattle.cfi_table.specs.declared.fault.FrameFault.{FrameFault}
+use Rattle.cfi_table.specs.declared.extent.Extent.{Extent}
+use Rattle.cfi_table.specs.Entries.{body_of}
+use Rattle.cfi_table.specs.Frames.{all_ok, size_of}
+use Rattle.cfi_table.specs.private.Placed.{AreRising}
+use Rattle.cfi_table.proofs.Entries.{find_map, find_filter, all_ok_push, all_ok_fault, all_ok_early, fault_at_index, given, refused}
+use Rattle.cfi_table.proofs.Rising.{from_lower, filter_rises, other}
+use Rattle.eh_frame.specs.declared.constants.TheConstants.{EH_CIE_ID}
+use Rattle.eh_frame.specs.declared.cie.EhCie.{EhCie}
+use Rattle.eh_frame.specs.declared.known_cie.KnownCie.{KnownCie}
+use Rattle.eh_frame.specs.Cies.{cie_from}
+use Rattle.eh_frame.specs.Entries.{EhEntry, Content, Description, fde_with, eh_fields_from, is_eh_cie, is_cie_before, eh_cie_of, cie_back, content_of_cie, content_of_fde, content_by, content_of, entry_with, entry_of, eh_extents, faulty_end, eh_entries}
+use Rattle.cfi_table.specs.declared.instruction.CallFrameInstruction.{CallFrameInstruction}
+use Rattle.cfi_table.specs.Rules.{State}
+use Rattle.eh_frame.specs.Runs.{cie_instructions, fde_instructions}
+use Rattle.eh_frame.specs.Translation.{place_of, fde_head, encoded, entry_body, block_with, block_of, translated}
+use Rattle.eh_frame.specs.private.Adjoining.{AreAdjoining}
+use Rattle.eh_frame.specs.private.Checked.{Known, known, seen_cie}
+
+-- ---- a CIE among those that are kept
+
+found_cie : (section : List ℕ) (extents : List Extent) (e : Extent) (cies : List KnownCie) (distance : ℕ) → map seen_cie cies ≡ map (known section) (filter (is_cie_before section e) extents)
+    → option_map seen_cie (find (λ cie. cie.offset + distance == e.offset + 4) cies) ≡ option_map (known section) (cie_back section extents e distance)
+unfolding cie_back
+found_cie section extents e cies distance each =
+    sym (find_map (λ (k : Known). k.offset + distance == e.offset + 4) seen_cie cies)
+    ∙ ap (λ (ks : List Known). find (λ k. k.offset + distance == e.offset + 4) ks) each
+    ∙ find_map (λ (k : Known). k.offset + distance == e.offset + 4) (known section) (filter (is_cie_before section e) extents)
+    ∙ ap (option_map (known section)) (find_filter (λ (c : Extent). c.offset + distance == e.offset + 4) (is_cie_before section e) extents)
+
+no_cie : (section : List ℕ) (o : Option Extent) → None ≡ option_map (known section) o → o ≡ None
+no_cie section None e = refl
+no_cie section (Some x) e = absurd cc
+
+some_is : (a b : Known) → Some a ≡ Some b → a ≡ b
+some_is a b e = cc
+
+one_cie : (section : List ℕ) (o : Option Extent) (k : Known) → Some k ≡ option_map (known section) o → (e : Extent) × (o ≡ Some e) × (k ≡ known section e)
+one_cie section None k e = absurd cc
+one_cie section (Some x) k e = (x, refl, some_is k (known section x) e)
+
+-- ---- an entry by the word behind its length
+
+pub without_id : (section : List ℕ) (address : ℕ) (extents : List Extent) (e : Extent) (fault : FrameFault) → number_from 4 (body_of section e) ≡ Err fault → content_of section address extents e ≡ Err fault
+unfolding content_of
+without_id section address extents e fault is = rw is refl
+
+pub of_cie_fault : (section : List ℕ) (address : ℕ) (extents : List Extent) (e : Extent) (id : ℕ) (input : Input FrameFault) (fault : FrameFault) → number_from 4 (body_of section e) ≡ Ok (id, input) → id ≡ EH_CIE_ID
+    → cie_from e.end input ≡ Err fault → content_of section address extents e ≡ Err fault
+unfolding content_of
+of_cie_fault section address extents e id input fault is mark faulty = rw (is, mark, faulty) refl
+
+pub of_cie : (section : List ℕ) (address : ℕ) (extents : List Extent) (e : Extent) (id : ℕ) (input : Input FrameFault) (cie : Option EhCie) → number_from 4 (body_of section e) ≡ Ok (id, input) → id ≡ EH_CIE_ID
+    → cie_from e.end input ≡ Ok cie → content_of section address extents e ≡ content_of_cie section address cie
+unfolding content_of
+of_cie section address extents e id input cie is mark read = rw (is, mark, read) refl
+
+pub of_no_cie : (section : List ℕ) (address : ℕ) (extents : List Extent) (e : Extent) (id : ℕ) (input : Input FrameFault) (cies : List KnownCie) (r : Option (Bor KnownCie)) → number_from 4 (body_of section e) ≡ Ok (id, input) → id ≢ EH_CIE_ID
+    → option_copied r ≡ find (λ cie. cie.offset + id == e.offset + 4) cies → r ≡ None
+    → map seen_cie cies ≡ map (known section) (filter (is_cie_before section e) extents) → content_of section address extents e ≡ Err (record { offset = e.offset })
+unfolding content_of
+of_no_cie section address extents e id input cies r is ne found none each =
+    let absent = no_cie section (cie_back section extents e id) (ap (option_map seen_cie) (sym (ap option_copied none) ∙ found) ∙ found_cie section extents e cies id each) in
+    rw (is, other id EH_CIE_ID ne, absent) refl
+
+by_known : (section : List ℕ) (address : ℕ) (e x : Extent) (input : Input FrameFault) (c : KnownCie) → seen_cie c ≡ known section x → content_by section address e input (Some x) ≡ content_of_fde section address c.offset input c.cie
+by_known section address e x input c same =
+    let cie : eh_cie_of section x ≡ Ok c.cie = sym (ap (λ (k : Known). k.cie) same) in
+    let offset : x.offset ≡ c.offset = sym (ap (λ (k : Known). k.offset) same) in
+    ap (λ (r : Result (Option EhCie) FrameFault). r >>= λ cie. content_of_fde section address x.offset input cie) cie
+    ∙ ap (λ (n : ℕ). content_of_fde section address n input c.cie) offset
+
+pub of_fde : (section : List ℕ) (address : ℕ) (extents : List Extent) (e : Extent) (id : ℕ) (input : Input FrameFault) (cies : List KnownCie) (r : Option (Bor KnownCie)) (c : Bor KnownCie) → number_from 4 (body_of section e) ≡ Ok (id, input) → id ≢ EH_CIE_ID
+    → option_copied r ≡ find (λ cie. cie.offset + id == e.offset + 4) cies → r ≡ Some c
+    → map seen_cie cies ≡ map (known section) (filter (is_cie_before section e) extents) → content_of section address extents e ≡ content_of_fde section address c.now.offset input c.now.cie
+unfolding content_of
+of_fde section address extents e id input cies r c is ne found some each =
+    let p = one_cie section (cie_back section extents e id) (seen_cie c.now) (ap (option_map seen_cie) (sym (ap option_copied some) ∙ found) ∙ found_cie section extents e cies id each) in
+    rw (is, other id EH_CIE_ID ne, p.1) (by_known section address e p.0 input c.now p.2)
+
+-- ---- an FDE of a CIE that is read
+
+pub fde_body : (section : List ℕ) (address base offset : ℕ) (input next : Input FrameFault) (cie : EhCie) (fields : ℕ × ℕ) (initial : List CallFrameInstruction × State) → eh_fields_from address cie input ≡ Ok (fields, next) → cie_instructions section address cie ≡ Ok initial
+    → viewed (entry_body base) (content_of_fde section address offset input (Some cie)) ≡ viewed (λ (r : List CallFrameInstruction × State). fde_head (place_of base offset) fields.0 fields.1 ++ flat_map encoded r.0) (fde_instructions address cie fields.0 next initial.1)
+fde_body section address base offset input next cie fields initial read is = rw (read, is) (go (fde_instructions address cie fields.0 next initial.1))
+  where
+    go : (r : Result (List CallFrameInstruction × State) FrameFault)
+        → viewed (entry_body base) (r >>= λ own. (let u : Result Content FrameFault = Ok (Description (fde_with cie offset initial.0 fields own.0)) in u)) ≡ viewed (λ (r : List CallFrameInstruction × State). fde_head (place_of base offset) fields.0 fields.1 ++ flat_map encoded r.0) r
+    go (Ok r) = refl
+    go (Err fault) = refl
+
+pub ok_more : {X E : Type 0} (P Q : X → Type 0) (r : Result X E) → ((x : X) → P x → Q x) → IfOk r P → IfOk r Q
+ok_more P Q (Ok x) more holds = more x holds
+ok_more P Q (Err e) more holds = tt
+
+-- ---- the word says whether an entry is a CIE
+
+pub is_cie_by : (section : List ℕ) (e : Extent) (id : ℕ) (input : Input FrameFault) → number_from 4 (body_of section e) ≡ Ok (id, input) → id ≡ EH_CIE_ID → is_eh_cie section e ≡ true
+is_cie_by section e id input is mark = rw (is, mark) refl
+
+pub no_cie_by : (section : List ℕ) (e : Extent) (id : ℕ) (input : Input FrameFault) → number_from 4 (body_of section e) ≡ Ok (id, input) → id ≢ EH_CIE_ID → is_eh_cie section e ≡ false
+no_cie_by section e id input is ne = rw is (other id EH_CIE_ID ne)
+
+pub cie_is : (section : List ℕ) (e : Extent) (id : ℕ) (input : Input FrameFault) (cie : Option EhCie) → number_from 4 (body_of section e) ≡ Ok (id, input) → cie_from e.end input ≡ Ok cie → eh_cie_of section e ≡ Ok cie
+unfolding eh_cie_of
+cie_is section e id input cie is read = rw (is, read) refl
+
+pub known_by : (section : List ℕ) (e : Extent) (id : ℕ) (input : Input FrameFault) (cie : Option EhCie) (o : Option KnownCie) → number_from 4 (body_of section e) ≡ Ok (id, input) → id ≡ EH_CIE_ID → cie_from e.end input ≡ Ok cie
+    → option_map seen_cie o ≡ Some (record { offset = e.offset; cie = Ok cie }) → option_map seen_cie o ≡ cond (is_eh_cie section e) (Some (known section e)) None
+known_by section e id input cie o is mark read made =
+    made
+    ∙ ap (λ (r : Result (Option EhCie) FrameFault). Some (record { offset = e.offset; cie = r })) (sym (cie_is section e id input cie is read))
+    ∙ sym (ap (λ (b : Bool). cond b (Some (known section e)) None) (is_cie_by section e id input is mark))
+
+-- ---- entries that adjoin rise
+
+pub rises : (start : ℕ) (es : List Extent) → AreAdjoining start es → AreRising start (map (λ e. e.offset) es)
+rises start [] up = tt
+rises start (e ∷ es) up =
+    let is : e.offset ≡ start = up.0 in
+    let order : start + 4 ≤ e.end = up.1 in
+    (omega arith, from_lower (e.offset + 1) e.end (map (λ e. e.offset) es) (omega arith) (rises e.end es up.2))
+
+take_rises : (low k : ℕ) (ns : List Extent) → AreRising low (map (λ e. e.offset) ns) → AreRising low (map (λ e. e.offset) (take k ns))
+take_rises low zero ns up = tt
+take_rises low (suc k) [] up = tt
+take_rises low (suc k) (e ∷ es) up = (up.0, take_rises (e.offset + 1) k es up.1)
+
+-- none of those from an offset on stands before it
+none_before : (start : ℕ) (es : List Extent) (low : ℕ) (p : Extent → Bool) → AreAdjoining start es → low ≤ start → filter (λ c. nat_lt c.offset low && p c) es ≡ []
+none_before start [] low p up le = refl
+none_before start (e ∷ es) low p up le =
+    let is : e.offset ≡ start = up.0 in
+    let order : start + 4 ≤ e.end = up.1 in
+    let not_lower : nat_lt e.offset low ≡ false = grind (arith, nat_tests) in
+    rw not_lower (none_before e.end es low p up.2 (omega arith))
+
+at_least : (start : ℕ) (es : List Extent) (k : ℕ) (d : Extent) → AreAdjoining start es → k < length es → start ≤ (get_or es k d).offset
+at_least start [] k d up lt = absurd (omega arith)
+at_least start (e ∷ es) zero d up lt = let is : e.offset ≡ start = up.0 in omega arith
+at_least start (e ∷ es) (suc k) d up lt =
+    let order : start + 4 ≤ e.end = up.1 in
+    let more : e.end ≤ (get_or es k d).offset = at_least e.end es k d up.2 (omega arith) in
+    omega arith
+
+pub before_it : (start : ℕ) (es : List Extent) (k : ℕ) (d : Extent) (p : Extent → Bool) → AreAdjoining start es → k < length es → filter (λ c. nat_lt c.offset (get_or es k d).offset && p c) es ≡ filter p (take k es)
+before_it start [] k d p up lt = absurd (omega arith)
+before_it start (e ∷ es) zero d p up lt = none_before start (e ∷ es) e.offset p up (let is : e.offset ≡ start = up.0 in omega arith)
+before_it start (e ∷ es) (suc k) d p up lt =
+    let is : e.offset ≡ start = up.0 in
+    let order : start + 4 ≤ e.end = up.1 in
+    let more : e.end ≤ (get_or es k d).offset = at_least e.end es k d up.2 (omega arith) in
+    let lower : nat_lt e.offset (get_or es k d).offset ≡ true = grind (arith, nat_tests) in
+    rw lower (ap (λ (cs : List Extent). cond (p e) (e ∷ cs) cs) (before_it e.end es k d p up.2 (omega arith)))
+
+-- the CIEs stand as the entries do
+pub cies_rise : (section : List ℕ) (extents : List Extent) (k : ℕ) (cies : List KnownCie) → map seen_cie cies ≡ map (known section) (filter (is_eh_cie section) (take k extents)) → AreAdjoining 0 extents → AreRising 0 (map (λ cie. cie.offset) cies)
+cies_rise section extents k cies each up =
+    let es = filter (is_eh_cie section) (take k extents) in
+    let offsets : map (λ (cie : KnownCie). cie.offset) cies ≡ map (λ (e : Extent). e.offset) es =
+    sym (map-map (λ (k : Known). k.offset) seen_cie cies) ∙ ap (λ (ks : List Known). map (λ (k : Known). k.offset) ks) each ∙ map-map (λ (k : Known). k.offset) (known section) es in
+    rw offsets (filter_rises (λ (e : Extent). e.offset) (is_eh_cie section) 0 (take k extents) (take_rises 0 k extents (rises 0 extents up)))
+
+-- ---- one more entry that is a CIE, or is none
+
+true_of : (b : Bool) (k x : Known) → Some k ≡ cond b (Some x) None → (b ≡ true) × (k ≡ x)
+true_of true k x e = (refl, some_is k x e)
+true_of false k x e = absurd cc
+
+false_of : (b : Bool) (x : Known) → None ≡ cond b (Some x) None → b ≡ false
+false_of true x e = absurd cc
+false_of false x e = refl
+
+pub one_more : (section : List ℕ) (extents : List Extent) (k : ℕ) (d : Extent) (cies next : List KnownCie) (c : KnownCie) → k < length extents
+    → Some (seen_cie c) ≡ cond (is_eh_cie section (get_or extents k d)) (Some (known section (get_or extents k d))) None → next ≡ cies ++ c ∷ []
+    → map seen_cie cies ≡ map (known section) (filter (is_eh_cie section) (take k extents)) → map seen_cie next ≡ map (known section) (filter (is_eh_cie section) (take (k + 1) extents))
+one_more section extents k d cies next c lt is pushed so_far =
+    let e = get_or extents k d in
+    let both = true_of (is_eh_cie section e) (seen_cie c) (known section e) is in
+    ap (λ (cs : List KnownCie). map seen_cie cs) pushed ∙ map_push seen_cie cies c
+    ∙ ap (λ (ks : List Known). ks ++ seen_cie c ∷ []) so_far
+    ∙ ap (λ (x : Known). map (known section) (filter (is_eh_cie section) (take k extents)) ++ x ∷ []) both.1
+    ∙ sym (map_push (known section) (filter (is_eh_cie section) (take k extents)) e)
+    ∙ ap (λ (es : List Extent). map (known section) es) (sym (filter_more (is_eh_cie section) extents k d lt ∙ ap (λ (b : Bool). filter (is_eh_cie section) (take k extents) ++ cond b (e ∷ []) []) both.0))
+
+pub none_more : (section : List ℕ) (extents : List Extent) (k : ℕ) (d : Extent) (cies : List KnownCie) → k < length extents
+    → None ≡ cond (is_eh_cie section (get_or extents k d)) (Some (known section (get_or extents k d))) None
+    → map seen_cie cies ≡ map (known section) (filter (is_eh_cie section) (take k extents)) → map seen_cie cies ≡ map (known section) (filter (is_eh_cie section) (take (k + 1) extents))
+none_more section extents k d cies lt is so_far =
+    let e = get_or extents k d in
+    so_far
+    ∙ ap (λ (es : List Extent). map (known section) es) (sym (filter_more (is_eh_cie section) extents k d lt
+    ∙ ap (λ (b : Bool). filter (is_eh_cie section) (take k extents) ++ cond b (e ∷ []) []) (false_of (is_eh_cie section e) (known section e) is) ∙ append-nil (filter (is_eh_cie section) (take k extents))))
+
+-- ---- the entries that are read one after another
+
+-- those below an index are read, and their blocks are put
+pub record Reads (section : List ℕ) (address base : ℕ) (extents : List Extent) (k : ℕ) (out : List ℕ) : Type 0 where
+  pub found : List EhEntry
+  pub read : all_ok (map (entry_of section address extents) (take k extents)) ≡ Ok found
+  pub put : out ≡ flat_map (block_of base) found
+
+pub reads_none : (section : List ℕ) (address base : ℕ) (extents : List Extent) → Reads section address base extents 0 []
+reads_none section address base extents = record { found = []; read = refl; put = refl }
+
+read_as : (section : List ℕ) (address : ℕ) (extents : List Extent) (e : Extent) (content : Content) → content_of section address extents e ≡ Ok content → entry_of section address extents e ≡ Ok (entry_with e content)
+read_as section address extents e content is = rw is refl
+
+pub reads_more : (section : List ℕ) (address base : ℕ) (extents : List Extent) (k : ℕ) (d : Extent) (body out next : List ℕ) → k < length extents
+    → viewed (entry_body base) (content_of section address extents (get_or extents k d)) ≡ Ok body → next ≡ out ++ block_with (size_of (get_or extents k d)) body
+    → Reads section address base extents k out → Reads section address base extents (k + 1) next
+reads_more section address base extents k d body out next lt is made kept =
+    let e = get_or extents k d in
+    let g = entry_of section address extents in
+    let content = given (entry_body base) (content_of section address extents e) body is in
+    let entry = entry_with e content.0 in
+    record {
+      found = kept.found ++ entry ∷ [];
+      read =
+          ap (λ (es : List Extent). all_ok (map g es)) (take_more extents k d lt)
+          ∙ ap (λ (rs : List (Result EhEntry FrameFault)). all_ok rs) (map_push g (take k extents) e)
+          ∙ ap (λ (r : Result EhEntry FrameFault). all_ok (map g (take k extents) ++ r ∷ [])) (read_as section address extents e content.0 content.1)
+          ∙ all_ok_push (map g (take k extents)) kept.found entry kept.read;
+      put =
+          made
+          ∙ ap (λ (bs : List ℕ). out ++ block_with (size_of e) bs) (sym content.2)
+          ∙ ap (λ (bs : List ℕ). bs ++ block_of base entry) kept.put
+          ∙ ap (λ (bs : List ℕ). flat_map (block_of base) kept.found ++ bs) (sym (append-nil (block_of base entry)))
+          ∙ sym (flat_map-append (block_of base) kept.found (entry ∷ []));
+    }
+
+pub reads_fault : (section : List ℕ) (address base : ℕ) (extents : List Extent) (k : ℕ) (d : Extent) (fail : Fail FrameFault) (out : List ℕ) → k < length extents
+    → FailsBy fail (viewed (entry_body base) (content_of section address extents (get_or extents k d))) → Reads section address base extents k out
+    → FailsBy fail (viewed (flat_map (block_of base)) (all_ok (map (entry_of section address extents) extents)))
+reads_fault section address base extents k d (fails.Memory memory) out lt is kept = tt
+reads_fault section address base extents k d (fails.Fault fault) out lt is kept =
+    let e = get_or extents k d in
+    let faulty = refused (entry_body base) (content_of section address extents e) fault is in
+    let entry : entry_of section address extents e ≡ Err fault = rw faulty refl in
+    ap (λ (r : Result (List EhEntry) FrameFault). viewed (flat_map (block_of base)) r) (fault_at_index (entry_of section address extents) extents k d kept.found fault kept.read lt entry)
+
+pub reads_all : (section : List ℕ) (address base : ℕ) (extents : List Extent) (k : ℕ) (out : List ℕ) → length extents ≤ k → Reads section address base extents k out
+    → viewed (flat_map (block_of base)) (all_ok (map (entry_of section address extents) extents)) ≡ Ok out
+reads_all section address base extents k out le kept =
+    let all : all_ok (map (entry_of section address extents) extents) ≡ Ok kept.found = ap (λ (es : List Extent). all_ok (map (entry_of section address extents) es)) (sym (take_all k extents le)) ∙ kept.read in
+    ap (λ (r : Result (List EhEntry) FrameFault). viewed (flat_map (block_of base)) r) all
+    ∙ ap (λ (bs : List ℕ). Ok bs) (sym kept.put)
+
+-- ---- the section, and a faulty length behind its entries
+
+pub section_read : (section : List ℕ) (address base : ℕ) (extents : List Extent) (broken : Option FrameFault) (out : List ℕ) → (extents, broken) ≡ eh_extents section → broken ≡ None
+    → viewed (flat_map (block_of base)) (all_ok (map (entry_of section address extents) extents)) ≡ Ok out → translated section address base ≡ Ok out
+unfolding translated eh_entries
+section_read section address base extents broken out all whole made =
+    rw (← all, whole) (ap (λ (rs : List (Result EhEntry FrameFault)). viewed (flat_map (block_of base)) (all_ok rs)) (append-nil (map (entry_of section address extents) extents)) ∙ made)
+
+pub section_broken : (section : List ℕ) (address base : ℕ) (extents : List Extent) (broken : Option FrameFault) (fault : FrameFault) (out : List ℕ) → (extents, broken) ≡ eh_extents section → broken ≡ Some fault
+    → viewed (flat_map (block_of base)) (all_ok (map (entry_of section address extents) extents)) ≡ Ok out → translated section address base ≡ Err fault
+unfolding translated eh_entries
+section_broken section address base extents broken fault out all cut made =
+    let g = given (flat_map (block_of base)) (all_ok (map (entry_of section address extents) extents)) out made in
+    rw (← all, cut) (ap (λ (r : Result (List EhEntry) FrameFault). viewed (flat_map (block_of base)) r) (all_ok_fault (map (entry_of section address extents) extents) [] g.0 fault g.1))
+
+pub section_fails : (section : List ℕ) (address base : ℕ) (extents : List Extent) (broken : Option FrameFault) (fail : Fail FrameFault) → (extents, broken) ≡ eh_extents section
+    → FailsBy fail (viewed (flat_map (block_of base)) (all_ok (map (entry_of section address extents) extents))) → FailsBy fail (translated section address base)
+unfolding translated eh_entries
+section_fails section address base extents broken (fails.Memory memory) all failed = tt
+section_fails section address base extents broken (fails.Fault fault) all failed =
+    rw (← all) (ap (λ (r : Result (List EhEntry) FrameFault). viewed (flat_map (block_of base)) r)
+    (all_ok_early (map (entry_of section address extents) extents) (faulty_end broken) fault (refused (flat_map (block_of base)) (all_ok (map (entry_of section address extents) extents)) fault failed)))

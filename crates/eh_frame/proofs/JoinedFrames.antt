@@ -1,0 +1,257 @@
+-- The frames of both sections as one are the frame descriptions of both.
+use Rattle.std.proofs.Common.{◌≡◌, ℕ, zero, suc, ◌+◌, ◌*◌, ◌≤◌, ◌<◌, ◌^◌, Bool, true, false, cond, List, [], ◌∷◌, ◌++◌, length, length-append, drop, map, Option, Some, None, Result, Ok, Err, inl, inr, refl, sym, ap, subst, ◌∙◌, arith}
+use Rattle.std.specs.Prelude.{All, find}
+use Rattle.std.specs.List.{filter_map, flat_map}
+use Rattle.std.specs.Option.{option_and_then}
+use Rattle.std.proofs.lemmas.List.{append-nil, map-append}
+use Rattle.std.proofs.lemmas.List.Elements.{filter_map-append}
+use Rattle.std.proofs.Math.Seq.{drop-append_seam}
+use Rattle.prof_bytes.specs.Outcome.{viewed}
+use Rattle.prof_bytes.specs.Number.{IsBytes}
+use Rattle.address_ranges.specs.declared.ranges.AddressRange.{AddressRange}
+use Rattle.address_ranges.specs.Ranges.{holds}
+use Rattle.elf_image.specs.declared.part.Segment.{Segment}
+use Rattle.cfi_table.specs.declared.fault.FrameFault.{FrameFault}
+use Rattle.cfi_table.specs.declared.extent.Extent.{Extent}
+use Rattle.cfi_table.specs.declared.fde.Fde.{Fde}
+use Rattle.cfi_table.specs.Entries.{extents_of, at_end, read_entry, entries_of}
+use Rattle.cfi_table.specs.Frames.{Frames, all_ok, counted, frames_of, range_of, rules_of, rules_at}
+use Rattle.cfi_table.specs.private.Placed.{IsPlaced, AreRising}
+use Rattle.cfi_table.proofs.Chains.{in_order}
+use Rattle.eh_frame.specs.Entries.{EhFde, EhEntry, eh_extents, entry_of, faulty_end, eh_entries}
+use Rattle.eh_frame.specs.Translation.{place_of, block_of, translated, translation}
+use Rattle.eh_frame.specs.private.Adjoining.{AreAdjoining}
+use Rattle.eh_frame.specs.Both.{FrameDescription, described, eh_described, eh_range_of, eh_counted, frames_with_eh, descriptions_of_both, ranges_of, described_ranges, rules_by}
+use Rattle.eh_frame.specs.Laws.{RangesAreBoth, RulesAreBoth}
+use Rattle.eh_frame.proofs.Bounds.{few_bytes}
+use Rattle.eh_frame.proofs.Chains.{adjoin}
+use Rattle.eh_frame.proofs.Members.{IsIn, in_back, bind_ok, ok_same, ok_append, ok_parts, ok_of, in_filtered}
+use Rattle.eh_frame.proofs.Places.{Chain, chain_moved, chain_joined, chain_whole, ends_within}
+use Rattle.eh_frame.proofs.EhPlaces.{eh_placed}
+use Rattle.eh_frame.proofs.Kept.{Entry, FdeIn, rules_joined, entry_kept, all_kept}
+use Rattle.eh_frame.proofs.Described.{facts_of}
+use Rattle.eh_frame.proofs.Blocks.{Fits, extents_in, chain_blocks, stands, extents_same, WasRead, was_read, fits_of}
+use Rattle.eh_frame.proofs.JoinedReads.{Matches, Joined, Read, all_read}
+
+-- ---- each section that was read
+
+none_broken : (b : Option FrameFault) (ys : List Entry) → all_ok (at_end b) ≡ Ok ys → (b ≡ None) × ([] ≡ ys)
+none_broken None ys e = (refl, ok_same {F = FrameFault} [] ys e)
+none_broken (Some fault) ys e = absurd cc
+
+pub record Front (section : List ℕ) (segments : List Segment) (own : Frames) : Type 0 where
+  pub extents : List Extent
+  pub is : extents_of section ≡ (extents, None)
+  pub reads : List Entry
+  pub read : all_ok (map (read_entry section extents) extents) ≡ Ok reads
+  pub fdes : own.fdes ≡ filter_map (counted segments) reads
+  pub within : (x : Extent) → IsIn x extents → x.end ≤ length section
+
+front_of : (section : List ℕ) (segments : List Segment) (own : Frames) → frames_of section segments ≡ Ok own → Front section segments own
+unfolding frames_of entries_of
+front_of section segments own is =
+    let X : List Extent = (extents_of section).0 in
+    let found = bind_ok (all_ok (map (read_entry section X) X ++ at_end (extents_of section).1)) (λ r. (let u : Result Frames FrameFault = Ok (record { section = section; fdes = filter_map (counted segments) r }) in u)) own is in
+    let parts = ok_parts (map (read_entry section X) X) (at_end (extents_of section).1) found.0 found.1 in
+    let whole = none_broken (extents_of section).1 parts.1 parts.3 in
+    let all : found.0 ≡ parts.0 = parts.4 ∙ ap (λ (ys : List Entry). parts.0 ++ ys) (sym whole.1) ∙ append-nil parts.0 in
+    record {
+      extents = X;
+      is = ap (λ (b : Option FrameFault). (X, b)) whole.0;
+      reads = parts.0;
+      read = parts.2;
+      fdes = sym (ap (λ (f : Frames). f.fdes) (ok_same {F = FrameFault} (record { section = section; fdes = filter_map (counted segments) found.0 }) own found.2)) ∙ ap (λ (rs : List Entry). filter_map (counted segments) rs) all;
+      within = λ x there. ends_within (length section) section 0 (record { offset = 0 }) x (omega arith) there;
+    }
+
+none_faulty : (b : Option FrameFault) (ys : List EhEntry) → all_ok (faulty_end b) ≡ Ok ys → [] ≡ ys
+none_faulty None ys e = ok_same {F = FrameFault} [] ys e
+none_faulty (Some fault) ys e = absurd cc
+
+eh_front_of : (eh : List ℕ) (address : ℕ) (all : List EhEntry) → eh_entries eh address ≡ Ok all → all_ok (map (entry_of eh address (eh_extents eh).0) (eh_extents eh).0) ≡ Ok all
+unfolding eh_entries
+eh_front_of eh address all is =
+    let X : List Extent = (eh_extents eh).0 in
+    let parts = ok_parts (map (entry_of eh address X) X) (faulty_end (eh_extents eh).1) all is in
+    let same : parts.0 ≡ all = sym (parts.4 ∙ ap (λ (ys : List EhEntry). parts.0 ++ ys) (sym (none_faulty (eh_extents eh).1 parts.1 parts.3)) ∙ append-nil parts.0) in
+    parts.2 ∙ ap (λ (xs : List EhEntry). Ok xs) same
+
+all_of : {X : Type 0} (P : X → Type 0) (xs : List X) → ((x : X) → IsIn x xs → P x) → All P xs
+all_of P [] holds k d lt = absurd (omega arith)
+all_of P (x ∷ xs) holds zero d lt = holds x (inl refl)
+all_of P (x ∷ xs) holds (suc k) d lt = all_of P xs (λ y there. holds y (inr there)) k d (omega arith)
+
+-- ---- both as one section
+
+pub record Whole (section eh : List ℕ) (base : ℕ) (segments : List Segment) (own : Frames) (all : List EhEntry) : Type 0 where
+  pub back : List Fde
+  pub is : frames_of (section ++ flat_map (block_of base) all) segments ≡ Ok (record { section = section ++ flat_map (block_of base) all; fdes = own.fdes ++ back })
+  pub matches : Matches (section ++ flat_map (block_of base) all) back (filter_map (eh_counted segments) all)
+
+joined_reads : (joined : List ℕ) (segments : List Segment) (front back : List Extent) (reads others : List Entry) → extents_of joined ≡ (front ++ back, None) → all_ok (map (read_entry joined (front ++ back)) front) ≡ Ok reads
+    → all_ok (map (read_entry joined (front ++ back)) back) ≡ Ok others
+    → frames_of joined segments ≡ Ok (record { section = joined; fdes = filter_map (counted segments) reads ++ filter_map (counted segments) others })
+unfolding frames_of entries_of
+joined_reads joined segments front back reads others is read more =
+    let X : List Extent = front ++ back in
+    let g = read_entry joined (front ++ back) in
+    let listed : all_ok (map g (front ++ back)) ≡ Ok (reads ++ others) = ap (λ (rs : List (Result Entry FrameFault)). all_ok rs) (map-append g front back) ∙ ok_append (map g front) (map g back) reads others read more in
+    let whole : all_ok (map g (front ++ back) ++ []) ≡ Ok (reads ++ others) = ap (λ (rs : List (Result Entry FrameFault)). all_ok rs) (append-nil (map g (front ++ back))) ∙ listed in
+    rw (is, whole, filter_map-append (counted segments) reads others) refl
+
+translated_few : (eh : List ℕ) (address base : ℕ) (all : List EhEntry) → eh_entries eh address ≡ Ok all → length (flat_map (block_of base) all) ≤ 8 * length eh
+translated_few eh address base all is =
+    let X : List Extent = (eh_extents eh).0 in
+    few_bytes eh address base (eh_extents eh).0 (flat_map (block_of base) all) (adjoin eh (eh_extents eh) refl) (all_of (IsPlaced eh) (eh_extents eh).0 (λ x there. eh_placed eh x there))
+    (ap (λ (r : Result (List EhEntry) FrameFault). viewed (flat_map (block_of base)) r) (eh_front_of eh address all is))
+
+whole_of : (section eh : List ℕ) (address : ℕ) (segments : List Segment) (own : Frames) (all : List EhEntry) → length section + 8 * length eh < 2 ^ 31 → IsBytes eh → frames_of section segments ≡ Ok own → eh_entries eh address ≡ Ok all
+    → Whole section eh (length section) segments own all
+whole_of section eh address segments own all small bytes own_read all_are = record {
+  back = filter_map (counted segments) read.reads;
+  is =
+      joined_reads joined segments front.extents later front.reads read.reads extents_are
+      (all_kept section blocks front.extents later front.extents front.reads front.within front.within front.read) read.is
+      ∙ ap (λ (fs : List Fde). Ok (record { section = joined; fdes = fs ++ filter_map (counted segments) read.reads })) (sym front.fdes);
+  matches = read.matches;
+}
+  where
+    base : ℕ
+    base = length section
+
+    blocks : List ℕ
+    blocks = flat_map (block_of (length section)) all
+
+    joined : List ℕ
+    joined = section ++ flat_map (block_of (length section)) all
+
+    X : List Extent
+    X = (eh_extents eh).0
+
+    front : Front section segments own
+    front = front_of section segments own own_read
+
+    listed : all_ok (map (entry_of eh address (eh_extents eh).0) (eh_extents eh).0) ≡ Ok all
+    listed = eh_front_of eh address all all_are
+
+    later : List Extent
+    later = flat_map (extents_in (length section)) all
+
+    short : length (section ++ flat_map (block_of (length section)) all) < 2 ^ 31
+    short =
+        let both = length-append section (flat_map (block_of (length section)) all) in
+        let few = translated_few eh address (length section) all all_are in
+        omega arith
+
+    adjoining : AreAdjoining 0 (map (λ (x : EhEntry). x.extent) all)
+    adjoining = rw (extents_same eh address (eh_extents eh).0 (eh_extents eh).0 all listed) (adjoin eh (eh_extents eh) refl)
+
+    was : (x : EhEntry) → IsIn x all → WasRead eh address (eh_extents eh).0 x
+    was x there = was_read eh address (eh_extents eh).0 all x listed there
+
+    fit : (x : EhEntry) → IsIn x all → Fits (length section) x
+    fit x there = fits_of eh address (length section) (eh_extents eh).0 x (eh_placed eh x.extent (was x there).there) (was x there)
+
+    begins : drop (place_of (length section) 0) (section ++ flat_map (block_of (length section)) all) ≡ flat_map (block_of (length section)) all
+    begins =
+        ap (λ (n : ℕ). drop n (section ++ flat_map (block_of (length section)) all)) (let e : length section + 8 * 0 ≡ length section = omega arith in e)
+        ∙ drop-append_seam section (flat_map (block_of (length section)) all)
+
+    chain : Chain (section ++ flat_map (block_of (length section)) all) 0 (front.extents ++ flat_map (extents_in (length section)) all)
+    chain =
+        chain_joined (length section) section (flat_map (block_of (length section)) all) 0 (record { offset = 0 }) front.extents (flat_map (extents_in (length section)) all) (omega arith) (omega arith) front.is
+        (chain_moved (section ++ flat_map (block_of (length section)) all) (place_of (length section) 0) (length section) (flat_map (extents_in (length section)) all) (omega arith)
+        (chain_blocks (section ++ flat_map (block_of (length section)) all) (length section) 0 all short adjoining fit begins))
+
+    extents_are : extents_of (section ++ flat_map (block_of (length section)) all) ≡ (front.extents ++ flat_map (extents_in (length section)) all, None)
+    extents_are = chain_whole (section ++ flat_map (block_of (length section)) all) (front.extents ++ flat_map (extents_in (length section)) all) chain
+
+    rising : AreRising 0 (map (λ (e : Extent). e.offset) (front.extents ++ flat_map (extents_in (length section)) all))
+    rising = in_order (section ++ flat_map (block_of (length section)) all) (front.extents ++ flat_map (extents_in (length section)) all, None) (sym extents_are)
+
+    j : Joined (section ++ flat_map (block_of (length section)) all) eh address (length section) all (eh_extents eh).0 (front.extents ++ flat_map (extents_in (length section)) all)
+    j = record {
+      small = small;
+      bytes = bytes;
+      rising = rising;
+      there = λ e is. in_back e front.extents (flat_map (extents_in (length section)) all) is;
+      read = listed;
+      facts = λ x is. facts_of eh address (eh_extents eh).0 x.extent x.content bytes (was x is).content;
+      within = λ x is. (let p = eh_placed eh x.extent (was x is).there in let order = p.order in let inside = p.within in omega arith);
+      stand = λ x is. stands (section ++ flat_map (block_of (length section)) all) (length section) 0 all x short adjoining fit begins is;
+    }
+
+    read : Read (section ++ flat_map (block_of (length section)) all) segments (front.extents ++ flat_map (extents_in (length section)) all) (flat_map (extents_in (length section)) all) all
+    read = all_read (section ++ flat_map (block_of (length section)) all) segments eh address (length section) all (eh_extents eh).0 (front.extents ++ flat_map (extents_in (length section)) all) all j (λ x is. is)
+
+-- ---- the FDEs of the front have the same rules
+
+fdes_inside : (section : List ℕ) (segments : List Segment) (own : Frames) → Front section segments own → (f : Fde) → IsIn f own.fdes → FdeIn section f
+fdes_inside section segments own front f is =
+    let P : List Fde → Type 0 = λ fs. IsIn f fs in
+    let there = in_filtered (counted segments) f front.reads (subst P front.fdes is) in
+    let from = ok_of (read_entry section front.extents) front.extents front.reads there.0 front.read there.1 in
+    (entry_kept section [] front.extents [] from.0 there.0 front.within (front.within from.0 from.1) from.2).1 segments f there.2
+
+-- ---- the rules at an address, and the ranges
+
+rules_back : (joined : List ℕ) (place : ℕ) (fs : List Fde) (gs : List EhFde) → Matches joined fs gs
+    → option_and_then (rules_of joined place) (find (λ fde. holds place (range_of fde)) fs) ≡ rules_by (map eh_described gs) place
+rules_back joined place [] [] same = refl
+rules_back joined place [] (g ∷ gs) same = absurd same
+rules_back joined place (f ∷ fs) [] same = absurd same
+rules_back joined place (f ∷ fs) (g ∷ gs) same =
+    ap (λ (b : Bool). option_and_then (rules_of joined place) (cond b (Some f) (find (λ fde. holds place (range_of fde)) fs))) (ap (λ (r : AddressRange). holds place r) same.0.range)
+    ∙ go (holds place (eh_range_of g)) (rules_back joined place fs gs same.1)
+  where
+    go : (b : Bool) → option_and_then (rules_of joined place) (find (λ fde. holds place (range_of fde)) fs) ≡ rules_by (map eh_described gs) place
+        → option_and_then (rules_of joined place) (cond b (Some f) (find (λ fde. holds place (range_of fde)) fs)) ≡ option_and_then (λ (d : FrameDescription). d.rules place) (cond b (Some (eh_described g)) (find (λ d. holds place d.range) (map eh_described gs)))
+    go true rest = same.0.rules place
+    go false rest = rest
+
+rules_both : (section behind : List ℕ) (place : ℕ) (own fs : List Fde) (gs : List EhFde) → ((f : Fde) → IsIn f own → FdeIn section f) → Matches (section ++ behind) fs gs
+    → option_and_then (rules_of (section ++ behind) place) (find (λ fde. holds place (range_of fde)) (own ++ fs)) ≡ rules_by (map (described section) own ++ map eh_described gs) place
+rules_both section behind place [] fs gs inside same = rules_back (section ++ behind) place fs gs same
+rules_both section behind place (f ∷ own) fs gs inside same = go (holds place (range_of f)) (rules_both section behind place own fs gs (λ g there. inside g (inr there)) same)
+  where
+    go : (b : Bool) → option_and_then (rules_of (section ++ behind) place) (find (λ fde. holds place (range_of fde)) (own ++ fs)) ≡ rules_by (map (described section) own ++ map eh_described gs) place
+        → option_and_then (rules_of (section ++ behind) place) (cond b (Some f) (find (λ fde. holds place (range_of fde)) (own ++ fs)))
+        ≡ option_and_then (λ (d : FrameDescription). d.rules place) (cond b (Some (described section f)) (find (λ d. holds place d.range) (map (described section) own ++ map eh_described gs)))
+    go true rest = rules_joined section behind place f (inside f (inl refl))
+    go false rest = rest
+
+ranges_back : (joined : List ℕ) (fs : List Fde) (gs : List EhFde) → Matches joined fs gs → map range_of fs ≡ described_ranges (map eh_described gs)
+ranges_back joined [] [] same = refl
+ranges_back joined [] (g ∷ gs) same = absurd same
+ranges_back joined (f ∷ fs) [] same = absurd same
+ranges_back joined (f ∷ fs) (g ∷ gs) same = rw (same.0.range, ranges_back joined fs gs same.1) refl
+
+ranges_both : (section joined : List ℕ) (own fs : List Fde) (gs : List EhFde) → Matches joined fs gs → map range_of (own ++ fs) ≡ described_ranges (map (described section) own ++ map eh_described gs)
+ranges_both section joined [] fs gs same = ranges_back joined fs gs same
+ranges_both section joined (f ∷ own) fs gs same = ap (λ (rs : List AddressRange). range_of f ∷ rs) (ranges_both section joined own fs gs same)
+
+-- ---- both definitions, or their faults
+
+by_cases : {Y : Type 0} (view : Frames → Y) (seen : List FrameDescription → Y) (section eh : List ℕ) (address : ℕ) (segments : List Segment) → length section + 8 * length eh < 2 ^ 31 → IsBytes eh
+    → ((own : Frames) (all : List EhEntry) (back : List Fde) → Front section segments own → Matches (section ++ flat_map (block_of (length section)) all) back (filter_map (eh_counted segments) all)
+    → view (record { section = section ++ flat_map (block_of (length section)) all; fdes = own.fdes ++ back }) ≡ seen (map (described section) own.fdes ++ map eh_described (filter_map (eh_counted segments) all)))
+    → viewed view (frames_with_eh section eh address segments) ≡ viewed seen (descriptions_of_both section eh address segments)
+unfolding frames_with_eh descriptions_of_both translation translated
+by_cases {Y} view seen section eh address segments small bytes same = go (frames_of section segments) refl (eh_entries eh address) refl
+  where
+    go : (r : Result Frames FrameFault) → frames_of section segments ≡ r → (q : Result (List EhEntry) FrameFault) → eh_entries eh address ≡ q → viewed view (frames_with_eh section eh address segments) ≡ viewed seen (descriptions_of_both section eh address segments)
+    go (Err fault) is q are = rw is refl
+    go (Ok own) is (Err fault) are = rw (is, are) refl
+    go (Ok own) is (Ok all) are =
+        let whole = whole_of section eh address segments own all small bytes is are in
+        rw (is, are, whole.is) (ap (λ (y : Y). Ok y) (same own all whole.back (front_of section segments own is) whole.matches))
+
+pub ranges_are_both : RangesAreBoth
+ranges_are_both section eh address segments small bytes =
+    by_cases ranges_of described_ranges section eh address segments small bytes
+    (λ own all back front matches. ranges_both section (section ++ flat_map (block_of (length section)) all) own.fdes back (filter_map (eh_counted segments) all) matches)
+
+pub rules_are_both : RulesAreBoth
+rules_are_both section eh address segments place small bytes =
+    by_cases (λ frames. rules_at frames place) (λ descriptions. rules_by descriptions place) section eh address segments small bytes
+    (λ own all back front matches. rules_both section (flat_map (block_of (length section)) all) place own.fdes back (filter_map (eh_counted segments) all) (fdes_inside section segments own front) matches)

@@ -1,0 +1,17 @@
+pub mod Chains
+pub mod Listed
+pub mod Entries
+pub mod Bounds
+pub mod ReadBack
+pub mod Runs
+pub mod Words
+pub mod Members
+pub mod Places
+pub mod Kept
+pub mod Described
+pub mod EntriesBack
+pub mod Blocks
+pub mod EhPlaces
+pub mod JoinedReads
+pub mod JoinedFrames
+pub mod Outcomes

@@ -1,0 +1,368 @@
+-- Lists of instructions, one more at a time.
+use Rattle.std.proofs.Common.{◌≡◌, ℕ, zero, suc, ◌+◌, ◌*◌, ◌-◌, ◌≤◌, ◌<◌, ◌^◌, Bool, true, false, cond, List, [], ◌∷◌, ◌++◌, length, length-append, length-drop, Option, Some, None, Result, Ok, Err, refl, sym, ap, subst, ◌∙◌, append_assoc, arith}
+use Rattle.std.specs.Prelude.{◌==◌, nat_lt, option_map}
+use Rattle.std.specs.List.{flat_map}
+use Rattle.std.proofs.lemmas.Bool.Decides.{nat_tests}
+use Rattle.std.proofs.lemmas.List.{append-nil}
+use Rattle.std.proofs.lemmas.List.Concat.{flat_map-append}
+use Rattle.prof_bytes.specs.Outcome.{◌>>=◌, FailsBy, Gives, viewed}
+use Rattle.prof_bytes.specs.Reading.{left_of}
+use Rattle.prof_bytes.specs.Number.{number_in}
+use Rattle.prof_bytes.specs.Fields.{Input, taken, number_from}
+use Rattle.prof_bytes.specs.declared.fail.Fail.{Fail}
+use Rattle.prof_bytes.specs.declared.fail.Fail.TheVariants as fails
+use Rattle.cfi_table.specs.declared.constants.TheConstants.{DW_CFA_set_loc}
+use Rattle.cfi_table.specs.declared.fault.FrameFault.{FrameFault}
+use Rattle.cfi_table.specs.declared.instruction.AlignmentFactors.{AlignmentFactors}
+use Rattle.cfi_table.specs.declared.instruction.CallFrameInstruction.{CallFrameInstruction}
+use Rattle.cfi_table.specs.declared.instruction.CallFrameInstruction.TheVariants as instructions
+use Rattle.cfi_table.specs.declared.rules.Rule.{Rule}
+use Rattle.cfi_table.specs.Instructions.{Reading, opcode_then}
+use Rattle.cfi_table.specs.Rules.{State, execute, or_fault, fault_at, no_rules, all_same_value}
+use Rattle.cfi_table.specs.Entries.{instructions_of}
+use Rattle.cfi_table.specs.private.Checking.{CfaForms, no_forms, forms_of, execute_forms}
+use Rattle.cfi_table.proofs.Forms.{execute_as_forms}
+use Rattle.cfi_table.proofs.Moves.{Moves, AllMove, stays, binds, number_moves, opcode_moves}
+use Rattle.eh_frame.specs.declared.address.Addresses.{Addresses}
+use Rattle.eh_frame.specs.Addresses.{address_from}
+use Rattle.eh_frame.specs.Runs.{eh_instruction_from, eh_step_by, before_all, listed_by, listed, addresses_of, cie_instructions, fde_instructions}
+use Rattle.eh_frame.specs.declared.cie.EhCie.{EhCie}
+use Rattle.eh_frame.specs.Translation.{encoded}
+use Rattle.eh_frame.specs.private.Checked.{listed_forms, put_behind}
+
+some_left : (n : ℕ) → 0 < n → (n == 0) ≡ false
+some_left n lt = grind (arith, nat_tests)
+
+none_left : (n : ℕ) → n ≡ 0 → (n == 0) ≡ true
+none_left n e = grind (arith, nat_tests)
+
+-- ---- an instruction takes bytes
+
+pub address_moves : (a : Addresses) (input : Input FrameFault) → AllMove input (address_from a input)
+unfolding address_from
+address_moves a input = binds input (number_from 4 input) _ (number_moves 4 input) (λ n. stays n.1)
+
+pub eh_instruction_moves : (a : Addresses) (f : AlignmentFactors) (input next : Input FrameFault) (i : CallFrameInstruction) → eh_instruction_from a f input ≡ Ok (i, next) → (next.at.whole ≡ input.at.whole) × (input.at.offset < next.at.offset)
+unfolding eh_instruction_from
+eh_instruction_moves a f input next i e = from (nat_lt (length (left_of input.at)) 1) (number_in 1 (left_of input.at)) e
+  where
+    ok_is : (x y : CallFrameInstruction × Input FrameFault) → (let r : Reading CallFrameInstruction = Ok x in r) ≡ Ok y → x ≡ y
+    ok_is x y e = cc
+
+    ends : (mid : Input FrameFault) (r : Reading CallFrameInstruction) → r ≡ Ok (i, next) → AllMove mid r → Moves mid next
+    ends mid (Err fault) e moves = absurd cc
+    ends mid (Ok x) e moves = let P : CallFrameInstruction × Input FrameFault → Type 0 = λ y. Moves mid y.1 in subst P (ok_is x (i, next) e) moves
+
+    by : (b : Bool) (n : ℕ) (mid : Input FrameFault) → AllMove mid (cond b (address_from a mid >>= λ to. (let r : Reading CallFrameInstruction = Ok (instructions.SetLoc to.0, to.1) in r)) (opcode_then f n mid))
+    by true n mid = binds mid (address_from a mid) _ (address_moves a mid) (λ to. stays to.1)
+    by false n mid = opcode_moves f n mid
+
+    from : (b : Bool) (n : ℕ)
+        → (taken input (cond b None (Some (n, 1))) >>= λ byte. cond (byte.0 == DW_CFA_set_loc) (address_from a byte.1 >>= λ to. (let r : Reading CallFrameInstruction = Ok (instructions.SetLoc to.0, to.1) in r)) (opcode_then f byte.0 byte.1)) ≡ Ok (i, next)
+        → (next.at.whole ≡ input.at.whole) × (input.at.offset < next.at.offset)
+    from true n e = absurd cc
+    from false n e =
+        let mid : Input FrameFault = record { at = record { whole = input.at.whole; offset = input.at.offset + 1 }; missing = input.missing } in
+        let m = ends mid _ e (by (n == DW_CFA_set_loc) n mid) in
+        (m.whole, let le = m.offset in omega arith)
+
+pub step_moves : {S : Type 0} (x : CallFrameInstruction → S → Option S) (a : Addresses) (f : AlignmentFactors) (input next : Input FrameFault) (i : CallFrameInstruction) (s t : S) → eh_step_by x a f input s ≡ Ok ((i, t), next)
+    → (next.at.whole ≡ input.at.whole) × (input.at.offset < next.at.offset)
+unfolding eh_step_by
+step_moves {S} x a f input next i s t e = decoded (eh_instruction_from a f here) refl e
+  where
+    here : Input FrameFault
+    here = record input { missing = fault_at input }
+
+    behind_it : CallFrameInstruction × Input FrameFault → S → Reading (CallFrameInstruction × S)
+    behind_it j u = Ok ((j.0, u), j.1)
+
+    pair_is : (p q : (CallFrameInstruction × S) × Input FrameFault) → (let r : Reading (CallFrameInstruction × S) = Ok p in r) ≡ Ok q → p.1 ≡ q.1
+    pair_is p q e = cc
+
+    executed : (j : CallFrameInstruction × Input FrameFault) (o : Option S) → (or_fault (fault_at input) o >>= behind_it j) ≡ Ok ((i, t), next) → j.1 ≡ next
+    executed j None e = absurd cc
+    executed j (Some u) e = pair_is ((j.0, u), j.1) ((i, t), next) e
+
+    decoded : (r : Reading CallFrameInstruction) → eh_instruction_from a f here ≡ r → (r >>= λ j. or_fault (fault_at input) (x j.0 s) >>= behind_it j) ≡ Ok ((i, t), next) → (next.at.whole ≡ input.at.whole) × (input.at.offset < next.at.offset)
+    decoded (Err fault) is e = absurd cc
+    decoded (Ok j) is e = eh_instruction_moves a f here next j.0 (is ∙ ap (λ (n : Input FrameFault). Ok (j.0, n)) (executed j (x j.0 s) e))
+
+left_shorter : (input next : Input FrameFault) → next.at.whole ≡ input.at.whole → input.at.offset < next.at.offset → 0 < length (left_of input.at) → length (left_of next.at) < length (left_of input.at)
+left_shorter input next same lt some =
+    let len : length next.at.whole ≡ length input.at.whole = ap (λ (xs : List ℕ). length xs) same in
+    omega (arith, length-drop input.at.offset input.at.whole, length-drop next.at.offset next.at.whole)
+
+pub shortens : {S : Type 0} (x : CallFrameInstruction → S → Option S) (a : Addresses) (f : AlignmentFactors) (input next : Input FrameFault) (i : CallFrameInstruction) (s t : S) → 0 < length (left_of input.at) → eh_step_by x a f input s ≡ Ok ((i, t), next)
+    → length (left_of next.at) < length (left_of input.at)
+shortens x a f input next i s t some is = let moves = step_moves x a f input next i s t is in left_shorter input next moves.0 moves.1 some
+
+-- ---- a list by its first step
+
+list_end : {S : Type 0} (x : CallFrameInstruction → S → Option S) (m : ℕ) (a : Addresses) (f : AlignmentFactors) (input : Input FrameFault) (s : S) → length (left_of input.at) ≡ 0 → listed_by x m a f input s ≡ Ok ([], s)
+unfolding listed_by
+list_end x zero a f input s none = refl
+list_end x (suc m) a f input s none = rw (none_left _ none) refl
+
+list_more : {S : Type 0} (x : CallFrameInstruction → S → Option S) (m : ℕ) (a : Addresses) (f : AlignmentFactors) (input next : Input FrameFault) (i : CallFrameInstruction) (s t : S) → 0 < length (left_of input.at) → eh_step_by x a f input s ≡ Ok ((i, t), next)
+    → listed_by x (suc m) a f input s ≡ before_all i (listed_by x m a f next t)
+unfolding listed_by
+list_more x m a f input next i s t some is = rw (some_left _ some, is) refl
+
+list_fault : {S : Type 0} (x : CallFrameInstruction → S → Option S) (m : ℕ) (a : Addresses) (f : AlignmentFactors) (input : Input FrameFault) (s : S) (fault : FrameFault) → 0 < length (left_of input.at) → eh_step_by x a f input s ≡ Err fault
+    → listed_by x (suc m) a f input s ≡ Err fault
+unfolding listed_by
+list_fault x m a f input s fault some is = rw (some_left _ some, is) refl
+
+-- ---- what a loop over instructions keeps
+
+abbrev pub after_done : {S : Type 0} → List CallFrameInstruction → List CallFrameInstruction × S → List CallFrameInstruction × S
+after_done done r = (done ++ r.0, r.1)
+
+pub record KeepsList {S : Type 0} (x : CallFrameInstruction → S → Option S) (a : Addresses) (f : AlignmentFactors) (first input : Input FrameFault) (s0 s : S) (out0 out : List ℕ) : Type 0 where
+  pub whole : input.at.whole ≡ first.at.whole
+  pub count : ℕ
+  pub enough : length (left_of input.at) ≤ count
+  pub done : List CallFrameInstruction
+  pub so_far : viewed (after_done done) (listed_by x count a f input s) ≡ listed_by x (length (left_of first.at)) a f first s0
+  pub put : out ≡ out0 ++ flat_map encoded done
+
+none_done : {S F : Type 0} (r : Result (List CallFrameInstruction × S) F) → viewed (after_done []) r ≡ r
+none_done (Ok r) = refl
+none_done (Err fault) = refl
+
+one_done : {S F : Type 0} (done : List CallFrameInstruction) (i : CallFrameInstruction) (r : Result (List CallFrameInstruction × S) F) → viewed (after_done (done ++ i ∷ [])) r ≡ viewed (after_done done) (before_all i r)
+one_done {S} {F} done i (Ok r) = ap (λ (is : List CallFrameInstruction). Ok (is, r.1)) (append_assoc done (i ∷ []) r.0)
+one_done done i (Err fault) = refl
+
+pub begins : {S : Type 0} (x : CallFrameInstruction → S → Option S) (a : Addresses) (f : AlignmentFactors) (first : Input FrameFault) (s0 : S) (out0 : List ℕ) → KeepsList x a f first first s0 s0 out0 out0
+begins x a f first s0 out0 = record {
+  whole = refl;
+  count = length (left_of first.at);
+  enough = omega arith;
+  done = [];
+  so_far = none_done (listed_by x (length (left_of first.at)) a f first s0);
+  put = sym (append-nil out0);
+}
+
+pub keeps_short : {S : Type 0} (x : CallFrameInstruction → S → Option S) (a : Addresses) (f : AlignmentFactors) (first input : Input FrameFault) (s0 s : S) (out0 out : List ℕ) → KeepsList x a f first input s0 s out0 out
+    → length first.at.whole < 2 ^ 32 → length input.at.whole < 2 ^ 32
+keeps_short x a f first input s0 s out0 out kept lt = let len : length input.at.whole ≡ length first.at.whole = ap (λ (xs : List ℕ). length xs) kept.whole in omega arith
+
+pub turns : {S : Type 0} (x : CallFrameInstruction → S → Option S) (a : Addresses) (f : AlignmentFactors) (first input next : Input FrameFault) (i : CallFrameInstruction) (s0 s t : S) (out0 out after : List ℕ)
+    → 0 < length (left_of input.at) → eh_step_by x a f input s ≡ Ok ((i, t), next) → after ≡ out ++ encoded i → KeepsList x a f first input s0 s out0 out → KeepsList x a f first next s0 t out0 after
+turns x a f first input next i s0 s t out0 out after some is pushed kept =
+    let moves = step_moves x a f input next i s t is in
+    let shorter = left_shorter input next moves.0 moves.1 some in
+    let enough = kept.enough in
+    let one : kept.count ≡ suc (kept.count - 1) = omega arith in
+    record {
+      whole = moves.0 ∙ kept.whole;
+      count = kept.count - 1;
+      enough = omega arith;
+      done = kept.done ++ i ∷ [];
+      so_far =
+          one_done kept.done i (listed_by x (kept.count - 1) a f next t)
+          ∙ ap (λ r. viewed (after_done kept.done) r) (sym (list_more x (kept.count - 1) a f input next i s t some is) ∙ ap (λ (n : ℕ). listed_by x n a f input s) (sym one))
+          ∙ kept.so_far;
+      put =
+          pushed
+          ∙ ap (λ (bs : List ℕ). bs ++ encoded i) kept.put
+          ∙ append_assoc out0 (flat_map encoded kept.done) (encoded i)
+          ∙ ap (λ (bs : List ℕ). out0 ++ bs) (ap (λ (bs : List ℕ). flat_map encoded kept.done ++ bs) (sym (append-nil (encoded i))) ∙ sym (flat_map-append encoded kept.done (i ∷ [])));
+    }
+
+fails_here : {S : Type 0} (x : CallFrameInstruction → S → Option S) (a : Addresses) (f : AlignmentFactors) (first input : Input FrameFault) (s0 s : S) (out0 out : List ℕ) (fault : FrameFault) → 0 < length (left_of input.at) → eh_step_by x a f input s ≡ Err fault
+    → KeepsList x a f first input s0 s out0 out → listed_by x (length (left_of first.at)) a f first s0 ≡ Err fault
+fails_here x a f first input s0 s out0 out fault some is kept =
+    let enough = kept.enough in
+    let one : kept.count ≡ suc (kept.count - 1) = omega arith in
+    sym kept.so_far ∙ ap (λ r. viewed (after_done kept.done) r) (ap (λ (n : ℕ). listed_by x n a f input s) one ∙ list_fault x (kept.count - 1) a f input s fault some is)
+
+pub fails_by : {S : Type 0} (x : CallFrameInstruction → S → Option S) (a : Addresses) (f : AlignmentFactors) (first input : Input FrameFault) (s0 s : S) (out0 out : List ℕ) (fail : Fail FrameFault) → 0 < length (left_of input.at) → FailsBy fail (eh_step_by x a f input s)
+    → KeepsList x a f first input s0 s out0 out → FailsBy fail (viewed (put_behind out0) (listed_by x (length (left_of first.at)) a f first s0))
+fails_by x a f first input s0 s out0 out (fails.Memory memory) some is kept = tt
+fails_by x a f first input s0 s out0 out (fails.Fault fault) some is kept = ap (λ r. viewed (put_behind out0) r) (fails_here x a f first input s0 s out0 out fault some is kept)
+
+pub list_done : {S : Type 0} (x : CallFrameInstruction → S → Option S) (a : Addresses) (f : AlignmentFactors) (first input : Input FrameFault) (s0 s : S) (out0 out : List ℕ) → length (left_of input.at) ≡ 0
+    → (kept : KeepsList x a f first input s0 s out0 out) → listed_by x (length (left_of first.at)) a f first s0 ≡ Ok (kept.done ++ [], s)
+list_done x a f first input s0 s out0 out none kept = sym kept.so_far ∙ ap (λ r. viewed (after_done kept.done) r) (list_end x kept.count a f input s none)
+
+pub ends_here : {S : Type 0} (x : CallFrameInstruction → S → Option S) (a : Addresses) (f : AlignmentFactors) (first input : Input FrameFault) (s0 s : S) (out0 out : List ℕ) → length (left_of input.at) ≡ 0
+    → KeepsList x a f first input s0 s out0 out → viewed (put_behind out0) (listed_by x (length (left_of first.at)) a f first s0) ≡ Ok (out, s)
+ends_here x a f first input s0 s out0 out none kept =
+    ap (λ r. viewed (put_behind out0) r) (list_done x a f first input s0 s out0 out none kept)
+    ∙ ap (λ (is : List CallFrameInstruction). Ok (out0 ++ flat_map encoded is, s)) (append-nil kept.done)
+    ∙ ap (λ (bs : List ℕ). Ok (bs, s)) (sym kept.put)
+
+-- ---- at most seven bytes an instruction
+
+seven : (i : CallFrameInstruction) → length (encoded i) ≤ 7
+seven instructions.Nop = omega arith
+seven (instructions.SetLoc address) = omega arith
+seven (instructions.AdvanceLoc delta) = omega arith
+seven (instructions.DefCfa register offset) = omega arith
+seven (instructions.DefCfaRegister register) = omega arith
+seven (instructions.DefCfaOffset offset) = omega arith
+seven instructions.DefCfaExpression = omega arith
+seven (instructions.Undefined register) = omega arith
+seven (instructions.SameValue register) = omega arith
+seven (instructions.Offset register offset) = omega arith
+seven (instructions.ValOffset register offset) = omega arith
+seven (instructions.Register register source) = omega arith
+seven (instructions.Expression register) = omega arith
+seven (instructions.ValExpression register) = omega arith
+seven (instructions.Restore register) = omega arith
+seven instructions.RememberState = omega arith
+seven instructions.RestoreState = omega arith
+
+abbrev pub Short : {S : Type 0} → Input FrameFault → Result (List CallFrameInstruction × S) FrameFault → Type 0
+Short input (Ok r) = length (flat_map encoded r.0) ≤ 7 * length (left_of input.at)
+Short input (Err fault) = Unit {0}
+
+pub listed_short : {S : Type 0} (x : CallFrameInstruction → S → Option S) (m : ℕ) (a : Addresses) (f : AlignmentFactors) (input : Input FrameFault) (s : S) → Short input (listed_by x m a f input s)
+unfolding listed_by
+listed_short x zero a f input s = omega arith
+listed_short {S} x (suc m) a f input s = go (length (left_of input.at) == 0) refl (eh_step_by x a f input s) refl (λ next t. listed_short x m a f next t)
+  where
+    one : (i : CallFrameInstruction) (next : Input FrameFault) (r : Result (List CallFrameInstruction × S) FrameFault) → length (left_of next.at) < length (left_of input.at) → Short next r → Short input (before_all i r)
+    one i next (Err fault) less short = tt
+    one i next (Ok r) less short =
+        let few = seven i in
+        let both : length (encoded i ++ flat_map encoded r.0) ≡ length (encoded i) + length (flat_map encoded r.0) = length-append (encoded i) (flat_map encoded r.0) in
+        omega arith
+
+    steps : (r : Reading (CallFrameInstruction × S)) → eh_step_by x a f input s ≡ r → 0 < length (left_of input.at) → ((next : Input FrameFault) (t : S) → Short next (listed_by x m a f next t))
+        → Short input (r >>= λ done. before_all done.0.0 (listed_by x m a f done.1 done.0.1))
+    steps (Err fault) is some short = tt
+    steps (Ok done) is some short = one done.0.0 done.1 (listed_by x m a f done.1 done.0.1) (shortens x a f input done.1 done.0.0 s done.0.1 some is) (short done.1 done.0.1)
+
+    left_some : (n : ℕ) → (n == 0) ≡ false → 0 < n
+    left_some n e = grind (arith, nat_tests)
+
+    go : (b : Bool) → (length (left_of input.at) == 0) ≡ b → (r : Reading (CallFrameInstruction × S)) → eh_step_by x a f input s ≡ r → ((next : Input FrameFault) (t : S) → Short next (listed_by x m a f next t))
+        → Short input (cond b (Ok ([], s)) (r >>= λ done. before_all done.0.0 (listed_by x m a f done.1 done.0.1)))
+    go true left r is short = omega arith
+    go false left r is short = steps r is (left_some _ left) short
+
+pub put_short : {S : Type 0} (x : CallFrameInstruction → S → Option S) (a : Addresses) (f : AlignmentFactors) (input : Input FrameFault) (s t : S) (out0 out : List ℕ) → viewed (put_behind out0) (listed_by x (length (left_of input.at)) a f input s) ≡ Ok (out, t)
+    → length out ≤ length out0 + 7 * length (left_of input.at)
+put_short {S} x a f input s t out0 out e = from (listed_by x (length (left_of input.at)) a f input s) (listed_short x (length (left_of input.at)) a f input s) e
+  where
+    same : (p q : List ℕ × S) → (let r : Result (List ℕ × S) FrameFault = Ok p in r) ≡ Ok q → p.0 ≡ q.0
+    same p q e = cc
+
+    from : (r : Result (List CallFrameInstruction × S) FrameFault) → Short input r → viewed (put_behind out0) r ≡ Ok (out, t) → length out ≤ length out0 + 7 * length (left_of input.at)
+    from (Err fault) short e = absurd cc
+    from (Ok r) short e =
+        let is : length (out0 ++ flat_map encoded r.0) ≡ length out = ap (λ (bs : List ℕ). length bs) (same (put_behind out0 r) (out, t) e) in
+        let both = length-append out0 (flat_map encoded r.0) in
+        omega arith
+
+-- ---- the forms say which instruction is at fault
+
+abbrev forms_step : (CallFrameInstruction × State) × Input FrameFault → (CallFrameInstruction × CfaForms) × Input FrameFault
+forms_step r = ((r.0.0, forms_of r.0.1), r.1)
+
+abbrev pub forms_list : List CallFrameInstruction × State → List CallFrameInstruction × CfaForms
+forms_list r = (r.0, forms_of r.1)
+
+step_as_forms : (initial : List Rule) (a : Addresses) (f : AlignmentFactors) (input : Input FrameFault) (s : State) → viewed forms_step (eh_step_by (execute initial) a f input s) ≡ eh_step_by execute_forms a f input (forms_of s)
+unfolding eh_step_by
+step_as_forms initial a f input s = decoded (eh_instruction_from a f (record input { missing = fault_at input }))
+  where
+    after : CallFrameInstruction × Input FrameFault → State → Reading (CallFrameInstruction × State)
+    after j t = Ok ((j.0, t), j.1)
+
+    after_forms : CallFrameInstruction × Input FrameFault → CfaForms → Reading (CallFrameInstruction × CfaForms)
+    after_forms j k = Ok ((j.0, k), j.1)
+
+    executed : (j : CallFrameInstruction × Input FrameFault) (o : Option State) → viewed forms_step (or_fault (fault_at input) o >>= after j) ≡ (or_fault (fault_at input) (option_map forms_of o) >>= after_forms j)
+    executed j None = refl
+    executed j (Some t) = refl
+
+    decoded : (r : Reading CallFrameInstruction)
+        → viewed forms_step (r >>= λ j. or_fault (fault_at input) (execute initial j.0 s) >>= after j) ≡ (r >>= λ j. or_fault (fault_at input) (execute_forms j.0 (forms_of s)) >>= after_forms j)
+    decoded (Err fault) = refl
+    decoded (Ok j) = executed j (execute initial j.0 s) ∙ ap (λ (o : Option CfaForms). or_fault (fault_at input) o >>= after_forms j) (execute_as_forms initial j.0 s)
+
+pub list_as_forms : (m : ℕ) (initial : List Rule) (a : Addresses) (f : AlignmentFactors) (input : Input FrameFault) (s : State) → viewed forms_list (listed_by (execute initial) m a f input s) ≡ listed_by execute_forms m a f input (forms_of s)
+unfolding listed_by
+list_as_forms zero initial a f input s = refl
+list_as_forms (suc m) initial a f input s = go (length (left_of input.at) == 0) (eh_step_by (execute initial) a f input s) (eh_step_by execute_forms a f input (forms_of s)) (step_as_forms initial a f input s) (λ next t. list_as_forms m initial a f next t)
+  where
+    Same : Type 0
+    Same = (next : Input FrameFault) (t : State) → viewed forms_list (listed_by (execute initial) m a f next t) ≡ listed_by execute_forms m a f next (forms_of t)
+
+    one : (i : CallFrameInstruction) (r : Result (List CallFrameInstruction × State) FrameFault) → viewed forms_list (before_all i r) ≡ before_all i (viewed forms_list r)
+    one i (Ok r) = refl
+    one i (Err fault) = refl
+
+    steps : (r : Reading (CallFrameInstruction × State)) → Same
+        → viewed forms_list (r >>= λ done. before_all done.0.0 (listed_by (execute initial) m a f done.1 done.0.1)) ≡ (viewed forms_step r >>= λ done. before_all done.0.0 (listed_by execute_forms m a f done.1 done.0.1))
+    steps (Err fault) same = refl
+    steps (Ok t) same = one t.0.0 (listed_by (execute initial) m a f t.1 t.0.1) ∙ ap (λ (r : Result (List CallFrameInstruction × CfaForms) FrameFault). before_all t.0.0 r) (same t.1 t.0.1)
+
+    go : (b : Bool) (r : Reading (CallFrameInstruction × State)) (q : Reading (CallFrameInstruction × CfaForms)) → viewed forms_step r ≡ q → Same
+        → viewed forms_list (cond b (Ok ([], s)) (r >>= λ done. before_all done.0.0 (listed_by (execute initial) m a f done.1 done.0.1))) ≡ cond b (Ok ([], forms_of s)) (q >>= λ done. before_all done.0.0 (listed_by execute_forms m a f done.1 done.0.1))
+    go true r q e same = refl
+    go false r q e same = steps r same ∙ ap (λ (p : Reading (CallFrameInstruction × CfaForms)). p >>= λ done. before_all done.0.0 (listed_by execute_forms m a f done.1 done.0.1)) e
+
+-- what the checker put is what the rules list
+pub put_as_forms : (initial : List Rule) (a : Addresses) (f : AlignmentFactors) (input : Input FrameFault) (s : State) (out : List ℕ) → viewed (λ (r : List CallFrameInstruction × State). out ++ flat_map encoded r.0) (listed initial a f input s)
+    ≡ viewed (λ (p : List ℕ × CfaForms). p.0) (viewed (put_behind out) (listed_forms a f input (forms_of s)))
+put_as_forms initial a f input s out =
+    seen (listed initial a f input s)
+    ∙ ap (λ (r : Result (List CallFrameInstruction × CfaForms) FrameFault). viewed (λ (p : List ℕ × CfaForms). p.0) (viewed (put_behind out) r)) (list_as_forms (length (left_of input.at)) initial a f input s)
+  where
+    seen : (r : Result (List CallFrameInstruction × State) FrameFault) → viewed (λ (r : List CallFrameInstruction × State). out ++ flat_map encoded r.0) r ≡ viewed (λ (p : List ℕ × CfaForms). p.0) (viewed (put_behind out) (viewed forms_list r))
+    seen (Ok r) = refl
+    seen (Err fault) = refl
+
+-- where the checker ended well, so do the rules, with the same forms
+pub ends_as_forms : (initial : List Rule) (a : Addresses) (f : AlignmentFactors) (input : Input FrameFault) (s : State) (out : List ℕ) (p : List ℕ × CfaForms) → viewed (put_behind out) (listed_forms a f input (forms_of s)) ≡ Ok p
+    → (r : List CallFrameInstruction × State) × (listed initial a f input s ≡ Ok r) × (p.1 ≡ forms_of r.1)
+ends_as_forms initial a f input s out p e = from (listed initial a f input s) refl (ap (λ (r : Result (List CallFrameInstruction × CfaForms) FrameFault). viewed (put_behind out) r) (list_as_forms (length (left_of input.at)) initial a f input s) ∙ e)
+  where
+    same : (p q : List ℕ × CfaForms) → (let r : Result (List ℕ × CfaForms) FrameFault = Ok p in r) ≡ Ok q → q.1 ≡ p.1
+    same p q e = cc
+
+    from : (r : Result (List CallFrameInstruction × State) FrameFault) → listed initial a f input s ≡ r → viewed (put_behind out) (viewed forms_list r) ≡ Ok p → (r : List CallFrameInstruction × State) × (listed initial a f input s ≡ Ok r) × (p.1 ≡ forms_of r.1)
+    from (Err fault) is e = absurd cc
+    from (Ok r) is e = (r, is, same (put_behind out (forms_list r)) p e)
+
+-- ---- what the checker puts, as the definitions have it
+
+pub put_fails : (initial : List Rule) (a : Addresses) (f : AlignmentFactors) (input : Input FrameFault) (s : State) (out : List ℕ) (fail : Fail FrameFault) → FailsBy fail (viewed (put_behind out) (listed_forms a f input (forms_of s)))
+    → FailsBy fail (viewed (λ (r : List CallFrameInstruction × State). out ++ flat_map encoded r.0) (listed initial a f input s))
+put_fails initial a f input s out (fails.Memory memory) e = tt
+put_fails initial a f input s out (fails.Fault fault) e = put_as_forms initial a f input s out ∙ ap (λ (r : Result (List ℕ × CfaForms) FrameFault). viewed (λ (p : List ℕ × CfaForms). p.0) r) e
+
+pub put_gives : (initial : List Rule) (a : Addresses) (f : AlignmentFactors) (input : Input FrameFault) (s : State) (out : List ℕ) (p : List ℕ × CfaForms) → viewed (put_behind out) (listed_forms a f input (forms_of s)) ≡ Ok p
+    → viewed (λ (r : List CallFrameInstruction × State). out ++ flat_map encoded r.0) (listed initial a f input s) ≡ Ok p.0
+put_gives initial a f input s out p e = put_as_forms initial a f input s out ∙ ap (λ (r : Result (List ℕ × CfaForms) FrameFault). viewed (λ (p : List ℕ × CfaForms). p.0) r) e
+
+pub own_gives : (address : ℕ) (cie : EhCie) (start : ℕ) (input : Input FrameFault) (initial : State) (k0 k : CfaForms) (out after : List ℕ) (r : Result (Unit {0}) (Fail FrameFault)) → k0 ≡ forms_of initial
+    → Gives (λ done. (after, k)) r (viewed (put_behind out) (listed_forms (addresses_of address cie) cie.factors input k0))
+    → Gives (λ done. after) r (viewed (λ (r : List CallFrameInstruction × State). out ++ flat_map encoded r.0) (fde_instructions address cie start input initial))
+own_gives address cie start input initial k0 k out after (Ok done) same e =
+    let P : CfaForms → Type 0 = λ x. viewed (put_behind out) (listed_forms (addresses_of address cie) cie.factors input x) ≡ Ok (after, k) in
+    put_gives initial.regs (addresses_of address cie) cie.factors input (record initial { location = start }) out (after, k) (subst P same e)
+own_gives address cie start input initial k0 k out after (Err fail) same e =
+    let P : CfaForms → Type 0 = λ x. FailsBy fail (viewed (put_behind out) (listed_forms (addresses_of address cie) cie.factors input x)) in
+    put_fails initial.regs (addresses_of address cie) cie.factors input (record initial { location = start }) out fail (subst P same e)
+
+pub cie_fails : (section : List ℕ) (address : ℕ) (cie : EhCie) (out : List ℕ) (fail : Fail FrameFault) → FailsBy fail (viewed (put_behind out) (listed_forms (addresses_of address cie) cie.factors (instructions_of section cie.initial_instructions) no_forms))
+    → FailsBy fail (viewed (λ (r : List CallFrameInstruction × State). out ++ flat_map encoded r.0) (cie_instructions section address cie))
+unfolding cie_instructions
+cie_fails section address cie out fail e = put_fails all_same_value (addresses_of address cie) cie.factors (instructions_of section cie.initial_instructions) no_rules out fail e
+
+pub cie_gives : (section : List ℕ) (address : ℕ) (cie : EhCie) (out : List ℕ) (p : List ℕ × CfaForms) → viewed (put_behind out) (listed_forms (addresses_of address cie) cie.factors (instructions_of section cie.initial_instructions) no_forms) ≡ Ok p
+    → viewed (λ (r : List CallFrameInstruction × State). out ++ flat_map encoded r.0) (cie_instructions section address cie) ≡ Ok p.0
+unfolding cie_instructions
+cie_gives section address cie out p e = put_gives all_same_value (addresses_of address cie) cie.factors (instructions_of section cie.initial_instructions) no_rules out p e
+
+pub cie_ends : (section : List ℕ) (address : ℕ) (cie : EhCie) (out : List ℕ) (p : List ℕ × CfaForms) → viewed (put_behind out) (listed_forms (addresses_of address cie) cie.factors (instructions_of section cie.initial_instructions) no_forms) ≡ Ok p
+    → (r : List CallFrameInstruction × State) × (cie_instructions section address cie ≡ Ok r) × (p.1 ≡ forms_of r.1)
+unfolding cie_instructions
+cie_ends section address cie out p e = ends_as_forms all_same_value (addresses_of address cie) cie.factors (instructions_of section cie.initial_instructions) no_rules out p e

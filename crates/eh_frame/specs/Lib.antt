@@ -1,0 +1,8 @@
+pub mod Addresses
+pub mod Cies
+pub mod Runs
+pub mod Entries
+pub mod Translation
+pub mod Both
+pub mod Laws
+pub mod private

@@ -1,0 +1,57 @@
+-- Instructions as they are checked by the forms of the CFA's rules.
+use Rattle.std.specs.Prelude.{◌≡◌, ℕ, ◌++◌, ◌≤◌, List, length, Option, Some, None, Result, Ok}
+use Rattle.std.specs.List.{flat_map}
+use Rattle.prof_bytes.specs.Reading.{left_of}
+use Rattle.prof_bytes.specs.Fields.{Input}
+use Rattle.cfi_table.specs.declared.fault.FrameFault.{FrameFault}
+use Rattle.cfi_table.specs.declared.checker.CieEnd.{CieEnd}
+use Rattle.cfi_table.specs.declared.extent.Extent.{Extent}
+use Rattle.cfi_table.specs.declared.instruction.AlignmentFactors.{AlignmentFactors}
+use Rattle.cfi_table.specs.declared.instruction.CallFrameInstruction.{CallFrameInstruction}
+use Rattle.cfi_table.specs.Rules.{State}
+use Rattle.cfi_table.specs.private.Checking.{CfaForms, execute_forms, forms_of}
+use Rattle.cfi_table.specs.private.KnownCies.{end_seen}
+use Rattle.cfi_table.specs.private.Placed.{IsWithin}
+use Rattle.eh_frame.specs.declared.address.Addresses.{Addresses}
+use Rattle.eh_frame.specs.declared.cie.EhCie.{EhCie}
+use Rattle.eh_frame.specs.declared.known_cie.KnownCie.{KnownCie}
+use Rattle.eh_frame.specs.Runs.{listed_by, cie_instructions}
+use Rattle.eh_frame.specs.Entries.{eh_cie_of}
+use Rattle.eh_frame.specs.Translation.{encoded}
+
+-- the instructions, and the forms after them
+abbrev pub listed_forms : Addresses → AlignmentFactors → Input FrameFault → CfaForms
+    → Result (List CallFrameInstruction × CfaForms) FrameFault
+listed_forms addresses factors input k = listed_by execute_forms (length (left_of input.at)) addresses factors input k
+
+-- instructions, written behind other bytes
+abbrev pub put_behind : {S : Type 0} → List ℕ → List CallFrameInstruction × S → List ℕ × S
+put_behind out r = (out ++ flat_map encoded r.0, r.1)
+
+-- ---- what is kept of each CIE
+
+-- the instructions of a CIE that is read lie in the section
+abbrev pub IsCieIn : List ℕ → Option EhCie → Type 0
+IsCieIn section None = Unit {0}
+IsCieIn section (Some cie) = IsWithin section cie.initial_instructions
+
+-- a CIE: its offset, and what it says
+pub record Known : Type 0 where
+  pub offset : ℕ
+  pub cie : Result (Option EhCie) FrameFault
+
+abbrev pub known : List ℕ → Extent → Known
+known section e = record { offset = e.offset; cie = eh_cie_of section e }
+
+abbrev pub seen_cie : KnownCie → Known
+seen_cie c = record { offset = c.offset; cie = Ok c.cie }
+
+-- the forms are those after the CIE's instructions, which have no fault
+abbrev pub IsEnd : List ℕ → ℕ → Option EhCie → CieEnd → Type 0
+IsEnd section address None end = Unit {0}
+IsEnd section address (Some cie) end = (initial : List CallFrameInstruction × State)
+    × (cie_instructions section address cie ≡ Ok initial) × (end_seen end ≡ forms_of initial.1)
+
+pub record IsKnown (section : List ℕ) (address : ℕ) (c : KnownCie) : Type 0 where
+  pub within : c.offset ≤ length section
+  pub ends : IsEnd section address c.cie c.end

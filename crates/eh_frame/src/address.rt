@@ -1,0 +1,95 @@
+//! Addresses and other pointers, as `.eh_frame` encodes them.
+ghost use Rattle.std.specs.Prelude.{◌≡◌, ◌<◌, ◌^◌, length};
+ghost use Rattle.prof_bytes.specs.Outcome.{GivesAt};
+ghost use Rattle.eh_frame.specs.Addresses.{has_four_bytes, application_of, address_from, pointer_from};
+
+use crate::constants::{
+    DW_EH_PE_absptr, DW_EH_PE_sdata2, DW_EH_PE_sdata4, DW_EH_PE_sdata8, DW_EH_PE_sleb128,
+    DW_EH_PE_udata2, DW_EH_PE_udata4, DW_EH_PE_udata8, DW_EH_PE_uleb128,
+};
+use cfi_table::FrameFault;
+use prof_bytes::Reader;
+
+/// What an address in an entry counts from.
+#[derive(Clone, Copy, Debug, PartialEq, Eq)]
+pub(crate) enum Application {
+    /// DW_EH_PE_absptr: it is the address itself.
+    Absolute,
+    /// DW_EH_PE_pcrel: it counts from the address at which it stands.
+    PcRelative,
+}
+
+/// How addresses are read: the address of the section's first byte, and what they count from.
+#[derive(Clone, Copy)]
+pub(crate) struct Addresses {
+    pub(crate) section: u32,
+    pub(crate) application: Application,
+}
+
+fn has_four_bytes(format: u8) -> bool
+    ensures { result ≡ has_four_bytes format }
+{
+    format == DW_EH_PE_absptr || format == DW_EH_PE_udata4 || format == DW_EH_PE_sdata4
+}
+
+/// The application of an encoding by which addresses are read; `None` where it is none of these.
+pub(crate) fn application_of(encoding: u8) -> Option<Application>
+    ensures { result ≡ application_of encoding }
+{
+    if !has_four_bytes(encoding % 16) {
+        return None;
+    }
+    match encoding / 16 {
+        0 => Some(Application::Absolute),
+        1 => Some(Application::PcRelative),
+        _ => None,
+    }
+}
+
+/// An address.
+#[tactic(auto, unfolding(crate::specs::Addresses::address_from))]
+pub(crate) fn address(
+    addresses: &Addresses,
+    reader: &mut Reader<'_, FrameFault>,
+) -> Result<u32, FrameFault>
+    requires { length reader.old.at.whole < 2 ^ 32 }
+    ensures address { GivesAt (λ a. a) result reader.new (address_from addresses.now reader.old) }
+    ensures whole { reader.new.at.whole ≡ reader.old.at.whole }
+{
+    let place = reader.offset() as u32;
+    let value = reader.u32()?;
+    match addresses.application {
+        Application::Absolute => Ok(value),
+        Application::PcRelative => Ok(addresses.section.wrapping_add(place).wrapping_add(value)),
+    }
+}
+
+/// Passes over a pointer of the format. `Ok(false)` where the format is none that is read.
+#[tactic(auto, unfolding(crate::specs::Addresses::pointer_from))]
+pub(crate) fn pointer(format: u8, reader: &mut Reader<'_, FrameFault>) -> Result<bool, FrameFault>
+    ensures { GivesAt (λ known. known) result reader.new (pointer_from format reader.old) }
+{
+    if has_four_bytes(format) {
+        reader.u32()?;
+        return Ok(true);
+    }
+    match format {
+        DW_EH_PE_udata2 | DW_EH_PE_sdata2 => {
+            reader.u16()?;
+            Ok(true)
+        }
+        DW_EH_PE_udata8 | DW_EH_PE_sdata8 => {
+            reader.u64()?;
+            Ok(true)
+        }
+        DW_EH_PE_uleb128 => {
+            reader.uleb()?;
+            Ok(true)
+        }
+        DW_EH_PE_sleb128 => {
+            reader.sleb()?;
+            Ok(true)
+        }
+        _ => Ok(false),
+    }
+}

@@ -1,0 +1,22 @@
+//! What the translation's instructions and entries mean.
+ghost use Rattle.eh_frame.specs.Laws.{InstructionsReadBack, RunsReadBack, RangesAreBoth, RulesAreBoth};
+
+/// An instruction that is written for the translation reads back as the one that was meant, with each register
+/// from 32 on as 32.
+pub fn instructions_read_back()
+    ensures { InstructionsReadBack }
+{}
+
+/// Instructions that are written for the translation, with zeros behind them, make the rules that they make
+/// where they were read, up to the first that moves the location past a limit.
+pub fn runs_read_back()
+    ensures { RunsReadBack }
+{}
+
+/// The frames that are read of `.debug_frame` and the translation behind it are the frame descriptions of both
+/// sections: they have the same ranges in the same order, at each address the same rules, and the same first
+/// fault.
+pub fn frames_are_of_both()
+    ensures ranges { RangesAreBoth }
+    ensures rules { RulesAreBoth }
+{}

@@ -1,0 +1,6 @@
+mod Loops
+mod Turns
+mod Lengths
+mod Names
+mod Parts
+mod Steps

@@ -1,0 +1,7 @@
+use Rattle.std.proofs.lemmas.List.{get_or_default}
+use Rattle.prof_bytes.proofs.Appending.{append_more}
+use Rattle.guest_gen.specs.File.{half}
+use Rattle.guest_gen.proofs.put.put_halves.Goals as goal
+
+pub loop-number-preserved : goal.loop-number-preserved
+loop-number-preserved c = append_more half _ _ _ _ _ _ c.loop-number-test.true (get_or_default _ _ _ _ c.loop-number-test.true) c.loop-number.invariant c.in_ok-put_half.ensures

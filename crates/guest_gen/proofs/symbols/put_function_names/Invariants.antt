@@ -1,0 +1,10 @@
+use Rattle.std.proofs.Common.{◌≡◌, ◌≤◌, ◌++◌}
+use Rattle.std.specs.List.{flat_map, range_with_len}
+use Rattle.guest_gen.specs.File.{function_name, name_bytes}
+use Rattle.guest_gen.proofs.symbols.put_function_names.Given as goal
+
+abbrev pub invariant-loop-number : goal.invariant-loop-number
+invariant-loop-number l = record {
+  bytes : l.out.items ≡ l.fn.out.items ++ flat_map (λ i. name_bytes (function_name i)) (range_with_len 0 l.number);
+  few : l.number ≤ l.count;
+}

@@ -1,0 +1,38 @@
+-- The guest of a number: a program, its input, a schedule of four harts, and a period.
+use Rattle.std.specs.Prelude.{ℕ, ◌+◌, ◌*◌, ◌%◌, List, [], ◌++◌, codes, decimal}
+use Rattle.std.specs.List.{flat_map, range_with_len}
+use Rattle.guest_gen.specs.declared.generate.GuestFiles.{GuestFiles}
+use Rattle.guest_gen.specs.Draws.{draw, state_after}
+use Rattle.guest_gen.specs.Code.{code, functions}
+use Rattle.guest_gen.specs.File.{file_of}
+
+-- ---- the schedule: which hart runs, and for how many instructions
+
+-- a slice, by two draws
+abbrev pub line_of : ℕ → List ℕ
+line_of s = decimal (draw s 0 % 4) ++ codes " " ++ decimal (1 + draw s 1 % 997) ++ codes "\n"
+
+-- a slice, which draws behind those before it
+unfoldable pub slice_line : ℕ → ℕ → List ℕ
+slice_line s j = line_of (state_after (2 * j) s)
+
+-- so many slices
+unfoldable pub slice_lines : ℕ → ℕ → List ℕ
+slice_lines s count = flat_map (slice_line s) (range_with_len 0 count)
+
+-- how many there are
+abbrev pub slices : ℕ
+slices = 4000
+
+-- ---- the guest. The functions draw first, three times each
+
+abbrev pub guest_schedule : ℕ → List ℕ
+guest_schedule number = codes "harts 4\n" ++ slice_lines (state_after (3 * functions) number) slices
+
+abbrev pub guest_of : ℕ → GuestFiles
+guest_of number = record {
+  elf = file_of (code number);
+  input = [];
+  schedule = guest_schedule number;
+  period = 97;
+}

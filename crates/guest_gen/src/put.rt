@@ -1,0 +1,45 @@
+//! What is appended to bytes. Each call's bytes are whole where it succeeds.
+ghost use Rattle.std.specs.Prelude.{◌≡◌, ◌++◌, decimal, OnOk};
+ghost use Rattle.std.specs.List.{flat_map};
+ghost use Rattle.guest_gen.specs.Code.{words};
+ghost use Rattle.guest_gen.specs.File.{half, halves};
+
+use byteorder::{ByteOrder, LittleEndian};
+use itoa::Buffer;
+use prof_bytes::{Memory, put_u32};
+
+pub(crate) fn put_words(out: &mut Vec<u8>, numbers: &[u32]) -> Result<(), Memory>
+    ensures { OnOk result (out.new.items ≡ out.old.items ++ words numbers.now) }
+{
+    for number in numbers {
+        put_u32(out, *number)?;
+    }
+    Ok(())
+}
+
+pub(crate) fn put_half(out: &mut Vec<u8>, number: u16) -> Result<(), Memory>
+    ensures { OnOk result (out.new.items ≡ out.old.items ++ half number) }
+{
+    let mut bytes = [0; 2];
+    LittleEndian::write_u16(&mut bytes, number);
+    out.extend_from_slice(&bytes)?;
+    Ok(())
+}
+
+pub(crate) fn put_halves(out: &mut Vec<u8>, numbers: &[u16]) -> Result<(), Memory>
+    ensures { OnOk result (out.new.items ≡ out.old.items ++ halves numbers.now) }
+{
+    for number in numbers {
+        put_half(out, *number)?;
+    }
+    Ok(())
+}
+
+/// The number's decimal digits.
+pub(crate) fn put_decimal(out: &mut Vec<u8>, number: u32) -> Result<(), Memory>
+    ensures { OnOk result (out.new.items ≡ out.old.items ++ decimal number) }
+{
+    let mut buffer = Buffer::new();
+    out.extend_from_slice(buffer.format(number).as_bytes())?;
+    Ok(())
+}

@@ -1,0 +1,23 @@
+use Rattle.std.proofs.Common.{length, refl}
+use Rattle.scope_find.specs.Found.{found_at, naming_of}
+use Rattle.scope_types.specs.Expansion.{call_path}
+use Rattle.std.proofs.lemmas.Result.{err_from_is_err_and}
+use Rattle.hpc_top.specs.declared.status.Made.{Made}
+use Rattle.hpc_top.specs.private.Merging.{merging}
+use Rattle.hpc_top.proofs.Products.{made_is, refused_profile}
+use Rattle.hpc_top.proofs.main_job.profile_counted.Goals as goal
+
+pub returns-in_err-merged : goal.returns-in_err-merged
+returns-in_err-merged g c samples are all own =
+    let p = err_from_is_err_and c.from_residual.result c.from_residual.ensures.1 in
+    rw (p.1, p.2) (refused_profile (length c.args.ccts.now) (naming_of c.args.finder.now) (call_path (found_at c.args.finder.now)) c.args.machine.now.state samples _ (c.in_err-merged.ensures.merged samples are own))
+
+pub write_db-requires : goal.write_db-requires
+write_db-requires g c = c.profiles_are_writable.ensures c.in_ok-merged.merged.content c.in_ok-merged.ensures.profile
+
+pub returns : goal.returns
+returns g c samples are all own =
+    let by = merging (g.C.Crews.gives c.args.merge.now.crews.now) (g.C.Crews.whole c.args.merge.now.crews.now) c.args.merge.now.workers in
+    let made : Made = record { database = c.in_ok-database.database; report = c.in_ok-report.report; crew = c.in_ok-merged.merged.crew } in
+    made_is by c.args.merge.now.period (length c.args.ccts.now) (naming_of c.args.finder.now) (call_path (found_at c.args.finder.now)) c.counts_decide.ensures.content c.counts_decide.ensures.table c.args.machine.now.state c.args.ccts.now samples are c.samples_are_counted.ensures.each refl all c.in_ok-merged.merged made
+    (c.in_ok-merged.ensures.merged samples are own) c.in_ok-database.ensures c.in_ok-report.ensures refl

@@ -1,0 +1,156 @@
+//! What `prof` makes: the database of a measurement's samples, and their table.
+ghost use Rattle.std.specs.Prelude.{◌≡◌, ◌≤◌, ◌<◌, All, IfOk, IsTrue, List, length};
+ghost use Rattle.prof_bytes.specs.Outcome.{Gives};
+ghost use Rattle.scope_find.specs.Found.{found_at, naming_of};
+ghost use Rattle.scope_types.specs.Distinct.{HartRaw, distinct};
+ghost use Rattle.scope_types.specs.Expansion.{call_path};
+ghost use Rattle.measure_file.specs.Measurable.{IsMeasurable, AreMeasured};
+ghost use Rattle.hpc_top.specs.Attribution.{attributed, attributed_by, attributed_code, measurement, of_program};
+ghost use Rattle.hpc_top.specs.Attribution.{prof_product};
+ghost use Rattle.hpc_top.specs.Task.{program_limit};
+ghost use Rattle.hpc_top.specs.private.Measuring.{attribution_or};
+ghost use Rattle.hpc_top.specs.private.Steps.{ready};
+
+use crate::merged::{Merge, merge_samples};
+use crate::program::program_of;
+use crate::report::table;
+use crate::scopes::{info_of, lines_of, structure_of};
+use crate::status::{InputFault, Prepared};
+use dwarf_inline::Structure;
+use dwarf_line::LineTable;
+use elf_image::Image;
+use measure_file::{MeasureHead, measurements_count_samples, read_measure};
+use merge_crew::Crews;
+use prof_bytes::Fail;
+use prof_db::{profiles_are_writable, write_db};
+use scope_find::Finder;
+use std::alloc::Global;
+use std::thread::Threads;
+use thread_cct::Ccts;
+use tree_types::counts_decide;
+
+/// The measurement, or the first fault of its file.
+fn measured(alloc: Global, bytes: &[u8]) -> Result<(MeasureHead, Ccts), Fail<InputFault>>
+    ensures exact { Gives (λ m. m) result (measurement bytes.now) }
+    ensures measured { IfOk result (λ m. IsMeasurable m.0 m.1) }
+{
+    match read_measure(alloc, bytes) {
+        Ok(measured) => Ok(measured),
+        Err(Fail::Fault(fault)) => {
+            let offset = fault.offset;
+            Err(Fail::Fault(InputFault::Measurement { offset }))
+        }
+        Err(Fail::Memory(memory)) => Err(Fail::Memory(memory)),
+    }
+}
+
+/// Refuses a measurement of another program.
+fn check_program(image: &Image<'_>, head: &MeasureHead) -> Result<(), Fail<InputFault>>
+    ensures { Gives (λ done. head.now) result (of_program image.now head.now) }
+{
+    let found_length = image.length();
+    let found_entry = image.entry();
+    if head.length == found_length && head.entry == found_entry {
+        return Ok(());
+    }
+    Err(Fail::Fault(InputFault::WrongProgram {
+        kept_length: head.length,
+        kept_entry: head.entry,
+        found_length,
+        found_entry,
+    }))
+}
+
+/// What is made of counted samples, unless these have too many scopes.
+fn attribute_counted<R: Threads + Sync, C: Crews>(
+    rt: &R,
+    alloc: Global,
+    merge: &Merge<'_, C>,
+    finder: &Finder<'_>,
+    ccts: &Ccts,
+) -> Result<Prepared, Fail<InputFault>>
+    requires period { 0 < merge.now.period }
+    requires workers { (1 ≤ merge.now.workers) × (merge.now.workers ≤ 16) }
+    requires whole { IsTrue (C.whole merge.now.crews.now) }
+    ensures { (samples : List HartRaw) → ccts.now ≡ distinct (length ccts.now) samples
+        → All (λ s. s.hart < length ccts.now) samples
+        → Gives ready result (attribution_or merge.now.period
+        (attributed (length ccts.now) (naming_of finder.now) (call_path (found_at finder.now)) samples)) }
+{
+    counts_decide();
+    profiles_are_writable();
+    let merged = merge_samples(rt, alloc, merge, finder, ccts)?;
+    let stored = write_db(alloc, &merged.content)?;
+    let text = table(alloc, &merged.content)?;
+    Ok(Prepared { stored, text })
+}
+
+/// What is made of a measurement's samples by a program whose debug information was read.
+fn attribute_scopes<R: Threads + Sync, C: Crews>(
+    rt: &R,
+    alloc: Global,
+    merge: &Merge<'_, C>,
+    image: &Image<'_>,
+    lines: &LineTable<'_>,
+    structure: &Structure<'_>,
+    ccts: &Ccts,
+) -> Result<Prepared, Fail<InputFault>>
+    requires period { 0 < merge.now.period }
+    requires workers { (1 ≤ merge.now.workers) × (merge.now.workers ≤ 16) }
+    requires measured { AreMeasured ccts.now }
+    requires whole { IsTrue (C.whole merge.now.crews.now) }
+    ensures { Gives ready result (attribution_or merge.now.period
+        (attributed_by (record { structure = structure.now; lines = lines.now; image = image.now }) ccts.now)) }
+{
+    measurements_count_samples();
+    let finder = Finder::of(alloc, structure, lines, image)?;
+    attribute_counted(rt, alloc, merge, &finder, ccts)
+}
+
+/// What is made of a measurement's samples, or the first refusal of the program's debug information.
+#[tactic(auto, unfolding(crate::specs::Scopes::program_scopes))]
+fn attribute_code<R: Threads + Sync, C: Crews>(
+    rt: &R,
+    alloc: Global,
+    merge: &Merge<'_, C>,
+    image: &Image<'_>,
+    ccts: &Ccts,
+) -> Result<Prepared, Fail<InputFault>>
+    requires period { 0 < merge.now.period }
+    requires workers { (1 ≤ merge.now.workers) × (merge.now.workers ≤ 16) }
+    requires measured { AreMeasured ccts.now }
+    requires whole { IsTrue (C.whole merge.now.crews.now) }
+    ensures { Gives ready result (attribution_or merge.now.period (attributed_code image.now ccts.now)) }
+{
+    let info = info_of(alloc, image)?;
+    let lines = lines_of(alloc, image, info.units())?;
+    let structure = structure_of(alloc, image, &info, &lines)?;
+    drop(info);
+    attribute_scopes(rt, alloc, merge, image, &lines, &structure, ccts)
+}
+
+/// The database and the table of a measurement of a program, or the first refusal of their files.
+#[tactic(auto, unfolding(crate::specs::Attribution::prof_product))]
+pub fn attribute<R: Threads + Sync, C: Crews>(
+    rt: &R,
+    alloc: Global,
+    elf: &[u8],
+    measurement: &[u8],
+    workers: u32,
+    crews: &C,
+) -> Result<Prepared, Fail<InputFault>>
+    requires program { length elf.now ≤ program_limit }
+    requires workers { (1 ≤ workers) × (workers ≤ 16) }
+    requires whole { IsTrue (C.whole crews.now) }
+    ensures { Gives ready result (prof_product elf.now measurement.now) }
+{
+    let (head, ccts) = measured(alloc, measurement)?;
+    let image = program_of(alloc, elf)?;
+    check_program(&image, &head)?;
+    let merge = Merge {
+        crews,
+        workers,
+        period: head.period,
+    };
+    attribute_code(rt, alloc, &merge, &image, &ccts)
+}

@@ -1,0 +1,14 @@
+mod Sums
+mod Repeated
+mod Writing
+mod Lengths
+mod Back
+mod Seams
+mod Behind
+mod BackPaths
+mod BehindMagic
+mod BackFile
+mod Forth
+mod ForthFile
+mod EachSample
+mod Sampled

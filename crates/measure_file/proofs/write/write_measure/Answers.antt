@@ -1,0 +1,5 @@
+use Rattle.measure_file.proofs.Lengths.{spelling_short}
+use Rattle.measure_file.proofs.write.write_measure.Goals as goal
+
+pub returns-clause-short : goal.returns-clause-short
+returns-clause-short c = spelling_short c.args.head.now c.args.ccts.now _ c.in_ok-text.ensures c.requires.few c.harts.ensures.samples c.harts.ensures.counted c.harts.ensures.frames

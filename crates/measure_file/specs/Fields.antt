@@ -1,0 +1,31 @@
+-- The fields of a measurement file: words of four bytes, read one after another up to the first fault.
+use Rattle.std.specs.Prelude.{ℕ, zero, suc, ◌+◌, Bool, length, Result, Ok, Err, if◌then◌else◌, nat_lt}
+use Rattle.prof_bytes.specs.Number.{number_in}
+use Rattle.prof_bytes.specs.Outcome.{◌>>=◌}
+use Rattle.prof_bytes.specs.Reading.{At, left_of, moved}
+use Rattle.measure_file.specs.declared.fault.MeasureFault.{MeasureFault}
+
+-- a value, and where the next field begins; or the first fault
+abbrev pub Read : Type 0 → Type 0
+Read X = Result (X × At) MeasureFault
+
+abbrev pub fault_at : ℕ → MeasureFault
+fault_at offset = record { offset = offset }
+
+-- a word. Where it is not whole, the fault is at its start
+abbrev pub word_from : At → Read ℕ
+word_from at = if nat_lt (length (left_of at)) 4 then Err (fault_at at.offset)
+    else Ok (number_in 4 (left_of at), moved 4 at)
+
+-- a word that a rule passes. Where the rule is broken, the fault is at its start too
+abbrev pub word_by : (ℕ → Bool) → At → Read ℕ
+word_by rule at = do
+  (n, next) ← word_from at
+  if rule n then Ok (n, next) else Err (fault_at at.offset)
+
+-- a step that is taken so many times, each behind the last, with its number and what was read before
+unfoldable pub times : {S : Type 0} → (ℕ → S → At → Read S) → ℕ → ℕ → S → At → Read S
+times step zero i before at = Ok (before, at)
+times step (suc n) i before at = do
+  (so_far, next) ← step i before at
+  times step n (i + 1) so_far next

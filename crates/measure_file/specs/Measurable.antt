@@ -1,0 +1,54 @@
+-- What a measurement may hold: a head and counted raw paths that obey the rules of the format.
+use Rattle.std.specs.Prelude.{◌≡◌, ℕ, ◌<◌, ◌≤◌, ◌^◌, false, List, [], ◌∷◌, length, All}
+use Rattle.scope_types.specs.declared.frame.Counted.{Counted}
+use Rattle.scope_types.specs.declared.frame.Frame.{Frame}
+use Rattle.scope_types.specs.Raw.{HasFrames}
+use Rattle.scope_types.specs.Distinct.{HartRaw, distinct, frames_in, samples_in}
+use Rattle.scope_types.specs.Limits.{most_path_frames, most_samples}
+use Rattle.thread_cct.specs.Adding.{has_path}
+use Rattle.measure_file.specs.declared.head.MeasureHead.{MeasureHead}
+
+-- words of 32 bits, and a period of at least one instruction
+pub record IsHead (head : MeasureHead) : Type 0 where
+  pub length : head.length < 2 ^ 32
+  pub entry : head.entry < 2 ^ 32
+  pub period : head.period < 2 ^ 32
+  pub some : 1 ≤ head.period
+
+abbrev pub HasWord : Frame → Type 0
+HasWord frame = frame.pc < 2 ^ 32
+
+-- a raw path that is counted at least once and has 1 to 512 frames, each with an address of 32 bits
+pub record IsCounted (counted : Counted) : Type 0 where
+  pub count : 1 ≤ counted.count
+  pub frames : HasFrames counted.path.frames
+  pub addresses : All HasWord counted.path.frames
+
+-- no raw path stands twice: each is none of those behind it
+abbrev pub AreDistinct : List Counted → Type 0
+AreDistinct [] = Unit {0}
+AreDistinct (c ∷ paths) = (has_path c.path paths ≡ false) × AreDistinct paths
+
+-- 1 to 16 harts, each with distinct counted paths; and the sums of counts and of frames are in their limits
+pub record AreMeasured (tables : List (List Counted)) : Type 0 where
+  pub some : 1 ≤ length tables
+  pub few : length tables ≤ 16
+  pub paths : All (All IsCounted) tables
+  pub distinct : All AreDistinct tables
+  pub samples : samples_in tables ≤ most_samples
+  pub frames : frames_in tables ≤ most_path_frames
+
+-- a measurement that can be written and read back
+pub record IsMeasurable (head : MeasureHead) (tables : List (List Counted)) : Type 0 where
+  pub words : IsHead head
+  pub counts : AreMeasured tables
+
+-- samples of 1 to 16 harts whose counted paths are such
+pub record AreSampled (harts : ℕ) (samples : List HartRaw) : Type 0 where
+  pub some : 1 ≤ harts
+  pub few : harts ≤ 16
+  pub own : All (λ s. s.hart < harts) samples
+  pub paths : All (λ s. HasFrames s.raw.frames) samples
+  pub addresses : All (λ s. All HasWord s.raw.frames) samples
+  pub sampled : length samples ≤ most_samples
+  pub frames : frames_in (distinct harts samples) ≤ most_path_frames

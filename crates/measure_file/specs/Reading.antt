@@ -1,0 +1,100 @@
+-- What the bytes of a measurement file say, or their first fault.
+use Rattle.std.specs.Prelude.{ℕ, ◌+◌, ◌==◌, ◌&&◌, ◌||◌, not, Bool, nat_eq, nat_le, nat_lt, List, [], ◌∷◌, ◌++◌, length}
+use Rattle.std.specs.Prelude.{take, replicate, Result, Ok, Err, if◌then◌else◌}
+use Rattle.std.specs.Cmp.Lexicographic.{pointwise}
+use Rattle.prof_bytes.specs.Outcome.{◌>>=◌}
+use Rattle.prof_bytes.specs.Reading.{At, left_of}
+use Rattle.scope_types.specs.declared.frame.Counted.{Counted}
+use Rattle.scope_types.specs.declared.frame.Frame.{Frame}
+use Rattle.scope_types.specs.declared.frame.End.{End}
+use Rattle.scope_types.specs.declared.frame.End.TheVariants.{Whole, Partial}
+use Rattle.scope_types.specs.declared.frame.PartialCause.TheVariants.{NoFde, NoCfa, Expression, Unmapped, Depth}
+use Rattle.scope_types.specs.Raw.{most_frames}
+use Rattle.scope_types.specs.Distinct.{frames_in, samples_in}
+use Rattle.scope_types.specs.Limits.{most_path_frames, most_samples}
+use Rattle.thread_cct.specs.Adding.{has_path, of_hart, with_path}
+use Rattle.measure_file.specs.declared.fault.MeasureFault.{MeasureFault}
+use Rattle.measure_file.specs.declared.head.MeasureHead.{MeasureHead}
+use Rattle.measure_file.specs.Fields.{Read, fault_at, word_from, word_by, times}
+use Rattle.measure_file.specs.Spelling.{magic}
+
+-- ---- the rules of single words
+
+abbrev pub is_period : ℕ → Bool
+is_period n = nat_le 1 n
+
+abbrev pub is_harts : ℕ → Bool
+is_harts n = nat_le 1 n && nat_le n 16
+
+-- some samples, and with those before at most 1,048,576
+abbrev pub is_count : ℕ → ℕ → Bool
+is_count before n = nat_le 1 n && nat_le (before + n) most_samples
+
+-- as many frames as a path may have, and with those before at most 4,194,304
+abbrev pub is_length : ℕ → ℕ → Bool
+is_length before n = nat_le 1 n && nat_le n most_frames && nat_le (before + n) most_path_frames
+
+abbrev pub is_end : ℕ → Bool
+is_end n = nat_le n 5
+
+-- the end of a path with this number
+abbrev pub end_of : ℕ → End
+end_of n = if n == 0 then Whole else if n == 1 then Partial NoFde else if n == 2 then Partial NoCfa
+    else if n == 3 then Partial Expression else if n == 4 then Partial Unmapped else Partial Depth
+
+-- ---- paths
+
+-- one frame behind those before
+abbrev pub frame_from : List Frame → At → Read (List Frame)
+frame_from before at = do
+  (pc, next) ← word_from at
+  Ok (before ++ record { pc = pc } ∷ [], next)
+
+-- a path among those of its hart, unless it is there already
+abbrev pub new_path : ℕ → ℕ → Counted → List (List Counted) → Result (List (List Counted)) MeasureFault
+new_path hart offset counted tables = if has_path counted.path (of_hart tables hart) then Err (fault_at offset)
+    else Ok (with_path tables hart counted)
+
+-- a path of a hart, behind all that were read before. One that is there already is at fault at its first pc
+unfoldable pub path_from : ℕ → List (List Counted) → At → Read (List (List Counted))
+path_from hart tables at = do
+  (count, next) ← word_by (is_count (samples_in tables)) at
+  (end, next) ← word_by is_end next
+  (length, first_pc) ← word_by (is_length (frames_in tables)) next
+  (frames, next) ← times (λ i. frame_from) length 0 [] first_pc
+  paths ← new_path hart first_pc.offset (record { path = record { end = end_of end; frames = frames }; count = count })
+      tables
+  Ok (paths, next)
+
+-- the paths of a hart, their number before them
+unfoldable pub hart_from : ℕ → List (List Counted) → At → Read (List (List Counted))
+hart_from hart tables at = do
+  (paths, next) ← word_from at
+  times (λ i. path_from hart) paths 0 tables next
+
+-- ---- the whole file
+
+-- nothing follows
+abbrev pub ended : {X : Type 0} → X → At → Result X MeasureFault
+ended value end = if nat_lt 0 (length (left_of end)) then Err (fault_at end.offset) else Ok value
+
+-- the paths of so many harts, and nothing behind them
+unfoldable pub tables_from : ℕ → At → Result (List (List Counted)) MeasureFault
+tables_from harts at = do
+  (tables, end) ← times hart_from harts 0 (replicate harts []) at
+  ended tables end
+
+-- what stands before the words
+abbrev pub after_magic : List ℕ → Result At MeasureFault
+after_magic bytes = if nat_lt (length bytes) 8 || not (pointwise nat_eq (take 8 bytes) magic) then Err (fault_at 0)
+    else Ok (record { whole = bytes; offset = 8 })
+
+unfoldable pub measurement_in : List ℕ → Result (MeasureHead × List (List Counted)) MeasureFault
+measurement_in bytes = do
+  next ← after_magic bytes
+  (length, next) ← word_from next
+  (entry, next) ← word_from next
+  (period, next) ← word_by is_period next
+  (harts, next) ← word_by is_harts next
+  tables ← tables_from harts next
+  Ok (record { length = length; entry = entry; period = period }, tables)

@@ -1,0 +1,47 @@
+-- The bytes of a measurement, version 1.
+use Rattle.std.specs.Prelude.{ℕ, List, ◌++◌, length, codes}
+use Rattle.std.specs.List.{flat_map}
+use Rattle.prof_bytes.specs.Number.{number_bytes}
+use Rattle.scope_types.specs.declared.frame.Counted.{Counted}
+use Rattle.scope_types.specs.declared.frame.Frame.{Frame}
+use Rattle.scope_types.specs.declared.frame.End.{End}
+use Rattle.scope_types.specs.declared.frame.End.TheVariants.{Whole, Partial}
+use Rattle.scope_types.specs.declared.frame.PartialCause.TheVariants.{NoFde, NoCfa, Expression, Unmapped, Depth}
+use Rattle.measure_file.specs.declared.head.MeasureHead.{MeasureHead}
+
+abbrev pub word : ℕ → List ℕ
+word n = number_bytes 4 n
+
+-- what a file begins with
+abbrev pub magic : List ℕ
+magic = codes "HPCRUNM1"
+
+abbrev pub end_number : End → ℕ
+end_number Whole = 0
+end_number (Partial NoFde) = 1
+end_number (Partial NoCfa) = 2
+end_number (Partial Expression) = 3
+end_number (Partial Unmapped) = 4
+end_number (Partial Depth) = 5
+
+abbrev pub frame_bytes : Frame → List ℕ
+frame_bytes frame = word frame.pc
+
+-- the count, the end, and the frames, the innermost first, with their number before them
+abbrev pub path_bytes : Counted → List ℕ
+path_bytes c = word c.count ++ word (end_number c.path.end) ++ word (length c.path.frames)
+    ++ flat_map frame_bytes c.path.frames
+
+-- how many distinct raw paths a hart has, and each
+abbrev pub hart_bytes : List Counted → List ℕ
+hart_bytes paths = word (length paths) ++ flat_map path_bytes paths
+
+abbrev pub head_bytes : MeasureHead → ℕ → List ℕ
+head_bytes head harts = magic ++ word head.length ++ word head.entry ++ word head.period ++ word harts
+
+unfoldable pub spelling : MeasureHead → List (List Counted) → List ℕ
+spelling head tables = head_bytes head (length tables) ++ flat_map hart_bytes tables
+
+-- the most bytes of a measurement that any command reads
+abbrev pub most_bytes : ℕ
+most_bytes = 33554432

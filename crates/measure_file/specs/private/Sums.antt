@@ -1,0 +1,12 @@
+-- The sums that a reader of paths keeps.
+use Rattle.std.specs.Prelude.{◌≡◌, ℕ, ◌≤◌, List}
+use Rattle.scope_types.specs.declared.frame.Counted.{Counted}
+use Rattle.scope_types.specs.Distinct.{frames_in, samples_in}
+use Rattle.scope_types.specs.Limits.{most_path_frames, most_samples}
+
+-- so many samples and frames are in the paths that were read, and both are few
+pub record AreSums (tables : List (List Counted)) (counted held : ℕ) : Type 0 where
+  pub samples : counted ≡ samples_in tables
+  pub few_samples : counted ≤ most_samples
+  pub frames : held ≡ frames_in tables
+  pub few_frames : held ≤ most_path_frames

@@ -1,0 +1,131 @@
+//! The single words of a measurement file.
+ghost use Rattle.std.specs.Prelude.{◌≡◌, ◌+◌, ◌≤◌, length, IfOk, []};
+ghost use Rattle.prof_bytes.specs.Outcome.{GivesAt, GivesFrom};
+ghost use Rattle.scope_types.specs.Limits.{most_path_frames, most_samples};
+ghost use Rattle.measure_file.specs.Fields.{word_from, word_by, times};
+ghost use Rattle.measure_file.specs.Reading.{is_count, is_end, is_length, is_period, is_harts, end_of, frame_from};
+
+use crate::fault::MeasureFault;
+use prof_bytes::{Cursor, Fail};
+use scope_types::{End, Frame, PartialCause};
+use std::alloc::Global;
+
+/// The most samples of a measurement.
+const MOST_SAMPLES: u32 = 1_048_576;
+
+/// The most frames of all its distinct raw paths.
+const MOST_PATH_FRAMES: u32 = 4_194_304;
+
+/// The most frames of one path.
+const MOST_FRAMES: u32 = 512;
+
+pub(crate) fn fault_at(offset: usize) -> MeasureFault
+    ensures { result ≡ record { offset = offset } }
+{
+    MeasureFault {
+        offset: offset as u64,
+    }
+}
+
+pub(crate) fn read_word(cursor: &mut Cursor<'_>) -> Result<u32, MeasureFault>
+    ensures { GivesAt (λ n. n) result cursor.new (word_from cursor.old) }
+{
+    let offset = cursor.place();
+    match cursor.u32() {
+        Some(number) => Ok(number),
+        None => Err(fault_at(offset)),
+    }
+}
+
+pub(crate) fn read_period(cursor: &mut Cursor<'_>) -> Result<u32, MeasureFault>
+    ensures { GivesAt (λ n. n) result cursor.new (word_by is_period cursor.old) }
+{
+    let offset = cursor.place();
+    let period = read_word(cursor)?;
+    if period == 0 {
+        return Err(fault_at(offset));
+    }
+    Ok(period)
+}
+
+pub(crate) fn read_harts(cursor: &mut Cursor<'_>) -> Result<u32, MeasureFault>
+    ensures read { GivesAt (λ n. n) result cursor.new (word_by is_harts cursor.old) }
+    ensures few { IfOk result (λ n. n ≤ 16) }
+{
+    let offset = cursor.place();
+    let harts = read_word(cursor)?;
+    if harts == 0 || harts > 16 {
+        return Err(fault_at(offset));
+    }
+    Ok(harts)
+}
+
+/// A path's count, behind so many samples.
+pub(crate) fn read_count(cursor: &mut Cursor<'_>, samples: u32) -> Result<u32, MeasureFault>
+    requires { samples ≤ most_samples }
+    ensures read { GivesAt (λ n. n) result cursor.new (word_by (is_count samples) cursor.old) }
+    ensures fits { IfOk result (λ n. (1 ≤ n) × (samples + n ≤ most_samples)) }
+{
+    let offset = cursor.place();
+    let count = read_word(cursor)?;
+    if count == 0 || count > MOST_SAMPLES - samples {
+        return Err(fault_at(offset));
+    }
+    Ok(count)
+}
+
+pub(crate) fn end_of(number: u32) -> End
+    ensures { result ≡ end_of number }
+{
+    match number {
+        0 => End::Whole,
+        1 => End::Partial(PartialCause::NoFde),
+        2 => End::Partial(PartialCause::NoCfa),
+        3 => End::Partial(PartialCause::Expression),
+        4 => End::Partial(PartialCause::Unmapped),
+        _ => End::Partial(PartialCause::Depth),
+    }
+}
+
+/// The number of a path's end.
+pub(crate) fn read_end(cursor: &mut Cursor<'_>) -> Result<u32, MeasureFault>
+    ensures { GivesAt (λ n. n) result cursor.new (word_by is_end cursor.old) }
+{
+    let offset = cursor.place();
+    let end = read_word(cursor)?;
+    if end > 5 {
+        return Err(fault_at(offset));
+    }
+    Ok(end)
+}
+
+/// How many frames a path has, behind so many of other paths.
+pub(crate) fn read_length(cursor: &mut Cursor<'_>, frames: u32) -> Result<u32, MeasureFault>
+    requires { frames ≤ most_path_frames }
+    ensures read { GivesAt (λ n. n) result cursor.new (word_by (is_length frames) cursor.old) }
+    ensures fits { IfOk result (λ n. (1 ≤ n) × (n ≤ 512) × (frames + n ≤ most_path_frames)) }
+{
+    let offset = cursor.place();
+    let length = read_word(cursor)?;
+    if length == 0 || length > MOST_FRAMES || length > MOST_PATH_FRAMES - frames {
+        return Err(fault_at(offset));
+    }
+    Ok(length)
+}
+
+/// So many frames. The list grows as they are read.
+pub(crate) fn read_frames(
+    alloc: Global,
+    cursor: &mut Cursor<'_>,
+    count: u32,
+) -> Result<Vec<Frame>, Fail<MeasureFault>>
+    ensures read { GivesFrom (λ v. v.items) result cursor.new (times (λ i. frame_from) count 0 [] cursor.old) }
+    ensures many { IfOk result (λ v. length v.items ≡ count) }
+{
+    let mut frames = Vec::new(alloc);
+    for _ in 0..count {
+        let pc = read_word(cursor)?;
+        frames.push(Frame { pc })?;
+    }
+    Ok(frames)
+}

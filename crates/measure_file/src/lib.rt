@@ -1,0 +1,22 @@
+//! The measurement file: what a run of a program counted, as bytes, in this project's format of version 1.
+//!
+//! It promises that what is written is byte for byte the spelling of the head and the counted paths, and that what is
+//! read is just what the bytes say, or the offset of their first fault. Below stand `thread_cct`, `scope_types` and
+//! `prof_bytes`.
+#![tactic(auto)]
+
+mod fault;
+mod fields;
+mod head;
+mod laws;
+mod paths;
+mod read;
+mod write;
+
+pub use fault::MeasureFault;
+pub use head::MeasureHead;
+pub use laws::{
+    measurements_count_samples, read_is_written, samples_are_measured, written_is_read,
+};
+pub use read::read_measure;
+pub use write::write_measure;

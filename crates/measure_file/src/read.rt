@@ -1,0 +1,132 @@
+//! A measurement of its bytes.
+ghost use Rattle.std.specs.Prelude.{◌≡◌, ◌<◌, length, IfOk, OnOk};
+ghost use Rattle.prof_bytes.specs.Outcome.{Gives, GivesAt, GivesFrom};
+ghost use Rattle.measure_file.specs.Fields.{times};
+ghost use Rattle.measure_file.specs.Measurable.{IsMeasurable};
+ghost use Rattle.measure_file.specs.Reading.{path_from, hart_from, measurement_in, after_magic, tables_from};
+
+use crate::fault::MeasureFault;
+use crate::fields::{
+    end_of, fault_at, read_count, read_end, read_frames, read_harts, read_length, read_period,
+    read_word,
+};
+use crate::head::MeasureHead;
+use crate::paths::Paths;
+use prof_bytes::{Cursor, Fail};
+use scope_types::RawPath;
+use std::alloc::Global;
+use thread_cct::Ccts;
+
+/// A path of a hart.
+#[tactic(auto, unfolding(crate::specs::Reading::path_from))]
+fn read_path(
+    alloc: Global,
+    cursor: &mut Cursor<'_>,
+    paths: &mut Paths,
+    hart: u32,
+) -> Result<(), Fail<MeasureFault>>
+    requires { hart < length paths.old }
+    ensures read { GivesFrom (λ done. paths.new) result cursor.new (path_from hart paths.old cursor.old) }
+    ensures harts { OnOk result (length paths.new ≡ length paths.old) }
+{
+    let count = read_count(cursor, paths.samples())?;
+    let end = read_end(cursor)?;
+    let length = read_length(cursor, paths.frames())?;
+    let first_pc = cursor.place();
+    let frames = read_frames(alloc, cursor, length)?;
+    paths.put(hart, RawPath::of(end_of(end), frames), count, first_pc)
+}
+
+/// So many paths of a hart.
+fn read_paths(
+    alloc: Global,
+    cursor: &mut Cursor<'_>,
+    paths: &mut Paths,
+    hart: u32,
+    count: u32,
+) -> Result<(), Fail<MeasureFault>>
+    requires { hart < length paths.old }
+    ensures read { GivesFrom (λ done. paths.new) result cursor.new
+        (times (λ i. path_from hart) count 0 paths.old cursor.old) }
+    ensures harts { OnOk result (length paths.new ≡ length paths.old) }
+{
+    for _ in 0..count {
+        read_path(alloc, cursor, paths, hart)?;
+    }
+    Ok(())
+}
+
+/// The paths of a hart, their number before them.
+#[tactic(auto, unfolding(crate::specs::Reading::hart_from))]
+fn read_hart(
+    alloc: Global,
+    cursor: &mut Cursor<'_>,
+    paths: &mut Paths,
+    hart: u32,
+) -> Result<(), Fail<MeasureFault>>
+    requires { hart < length paths.old }
+    ensures read { GivesFrom (λ done. paths.new) result cursor.new (hart_from hart paths.old cursor.old) }
+    ensures harts { OnOk result (length paths.new ≡ length paths.old) }
+{
+    let count = read_word(cursor)?;
+    read_paths(alloc, cursor, paths, hart, count)
+}
+
+/// The paths of all harts.
+fn read_tables(
+    alloc: Global,
+    cursor: &mut Cursor<'_>,
+    paths: &mut Paths,
+    harts: u32,
+) -> Result<(), Fail<MeasureFault>>
+    requires { length paths.old ≡ harts }
+    ensures { GivesFrom (λ done. paths.new) result cursor.new (times hart_from harts 0 paths.old cursor.old) }
+{
+    for hart in 0..harts {
+        read_hart(alloc, cursor, paths, hart)?;
+    }
+    Ok(())
+}
+
+/// The paths of so many harts, and nothing behind them.
+#[tactic(auto, unfolding(crate::specs::Reading::tables_from))]
+fn read_rest(alloc: Global, cursor: &mut Cursor<'_>, harts: u32) -> Result<Ccts, Fail<MeasureFault>>
+    ensures { Gives (λ ccts. ccts) result (tables_from harts cursor.old) }
+{
+    let mut paths = Paths::start(alloc, harts)?;
+    read_tables(alloc, cursor, &mut paths, harts)?;
+    if cursor.left() > 0 {
+        return Err(Fail::Fault(fault_at(cursor.place())));
+    }
+    Ok(paths.into_ccts())
+}
+
+/// A cursor behind the eight bytes that a file begins with.
+fn behind_magic(bytes: &[u8]) -> Result<Cursor<'_>, MeasureFault>
+    ensures { after_magic bytes.now ≡ result }
+{
+    if bytes.len() < 8 || &bytes[..8] != b"HPCRUNM1".as_slice() {
+        return Err(fault_at(0));
+    }
+    Ok(Cursor::at(bytes, 8))
+}
+
+/// The measurement that the bytes spell: its head and its counted paths, or the first fault.
+#[tactic(auto, unfolding(crate::specs::Reading::measurement_in))]
+pub fn read_measure(alloc: Global, bytes: &[u8]) -> Result<(MeasureHead, Ccts), Fail<MeasureFault>>
+    ensures exact { Gives (λ m. m) result (measurement_in bytes.now) }
+    ensures measured { IfOk result (λ m. IsMeasurable m.0 m.1) }
+{
+    let mut cursor = behind_magic(bytes)?;
+    let length = read_word(&mut cursor)?;
+    let entry = read_word(&mut cursor)?;
+    let period = read_period(&mut cursor)?;
+    let harts = read_harts(&mut cursor)?;
+    let ccts = read_rest(alloc, &mut cursor, harts)?;
+    let head = MeasureHead {
+        length,
+        entry,
+        period,
+    };
+    Ok((head, ccts))
+}

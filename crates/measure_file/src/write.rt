@@ -1,0 +1,109 @@
+//! A measurement as bytes.
+ghost use Rattle.std.specs.Prelude.{◌≡◌, ◌<◌, ◌≤◌, ◌++◌, length, IfOk, OnOk};
+ghost use Rattle.std.specs.List.{flat_map};
+ghost use Rattle.thread_cct.specs.Adding.{of_hart};
+ghost use Rattle.measure_file.specs.Spelling.{end_number, frame_bytes, head_bytes, hart_bytes, most_bytes};
+ghost use Rattle.measure_file.specs.Spelling.{path_bytes, spelling};
+
+use crate::head::MeasureHead;
+use prof_bytes::{Memory, Text, put_u32};
+use scope_types::{Counted, End, Frame, PartialCause};
+use std::alloc::Global;
+use thread_cct::Ccts;
+
+fn end_number(end: End) -> u32
+    ensures { result ≡ end_number end }
+{
+    match end {
+        End::Whole => 0,
+        End::Partial(PartialCause::NoFde) => 1,
+        End::Partial(PartialCause::NoCfa) => 2,
+        End::Partial(PartialCause::Expression) => 3,
+        End::Partial(PartialCause::Unmapped) => 4,
+        End::Partial(PartialCause::Depth) => 5,
+    }
+}
+
+fn put_frames(out: &mut Vec<u8>, frames: &[Frame]) -> Result<(), Memory>
+    ensures { OnOk result (out.new.items ≡ out.old.items ++ flat_map frame_bytes frames.now) }
+{
+    for frame in frames {
+        put_u32(out, frame.pc)?;
+    }
+    Ok(())
+}
+
+fn put_path(out: &mut Vec<u8>, counted: &Counted) -> Result<(), Memory>
+    ensures { OnOk result (out.new.items ≡ out.old.items ++ path_bytes counted.now) }
+{
+    let frames = counted.path.frames();
+    put_u32(out, counted.count)?;
+    put_u32(out, end_number(counted.path.end()))?;
+    put_u32(out, frames.len() as u32)?;
+    put_frames(out, frames)?;
+    Ok(())
+}
+
+fn put_paths(out: &mut Vec<u8>, ccts: &Ccts, hart: u32) -> Result<(), Memory>
+    requires { hart < length ccts.now }
+    ensures { OnOk result (out.new.items ≡ out.old.items ++ flat_map path_bytes (of_hart ccts.now hart)) }
+{
+    for index in 0..ccts.len(hart) {
+        let counted = ccts.path(hart, index)?;
+        put_path(out, &counted)?;
+    }
+    Ok(())
+}
+
+fn put_hart(out: &mut Vec<u8>, ccts: &Ccts, hart: u32) -> Result<(), Memory>
+    requires { hart < length ccts.now }
+    ensures { OnOk result (out.new.items ≡ out.old.items ++ hart_bytes (of_hart ccts.now hart)) }
+{
+    put_u32(out, ccts.len(hart))?;
+    put_paths(out, ccts, hart)?;
+    Ok(())
+}
+
+fn put_harts(out: &mut Vec<u8>, ccts: &Ccts) -> Result<(), Memory>
+    ensures { OnOk result (out.new.items ≡ out.old.items ++ flat_map hart_bytes ccts.now) }
+{
+    for hart in 0..ccts.harts() {
+        put_hart(out, ccts, hart)?;
+    }
+    Ok(())
+}
+
+fn put_head(out: &mut Vec<u8>, head: &MeasureHead, harts: u32) -> Result<(), Memory>
+    ensures { OnOk result (out.new.items ≡ out.old.items ++ head_bytes head.now harts) }
+{
+    out.extend_from_slice(b"HPCRUNM1")?;
+    put_u32(out, head.length)?;
+    put_u32(out, head.entry)?;
+    put_u32(out, head.period)?;
+    put_u32(out, harts)?;
+    Ok(())
+}
+
+/// The bytes of a measurement with so many harts.
+#[tactic(auto, unfolding(crate::specs::Spelling::spelling))]
+fn spelled(alloc: Global, head: &MeasureHead, ccts: &Ccts, harts: u32) -> Result<Text, Memory>
+    requires { harts ≡ length ccts.now }
+    ensures { IfOk result (λ text. text ≡ spelling head.now ccts.now) }
+{
+    let mut out = Vec::new(alloc);
+    put_head(&mut out, head, harts)?;
+    put_harts(&mut out, ccts)?;
+    Ok(Text::from_vec(out))
+}
+
+/// The bytes of a measurement.
+pub fn write_measure(alloc: Global, head: &MeasureHead, ccts: &Ccts) -> Result<Text, Memory>
+    requires period { 0 < head.now.period }
+    requires some { 0 < length ccts.now }
+    requires few { length ccts.now ≤ 16 }
+    ensures spelled { IfOk result (λ text. text ≡ spelling head.now ccts.now) }
+    ensures short { IfOk result (λ text. length text ≤ most_bytes) }
+{
+    let text = spelled(alloc, head, ccts, ccts.harts())?;
+    Ok(text)
+}

@@ -1,0 +1,75 @@
+-- The bytes behind the first ten don't count for a number at the front.
+use Rattle.std.proofs.Common.{◌≡◌, ℕ, zero, suc, ◌⊎◌, inl, inr, ◌+◌, ◌<◌, ◌≤◌, Bool, true, false, List, [], ◌∷◌, length, take, Option, Some, None, refl, sym, ap, ◌∙◌, arith}
+use Rattle.std.specs.Prelude.{option_and_then, nat_lt, ◌%◌, ◌^◌, ◌*◌}
+use Rattle.std.proofs.Math.Nat.{mod-eq_of_lt}
+use Rattle.std.specs.List.{position_or_len}
+use Rattle.std.proofs.lemmas.Bool.{cases_lt, lt-ltb, le-ltb, lt-leb}
+use Rattle.std.proofs.lemmas.List.{length-take-le, length-take, take-take}
+use Rattle.prof_bytes.specs.Leb.{leb_group, is_last, unsigned_of, signed_of, uleb_at, sleb_at}
+
+-- the first place that passes is the same among the first elements, or is not among these
+abbrev SamePlace : {X : Type 0} → (X → Bool) → ℕ → List X → Type 0
+SamePlace p k xs =
+    (position_or_len p (take k xs) ≡ position_or_len p xs)
+    ⊎ ((position_or_len p (take k xs) ≡ k) × (k ≤ position_or_len p xs) × (length (take k xs) ≡ k))
+
+one_more : {X : Type 0} (p : X → Bool) (k : ℕ) (x : X) (xs : List X) (b : Bool) → p x ≡ b → SamePlace p k xs → SamePlace p (suc k) (x ∷ xs)
+one_more p k x xs true passes rest = inl (rw passes refl)
+one_more p k x xs false passes (inl same) = inl (rw passes (ap (λ (n : ℕ). 1 + n) same))
+one_more p k x xs false passes (inr past) = inr (rw passes (let a = past.0 in omega arith, let b = past.1 in omega arith, let c = past.2 in omega arith))
+
+same_place : {X : Type 0} (p : X → Bool) (k : ℕ) (xs : List X) → SamePlace p k xs
+same_place p zero xs = inr (refl, omega arith, refl)
+same_place p (suc k) [] = inl refl
+same_place p (suc k) (x ∷ xs) = one_more p k x xs (p x) refl (same_place p k xs)
+
+none_in : (bytes : List ℕ) → length bytes ≤ position_or_len is_last bytes → leb_group bytes ≡ None
+none_in bytes past = rw (le-ltb (position_or_len is_last bytes) (length bytes) past) refl
+
+some_in : (bytes : List ℕ) (n : ℕ) → position_or_len is_last bytes ≡ n → n < length bytes → leb_group bytes ≡ Some (take (n + 1) bytes)
+some_in bytes n is within = rw (is, lt-ltb n (length bytes) within) refl
+
+-- what groups of more than ten bytes don't give is given by the first ten
+in_ten : {X : Type 0} (of : List ℕ → Option X) (bytes : List ℕ) → ((group : List ℕ) → 10 < length group → of group ≡ None)
+    → option_and_then of (leb_group (take 10 bytes)) ≡ option_and_then of (leb_group bytes)
+in_ten {X} of bytes long =
+    let n : ℕ = position_or_len is_last bytes in
+    let front : List ℕ = take 10 bytes in
+    let size = length-take 10 bytes in
+    let same = same_place is_last 10 bytes in
+    let give : Option (List ℕ) → Option X = option_and_then of in
+    elim (cases_lt n (length bytes)) [
+      | inl lt ↦ elim (cases_lt n 10) [
+        | inl few ↦
+            let is : position_or_len is_last front ≡ n = elim same [ inl e ↦ e | inr past ↦ absurd (let b = past.1 in omega arith) ] in
+            ap give (some_in front n is (omega arith)) ∙ ap of (take-take (n + 1) 10 bytes (omega arith)) ∙ sym (ap give (some_in bytes n refl lt))
+        | inr many ↦
+            let none : leb_group front ≡ None = none_in front (elim same [ inl e ↦ omega arith | inr past ↦ let a = past.0 in let c = past.2 in omega arith ]) in
+            let big : length (take (n + 1) bytes) ≡ n + 1 = length-take-le (n + 1) bytes (omega arith) in
+            ap give none ∙ sym (ap give (some_in bytes n refl lt) ∙ long (take (n + 1) bytes) (omega arith))
+      ]
+      | inr ge ↦
+          let none : leb_group front ≡ None = none_in front (elim same [ inl e ↦ omega arith | inr past ↦ let a = past.0 in let c = past.2 in omega arith ]) in
+          ap give none ∙ sym (ap give (none_in bytes ge))
+    ]
+
+no_unsigned : (group : List ℕ) → 10 < length group → unsigned_of group ≡ None
+no_unsigned group long = rw (lt-leb (length group) 10 long) refl
+
+pub unsigned_in_ten : (bytes : List ℕ) → option_and_then unsigned_of (leb_group (take 10 bytes)) ≡ uleb_at bytes
+unsigned_in_ten bytes = in_ten unsigned_of bytes no_unsigned
+
+no_signed : (group : List ℕ) → 10 < length group → signed_of group ≡ None
+no_signed group long = rw (lt-leb (length group) 10 long) refl
+
+pub signed_in_ten : (bytes : List ℕ) → option_and_then signed_of (leb_group (take 10 bytes)) ≡ sleb_at bytes
+signed_in_ten bytes = in_ten signed_of bytes no_signed
+
+only_byte : (byte : ℕ) → byte < 128 → unsigned_of (byte ∷ []) ≡ Some (byte, 1)
+only_byte byte last =
+    let value : byte % 128 + 128 * 0 ≡ byte = ap (λ (n : ℕ). n + 128 * 0) (mod-eq_of_lt last) ∙ omega arith in
+    rw (value, lt-ltb byte (2 ^ 64) (omega arith)) refl
+
+-- a number of one byte
+pub one_byte : (byte : ℕ) (rest : List ℕ) → byte < 128 → Some (byte, 1) ≡ uleb_at (byte ∷ rest)
+one_byte byte rest last = sym (ap (option_and_then unsigned_of) (some_in (byte ∷ rest) 0 (rw (lt-ltb byte 128 last) refl) (omega arith)) ∙ only_byte byte last)

@@ -1,0 +1,389 @@
+-- The exclusive values of a profile plane that the sixth rule passes, as the counts of a tree.
+use Rattle.std.proofs.Common.{◌≡◌, ℕ, zero, suc, ◌+◌, ◌-◌, ◌*◌, ◌/◌, ◌%◌, ◌<◌, ◌≤◌, ◌==◌, ◌&&◌, ◌||◌, not, nat_lt, nat_le, ◌⊎◌, inl, inr, Bool, true, false, cond, List, [], ◌∷◌, ◌++◌, length, get_or, map, take, filter, count_by, sum_by, replicate, All, AllPairs, Less, Equal, Greater, Ordering, refl, sym, ap, subst, ◌∙◌, arith, true≢false, Ok}
+use Rattle.std.specs.Prelude.{◌≢◌}
+use Rattle.std.specs.Cmp.{IsTotalOrder, on_total}
+use Rattle.std.specs.Cmp.Lexicographic.{slice_cmp}
+use Rattle.std.specs.FinMap.{nat_cmp-IsAntisymmetric, slice_cmp-IsAntisymmetric}
+use Rattle.std.specs.List.{IsDistinct, flat_map, range_with_len}
+use Rattle.std.specs.List.Sorted.{IsPermutation, IsSortedBy}
+use Rattle.std.specs.Ordering.{nat_cmp, is_lt, ordering_then, ordering_reverse}
+use Rattle.std.proofs.lemmas.Bool.{cases_eq, or_cases, eq-eqb, ne_eqb, lt-ltb}
+use Rattle.std.proofs.lemmas.Bool.Decides.{nat_tests}
+use Rattle.std.proofs.lemmas.Cmp.{nat_list_cmp_total}
+use Rattle.std.proofs.Math.Nat.{div-add-mod}
+use Rattle.std.proofs.lemmas.List.{get_or_default, get_or-map, length-map, take_all}
+use Rattle.std.proofs.lemmas.List.Elements.{All-filter, All-get_or, All-from_get_or, filter_passes}
+use Rattle.std.proofs.lemmas.List.Folds.{sum_by-replicate}
+use Rattle.std.proofs.lemmas.List.Kept.{AllPairs-filter}
+use Rattle.std.proofs.lemmas.List.MinMax.{ranks_by}
+use Rattle.std.proofs.lemmas.List.Sorted.{sorted_far, All-permutation, sum_by-IsPermutation}
+use Rattle.std.proofs.lemmas.List.Sums.{sum_by-append, sum_by-cons, sum_by_more}
+use Rattle.std.proofs.lemmas.Map.Keys.{IsDistinct-from_apart, IsDistinct-IsPermutation, apart_from_distinct}
+use Rattle.scope_types.specs.CallPaths.{HartPath}
+use Rattle.scope_types.specs.Limits.{most_samples}
+use Rattle.tree_types.specs.declared.content.Kind.{Kind}
+use Rattle.tree_types.specs.declared.content.Node.{Node}
+use Rattle.tree_types.specs.declared.counted_tree.NodeCount.{NodeCount}
+use Rattle.tree_types.specs.NodeValues.{NodeValues, nonzero, values_of}
+use Rattle.tree_types.specs.Nodes.{no_parent}
+use Rattle.tree_types.specs.Paths.{Path, after_prefix, rest_passes}
+use Rattle.tree_types.specs.Planes.{kinds}
+use Rattle.tree_types.specs.Tree.{CountedTree, node_at, IsPreorder, IsTree, count_order, counted_path, counts_in, node_path, paths_in}
+use Rattle.tree_types.specs.Values.{count_below, counts_for, harts_below}
+use Rattle.tree_types.proofs.Counting.{one}
+use Rattle.prof_db.specs.declared.raw.RawEntry.{RawEntry}
+use Rattle.prof_db.specs.Broken.{first_broken}
+use Rattle.prof_db.specs.NameRules.{pair_less}
+use Rattle.prof_db.specs.NodeRules.{is_statement}
+use Rattle.prof_db.specs.ValueRules.{count_of, entries_ascend, entries_kept, entry_at, entry_breaks, is_exclusive, is_value, samples_of}
+use Rattle.prof_db.proofs.Preorder.{and_parts}
+use Rattle.prof_db.proofs.Repeated.{none_broken}
+
+not_false : (b : Bool) → not b ≡ false → b ≡ true
+not_false true e = refl
+not_false false e = absurd (true≢false e)
+
+fits : (m n : ℕ) → nat_le m n ≡ true → m ≤ n
+fits m n e = grind (arith, nat_tests)
+
+less : (m n : ℕ) → nat_lt m n ≡ true → m < n
+less m n e = grind (arith, nat_tests)
+
+is_equal : (m n : ℕ) → (m == n) ≡ true → m ≡ n
+is_equal m n e = grind (arith, nat_tests)
+
+-- ---- sorting
+
+count_order_total : IsTotalOrder count_order
+count_order_total = on_total (λ (c : NodeCount). c.node ∷ c.hart ∷ []) nat_list_cmp_total
+
+abbrev pair_order : NodeCount → NodeCount → Ordering
+pair_order a b = ordering_then (nat_cmp a.node b.node) (nat_cmp a.hart b.hart)
+
+pair_same : (a b : NodeCount) → pair_order a b ≡ count_order a b
+pair_same a b = ap (ordering_then (nat_cmp a.node b.node)) (no_more (nat_cmp a.hart b.hart))
+  where
+    no_more : (o : Ordering) → o ≡ ordering_then o Equal
+    no_more Less = refl
+    no_more Equal = refl
+    no_more Greater = refl
+
+pub sorted_pairs : (xs : List NodeCount) → IsSortedBy (λ a b. is_lt (pair_order a b)) xs → AllPairs (λ a b. count_order b a ≢ Less) xs
+sorted_pairs xs up i j d below lt less =
+    let up_all : IsSortedBy (λ a b. is_lt (count_order a b)) xs = λ k e low high. ap is_lt (sym (pair_same (get_or xs (k + 1) e) (get_or xs k e))) ∙ up k e low high in
+    let not_less : is_lt (count_order (get_or xs j d) (get_or xs i d)) ≡ false = sorted_far (λ x y. is_lt (count_order x y)) (ranks_by count_order_total (λ (c : NodeCount). c)) xs up_all i j d (omega arith) lt in
+    true≢false (sym (ap is_lt less) ∙ not_less)
+
+abbrev same_place : NodeCount → NodeCount → Bool
+same_place a b = a.node == b.node && a.hart == b.hart
+
+tied : (a b : NodeCount) → count_order a b ≡ Equal → same_place a b ≡ true
+tied a b e =
+    let lists : (a.node ∷ a.hart ∷ []) ≡ (b.node ∷ b.hart ∷ []) = slice_cmp-IsAntisymmetric nat_cmp-IsAntisymmetric (a.node ∷ a.hart ∷ []) (b.node ∷ b.hart ∷ []) e in
+    let nodes : a.node ≡ b.node = cc in
+    let harts : a.hart ≡ b.hart = cc in
+    (λ i. eq-eqb a.node b.node nodes i && eq-eqb a.hart b.hart harts i)
+
+flips : (a b : NodeCount) → same_place a b ≡ same_place b a
+flips a b = λ i. turned a.node b.node i && turned a.hart b.hart i
+  where
+    turned : (m n : ℕ) → (m == n) ≡ (n == m)
+    turned m n = elim (cases_eq m n) [ inl is ↦ eq-eqb m n is ∙ sym (eq-eqb n m (sym is)) | inr apart ↦ ne_eqb m n apart ∙ sym (ne_eqb n m (λ e. apart (sym e))) ]
+
+-- what is sorted and has each node and hart once ascends strictly
+sorted_up : (xs : List NodeCount) → AllPairs (λ a b. count_order b a ≢ Less) xs → IsDistinct same_place xs → AllPairs (λ a b. count_order a b ≡ Less) xs
+sorted_up xs up distinct i j d below lt =
+    let a : NodeCount = get_or xs i d in
+    let b : NodeCount = get_or xs j d in
+    let apart : same_place a b ≡ false = apart_from_distinct same_place xs i j d distinct below lt in
+    elim (count_order a b) as (λ o. count_order a b ≡ o → o ≡ Less) [
+      | Less ↦ λ e. refl
+      | Equal ↦ λ e. absurd (true≢false (sym (tied a b e) ∙ apart))
+      | Greater ↦ λ e. absurd (up i j d below lt (count_order_total.antisymm b a ∙ ap ordering_reverse e))
+    ] refl
+
+-- ---- numbers in threes
+
+-- the first is smaller, or it is the same and the others are
+abbrev threes_up : ℕ → ℕ → ℕ → ℕ → ℕ → ℕ → Bool
+threes_up a b c x y z = nat_lt a x || (a == x && pair_less b c y z)
+
+abbrev Up : ℕ → ℕ → ℕ → ℕ → ℕ → ℕ → Type 0
+Up a b c x y z = (a < x) ⊎ ((a ≡ x) × ((b < y) ⊎ ((b ≡ y) × (c < z))))
+
+up_parts : (a b c x y z : ℕ) → threes_up a b c x y z ≡ true → Up a b c x y z
+up_parts a b c x y z e =
+    elim (or_cases (nat_lt a x) (a == x && pair_less b c y z) e) [
+      | inl first ↦ inl (less a x first)
+      | inr rest ↦
+          let both = and_parts (a == x) (pair_less b c y z) rest in
+          elim (or_cases (nat_lt b y) (b == y && nat_lt c z) both.1) [
+            | inl second ↦ inr (is_equal a x both.0, inl (less b y second))
+            | inr third ↦ let last = and_parts (b == y) (nat_lt c z) third in inr (is_equal a x both.0, inr (is_equal b y last.0, less c z last.1))
+          ]
+    ]
+
+first_up : (a b c x y z : ℕ) → a < x → threes_up a b c x y z ≡ true
+first_up a b c x y z lt = ap (λ t. t || (a == x && pair_less b c y z)) (lt-ltb a x lt)
+
+or_right_true : (t u : Bool) → u ≡ true → (t || u) ≡ true
+or_right_true true u e = refl
+or_right_true false u e = e
+
+second_up : (a b c x y z : ℕ) → a ≡ x → b < y → threes_up a b c x y z ≡ true
+second_up a b c x y z same lt = or_right_true (nat_lt a x) (a == x && pair_less b c y z) ((λ i. eq-eqb a x same i && (lt-ltb b y lt i || (b == y && nat_lt c z))))
+
+third_up : (a b c x y z : ℕ) → a ≡ x → b ≡ y → c < z → threes_up a b c x y z ≡ true
+third_up a b c x y z same next lt = or_right_true (nat_lt a x) (a == x && pair_less b c y z) ((λ i. eq-eqb a x same i && pair_less b c y z) ∙ or_right_true (nat_lt b y) (b == y && nat_lt c z) (λ i. eq-eqb b y next i && lt-ltb c z lt i))
+
+chained : (a b c d e f g h k : ℕ) → threes_up a b c d e f ≡ true → threes_up d e f g h k ≡ true → threes_up a b c g h k ≡ true
+chained a b c d e f g h k up on =
+    elim (up_parts a b c d e f up) [
+      | inl p ↦ first_up a b c g h k (elim (up_parts d e f g h k on) [ inl q ↦ omega arith | inr q ↦ (let s = q.0 in omega arith) ])
+      | inr p ↦
+          let s : a ≡ d = p.0 in
+          elim (up_parts d e f g h k on) [
+            | inl q ↦ first_up a b c g h k (omega arith)
+            | inr q ↦
+                let t : d ≡ g = q.0 in
+                elim p.1 [
+                  | inl u ↦ second_up a b c g h k (s ∙ t) (elim q.1 [ inl v ↦ omega arith | inr v ↦ (let w = v.0 in omega arith) ])
+                  | inr u ↦ elim q.1 [
+                    | inl v ↦ second_up a b c g h k (s ∙ t) (let w = u.0 in omega arith)
+                    | inr v ↦ third_up a b c g h k (s ∙ t) (u.0 ∙ v.0) (let m = u.1 in let n = v.1 in omega arith)
+                  ]
+                ]
+          ]
+    ]
+
+differ : (a b c x y z : ℕ) → threes_up a b c x y z ≡ true → c ≡ 0 → z ≡ 0 → (b == y && a == x) ≡ false
+differ a b c x y z up zero_c zero_z =
+    elim (up_parts a b c x y z up) [
+      | inl p ↦ and_last (b == y) (a == x) (ne_eqb a x (λ e. absurd (omega arith)))
+      | inr p ↦ elim p.1 [
+        | inl u ↦ ap (λ t. t && (a == x)) (ne_eqb b y (λ e. absurd (omega arith)))
+        | inr u ↦ (let m = u.1 in absurd (omega arith))
+      ]
+    ]
+  where
+    and_last : (t u : Bool) → u ≡ false → (t && u) ≡ false
+    and_last true u e = e
+    and_last false u e = refl
+
+-- ---- what the rule says
+
+module _ (period harts : ℕ) (nodes : List Node) (entries : List RawEntry) (kept : entries_kept period harts nodes entries ≡ Ok tt) where
+  abbrev at : ℕ → RawEntry
+  at i = entry_at entries i
+
+  -- the tests of an entry, in their order
+  abbrev whole_samples : RawEntry → Bool
+  whole_samples e = is_statement (node_at nodes e.node).scope && e.value % period == 0
+
+  abbrev may_stand : RawEntry → Bool
+  may_stand e = not (is_exclusive e) || whole_samples e
+
+  abbrev is_some : RawEntry → Bool
+  is_some e = not (e.value == 0) && may_stand e
+
+  abbrev has_kind : RawEntry → Bool
+  has_kind e = nat_lt e.kind 3 && is_some e
+
+  abbrev has_hart : RawEntry → Bool
+  has_hart e = nat_lt e.hart harts && has_kind e
+
+  abbrev is_next : ℕ → Bool
+  is_next i = i == 0 || entries_ascend (entry_at entries (i - 1)) (at i)
+
+  abbrev has_room : ℕ → Bool
+  has_room i = nat_le (sum_by (samples_of period) (take (i + 1) entries)) most_samples
+
+  whole : (i : ℕ) → i < length entries → (is_value period harts nodes (at i) && (is_next i && has_room i)) ≡ true
+  whole i lt = not_false (is_value period harts nodes (at i) && (is_next i && has_room i)) (none_broken 6 (entry_breaks period harts nodes entries) (λ i. (entry_at entries i).offset) 0 (length entries) i kept (omega arith) (omega arith))
+
+  value_ok : (i : ℕ) → i < length entries → is_value period harts nodes (at i) ≡ true
+  value_ok i lt = (and_parts (is_value period harts nodes (at i)) (is_next i && has_room i) (whole i lt)).0
+
+  order_ok : (i : ℕ) → i < length entries → (is_next i ≡ true) × (has_room i ≡ true)
+  order_ok i lt = and_parts (is_next i) (has_room i) (and_parts (is_value period harts nodes (at i)) (is_next i && has_room i) (whole i lt)).1
+
+  total_ok : (i : ℕ) → i < length entries → sum_by (samples_of period) (take (i + 1) entries) ≤ most_samples
+  total_ok i lt = fits (sum_by (samples_of period) (take (i + 1) entries)) most_samples (order_ok i lt).1
+
+  next_up : (i : ℕ) → suc i < length entries → entries_ascend (at i) (at (suc i)) ≡ true
+  next_up i lt =
+      let k : suc i - 1 ≡ i = omega arith in
+      elim (or_cases (suc i == 0) (entries_ascend (entry_at entries (suc i - 1)) (at (suc i))) (order_ok (suc i) lt).0) [
+        | inl e ↦ absurd (never i (is_equal (suc i) 0 e))
+        | inr e ↦ subst (λ (j : ℕ). entries_ascend (at j) (at (suc i)) ≡ true) k e
+      ]
+    where
+      never : (i : ℕ) → suc i ≡ 0 → ⊥
+      never i e = absurd (omega arith)
+
+  chain : (e f g : RawEntry) → entries_ascend e f ≡ true → entries_ascend f g ≡ true → entries_ascend e g ≡ true
+  chain e f g up on = chained e.hart e.node e.kind f.hart f.node f.kind g.hart g.node g.kind up on
+
+  all_up : (i j : ℕ) → i < j → j < length entries → entries_ascend (at i) (at j) ≡ true
+  all_up i zero below lt = absurd (omega arith)
+  all_up i (suc j) below lt = elim (cases_eq i j) [
+    | inl same ↦ subst (λ (k : ℕ). entries_ascend (at k) (at (suc j)) ≡ true) (sym same) (next_up j lt)
+    | inr apart ↦ chain (at i) (at j) (at (suc j)) (all_up i j (omega arith) (omega arith)) (next_up j lt)
+  ]
+
+  abbrev none : RawEntry
+  none = record { offset = 0; hart = 0; node = 0; kind = 0; value = 0 }
+
+  ascend : AllPairs (λ e f. entries_ascend e f ≡ true) entries
+  ascend i j d below lt =
+      subst (λ (f : RawEntry). entries_ascend (get_or entries i d) f ≡ true) (sym (get_or_default entries j d none lt))
+      (subst (λ (e : RawEntry). entries_ascend e (at j) ≡ true) (sym (get_or_default entries i d none (omega arith))) (all_up i j below lt))
+
+  abbrev exclusive : List RawEntry
+  exclusive = filter is_exclusive entries
+
+  abbrev counts : List NodeCount
+  counts = map (count_of period) exclusive
+
+  apart : (e f : RawEntry) → entries_ascend e f ≡ true → is_exclusive e ≡ true → is_exclusive f ≡ true → same_place (count_of period e) (count_of period f) ≡ false
+  apart e f up first second = differ e.hart e.node e.kind f.hart f.node f.kind up (is_equal e.kind 0 first) (is_equal f.kind 0 second)
+
+  distinct : IsDistinct same_place counts
+  distinct = IsDistinct-from_apart same_place counts (λ i j d below lt.
+      let long = length-map exclusive (count_of period) in
+      let e : RawEntry = get_or exclusive i none in
+      let f : RawEntry = get_or exclusive j none in
+      let second : j < length exclusive = omega arith in
+      let first : i < length exclusive = omega arith in
+      let up : entries_ascend e f ≡ true = AllPairs-filter (λ e f. entries_ascend e f ≡ true) is_exclusive entries ascend i j none below second in
+      let e_is : is_exclusive e ≡ true = All-get_or (λ (x : RawEntry). is_exclusive x ≡ true) exclusive i none first (filter_passes is_exclusive entries) in
+      let f_is : is_exclusive f ≡ true = All-get_or (λ (x : RawEntry). is_exclusive x ≡ true) exclusive j none second (filter_passes is_exclusive entries) in
+      subst (λ (b : NodeCount). same_place (get_or counts i d) b ≡ false) (sym (get_or-map (count_of period) exclusive j none d second))
+      (subst (λ (a : NodeCount). same_place a (count_of period f) ≡ false) (sym (get_or-map (count_of period) exclusive i none d first)) (apart e f up e_is f_is)))
+
+  -- each exclusive value, as a count
+  abbrev IsGood : RawEntry → Type 0
+  IsGood e = is_value period harts nodes e ≡ true
+
+  all_good : All IsGood entries
+  all_good = All-from_get_or IsGood entries none value_ok
+
+  module _ (some : 0 < period) where
+    good_node : (e : RawEntry) → IsGood e → e.node < length nodes
+    good_node e ok = less (e.node) (length nodes) (and_parts (nat_lt e.node (length nodes)) (has_hart e) ok).0
+
+    good_hart : (e : RawEntry) → IsGood e → e.hart < harts
+    good_hart e ok = less e.hart harts (and_parts (nat_lt e.hart harts) (has_kind e) (and_parts (nat_lt e.node (length nodes)) (has_hart e) ok).1).0
+
+    -- a value of whole samples, other than 0, has some
+    has_some : (v : ℕ) → v ≢ 0 → v % period ≡ 0 → 0 < v / period
+    has_some v other rest = pos (v / period) refl
+      where
+        pos : (q : ℕ) → v / period ≡ q → 0 < v / period
+        pos zero is = absurd (other (sym (div-add-mod v period) ∙ ap (λ (n : ℕ). period * n + v % period) is ∙ ap (λ (n : ℕ). period * 0 + n) rest ∙ nothing period))
+          where
+            nothing : (n : ℕ) → n * 0 + 0 ≡ 0
+            nothing n = omega arith
+        pos (suc q) is = subst (λ (n : ℕ). 0 < n) (sym is) (omega arith)
+
+    good_count : (e : RawEntry) → IsGood e → is_exclusive e ≡ true → 0 < e.value / period
+    good_count e ok excl =
+        let kind = (and_parts (nat_lt e.hart harts) (has_kind e) (and_parts (nat_lt e.node (length nodes)) (has_hart e) ok).1).1 in
+        let rest = (and_parts (nat_lt e.kind 3) (is_some e) kind).1 in
+        let both = and_parts (not (e.value == 0)) (may_stand e) rest in
+        let other : e.value ≢ 0 = λ z. true≢false (sym both.0 ∙ ap not (eq-eqb e.value 0 z)) in
+        elim (or_cases (not (is_exclusive e)) (whole_samples e) both.1) [
+          | inl unlike ↦ absurd (true≢false (sym unlike ∙ ap not excl))
+          | inr stands ↦ has_some e.value other (is_equal (e.value % period) 0 (and_parts (is_statement (node_at nodes e.node).scope) (e.value % period == 0) stands).1)
+        ]
+
+    all_map : {X Y : Type 0} (P : Y → Type 0) (f : X → Y) (xs : List X) (x : X) → All (λ x. P (f x)) xs → All P (map f xs)
+    all_map P f xs x all i d lt =
+        let long = length-map xs f in
+        let inside : i < length xs = omega arith in
+        subst P (sym (get_or-map f xs i x d inside)) (all i x inside)
+
+    good : All IsGood exclusive
+    good = All-filter is_exclusive IsGood entries all_good
+
+    some_counts : All (λ e. 0 < e.value / period) exclusive
+    some_counts = λ i d lt. good_count (get_or exclusive i d) (good i d lt) (filter_passes is_exclusive entries i d lt)
+
+    -- the tree of the sorted counts
+    module _ (sorted : List NodeCount) (moved : IsPermutation counts sorted) (up : AllPairs (λ a b. count_order b a ≢ Less) sorted) (few : length nodes < no_parent) (preorder : IsPreorder nodes) where
+      pub sorted_tree : IsTree (record { harts = harts; nodes = nodes; counts = sorted })
+      sorted_tree = record {
+        few = few;
+        preorder = preorder;
+        nodes = All-permutation (λ c. c.node < length nodes) counts sorted moved (all_map (λ (c : NodeCount). c.node < length nodes) (count_of period) exclusive none (λ i d lt. good_node (get_or exclusive i d) (good i d lt)));
+        harts = All-permutation (λ c. c.hart < harts) counts sorted moved (all_map (λ (c : NodeCount). c.hart < harts) (count_of period) exclusive none (λ i d lt. good_hart (get_or exclusive i d) (good i d lt)));
+        some = All-permutation (λ c. 0 < c.count) counts sorted moved (all_map (λ (c : NodeCount). 0 < c.count) (count_of period) exclusive none some_counts);
+        ascend = sorted_up sorted up (IsDistinct-IsPermutation same_place flips counts sorted moved distinct);
+      }
+
+  -- ---- samples
+
+  samples_are : (es : List RawEntry) → counts_in (map (count_of period) (filter is_exclusive es)) ≡ sum_by (samples_of period) es
+  samples_are [] = refl
+  samples_are (e ∷ es) =
+      elim (is_exclusive e) as (λ b. counts_in (map (count_of period) (cond b (e ∷ filter is_exclusive es) (filter is_exclusive es))) ≡ cond b (e.value / period) 0 + sum_by (samples_of period) es) [
+        | true ↦ sum_by-cons (λ (c : NodeCount). c.count) (count_of period e) (map (count_of period) (filter is_exclusive es)) ∙ ap (λ (n : ℕ). e.value / period + n) (samples_are es)
+        | false ↦ samples_are es ∙ (omega arith)
+      ] ∙ sym (sum_by-cons (samples_of period) e es)
+
+  all_samples : (n : ℕ) → length entries ≡ n → sum_by (samples_of period) entries ≤ most_samples
+  all_samples zero is = subst (λ (es : List RawEntry). sum_by (samples_of period) es ≤ most_samples) (take_all (length entries) entries (omega arith)) (subst (λ (k : ℕ). sum_by (samples_of period) (take k entries) ≤ most_samples) (sym is) (omega arith))
+  all_samples (suc n) is = subst (λ (es : List RawEntry). sum_by (samples_of period) es ≤ most_samples) (take_all (n + 1) entries (omega arith)) (total_ok n (omega arith))
+
+  pub few_samples : counts_in counts ≤ most_samples
+  few_samples = let all = all_samples (length entries) refl in let are = samples_are entries in omega (arith, all, are)
+
+  pub each_few : All (λ e. samples_of period e ≤ most_samples) entries
+  each_few i d lt =
+      let more = sum_by_more (samples_of period) entries i none lt in
+      let most = total_ok i lt in
+      subst (λ (e : RawEntry). samples_of period e ≤ most_samples) (sym (get_or_default entries i d none lt)) (omega (arith, more, most))
+
+pub few_moved : (cs ds : List NodeCount) → IsPermutation cs ds → counts_in cs ≤ most_samples → counts_in ds ≤ most_samples
+few_moved cs ds moved few = let same = sum_by-IsPermutation (λ (c : NodeCount). c.count) cs ds moved in omega (arith, same, few)
+
+-- ---- in any order the counts have the same values
+
+module _ (nodes : List Node) where
+  spread : (q : HartPath → Bool) (cs : List NodeCount) → count_by q (flat_map (λ c. replicate c.count (counted_path nodes c)) cs) ≡ sum_by (λ c. c.count * one (q (counted_path nodes c))) cs
+  spread q [] = refl
+  spread q (c ∷ cs) =
+      sum_by-append (λ (p : HartPath). one (q p)) (replicate c.count (counted_path nodes c)) (flat_map (λ c. replicate c.count (counted_path nodes c)) cs)
+      ∙ ap (λ (n : ℕ). n + count_by q (flat_map (λ c. replicate c.count (counted_path nodes c)) cs)) (sum_by-replicate (λ (p : HartPath). one (q p)) c.count (counted_path nodes c))
+      ∙ ap (λ (n : ℕ). c.count * one (q (counted_path nodes c)) + n) (spread q cs)
+      ∙ sym (sum_by-cons (λ (c : NodeCount). c.count * one (q (counted_path nodes c))) c cs)
+
+  module _ (period harts : ℕ) (cs ds : List NodeCount) (moved : IsPermutation cs ds) where
+    abbrev tree : List NodeCount → CountedTree
+    tree counts = record { harts = harts; nodes = nodes; counts = counts }
+
+    same_counts : (test : Path → Bool) (hart : ℕ) (n : Path) → count_below test (paths_in (tree ds)) hart n ≡ count_below test (paths_in (tree cs)) hart n
+    unfolding count_below paths_in
+    same_counts test hart n =
+        spread (λ p. p.hart == hart && rest_passes test (after_prefix n p.path)) ds
+        ∙ sum_by-IsPermutation (λ (c : NodeCount). c.count * one ((λ (p : HartPath). p.hart == hart && rest_passes test (after_prefix n p.path)) (counted_path nodes c))) cs ds moved
+        ∙ sym (spread (λ p. p.hart == hart && rest_passes test (after_prefix n p.path)) cs)
+
+    pub same_values : values_of period (tree ds) ≡ values_of period (tree cs)
+    unfolding values_of
+    same_values = λ i. record {
+      nodes = length nodes;
+      harts = harts;
+      entries = nonzero (flat_map (λ node. flat_map (λ hart. map (λ kind. record { node = node; hart = hart; kind = kind; value = period * same_counts (counts_for kind) hart (node_path nodes node) i }) kinds) (harts_below harts)) (range_with_len 0 (length nodes)));
+    }
+
+pub moved_from : (old is new : List NodeCount) → old ≡ is → IsPermutation old new → IsPermutation is new
+moved_from old is new same moved = subst (λ (cs : List NodeCount). IsPermutation cs new) same moved
+
+-- behind an entry that is not broken the samples are few
+pub passed_sum : (period harts : ℕ) (nodes : List Node) (entries : List RawEntry) (i : ℕ) → entry_breaks period harts nodes entries i ≡ false → sum_by (samples_of period) (take (i + 1) entries) ≤ most_samples
+passed_sum period harts nodes entries i whole =
+    let value : Bool = is_value period harts nodes (entry_at entries i) in
+    let next : Bool = i == 0 || entries_ascend (entry_at entries (i - 1)) (entry_at entries i) in
+    let room : Bool = nat_le (sum_by (samples_of period) (take (i + 1) entries)) most_samples in
+    fits (sum_by (samples_of period) (take (i + 1) entries)) most_samples (and_parts next room (and_parts value (next && room) (not_false (value && (next && room)) whole)).1).1

@@ -1,0 +1,19 @@
+use Rattle.std.proofs.Common.{rules, ◌≡◌, Err}
+use Rattle.prof_db.specs.Fields.{times}
+use Rattle.prof_db.specs.Layout.{past_column}
+use Rattle.prof_db.proofs.Repeated.{goes_on, fails_at, ends}
+use Rattle.prof_db.proofs.layout.pass_columns.Goals as goal
+
+pub returns-in_err-pass_column : goal.returns-in_err-pass_column
+unfolding past_column
+returns-in_err-pass_column c =
+    let failed : times past_column c.args.nodes 0 tt c.args.cursor.now ≡ Err c.in_err-pass_column.field-0.0 =
+    fails_at c.in_err-pass_column.field-0.0 past_column c.args.nodes c.loop.counter tt c.loop.cursor (times past_column c.args.nodes 0 tt c.args.cursor.now) c.loop-test.true c.in_err-pass_column.ensures c.loop.invariant in
+    search rules
+
+pub loop-preserved : goal.loop-preserved
+unfolding past_column
+loop-preserved c = goes_on past_column c.args.nodes c.loop.counter tt tt c.loop.cursor c.pass_column.new.cursor (times past_column c.args.nodes 0 tt c.args.cursor.now) c.loop-test.true c.in_ok-pass_column.ensures c.loop.invariant
+
+pub returns : goal.returns
+returns c = ends past_column c.args.nodes c.loop.counter tt c.loop.cursor (times past_column c.args.nodes 0 tt c.args.cursor.now) c.loop-test.false c.loop.invariant

@@ -1,0 +1,24 @@
+use Rattle.std.proofs.Common.{◌≡◌, ◌<◌, ◌≤◌, length, sym, ap, ◌∙◌, arith}
+use Rattle.prof_db.specs.Fields.{fault}
+use Rattle.prof_db.specs.NameRules.{is_among, proc_at, proc_breaks, proc_is_wrong}
+use Rattle.prof_db.proofs.Broken.{broken_is, failed}
+use Rattle.prof_db.proofs.Repeated.{all_pass, breaks_at, passes_on}
+use Rattle.prof_db.proofs.name_rules.judge_procs.Goals as goal
+
+pub returns-then-is_broken : goal.returns-then-is_broken
+returns-then-is_broken c =
+    let lt : c.loop-i.i < length c.args.procs.now = omega arith in
+    breaks_at 4 (proc_breaks c.args.procs.now c.args.used.now) (λ i. (proc_at c.args.procs.now i).offset) (length c.args.procs.now) c.loop-i.i _ lt
+    (broken_is c.is_broken.result c.proc_is_wrong.result c.is_marked.result (proc_is_wrong c.args.procs.now c.loop-i.i) (is_among c.args.used.now c.loop-i.i) c.is_broken.ensures c.proc_is_wrong.ensures (c.is_marked.ensures ∙ c.in_ok-marks.ensures.each c.loop-i.i lt) ∙ c.if-is_broken.true) c.loop-i.invariant
+    ∙ ap failed (sym (c.fault_at.ensures ∙ ap (fault 4) c.proc_offset.ensures))
+
+pub loop-i-preserved : goal.loop-i-preserved
+loop-i-preserved c =
+    let lt : c.loop-i.i < length c.args.procs.now = omega arith in
+    passes_on 4 (proc_breaks c.args.procs.now c.args.used.now) (λ i. (proc_at c.args.procs.now i).offset) (length c.args.procs.now) c.loop-i.i _ lt
+    (broken_is c.is_broken.result c.proc_is_wrong.result c.is_marked.result (proc_is_wrong c.args.procs.now c.loop-i.i) (is_among c.args.used.now c.loop-i.i) c.is_broken.ensures c.proc_is_wrong.ensures (c.is_marked.ensures ∙ c.in_ok-marks.ensures.each c.loop-i.i lt) ∙ c.if-is_broken.false) c.loop-i.invariant
+
+pub returns : goal.returns
+returns c =
+    let le : length c.args.procs.now ≤ c.loop-i.i = omega arith in
+    all_pass 4 (proc_breaks c.args.procs.now c.args.used.now) (λ i. (proc_at c.args.procs.now i).offset) (length c.args.procs.now) c.loop-i.i _ le c.loop-i.invariant

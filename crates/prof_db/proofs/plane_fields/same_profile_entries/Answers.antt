@@ -1,0 +1,23 @@
+use Rattle.std.proofs.Common.{rules, ◌≡◌, Err}
+use Rattle.std.specs.List.{flat_map}
+use Rattle.std.proofs.lemmas.List.{get_or_default}
+use Rattle.tree_types.specs.declared.content.Kind.TheVariants.{Exclusive}
+use Rattle.tree_types.specs.declared.content.ProfileEntry.{ProfileEntry}
+use Rattle.prof_db.specs.ValueRules.{profile_fields, fields_kept}
+use Rattle.prof_db.proofs.FieldSteps.{fields_more, fields_differ, fields_end}
+use Rattle.prof_db.proofs.plane_fields.same_profile_entries.Goals as goal
+
+abbrev none : ProfileEntry
+none = record { node = 0; kind = Exclusive; value = 0 }
+
+pub returns-in_err-same_profile_entry : goal.returns-in_err-same_profile_entry
+returns-in_err-same_profile_entry c =
+    let failed : fields_kept 6 (flat_map profile_fields c.args.entries.now) c.args.cursor.now ≡ Err c.in_err-same_profile_entry.field-0.0 =
+    fields_differ 6 profile_fields _ _ _ none _ _ c.in_err-same_profile_entry.field-0.0 c.loop-e-test.true (get_or_default _ _ _ none c.loop-e-test.true) c.in_err-same_profile_entry.ensures c.loop-e.invariant in
+    search rules
+
+pub loop-e-preserved : goal.loop-e-preserved
+loop-e-preserved c = fields_more 6 profile_fields _ _ _ none _ _ _ c.loop-e-test.true (get_or_default _ _ _ none c.loop-e-test.true) c.in_ok-same_profile_entry.ensures c.loop-e.invariant
+
+pub returns : goal.returns
+returns c = fields_end 6 profile_fields _ _ _ _ c.loop-e-test.false c.loop-e.invariant

@@ -1,0 +1,10 @@
+use Rattle.std.proofs.Common.{rules, ℕ}
+use Rattle.std.proofs.lemmas.List.Sorted.{answers_always}
+use Rattle.tree_types.specs.declared.counted_tree.NodeCount.{NodeCount}
+use Rattle.prof_db.proofs.Exclusive.{sorted_pairs}
+use Rattle.prof_db.proofs.read.sort.Goals as goal
+
+pub returns-clause-sorted : goal.returns-clause-sorted
+returns-clause-sorted c =
+    let key : NodeCount → ℕ × ℕ = λ x. (x.node, x.hart) in
+    sorted_pairs c.sort_unstable_by_key.new.self.items (c.sort_unstable_by_key.ensures.sorted key (answers_always _ _ _ (λ f a r g called. search rules)))

@@ -1,0 +1,14 @@
+-- The first of several places at which a rule is broken.
+use Rattle.std.specs.Prelude.{ℕ, zero, suc, ◌+◌, Bool, Result, Ok, Err, if◌then◌else◌}
+use Rattle.prof_db.specs.declared.fault.DbFault.{DbFault}
+use Rattle.prof_db.specs.Fields.{fault}
+
+-- nothing is broken, or the first fault
+abbrev pub Kept : Type 0
+Kept = Result (Unit {0}) DbFault
+
+-- so many places, from one on: the offset of the first that is broken
+unfoldable pub first_broken : ℕ → (ℕ → Bool) → (ℕ → ℕ) → ℕ → ℕ → Kept
+first_broken rule is_broken offset i zero = Ok tt
+first_broken rule is_broken offset i (suc n) = if is_broken i then Err (fault rule (offset i))
+    else first_broken rule is_broken offset (i + 1) n

@@ -1,0 +1,168 @@
+-- How the bytes of a database, version 1, are cut into fields: its first two rules.
+use Rattle.std.specs.Prelude.{ℕ, ◌+◌, ◌==◌, ◌||◌, not, nat_eq, nat_lt, List, [], ◌∷◌, ◌++◌, length, take, codes}
+use Rattle.std.specs.Prelude.{Result, Ok, Err, if◌then◌else◌}
+use Rattle.std.specs.Cmp.Lexicographic.{pointwise}
+use Rattle.prof_bytes.specs.Outcome.{◌>>=◌}
+use Rattle.prof_bytes.specs.Reading.{At, left_of}
+use Rattle.prof_db.specs.declared.fault.DbFault.{DbFault}
+use Rattle.prof_db.specs.declared.raw.Head.{Head}
+use Rattle.prof_db.specs.declared.raw.Layout.{Layout}
+use Rattle.prof_db.specs.declared.raw.RawProc.{RawProc}
+use Rattle.prof_db.specs.declared.raw.RawFile.{RawFile}
+use Rattle.prof_db.specs.declared.raw.RawLine.{RawLine}
+use Rattle.prof_db.specs.declared.raw.RawLine.TheVariants.{Row, Address}
+use Rattle.prof_db.specs.declared.raw.RawScope.{RawScope}
+use Rattle.prof_db.specs.declared.raw.RawScope.TheVariants.{Root, Proc, Inline, Call, Stmt}
+use Rattle.prof_db.specs.declared.raw.RawNode.{RawNode}
+use Rattle.prof_db.specs.declared.raw.RawEntry.{RawEntry}
+use Rattle.prof_db.specs.Fields.{Read, fault, not_whole, number_from, word_from, bytes_from, times, adding}
+
+-- ---- the first rule: the first eight bytes
+
+abbrev pub after_magic : List ℕ → Result At DbFault
+after_magic bytes = if nat_lt (length bytes) 8 || not (pointwise nat_eq (take 8 bytes) (codes "HPCPROF1"))
+    then Err (fault 1 0) else Ok (record { whole = bytes; offset = 8 })
+
+-- ---- the second rule: each field is whole, each scope and each line is of a form that there is, and nothing follows
+
+unfoldable pub head_from : At → Read Head
+head_from at = do
+  (period, next) ← word_from at
+  (harts, next) ← word_from next
+  (procs, next) ← word_from next
+  (files, next) ← word_from next
+  (nodes, next) ← word_from next
+  Ok (record { period = period; harts = harts; procs = procs; files = files; nodes = nodes }, next)
+
+-- the length, and the bytes
+unfoldable pub text_from : At → Read (List ℕ)
+text_from at = do
+  (size, next) ← word_from at
+  bytes_from size next
+
+unfoldable pub proc_from : At → Read RawProc
+proc_from at = do
+  (kind, next) ← word_from at
+  (number, next) ← word_from next
+  (name, next) ← text_from next
+  Ok (record { offset = at.offset; kind = kind; number = number; name = name }, next)
+
+unfoldable pub file_from : At → Read RawFile
+file_from at = do
+  (table, next) ← word_from at
+  (file, next) ← word_from next
+  (name, next) ← text_from next
+  Ok (record { offset = at.offset; table = table; file = file; name = name }, next)
+
+-- a file and a line number
+unfoldable pub row_from : At → Read RawLine
+row_from at = do
+  (file, next) ← word_from at
+  (line, next) ← word_from next
+  Ok (Row file line, next)
+
+unfoldable pub address_from : At → Read RawLine
+address_from at = do
+  (address, next) ← word_from at
+  Ok (Address address, next)
+
+-- 0 and a row, or 1 and an address
+unfoldable pub line_from : At → Read RawLine
+line_from at = do
+  (kind, next) ← word_from at
+  if kind == 0 then row_from next else if kind == 1 then address_from next else Err (not_whole at)
+
+unfoldable pub root_from : At → Read RawScope
+root_from at = do
+  (kind, next) ← word_from at
+  Ok (Root kind, next)
+
+unfoldable pub frame_from : At → Read RawScope
+frame_from at = do
+  (p, next) ← word_from at
+  Ok (Proc p, next)
+
+unfoldable pub inline_from : At → Read RawScope
+inline_from at = do
+  (p, next) ← word_from at
+  (line, next) ← line_from next
+  Ok (Inline p line, next)
+
+unfoldable pub call_from : At → Read RawScope
+call_from at = do
+  (line, next) ← line_from at
+  Ok (Call line, next)
+
+unfoldable pub stmt_from : At → Read RawScope
+stmt_from at = do
+  (line, next) ← line_from at
+  Ok (Stmt line, next)
+
+-- a tag from 0 to 4, and what it says
+unfoldable pub scope_from : At → Read RawScope
+scope_from at = do
+  (tag, next) ← word_from at
+  if tag == 0 then root_from next else if tag == 1 then frame_from next else if tag == 2 then inline_from next
+      else if tag == 3 then call_from next else if tag == 4 then stmt_from next else Err (not_whole at)
+
+unfoldable pub node_from : At → Read RawNode
+node_from at = do
+  (parent, next) ← word_from at
+  (scope, next) ← scope_from next
+  Ok (record { offset = at.offset; parent = parent; scope = scope }, next)
+
+-- an entry of a hart's column
+unfoldable pub entry_from : ℕ → At → Read RawEntry
+entry_from hart at = do
+  (node, next) ← word_from at
+  (kind, next) ← word_from next
+  (value, next) ← number_from 8 next
+  Ok (record { offset = at.offset; hart = hart; node = node; kind = kind; value = value }, next)
+
+-- a hart's column behind those before: how many entries, and each
+unfoldable pub column_from : ℕ → List RawEntry → At → Read (List RawEntry)
+column_from hart before at = do
+  (count, next) ← word_from at
+  times (adding (entry_from hart)) count 0 before next
+
+-- an entry of a node's column, which the seventh rule speaks of: two words and eight bytes
+unfoldable pub past_entry : ℕ → Unit {0} → At → Read (Unit {0})
+past_entry i before at = do
+  (kind, next) ← word_from at
+  (hart, next) ← word_from next
+  (value, next) ← number_from 8 next
+  Ok (tt, next)
+
+unfoldable pub past_column : ℕ → Unit {0} → At → Read (Unit {0})
+past_column i before at = do
+  (count, next) ← word_from at
+  times past_entry count 0 tt next
+
+-- nothing follows
+abbrev pub ended : Layout → At → Result Layout DbFault
+ended layout end = if nat_lt 0 (length (left_of end)) then Err (not_whole end) else Ok layout
+
+-- the lists that a head counts, the planes, and nothing behind them
+unfoldable pub body_from : Head → At → Result Layout DbFault
+body_from head at = do
+  (procs, next) ← times (adding proc_from) head.procs 0 [] at
+  (files, next) ← times (adding file_from) head.files 0 [] next
+  (nodes, profiles) ← times (adding node_from) head.nodes 0 [] next
+  (entries, contexts) ← times column_from head.harts 0 [] profiles
+  (done, end) ← times past_column head.nodes 0 tt contexts
+  ended (record {
+    period = head.period;
+    harts = head.harts;
+    procs = procs;
+    files = files;
+    nodes = nodes;
+    entries = entries;
+    profiles = profiles;
+    contexts = contexts;
+  }) end
+
+unfoldable pub layout_in : List ℕ → Result Layout DbFault
+layout_in bytes = do
+  next ← after_magic bytes
+  (head, next) ← head_from next
+  body_from head next

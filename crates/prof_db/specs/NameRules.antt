@@ -1,0 +1,129 @@
+-- The third and the fourth rule of a database: the head, and the names.
+use Rattle.std.specs.Prelude.{ℕ, ◌-◌, ◌==◌, ◌&&◌, ◌||◌, not, Bool, nat_eq, nat_le, nat_lt, List, [], ◌∷◌, length, map}
+use Rattle.std.specs.Prelude.{slice_index_or, codes, Ok, Err, if◌then◌else◌}
+use Rattle.std.specs.List.{flat_map, list_any}
+use Rattle.std.specs.Cmp.Lexicographic.{pointwise}
+use Rattle.prof_bytes.specs.Outcome.{◌>>=◌}
+use Rattle.scope_types.specs.declared.scope.ProcId.{ProcId}
+use Rattle.scope_types.specs.declared.scope.ProcId.TheVariants.{Die, Sym, Nameless}
+use Rattle.tree_types.specs.Nodes.{no_parent}
+use Rattle.tree_types.specs.declared.content.Names.{Names}
+use Rattle.tree_types.specs.declared.content.ProcName.{ProcName}
+use Rattle.tree_types.specs.declared.content.FileName.{FileName}
+use Rattle.prof_db.specs.declared.raw.Layout.{Layout}
+use Rattle.prof_db.specs.declared.raw.RawProc.{RawProc}
+use Rattle.prof_db.specs.declared.raw.RawFile.{RawFile}
+use Rattle.prof_db.specs.declared.raw.RawLine.{RawLine}
+use Rattle.prof_db.specs.declared.raw.RawLine.TheVariants.{Row, Address}
+use Rattle.prof_db.specs.declared.raw.RawScope.{RawScope}
+use Rattle.prof_db.specs.declared.raw.RawScope.TheVariants.{Root, Proc, Inline, Call, Stmt}
+use Rattle.prof_db.specs.declared.raw.RawNode.{RawNode}
+use Rattle.prof_db.specs.Fields.{fault}
+use Rattle.prof_db.specs.Broken.{Kept, first_broken}
+
+-- ---- the third rule: a period of at least 1, 1 to 16 harts, and few enough nodes that each has a number other than no
+-- parent's, which any file below 48 GiB has
+
+abbrev pub head_kept : ℕ → ℕ → ℕ → Kept
+head_kept period harts nodes = if period == 0 then Err (fault 3 8)
+    else if harts == 0 || nat_lt 16 harts then Err (fault 3 12)
+    else if nat_le no_parent nodes then Err (fault 3 24) else Ok tt
+
+-- ---- the fourth rule: procedures and files strictly ascend, have short names, and are used
+
+-- pairs of numbers, by the first, then the second
+abbrev pub pair_less : ℕ → ℕ → ℕ → ℕ → Bool
+pair_less a b c d = nat_lt a c || (a == c && nat_lt b d)
+
+-- the file of a line, where it has one
+abbrev pub line_file : RawLine → List ℕ
+line_file (Row file line) = file ∷ []
+line_file (Address address) = []
+
+-- the procedure of a scope, and the file of its line, where it has one
+abbrev pub scope_proc : RawScope → List ℕ
+scope_proc (Root kind) = []
+scope_proc (Proc p) = p ∷ []
+scope_proc (Inline p line) = p ∷ []
+scope_proc (Call line) = []
+scope_proc (Stmt line) = []
+
+abbrev pub scope_file : RawScope → List ℕ
+scope_file (Root kind) = []
+scope_file (Proc p) = []
+scope_file (Inline p line) = line_file line
+scope_file (Call line) = line_file line
+scope_file (Stmt line) = line_file line
+
+-- what the nodes use
+abbrev pub used_procs : List RawNode → List ℕ
+used_procs nodes = flat_map (λ n. scope_proc n.scope) nodes
+
+abbrev pub used_files : List RawNode → List ℕ
+used_files nodes = flat_map (λ n. scope_file n.scope) nodes
+
+abbrev pub is_among : List ℕ → ℕ → Bool
+is_among numbers i = list_any (λ k. k == i) numbers
+
+-- the longest name
+abbrev pub most_name_bytes : ℕ
+most_name_bytes = 4096
+
+abbrev pub proc_at : List RawProc → ℕ → RawProc
+proc_at procs i = slice_index_or procs i (record { offset = 0; kind = 0; number = 0; name = [] })
+
+abbrev pub file_at : List RawFile → ℕ → RawFile
+file_at files i = slice_index_or files i (record { offset = 0; table = 0; file = 0; name = [] })
+
+-- a kind that there is; the procedure without a name has no number, and its name is the one that reports show
+abbrev pub is_proc : RawProc → Bool
+is_proc p = nat_lt p.kind 2
+    || (p.kind == 2 && (p.number == 0 && pointwise nat_eq p.name (codes "<unknown procedure>")))
+
+abbrev pub procs_ascend : RawProc → RawProc → Bool
+procs_ascend p q = pair_less p.kind p.number q.kind q.number
+
+abbrev pub files_ascend : RawFile → RawFile → Bool
+files_ascend f g = pair_less f.table f.file g.table g.file
+
+-- an entry that does not come behind the one before it, or is wrong by itself
+abbrev pub proc_is_wrong : List RawProc → ℕ → Bool
+proc_is_wrong procs i =
+    (nat_lt 0 i && not (procs_ascend (proc_at procs (i - 1)) (proc_at procs i)))
+    || (not (is_proc (proc_at procs i)) || nat_lt most_name_bytes (length (proc_at procs i).name))
+
+abbrev pub file_is_wrong : List RawFile → ℕ → Bool
+file_is_wrong files i =
+    (nat_lt 0 i && not (files_ascend (file_at files (i - 1)) (file_at files i)))
+    || nat_lt most_name_bytes (length (file_at files i).name)
+
+abbrev pub proc_breaks : List RawProc → List ℕ → ℕ → Bool
+proc_breaks procs used i = proc_is_wrong procs i || not (is_among used i)
+
+abbrev pub file_breaks : List RawFile → List ℕ → ℕ → Bool
+file_breaks files used i = file_is_wrong files i || not (is_among used i)
+
+abbrev pub procs_kept : List RawProc → List ℕ → Kept
+procs_kept procs used = first_broken 4 (proc_breaks procs used) (λ i. (proc_at procs i).offset) 0 (length procs)
+
+abbrev pub files_kept : List RawFile → List ℕ → Kept
+files_kept files used = first_broken 4 (file_breaks files used) (λ i. (file_at files i).offset) 0 (length files)
+
+abbrev pub names_kept : Layout → Kept
+names_kept layout = do
+  done ← procs_kept layout.procs (used_procs layout.nodes)
+  files_kept layout.files (used_files layout.nodes)
+
+-- ---- the names
+
+abbrev pub proc_id : ℕ → ℕ → ProcId
+proc_id kind number = if kind == 0 then Die number else if kind == 1 then Sym number else Nameless
+
+abbrev pub proc_name : RawProc → ProcName
+proc_name p = record { id = proc_id p.kind p.number; name = p.name }
+
+abbrev pub file_name : RawFile → FileName
+file_name f = record { table = f.table; file = f.file; name = f.name }
+
+abbrev pub names_in : Layout → Names
+names_in layout = record { procs = map proc_name layout.procs; files = map file_name layout.files }

@@ -1,0 +1,111 @@
+-- The sixth and the seventh rule of a database: the two planes.
+use Rattle.std.specs.Prelude.{ℕ, ◌+◌, ◌-◌, ◌/◌, ◌%◌, ◌==◌, ◌&&◌, ◌||◌, not, Bool, nat_le, nat_lt, List, [], ◌∷◌, ◌++◌}
+use Rattle.std.specs.Prelude.{length, map, filter, take, sum_by, slice_index_or, Result, Ok, Err, if◌then◌else◌}
+use Rattle.std.specs.List.{flat_map}
+use Rattle.prof_bytes.specs.Number.{number_in}
+use Rattle.prof_bytes.specs.Reading.{At, left_of, moved}
+use Rattle.scope_types.specs.Limits.{most_samples}
+use Rattle.tree_types.specs.Tree.{CountedTree, node_at}
+use Rattle.tree_types.specs.NodeValues.{values_of}
+use Rattle.tree_types.specs.ValueColumns.{columns_by_hart, columns_by_node}
+use Rattle.tree_types.specs.declared.content.ContextEntry.{ContextEntry}
+use Rattle.tree_types.specs.declared.content.Node.{Node}
+use Rattle.tree_types.specs.declared.content.ProfileEntry.{ProfileEntry}
+use Rattle.tree_types.specs.declared.counted_tree.NodeCount.{NodeCount}
+use Rattle.prof_db.specs.declared.raw.RawEntry.{RawEntry}
+use Rattle.prof_db.specs.Broken.{Kept, first_broken}
+use Rattle.prof_db.specs.Fields.{Read, fault}
+use Rattle.prof_db.specs.NameRules.{is_among, pair_less}
+use Rattle.prof_db.specs.NodeRules.{is_statement, raw_node_at}
+use Rattle.prof_db.specs.declared.raw.RawNode.{RawNode}
+use Rattle.prof_db.specs.Spelling.{kind_number}
+
+-- ---- the sixth rule, first: each entry of the profile plane by itself
+
+abbrev pub entry_at : List RawEntry → ℕ → RawEntry
+entry_at entries i = slice_index_or entries i (record { offset = 0; hart = 0; node = 0; kind = 0; value = 0 })
+
+-- an entry of kind 0 is an exclusive value: so many samples end at its node
+abbrev pub is_exclusive : RawEntry → Bool
+is_exclusive e = e.kind == 0
+
+abbrev pub samples_of : ℕ → RawEntry → ℕ
+samples_of period e = if is_exclusive e then e.value / period else 0
+
+-- a value of a node and of a hart. An exclusive one is that of a statement, and of whole samples
+abbrev pub is_value : ℕ → ℕ → List Node → RawEntry → Bool
+is_value period harts nodes e =
+    nat_lt e.node (length nodes) && (nat_lt e.hart harts && (nat_lt e.kind 3 && (not (e.value == 0)
+    && (not (is_exclusive e) || (is_statement (node_at nodes e.node).scope && e.value % period == 0)))))
+
+-- the entries ascend by hart, then node, then kind: hart by hart they stand anyway
+abbrev pub entries_ascend : RawEntry → RawEntry → Bool
+entries_ascend e f = nat_lt e.hart f.hart || (e.hart == f.hart && pair_less e.node e.kind f.node f.kind)
+
+-- and the samples up to each entry are no more than there may be
+abbrev pub entry_breaks : ℕ → ℕ → List Node → List RawEntry → ℕ → Bool
+entry_breaks period harts nodes entries i =
+    not (is_value period harts nodes (entry_at entries i)
+    && ((i == 0 || entries_ascend (entry_at entries (i - 1)) (entry_at entries i))
+    && nat_le (sum_by (samples_of period) (take (i + 1) entries)) most_samples))
+
+abbrev pub entries_kept : ℕ → ℕ → List Node → List RawEntry → Kept
+entries_kept period harts nodes entries =
+    first_broken 6 (entry_breaks period harts nodes entries) (λ i. (entry_at entries i).offset) 0 (length entries)
+
+-- ---- the tree whose values these are
+
+abbrev pub count_of : ℕ → RawEntry → NodeCount
+count_of period e = record { node = e.node; hart = e.hart; count = e.value / period }
+
+-- the nodes, and the samples that the exclusive values count
+abbrev pub tree_of : ℕ → ℕ → List Node → List RawEntry → CountedTree
+tree_of period harts nodes entries = record {
+  harts = harts;
+  nodes = nodes;
+  counts = map (count_of period) (filter is_exclusive entries);
+}
+
+-- ---- the sixth rule, second, and the seventh: the fields of a plane
+
+-- a field: how many bytes it has, and its number
+abbrev pub Field : Type 0
+Field = ℕ × ℕ
+
+abbrev pub word_field : ℕ → Field
+word_field n = (4, n)
+
+abbrev pub profile_fields : ProfileEntry → List Field
+profile_fields e = word_field e.node ∷ word_field (kind_number e.kind) ∷ (8, e.value) ∷ []
+
+abbrev pub context_fields : ContextEntry → List Field
+context_fields e = word_field (kind_number e.kind) ∷ word_field e.hart ∷ (8, e.value) ∷ []
+
+-- how many entries a column has, and each
+abbrev pub column_fields : {X : Type 0} → (X → List Field) → List X → List Field
+column_fields fields xs = word_field (length xs) ∷ flat_map fields xs
+
+abbrev pub plane_fields : {X : Type 0} → (X → List Field) → List (List X) → List Field
+plane_fields fields columns = flat_map (column_fields fields) columns
+
+-- a field stands there
+abbrev pub stands_at : Field → At → Bool
+stands_at field at = not (nat_lt (length (left_of at)) field.0) && number_in field.0 (left_of at) == field.1
+
+-- the fields stand there one after another: else the first that differs
+unfoldable pub fields_kept : ℕ → List Field → At → Read (Unit {0})
+fields_kept rule [] at = Ok (tt, at)
+fields_kept rule (field ∷ fields) at = if stands_at field at then fields_kept rule fields (moved field.0 at)
+    else Err (fault rule at.offset)
+
+-- ---- the sixth rule, third: each statement has samples
+
+abbrev pub sampled : List RawEntry → List ℕ
+sampled entries = map (λ e. e.node) (filter is_exclusive entries)
+
+abbrev pub statement_breaks : List Node → List ℕ → ℕ → Bool
+statement_breaks nodes numbers i = is_statement (node_at nodes i).scope && not (is_among numbers i)
+
+abbrev pub statements_kept : List RawNode → List Node → List ℕ → Kept
+statements_kept raws nodes numbers =
+    first_broken 6 (statement_breaks nodes numbers) (λ i. (raw_node_at raws i).offset) 0 (length nodes)

@@ -1,0 +1,187 @@
+//! The whole of a database cut into fields: its first two rules.
+ghost use Rattle.std.specs.Prelude.{◌≡◌, []};
+ghost use Rattle.prof_bytes.specs.Outcome.{Gives, GivesAt, GivesFrom};
+ghost use Rattle.prof_db.specs.Fields.{adding, times};
+ghost use Rattle.prof_db.specs.Layout.{after_magic, body_from, column_from, entry_from, file_from, layout_in, node_from};
+ghost use Rattle.prof_db.specs.Layout.{past_column, past_entry, proc_from};
+
+use crate::fault::DbFault;
+use crate::fields::{fault_at, not_whole, read_word};
+use crate::items::{pass_entry, read_entry, read_file, read_head, read_node, read_proc};
+use crate::raw::{Head, Layout, RawEntry, RawFile, RawNode, RawProc};
+use prof_bytes::{Cursor, Fail, Listed};
+use std::alloc::Global;
+
+/// So many procedures. The list grows as they are read.
+fn read_procs(
+    alloc: Global,
+    cursor: &mut Cursor<'_>,
+    count: u32,
+) -> Result<Vec<RawProc>, Fail<DbFault>>
+    ensures { GivesFrom (λ v. v.items) result cursor.new (times (adding proc_from) count 0 [] cursor.old) }
+{
+    let mut procs = Vec::new(alloc);
+    for _ in 0..count {
+        let p = read_proc(alloc, cursor)?;
+        procs.push(p)?;
+    }
+    Ok(procs)
+}
+
+/// So many files.
+fn read_files(
+    alloc: Global,
+    cursor: &mut Cursor<'_>,
+    count: u32,
+) -> Result<Vec<RawFile>, Fail<DbFault>>
+    ensures { GivesFrom (λ v. v.items) result cursor.new (times (adding file_from) count 0 [] cursor.old) }
+{
+    let mut files = Vec::new(alloc);
+    for _ in 0..count {
+        let f = read_file(alloc, cursor)?;
+        files.push(f)?;
+    }
+    Ok(files)
+}
+
+/// So many nodes.
+fn read_nodes(
+    alloc: Global,
+    cursor: &mut Cursor<'_>,
+    count: u32,
+) -> Result<Vec<RawNode>, Fail<DbFault>>
+    ensures { GivesFrom (λ v. v.items) result cursor.new (times (adding node_from) count 0 [] cursor.old) }
+{
+    let mut nodes = Vec::new(alloc);
+    for _ in 0..count {
+        let n = read_node(cursor)?;
+        nodes.push(n)?;
+    }
+    Ok(nodes)
+}
+
+/// So many entries of a hart, behind those that were read before.
+fn read_entries(
+    cursor: &mut Cursor<'_>,
+    entries: &mut Vec<RawEntry>,
+    hart: u32,
+    count: u32,
+) -> Result<(), Fail<DbFault>>
+    ensures { GivesFrom (λ done. entries.new.items) result cursor.new
+        (times (adding (entry_from hart)) count 0 entries.old.items cursor.old) }
+{
+    for _ in 0..count {
+        let e = read_entry(cursor, hart)?;
+        entries.push(e)?;
+    }
+    Ok(())
+}
+
+/// A hart's column.
+#[tactic(auto, unfolding(crate::specs::Layout::column_from))]
+fn read_column(
+    cursor: &mut Cursor<'_>,
+    entries: &mut Vec<RawEntry>,
+    hart: u32,
+) -> Result<(), Fail<DbFault>>
+    ensures { GivesFrom (λ done. entries.new.items) result cursor.new
+        (column_from hart entries.old.items cursor.old) }
+{
+    let count = read_word(cursor)?;
+    read_entries(cursor, entries, hart, count)
+}
+
+/// The columns of so many harts.
+fn read_columns(
+    alloc: Global,
+    cursor: &mut Cursor<'_>,
+    harts: u32,
+) -> Result<Vec<RawEntry>, Fail<DbFault>>
+    ensures { GivesFrom (λ v. v.items) result cursor.new (times column_from harts 0 [] cursor.old) }
+{
+    let mut entries = Vec::new(alloc);
+    for hart in 0..harts {
+        read_column(cursor, &mut entries, hart)?;
+    }
+    Ok(entries)
+}
+
+/// Passes so many entries of the context plane by.
+fn pass_entries(cursor: &mut Cursor<'_>, count: u32) -> Result<(), DbFault>
+    ensures { GivesAt (λ done. done) result cursor.new (times past_entry count 0 tt cursor.old) }
+{
+    for _ in 0..count {
+        pass_entry(cursor)?;
+    }
+    Ok(())
+}
+
+/// Passes a node's column by.
+#[tactic(auto, unfolding(crate::specs::Layout::past_column))]
+fn pass_column(cursor: &mut Cursor<'_>) -> Result<(), DbFault>
+    ensures { GivesAt (λ done. done) result cursor.new (past_column 0 tt cursor.old) }
+{
+    let count = read_word(cursor)?;
+    pass_entries(cursor, count)
+}
+
+/// Passes the columns of so many nodes by.
+fn pass_columns(cursor: &mut Cursor<'_>, nodes: u32) -> Result<(), DbFault>
+    ensures { GivesAt (λ done. done) result cursor.new (times past_column nodes 0 tt cursor.old) }
+{
+    for _ in 0..nodes {
+        pass_column(cursor)?;
+    }
+    Ok(())
+}
+
+/// The lists that a head counts, the planes, and nothing behind them.
+#[tactic(auto, unfolding(crate::specs::Layout::body_from))]
+fn read_body<'a>(
+    alloc: Global,
+    cursor: &mut Cursor<'a>,
+    head: Head,
+) -> Result<Layout<'a>, Fail<DbFault>>
+    ensures { Gives (λ layout. layout) result (body_from head cursor.old) }
+{
+    let procs = read_procs(alloc, cursor, head.procs)?;
+    let files = read_files(alloc, cursor, head.files)?;
+    let nodes = read_nodes(alloc, cursor, head.nodes)?;
+    let profiles = cursor.fork();
+    let entries = read_columns(alloc, cursor, head.harts)?;
+    let contexts = cursor.fork();
+    pass_columns(cursor, head.nodes)?;
+    if cursor.left() > 0 {
+        return Err(Fail::Fault(not_whole(cursor.place())));
+    }
+    Ok(Layout {
+        period: head.period,
+        harts: head.harts,
+        procs: Listed::of(procs),
+        files: Listed::of(files),
+        nodes: Listed::of(nodes),
+        entries: Listed::of(entries),
+        profiles,
+        contexts,
+    })
+}
+
+/// A cursor behind the eight bytes that a database begins with.
+fn behind_magic(bytes: &[u8]) -> Result<Cursor<'_>, DbFault>
+    ensures { after_magic bytes.now ≡ result }
+{
+    if bytes.len() < 8 || &bytes[..8] != b"HPCPROF1".as_slice() {
+        return Err(fault_at(1, 0));
+    }
+    Ok(Cursor::at(bytes, 8))
+}
+
+/// The layout of a database, in time as there are bytes.
+#[tactic(auto, unfolding(crate::specs::Layout::layout_in))]
+pub(crate) fn read_layout(alloc: Global, bytes: &[u8]) -> Result<Layout<'_>, Fail<DbFault>>
+    ensures { Gives (λ layout. layout) result (layout_in bytes.now) }
+{
+    let mut cursor = behind_magic(bytes)?;
+    let head = read_head(&mut cursor)?;
+    read_body(alloc, &mut cursor, head)
+}

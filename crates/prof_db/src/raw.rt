@@ -1,0 +1,79 @@
+//! A database as its bytes are cut into fields: the numbers as they stand, and the offset of each entry.
+
+use prof_bytes::{Cursor, Listed, Text};
+
+/// The numbers that a database begins with, behind its first eight bytes.
+#[derive(Clone, Copy, Drop)]
+pub struct Head {
+    pub period: u32,
+    pub harts: u32,
+    pub procs: u32,
+    pub files: u32,
+    pub nodes: u32,
+}
+
+/// A procedure: the two words of its identity, and its name.
+#[derive(Drop)]
+pub struct RawProc {
+    pub offset: u64,
+    pub kind: u32,
+    pub number: u32,
+    pub name: Text,
+}
+
+/// A file: the offset of its line table in `.debug_line`, its number in that table, and its name.
+#[derive(Drop)]
+pub struct RawFile {
+    pub offset: u64,
+    pub table: u32,
+    pub file: u32,
+    pub name: Text,
+}
+
+/// A line, its file by the file's index in the list of files; or an address.
+#[derive(Clone, Copy, Drop)]
+pub enum RawLine {
+    Row { file: u32, line: u32 },
+    Address(u32),
+}
+
+/// A scope, its procedure by the procedure's index in the list of procedures.
+#[derive(Clone, Copy, Drop)]
+pub enum RawScope {
+    Root(u32),
+    Proc(u32),
+    Inline { callee: u32, call: RawLine },
+    Call(RawLine),
+    Stmt(RawLine),
+}
+
+/// A node: its parent's number, and its scope.
+#[derive(Clone, Copy, Drop)]
+pub struct RawNode {
+    pub offset: u64,
+    pub parent: u32,
+    pub scope: RawScope,
+}
+
+/// An entry of the profile plane, with the hart in whose column it stands.
+#[derive(Clone, Copy, Drop)]
+pub struct RawEntry {
+    pub offset: u64,
+    pub hart: u32,
+    pub node: u32,
+    pub kind: u32,
+    pub value: u64,
+}
+
+/// All of it, but the entries of the context plane; and where the two planes begin.
+#[derive(Drop)]
+pub struct Layout<'a> {
+    pub period: u32,
+    pub harts: u32,
+    pub procs: Listed<RawProc>,
+    pub files: Listed<RawFile>,
+    pub nodes: Listed<RawNode>,
+    pub entries: Listed<RawEntry>,
+    pub profiles: Cursor<'a>,
+    pub contexts: Cursor<'a>,
+}

@@ -1,0 +1,22 @@
+//! What `struct` puts: the structure of a program. The text is written by hand from its layout.
+use crate::debug_programs::WITH_INLINES;
+use crate::measurements::put_by;
+use crate::programs::files;
+use prof_devices::SureShelf;
+use std::test::Fail;
+
+/// A subprogram, and two levels of inlined calls.
+const STRUCTURE: &str = "\
+proc main 0x00010000..0x00010054
+  inline outer called at /s/a.c:3 0x00010008..0x00010010,0x00010020..0x00010030
+    inline inner called at /s/a.c:11 0x00010024..0x0001002c
+";
+
+#[test]
+fn the_structure_of_inlined_calls(rt: HostRuntime) -> Result<(), Fail> {
+    let files = files(rt.alloc(), WITH_INLINES, b"", b"")?;
+    let mut shelf = SureShelf::of(rt.alloc(), files);
+    let text = put_by(&rt, "struct p", &mut shelf)?;
+    assert!(rt; text.bytes() == STRUCTURE.as_bytes());
+    Ok(())
+}

@@ -1,0 +1,63 @@
+//! The subprograms, each with the calls that are inlined into it.
+ghost use Rattle.std.specs.Prelude.{◌≡◌, ◌+◌, ◌<◌, ◌≤◌, ◌^◌, ◌++◌, length, filter, slice_get, Some, OnOk};
+ghost use Rattle.std.specs.List.{flat_map};
+ghost use Rattle.dwarf_inline.specs.Structure.{IsWhole};
+ghost use Rattle.scope_find.specs.Found.{numbered};
+ghost use Rattle.struct_listing.specs.Listing.{is_listed_subprogram, subprogram_line, subprogram_lines};
+ghost use Rattle.struct_listing.specs.private.Parts.{scopes_of, subprogram_part};
+
+use crate::inlines::put_inlines;
+use crate::program::Program;
+use crate::ranges::put_tail;
+use dwarf_inline::Item;
+use prof_bytes::Memory;
+use std::alloc::Global;
+use view_tables::put_printed;
+
+/// The line of a subprogram.
+fn put_line(out: &mut Vec<u8>, program: Program<'_>, item: Item) -> Result<(), Memory>
+    requires short { length program.structure.now.ranges < 2 ^ 63 }
+    requires placed { item.first + item.ranges ≤ length program.structure.now.ranges }
+    ensures { OnOk result (out.new.items ≡ out.old.items ++ subprogram_line (scopes_of program.entry) item) }
+{
+    out.extend_from_slice(b"proc ")?;
+    put_printed(out, program.structure.proc_name(item.identity))?;
+    put_tail(out, program.structure, item)
+}
+
+/// An item as a subprogram, where it is listed.
+fn put_subprogram(
+    out: &mut Vec<u8>,
+    alloc: Global,
+    program: Program<'_>,
+    number: u32,
+    item: Item,
+) -> Result<(), Memory>
+    requires whole { IsWhole program.structure.now }
+    requires there { slice_get program.structure.now.items number ≡ Some item }
+    ensures { OnOk result (out.new.items ≡ out.old.items ++ subprogram_part (scopes_of program.entry) (number, item)) }
+{
+    if !item.inlined && item.ranges > 0 {
+        put_line(out, program, item)?;
+        put_inlines(out, alloc, program, number, item)?;
+    }
+    Ok(())
+}
+
+/// The subprograms in section order. Takes time linear in the items below each of them: a call that is inlined below
+/// subprograms that nest is listed with each.
+pub(crate) fn put_subprograms(
+    out: &mut Vec<u8>,
+    alloc: Global,
+    program: Program<'_>,
+) -> Result<(), Memory>
+    ensures { OnOk result (out.new.items ≡ out.old.items ++ flat_map (subprogram_lines (scopes_of program.entry))
+        (filter is_listed_subprogram (numbered program.entry.structure.now))) }
+{
+    let count = program.structure.len();
+    for number in 0..count {
+        let item = program.structure.item(number);
+        put_subprogram(out, alloc, program, number, item)?;
+    }
+    Ok(())
+}

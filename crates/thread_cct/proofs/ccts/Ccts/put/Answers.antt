@@ -1,0 +1,10 @@
+use Rattle.std.proofs.Common.{ap, length}
+use Rattle.scope_types.specs.declared.frame.Counted.{Counted}
+use Rattle.thread_cct.proofs.Putting.{put_within}
+use Rattle.thread_cct.proofs.ccts.Ccts.put.Goals as goal
+
+pub invariant_of-self-2 : goal.invariant_of-self-2
+invariant_of-self-2 c =
+    let counted : Counted = record { path = c.args.raw; count = c.args.count } in
+    put_within c.self.inside.tables.items _ _ c.args.hart counted c.self.inside.frames _ c.self.view_is c.requires.hart c.self.invariant c.requires.count c.frames.ensures.count.some c.requires.few c.requires.frames
+    (ap length c.frames.ensures.frames) c.in_ok-put_last.ensures.ok

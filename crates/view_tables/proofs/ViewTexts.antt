@@ -1,0 +1,198 @@
+-- The rows of a view, one after another.
+use Rattle.std.proofs.Common.{◌≡◌, ℕ, zero, suc, ◌+◌, ◌-◌, ◌*◌, ◌<◌, ◌≤◌, ◌^◌, ◌==◌, Bool, true, false, cond, not, List, [], ◌∷◌, ◌++◌, length, get_or, take, map, filter, count_by, All, Ordering, refl, sym, ap, subst, ◌∙◌, arith, true≢false, take_all, append-nil, append_assoc}
+use Rattle.std.specs.Prelude.{reverse}
+use Rattle.std.specs.List.{flat_map, AllByRecursion}
+use Rattle.std.specs.declared.cmp.Ordering.TheVariants.{Less, Equal, Greater}
+use Rattle.std.proofs.Math.Nat.{mul-le-mul_left}
+use Rattle.std.proofs.lemmas.List.{length-map, get_or-map, map-append}
+use Rattle.std.proofs.lemmas.List.Sums.{count_by-le-length}
+use Rattle.prof_bytes.proofs.Appending.{append_more, two_parts}
+use Rattle.tree_types.specs.Ascending.{by_order, put, ascending}
+use Rattle.tree_types.specs.declared.content.Content.{Content}
+use Rattle.tree_types.specs.Database.{naming_in}
+use Rattle.tree_types.specs.Naming.{Naming}
+use Rattle.tree_types.specs.NamesAscend.{NamesAscend}
+use Rattle.tree_types.specs.OfContent.{IsProfile}
+use Rattle.tree_types.specs.PathsOf.{paths_of}
+use Rattle.tree_types.proofs.Selecting.{flat_map_of_map}
+use Rattle.tree_types.proofs.ContentParts.{own_names_ascend}
+use Rattle.view_tables.specs.declared.item.ItemRef.{ItemRef}
+use Rattle.view_tables.specs.declared.item.RowRef.{RowRef}
+use Rattle.view_tables.specs.declared.place.Place.{Place}
+use Rattle.view_tables.specs.declared.place.Split.{Split}
+use Rattle.view_tables.specs.declared.place.View.{View}
+use Rattle.view_tables.specs.Views.{Item, ViewRow, Sample, all_items, holds, row_at, row_order, rows_under, same_item, view_header, view_row, view_rows, view_table}
+use Rattle.view_tables.specs.private.Places.{ArePlaces, AreSplits, Held, all_places, cut_of, cuts, held, item_seen, items_seen, mark_of, narrowed, of_item, row_seen, sample_of, samples_of}
+use Rattle.view_tables.specs.declared.place.View.TheVariants.{Callers, Flat}
+use Rattle.view_tables.specs.Callers.{callers}
+use Rattle.view_tables.specs.Flat.{flat}
+use Rattle.view_tables.specs.private.Rows.{total_value}
+use Rattle.view_tables.proofs.Groups.{group}
+use Rattle.view_tables.proofs.Narrowed.{narrowed_more}
+
+-- ---- what holds of each row
+
+module _ {K : Type 0} (R : K → K → Ordering) (P : K → Type 0) where
+  all_put : (x : K) (ys : List K) → P x → AllByRecursion P ys → AllByRecursion P (put R x ys)
+  all_put x [] px all = (px, tt)
+  all_put x (y ∷ ys) px all =
+      elim (R x y) as (λ r. AllByRecursion P (by_order r (x ∷ y ∷ ys) (y ∷ ys) (y ∷ put R x ys))) [
+        | Less ↦ (px, all)
+        | Equal ↦ all
+        | Greater ↦ (all.0, all_put x ys px all.1)
+      ]
+
+  all_ascending : (xs : List K) → AllByRecursion P xs → AllByRecursion P (ascending R xs)
+  unfolding ascending
+  all_ascending [] all = tt
+  all_ascending (x ∷ xs) all = all_put x (ascending R xs) all.0 (all_ascending xs all.1)
+
+all_at : {K : Type 0} (P : K → Type 0) (xs : List K) (i : ℕ) (d : K) → i < length xs → AllByRecursion P xs → P (get_or xs i d)
+all_at P [] i d lt all = absurd (omega arith)
+all_at P (x ∷ xs) zero d lt all = all.0
+all_at P (x ∷ xs) (suc i) d lt all = all_at P xs i d (omega arith) all.1
+
+module _ (period : ℕ) (samples : List Sample) (chain : List Item) where
+  abbrev IsWithin : ViewRow → Type 0
+  IsWithin r = (0 < r.inclusive) × (r.inclusive ≤ period * length samples)
+
+  one_within : (item : Item) → not ((row_at period samples chain item).inclusive == 0) ≡ true → IsWithin (row_at period samples chain item)
+  one_within item h =
+      let few = count_by-le-length (holds (chain ++ item ∷ [])) samples in
+      (above (period * count_by (holds (chain ++ item ∷ [])) samples) h, bigger period (count_by (holds (chain ++ item ∷ [])) samples) (length samples) few)
+    where
+      above : (n : ℕ) → not (n == 0) ≡ true → 0 < n
+      above zero h = absurd (true≢false (sym h))
+      above (suc n) h = omega arith
+
+      bigger : (p a b : ℕ) → a ≤ b → p * a ≤ p * b
+      bigger p a b le = mul-le-mul_left p le
+
+  all_within : (items : List Item) → AllByRecursion IsWithin (filter (λ r. not (r.inclusive == 0)) (map (row_at period samples chain) items))
+  all_within [] = tt
+  all_within (item ∷ items) =
+      elim (not ((row_at period samples chain item).inclusive == 0)) as (λ b. not ((row_at period samples chain item).inclusive == 0) ≡ b
+      → AllByRecursion IsWithin (cond b (row_at period samples chain item ∷ filter (λ r. not (r.inclusive == 0)) (map (row_at period samples chain) items)) (filter (λ r. not (r.inclusive == 0)) (map (row_at period samples chain) items)))) [
+        | true ↦ λ e. (one_within item e, all_within items)
+        | false ↦ λ e. all_within items
+      ] refl
+
+  pub row_within : (i : ℕ) (r : ViewRow) → i < length (rows_under period samples chain) → r ≡ get_or (rows_under period samples chain) i r → (0 < r.inclusive) × (r.inclusive ≤ period * length samples)
+  unfolding rows_under
+  row_within i r lt is = subst IsWithin (sym is) (all_at IsWithin (rows_under period samples chain) i r lt (all_ascending row_order IsWithin (filter (λ r. not (r.inclusive == 0)) (map (row_at period samples chain) (all_items samples))) (all_within (all_items samples))))
+
+-- ---- the places of a longer chain
+
+module _ (view : View) (c : Content) where
+  group_held : (item : Item) (splits : List Split) → map (held view c) (group item splits) ≡ of_item item (map (cut_of view c) splits)
+  group_held item [] = refl
+  group_held item (s ∷ splits) =
+      elim (same_item item (item_seen s.item)) as (λ b. map (held view c) (map (λ (s : Split). s.rest) (cond b (s ∷ filter (λ s. same_item item (item_seen s.item)) splits) (filter (λ s. same_item item (item_seen s.item)) splits)))
+      ≡ map (λ (x : Item × Held). x.1) (cond b (cut_of view c s ∷ filter (λ x. same_item item x.0) (map (cut_of view c) splits)) (filter (λ x. same_item item x.0) (map (cut_of view c) splits)))) [
+        | true ↦ ap (λ (hs : List Held). held view c s.rest ∷ hs) (group_held item splits)
+        | false ↦ group_held item splits
+      ]
+
+  pub group_places : (chain longer : List Item) (item : Item) (splits : List Split) (places : List Place) → AreSplits view c chain splits → places ≡ group item splits → longer ≡ chain ++ item ∷ [] → ArePlaces view c longer places
+  group_places chain longer item splits places are is more =
+      ap (map (held view c)) is ∙ group_held item splits ∙ ap (of_item item) are
+      ∙ sym (ap (λ (l : List Item). narrowed l (all_places view c)) more ∙ narrowed_more chain item (all_places view c))
+
+  pub splits_are : (chain : List Item) (places : List Place) (splits : List Split) → ArePlaces view c chain places → map (cut_of view c) splits ≡ cuts (map (held view c) places) → AreSplits view c chain splits
+  splits_are chain places splits are is = is ∙ ap cuts are
+
+  -- ---- text
+
+  abbrev samples : List Sample
+  samples = samples_of view c
+
+  pub as_many_samples : length samples ≡ length (paths_of c)
+  as_many_samples = length-map (paths_of c) (λ p. sample_of view (naming_in c.names) (reverse p.path))
+
+  pub total_is : (total : ℕ) → total ≡ total_value c → total ≡ c.period * length samples
+  total_is total is = is ∙ ap (λ (k : ℕ). c.period * k) (sym as_many_samples)
+
+  -- a row and those under it
+  abbrev pub row_text : ℕ → List Item → ViewRow → List ℕ
+  row_text levels chain r = view_row (naming_in c.names) (mark_of view) (c.period * length samples) (length chain) r
+      ++ view_rows c.period (naming_in c.names) (mark_of view) samples levels (chain ++ r.item ∷ [])
+
+  -- of a row of the code
+  abbrev pub seen_text : ℕ → List Item → RowRef → List ℕ
+  seen_text levels chain r = row_text levels chain (row_seen r)
+
+  pub view_more : (start now one after : List ℕ) (levels total level : ℕ) (chain longer : List Item) (rows : List RowRef) (i : ℕ) (r : RowRef) → i < length rows → r ≡ get_or rows i r → total ≡ total_value c → level ≡ length chain
+      → now ≡ start ++ flat_map (seen_text levels chain) (take i rows)
+      → one ≡ now ++ view_row (naming_in c.names) (mark_of view) total level (row_seen r)
+      → longer ≡ chain ++ item_seen r.item ∷ []
+      → after ≡ one ++ view_rows c.period (naming_in c.names) (mark_of view) samples levels longer
+      → after ≡ start ++ flat_map (seen_text levels chain) (take (i + 1) rows)
+  view_more start now one after levels total level chain longer rows i r lt is all deep so_far row more below =
+      append_more (seen_text levels chain) start now after rows i r lt is so_far
+      (two_parts now one after (view_row (naming_in c.names) (mark_of view) (c.period * length samples) (length chain) (row_seen r)) (view_rows c.period (naming_in c.names) (mark_of view) samples levels (chain ++ item_seen r.item ∷ []))
+      (row ∙ (λ k. now ++ view_row (naming_in c.names) (mark_of view) (total_is total all k) (deep k) (row_seen r)))
+      (below ∙ ap (λ (l : List Item). one ++ view_rows c.period (naming_in c.names) (mark_of view) samples levels l) more))
+
+  pub view_none : (out : List ℕ) (levels : ℕ) (chain : List Item) → levels ≡ 0 → out ≡ out ++ view_rows c.period (naming_in c.names) (mark_of view) samples levels chain
+  unfolding view_rows
+  view_none out levels chain none = sym (ap (λ (k : ℕ). out ++ view_rows c.period (naming_in c.names) (mark_of view) samples k chain) none ∙ append-nil out)
+
+  under_is : (levels : ℕ) (chain : List Item) → view_rows c.period (naming_in c.names) (mark_of view) samples (suc levels) chain ≡ flat_map (row_text levels chain) (rows_under c.period samples chain)
+  unfolding view_rows
+  under_is levels chain = refl
+
+  pub view_all : (start out : List ℕ) (levels : ℕ) (chain : List Item) (rows : List RowRef) (i : ℕ) → (levels ≡ 0 → ⊥) → length rows ≤ i → map row_seen rows ≡ rows_under c.period samples chain
+      → out ≡ start ++ flat_map (seen_text (levels - 1) chain) (take i rows) → out ≡ start ++ view_rows c.period (naming_in c.names) (mark_of view) samples levels chain
+  view_all start out zero chain rows i some le are so_far = absurd (some refl)
+  view_all start out (suc levels) chain rows i some le are so_far =
+      so_far ∙ ap (λ (k : ℕ). start ++ flat_map (seen_text k chain) (take i rows)) (let e : suc levels - 1 ≡ levels = omega arith in e)
+      ∙ ap (λ (rs : List RowRef). start ++ flat_map (seen_text levels chain) rs) (take_all i rows le)
+      ∙ ap (λ (l : List ℕ). start ++ l) (sym (flat_map_of_map (row_text levels chain) row_seen rows))
+      ∙ ap (λ (rs : List ViewRow). start ++ flat_map (row_text levels chain) rs) are
+      ∙ ap (λ (l : List ℕ). start ++ l) (sym (under_is levels chain))
+
+  -- rows of the code have values within the total
+  pub all_seen_within : (chain : List Item) (rows : List RowRef) → map row_seen rows ≡ rows_under c.period samples chain
+      → All (λ r. (0 < r.inclusive.0) × (r.inclusive.0 ≤ total_value c)) rows
+  all_seen_within chain rows are i d lt =
+      let at : row_seen (get_or rows i d) ≡ get_or (rows_under c.period samples chain) i (row_seen (get_or rows i d)) =
+      sym (get_or-map row_seen rows i d (row_seen (get_or rows i d)) lt) ∙ ap (λ (rs : List ViewRow). get_or rs i (row_seen (get_or rows i d))) are in
+      let long : length rows ≡ length (rows_under c.period samples chain) = sym (length-map rows row_seen) ∙ ap length are in
+      let within = row_within c.period samples chain i (row_seen (get_or rows i d)) (omega (arith, lt, long)) at in
+      (within.0, subst (λ (k : ℕ). (get_or rows i d).inclusive.0 ≤ c.period * k) as_many_samples within.1)
+
+  pub narrowed_places : (chain longer : List ItemRef) (item : ItemRef) (splits : List Split) (places : List Place) → AreSplits view c (items_seen chain) splits
+      → places ≡ map (λ s. s.rest) (filter (λ s. same_item (item_seen item) (item_seen s.item)) splits) → longer ≡ chain ++ item ∷ [] → ArePlaces view c (items_seen longer) places
+  narrowed_places chain longer item splits places are is more =
+      group_places (items_seen chain) (items_seen longer) (item_seen item) splits places are is (ap items_seen more ∙ map-append item_seen chain (item ∷ []))
+
+pub longer_seen : (chain longer : List ItemRef) (item : ItemRef) → longer ≡ chain ++ item ∷ [] → items_seen longer ≡ items_seen chain ++ item_seen item ∷ []
+longer_seen chain longer item more = ap items_seen more ∙ map-append item_seen chain (item ∷ [])
+
+pub own_names : (c : Content) → IsProfile c → NamesAscend c.names
+own_names c profile = own_names_ascend c profile.own
+
+regroup : (out v s m l n : List ℕ) → ((((out ++ v) ++ s) ++ m) ++ l) ++ n ≡ out ++ (((v ++ s) ++ (m ++ l)) ++ n)
+regroup out v s m l n = simp append_assoc
+
+-- the parts of a row, one after the other
+pub five_parts : (out a b d e f v s m l n : List ℕ) → a ≡ out ++ v → b ≡ a ++ s → d ≡ b ++ m → e ≡ d ++ l → f ≡ e ++ n → f ≡ out ++ (((v ++ s) ++ (m ++ l)) ++ n)
+five_parts out a b d e f v s m l n ea eb ed ee ef =
+    let whole : f ≡ ((((out ++ v) ++ s) ++ m) ++ l) ++ n = cc in
+    whole ∙ regroup out v s m l n
+
+pub callers_is : (c : Content) (depth levels : ℕ) → levels ≡ depth + 1 → view_table c.period (naming_in c.names) (mark_of Callers) (samples_of Callers c) levels ≡ callers c.period (naming_in c.names) depth (paths_of c)
+unfolding callers
+callers_is c depth levels e = ap (view_table c.period (naming_in c.names) (mark_of Callers) (samples_of Callers c)) e
+
+pub flat_is : (c : Content) → view_table c.period (naming_in c.names) (mark_of Flat) (samples_of Flat c) 3 ≡ flat c.period (naming_in c.names) (paths_of c)
+unfolding flat
+flat_is c = refl
+
+pub ruleset level_steps = (splits_are, all_seen_within)
+
+pub ruleset narrow_steps = (narrowed_places, longer_seen)
+
+pub ruleset row_steps = (own_names, view_more, view_none, view_all)
+
+pub ruleset table_steps = (own_names, two_parts)

@@ -1,0 +1,237 @@
+//! The callers table and the flat table of a content.
+ghost use Rattle.std.specs.Prelude.{◌≡◌, ◌+◌, ◌*◌, ◌<◌, ◌≤◌, ◌^◌, ◌++◌, ◌∷◌, [], All, length, map, IfOk, OnOk};
+ghost use Rattle.tree_types.specs.Database.{naming_in};
+ghost use Rattle.tree_types.specs.NamesAscend.{NamesAscend};
+ghost use Rattle.tree_types.specs.OfContent.{IsProfile};
+ghost use Rattle.tree_types.specs.PathsOf.{paths_of};
+ghost use Rattle.view_tables.specs.Callers.{callers};
+ghost use Rattle.view_tables.specs.Flat.{flat};
+ghost use Rattle.view_tables.specs.Views.{item_label, mark_at, rows_under, view_header, view_row, view_rows, view_table};
+ghost use Rattle.view_tables.specs.private.Places.{ArePlaces, AreSplits, item_seen, items_seen, mark_of, row_seen, samples_of};
+ghost use Rattle.view_tables.specs.private.Rows.{total_value};
+
+use crate::columns::{put_spaces, put_values};
+use crate::gather::places_in;
+use crate::group::{group_of, rows_of, split_all};
+use crate::item::{ItemRef, RowRef};
+use crate::label::{proc_name, put_printed};
+use crate::place::{Place, Split, View};
+use crate::text::{put_address, put_decimal};
+use crate::values::total_of;
+use prof_bytes::{Memory, Text};
+use std::alloc::Global;
+use tree_types::{Content, Names};
+
+/// The heads of the columns.
+fn put_view_header(out: &mut Vec<u8>) -> Result<(), Memory>
+    ensures { OnOk result (out.new.items ≡ out.old.items ++ view_header) }
+{
+    out.extend_from_slice(b"       inclusive      %        exclusive  scope\n")?;
+    Ok(())
+}
+
+fn put_item_label(out: &mut Vec<u8>, names: &Names, item: ItemRef<'_>) -> Result<(), Memory>
+    requires { NamesAscend names.now }
+    ensures { OnOk result (out.new.items ≡ out.old.items ++ item_label (naming_in names.now) (item_seen item.entry)) }
+{
+    match item {
+        ItemRef::FileName(name) => put_printed(out, name),
+        ItemRef::Procedure(id) => put_printed(out, proc_name(names, id)),
+        ItemRef::SourceLine(line) => {
+            out.extend_from_slice(b"line ")?;
+            put_decimal(out, u64::from(line))
+        }
+        ItemRef::Instruction(address) => put_address(out, address),
+    }
+}
+
+/// What marks a row below the first level.
+fn put_mark(out: &mut Vec<u8>, view: View, level: usize) -> Result<(), Memory>
+    ensures { OnOk result (out.new.items ≡ out.old.items ++ mark_at (mark_of view) level) }
+{
+    match view {
+        View::Callers if level > 0 => Ok(out.extend_from_slice(b"<- ")?),
+        View::Callers | View::Flat => Ok(()),
+    }
+}
+
+fn put_view_row(
+    out: &mut Vec<u8>,
+    names: &Names,
+    view: View,
+    total: u64,
+    level: usize,
+    row: &RowRef<'_>,
+) -> Result<(), Memory>
+    requires names { NamesAscend names.now }
+    requires some { 0 < total }
+    requires small { row.now.inclusive.0 ≤ 2 ^ 52 }
+    requires level { level ≤ 16 }
+    ensures { OnOk result (out.new.items ≡ out.old.items
+        ++ view_row (naming_in names.now) (mark_of view) total level (row_seen row.now)) }
+{
+    put_values(out, row.inclusive.0, total, row.exclusive)?;
+    put_spaces(out, 2 + 2 * level)?;
+    put_mark(out, view, level)?;
+    put_item_label(out, names, row.item)?;
+    out.extend_from_slice(b"\n")?;
+    Ok(())
+}
+
+/// A chain, and the places that it leaves.
+#[derive(Drop)]
+struct Narrowed<'a> {
+    chain: Vec<ItemRef<'a>>,
+    places: Vec<Place>,
+}
+
+/// What the places of a chain are cut into, and the rows right under that of the chain.
+#[derive(Drop)]
+struct Level<'a> {
+    splits: Vec<Split<'a>>,
+    rows: Vec<RowRef<'a>>,
+}
+
+#[tactic(auto, using(crate::proofs::ViewTexts::level_steps))]
+fn level_of<'a>(
+    alloc: Global,
+    view: View,
+    content: &'a Content,
+    chain: &[ItemRef<'a>],
+    places: &[Place],
+) -> Result<Level<'a>, Memory>
+    requires profile { IsProfile content.now }
+    requires places { ArePlaces view content.now (items_seen chain.now) places.now }
+    ensures splits { IfOk result (λ level. AreSplits view content.now (items_seen chain.now) level.splits.items) }
+    ensures rows { IfOk result (λ level. map row_seen level.rows.items
+        ≡ rows_under content.now.period (samples_of view content.now) (items_seen chain.now)) }
+    ensures within { IfOk result
+        (λ level. All (λ r. (0 < r.inclusive.0) × (r.inclusive.0 ≤ total_value content.now)) level.rows.items) }
+{
+    let splits = split_all(alloc, view, content, places)?;
+    let rows = rows_of(alloc, view, content, chain, splits.as_slice())?;
+    Ok(Level { splits, rows })
+}
+
+/// A chain with one item more, and the places that it leaves.
+#[tactic(auto, using(crate::proofs::ViewTexts::narrow_steps))]
+fn narrow<'a>(
+    alloc: Global,
+    view: View,
+    content: &Content,
+    chain: &[ItemRef<'a>],
+    splits: &[Split<'a>],
+    item: ItemRef<'a>,
+) -> Result<Narrowed<'a>, Memory>
+    requires { AreSplits view content.now (items_seen chain.now) splits.now }
+    ensures chain { IfOk result
+        (λ next. items_seen next.chain.items ≡ items_seen chain.now ++ item_seen item.entry ∷ []) }
+    ensures length { IfOk result (λ next. length next.chain.items ≡ length chain.now + 1) }
+    ensures places { IfOk result
+        (λ next. ArePlaces view content.now (items_seen next.chain.items) next.places.items) }
+{
+    let mut longer = Vec::new(alloc);
+    longer.extend_from_slice(chain)?;
+    longer.push(item)?;
+    let places = group_of(alloc, splits, item)?;
+    Ok(Narrowed {
+        chain: longer,
+        places,
+    })
+}
+
+/// Appends so many levels of rows under that of a chain, by the places that the chain leaves.
+#[tactic(auto, using(crate::proofs::ViewTexts::row_steps))]
+fn put_rows<'a>(
+    out: &mut Vec<u8>,
+    alloc: Global,
+    view: View,
+    content: &'a Content,
+    total: u64,
+    chain: &[ItemRef<'a>],
+    places: &[Place],
+    levels: usize,
+) -> Result<(), Memory>
+    requires profile { IsProfile content.now }
+    requires total { total ≡ total_value content.now }
+    requires small { total ≤ 2 ^ 52 }
+    requires places { ArePlaces view content.now (items_seen chain.now) places.now }
+    requires levels { length chain.now + levels ≤ 9 }
+    ensures { OnOk result (out.new.items ≡ out.old.items ++ view_rows content.now.period
+        (naming_in content.now.names) (mark_of view) (samples_of view content.now) levels (items_seen chain.now)) }
+{
+    if levels == 0 {
+        return Ok(());
+    }
+    let level = level_of(alloc, view, content, chain, places)?;
+    for row in &level.rows {
+        put_view_row(out, &content.names, view, total, chain.len(), row)?;
+        let next = narrow(
+            alloc,
+            view,
+            content,
+            chain,
+            level.splits.as_slice(),
+            row.item,
+        )?;
+        put_rows(
+            out,
+            alloc,
+            view,
+            content,
+            total,
+            next.chain.as_slice(),
+            next.places.as_slice(),
+            levels - 1,
+        )?;
+    }
+    Ok(())
+}
+
+/// A table of so many levels.
+#[tactic(auto, using(crate::proofs::ViewTexts::table_steps))]
+fn view_of(alloc: Global, view: View, content: &Content, levels: usize) -> Result<Text, Memory>
+    requires profile { IsProfile content.now }
+    requires levels { levels ≤ 9 }
+    ensures { IfOk result (λ text. text ≡ view_table content.now.period (naming_in content.now.names) (mark_of view)
+        (samples_of view content.now) levels) }
+{
+    let mut out = Vec::new(alloc);
+    put_view_header(&mut out)?;
+    let total = total_of(content);
+    let places = places_in(alloc, view, content)?;
+    put_rows(
+        &mut out,
+        alloc,
+        view,
+        content,
+        total,
+        &[],
+        places.as_slice(),
+        levels,
+    )?;
+    Ok(Text::from_vec(out))
+}
+
+/// The callers table of a content: the procedures, under each its callers, under these theirs, up to `depth` callers
+/// above. The depth is 1 to 8. For each row it looks at all frames that the row above has, so that the time grows as the
+/// frames of the paths that end at different nodes, times the children of a row.
+#[tactic(auto, using(crate::proofs::ViewTexts::callers_is))]
+pub fn callers(alloc: Global, content: &Content, depth: u32) -> Result<Text, Memory>
+    requires profile { IsProfile content.now }
+    requires some { 1 ≤ depth }
+    requires few { depth ≤ 8 }
+    ensures { IfOk result (λ text. text ≡ callers content.now.period (naming_in content.now.names) depth
+        (paths_of content.now)) }
+{
+    view_of(alloc, View::Callers, content, depth as usize + 1)
+}
+
+/// The flat table of a content: files, in them procedures, in them lines. The time grows as that of the callers table.
+#[tactic(auto, using(crate::proofs::ViewTexts::flat_is))]
+pub fn flat(alloc: Global, content: &Content) -> Result<Text, Memory>
+    requires { IsProfile content.now }
+    ensures { IfOk result (λ text. text ≡ flat content.now.period (naming_in content.now.names) (paths_of content.now)) }
+{
+    view_of(alloc, View::Flat, content, 3)
+}
