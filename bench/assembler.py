@@ -98,9 +98,10 @@ def frames(entries):
     return section
 
 
-def elf(segments, debug_frame=b""):
-    """A static ELF32 program of these segments (address, bytes, bytes in memory, flags), and of `.debug_frame`."""
-    names = b"\0.debug_frame\0.shstrtab\0"
+def elf(segments, debug_frame=b"", name=b".debug_frame"):
+    """A static ELF32 program of these segments (address, bytes, bytes in memory, flags), and of `.debug_frame` or another
+    section in its place."""
+    names = b"\0" + name + b"\0.shstrtab\0"
     at = 52 + 32 * len(segments)
     headers, body = b"", b""
     for address, content, size, flags in segments:
@@ -110,7 +111,7 @@ def elf(segments, debug_frame=b""):
     if debug_frame:
         sections += struct.pack("<10I", 1, 1, 0, 0, at + len(body), len(debug_frame), 0, 0, 1, 0)
         body += debug_frame
-        sections += struct.pack("<10I", 14, 3, 0, 0, at + len(body), len(names), 0, 0, 1, 0)
+        sections += struct.pack("<10I", 2 + len(name), 3, 0, 0, at + len(body), len(names), 0, 0, 1, 0)
         body += names
     place, count, strings = (at + len(body), 3, 2) if debug_frame else (0, 0, 0)
     ident = b"\x7fELF\x01\x01\x01" + bytes(9)

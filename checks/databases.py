@@ -15,6 +15,7 @@ from collections import defaultdict
 SCOPES = ("root", "proc", "inline", "call", "stmt")
 ROOTS = ("<thread root>", "<partial call paths>")
 NAMELESS = (2, 0, b"<unknown procedure>")
+TOP_HEADER = f"{'inclusive':>16} {'%':>6} {'frame':>16}  scope"
 
 
 def line_order(line):

@@ -11,6 +11,7 @@ SECTIONS
     . = 0x10000;
     .text : { *(.text.start) *(.text .text.*) } :code
     .rodata : { *(.rodata .rodata.* .srodata .srodata.*) } :code
+    .eh_frame : { KEEP(*(.eh_frame)) } :code
     . = ALIGN(0x1000);
     .data : {
         PROVIDE_HIDDEN(__init_array_start = .);

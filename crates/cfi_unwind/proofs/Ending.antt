@@ -10,11 +10,11 @@ use Rattle.cfi_table.specs.Rules.{rule_at}
 use Rattle.cfi_table.specs.Frames.{rules_at}
 use Rattle.cfi_unwind.specs.declared.caller.Activation.{Activation}
 use Rattle.cfi_unwind.specs.declared.caller.Unwound.{Unwound}
-use Rattle.cfi_unwind.specs.declared.caller.Unwound.TheVariants.{Caller, Ends}
+use Rattle.cfi_unwind.specs.declared.caller.Unwound.TheVariants.{Ends}
 use Rattle.cfi_unwind.specs.Region.{is_in}
 use Rattle.cfi_unwind.specs.Caller.{Words, Unwinding, sum, is_undefined, has_expression, cfa_of, is_unmapped, callers_registers}
-use Rattle.cfi_unwind.specs.Caller.{first_end, end_tests, rules_or_none, cfa_or_zero, return_address, caller_by, unwound_as, caller_of}
-use Rattle.cfi_unwind.specs.private.Stepwise.{caller_with, caller_from, caller_if}
+use Rattle.cfi_unwind.specs.Caller.{first_end, rules_or_none, cfa_or_zero, caller_by, unwound_as, caller_of}
+use Rattle.cfi_unwind.specs.private.Stepwise.{caller_with, caller_if}
 
 one_test : (b : Bool) (end : End) (tests : List (Bool × End)) (caller : Activation) → unwound_as (first_end ((b, end) ∷ tests)) caller ≡ cond b (Ends end) (unwound_as (first_end tests) caller)
 one_test true end tests caller = refl
@@ -74,3 +74,6 @@ one_by_one u words here =
 
 pub outside_region : (u : Unwinding) (words : Words) (here : Activation) → is_in u.region here.pc ≡ false → caller_of u words here ≡ caller_if words here.registers (rules_at u.frames here.pc)
 outside_region u words here e = one_by_one u words here ∙ ap (λ (b : Bool). cond b (Ends Whole) (caller_if words here.registers (rules_at u.frames here.pc))) e
+
+pub inside_region : (u : Unwinding) (words : Words) (here : Activation) → is_in u.region here.pc ≡ true → caller_of u words here ≡ Ends Whole
+inside_region u words here e = one_by_one u words here ∙ ap (λ (b : Bool). cond b (Ends Whole) (caller_if words here.registers (rules_at u.frames here.pc))) e

@@ -1,7 +1,8 @@
 mod Chains
 pub mod Ending
-mod Changing
+mod FewRules
 mod Indexing
+mod PathFrames
 mod Recovering
 pub mod RecursionRow
 mod Starts

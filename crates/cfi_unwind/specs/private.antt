@@ -1,3 +1,3 @@
 pub mod Stepwise
-pub mod Prepared
+pub mod UnwindRules
 pub mod Index

@@ -3,7 +3,7 @@ ghost use Rattle.std.specs.Prelude.{◌≡◌, ◌==◌, ◌-◌, ◌^◌, Optio
 ghost use Rattle.std.specs.List.{list_any};
 ghost use Rattle.cfi_table.specs.Rules.{rule_at};
 ghost use Rattle.scope_types.specs.Raw.{Raw};
-ghost use Rattle.cfi_unwind.specs.private.Prepared.{after};
+ghost use Rattle.cfi_unwind.specs.private.UnwindRules.{after};
 ghost use Rattle.cfi_unwind.specs.Caller.{is_undefined, is_expression, has_expression, cfa_of, is_unmapped, recovered};
 ghost use Rattle.cfi_unwind.specs.Caller.{recovered_all, callers_registers, sum};
 ghost use Rattle.cfi_unwind.specs.private.Stepwise.{caller_at, caller_over, caller_from};

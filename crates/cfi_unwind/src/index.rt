@@ -1,42 +1,43 @@
-//! The steps at a program's addresses, made ready before any path is looked for.
+//! The unwind rules at a program's addresses, made ready before any path is looked for.
 ghost use Rattle.std.specs.Prelude.{◌≡◌, ℕ, None, ◌+◌, ◌<◌, ◌≤◌, ◌^◌, ◌*◌, IfOk, IfSome, length, replicate, slice_get, true};
 ghost use Rattle.std.specs.Option.{option_copied};
-ghost use Rattle.cfi_table.specs.Frames.{rules_at};
-ghost use Rattle.cfi_unwind.specs.private.Prepared.{Follows};
-ghost use Rattle.cfi_table.specs.Frames.{Frames};
+ghost use Rattle.cfi_unwind.specs.Caller.{Unwinding};
+ghost use Rattle.cfi_table.specs.Frames.{Frames, rules_at};
 ghost use Rattle.cfi_table.specs.Rows.{AreFirst};
-ghost use Rattle.cfi_unwind.specs.private.Index.{no_place, IsAt, IsIndex, IsFilled, IsRowIn, KeepsIndex, KeepsSteps};
+ghost use Rattle.cfi_unwind.specs.private.Index.{no_id, IsAt, IsIndex, IsFilled, IsRowIn, KeepsIndex, KeepsRules};
+ghost use Rattle.cfi_unwind.specs.private.Index.{EndsWhole, FindsCallers, IsReady};
 
-use crate::prepared::{Step, prepare};
+use crate::unwind_rule::{UnwindRule, prepare};
 use cfi_table::{Cfa, FrameTable, Row, Rows, Rule, Rules};
 use elf_image::{Image, Segment};
 use prof_bytes::Memory;
+use scope_types::End;
 use std::alloc::Global;
 
-/// How many addresses have a step made ready at most, and how many steps there are.
-const MOST_PLACES: usize = 1 << 20;
+/// How many addresses have an unwind rule made ready at most, and how many different ones there are.
+const MOST_RULES: usize = 1 << 20;
 
 /// How many bytes of call frame instructions are carried out for them at most, those of a CIE as often as it
 /// has FDEs.
 const MOST_BYTES: u64 = 1 << 27;
 
-/// In place of a place among the steps, where none is made ready.
-const NO_PLACE: u32 = u32::MAX;
+/// In place of an id, where none is made ready.
+const NO_ID: u32 = u32::MAX;
 
-/// Rules, and the place of a step that follows them.
+/// Rules, and the id of an unwind rule that follows them.
 #[derive(Drop)]
 struct Latest {
-    place: u32,
+    id: u32,
     rules: Option<Rules>,
 }
 
-/// The places among `steps` of those at each fourth address from 4 times `first` on. The first step is that
-/// of addresses that no FDE holds.
+/// For each fourth address from 4 times `first` on the id of its unwind rule, which is its place among all. The first
+/// of these is that of addresses that no FDE holds.
 #[derive(Debug, Drop)]
 pub(crate) struct Index {
     first: u32,
-    places: Vec<u32>,
-    steps: Vec<Step>,
+    ids: Vec<u32>,
+    unwind_rules: Vec<UnwindRule>,
 }
 
 fn is_same_rule(rule: &Rule, other: &Rule) -> bool
@@ -80,26 +81,44 @@ fn is_same(rules: &Option<Rules>, other: &Option<Rules>) -> bool
     }
 }
 
-/// The place of a new step that follows the rules.
-fn push_step(alloc: Global, steps: &mut Vec<Step>, rules: &Option<Rules>) -> Result<u32, Memory>
-    requires { length steps.old.items < 2 ^ 20 }
-    ensures keeps { KeepsSteps steps.old.items steps.new.items }
-    ensures few { length steps.new.items ≤ length steps.old.items + 1 }
-    ensures place { IfOk result (λ place. IsAt steps.new.items place rules.now) }
+/// The id of a new unwind rule that follows the rules.
+fn push_rule(
+    alloc: Global,
+    unwind_rules: &mut Vec<UnwindRule>,
+    rules: &Option<Rules>,
+) -> Result<u32, Memory>
+    requires { length unwind_rules.old.items < 2 ^ 20 }
+    ensures keeps { KeepsRules unwind_rules.old.items unwind_rules.new.items }
+    ensures few { length unwind_rules.new.items ≤ length unwind_rules.old.items + 1 }
+    ensures id { IfOk result (λ id. IsAt unwind_rules.new.items id rules.now) }
 {
-    let place = steps.len() as u32;
-    steps.push(prepare(alloc, rules)?)?;
-    Ok(place)
+    let id = unwind_rules.len() as u32;
+    unwind_rules.push(prepare(alloc, rules)?)?;
+    Ok(id)
 }
 
-/// Sets the places from one up to another.
-fn fill(places: &mut Vec<u32>, low: usize, high: usize, place: u32)
+/// The place of a new unwind rule that ends the path whole. Nothing where there is no memory, or are too many.
+fn push_ending(unwind_rules: &mut Vec<UnwindRule>) -> Option<u32>
+    ensures keeps { KeepsRules unwind_rules.old.items unwind_rules.new.items }
+    ensures few { length unwind_rules.old.items ≤ 2 ^ 20 → length unwind_rules.new.items ≤ 2 ^ 20 }
+    ensures ends { IfSome result (λ id. EndsWhole unwind_rules.new.items id) }
+{
+    if unwind_rules.len() >= MOST_RULES {
+        return None;
+    }
+    let id = unwind_rules.len() as u32;
+    unwind_rules.push(UnwindRule::Ends(End::Whole)).ok()?;
+    Some(id)
+}
+
+/// Sets the ids from one up to another.
+fn fill(ids: &mut Vec<u32>, low: usize, high: usize, id: u32)
     requires order { low ≤ high }
-    requires within { high ≤ length places.old.items }
-    ensures { IsFilled places.old.items places.new.items low high place }
+    requires within { high ≤ length ids.old.items }
+    ensures { IsFilled ids.old.items ids.new.items low high id }
 {
     for number in low..high {
-        places[number] = place;
+        ids[number] = id;
     }
 }
 
@@ -115,13 +134,13 @@ fn code_of(segments: &[Segment]) -> (u32, u32) {
     code
 }
 
-/// The words of code, from the first up to the second, whose steps are made ready.
+/// The words of code, from the first up to the second, whose unwind rules are made ready.
 fn words_of(image: &Image<'_>) -> (u32, u32)
     ensures { result.1 < 2 ^ 30 }
 {
     let (start, end) = code_of(image.segments());
     let first = start / 4;
-    (first, (end / 4).min(first + MOST_PLACES as u32))
+    (first, (end / 4).min(first + MOST_RULES as u32))
 }
 
 /// The rules at an address, unless there are not so many bytes of instructions left to be carried out,
@@ -152,129 +171,127 @@ fn address_of(first: u32, number: usize) -> Option<u32>
     word.checked_mul(4)
 }
 
-/// The place of a step that follows the rules: that of the latest ones, where these are the same, or that
+/// The id of an unwind rule that follows the rules: that of the latest ones, where these are the same, or that
 /// of a new one. Nothing where there is no memory, or are too many.
-fn place_of(
+fn id_of(
     alloc: Global,
-    steps: &mut Vec<Step>,
+    unwind_rules: &mut Vec<UnwindRule>,
     latest: &mut Latest,
     rules: &Option<Rules>,
 ) -> Option<u32>
-    requires { length steps.old.items ≤ 2 ^ 20 }
-    ensures keeps { KeepsSteps steps.old.items steps.new.items }
-    ensures few { length steps.new.items ≤ 2 ^ 20 }
-    ensures place { IsAt steps.old.items latest.old.place latest.old.rules
-        → IfSome result (λ place. IsAt steps.new.items place rules.now) }
-    ensures latest { IsAt steps.old.items latest.old.place latest.old.rules
-        → IsAt steps.new.items latest.new.place latest.new.rules }
+    requires { length unwind_rules.old.items ≤ 2 ^ 20 }
+    ensures keeps { KeepsRules unwind_rules.old.items unwind_rules.new.items }
+    ensures few { length unwind_rules.new.items ≤ 2 ^ 20 }
+    ensures id { IsAt unwind_rules.old.items latest.old.id latest.old.rules
+        → IfSome result (λ id. IsAt unwind_rules.new.items id rules.now) }
+    ensures latest { IsAt unwind_rules.old.items latest.old.id latest.old.rules
+        → IsAt unwind_rules.new.items latest.new.id latest.new.rules }
 {
     if is_same(&latest.rules, rules) {
-        return Some(latest.place);
+        return Some(latest.id);
     }
-    if steps.len() >= MOST_PLACES {
+    if unwind_rules.len() >= MOST_RULES {
         return None;
     }
-    let place = push_step(alloc, steps, rules).ok()?;
-    *latest = Latest {
-        place,
-        rules: *rules,
-    };
-    Some(place)
+    let id = push_rule(alloc, unwind_rules, rules).ok()?;
+    *latest = Latest { id, rules: *rules };
+    Some(id)
 }
 
-/// The place of the step at an address. Nothing where there is no memory, are too many, or not so many bytes
+/// The id of the unwind rule at an address. Nothing where there is no memory, are too many, or not so many bytes
 /// of instructions left to be carried out.
-fn place_anew(
+fn id_anew(
     alloc: Global,
     table: &FrameTable,
-    steps: &mut Vec<Step>,
+    unwind_rules: &mut Vec<UnwindRule>,
     latest: &mut Latest,
     left: &mut u64,
     pc: u32,
 ) -> Option<u32>
-    requires { length steps.old.items ≤ 2 ^ 20 }
-    ensures keeps { KeepsSteps steps.old.items steps.new.items }
-    ensures few { length steps.new.items ≤ 2 ^ 20 }
-    ensures place { IsAt steps.old.items 0 None → IsAt steps.old.items latest.old.place latest.old.rules
-        → IfSome result (λ place. IsAt steps.new.items place (rules_at table.now pc)) }
-    ensures latest { IsAt steps.old.items latest.old.place latest.old.rules
-        → IsAt steps.new.items latest.new.place latest.new.rules }
+    requires { length unwind_rules.old.items ≤ 2 ^ 20 }
+    ensures keeps { KeepsRules unwind_rules.old.items unwind_rules.new.items }
+    ensures few { length unwind_rules.new.items ≤ 2 ^ 20 }
+    ensures id { IsAt unwind_rules.old.items 0 None → IsAt unwind_rules.old.items latest.old.id latest.old.rules
+        → IfSome result (λ id. IsAt unwind_rules.new.items id (rules_at table.now pc)) }
+    ensures latest { IsAt unwind_rules.old.items latest.old.id latest.old.rules
+        → IsAt unwind_rules.new.items latest.new.id latest.new.rules }
 {
     if table.fde_at(pc).is_none() {
         return Some(0);
     }
     let rules = rules_within(table, pc, left)?;
-    place_of(alloc, steps, latest, &rules)
+    id_of(alloc, unwind_rules, latest, &rules)
 }
 
-fn place_at(places: &[u32], number: usize) -> Option<u32>
-    ensures { result ≡ slice_get places.now number }
+fn id_at(ids: &[u32], number: usize) -> Option<u32>
+    ensures { result ≡ slice_get ids.now number }
 {
-    places.get(number).copied()
+    ids.get(number).copied()
 }
 
-fn step_at(steps: &[Step], place: u32) -> Option<&Step>
-    ensures { option_copied result ≡ slice_get steps.now place }
+fn rule_with(unwind_rules: &[UnwindRule], id: u32) -> Option<&UnwindRule>
+    ensures { option_copied result ≡ slice_get unwind_rules.now id }
 {
-    steps.get(place as usize)
+    unwind_rules.get(id as usize)
 }
 
-/// So many words without a place.
-fn no_places(alloc: Global, count: usize) -> Result<Vec<u32>, Memory>
-    ensures { IfOk result (λ places. places.items ≡ replicate count no_place) }
+/// So many words without an id.
+fn no_ids(alloc: Global, count: usize) -> Result<Vec<u32>, Memory>
+    ensures { IfOk result (λ ids. ids.items ≡ replicate count no_id) }
 {
-    Ok(vec![in alloc; NO_PLACE; count]?)
+    Ok(vec![in alloc; NO_ID; count]?)
 }
 
-/// The step of addresses that no FDE holds.
-fn first_step(alloc: Global) -> Result<Vec<Step>, Memory>
-    ensures step { IfOk result (λ steps. IsAt steps.items 0 None) }
-    ensures few { IfOk result (λ steps. length steps.items ≤ 1) }
+/// The unwind rule of addresses that no FDE holds.
+fn first_rule(alloc: Global) -> Result<Vec<UnwindRule>, Memory>
+    ensures rule { IfOk result (λ unwind_rules. IsAt unwind_rules.items 0 None) }
+    ensures few { IfOk result (λ unwind_rules. length unwind_rules.items ≤ 1) }
 {
-    let mut steps = Vec::new(alloc);
-    push_step(alloc, &mut steps, &None)?;
-    Ok(steps)
+    let mut unwind_rules = Vec::new(alloc);
+    push_rule(alloc, &mut unwind_rules, &None)?;
+    Ok(unwind_rules)
 }
 
 impl Index {
-    /// No step is made ready.
-    fn none(alloc: Global, first: u32) -> Index
-        ensures { (frames : Frames) → IsIndex frames result }
+    /// No unwind rule is made ready.
+    fn none(alloc: Global) -> Index
+        ensures index { (frames : Frames) → IsIndex frames result }
+        ensures ready { (u : Unwinding) → IsReady u result }
     {
         Index {
-            first,
-            places: Vec::new(alloc),
-            steps: Vec::new(alloc),
+            first: 0,
+            ids: Vec::new(alloc),
+            unwind_rules: Vec::new(alloc),
         }
     }
 
-    /// The index of so many words of code from the first on, for none of which a step is made ready.
+    /// The index of so many words of code from the first on, for none of which an unwind rule is made ready.
     fn unset(alloc: Global, first: u32, count: usize) -> Index
         ensures { (frames : Frames) → IsIndex frames result }
     {
-        match (no_places(alloc, count), first_step(alloc)) {
-            (Ok(places), Ok(steps)) => Index {
+        match (no_ids(alloc, count), first_rule(alloc)) {
+            (Ok(ids), Ok(unwind_rules)) => Index {
                 first,
-                places,
-                steps,
+                ids,
+                unwind_rules,
             },
-            _ => Index::none(alloc, first),
+            _ => Index::none(alloc),
         }
     }
 
-    /// Adds the step of a row at its addresses.
+    /// Adds the unwind rule of a row at its addresses.
     fn add_row(&mut self, alloc: Global, row: &Row) -> Result<(), Memory>
         ensures { (frames : Frames) → IsRowIn frames row.now → KeepsIndex frames self.old self.new }
     {
         let first = u64::from(self.first);
-        let count = self.places.len();
+        let count = self.ids.len();
         let low = words_below(u64::from(row.start)).saturating_sub(first) as usize;
         let high = (words_below(row.end).saturating_sub(first) as usize).min(count);
-        if low >= high || self.steps.len() >= MOST_PLACES {
+        if low >= high || self.unwind_rules.len() >= MOST_RULES {
             return Ok(());
         }
-        let place = push_step(alloc, &mut self.steps, &row.rules)?;
-        fill(&mut self.places, low, high, place);
+        let id = push_rule(alloc, &mut self.unwind_rules, &row.rules)?;
+        fill(&mut self.ids, low, high, id);
         Ok(())
     }
 
@@ -305,29 +322,46 @@ impl Index {
         Ok(())
     }
 
-    /// Adds the steps of the addresses that have none still, one after another. Most of them no FDE holds.
+    /// Adds the unwind rules of the addresses that have none still, one after another. Most of them no FDE holds.
     fn add_others(&mut self, alloc: Global, table: &FrameTable, left: &mut u64) -> Option<()>
-        requires { length self.old.steps.items ≤ 2 ^ 20 }
+        requires { length self.old.unwind_rules.items ≤ 2 ^ 20 }
         ensures { KeepsIndex table.now self.old self.new }
     {
-        let mut latest = Latest {
-            place: 0,
-            rules: None,
-        };
-        for number in 0..self.places.len() {
-            if self.places[number] == NO_PLACE {
+        let mut latest = Latest { id: 0, rules: None };
+        for number in 0..self.ids.len() {
+            if self.ids[number] == NO_ID {
                 let pc = address_of(self.first, number)?;
-                let place = place_anew(alloc, table, &mut self.steps, &mut latest, left, pc)?;
-                self.places[number] = place;
+                let id = id_anew(alloc, table, &mut self.unwind_rules, &mut latest, left, pc)?;
+                self.ids[number] = id;
             }
         }
         Some(())
     }
 
-    /// The index of a program. It lacks steps where there is no memory for them. Each instruction of an FDE
-    /// that is the first to hold its addresses is carried out once; the others anew for each address, within
-    /// the bounds above. Takes time as the program has frame descriptions and words of code.
-    pub(crate) fn of(alloc: Global, table: &FrameTable, image: &Image<'_>) -> Index
+    /// Ends each path whole at the addresses of a region. False where there is no memory for that, or are too many
+    /// unwind rules.
+    fn end_whole_in(&mut self, region: (u32, u32)) -> bool
+        ensures { result ≡ true → (frames : Frames) → IsIndex frames self.old
+            → IsReady (record { frames = frames; region = region }) self.new }
+    {
+        let first = u64::from(self.first);
+        let high = (words_below(u64::from(region.1)).saturating_sub(first) as usize).min(
+            self.ids.len(),
+        );
+        let low = (words_below(u64::from(region.0)).saturating_sub(first) as usize).min(high);
+        match push_ending(&mut self.unwind_rules) {
+            Some(id) => {
+                fill(&mut self.ids, low, high, id);
+                true
+            }
+            None => false,
+        }
+    }
+
+    /// The index of a program by its rules alone. It lacks unwind rules where there is no memory for them. Each
+    /// instruction of an FDE that is the first to hold its addresses is carried out once; the others anew for each
+    /// address, within the bounds above. Takes time as the program has frame descriptions and words of code.
+    fn by_rules(alloc: Global, table: &FrameTable, image: &Image<'_>) -> Index
         ensures { IsIndex table.now result }
     {
         let (first, last) = words_of(image);
@@ -339,16 +373,33 @@ impl Index {
         index
     }
 
-    /// The step at an address, if it was made ready.
-    pub(crate) fn at(&self, pc: u32) -> Option<&Step>
-        ensures { (frames : Frames) → IsIndex frames self.now
-            → IfSome result (λ step. Follows step.now (rules_at frames pc)) }
+    /// The index of a program whose paths end whole in a region. Nothing is in it where there is no memory to say so.
+    pub(crate) fn of(
+        alloc: Global,
+        table: &FrameTable,
+        image: &Image<'_>,
+        region: (u32, u32),
+    ) -> Index
+        ensures { IsReady (record { frames = table.now; region = region }) result }
+    {
+        let mut index = Index::by_rules(alloc, table, image);
+        if index.end_whole_in(region) {
+            index
+        } else {
+            Index::none(alloc)
+        }
+    }
+
+    /// The unwind rule at an address, if it was made ready.
+    pub(crate) fn at(&self, pc: u32) -> Option<&UnwindRule>
+        ensures { (u : Unwinding) → IsReady u self.now
+            → IfSome result (λ unwind_rule. FindsCallers u pc unwind_rule.now) }
     {
         let word = pc / 4;
         if pc % 4 != 0 || word < self.first {
             return None;
         }
-        let place = place_at(&self.places, (word - self.first) as usize)?;
-        step_at(&self.steps, place)
+        let id = id_at(&self.ids, (word - self.first) as usize)?;
+        rule_with(&self.unwind_rules, id)
     }
 }

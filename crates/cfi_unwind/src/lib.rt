@@ -9,11 +9,11 @@
 mod caller;
 mod index;
 mod laws;
-mod prepared;
 mod region;
+mod unwind_rule;
 mod unwinder;
 
-pub use laws::paths_are_chains;
+pub use laws::{paths_are_chains, paths_have_frames};
 pub use unwinder::Unwinder;
 
 #[cfg(test)]

@@ -1,4 +1,4 @@
-//! For which addresses a step is made ready. No contract speaks of it, since no path depends on it.
+//! For which addresses an unwind rule is made ready. No contract speaks of it, since no path depends on it.
 use crate::index::Index;
 use cfi_table::read_frames;
 use elf_image::read_image;
@@ -19,7 +19,7 @@ fn frames() -> &'static [u8] {
     \x18\0\0\0\0\0\0\0\x10\0\x01\0\x20\0\0\0\x44\x0e\x10\x44\x81\x01\x50\xc1\x44\x0e\0\0"
 }
 
-/// A byte of the program that is another, an address, and whether a step is ready there.
+/// A byte of the program that is another, an address, and whether an unwind rule is ready there.
 const READY: [(usize, u8, u32, bool); 12] = [
     (76, 5, 0, false),
     (76, 5, 0xfffc, false),
@@ -37,14 +37,14 @@ const READY: [(usize, u8, u32, bool); 12] = [
     (76, 4, 0x1_0010, false),
 ];
 
-/// Whether a step is ready at an address, in a program that can be read.
+/// Whether an unwind rule is ready at an address, in a program that can be read.
 fn is_ready(alloc: Global, file: &[u8], section: &[u8], pc: u32) -> Option<bool> {
     if file.len() > 1 << 26 || section.len() >= 1 << 31 {
         return None;
     }
     let image = read_image(alloc, file).ok()?;
     let table = read_frames(alloc, section, &image).ok()?;
-    Some(Index::of(alloc, &table, &image).at(pc).is_some())
+    Some(Index::of(alloc, &table, &image, (0, 0)).at(pc).is_some())
 }
 
 /// The first address that is otherwise, by its place in the table.
@@ -62,7 +62,7 @@ fn other_address(alloc: Global) -> Option<usize> {
 }
 
 #[test]
-fn steps_are_ready_in_an_executable_segment(rt: HostRuntime) -> Result<(), Fail> {
+fn unwind_rules_are_ready_in_an_executable_segment(rt: HostRuntime) -> Result<(), Fail> {
     assert_eq!(rt; other_address(rt.alloc()), None);
     Ok(())
 }

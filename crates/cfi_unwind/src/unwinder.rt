@@ -1,20 +1,23 @@
 //! The call path of an instruction.
-ghost use Rattle.std.specs.Prelude.{◌≡◌, IfOk};
-ghost use Rattle.cfi_table.specs.Frames.{rules_at};
+ghost use Rattle.std.specs.Prelude.{◌≡◌, IfOk, IfSome};
 ghost use Rattle.cfi_unwind.specs.Caller.{caller_of};
-ghost use Rattle.cfi_unwind.specs.private.Stepwise.{caller_if};
-ghost use Rattle.cfi_unwind.specs.private.Prepared.{after};
+ghost use Rattle.cfi_unwind.specs.private.UnwindRules.{after};
+ghost use Rattle.cfi_unwind.specs.private.Index.{FindsCallers};
 ghost use Rattle.cfi_unwind.specs.Path.{path_of, unwinding_of};
 
 use crate::caller::caller_to;
 use crate::index::Index;
 use crate::region::{entry_region, is_in};
+use crate::unwind_rule::UnwindRule;
 use cfi_table::FrameTable;
 use elf_image::Image;
 use prof_bytes::Memory;
 use scope_types::{End, Frame, Look, PartialCause, RawPath, Unwind};
 use std::alloc::Global;
 use std::marker::Model;
+
+/// How many frames a path has at most.
+const MOST_FRAMES: usize = 512;
 
 /// What finds the call paths of a program's instructions, by its call frame information.
 #[derive(Debug, Drop)]
@@ -27,25 +30,26 @@ pub struct Unwinder<'a> {
 
 impl<'a> Model for Unwinder<'a> {
     ghost use Rattle.cfi_unwind.specs.Caller.{Unwinding};
-    ghost use Rattle.cfi_unwind.specs.private.Index.{IsIndex};
+    ghost use Rattle.cfi_unwind.specs.private.Index.{IsReady};
 
     ghost Value = { Unwinding };
 
     ghost view = { λ unwinder. record { frames = unwinder.table.now; region = unwinder.region } };
 
-    ghost invariant = { λ unwinder. IsIndex unwinder.table.now unwinder.index };
+    ghost invariant = { λ unwinder. IsReady (record { frames = unwinder.table.now; region = unwinder.region })
+        unwinder.index };
 }
 
 impl<'a> Unwinder<'a> {
     /// The unwinder of a program, by its frames and its image; the allocator is that of the paths'
-    /// frames, and of the steps that are made ready here for the addresses of the program's code. Where
+    /// frames, and of the unwind_rules that are made ready here for the addresses of the program's code. Where
     /// there is no memory for these, paths are found in more time. Takes time as the program has code,
     /// function symbols and frame descriptions.
     pub fn of(alloc: Global, table: &'a FrameTable, image: &Image<'_>) -> Unwinder<'a>
         ensures { result ≡ unwinding_of table.now image.now }
     {
         let region = entry_region(table, image);
-        let index = Index::of(alloc, table, image);
+        let index = Index::of(alloc, table, image, region);
         Unwinder {
             alloc,
             table,
@@ -62,27 +66,33 @@ impl<'a> Unwinder<'a> {
         self.region
     }
 
-    /// The same as `next` at each address, by the rules as they are made anew there.
-    #[inline(never)]
-    fn next_anew<L: Look>(
-        &self,
-        memory: &L,
-        pc: u32,
-        registers: &mut [u32; 32],
-    ) -> Result<Result<u32, End>, Memory>
-        ensures { IfOk result (λ next. after next registers.new
-            ≡ caller_if (L.words memory.now) registers.old (rules_at self.now.frames pc)) }
+    /// The unwind rule at an address, if it was made ready.
+    fn ready_at(&self, pc: u32) -> Option<&UnwindRule>
+        ensures { IfSome result (λ unwind_rule. FindsCallers self.now pc unwind_rule.now) }
     {
-        match self.table.rules_at(pc)? {
-            Some(rules) => Ok(caller_to(memory, registers, &rules)),
-            None => Ok(Err(End::Partial(PartialCause::NoFde))),
-        }
+        self.index.at(pc)
     }
 
-    /// Goes to the caller of the activation at `pc` with these registers: its pc, and its registers in
-    /// place of those here. Or how the path ends, where the registers are then of no use.
+    /// The unwind rule at a caller's address. In recursion it is that of its callee.
+    fn ready_after<'b>(
+        &'b self,
+        caller: u32,
+        here: u32,
+        ready: Option<&'b UnwindRule>,
+    ) -> Option<&'b UnwindRule>
+        requires { IfSome ready (λ unwind_rule. FindsCallers self.now here unwind_rule.now) }
+        ensures { IfSome result (λ unwind_rule. FindsCallers self.now caller unwind_rule.now) }
+    {
+        if caller == here {
+            return ready;
+        }
+        self.ready_at(caller)
+    }
+
+    /// The same as `next` at each address, by the rules as they are made anew there.
+    #[inline(never)]
     #[tactic(auto, using(crate::proofs::Ending::one_by_one))]
-    fn next<L: Look>(
+    fn next_anew<L: Look>(
         &self,
         memory: &L,
         pc: u32,
@@ -94,8 +104,27 @@ impl<'a> Unwinder<'a> {
         if is_in(self.region, pc) {
             return Ok(Err(End::Whole));
         }
-        match self.index.at(pc) {
-            Some(step) => Ok(step.go(memory, registers)),
+        match self.table.rules_at(pc)? {
+            Some(rules) => Ok(caller_to(memory, registers, &rules)),
+            None => Ok(Err(End::Partial(PartialCause::NoFde))),
+        }
+    }
+
+    /// Goes to the caller of the activation at `pc` with these registers: its pc, and its registers in
+    /// place of those here. Or how the path ends, where the registers are then of no use.
+    fn next<L: Look>(
+        &self,
+        memory: &L,
+        pc: u32,
+        ready: Option<&UnwindRule>,
+        registers: &mut [u32; 32],
+    ) -> Result<Result<u32, End>, Memory>
+        requires ready { IfSome ready (λ unwind_rule. FindsCallers self.now pc unwind_rule.now) }
+        ensures { IfOk result (λ next. after next registers.new
+            ≡ caller_of self.now (L.words memory.now) (record { pc = pc; registers = registers.old })) }
+    {
+        match ready {
+            Some(unwind_rule) => Ok(unwind_rule.go(memory, registers)),
             None => self.next_anew(memory, pc, registers),
         }
     }
@@ -106,12 +135,16 @@ impl<'a> Unwind for Unwinder<'a> {
 
     fn path<L: Look>(&self, pc: u32, regs: &[u32; 32], memory: &L) -> Result<RawPath, Memory> {
         let mut frames = Vec::new(self.alloc);
-        let mut here = pc;
         let mut registers = *regs;
-        for _ in 0..512usize {
+        let mut here = pc;
+        let mut ready = self.ready_at(pc);
+        for _ in 0..MOST_FRAMES {
             frames.push(Frame { pc: here })?;
-            match self.next(memory, here, &mut registers)? {
-                Ok(caller) => here = caller,
+            match self.next(memory, here, ready, &mut registers)? {
+                Ok(caller) => {
+                    ready = self.ready_after(caller, here, ready);
+                    here = caller;
+                }
                 Err(end) => return Ok(RawPath::of(end, frames)),
             }
         }

@@ -8,9 +8,9 @@ use Rattle.hpc_top.specs.declared.status.Status.TheVariants.{Done, Usage, Input,
 use Rattle.hpc_top.specs.declared.status.Place.TheVariants.{Read, Store, Print}
 use Rattle.hpc_top.specs.Product.{Product}
 use Rattle.hpc_top.specs.Task.{task_of, verdict}
-use Rattle.hpc_top.specs.Words.{Request}
+use Rattle.hpc_top.specs.Words.{Request, DrillWords, Drill}
 use Rattle.hpc_top.specs.Outcome.{Call, Answers, Makes, Finished}
-use Rattle.hpc_top.specs.Follows.{Follows, IsUsage, IsRefusal, IsDone, NothingFailed}
+use Rattle.hpc_top.specs.Follows.{Follows, Drilled, IsUsage, IsRefusal, IsDone, NothingFailed}
 
 -- ---- a verdict is one thing
 
@@ -29,6 +29,11 @@ module _ (call : Call) where
   done : (asked : Option Request) → Answers asked call Done → IsSomeAnd asked (λ request. Makes (task_of request) Finished call)
   done None row = absurd row
   done (Some request) row = row
+
+  drill : (asked : Option Request) (words : DrillWords) → Answers asked call Done → asked ≡ Some (Drill words) → IsTrue call.before.shelf.known → IsTrue call.before.out.known → Drilled words.number call
+  drill asked words row is told shown =
+      let made : Makes (task_of (Drill words)) Finished call = subst (λ (a : Option Request). Answers a call Done) is row in
+      record { product = made.0; of_guest = made.1 told; files = made.2.0 told; out = made.2.1 shown }
 
   usage : (asked : Option Request) → Answers asked call Usage → IsNone asked
   usage None row = refl
@@ -86,6 +91,7 @@ module _ (call : Call) where
   pub follows : (asked : Option Request) (status : Status) → Answers asked call status → Follows asked call status
   follows asked status row = record {
     done = λ is. done asked (subst (Answers asked call) is row);
+    drill = λ words is_drill is told shown. drill asked words (subst (Answers asked call) is row) is_drill told shown;
     usage = λ is. usage asked (subst (Answers asked call) is row);
     invalid = λ none. invalid status (subst (λ (a : Option Request). Answers a call status) (unasked asked none) row);
     input = λ fault is. input asked fault (subst (Answers asked call) is row);

@@ -6,4 +6,8 @@ pub mod Lines
 pub mod Products
 pub mod Collecting
 pub mod Contents
+pub mod Drilling
 pub mod Measuring
+pub mod Addresses
+pub mod Scheduled
+pub mod Apart

@@ -1,8 +1,8 @@
 -- What is made of a run's samples that were counted, planned and merged.
-use Rattle.std.proofs.Common.{◌≡◌, ℕ, zero, suc, ◌+◌, ◌<◌, ◌==◌, nat_lt, Bool, true, false, cond, if◌then◌else◌, IsTrue, List, [], ◌∷◌, ◌++◌, length, map, count_by, All, Result, Ok, Err, refl, sym, ap, subst, ◌∙◌, arith}
+use Rattle.std.proofs.Common.{◌≡◌, ℕ, ◌<◌, ◌==◌, nat_lt, Bool, true, false, if◌then◌else◌, IsTrue, List, ◌++◌, length, count_by, All, Result, Ok, Err, refl, sym, ap, subst, ◌∙◌, arith}
 use Rattle.prof_bytes.specs.declared.fail.Fail.{Fail}
 use Rattle.prof_bytes.specs.declared.fail.Fail.TheVariants as fails
-use Rattle.prof_bytes.specs.Outcome.{◌>>=◌, FailsBy, Gives}
+use Rattle.prof_bytes.specs.Outcome.{◌>>=◌, FailsBy}
 use Rattle.scope_types.specs.declared.frame.Counted.{Counted}
 use Rattle.scope_types.specs.Alike.{Alike}
 use Rattle.scope_types.specs.declared.scope.Scope.{Scope}
@@ -14,7 +14,6 @@ use Rattle.scope_types.specs.Distinct.{HartRaw, distinct, samples_in, scopes_in}
 use Rattle.scope_types.specs.Limits.{most_path_scopes}
 use Rattle.rv_run.specs.State.{MachineState}
 use Rattle.rv_run.specs.Progress.{to_come}
-use Rattle.rv_run.specs.Run.{Run}
 use Rattle.thread_cct.specs.Adding.{samples_of_hart}
 use Rattle.thread_cct.specs.Plan.{Planned, expanded, plan_of}
 use Rattle.stripe_table.specs.Ends.{AllFit, NamesAll, SetValue, named_paths}
@@ -22,10 +21,9 @@ use Rattle.tree_join.specs.Join.{sampled_paths}
 use Rattle.stripe_table.specs.Limits.{Chunks}
 use Rattle.merge_crew.specs.declared.merge.Crew.{Crew}
 use Rattle.merge_crew.specs.Merged.{IsOfPlan, IsWhole, NamesEach}
-use Rattle.tree_types.specs.declared.content.Content.{Content}
 use Rattle.tree_types.specs.Naming.{Naming}
 use Rattle.tree_types.specs.Database.{content_of}
-use Rattle.tree_types.specs.OfContent.{content_table}
+use Rattle.tree_types.specs.OfContent.{IsProfile, content_table}
 use Rattle.tree_types.specs.TopDown.{top_down}
 use Rattle.prof_db.specs.Spelling.{spelling}
 use Rattle.sample_clock.specs.Samples.{Paths}
@@ -34,29 +32,33 @@ use Rattle.hpc_top.specs.declared.status.InputFault.{InputFault}
 use Rattle.hpc_top.specs.declared.status.InputFault.TheVariants.{TooManyScopes}
 use Rattle.hpc_top.specs.declared.merged.Merged.{Merged}
 use Rattle.hpc_top.specs.declared.status.Made.{Made}
+use Rattle.hpc_top.specs.declared.run_profile.RunProfile.{RunProfile}
 use Rattle.hpc_top.specs.Made.{view}
-use Rattle.hpc_top.specs.Merged.{IsMadeOf, Makes, Merging, sample_plan}
-use Rattle.hpc_top.specs.Samples.{sampled, sample_path, few_samples, few_scopes}
+use Rattle.hpc_top.specs.Merged.{IsMadeOf, MakesBy, Merging, sample_plan}
+use Rattle.hpc_top.specs.Samples.{sampled, few_samples}
 use Rattle.hpc_top.specs.declared.status.Prepared.{Prepared}
 use Rattle.hpc_top.specs.private.Collecting.{AllCounted, raws_to_come}
 use Rattle.hpc_top.specs.private.Measuring.{attribution_or}
+use Rattle.hpc_top.specs.private.Running.{IsMadeBy, IsProfileOf, Profiles}
 use Rattle.hpc_top.specs.private.Steps.{ready}
 use Rattle.hpc_top.specs.private.Merging.{IsMergeOf, Merges, counted_text, few_planned, profiled}
-use Rattle.hpc_top.specs.Report.{closed, hart_lines, run_text, samples_of, total_line}
+use Rattle.hpc_top.specs.Report.{closed, hart_lines, run_text, samples_by_hart, total_line}
 use Rattle.hpc_top.specs.Attribution.{Attributed, attributed, attribution_of, call_paths_of}
-use Rattle.hpc_top.specs.Product.{Product}
-use Rattle.hpc_top.specs.Profile.{Profiled, product_from, product_of, profile_of, profiled_of, profiled_run}
+use Rattle.hpc_top.specs.Drill.{retired_by}
+use Rattle.hpc_top.specs.Profile.{Profiled, lines_of, product_of, profile_of, profiled_of, profiled_run}
 use Rattle.hpc_top.proofs.Lines.{lines_same}
 
 -- ---- where crews merge all
 
-pub whole_product : (merging : Merging) (period : ℕ) (result : Result Made (Fail InputFault)) (elf input schedule : List ℕ) → IsTrue merging.whole → Makes merging period result (profiled_of elf input schedule period) → Gives view result (profile_of elf input schedule period)
+pub whole_product : (merging : Merging) (period : ℕ) (made : Made) (elf input schedule : List ℕ) → IsTrue merging.whole → MakesBy merging period (Ok made) (profiled_of elf input schedule period) → profile_of elf input schedule period ≡ Ok (view made)
 unfolding profile_of
-whole_product merging period (Ok made) elf input schedule whole (p, is, made_of) =
+whole_product merging period made elf input schedule whole (p, is, made_of) =
     ap (λ (r : Result Profiled InputFault). r >>= λ p. Ok (product_of period p)) is ∙ ap Ok (sym (made_of.whole whole))
-whole_product merging period (Err (fails.Fault fault)) elf input schedule whole refused =
-    ap (λ (r : Result Profiled InputFault). r >>= λ p. Ok (product_of period p)) refused
-whole_product merging period (Err (fails.Memory memory)) elf input schedule whole refused = tt
+
+pub refused_product : (elf input schedule : List ℕ) (period : ℕ) (fail : Fail InputFault) → FailsBy fail (profiled_of elf input schedule period) → FailsBy fail (profile_of elf input schedule period)
+unfolding profile_of
+refused_product elf input schedule period (fails.Fault fault) refused = ap (λ (r : Result Profiled InputFault). r >>= λ p. Ok (product_of period p)) refused
+refused_product elf input schedule period (fails.Memory memory) refused = tt
 
 -- ---- the lines on a run
 
@@ -67,8 +69,8 @@ EachCounted = (harts hart : ℕ) (samples : List HartRaw) → hart < harts → s
 pub counted_is : EachCounted → (period harts : ℕ) (final : MachineState) (ccts : List (List Counted)) (samples : List HartRaw) → ccts ≡ distinct harts samples → length ccts ≡ harts → samples_in ccts ≡ length samples
     → counted_text period ccts final ≡ run_text period harts final samples
 counted_is each period harts final ccts samples counts many all =
-    let lines : hart_lines harts final (samples_of_hart ccts) ≡ hart_lines harts final (samples_of samples) =
-    lines_same harts final (samples_of_hart ccts) (samples_of samples) (λ hart own. ap (λ (ts : List (List Counted)). samples_of_hart ts hart) counts ∙ each harts hart samples own) in
+    let lines : hart_lines harts final (samples_of_hart ccts) ≡ hart_lines harts final (samples_by_hart samples) =
+    lines_same harts final (samples_of_hart ccts) (samples_by_hart samples) (λ hart own. ap (λ (ts : List (List Counted)). samples_of_hart ts hart) counts ∙ each harts hart samples own) in
     (λ i. closed final.output ++ total_line (many i) period (all i) ++ hart_lines (many i) final (samples_of_hart ccts))
     ∙ ap (λ (l : List ℕ). closed final.output ++ total_line harts period (length samples) ++ l) lines
 
@@ -160,55 +162,69 @@ module _ (by : Merging) (period harts : ℕ) (naming : Naming) (expand : Raw →
         },
       )
 
-  -- ---- what is made of it
+  -- ---- a run's profile: what was merged, and what the machine at its end and the counted samples tell
 
-  module _ (contents : ContentsAlike) (tables : TablesAlike) where
-    all_content : (a : Attributed) (m : Merged) → IsMergeOf by period a m → IsTrue by.whole → m.content ≡ content_of period a.harts a.naming (call_paths_of a)
-    all_content a m is all_merged = is.content ∙ contents period a.harts a.naming (named_paths m.crew.stripes) (call_paths_of a) (is.paths all_merged)
+  pub run_is : (final : MachineState) (ccts : List (List Counted)) (samples : List HartRaw) → ccts ≡ distinct harts samples → EachCounted → length ccts ≡ harts → samples_in ccts ≡ length samples → (run : RunProfile)
+      → Merges by period (Ok run.merged) (attributed harts naming expand samples) → IsProfile run.merged.content → run.database ≡ spelling run.merged.content → run.lines ≡ counted_text period ccts final → run.samples ≡ samples_in ccts → run.retired ≡ retired_by final
+      → Profiles by period (Ok run) (profiled harts naming expand final samples)
+  run_is final ccts samples counts each many all run (a, is, merged) profile database lines count retired =
+      let same : a ≡ whole_of samples = attributed_as harts naming expand samples a is in (
+        record { attributed = a; final = final },
+        ap (λ (r : Result Attributed InputFault). r >>= λ a. Ok (record { attributed = a; final = final })) is,
+        record {
+          merged = merged;
+          profile = profile;
+          database = database;
+          lines = lines ∙ counted_is each period harts final ccts samples counts many all ∙ ap (λ (b : Attributed). run_text period b.harts final b.samples) (sym same);
+          samples = count ∙ all ∙ ap (λ (b : Attributed). length b.samples) (sym same);
+          retired = retired;
+        },
+      )
 
-    all_table : (a : Attributed) (m : Merged) → IsMergeOf by period a m → IsTrue by.whole → content_table m.content ≡ top_down period a.harts a.naming (call_paths_of a)
-    all_table a m is all_merged = is.table ∙ tables period a.harts a.naming (named_paths m.crew.stripes) (call_paths_of a) (is.paths all_merged)
+-- ---- what is made of it
 
-    -- database and table alone
-    pub attribution_is : (samples : List HartRaw) (m : Merged) (made : Prepared) → Merges by period (Ok m) (attributed harts naming expand samples) → IsTrue by.whole → made.stored ≡ spelling m.content → made.text ≡ content_table m.content
-        → attribution_or period (attributed harts naming expand samples) ≡ Ok (ready made)
-    attribution_is samples m made (a, is, merged) all_merged stored text =
-        let s : made.stored ≡ spelling (content_of period a.harts a.naming (call_paths_of a)) = stored ∙ ap spelling (all_content a m merged all_merged) in
-        let t : made.text ≡ top_down period a.harts a.naming (call_paths_of a) = text ∙ all_table a m merged all_merged in
-        let product : attribution_of period a ≡ ready made = (λ i. record { stored = sym s i; text = sym t i }) in
-        ap (λ (r : Result Attributed InputFault). attribution_or period r) is ∙ ap Ok product
+module _ (by : Merging) (period : ℕ) (contents : ContentsAlike) (tables : TablesAlike) where
+  pub all_content : (a : Attributed) (m : Merged) → IsMergeOf by period a m → IsTrue by.whole → m.content ≡ content_of period a.harts a.naming (call_paths_of a)
+  all_content a m is all_merged = is.content ∙ contents period a.harts a.naming (named_paths m.crew.stripes) (call_paths_of a) (is.paths all_merged)
 
-    -- and the lines on the run before the table
-    module _ (final : MachineState) (ccts : List (List Counted)) (samples : List HartRaw) (counts : ccts ≡ distinct harts samples) (each : EachCounted) (many : length ccts ≡ harts) (all : samples_in ccts ≡ length samples) where
-      text_is : (a : Attributed) (text table wanted : List ℕ) → a ≡ whole_of samples → text ≡ counted_text period ccts final ++ table → table ≡ wanted → text ≡ run_text period a.harts final a.samples ++ wanted
-      text_is a text table wanted same is table_is =
-          is ∙ ap (λ (l : List ℕ). l ++ table) (counted_is each period harts final ccts samples counts many all)
-          ∙ ap (λ (b : Attributed). run_text period b.harts final b.samples ++ table) (sym same)
-          ∙ ap (λ (l : List ℕ). run_text period a.harts final a.samples ++ l) table_is
+  all_table : (a : Attributed) (m : Merged) → IsMergeOf by period a m → IsTrue by.whole → content_table m.content ≡ top_down period a.harts a.naming (call_paths_of a)
+  all_table a m is all_merged = is.table ∙ tables period a.harts a.naming (named_paths m.crew.stripes) (call_paths_of a) (is.paths all_merged)
 
-      pub made_is : (m : Merged) (made : Made) → Merges by period (Ok m) (attributed harts naming expand samples) → made.database ≡ spelling m.content → made.report ≡ counted_text period ccts final ++ content_table m.content → made.crew ≡ m.crew
-          → Makes by period (Ok made) (profiled harts naming expand final samples)
-      made_is m made (a, is, merged) database report crew =
-          let p : Profiled = record { attributed = a; final = final } in
-          let same = attributed_as harts naming expand samples a is in
-          let named : List HartPath = named_paths made.crew.stripes in
-          let here : IsMergeOf by period a (record { content = m.content; crew = made.crew }) = subst (λ (c : Crew). IsMergeOf by period a (record { content = m.content; crew = c })) (sym crew) merged in
-          let stored : made.database ≡ spelling (content_of period a.harts a.naming named) = database ∙ ap spelling here.content in
-          let printed : made.report ≡ run_text period a.harts final a.samples ++ top_down period a.harts a.naming named = text_is a made.report (content_table m.content) (top_down period a.harts a.naming named) same report here.table in (
-            p,
-            ap (λ (r : Result Attributed InputFault). r >>= λ a. Ok (record { attributed = a; final = final })) is,
-            record {
-              gives = here.gives;
-              plan = here.plan;
-              product = λ i. record { stored = stored i; text = printed i };
-              crew = here.crew;
-              whole = λ all_merged.
-                  let s : made.database ≡ spelling (content_of period a.harts a.naming (call_paths_of a)) = database ∙ ap spelling (all_content a (record { content = m.content; crew = made.crew }) here all_merged) in
-                  let t : made.report ≡ run_text period a.harts final a.samples ++ top_down period a.harts a.naming (call_paths_of a) =
-                  text_is a made.report (content_table m.content) (top_down period a.harts a.naming (call_paths_of a)) same report (all_table a (record { content = m.content; crew = made.crew }) here all_merged) in
-                  λ i. record { stored = s i; text = t i };
-            },
-          )
+  -- database and table alone
+  pub attribution_is : (wanted : Result Attributed InputFault) (m : Merged) (made : Prepared) → Merges by period (Ok m) wanted → IsTrue by.whole → made.stored ≡ spelling m.content → made.text ≡ content_table m.content
+      → attribution_or period wanted ≡ Ok (ready made)
+  attribution_is wanted m made (a, is, merged) all_merged stored text =
+      let s : made.stored ≡ spelling (content_of period a.harts a.naming (call_paths_of a)) = stored ∙ ap spelling (all_content a m merged all_merged) in
+      let t : made.text ≡ top_down period a.harts a.naming (call_paths_of a) = text ∙ all_table a m merged all_merged in
+      let product : attribution_of period a ≡ ready made = (λ i. record { stored = sym s i; text = sym t i }) in
+      ap (λ (r : Result Attributed InputFault). attribution_or period r) is ∙ ap Ok product
+
+  -- and the lines on the run before the table
+  made_is : (p : Profiled) (run : RunProfile) (made : Made) → IsProfileOf by period p run → IsMadeBy run made → IsMadeOf by period p made
+  made_is p run made is parts =
+      let a : Attributed = p.attributed in
+      let m : Merged = record { content = run.merged.content; crew = made.crew } in
+      let named : List HartPath = named_paths made.crew.stripes in
+      let here : IsMergeOf by period a m = subst (λ (c : Crew). IsMergeOf by period a (record { content = run.merged.content; crew = c })) (sym parts.crew) is.merged in
+      let lines = is.lines in
+      record {
+        gives = here.gives;
+        plan = here.plan;
+        product =
+            let s : made.database ≡ spelling (content_of period a.harts a.naming named) = parts.database ∙ is.database ∙ ap spelling here.content in
+            let table = here.table in
+            let t : made.report ≡ lines_of period p ++ top_down period a.harts a.naming named = parts.report ∙ (λ i. lines i ++ table i) in
+            λ i. record { stored = s i; text = t i };
+        crew = here.crew;
+        whole = λ all_merged.
+            let s : made.database ≡ spelling (content_of period a.harts a.naming (call_paths_of a)) = parts.database ∙ is.database ∙ ap spelling (all_content a m here all_merged) in
+            let table = all_table a m here all_merged in
+            let t : made.report ≡ lines_of period p ++ top_down period a.harts a.naming (call_paths_of a) = parts.report ∙ (λ i. lines i ++ table i) in
+            λ i. record { stored = s i; text = t i };
+      }
+
+  pub makes : (wanted : Result Profiled InputFault) (run : RunProfile) (made : Made) → Profiles by period (Ok run) wanted → IsMadeBy run made → MakesBy by period (Ok made) wanted
+  makes wanted run made (p, is, profile) parts = (p, is, made_is p run made profile parts)
 
 -- a refusal stays one
 pub refused_profile : (harts : ℕ) (naming : Naming) (expand : Raw → List Scope) (final : MachineState) (samples : List HartRaw) (fail : Fail InputFault) → FailsBy fail (attributed harts naming expand samples) → FailsBy fail (profiled harts naming expand final samples)
@@ -233,18 +249,18 @@ module _ (merging : Merging) (path_of : Paths) (period harts : ℕ) (expand : Ra
   refused_run (fails.Fault fault) many = in_steps ∙ ap (then_scopes (to_come old.machine).final) many
   refused_run (fails.Memory memory) many = tt
 
-  pub whole_run : (ccts : List (List Counted)) (new : Sampling) (final : MachineState) (result : Result Made (Fail InputFault)) → AllCounted path_of harts ccts old new → final ≡ new.machine.state
-      → Makes merging period result (profiled harts naming expand final (raws_to_come path_of old)) → Makes merging period result (profiled_run path_of period harts expand naming (to_come old.machine))
+  pub whole_run : (ccts : List (List Counted)) (new : Sampling) (final : MachineState) (result : Result RunProfile (Fail InputFault)) → AllCounted path_of harts ccts old new → final ≡ new.machine.state
+      → Profiles merging period result (profiled harts naming expand final (raws_to_come path_of old)) → Profiles merging period result (profiled_run path_of period harts expand naming (to_come old.machine))
   whole_run ccts new final result counted at makes =
-      subst (Makes merging period result)
+      subst (Profiles merging period result)
       (ap (λ (m : MachineState). profiled harts naming expand m (raws_to_come path_of old)) (at ∙ counted.ended)
       ∙ sym (in_steps ∙ ap (then_scopes (to_come old.machine).final) counted.few)) makes
 
-  pub counted_run : (ccts : List (List Counted)) (new : Sampling) (final : MachineState) (result : Result Made (Fail InputFault)) → AllCounted path_of harts ccts old new → final ≡ new.machine.state → length ccts ≡ harts
-      → ((samples : List HartRaw) → ccts ≡ distinct (length ccts) samples → samples_in ccts ≡ length samples → All (λ s. s.hart < length ccts) samples → Makes merging period result (profiled (length ccts) naming expand final samples))
-      → Makes merging period result (profiled_run path_of period harts expand naming (to_come old.machine))
+  pub counted_run : (ccts : List (List Counted)) (new : Sampling) (final : MachineState) (result : Result RunProfile (Fail InputFault)) → AllCounted path_of harts ccts old new → final ≡ new.machine.state → length ccts ≡ harts
+      → ((samples : List HartRaw) → ccts ≡ distinct (length ccts) samples → samples_in ccts ≡ length samples → All (λ s. s.hart < length ccts) samples → Profiles merging period result (profiled (length ccts) naming expand final samples))
+      → Profiles merging period result (profiled_run path_of period harts expand naming (to_come old.machine))
   counted_run ccts new final result counted at long makes =
       let raws : List HartRaw = raws_to_come path_of old in
       let are : ccts ≡ distinct (length ccts) raws = counted.counts ∙ ap (λ (n : ℕ). distinct n raws) (sym long) in
       let own : All (λ s. s.hart < length ccts) raws = subst (λ (n : ℕ). All (λ s. s.hart < n) raws) (sym long) counted.of_harts in
-      whole_run ccts new final result counted at (subst (λ (n : ℕ). Makes merging period result (profiled n naming expand final raws)) long (makes raws are counted.all own))
+      whole_run ccts new final result counted at (subst (λ (n : ℕ). Profiles merging period result (profiled n naming expand final raws)) long (makes raws are counted.all own))

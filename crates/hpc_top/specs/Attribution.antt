@@ -20,7 +20,7 @@ use Rattle.hpc_top.specs.declared.status.InputFault.{InputFault}
 use Rattle.hpc_top.specs.declared.status.InputFault.TheVariants.{Measurement, WrongProgram}
 use Rattle.hpc_top.specs.Product.{Product}
 use Rattle.hpc_top.specs.Program.{program}
-use Rattle.hpc_top.specs.Samples.{sample_path, few_scopes}
+use Rattle.hpc_top.specs.Samples.{sample_path, within_scopes}
 use Rattle.hpc_top.specs.Scopes.{program_scopes}
 
 -- ---- samples that are attributed
@@ -35,7 +35,7 @@ pub record Attributed : Type 0 where
 -- samples, unless these have too many scopes
 abbrev pub attributed : ℕ → Naming → (Raw → List Scope) → List HartRaw → Result Attributed InputFault
 attributed harts naming expand samples = do
-  samples ← few_scopes expand harts samples
+  samples ← within_scopes expand harts samples
   Ok (record { harts = harts; naming = naming; expand = expand; samples = samples })
 
 -- the call paths of the samples

@@ -1,13 +1,15 @@
 -- What follows from the table of answers, one sentence each, for readers and callers.
-use Rattle.std.specs.Prelude.{◌≡◌, Option, Some, Err, IsTrue, IsNone, IsOk, IsSomeAnd}
-use Rattle.prof_devices.specs.Outside.{Rose}
+use Rattle.std.specs.Prelude.{◌≡◌, ℕ, Option, Some, Ok, Err, IsTrue, IsNone, IsOk, IsSomeAnd}
+use Rattle.prof_devices.specs.Outside.{Rose, Appends}
 use Rattle.hpc_top.specs.declared.status.InputFault.{InputFault}
 use Rattle.hpc_top.specs.declared.status.Status.{Status}
 use Rattle.hpc_top.specs.declared.status.Status.TheVariants.{Done, Usage, Input, Device, Memory}
 use Rattle.hpc_top.specs.declared.status.Place.TheVariants.{Read, Store, Print}
-use Rattle.hpc_top.specs.Words.{Request}
+use Rattle.hpc_top.specs.Words.{Request, DrillWords, Drill}
 use Rattle.hpc_top.specs.Task.{task_of, verdict}
 use Rattle.hpc_top.specs.Outcome.{Call, Makes, Finished}
+use Rattle.hpc_top.specs.Product.{Product}
+use Rattle.hpc_top.specs.Drill.{drill_product}
 
 -- the answers to an invalid command line
 abbrev pub IsUsage : Status → Type 0
@@ -41,9 +43,19 @@ pub record NothingFailed (call : Call) : Type 0 where
   pub stores : ¬ Rose call.before.shelf.stores.count call.after.shelf.stores.count
   pub puts : ¬ Rose call.before.out.faults call.after.out.faults
 
+-- a drill left all files as they were, and the output has grown by the lines of the number's guest
+pub record Drilled (number : ℕ) (call : Call) : Type 0 where
+  pub product : Product
+  pub of_guest : drill_product number ≡ Ok product
+  pub files : call.after.shelf.files ≡ call.before.shelf.files
+  pub out : Appends call.before.out.taken call.after.out.taken product.text
+
 pub record Follows (asked : Option Request) (call : Call) (status : Status) : Type 0 where
   -- the headline: after `Done` the database and the report are the definition's, and all other files are as before
   pub done : status ≡ Done → IsSomeAnd asked (λ request. Makes (task_of request) Finished call)
+  -- after `Done` of a drill its lines were put, which its number alone decides
+  pub drill : (words : DrillWords) → asked ≡ Some (Drill words) → status ≡ Done → IsTrue call.before.shelf.known
+      → IsTrue call.before.out.known → Drilled words.number call
   -- the words alone decide on `Usage`
   pub usage : status ≡ Usage → IsNone asked
   pub invalid : IsNone asked → IsUsage status

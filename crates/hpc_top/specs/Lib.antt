@@ -8,6 +8,8 @@ pub mod Measure
 pub mod Attribution
 pub mod Profile
 pub mod Listed
+pub mod Drill
+pub mod Shown
 pub mod Task
 pub mod Job
 pub mod Outcome
@@ -15,4 +17,5 @@ pub mod Message
 pub mod Follows
 pub mod Made
 pub mod Merged
+pub mod Apart
 pub mod private

@@ -28,9 +28,12 @@ pub record Merging : Type 1 where
   pub whole : Bool
   pub workers : ℕ
 
--- what is made of a run: its crew is one that may come, its stripes are those of the run's plan and fit it, and database
--- and table are those of the pieces that the stripes name. Where crews merge all, the stripes name every piece, and it is
--- the product of the run
+abbrev pub merging : (Crew → Type 0) → Bool → ℕ → Merging
+merging gives whole workers = record { gives = gives; whole = whole; workers = workers }
+
+-- what is made of a run: its crew is one that may come, its stripes are those of the run's plan and fit it, and
+-- database and table are those of the pieces that the stripes name. Where crews merge all, the stripes name every
+-- piece, and it is the product of the run
 pub record IsMadeOf (merging : Merging) (period : ℕ) (p : Profiled) (made : Made) : Type 0 where
   pub gives : merging.gives made.crew
   pub plan : IsOfPlan (run_plan p) made.crew
@@ -39,6 +42,6 @@ pub record IsMadeOf (merging : Merging) (period : ℕ) (p : Profiled) (made : Ma
   pub whole : IsTrue merging.whole → view made ≡ product_of period p
 
 -- what is made of a run that is profiled, or its refusal, unless memory ran out
-abbrev pub Makes : Merging → ℕ → Result Made (Fail InputFault) → Result Profiled InputFault → Type 0
-Makes merging period (Ok made) run = (p : Profiled) × (run ≡ Ok p) × IsMadeOf merging period p made
-Makes merging period (Err fail) run = FailsBy fail run
+abbrev pub MakesBy : Merging → ℕ → Result Made (Fail InputFault) → Result Profiled InputFault → Type 0
+MakesBy merging period (Ok made) run = (p : Profiled) × (run ≡ Ok p) × IsMadeOf merging period p made
+MakesBy merging period (Err fail) run = FailsBy fail run

@@ -14,6 +14,7 @@ use Rattle.hpc_top.specs.declared.status.InputFault.TheVariants.{TooLong, Schedu
 use Rattle.hpc_top.specs.declared.status.InputFault.TheVariants.{Entries, Lines, Structure}
 use Rattle.hpc_top.specs.declared.status.InputFault.TheVariants.{TooManySamples, TooManyFrames, TooManyScopes}
 use Rattle.hpc_top.specs.declared.status.InputFault.TheVariants.{Measurement, WrongProgram}
+use Rattle.hpc_top.specs.declared.status.InputFault.TheVariants.{Database}
 use Rattle.hpc_top.specs.declared.status.Place.{Place}
 use Rattle.hpc_top.specs.declared.status.Place.TheVariants.{Read, Store, Print}
 use Rattle.hpc_top.specs.declared.status.Status.{Status}
@@ -24,6 +25,7 @@ file_text kinds.Program = codes "program"
 file_text kinds.Input = codes "input"
 file_text kinds.Schedule = codes "schedule"
 file_text kinds.Measurement = codes "measurement"
+file_text kinds.Database = codes "database"
 
 abbrev pub rule_text : ElfRule → List ℕ
 rule_text rules.NotElf = codes "NotElf"
@@ -72,13 +74,14 @@ fault_text (Measurement offset) = codes "measurement at " ++ decimal offset
 fault_text (WrongProgram kept_length kept_entry found_length found_entry) =
     codes "measurement of another program: kept " ++ decimal kept_length ++ codes " " ++ decimal kept_entry
     ++ codes " found " ++ decimal found_length ++ codes " " ++ decimal found_entry
+fault_text (Database offset rule) = codes "database rule " ++ decimal rule ++ codes " at " ++ decimal offset
 
 abbrev pub place_text : Place → List ℕ
 place_text Read = codes "device read"
 place_text Store = codes "device store"
 place_text Print = codes "device print"
 
--- all commands with their words, also those that are not built yet
+-- all commands with their words
 abbrev pub usage_text : List ℕ
 usage_text =
     codes "usage: hpc profile ELF INPUT SCHEDULE PERIOD WORKERS DB | run ELF INPUT SCHEDULE PERIOD MEASURE"

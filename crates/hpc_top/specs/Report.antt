@@ -37,8 +37,8 @@ total_line harts period samples =
     ++ codes " samples " ++ decimal samples ++ codes " total " ++ decimal (period * samples) ++ codes "\n"
 
 -- how many of the samples are a hart's
-abbrev pub samples_of : List HartRaw → ℕ → ℕ
-samples_of samples hart = count_by (λ s. s.hart == hart) samples
+abbrev pub samples_by_hart : List HartRaw → ℕ → ℕ
+samples_by_hart samples hart = count_by (λ s. s.hart == hart) samples
 
 -- what a hart did: the instructions that it retired, its samples, and how it stands at the end
 abbrev pub hart_line : MachineState → ℕ → ℕ → List ℕ
@@ -54,4 +54,4 @@ hart_lines harts final samples = flat_map (λ hart. hart_line final (samples har
 -- the guest's output, the totals, and a line for each hart
 abbrev pub run_text : ℕ → ℕ → MachineState → List HartRaw → List ℕ
 run_text period harts final samples =
-    closed final.output ++ total_line harts period (length samples) ++ hart_lines harts final (samples_of samples)
+    closed final.output ++ total_line harts period (length samples) ++ hart_lines harts final (samples_by_hart samples)

@@ -34,8 +34,8 @@ few_samples harts all = do
   within_samples all
 
 -- the third limit: too many scopes of the call paths of distinct raw paths
-abbrev pub few_scopes : (Raw → List Scope) → ℕ → List HartRaw → Result (List HartRaw) InputFault
-few_scopes expand harts all =
+abbrev pub within_scopes : (Raw → List Scope) → ℕ → List HartRaw → Result (List HartRaw) InputFault
+within_scopes expand harts all =
     if nat_lt most_path_scopes (scopes_in expand (distinct harts all)) then Err TooManyScopes else Ok all
 
 -- a sample as its hart and its raw path

@@ -6,12 +6,15 @@ use Rattle.hpc_top.specs.declared.status.FileKind.{FileKind}
 use Rattle.hpc_top.specs.declared.status.FileKind.TheVariants as kinds
 use Rattle.hpc_top.specs.declared.status.InputFault.{InputFault}
 use Rattle.hpc_top.specs.declared.status.InputFault.TheVariants.{TooLong}
-use Rattle.hpc_top.specs.Words.{ProfileWords, RunWords, ProfWords, Request, Profile, Run, Prof, Struct}
+use Rattle.hpc_top.specs.Words.{ProfileWords, RunWords, ProfWords, Request, Profile, Run, Prof, Struct, Drill}
+use Rattle.hpc_top.specs.Words.{ViewTable, ViewWords, View}
 use Rattle.hpc_top.specs.Product.{Product, no_product}
 use Rattle.hpc_top.specs.Profile.{profile_of}
 use Rattle.hpc_top.specs.Measure.{run_product}
 use Rattle.hpc_top.specs.Attribution.{prof_product}
 use Rattle.hpc_top.specs.Listed.{struct_product}
+use Rattle.hpc_top.specs.Shown.{view_product}
+use Rattle.hpc_top.specs.Drill.{drill_product}
 
 -- a file to be fetched, and the most bytes that it may have
 pub record Wanted : Type 0 where
@@ -57,6 +60,9 @@ schedule_limit = 4194304
 abbrev pub measurement_limit : ℕ
 measurement_limit = 33554432
 
+abbrev pub database_limit : ℕ
+database_limit = 2147483648
+
 abbrev pub program_file : List ℕ → Wanted
 program_file name = record { file = kinds.Program; name = name; limit = program_limit }
 
@@ -69,6 +75,9 @@ schedule_file name = record { file = kinds.Schedule; name = name; limit = schedu
 abbrev pub measurement_file : List ℕ → Wanted
 measurement_file name = record { file = kinds.Measurement; name = name; limit = measurement_limit }
 
+abbrev pub database_file : List ℕ → Wanted
+database_file name = record { file = kinds.Database; name = name; limit = database_limit }
+
 abbrev pub profile_files : ProfileWords → List Wanted
 profile_files words = program_file words.elf ∷ input_file words.input ∷ schedule_file words.schedule ∷ []
 
@@ -80,6 +89,9 @@ prof_files words = program_file words.elf ∷ measurement_file words.measurement
 
 abbrev pub struct_files : List ℕ → List Wanted
 struct_files elf = program_file elf ∷ []
+
+abbrev pub view_files : ViewWords → List Wanted
+view_files words = database_file words.database ∷ []
 
 -- ---- what is made of them: their contents come in the order in which they are wanted, and in no other number
 
@@ -99,6 +111,14 @@ abbrev pub struct_makes : List (List ℕ) → Result Product InputFault
 struct_makes (elf ∷ []) = struct_product elf
 struct_makes texts = Ok no_product
 
+abbrev pub view_makes : ViewTable → List (List ℕ) → Result Product InputFault
+view_makes table (database ∷ []) = view_product table database
+view_makes table texts = Ok no_product
+
+abbrev pub drill_makes : ℕ → List (List ℕ) → Result Product InputFault
+drill_makes number [] = drill_product number
+drill_makes number texts = Ok no_product
+
 abbrev pub task_of : Request → Task
 task_of (Profile words) =
     record { wants = profile_files words; stores = Some words.database; makes = profile_makes words.period }
@@ -107,3 +127,5 @@ task_of (Run words) =
 task_of (Prof words) =
     record { wants = prof_files words; stores = Some words.database; makes = prof_makes }
 task_of (Struct elf) = record { wants = struct_files elf; stores = None; makes = struct_makes }
+task_of (View words) = record { wants = view_files words; stores = None; makes = view_makes words.table }
+task_of (Drill words) = record { wants = []; stores = None; makes = drill_makes words.number }

@@ -29,12 +29,30 @@ pub record ProfWords : Type 0 where
   pub workers : ℕ
   pub database : List ℕ
 
+-- the tables of a database: top-down, of callers, and flat
+pub data ViewTable : Type 0 where
+  Top : ViewTable
+  Callers : ViewTable
+  Flat : ViewTable
+
+-- the words of `view DB top`, `view DB callers` and `view DB flat`
+pub record ViewWords : Type 0 where
+  pub database : List ℕ
+  pub table : ViewTable
+
+-- the words of `drill NUMBER WORKERS`
+pub record DrillWords : Type 0 where
+  pub number : ℕ
+  pub workers : ℕ
+
 -- a command with its words; `struct ELF` has the program's name alone
 pub data Request : Type 0 where
   Profile : ProfileWords → Request
   Run : RunWords → Request
   Prof : ProfWords → Request
   Struct : List ℕ → Request
+  View : ViewWords → Request
+  Drill : DrillWords → Request
 
 -- a file's name is any word that is not empty
 abbrev pub is_file_name : List ℕ → Bool
@@ -46,6 +64,10 @@ most_period = 4294967295
 
 abbrev pub most_workers : ℕ
 most_workers = 16
+
+-- the largest number of a guest
+abbrev pub most_number : ℕ
+most_number = 4294967295
 
 -- what is made of two numbers, where both are there
 abbrev pub of_both : {X : Type 0} → (ℕ → ℕ → X) → Option ℕ → Option ℕ → Option X
@@ -97,8 +119,29 @@ abbrev pub struct_words : List (List ℕ) → Option (List ℕ)
 struct_words (elf ∷ []) = if is_file_name elf then Some elf else None
 struct_words words = None
 
+abbrev pub drill_words : List (List ℕ) → Option DrillWords
+drill_words (number ∷ workers ∷ []) =
+    of_both (λ number workers. record { number = number; workers = workers })
+    (decimal_in 0 most_number number) (decimal_in 1 most_workers workers)
+drill_words words = None
+
 abbrev pub is_word : List ℕ → List ℕ → Bool
 is_word word name = pointwise nat_eq word name
+
+-- the table of this name
+abbrev pub table_named : List ℕ → Option ViewTable
+table_named word =
+    if is_word word (codes "top") then Some Top
+    else if is_word word (codes "callers") then Some Callers
+    else if is_word word (codes "flat") then Some Flat
+    else None
+
+abbrev pub view_words : List (List ℕ) → Option ViewWords
+view_words (database ∷ table ∷ []) =
+    if is_file_name database
+    then option_map (λ table. record { database = database; table = table }) (table_named table)
+    else None
+view_words words = None
 
 -- what the words ask for. `None`: the command line is invalid
 abbrev pub request_of : List (List ℕ) → Option Request
@@ -108,4 +151,6 @@ request_of (word ∷ rest) =
     else if is_word word (codes "run") then option_map Run (run_words rest)
     else if is_word word (codes "prof") then option_map Prof (prof_words rest)
     else if is_word word (codes "struct") then option_map Struct (struct_words rest)
+    else if is_word word (codes "view") then option_map View (view_words rest)
+    else if is_word word (codes "drill") then option_map Drill (drill_words rest)
     else None

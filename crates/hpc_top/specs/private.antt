@@ -4,4 +4,5 @@ pub mod Views
 pub mod Steps
 pub mod Collecting
 pub mod Merging
+pub mod Running
 pub mod Measuring

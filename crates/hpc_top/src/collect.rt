@@ -18,7 +18,7 @@ use std::alloc::Global;
 use thread_cct::{Ccts, samples_are_counted};
 
 /// The samples of a program's run under a schedule, from its start.
-pub fn samples_of<'a>(
+pub fn start_samples<'a>(
     alloc: Global,
     image: &Image<'a>,
     schedule: Schedule,

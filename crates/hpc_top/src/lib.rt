@@ -2,13 +2,15 @@
 //!
 //! It promises that what `profile` stores and prints is byte for byte what the definitions make of the
 //! files, that each refusal comes exactly where they have it, and what stands after every other
-//! answer. Below stand the crates for files and streams, programs and their debug information, the machine
-//! and its samples, scopes and the tree.
+//! answer. Below stand the crates for files and streams, programs and their debug information, guests of numbers, the
+//! machine and its samples, scopes and the tree.
 #![tactic(auto)]
 
 mod attribution;
 mod call;
 mod collect;
+mod drill;
+mod laws;
 mod listed;
 mod main_job;
 mod measure;
@@ -18,12 +20,15 @@ mod prepare;
 mod program;
 mod report;
 mod request;
+mod run_profile;
 mod scopes;
+mod shown;
 mod status;
 mod steps;
 mod words;
 
 pub use call::hpc_main;
+pub use laws::profile_is_run_then_prof;
 pub use main_job::{Job, profile};
 pub use message::out_of_memory;
 pub use status::{FileKind, InputFault, Made, Place, Status};

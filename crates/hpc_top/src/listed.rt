@@ -14,7 +14,7 @@ use std::alloc::Global;
 use struct_listing::listing;
 
 /// A text that is put; nothing is stored.
-fn text_alone(alloc: Global, text: Text) -> Prepared
+pub fn text_alone(alloc: Global, text: Text) -> Prepared
     ensures { ready result ≡ only_text text }
 {
     Prepared {

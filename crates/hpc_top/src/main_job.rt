@@ -1,5 +1,5 @@
 //! The main job over bytes: a program, its input and a schedule to a database and a report.
-ghost use Rattle.std.specs.Prelude.{◌≡◌, ◌≤◌, ◌<◌, All, List, length, Ok, IsTrue};
+ghost use Rattle.std.specs.Prelude.{◌≡◌, ◌≤◌, ◌<◌, All, IfOk, List, length, Ok, IsTrue};
 ghost use Rattle.prof_bytes.specs.Outcome.{Gives};
 ghost use Rattle.scope_types.specs.Distinct.{HartRaw, distinct, samples_in};
 ghost use Rattle.scope_types.specs.Expansion.{call_path};
@@ -9,15 +9,18 @@ ghost use Rattle.rv_run.specs.Progress.{to_come};
 ghost use Rattle.cfi_unwind.specs.Path.{path_of as unwound_by};
 ghost use Rattle.hpc_top.specs.Job.{IsJob};
 ghost use Rattle.hpc_top.specs.Made.{view};
-ghost use Rattle.hpc_top.specs.Merged.{Makes};
 ghost use Rattle.hpc_top.specs.Profile.{profile_of, profiled_code, profiled_of, profiled_program, profiled_run};
 ghost use Rattle.hpc_top.specs.Program.{program, scheduled};
-ghost use Rattle.hpc_top.specs.private.Merging.{merging, profiled};
+ghost use Rattle.hpc_top.specs.Merged.{MakesBy, merging};
+ghost use Rattle.hpc_top.specs.private.Merging.{profiled};
+ghost use Rattle.hpc_top.specs.private.Running.{IsMadeBy, Profiles};
+ghost use Rattle.tree_types.specs.OfContent.{IsProfile};
 
-use crate::collect::{collect, samples_of};
+use crate::collect::{collect, start_samples};
 use crate::merged::{Merge, Merged, merge_samples};
 use crate::program::{frames_of, program_of, schedule_of};
-use crate::report::report;
+use crate::report::{all_samples, report, run_report};
+use crate::run_profile::{RunProfile, all_retired};
 use crate::scopes::{info_of, lines_of, structure_of};
 use crate::status::{InputFault, Made};
 use cfi_table::FrameTable;
@@ -26,7 +29,7 @@ use dwarf_inline::Structure;
 use dwarf_line::LineTable;
 use elf_image::Image;
 use merge_crew::Crews;
-use prof_bytes::Fail;
+use prof_bytes::{Fail, Memory};
 use prof_db::{profiles_are_writable, write_db};
 use rv_run::{Machine, Schedule};
 use sample_clock::Samples;
@@ -55,27 +58,27 @@ fn profile_counted<R: Threads + Sync, C: Crews>(
     finder: &Finder<'_>,
     ccts: &Ccts,
     machine: &Machine<'_>,
-) -> Result<Made, Fail<InputFault>>
+) -> Result<RunProfile, Fail<InputFault>>
     requires period { 0 < merge.now.period }
     requires workers { (1 ≤ merge.now.workers) × (merge.now.workers ≤ 16) }
     requires harts { length ccts.now ≡ length machine.now.state.harts }
     ensures { (samples : List HartRaw) → ccts.now ≡ distinct (length ccts.now) samples
         → samples_in ccts.now ≡ length samples → All (λ s. s.hart < length ccts.now) samples
-        → Makes (merging (C.gives merge.now.crews.now) (C.whole merge.now.crews.now) merge.now.workers)
+        → Profiles (merging (C.gives merge.now.crews.now) (C.whole merge.now.crews.now) merge.now.workers)
         merge.now.period result
         (profiled (length ccts.now) (naming_of finder.now) (call_path (found_at finder.now)) machine.now.state samples) }
 {
-    counts_decide();
     samples_are_counted();
     profiles_are_writable();
     let merged = merge_samples(rt, alloc, merge, finder, ccts)?;
-    let report = report(alloc, merge.period, &merged.content, ccts, machine)?;
+    let lines = run_report(alloc, merge.period, ccts, machine)?;
     let database = write_db(alloc, &merged.content)?;
-    let Merged { crew, .. } = merged;
-    Ok(Made {
+    Ok(RunProfile {
+        merged,
         database,
-        report,
-        crew,
+        lines,
+        samples: all_samples(ccts),
+        retired: all_retired(ccts.harts(), machine),
     })
 }
 
@@ -89,14 +92,14 @@ fn profile_samples<R: Threads + Sync, C: Crews>(
     finder: &Finder<'_>,
     unwinder: &Unwinder<'_>,
     samples: &mut Samples<'_>,
-) -> Result<Made, Fail<InputFault>>
+) -> Result<RunProfile, Fail<InputFault>>
     requires some { 0 < merge.now.period }
     requires workers { (1 ≤ merge.now.workers) × (merge.now.workers ≤ 16) }
     requires period { merge.now.period ≡ samples.old.period }
     requires harts { harts ≡ length (to_come samples.old.machine).final.harts }
     requires instants { All (λ i. i.moment.hart < harts) (to_come samples.old.machine).instants }
     requires start { samples.old.met ≡ 0 }
-    ensures { Makes (merging (C.gives merge.now.crews.now) (C.whole merge.now.crews.now) merge.now.workers)
+    ensures { Profiles (merging (C.gives merge.now.crews.now) (C.whole merge.now.crews.now) merge.now.workers)
         merge.now.period result
         (profiled_run (unwound_by unwinder.now) merge.now.period harts (call_path (found_at finder.now))
         (naming_of finder.now) (to_come samples.old.machine)) }
@@ -116,15 +119,15 @@ fn run_job<R: Threads + Sync, C: Crews>(
     finder: &Finder<'_>,
     unwinder: &Unwinder<'_>,
     schedule: Schedule,
-) -> Result<Made, Fail<InputFault>>
+) -> Result<RunProfile, Fail<InputFault>>
     requires job { IsJob job.now }
-    ensures { Makes (merging (C.gives crews.now) (C.whole crews.now) job.now.workers) job.now.period
+    ensures { Profiles (merging (C.gives crews.now) (C.whole crews.now) job.now.workers) job.now.period
         result
         (profiled_run (unwound_by unwinder.now) job.now.period schedule.harts (call_path (found_at finder.now))
         (naming_of finder.now) (run_of image.now schedule job.now.input.now)) }
 {
     let harts = schedule.harts();
-    let mut samples = samples_of(alloc, image, schedule, job.input, job.period)?;
+    let mut samples = start_samples(alloc, image, schedule, job.input, job.period)?;
     let merge = Merge {
         crews,
         workers: job.workers,
@@ -145,9 +148,9 @@ fn profile_scopes<R: Threads + Sync, C: Crews>(
     table: &FrameTable,
     lines: &LineTable<'_>,
     structure: &Structure<'_>,
-) -> Result<Made, Fail<InputFault>>
+) -> Result<RunProfile, Fail<InputFault>>
     requires job { IsJob job.now }
-    ensures { Makes (merging (C.gives crews.now) (C.whole crews.now) job.now.workers) job.now.period
+    ensures { Profiles (merging (C.gives crews.now) (C.whole crews.now) job.now.workers) job.now.period
         result
         (profiled_program table.now (record { structure = structure.now; lines = lines.now; image = image.now })
         schedule job.now.input.now job.now.period) }
@@ -168,9 +171,9 @@ fn profile_code<R: Threads + Sync, C: Crews>(
     schedule: Schedule,
     image: &Image<'_>,
     table: &FrameTable,
-) -> Result<Made, Fail<InputFault>>
+) -> Result<RunProfile, Fail<InputFault>>
     requires job { IsJob job.now }
-    ensures { Makes (merging (C.gives crews.now) (C.whole crews.now) job.now.workers) job.now.period
+    ensures { Profiles (merging (C.gives crews.now) (C.whole crews.now) job.now.workers) job.now.period
         result
         (profiled_code image.now table.now schedule job.now.input.now job.now.period) }
 {
@@ -193,11 +196,11 @@ fn profile_program<R: Threads + Sync, C: Crews>(
     crews: &C,
     schedule: Schedule,
     image: &Image<'_>,
-) -> Result<Made, Fail<InputFault>>
+) -> Result<RunProfile, Fail<InputFault>>
     requires schedule { scheduled job.now.schedule.now ≡ Ok schedule }
     requires program { program job.now.elf.now ≡ Ok image.now }
     requires job { IsJob job.now }
-    ensures { Makes (merging (C.gives crews.now) (C.whole crews.now) job.now.workers) job.now.period
+    ensures { Profiles (merging (C.gives crews.now) (C.whole crews.now) job.now.workers) job.now.period
         result
         (profiled_of job.now.elf.now job.now.input.now job.now.schedule.now job.now.period) }
 {
@@ -205,16 +208,16 @@ fn profile_program<R: Threads + Sync, C: Crews>(
     profile_code(rt, alloc, job, crews, schedule, image, &table)
 }
 
-/// What is made of a job, or the first refusal of its files.
+/// What is profiled of a job, or the first refusal of its files.
 #[tactic(auto, unfolding(crate::specs::Profile::profiled_of))]
-fn make<R: Threads + Sync, C: Crews>(
+pub fn run_profile<R: Threads + Sync, C: Crews>(
     rt: &R,
     alloc: Global,
     job: &Job<'_>,
     crews: &C,
-) -> Result<Made, Fail<InputFault>>
+) -> Result<RunProfile, Fail<InputFault>>
     requires job { IsJob job.now }
-    ensures { Makes (merging (C.gives crews.now) (C.whole crews.now) job.now.workers) job.now.period
+    ensures { Profiles (merging (C.gives crews.now) (C.whole crews.now) job.now.workers) job.now.period
         result
         (profiled_of job.now.elf.now job.now.input.now job.now.schedule.now job.now.period) }
 {
@@ -223,21 +226,42 @@ fn make<R: Threads + Sync, C: Crews>(
     profile_program(rt, alloc, job, crews, schedule, &image)
 }
 
+/// The database, the report and the crew of what was profiled.
+fn made_of(run: RunProfile) -> Result<Made, Memory>
+    requires { IsProfile run.merged.content }
+    ensures { IfOk result (λ made. IsMadeBy run made) }
+{
+    let RunProfile {
+        merged,
+        database,
+        lines,
+        ..
+    } = run;
+    let report = report(lines, &merged.content)?;
+    let Merged { crew, .. } = merged;
+    Ok(Made {
+        database,
+        report,
+        crew,
+    })
+}
+
 /// The database and the report of a job and the crew that merged it, or the first refusal of its files. The crew is one
 /// that `crews` gives, its stripes are those of the job's plan, and the database and the report's table are of the pieces
 /// that they name. Where `crews` merges all, database and report are the job's.
-#[tactic(auto, using(crate::proofs::Products::whole_product))]
 pub fn profile<R: Threads + Sync + AllocGlobal, C: Crews>(
     rt: &R,
     job: &Job<'_>,
     crews: &C,
 ) -> Result<Made, Fail<InputFault>>
     requires job { IsJob job.now }
-    ensures merged { Makes (merging (C.gives crews.now) (C.whole crews.now) job.now.workers) job.now.period
+    ensures merged { MakesBy (merging (C.gives crews.now) (C.whole crews.now) job.now.workers) job.now.period
         result
         (profiled_of job.now.elf.now job.now.input.now job.now.schedule.now job.now.period) }
     ensures whole { IsTrue (C.whole crews.now) → Gives view result
         (profile_of job.now.elf.now job.now.input.now job.now.schedule.now job.now.period) }
 {
-    make(rt, rt.alloc(), job, crews)
+    counts_decide();
+    let run = run_profile(rt, rt.alloc(), job, crews)?;
+    Ok(made_of(run)?)
 }

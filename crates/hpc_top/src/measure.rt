@@ -10,7 +10,7 @@ ghost use Rattle.hpc_top.specs.private.Measuring.{measurement_or};
 ghost use Rattle.hpc_top.specs.private.Merging.{counted_text};
 ghost use Rattle.hpc_top.specs.private.Steps.{ready};
 
-use crate::collect::{collect, samples_of};
+use crate::collect::{collect, start_samples};
 use crate::program::{frames_of, program_of, schedule_of};
 use crate::report::run_report;
 use crate::status::{InputFault, Prepared};
@@ -90,7 +90,7 @@ fn measure_program(
 {
     let harts = schedule.harts();
     let unwinder = Unwinder::of(alloc, table, image);
-    let mut samples = samples_of(alloc, image, schedule, input, period)?;
+    let mut samples = start_samples(alloc, image, schedule, input, period)?;
     measure_samples(alloc, image, period, harts, &unwinder, &mut samples)
 }
 

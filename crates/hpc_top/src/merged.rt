@@ -10,7 +10,8 @@ ghost use Rattle.tree_types.specs.Database.{content_of};
 ghost use Rattle.tree_types.specs.OfContent.{IsProfile, content_table};
 ghost use Rattle.tree_types.specs.TopDown.{top_down};
 ghost use Rattle.hpc_top.specs.Attribution.{attributed};
-ghost use Rattle.hpc_top.specs.private.Merging.{Merges, few_planned, merging};
+ghost use Rattle.hpc_top.specs.Merged.{merging};
+ghost use Rattle.hpc_top.specs.private.Merging.{Merges, few_planned};
 
 use crate::status::InputFault;
 use merge_crew::{Crew, Crews};

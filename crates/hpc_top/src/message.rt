@@ -22,6 +22,7 @@ impl fmt::Display for FileKind {
             FileKind::Input => write!(f, "input"),
             FileKind::Schedule => write!(f, "schedule"),
             FileKind::Measurement => write!(f, "measurement"),
+            FileKind::Database => write!(f, "database"),
         }
     }
 }
@@ -121,6 +122,9 @@ impl fmt::Display for InputFault {
                 f,
                 "measurement of another program: kept {kept_length} {kept_entry} found {found_length} {found_entry}"
             ),
+            InputFault::Database { offset, rule } => {
+                write!(f, "database rule {rule} at {offset}")
+            }
         }
     }
 }
@@ -144,7 +148,7 @@ fn put_line<E: Sink>(err: &mut E, line: &[u8])
     let _: Put = err.put(line);
 }
 
-/// All commands with their words, also those that are not built yet.
+/// All commands with their words.
 const USAGE: &str =
     "usage: hpc profile ELF INPUT SCHEDULE PERIOD WORKERS DB | run ELF INPUT SCHEDULE PERIOD MEASURE \
      | prof ELF MEASURE WORKERS DB | struct ELF | view DB top|callers|flat | drill NUMBER WORKERS\n";

@@ -1,17 +1,21 @@
 //! What each command makes of its files: the bytes that it stores, and the text that it puts.
 ghost use Rattle.std.specs.Prelude.{◌≡◌, ◌≢◌, [], ◌∷◌, IfNone, IfSome, length, map};
 ghost use Rattle.std.specs.Option.{option_copied};
-ghost use Rattle.hpc_top.specs.Words.{Prof, Profile, Run, Struct};
+ghost use Rattle.hpc_top.specs.Words.{Drill, Prof, Profile, Run, Struct, View};
 ghost use Rattle.hpc_top.specs.Task.{input_file, measurement_file, prof_files, profile_files, program_file, run_files};
 ghost use Rattle.hpc_top.specs.Task.{schedule_file, struct_files, task_of};
+ghost use Rattle.hpc_top.specs.Task.{database_file, view_files};
 ghost use Rattle.hpc_top.specs.private.Steps.{Prepares};
-ghost use Rattle.hpc_top.specs.private.Views.{view_prof, view_profile, view_request, view_run, view_want};
+ghost use Rattle.hpc_top.specs.private.Views.{view_drill, view_prof, view_profile, view_request, view_run, view_view, view_want};
+ghost use Rattle.prof_devices.specs.Outside.{ShelfState};
 
 use crate::attribution::attribute;
+use crate::drill::drill;
 use crate::listed::list_structure;
 use crate::main_job::{Job, profile};
 use crate::measure::measure;
-use crate::request::{ProfWords, ProfileWords, Request, RunWords};
+use crate::request::{DrillWords, ProfWords, ProfileWords, Request, RunWords, ViewWords};
+use crate::shown::show;
 use crate::status::{FileKind, Prepared, Stop, made_ready};
 use crate::steps::{Want, fetch_all};
 use merge_crew::WorkCrew;
@@ -21,7 +25,7 @@ use std::thread::Threads;
 
 // ---- the files
 
-/// The most bytes of a program, an input, a schedule and a measurement.
+/// The most bytes of a program, an input, a schedule, a measurement and a database.
 const PROGRAM_LIMIT: u64 = 67_108_864;
 
 const INPUT_LIMIT: u64 = 1_048_576;
@@ -29,6 +33,8 @@ const INPUT_LIMIT: u64 = 1_048_576;
 const SCHEDULE_LIMIT: u64 = 4_194_304;
 
 const MEASUREMENT_LIMIT: u64 = 33_554_432;
+
+const DATABASE_LIMIT: u64 = 2_147_483_648;
 
 fn program_file(name: &[u8]) -> Want<'_>
     ensures { view_want result ≡ program_file name.now }
@@ -70,6 +76,16 @@ fn measurement_file(name: &[u8]) -> Want<'_>
     }
 }
 
+fn database_file(name: &[u8]) -> Want<'_>
+    ensures { view_want result ≡ database_file name.now }
+{
+    Want {
+        file: FileKind::Database,
+        name,
+        limit: DATABASE_LIMIT,
+    }
+}
+
 /// The files that `profile` fetches, in this order.
 fn profile_wants(words: ProfileWords<'_>) -> [Want<'_>; 3]
     ensures { map view_want result ≡ profile_files (view_profile words.entry) }
@@ -104,6 +120,13 @@ fn struct_wants(elf: &[u8]) -> [Want<'_>; 1]
     ensures { map view_want result ≡ struct_files elf.now }
 {
     [program_file(elf)]
+}
+
+/// The file that `view` fetches.
+fn view_wants(words: ViewWords<'_>) -> [Want<'_>; 1]
+    ensures { map view_want result ≡ view_files (view_view words.entry) }
+{
+    [database_file(words.database)]
 }
 
 /// The text, where there is one.
@@ -221,6 +244,34 @@ fn prepare_struct<R: AllocGlobal, F: Shelf>(
     Ok(list_structure(rt.alloc(), elf)?)
 }
 
+/// What `view` makes of its file.
+fn prepare_view<R: AllocGlobal, F: Shelf>(
+    rt: &R,
+    words: ViewWords<'_>,
+    shelf: &mut F,
+) -> Result<Prepared, Stop>
+    ensures { Prepares (task_of (View (view_view words.entry))) (F.shown shelf.old) (F.shown shelf.new) result }
+{
+    let wants = view_wants(words);
+    let texts = fetch_all(rt.alloc(), shelf, &wants)?;
+    let Some(database) = one(texts.items()) else {
+        unreachable!();
+    };
+    Ok(show(rt.alloc(), words.table, database)?)
+}
+
+/// What `drill` makes, which fetches no file: whatever a shelf shows, it stays as it is.
+#[tactic(auto, using(crate::proofs::Fetching::looked_same))]
+fn prepare_drill<R: Threads + Sync + AllocGlobal, G: Gate>(
+    rt: &R,
+    words: DrillWords,
+    gate: &G,
+) -> Result<Prepared, Stop>
+    ensures { (shelf : ShelfState) → Prepares (task_of (Drill (view_drill words))) shelf shelf result }
+{
+    Ok(drill(rt, words.number, words.workers, &WorkCrew::of(gate))?)
+}
+
 /// What a command makes of its files, or why it stops.
 pub fn prepare<R: Threads + Sync + AllocGlobal, F: Shelf, G: Gate>(
     rt: &R,
@@ -235,6 +286,8 @@ pub fn prepare<R: Threads + Sync + AllocGlobal, F: Shelf, G: Gate>(
         Request::Run(words) => prepare_run(rt, words, shelf),
         Request::Prof(words) => prepare_prof(rt, words, shelf, gate),
         Request::Struct(elf) => prepare_struct(rt, elf, shelf),
+        Request::View(words) => prepare_view(rt, words, shelf),
+        Request::Drill(words) => prepare_drill(rt, words, gate),
     }
 }
 
@@ -246,6 +299,6 @@ pub fn stored_name(request: Request<'_>) -> Option<&[u8]>
         Request::Profile(words) => Some(words.database),
         Request::Run(words) => Some(words.measurement),
         Request::Prof(words) => Some(words.database),
-        Request::Struct(_) => None,
+        Request::Struct(_) | Request::View(_) | Request::Drill(_) => None,
     }
 }

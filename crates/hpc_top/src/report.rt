@@ -27,7 +27,7 @@ fn cause_name(cause: Cause) -> &'static str
     }
 }
 
-fn put_words(out: &mut Vec<u8>, words: &str) -> Result<(), Memory>
+pub fn put_words(out: &mut Vec<u8>, words: &str) -> Result<(), Memory>
     ensures { OnOk result (out.new.items ≡ out.old.items ++ words.now) }
 {
     out.extend_from_slice(words.as_bytes())?;
@@ -35,7 +35,7 @@ fn put_words(out: &mut Vec<u8>, words: &str) -> Result<(), Memory>
 }
 
 /// A word, and a number behind it.
-fn put_count(out: &mut Vec<u8>, word: &str, number: u64) -> Result<(), Memory>
+pub fn put_count(out: &mut Vec<u8>, word: &str, number: u64) -> Result<(), Memory>
     ensures { OnOk result (out.new.items ≡ out.old.items ++ word.now ++ decimal number) }
 {
     put_words(out, word)?;
@@ -123,7 +123,7 @@ fn put_hart_lines(out: &mut Vec<u8>, ccts: &Ccts, machine: &Machine<'_>) -> Resu
 }
 
 /// How many samples all harts have.
-fn all_samples(ccts: &Ccts) -> u64
+pub fn all_samples(ccts: &Ccts) -> u64
     ensures all { result ≡ samples_in ccts.now }
     ensures few { result ≤ most_samples }
 {
@@ -181,20 +181,11 @@ pub fn table(alloc: Global, content: &Content) -> Result<Text, Memory>
 }
 
 /// The report of a profile: the lines on its run, and the content's table.
-pub fn report(
-    alloc: Global,
-    period: u32,
-    content: &Content,
-    ccts: &Ccts,
-    machine: &Machine<'_>,
-) -> Result<Text, Memory>
-    requires profile { IsProfile content.now }
-    requires harts { length ccts.now ≡ length machine.now.state.harts }
-    ensures { IfOk result (λ text.
-        text ≡ counted_text period ccts.now machine.now.state ++ content_table content.now) }
+pub fn report(lines: Text, content: &Content) -> Result<Text, Memory>
+    requires { IsProfile content.now }
+    ensures { IfOk result (λ text. text ≡ lines ++ content_table content.now) }
 {
-    let mut bytes = Vec::new(alloc);
-    put_run(&mut bytes, period, ccts, machine)?;
+    let mut bytes = lines.into_vec();
     put_table(&mut bytes, content)?;
     Ok(Text::from_vec(bytes))
 }

@@ -37,6 +37,30 @@ pub struct ProfWords<'a> {
     pub ghost few_workers: { workers ≤ 16 },
 }
 
+/// The tables that `view` puts.
+#[derive(Clone, Copy)]
+pub enum ViewTable {
+    Top,
+    Callers,
+    Flat,
+}
+
+/// The words of `view DB top`, `view DB callers` and `view DB flat`.
+#[derive(Clone, Copy)]
+pub struct ViewWords<'a> {
+    pub database: &'a [u8],
+    pub table: ViewTable,
+}
+
+/// The words of `drill NUMBER WORKERS`.
+#[derive(Clone, Copy)]
+pub struct DrillWords {
+    pub number: u32,
+    pub workers: u32,
+    pub ghost some_workers: { 0 < workers },
+    pub ghost few_workers: { workers ≤ 16 },
+}
+
 /// A command with its words.
 #[derive(Clone, Copy)]
 pub enum Request<'a> {
@@ -45,4 +69,6 @@ pub enum Request<'a> {
     Prof(ProfWords<'a>),
     /// `struct ELF`: the program.
     Struct(&'a [u8]),
+    View(ViewWords<'a>),
+    Drill(DrillWords),
 }

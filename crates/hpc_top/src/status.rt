@@ -17,6 +17,7 @@ pub enum FileKind {
     Input,
     Schedule,
     Measurement,
+    Database,
 }
 
 /// What is refused in the files, and where.
@@ -66,6 +67,11 @@ pub enum InputFault {
         kept_entry: u32,
         found_length: u32,
         found_entry: u32,
+    },
+    /// The database breaks one of its format's seven rules, from 1 to 7, at an offset in its file.
+    Database {
+        offset: u64,
+        rule: u32,
     },
 }
 

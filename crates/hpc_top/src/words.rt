@@ -2,10 +2,13 @@
 ghost use Rattle.std.specs.Prelude.{◌≡◌, ◌∷◌, []};
 ghost use Rattle.std.specs.List.{list_all};
 ghost use Rattle.std.specs.Option.{option_copied};
-ghost use Rattle.hpc_top.specs.Words.{is_file_name, prof_words, profile_words, request_of, run_words, struct_words};
-ghost use Rattle.hpc_top.specs.private.Views.{view_profiles, view_profs, view_requests, view_runs};
+ghost use Rattle.hpc_top.specs.Words.{drill_words, is_file_name, prof_words, profile_words, request_of, run_words};
+ghost use Rattle.hpc_top.specs.Words.{struct_words, table_named, view_words};
+ghost use Rattle.hpc_top.specs.private.Views.{view_drills, view_profiles, view_profs, view_requests, view_runs, view_tables, view_views};
 
-use crate::request::{ProfWords, ProfileWords, Request, RunWords};
+use crate::request::{
+    DrillWords, ProfWords, ProfileWords, Request, RunWords, ViewTable, ViewWords,
+};
 use prof_bytes::Text;
 use rv_run::decimal;
 
@@ -14,6 +17,9 @@ const MOST_PERIOD: u32 = u32::MAX;
 
 /// The most workers.
 const MOST_WORKERS: u32 = 16;
+
+/// The largest number of a guest.
+const MOST_NUMBER: u32 = u32::MAX;
 
 /// Whether the words can be names of files.
 fn are_file_names(words: &[&Text]) -> bool
@@ -134,6 +140,52 @@ fn read_struct(words: &[Text]) -> Option<&[u8]>
     }
 }
 
+/// The table of this name.
+fn table_of(name: &[u8]) -> Option<ViewTable>
+    ensures { view_tables result ≡ table_named name.now }
+{
+    if name == b"top".as_slice() {
+        return Some(ViewTable::Top);
+    }
+    if name == b"callers".as_slice() {
+        return Some(ViewTable::Callers);
+    }
+    if name == b"flat".as_slice() {
+        return Some(ViewTable::Flat);
+    }
+    None
+}
+
+fn read_view(words: &[Text]) -> Option<ViewWords<'_>>
+    ensures { view_views result ≡ view_words words.now }
+{
+    match words {
+        [database, table] if !database.bytes().is_empty() => Some(ViewWords {
+            database: database.bytes(),
+            table: table_of(table.bytes())?,
+        }),
+        _ => None,
+    }
+}
+
+/// The two numbers of a drill, each from its word; `None` where one is invalid.
+fn drill_named(number: &Text, workers: &Text) -> Option<DrillWords>
+    ensures { view_drills result ≡ drill_words (number.now ∷ workers.now ∷ []) }
+{
+    let number = decimal(number.bytes(), 0, MOST_NUMBER)?;
+    let workers = decimal(workers.bytes(), 1, MOST_WORKERS)?;
+    Some(DrillWords { number, workers })
+}
+
+fn read_drill(words: &[Text]) -> Option<DrillWords>
+    ensures { view_drills result ≡ drill_words words.now }
+{
+    match words {
+        [number, workers] => drill_named(number, workers),
+        _ => None,
+    }
+}
+
 /// What the words ask for; `None` where the command line is invalid.
 pub fn read_words(words: &[Text]) -> Option<Request<'_>>
     ensures { view_requests result ≡ request_of words.now }
@@ -150,6 +202,12 @@ pub fn read_words(words: &[Text]) -> Option<Request<'_>>
         }
         [word, rest @ ..] if word.bytes() == b"struct".as_slice() => {
             Some(Request::Struct(read_struct(rest)?))
+        }
+        [word, rest @ ..] if word.bytes() == b"view".as_slice() => {
+            Some(Request::View(read_view(rest)?))
+        }
+        [word, rest @ ..] if word.bytes() == b"drill".as_slice() => {
+            Some(Request::Drill(read_drill(rest)?))
         }
         _ => None,
     }

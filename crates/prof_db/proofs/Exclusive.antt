@@ -1,8 +1,7 @@
 -- The exclusive values of a profile plane that the sixth rule passes, as the counts of a tree.
-use Rattle.std.proofs.Common.{◌≡◌, ℕ, zero, suc, ◌+◌, ◌-◌, ◌*◌, ◌/◌, ◌%◌, ◌<◌, ◌≤◌, ◌==◌, ◌&&◌, ◌||◌, not, nat_lt, nat_le, ◌⊎◌, inl, inr, Bool, true, false, cond, List, [], ◌∷◌, ◌++◌, length, get_or, map, take, filter, count_by, sum_by, replicate, All, AllPairs, Less, Equal, Greater, Ordering, refl, sym, ap, subst, ◌∙◌, arith, true≢false, Ok}
+use Rattle.std.proofs.Common.{◌≡◌, ℕ, zero, suc, ◌+◌, ◌-◌, ◌*◌, ◌/◌, ◌%◌, ◌<◌, ◌≤◌, ◌==◌, ◌&&◌, ◌||◌, not, nat_lt, nat_le, ◌⊎◌, inl, inr, Bool, true, false, cond, List, [], ◌∷◌, length, get_or, map, take, filter, count_by, sum_by, replicate, All, AllPairs, Less, Equal, Greater, Ordering, refl, sym, ap, subst, ◌∙◌, arith, true≢false, Ok}
 use Rattle.std.specs.Prelude.{◌≢◌}
 use Rattle.std.specs.Cmp.{IsTotalOrder, on_total}
-use Rattle.std.specs.Cmp.Lexicographic.{slice_cmp}
 use Rattle.std.specs.FinMap.{nat_cmp-IsAntisymmetric, slice_cmp-IsAntisymmetric}
 use Rattle.std.specs.List.{IsDistinct, flat_map, range_with_len}
 use Rattle.std.specs.List.Sorted.{IsPermutation, IsSortedBy}
@@ -21,10 +20,9 @@ use Rattle.std.proofs.lemmas.List.Sums.{sum_by-append, sum_by-cons, sum_by_more}
 use Rattle.std.proofs.lemmas.Map.Keys.{IsDistinct-from_apart, IsDistinct-IsPermutation, apart_from_distinct}
 use Rattle.scope_types.specs.CallPaths.{HartPath}
 use Rattle.scope_types.specs.Limits.{most_samples}
-use Rattle.tree_types.specs.declared.content.Kind.{Kind}
 use Rattle.tree_types.specs.declared.content.Node.{Node}
 use Rattle.tree_types.specs.declared.counted_tree.NodeCount.{NodeCount}
-use Rattle.tree_types.specs.NodeValues.{NodeValues, nonzero, values_of}
+use Rattle.tree_types.specs.NodeValues.{nonzero, values_of}
 use Rattle.tree_types.specs.Nodes.{no_parent}
 use Rattle.tree_types.specs.Paths.{Path, after_prefix, rest_passes}
 use Rattle.tree_types.specs.Planes.{kinds}
@@ -32,7 +30,6 @@ use Rattle.tree_types.specs.Tree.{CountedTree, node_at, IsPreorder, IsTree, coun
 use Rattle.tree_types.specs.Values.{count_below, counts_for, harts_below}
 use Rattle.tree_types.proofs.Counting.{one}
 use Rattle.prof_db.specs.declared.raw.RawEntry.{RawEntry}
-use Rattle.prof_db.specs.Broken.{first_broken}
 use Rattle.prof_db.specs.NameRules.{pair_less}
 use Rattle.prof_db.specs.NodeRules.{is_statement}
 use Rattle.prof_db.specs.ValueRules.{count_of, entries_ascend, entries_kept, entry_at, entry_breaks, is_exclusive, is_value, samples_of}
@@ -123,17 +120,17 @@ up_parts a b c x y z e =
           ]
     ]
 
-first_up : (a b c x y z : ℕ) → a < x → threes_up a b c x y z ≡ true
+pub first_up : (a b c x y z : ℕ) → a < x → threes_up a b c x y z ≡ true
 first_up a b c x y z lt = ap (λ t. t || (a == x && pair_less b c y z)) (lt-ltb a x lt)
 
 or_right_true : (t u : Bool) → u ≡ true → (t || u) ≡ true
 or_right_true true u e = refl
 or_right_true false u e = e
 
-second_up : (a b c x y z : ℕ) → a ≡ x → b < y → threes_up a b c x y z ≡ true
+pub second_up : (a b c x y z : ℕ) → a ≡ x → b < y → threes_up a b c x y z ≡ true
 second_up a b c x y z same lt = or_right_true (nat_lt a x) (a == x && pair_less b c y z) ((λ i. eq-eqb a x same i && (lt-ltb b y lt i || (b == y && nat_lt c z))))
 
-third_up : (a b c x y z : ℕ) → a ≡ x → b ≡ y → c < z → threes_up a b c x y z ≡ true
+pub third_up : (a b c x y z : ℕ) → a ≡ x → b ≡ y → c < z → threes_up a b c x y z ≡ true
 third_up a b c x y z same next lt = or_right_true (nat_lt a x) (a == x && pair_less b c y z) ((λ i. eq-eqb a x same i && pair_less b c y z) ∙ or_right_true (nat_lt b y) (b == y && nat_lt c z) (λ i. eq-eqb b y next i && lt-ltb c z lt i))
 
 chained : (a b c d e f g h k : ℕ) → threes_up a b c d e f ≡ true → threes_up d e f g h k ≡ true → threes_up a b c g h k ≡ true
@@ -169,6 +166,15 @@ differ a b c x y z up zero_c zero_z =
     and_last : (t u : Bool) → u ≡ false → (t && u) ≡ false
     and_last true u e = e
     and_last false u e = refl
+
+-- the samples of exclusive values are those of their counts
+pub samples_are : (period : ℕ) (es : List RawEntry) → counts_in (map (count_of period) (filter is_exclusive es)) ≡ sum_by (samples_of period) es
+samples_are period [] = refl
+samples_are period (e ∷ es) =
+    elim (is_exclusive e) as (λ b. counts_in (map (count_of period) (cond b (e ∷ filter is_exclusive es) (filter is_exclusive es))) ≡ cond b (e.value / period) 0 + sum_by (samples_of period) es) [
+      | true ↦ sum_by-cons (λ (c : NodeCount). c.count) (count_of period e) (map (count_of period) (filter is_exclusive es)) ∙ ap (λ (n : ℕ). e.value / period + n) (samples_are period es)
+      | false ↦ samples_are period es ∙ (omega arith)
+    ] ∙ sym (sum_by-cons (samples_of period) e es)
 
 -- ---- what the rule says
 
@@ -309,34 +315,36 @@ module _ (period harts : ℕ) (nodes : List Node) (entries : List RawEntry) (kep
     some_counts : All (λ e. 0 < e.value / period) exclusive
     some_counts = λ i d lt. good_count (get_or exclusive i d) (good i d lt) (filter_passes is_exclusive entries i d lt)
 
+    -- each count is that of a node and a hart that there are, and counts some samples
+    pub counts_inside : All (λ c. c.node < length nodes) counts
+    counts_inside = all_map (λ (c : NodeCount). c.node < length nodes) (count_of period) exclusive none (λ i d lt. good_node (get_or exclusive i d) (good i d lt))
+
+    pub counts_harts : All (λ c. c.hart < harts) counts
+    counts_harts = all_map (λ (c : NodeCount). c.hart < harts) (count_of period) exclusive none (λ i d lt. good_hart (get_or exclusive i d) (good i d lt))
+
+    pub counts_some : All (λ c. 0 < c.count) counts
+    counts_some = all_map (λ (c : NodeCount). 0 < c.count) (count_of period) exclusive none some_counts
+
     -- the tree of the sorted counts
     module _ (sorted : List NodeCount) (moved : IsPermutation counts sorted) (up : AllPairs (λ a b. count_order b a ≢ Less) sorted) (few : length nodes < no_parent) (preorder : IsPreorder nodes) where
       pub sorted_tree : IsTree (record { harts = harts; nodes = nodes; counts = sorted })
       sorted_tree = record {
         few = few;
         preorder = preorder;
-        nodes = All-permutation (λ c. c.node < length nodes) counts sorted moved (all_map (λ (c : NodeCount). c.node < length nodes) (count_of period) exclusive none (λ i d lt. good_node (get_or exclusive i d) (good i d lt)));
-        harts = All-permutation (λ c. c.hart < harts) counts sorted moved (all_map (λ (c : NodeCount). c.hart < harts) (count_of period) exclusive none (λ i d lt. good_hart (get_or exclusive i d) (good i d lt)));
-        some = All-permutation (λ c. 0 < c.count) counts sorted moved (all_map (λ (c : NodeCount). 0 < c.count) (count_of period) exclusive none some_counts);
+        nodes = All-permutation (λ c. c.node < length nodes) counts sorted moved counts_inside;
+        harts = All-permutation (λ c. c.hart < harts) counts sorted moved counts_harts;
+        some = All-permutation (λ c. 0 < c.count) counts sorted moved counts_some;
         ascend = sorted_up sorted up (IsDistinct-IsPermutation same_place flips counts sorted moved distinct);
       }
 
   -- ---- samples
-
-  samples_are : (es : List RawEntry) → counts_in (map (count_of period) (filter is_exclusive es)) ≡ sum_by (samples_of period) es
-  samples_are [] = refl
-  samples_are (e ∷ es) =
-      elim (is_exclusive e) as (λ b. counts_in (map (count_of period) (cond b (e ∷ filter is_exclusive es) (filter is_exclusive es))) ≡ cond b (e.value / period) 0 + sum_by (samples_of period) es) [
-        | true ↦ sum_by-cons (λ (c : NodeCount). c.count) (count_of period e) (map (count_of period) (filter is_exclusive es)) ∙ ap (λ (n : ℕ). e.value / period + n) (samples_are es)
-        | false ↦ samples_are es ∙ (omega arith)
-      ] ∙ sym (sum_by-cons (samples_of period) e es)
 
   all_samples : (n : ℕ) → length entries ≡ n → sum_by (samples_of period) entries ≤ most_samples
   all_samples zero is = subst (λ (es : List RawEntry). sum_by (samples_of period) es ≤ most_samples) (take_all (length entries) entries (omega arith)) (subst (λ (k : ℕ). sum_by (samples_of period) (take k entries) ≤ most_samples) (sym is) (omega arith))
   all_samples (suc n) is = subst (λ (es : List RawEntry). sum_by (samples_of period) es ≤ most_samples) (take_all (n + 1) entries (omega arith)) (total_ok n (omega arith))
 
   pub few_samples : counts_in counts ≤ most_samples
-  few_samples = let all = all_samples (length entries) refl in let are = samples_are entries in omega (arith, all, are)
+  few_samples = let all = all_samples (length entries) refl in let are = samples_are period entries in omega (arith, all, are)
 
   pub each_few : All (λ e. samples_of period e ≤ most_samples) entries
   each_few i d lt =

@@ -20,7 +20,6 @@ use Rattle.tree_types.specs.Tree.{IsPreorder, node_at, node_path}
 use Rattle.tree_types.proofs.Parents.{prefix_less}
 use Rattle.tree_types.proofs.PathSteps.{as_many_paths, root_path, inner_path}
 use Rattle.prof_db.specs.declared.raw.RawNode.{RawNode}
-use Rattle.prof_db.specs.Broken.{first_broken}
 use Rattle.prof_db.specs.NodeRules.{in_preorder, line_up, siblings_ascend, node_breaks, nodes_kept, raw_node_at}
 use Rattle.prof_db.proofs.Repeated.{none_broken}
 

@@ -1,7 +1,7 @@
 -- A step that a loop takes so many times, and the places that a loop looks at.
-use Rattle.std.proofs.Common.{◌≡◌, ℕ, zero, suc, cond, ap, inl, inr, ◌-◌, ◌+◌, ◌≤◌, ◌<◌, Bool, true, false, List, [], ◌∷◌, ◌++◌, Result, Ok, Err, sym, ◌∙◌, refl, arith}
+use Rattle.std.proofs.Common.{◌≡◌, ℕ, zero, suc, cond, ap, inl, inr, ◌-◌, ◌+◌, ◌≤◌, ◌<◌, Bool, true, false, List, [], ◌∷◌, ◌++◌, Ok, Err, sym, ◌∙◌, refl, arith}
 use Rattle.std.proofs.lemmas.Bool.{cases_eq}
-use Rattle.prof_bytes.specs.Outcome.{◌>>=◌, FailsBy}
+use Rattle.prof_bytes.specs.Outcome.{FailsBy}
 use Rattle.prof_bytes.specs.Reading.{At}
 use Rattle.prof_bytes.specs.declared.fail.Fail.{Fail}
 use Rattle.prof_bytes.specs.declared.fail.Fail.TheVariants as fails

@@ -1,5 +1,5 @@
 -- How the bytes of a database, version 1, are cut into fields: its first two rules.
-use Rattle.std.specs.Prelude.{ℕ, ◌+◌, ◌==◌, ◌||◌, not, nat_eq, nat_lt, List, [], ◌∷◌, ◌++◌, length, take, codes}
+use Rattle.std.specs.Prelude.{ℕ, ◌==◌, ◌||◌, not, nat_eq, nat_lt, List, [], length, take, codes}
 use Rattle.std.specs.Prelude.{Result, Ok, Err, if◌then◌else◌}
 use Rattle.std.specs.Cmp.Lexicographic.{pointwise}
 use Rattle.prof_bytes.specs.Outcome.{◌>>=◌}

@@ -7,4 +7,5 @@ pub mod NameRules
 pub mod NodeRules
 pub mod ValueRules
 pub mod Rules
+pub mod Stored
 pub mod private

@@ -1,9 +1,51 @@
-ghost use Rattle.tree_types.specs.OfContent.{IsProfile};
+ghost use Rattle.std.specs.Prelude.{◌≡◌, ℕ, ◌<◌, true, List, length, Ok, IfOk};
+ghost use Rattle.prof_bytes.specs.Number.{IsBytes};
+ghost use Rattle.scope_types.specs.CallPaths.{HartPath};
+ghost use Rattle.scope_types.specs.Expansion.{FoundAt, call_path};
+ghost use Rattle.scope_types.specs.Raw.{Raw};
+ghost use Rattle.tree_types.specs.Database.{content_of};
+ghost use Rattle.tree_types.specs.Naming.{Naming};
+ghost use Rattle.tree_types.specs.OfContent.{IsProfile, content_table};
+ghost use Rattle.tree_types.specs.TopDown.{top_down};
 ghost use Rattle.tree_types.specs.declared.content.Content.{Content};
+ghost use Rattle.prof_db.specs.Rules.{database_in};
+ghost use Rattle.prof_db.specs.Spelling.{spelling};
+ghost use Rattle.prof_db.specs.Stored.{AreStored, IsStored, is_call_path};
 ghost use Rattle.prof_db.specs.Writable.{IsWritable};
 
 /// A database can be written of each content that a profile may have.
 #[tactic(auto, using(crate::proofs::Profiles::writable_laws))]
 pub fn profiles_are_writable()
     ensures { (c : Content) → IsProfile c → IsWritable c }
+{}
+
+/// What is read of a database is a content that a profile may have.
+pub fn databases_are_profiles()
+    ensures { (bytes : List ℕ) (c : Content) → database_in bytes ≡ Ok c → IsProfile c }
+{}
+
+/// What is read of a database is spelled by just its bytes, and so is read again of its spelling.
+pub fn databases_are_spelled()
+    ensures bytes { (bytes : List ℕ) (c : Content) → IsBytes bytes → database_in bytes ≡ Ok c → bytes ≡ spelling c }
+    ensures again { (bytes : List ℕ) (c : Content) → IsBytes bytes → database_in bytes ≡ Ok c
+        → database_in (spelling c) ≡ Ok c }
+{}
+
+/// What is written of a stored content is read as that content.
+pub fn stored_contents_are_read()
+    ensures { (c : Content) → IsStored c → database_in (spelling c) ≡ Ok c }
+{}
+
+/// The paths of a program are call paths, and the content of call paths within a profile's limits is stored: it is
+/// read of what is written of it, and has the table of those paths.
+pub fn call_paths_are_stored()
+    ensures paths { (found_at : ℕ → FoundAt) (raw : Raw) → 0 < length raw.frames
+        → is_call_path (call_path found_at raw) ≡ true }
+    ensures stored { (period harts : ℕ) (naming : Naming) (paths : List HartPath) → AreStored period harts naming paths
+        → IsStored (content_of period harts naming paths) }
+    ensures read { (period harts : ℕ) (naming : Naming) (paths : List HartPath) → AreStored period harts naming paths
+        → database_in (spelling (content_of period harts naming paths)) ≡ Ok (content_of period harts naming paths) }
+    ensures table { (period harts : ℕ) (naming : Naming) (paths : List HartPath) → AreStored period harts naming paths
+        → IfOk (database_in (spelling (content_of period harts naming paths)))
+        (λ c. content_table c ≡ top_down period harts naming paths) }
 {}

@@ -6,6 +6,7 @@ ghost use Rattle.prof_bytes.specs.Outcome.{Gives};
 ghost use Rattle.scope_types.specs.Limits.{most_samples};
 ghost use Rattle.tree_types.specs.NodeValues.{values_of};
 ghost use Rattle.tree_types.specs.Nodes.{no_parent};
+ghost use Rattle.tree_types.specs.OfContent.{IsProfile};
 ghost use Rattle.tree_types.specs.Tree.{IsPreorder, count_order, counts_in};
 ghost use Rattle.prof_db.specs.ValueRules.{entries_kept, tree_of};
 ghost use Rattle.prof_db.specs.Rules.{content_in, database_in, nodes_in, planes_in, values_in};
@@ -141,11 +142,10 @@ fn judge_tree(
     judge_values(alloc, layout, names, nodes)
 }
 
-/// The content of a database, or the first of the seven rules that is broken, with the least offset. In time as there are
-/// bytes, and n log n in the exclusive values.
+/// What the bytes of a database say.
 #[tactic(auto, unfolding(crate::specs::Rules::database_in))]
-pub fn read_db(alloc: Global, bytes: &[u8]) -> Result<Content, Fail<DbFault>>
-    ensures exact { Gives (λ c. c) result (database_in bytes.now) }
+fn read_content(alloc: Global, bytes: &[u8]) -> Result<Content, Fail<DbFault>>
+    ensures { Gives (λ c. c) result (database_in bytes.now) }
 {
     let layout = read_layout(alloc, bytes)?;
     judge_head(layout.period, layout.harts, layout.nodes.items().len())?;
@@ -153,4 +153,13 @@ pub fn read_db(alloc: Global, bytes: &[u8]) -> Result<Content, Fail<DbFault>>
     let names = names_of(alloc, &layout)?;
     let nodes = nodes_of(alloc, &names, layout.nodes.items())?;
     judge_tree(alloc, &layout, names, nodes)
+}
+
+/// The content of a database, which a profile may have; or the first of the seven rules that is broken, with the least
+/// offset. In time as there are bytes, and n log n in the exclusive values.
+pub fn read_db(alloc: Global, bytes: &[u8]) -> Result<Content, Fail<DbFault>>
+    ensures exact { Gives (λ c. c) result (database_in bytes.now) }
+    ensures profile { IfOk result (λ c. IsProfile c) }
+{
+    read_content(alloc, bytes)
 }

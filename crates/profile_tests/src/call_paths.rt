@@ -57,7 +57,7 @@ o\xf0\xdf\xff\x0c\0\0\0\xff\xff\xff\xff\x03\0\x01|\x01\x0c\x02\0\x14\0\0\0\0\0\0
 \0\0\0\x1e\0\0\0\x03\0\0\0\0\0\0\0\0\0\0\0\xf8\0\0\0(\0\0\0\0\0\0\0\0\0\0\0\0\0\0\0\0\0\0\0";
 
 /// One path of seven frames.
-const SEVEN_FRAMES: &str = "\
+pub(crate) const SEVEN_FRAMES: &str = "\
 harts 1 period 31 samples 1 total 31
 hart 0 retired 49 samples 1 end exit 0
        inclusive      %            frame  scope

@@ -20,9 +20,13 @@ mod debug_programs;
 #[cfg(test)]
 mod devices;
 #[cfg(test)]
+mod drills;
+#[cfg(test)]
 mod edges;
 #[cfg(test)]
 mod failures;
+#[cfg(test)]
+mod made_databases;
 #[cfg(test)]
 mod measurements;
 #[cfg(test)]
@@ -35,3 +39,7 @@ mod reports;
 mod scopes;
 #[cfg(test)]
 mod structures;
+#[cfg(test)]
+mod view_faults;
+#[cfg(test)]
+mod views;

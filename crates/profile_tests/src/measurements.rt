@@ -25,7 +25,7 @@ hart 0 retired 20 samples 4 end exit 19
 ";
 
 /// Its table.
-const TABLE: &str = "       inclusive      %            frame  scope
+pub(crate) const TABLE: &str = "       inclusive      %            frame  scope
               20  100.0                0  <thread root>
               20  100.0               20    <unknown procedure>
                5   25.0                5      0x00010010

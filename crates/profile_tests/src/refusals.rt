@@ -38,11 +38,11 @@ const CASE: Case = Case {
     line: USAGE,
 };
 
-const USAGE: &str = "\
+pub(crate) const USAGE: &str = "\
 usage: hpc profile ELF INPUT SCHEDULE PERIOD WORKERS DB | run ELF INPUT SCHEDULE PERIOD MEASURE \
 | prof ELF MEASURE WORKERS DB | struct ELF | view DB top|callers|flat | drill NUMBER WORKERS\n";
 
-static REFUSALS: [Case; 32] = [
+static REFUSALS: [Case; 35] = [
     Case {
         name: "no words",
         words: "",
@@ -85,6 +85,26 @@ static REFUSALS: [Case; 32] = [
         ..CASE
     },
     Case {
+        name: "a drill of a number past 32 bits",
+        words: "drill 4294967296 1",
+        ..CASE
+    },
+    Case {
+        name: "a drill by no worker",
+        words: "drill 0 0",
+        ..CASE
+    },
+    Case {
+        name: "a drill by seventeen workers",
+        words: "drill 0 17",
+        ..CASE
+    },
+    Case {
+        name: "a drill without workers",
+        words: "drill 0",
+        ..CASE
+    },
+    Case {
         name: "a period of 0",
         words: "profile p i s 0 1 d",
         ..CASE
@@ -112,11 +132,6 @@ static REFUSALS: [Case; 32] = [
     Case {
         name: "a word too many",
         words: "profile p i s 5 1 d d",
-        ..CASE
-    },
-    Case {
-        name: "a drill's number with a zero in front",
-        words: "drill 01 1",
         ..CASE
     },
     Case {

@@ -1,5 +1,5 @@
 -- Blanks in blocks.
-use Rattle.std.proofs.Common.{◌≡◌, ℕ, ◌+◌, ◌*◌, ◌/◌, ◌%◌, ◌<◌, ◌≤◌, List, ◌++◌, length, take, replicate, sym, ap, ◌∙◌, arith, append_assoc}
+use Rattle.std.proofs.Common.{◌≡◌, ℕ, ◌+◌, ◌*◌, ◌/◌, ◌%◌, ◌≤◌, List, ◌++◌, take, ap, ◌∙◌, arith, append_assoc}
 use Rattle.std.proofs.lemmas.List.{replicate-append-replicate, take-replicate}
 use Rattle.tree_types.specs.TopDown.{spaces}
 

@@ -1,11 +1,10 @@
 -- The values of a node's column, and the paths that a content holds.
-use Rattle.std.proofs.Common.{◌≡◌, ℕ, zero, suc, ◌+◌, ◌*◌, ◌/◌, ◌<◌, ◌≤◌, ◌^◌, ◌==◌, Bool, true, false, not, cond, List, [], ◌∷◌, ◌++◌, length, map, filter, get_or, take, replicate, sum_by, refl, sym, ap, subst, ◌∙◌, arith}
-use Rattle.std.specs.List.{flat_map, enumerate_from, range_with_len}
+use Rattle.std.proofs.Common.{◌≡◌, ℕ, ◌+◌, ◌*◌, ◌/◌, ◌<◌, ◌≤◌, ◌^◌, ◌==◌, Bool, true, false, not, cond, List, [], ◌∷◌, length, map, get_or, take, replicate, sum_by, refl, sym, ap, ◌∙◌, arith}
+use Rattle.std.specs.List.{flat_map, enumerate_from}
 use Rattle.std.proofs.Math.Nat.{mul-le-mul_left}
 use Rattle.std.proofs.lemmas.Bool.{eqb-true}
-use Rattle.std.proofs.lemmas.List.{get_or-map, length-map, length-replicate, length-append, take_all, take_more}
+use Rattle.std.proofs.lemmas.List.{get_or-map, length-replicate, length-append, take_all}
 use Rattle.std.proofs.lemmas.List.Concat.{length-flat_map}
-use Rattle.std.proofs.lemmas.List.FromFn.{length-map-range_with_len}
 use Rattle.std.proofs.lemmas.List.Sums.{sum_by-cons, sum_by_more, sum_by_more_le, get_or-le-sum_by}
 use Rattle.scope_types.specs.CallPaths.{HartPath}
 use Rattle.scope_types.specs.Limits.{most_samples}
@@ -13,7 +12,6 @@ use Rattle.tree_types.specs.declared.content.Content.{Content}
 use Rattle.tree_types.specs.declared.content.ContextEntry.{ContextEntry}
 use Rattle.tree_types.specs.declared.content.Kind.{Kind}
 use Rattle.tree_types.specs.declared.content.Kind.TheVariants.{Exclusive, Frame, Inclusive}
-use Rattle.tree_types.specs.declared.content.Node.{Node}
 use Rattle.tree_types.specs.declared.content.ProfileEntry.{ProfileEntry}
 use Rattle.tree_types.specs.Ascending.{ascending}
 use Rattle.tree_types.specs.Nodes.{nodes}
@@ -21,14 +19,13 @@ use Rattle.tree_types.specs.NodeValues.{kind_rank}
 use Rattle.tree_types.specs.OfContent.{IsProfile}
 use Rattle.tree_types.specs.Paths.{Path}
 use Rattle.tree_types.specs.PathsOf.{entry_paths, is_exclusive, paths_of, tree_paths}
-use Rattle.tree_types.specs.Planes.{context_entry, context_plane, kind_column, kinds, node_column, hart_column}
+use Rattle.tree_types.specs.Planes.{context_entry, kind_column, kinds, node_column}
 use Rattle.tree_types.specs.TopDown.{over_harts}
 use Rattle.tree_types.specs.Values.{value, harts_below}
 use Rattle.tree_types.proofs.Bounds.{small_product}
-use Rattle.tree_types.proofs.ContentParts.{own_nodes, own_contexts, own_profiles, own_node_count, own_column_count, own_hart_count}
+use Rattle.tree_types.proofs.ContentParts.{own_contexts, own_node_count, own_column_count, own_hart_count}
 use Rattle.tree_types.proofs.PathsAgain.{sum_by-filter, sum_by-flat_map, sum_by-map}
 use Rattle.tree_types.proofs.Totals.{within_total}
-use Rattle.tree_types.proofs.TreeLaws.{nodes_listed}
 use Rattle.view_tables.specs.private.Rows.{amount, path_at, samples, total_value}
 
 -- ---- a node's column

@@ -1,32 +1,32 @@
 -- The first items of places.
-use Rattle.std.proofs.Common.{◌≡◌, ℕ, zero, suc, ◌+◌, ◌<◌, ◌≤◌, Bool, true, false, List, [], ◌∷◌, ◌++◌, length, get_or, take, drop, map, refl, sym, ap, subst, ◌∙◌, arith, append-nil}
+use Rattle.std.proofs.Common.{◌≡◌, ℕ, zero, suc, ◌+◌, ◌<◌, ◌≤◌, true, false, List, [], ◌∷◌, ◌++◌, length, get_or, take, drop, map, refl, sym, ap, subst, ◌∙◌, append-nil, true≢false, ◌&&◌, Option, None, Some, is_some}
+use Rattle.std.specs.Prelude.{MatchOption}
 use Rattle.std.specs.List.{flat_map}
 use Rattle.std.proofs.lemmas.List.{take_more, map-append, take_all}
 use Rattle.std.proofs.lemmas.List.Concat.{flat_map-append}
 use Rattle.scope_types.specs.declared.scope.LineId.{LineId}
 use Rattle.scope_types.specs.declared.scope.ProcId.{ProcId}
-use Rattle.scope_types.specs.declared.scope.RootKind.{RootKind}
 use Rattle.scope_types.specs.declared.scope.Scope.{Scope}
 use Rattle.scope_types.specs.declared.scope.Scope.TheVariants.{Root, Proc, Inline, Call, Stmt}
 use Rattle.tree_types.specs.declared.content.Content.{Content}
+use Rattle.tree_types.specs.declared.content.Node.{Node}
+use Rattle.tree_types.specs.OfContent.{IsProfile}
 use Rattle.tree_types.specs.Naming.{Naming}
-use Rattle.tree_types.specs.Paths.{Path}
-use Rattle.view_tables.specs.declared.place.Origin.{Origin}
+use Rattle.tree_types.specs.Paths.{Path, is_proc}
 use Rattle.view_tables.specs.declared.place.Place.{Place}
 use Rattle.view_tables.specs.declared.place.Split.{Split}
 use Rattle.view_tables.specs.declared.place.View.{View}
 use Rattle.view_tables.specs.declared.place.View.TheVariants.{Callers, Flat}
 use Rattle.view_tables.specs.Views.{Item, Procedure, Sample}
-use Rattle.view_tables.specs.Callers.{procs_up}
 use Rattle.view_tables.specs.Flat.{call_line, frame_at, frame_proc, frames_up, line_file, line_item}
-use Rattle.view_tables.specs.private.Places.{Held, IsPlace, cut_of, cut_one, cuts, first_of, held, items_at, items_left, ups}
+use Rattle.view_tables.specs.private.Places.{Held, cut_of, cut_one, cuts, first_of, has_frame, held, is_some_list, items_at, items_left, sample_of, ups}
 use Rattle.tree_types.proofs.ContentParts.{own_names_ascend}
-use Rattle.view_tables.proofs.Ups.{ups_past, ups_node}
+use Rattle.view_tables.proofs.Ups.{ups_at, ups_past, ups_node}
 
-pub cut_none : (o : Origin) (items : List Item) → items ≡ [] → cut_one o items ≡ []
+pub cut_none : (o : ℕ) (items : List Item) → items ≡ [] → cut_one o items ≡ []
 cut_none o items e = ap (cut_one o) e
 
-pub cut_some : (o : Origin) (items : List Item) (a : Item) (rest : List Item) → items ≡ a ∷ rest → cut_one o items ≡ (a, (o, rest)) ∷ []
+pub cut_some : (o : ℕ) (items : List Item) (a : Item) (rest : List Item) → items ≡ a ∷ rest → cut_one o items ≡ (a, (o, rest)) ∷ []
 cut_some o items a rest e = ap (cut_one o) e
 
 drop_none : (n : ℕ) → drop {A = Item} n [] ≡ []
@@ -72,54 +72,110 @@ frame_is naming scopes s outer level line id e f g =
 
 pub ruleset split_steps = (own_names_ascend, ups_past, ups_node, cut_none, cut_some, frame_past, frame_no_line, frame_no_proc, frame_is)
 
--- ---- where a view has places
+-- ---- where a view has frames
 
-pub call_place : (naming : Naming) (id : ProcId) (outer : Path) → IsPlace Callers naming (Proc id ∷ outer) true
-call_place naming id outer = refl
+no_list : {X : Type 0} (xs : List X) → is_some_list xs ≡ false → xs ≡ []
+no_list [] e = refl
+no_list (x ∷ xs) e = absurd (true≢false e)
 
-pub no_call_root : (naming : Naming) (kind : RootKind) (outer : Path) → IsPlace Callers naming (Root kind ∷ outer) false
-no_call_root naming kind outer = refl
+one_proc : (outer : Path) → is_some_list (frame_proc outer) ≡ true → (id : ProcId) × (frame_proc outer ≡ id ∷ [])
+one_proc [] e = absurd (true≢false (sym e))
+one_proc (Root kind ∷ outer) e = one_proc outer e
+one_proc (Proc id ∷ outer) e = (id, refl)
+one_proc (Inline callee call ∷ outer) e = one_proc outer e
+one_proc (Call line ∷ outer) e = absurd (true≢false (sym e))
+one_proc (Stmt line ∷ outer) e = absurd (true≢false (sym e))
 
-pub no_call_inline : (naming : Naming) (callee : ProcId) (call : LineId) (outer : Path) → IsPlace Callers naming (Inline callee call ∷ outer) false
-no_call_inline naming callee call outer = refl
+pub frame_skipped : (view : View) (naming : Naming) (s : Scope) (outer : Path) → has_frame view (s ∷ outer) ≡ false → sample_of view naming (s ∷ outer) ≡ sample_of view naming outer
+frame_skipped Callers naming (Root kind) outer e = refl
+frame_skipped Callers naming (Proc id) outer e = absurd (true≢false e)
+frame_skipped Callers naming (Inline callee call) outer e = refl
+frame_skipped Callers naming (Call line) outer e = refl
+frame_skipped Callers naming (Stmt line) outer e = refl
+frame_skipped Flat naming (Root kind) outer e = refl
+frame_skipped Flat naming (Proc id) outer e = refl
+frame_skipped Flat naming (Inline callee call) outer e = refl
+frame_skipped Flat naming (Call line) outer e = ap (λ (fs : Sample). fs ++ frames_up naming outer) (frames_no_proc naming (line ∷ []) line outer refl (no_list (frame_proc outer) e))
+frame_skipped Flat naming (Stmt line) outer e = ap (λ (fs : Sample). fs ++ frames_up naming outer) (frames_no_proc naming (line ∷ []) line outer refl (no_list (frame_proc outer) e))
 
-pub no_call_call : (naming : Naming) (line : LineId) (outer : Path) → IsPlace Callers naming (Call line ∷ outer) false
-no_call_call naming line outer = refl
+frame_ends : (naming : Naming) (line : LineId) (outer : Path) → is_some_list (frame_proc outer) ≡ true → frames_of naming (line ∷ []) outer ++ frames_up naming outer ≡ drop 0 (first_of (frames_of naming (line ∷ []) outer)) ∷ frames_up naming outer
+frame_ends naming line outer e =
+    let one = one_proc outer e in
+    subst (λ (fs : Sample). fs ++ frames_up naming outer ≡ drop 0 (first_of fs) ∷ frames_up naming outer) (sym (frames_one naming (line ∷ []) line one.0 outer refl one.1)) refl
 
-pub no_call_stmt : (naming : Naming) (line : LineId) (outer : Path) → IsPlace Callers naming (Stmt line ∷ outer) false
-no_call_stmt naming line outer = refl
+pub frame_taken : (view : View) (naming : Naming) (s : Scope) (outer : Path) → has_frame view (s ∷ outer) ≡ true → sample_of view naming (s ∷ outer) ≡ items_at view naming (s ∷ outer) 0 ∷ sample_of view naming outer
+frame_taken Callers naming (Root kind) outer e = absurd (true≢false (sym e))
+frame_taken Callers naming (Proc id) outer e = refl
+frame_taken Callers naming (Inline callee call) outer e = absurd (true≢false (sym e))
+frame_taken Callers naming (Call line) outer e = absurd (true≢false (sym e))
+frame_taken Callers naming (Stmt line) outer e = absurd (true≢false (sym e))
+frame_taken Flat naming (Root kind) outer e = absurd (true≢false (sym e))
+frame_taken Flat naming (Proc id) outer e = absurd (true≢false (sym e))
+frame_taken Flat naming (Inline callee call) outer e = absurd (true≢false (sym e))
+frame_taken Flat naming (Call line) outer e = frame_ends naming line outer e
+frame_taken Flat naming (Stmt line) outer e = frame_ends naming line outer e
 
-pub frame_place : (naming : Naming) (s : Scope) (outer : Path) (line : LineId) (id : ProcId) → call_line s ≡ line ∷ [] → frame_proc outer ≡ id ∷ [] → IsPlace Flat naming (s ∷ outer) true
-frame_place naming s outer line id e f =
-    subst (λ (fs : Sample). fs ++ frames_up naming outer ≡ drop 0 (first_of fs) ∷ frames_up naming outer) (sym (frames_one naming (call_line s) line id outer e f)) refl
+pub no_frame_skips : (view : View) (naming : Naming) (scopes : Path) (s : Scope) (outer : Path) → scopes ≡ s ∷ outer → has_frame view scopes ≡ false → sample_of view naming scopes ≡ sample_of view naming outer
+no_frame_skips view naming scopes s outer is none = ap (λ (p : Path). sample_of view naming p) is ∙ frame_skipped view naming s outer (ap (has_frame view) (sym is) ∙ none)
 
-pub no_frame : (naming : Naming) (s : Scope) (outer : Path) (line : LineId) → call_line s ≡ line ∷ [] → frame_proc outer ≡ [] → IsPlace Flat naming (s ∷ outer) false
-no_frame naming s outer line e f = ap (λ (fs : Sample). fs ++ frames_up naming outer) (frames_no_proc naming (call_line s) line outer e f)
+pub a_frame_adds : (view : View) (naming : Naming) (scopes : Path) (s : Scope) (outer : Path) → scopes ≡ s ∷ outer → has_frame view scopes ≡ true → sample_of view naming scopes ≡ items_at view naming scopes 0 ∷ sample_of view naming outer
+a_frame_adds view naming scopes s outer is some =
+    ap (λ (p : Path). sample_of view naming p) is ∙ frame_taken view naming s outer (ap (has_frame view) (sym is) ∙ some) ∙ ap (λ (p : Path). items_at view naming p 0 ∷ sample_of view naming outer) (sym is)
 
-pub no_line : (naming : Naming) (s : Scope) (outer : Path) → call_line s ≡ [] → IsPlace Flat naming (s ∷ outer) false
-no_line naming s outer e = ap (λ (fs : Sample). fs ++ frames_up naming outer) (frames_none naming (call_line s) outer e)
+pub frame_at_node : (view : View) (c : Content) (number : ℕ) (d : Node) → IsProfile c → number < length c.nodes → has_frame view (ups c number) ≡ has_frame view ((get_or c.nodes number d).scope ∷ ups c (get_or c.nodes number d).parent)
+frame_at_node view c number d profile lt = ap (has_frame view) (ups_at c number d profile lt)
 
-pub ruleset place_steps = (call_place, no_call_root, no_call_inline, no_call_call, no_call_stmt, frame_place, no_frame, no_line)
+pub not_proc : (s : Scope) → ((id : ProcId) → s ≡ Proc id → ⊥) → is_proc s ≡ false
+not_proc (Root kind) other = refl
+not_proc (Proc id) other = absurd (other id refl)
+not_proc (Inline callee call) other = refl
+not_proc (Call line) other = refl
+not_proc (Stmt line) other = refl
+
+some_proc : (outer : Path) (r : Option ProcId) → MatchOption r (frame_proc outer ≡ []) (λ id. frame_proc outer ≡ id ∷ []) → is_some r ≡ is_some_list (frame_proc outer)
+some_proc outer None e = sym (ap is_some_list e)
+some_proc outer (Some id) e = sym (ap is_some_list e)
+
+-- a node of a list that is the content's
+module _ (view : View) (c : Content) (all : List Node) (number : ℕ) (d : Node) (profile : IsProfile c) (own : all ≡ c.nodes) (lt : number < length c.nodes) where
+  abbrev here : Node
+  here = get_or all number d
+
+  frame_here : has_frame view (ups c number) ≡ has_frame view (here.scope ∷ ups c here.parent)
+  frame_here = frame_at_node view c number d profile lt ∙ ap (λ (l : List Node). has_frame view ((get_or l number d).scope ∷ ups c (get_or l number d).parent)) (sym own)
+
+  pub callers_frame : view ≡ Callers → has_frame view (ups c number) ≡ is_proc here.scope
+  callers_frame e = frame_here ∙ ap (λ v. has_frame v (here.scope ∷ ups c here.parent)) e
+
+  pub no_line_no_frame : view ≡ Flat → call_line here.scope ≡ [] → has_frame view (ups c number) ≡ false
+  no_line_no_frame e none =
+      frame_here ∙ ap (λ v. has_frame v (here.scope ∷ ups c here.parent)) e ∙ ap (λ (ls : List LineId). is_some_list ls && is_some_list (frame_proc (ups c here.parent))) none
+
+  pub frame_by_proc : (line : LineId) (r : Option ProcId) → view ≡ Flat → call_line here.scope ≡ line ∷ []
+      → MatchOption r (frame_proc (ups c here.parent) ≡ []) (λ id. frame_proc (ups c here.parent) ≡ id ∷ []) → has_frame view (ups c number) ≡ is_some r
+  frame_by_proc line r e one found =
+      frame_here ∙ ap (λ v. has_frame v (here.scope ∷ ups c here.parent)) e ∙ ap (λ (ls : List LineId). is_some_list ls && is_some_list (frame_proc (ups c here.parent))) one
+      ∙ sym (some_proc (ups c here.parent) r found)
 
 -- ---- places in a row
 
 pub cuts_more : (view : View) (c : Content) (places : List Place) (i : ℕ) (p : Place) → i < length places → p ≡ get_or places i p
-    → cuts (map (held view c) (take (i + 1) places)) ≡ cuts (map (held view c) (take i places)) ++ cut_one p.origin (items_left view c p)
+    → cuts (map (held view c) (take (i + 1) places)) ≡ cuts (map (held view c) (take i places)) ++ cut_one p.frame (items_left view c p)
 cuts_more view c places i p lt is =
     ap (λ (ps : List Place). cuts (map (held view c) ps)) (take_more places i p lt)
     ∙ ap cuts (map-append (held view c) (take i places) (get_or places i p ∷ []))
     ∙ flat_map-append (λ (h : Held). cut_one h.0 h.1) (map (held view c) (take i places)) (held view c (get_or places i p) ∷ [])
-    ∙ ap (λ (xs : List (Item × Held)). cuts (map (held view c) (take i places)) ++ xs) (append-nil (cut_one (get_or places i p).origin (items_left view c (get_or places i p))) ∙ ap (λ (q : Place). cut_one q.origin (items_left view c q)) (sym is))
+    ∙ ap (λ (xs : List (Item × Held)). cuts (map (held view c) (take i places)) ++ xs) (append-nil (cut_one (get_or places i p).frame (items_left view c (get_or places i p))) ∙ ap (λ (q : Place). cut_one q.frame (items_left view c q)) (sym is))
 
 pub cut_more : (view : View) (c : Content) (splits : List Split) (places : List Place) (i : ℕ) (p : Place) (s : Split) → i < length places → p ≡ get_or places i p
-    → map (cut_of view c) splits ≡ cuts (map (held view c) (take i places)) → cut_one p.origin (items_left view c p) ≡ cut_of view c s ∷ []
+    → map (cut_of view c) splits ≡ cuts (map (held view c) (take i places)) → cut_one p.frame (items_left view c p) ≡ cut_of view c s ∷ []
     → map (cut_of view c) (splits ++ s ∷ []) ≡ cuts (map (held view c) (take (i + 1) places))
 cut_more view c splits places i p s lt is so_far one =
     map-append (cut_of view c) splits (s ∷ []) ∙ ap (λ (xs : List (Item × Held)). xs ++ cut_of view c s ∷ []) so_far
     ∙ ap (λ (xs : List (Item × Held)). cuts (map (held view c) (take i places)) ++ xs) (sym one) ∙ sym (cuts_more view c places i p lt is)
 
 pub cut_same : (view : View) (c : Content) (splits : List Split) (places : List Place) (i : ℕ) (p : Place) → i < length places → p ≡ get_or places i p
-    → map (cut_of view c) splits ≡ cuts (map (held view c) (take i places)) → cut_one p.origin (items_left view c p) ≡ []
+    → map (cut_of view c) splits ≡ cuts (map (held view c) (take i places)) → cut_one p.frame (items_left view c p) ≡ []
     → map (cut_of view c) splits ≡ cuts (map (held view c) (take (i + 1) places))
 cut_same view c splits places i p lt is so_far none =
     so_far ∙ sym (append-nil (cuts (map (held view c) (take i places))))

@@ -1,26 +1,27 @@
 -- Up from a node to its ancestors, by the numbers of parents.
-use Rattle.std.proofs.Common.{◌≡◌, ℕ, zero, suc, ◌+◌, ◌-◌, ◌<◌, ◌≤◌, List, [], ◌∷◌, ◌++◌, length, get_or, Less, refl, sym, ap, subst, ◌∙◌, arith, inl, inr, append-nil, length-append}
+use Rattle.std.proofs.Common.{◌≡◌, ℕ, zero, suc, ◌+◌, ◌<◌, ◌≤◌, List, [], ◌∷◌, ◌++◌, length, get_or, Less, refl, sym, ap, subst, ◌∙◌, arith, inl, inr, append-nil, length-append}
+use Rattle.std.specs.Ordering.{ordering_reverse}
 use Rattle.std.specs.Prelude.{◌≢◌, ◌⊎◌}
 use Rattle.std.proofs.Math.ListN.{get_or-eq_default}
-use Rattle.std.proofs.lemmas.Bool.{cases_eq}
+use Rattle.std.proofs.lemmas.Bool.{cases_eq, cases_lt}
+use Rattle.std.proofs.lemmas.Cmp.{tied_itself}
 use Rattle.std.proofs.lemmas.List.{get_or-map}
 use Rattle.std.proofs.lemmas.List.Elements.{Contains-get_or}
 use Rattle.scope_types.specs.CallPaths.{HartPath}
 use Rattle.scope_types.specs.Order.{path_order}
 use Rattle.scope_types.specs.declared.scope.Scope.{Scope}
+use Rattle.scope_types.proofs.Orders.{path_order_total}
 use Rattle.tree_types.specs.declared.content.Content.{Content}
 use Rattle.tree_types.specs.declared.content.Node.{Node}
-use Rattle.tree_types.specs.Database.{node_list}
-use Rattle.tree_types.specs.Laws.{node, HasParent}
+use Rattle.tree_types.specs.Laws.{node}
 use Rattle.tree_types.specs.Nodes.{nodes, no_parent, own_scope, parent_number}
 use Rattle.tree_types.specs.OfContent.{IsProfile}
 use Rattle.tree_types.specs.Paths.{Path}
 use Rattle.tree_types.specs.PathsOf.{paths_of}
-use Rattle.tree_types.specs.Tree.{node_at}
 use Rattle.tree_types.proofs.ContentParts.{own_nodes}
 use Rattle.tree_types.proofs.Enclosed.{between}
 use Rattle.tree_types.proofs.NodeLaws.{nodes_ascend, node_is_prefix}
-use Rattle.tree_types.proofs.Parents.{has_parent}
+use Rattle.tree_types.proofs.Parents.{has_parent, prefix_less, less_is_not_equal, less_is_not_greater}
 use Rattle.tree_types.proofs.TreeLaws.{numbers_tell}
 use Rattle.tree_types.proofs.TreePaths.{own_scope_only}
 use Rattle.tree_types.proofs.TreeValues.{shorter_prefix}
@@ -118,6 +119,41 @@ module _ (ps : List HartPath) (few : length (nodes ps) ≤ no_parent) where
       below : (p m : ℕ) → p < suc m → p ≢ m → p < m
       below p m lt apart = omega arith
 
+  -- a node that a path's extension stands before stands no earlier than the path
+  not_before : (a p : ℕ) (r : Path) → a < length (nodes ps) → p < length (nodes ps) → path p ≡ path a ++ r → a ≤ p
+  not_before a p r lta ltp parts = elim (cases_lt p a) [
+    | inl lt ↦ absurd (never r parts (nodes_ascend ps p a [] lt lta))
+    | inr ge ↦ ge
+  ]
+    where
+      never : (r : Path) → path p ≡ path a ++ r → path_order (path p) (path a) ≡ Less → ⊥
+      never [] is less =
+          let same : path p ≡ path a = is ∙ append-nil (path a) in
+          less_is_not_equal (sym less ∙ ap (path_order (path p)) (sym same) ∙ tied_itself path_order_total (path p))
+      never (s ∷ r) is less =
+          let above : path_order (path a) (path p) ≡ Less = ap (path_order (path a)) is ∙ prefix_less (path a) s r in
+          less_is_not_greater (sym less ∙ path_order_total.antisymm (path p) (path a) ∙ ap ordering_reverse above)
+
+  -- a node between a parent and its child lies below that parent
+  enclosed : (a i j : ℕ) → a < i → i < j → j < length (nodes ps) → up j ≡ a → (a ≤ up i) × (up i < i)
+  enclosed a i j above below inside is =
+      let lta : a < length (nodes ps) = omega (arith, above, below, inside) in
+      let lti : i < length (nodes ps) = omega (arith, below, inside) in
+      let child = step j inside in
+      let path_j : path j ≡ path a ++ child.0 ∷ [] = child.1 ∙ ap (λ (k : ℕ). path k ++ child.0 ∷ []) is in
+      let parts = between (path a) (path i) child.0 (nodes_ascend ps a i [] above lti) (ap (path_order (path i)) (sym path_j) ∙ nodes_ascend ps i j [] below inside) in
+      let own = step i lti in
+      elim (shorter_prefix (path (up i)) own.0 (path a) parts.0 (sym own.1 ∙ parts.1)) [
+        | inl whole ↦ (let same = numbers_tell (nodes ps) (nodes_ascend ps) a i lta lti (whole ∙ sym own.1) in absurd (omega (arith, same, above)))
+        | inr part ↦ elim (parent_before i lti) [
+          | inl root ↦
+              let none = none_left (path a) part.0 (sym (ap path root ∙ no_path) ∙ part.1) in
+              let some = some_path a lta in
+              absurd (omega (arith, none, some))
+          | inr less ↦ (not_before a (up i) part.0 lta (omega (arith, less, lti)) part.1, less)
+        ]
+      ]
+
 -- ---- of a content
 
 pub parent_is : (c : Content) (i : ℕ) (d : Node) → IsProfile c → i < length c.nodes → (get_or c.nodes i d).parent ≡ parent_number (nodes (paths_of c)) (path_at c i)
@@ -190,6 +226,16 @@ before_lies_below c i d profile lt =
     before_number : (i : ℕ) → i < length c.nodes → IsNumber c (number_before i)
     before_number zero lt = inl refl
     before_number (suc m) lt = inr (omega arith)
+
+pub enclosed_at : (c : Content) (a i j : ℕ) (d : Node) → IsProfile c → a < i → i < j → j < length c.nodes → (get_or c.nodes j d).parent ≡ a
+    → (a ≤ (get_or c.nodes i d).parent) × ((get_or c.nodes i d).parent < i)
+enclosed_at c a i j d profile above below inside is =
+    let many = as_many_nodes c profile in
+    let both = enclosed (paths_of c) (few_nodes c profile) a i j above below (omega (arith, inside, many)) (sym (parent_is c j d profile inside) ∙ is) in
+    let own = parent_is c i d profile (omega (arith, below, inside)) in
+    let low = both.0 in
+    let high = both.1 in
+    (omega (arith, low, own), omega (arith, high, own))
 
 pub number_after : (i : ℕ) → number_before (i + 1) ≡ i
 number_after zero = refl

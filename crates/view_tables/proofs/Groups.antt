@@ -1,128 +1,27 @@
--- Places in groups of one first item, and the rows of the groups.
-use Rattle.std.proofs.Common.{◌≡◌, ℕ, zero, suc, ◌+◌, ◌*◌, ◌<◌, ◌≤◌, ◌==◌, Bool, true, false, cond, ◌&&◌, ◌||◌, not, List, [], ◌∷◌, ◌++◌, length, get_or, take, drop, map, filter, count_by, sum_by, Option, None, Some, Contains, is_eq, refl, sym, ap, subst, ◌∙◌, arith, true≢false, add-one, append-nil}
-use Rattle.std.specs.Prelude.{reverse}
+-- The rows of the groups of splits.
+use Rattle.std.proofs.Common.{◌≡◌, ℕ, ◌+◌, ◌*◌, ◌<◌, ◌≤◌, ◌==◌, Bool, true, false, cond, ◌&&◌, ◌||◌, not, List, [], ◌∷◌, ◌++◌, length, get_or, take, map, filter, count_by, Contains, refl, sym, ap, ◌∙◌, arith, true≢false, append-nil}
 use Rattle.std.specs.List.{flat_map, list_any}
 use Rattle.std.specs.Ordering.{eq_by_cmp}
-use Rattle.std.proofs.Math.Seq.{drop-cons}
 use Rattle.std.proofs.lemmas.Bool.{and_parts, eq-eqb, ne_eqb}
-use Rattle.std.proofs.lemmas.List.{take_more, map-append, take_all, length-map}
+use Rattle.std.proofs.lemmas.List.{take_more, map-append, take_all}
 use Rattle.std.proofs.lemmas.List.Elements.{filter-append}
 use Rattle.std.proofs.lemmas.List.Folds.{Any-from_list_any, list_any_at, list_any-append}
-use Rattle.std.proofs.lemmas.List.Sums.{count_by-le-length}
-use Rattle.scope_types.specs.Limits.{most_samples}
 use Rattle.tree_types.specs.Ascending.{ascending}
 use Rattle.tree_types.specs.declared.content.Content.{Content}
-use Rattle.tree_types.specs.Database.{naming_in}
 use Rattle.tree_types.specs.OfContent.{IsProfile}
-use Rattle.tree_types.specs.Paths.{Path}
-use Rattle.tree_types.specs.PathsOf.{paths_of}
 use Rattle.tree_types.proofs.Counting.{count_none}
-use Rattle.tree_types.proofs.PathsAgain.{sum_by-map}
 use Rattle.tree_types.proofs.Selecting.{map_of_map}
 use Rattle.tree_types.proofs.Sorting.{has, bool_same, same_ascending, has_ascending, Contains-from_has}
+use Rattle.view_tables.specs.declared.frames.Frames.{Frames}
 use Rattle.view_tables.specs.declared.item.ItemRef.{ItemRef}
 use Rattle.view_tables.specs.declared.item.RowRef.{RowRef}
-use Rattle.view_tables.specs.declared.place.Origin.{Origin}
-use Rattle.view_tables.specs.declared.place.Place.{Place}
 use Rattle.view_tables.specs.declared.place.Split.{Split}
 use Rattle.view_tables.specs.declared.place.View.{View}
-use Rattle.view_tables.specs.Views.{Item, ViewRow, Sample, all_items, begins_with, ends, holds, item_order, row_at, row_order, rows_under, same_item}
-use Rattle.view_tables.specs.private.Places.{AreSplits, Held, all_places, counted, counted_paths, cut_of, cuts, ended_one, held, is_last, item_seen, items_seen, narrowed, of_item, origins, row_seen, sample_of, samples_of}
-use Rattle.view_tables.proofs.Narrowed.{narrowed_more, counted_is, ended_is, passing_is}
+use Rattle.view_tables.specs.Views.{Item, ViewRow, Sample, all_items, begins_with, holds, item_order, row_at, row_order, rows_under, same_item}
+use Rattle.view_tables.specs.private.Frames.{AreFrames, covered}
+use Rattle.view_tables.specs.private.Places.{AreSplits, item_seen, items_seen, row_seen, samples_of}
+use Rattle.view_tables.proofs.Narrowed.{group, group_covers, group_frames}
 use Rattle.view_tables.proofs.ViewOrders.{item_order_total, item_order_tells, row_order_total, row_order_tells}
-
--- ---- a group
-
-abbrev pub group : Item → List Split → List Place
-group item splits = map (λ s. s.rest) (filter (λ s. same_item item (item_seen s.item)) splits)
-
-group_append : (item : Item) (xs ys : List Split) → group item (xs ++ ys) ≡ group item xs ++ group item ys
-group_append item xs ys = ap (map (λ (s : Split). s.rest)) (filter-append (λ (s : Split). same_item item (item_seen s.item)) xs ys) ∙ map-append (λ (s : Split). s.rest) (filter (λ (s : Split). same_item item (item_seen s.item)) xs) (filter (λ (s : Split). same_item item (item_seen s.item)) ys)
-
-group_more : (item : Item) (splits : List Split) (i : ℕ) (s : Split) → i < length splits → s ≡ get_or splits i s → group item (take (i + 1) splits) ≡ group item (take i splits) ++ group item (s ∷ [])
-group_more item splits i s lt is = ap (group item) (take_more splits i s lt) ∙ group_append item (take i splits) (get_or splits i s ∷ []) ∙ ap (λ (x : Split). group item (take i splits) ++ group item (x ∷ [])) (sym is)
-
-pub group_put : (item : Item) (found : List Place) (splits : List Split) (i : ℕ) (s : Split) → i < length splits → s ≡ get_or splits i s → same_item item (item_seen s.item) ≡ true
-    → found ≡ group item (take i splits) → found ++ s.rest ∷ [] ≡ group item (take (i + 1) splits)
-group_put item found splits i s lt is same so_far =
-    ap (λ (ps : List Place). ps ++ s.rest ∷ []) so_far
-    ∙ ap (λ b. group item (take i splits) ++ map (λ (s : Split). s.rest) (cond b (s ∷ []) [])) (sym same) ∙ sym (group_more item splits i s lt is)
-
-pub group_pass : (item : Item) (found : List Place) (splits : List Split) (i : ℕ) (s : Split) → i < length splits → s ≡ get_or splits i s → same_item item (item_seen s.item) ≡ false
-    → found ≡ group item (take i splits) → found ≡ group item (take (i + 1) splits)
-group_pass item found splits i s lt is other so_far =
-    so_far ∙ sym (group_more item splits i s lt is ∙ ap (λ b. group item (take i splits) ++ map (λ (s : Split). s.rest) (cond b (s ∷ []) [])) other ∙ nothing (group item (take i splits)))
-  where
-    nothing : (ps : List Place) → ps ++ [] ≡ ps
-    nothing [] = refl
-    nothing (p ∷ ps) = ap (λ (qs : List Place). p ∷ qs) (nothing ps)
-
-pub group_all : (item : Item) (found : List Place) (splits : List Split) (i : ℕ) → length splits ≤ i → found ≡ group item (take i splits) → found ≡ group item splits
-group_all item found splits i le so_far = so_far ∙ ap (group item) (take_all i splits le)
-
-pub ruleset group_steps = (group_put, group_pass, group_all)
-
--- ---- counts
-
-abbrev pub place_origins : List Place → List Origin
-place_origins places = map (λ p. p.origin) places
-
-pub counted_more : (places : List Place) (i : ℕ) (p : Place) (last : Option ℕ) → i < length places → p ≡ get_or places i p
-    → counted last (place_origins (drop i places)) ≡ cond (is_last last p.origin.path) 0 p.origin.count + counted (Some p.origin.path) (place_origins (drop (i + 1) places))
-counted_more places i p last lt is =
-    ap (λ (ps : List Place). counted last (place_origins ps)) (drop-cons places i p lt)
-    ∙ ap (λ (q : Place). cond (is_last last q.origin.path) 0 q.origin.count + counted (Some q.origin.path) (place_origins (drop (suc i) places))) (sym is)
-    ∙ ap (λ (k : ℕ). cond (is_last last p.origin.path) 0 p.origin.count + counted (Some p.origin.path) (place_origins (drop k places))) (sym (add-one i))
-
--- ---- the row of an item
-
-module _ (view : View) (c : Content) (chain : List Item) (item : Item) where
-  abbrev chain_more : List Item
-  chain_more = chain ++ item ∷ []
-
-  group_origins : (splits : List Split) → place_origins (group item splits) ≡ origins (of_item item (map (cut_of view c) splits))
-  group_origins [] = refl
-  group_origins (s ∷ splits) =
-      elim (same_item item (item_seen s.item)) as (λ b. place_origins (map (λ (s : Split). s.rest) (cond b (s ∷ filter (λ s. same_item item (item_seen s.item)) splits) (filter (λ s. same_item item (item_seen s.item)) splits)))
-      ≡ origins (map (λ (x : Item × Held). x.1) (cond b (cut_of view c s ∷ filter (λ x. same_item item x.0) (map (cut_of view c) splits)) (filter (λ x. same_item item x.0) (map (cut_of view c) splits))))) [
-        | true ↦ ap (λ (os : List Origin). s.rest.origin ∷ os) (group_origins splits)
-        | false ↦ group_origins splits
-      ]
-
-  origins_are : (splits : List Split) → AreSplits view c chain splits → place_origins (group item splits) ≡ origins (narrowed chain_more (all_places view c))
-  origins_are splits are =
-      group_origins splits ∙ ap (λ (cs : List (Item × Held)). origins (of_item item cs)) are ∙ ap origins (sym (narrowed_more chain item (all_places view c)))
-
-  pub samples_counted : (splits : List Split) → AreSplits view c chain splits → counted None (place_origins (group item splits)) ≡ count_by (holds chain_more) (samples_of view c)
-  samples_counted splits are =
-      ap (counted None) (origins_are splits are)
-      ∙ counted_is view (naming_in c.names) chain_more None 0 (counted_paths c) tt
-      ∙ sym (passing_is c (sample_of view (naming_in c.names)) (holds chain_more))
-
-  pub samples_ended : (splits : List Split) → AreSplits view c chain splits → sum_by (λ p. ended_one p.origin) (group item splits) ≡ count_by (ends chain_more) (samples_of view c)
-  samples_ended splits are =
-      sym (sum_by-map ended_one (λ (p : Place). p.origin) (group item splits))
-      ∙ ap (sum_by ended_one) (origins_are splits are)
-      ∙ ended_is view (naming_in c.names) chain_more 0 (counted_paths c)
-      ∙ sym (passing_is c (sample_of view (naming_in c.names)) (ends chain_more))
-
-  pub few_samples : (t : Sample → Bool) → IsProfile c → count_by t (samples_of view c) ≤ most_samples
-  few_samples t profile =
-      let some = count_by-le-length t (samples_of view c) in
-      let all = length-map (paths_of c) (λ p. sample_of view (naming_in c.names) (reverse p.path)) in
-      omega (arith, some, all, profile.samples)
-
-  pub group_counted : (splits : List Split) (places : List Place) → AreSplits view c chain splits → places ≡ group item splits → counted None (place_origins places) ≡ count_by (holds chain_more) (samples_of view c)
-  group_counted splits places are is = ap (λ (ps : List Place). counted None (place_origins ps)) is ∙ samples_counted splits are
-
-  pub group_ended : (splits : List Split) (places : List Place) → AreSplits view c chain splits → places ≡ group item splits → sum_by (λ p. ended_one p.origin) places ≡ count_by (ends chain_more) (samples_of view c)
-  group_ended splits places are is = ap (sum_by (λ (p : Place). ended_one p.origin)) is ∙ samples_ended splits are
-
-  pub few_counted : (splits : List Split) (places : List Place) → IsProfile c → AreSplits view c chain splits → places ≡ group item splits → counted None (place_origins places) ≤ most_samples
-  few_counted splits places profile are is = let few = few_samples (holds chain_more) profile in let all = group_counted splits places are is in omega (arith, few, all)
-
-  pub few_ended : (splits : List Split) (places : List Place) → IsProfile c → AreSplits view c chain splits → places ≡ group item splits → sum_by (λ p. ended_one p.origin) places ≤ most_samples
-  few_ended splits places profile are is = let few = few_samples (ends chain_more) profile in let all = group_ended splits places are is in omega (arith, few, all)
 
 -- ---- the rows of a chain
 
@@ -156,17 +55,17 @@ inside (a ∷ chain) item (b ∷ items) h = or_right (same_item item b) (list_an
 any_if_counted : {X : Type 0} (p : X → Bool) (xs : List X) → (count_by p xs ≡ 0 → ⊥) → list_any p xs ≡ true
 any_if_counted p xs some = elim (list_any p xs) as (λ b. list_any p xs ≡ b → b ≡ true) [ true ↦ λ e. refl | false ↦ λ e. absurd (some (count_none p xs e)) ] refl
 
-nonzero_count : (period count : ℕ) → not (period * count == 0) ≡ true → count ≡ 0 → ⊥
-nonzero_count period count h e = true≢false (sym h ∙ ap (λ (k : ℕ). not (period * k == 0)) e ∙ zero_product period)
-  where
-    zero_product : (p : ℕ) → not (p * 0 == 0) ≡ false
-    zero_product p = ap (λ (k : ℕ). not (k == 0)) (let z : p * 0 ≡ 0 = omega arith in z)
+nonzero : (value : ℕ) → not (value == 0) ≡ true → value ≡ 0 → ⊥
+nonzero value h e = true≢false (sym h ∙ ap (λ (k : ℕ). not (k == 0)) e)
 
-filter_none : {X : Type 0} (p : X → Bool) (xs : List X) → list_any p xs ≡ false → filter p xs ≡ []
-filter_none p [] h = refl
-filter_none p (x ∷ xs) h = elim (p x) as (λ b. (b || list_any p xs) ≡ false → cond b (x ∷ filter p xs) (filter p xs) ≡ []) [
+nonzero_count : (period count : ℕ) → not (period * count == 0) ≡ true → count ≡ 0 → ⊥
+nonzero_count period count h e = nonzero (period * count) h (ap (λ (k : ℕ). period * k) e ∙ (let z : period * 0 ≡ 0 = omega arith in z))
+
+pub none_passes : {X : Type 0} (p : X → Bool) (xs : List X) → list_any p xs ≡ false → filter p xs ≡ []
+none_passes p [] h = refl
+none_passes p (x ∷ xs) h = elim (p x) as (λ b. (b || list_any p xs) ≡ false → cond b (x ∷ filter p xs) (filter p xs) ≡ []) [
   | true ↦ λ e. absurd (true≢false e)
-  | false ↦ λ e. filter_none p xs e
+  | false ↦ λ e. none_passes p xs e
 ] h
 
 any_both : {X : Type 0} (t : X → Bool) (xs ys : List X) → ((x : X) → t x ≡ true → Contains ys x) → list_any t xs ≡ true → list_any t ys ≡ true
@@ -175,7 +74,7 @@ any_both t xs ys inside h =
     let there = inside a.1 a.4 in
     list_any_at t ys there.0 a.1 there.1 (ap t there.2 ∙ a.4)
 
-module _ (view : View) (c : Content) (chain : List Item) (splits : List Split) (are : AreSplits view c chain splits) where
+module _ (view : View) (c : Content) (chain : List Item) (splits : List Split) (profile : IsProfile c) (frames : Frames) (all : AreFrames view c frames) (are : AreSplits view c chain splits) where
   abbrev samples : List Sample
   samples = samples_of view c
 
@@ -200,12 +99,12 @@ module _ (view : View) (c : Content) (chain : List Item) (splits : List Split) (
 
   in_found : (item : Item) → some (row item) ≡ true → Contains found item
   in_found item h =
-      let counts = samples_counted view c chain item splits are in
+      let value = group_covers view c chain item splits (group item splits) are refl profile frames all in
       let there : list_any (λ (s : Split). same_item item (item_seen s.item)) splits ≡ true =
       elim (list_any (λ (s : Split). same_item item (item_seen s.item)) splits) as (λ b. list_any (λ (s : Split). same_item item (item_seen s.item)) splits ≡ b → b ≡ true) [
         | true ↦ λ e. refl
-        | false ↦ λ e. absurd (nonzero_count c.period (count_by (holds (chain ++ item ∷ [])) samples) h
-            (sym counts ∙ ap (λ (ss : List Split). counted None (place_origins (map (λ (s : Split). s.rest) ss))) (filter_none (λ (s : Split). same_item item (item_seen s.item)) splits e)))
+        | false ↦ λ e. absurd (nonzero (c.period * count_by (holds (chain ++ item ∷ [])) samples) h
+            (sym value ∙ ap (λ (ss : List Split). covered frames.ends.items frames.sums.items 0 (group_frames ss)) (none_passes (λ (s : Split). same_item item (item_seen s.item)) splits e)))
       ] refl in
       Contains-from_has item_order_total item_order_tells item found
       (has_ascending item_order_total item_order_tells item (map (λ (s : Split). item_seen s.item) splits) ∙ list_any_map (same_item item) (λ (s : Split). item_seen s.item) splits ∙ there)
@@ -276,17 +175,13 @@ module _ (view : View) (c : Content) (chain : List ItemRef) where
       so_far ∙ ap (λ (l : List ItemRef). filter is_some (map (row_of_item view c chain) l)) (take_all i items le)
       ∙ ap (filter is_some) (sym (map_of_map (row_at c.period (samples_of view c) (items_seen chain)) item_seen items))
 
-  pub rows_are : (splits : List Split) (items : List ItemRef) (rows sorted : List RowRef) → AreSplits view c (items_seen chain) splits
+  pub rows_are : (splits : List Split) (items : List ItemRef) (rows sorted : List RowRef) (frames : Frames) → IsProfile c → AreFrames view c frames → AreSplits view c (items_seen chain) splits
       → items_seen items ≡ ascending item_order (map (λ s. item_seen s.item) splits)
       → map row_seen rows ≡ filter is_some (map (row_at c.period (samples_of view c) (items_seen chain)) (items_seen items))
       → map row_seen sorted ≡ ascending row_order (map row_seen rows)
       → map row_seen sorted ≡ rows_under c.period (samples_of view c) (items_seen chain)
-  rows_are splits items rows sorted are heads found order =
-      order ∙ ap (ascending row_order) (found ∙ ap (λ (l : List Item). filter is_some (map (row_at c.period (samples_of view c) (items_seen chain)) l)) heads)
-      ∙ rows_found view c (items_seen chain) splits are
+  rows_are splits items rows sorted frames profile all are firsts found order =
+      order ∙ ap (ascending row_order) (found ∙ ap (λ (l : List Item). filter is_some (map (row_at c.period (samples_of view c) (items_seen chain)) l)) firsts)
+      ∙ rows_found view c (items_seen chain) splits profile frames all are
 
 pub ruleset rows_steps = (row_put, row_pass, rows_all, rows_are)
-
-pub ruleset row_steps = (samples_counted, samples_ended, few_samples)
-
-pub ruleset count_steps = (counted_more)

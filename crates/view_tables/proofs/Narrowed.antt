@@ -1,27 +1,29 @@
--- What a chain of items leaves of places, and how many samples these are.
-use Rattle.std.proofs.Common.{◌≡◌, ℕ, zero, suc, ◌+◌, ◌*◌, ◌/◌, ◌<◌, ◌≤◌, ◌==◌, Bool, true, false, cond, ◌&&◌, ◌||◌, List, [], ◌∷◌, ◌++◌, length, get_or, map, filter, count_by, sum_by, replicate, Option, None, Some, refl, sym, ap, ap₂, subst, ◌∙◌, arith, append-nil, append_assoc, length-append}
-use Rattle.std.specs.Prelude.{reverse}
-use Rattle.std.specs.List.{flat_map, list_any, enumerate_from}
-use Rattle.std.proofs.lemmas.Bool.{ne_eqb, eqb-true}
-use Rattle.std.proofs.lemmas.List.{map-append}
+-- What a chain of items leaves of places, and what these weigh.
+use Rattle.std.proofs.Common.{◌≡◌, ℕ, zero, suc, ◌+◌, ◌*◌, ◌<◌, ◌≤◌, ◌^◌, Bool, true, false, cond, ◌&&◌, ◌||◌, List, [], ◌∷◌, ◌++◌, length, map, filter, count_by, sum_by, All, refl, sym, ap, subst, ◌∙◌, arith}
+use Rattle.std.specs.Prelude.{slice_index}
+use Rattle.std.specs.List.{AllByRecursion, flat_map, range_with_len}
+use Rattle.std.proofs.Math.Nat.{mul-le-mul_left}
+use Rattle.std.proofs.lemmas.List.{map-append, length-map}
 use Rattle.std.proofs.lemmas.List.Concat.{flat_map-append}
-use Rattle.std.proofs.lemmas.List.Elements.{filter-append}
-use Rattle.std.proofs.lemmas.List.Sums.{sum_by-append, sum_by-cons, count_by-le-length}
-use Rattle.scope_types.specs.CallPaths.{HartPath}
-use Rattle.scope_types.specs.Limits.{most_samples}
+use Rattle.std.proofs.lemmas.List.Elements.{All-from_recursion, filter-append}
+use Rattle.std.proofs.lemmas.List.Sums.{sum_by-cons, count_by-le-length}
 use Rattle.tree_types.specs.declared.content.Content.{Content}
-use Rattle.tree_types.specs.declared.content.ProfileEntry.{ProfileEntry}
 use Rattle.tree_types.specs.Database.{naming_in}
-use Rattle.tree_types.specs.Naming.{Naming}
 use Rattle.tree_types.specs.OfContent.{IsProfile}
-use Rattle.tree_types.specs.Paths.{Path}
-use Rattle.tree_types.specs.PathsOf.{entry_paths, is_exclusive, paths_of, tree_paths}
-use Rattle.tree_types.proofs.Counting.{one, count_by-cons}
-use Rattle.tree_types.proofs.PathsAgain.{sum_by-flat_map, sum_by-map}
-use Rattle.view_tables.specs.declared.place.Origin.{Origin}
+use Rattle.tree_types.specs.PathsOf.{paths_of}
+use Rattle.tree_types.specs.Tree.{node_at}
+use Rattle.tree_types.proofs.PathsAgain.{sum_by-map}
+use Rattle.view_tables.specs.declared.frames.Frames.{Frames}
+use Rattle.view_tables.specs.declared.place.Split.{Split}
 use Rattle.view_tables.specs.declared.place.View.{View}
-use Rattle.view_tables.specs.Views.{Item, Sample, same_item, begins_with, holds, ends}
-use Rattle.view_tables.specs.private.Places.{Held, cut_one, cuts, of_item, narrowed, is_last, counted, ended_one, origins, own_places, places_of, sample_of, counted_entry, counted_column, counted_paths, all_places, samples_of, ups}
+use Rattle.view_tables.specs.Views.{Item, Sample, begins_with, ends, holds, same_item}
+use Rattle.view_tables.specs.private.Frames.{AreFrames, AreRanges, covered, parent_at, sum_below, weight_if}
+use Rattle.view_tables.specs.private.Places.{AreSplits, Held, cut_of, cut_one, cuts, has_frame, held, item_seen, narrowed, node_items, of_item, place_at, sample_at, samples_of, ups}
+use Rattle.view_tables.proofs.Covered.{covered_is, sum_more, sum_none, sum_rises, sum_same}
+use Rattle.view_tables.proofs.Cuts.{a_frame_adds, no_frame_skips}
+use Rattle.view_tables.proofs.Descendants.{parent_less}
+use Rattle.view_tables.proofs.NodeWeights.{no_sample}
+use Rattle.view_tables.proofs.Ups.{ups_at}
 
 -- ---- parts
 
@@ -31,7 +33,7 @@ of_item_append a xs ys = ap (map (λ (s : Item × Held). s.1)) (filter-append (�
 cuts_append : (xs ys : List Held) → cuts (xs ++ ys) ≡ cuts xs ++ cuts ys
 cuts_append xs ys = flat_map-append (λ (h : Held). cut_one h.0 h.1) xs ys
 
-pub narrowed_append : (chain : List Item) (xs ys : List Held) → narrowed chain (xs ++ ys) ≡ narrowed chain xs ++ narrowed chain ys
+narrowed_append : (chain : List Item) (xs ys : List Held) → narrowed chain (xs ++ ys) ≡ narrowed chain xs ++ narrowed chain ys
 narrowed_append [] xs ys = refl
 narrowed_append (a ∷ chain) xs ys =
     ap (λ (cs : List (Item × Held)). narrowed chain (of_item a cs)) (cuts_append xs ys)
@@ -46,182 +48,234 @@ narrowed_none : (chain : List Item) → narrowed chain [] ≡ []
 narrowed_none [] = refl
 narrowed_none (a ∷ chain) = narrowed_none chain
 
-origins_append : (xs ys : List Held) → origins (xs ++ ys) ≡ origins xs ++ origins ys
-origins_append xs ys = map-append (λ (h : Held). h.0) xs ys
+-- ---- the frames that a chain leaves
 
--- ---- one place
+abbrev frames_of : List Held → List ℕ
+frames_of hs = map (λ h. h.0) hs
 
-abbrev kept : Bool → Origin → List Origin
-kept b o = cond b (o ∷ []) []
+abbrev kept : Bool → ℕ → List ℕ
+kept b frame = cond b (frame ∷ []) []
 
-one_kept : (chain : List Item) (o : Origin) (items : List Item) → origins (narrowed chain ((o, items) ∷ [])) ≡ kept (begins_with chain items) o
-one_kept [] o items = refl
-one_kept (a ∷ chain) o [] = ap origins (narrowed_none chain)
-one_kept (a ∷ chain) o (b ∷ items) =
-    elim (same_item a b) as (λ t. origins (narrowed chain (map (λ (s : Item × Held). s.1) (cond t ((b, (o, items)) ∷ []) []))) ≡ kept (t && begins_with chain items) o) [
-      | true ↦ one_kept chain o items
-      | false ↦ ap origins (narrowed_none chain)
+one_kept : (chain : List Item) (frame : ℕ) (items : List Item) → frames_of (narrowed chain ((frame, items) ∷ [])) ≡ kept (begins_with chain items) frame
+one_kept [] frame items = refl
+one_kept (a ∷ chain) frame [] = ap frames_of (narrowed_none chain)
+one_kept (a ∷ chain) frame (b ∷ items) =
+    elim (same_item a b) as (λ t. frames_of (narrowed chain (map (λ (s : Item × Held). s.1) (cond t ((b, (frame, items)) ∷ []) []))) ≡ kept (t && begins_with chain items) frame) [
+      | true ↦ one_kept chain frame items
+      | false ↦ ap frames_of (narrowed_none chain)
     ]
 
--- ---- the places of one path
+module _ (view : View) (c : Content) (chain : List Item) where
+  -- the frames whose items begin with the chain
+  abbrev pub mark : ℕ → Bool
+  mark number = has_frame view (ups c number) && begins_with chain (node_items view c number)
 
-abbrev origin : ℕ → ℕ → Bool → Origin
-origin path count innermost = record { path = path; count = count; innermost = innermost }
+  one_mark : (b : Bool) (number : ℕ) → frames_of (narrowed chain (cond b ((number, node_items view c number) ∷ []) [])) ≡ kept (b && begins_with chain (node_items view c number)) number
+  one_mark true number = one_kept chain number (node_items view c number)
+  one_mark false number = ap frames_of (narrowed_none chain)
 
-own_more : (chain : List Item) (path count : ℕ) (innermost : Bool) (items : List Item) (sample : Sample)
-    → origins (narrowed chain (own_places path count innermost (items ∷ sample)))
-    ≡ kept (begins_with chain items) (origin path count innermost) ++ origins (narrowed chain (own_places path count false sample))
-own_more chain path count innermost items sample =
-    ap origins (narrowed_append chain ((origin path count innermost, items) ∷ []) (own_places path count false sample))
-    ∙ origins_append (narrowed chain ((origin path count innermost, items) ∷ [])) (narrowed chain (own_places path count false sample))
-    ∙ ap (λ (os : List Origin). os ++ origins (narrowed chain (own_places path count false sample))) (one_kept chain (origin path count innermost) items)
+  put_front : (b : Bool) (number : ℕ) (fs : List ℕ) → kept b number ++ fs ≡ cond b (number ∷ fs) fs
+  put_front true number fs = refl
+  put_front false number fs = refl
 
--- a path is counted once
-counted_again : (chain : List Item) (path count : ℕ) (innermost : Bool) (sample : Sample) (ys : List Origin)
-    → counted (Some path) (origins (narrowed chain (own_places path count innermost sample)) ++ ys) ≡ counted (Some path) ys
-counted_again chain path count innermost [] ys = ap (λ (os : List Origin). counted (Some path) (os ++ ys)) (ap origins (narrowed_none chain))
-counted_again chain path count innermost (items ∷ sample) ys =
-    ap (λ (os : List Origin). counted (Some path) (os ++ ys)) (own_more chain path count innermost items sample)
-    ∙ elim (begins_with chain items) as (λ b. counted (Some path) ((kept b (origin path count innermost) ++ origins (narrowed chain (own_places path count false sample))) ++ ys) ≡ counted (Some path) ys) [
-      | true ↦ here ∙ counted_again chain path count false sample ys
-      | false ↦ counted_again chain path count false sample ys
-    ]
-  where
-    itself : (n : ℕ) → (n == n) ≡ true
-    itself n = grind arith
+  pub marks_left : (a n : ℕ) → frames_of (narrowed chain (flat_map (place_at view c) (range_with_len a n))) ≡ filter mark (range_with_len a n)
+  marks_left a zero = ap frames_of (narrowed_none chain)
+  marks_left a (suc n) =
+      let rest : List Held = flat_map (place_at view c) (range_with_len (a + 1) n) in
+      ap frames_of (narrowed_append chain (place_at view c a) rest)
+      ∙ map-append (λ (h : Held). h.0) (narrowed chain (place_at view c a)) (narrowed chain rest)
+      ∙ (λ i. one_mark (has_frame view (ups c a)) a i ++ marks_left (a + 1) n i)
+      ∙ put_front (mark a) a (filter mark (range_with_len (a + 1) n))
 
-    rest : List Origin
-    rest = origins (narrowed chain (own_places path count false sample)) ++ ys
+-- ---- what holds of a frame with its descendants
 
-    here : cond (path == path) 0 count + counted (Some path) rest ≡ counted (Some path) rest
-    here = ap (λ b. cond b 0 count + counted (Some path) rest) (itself path) ∙ (let z : 0 + counted (Some path) rest ≡ counted (Some path) rest = omega arith in z)
+module _ (view : View) (c : Content) (chain : List Item) (profile : IsProfile c) where
+  abbrev is_mark : ℕ → Bool
+  is_mark number = mark view c chain number
 
--- the last path that was counted stands before
-abbrev pub IsBefore : Option ℕ → ℕ → Type 0
-IsBefore None path = Unit
-IsBefore (Some last) path = last < path
+  abbrev below : ℕ → Bool
+  below number = holds chain (sample_at view c number)
 
-not_last : (last : Option ℕ) (path : ℕ) → IsBefore last path → is_last last path ≡ false
-not_last None path before = refl
-not_last (Some last) path before = ne_eqb last path (λ e. absurd (omega arith))
+  own_sample : (number : ℕ) → number < length c.nodes → has_frame view (ups c number) ≡ true → sample_at view c number ≡ node_items view c number ∷ sample_at view c (parent_at c number)
+  own_sample number lt there = a_frame_adds view (naming_in c.names) (ups c number) (node_at c.nodes number).scope (ups c (parent_at c number)) (ups_at c number _ profile lt) there
 
-counted_first : (chain : List Item) (last : Option ℕ) (path count : ℕ) (innermost : Bool) (sample : Sample) (ys : List Origin) → IsBefore last path
-    → counted last (origins (narrowed chain (own_places path count innermost sample)) ++ ys)
-    ≡ cond (holds chain sample) (count + counted (Some path) ys) (counted last ys)
-counted_first chain last path count innermost [] ys before = ap (λ (os : List Origin). counted last (os ++ ys)) (ap origins (narrowed_none chain))
-counted_first chain last path count innermost (items ∷ sample) ys before =
-    ap (λ (os : List Origin). counted last (os ++ ys)) (own_more chain path count innermost items sample)
-    ∙ elim (begins_with chain items) as (λ b. counted last ((kept b (origin path count innermost) ++ origins (narrowed chain (own_places path count false sample))) ++ ys) ≡ cond (b || holds chain sample) (count + counted (Some path) ys) (counted last ys)) [
-      | true ↦
-          ap (λ b. cond b 0 count + counted (Some path) (origins (narrowed chain (own_places path count false sample)) ++ ys)) (not_last last path before)
-          ∙ ap (λ (k : ℕ). count + k) (counted_again chain path count false sample ys)
-      | false ↦ counted_first chain last path count false sample ys before
-    ]
+  upper_sample : (number : ℕ) → number < length c.nodes → has_frame view (ups c number) ≡ false → sample_at view c number ≡ sample_at view c (parent_at c number)
+  upper_sample number lt none = no_frame_skips view (naming_in c.names) (ups c number) (node_at c.nodes number).scope (ups c (parent_at c number)) (ups_at c number _ profile lt) none
 
--- ---- the places of many paths
-
-module _ (view : View) (naming : Naming) (chain : List Item) where
-  abbrev holding : ℕ × Path → ℕ
-  holding w = cond (holds chain (sample_of view naming w.1)) w.0 0
-
-  abbrev ending : ℕ × Path → ℕ
-  ending w = cond (ends chain (sample_of view naming w.1)) w.0 0
-
-  split_places : (from : ℕ) (w : ℕ × Path) (ws : List (ℕ × Path)) → origins (narrowed chain (places_of view naming from (w ∷ ws)))
-      ≡ origins (narrowed chain (own_places from w.0 true (sample_of view naming w.1))) ++ origins (narrowed chain (places_of view naming (from + length (sample_of view naming w.1)) ws))
-  split_places from w ws =
-      let front : List Held = own_places from w.0 true (sample_of view naming w.1) in
-      let back : List Held = places_of view naming (from + length (sample_of view naming w.1)) ws in
-      ap origins (narrowed_append chain front back) ∙ origins_append (narrowed chain front) (narrowed chain back)
-
-  some_held : (sample : Sample) → holds chain sample ≡ true → 0 < length sample
-  some_held [] h = cc
-  some_held (s ∷ sample) h = omega arith
-
-  later : (last : Option ℕ) (a b : ℕ) → IsBefore last a → IsBefore last (a + b)
-  later None a b before = tt
-  later (Some last) a b before = omega arith
-
-  pub counted_is : (last : Option ℕ) (from : ℕ) (ws : List (ℕ × Path)) → IsBefore last from → counted last (origins (narrowed chain (places_of view naming from ws))) ≡ sum_by holding ws
-  counted_is last from [] before = ap (λ (hs : List Held). counted last (origins hs)) (narrowed_none chain)
-  counted_is last from (w ∷ ws) before =
-      let sample : Sample = sample_of view naming w.1 in
-      let rest : List Origin = origins (narrowed chain (places_of view naming (from + length sample) ws)) in
-      ap (counted last) (split_places from w ws)
-      ∙ counted_first chain last from w.0 true sample rest before
-      ∙ elim (holds chain sample) as (λ b. holds chain sample ≡ b → cond b (w.0 + counted (Some from) rest) (counted last rest) ≡ cond b w.0 0 + sum_by holding ws) [
-        | true ↦ λ e. (let some = some_held sample e in ap (λ (k : ℕ). w.0 + k) (counted_is (Some from) (from + length sample) ws (omega (arith, some))))
-        | false ↦ λ e. counted_is last (from + length sample) ws (later last from (length sample) before) ∙ (let z : sum_by holding ws ≡ 0 + sum_by holding ws = omega arith in z)
+  below_is : (number : ℕ) → number < length c.nodes → below number ≡ (is_mark number || below (parent_at c number))
+  below_is number lt =
+      let begins : Bool = begins_with chain (node_items view c number) in
+      elim (has_frame view (ups c number)) as (λ b. has_frame view (ups c number) ≡ b → below number ≡ ((b && begins) || below (parent_at c number))) [
+        | true ↦ λ e. ap (holds chain) (own_sample number lt e)
+        | false ↦ λ e. ap (holds chain) (upper_sample number lt e)
       ] refl
-      ∙ sym (sum_by-cons holding w ws)
 
-  inner_ended : (path count : ℕ) (sample : Sample) → sum_by ended_one (origins (narrowed chain (own_places path count false sample))) ≡ 0
-  inner_ended path count [] = ap (λ (hs : List Held). sum_by ended_one (origins hs)) (narrowed_none chain)
-  inner_ended path count (items ∷ sample) =
-      ap (sum_by ended_one) (own_more chain path count false items sample)
-      ∙ elim (begins_with chain items) as (λ b. sum_by ended_one (kept b (origin path count false) ++ origins (narrowed chain (own_places path count false sample))) ≡ 0) [
-        | true ↦ sum_by-cons ended_one (origin path count false) (origins (narrowed chain (own_places path count false sample))) ∙ ap (λ (k : ℕ). 0 + k) (inner_ended path count sample)
-        | false ↦ inner_ended path count sample
-      ]
+  none_past : (number : ℕ) → length c.nodes ≤ number → below number ≡ false
+  none_past number past = ap (holds chain) (no_sample view c number past)
 
-  own_ended : (path count : ℕ) (sample : Sample) → sum_by ended_one (origins (narrowed chain (own_places path count true sample))) ≡ cond (ends chain sample) count 0
-  own_ended path count [] = ap (λ (hs : List Held). sum_by ended_one (origins hs)) (narrowed_none chain)
-  own_ended path count (items ∷ sample) =
-      ap (sum_by ended_one) (own_more chain path count true items sample)
-      ∙ elim (begins_with chain items) as (λ b. sum_by ended_one (kept b (origin path count true) ++ origins (narrowed chain (own_places path count false sample))) ≡ cond (b || false) count 0) [
-        | true ↦ sum_by-cons ended_one (origin path count true) (origins (narrowed chain (own_places path count false sample))) ∙ ap (λ (k : ℕ). count + k) (inner_ended path count sample) ∙ (let z : count + 0 ≡ count = omega arith in z)
-        | false ↦ inner_ended path count sample
-      ]
-
-  pub ended_is : (from : ℕ) (ws : List (ℕ × Path)) → sum_by ended_one (origins (narrowed chain (places_of view naming from ws))) ≡ sum_by ending ws
-  ended_is from [] = ap (λ (hs : List Held). sum_by ended_one (origins hs)) (narrowed_none chain)
-  ended_is from (w ∷ ws) =
-      let sample : Sample = sample_of view naming w.1 in
-      ap (sum_by ended_one) (split_places from w ws)
-      ∙ sum_by-append ended_one (origins (narrowed chain (own_places from w.0 true sample))) (origins (narrowed chain (places_of view naming (from + length sample) ws)))
-      ∙ (λ i. own_ended from w.0 sample i + ended_is (from + length sample) ws i)
-      ∙ sym (sum_by-cons ending w ws)
-
--- ---- the samples of a content
-
-copies : {X : Type 0} (t : X → Bool) (n : ℕ) (x : X) → count_by t (replicate n x) ≡ cond (t x) n 0
-copies t zero x = elim (t x) as (λ b. ◌≡◌ {A = ℕ} 0 (cond b 0 0)) [ true ↦ refl | false ↦ refl ]
-copies t (suc n) x =
-    count_by-cons t x (replicate n x) ∙ ap (λ (k : ℕ). one (t x) + k) (copies t n x)
-    ∙ elim (t x) as (λ b. one b + cond b n 0 ≡ cond b (suc n) 0) [ true ↦ omega arith | false ↦ refl ]
-
-module _ (c : Content) (f : Path → Sample) (t : Sample → Bool) where
-  abbrev passing : ℕ × Path → ℕ
-  passing w = cond (t (f w.1)) w.0 0
-
-  abbrev passes : HartPath → Bool
-  passes p = t (f (reverse p.path))
-
-  of_entry : (hart : ℕ) (e : ProfileEntry) → count_by passes (entry_paths c.period (tree_paths c.nodes) hart e) ≡ sum_by passing (counted_entry c e)
-  of_entry hart e =
-      elim (is_exclusive e.kind) as (λ b. count_by passes (cond b (replicate (e.value / c.period) (record { hart = hart; path = get_or (tree_paths c.nodes) e.node [] })) []) ≡ sum_by passing (cond b ((e.value / c.period, ups c e.node) ∷ []) [])) [
-        | true ↦ copies passes (e.value / c.period) (record { hart = hart; path = get_or (tree_paths c.nodes) e.node [] }) ∙ zero_more (passing (e.value / c.period, ups c e.node))
-        | false ↦ refl
-      ]
+  ends_is : (number : ℕ) → number < length c.nodes → has_frame view (ups c number) ≡ true → ends chain (sample_at view c number) ≡ begins_with chain (node_items view c number)
+  ends_is number lt there = ap (ends chain) (own_sample number lt there) ∙ or_false (begins_with chain (node_items view c number))
     where
-      zero_more : (n : ℕ) → n ≡ 0 + n
-      zero_more n = omega arith
+      or_false : (b : Bool) → (b || false) ≡ b
+      or_false true = refl
+      or_false false = refl
 
-  of_column : (hart : ℕ) (es : List ProfileEntry) → count_by passes (flat_map (entry_paths c.period (tree_paths c.nodes) hart) es) ≡ sum_by passing (counted_column c es)
-  of_column hart es =
-      sum_by-flat_map (λ (p : HartPath). one (passes p)) (entry_paths c.period (tree_paths c.nodes) hart) es
-      ∙ (λ i. sum_by (λ (e : ProfileEntry). of_entry hart e i) es)
-      ∙ sym (sum_by-flat_map passing (counted_entry c) es)
+  module _ (frames : Frames) (are : AreFrames view c frames) where
+    abbrev w : ℕ → ℕ
+    w number = slice_index frames.weights.items number
 
-  of_columns : (first : ℕ) (columns : List (List ProfileEntry))
-      → count_by passes (flat_map (λ column. flat_map (entry_paths c.period (tree_paths c.nodes) column.0) column.1) (enumerate_from first columns)) ≡ sum_by passing (flat_map (counted_column c) columns)
-  of_columns first [] = refl
-  of_columns first (column ∷ columns) =
-      sum_by-append (λ (p : HartPath). one (passes p)) (flat_map (entry_paths c.period (tree_paths c.nodes) first) column) (flat_map (λ column. flat_map (entry_paths c.period (tree_paths c.nodes) column.0) column.1) (enumerate_from (first + 1) columns))
-      ∙ (λ i. of_column first column i + of_columns (first + 1) columns i)
-      ∙ sym (sum_by-append passing (counted_column c column) (flat_map (counted_column c) columns))
+    sums_are : (k : ℕ) → k ≤ length c.nodes → slice_index frames.sums.items k ≡ sum_below w k
+    sums_are k le = are.sums.each k (let long = are.weights.long in omega (arith, le, long))
 
-  pub passing_is : count_by t (map (λ p. f (reverse p.path)) (paths_of c)) ≡ sum_by passing (counted_paths c)
-  unfolding paths_of
-  passing_is =
-      sum_by-map (λ (s : Sample). one (t s)) (λ (p : HartPath). f (reverse p.path)) (paths_of c) ∙ of_columns 0 c.profiles
+    abbrev marks : List ℕ
+    marks = filter is_mark (range_with_len 0 (length c.nodes))
+
+    -- the inclusive value of a chain
+    pub marks_cover : covered frames.ends.items frames.sums.items 0 marks ≡ c.period * count_by (holds chain) (samples_of view c)
+    marks_cover =
+        covered_is (length c.nodes) (parent_at c) is_mark below w frames.ends.items frames.sums.items below_is none_past (λ j lt up. parent_less c j profile lt up)
+        (λ i lt. (are.ends.each i (omega arith) lt).behind) (λ i lt. (are.ends.each i (omega arith) lt).within)
+        (λ i lt. (are.ends.each i (omega arith) lt).inside) (λ i lt. (are.ends.each i (omega arith) lt).outside) sums_are
+        ∙ sym (are.weights.samples (holds chain) refl)
+
+    filter_sum : (a n : ℕ) → sum_by w (filter is_mark (range_with_len a n)) ≡ sum_by (λ j. cond (is_mark j) (w j) 0) (range_with_len a n)
+    filter_sum a zero = refl
+    filter_sum a (suc n) =
+        let rest : List ℕ = filter is_mark (range_with_len (a + 1) n) in
+        elim (is_mark a) as (λ b. sum_by w (cond b (a ∷ rest) rest) ≡ cond b (w a) 0 + sum_by (λ j. cond (is_mark j) (w j) 0) (range_with_len (a + 1) n)) [
+          | true ↦ sum_by-cons w a rest ∙ ap (λ n. w a + n) (filter_sum (a + 1) n)
+          | false ↦ filter_sum (a + 1) n ∙ (let z : sum_by (λ j. cond (is_mark j) (w j) 0) (range_with_len (a + 1) n) ≡ 0 + sum_by (λ j. cond (is_mark j) (w j) 0) (range_with_len (a + 1) n) = omega arith in z)
+        ] ∙ sym (sum_by-cons (λ j. cond (is_mark j) (w j) 0) a (range_with_len (a + 1) n))
+
+    range_sum : (f : ℕ → ℕ) (a n : ℕ) → sum_below f a + sum_by f (range_with_len a n) ≡ sum_below f (a + n)
+    range_sum f a zero = let e : sum_below f (a + 0) ≡ sum_below f a = ap (sum_below f) (let z : a + 0 ≡ a = omega arith in z) in omega (arith, e)
+    range_sum f a (suc n) =
+        let first = sum_by-cons f a (range_with_len (a + 1) n) in
+        let rest = range_sum f (a + 1) n in
+        let more = sum_more f a in
+        let e : sum_below f (a + suc n) ≡ sum_below f ((a + 1) + n) = ap (sum_below f) (let z : a + suc n ≡ (a + 1) + n = omega arith in z) in
+        omega (arith, first, rest, more, e)
+
+    -- the exclusive value of a chain
+    pub marks_weigh : sum_by w marks ≡ c.period * count_by (ends chain) (samples_of view c)
+    marks_weigh =
+        let all = range_sum (λ j. cond (is_mark j) (w j) 0) 0 (length c.nodes) in
+        let none = sum_none (λ j. cond (is_mark j) (w j) 0) in
+        let from_start : sum_below (λ j. cond (is_mark j) (w j) 0) (0 + length c.nodes) ≡ sum_below (λ j. cond (is_mark j) (w j) 0) (length c.nodes) =
+        ap (sum_below (λ j. cond (is_mark j) (w j) 0)) (let z : 0 + length c.nodes ≡ length c.nodes = omega arith in z) in
+        let listed : sum_by (λ j. cond (is_mark j) (w j) 0) (range_with_len 0 (length c.nodes)) ≡ sum_below (λ j. cond (is_mark j) (w j) 0) (length c.nodes) = omega (arith, all, none, from_start) in
+        filter_sum 0 (length c.nodes) ∙ listed
+        ∙ sum_same (λ j. cond (is_mark j) (w j) 0) (weight_if (λ j. ends chain (sample_at view c j)) frames.weights.items) (length c.nodes) same_weight
+        ∙ sym (are.weights.samples (ends chain) refl)
+      where
+        same_weight : (j : ℕ) → j < length c.nodes → cond (is_mark j) (w j) 0 ≡ cond (ends chain (sample_at view c j)) (w j) 0
+        same_weight j lt =
+            elim (has_frame view (ups c j)) as (λ b. has_frame view (ups c j) ≡ b → cond (b && begins_with chain (node_items view c j)) (w j) 0 ≡ cond (ends chain (sample_at view c j)) (w j) 0) [
+              | true ↦ λ e. ap (λ b. cond b (w j) 0) (sym (ends_is j lt e))
+              | false ↦ λ e. sym (ap (λ v. cond (ends chain (sample_at view c j)) v 0) (are.weights.none j (omega arith) e) ∙ nothing (ends chain (sample_at view c j)))
+            ] refl
+          where
+            nothing : (b : Bool) → ◌≡◌ {A = ℕ} (cond b 0 0) 0
+            nothing true = refl
+            nothing false = refl
+
+    value_few : (t : Sample → Bool) → c.period * count_by t (samples_of view c) ≤ 2 ^ 52
+    value_few t =
+        let some = count_by-le-length t (samples_of view c) in
+        let all : length (samples_of view c) ≡ length (paths_of c) = length-map (paths_of c) _ in
+        let most : c.period * count_by t (samples_of view c) ≤ c.period * length (paths_of c) = mul-le-mul_left c.period (omega (arith, some, all)) in
+        let small = are.small in
+        omega (arith, most, small)
+
+    pub cover_few : covered frames.ends.items frames.sums.items 0 marks ≤ 2 ^ 52
+    cover_few = let few = value_few (holds chain) in let is = marks_cover in omega (arith, few, is)
+
+    pub weigh_few : sum_by w marks ≤ 2 ^ 52
+    weigh_few = let few = value_few (ends chain) in let is = marks_weigh in omega (arith, few, is)
+
+-- ---- a group of splits
+
+abbrev pub group : Item → List Split → List Split
+group item splits = filter (λ s. same_item item (item_seen s.item)) splits
+
+abbrev pub group_frames : List Split → List ℕ
+group_frames splits = map (λ s. s.rest.frame) splits
+
+module _ (view : View) (c : Content) (item : Item) where
+  pub group_held : (splits : List Split) → map (λ s. held view c s.rest) (group item splits) ≡ of_item item (map (cut_of view c) splits)
+  group_held [] = refl
+  group_held (s ∷ splits) =
+      elim (same_item item (item_seen s.item)) as (λ b. map (λ s. held view c s.rest) (cond b (s ∷ group item splits) (group item splits))
+      ≡ map (λ (x : Item × Held). x.1) (cond b (cut_of view c s ∷ filter (λ x. same_item item x.0) (map (cut_of view c) splits)) (filter (λ x. same_item item x.0) (map (cut_of view c) splits)))) [
+        | true ↦ ap (λ (hs : List Held). held view c s.rest ∷ hs) (group_held splits)
+        | false ↦ group_held splits
+      ]
+
+held_frames : (view : View) (c : Content) (splits : List Split) → frames_of (map (λ s. held view c s.rest) splits) ≡ group_frames splits
+held_frames view c [] = refl
+held_frames view c (s ∷ splits) = ap (λ (fs : List ℕ). s.rest.frame ∷ fs) (held_frames view c splits)
+
+module _ (view : View) (c : Content) (chain : List Item) (item : Item) (splits found : List Split) (are : AreSplits view c chain splits) (is : found ≡ group item splits) where
+  abbrev longer : List Item
+  longer = chain ++ item ∷ []
+
+  group_marks : group_frames found ≡ filter (mark view c longer) (range_with_len 0 (length c.nodes))
+  group_marks =
+      ap group_frames is ∙ sym (held_frames view c (group item splits)) ∙ ap frames_of (group_held view c item splits ∙ are item)
+      ∙ marks_left view c longer 0 (length c.nodes)
+
+  all_inside : (p : ℕ → Bool) (a n m : ℕ) → a + n ≡ m → AllByRecursion (λ x. x < m) (filter p (range_with_len a n))
+  all_inside p a zero m e = tt
+  all_inside p a (suc n) m e =
+      let rest = all_inside p (a + 1) n m (omega arith) in
+      elim (p a) as (λ b. AllByRecursion (λ x. x < m) (cond b (a ∷ filter p (range_with_len (a + 1) n)) (filter p (range_with_len (a + 1) n)))) [
+        | true ↦ ((let lt : a < m = omega arith in lt), rest)
+        | false ↦ rest
+      ]
+
+  of_frames : (m : ℕ) (ss : List Split) → AllByRecursion (λ x. x < m) (group_frames ss) → AllByRecursion (λ (s : Split). s.rest.frame < m) ss
+  of_frames m [] all = tt
+  of_frames m (s ∷ ss) all = (all.0, of_frames m ss all.1)
+
+  pub group_inside : (m : ℕ) → m ≡ length c.nodes → All (λ s. s.rest.frame < m) found
+  group_inside m long = All-from_recursion (λ (s : Split). s.rest.frame < m) found
+      (of_frames m found (subst (λ (fs : List ℕ). AllByRecursion (λ x. x < m) fs) (sym group_marks)
+      (all_inside (mark view c longer) 0 (length c.nodes) m (let z : 0 + length c.nodes ≡ m = omega (arith, long) in z))))
+
+  module _ (profile : IsProfile c) (frames : Frames) (all : AreFrames view c frames) where
+    pub group_covers : covered frames.ends.items frames.sums.items 0 (group_frames found) ≡ c.period * count_by (holds longer) (samples_of view c)
+    group_covers = ap (covered frames.ends.items frames.sums.items 0) group_marks ∙ marks_cover view c longer profile frames all
+
+    pub group_weighs : sum_by (λ s. slice_index frames.weights.items s.rest.frame) found ≡ c.period * count_by (ends longer) (samples_of view c)
+    group_weighs =
+        sym (sum_by-map (slice_index frames.weights.items) (λ (s : Split). s.rest.frame) found)
+        ∙ ap (sum_by (slice_index frames.weights.items)) group_marks ∙ marks_weigh view c longer profile frames all
+
+    pub cover_small : covered frames.ends.items frames.sums.items 0 (group_frames found) ≤ 2 ^ 52
+    cover_small = let few = cover_few view c longer profile frames all in let is = ap (covered frames.ends.items frames.sums.items 0) group_marks in omega (arith, few, is)
+
+    pub weigh_small : sum_by (λ s. slice_index frames.weights.items s.rest.frame) found ≤ 2 ^ 52
+    weigh_small = (
+        let few = weigh_few view c longer profile frames all in
+        let is = sym (sum_by-map (slice_index frames.weights.items) (λ (s : Split). s.rest.frame) found) ∙ ap (sum_by (slice_index frames.weights.items)) group_marks in
+        omega (arith, few, is)
+        )
+
+-- the ends and sums of frames
+pub ranges_of : (view : View) (c : Content) (frames : Frames) → AreFrames view c frames → AreRanges frames.ends.items frames.sums.items
+ranges_of view c frames all =
+    let ends_long = all.ends.long in
+    let weights_long = all.weights.long in
+    let sums_long = all.sums.long in
+    record {
+      long = omega (arith, ends_long, weights_long, sums_long);
+      within = λ k lt. (let last = (all.ends.each k (omega arith) (omega (arith, lt, ends_long))).within in omega (arith, last, weights_long, sums_long));
+      rise = λ k lt.
+          let its = all.ends.each k (omega arith) (omega (arith, lt, ends_long)) in
+          let behind = its.behind in
+          let last = its.within in
+          let low = all.sums.each k (omega (arith, lt, ends_long, weights_long)) in
+          let high = all.sums.each (slice_index frames.ends.items k) (omega (arith, last, weights_long)) in
+          let up = sum_rises (slice_index frames.weights.items) k (slice_index frames.ends.items k) (omega (arith, behind)) in
+          omega (arith, low, high, up);
+    }

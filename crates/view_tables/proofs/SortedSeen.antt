@@ -1,5 +1,5 @@
 -- A list sorted, and each element kept once, as it is seen through a function that tells no two alike apart.
-use Rattle.std.proofs.Common.{◌≡◌, Bool, true, false, ◌||◌, List, [], ◌∷◌, map, Ordering, Less, Equal, Contains, is_eq, refl, sym, ap, subst, ◌∙◌}
+use Rattle.std.proofs.Common.{◌≡◌, Bool, true, ◌||◌, List, [], ◌∷◌, map, Ordering, Less, Equal, refl, sym, ap, subst, ◌∙◌}
 use Rattle.std.specs.Cmp.{IsTotalOrder, IsEquivalence}
 use Rattle.std.specs.FinMap.{IsAntisymmetric}
 use Rattle.std.specs.List.{dedup, list_any, AllByRecursion}
@@ -11,7 +11,7 @@ use Rattle.std.proofs.lemmas.List.Folds.{Any-from_list_any, list_any_at}
 use Rattle.std.proofs.lemmas.List.Kept.{Any-dedup, Contains-from_dedup, IsStrictlySortedBy-dedup}
 use Rattle.std.proofs.lemmas.List.Sorted.{Contains-permutation, IsPermutation-sym}
 use Rattle.tree_types.specs.Ascending.{ascending}
-use Rattle.tree_types.proofs.Sorting.{has, bool_same, equal_from_is, same_sorted, sorted_ascending, has_ascending}
+use Rattle.tree_types.proofs.Sorting.{bool_same, equal_from_is, same_sorted, sorted_ascending, has_ascending}
 
 list_any_map : {X Y : Type 0} (p : Y → Bool) (f : X → Y) (xs : List X) → list_any p (map f xs) ≡ list_any (λ x. p (f x)) xs
 list_any_map p f [] = refl

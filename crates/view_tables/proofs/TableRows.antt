@@ -1,12 +1,12 @@
 -- The rows of a table, a node at a time.
-use Rattle.std.proofs.Common.{◌≡◌, ℕ, ◌+◌, ◌-◌, ◌<◌, ◌≤◌, ◌^◌, List, [], ◌∷◌, ◌++◌, length, take, get_or, refl, sym, ap, ◌∙◌, arith, take_all, length-append}
+use Rattle.std.proofs.Common.{◌≡◌, ℕ, ◌+◌, ◌-◌, ◌<◌, ◌≤◌, ◌^◌, List, [], ◌++◌, length, take, get_or, refl, sym, ap, ◌∙◌, arith, take_all, length-append}
 use Rattle.std.specs.Prelude.{min}
 use Rattle.std.proofs.lemmas.List.{get_or_default}
 use Rattle.std.specs.List.{flat_map}
 use Rattle.tree_types.specs.declared.content.Content.{Content}
 use Rattle.tree_types.specs.Database.{naming_in}
 use Rattle.tree_types.specs.NamesAscend.{NamesAscend}
-use Rattle.tree_types.specs.Nodes.{nodes, no_parent}
+use Rattle.tree_types.specs.Nodes.{nodes}
 use Rattle.tree_types.specs.OfContent.{IsProfile, content_table}
 use Rattle.tree_types.specs.Paths.{Path}
 use Rattle.tree_types.specs.PathsOf.{paths_of}
@@ -14,7 +14,7 @@ use Rattle.tree_types.specs.TopDown.{header, node_row, top_down}
 use Rattle.tree_types.proofs.ContentParts.{own_names_ascend}
 use Rattle.prof_bytes.proofs.Appending.{append_more, two_parts}
 use Rattle.view_tables.specs.private.Lengths.{capped}
-use Rattle.view_tables.specs.private.Rows.{number_before, path_at, row_of, row_text}
+use Rattle.view_tables.specs.private.Rows.{path_at, row_of, row_text}
 use Rattle.view_tables.proofs.ColumnSums.{as_many_columns, as_many_nodes}
 use Rattle.view_tables.proofs.Depths.{no_depth, number_after}
 use Rattle.view_tables.proofs.TextLengths.{capped_sum}

@@ -1,5 +1,5 @@
 -- The lengths of the parts of a row.
-use Rattle.std.proofs.Common.{◌≡◌, ℕ, ◌+◌, ◌-◌, ◌*◌, ◌/◌, ◌%◌, ◌^◌, ◌≤◌, ◌<◌, List, [], ◌∷◌, ◌++◌, length, codes, decimal, refl, sym, ap, ◌∙◌, arith, length-append}
+use Rattle.std.proofs.Common.{◌≡◌, ℕ, ◌+◌, ◌-◌, ◌*◌, ◌/◌, ◌%◌, ◌^◌, List, [], ◌∷◌, ◌++◌, length, codes, decimal, refl, ap, ◌∙◌, arith, length-append}
 use Rattle.std.specs.Prelude.{min}
 use Rattle.std.proofs.lemmas.List.{length-map, length-replicate}
 use Rattle.scope_types.specs.declared.scope.ProcId.{ProcId}
@@ -7,7 +7,7 @@ use Rattle.scope_types.specs.declared.scope.LineId.{LineId}
 use Rattle.scope_types.specs.declared.scope.LineId.TheVariants.{Row, Address}
 use Rattle.scope_types.specs.declared.scope.Scope.TheVariants.{Proc, Inline, Call}
 use Rattle.tree_types.specs.Naming.{Naming}
-use Rattle.tree_types.specs.TopDown.{label, line_label, percent, printed, right, spaces, table_row}
+use Rattle.tree_types.specs.TopDown.{label, line_label, percent, printed, right, spaces}
 use Rattle.view_tables.specs.private.Lengths.{capped}
 
 pub capped_sum : (a b : ℕ) → min (capped a + capped b) (2 ^ 64 - 1) ≡ capped (a + b)

@@ -1,14 +1,12 @@
 -- The scopes of a node's path, from its own up.
-use Rattle.std.proofs.Common.{◌≡◌, ℕ, zero, suc, ◌+◌, ◌<◌, ◌≤◌, List, [], ◌∷◌, ◌++◌, length, get_or, refl, sym, ap, subst, ◌∙◌, arith, inl, inr}
-use Rattle.std.specs.Prelude.{◌≢◌, reverse}
+use Rattle.std.proofs.Common.{◌≡◌, ℕ, ◌<◌, ◌≤◌, List, [], ◌∷◌, length, get_or, sym, ap, subst, ◌∙◌, arith, inl, inr}
+use Rattle.std.specs.Prelude.{reverse}
 use Rattle.std.proofs.Math.ListN.{get_or-eq_default}
 use Rattle.std.proofs.lemmas.Bool.{cases_eq}
 use Rattle.std.proofs.lemmas.List.{reverse-append}
-use Rattle.scope_types.specs.declared.scope.Scope.{Scope}
 use Rattle.tree_types.specs.declared.content.Content.{Content}
 use Rattle.tree_types.specs.declared.content.Node.{Node}
-use Rattle.tree_types.specs.Database.{node_list}
-use Rattle.tree_types.specs.Nodes.{nodes, no_parent}
+use Rattle.tree_types.specs.Nodes.{no_parent}
 use Rattle.tree_types.specs.OfContent.{IsProfile}
 use Rattle.tree_types.specs.Paths.{Path}
 use Rattle.tree_types.specs.PathsOf.{paths_of, tree_paths}
@@ -29,7 +27,7 @@ ups_past c i le = ap (λ (p : Path). reverse p) (get_or-eq_default (tree_paths c
 none_above : (c : Content) (parent : ℕ) → IsProfile c → parent ≡ no_parent → [] ≡ ups c parent
 none_above c parent profile top = sym (ups_past c parent (omega (arith, top, profile.nodes)))
 
-ups_at : (c : Content) (i : ℕ) (d : Node) → IsProfile c → i < length c.nodes → ups c i ≡ (get_or c.nodes i d).scope ∷ ups c (get_or c.nodes i d).parent
+pub ups_at : (c : Content) (i : ℕ) (d : Node) → IsProfile c → i < length c.nodes → ups c i ≡ (get_or c.nodes i d).scope ∷ ups c (get_or c.nodes i d).parent
 ups_at c i d profile lt = elim (cases_eq (get_or c.nodes i d).parent no_parent) [
   | inl top ↦
       ap (λ (p : Path). reverse p) (root_path c.nodes i d lt top)
@@ -41,5 +39,3 @@ ups_at c i d profile lt = elim (cases_eq (get_or c.nodes i d).parent no_parent) 
 
 pub ups_node : (c : Content) (i : ℕ) (n : Node) → IsProfile c → i < length c.nodes → n ≡ get_or c.nodes i n → ups c i ≡ n.scope ∷ ups c n.parent
 ups_node c i n profile lt is = ups_at c i n profile lt ∙ ap (λ (o : Node). o.scope ∷ ups c o.parent) (sym is)
-
-pub ruleset up_steps = (ups_past, ups_node)

@@ -1,5 +1,5 @@
 -- The rows of a view, one after another.
-use Rattle.std.proofs.Common.{◌≡◌, ℕ, zero, suc, ◌+◌, ◌-◌, ◌*◌, ◌<◌, ◌≤◌, ◌^◌, ◌==◌, Bool, true, false, cond, not, List, [], ◌∷◌, ◌++◌, length, get_or, take, map, filter, count_by, All, Ordering, refl, sym, ap, subst, ◌∙◌, arith, true≢false, take_all, append-nil, append_assoc}
+use Rattle.std.proofs.Common.{◌≡◌, ℕ, zero, suc, ◌+◌, ◌-◌, ◌*◌, ◌<◌, ◌≤◌, ◌==◌, true, false, cond, not, List, [], ◌∷◌, ◌++◌, length, get_or, take, map, filter, count_by, All, Ordering, refl, sym, ap, subst, ◌∙◌, arith, true≢false, take_all, append-nil, append_assoc}
 use Rattle.std.specs.Prelude.{reverse}
 use Rattle.std.specs.List.{flat_map, AllByRecursion}
 use Rattle.std.specs.declared.cmp.Ordering.TheVariants.{Less, Equal, Greater}
@@ -10,25 +10,23 @@ use Rattle.prof_bytes.proofs.Appending.{append_more, two_parts}
 use Rattle.tree_types.specs.Ascending.{by_order, put, ascending}
 use Rattle.tree_types.specs.declared.content.Content.{Content}
 use Rattle.tree_types.specs.Database.{naming_in}
-use Rattle.tree_types.specs.Naming.{Naming}
 use Rattle.tree_types.specs.NamesAscend.{NamesAscend}
 use Rattle.tree_types.specs.OfContent.{IsProfile}
 use Rattle.tree_types.specs.PathsOf.{paths_of}
-use Rattle.tree_types.proofs.Selecting.{flat_map_of_map}
+use Rattle.tree_types.proofs.Selecting.{flat_map_of_map, map_of_map}
 use Rattle.tree_types.proofs.ContentParts.{own_names_ascend}
 use Rattle.view_tables.specs.declared.item.ItemRef.{ItemRef}
 use Rattle.view_tables.specs.declared.item.RowRef.{RowRef}
 use Rattle.view_tables.specs.declared.place.Place.{Place}
 use Rattle.view_tables.specs.declared.place.Split.{Split}
 use Rattle.view_tables.specs.declared.place.View.{View}
-use Rattle.view_tables.specs.Views.{Item, ViewRow, Sample, all_items, holds, row_at, row_order, rows_under, same_item, view_header, view_row, view_rows, view_table}
-use Rattle.view_tables.specs.private.Places.{ArePlaces, AreSplits, Held, all_places, cut_of, cuts, held, item_seen, items_seen, mark_of, narrowed, of_item, row_seen, sample_of, samples_of}
+use Rattle.view_tables.specs.Views.{Item, ViewRow, Sample, all_items, holds, row_at, row_order, rows_under, same_item, view_row, view_rows, view_table}
+use Rattle.view_tables.specs.private.Places.{ArePlaces, AreSplits, all_places, held, item_seen, items_seen, mark_of, narrowed, row_seen, sample_of, samples_of}
 use Rattle.view_tables.specs.declared.place.View.TheVariants.{Callers, Flat}
 use Rattle.view_tables.specs.Callers.{callers}
 use Rattle.view_tables.specs.Flat.{flat}
 use Rattle.view_tables.specs.private.Rows.{total_value}
-use Rattle.view_tables.proofs.Groups.{group}
-use Rattle.view_tables.proofs.Narrowed.{narrowed_more}
+use Rattle.view_tables.proofs.Narrowed.{group, group_held}
 
 -- ---- what holds of each row
 
@@ -84,22 +82,10 @@ module _ (period : ℕ) (samples : List Sample) (chain : List Item) where
 -- ---- the places of a longer chain
 
 module _ (view : View) (c : Content) where
-  group_held : (item : Item) (splits : List Split) → map (held view c) (group item splits) ≡ of_item item (map (cut_of view c) splits)
-  group_held item [] = refl
-  group_held item (s ∷ splits) =
-      elim (same_item item (item_seen s.item)) as (λ b. map (held view c) (map (λ (s : Split). s.rest) (cond b (s ∷ filter (λ s. same_item item (item_seen s.item)) splits) (filter (λ s. same_item item (item_seen s.item)) splits)))
-      ≡ map (λ (x : Item × Held). x.1) (cond b (cut_of view c s ∷ filter (λ x. same_item item x.0) (map (cut_of view c) splits)) (filter (λ x. same_item item x.0) (map (cut_of view c) splits)))) [
-        | true ↦ ap (λ (hs : List Held). held view c s.rest ∷ hs) (group_held item splits)
-        | false ↦ group_held item splits
-      ]
-
-  pub group_places : (chain longer : List Item) (item : Item) (splits : List Split) (places : List Place) → AreSplits view c chain splits → places ≡ group item splits → longer ≡ chain ++ item ∷ [] → ArePlaces view c longer places
+  pub group_places : (chain longer : List Item) (item : Item) (splits : List Split) (places : List Place) → AreSplits view c chain splits → places ≡ map (λ s. s.rest) (group item splits) → longer ≡ chain ++ item ∷ [] → ArePlaces view c longer places
   group_places chain longer item splits places are is more =
-      ap (map (held view c)) is ∙ group_held item splits ∙ ap (of_item item) are
-      ∙ sym (ap (λ (l : List Item). narrowed l (all_places view c)) more ∙ narrowed_more chain item (all_places view c))
-
-  pub splits_are : (chain : List Item) (places : List Place) (splits : List Split) → ArePlaces view c chain places → map (cut_of view c) splits ≡ cuts (map (held view c) places) → AreSplits view c chain splits
-  splits_are chain places splits are is = is ∙ ap cuts are
+      ap (map (held view c)) is ∙ map_of_map (held view c) (λ (s : Split). s.rest) (group item splits) ∙ group_held view c item splits ∙ are item
+      ∙ ap (λ (l : List Item). narrowed l (all_places view c)) (sym more)
 
   -- ---- text
 
@@ -189,7 +175,7 @@ pub flat_is : (c : Content) → view_table c.period (naming_in c.names) (mark_of
 unfolding flat
 flat_is c = refl
 
-pub ruleset level_steps = (splits_are, all_seen_within)
+pub ruleset level_steps = (all_seen_within)
 
 pub ruleset narrow_steps = (narrowed_places, longer_seen)
 

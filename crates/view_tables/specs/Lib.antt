@@ -1,4 +1,5 @@
 pub mod Views
 pub mod Callers
 pub mod Flat
+pub mod Sums
 pub mod private

@@ -1,7 +1,7 @@
 -- Views that group the samples of a profile by what their call paths hold, as the bottom-up (callers) view and the flat
 -- view of HPCToolkit's manual do. Each sample gives sequences of items, and a row stands for a chain of items: it
 -- counts the samples that have a sequence which begins with the chain.
-use Rattle.std.specs.Prelude.{ℕ, zero, suc, ◌+◌, ◌-◌, ◌*◌, ◌==◌, ◌&&◌, not, List, [], ◌∷◌, ◌++◌, length, map, filter, take}
+use Rattle.std.specs.Prelude.{ℕ, zero, suc, ◌*◌, ◌==◌, ◌&&◌, not, List, [], ◌∷◌, ◌++◌, length, map, filter, take}
 use Rattle.std.specs.Prelude.{count_by, codes, decimal, Bool, true, false, if◌then◌else◌}
 use Rattle.std.specs.List.{flat_map, list_any}
 use Rattle.std.specs.Ordering.{is_eq, nat_cmp, ordering_then}

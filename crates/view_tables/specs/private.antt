@@ -1,3 +1,4 @@
 pub mod Rows
 pub mod Lengths
 pub mod Places
+pub mod Frames

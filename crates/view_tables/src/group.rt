@@ -1,15 +1,17 @@
 //! Places grouped by their first items, and the rows of the groups.
-ghost use Rattle.std.specs.Prelude.{◌≡◌, ◌≤◌, ◌*◌, Bool, true, None, not, ◌==◌, filter, map, sum_by, IfOk};
+ghost use Rattle.std.specs.Prelude.{◌≡◌, ◌≤◌, ◌<◌, ◌^◌, ◌==◌, Bool, true, not, All, filter, length, map, sum_by};
+ghost use Rattle.std.specs.Prelude.{slice_index, IfOk};
 ghost use Rattle.std.specs.List.{list_any};
 ghost use Rattle.std.specs.List.Sorted.{IsStrictlySortedBy};
 ghost use Rattle.std.specs.declared.cmp.Ordering.TheVariants.{Equal};
-ghost use Rattle.scope_types.specs.Limits.{most_samples};
 ghost use Rattle.tree_types.specs.Ascending.{ascending};
 ghost use Rattle.tree_types.specs.OfContent.{IsProfile};
 ghost use Rattle.view_tables.specs.Views.{item_order, row_at, row_order, rows_under, same_item};
-ghost use Rattle.view_tables.specs.private.Places.{AreSplits, counted, cut_of, cuts, ended_one, held, is_last, item_seen};
+ghost use Rattle.view_tables.specs.private.Frames.{AreFrames, AreHeads, AreRanges, covered};
+ghost use Rattle.view_tables.specs.private.Places.{ArePlaces, AreByItem, AreSplits, cut_of, cuts, held, item_seen};
 ghost use Rattle.view_tables.specs.private.Places.{items_seen, row_seen, samples_of};
 
+use crate::frames::Frames;
 use crate::item::{ItemRef, RowRef, compare_items};
 use crate::place::{Place, Split, View, split_first};
 use prof_bytes::Memory;
@@ -19,96 +21,92 @@ use tree_types::Content;
 
 /// Places without their first items; those that have none left out.
 #[tactic(auto, using(crate::proofs::Cuts::cut_steps))]
-pub fn split_all<'a>(
+fn split_all<'a>(
     alloc: Global,
     view: View,
     content: &'a Content,
+    heads: &[u32],
     places: &[Place],
 ) -> Result<Vec<Split<'a>>, Memory>
-    requires { IsProfile content.now }
+    requires profile { IsProfile content.now }
+    requires heads { AreHeads view content.now heads.now }
+    requires long { length heads.now ≡ length content.now.nodes }
     ensures { IfOk result (λ splits. map (cut_of view content.now) splits.items
         ≡ cuts (map (held view content.now) places.now)) }
 {
     let mut splits = Vec::new(alloc);
     for place in places {
-        if let Some(cut) = split_first(view, content, *place) {
+        if let Some(cut) = split_first(view, content, heads, *place) {
             splits.push(cut)?;
         }
     }
     Ok(splits)
 }
 
-/// The places of one first item, without it.
-#[tactic(auto, using(crate::proofs::Groups::group_steps))]
-pub fn group_of(
+/// What the places of a chain are cut into, sorted by the items. Of one item they stand in the order of their frames.
+#[tactic(auto, using(crate::proofs::Halved::sort_steps))]
+pub fn splits_of<'a>(
     alloc: Global,
-    splits: &[Split<'_>],
-    item: ItemRef<'_>,
-) -> Result<Vec<Place>, Memory>
-    ensures { IfOk result (λ group. group.items
-        ≡ map (λ s. s.rest) (filter (λ s. same_item (item_seen item.entry) (item_seen s.item)) splits.now)) }
+    view: View,
+    content: &'a Content,
+    heads: &[u32],
+    chain: &[ItemRef<'a>],
+    places: &[Place],
+) -> Result<Vec<Split<'a>>, Memory>
+    requires profile { IsProfile content.now }
+    requires heads { AreHeads view content.now heads.now }
+    requires long { length heads.now ≡ length content.now.nodes }
+    requires places { ArePlaces view content.now (items_seen chain.now) places.now }
+    ensures splits { IfOk result (λ splits. AreSplits view content.now (items_seen chain.now) splits.items) }
+    ensures sorted { IfOk result (λ splits. AreByItem splits.items) }
 {
-    let mut group = Vec::new(alloc);
-    for s in splits {
-        if same(&item, &s.item) {
-            group.push(s.rest)?;
+    let mut splits = split_all(alloc, view, content, heads, places)?;
+    splits.sort_by_key(|s| s.item)?;
+    Ok(splits)
+}
+
+/// The splits of one first item, found by halving.
+pub fn group_of<'b, 'a>(splits: &'b [Split<'a>], item: ItemRef<'a>) -> &'b [Split<'a>]
+    requires { AreByItem splits.now }
+    ensures { result.now ≡ filter (λ s. same_item (item_seen item.entry) (item_seen s.item)) splits.now }
+{
+    let start = splits.partition_point(|s| compare_items(&s.item, &item).is_lt());
+    let rest = &splits[start..];
+    let count = rest.partition_point(|s| compare_items(&s.item, &item).is_le());
+    &rest[..count]
+}
+
+/// What the frames of a group and their descendants weigh, each node once.
+#[tactic(auto, using(crate::proofs::Covered::cover_steps))]
+fn covered(frames: &Frames, group: &[Split<'_>]) -> u64
+    requires ranges { AreRanges frames.now.ends.items frames.now.sums.items }
+    requires inside { All (λ s. s.rest.frame < length frames.now.ends.items) group.now }
+    requires small { covered frames.now.ends.items frames.now.sums.items 0 (map (λ s. s.rest.frame) group.now) ≤ 2 ^ 52 }
+    ensures { result ≡ covered frames.now.ends.items frames.now.sums.items 0 (map (λ s. s.rest.frame) group.now) }
+{
+    let mut sum: u64 = 0;
+    let mut reach: u32 = 0;
+    for s in group {
+        let frame = s.rest.frame;
+        if frame >= reach {
+            reach = frames.ends[frame as usize];
+            sum += frames.sums[reach as usize] - frames.sums[frame as usize];
         }
     }
-    Ok(group)
+    sum
 }
 
-fn same(a: &ItemRef<'_>, b: &ItemRef<'_>) -> bool
-    ensures { result ≡ same_item (item_seen a.now) (item_seen b.now) }
+/// What the frames of a group weigh themselves.
+fn weight_of(frames: &Frames, group: &[Split<'_>]) -> u64
+    requires inside { All (λ s. s.rest.frame < length frames.now.weights.items) group.now }
+    requires small { sum_by (λ s. slice_index frames.now.weights.items s.rest.frame) group.now ≤ 2 ^ 52 }
+    ensures { result ≡ sum_by (λ s. slice_index frames.now.weights.items s.rest.frame) group.now }
 {
-    compare_items(a, b).is_eq()
-}
-
-fn is_same_path(last: Option<usize>, path: usize) -> bool
-    ensures { result ≡ is_last last path }
-{
-    match last {
-        Some(last) => last == path,
-        None => false,
+    let mut sum: u64 = 0;
+    for s in group {
+        sum += frames.weights[s.rest.frame as usize];
     }
-}
-
-/// How many samples the paths of these places are.
-#[tactic(auto, using(crate::proofs::Groups::count_steps))]
-fn samples_among(places: &[Place]) -> u64
-    requires { counted None (map (λ p. p.origin) places.now) ≤ most_samples }
-    ensures { result ≡ counted None (map (λ p. p.origin) places.now) }
-{
-    let mut count: u64 = 0;
-    let mut last: Option<usize> = None;
-    for place in places {
-        if !is_same_path(last, place.origin.path) {
-            count += place.origin.count;
-        }
-        last = Some(place.origin.path);
-    }
-    count
-}
-
-fn ended_at(place: &Place) -> u64
-    ensures { result ≡ ended_one place.now.origin }
-{
-    if place.origin.innermost {
-        place.origin.count
-    } else {
-        0
-    }
-}
-
-/// How many samples end in these places.
-fn ended_among(places: &[Place]) -> u64
-    requires { sum_by (λ p. ended_one p.origin) places.now ≤ most_samples }
-    ensures { result ≡ sum_by (λ p. ended_one p.origin) places.now }
-{
-    let mut count: u64 = 0;
-    for place in places {
-        count += ended_at(place);
-    }
-    count
+    sum
 }
 
 /// Brings values into order. Of some that tie one is kept.
@@ -136,7 +134,7 @@ fn ascend_rows(rows: &mut Vec<RowRef<'_>>)
 }
 
 /// The first items of splits, in order, each once.
-fn heads<'a>(alloc: Global, splits: &[Split<'a>]) -> Result<Vec<ItemRef<'a>>, Memory>
+fn first_items<'a>(alloc: Global, splits: &[Split<'a>]) -> Result<Vec<ItemRef<'a>>, Memory>
     ensures { IfOk result (λ items. items_seen items.items
         ≡ ascending item_order (map (λ s. item_seen s.item) splits.now)) }
 {
@@ -148,38 +146,29 @@ fn heads<'a>(alloc: Global, splits: &[Split<'a>]) -> Result<Vec<ItemRef<'a>>, Me
     Ok(items)
 }
 
-/// The value of so many samples.
-#[tactic(auto, using(crate::proofs::ColumnSums::total_steps))]
-fn times(period: u32, count: u64) -> u64
-    requires { count ≤ most_samples }
-    ensures { result ≡ period * count }
-{
-    u64::from(period) * count
-}
-
 /// The row of a chain and one item more, where the splits are those that the chain leaves.
-#[tactic(auto, using(crate::proofs::Groups::row_steps))]
+#[tactic(auto, using(crate::proofs::Narrowed::ranges_of))]
 fn row_of<'a>(
-    alloc: Global,
     view: View,
     content: &'a Content,
+    frames: &Frames,
     chain: &[ItemRef<'a>],
     splits: &[Split<'a>],
     item: ItemRef<'a>,
-) -> Result<RowRef<'a>, Memory>
+) -> RowRef<'a>
     requires profile { IsProfile content.now }
+    requires frames { AreFrames view content.now frames.now }
     requires splits { AreSplits view content.now (items_seen chain.now) splits.now }
-    ensures { IfOk result (λ r. row_seen r
-        ≡ row_at content.now.period (samples_of view content.now) (items_seen chain.now) (item_seen item.entry)) }
+    requires sorted { AreByItem splits.now }
+    ensures { row_seen result
+        ≡ row_at content.now.period (samples_of view content.now) (items_seen chain.now) (item_seen item.entry) }
 {
-    let group = group_of(alloc, splits, item)?;
-    let inclusive = times(content.period, samples_among(group.as_slice()));
-    let exclusive = times(content.period, ended_among(group.as_slice()));
-    Ok(RowRef {
-        inclusive: Reverse(inclusive),
+    let group = group_of(splits, item);
+    RowRef {
+        inclusive: Reverse(covered(frames, group)),
         item,
-        exclusive,
-    })
+        exclusive: weight_of(frames, group),
+    }
 }
 
 /// The rows of a chain and one of these items more, whose inclusive values are not 0.
@@ -188,18 +177,21 @@ fn rows_of_items<'a>(
     alloc: Global,
     view: View,
     content: &'a Content,
+    frames: &Frames,
     chain: &[ItemRef<'a>],
     splits: &[Split<'a>],
     items: &[ItemRef<'a>],
 ) -> Result<Vec<RowRef<'a>>, Memory>
     requires profile { IsProfile content.now }
+    requires frames { AreFrames view content.now frames.now }
     requires splits { AreSplits view content.now (items_seen chain.now) splits.now }
+    requires sorted { AreByItem splits.now }
     ensures { IfOk result (λ rows. map row_seen rows.items ≡ filter (λ r. not (r.inclusive == 0))
         (map (row_at content.now.period (samples_of view content.now) (items_seen chain.now)) (items_seen items.now))) }
 {
     let mut rows = Vec::new(alloc);
     for item in items {
-        let row = row_of(alloc, view, content, chain, splits, *item)?;
+        let row = row_of(view, content, frames, chain, splits, *item);
         if row.inclusive.0 != 0 {
             rows.push(row)?;
         }
@@ -207,22 +199,33 @@ fn rows_of_items<'a>(
     Ok(rows)
 }
 
-/// The rows right under that of a chain, in order. It looks at all splits for each of their first items.
+/// The rows right under that of a chain, in order.
 #[tactic(auto, using(crate::proofs::Groups::rows_steps))]
 pub fn rows_of<'a>(
     alloc: Global,
     view: View,
     content: &'a Content,
+    frames: &Frames,
     chain: &[ItemRef<'a>],
     splits: &[Split<'a>],
 ) -> Result<Vec<RowRef<'a>>, Memory>
     requires profile { IsProfile content.now }
+    requires frames { AreFrames view content.now frames.now }
     requires splits { AreSplits view content.now (items_seen chain.now) splits.now }
+    requires sorted { AreByItem splits.now }
     ensures { IfOk result (λ rows. map row_seen rows.items
         ≡ rows_under content.now.period (samples_of view content.now) (items_seen chain.now)) }
 {
-    let items = heads(alloc, splits)?;
-    let mut rows = rows_of_items(alloc, view, content, chain, splits, items.as_slice())?;
+    let items = first_items(alloc, splits)?;
+    let mut rows = rows_of_items(
+        alloc,
+        view,
+        content,
+        frames,
+        chain,
+        splits,
+        items.as_slice(),
+    )?;
     ascend_rows(&mut rows);
     Ok(rows)
 }

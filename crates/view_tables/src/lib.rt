@@ -9,10 +9,14 @@
 
 mod columns;
 mod depth;
+mod ends;
+mod frames;
 mod gather;
 mod group;
+mod heads;
 mod item;
 mod label;
+mod laws;
 mod length;
 mod place;
 mod row;
@@ -20,8 +24,10 @@ mod table;
 mod text;
 mod values;
 mod view;
+mod weights;
 
 pub use label::put_printed;
+pub use laws::{exclusive_values_add_up, inclusive_values_are_within, tables_are_of_call_paths};
 pub use length::top_down_length;
 pub use table::{put_top_down, top_down};
 pub use text::{put_address, put_decimal};

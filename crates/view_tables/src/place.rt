@@ -1,17 +1,18 @@
-//! Frames of the paths of a content, by the nodes where they stand, and the items that a view groups them by.
-ghost use Rattle.std.specs.Prelude.{◌≡◌, ◌+◌, ◌<◌, ◌∷◌, [], drop, MatchOption};
+//! Frames of a content, by the nodes where they stand, and the items that a view groups them by.
+ghost use Rattle.std.specs.Prelude.{◌≡◌, ◌+◌, ◌<◌, ◌∷◌, [], drop, length, MatchOption};
 ghost use Rattle.tree_types.specs.Database.{naming_in};
 ghost use Rattle.tree_types.specs.NamesAscend.{NamesAscend};
 ghost use Rattle.tree_types.specs.OfContent.{IsProfile};
-ghost use Rattle.view_tables.specs.Callers.{procs_up};
 ghost use Rattle.view_tables.specs.Views.{Procedure};
-ghost use Rattle.view_tables.specs.Flat.{call_line, frame_proc, line_file, line_item};
-ghost use Rattle.view_tables.specs.private.Places.{IsPlace, cut_of, cut_one, item_seen, items_left, ups};
+ghost use Rattle.view_tables.specs.Flat.{call_line, line_file, line_item};
+ghost use Rattle.view_tables.specs.private.Frames.{AreHeads};
+ghost use Rattle.view_tables.specs.private.Places.{cut_of, cut_one, has_frame, item_seen, items_left, ups};
 
+use crate::heads::{frame_proc_from, proc_from};
 use crate::item::ItemRef;
 use crate::label::file_name;
 use scope_types::{LineId, ProcId, Scope};
-use tree_types::{Content, Names, Node};
+use tree_types::{Content, Names};
 
 /// How a view groups samples: by procedures with their callers, or by files, procedures and lines.
 #[derive(Clone, Copy, Debug, PartialEq, Eq, Drop)]
@@ -20,19 +21,11 @@ pub enum View {
     Flat,
 }
 
-/// The path that a place belongs to, by a number that no other path has; how many samples it is; and whether the place is
-/// in its innermost frame.
-#[derive(Clone, Copy, Debug, Drop)]
-pub struct Origin {
-    pub path: usize,
-    pub count: u64,
-    pub innermost: bool,
-}
-
-/// A frame of a path, by the number of a node, and how many of the frame's items were passed.
+/// A frame, by the number of the node where it ends, and what it still has of items: in the callers table those from a
+/// node up, in the flat table those of the node behind the first `level`.
 #[derive(Clone, Copy, Debug, Drop)]
 pub struct Place {
-    pub origin: Origin,
+    pub frame: u32,
     pub node: u32,
     pub level: u32,
 }
@@ -42,43 +35,6 @@ pub struct Place {
 pub struct Split<'a> {
     pub item: ItemRef<'a>,
     pub rest: Place,
-}
-
-/// The nearest procedure at a node or above, and the number of the node above it.
-#[tactic(auto, using(crate::proofs::Ups::up_steps))]
-fn proc_from(content: &Content, node: u32) -> Option<(ProcId, u32)>
-    requires { IsProfile content.now }
-    ensures { MatchOption result (procs_up (ups content.now node) ≡ [])
-        (λ r. procs_up (ups content.now node) ≡ Procedure r.0 ∷ procs_up (ups content.now r.1)) }
-{
-    let nodes: &[Node] = content.nodes.items();
-    let mut at = node;
-    while let Some(here) = nodes.get(at as usize) {
-        if let Scope::Proc(id) = here.scope {
-            return Some((id, here.parent));
-        }
-        at = here.parent;
-    }
-    None
-}
-
-/// The procedure whose frame ends right below a node, if one does.
-#[tactic(auto, using(crate::proofs::Ups::up_steps))]
-fn frame_proc_from(content: &Content, node: u32) -> Option<ProcId>
-    requires { IsProfile content.now }
-    ensures { MatchOption result (frame_proc (ups content.now node) ≡ [])
-        (λ id. frame_proc (ups content.now node) ≡ id ∷ []) }
-{
-    let nodes: &[Node] = content.nodes.items();
-    let mut at = node;
-    while let Some(here) = nodes.get(at as usize) {
-        match here.scope {
-            Scope::Proc(id) => return Some(id),
-            Scope::Call(_) | Scope::Stmt(_) => return None,
-            Scope::Root(_) | Scope::Inline { callee: _, call: _ } => at = here.parent,
-        }
-    }
-    None
 }
 
 /// The line of a call or a statement.
@@ -136,17 +92,19 @@ fn frame_item(names: &Names, line: LineId, id: ProcId, level: u32) -> Option<Ite
 }
 
 #[tactic(auto, using(crate::proofs::Cuts::split_steps))]
-fn split_call<'a>(content: &'a Content, place: Place) -> Option<Split<'a>>
-    requires { IsProfile content.now }
-    ensures { MatchOption result (cut_one place.origin (items_left View.Callers content.now place) ≡ [])
-        (λ s. cut_one place.origin (items_left View.Callers content.now place)
+fn split_call<'a>(content: &'a Content, heads: &[u32], place: Place) -> Option<Split<'a>>
+    requires profile { IsProfile content.now }
+    requires heads { AreHeads View.Callers content.now heads.now }
+    requires long { length heads.now ≡ length content.now.nodes }
+    ensures { MatchOption result (cut_one place.frame (items_left View.Callers content.now place) ≡ [])
+        (λ s. cut_one place.frame (items_left View.Callers content.now place)
         ≡ cut_of View.Callers content.now s ∷ []) }
 {
-    let (id, above) = proc_from(content, place.node)?;
+    let (id, above) = proc_from(content, heads, place.node)?;
     Some(Split {
         item: ItemRef::Procedure(id),
         rest: Place {
-            origin: place.origin,
+            frame: place.frame,
             node: above,
             level: place.level,
         },
@@ -154,19 +112,21 @@ fn split_call<'a>(content: &'a Content, place: Place) -> Option<Split<'a>>
 }
 
 #[tactic(auto, using(crate::proofs::Cuts::split_steps))]
-fn split_frame<'a>(content: &'a Content, place: Place) -> Option<Split<'a>>
-    requires { IsProfile content.now }
-    ensures { MatchOption result (cut_one place.origin (items_left View.Flat content.now place) ≡ [])
-        (λ s. cut_one place.origin (items_left View.Flat content.now place) ≡ cut_of View.Flat content.now s ∷ []) }
+fn split_frame<'a>(content: &'a Content, heads: &[u32], place: Place) -> Option<Split<'a>>
+    requires profile { IsProfile content.now }
+    requires heads { AreHeads View.Flat content.now heads.now }
+    requires long { length heads.now ≡ length content.now.nodes }
+    ensures { MatchOption result (cut_one place.frame (items_left View.Flat content.now place) ≡ [])
+        (λ s. cut_one place.frame (items_left View.Flat content.now place) ≡ cut_of View.Flat content.now s ∷ []) }
 {
     let here = content.nodes.items().get(place.node as usize)?;
     let line = line_of(here.scope)?;
-    let id = frame_proc_from(content, here.parent)?;
+    let id = frame_proc_from(content, heads, here.parent)?;
     let item = frame_item(&content.names, line, id, place.level)?;
     Some(Split {
         item,
         rest: Place {
-            origin: place.origin,
+            frame: place.frame,
             node: place.node,
             level: place.level + 1,
         },
@@ -174,28 +134,37 @@ fn split_frame<'a>(content: &'a Content, place: Place) -> Option<Split<'a>>
 }
 
 /// A place without its first item, if it has one left.
-pub fn split_first<'a>(view: View, content: &'a Content, place: Place) -> Option<Split<'a>>
-    requires { IsProfile content.now }
-    ensures { MatchOption result (cut_one place.origin (items_left view content.now place) ≡ [])
-        (λ s. cut_one place.origin (items_left view content.now place) ≡ cut_of view content.now s ∷ []) }
+pub fn split_first<'a>(
+    view: View,
+    content: &'a Content,
+    heads: &[u32],
+    place: Place,
+) -> Option<Split<'a>>
+    requires profile { IsProfile content.now }
+    requires heads { AreHeads view content.now heads.now }
+    requires long { length heads.now ≡ length content.now.nodes }
+    ensures { MatchOption result (cut_one place.frame (items_left view content.now place) ≡ [])
+        (λ s. cut_one place.frame (items_left view content.now place) ≡ cut_of view content.now s ∷ []) }
 {
     match view {
-        View::Callers => split_call(content, place),
-        View::Flat => split_frame(content, place),
+        View::Callers => split_call(content, heads, place),
+        View::Flat => split_frame(content, heads, place),
     }
 }
 
-/// Whether a view has a place at a node, by the node.
-#[tactic(auto, using(crate::proofs::Cuts::place_steps))]
-pub fn is_place(view: View, content: &Content, here: &Node) -> bool
-    requires { IsProfile content.now }
-    ensures { IsPlace view (naming_in content.now.names)
-        (here.now.scope ∷ ups content.now here.now.parent) result }
+/// Whether a view has a frame at a node.
+pub fn is_place(view: View, content: &Content, heads: &[u32], number: u32) -> bool
+    requires profile { IsProfile content.now }
+    requires heads { AreHeads view content.now heads.now }
+    requires long { length heads.now ≡ length content.now.nodes }
+    requires number { number < length content.now.nodes }
+    ensures { result ≡ has_frame view (ups content.now number) }
 {
+    let here = content.nodes.items()[number as usize];
     match view {
         View::Callers => matches!(here.scope, Scope::Proc(_)),
         View::Flat => match line_of(here.scope) {
-            Some(_) => frame_proc_from(content, here.parent).is_some(),
+            Some(_) => frame_proc_from(content, heads, here.parent).is_some(),
             None => false,
         },
     }

@@ -7,12 +7,15 @@ ghost use Rattle.tree_types.specs.PathsOf.{paths_of};
 ghost use Rattle.view_tables.specs.Callers.{callers};
 ghost use Rattle.view_tables.specs.Flat.{flat};
 ghost use Rattle.view_tables.specs.Views.{item_label, mark_at, rows_under, view_header, view_row, view_rows, view_table};
-ghost use Rattle.view_tables.specs.private.Places.{ArePlaces, AreSplits, item_seen, items_seen, mark_of, row_seen, samples_of};
+ghost use Rattle.view_tables.specs.private.Frames.{AreFrames};
+ghost use Rattle.view_tables.specs.private.Places.{ArePlaces, AreByItem, AreSplits, item_seen, items_seen, mark_of};
+ghost use Rattle.view_tables.specs.private.Places.{row_seen, samples_of};
 ghost use Rattle.view_tables.specs.private.Rows.{total_value};
 
 use crate::columns::{put_spaces, put_values};
+use crate::frames::{Frames, frames_in};
 use crate::gather::places_in;
-use crate::group::{group_of, rows_of, split_all};
+use crate::group::{group_of, rows_of, splits_of};
 use crate::item::{ItemRef, RowRef};
 use crate::label::{proc_name, put_printed};
 use crate::place::{Place, Split, View};
@@ -85,7 +88,7 @@ struct Narrowed<'a> {
     places: Vec<Place>,
 }
 
-/// What the places of a chain are cut into, and the rows right under that of the chain.
+/// What the places of a chain are cut into, by the items, and the rows right under that of the chain.
 #[derive(Drop)]
 struct Level<'a> {
     splits: Vec<Split<'a>>,
@@ -97,20 +100,34 @@ fn level_of<'a>(
     alloc: Global,
     view: View,
     content: &'a Content,
+    frames: &Frames,
     chain: &[ItemRef<'a>],
     places: &[Place],
 ) -> Result<Level<'a>, Memory>
     requires profile { IsProfile content.now }
+    requires frames { AreFrames view content.now frames.now }
     requires places { ArePlaces view content.now (items_seen chain.now) places.now }
     ensures splits { IfOk result (λ level. AreSplits view content.now (items_seen chain.now) level.splits.items) }
+    ensures sorted { IfOk result (λ level. AreByItem level.splits.items) }
     ensures rows { IfOk result (λ level. map row_seen level.rows.items
         ≡ rows_under content.now.period (samples_of view content.now) (items_seen chain.now)) }
     ensures within { IfOk result
         (λ level. All (λ r. (0 < r.inclusive.0) × (r.inclusive.0 ≤ total_value content.now)) level.rows.items) }
 {
-    let splits = split_all(alloc, view, content, places)?;
-    let rows = rows_of(alloc, view, content, chain, splits.as_slice())?;
+    let splits = splits_of(alloc, view, content, frames.heads.as_slice(), chain, places)?;
+    let rows = rows_of(alloc, view, content, frames, chain, splits.as_slice())?;
     Ok(Level { splits, rows })
+}
+
+/// What splits leave of their places.
+fn rests_of(alloc: Global, splits: &[Split<'_>]) -> Result<Vec<Place>, Memory>
+    ensures { IfOk result (λ places. places.items ≡ map (λ s. s.rest) splits.now) }
+{
+    let mut places = Vec::new(alloc);
+    for s in splits {
+        places.push(s.rest)?;
+    }
+    Ok(places)
 }
 
 /// A chain with one item more, and the places that it leaves.
@@ -123,7 +140,8 @@ fn narrow<'a>(
     splits: &[Split<'a>],
     item: ItemRef<'a>,
 ) -> Result<Narrowed<'a>, Memory>
-    requires { AreSplits view content.now (items_seen chain.now) splits.now }
+    requires splits { AreSplits view content.now (items_seen chain.now) splits.now }
+    requires sorted { AreByItem splits.now }
     ensures chain { IfOk result
         (λ next. items_seen next.chain.items ≡ items_seen chain.now ++ item_seen item.entry ∷ []) }
     ensures length { IfOk result (λ next. length next.chain.items ≡ length chain.now + 1) }
@@ -133,7 +151,7 @@ fn narrow<'a>(
     let mut longer = Vec::new(alloc);
     longer.extend_from_slice(chain)?;
     longer.push(item)?;
-    let places = group_of(alloc, splits, item)?;
+    let places = rests_of(alloc, group_of(splits, item))?;
     Ok(Narrowed {
         chain: longer,
         places,
@@ -147,12 +165,14 @@ fn put_rows<'a>(
     alloc: Global,
     view: View,
     content: &'a Content,
+    frames: &Frames,
     total: u64,
     chain: &[ItemRef<'a>],
     places: &[Place],
     levels: usize,
 ) -> Result<(), Memory>
     requires profile { IsProfile content.now }
+    requires frames { AreFrames view content.now frames.now }
     requires total { total ≡ total_value content.now }
     requires small { total ≤ 2 ^ 52 }
     requires places { ArePlaces view content.now (items_seen chain.now) places.now }
@@ -163,7 +183,7 @@ fn put_rows<'a>(
     if levels == 0 {
         return Ok(());
     }
-    let level = level_of(alloc, view, content, chain, places)?;
+    let level = level_of(alloc, view, content, frames, chain, places)?;
     for row in &level.rows {
         put_view_row(out, &content.names, view, total, chain.len(), row)?;
         let next = narrow(
@@ -179,6 +199,7 @@ fn put_rows<'a>(
             alloc,
             view,
             content,
+            frames,
             total,
             next.chain.as_slice(),
             next.places.as_slice(),
@@ -199,12 +220,14 @@ fn view_of(alloc: Global, view: View, content: &Content, levels: usize) -> Resul
     let mut out = Vec::new(alloc);
     put_view_header(&mut out)?;
     let total = total_of(content);
-    let places = places_in(alloc, view, content)?;
+    let frames = frames_in(alloc, view, content)?;
+    let places = places_in(alloc, view, content, frames.heads.as_slice())?;
     put_rows(
         &mut out,
         alloc,
         view,
         content,
+        &frames,
         total,
         &[],
         places.as_slice(),
@@ -214,8 +237,7 @@ fn view_of(alloc: Global, view: View, content: &Content, levels: usize) -> Resul
 }
 
 /// The callers table of a content: the procedures, under each its callers, under these theirs, up to `depth` callers
-/// above. The depth is 1 to 8. For each row it looks at all frames that the row above has, so that the time grows as the
-/// frames of the paths that end at different nodes, times the children of a row.
+/// above. The depth is 1 to 8. The time grows as n log n in the nodes, and as what is printed; the memory as the nodes.
 #[tactic(auto, using(crate::proofs::ViewTexts::callers_is))]
 pub fn callers(alloc: Global, content: &Content, depth: u32) -> Result<Text, Memory>
     requires profile { IsProfile content.now }

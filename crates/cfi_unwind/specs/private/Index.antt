@@ -1,39 +1,42 @@
--- Steps that are made ready.
+-- Unwind rules that are made ready.
 use Rattle.std.specs.Prelude.{◌≡◌, ◌⊎◌, ◌<◌, ◌≤◌, ◌+◌, ◌-◌, ◌*◌, ◌^◌, ℕ, List, length, get_or, slice_get, Option, Some, None}
 use Rattle.cfi_table.specs.declared.rows.Row.{Row}
 use Rattle.cfi_table.specs.declared.rules.Rules.{Rules}
 use Rattle.cfi_table.specs.Frames.{Frames, rules_at}
-use Rattle.cfi_unwind.specs.declared.prepared.Step.{Step}
+use Rattle.cfi_unwind.specs.declared.unwind_rule.UnwindRule.{UnwindRule}
 use Rattle.cfi_unwind.specs.declared.index.Index.{Index}
-use Rattle.cfi_unwind.specs.private.Prepared.{Follows}
+use Rattle.scope_types.specs.declared.frame.End.TheVariants.{Whole}
+use Rattle.cfi_unwind.specs.declared.unwind_rule.UnwindRule.TheVariants.{Ends}
+use Rattle.cfi_unwind.specs.Caller.{Words, Unwinding, caller_of}
+use Rattle.cfi_unwind.specs.private.UnwindRules.{Follows, unwound_by}
 
--- at the place stands a step that follows the rules
-pub record IsAt (steps : List Step) (place : ℕ) (found : Option Rules) : Type 0 where
-  pub step : Step
-  pub stands : slice_get steps place ≡ Some step
-  pub follows : Follows step found
+-- at the id stands an unwind rule that follows the rules
+pub record IsAt (unwind_rules : List UnwindRule) (id : ℕ) (found : Option Rules) : Type 0 where
+  pub unwind_rule : UnwindRule
+  pub stands : slice_get unwind_rules id ≡ Some unwind_rule
+  pub follows : Follows unwind_rule found
 
--- each step stays where it stands
-abbrev pub KeepsSteps : List Step → List Step → Type 0
-KeepsSteps steps after = (place : ℕ) (found : Option Rules) → IsAt steps place found → IsAt after place found
+-- each unwind rule stays where it stands
+abbrev pub KeepsRules : List UnwindRule → List UnwindRule → Type 0
+KeepsRules unwind_rules after = (id : ℕ) (found : Option Rules) → IsAt unwind_rules id found → IsAt after id found
 
--- in place of a place, where no step is made ready
-abbrev pub no_place : ℕ
-no_place = 2 ^ 32 - 1
+-- in place of an id, where no unwind rule is made ready
+abbrev pub no_id : ℕ
+no_id = 2 ^ 32 - 1
 
-abbrev pub IsPlace : List Step → ℕ → Option Rules → Type 0
-IsPlace steps place found = (place ≡ no_place) ⊎ IsAt steps place found
+abbrev pub IsId : List UnwindRule → ℕ → Option Rules → Type 0
+IsId unwind_rules id found = (id ≡ no_id) ⊎ IsAt unwind_rules id found
 
--- the places from an address on are those of steps that follow the rules there
-abbrev pub ArePlaces : Frames → ℕ → List ℕ → List Step → Type 0
-ArePlaces frames first places steps = (k : ℕ) → k < length places
-    → IsPlace steps (get_or places k 0) (rules_at frames (4 * (first + k)))
+-- the ids from an address on are those of unwind rules that follow the rules there
+abbrev pub AreIds : Frames → ℕ → List ℕ → List UnwindRule → Type 0
+AreIds frames first ids unwind_rules = (k : ℕ) → k < length ids
+    → IsId unwind_rules (get_or ids k 0) (rules_at frames (4 * (first + k)))
 
--- the first step is that of addresses that no FDE holds
+-- the first unwind rule is that of addresses that no FDE holds
 pub record IsIndex (frames : Frames) (index : Index) : Type 0 where
-  pub places : ArePlaces frames index.first index.places.items index.steps.items
-  pub nowhere : 0 < length index.places.items → IsAt index.steps.items 0 None
-  pub few : length index.steps.items ≤ 2 ^ 20
+  pub ids : AreIds frames index.first index.ids.items index.unwind_rules.items
+  pub nowhere : 0 < length index.ids.items → IsAt index.unwind_rules.items 0 None
+  pub few : length index.unwind_rules.items ≤ 2 ^ 20
 
 -- it stays an index
 abbrev pub KeepsIndex : Frames → Index → Index → Type 0
@@ -43,9 +46,30 @@ KeepsIndex frames index after = IsIndex frames index → IsIndex frames after
 abbrev pub IsRowIn : Frames → Row → Type 0
 IsRowIn frames row = (address : ℕ) → row.start ≤ address → address < row.end → rules_at frames address ≡ row.rules
 
--- the places from one up to another are the same, and the others stay
-pub record IsFilled (before after : List ℕ) (low high place : ℕ) : Type 0 where
+-- the ids from one up to another are the same, and the others stay
+pub record IsFilled (before after : List ℕ) (low high id : ℕ) : Type 0 where
   pub as_many : length after ≡ length before
-  pub inside : (k : ℕ) → low ≤ k → k < high → get_or after k 0 ≡ place
+  pub inside : (k : ℕ) → low ≤ k → k < high → get_or after k 0 ≡ id
   pub below : (k : ℕ) → k < low → get_or after k 0 ≡ get_or before k 0
   pub above : (k : ℕ) → high ≤ k → get_or after k 0 ≡ get_or before k 0
+
+-- at the id stands an unwind rule that ends the path whole
+abbrev pub EndsWhole : List UnwindRule → ℕ → Type 0
+EndsWhole unwind_rules id = slice_get unwind_rules id ≡ Some (Ends Whole)
+
+-- the unwind rule finds the caller of every activation at an address
+abbrev pub FindsCallers : Unwinding → ℕ → UnwindRule → Type 0
+FindsCallers u pc unwind_rule = (words : Words) (registers : List ℕ) → length registers ≡ 32
+    → unwound_by words registers unwind_rule ≡ caller_of u words (record { pc = pc; registers = registers })
+
+-- at the id stands one that does
+pub record IsFinding (u : Unwinding) (pc : ℕ) (unwind_rules : List UnwindRule) (id : ℕ) : Type 0 where
+  pub unwind_rule : UnwindRule
+  pub stands : slice_get unwind_rules id ≡ Some unwind_rule
+  pub finds : FindsCallers u pc unwind_rule
+
+-- the ids are those of unwind rules that find the callers at their addresses
+pub record IsReady (u : Unwinding) (index : Index) : Type 0 where
+  pub few : length index.unwind_rules.items ≤ 2 ^ 20
+  pub ids : (k : ℕ) → k < length index.ids.items → (get_or index.ids.items k 0 ≡ no_id)
+      ⊎ IsFinding u (4 * (index.first + k)) index.unwind_rules.items (get_or index.ids.items k 0)

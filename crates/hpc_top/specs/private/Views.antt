@@ -3,11 +3,17 @@ use Rattle.std.specs.Prelude.{Option, option_map}
 use Rattle.hpc_top.specs.declared.request.ProfileWords as held
 use Rattle.hpc_top.specs.declared.request.RunWords as held_run
 use Rattle.hpc_top.specs.declared.request.ProfWords as held_prof
+use Rattle.hpc_top.specs.declared.request.ViewTable as held_table
+use Rattle.hpc_top.specs.declared.request.ViewTable.TheVariants as tables
+use Rattle.hpc_top.specs.declared.request.ViewWords as held_view
+use Rattle.hpc_top.specs.declared.request.DrillWords as held_drill
 use Rattle.hpc_top.specs.declared.request.Request as held_request
 use Rattle.hpc_top.specs.declared.request.Request.TheVariants as requests
 use Rattle.hpc_top.specs.declared.steps.Want.{Want}
 use Rattle.hpc_top.specs.Task.{Wanted}
-use Rattle.hpc_top.specs.Words.{ProfileWords, RunWords, ProfWords, Request, Profile, Run, Prof, Struct}
+use Rattle.hpc_top.specs.Words.{ProfileWords, RunWords, ProfWords, DrillWords}
+use Rattle.hpc_top.specs.Words.{Request, Profile, Run, Prof, Struct, Drill}
+use Rattle.hpc_top.specs.Words.{ViewTable, Top, Callers, Flat, ViewWords, View}
 
 abbrev pub view_want : Want → Wanted
 view_want w = record { file = w.file; name = w.name.now; limit = w.limit }
@@ -48,11 +54,33 @@ view_prof w = record {
 abbrev pub view_profs : Option held_prof.ProfWords → Option ProfWords
 view_profs o = option_map view_prof o
 
+abbrev pub view_table : held_table.ViewTable → ViewTable
+view_table tables.Top = Top
+view_table tables.Callers = Callers
+view_table tables.Flat = Flat
+
+abbrev pub view_tables : Option held_table.ViewTable → Option ViewTable
+view_tables o = option_map view_table o
+
+abbrev pub view_view : held_view.ViewWords → ViewWords
+view_view w = record { database = w.database.now; table = view_table w.table }
+
+abbrev pub view_views : Option held_view.ViewWords → Option ViewWords
+view_views o = option_map view_view o
+
+abbrev pub view_drill : held_drill.DrillWords → DrillWords
+view_drill w = record { number = w.number; workers = w.workers }
+
+abbrev pub view_drills : Option held_drill.DrillWords → Option DrillWords
+view_drills o = option_map view_drill o
+
 abbrev pub view_request : held_request.Request → Request
 view_request (requests.Profile w) = Profile (view_profile w)
 view_request (requests.Run w) = Run (view_run w)
 view_request (requests.Prof w) = Prof (view_prof w)
 view_request (requests.Struct elf) = Struct elf.now
+view_request (requests.View w) = View (view_view w)
+view_request (requests.Drill w) = Drill (view_drill w)
 
 abbrev pub view_requests : Option held_request.Request → Option Request
 view_requests o = option_map view_request o

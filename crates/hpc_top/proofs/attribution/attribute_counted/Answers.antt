@@ -3,7 +3,7 @@ use Rattle.std.proofs.lemmas.Result.{err_from_is_err_and}
 use Rattle.scope_find.specs.Found.{found_at, naming_of}
 use Rattle.scope_types.specs.Expansion.{call_path}
 use Rattle.hpc_top.specs.Attribution.{attributed}
-use Rattle.hpc_top.specs.private.Merging.{merging}
+use Rattle.hpc_top.specs.Merged.{merging}
 use Rattle.hpc_top.proofs.Products.{attribution_is, refused_attribution}
 use Rattle.hpc_top.proofs.attribution.attribute_counted.Goals as goal
 
@@ -18,5 +18,5 @@ write_db-requires g c = c.profiles_are_writable.ensures c.in_ok-merged.merged.co
 pub returns : goal.returns
 returns g c samples are own =
     let by = merging (g.C.Crews.gives c.args.merge.now.crews.now) (g.C.Crews.whole c.args.merge.now.crews.now) c.args.merge.now.workers in
-    attribution_is by c.args.merge.now.period (length c.args.ccts.now) (naming_of c.args.finder.now) (call_path (found_at c.args.finder.now)) c.counts_decide.ensures.content c.counts_decide.ensures.table samples c.in_ok-merged.merged _
+    attribution_is by c.args.merge.now.period c.counts_decide.ensures.content c.counts_decide.ensures.table (attributed (length c.args.ccts.now) (naming_of c.args.finder.now) (call_path (found_at c.args.finder.now)) samples) c.in_ok-merged.merged _
     (c.in_ok-merged.ensures.merged samples are own) c.requires.whole c.in_ok-stored.ensures c.in_ok-text.ensures

@@ -1,4 +1,4 @@
-use Rattle.std.proofs.Common.{◌≡◌, ◌<◌, List, length, sym, subst}
+use Rattle.std.proofs.Common.{sym, subst}
 use Rattle.prof_bytes.specs.Outcome.{Gives}
 use Rattle.scope_find.specs.Found.{ProgramScopes}
 use Rattle.hpc_top.specs.Attribution.{attributed_by}

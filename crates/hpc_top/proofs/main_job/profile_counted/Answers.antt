@@ -2,9 +2,9 @@ use Rattle.std.proofs.Common.{length, refl}
 use Rattle.scope_find.specs.Found.{found_at, naming_of}
 use Rattle.scope_types.specs.Expansion.{call_path}
 use Rattle.std.proofs.lemmas.Result.{err_from_is_err_and}
-use Rattle.hpc_top.specs.declared.status.Made.{Made}
-use Rattle.hpc_top.specs.private.Merging.{merging}
-use Rattle.hpc_top.proofs.Products.{made_is, refused_profile}
+use Rattle.hpc_top.specs.declared.run_profile.RunProfile.{RunProfile}
+use Rattle.hpc_top.specs.Merged.{merging}
+use Rattle.hpc_top.proofs.Products.{refused_profile, run_is}
 use Rattle.hpc_top.proofs.main_job.profile_counted.Goals as goal
 
 pub returns-in_err-merged : goal.returns-in_err-merged
@@ -18,6 +18,12 @@ write_db-requires g c = c.profiles_are_writable.ensures c.in_ok-merged.merged.co
 pub returns : goal.returns
 returns g c samples are all own =
     let by = merging (g.C.Crews.gives c.args.merge.now.crews.now) (g.C.Crews.whole c.args.merge.now.crews.now) c.args.merge.now.workers in
-    let made : Made = record { database = c.in_ok-database.database; report = c.in_ok-report.report; crew = c.in_ok-merged.merged.crew } in
-    made_is by c.args.merge.now.period (length c.args.ccts.now) (naming_of c.args.finder.now) (call_path (found_at c.args.finder.now)) c.counts_decide.ensures.content c.counts_decide.ensures.table c.args.machine.now.state c.args.ccts.now samples are c.samples_are_counted.ensures.each refl all c.in_ok-merged.merged made
-    (c.in_ok-merged.ensures.merged samples are own) c.in_ok-database.ensures c.in_ok-report.ensures refl
+    let run : RunProfile = record {
+      merged = c.in_ok-merged.merged;
+      database = c.in_ok-database.database;
+      lines = c.in_ok-lines.lines;
+      samples = c.all_samples.result;
+      retired = c.all_retired.result;
+    } in
+    run_is by c.args.merge.now.period (length c.args.ccts.now) (naming_of c.args.finder.now) (call_path (found_at c.args.finder.now)) c.args.machine.now.state c.args.ccts.now samples are c.samples_are_counted.ensures.each refl all run
+    (c.in_ok-merged.ensures.merged samples are own) c.in_ok-merged.ensures.profile c.in_ok-database.ensures c.in_ok-lines.ensures c.all_samples.ensures.all c.all_retired.ensures

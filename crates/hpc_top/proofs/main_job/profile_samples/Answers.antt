@@ -1,4 +1,4 @@
-use Rattle.std.proofs.Common.{◌≡◌, ◌∙◌, List, length, sym, ap}
+use Rattle.std.proofs.Common.{◌∙◌, List, length, sym, ap}
 use Rattle.std.proofs.lemmas.Result.{err_from_is_err_and}
 use Rattle.cfi_unwind.specs.Path.{path_of as unwound_by}
 use Rattle.rv_run.specs.Progress.{Progress}
@@ -7,7 +7,7 @@ use Rattle.scope_find.specs.Found.{found_at, naming_of}
 use Rattle.scope_types.specs.declared.frame.Counted.{Counted}
 use Rattle.scope_types.specs.Expansion.{call_path}
 use Rattle.hpc_top.specs.private.Collecting.{raws_to_come}
-use Rattle.hpc_top.specs.private.Merging.{merging}
+use Rattle.hpc_top.specs.Merged.{merging}
 use Rattle.hpc_top.proofs.Products.{counted_run, refused_run}
 use Rattle.hpc_top.proofs.main_job.profile_samples.Goals as goal
 

@@ -5,9 +5,9 @@ use Rattle.cfi_unwind.specs.Path.{path_of as unwound_by}
 use Rattle.sample_clock.specs.Clock.{Sampling}
 use Rattle.scope_types.specs.Expansion.{call_path}
 use Rattle.scope_find.specs.Found.{found_at, naming_of}
-use Rattle.hpc_top.specs.Merged.{Makes}
 use Rattle.hpc_top.specs.Profile.{profiled_run}
-use Rattle.hpc_top.specs.private.Merging.{merging}
+use Rattle.hpc_top.specs.Merged.{merging}
+use Rattle.hpc_top.specs.private.Running.{Profiles}
 use Rattle.hpc_top.proofs.main_job.run_job.Goals as goal
 
 pub returns : goal.returns
@@ -15,9 +15,9 @@ returns g c =
     let run : to_come c.in_ok-samples.samples.machine ≡ run_of c.args.image.now c.args.schedule c.args.job.now.input.now = ap (λ (s : Sampling). to_come s.machine) c.in_ok-samples.ensures.start in
     let by = merging (g.C.Crews.gives c.args.crews.now) (g.C.Crews.whole c.args.crews.now) c.args.job.now.workers in
     subst
-    (λ (r : Run). Makes by c.args.job.now.period c.profile_samples.result (profiled_run (unwound_by c.args.unwinder.now) c.args.job.now.period c.args.schedule.harts (call_path (found_at c.args.finder.now)) (naming_of c.args.finder.now) r)) run
+    (λ (r : Run). Profiles by c.args.job.now.period c.profile_samples.result (profiled_run (unwound_by c.args.unwinder.now) c.args.job.now.period c.args.schedule.harts (call_path (found_at c.args.finder.now)) (naming_of c.args.finder.now) r)) run
     (subst
-    (λ (n : ℕ). Makes by c.args.job.now.period c.profile_samples.result (profiled_run (unwound_by c.args.unwinder.now) c.args.job.now.period n (call_path (found_at c.args.finder.now)) (naming_of c.args.finder.now) (to_come c.in_ok-samples.samples.machine))) c.harts-harts.ensures.harts
+    (λ (n : ℕ). Profiles by c.args.job.now.period c.profile_samples.result (profiled_run (unwound_by c.args.unwinder.now) c.args.job.now.period n (call_path (found_at c.args.finder.now)) (naming_of c.args.finder.now) (to_come c.in_ok-samples.samples.machine))) c.harts-harts.ensures.harts
     c.profile_samples.ensures)
 
 pub profile_samples-requires-clause-instants : goal.profile_samples-requires-clause-instants

@@ -1,4 +1,4 @@
-use Rattle.std.proofs.Common.{◌≡◌, ◌∙◌, List, length, subst, sym, ap}
+use Rattle.std.proofs.Common.{◌∙◌, List, length, sym, ap}
 use Rattle.std.proofs.lemmas.Result.{err_from_is_err_and}
 use Rattle.cfi_unwind.specs.Path.{path_of as unwound_by}
 use Rattle.rv_run.specs.Progress.{Progress}

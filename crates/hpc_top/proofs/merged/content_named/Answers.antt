@@ -1,8 +1,7 @@
-use Rattle.std.proofs.Common.{◌≡◌, ◌∙◌, ℕ, List, refl, sym, ap, subst}
-use Rattle.scope_find.specs.Found.{ProgramScopes, naming_of}
+use Rattle.std.proofs.Common.{◌∙◌, ℕ, List, refl, sym, ap, subst}
+use Rattle.scope_find.specs.Found.{naming_of}
 use Rattle.scope_types.specs.CallPaths.{HartPath}
 use Rattle.stripe_table.specs.Ends.{named_paths}
-use Rattle.tree_types.specs.declared.content.Content.{Content}
 use Rattle.tree_types.specs.Database.{content_of}
 use Rattle.tree_types.specs.OfContent.{IsProfile, content_table}
 use Rattle.tree_types.specs.PathsOf.{tree_paths}

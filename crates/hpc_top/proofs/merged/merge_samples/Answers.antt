@@ -10,7 +10,8 @@ use Rattle.tree_types.specs.Database.{content_of}
 use Rattle.tree_types.specs.TopDown.{top_down}
 use Rattle.hpc_top.specs.declared.merged.Merged.{Merged}
 use Rattle.hpc_top.specs.Attribution.{attributed}
-use Rattle.hpc_top.specs.private.Merging.{Merges, merging}
+use Rattle.hpc_top.specs.Merged.{merging}
+use Rattle.hpc_top.specs.private.Merging.{Merges}
 use Rattle.hpc_top.proofs.Products.{merge_is, plan_harts, refused_of}
 use Rattle.hpc_top.proofs.merged.merge_samples.Goals as goal
 

@@ -1,6 +1,5 @@
-use Rattle.std.proofs.Common.{◌≡◌, false, get_or, ◌+◌, ◌<◌, ◌≤◌, length, sum_by, take, sym, ap, ◌∙◌, arith}
+use Rattle.std.proofs.Common.{◌<◌, ◌≤◌, length, sym, ap, ◌∙◌, arith}
 use Rattle.std.proofs.lemmas.List.Sums.{sum_by_more}
-use Rattle.scope_types.specs.Limits.{most_samples}
 use Rattle.prof_db.specs.Fields.{fault}
 use Rattle.prof_db.specs.ValueRules.{entry_at, entry_breaks, samples_of}
 use Rattle.prof_db.proofs.Exclusive.{passed_sum}

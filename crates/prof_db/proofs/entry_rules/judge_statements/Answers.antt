@@ -1,4 +1,4 @@
-use Rattle.std.proofs.Common.{◌≡◌, ◌<◌, ◌≤◌, length, sym, ap, ◌∙◌, arith}
+use Rattle.std.proofs.Common.{◌<◌, ◌≤◌, length, sym, ap, ◌∙◌, arith}
 use Rattle.prof_db.specs.Fields.{fault}
 use Rattle.prof_db.specs.NodeRules.{is_statement, raw_node_at}
 use Rattle.prof_db.specs.NameRules.{is_among}

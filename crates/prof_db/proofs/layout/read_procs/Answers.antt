@@ -1,4 +1,4 @@
-use Rattle.std.proofs.Common.{rules, ◌≡◌, []}
+use Rattle.std.proofs.Common.{rules, []}
 use Rattle.prof_bytes.specs.Outcome.{FailsBy}
 use Rattle.prof_db.specs.Fields.{adding, times}
 use Rattle.prof_db.specs.Layout.{proc_from}

@@ -1,4 +1,4 @@
-use Rattle.std.proofs.Common.{◌≡◌, ◌<◌, ◌≤◌, length, sym, ap, ◌∙◌, arith}
+use Rattle.std.proofs.Common.{◌<◌, ◌≤◌, length, sym, ap, ◌∙◌, arith}
 use Rattle.prof_db.specs.Fields.{fault}
 use Rattle.prof_db.specs.NameRules.{is_among, file_at, file_breaks, file_is_wrong}
 use Rattle.prof_db.proofs.Broken.{broken_is, failed}

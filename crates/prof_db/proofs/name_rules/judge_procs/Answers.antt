@@ -1,4 +1,4 @@
-use Rattle.std.proofs.Common.{◌≡◌, ◌<◌, ◌≤◌, length, sym, ap, ◌∙◌, arith}
+use Rattle.std.proofs.Common.{◌<◌, ◌≤◌, length, sym, ap, ◌∙◌, arith}
 use Rattle.prof_db.specs.Fields.{fault}
 use Rattle.prof_db.specs.NameRules.{is_among, proc_at, proc_breaks, proc_is_wrong}
 use Rattle.prof_db.proofs.Broken.{broken_is, failed}

@@ -1,4 +1,4 @@
-use Rattle.std.proofs.Common.{◌≡◌, ℕ, List, ◌<◌, ◌≤◌, ◌||◌, length, sym, ap, ◌∙◌, arith}
+use Rattle.std.proofs.Common.{ℕ, List, ◌<◌, ◌≤◌, ◌||◌, length, sym, ap, ◌∙◌, arith}
 use Rattle.tree_types.specs.Tree.{node_at}
 use Rattle.prof_db.specs.Fields.{fault}
 use Rattle.prof_db.specs.NameRules.{is_among}

@@ -1,10 +1,7 @@
-use Rattle.std.proofs.Common.{rules, ◌≡◌, [], ◌∷◌, length, Err, Result, subst, sym}
+use Rattle.std.proofs.Common.{rules, ◌≡◌, [], ◌∷◌, length, Err}
 use Rattle.std.specs.List.{flat_map}
-use Rattle.prof_bytes.specs.Outcome.{GivesAt}
-use Rattle.prof_bytes.specs.Reading.{At}
-use Rattle.prof_db.specs.Fields.{Read}
 use Rattle.prof_db.specs.ValueRules.{column_fields, context_fields, fields_kept, word_field}
-use Rattle.prof_db.proofs.FieldSteps.{both_stand, first_differs, gives_both}
+use Rattle.prof_db.proofs.FieldSteps.{first_differs, gives_both}
 use Rattle.prof_db.proofs.plane_fields.same_context_column.Goals as goal
 
 pub returns-in_err-same_word : goal.returns-in_err-same_word

@@ -1,4 +1,4 @@
-use Rattle.std.proofs.Common.{◌≤◌, ◌<◌, ◌++◌, List, [], length, ap, ◌∙◌, arith, take_all}
+use Rattle.std.proofs.Common.{◌<◌, ◌++◌, List, [], length, ap, ◌∙◌, arith, take_all}
 use Rattle.std.specs.List.{flat_map}
 use Rattle.std.proofs.lemmas.List.{get_or_default}
 use Rattle.tree_types.specs.declared.content.ContextEntry.{ContextEntry}

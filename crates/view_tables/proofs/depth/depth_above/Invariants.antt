@@ -1,4 +1,4 @@
-use Rattle.std.proofs.Common.{◌≡◌, ◌≤◌, ℕ, length}
+use Rattle.std.proofs.Common.{◌≡◌, ◌≤◌, length}
 use Rattle.view_tables.specs.private.Rows.{LiesBelow, path_at}
 use Rattle.view_tables.proofs.depth.depth_above.Given as goal
 

@@ -1,6 +1,4 @@
-use Rattle.std.proofs.Common.{◌≡◌, ◌==◌, not, filter, map, take}
-use Rattle.view_tables.specs.Views.{row_at}
-use Rattle.view_tables.specs.private.Places.{item_seen, items_seen, row_seen, samples_of}
+use Rattle.std.proofs.Common.{take}
 use Rattle.view_tables.proofs.Groups.{rows_so_far}
 use Rattle.view_tables.proofs.group.rows_of_items.Given as goal
 

@@ -1,4 +1,4 @@
-use Rattle.std.proofs.Common.{◌≤◌, arith}
+use Rattle.std.proofs.Common.{arith}
 use Rattle.view_tables.proofs.TableRows.{all_longer}
 use Rattle.view_tables.proofs.length.top_down_length.Goals as goal
 

@@ -1,6 +1,5 @@
-use Rattle.std.proofs.Common.{◌≡◌, ℕ, ◌-◌, ◌<◌, List, length, get_or, sum_by, sym, ap, subst, ◌∙◌}
+use Rattle.std.proofs.Common.{◌≡◌, ℕ, ◌-◌, ◌<◌, List, get_or, sum_by, sym, ap, subst, ◌∙◌}
 use Rattle.scope_types.specs.declared.scope.RootKind.TheVariants.{Thread}
-use Rattle.scope_types.specs.declared.scope.Scope.{Scope}
 use Rattle.scope_types.specs.declared.scope.Scope.TheVariants.{Root}
 use Rattle.tree_types.specs.declared.content.Kind.TheVariants.{Frame, Inclusive}
 use Rattle.tree_types.specs.declared.content.Node.{Node}

@@ -1,4 +1,4 @@
-use Rattle.std.proofs.Common.{◌≡◌, ◌≤◌, length, sym, append-nil, arith}
+use Rattle.std.proofs.Common.{sym, append-nil, arith}
 use Rattle.view_tables.proofs.Depths.{no_depth}
 use Rattle.view_tables.proofs.TableRows.{all_rows}
 use Rattle.view_tables.proofs.table.put_top_down.Goals as goal

@@ -1,5 +1,4 @@
 use Rattle.std.proofs.Common.{◌≡◌, ◌≤◌, ◌++◌, length}
-use Rattle.tree_types.specs.TopDown.{header}
 use Rattle.view_tables.specs.private.Rows.{number_before, path_at}
 use Rattle.view_tables.proofs.TableRows.{rows}
 use Rattle.view_tables.proofs.table.put_top_down.Given as goal

@@ -1,4 +1,4 @@
-use Rattle.std.proofs.Common.{◌≡◌, ℕ, ◌<◌, ◌≤◌, ◌-◌, length, map, sym, ap, ◌∙◌, arith, append-nil}
+use Rattle.std.proofs.Common.{◌≡◌, ◌-◌, length, map, sym, ap, ◌∙◌, arith, append-nil}
 use Rattle.std.proofs.lemmas.List.{get_or_default, length-map}
 use Rattle.view_tables.specs.declared.item.ItemRef.TheVariants.{SourceLine}
 use Rattle.view_tables.specs.declared.item.RowRef.{RowRef}

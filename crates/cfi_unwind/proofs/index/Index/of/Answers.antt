@@ -1,10 +1,7 @@
 use Rattle.cfi_unwind.proofs.index.Index.of.Goals as goal
 
-pub add_others-requires : goal.add_others-requires
-add_others-requires c = (c.add_fdes.ensures (c.unset-index.ensures c.args.table.now)).few
+pub returns-then-end_whole_in : goal.returns-then-end_whole_in
+returns-then-end_whole_in c = c.end_whole_in.ensures c.if-end_whole_in.true c.args.table.now c.by_rules-index.ensures
 
-pub returns-then-is_ok : goal.returns-then-is_ok
-returns-then-is_ok c = c.add_others.ensures (c.add_fdes.ensures (c.unset-index.ensures c.args.table.now))
-
-pub returns-else-is_ok : goal.returns-else-is_ok
-returns-else-is_ok c = c.add_fdes.ensures (c.unset-index.ensures c.args.table.now)
+pub returns-else-end_whole_in : goal.returns-else-end_whole_in
+returns-else-end_whole_in c = c.none.ensures.ready (record { frames = c.args.table.now; region = c.args.region })

@@ -1,0 +1,95 @@
+-- The rules at an address in a short form, which leaves out the registers that are kept.
+use Rattle.std.specs.Prelude.{◌≡◌, ℕ, Bool, true, false, List, [], ◌∷◌, length, get_or, slice_set, map, Option, Result, Ok}
+use Rattle.std.specs.Prelude.{Err, if◌then◌else◌}
+use Rattle.std.specs.List.{list_any}
+use Rattle.scope_types.specs.declared.frame.End.{End}
+use Rattle.scope_types.specs.declared.frame.End.TheVariants.{Partial}
+use Rattle.scope_types.specs.declared.frame.PartialCause.TheVariants as causes
+use Rattle.cfi_table.specs.declared.rules.Rule.{Rule}
+use Rattle.cfi_table.specs.declared.rules.Rule.TheVariants as rules
+use Rattle.cfi_table.specs.declared.rules.Rules.{Rules}
+use Rattle.cfi_unwind.specs.declared.caller.Unwound.{Unwound}
+use Rattle.cfi_unwind.specs.declared.caller.Unwound.TheVariants.{Caller, Ends}
+use Rattle.cfi_unwind.specs.declared.unwind_rule.RegisterRule.{RegisterRule}
+use Rattle.cfi_unwind.specs.declared.unwind_rule.SavedRegister.{SavedRegister}
+use Rattle.cfi_unwind.specs.declared.unwind_rule.FrameLayout.{FrameLayout}
+use Rattle.cfi_unwind.specs.declared.unwind_rule.UnwindRule.{UnwindRule}
+use Rattle.cfi_unwind.specs.declared.unwind_rule.UnwindRule.TheVariants as unwind_rules
+use Rattle.cfi_unwind.specs.Caller.{Words, sum, is_unmapped, recovered, recovered_all}
+use Rattle.cfi_unwind.specs.private.Stepwise.{caller_at, caller_from, caller_if}
+
+abbrev pub is_kept : Rule → Bool
+is_kept rules.Kept = true
+is_kept rules.Undefined = false
+is_kept (rules.Saved offset) = false
+is_kept (rules.Sum offset) = false
+is_kept (rules.Copy source) = false
+is_kept rules.Expression = false
+
+abbrev pub is_unmapped_register : Words → ℕ → RegisterRule → Bool
+is_unmapped_register words cfa each = is_unmapped words cfa each.rule
+
+-- the registers are recovered one after another, each from the values before all of them
+abbrev pub recovered_each : Words → List ℕ → ℕ → List RegisterRule → List ℕ → List ℕ
+recovered_each words registers cfa [] values = values
+recovered_each words registers cfa (each ∷ rest) values =
+    recovered_each words registers cfa rest (slice_set values each.register
+    (recovered words registers cfa (get_or registers each.register 0) each.rule))
+
+-- the registers' rules recover what all rules do, over every memory and canonical frame address
+pub record RecoversOver (words : Words) (registers : List ℕ) (cfa : ℕ) (few : List RegisterRule)
+    (regs : List Rule) : Type 0 where
+  pub mapped : list_any (is_unmapped_register words cfa) few ≡ list_any (is_unmapped words cfa) regs
+  pub made : recovered_each words registers cfa few registers ≡ recovered_all words registers cfa regs
+
+abbrev pub Recovers : List RegisterRule → List Rule → Type 0
+Recovers few regs = (words : Words) (registers : List ℕ) (cfa : ℕ) → length registers ≡ 32
+    → RecoversOver words registers cfa few regs
+
+-- a register that is saved
+abbrev pub saved_rule : SavedRegister → RegisterRule
+saved_rule saved = record { register = saved.register; rule = rules.Saved saved.offset }
+
+-- the return register alone is not kept, and saved
+abbrev pub returned : FrameLayout → ℕ → List RegisterRule
+returned layout offset = record { register = layout.return_register; rule = rules.Saved offset } ∷ []
+
+abbrev pub cfa_by : List ℕ → FrameLayout → ℕ
+cfa_by registers layout = sum (get_or registers layout.cfa_register 0) layout.cfa_offset
+
+-- the caller has these registers but x0, which is 0, and x2, which is the canonical frame address
+abbrev pub left_with : List ℕ → ℕ → ℕ → Unwound
+left_with registers cfa return_register = caller_at (slice_set (slice_set registers 0 0) 2 cfa) return_register
+
+-- what is found over a canonical frame address
+abbrev pub unwound_over : Words → List ℕ → ℕ → List RegisterRule → ℕ → Unwound
+unwound_over words registers return_register few cfa =
+    if list_any (is_unmapped_register words cfa) few then Ends (Partial causes.Unmapped)
+    else left_with (recovered_each words registers cfa few registers) cfa return_register
+
+abbrev pub unwound_with : Words → List ℕ → FrameLayout → List RegisterRule → Unwound
+unwound_with words registers layout few = unwound_over words registers layout.return_register few
+    (cfa_by registers layout)
+
+-- what an unwind rule finds of an activation
+abbrev pub unwound_by : Words → List ℕ → UnwindRule → Unwound
+unwound_by words registers (unwind_rules.Ends end) = Ends end
+unwound_by words registers (unwind_rules.ReturnSaved layout offset) =
+    unwound_with words registers layout (returned layout offset)
+unwound_by words registers (unwind_rules.Saved layout saved) =
+    unwound_with words registers layout (map saved_rule saved.items)
+unwound_by words registers (unwind_rules.Mixed layout few) = unwound_with words registers layout few.items
+
+-- the caller's pc with the registers there, or how the path ends
+abbrev pub after : Result ℕ End → List ℕ → Unwound
+after (Ok pc) registers = Caller (record { pc = pc; registers = registers })
+after (Err end) registers = Ends end
+
+-- the unwind rule finds of every activation what the rules say
+abbrev pub FollowsSome : UnwindRule → Rules → Type 0
+FollowsSome unwind_rule found = (words : Words) (registers : List ℕ) → length registers ≡ 32
+    → unwound_by words registers unwind_rule ≡ caller_from words registers found
+
+abbrev pub Follows : UnwindRule → Option Rules → Type 0
+Follows unwind_rule found = (words : Words) (registers : List ℕ) → length registers ≡ 32
+    → unwound_by words registers unwind_rule ≡ caller_if words registers found

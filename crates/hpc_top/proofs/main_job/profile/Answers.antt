@@ -1,0 +1,20 @@
+use Rattle.std.proofs.lemmas.Result.{err_from_is_err_and}
+use Rattle.hpc_top.specs.Profile.{profiled_of}
+use Rattle.hpc_top.specs.Merged.{merging}
+use Rattle.hpc_top.proofs.Products.{makes, refused_product, whole_product}
+use Rattle.hpc_top.proofs.main_job.profile.Goals as goal
+
+pub returns-in_err-run-clause-whole : goal.returns-in_err-run-clause-whole
+returns-in_err-run-clause-whole g c whole =
+    let p = err_from_is_err_and c.from_residual.result c.from_residual.ensures.1 in
+    rw (p.1, p.2) (refused_product c.args.job.now.elf.now c.args.job.now.input.now c.args.job.now.schedule.now c.args.job.now.period _ c.in_err-run.ensures)
+
+pub returns-clause-merged : goal.returns-clause-merged
+returns-clause-merged g c =
+    makes (merging (g.C.Crews.gives c.args.crews.now) (g.C.Crews.whole c.args.crews.now) c.args.job.now.workers) c.args.job.now.period c.counts_decide.ensures.content c.counts_decide.ensures.table
+    (profiled_of c.args.job.now.elf.now c.args.job.now.input.now c.args.job.now.schedule.now c.args.job.now.period) c.in_ok-run.run' c.in_ok-made_of.field-0 c.in_ok-run.ensures c.in_ok-made_of.ensures
+
+pub returns-clause-whole : goal.returns-clause-whole
+returns-clause-whole g c whole =
+    whole_product (merging (g.C.Crews.gives c.args.crews.now) (g.C.Crews.whole c.args.crews.now) c.args.job.now.workers) c.args.job.now.period c.in_ok-made_of.field-0 c.args.job.now.elf.now c.args.job.now.input.now c.args.job.now.schedule.now whole
+    (returns-clause-merged g c)

@@ -1,0 +1,25 @@
+-- A profile in two commands: a run that is measured, and the attribution of its measurement.
+use Rattle.std.specs.Prelude.{◌≡◌, ◌≤◌, ℕ, List, ◌++◌, length, Ok}
+use Rattle.prof_bytes.specs.Number.{IsBytes}
+use Rattle.hpc_top.specs.Product.{Product}
+use Rattle.hpc_top.specs.Measure.{run_product}
+use Rattle.hpc_top.specs.Attribution.{prof_product}
+use Rattle.hpc_top.specs.Profile.{profile_of}
+use Rattle.hpc_top.specs.Task.{program_limit}
+use Rattle.hpc_top.specs.Words.{most_period}
+
+-- `run` is accepted on the profile's files, and `prof` on the program and what `run` stores. It stores the profile's
+-- database, and the profile's text is what `run` puts with what `prof` puts behind it
+pub record IsApart (elf input schedule : List ℕ) (period : ℕ) (whole : Product) : Type 0 where
+  pub kept : Product
+  pub run : run_product elf input schedule period ≡ Ok kept
+  pub table : Product
+  pub prof : prof_product elf kept.stored ≡ Ok table
+  pub stored : table.stored ≡ whole.stored
+  pub text : whole.text ≡ kept.text ++ table.text
+
+-- every profile of a program within its limit can be made so
+abbrev pub RunThenProf : Type 0
+RunThenProf = (elf input schedule : List ℕ) (period : ℕ) (whole : Product)
+    → IsBytes elf → length elf ≤ program_limit → 1 ≤ period → period ≤ most_period
+    → profile_of elf input schedule period ≡ Ok whole → IsApart elf input schedule period whole

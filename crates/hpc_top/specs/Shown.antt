@@ -1,0 +1,48 @@
+-- `view` as a function of its file: a table of a database, or the first rule that the database breaks.
+use Rattle.std.specs.Prelude.{ℕ, List, Result, Ok, Err}
+use Rattle.prof_bytes.specs.Outcome.{◌>>=◌}
+use Rattle.prof_db.specs.declared.fault.DbFault.{DbFault}
+use Rattle.prof_db.specs.Rules.{database_in}
+use Rattle.scope_types.specs.CallPaths.{HartPath}
+use Rattle.tree_types.specs.declared.content.Content.{Content}
+use Rattle.tree_types.specs.Database.{naming_in}
+use Rattle.tree_types.specs.Naming.{Naming}
+use Rattle.tree_types.specs.PathsOf.{paths_of}
+use Rattle.tree_types.specs.TopDown.{top_down}
+use Rattle.view_tables.specs.Callers.{callers}
+use Rattle.view_tables.specs.Flat.{flat}
+use Rattle.hpc_top.specs.declared.status.InputFault.{InputFault}
+use Rattle.hpc_top.specs.declared.status.InputFault.TheVariants.{Database}
+use Rattle.hpc_top.specs.Listed.{only_text}
+use Rattle.hpc_top.specs.Product.{Product}
+use Rattle.hpc_top.specs.Words.{ViewTable, Top, Callers, Flat}
+
+-- ---- the tables
+
+-- how many callers stand above a procedure in a chain of the callers table, at most
+abbrev pub most_callers : ℕ
+most_callers = 8
+
+-- a table of call paths, by the period, the number of harts and the names
+abbrev pub table_from : ViewTable → ℕ → ℕ → Naming → List HartPath → List ℕ
+table_from Top period harts naming paths = top_down period harts naming paths
+table_from Callers period harts naming paths = callers period naming most_callers paths
+table_from Flat period harts naming paths = flat period naming paths
+
+-- a table of the call paths that a content holds
+abbrev pub table_of : ViewTable → Content → List ℕ
+table_of table c = table_from table c.period c.harts (naming_in c.names) (paths_of c)
+
+-- ---- the database
+
+abbrev pub database_from : Result Content DbFault → Result Content InputFault
+database_from (Ok content) = Ok content
+database_from (Err fault) = Err (Database fault.offset fault.rule)
+
+abbrev pub database : List ℕ → Result Content InputFault
+database bytes = database_from (database_in bytes)
+
+unfoldable pub view_product : ViewTable → List ℕ → Result Product InputFault
+view_product table bytes = do
+  content ← database bytes
+  Ok (only_text (table_of table content))

@@ -1,0 +1,223 @@
+-- The fields that stand in a plane are its bytes, and end where its columns do.
+use Rattle.std.proofs.Common.{◌≡◌, ℕ, zero, suc, ◌+◌, ◌*◌, ◌≤◌, ◌==◌, not, nat_lt, List, [], ◌∷◌, ◌++◌, length, Ok, refl, sym, ap, subst, ◌∙◌, append-nil, arith}
+use Rattle.std.specs.List.{flat_map}
+use Rattle.std.proofs.lemmas.Bool.{and_parts, eqb-true, ltb-false, not-true}
+use Rattle.std.proofs.lemmas.List.Concat.{flat_map-append}
+use Rattle.prof_bytes.specs.Number.{IsBytes, number_bytes, number_in}
+use Rattle.prof_bytes.specs.Outcome.{◌>>=◌}
+use Rattle.prof_bytes.specs.Reading.{At, left_of, moved}
+use Rattle.tree_types.specs.declared.content.ContextEntry.{ContextEntry}
+use Rattle.tree_types.specs.declared.content.ProfileEntry.{ProfileEntry}
+use Rattle.prof_db.specs.declared.raw.RawEntry.{RawEntry}
+use Rattle.prof_db.specs.Fields.{Read, adding, fault, number_from, times, word_from}
+use Rattle.prof_db.specs.Layout.{column_from, entry_from, past_column, past_entry}
+use Rattle.prof_db.specs.Spelling.{context_entry_bytes, kind_number, long, profile_entry_bytes, with_count, word}
+use Rattle.prof_db.specs.ValueRules.{Field, column_fields, context_fields, fields_kept, plane_fields, profile_fields, stands_at}
+use Rattle.prof_db.proofs.Back.{Took, number_moved, stands_took, took_both, took_none}
+use Rattle.prof_db.proofs.FieldSteps.{fields_append}
+use Rattle.prof_db.proofs.Outcomes.{bind_ok, ok_same, pass_ok}
+
+abbrev Stood : Type 0
+Stood = Unit {0} × At
+
+-- ---- fields that stand there
+
+abbrev pub field_bytes : Field → List ℕ
+field_bytes f = number_bytes f.0 f.1
+
+abbrev width : List Field → ℕ
+width [] = 0
+width (f ∷ fs) = f.0 + width fs
+
+first_stands : (rule : ℕ) (field : Field) (fields : List Field) (at : At) (end : Stood) → fields_kept rule (field ∷ fields) at ≡ Ok end
+    → (field.0 ≤ length (left_of at)) × (number_in field.0 (left_of at) ≡ field.1) × (fields_kept rule fields (moved field.0 at) ≡ Ok end)
+unfolding fields_kept
+first_stands rule field fields at end is =
+    let a = pass_ok (stands_at field at) (fault rule at.offset) (fields_kept rule fields (moved field.0 at)) end is in
+    let both = and_parts (not (nat_lt (length (left_of at)) field.0)) (number_in field.0 (left_of at) == field.1) a.0 in
+    (ltb-false (length (left_of at)) field.0 (not-true (nat_lt (length (left_of at)) field.0) both.0), eqb-true (number_in field.0 (left_of at)) field.1 both.1, a.1)
+
+no_fields : (rule : ℕ) (at next : At) → fields_kept rule [] at ≡ Ok (tt, next) → at ≡ next
+unfolding fields_kept
+no_fields rule at next is = let same : ◌≡◌ {A = Stood} (tt, at) (tt, next) = ok_same (tt, at) (tt, next) is in ap (λ (p : Stood). p.1) same
+
+pub fields_took : (rule : ℕ) (fields : List Field) (at next : At) → IsBytes at.whole → fields_kept rule fields at ≡ Ok (tt, next) → Took at next (flat_map field_bytes fields)
+fields_took rule [] at next bytes is = subst (λ (a : At). Took at a []) (no_fields rule at next is) (took_none at)
+fields_took rule (field ∷ fields) at next bytes is =
+    let a = first_stands rule field fields at (tt, next) is in
+    took_both at (moved field.0 at) next (field_bytes field) (flat_map field_bytes fields) (stands_took field.0 at field.1 bytes a.0 a.1)
+    (fields_took rule fields (moved field.0 at) next bytes a.2)
+
+-- ---- how far they reach
+
+pub moved_twice : (a b c : ℕ) (at : At) → a + b ≡ c → moved b (moved a at) ≡ moved c at
+moved_twice a b c at is = let far : at.offset + a + b ≡ at.offset + c = omega (arith, is) in λ i. record { whole = at.whole; offset = far i }
+
+not_moved : (at : At) → moved 0 at ≡ at
+not_moved at = let far : at.offset + 0 ≡ at.offset = omega arith in λ i. record { whole = at.whole; offset = far i }
+
+fields_moved : (rule : ℕ) (fields : List Field) (at next : At) → fields_kept rule fields at ≡ Ok (tt, next) → moved (width fields) at ≡ next
+fields_moved rule [] at next is = not_moved at ∙ no_fields rule at next is
+fields_moved rule (field ∷ fields) at next is =
+    let a = first_stands rule field fields at (tt, next) is in
+    sym (moved_twice field.0 (width fields) (field.0 + width fields) at refl) ∙ fields_moved rule fields (moved field.0 at) next a.2
+
+width_append : (a b : List Field) → width (a ++ b) ≡ width a + width b
+width_append [] b = omega arith
+width_append (f ∷ a) b = (let rest = width_append a b in omega (arith, rest))
+
+width_entries : {X : Type 0} (fields : X → List Field) → ((x : X) → width (fields x) ≡ 16) → (xs : List X) → width (flat_map fields xs) ≡ 16 * length xs
+width_entries fields wide [] = omega arith
+width_entries fields wide (x ∷ xs) =
+    let one = wide x in
+    let rest = width_entries fields wide xs in
+    let both = width_append (fields x) (flat_map fields xs) in
+    omega (arith, one, rest, both)
+
+-- ---- columns that were read
+
+entries_moved : {S : Type 0} (step : ℕ → S → At → Read S) → ((i : ℕ) (b a : S) (at next : At) → step i b at ≡ Ok (a, next) → moved 16 at ≡ next)
+    → (n i : ℕ) (before after : S) (at next : At) → times step n i before at ≡ Ok (after, next) → moved (16 * n) at ≡ next
+unfolding times
+entries_moved {S} step one zero i before after at next is =
+    let same : ◌≡◌ {A = S × At} (before, at) (after, next) = ok_same (before, at) (after, next) is in
+    not_moved at ∙ ap (λ (p : S × At). p.1) same
+entries_moved step one (suc n) i before after at next is =
+    let a = bind_ok (step i before at) (λ read. times step n (i + 1) read.0 read.1) (after, next) is in
+    let far : 16 + 16 * n ≡ 16 * suc n = omega arith in
+    sym (moved_twice 16 (16 * n) (16 * suc n) at far) ∙ ap (moved (16 * n)) (one i before a.0.0 at a.0.1 a.1) ∙ entries_moved step one n (i + 1) a.0.0 after a.0.1 next a.2
+
+three_moved : (at a b c : At) → moved 4 at ≡ a → moved 4 a ≡ b → moved 8 b ≡ c → moved 16 at ≡ c
+three_moved at a b c first second third =
+    sym (moved_twice 8 8 16 at refl) ∙ ap (moved 8) (sym (moved_twice 4 4 8 at refl) ∙ ap (moved 4) first ∙ second) ∙ third
+
+abbrev pub entry_end : ℕ → ℕ → ℕ → ℕ → ℕ × At → Read RawEntry
+entry_end offset hart node kind read = Ok (record { offset = offset; hart = hart; node = node; kind = kind; value = read.0 }, read.1)
+
+abbrev pub behind_entry_kind : ℕ → ℕ → ℕ → ℕ × At → Read RawEntry
+behind_entry_kind offset hart node read = number_from 8 read.1 >>= entry_end offset hart node read.0
+
+abbrev pub behind_entry_node : ℕ → ℕ → ℕ × At → Read RawEntry
+behind_entry_node offset hart read = word_from read.1 >>= behind_entry_kind offset hart read.0
+
+entry_moved : (hart : ℕ) (at next : At) (e : RawEntry) → entry_from hart at ≡ Ok (e, next) → moved 16 at ≡ next
+unfolding entry_from
+entry_moved hart at next e is =
+    let a = bind_ok (word_from at) (behind_entry_node at.offset hart) (e, next) is in
+    let b = bind_ok (word_from a.0.1) (behind_entry_kind at.offset hart a.0.0) (e, next) a.2 in
+    let c = bind_ok (number_from 8 b.0.1) (entry_end at.offset hart a.0.0 b.0.0) (e, next) b.2 in
+    let made : RawEntry = record { offset = at.offset; hart = hart; node = a.0.0; kind = b.0.0; value = c.0.0 } in
+    let same : ◌≡◌ {A = RawEntry × At} (made, c.0.1) (e, next) = ok_same (made, c.0.1) (e, next) c.2 in
+    three_moved at a.0.1 b.0.1 c.0.1 (number_moved 4 at a.0.1 a.0.0 a.1).2 (number_moved 4 a.0.1 b.0.1 b.0.0 b.1).2 (number_moved 8 b.0.1 c.0.1 c.0.0 c.1).2
+    ∙ ap (λ (p : RawEntry × At). p.1) same
+
+abbrev behind_one : List RawEntry → RawEntry × At → Read (List RawEntry)
+behind_one before read = Ok (before ++ read.0 ∷ [], read.1)
+
+added_moved : (hart i : ℕ) (before after : List RawEntry) (at next : At) → adding (entry_from hart) i before at ≡ Ok (after, next) → moved 16 at ≡ next
+added_moved hart i before after at next is =
+    let a = bind_ok (entry_from hart at) (behind_one before) (after, next) is in
+    let same : ◌≡◌ {A = List RawEntry × At} (before ++ a.0.0 ∷ [], a.0.1) (after, next) = ok_same (before ++ a.0.0 ∷ [], a.0.1) (after, next) a.2 in
+    entry_moved hart at a.0.1 a.0.0 a.1 ∙ ap (λ (p : List RawEntry × At). p.1) same
+
+abbrev pub past_end : ℕ × At → Read (Unit {0})
+past_end read = Ok (tt, read.1)
+
+abbrev pub behind_hart : ℕ × At → Read (Unit {0})
+behind_hart read = number_from 8 read.1 >>= past_end
+
+abbrev pub behind_past_kind : ℕ × At → Read (Unit {0})
+behind_past_kind read = word_from read.1 >>= behind_hart
+
+past_moved : (i : ℕ) (before after : Unit {0}) (at next : At) → past_entry i before at ≡ Ok (after, next) → moved 16 at ≡ next
+unfolding past_entry
+past_moved i before after at next is =
+    let a = bind_ok (word_from at) behind_past_kind (after, next) is in
+    let b = bind_ok (word_from a.0.1) behind_hart (after, next) a.2 in
+    let c = bind_ok (number_from 8 b.0.1) past_end (after, next) b.2 in
+    let same : ◌≡◌ {A = Stood} (tt, c.0.1) (after, next) = ok_same (tt, c.0.1) (after, next) c.2 in
+    three_moved at a.0.1 b.0.1 c.0.1 (number_moved 4 at a.0.1 a.0.0 a.1).2 (number_moved 4 a.0.1 b.0.1 b.0.0 b.1).2 (number_moved 8 b.0.1 c.0.1 c.0.0 c.1).2
+    ∙ ap (λ (p : Stood). p.1) same
+
+-- how far a column reaches: its count, and each entry
+abbrev column_end : At → At
+column_end at = moved (4 + 16 * number_in 4 (left_of at)) at
+
+counted_moved : (at mid next : At) (count : ℕ) → number_in 4 (left_of at) ≡ count → moved 4 at ≡ mid → moved (16 * count) mid ≡ next → column_end at ≡ next
+counted_moved at mid next count is first rest =
+    ap (λ (n : ℕ). moved (4 + 16 * n) at) is ∙ sym (moved_twice 4 (16 * count) (4 + 16 * count) at refl) ∙ ap (moved (16 * count)) first ∙ rest
+
+abbrev pub behind_count : ℕ → List RawEntry → ℕ × At → Read (List RawEntry)
+behind_count hart before read = times (adding (entry_from hart)) read.0 0 before read.1
+
+pub column_moved : (hart : ℕ) (before after : List RawEntry) (at next : At) → column_from hart before at ≡ Ok (after, next) → column_end at ≡ next
+unfolding column_from
+column_moved hart before after at next is =
+    let a = bind_ok (word_from at) (behind_count hart before) (after, next) is in
+    let m = number_moved 4 at a.0.1 a.0.0 a.1 in
+    counted_moved at a.0.1 next a.0.0 m.1 m.2 (entries_moved (adding (entry_from hart)) (λ i b f at next read. added_moved hart i b f at next read) a.0.0 0 before after a.0.1 next a.2)
+
+abbrev pub behind_past_count : ℕ × At → Read (Unit {0})
+behind_past_count read = times past_entry read.0 0 tt read.1
+
+pub past_column_moved : (i : ℕ) (before after : Unit {0}) (at next : At) → past_column i before at ≡ Ok (after, next) → column_end at ≡ next
+unfolding past_column
+past_column_moved i before after at next is =
+    let a = bind_ok (word_from at) behind_past_count (after, next) is in
+    let m = number_moved 4 at a.0.1 a.0.0 a.1 in
+    counted_moved at a.0.1 next a.0.0 m.1 m.2 (entries_moved past_entry past_moved a.0.0 0 tt after a.0.1 next a.2)
+
+-- ---- columns end where their fields do
+
+module _ {X S : Type 0} (rule : ℕ) (fields : X → List Field) (wide : (x : X) → width (fields x) ≡ 16) (step : ℕ → S → At → Read S)
+    (sized : (i : ℕ) (b a : S) (at next : At) → step i b at ≡ Ok (a, next) → column_end at ≡ next) where
+  abbrev behind_column : ℕ → ℕ → S × At → Read S
+  behind_column n i read = times step n (i + 1) read.0 read.1
+
+  abbrev behind_fields : List (List X) → Stood → Read (Unit {0})
+  behind_fields columns read = fields_kept rule (plane_fields fields columns) read.1
+
+  column_same : (xs : List X) (at mid : At) → fields_kept rule (column_fields fields xs) at ≡ Ok (tt, mid) → mid ≡ column_end at
+  column_same xs at mid is =
+      let count = (first_stands rule (4, length xs) (flat_map fields xs) at (tt, mid) is).1 in
+      let entries = width_entries fields wide xs in
+      let far : width (column_fields fields xs) ≡ 4 + 16 * number_in 4 (left_of at) = omega (arith, count, entries) in
+      sym (fields_moved rule (column_fields fields xs) at mid is) ∙ ap (λ (n : ℕ). moved n at) far
+
+  pub columns_end : (columns : List (List X)) (n i : ℕ) (before after : S) (at next end : At) → length columns ≡ n
+      → times step n i before at ≡ Ok (after, next) → fields_kept rule (plane_fields fields columns) at ≡ Ok (tt, end) → end ≡ next
+  unfolding times
+  columns_end [] zero i before after at next end long read kept =
+      let same : ◌≡◌ {A = S × At} (before, at) (after, next) = ok_same (before, at) (after, next) read in
+      sym (no_fields rule at end kept) ∙ ap (λ (p : S × At). p.1) same
+  columns_end [] (suc n) i before after at next end long read kept = absurd (omega arith)
+  columns_end (xs ∷ columns) zero i before after at next end long read kept = absurd (omega arith)
+  columns_end (xs ∷ columns) (suc n) i before after at next end long read kept =
+      let a = bind_ok (step i before at) (behind_column n i) (after, next) read in
+      let b = bind_ok (fields_kept rule (column_fields fields xs) at) (behind_fields columns) (tt, end)
+      (sym (fields_append rule (column_fields fields xs) (plane_fields fields columns) at) ∙ kept) in
+      let same : b.0.1 ≡ a.0.1 = column_same xs at b.0.1 b.1 ∙ sized i before a.0.0 at a.0.1 a.1 in
+      columns_end columns n (i + 1) a.0.0 after a.0.1 next end (omega (arith, long)) a.2
+      (subst (λ (m : At). fields_kept rule (plane_fields fields columns) m ≡ Ok (tt, end)) same b.2)
+
+-- ---- a plane's bytes
+
+flat_again : {X Y Z : Type 0} (g : Y → List Z) (f : X → List Y) (xs : List X) → flat_map g (flat_map f xs) ≡ flat_map (λ x. flat_map g (f x)) xs
+flat_again g f [] = refl
+flat_again {Z = Z} g f (x ∷ xs) = flat_map-append g (f x) (flat_map f xs) ∙ ap (λ (l : List Z). flat_map g (f x) ++ l) (flat_again g f xs)
+
+plane_bytes : {X : Type 0} (fields : X → List Field) (spelled : X → List ℕ) → ((x : X) → flat_map field_bytes (fields x) ≡ spelled x) → (columns : List (List X))
+    → flat_map field_bytes (plane_fields fields columns) ≡ flat_map (with_count spelled) columns
+plane_bytes {X} fields spelled each columns =
+    flat_again field_bytes (column_fields fields) columns ∙ (λ i. flat_map (λ (xs : List X). column xs i) columns)
+  where
+    column : (xs : List X) → flat_map field_bytes (column_fields fields xs) ≡ with_count spelled xs
+    column xs = ap (λ (l : List ℕ). word (length xs) ++ l) (flat_again field_bytes fields xs ∙ (λ i. flat_map (λ (x : X). each x i) xs))
+
+pub profile_bytes : (columns : List (List ProfileEntry)) → flat_map field_bytes (plane_fields profile_fields columns) ≡ flat_map (with_count profile_entry_bytes) columns
+profile_bytes columns =
+    plane_bytes profile_fields profile_entry_bytes (λ e. ap (λ (l : List ℕ). word e.node ++ word (kind_number e.kind) ++ l) (append-nil (long e.value))) columns
+
+pub context_bytes : (columns : List (List ContextEntry)) → flat_map field_bytes (plane_fields context_fields columns) ≡ flat_map (with_count context_entry_bytes) columns
+context_bytes columns =
+    plane_bytes context_fields context_entry_bytes (λ e. ap (λ (l : List ℕ). word (kind_number e.kind) ++ word e.hart ++ l) (append-nil (long e.value))) columns

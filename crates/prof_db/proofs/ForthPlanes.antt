@@ -1,0 +1,189 @@
+-- What was written is read as the same: the two planes.
+use Rattle.std.proofs.Common.{◌≡◌, ℕ, ◌+◌, ◌^◌, ◌<◌, ◌==◌, not, nat_lt, Bool, true, cond, List, [], ◌∷◌, ◌++◌, length, map, All, Ok, Err, refl, sym, ap, ap₂, ◌∙◌, append_assoc, append-nil, arith}
+use Rattle.std.proofs.lemmas.List.{map-append}
+use Rattle.std.specs.List.{enumerate_from, flat_map}
+use Rattle.std.proofs.lemmas.Bool.{and_from, eq-eqb}
+use Rattle.std.proofs.lemmas.List.Elements.{All-append, All-cons, All-head, All-nil, All-tail}
+use Rattle.prof_bytes.specs.Number.{number_in}
+use Rattle.prof_bytes.specs.Outcome.{◌>>=◌}
+use Rattle.prof_bytes.specs.Reading.{At, left_of, moved}
+use Rattle.tree_types.specs.declared.content.ContextEntry.{ContextEntry}
+use Rattle.tree_types.specs.declared.content.Kind.{Kind}
+use Rattle.tree_types.specs.declared.content.Kind.TheVariants.{Exclusive, Frame, Inclusive}
+use Rattle.tree_types.specs.declared.content.ProfileEntry.{ProfileEntry}
+use Rattle.prof_db.specs.declared.raw.RawEntry.{RawEntry}
+use Rattle.prof_db.specs.Fields.{Read, fault, times}
+use Rattle.prof_db.specs.Layout.{column_from, entry_from, past_column, past_entry}
+use Rattle.prof_db.specs.Spelling.{context_entry_bytes, kind_number, long, profile_entry_bytes, with_count, word}
+use Rattle.prof_db.specs.Stored.{IsWord}
+use Rattle.prof_db.specs.ValueRules.{Field, column_fields, context_fields, fields_kept, plane_fields, profile_fields, stands_at}
+use Rattle.prof_db.proofs.BackPlanes.{behind_count, behind_entry_kind, behind_entry_node, behind_hart, behind_past_count, behind_past_kind, entry_end, field_bytes, past_end}
+use Rattle.prof_db.proofs.Forth.{Comes, Reads, items_forth, number_forth, number_stands, word_forth}
+
+kind_fits : (kind : Kind) → IsWord (kind_number kind)
+kind_fits Exclusive = omega arith
+kind_fits Frame = omega arith
+kind_fits Inclusive = omega arith
+
+-- ---- the profile plane
+
+abbrev pub raw_entry : ℕ → ProfileEntry → RawEntry
+raw_entry hart e = record { offset = 0; hart = hart; node = e.node; kind = kind_number e.kind; value = e.value }
+
+abbrev pub bare_entry : RawEntry → RawEntry
+bare_entry e = record { offset = 0; hart = e.hart; node = e.node; kind = e.kind; value = e.value }
+
+-- a hart's column, and those of all harts
+abbrev pub raw_column : ℕ × List ProfileEntry → List RawEntry
+raw_column column = map (raw_entry column.0) column.1
+
+pub record EntryFits (e : ProfileEntry) : Type 0 where
+  pub node : IsWord e.node
+  pub value : e.value < 2 ^ 64
+
+entry_forth : (hart : ℕ) (at : At) (e : ProfileEntry) (rest : List ℕ) → EntryFits e → left_of at ≡ profile_entry_bytes e ++ rest → Reads bare_entry (entry_from hart at) (raw_entry hart e) rest
+unfolding entry_from
+entry_forth hart at e rest fits left =
+    let kind : ℕ = kind_number e.kind in
+    let behind : List ℕ = long e.value ++ rest in
+    let few = fits.value in
+    let a = word_forth at e.node (word kind ++ behind) fits.node left in
+    let b = word_forth a.0 kind behind (kind_fits e.kind) a.2 in
+    let c = number_forth 8 b.0 e.value rest (omega (arith, few)) b.2 in
+    record {
+      value = record { offset = at.offset; hart = hart; node = e.node; kind = kind; value = e.value };
+      next = c.0;
+      is = ap (λ (r : Read ℕ). r >>= behind_entry_node at.offset hart) a.1 ∙ ap (λ (r : Read ℕ). r >>= behind_entry_kind at.offset hart e.node) b.1
+          ∙ ap (λ (r : Read ℕ). r >>= entry_end at.offset hart e.node kind) c.1;
+      same = refl;
+      left = c.2;
+    }
+
+pub record ColumnFits (column : List ProfileEntry) : Type 0 where
+  pub short : IsWord (length column)
+  pub entries : All EntryFits column
+
+record ColumnRead (hart : ℕ) (before : List RawEntry) (at : At) (column : List ProfileEntry) (rest : List ℕ) : Type 0 where
+  xs : List RawEntry
+  next : At
+  is : column_from hart before at ≡ Ok (before ++ xs, next)
+  same : map bare_entry xs ≡ map (raw_entry hart) column
+  left : left_of next ≡ rest
+
+column_forth : (hart : ℕ) (before : List RawEntry) (at : At) (column : List ProfileEntry) (rest : List ℕ) → ColumnFits column → left_of at ≡ with_count profile_entry_bytes column ++ rest → ColumnRead hart before at column rest
+unfolding column_from
+column_forth hart before at column rest fits left =
+    let a = word_forth at (length column) (flat_map profile_entry_bytes column ++ rest) fits.short (left ∙ append_assoc (word (length column)) (flat_map profile_entry_bytes column) rest) in
+    let b = items_forth (entry_from hart) bare_entry (raw_entry hart) profile_entry_bytes EntryFits (entry_forth hart) column 0 before a.0 rest fits.entries a.2 in
+    record { xs = b.xs; next = b.next; is = ap (λ (r : Read ℕ). r >>= behind_count hart before) a.1 ∙ b.is; same = b.same; left = b.left }
+
+pub record PlaneRead (n hart : ℕ) (before : List RawEntry) (at : At) (columns : List (List ProfileEntry)) (rest : List ℕ) : Type 0 where
+  pub xs : List RawEntry
+  pub next : At
+  pub is : times column_from n hart before at ≡ Ok (before ++ xs, next)
+  pub same : map bare_entry xs ≡ flat_map raw_column (enumerate_from hart columns)
+  pub left : left_of next ≡ rest
+
+pub plane_forth : (columns : List (List ProfileEntry)) (hart : ℕ) (before : List RawEntry) (at : At) (rest : List ℕ) → All ColumnFits columns
+    → left_of at ≡ flat_map (with_count profile_entry_bytes) columns ++ rest → PlaneRead (length columns) hart before at columns rest
+unfolding times
+plane_forth [] hart before at rest fit left = record { xs = []; next = at; is = ap (λ (l : List RawEntry). Ok (l, at)) (sym (append-nil before)); same = refl; left = left }
+plane_forth (column ∷ columns) hart before at rest fit left =
+    let behind : List ℕ = flat_map (with_count profile_entry_bytes) columns in
+    let a = column_forth hart before at column (behind ++ rest) (All-head ColumnFits column columns fit) (left ∙ append_assoc (with_count profile_entry_bytes column) behind rest) in
+    let b = plane_forth columns (hart + 1) (before ++ a.xs) a.next rest (All-tail ColumnFits column columns fit) a.left in
+    record {
+      xs = a.xs ++ b.xs;
+      next = b.next;
+      is = ap (λ (r : Read (List RawEntry)). r >>= (λ (so_far, next). times column_from (length columns) (hart + 1) so_far next)) a.is ∙ b.is
+          ∙ ap (λ (l : List RawEntry). Ok (l, b.next)) (append_assoc before a.xs b.xs);
+      same = map-append bare_entry a.xs b.xs ∙ ap₂ (λ (k l : List RawEntry). k ++ l) a.same b.same;
+      left = b.left;
+    }
+
+-- ---- the context plane is passed over
+
+pub record PastFits (e : ContextEntry) : Type 0 where
+  pub hart : IsWord e.hart
+  pub value : e.value < 2 ^ 64
+
+past_forth : (i : ℕ) (at : At) (e : ContextEntry) (rest : List ℕ) → PastFits e → left_of at ≡ context_entry_bytes e ++ rest → Comes (past_entry i tt at) tt rest
+unfolding past_entry
+past_forth i at e rest fits left =
+    let behind : List ℕ = long e.value ++ rest in
+    let few = fits.value in
+    let a = word_forth at (kind_number e.kind) (word e.hart ++ behind) (kind_fits e.kind) left in
+    let b = word_forth a.0 e.hart behind fits.hart a.2 in
+    let c = number_forth 8 b.0 e.value rest (omega (arith, few)) b.2 in (
+      c.0,
+      ap (λ (r : Read ℕ). r >>= behind_past_kind) a.1 ∙ ap (λ (r : Read ℕ). r >>= behind_hart) b.1 ∙ ap (λ (r : Read ℕ). r >>= past_end) c.1,
+      c.2,
+    )
+
+-- steps that leave nothing but the place
+module _ {X : Type 0} (step : ℕ → Unit {0} → At → Read (Unit {0})) (spelled : X → List ℕ) (Fits : X → Type 0)
+    (one : (i : ℕ) (at : At) (x : X) (rest : List ℕ) → Fits x → left_of at ≡ spelled x ++ rest → Comes (step i tt at) tt rest) where
+  passed_forth : (xs : List X) (i : ℕ) (at : At) (rest : List ℕ) → All Fits xs → left_of at ≡ flat_map spelled xs ++ rest → Comes (times step (length xs) i tt at) tt rest
+  unfolding times
+  passed_forth [] i at rest fit left = (at, refl, left)
+  passed_forth (x ∷ xs) i at rest fit left =
+      let a = one i at x (flat_map spelled xs ++ rest) (All-head Fits x xs fit) (left ∙ append_assoc (spelled x) (flat_map spelled xs) rest) in
+      let b = passed_forth xs (i + 1) a.0 rest (All-tail Fits x xs fit) a.2 in
+      (b.0, ap (λ (r : Read (Unit {0})). r >>= (λ (so_far, next). times step (length xs) (i + 1) so_far next)) a.1 ∙ b.1, b.2)
+
+pub record PastColumnFits (column : List ContextEntry) : Type 0 where
+  pub short : IsWord (length column)
+  pub entries : All PastFits column
+
+past_column_forth : (i : ℕ) (at : At) (column : List ContextEntry) (rest : List ℕ) → PastColumnFits column → left_of at ≡ with_count context_entry_bytes column ++ rest → Comes (past_column i tt at) tt rest
+unfolding past_column
+past_column_forth i at column rest fits left =
+    let a = word_forth at (length column) (flat_map context_entry_bytes column ++ rest) fits.short (left ∙ append_assoc (word (length column)) (flat_map context_entry_bytes column) rest) in
+    let b = passed_forth past_entry context_entry_bytes PastFits past_forth column 0 a.0 rest fits.entries a.2 in
+    (b.0, ap (λ (r : Read ℕ). r >>= behind_past_count) a.1 ∙ b.1, b.2)
+
+pub past_plane_forth : (columns : List (List ContextEntry)) (at : At) (rest : List ℕ) → All PastColumnFits columns → left_of at ≡ flat_map (with_count context_entry_bytes) columns ++ rest
+    → Comes (times past_column (length columns) 0 tt at) tt rest
+past_plane_forth columns at rest fit left = passed_forth past_column (with_count context_entry_bytes) PastColumnFits past_column_forth columns 0 at rest fit left
+
+-- ---- fields that stand there
+
+abbrev FieldFits : Field → Type 0
+FieldFits f = f.1 < 256 ^ f.0
+
+pub fields_forth : (rule : ℕ) (fields : List Field) (at : At) (rest : List ℕ) → All FieldFits fields → left_of at ≡ flat_map field_bytes fields ++ rest
+    → (next : At) × (fields_kept rule fields at ≡ Ok (tt, next))
+unfolding fields_kept
+fields_forth rule [] at rest fit left = (at, refl)
+fields_forth rule (f ∷ fields) at rest fit left =
+    let stands = number_stands f.0 at f.1 (flat_map field_bytes fields ++ rest) (All-head FieldFits f fields fit) (left ∙ append_assoc (field_bytes f) (flat_map field_bytes fields) rest) in
+    let here : stands_at f at ≡ true = and_from (not (nat_lt (length (left_of at)) f.0)) (number_in f.0 (left_of at) == f.1) (ap not stands.0) (eq-eqb (number_in f.0 (left_of at)) f.1 stands.1) in
+    let more = fields_forth rule fields (moved f.0 at) rest (All-tail FieldFits f fields fit) stands.2 in
+    (more.0, ap (λ (b : Bool). cond b (fields_kept rule fields (moved f.0 at)) (Err (fault rule at.offset))) here ∙ more.1)
+
+word_field_fits : (n : ℕ) → IsWord n → FieldFits (4, n)
+word_field_fits n few = omega (arith, few)
+
+long_field_fits : (n : ℕ) → n < 2 ^ 64 → FieldFits (8, n)
+long_field_fits n few = omega (arith, few)
+
+three : (a b c : Field) → FieldFits a → FieldFits b → FieldFits c → All FieldFits (a ∷ b ∷ c ∷ [])
+three a b c fa fb fc = All-cons FieldFits a (b ∷ c ∷ []) fa (All-cons FieldFits b (c ∷ []) fb (All-cons FieldFits c [] fc (All-nil FieldFits)))
+
+module _ {X : Type 0} (fields : X → List Field) (Fits : X → Type 0) (own : (x : X) → Fits x → All FieldFits (fields x)) where
+  entries_fit : (xs : List X) → All Fits xs → All FieldFits (flat_map fields xs)
+  entries_fit [] fit = All-nil FieldFits
+  entries_fit (x ∷ xs) fit = All-append FieldFits (fields x) (flat_map fields xs) (own x (All-head Fits x xs fit)) (entries_fit xs (All-tail Fits x xs fit))
+
+  column_fits : (xs : List X) → IsWord (length xs) → All Fits xs → All FieldFits (column_fields fields xs)
+  column_fits xs short fit = All-cons FieldFits (4, length xs) (flat_map fields xs) (word_field_fits (length xs) short) (entries_fit xs fit)
+
+pub profile_fields_fit : (columns : List (List ProfileEntry)) → All ColumnFits columns → All FieldFits (plane_fields profile_fields columns)
+profile_fields_fit columns fit =
+    entries_fit (column_fields profile_fields) ColumnFits (λ xs own. column_fits profile_fields EntryFits
+    (λ e f. three (4, e.node) (4, kind_number e.kind) (8, e.value) (word_field_fits e.node f.node) (word_field_fits (kind_number e.kind) (kind_fits e.kind)) (long_field_fits e.value f.value)) xs own.short own.entries) columns fit
+
+pub context_fields_fit : (columns : List (List ContextEntry)) → All PastColumnFits columns → All FieldFits (plane_fields context_fields columns)
+context_fields_fit columns fit =
+    entries_fit (column_fields context_fields) PastColumnFits (λ xs own. column_fits context_fields PastFits
+    (λ e f. three (4, kind_number e.kind) (4, e.hart) (8, e.value) (word_field_fits (kind_number e.kind) (kind_fits e.kind)) (word_field_fits e.hart f.hart) (long_field_fits e.value f.value)) xs own.short own.entries) columns fit

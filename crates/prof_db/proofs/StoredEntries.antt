@@ -1,0 +1,355 @@
+-- The entries of a stored content's profile plane are those that its paths give.
+use Rattle.std.proofs.Common.{◌≡◌, ℕ, zero, suc, ◌+◌, ◌-◌, ◌*◌, ◌/◌, ◌%◌, ◌^◌, ◌<◌, ◌≤◌, ◌==◌, ◌&&◌, ◌||◌, not, nat_le, Bool, true, false, List, [], ◌∷◌, ◌++◌, length, get_or, map, take, filter, count_by, sum_by, replicate, All, AllPairs, Contains, Less, Equal, Greater, Ordering, true≢false, inl, inr, refl, sym, ap, ap₂, subst, ◌∙◌, arith}
+use Rattle.std.specs.Prelude.{◌⊎◌}
+use Rattle.std.specs.List.{enumerate_from, flat_map, list_any, range_with_len}
+use Rattle.std.specs.Ordering.{nat_cmp, ordering_then}
+use Rattle.std.proofs.Math.Nat.{mul-mod_right}
+use Rattle.std.proofs.lemmas.Bool.{and_from, and_parts, cases_order, eq-eqb, eqb-true, le-leb, lt-ltb, ne_eqb, or_right}
+use Rattle.std.proofs.lemmas.Bool.Decides.{nat_tests}
+use Rattle.std.proofs.lemmas.Cmp.{nat_cmp_total, tied_itself}
+use Rattle.std.proofs.lemmas.List.{append-nil, map-append}
+use Rattle.std.proofs.lemmas.List.Concat.{flat_map-append}
+use Rattle.std.proofs.lemmas.List.Elements.{All-append, All-filter, All-get_or, All-head, All-map, All-nil, All-tail, All-weaker, filter-append, filter_passes}
+use Rattle.std.proofs.lemmas.List.Folds.{Any-from_list_any}
+use Rattle.std.proofs.lemmas.List.Kept.{AllPairs-cons, AllPairs-filter}
+use Rattle.std.proofs.lemmas.List.Sums.{count_by-le-length, sum_by-take-le}
+use Rattle.scope_types.specs.CallPaths.{HartPath}
+use Rattle.scope_types.specs.Limits.{most_samples}
+use Rattle.tree_types.specs.NodeValues.{kind_rank, node_value, value_order, values_at_node, values_for_hart, values_of}
+use Rattle.tree_types.specs.Nodes.{no_parent, nodes}
+use Rattle.tree_types.specs.Paths.{Path, after_prefix, rest_passes}
+use Rattle.tree_types.specs.PathsOf.{entry_paths, paths_of, tree_paths}
+use Rattle.tree_types.specs.Planes.{kinds}
+use Rattle.tree_types.specs.Tree.{CountedTree, counted_path, node_at, node_path, paths_in}
+use Rattle.tree_types.specs.ValueColumns.{columns_by_hart, columns_by_node, hart_entries, in_profile, node_entries}
+use Rattle.tree_types.specs.Values.{count_below, counts_for, ends_here, harts_below, value}
+use Rattle.tree_types.specs.declared.content.Content.{Content}
+use Rattle.tree_types.specs.declared.content.Kind.{Kind}
+use Rattle.tree_types.specs.declared.content.Kind.TheVariants.{Exclusive, Frame, Inclusive}
+use Rattle.tree_types.specs.declared.content.Node.{Node}
+use Rattle.tree_types.specs.declared.content.ProfileEntry.{ProfileEntry}
+use Rattle.tree_types.specs.declared.counted_tree.NodeCount.{NodeCount}
+use Rattle.tree_types.specs.declared.node_values.NodeValue.{NodeValue}
+use Rattle.tree_types.proofs.Bounds.{small_product}
+use Rattle.tree_types.proofs.ContentParts.{own_contexts, own_nodes, own_profiles}
+use Rattle.tree_types.proofs.Counting.{count_none}
+use Rattle.tree_types.proofs.PathsAgain.{enumerated}
+use Rattle.tree_types.proofs.Prefixes.{after_is, passes_is}
+use Rattle.tree_types.proofs.Selecting.{flat_map_of_map, map_of_map}
+use Rattle.tree_types.proofs.TreeLaws.{paths_in_tree}
+use Rattle.tree_types.proofs.ValuePlanes.{contexts_are, profiles_are}
+use Rattle.tree_types.proofs.WholeValues.{are_values}
+use Rattle.prof_db.specs.declared.raw.RawEntry.{RawEntry}
+use Rattle.prof_db.specs.NodeRules.{is_statement}
+use Rattle.prof_db.specs.Spelling.{kind_number}
+use Rattle.prof_db.specs.Stored.{IsStored}
+use Rattle.prof_db.specs.ValueRules.{count_of, entries_ascend, entry_at, entry_breaks, is_exclusive, is_value, samples_of, tree_of}
+use Rattle.prof_db.proofs.Exclusive.{first_up, samples_are, second_up, third_up}
+use Rattle.prof_db.proofs.ForthPlanes.{raw_column, raw_entry}
+use Rattle.prof_db.proofs.OwnNames.{all_lists, pairs_map}
+use Rattle.prof_db.proofs.StoredNodes.{ends_at_statement, few_paths}
+
+-- ---- entries, and the paths that they count
+
+module _ (period : ℕ) (ns : List Node) where
+  abbrev copies : NodeCount → List HartPath
+  copies c = replicate c.count (counted_path ns c)
+
+  abbrev of_entries : List RawEntry → List HartPath
+  of_entries es = flat_map copies (map (count_of period) (filter is_exclusive es))
+
+  entries_append : (a b : List RawEntry) → of_entries (a ++ b) ≡ of_entries a ++ of_entries b
+  entries_append a b =
+      ap (λ (es : List RawEntry). flat_map copies (map (count_of period) es)) (filter-append is_exclusive a b)
+      ∙ ap (flat_map copies) (map-append (count_of period) (filter is_exclusive a) (filter is_exclusive b))
+      ∙ flat_map-append copies (map (count_of period) (filter is_exclusive a)) (map (count_of period) (filter is_exclusive b))
+
+  column_paths : (hart : ℕ) (es : List ProfileEntry) → of_entries (map (raw_entry hart) es) ≡ flat_map (entry_paths period (tree_paths ns) hart) es
+  column_paths hart [] = refl
+  column_paths hart (e ∷ es) =
+      entries_append (raw_entry hart e ∷ []) (map (raw_entry hart) es) ∙ ap₂ (λ (a b : List HartPath). a ++ b) (one e.kind) (column_paths hart es)
+    where
+      one : (kind : Kind) → of_entries (record { offset = 0; hart = hart; node = e.node; kind = kind_number kind; value = e.value } ∷ [])
+          ≡ entry_paths period (tree_paths ns) hart (record { node = e.node; kind = kind; value = e.value })
+      one Exclusive = append-nil (replicate (e.value / period) (record { hart = hart; path = node_path ns e.node }))
+      one Frame = refl
+      one Inclusive = refl
+
+  plane_paths : (columns : List (ℕ × List ProfileEntry)) → of_entries (flat_map raw_column columns) ≡ flat_map (λ column. flat_map (entry_paths period (tree_paths ns) column.0) column.1) columns
+  plane_paths [] = refl
+  plane_paths (column ∷ columns) =
+      entries_append (raw_column column) (flat_map raw_column columns) ∙ ap₂ (λ (a b : List HartPath). a ++ b) (column_paths column.0 column.1) (plane_paths columns)
+
+-- ---- lists by a rising number
+
+module _ {Y : Type 0} (R : Y → Y → Type 0) (key : Y → ℕ) (f : ℕ → List Y) (rises : (x y : Y) → key x < key y → R x y) (own : (j : ℕ) → All (λ y. key y ≡ j) (f j)) (each : (j : ℕ) → AllPairs R (f j)) where
+  joined : (xs ys : List Y) → All (λ x. All (R x) ys) xs → AllPairs R xs → AllPairs R ys → AllPairs R (xs ++ ys)
+  joined [] ys below a b = b
+  joined (x ∷ xs) ys below a b =
+      AllPairs-cons R x (xs ++ ys)
+      (All-append (R x) xs ys (λ i d lt. a 0 (suc i) d (omega arith) (omega arith)) (All-head (λ (x : Y). All (R x) ys) x xs below))
+      (joined xs ys (All-tail (λ (x : Y). All (R x) ys) x xs below) (λ i j d less lt. a (suc i) (suc j) d (omega arith) (omega arith)) b)
+
+  later : (a n : ℕ) → All (λ y. a ≤ key y) (flat_map f (range_with_len a n))
+  later a zero = All-nil (λ (y : Y). a ≤ key y)
+  later a (suc n) =
+      All-append (λ (y : Y). a ≤ key y) (f a) (flat_map f (range_with_len (a + 1) n))
+      (All-weaker (λ (y : Y). key y ≡ a) (λ y. a ≤ key y) (λ y e. omega (arith, e)) (f a) (own a))
+      (All-weaker (λ (y : Y). a + 1 ≤ key y) (λ y. a ≤ key y) (λ y le. omega (arith, le)) (flat_map f (range_with_len (a + 1) n)) (later (a + 1) n))
+
+  pub ranged_pairs : (a n : ℕ) → AllPairs R (flat_map f (range_with_len a n))
+  ranged_pairs a zero = λ i j d less lt. absurd (omega arith)
+  ranged_pairs a (suc n) =
+      let rest : List Y = flat_map f (range_with_len (a + 1) n) in
+      joined (f a) rest
+      (All-weaker (λ (y : Y). key y ≡ a) (λ y. All (R y) rest) (λ y e. All-weaker (λ (z : Y). a + 1 ≤ key z) (R y) (λ z le. rises y z (omega (arith, e, le))) rest (later (a + 1) n)) (f a) (own a))
+      (each a) (ranged_pairs (a + 1) n)
+
+-- ---- the order of values and of entries
+
+less_is : (m n : ℕ) → nat_cmp m n ≡ Less → m < n
+less_is m n e = grind (arith, nat_tests)
+
+-- what ascends in three numbers, of which the first is the same to both
+last_two_up : (a b c x y z : ℕ) → ordering_then (nat_cmp a x) (ordering_then (nat_cmp b y) (ordering_then (nat_cmp c z) Equal)) ≡ Less → b ≡ y → (a < x) ⊎ ((a ≡ x) × (c < z))
+last_two_up a b c x y z e same = elim (cases_order a x) [
+  | inl is ↦
+      let first : nat_cmp a x ≡ Equal = ap (λ (n : ℕ). nat_cmp n x) is ∙ tied_itself nat_cmp_total x in
+      let second : nat_cmp b y ≡ Equal = ap (λ (n : ℕ). nat_cmp n y) same ∙ tied_itself nat_cmp_total y in
+      inr (is, less_is c z (only (nat_cmp c z) (sym (λ i. ordering_then (first i) (ordering_then (second i) (ordering_then (nat_cmp c z) Equal))) ∙ e)))
+  | inr (inl less) ↦ inl less
+  | inr (inr more) ↦ absurd (never (sym (ap (λ o. ordering_then o (ordering_then (nat_cmp b y) (ordering_then (nat_cmp c z) Equal))) (greater a x more)) ∙ e))
+]
+  where
+    only : (o : Ordering) → ordering_then o Equal ≡ Less → o ≡ Less
+    only Less e = refl
+    only Equal e = absurd cc
+    only Greater e = absurd cc
+
+    greater : (m n : ℕ) → n < m → nat_cmp m n ≡ Greater
+    greater m n more = grind (arith, nat_tests)
+
+    never : Greater ≡ Less → ⊥
+    never e = absurd cc
+
+kinds_same : (kind : Kind) → kind_number kind ≡ kind_rank kind
+kinds_same Exclusive = refl
+kinds_same Frame = refl
+kinds_same Inclusive = refl
+
+kind_few : (kind : Kind) → kind_number kind < 3
+kind_few Exclusive = omega arith
+kind_few Frame = omega arith
+kind_few Inclusive = omega arith
+
+exclusive_is : (kind : Kind) → kind_number kind ≡ 0 → kind ≡ Exclusive
+exclusive_is Exclusive e = refl
+exclusive_is Frame e = absurd (omega arith)
+exclusive_is Inclusive e = absurd (omega arith)
+
+module _ (c : Content) (s : IsStored c) where
+  abbrev ns : List Node
+  ns = c.nodes
+
+  abbrev ps : List HartPath
+  ps = paths_of c
+
+  abbrev pub entries : List RawEntry
+  entries = flat_map raw_column (enumerate_from 0 c.profiles)
+
+  abbrev pub tree : CountedTree
+  tree = tree_of c.period c.harts ns entries
+
+  pub paths_are : paths_in tree ≡ ps
+  unfolding paths_in paths_of
+  paths_are = plane_paths c.period ns (enumerate_from 0 c.profiles)
+
+  few : length (nodes ps) ≤ no_parent
+  few = few_paths c s
+
+  pub by_hart : columns_by_hart (values_of c.period tree) ≡ c.profiles
+  by_hart =
+      profiles_are c.period tree ps (record { same = λ t. ap (count_by t) paths_are }) (own_nodes c s.profile.own) few
+      ∙ sym (own_profiles c s.profile.own)
+
+  pub by_node : columns_by_node (values_of c.period tree) ≡ c.contexts
+  by_node =
+      contexts_are c.period tree ps (record { same = λ t. ap (count_by t) paths_are }) (own_nodes c s.profile.own) few
+      ∙ sym (own_contexts c s.profile.own)
+
+  -- ---- the values
+
+  abbrev pub values : List NodeValue
+  values = (values_of c.period tree).entries
+
+  pub profiles_by_value : c.profiles ≡ map (hart_entries values) (harts_below c.harts)
+  unfolding columns_by_hart values_of
+  profiles_by_value = sym by_hart
+
+  pub contexts_by_value : c.contexts ≡ map (node_entries values) (range_with_len 0 (length ns))
+  unfolding columns_by_node values_of
+  contexts_by_value = sym by_node
+
+  abbrev pub IsOwn : NodeValue → Type 0
+  IsOwn v = v.value ≡ value c.period (paths_in tree) v.hart (node_path ns v.node) v.kind
+
+  own_values : All IsOwn values
+  unfolding values_of
+  own_values =
+      All-filter (λ (v : NodeValue). not (v.value == 0)) IsOwn (flat_map (values_at_node c.period tree) (range_with_len 0 (length ns)))
+      (all_lists IsOwn (values_at_node c.period tree) (range_with_len 0 (length ns)) (λ i d lt. at_node (get_or (range_with_len 0 (length ns)) i d)))
+    where
+      at_node : (node : ℕ) → All IsOwn (values_at_node c.period tree node)
+      at_node node = all_lists IsOwn (values_for_hart c.period tree node) (harts_below c.harts) (λ i d lt.
+          All-map IsOwn (node_value c.period tree node (get_or (harts_below c.harts) i d)) kinds (λ k e less. refl))
+
+  pub record IsValue (v : NodeValue) : Type 0 where
+    pub node : v.node < length ns
+    pub hart : v.hart < c.harts
+    pub some : 0 < v.value
+    pub own : IsOwn v
+
+  pub are_own : All IsValue values
+  unfolding values_of
+  are_own i d lt =
+      let are = are_values c.period tree in
+      record { node = are.nodes i d lt; hart = are.harts i d lt; some = are.some i d lt; own = own_values i d lt }
+
+  few_samples : length (paths_in tree) ≤ most_samples
+  few_samples = (let long = ap length paths_are in let samples = s.profile.samples in omega (arith, long, samples))
+
+  pub value_small : (v : NodeValue) → IsValue v → v.value < 2 ^ 64
+  unfolding count_below
+  value_small v is =
+      let most = few_samples in
+      let some = count_by-le-length (λ (p : HartPath). p.hart == v.hart && rest_passes (counts_for v.kind) (after_prefix (node_path ns v.node) p.path)) (paths_in tree) in
+      let product = small_product c.period (count_below (counts_for v.kind) (paths_in tree) v.hart (node_path ns v.node)) s.period (omega (arith, some, most)) in
+      let own = is.own in
+      omega (arith, product, own)
+
+  -- a node that has an exclusive value is a statement
+  exclusive_ends : (v : NodeValue) → IsValue v → v.kind ≡ Exclusive → (is_statement (node_at ns v.node).scope ≡ true) × (v.value % c.period ≡ 0)
+  unfolding count_below
+  exclusive_ends v is kind =
+      let n : Path = node_path ns v.node in
+      let test : HartPath → Bool = λ p. p.hart == v.hart && rest_passes ends_here (after_prefix n p.path) in
+      let count : ℕ = count_below ends_here (paths_in tree) v.hart n in
+      let amount : v.value ≡ c.period * count = is.own ∙ ap (λ (k : Kind). value c.period (paths_in tree) v.hart n k) kind in
+      let some = is.some in (
+        elim (list_any test (paths_in tree)) as (λ b. list_any test (paths_in tree) ≡ b → is_statement (node_at ns v.node).scope ≡ true) [
+          | true ↦ λ e.
+              let a = Any-from_list_any test (paths_in tree) e in
+              let there : Contains ps a.1 = subst (λ (l : List HartPath). Contains l a.1) paths_are (a.0, a.2, a.3) in
+              ends_at_statement c s v.node is.node a.1 there (path_is n a.1.path (and_parts (a.1.hart == v.hart) (rest_passes ends_here (after_prefix n a.1.path)) a.4).1)
+          | false ↦ λ e. absurd (nothing c.period v.value count amount (count_none test (paths_in tree) e) some)
+        ] refl,
+        ap (λ (k : ℕ). k % c.period) amount ∙ mul-mod_right c.period count,
+      )
+    where
+      nothing : (period amount count : ℕ) → amount ≡ period * count → count ≡ 0 → 0 < amount → ⊥
+      nothing period amount count is none some = (let zero_is : period * count ≡ period * 0 = ap (λ (k : ℕ). period * k) none in absurd (omega (arith, is, zero_is, some)))
+
+      path_is : (n m : Path) → rest_passes ends_here (after_prefix n m) ≡ true → m ≡ n
+      path_is n m e =
+          let p = passes_is ends_here (after_prefix n m) e in
+          after_is n m p.0 p.1 ∙ ap (λ (r : Path). n ++ r) (none_left p.0 p.2) ∙ append-nil n
+        where
+          none_left : (r : Path) → ends_here r ≡ true → r ≡ []
+          none_left [] e = refl
+          none_left (s ∷ r) e = absurd (true≢false (sym e))
+
+  -- ---- the entries
+
+  abbrev hart_raws : ℕ → List RawEntry
+  hart_raws hart = map (λ v. raw_entry hart (in_profile v)) (filter (λ v. v.hart == hart) values)
+
+  entries_are : entries ≡ flat_map hart_raws (harts_below c.harts)
+  entries_are =
+      ap (λ (columns : List (List ProfileEntry)). flat_map raw_column (enumerate_from 0 columns)) profiles_by_value
+      ∙ ap (flat_map raw_column) (enumerated (hart_entries values) 0 c.harts)
+      ∙ flat_map_of_map raw_column (λ h. (h, hart_entries values h)) (range_with_len 0 c.harts)
+      ∙ (λ i. flat_map (λ h. map_of_map (raw_entry h) in_profile (filter (λ (v : NodeValue). v.hart == h) values) i) (range_with_len 0 c.harts))
+
+  pub record IsGood (e : RawEntry) : Type 0 where
+    pub node : e.node < length ns
+    pub hart : e.hart < c.harts
+    pub kind : e.kind < 3
+    pub some : 0 < e.value
+    pub exclusive : is_exclusive e ≡ true → (is_statement (node_at ns e.node).scope ≡ true) × (e.value % c.period ≡ 0)
+
+  abbrev mine : ℕ → List NodeValue
+  mine hart = filter (λ (v : NodeValue). v.hart == hart) values
+
+  own_good : (hart : ℕ) → All IsGood (hart_raws hart)
+  own_good hart = All-map IsGood (λ v. raw_entry hart (in_profile v)) (mine hart) (λ i d lt.
+      let v : NodeValue = get_or (mine hart) i d in
+      let is : IsValue v = All-filter (λ (v : NodeValue). v.hart == hart) IsValue values are_own i d lt in
+      let at : v.hart ≡ hart = eqb-true v.hart hart (filter_passes (λ (v : NodeValue). v.hart == hart) values i d lt) in
+      record {
+        node = is.node;
+        hart = subst (λ (h : ℕ). h < c.harts) at is.hart;
+        kind = kind_few v.kind;
+        some = is.some;
+        exclusive = λ e. exclusive_ends v is (exclusive_is v.kind (eqb-true (kind_number v.kind) 0 e));
+      })
+
+  pub good : All IsGood entries
+  good = subst (All IsGood) (sym entries_are) (all_lists IsGood hart_raws (harts_below c.harts) (λ i d lt. own_good (get_or (harts_below c.harts) i d)))
+
+  abbrev Up : RawEntry → RawEntry → Type 0
+  Up e f = entries_ascend e f ≡ true
+
+  abbrev none : NodeValue
+  none = record { node = 0; hart = 0; kind = Exclusive; value = 0 }
+
+  own_up : (hart : ℕ) → AllPairs Up (hart_raws hart)
+  own_up hart = pairs_map Up (λ v. raw_entry hart (in_profile v)) (mine hart) none (λ i j d less lt.
+      let v : NodeValue = get_or (mine hart) i d in
+      let w : NodeValue = get_or (mine hart) j d in
+      let up : value_order v w ≡ Less = AllPairs-filter (λ a b. value_order a b ≡ Less) (λ (v : NodeValue). v.hart == hart) values (are_values c.period tree).ascend i j d less lt in
+      let same_v : v.hart ≡ hart = eqb-true v.hart hart (filter_passes (λ (v : NodeValue). v.hart == hart) values i d (omega arith)) in
+      let same_w : w.hart ≡ hart = eqb-true w.hart hart (filter_passes (λ (v : NodeValue). v.hart == hart) values j d lt) in
+      elim (last_two_up v.node v.hart (kind_rank v.kind) w.node w.hart (kind_rank w.kind) up (same_v ∙ sym same_w)) [
+        | inl first ↦ second_up hart v.node (kind_number v.kind) hart w.node (kind_number w.kind) refl first
+        | inr (same, last) ↦
+            third_up hart v.node (kind_number v.kind) hart w.node (kind_number w.kind) refl same
+            (let a = kinds_same v.kind in let b = kinds_same w.kind in omega (arith, a, b, last))
+      ])
+
+  pub ascend : AllPairs Up entries
+  ascend =
+      subst (AllPairs Up) (sym entries_are)
+      (ranged_pairs Up (λ e. e.hart) hart_raws (λ e f lt. first_up e.hart e.node e.kind f.hart f.node f.kind lt)
+      (λ hart. All-map (λ (e : RawEntry). e.hart ≡ hart) (λ v. raw_entry hart (in_profile v)) (mine hart) (λ i d lt. refl)) own_up 0 c.harts)
+
+  -- ---- the sixth rule, first
+
+  pub none_breaks : (i : ℕ) → i < length entries → entry_breaks c.period c.harts ns entries i ≡ false
+  none_breaks i lt =
+      let e : RawEntry = entry_at entries i in
+      let g : IsGood e = All-get_or IsGood entries i _ lt good in
+      let excl : (not (is_exclusive e) || (is_statement (node_at ns e.node).scope && e.value % c.period == 0)) ≡ true = elim (is_exclusive e) as (λ b. is_exclusive e ≡ b → (not b || (is_statement (node_at ns e.node).scope && e.value % c.period == 0)) ≡ true) [
+        | true ↦ λ is. (let p = g.exclusive is in and_from (is_statement (node_at ns e.node).scope) (e.value % c.period == 0) p.0 (eq-eqb (e.value % c.period) 0 p.1))
+        | false ↦ λ is. refl
+      ] refl in
+      let some : not (e.value == 0) ≡ true = (let more = g.some in ap not (ne_eqb e.value 0 (λ z. absurd (omega (arith, z, more))))) in
+      let value_is : is_value c.period c.harts ns e ≡ true =
+      and_from _ _ (lt-ltb e.node (length ns) g.node) (and_from _ _ (lt-ltb e.hart c.harts g.hart) (and_from _ _ (lt-ltb e.kind 3 g.kind) (and_from _ _ some excl))) in
+      let next : (i == 0 || entries_ascend (entry_at entries (i - 1)) e) ≡ true = is_next i lt in
+      let room : nat_le (sum_by (samples_of c.period) (take (i + 1) entries)) most_samples ≡ true = le-leb (sum_by (samples_of c.period) (take (i + 1) entries)) most_samples (enough i) in
+      ap not (and_from _ _ value_is (and_from _ _ next room))
+    where
+      is_next : (i : ℕ) → i < length entries → (i == 0 || entries_ascend (entry_at entries (i - 1)) (entry_at entries i)) ≡ true
+      is_next zero lt = refl
+      is_next (suc i) lt =
+          let k : suc i - 1 ≡ i = omega arith in
+          or_right (suc i == 0) (entries_ascend (entry_at entries (suc i - 1)) (entry_at entries (suc i)))
+          (ap (λ (j : ℕ). entries_ascend (entry_at entries j) (entry_at entries (suc i))) k ∙ ascend i (suc i) _ (omega arith) lt)
+
+      enough : (i : ℕ) → sum_by (samples_of c.period) (take (i + 1) entries) ≤ most_samples
+      enough i =
+          let part = sum_by-take-le (samples_of c.period) entries (i + 1) in
+          let all = samples_are c.period entries in
+          let many = paths_in_tree tree in
+          let most = few_samples in
+          omega (arith, part, all, many, most)

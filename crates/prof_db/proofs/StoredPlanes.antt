@@ -1,0 +1,121 @@
+-- The numbers of a stored content's planes have their bytes.
+use Rattle.std.proofs.Common.{ℕ, ◌*◌, ◌<◌, ◌≤◌, ◌==◌, ◌&&◌, not, inl, inr, Bool, List, [], ◌++◌, length, get_or, map, filter, All, sym, subst, arith}
+use Rattle.std.specs.List.{range_with_len}
+use Rattle.std.proofs.lemmas.Bool.{cases_eq}
+use Rattle.std.proofs.lemmas.List.{length-append}
+use Rattle.std.proofs.lemmas.List.Elements.{All-filter, All-map}
+use Rattle.std.proofs.lemmas.List.FromFn.{length-map-range_with_len}
+use Rattle.std.proofs.lemmas.List.Sums.{count_by-le-length, length-filter}
+use Rattle.tree_types.specs.NodeValues.{kind_rank}
+use Rattle.tree_types.specs.Nodes.{no_parent, nodes}
+use Rattle.tree_types.specs.Paths.{Path}
+use Rattle.tree_types.specs.PathsOf.{paths_of}
+use Rattle.tree_types.specs.Planes.{context_entry, kind_column, kinds, node_column}
+use Rattle.tree_types.specs.ValueColumns.{hart_entries, in_context, in_profile, kind_entries, node_entries}
+use Rattle.tree_types.specs.Values.{harts_below, value}
+use Rattle.tree_types.specs.declared.content.Content.{Content}
+use Rattle.tree_types.specs.declared.content.ContextEntry.{ContextEntry}
+use Rattle.tree_types.specs.declared.content.Kind.{Kind}
+use Rattle.tree_types.specs.declared.content.Kind.TheVariants.{Exclusive, Frame, Inclusive}
+use Rattle.tree_types.specs.declared.content.Node.{Node}
+use Rattle.tree_types.specs.declared.content.ProfileEntry.{ProfileEntry}
+use Rattle.tree_types.specs.declared.node_values.NodeValue.{NodeValue}
+use Rattle.tree_types.proofs.ContentParts.{own_column_count, own_contexts, own_hart_count}
+use Rattle.prof_db.specs.Stored.{IsStored, IsWord}
+use Rattle.prof_db.proofs.ForthFile.{ContentFits}
+use Rattle.prof_db.proofs.ForthPlanes.{EntryFits, PastFits}
+use Rattle.prof_db.proofs.OwnNames.{all_lists}
+use Rattle.prof_db.proofs.StoredEntries.{IsValue, are_own, contexts_by_value, profiles_by_value, value_small, values}
+use Rattle.prof_db.proofs.StoredNames.{found}
+use Rattle.prof_db.proofs.StoredNodes.{preorder}
+use Rattle.prof_db.proofs.StoredWords.{few_files, few_procs, files_fit, procs_fit, scope_fits}
+
+module _ (c : Content) (s : IsStored c) where
+  abbrev vs : List NodeValue
+  vs = values c s
+
+  abbrev AllFit : List ProfileEntry → Type 0
+  AllFit column = All EntryFits column
+
+  entries_fit : All AllFit c.profiles
+  entries_fit = subst (All AllFit) (sym (profiles_by_value c s)) (All-map AllFit (hart_entries vs) (harts_below c.harts) (λ i d lt. column (get_or (harts_below c.harts) i d)))
+    where
+      column : (hart : ℕ) → AllFit (hart_entries vs hart)
+      column hart = All-map EntryFits in_profile (filter (λ (v : NodeValue). v.hart == hart) vs) (λ i d lt.
+          let v : NodeValue = get_or (filter (λ (v : NodeValue). v.hart == hart) vs) i d in
+          let is : IsValue c s v = All-filter (λ (v : NodeValue). v.hart == hart) (IsValue c s) vs (are_own c s) i d lt in
+          let less = is.node in
+          let nodes = s.nodes in
+          record { node = omega (arith, less, nodes); value = value_small c s v is })
+
+  abbrev AllPast : List ContextEntry → Type 0
+  AllPast column = All PastFits column
+
+  past_fit : All AllPast c.contexts
+  past_fit = subst (All AllPast) (sym (contexts_by_value c s)) (All-map AllPast (node_entries vs) (range_with_len 0 (length c.nodes)) (λ i d lt. column (get_or (range_with_len 0 (length c.nodes)) i d)))
+    where
+      of_kind : (node : ℕ) (kind : Kind) → AllPast (kind_entries vs node kind)
+      of_kind node kind = (let test : NodeValue → Bool = λ v. v.node == node && kind_rank v.kind == kind_rank kind in All-map PastFits in_context (filter test vs) (λ i d lt.
+          let v : NodeValue = get_or (filter test vs) i d in
+          let is : IsValue c s v = All-filter test (IsValue c s) vs (are_own c s) i d lt in
+          let less = is.hart in
+          let most = s.most_harts in
+          record { hart = omega (arith, less, most); value = value_small c s v is }))
+
+      column : (node : ℕ) → AllPast (node_entries vs node)
+      column node = all_lists PastFits (kind_entries vs node) kinds (λ i d lt. of_kind node (get_or kinds i d))
+
+  -- a node has at most three values for each hart
+  kind_short : (n : Path) (kind : Kind) → length (kind_column c.period c.harts (paths_of c) n kind) ≤ c.harts
+  kind_short n kind =
+      let f : ℕ → ContextEntry = λ hart. context_entry kind hart (value c.period (paths_of c) hart n kind) in
+      let all : List ContextEntry = map f (harts_below c.harts) in
+      let kept = length-filter (λ (e : ContextEntry). not (e.value == 0)) all in
+      let few = count_by-le-length (λ (e : ContextEntry). not (e.value == 0)) all in
+      let long = length-map-range_with_len f 0 c.harts in
+      omega (arith, kept, few, long)
+
+  node_short : (n : Path) → length (node_column c.period c.harts (paths_of c) n) ≤ 3 * c.harts
+  unfolding node_column
+  node_short n =
+      let of : Kind → List ContextEntry = kind_column c.period c.harts (paths_of c) n in
+      let a = kind_short n Exclusive in
+      let b = kind_short n Frame in
+      let d = kind_short n Inclusive in
+      let first = length-append (of Exclusive) (of Frame ++ (of Inclusive ++ [])) in
+      let second = length-append (of Frame) (of Inclusive ++ []) in
+      let third = length-append (of Inclusive) [] in
+      omega (arith, a, b, d, first, second, third)
+
+  columns_short : All (λ column. IsWord (length column)) c.contexts
+  columns_short = subst (All (λ (column : List ContextEntry). IsWord (length column))) (sym (own_contexts c s.profile.own))
+      (All-map (λ (column : List ContextEntry). IsWord (length column)) (node_column c.period c.harts (paths_of c)) (nodes (paths_of c))
+      (λ i d lt. (let few = node_short (get_or (nodes (paths_of c)) i d) in let most = s.most_harts in omega (arith, few, most))))
+
+  parent_word : (i : ℕ) (d : Node) → i < length c.nodes → IsWord (get_or c.nodes i d).parent
+  parent_word i d lt = elim (cases_eq (get_or c.nodes i d).parent no_parent) [
+    | inl root ↦ omega (arith, root)
+    | inr inner ↦ (let less = (preorder c s).parents i d lt inner in let nodes = s.nodes in omega (arith, less, nodes, lt))
+  ]
+
+  -- each number has its bytes
+  pub content_fits : ContentFits c
+  content_fits =
+      let nodes = s.nodes in
+      let most = s.most_harts in
+      let procs = few_procs c s in
+      let files = few_files c s in
+      record {
+        period = s.period;
+        harts = own_hart_count c s.profile.own;
+        columns = own_column_count c s.profile.own;
+        many_harts = omega (arith, most);
+        many_procs = omega (arith, procs, nodes);
+        many_files = omega (arith, files, nodes);
+        many_nodes = omega (arith, nodes);
+        procs = procs_fit c s;
+        files = files_fit c s;
+        nodes = λ i d lt. record { parent = parent_word i d lt; scope = scope_fits c s (get_or c.nodes i d).scope (found c s i d lt) (s.scopes i d lt) };
+        profiles = λ i d lt. record { short = s.columns i d lt; entries = entries_fit i d lt };
+        contexts = λ i d lt. record { short = columns_short i d lt; entries = past_fit i d lt };
+      }

@@ -1,0 +1,384 @@
+-- The spelling of a stored content breaks no rule, and says just that content.
+use Rattle.std.proofs.Common.{◌≡◌, ℕ, zero, suc, ◌+◌, ◌-◌, ◌<◌, ◌==◌, ◌&&◌, ◌||◌, not, nat_eq, nat_le, nat_lt, Bool, true, false, cond, List, [], ◌∷◌, ◌++◌, length, get_or, map, take, filter, sum_by, codes, All, Less, Equal, Greater, Ordering, Result, Ok, Err, inl, inr, refl, sym, ap, ap₂, subst, ◌∙◌, arith}
+use Rattle.std.specs.Cmp.Lexicographic.{pointwise, slice_cmp}
+use Rattle.std.specs.List.{flat_map}
+use Rattle.std.specs.Ordering.{nat_cmp, ordering_then}
+use Rattle.std.proofs.lemmas.Bool.{and_from, cases_order, eq-eqb, le-ltb, lt-leb, lt-ltb, ne_eqb, or_from, or_left, or_right}
+use Rattle.std.proofs.lemmas.Bool.Decides.{nat_tests}
+use Rattle.std.proofs.lemmas.Cmp.{nat_cmp_total, nat_list_eq_equiv, tied_itself}
+use Rattle.std.proofs.lemmas.List.{get_or-map, length-map, take-map}
+use Rattle.std.proofs.lemmas.List.Elements.{All-contains, All-filter, All-head, All-map, All-tail}
+use Rattle.std.proofs.lemmas.List.Folds.{flat_map-map, list_any_at}
+use Rattle.prof_bytes.specs.Outcome.{◌>>=◌}
+use Rattle.prof_bytes.specs.Reading.{At}
+use Rattle.scope_types.specs.CallPaths.{HartPath}
+use Rattle.scope_types.specs.Limits.{most_samples}
+use Rattle.scope_types.specs.declared.scope.ProcId.{ProcId}
+use Rattle.scope_types.specs.declared.scope.ProcId.TheVariants.{Die, Sym, Nameless}
+use Rattle.tree_types.specs.Naming.{proc_order, file_order}
+use Rattle.tree_types.specs.NodeValues.{values_of}
+use Rattle.tree_types.specs.Nodes.{no_parent}
+use Rattle.tree_types.specs.PathsOf.{paths_of, tree_paths}
+use Rattle.tree_types.specs.Tree.{CountedTree, counted_path, node_at, node_path}
+use Rattle.tree_types.specs.ValueColumns.{columns_by_hart, columns_by_node}
+use Rattle.tree_types.specs.declared.content.Content.{Content}
+use Rattle.tree_types.specs.declared.content.FileName.{FileName}
+use Rattle.tree_types.specs.declared.content.Names.{Names}
+use Rattle.tree_types.specs.declared.content.Node.{Node}
+use Rattle.tree_types.specs.declared.content.ProcName.{ProcName}
+use Rattle.tree_types.specs.declared.counted_tree.NodeCount.{NodeCount}
+use Rattle.tree_types.proofs.PathsAgain.{sum_by-map}
+use Rattle.tree_types.proofs.PathSteps.{as_many_paths}
+use Rattle.tree_types.proofs.Selecting.{filter_of_map, map_of_map}
+use Rattle.tree_types.proofs.TreeLaws.{numbers_tell}
+use Rattle.prof_db.specs.declared.fault.DbFault.{DbFault}
+use Rattle.prof_db.specs.declared.raw.Layout.{Layout}
+use Rattle.prof_db.specs.declared.raw.RawEntry.{RawEntry}
+use Rattle.prof_db.specs.declared.raw.RawNode.{RawNode}
+use Rattle.prof_db.specs.declared.raw.RawProc.{RawProc}
+use Rattle.prof_db.specs.Broken.{Kept, first_broken}
+use Rattle.prof_db.specs.Fields.{Read, fault}
+use Rattle.prof_db.specs.NameRules.{file_at, file_breaks, file_name, files_ascend, files_kept, head_kept, is_among, is_proc, most_name_bytes, names_in, names_kept, pair_less, proc_at, proc_breaks, proc_id, proc_name, procs_ascend, procs_kept, scope_file, scope_proc, used_files, used_procs}
+use Rattle.prof_db.specs.NodeRules.{in_preorder, in_range, is_placed, is_statement, node_breaks, node_of, nodes_kept, parents_of, raw_node_at}
+use Rattle.prof_db.specs.Rules.{content_in, database_in, nodes_in, planes_in, values_in}
+use Rattle.prof_db.specs.Spelling.{file_index, proc_index, spelling}
+use Rattle.prof_db.specs.Stored.{IsNamed, IsStored}
+use Rattle.prof_db.specs.ValueRules.{context_fields, count_of, entries_ascend, entries_kept, entry_at, entry_breaks, fields_kept, is_exclusive, is_value, plane_fields, profile_fields, sampled, samples_of, statement_breaks, statements_kept, tree_of}
+use Rattle.prof_db.proofs.BackPlanes.{context_bytes, profile_bytes}
+use Rattle.prof_db.proofs.ForthFile.{IsLaid, context_plane, layout_forth, layout_of}
+use Rattle.prof_db.proofs.ForthItems.{bare_node, bare_proc, proc_kind, proc_number, proc_words_are, raw_node, raw_proc}
+use Rattle.prof_db.proofs.ForthPlanes.{bare_entry, context_fields_fit, fields_forth, profile_fields_fit}
+use Rattle.prof_db.proofs.InPreorder.{in_order}
+use Rattle.prof_db.proofs.OwnPaths.{paths_all}
+use Rattle.prof_db.proofs.Passed.{behind_contexts, behind_entries, behind_head, behind_layout, behind_names, behind_nodes, behind_procs, behind_profiles, behind_statements, database_is, nodes_are, planes_are, values_are}
+use Rattle.prof_db.proofs.StoredEntries.{by_hart, by_node, entries, good, none_breaks, paths_are, tree}
+use Rattle.prof_db.proofs.StoredNames.{file_used, files_of_nodes, files_up, found, no_file, no_proc, node_again, proc_used, procs_of_nodes, procs_up, scope_ranged, used_file_numbers, used_proc_numbers}
+use Rattle.prof_db.proofs.StoredNodes.{has_child, placed, preorder, statement_ends}
+use Rattle.prof_db.proofs.StoredPlanes.{content_fits}
+
+-- ---- lists that were read
+
+-- lists of which the same holds at each place are as long
+same_many : {X Y Z : Type 0} (f : X → Z) (g : Y → Z) (xs : List X) (ys : List Y) → map f xs ≡ map g ys → length xs ≡ length ys
+same_many f g xs ys same = sym (length-map xs f) ∙ ap length same ∙ length-map ys g
+
+-- what is the same of two lists is so at each place
+same_at : {X Y Z : Type 0} (f : X → Z) (g : Y → Z) (xs : List X) (ys : List Y) → map f xs ≡ map g ys → (i : ℕ) (d : X) (e : Y) → i < length ys → f (get_or xs i d) ≡ g (get_or ys i e)
+same_at {Z = Z} f g xs ys same i d e lt =
+    let many = same_many f g xs ys same in
+    sym (get_or-map f xs i d (f d) (omega (arith, many, lt))) ∙ ap (λ (l : List Z). get_or l i (f d)) same ∙ get_or-map g ys i e (f d) lt
+
+-- what doesn't change an element doesn't change the list
+all_same : {X : Type 0} (f : X → X) (xs : List X) → All (λ x. f x ≡ x) xs → map f xs ≡ xs
+all_same f [] all = refl
+all_same f (x ∷ xs) all = ap₂ (λ (y : _) (ys : List _). y ∷ ys) (All-head (λ x. f x ≡ x) x xs all) (all_same f xs (All-tail (λ x. f x ≡ x) x xs all))
+
+-- where no place is broken, the rule is kept
+none_fails : (rule : ℕ) (is_broken : ℕ → Bool) (offset : ℕ → ℕ) (i n : ℕ) → ((k : ℕ) → k < i + n → is_broken k ≡ false) → first_broken rule is_broken offset i n ≡ Ok tt
+unfolding first_broken
+none_fails rule is_broken offset i zero whole = refl
+none_fails rule is_broken offset i (suc n) whole =
+    ap (λ b. cond b (Err (fault rule (offset i))) (first_broken rule is_broken offset (i + 1) n)) (whole i (omega arith))
+    ∙ none_fails rule is_broken offset (i + 1) n (λ k lt. whole k (omega (arith, lt)))
+
+-- ---- names in order
+
+-- two numbers that ascend pass
+pair_by_less : (a b c d : ℕ) → slice_cmp nat_cmp (a ∷ b ∷ []) (c ∷ d ∷ []) ≡ Less → pair_less a b c d ≡ true
+pair_by_less a b c d e = elim (cases_order a c) [
+  | inl is ↦
+      let first : nat_cmp a c ≡ Equal = ap (λ (n : ℕ). nat_cmp n c) is ∙ tied_itself nat_cmp_total c in
+      let last : nat_cmp b d ≡ Less = only (nat_cmp b d) (sym (ap (λ o. ordering_then o (ordering_then (nat_cmp b d) Equal)) first) ∙ e) in
+      or_right (nat_lt a c) (a == c && nat_lt b d) (and_from (a == c) (nat_lt b d) (eq-eqb a c is) (less_test b d last))
+  | inr (inl less) ↦ or_left (nat_lt a c) (a == c && nat_lt b d) (lt-ltb a c less)
+  | inr (inr more) ↦ absurd (never (sym (ap (λ o. ordering_then o (ordering_then (nat_cmp b d) Equal)) (greater a c more)) ∙ e))
+]
+  where
+    only : (o : Ordering) → ordering_then o Equal ≡ Less → o ≡ Less
+    only Less e = refl
+    only Equal e = absurd cc
+    only Greater e = absurd cc
+
+    less_test : (m n : ℕ) → nat_cmp m n ≡ Less → nat_lt m n ≡ true
+    less_test m n e = grind (arith, nat_tests)
+
+    greater : (m n : ℕ) → n < m → nat_cmp m n ≡ Greater
+    greater m n more = grind (arith, nat_tests)
+
+    never : Greater ≡ Less → ⊥
+    never e = absurd cc
+
+proc_again : (p : ProcName) → proc_name (raw_proc p) ≡ p
+proc_again p = (let is = id_again p.id in λ i. record { id = is i; name = p.name })
+  where
+    id_again : (id : ProcId) → proc_id (proc_kind id) (proc_number id) ≡ id
+    id_again (Die offset) = refl
+    id_again (Sym address) = refl
+    id_again Nameless = refl
+
+-- a procedure that has its name passes
+named_passes : (id : ProcId) (name : List ℕ) → (id ≡ Nameless → name ≡ codes "<unknown procedure>") → is_proc (record { offset = 0; kind = proc_kind id; number = proc_number id; name = name }) ≡ true
+named_passes (Die offset) name is = refl
+named_passes (Sym address) name is = refl
+named_passes Nameless name is = ap (λ (n : List ℕ). pointwise nat_eq n (codes "<unknown procedure>")) (is refl) ∙ nat_list_eq_equiv.refl (codes "<unknown procedure>")
+
+-- a place before another one
+one_before : (i : ℕ) (t : ℕ → Bool) → ((k : ℕ) → suc k ≡ i → t k ≡ true) → (nat_lt 0 i && not (t (i - 1))) ≡ false
+one_before zero t next = refl
+one_before (suc i) t next =
+    let k : suc i - 1 ≡ i = omega arith in
+    ap (λ b. nat_lt 0 (suc i) && not b) (ap t k ∙ next i refl) ∙ never (nat_lt 0 (suc i))
+  where
+    never : (b : Bool) → (b && false) ≡ false
+    never true = refl
+    never false = refl
+
+-- ---- entries, but where they stand
+
+bare_at : (es : List RawEntry) (k : ℕ) → entry_at (map bare_entry es) k ≡ bare_entry (entry_at es k)
+bare_at [] k = refl
+bare_at (e ∷ es) zero = refl
+bare_at (e ∷ es) (suc k) = bare_at es k
+
+bare_breaks : (period harts : ℕ) (nodes : List Node) (es : List RawEntry) (i : ℕ) → entry_breaks period harts nodes (map bare_entry es) i ≡ entry_breaks period harts nodes es i
+bare_breaks period harts nodes es i =
+    let sums : sum_by (samples_of period) (take (i + 1) (map bare_entry es)) ≡ sum_by (samples_of period) (take (i + 1) es) =
+    ap (sum_by (samples_of period)) (take-map bare_entry (i + 1) es) ∙ sum_by-map (samples_of period) bare_entry (take (i + 1) es) in
+    λ t. not (is_value period harts nodes (bare_at es i t) && ((i == 0 || entries_ascend (bare_at es (i - 1) t) (bare_at es i t)) && nat_le (sums t) most_samples))
+
+bare_counts : (period : ℕ) (es : List RawEntry) → map (count_of period) (filter is_exclusive (map bare_entry es)) ≡ map (count_of period) (filter is_exclusive es)
+bare_counts period es =
+    ap (map (count_of period)) (filter_of_map is_exclusive bare_entry es) ∙ map_of_map (count_of period) bare_entry (filter is_exclusive es)
+
+bare_sampled : (es : List RawEntry) → sampled (map bare_entry es) ≡ sampled es
+bare_sampled es = ap (map (λ (e : RawEntry). e.node)) (filter_of_map is_exclusive bare_entry es) ∙ map_of_map (λ (e : RawEntry). e.node) bare_entry (filter is_exclusive es)
+
+module _ (c : Content) (s : IsStored c) (laid : IsLaid c) where
+  abbrev layout : Layout
+  layout = layout_of c laid
+
+  abbrev names : Names
+  names = c.names
+
+  -- ---- the head
+
+  head_ok : head_kept c.period c.harts (length laid.nodes) ≡ Ok tt
+  head_ok =
+      let some = s.profile.period in
+      let harts = s.some_harts in
+      let most = s.most_harts in
+      let few = s.nodes in
+      let many = same_many bare_node (raw_node names) laid.nodes c.nodes laid.same_nodes in
+      ap (λ b. cond b (Err (fault 3 8)) (cond (c.harts == 0 || nat_lt 16 c.harts) (Err (fault 3 12)) (cond (nat_le no_parent (length laid.nodes)) (Err (fault 3 24)) (Ok tt))))
+      (ne_eqb c.period 0 (λ z. absurd (omega (arith, z, some))))
+      ∙ ap (λ b. cond b (Err (fault 3 12)) (cond (nat_le no_parent (length laid.nodes)) (Err (fault 3 24)) (Ok tt)))
+      (or_from (c.harts == 0) (nat_lt 16 c.harts) (ne_eqb c.harts 0 (λ z. absurd (omega (arith, z, harts)))) (le-ltb 16 c.harts most))
+      ∙ ap (λ b. cond b (Err (fault 3 24)) (Ok tt)) (lt-leb no_parent (length laid.nodes) (omega (arith, many, few)))
+
+  -- ---- the names
+
+  procs_are : map proc_name laid.procs ≡ names.procs
+  procs_are =
+      sym (map_of_map proc_name bare_proc laid.procs) ∙ ap (map proc_name) laid.same_procs ∙ map_of_map proc_name raw_proc names.procs
+      ∙ all_same (λ p. proc_name (raw_proc p)) names.procs (λ i d lt. proc_again (get_or names.procs i d))
+
+  files_are : map file_name laid.files ≡ names.files
+  files_are = laid.same_files ∙ all_same (λ f. f) names.files (λ i d lt. refl)
+
+  names_are : names_in layout ≡ names
+  names_are = λ i. record { procs = procs_are i; files = files_are i }
+
+  nodes_same : map (node_of names) laid.nodes ≡ c.nodes
+  nodes_same =
+      sym (map_of_map (node_of names) bare_node laid.nodes) ∙ ap (map (node_of names)) laid.same_nodes ∙ map_of_map (node_of names) (raw_node names) c.nodes
+      ∙ all_same (λ n. node_of names (raw_node names n)) c.nodes (λ i d lt. node_again c s (get_or c.nodes i d) (found c s i d lt))
+
+  used_procs_are : used_procs laid.nodes ≡ map (proc_index names) (procs_of_nodes c s)
+  used_procs_are =
+      sym (flat_map-map (λ (n : RawNode). scope_proc n.scope) bare_node laid.nodes) ∙ ap (flat_map (λ (n : RawNode). scope_proc n.scope)) laid.same_nodes
+      ∙ flat_map-map (λ (n : RawNode). scope_proc n.scope) (raw_node names) c.nodes ∙ used_proc_numbers c s
+
+  used_files_are : used_files laid.nodes ≡ map (λ f. file_index names f.0 f.1) (files_of_nodes c s)
+  used_files_are =
+      sym (flat_map-map (λ (n : RawNode). scope_file n.scope) bare_node laid.nodes) ∙ ap (flat_map (λ (n : RawNode). scope_file n.scope)) laid.same_nodes
+      ∙ flat_map-map (λ (n : RawNode). scope_file n.scope) (raw_node names) c.nodes ∙ used_file_numbers c s
+
+  abbrev proc_of : ℕ → ProcName
+  proc_of i = get_or names.procs i (no_proc c s)
+
+  proc_is : (i : ℕ) → i < length names.procs → bare_proc (proc_at laid.procs i) ≡ raw_proc (proc_of i)
+  proc_is i lt = same_at bare_proc raw_proc laid.procs names.procs laid.same_procs i _ (no_proc c s) lt
+
+  proc_less : (k i : ℕ) → suc k ≡ i → i < length names.procs → procs_ascend (proc_at laid.procs k) (proc_at laid.procs i) ≡ true
+  proc_less k i next lt =
+      let p : ProcName = proc_of k in
+      let q : ProcName = proc_of i in
+      let up : proc_order p.id q.id ≡ Less = procs_up c s k i (no_proc c s) (omega (arith, next)) lt in
+      (λ t. procs_ascend (proc_is k (omega (arith, next, lt)) t) (proc_is i lt t))
+      ∙ pair_by_less (proc_kind p.id) (proc_number p.id) (proc_kind q.id) (proc_number q.id) (sym (λ t. slice_cmp nat_cmp (proc_words_are p.id t) (proc_words_are q.id t)) ∙ up)
+
+  proc_whole : (i : ℕ) → i < length names.procs → proc_breaks laid.procs (used_procs laid.nodes) i ≡ false
+  proc_whole i lt =
+      let p : ProcName = proc_of i in
+      let ok : IsNamed p = s.procs i (no_proc c s) lt in
+      let used : is_among (used_procs laid.nodes) i ≡ true = ap (λ (l : List ℕ). is_among l i) used_procs_are ∙ proc_used c s i lt in
+      let named : is_proc (proc_at laid.procs i) ≡ true = ap is_proc (proc_is i lt) ∙ named_passes p.id p.name ok.nameless in
+      let short : nat_lt most_name_bytes (length (proc_at laid.procs i).name) ≡ false =
+      ap (λ (r : RawProc). nat_lt most_name_bytes (length r.name)) (proc_is i lt) ∙ le-ltb most_name_bytes (length p.name) ok.short in
+      or_from _ _ (or_from _ _ (one_before i (λ k. procs_ascend (proc_at laid.procs k) (proc_at laid.procs i)) (λ k next. proc_less k i next lt)) (or_from _ _ (ap not named) short)) (ap not used)
+
+  procs_ok : procs_kept laid.procs (used_procs laid.nodes) ≡ Ok tt
+  procs_ok =
+      let many = same_many bare_proc raw_proc laid.procs names.procs laid.same_procs in
+      none_fails 4 (proc_breaks laid.procs (used_procs laid.nodes)) (λ i. (proc_at laid.procs i).offset) 0 (length laid.procs) (λ k lt. proc_whole k (omega (arith, many, lt)))
+
+  abbrev file_of : ℕ → FileName
+  file_of i = get_or names.files i (no_file c s)
+
+  file_is : (i : ℕ) → i < length names.files → file_name (file_at laid.files i) ≡ file_of i
+  file_is i lt = same_at file_name (λ (f : FileName). f) laid.files names.files laid.same_files i _ (no_file c s) lt
+
+  file_less : (k i : ℕ) → suc k ≡ i → i < length names.files → files_ascend (file_at laid.files k) (file_at laid.files i) ≡ true
+  file_less k i next lt =
+      let f : FileName = file_of k in
+      let g : FileName = file_of i in
+      let up : file_order (f.table, f.file) (g.table, g.file) ≡ Less = files_up c s k i (no_file c s) (omega (arith, next)) lt in
+      (λ t. pair_less (file_is k (omega (arith, next, lt)) t).table (file_is k (omega (arith, next, lt)) t).file (file_is i lt t).table (file_is i lt t).file)
+      ∙ pair_by_less f.table f.file g.table g.file up
+
+  file_whole : (i : ℕ) → i < length names.files → file_breaks laid.files (used_files laid.nodes) i ≡ false
+  file_whole i lt =
+      let used : is_among (used_files laid.nodes) i ≡ true = ap (λ (l : List ℕ). is_among l i) used_files_are ∙ file_used c s i lt in
+      let short : nat_lt most_name_bytes (length (file_at laid.files i).name) ≡ false =
+      ap (λ (f : FileName). nat_lt most_name_bytes (length f.name)) (file_is i lt) ∙ le-ltb most_name_bytes (length (file_of i).name) (s.files i (no_file c s) lt) in
+      or_from _ _ (or_from _ _ (one_before i (λ k. files_ascend (file_at laid.files k) (file_at laid.files i)) (λ k next. file_less k i next lt)) short) (ap not used)
+
+  files_ok : files_kept laid.files (used_files laid.nodes) ≡ Ok tt
+  files_ok =
+      let many = same_many file_name (λ (f : FileName). f) laid.files names.files laid.same_files in
+      none_fails 4 (file_breaks laid.files (used_files laid.nodes)) (λ i. (file_at laid.files i).offset) 0 (length laid.files) (λ k lt. file_whole k (omega (arith, many, lt)))
+
+  -- ---- the nodes
+
+  node_whole : (i : ℕ) → i < length c.nodes → node_breaks (length laid.procs) (length laid.files) laid.nodes c.nodes i ≡ false
+  node_whole i lt =
+      let n : Node = node_at c.nodes i in
+      let many_procs = same_many bare_proc raw_proc laid.procs names.procs laid.same_procs in
+      let many_files = same_many file_name (λ (f : FileName). f) laid.files names.files laid.same_files in
+      let at : bare_node (raw_node_at laid.nodes i) ≡ raw_node names n = same_at bare_node (raw_node names) laid.nodes c.nodes laid.same_nodes i _ _ lt in
+      let ranged : in_range (length laid.procs) (length laid.files) (raw_node_at laid.nodes i).scope ≡ true =
+      (λ t. in_range (many_procs t) (many_files t) (at t).scope) ∙ scope_ranged c s n.scope (found c s i _ lt) in
+      let order : in_preorder c.nodes i ≡ true = in_order c.nodes s.nodes (preorder c s) i lt in
+      let wrong : not (in_range (length laid.procs) (length laid.files) (raw_node_at laid.nodes i).scope && (in_preorder c.nodes i && is_placed c.nodes n)) ≡ false =
+      ap not (and_from _ _ ranged (and_from _ _ order (placed c s i lt))) in
+      or_from _ _ wrong (ap not (below i lt))
+    where
+      below : (i : ℕ) → i < length c.nodes → (is_statement (node_at c.nodes i).scope || is_among (parents_of c.nodes) i) ≡ true
+      below i lt = elim (is_statement (node_at c.nodes i).scope) as (λ b. is_statement (node_at c.nodes i).scope ≡ b → (b || is_among (parents_of c.nodes) i) ≡ true) [
+        | true ↦ λ e. refl
+        | false ↦ λ e. has_child c s i lt e
+      ] refl
+
+  nodes_ok : nodes_kept (length laid.procs) (length laid.files) laid.nodes c.nodes ≡ Ok tt
+  nodes_ok = none_fails 5 (node_breaks (length laid.procs) (length laid.files) laid.nodes c.nodes) (λ i. (raw_node_at laid.nodes i).offset) 0 (length c.nodes) (λ k lt. node_whole k (omega (arith, lt)))
+
+  -- ---- the values
+
+  entries_ok : entries_kept c.period c.harts c.nodes laid.entries ≡ Ok tt
+  entries_ok =
+      let many : length laid.entries ≡ length (entries c s) = sym (length-map laid.entries bare_entry) ∙ ap length laid.same_entries in
+      none_fails 6 (entry_breaks c.period c.harts c.nodes laid.entries) (λ i. (entry_at laid.entries i).offset) 0 (length laid.entries) (λ k lt.
+      sym (bare_breaks c.period c.harts c.nodes laid.entries k)
+      ∙ ap (λ (es : List RawEntry). entry_breaks c.period c.harts c.nodes es k) laid.same_entries ∙ none_breaks c s k (omega (arith, many, lt)))
+
+  tree_is : tree_of c.period c.harts c.nodes laid.entries ≡ tree c s
+  tree_is =
+      let same = sym (bare_counts c.period laid.entries) ∙ ap (λ (es : List RawEntry). map (count_of c.period) (filter is_exclusive es)) laid.same_entries in
+      λ i. record { harts = c.harts; nodes = c.nodes; counts = same i }
+
+  content_is : content_in layout names c.nodes ≡ c
+  content_is =
+      let by_hart_is = ap (λ (t : CountedTree). columns_by_hart (values_of c.period t)) tree_is ∙ by_hart c s in
+      let by_node_is = ap (λ (t : CountedTree). columns_by_node (values_of c.period t)) tree_is ∙ by_node c s in
+      λ i. record { period = c.period; harts = c.harts; names = names; nodes = c.nodes; profiles = by_hart_is i; contexts = by_node_is i }
+
+  profiles_ok : (next : At) × (fields_kept 6 (plane_fields profile_fields c.profiles) laid.profiles ≡ Ok (tt, next))
+  profiles_ok =
+      fields_forth 6 (plane_fields profile_fields c.profiles) laid.profiles (context_plane c) (profile_fields_fit c.profiles (content_fits c s).profiles)
+      (laid.profiles_left ∙ ap (λ (l : List ℕ). l ++ context_plane c) (sym (profile_bytes c.profiles)))
+
+  contexts_ok : (next : At) × (fields_kept 7 (plane_fields context_fields c.contexts) laid.contexts ≡ Ok (tt, next))
+  contexts_ok =
+      fields_forth 7 (plane_fields context_fields c.contexts) laid.contexts [] (context_fields_fit c.contexts (content_fits c s).contexts)
+      (laid.contexts_left ∙ ap (λ (l : List ℕ). l ++ []) (sym (context_bytes c.contexts)))
+
+  -- ---- each statement has samples
+
+  abbrev IsSampled : ℕ → HartPath → Type 0
+  IsSampled i p = p.path ≡ node_path c.nodes i → is_among (sampled (entries c s)) i ≡ true
+
+  abbrev exclusive : List RawEntry
+  exclusive = filter is_exclusive (entries c s)
+
+  abbrev no_entry : RawEntry
+  no_entry = record { offset = 0; hart = 0; node = 0; kind = 0; value = 0 }
+
+  statement_sampled : (i : ℕ) → i < length c.nodes → is_statement (node_at c.nodes i).scope ≡ true → is_among (sampled (entries c s)) i ≡ true
+  statement_sampled i lt is =
+      let p = statement_ends c s i lt is in
+      let all : All (IsSampled i) (paths_of c) = subst (All (IsSampled i)) (paths_are c s) (paths_all (tree c s) (IsSampled i) counted) in
+      All-contains (IsSampled i) (paths_of c) p.0 all p.1 p.2
+    where
+      counted : All (λ k. IsSampled i (counted_path c.nodes k)) (map (count_of c.period) exclusive)
+      counted = All-map (λ (k : NodeCount). IsSampled i (counted_path c.nodes k)) (count_of c.period) exclusive (λ j d less path_is.
+          let e : RawEntry = get_or exclusive j d in
+          let long = as_many_paths c.nodes in
+          let many = length-map exclusive (λ (x : RawEntry). x.node) in
+          let node : e.node < length c.nodes = (All-filter is_exclusive (λ (x : RawEntry). x.node < length c.nodes) (entries c s) (λ k f within. (good c s k f within).node)) j d less in
+          let same : e.node ≡ i = numbers_tell (tree_paths c.nodes) (preorder c s).ascend e.node i (omega (arith, node, long)) (omega (arith, lt, long)) path_is in
+          let at : get_or (sampled (entries c s)) j 0 ≡ i = get_or-map (λ (x : RawEntry). x.node) exclusive j d 0 less ∙ same in
+          list_any_at (λ (k : ℕ). k == i) (sampled (entries c s)) j 0 (omega (arith, less, many)) (eq-eqb (get_or (sampled (entries c s)) j 0) i at))
+
+  statements_ok : statements_kept laid.nodes c.nodes (sampled laid.entries) ≡ Ok tt
+  statements_ok =
+      none_fails 6 (statement_breaks c.nodes (sampled laid.entries)) (λ i. (raw_node_at laid.nodes i).offset) 0 (length c.nodes) (λ k lt. whole k (omega (arith, lt)))
+    where
+      whole : (k : ℕ) → k < length c.nodes → statement_breaks c.nodes (sampled laid.entries) k ≡ false
+      whole k lt =
+          let same : is_among (sampled laid.entries) k ≡ is_among (sampled (entries c s)) k = ap (λ (l : List ℕ). is_among l k) (sym (bare_sampled laid.entries) ∙ ap sampled laid.same_entries) in
+          elim (is_statement (node_at c.nodes k).scope) as (λ b. is_statement (node_at c.nodes k).scope ≡ b → (b && not (is_among (sampled laid.entries) k)) ≡ false) [
+            | true ↦ λ e. ap not (same ∙ statement_sampled k lt e)
+            | false ↦ λ e. refl
+          ] refl
+
+  -- ---- all rules
+
+  planes_ok : planes_in layout c ≡ Ok c
+  planes_ok =
+      planes_are layout c
+      ∙ ap (λ (r : Read (Unit {0})). r >>= behind_profiles layout c) profiles_ok.1
+      ∙ ap (λ (r : Kept). r >>= behind_statements layout c) statements_ok
+      ∙ ap (λ (r : Read (Unit {0})). r >>= behind_contexts c) contexts_ok.1
+
+  nodes_pass : nodes_in layout names c.nodes ≡ Ok c
+  nodes_pass =
+      nodes_are layout names c.nodes
+      ∙ ap (λ (r : Kept). r >>= behind_nodes layout names c.nodes) nodes_ok
+      ∙ ap (values_in layout) content_is ∙ values_are layout c
+      ∙ ap (λ (r : Kept). r >>= behind_entries layout c) entries_ok ∙ planes_ok
+
+  names_ok : names_kept layout ≡ Ok tt
+  names_ok = ap (λ (r : Kept). r >>= behind_procs layout) procs_ok ∙ files_ok
+
+  layout_ok : behind_layout layout ≡ Ok c
+  layout_ok =
+      ap (λ (r : Kept). r >>= behind_head layout) head_ok
+      ∙ ap (λ (r : Kept). r >>= behind_names layout) names_ok
+      ∙ (λ i. nodes_in layout (names_are i) (map (node_of (names_are i)) laid.nodes))
+      ∙ ap (nodes_in layout names) nodes_same ∙ nodes_pass
+
+-- what is written of a stored content is read as that content
+pub stored_read : (c : Content) → IsStored c → database_in (spelling c) ≡ Ok c
+stored_read c s =
+    let laid = layout_forth c (content_fits c s) in
+    database_is (spelling c) ∙ ap (λ (r : Result Layout DbFault). r >>= behind_layout) laid.1 ∙ layout_ok c s laid.0

@@ -1,0 +1,76 @@
+-- The contents that are read of their databases as they were written.
+use Rattle.std.specs.Prelude.{◌≡◌, ◌≤◌, ◌<◌, ◌^◌, ◌&&◌, ℕ, Bool, true, false, List, [], ◌∷◌, length, codes, All}
+use Rattle.scope_types.specs.CallPaths.{HartPath}
+use Rattle.scope_types.specs.Limits.{most_path_scopes, most_samples}
+use Rattle.scope_types.specs.Words.{scope_words}
+use Rattle.scope_types.specs.declared.scope.ProcId.{ProcId}
+use Rattle.scope_types.specs.declared.scope.ProcId.TheVariants.{Nameless}
+use Rattle.scope_types.specs.declared.scope.Scope.{Scope}
+use Rattle.tree_types.specs.Naming.{Naming}
+use Rattle.tree_types.specs.Nodes.{no_parent, nodes}
+use Rattle.tree_types.specs.OfContent.{IsProfile}
+use Rattle.tree_types.specs.PathsOf.{paths_of}
+use Rattle.tree_types.specs.declared.content.Content.{Content}
+use Rattle.tree_types.specs.declared.content.ProcName.{ProcName}
+use Rattle.prof_db.specs.NameRules.{most_name_bytes}
+use Rattle.prof_db.specs.NodeRules.{is_root, is_statement, stands_under}
+
+-- ---- call paths
+
+-- each scope may stand under the one before it, and a statement ends the path: nothing stands under one
+abbrev pub leads_to_statement : Scope → List Scope → Bool
+leads_to_statement above [] = is_statement above
+leads_to_statement above (scope ∷ rest) = stands_under above scope && leads_to_statement scope rest
+
+-- a root, then for each frame its procedure, what is inlined there and the call; in the innermost one the statement
+abbrev pub is_call_path : List Scope → Bool
+is_call_path [] = false
+is_call_path (root ∷ rest) = is_root root && leads_to_statement root rest
+
+-- ---- numbers and names
+
+-- a number of four bytes
+abbrev pub IsWord : ℕ → Type 0
+IsWord n = n < 2 ^ 32
+
+-- a scope whose numbers have four bytes
+abbrev pub HasWords : Scope → Type 0
+HasWords scope = All IsWord (scope_words scope)
+
+abbrev pub IsShort : List ℕ → Type 0
+IsShort name = length name ≤ most_name_bytes
+
+-- a name that is not too long; the procedure without a name has the one that reports show
+pub record IsNamed (p : ProcName) : Type 0 where
+  pub short : IsShort p.name
+  pub nameless : p.id ≡ Nameless → p.name ≡ codes "<unknown procedure>"
+
+-- ---- contents
+
+-- a profile's content within the limits of the format, of which each path is a call path
+pub record IsStored (c : Content) : Type 0 where
+  pub profile : IsProfile c
+  pub period : IsWord c.period
+  pub some_harts : 1 ≤ c.harts
+  pub most_harts : c.harts ≤ 16
+  pub nodes : length c.nodes < no_parent
+  pub columns : All (λ column. IsWord (length column)) c.profiles
+  pub paths : All (λ p. is_call_path p.path ≡ true) (paths_of c)
+  pub scopes : All (λ n. HasWords n.scope) c.nodes
+  pub procs : All IsNamed c.names.procs
+  pub files : All (λ f. IsShort f.name) c.names.files
+
+-- call paths within the limits of a profile, with names that the format has room for
+pub record AreStored (period harts : ℕ) (naming : Naming) (paths : List HartPath) : Type 0 where
+  pub some_period : 0 < period
+  pub small_period : IsWord period
+  pub some_harts : 1 ≤ harts
+  pub most_harts : harts ≤ 16
+  pub below : All (λ p. p.hart < harts) paths
+  pub few_samples : length paths ≤ most_samples
+  pub few_nodes : length (nodes paths) ≤ most_path_scopes
+  pub call_paths : All (λ p. is_call_path p.path ≡ true) paths
+  pub scopes : All (λ p. All HasWords p.path) paths
+  pub procs : (id : ProcId) → IsShort (naming.proc_name id)
+  pub nameless : naming.proc_name Nameless ≡ codes "<unknown procedure>"
+  pub files : (table number : ℕ) → IsShort (naming.file_name table number)

@@ -1,0 +1,57 @@
+ghost use Rattle.std.specs.Prelude.{◌≡◌, ℕ, ◌*◌, ◌<◌, ◌≤◌, List, [], length, map, count_by, sum_by, All};
+ghost use Rattle.scope_types.specs.CallPaths.{HartPath};
+ghost use Rattle.scope_types.specs.Expansion.{FoundAt, call_path};
+ghost use Rattle.scope_types.specs.Raw.{Raw};
+ghost use Rattle.tree_types.specs.Database.{content_of, naming_in};
+ghost use Rattle.tree_types.specs.Naming.{Naming};
+ghost use Rattle.tree_types.specs.Nodes.{nodes, no_parent};
+ghost use Rattle.tree_types.specs.PathsOf.{paths_of};
+ghost use Rattle.view_tables.specs.Callers.{call_chains, callers};
+ghost use Rattle.view_tables.specs.Flat.{flat, frames};
+ghost use Rattle.view_tables.specs.Sums.{HasFrame, exclusive_at, goes_on};
+ghost use Rattle.view_tables.specs.Views.{Item, Sample, ends, holds, rows_under};
+
+/// The callers table and the flat table of a content are those of the call paths that it was made of.
+#[tactic(auto, using(crate::proofs::OwnTables::own_tables))]
+pub fn tables_are_of_call_paths()
+    ensures callers { (period harts depth : ℕ) (naming : Naming) (ps : List HartPath)
+        → 0 < period → length (nodes ps) ≤ no_parent
+        → All (λ p. 0 < length p.path) ps → All (λ p. p.hart < harts) ps
+        → callers (content_of period harts naming ps).period (naming_in (content_of period harts naming ps).names) depth
+        (paths_of (content_of period harts naming ps)) ≡ callers period naming depth ps }
+    ensures flat { (period harts : ℕ) (naming : Naming) (ps : List HartPath)
+        → 0 < period → length (nodes ps) ≤ no_parent
+        → All (λ p. 0 < length p.path) ps → All (λ p. p.hart < harts) ps
+        → flat (content_of period harts naming ps).period (naming_in (content_of period harts naming ps).names)
+        (paths_of (content_of period harts naming ps)) ≡ flat period naming ps }
+{}
+
+/// The exclusive values of the rows right under a chain add up to the period times the number of samples whose
+/// innermost frame's sequence begins with the chain and goes on. So, for call paths that end in a frame, those of the
+/// callers table's procedures add up to the total, and so do those of the flat table's files, of all their procedures,
+/// and of all lines of these; and those under a row of the flat table to that row's. The paths of a program end in a
+/// frame.
+pub fn exclusive_values_add_up()
+    ensures under { (period : ℕ) (samples : List Sample) (chain : List Item)
+        → sum_by (λ r. r.exclusive) (rows_under period samples chain) ≡ period * count_by (goes_on chain) samples }
+    ensures callers { (period : ℕ) (paths : List HartPath) → All HasFrame paths
+        → sum_by (λ r. r.exclusive) (rows_under period (map call_chains paths) []) ≡ period * length paths }
+    ensures row { (period : ℕ) (naming : Naming) (paths : List HartPath) (chain : List Item) → length chain < 3
+        → sum_by (λ r. r.exclusive) (rows_under period (map (frames naming) paths) chain)
+        ≡ period * count_by (ends chain) (map (frames naming) paths) }
+    ensures flat { (period : ℕ) (naming : Naming) (paths : List HartPath) (level : ℕ) → All HasFrame paths → level < 3
+        → exclusive_at period (map (frames naming) paths) level [] ≡ period * length paths }
+    ensures paths { (found_at : ℕ → FoundAt) (raw : Raw) (hart : ℕ) → 0 < length raw.frames
+        → HasFrame (record { hart = hart; path = call_path found_at raw }) }
+{}
+
+/// A row's inclusive value is at least its exclusive one, and at most that of the chain which it stands under.
+/// Inclusive values don't add up, since a sample counts for each of the rows that its frames' sequences hold.
+pub fn inclusive_values_are_within()
+    ensures exclusive { (period : ℕ) (samples : List Sample) (chain : List Item)
+        → All (λ r. r.exclusive ≤ r.inclusive) (rows_under period samples chain) }
+    ensures chain { (period : ℕ) (samples : List Sample) (chain : List Item)
+        → All (λ r. r.inclusive ≤ period * count_by (holds chain) samples) (rows_under period samples chain) }
+    ensures total { (period : ℕ) (samples : List Sample) (chain : List Item)
+        → All (λ r. r.inclusive ≤ period * length samples) (rows_under period samples chain) }
+{}
