@@ -14,8 +14,8 @@ PROGRAM = os.environ["PROGRAM"]
 # What each phase begins with, by a part of its symbol.
 PHASES = [
     ("expand and merge", "std::thread::fork::chunks_from"),
-    ("join, values, plane by hart", "tree_join::stripes::join_stripes"),
-    ("plane by node", "sparse_planes::contexts::by_context"),
+    ("join, values", "tree_join::stripes::join_stripes"),
+    ("planes", "sparse_planes::both::"),
     ("database", "prof_db::write::write_db"),
     ("store, table", "hpc_top::report::put_table"),
 ]

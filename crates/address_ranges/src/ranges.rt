@@ -216,7 +216,8 @@ impl<T: HasRange + Drop> RangeTable<T> {
 
     /// Whether the element of that index is the first for each address of its range.
     pub fn is_first(&self, range: AddressRange, index: usize) -> bool
-        ensures { MatchBool result (IsFirst (map T.range_of self.now) range.start range.end index) (IsNotFirst (map T.range_of self.now) range.start range.end index) }
+        ensures { MatchBool result (IsFirst (map T.range_of self.now) range.start range.end index)
+            (IsNotFirst (map T.range_of self.now) range.start range.end index) }
     {
         let low = u64::from(range.start);
         if range.end <= low {

@@ -1,5 +1,6 @@
 //! The rows of an FDE (DWARF 5, section 6.4.1).
-ghost use Rattle.std.specs.Prelude.{◌≡◌, ◌+◌, ◌<◌, ◌≤◌, ◌^◌, None, Some, IfOk, IfSome, MatchOption, length, min, nat_lt, if◌then◌else◌};
+ghost use Rattle.std.specs.Prelude.{◌≡◌, ◌+◌, ◌<◌, ◌≤◌, ◌^◌, None, Some, IfOk, IfSome, MatchOption, length, min};
+ghost use Rattle.std.specs.Prelude.{nat_lt, if◌then◌else◌};
 ghost use Rattle.cfi_table.specs.Entries.{after_fde};
 ghost use Rattle.cfi_table.specs.Frames.{instruction_bytes, range_of, size_of};
 ghost use Rattle.cfi_table.specs.Rows.{row_from, IsNextRow};

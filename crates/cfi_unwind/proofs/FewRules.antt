@@ -2,7 +2,7 @@
 use Rattle.std.proofs.Common.{◌≡◌, ℕ, zero, suc, ◌+◌, ◌<◌, ◌≤◌, Bool, true, false, cond, List, [], ◌∷◌, ◌++◌, length, take, map, get_or, set, Option, Some, None, refl, sym, subst, ap, ap₂, ◌∙◌, arith}
 use Rattle.std.specs.Prelude.{◌||◌, if◌then◌else◌, is_none, unwrap_or}
 use Rattle.std.specs.List.{list_any, filter_map, range_with_len}
-use Rattle.std.proofs.lemmas.List.{append-nil, get_or-set_other, length-set, map-id, take_all, take_more, take_more_set, get_or-map, length-map}
+use Rattle.std.proofs.lemmas.List.{append-nil, get_or-set_other, length-set, map-id, take_all, take_more, take_more_set, get_or-map, length-map, map-append}
 use Rattle.std.proofs.lemmas.List.Elements.{filter_map-append}
 use Rattle.std.proofs.lemmas.List.Folds.{list_any-append, list_any_at, list_any_more}
 use Rattle.std.proofs.lemmas.List.FromFn.{map-range_with_len_more}
@@ -10,9 +10,9 @@ use Rattle.cfi_table.specs.declared.rules.Rule.{Rule}
 use Rattle.cfi_table.specs.declared.rules.Rule.TheVariants as rules
 use Rattle.cfi_table.specs.Rules.{rule_at}
 use Rattle.cfi_unwind.specs.declared.unwind_rule.RegisterRule.{RegisterRule}
-use Rattle.cfi_unwind.specs.declared.unwind_rule.SavedRegister.{SavedRegister}
-use Rattle.cfi_unwind.specs.Caller.{Words, sum, is_unmapped, recovered, recovered_all}
-use Rattle.cfi_unwind.specs.private.UnwindRules.{is_kept, is_unmapped_register, recovered_each, saved_rule, Recovers}
+use Rattle.cfi_unwind.specs.declared.saved_registers.SavedRegister.{SavedRegister}
+use Rattle.cfi_unwind.specs.Caller.{Words, sum, is_expression, is_unmapped, recovered, recovered_all}
+use Rattle.cfi_unwind.specs.private.UnwindRules.{is_kept, is_unmapped_register, recovered_each, saved_rule, AreSaved, Recovers}
 use Rattle.cfi_unwind.proofs.Recovering.{value_at, given_by, rule_here}
 
 -- ---- one register more
@@ -233,3 +233,45 @@ all_not_kept regs few n end full is words registers cfa all =
           ∙ sym (take_all 32 done.values (let e = here.count in omega arith))
           ∙ here.so_far;
     }
+
+-- ---- where each of the others is saved
+
+-- the saved ones are those among the first registers that are not kept, and no rule of these is an expression
+pub record SavedTo (regs : List Rule) (n : ℕ) (saved : List SavedRegister) : Type 0 where
+  pub so_far : map saved_rule saved ≡ not_kept_to regs n
+  pub expression : list_any is_expression (take n regs) ≡ false
+
+no_more : (regs : List Rule) (n j : ℕ) (d rule : Rule) → n < 32 → length regs ≡ 32 → j ≡ n → rule ≡ get_or regs j d → is_expression rule ≡ false → list_any is_expression (take n regs) ≡ false
+    → list_any is_expression (take (n + 1) regs) ≡ false
+no_more regs n j d rule low full same looked none before =
+    list_any_more is_expression regs n d (omega arith)
+    ∙ ap₂ (λ (a b : Bool). a || b) before (ap (λ (i : ℕ). is_expression (get_or regs i d)) (sym same) ∙ ap is_expression (sym looked) ∙ none)
+
+rule_is : (regs : List Rule) (n j : ℕ) (d rule : Rule) → n < 32 → length regs ≡ 32 → j ≡ n → rule ≡ get_or regs j d → rule_at regs n ≡ rule
+rule_is regs n j d rule low full same looked = sym (rule_here regs n d (omega arith)) ∙ ap (λ (i : ℕ). get_or regs i d) (sym same) ∙ sym looked
+
+pub kept_on : (regs : List Rule) (n j : ℕ) (d rule : Rule) (saved : List SavedRegister) → n < 32 → length regs ≡ 32 → j ≡ n → rule ≡ get_or regs j d → rule ≡ rules.Kept → SavedTo regs n saved → SavedTo regs (n + 1) saved
+kept_on regs n j d rule saved low full same looked kept before =
+    record {
+      so_far = before.so_far ∙ sym (passes_kept regs n (ap is_kept (rule_is regs n j d rule low full same looked ∙ kept)));
+      expression = no_more regs n j d rule low full same looked (ap is_expression kept) before.expression;
+    }
+
+pub saved_on : (regs : List Rule) (n j : ℕ) (d rule : Rule) (offset : ℕ) (saved next : List SavedRegister) → n < 32 → length regs ≡ 32 → j ≡ n → rule ≡ get_or regs j d → rule ≡ rules.Saved offset
+    → next ≡ saved ++ record { register = n; offset = offset } ∷ [] → SavedTo regs n saved → SavedTo regs (n + 1) next
+saved_on regs n j d rule offset saved next low full same looked is pushed before =
+    let here : rule_at regs n ≡ rules.Saved offset = rule_is regs n j d rule low full same looked ∙ is in
+    record {
+      so_far =
+          ap (map saved_rule) pushed
+          ∙ map-append saved_rule saved (record { register = n; offset = offset } ∷ [])
+          ∙ ap₂ (λ (cs : List RegisterRule) (r : Rule). cs ++ record { register = n; rule = r } ∷ []) before.so_far (sym here)
+          ∙ sym (takes_rule regs n (ap is_kept here));
+      expression = no_more regs n j d rule low full same looked (ap is_expression is) before.expression;
+    }
+
+pub all_saved : (regs : List Rule) (n : ℕ) (saved : List SavedRegister) → n ≡ 32 → length regs ≡ 32 → SavedTo regs n saved → AreSaved saved regs
+all_saved regs n saved end full done = record {
+  recovers = all_not_kept regs (map saved_rule saved) n end full done.so_far;
+  expression = ap (list_any is_expression) (sym (take_all n regs (omega arith))) ∙ done.expression;
+}

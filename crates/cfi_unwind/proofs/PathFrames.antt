@@ -1,5 +1,5 @@
 -- How many frames a path has, and that their addresses have 32 bits.
-use Rattle.std.proofs.Common.{ℕ, zero, suc, ◌^◌, ◌<◌, ◌≤◌, ◌%◌, List, [], ◌∷◌, length, All, Option, Some, None, arith}
+use Rattle.std.proofs.Common.{ℕ, zero, suc, ◌^◌, ◌<◌, ◌≤◌, ◌%◌, List, ◌∷◌, length, All, Option, Some, None, arith}
 use Rattle.std.specs.List.{AllByRecursion}
 use Rattle.std.proofs.lemmas.List.Elements.{All-from_recursion}
 use Rattle.scope_types.specs.declared.frame.End.{End}

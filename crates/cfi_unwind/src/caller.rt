@@ -51,6 +51,7 @@ pub(crate) fn has_expression(rules: &Rules) -> bool
     matches!(rules.cfa, Cfa::Expression) || any_expression(&rules.regs)
 }
 
+#[inline(always)]
 pub(crate) fn value_of(registers: &[u32; 32], number: u8) -> u32
     ensures { result ≡ get_or registers.now number 0 }
 {
@@ -111,6 +112,7 @@ fn recovered_all<L: Look>(
 
 /// Where the caller stands whose registers these are: at its call, which lies 4 below the return
 /// address. `None` where that is 0.
+#[inline(always)]
 pub(crate) fn call_of(registers: &[u32; 32], return_register: u8) -> Option<u32>
     ensures { result ≡ (if get_or registers.now return_register 0 == 0 then None
         else Some (sum (get_or registers.now return_register 0) (2 ^ 32 - 4))) }

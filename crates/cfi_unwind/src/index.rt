@@ -1,5 +1,6 @@
 //! The unwind rules at a program's addresses, made ready before any path is looked for.
-ghost use Rattle.std.specs.Prelude.{◌≡◌, ℕ, None, ◌+◌, ◌<◌, ◌≤◌, ◌^◌, ◌*◌, IfOk, IfSome, length, replicate, slice_get, true};
+ghost use Rattle.std.specs.Prelude.{◌≡◌, ℕ, None, ◌+◌, ◌<◌, ◌≤◌, ◌^◌, ◌*◌, IfOk, IfSome, length, replicate};
+ghost use Rattle.std.specs.Prelude.{slice_get, true};
 ghost use Rattle.std.specs.Option.{option_copied};
 ghost use Rattle.cfi_unwind.specs.Caller.{Unwinding};
 ghost use Rattle.cfi_table.specs.Frames.{Frames, rules_at};

@@ -10,6 +10,7 @@ mod caller;
 mod index;
 mod laws;
 mod region;
+mod saved_registers;
 mod unwind_rule;
 mod unwinder;
 

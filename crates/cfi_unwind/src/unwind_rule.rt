@@ -1,30 +1,34 @@
 //! The rules at an address in a short form: how the path ends there, or where the caller's values are
 //! of the few registers that are not kept.
-ghost use Rattle.std.specs.Prelude.{◌≡◌, ◌≤◌, ℕ, List, IfOk, IfSome, MatchBool, get_or, length, map, take, false, true};
+ghost use Rattle.std.specs.Prelude.{◌≡◌, ◌≤◌, ℕ, List, None, IfOk, IfSome, MatchBool, get_or, length, map, take};
+ghost use Rattle.std.specs.Prelude.{false, true};
 ghost use Rattle.std.specs.List.{list_any, slice_set};
-ghost use Rattle.cfi_unwind.specs.private.UnwindRules.{is_kept, after, recovered_each, is_unmapped_register, saved_rule};
-ghost use Rattle.cfi_unwind.specs.Caller.{Words};
-ghost use Rattle.cfi_unwind.specs.private.UnwindRules.{cfa_by, returned, left_with, unwound_with, unwound_by};
-ghost use Rattle.cfi_unwind.specs.private.UnwindRules.{Recovers, Follows, FollowsSome};
+ghost use Rattle.cfi_unwind.specs.private.UnwindRules.{is_kept, after, recovered_each, is_unmapped_register};
+ghost use Rattle.cfi_unwind.specs.private.UnwindRules.{saved_rule};
+ghost use Rattle.cfi_unwind.specs.Caller.{Words, is_undefined};
+ghost use Rattle.cfi_table.specs.Rules.{rule_at};
+ghost use Rattle.scope_types.specs.Memory.{HasWords};
+ghost use Rattle.cfi_unwind.specs.declared.caller.Unwound.TheVariants.{Caller};
+ghost use Rattle.cfi_unwind.specs.private.UnwindRules.{cfa_by, usual, returned, left_with, unwound_with, unwound_by};
+ghost use Rattle.cfi_unwind.specs.private.UnwindRules.{AreSaved, Recovers, Follows, FollowsSome};
 
 use crate::caller::{call_of, has_expression, is_outermost, recovered, value_of};
+use crate::saved_registers::{SavedRegister, SavedRegisters};
 use cfi_table::{Cfa, Rule, Rules};
 use prof_bytes::Memory;
-use scope_types::{End, Look, PartialCause};
+use scope_types::{End, Look, MemorySlice, PartialCause};
 use std::alloc::Global;
+
+/// The numbers of the registers that the psABI calls ra and sp.
+const RETURN_ADDRESS: u8 = 1;
+
+const STACK_POINTER: u8 = 2;
 
 /// A register that is not kept, and its rule.
 #[derive(Clone, Copy, Debug)]
 pub(crate) struct RegisterRule {
     register: u8,
     rule: Rule,
-}
-
-/// A register that is saved in memory, at an offset from the canonical frame address.
-#[derive(Clone, Copy, Debug)]
-pub(crate) struct SavedRegister {
-    register: u8,
-    offset: u32,
 }
 
 /// Of which register's value the canonical frame address is how many bytes away, and which register has the
@@ -42,12 +46,25 @@ pub(crate) struct FrameLayout {
 pub(crate) enum UnwindRule {
     /// The path ends there.
     Ends(End),
-    /// The return register is saved at this offset, and the others are kept.
-    ReturnSaved(FrameLayout, u32),
+    /// The layout is the usual one, the return address is saved at this offset, and the other registers are kept.
+    ReturnSaved { cfa_offset: u32, offset: u32 },
     /// These registers are saved, and the others are kept.
-    Saved(FrameLayout, Vec<SavedRegister>),
+    Saved(FrameLayout, SavedRegisters),
     /// These registers have other rules than to be kept.
     Mixed(FrameLayout, Vec<RegisterRule>),
+}
+
+/// The usual layout, in which the canonical frame address is so many bytes above the stack pointer x2 and x1 has the
+/// return address.
+#[inline(always)]
+fn usual(cfa_offset: u32) -> FrameLayout
+    ensures { result ≡ usual cfa_offset }
+{
+    FrameLayout {
+        cfa_register: STACK_POINTER,
+        cfa_offset,
+        return_register: RETURN_ADDRESS,
+    }
 }
 
 fn is_kept(rule: &Rule) -> bool
@@ -77,59 +94,82 @@ fn not_kept(rules: &[Rule; 32]) -> ([RegisterRule; 32], usize)
     (registers, count)
 }
 
-/// The registers as saved ones, where all of them are.
-fn saved_of(alloc: Global, registers: &[RegisterRule]) -> Result<Option<Vec<SavedRegister>>, Memory>
-    ensures { IfOk result (λ saved. IfSome saved (λ saved. map saved_rule saved.items ≡ registers.now)) }
+/// The saved registers, where each of the others is kept and there are not too many.
+fn saved_of(rules: &[Rule; 32]) -> Option<SavedRegisters>
+    ensures { IfSome result (λ saved. AreSaved saved rules.now) }
 {
-    let mut saved = Vec::with_capacity(alloc, registers.len())?;
-    for each in registers {
-        let register = each.register;
-        match each.rule {
-            Rule::Saved(offset) => saved.push(SavedRegister { register, offset })?,
-            _ => return Ok(None),
+    let mut saved = SavedRegisters::none();
+    for register in 0..32u8 {
+        match rules[usize::from(register)] {
+            Rule::Kept => {}
+            Rule::Saved(offset) => {
+                if !saved.push(SavedRegister { register, offset }) {
+                    return None;
+                }
+            }
+            _ => return None,
         }
     }
-    Ok(Some(saved))
+    Some(saved)
 }
 
-/// The offset at which the return register is saved, where it is the only one that is not kept.
-fn return_offset(layout: &FrameLayout, registers: &[RegisterRule]) -> Option<u32>
-    ensures { IfSome result (λ offset. returned layout.now offset ≡ registers.now) }
+fn is_usual(layout: &FrameLayout) -> bool
+    ensures { result ≡ true → layout.now ≡ usual layout.now.cfa_offset }
 {
-    match registers {
-        [only] if only.register == layout.return_register => match only.rule {
-            Rule::Saved(offset) => Some(offset),
-            _ => None,
-        },
+    layout.cfa_register == STACK_POINTER && layout.return_register == RETURN_ADDRESS
+}
+
+/// The offset at which the return address is saved, where x1 is the only register that is not kept.
+fn return_offset(saved: &[SavedRegister]) -> Option<u32>
+    ensures { IfSome result (λ offset. returned offset ≡ map saved_rule saved.now) }
+{
+    match saved {
+        [only] if only.register == RETURN_ADDRESS => Some(only.offset),
         _ => None,
     }
 }
 
-/// The unwind rule of a layout and the registers that are not kept, in the form that takes least time.
-fn rule_of(
-    alloc: Global,
-    layout: FrameLayout,
-    registers: &[RegisterRule],
-) -> Result<UnwindRule, Memory>
-    ensures { IfOk result (λ unwind_rule. (words : Words) (before : List ℕ)
-        → unwound_by words before unwind_rule ≡ unwound_with words before layout registers.now) }
+/// The unwind rule of a layout and the registers that are saved, in the form that takes least time.
+fn rule_of(layout: FrameLayout, saved: SavedRegisters) -> UnwindRule
+    ensures { (words : Words) (before : List ℕ)
+        → unwound_by words before result ≡ unwound_with words before layout (map saved_rule saved) }
 {
-    if let Some(offset) = return_offset(&layout, registers) {
-        return Ok(UnwindRule::ReturnSaved(layout, offset));
+    if is_usual(&layout) {
+        if let Some(offset) = return_offset(saved.as_slice()) {
+            return UnwindRule::ReturnSaved {
+                cfa_offset: layout.cfa_offset,
+                offset,
+            };
+        }
     }
-    match saved_of(alloc, registers)? {
-        Some(saved) => Ok(UnwindRule::Saved(layout, saved)),
-        None => Ok(UnwindRule::Mixed(layout, Vec::from_slice(alloc, registers)?)),
+    UnwindRule::Saved(layout, saved)
+}
+
+/// The unwind rule of rules by which each register is kept or saved, and there is a return address.
+fn rule_by_saved(rules: &Rules, saved: SavedRegisters) -> UnwindRule
+    requires address { is_undefined (rule_at rules.now.regs rules.now.return_register) ≡ false }
+    requires saved { AreSaved saved rules.now.regs }
+    ensures { FollowsSome result rules.now }
+{
+    match rules.cfa {
+        Cfa::Register { reg, offset } => {
+            let layout = FrameLayout {
+                cfa_register: reg,
+                cfa_offset: offset,
+                return_register: rules.return_register,
+            };
+            rule_of(layout, saved)
+        }
+        Cfa::Missing => UnwindRule::Ends(End::Partial(PartialCause::NoCfa)),
+        Cfa::Expression => UnwindRule::Ends(End::Partial(PartialCause::Expression)),
     }
 }
 
-/// The unwind rule of rules that are in force.
-fn rule_by(alloc: Global, rules: &Rules) -> Result<UnwindRule, Memory>
+/// The unwind rule of any rules by which there is a return address.
+fn rule_by_all(alloc: Global, rules: &Rules) -> Result<UnwindRule, Memory>
+    requires { is_undefined (rule_at rules.now.regs rules.now.return_register) ≡ false }
     ensures { IfOk result (λ unwind_rule. FollowsSome unwind_rule rules.now) }
 {
-    if is_outermost(rules) {
-        return Ok(UnwindRule::Ends(End::Whole));
-    }
     if has_expression(rules) {
         return Ok(UnwindRule::Ends(End::Partial(PartialCause::Expression)));
     }
@@ -141,9 +181,22 @@ fn rule_by(alloc: Global, rules: &Rules) -> Result<UnwindRule, Memory>
                 return_register: rules.return_register,
             };
             let (registers, count) = not_kept(&rules.regs);
-            rule_of(alloc, layout, &registers[..count])
+            Ok(UnwindRule::Mixed(layout, Vec::from_slice(alloc, &registers[..count])?))
         }
         _ => Ok(UnwindRule::Ends(End::Partial(PartialCause::NoCfa))),
+    }
+}
+
+/// The unwind rule of rules that are in force.
+fn rule_by(alloc: Global, rules: &Rules) -> Result<UnwindRule, Memory>
+    ensures { IfOk result (λ unwind_rule. FollowsSome unwind_rule rules.now) }
+{
+    if is_outermost(rules) {
+        return Ok(UnwindRule::Ends(End::Whole));
+    }
+    match saved_of(&rules.regs) {
+        Some(saved) => Ok(rule_by_saved(rules, saved)),
+        None => rule_by_all(alloc, rules),
     }
 }
 
@@ -157,6 +210,7 @@ pub(crate) fn prepare(alloc: Global, rules: &Option<Rules>) -> Result<UnwindRule
     }
 }
 
+#[inline(always)]
 fn put(registers: &mut [u32; 32], number: u8, value: u32)
     ensures { registers.new ≡ slice_set registers.old number value }
 {
@@ -188,22 +242,51 @@ fn recover_each<L: Look>(
     true
 }
 
+/// The word at an address that does not lie in the bytes that are near, and bytes about it.
+#[cold]
+#[inline(never)]
+fn word_far<'m, L: Look>(memory: &'m L, at: u32) -> (MemorySlice<'m>, Option<u32>)
+    ensures near { HasWords (L.words memory.now) result.0 }
+    ensures word { result.1 ≡ L.words memory.now at }
+{
+    (memory.slice(at), memory.word(at))
+}
+
+/// The word at an address: from the bytes that are near, where it lies in them. Else bytes about it are near then.
+#[inline(always)]
+fn word_near<'m, L: Look>(memory: &'m L, near: &mut MemorySlice<'m>, at: u32) -> Option<u32>
+    requires { HasWords (L.words memory.now) near.old }
+    ensures near { HasWords (L.words memory.now) near.new }
+    ensures word { result ≡ L.words memory.now at }
+{
+    if let Some(word) = near.word(at) {
+        return Some(word);
+    }
+    let (bytes, word) = word_far(memory, at);
+    *near = bytes;
+    word
+}
+
 /// Loads the registers in their place, since what is loaded follows from memory alone. False where no word can
 /// be loaded; the registers are then of no use.
-fn load_each<L: Look>(
-    memory: &L,
+#[inline(always)]
+fn load_each<'m, L: Look>(
+    memory: &'m L,
+    near: &mut MemorySlice<'m>,
     registers: &mut [u32; 32],
     cfa: u32,
     saved: &[SavedRegister],
 ) -> bool
-    ensures { MatchBool result
+    requires { HasWords (L.words memory.now) near.old }
+    ensures near { HasWords (L.words memory.now) near.new }
+    ensures loaded { MatchBool result
         ((list_any (is_unmapped_register (L.words memory.now) cfa) (map saved_rule saved.now) ≡ false)
         × (registers.new ≡ recovered_each (L.words memory.now) registers.old cfa (map saved_rule saved.now)
         registers.old))
         (list_any (is_unmapped_register (L.words memory.now) cfa) (map saved_rule saved.now) ≡ true) }
 {
     for each in saved {
-        match memory.word(cfa.wrapping_add(each.offset)) {
+        match word_near(memory, near, cfa.wrapping_add(each.offset)) {
             Some(value) => put(registers, each.register, value),
             None => return false,
         }
@@ -212,6 +295,7 @@ fn load_each<L: Look>(
 }
 
 impl FrameLayout {
+    #[inline(always)]
     fn cfa(&self, registers: &[u32; 32]) -> u32
         ensures { result ≡ cfa_by registers.now self.now }
     {
@@ -219,6 +303,7 @@ impl FrameLayout {
     }
 
     /// Goes to the caller whose registers these are but x0 and x2.
+    #[inline(always)]
     fn leave(&self, registers: &mut [u32; 32], cfa: u32) -> Result<u32, End>
         ensures { after result registers.new ≡ left_with registers.old cfa self.now.return_register }
     {
@@ -230,36 +315,21 @@ impl FrameLayout {
         }
     }
 
-    fn go_by_return<L: Look>(
+    #[inline(always)]
+    fn go_by_saved<'m, L: Look>(
         &self,
-        memory: &L,
-        registers: &mut [u32; 32],
-        offset: u32,
-    ) -> Result<u32, End>
-        ensures { after result registers.new
-            ≡ unwound_with (L.words memory.now) registers.old self.now (returned self.now offset) }
-    {
-        let cfa = self.cfa(registers);
-        match memory.word(cfa.wrapping_add(offset)) {
-            Some(address) => {
-                put(registers, self.return_register, address);
-                self.leave(registers, cfa)
-            }
-            None => Err(End::Partial(PartialCause::Unmapped)),
-        }
-    }
-
-    fn go_by_saved<L: Look>(
-        &self,
-        memory: &L,
+        memory: &'m L,
+        near: &mut MemorySlice<'m>,
         registers: &mut [u32; 32],
         saved: &[SavedRegister],
     ) -> Result<u32, End>
-        ensures { after result registers.new
+        requires { HasWords (L.words memory.now) near.old }
+        ensures near { HasWords (L.words memory.now) near.new }
+        ensures caller { after result registers.new
             ≡ unwound_with (L.words memory.now) registers.old self.now (map saved_rule saved.now) }
     {
         let cfa = self.cfa(registers);
-        if !load_each(memory, registers, cfa, saved) {
+        if !load_each(memory, near, registers, cfa, saved) {
             return Err(End::Partial(PartialCause::Unmapped));
         }
         self.leave(registers, cfa)
@@ -284,19 +354,81 @@ impl FrameLayout {
     }
 }
 
+/// Goes to the caller by the usual layout, where the return address alone is saved and is near. Nothing, where it is
+/// not near or is 0; the registers then stay.
+#[inline(always)]
+pub(crate) fn go_near(
+    near: &MemorySlice<'_>,
+    registers: &mut [u32; 32],
+    cfa_offset: u32,
+    offset: u32,
+) -> Option<u32>
+    ensures some { IfSome result (λ pc. (words : Words) → HasWords words near.now
+        → Caller (record { pc = pc; registers = registers.new })
+        ≡ unwound_with words registers.old (usual cfa_offset) (returned offset)) }
+    ensures none { result ≡ None → registers.new ≡ registers.old }
+{
+    let cfa = registers[2].wrapping_add(cfa_offset);
+    let address = near.word(cfa.wrapping_add(offset))?;
+    if address == 0 {
+        return None;
+    }
+    registers[1] = address;
+    registers[0] = 0;
+    registers[2] = cfa;
+    Some(address.wrapping_sub(4))
+}
+
+/// Goes to the caller by the usual layout, where the return address alone is saved.
+#[inline(always)]
+fn go_by_return<'m, L: Look>(
+    memory: &'m L,
+    near: &mut MemorySlice<'m>,
+    registers: &mut [u32; 32],
+    cfa_offset: u32,
+    offset: u32,
+) -> Result<u32, End>
+    requires { HasWords (L.words memory.now) near.old }
+    ensures near { HasWords (L.words memory.now) near.new }
+    ensures caller { after result registers.new
+        ≡ unwound_with (L.words memory.now) registers.old (usual cfa_offset) (returned offset) }
+{
+    let layout = usual(cfa_offset);
+    let cfa = layout.cfa(registers);
+    match word_near(memory, near, cfa.wrapping_add(offset)) {
+        Some(address) => {
+            put(registers, RETURN_ADDRESS, address);
+            layout.leave(registers, cfa)
+        }
+        None => Err(End::Partial(PartialCause::Unmapped)),
+    }
+}
+
 impl UnwindRule {
     /// Goes to the caller: its pc, and its registers in place of those here. Or how the path ends, where
     /// the registers are then of no use.
-    pub(crate) fn go<L: Look>(&self, memory: &L, registers: &mut [u32; 32]) -> Result<u32, End>
-        ensures { after result registers.new ≡ unwound_by (L.words memory.now) registers.old self.now }
+    #[inline(always)]
+    pub(crate) fn go<'m, L: Look>(
+        &self,
+        memory: &'m L,
+        near: &mut MemorySlice<'m>,
+        registers: &mut [u32; 32],
+    ) -> Result<u32, End>
+        requires { HasWords (L.words memory.now) near.old }
+        ensures near { HasWords (L.words memory.now) near.new }
+        ensures caller { after result registers.new ≡ unwound_by (L.words memory.now) registers.old self.now }
     {
         match self {
-            UnwindRule::Ends(end) => Err(*end),
-            UnwindRule::ReturnSaved(layout, offset) => layout.go_by_return(
-                memory, registers, *offset,
+            UnwindRule::ReturnSaved { cfa_offset, offset } => go_by_return(
+                memory,
+                near,
+                registers,
+                *cfa_offset,
+                *offset,
             ),
             UnwindRule::Saved(layout, saved) => layout.go_by_saved(
                 memory,
+                near,
                 registers,
                 saved.as_slice(),
             ),
@@ -305,6 +437,7 @@ impl UnwindRule {
                 registers,
                 rules.as_slice(),
             ),
+            UnwindRule::Ends(end) => Err(*end),
         }
     }
 }

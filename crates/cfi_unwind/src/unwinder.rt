@@ -1,23 +1,28 @@
 //! The call path of an instruction.
-ghost use Rattle.std.specs.Prelude.{◌≡◌, IfOk, IfSome};
+ghost use Rattle.std.specs.Prelude.{◌≡◌, ◌≤◌, IfOk, IfSome, length, nat_lt};
+ghost use Rattle.cfi_unwind.specs.private.Walks.{GoesOn};
 ghost use Rattle.cfi_unwind.specs.Caller.{caller_of};
 ghost use Rattle.cfi_unwind.specs.private.UnwindRules.{after};
 ghost use Rattle.cfi_unwind.specs.private.Index.{FindsCallers};
 ghost use Rattle.cfi_unwind.specs.Path.{path_of, unwinding_of};
+ghost use Rattle.scope_types.specs.Memory.{HasWords};
 
 use crate::caller::caller_to;
 use crate::index::Index;
 use crate::region::{entry_region, is_in};
-use crate::unwind_rule::UnwindRule;
+use crate::unwind_rule::{UnwindRule, go_near};
 use cfi_table::FrameTable;
 use elf_image::Image;
 use prof_bytes::Memory;
-use scope_types::{End, Frame, Look, PartialCause, RawPath, Unwind};
+use scope_types::{End, Frame, Look, MemorySlice, PartialCause, RawPath, Unwind};
 use std::alloc::Global;
 use std::marker::Model;
 
 /// How many frames a path has at most.
 const MOST_FRAMES: usize = 512;
+
+/// For how many frames there is room from the start. Most paths have fewer.
+const MANY_FRAMES: usize = 128;
 
 /// What finds the call paths of a program's instructions, by its call frame information.
 #[derive(Debug, Drop)]
@@ -112,38 +117,91 @@ impl<'a> Unwinder<'a> {
 
     /// Goes to the caller of the activation at `pc` with these registers: its pc, and its registers in
     /// place of those here. Or how the path ends, where the registers are then of no use.
-    fn next<L: Look>(
+    #[inline(always)]
+    fn next<'m, L: Look>(
         &self,
-        memory: &L,
+        memory: &'m L,
+        near: &mut MemorySlice<'m>,
         pc: u32,
         ready: Option<&UnwindRule>,
         registers: &mut [u32; 32],
     ) -> Result<Result<u32, End>, Memory>
         requires ready { IfSome ready (λ unwind_rule. FindsCallers self.now pc unwind_rule.now) }
-        ensures { IfOk result (λ next. after next registers.new
+        requires near { HasWords (L.words memory.now) near.old }
+        ensures near { HasWords (L.words memory.now) near.new }
+        ensures caller { IfOk result (λ next. after next registers.new
             ≡ caller_of self.now (L.words memory.now) (record { pc = pc; registers = registers.old })) }
     {
         match ready {
-            Some(unwind_rule) => Ok(unwind_rule.go(memory, registers)),
+            Some(unwind_rule) => Ok(unwind_rule.go(memory, near, registers)),
             None => self.next_anew(memory, pc, registers),
         }
     }
+
+    /// Goes on over frames of the usual layout whose return addresses are near, as far as these follow one another:
+    /// where the walk then stands, and the unwind rule there.
+    fn go_usual<'b>(
+        &'b self,
+        near: &MemorySlice<'_>,
+        frames: &mut Vec<Frame>,
+        registers: &mut [u32; 32],
+        pc: u32,
+        ready: Option<&'b UnwindRule>,
+    ) -> Result<(u32, Option<&'b UnwindRule>), Memory>
+        requires ready { IfSome ready (λ unwind_rule. FindsCallers self.now pc unwind_rule.now) }
+        requires few { length frames.old.items ≤ 512 }
+        ensures ready { IfOk result (λ to. IfSome to.1 (λ unwind_rule. FindsCallers self.now to.0 unwind_rule.now)) }
+        ensures few { IfOk result (λ to. length frames.new.items ≤ 512) }
+        ensures walks { IfOk result (λ to. GoesOn self.now near.now
+            frames.old.items (record { pc = pc; registers = registers.old })
+            frames.new.items (record { pc = to.0; registers = registers.new })) }
+        ensures more { IfOk result (λ to. length frames.old.items ≤ length frames.new.items) }
+    {
+        let mut here = pc;
+        let mut ready = ready;
+        while has_room(frames) {
+            let Some(unwind_rule) = ready else {
+                break;
+            };
+            let UnwindRule::ReturnSaved { cfa_offset, offset } = unwind_rule else {
+                break;
+            };
+            let Some(caller) = go_near(near, registers, *cfa_offset, *offset) else {
+                break;
+            };
+            frames.push(Frame { pc: here })?;
+            ready = self.ready_after(caller, here, ready);
+            here = caller;
+        }
+        Ok((here, ready))
+    }
+}
+
+/// Whether a path may have one frame more.
+#[inline(always)]
+fn has_room(frames: &Vec<Frame>) -> bool
+    ensures { result ≡ nat_lt (length frames.now.items) 512 }
+{
+    frames.len() < MOST_FRAMES
 }
 
 impl<'a> Unwind for Unwinder<'a> {
     ghost path_of = { path_of };
 
     fn path<L: Look>(&self, pc: u32, regs: &[u32; 32], memory: &L) -> Result<RawPath, Memory> {
-        let mut frames = Vec::new(self.alloc);
+        let mut frames = Vec::with_capacity(self.alloc, MANY_FRAMES)?;
         let mut registers = *regs;
+        let mut near = MemorySlice::empty();
         let mut here = pc;
         let mut ready = self.ready_at(pc);
-        for _ in 0..MOST_FRAMES {
+        while has_room(&frames) {
             frames.push(Frame { pc: here })?;
-            match self.next(memory, here, ready, &mut registers)? {
+            match self.next(memory, &mut near, here, ready, &mut registers)? {
                 Ok(caller) => {
-                    ready = self.ready_after(caller, here, ready);
-                    here = caller;
+                    let after = self.ready_after(caller, here, ready);
+                    let to = self.go_usual(&near, &mut frames, &mut registers, caller, after)?;
+                    here = to.0;
+                    ready = to.1;
                 }
                 Err(end) => return Ok(RawPath::of(end, frames)),
             }

@@ -1,10 +1,9 @@
 -- Values of a fixed size are passed as so many bytes are.
-use Rattle.std.proofs.Common.{◌≡◌, ℕ, ℤ, zero, suc, ◌+◌, ◌-◌, ◌≤◌, ◌<◌, ◌==◌, Bool, true, false, inl, inr, List, [], ◌∷◌, length, take, Option, Some, None, Result, Ok, Err, refl, sym, ap, ◌∙◌, arith}
-use Rattle.std.specs.Prelude.{option_map, option_and_then, if◌then◌else◌, nat_lt}
+use Rattle.std.proofs.Common.{◌≡◌, ℕ, ℤ, ◌+◌, ◌-◌, ◌≤◌, ◌<◌, ◌==◌, Bool, true, false, inl, inr, List, ◌∷◌, length, take, Option, Some, None, Ok, Err, refl, sym, ap, ◌∙◌, arith}
+use Rattle.std.specs.Prelude.{option_map, option_and_then, if◌then◌else◌}
 use Rattle.std.proofs.lemmas.Bool.{cases_lt, lt-ltb, le-ltb, eqb-true}
-use Rattle.prof_bytes.specs.Fields.{Input, taken, number_from, bytes_from}
-use Rattle.prof_bytes.specs.Reading.{At, left_of, moved, bytes_at}
-use Rattle.prof_bytes.specs.Number.{number_at}
+use Rattle.prof_bytes.specs.Fields.{Input, number_from, bytes_from}
+use Rattle.prof_bytes.specs.Reading.{At, left_of, moved}
 use Rattle.dwarf_forms.specs.declared.constants.TheConstants.{DW_FORM_indirect}
 use Rattle.dwarf_forms.specs.declared.declaration.Spec.{Spec}
 use Rattle.dwarf_forms.specs.declared.encoding.Size.{Size}
@@ -12,7 +11,7 @@ use Rattle.dwarf_forms.specs.declared.encoding.Size.TheVariants as sizes
 use Rattle.dwarf_forms.specs.declared.encoding.Encoding.{Encoding}
 use Rattle.dwarf_forms.specs.declared.encoding.Encoding.TheVariants as encodings
 use Rattle.dwarf_forms.specs.Forms.{encoding_of}
-use Rattle.dwarf_forms.specs.Values.{FormValue, Flag, Signed, Bytes, as_value, word_value, number_value, sized_from, encoded_from, known_from, indirect_from, direct_from, value_from}
+use Rattle.dwarf_forms.specs.Values.{FormValue, Bytes, as_value, word_value, number_value, sized_from, encoded_from, known_from, indirect_from, direct_from, value_from}
 use Rattle.dwarf_forms.specs.Sizes.{number_size, encoding_size, form_size, fixed_size, passed_by}
 use Rattle.dwarf_forms.proofs.Moves.{left_moved}
 

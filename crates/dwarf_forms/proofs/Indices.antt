@@ -1,11 +1,13 @@
 -- The first index of a code in a list that grows.
-use Rattle.std.proofs.Common.{◌≡◌, ℕ, ◌+◌, ◌≤◌, Bool, true, false, not, cond, eqb, eq-eqb, inl, inr, List, [], ◌∷◌, ◌++◌, length, Option, Some, None, refl, sym, ap, ◌∙◌, arith, length-append}
+use Rattle.std.proofs.Common.{◌≡◌, ℕ, suc, ◌+◌, ◌<◌, ◌≤◌, Bool, true, false, not, cond, eqb, eq-eqb, inl, inr, List, [], ◌∷◌, ◌++◌, length, take, drop, get_or, Option, Some, None, refl, sym, ap, ◌∙◌, arith, length-append}
+use Rattle.std.proofs.Math.ListN.{drop_of_length-le}
 use Rattle.std.specs.Prelude.{find, position, slice_get, nat_lt}
 use Rattle.std.specs.List.{position_or_len}
-use Rattle.std.proofs.lemmas.List.Folds.{find_at, position_or_len_push}
+use Rattle.std.proofs.lemmas.List.{take-append-drop, length-take, get_or-take}
+use Rattle.std.proofs.lemmas.List.Folds.{find_at, find-append, position_or_len_push}
 use Rattle.std.proofs.lemmas.Option.{slice_get_past}
 use Rattle.std.specs.Option.{option_or}
-use Rattle.std.proofs.lemmas.List.Sums.{prefix_len-le-length}
+use Rattle.std.proofs.lemmas.List.Sums.{prefix_len-le-length, fails_before_first}
 use Rattle.std.proofs.lemmas.Bool.{cases_lt, ltb-false, lt-ltb, le-ltb, ne_eqb}
 
 some_is : {X : Type 0} (b : Bool) (x y : X) → cond b (Some x) None ≡ Some y → (b ≡ true) × (x ≡ y)
@@ -16,11 +18,39 @@ none_is : {X : Type 0} (b : Bool) (x : X) → cond b (Some x) None ≡ None → 
 none_is true x e = absurd cc
 none_is false x e = refl
 
+find_none : {X : Type 0} (p : X → Bool) (xs : List X) → ((i : ℕ) (d : X) → i < length xs → p (get_or xs i d) ≡ false) → find p xs ≡ None
+find_none p [] fails = refl
+find_none p (x ∷ xs) fails = rw (fails 0 x (omega arith)) (find_none p xs (λ i d lt. fails (suc i) d (omega arith)))
+
 pub find_there : {X : Type 0} (p : X → Bool) (xs : List X) (i : ℕ) → position p xs ≡ Some i → find p xs ≡ slice_get xs i
 find_there p xs i e = find_at p xs ∙ ap (slice_get xs) (some_is _ _ _ e).1
 
 pub find_nowhere : {X : Type 0} (p : X → Bool) (xs : List X) → position p xs ≡ None → find p xs ≡ None
 find_nowhere p xs e = find_at p xs ∙ slice_get_past xs _ (ltb-false _ _ (none_is _ _ e))
+
+find_before : {X : Type 0} (p : X → Bool) (xs : List X) (n i : ℕ) → position p xs ≡ Some i → n ≤ i → find p (take n xs) ≡ None
+find_before p xs n i e le =
+    let first : position_or_len p xs ≡ i = (some_is _ _ _ e).1 in
+    find_none p (take n xs) (λ k d lt. ap p (get_or-take n xs k d (omega (arith, length-take n xs))) ∙ fails_before_first p xs k d (omega (arith, length-take n xs)))
+
+or_none : {X : Type 0} (a b : Option X) → a ≡ None → option_or a b ≡ b
+or_none None b e = refl
+or_none (Some x) b e = absurd cc
+
+or_nothing : {X : Type 0} (a b : Option X) → option_or a b ≡ None → b ≡ None
+or_nothing None b e = e
+or_nothing (Some x) b e = absurd cc
+
+split_find : {X : Type 0} (p : X → Bool) (xs : List X) (n : ℕ) → find p xs ≡ option_or (find p (take n xs)) (find p (drop n xs))
+split_find p xs n = ap (find p) (sym (take-append-drop n xs)) ∙ find-append p (take n xs) (drop n xs)
+
+-- where the first one stands at an index or behind it, it is the first from there on
+pub find_behind : {X : Type 0} (p : X → Bool) (xs : List X) (n i : ℕ) → position p xs ≡ Some i → n ≤ i → slice_get xs i ≡ find p (drop n xs)
+find_behind p xs n i e le =
+    sym (find_there p xs i e) ∙ split_find p xs n ∙ or_none (find p (take n xs)) (find p (drop n xs)) (find_before p xs n i e le)
+
+pub nowhere_behind : {X : Type 0} (p : X → Bool) (xs : List X) (n : ℕ) → position p xs ≡ None → find p (drop n xs) ≡ None
+nowhere_behind p xs n e = or_nothing (find p (take n xs)) (find p (drop n xs)) (sym (split_find p xs n) ∙ find_nowhere p xs e)
 
 after_push : (n m : ℕ) (last : Bool) → n ≤ m
     → (let k = cond (eqb n m) (m + cond last 0 1) n in cond (nat_lt k (m + 1)) (Some k) None) ≡ option_or (cond (nat_lt n m) (Some n) None) (cond last (Some m) None)
@@ -45,3 +75,6 @@ position_push p xs y =
 pub index_push : {X : Type 0} (p : X → Bool) (xs : List X) (y : X) (m : ℕ) (old new : Option ℕ) → length xs ≡ m → old ≡ position p xs → new ≡ option_or old (cond (p y) (Some m) None) → new ≡ position p (xs ++ y ∷ [])
 index_push p xs y m old new long was is =
     is ∙ ap (λ (o : Option ℕ). option_or o (cond (p y) (Some m) None)) was ∙ ap (λ (k : ℕ). option_or (position p xs) (cond (p y) (Some k) None)) (sym long) ∙ sym (position_push p xs y)
+
+pub drop_fewer : {X : Type 0} (xs : List X) (n : ℕ) → length xs ≤ n → drop (length xs) xs ≡ drop n xs
+drop_fewer xs n le = drop_of_length-le xs (omega arith) ∙ sym (drop_of_length-le xs le)

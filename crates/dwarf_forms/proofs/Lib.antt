@@ -7,3 +7,4 @@ pub mod Moves
 pub mod FormMoves
 pub mod Rooms
 pub mod FixedSizes
+pub mod Suffixes

@@ -138,22 +138,22 @@ attribute_misses : Misses attribute_from
 unfolding attribute_from
 attribute_misses input none = misses_first (uleb_from input) _ input.missing (uleb_misses input none)
 
-declared_moves : (code : ℕ) (input : Input BadTable) → Moves 0 input (declared_from code input)
+declared_moves : (offset code : ℕ) (input : Input BadTable) → Moves 0 input (declared_from offset code input)
 unfolding declared_from
-declared_moves code input =
+declared_moves offset code input =
     moves_then 0 0 input (uleb_from input) _ (uleb_passes input) (λ tag.
     moves_then 0 0 tag.1 (number_from 1 tag.1) _ (moves_less 1 0 tag.1 (number_from 1 tag.1) (omega arith) (number_moves 1 tag.1)) (λ children.
     moves_then 0 0 children.1 (attributes_from children.1) _ (list_moves attribute_from attribute_takes (length (left_of children.1.at)) children.1) (λ specs.
-    stays {X = Option Abbrev} specs.1 (Some (record { code = code; tag = tag.0; children = not (children.0 == DW_CHILDREN_no); specs = specs.0 })))))
+    stays {X = Option Abbrev} specs.1 (Some (record { offset = offset; code = code; tag = tag.0; children = not (children.0 == DW_CHILDREN_no); specs = specs.0 })))))
 
 abbrev no_declaration : Option Abbrev
 no_declaration = None
 
-declaration_takes : Takes declaration_from
+pub declaration_takes : Takes declaration_from
 unfolding declaration_from
 declaration_takes input =
     moves_then 1 0 input (uleb_from input) _ (uleb_moves input) (λ code.
-    moves_if 0 code.1 (code.0 == 0) (Ok (no_declaration, code.1)) (declared_from code.0 code.1) (stays code.1 no_declaration) (declared_moves code.0 code.1))
+    moves_if 0 code.1 (code.0 == 0) (Ok (no_declaration, code.1)) (declared_from input.at.offset code.0 code.1) (stays code.1 no_declaration) (declared_moves input.at.offset code.0 code.1))
 
 declaration_misses : Misses declaration_from
 unfolding declaration_from

@@ -33,19 +33,28 @@ attribute_from input = do
 abbrev pub attributes_from : Input BadTable → Result (List Spec × Input BadTable) BadTable
 attributes_from input = list_from attribute_from (length (left_of input.at)) input
 
--- what is declared under a code: tag, whether children follow, attributes
-unfoldable pub declared_from : ℕ → Input BadTable → Result (Option Abbrev × Input BadTable) BadTable
-declared_from code input = do
+-- what is declared at an offset under a code: tag, whether children follow, attributes
+unfoldable pub declared_from : ℕ → ℕ → Input BadTable → Result (Option Abbrev × Input BadTable) BadTable
+declared_from offset code input = do
   (tag, input) ← uleb_from input
   (children, input) ← number_from 1 input
   (specs, input) ← attributes_from input
-  Ok (Some (record { code = code; tag = tag; children = not (children == DW_CHILDREN_no); specs = specs }), input)
+  Ok (
+    Some (record {
+      offset = offset;
+      code = code;
+      tag = tag;
+      children = not (children == DW_CHILDREN_no);
+      specs = specs;
+    }),
+    input,
+  )
 
 -- a declaration, or the code 0 that closes the table
 unfoldable pub declaration_from : Input BadTable → Result (Option Abbrev × Input BadTable) BadTable
 declaration_from input = do
-  (code, input) ← uleb_from input
-  if code == 0 then Ok (None, input) else declared_from code input
+  (code, behind) ← uleb_from input
+  if code == 0 then Ok (None, behind) else declared_from input.at.offset code behind
 
 -- the table that begins at an offset
 abbrev pub table_from : Input BadTable → Result (List Abbrev × Input BadTable) BadTable

@@ -34,7 +34,8 @@ form_size form = option_and_then encoding_size (encoding_of form)
 -- the bytes of all values of these attributes, where each form says how many
 abbrev pub fixed_size : List Spec → Option ℕ
 fixed_size [] = Some 0
-fixed_size (spec ∷ specs) = option_and_then (λ first. option_map (λ others. first + others) (fixed_size specs)) (form_size spec.form)
+fixed_size (spec ∷ specs) =
+    option_and_then (λ first. option_map (λ others. first + others) (fixed_size specs)) (form_size spec.form)
 
 -- the input behind a value
 abbrev pub passed_by : {X F : Type 0} → Result (X × Input F) F → Result (Unit {0} × Input F) F

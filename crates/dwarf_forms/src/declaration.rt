@@ -1,6 +1,9 @@
 //! Declarations of entries, and tables of them.
-ghost use Rattle.std.specs.Prelude.{◌≡◌, ◌≤◌, ◌==◌, drop, find, length, option_copied, slice_get, IfSome, Some};
+ghost use Rattle.std.specs.Prelude.{◌≡◌, ◌≤◌, ◌<◌, ◌==◌, ℕ, List, drop, find, position, length, option_copied};
+ghost use Rattle.std.specs.Prelude.{option_map};
+ghost use Rattle.std.specs.Prelude.{slice_get, IfSome, Some, Ok};
 ghost use Rattle.prof_bytes.specs.declared.fail.Fail.TheVariants as fails;
+ghost use Rattle.dwarf_forms.specs.Abbreviations.{table_at};
 ghost use Rattle.dwarf_forms.specs.Sizes.{fixed_size};
 ghost use Rattle.dwarf_forms.specs.private.Indices.{AreKept};
 
@@ -81,6 +84,8 @@ impl Specs {
 /// What an abbreviation table declares under one code.
 #[derive(Debug, Drop)]
 pub struct Abbrev {
+    /// Its offset in `.debug_abbrev`.
+    pub offset: usize,
     /// The code by which an entry names the declaration, 1 or more.
     pub code: u64,
     /// The tag of such an entry.
@@ -97,7 +102,7 @@ pub struct Abbrevs {
     items: Vec<Abbrev>,
     /// How many declarations at the front have the codes 1, 2, 3 and so on.
     numbered: usize,
-    /// Of the declarations behind these, the index of the first of each code, counted from there.
+    /// The index of the first declaration of each code, where the codes aren't all numbered so.
     indices: BTreeMap<u64, usize>,
 }
 
@@ -127,6 +132,24 @@ pub(crate) fn behind(items: &[Abbrev], count: usize) -> &[Abbrev]
     &items[count..]
 }
 
+/// The index of the declaration at an offset, by halving.
+fn index_at(items: &[Abbrev], offset: usize) -> Option<usize>
+    ensures { IfSome result (λ index. option_map (λ d. d.offset) (slice_get items.now index) ≡ Some offset) }
+{
+    let index = items.partition_point(|declared| declared.offset < offset);
+    match items.get(index) {
+        Some(declared) if declared.offset == offset => Some(index),
+        _ => None,
+    }
+}
+
+/// The first of some declarations that has a code.
+fn first_of(items: &[Abbrev], code: u64) -> Option<&Abbrev>
+    ensures { option_copied result ≡ find (λ declared. declared.code == code) items.now }
+{
+    items.iter().find(|declared| declared.code == code)
+}
+
 impl Abbrevs {
     pub(crate) fn of(items: Vec<Abbrev>, numbered: usize, indices: BTreeMap<u64, usize>) -> Abbrevs
         requires { AreKept items.items numbered indices }
@@ -139,17 +162,105 @@ impl Abbrevs {
         }
     }
 
+    /// The index of the first declaration of a code.
+    fn index_of(&self, code: u64) -> Option<usize>
+        ensures { result ≡ position (λ declared. declared.code == code) self.now }
+    {
+        if 0 < code && code <= self.numbered as u64 {
+            return Some((code - 1) as usize);
+        }
+        if self.numbered == self.items.len() {
+            return None;
+        }
+        self.indices.get(&code).copied()
+    }
+
     /// The first declaration of a code, in time that does not grow with the table where its codes are 1, 2, 3 and so
     /// on, as compilers write them, and with its logarithm elsewhere.
     pub fn find(&self, code: u64) -> Option<&Abbrev>
         ensures { option_copied result ≡ find (λ declared. declared.code == code) self.now }
     {
-        if 0 < code && code <= self.numbered as u64 {
-            return element(self.items.as_slice(), (code - 1) as usize);
-        }
-        match self.indices.get(&code) {
-            Some(index) => element(behind(self.items.as_slice(), self.numbered), *index),
+        match self.index_of(code) {
+            Some(index) => element(self.items.as_slice(), index),
             None => None,
         }
+    }
+
+    /// The same among the declarations from an index on. Where a code is declared before it, too, these are gone
+    /// through.
+    fn find_from(&self, from: usize, code: u64) -> Option<&Abbrev>
+        requires { from ≤ length self.now }
+        ensures { option_copied result ≡ find (λ declared. declared.code == code) (drop from self.now) }
+    {
+        match self.index_of(code) {
+            Some(index) if from <= index => element(self.items.as_slice(), index),
+            Some(_) => first_of(behind(self.items.as_slice(), from), code),
+            None => None,
+        }
+    }
+
+    /// Whether no code is declared twice.
+    fn are_distinct(&self) -> bool {
+        self.numbered == self.items.len() || self.indices.len() == self.items.len()
+    }
+
+    /// The index of the declaration at an offset, counted from another one; `None` also where a code is declared twice.
+    fn index_behind(&self, from: usize, offset: usize) -> Option<usize>
+        requires { from ≤ length self.now }
+        ensures { IfSome result (λ index.
+            option_map (λ d. d.offset) (slice_get (drop from self.now) index) ≡ Some offset) }
+    {
+        if self.are_distinct() {
+            return index_at(behind(self.items.as_slice(), from), offset);
+        }
+        None
+    }
+
+    /// The declarations from an index on; none, where they are fewer. Takes no memory.
+    #[tactic(auto, using(crate::proofs::Indices::drop_fewer))]
+    pub fn from_index(&self, index: usize) -> Declarations<'_>
+        ensures { result ≡ drop index self.now }
+    {
+        let count = self.items.len();
+        let from = if index < count { index } else { count };
+        Declarations { table: self, from }
+    }
+}
+
+/// The declarations of a table from one of them on: they are the table at its offset. Contracts see them as a list.
+#[derive(Drop)]
+pub struct Declarations<'a> {
+    table: &'a Abbrevs,
+    from: usize,
+}
+
+impl<'a> Model for Declarations<'a> {
+    ghost use Rattle.std.specs.Prelude.{List, drop, length, ◌≤◌};
+    ghost use Rattle.dwarf_forms.specs.declared.declaration.Abbrev.{Abbrev};
+
+    ghost Value = { List Abbrev };
+
+    ghost view = { λ declarations. drop declarations.from declarations.table.now };
+
+    ghost invariant = { λ declarations. declarations.from ≤ length declarations.table.now };
+}
+
+impl<'a> Declarations<'a> {
+    /// The first declaration of a code, as a table's `find` gives it.
+    pub fn find(&self, code: u64) -> Option<&'a Abbrev>
+        ensures { option_copied result ≡ find (λ declared. declared.code == code) self.now }
+    {
+        self.table.find_from(self.from, code)
+    }
+
+    /// The index among them of the declaration at an offset of `.debug_abbrev`, from which on they are the table at
+    /// that offset; `None` where none stands there, or where the table declares a code twice.
+    #[tactic(auto, using(crate::proofs::Suffixes::suffix_at))]
+    pub fn index_at(&self, offset: u32) -> Option<usize>
+        ensures in_range { IfSome result (λ index. index < length self.now) }
+        ensures table { (section : List ℕ) (start : ℕ) → table_at section start ≡ Ok self.now
+            → IfSome result (λ index. table_at section offset ≡ Ok (drop index self.now)) }
+    {
+        self.table.index_behind(self.from, offset as usize)
     }
 }

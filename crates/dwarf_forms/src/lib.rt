@@ -15,7 +15,7 @@ mod sizes;
 mod table;
 mod value;
 
-pub use declaration::{Abbrev, Abbrevs, BadTable, Spec, Specs};
+pub use declaration::{Abbrev, Abbrevs, BadTable, Declarations, Spec, Specs};
 pub use encoding::is_value_form;
 pub use laws::a_byte_an_item;
 pub use read::{read_form, read_value};

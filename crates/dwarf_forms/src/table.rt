@@ -1,5 +1,5 @@
 //! Reading an abbreviation table.
-ghost use Rattle.std.specs.Prelude.{◌≡◌, ◌==◌, ℕ, length, IfOk, OnOk, if◌then◌else◌};
+ghost use Rattle.std.specs.Prelude.{◌≡◌, ◌==◌, ◌<◌, ℕ, length, IfOk, OnOk, if◌then◌else◌};
 ghost use Rattle.std.specs.Option.{option_or};
 ghost use Rattle.std.specs.Ordering.{nat_cmp};
 ghost use Rattle.std.specs.BTreeMap.{get};
@@ -11,7 +11,7 @@ ghost use Rattle.dwarf_forms.specs.Abbreviations.{implicit_from, unless_closing,
 ghost use Rattle.dwarf_forms.specs.Abbreviations.{declared_from, declaration_from, table_from, table_at};
 
 use crate::constants::{DW_CHILDREN_no, DW_FORM_implicit_const};
-use crate::declaration::{Abbrev, Abbrevs, BadTable, Spec, Specs, behind};
+use crate::declaration::{Abbrev, Abbrevs, BadTable, Spec, Specs};
 use crate::section::reader_at;
 use prof_bytes::{Fail, Memory, Reader};
 use std::alloc::Global;
@@ -68,14 +68,16 @@ fn attributes(alloc: Global, reader: &mut Reader<'_, BadTable>) -> Result<Specs,
 fn declared(
     alloc: Global,
     reader: &mut Reader<'_, BadTable>,
+    offset: usize,
     code: u64,
 ) -> Result<Option<Abbrev>, Fail<BadTable>>
-    ensures { GivesFrom (λ d. d) result reader.new (declared_from code reader.old) }
+    ensures { GivesFrom (λ d. d) result reader.new (declared_from offset code reader.old) }
 {
     let tag = reader.uleb()?;
     let children = reader.u8()?;
     let specs = attributes(alloc, reader)?;
     Ok(Some(Abbrev {
+        offset,
         code,
         tag,
         children: children != DW_CHILDREN_no,
@@ -91,11 +93,12 @@ fn declaration(
 ) -> Result<Option<Abbrev>, Fail<BadTable>>
     ensures { GivesFrom (λ d. d) result reader.new (declaration_from reader.old) }
 {
+    let offset = reader.offset();
     let code = reader.uleb()?;
     if code == 0 {
         return Ok(None);
     }
-    declared(alloc, reader, code)
+    declared(alloc, reader, offset, code)
 }
 
 fn declarations(
@@ -149,6 +152,20 @@ fn first_indices(alloc: Global, items: &[Abbrev]) -> Result<BTreeMap<u64, usize>
     Ok(indices)
 }
 
+/// The same, where not all codes are those of the first `count` declarations.
+fn other_indices(
+    alloc: Global,
+    items: &[Abbrev],
+    count: usize,
+) -> Result<BTreeMap<u64, usize>, Memory>
+    ensures { IfOk result (λ indices. count < length items.now → AreIndices items.now indices) }
+{
+    if count < items.len() {
+        return first_indices(alloc, items);
+    }
+    Ok(BTreeMap::new(alloc))
+}
+
 /// The abbreviation table at an offset of the bytes of `.debug_abbrev`. Linear in the table's bytes where its codes are
 /// 1, 2, 3 and so on; else n log n in the number of its declarations.
 pub fn read_abbrevs(alloc: Global, bytes: &[u8], offset: u32) -> Result<Abbrevs, Fail<BadTable>>
@@ -157,6 +174,6 @@ pub fn read_abbrevs(alloc: Global, bytes: &[u8], offset: u32) -> Result<Abbrevs,
     let mut reader = reader_at(bytes, offset as usize, BadTable)?;
     let items = declarations(alloc, &mut reader)?;
     let count = numbered(items.as_slice());
-    let indices = first_indices(alloc, behind(items.as_slice(), count))?;
+    let indices = other_indices(alloc, items.as_slice(), count)?;
     Ok(Abbrevs::of(items, count, indices))
 }

@@ -1,10 +1,10 @@
 -- Values whose forms say their size are passed in one step.
-use Rattle.std.proofs.Common.{◌≡◌, ℕ, ◌+◌, ◌≤◌, ◌<◌, inl, inr, List, [], ◌∷◌, length, Option, Some, None, Result, Ok, Err, refl, sym, ap, ◌∙◌, subst, arith}
-use Rattle.std.specs.Prelude.{option_map, option_and_then, IfOk}
+use Rattle.std.proofs.Common.{◌≡◌, ℕ, ◌+◌, inl, inr, List, [], ◌∷◌, length, Option, Some, None, Result, Ok, Err, refl, sym, ap, ◌∙◌, arith}
+use Rattle.std.specs.Prelude.{option_map, option_and_then}
 use Rattle.std.proofs.lemmas.Bool.{cases_lt}
 use Rattle.std.proofs.lemmas.Option.{same_Some}
 use Rattle.prof_bytes.specs.Fields.{Input, bytes_from}
-use Rattle.prof_bytes.specs.Outcome.{◌>>=◌, GivesAt}
+use Rattle.prof_bytes.specs.Outcome.{◌>>=◌}
 use Rattle.prof_bytes.specs.Reading.{left_of, moved}
 use Rattle.dwarf_forms.specs.declared.declaration.Spec.{Spec}
 use Rattle.dwarf_forms.specs.Values.{FormValue, value_from}

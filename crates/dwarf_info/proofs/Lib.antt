@@ -11,3 +11,4 @@ pub mod Rooms
 pub mod Bounds
 pub mod Rising
 pub mod FixedValues
+pub mod Suffixes

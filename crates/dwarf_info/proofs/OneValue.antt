@@ -1,11 +1,12 @@
 -- Reading the values of an entry one by one, as a loop does.
-use Rattle.std.proofs.Common.{◌≡◌, ℕ, true, false, List, [], ◌∷◌, Some, None, Ok, Err, refl, ◌==◌}
+use Rattle.std.proofs.Common.{◌≡◌, ℕ, Bool, true, false, cond, Result, List, [], ◌∷◌, Some, None, Ok, Err, refl, ◌==◌}
 use Rattle.prof_bytes.specs.Fields.{Input}
 use Rattle.dwarf_forms.specs.declared.declaration.Spec.{Spec}
 use Rattle.dwarf_forms.specs.declared.value.FormFault.{FormFault}
 use Rattle.dwarf_forms.specs.declared.value.FormFault.TheVariants.{Unknown}
 use Rattle.dwarf_forms.specs.Values.{FormValue, value_from}
-use Rattle.dwarf_info.specs.Values.{values_from, passed_from, value_of}
+use Rattle.std.specs.Prelude.{find}
+use Rattle.dwarf_info.specs.Values.{with_value, values_from, passed_from, value_of}
 
 pub passed_one : {F : Type 0} (unknown : F) (spec : Spec) (specs : List Spec) (h : FormValue) (was after : Input F)
     → value_from unknown spec.form spec.implicit was ≡ Ok (h, after) → passed_from unknown (spec ∷ specs) was ≡ passed_from unknown specs after
@@ -41,3 +42,19 @@ none_here attribute spec specs fault was e = rw e refl
 pub none_left : (attribute : ℕ) (input : Input FormFault) → value_of attribute (values_from [] input) ≡ None
 unfolding values_from
 none_left attribute input = refl
+
+-- an attribute that is not declared has no value
+pub not_declared : (attribute : ℕ) (specs : List Spec) (input : Input FormFault) → find (λ (spec : Spec). spec.attribute == attribute) specs ≡ None
+    → value_of attribute (values_from specs input) ≡ None
+unfolding values_from
+not_declared attribute [] input none = refl
+not_declared attribute (spec ∷ specs) input none =
+    by (spec.attribute == attribute) refl none (value_from Unknown spec.form spec.implicit input) (λ after rest. not_declared attribute specs after rest)
+  where
+    by : (here : Bool) → (spec.attribute == attribute) ≡ here → cond here (Some spec) (find (λ (s : Spec). s.attribute == attribute) specs) ≡ None
+        → (read : Result (FormValue × Input FormFault) FormFault)
+        → ((after : Input FormFault) → find (λ (s : Spec). s.attribute == attribute) specs ≡ None → value_of attribute (values_from specs after) ≡ None)
+        → value_of attribute (with_value spec.attribute read (values_from specs)) ≡ None
+    by true at none read again = absurd cc
+    by false at none (Err fault) again = refl
+    by false at none (Ok r) again = rw at (again r.1 none)

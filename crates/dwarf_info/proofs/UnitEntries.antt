@@ -1,8 +1,6 @@
 -- The values of an entry with its unit.
 use Rattle.std.proofs.Common.{◌≡◌, ℕ, true, List, Option, Some, None, refl, sym, ap, ◌∙◌, subst}
 use Rattle.std.specs.Prelude.{slice_get, is_some, option_map, option_and_then}
-use Rattle.std.specs.Ordering.{nat_cmp}
-use Rattle.std.specs.BTreeMap.{get}
 use Rattle.dwarf_forms.specs.declared.value.FormFault.TheVariants.{Short}
 use Rattle.dwarf_forms.specs.Abbreviations.{table_at}
 use Rattle.dwarf_forms.specs.Values.{FormValue}
@@ -11,7 +9,8 @@ use Rattle.dwarf_info.specs.declared.entry.InfoEntry.{InfoEntry}
 use Rattle.dwarf_info.specs.Sections.{up_to}
 use Rattle.dwarf_info.specs.Values.{value_of, entry_values}
 use Rattle.dwarf_info.specs.Units.{DebugInfo, or_none}
-use Rattle.dwarf_info.specs.private.Tables.{Tables, AreTables, HaveTables}
+use Rattle.dwarf_info.specs.declared.tables.Tables.{Tables}
+use Rattle.dwarf_info.specs.private.Tables.{table_in, AreTables, HaveTables}
 use Rattle.dwarf_info.specs.Queries.{UnitEntry, unit_entry, attribute_value}
 
 abbrev with_unit : InfoEntry → Option UnitBases → Option UnitEntry
@@ -33,7 +32,7 @@ shown o = option_map (λ s. (s.bases, s.entry.offset)) o
 
 abbrev pub Finds : DebugInfo → Tables → ℕ → UnitBases → ℕ → Option FormValue → Type 0
 Finds info tables attribute read offset r =
-    (section : List ℕ) → AreTables section tables → is_some (get nat_cmp tables read.header.debug_abbrev_offset) ≡ true
+    (section : List ℕ) → AreTables section tables → is_some (table_in tables read.header.debug_abbrev_offset) ≡ true
     → r ≡ value_of attribute (entry_values (or_none (table_at section read.header.debug_abbrev_offset)) (up_to read.header.end info.sections.info offset Short))
 
 abbrev read_or : UnitBases → Option Shown → UnitBases
@@ -59,7 +58,7 @@ found_in info tables i attribute read offset r (Some s) at are have is finds =
     let k = there_is info.units (slice_get info.entries i) s at in
     let first : s.bases ≡ read = same_read s read offset is in
     let second : s.entry.offset ≡ offset = same_offset s read offset is in
-    let has : is_some (get nat_cmp tables read.header.debug_abbrev_offset) ≡ true = subst (λ (u : UnitBases). is_some (get nat_cmp tables u.header.debug_abbrev_offset) ≡ true) first (have k.0 s.bases k.1) in
+    let has : is_some (table_in tables read.header.debug_abbrev_offset) ≡ true = subst (λ (u : UnitBases). is_some (table_in tables u.header.debug_abbrev_offset) ≡ true) first (have k.0 s.bases k.1) in
     finds info.sections.abbrev_bytes are has
     ∙ ap (λ (u : UnitBases). value_of attribute (entry_values (or_none (table_at info.sections.abbrev_bytes u.header.debug_abbrev_offset)) (up_to u.header.end info.sections.info offset Short))) (sym first)
     ∙ ap (λ (n : ℕ). value_of attribute (entry_values (or_none (table_at info.sections.abbrev_bytes s.bases.header.debug_abbrev_offset)) (up_to s.bases.header.end info.sections.info n Short))) (sym second)

@@ -10,7 +10,7 @@ use crate::entry::InfoEntry;
 use crate::fault::InfoFault;
 use crate::unit_header::offset_of;
 use crate::values::pass_values;
-use dwarf_forms::{Abbrev, Abbrevs};
+use dwarf_forms::{Abbrev, Declarations};
 use prof_bytes::{Fail, Memory, Reader};
 
 /// An entry by its declaration, and the depth of what follows it.
@@ -40,7 +40,7 @@ fn declared_entry(
 #[tactic(auto, unfolding(crate::specs::Entries::entry_from))]
 fn read_entry(
     reader: &mut Reader<'_, InfoFault>,
-    table: &Abbrevs,
+    table: &Declarations<'_>,
     unit: u32,
     depth: u32,
 ) -> Result<(Option<InfoEntry>, u32), InfoFault>
@@ -84,7 +84,7 @@ pub(crate) fn push_some<T: Drop>(items: &mut Vec<T>, item: Option<T>) -> Result<
 /// The entries up to the end of the reader's bytes, appended; at most one a byte.
 pub(crate) fn read_entries(
     reader: &mut Reader<'_, InfoFault>,
-    table: &Abbrevs,
+    table: &Declarations<'_>,
     unit: u32,
     entries: &mut Vec<InfoEntry>,
 ) -> Result<(), Fail<InfoFault>>

@@ -1,8 +1,6 @@
 //! Debug information that was read, and what is asked of its entries.
 ghost use Rattle.std.specs.Prelude.{◌≡◌, ◌<◌, ◌^◌, ℕ, List, true, is_some, length, map, IfOk, option_map};
 ghost use Rattle.std.specs.Prelude.{option_copied, option_and_then, IfSome};
-ghost use Rattle.std.specs.Ordering.{nat_cmp};
-ghost use Rattle.std.specs.BTreeMap.{get};
 ghost use Rattle.prof_bytes.specs.Outcome.{Gives};
 ghost use Rattle.dwarf_forms.specs.declared.value.FormFault.TheVariants.{Short};
 ghost use Rattle.dwarf_forms.specs.Abbreviations.{table_at};
@@ -13,7 +11,7 @@ ghost use Rattle.dwarf_info.specs.Units.{unit_of, or_none, debug_info_of};
 ghost use Rattle.dwarf_info.specs.Queries.{unit_entry, attribute_value, attribute_text, attribute_entry};
 ghost use Rattle.dwarf_info.specs.Queries.{attribute_number, name_of, link_of, call_of};
 ghost use Rattle.dwarf_info.specs.Ranges.{attribute_ranges, low_pc_of, low_high_of, one_or_none, ranges_of};
-ghost use Rattle.dwarf_info.specs.private.Tables.{AreTables};
+ghost use Rattle.dwarf_info.specs.private.Tables.{table_in, AreTables};
 
 use crate::attributes::{address_value, small_value, text_value};
 use crate::constants::{
@@ -25,30 +23,30 @@ use crate::fault::InfoFault;
 use crate::indices::referred;
 use crate::pairs::Ranges;
 use crate::ranges::{high_value, list_value, ranges_at};
+use crate::tables::Tables;
 use crate::units::{read_units, value_at};
-use dwarf_forms::{Abbrevs, Value};
+use dwarf_forms::Value;
 use elf_image::DebugParts;
 use prof_bytes::{Fail, Memory};
 use std::alloc::Global;
-use std::collections::BTreeMap;
 use std::marker::Model;
 
 /// The first value of an attribute of the entry at an offset of a unit.
 fn tabled_value<'a>(
     info: &'a [u8],
-    tables: &BTreeMap<u32, Abbrevs>,
+    tables: &Tables,
     bases: UnitBases,
     offset: u32,
     attribute: u64,
 ) -> Option<Value<'a>>
     ensures { (section : List ℕ) → AreTables section tables.now
-        → is_some (get nat_cmp tables.now bases.header.debug_abbrev_offset) ≡ true
+        → is_some (table_in tables.now bases.header.debug_abbrev_offset) ≡ true
         → option_map form_value result ≡ value_of attribute
         (entry_values (or_none (table_at section bases.header.debug_abbrev_offset))
         (up_to bases.header.end info.now offset Short)) }
 {
-    match tables.get(&bases.header.debug_abbrev_offset) {
-        Some(table) => value_at(info, table, bases.header.end, offset, attribute),
+    match tables.get(bases.header.debug_abbrev_offset) {
+        Some(table) => value_at(info, &table, bases.header.end, offset, attribute),
         None => None,
     }
 }
@@ -60,7 +58,7 @@ pub struct Info<'a> {
     units: Vec<Unit>,
     bases: Vec<UnitBases>,
     entries: Vec<InfoEntry>,
-    tables: BTreeMap<u32, Abbrevs>,
+    tables: Tables,
 }
 
 impl<'a> Model for Info<'a> {
@@ -260,7 +258,7 @@ pub fn read_info<'a>(alloc: Global, sections: DebugParts<'a>) -> Result<Info<'a>
     requires lists { length sections.rnglists.now < 2 ^ 31 }
     ensures { Gives (λ info. info) result (debug_info_of (sections_of sections.entry)) }
 {
-    let mut tables = BTreeMap::new(alloc);
+    let mut tables = Tables::new(alloc);
     let mut entries = Vec::new(alloc);
     let bases = read_units(alloc, &sections, &mut tables, &mut entries)?;
     let units = shown_units(alloc, bases.as_slice())?;

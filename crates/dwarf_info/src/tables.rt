@@ -1,33 +1,127 @@
-//! The abbreviation tables that units name, each read once.
-ghost use Rattle.std.specs.Prelude.{◌≡◌, IfOk, IfErr, is_some, true};
+//! The abbreviation tables that units name.
+ghost use Rattle.std.specs.Prelude.{◌≡◌, ◌==◌, ℕ, List, IfOk, IfErr, OnOk, IfSome, is_some, true, Some, None, Ok};
+ghost use Rattle.std.specs.Prelude.{if◌then◌else◌};
 ghost use Rattle.std.specs.Ordering.{nat_cmp};
 ghost use Rattle.std.specs.BTreeMap.{get};
 ghost use Rattle.prof_bytes.specs.Outcome.{FailsBy};
 ghost use Rattle.dwarf_forms.specs.Abbreviations.{table_at};
-ghost use Rattle.dwarf_info.specs.private.Tables.{AreTables, KeepTables};
+ghost use Rattle.dwarf_info.specs.private.Tables.{table_in, IsSuffix, AreTables, KeepTables};
 
-use dwarf_forms::{Abbrevs, BadTable, read_abbrevs};
-use prof_bytes::Fail;
+use dwarf_forms::{Abbrevs, BadTable, Declarations, read_abbrevs};
+use prof_bytes::{Fail, Memory};
 use std::alloc::Global;
 use std::collections::BTreeMap;
 
-/// Reads the table at an offset, unless it is there already.
-pub(crate) fn know_table(
-    alloc: Global,
-    tables: &mut BTreeMap<u32, Abbrevs>,
-    section: &[u8],
+/// A table that is the end of one that was read.
+#[derive(Clone, Copy, Drop)]
+pub(crate) struct Suffix {
+    /// The index of the one that was read.
+    pub(crate) table: usize,
+    /// The index of its first declaration there.
+    pub(crate) from: usize,
+}
+
+/// The abbreviation tables that units name, by their offsets. One that is the end of another isn't read again.
+#[derive(Drop)]
+pub(crate) struct Tables {
+    read: Vec<Abbrevs>,
+    suffixes: BTreeMap<u32, Suffix>,
+}
+
+/// The nearest offset of a table up to another one.
+fn nearest(suffixes: &BTreeMap<u32, Suffix>, offset: u32) -> Option<u32> {
+    let (start, _) = suffixes.range(..=offset).next_back()?;
+    Some(*start)
+}
+
+fn add_suffix(
+    suffixes: &mut BTreeMap<u32, Suffix>,
     offset: u32,
-) -> Result<(), Fail<BadTable>>
-    requires { AreTables section.now tables.old }
-    ensures are { IfOk result (λ _. AreTables section.now tables.new) }
-    ensures keep { IfOk result (λ _. KeepTables tables.old tables.new) }
-    ensures has { IfOk result (λ _. is_some (get nat_cmp tables.new offset) ≡ true) }
-    ensures bad { IfErr result (λ fail. FailsBy fail (table_at section.now offset)) }
+    suffix: Suffix,
+) -> Result<(), Memory>
+    ensures { OnOk result ((q : ℕ) → get nat_cmp suffixes.new q
+        ≡ (if offset == q then Some suffix else get nat_cmp suffixes.old q)) }
 {
-    if tables.contains_key(&offset) {
-        return Ok(());
-    }
-    let table = read_abbrevs(alloc, section, offset)?;
-    tables.insert(offset, table)?;
+    suffixes.insert(offset, suffix)?;
     Ok(())
+}
+
+impl Tables {
+    /// No tables.
+    pub(crate) fn new(alloc: Global) -> Tables
+        ensures { (section : List ℕ) → AreTables section result }
+    {
+        Tables {
+            read: Vec::new(alloc),
+            suffixes: BTreeMap::new(alloc),
+        }
+    }
+
+    /// The table at an offset, if it is known.
+    pub(crate) fn get(&self, offset: u32) -> Option<Declarations<'_>>
+        ensures { result ≡ table_in self.now offset }
+    {
+        let suffix = self.suffixes.get(&offset)?;
+        let table = self.read.get(suffix.table)?;
+        Some(table.from_index(suffix.from))
+    }
+
+    /// The table at an offset, if it is the end of the nearest one before it.
+    fn suffix_near(&self, offset: u32) -> Option<Suffix>
+        ensures { (section : List ℕ) → AreTables section self.now
+            → IfSome result (λ suffix. IsSuffix section self.now.read.items suffix offset) }
+    {
+        let start = nearest(&self.suffixes, offset)?;
+        let suffix = self.suffixes.get(&start)?;
+        let table = self.get(start)?;
+        let index = table.index_at(offset)?;
+        let from = suffix.from.checked_add(index)?;
+        Some(Suffix {
+            table: suffix.table,
+            from,
+        })
+    }
+
+    /// Reads the table at an offset and keeps it.
+    fn add_read(&mut self, alloc: Global, section: &[u8], offset: u32) -> Result<(), Fail<BadTable>>
+        requires { AreTables section.now self.old }
+        ensures are { IfOk result (λ _. AreTables section.now self.new) }
+        ensures keep { IfOk result (λ _. KeepTables self.old self.new) }
+        ensures has { IfOk result (λ _. is_some (table_in self.new offset) ≡ true) }
+        ensures bad { IfErr result (λ fail. FailsBy fail (table_at section.now offset)) }
+    {
+        let table = read_abbrevs(alloc, section, offset)?;
+        let suffix = Suffix {
+            table: self.read.len(),
+            from: 0,
+        };
+        self.read.push(table)?;
+        add_suffix(&mut self.suffixes, offset, suffix)?;
+        Ok(())
+    }
+
+    /// Makes the table at an offset known: it is read, unless it is known already or the end of one that is.
+    pub(crate) fn know(
+        &mut self,
+        alloc: Global,
+        section: &[u8],
+        offset: u32,
+    ) -> Result<(), Fail<BadTable>>
+        requires { AreTables section.now self.old }
+        ensures are { IfOk result (λ _. AreTables section.now self.new) }
+        ensures keep { IfOk result (λ _. KeepTables self.old self.new) }
+        ensures has { IfOk result (λ _. is_some (table_in self.new offset) ≡ true) }
+        ensures bad { IfErr result (λ fail. FailsBy fail (table_at section.now offset)) }
+    {
+        if self.get(offset).is_some() {
+            return Ok(());
+        }
+        match self.suffix_near(offset) {
+            Some(suffix) => {
+                add_suffix(&mut self.suffixes, offset, suffix)?;
+                Ok(())
+            }
+            None => self.add_read(alloc, section, offset),
+        }
+    }
 }

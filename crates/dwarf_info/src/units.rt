@@ -2,8 +2,6 @@
 ghost use Rattle.std.specs.Prelude.{◌≡◌, ◌+◌, ◌<◌, ◌≤◌, ◌++◌, ◌∷◌, [], ◌^◌, IfOk, IfSome, true, option_map, slice_get};
 ghost use Rattle.std.specs.Prelude.{option_and_then, is_some, length, option_to_list, List, Result, Ok, Some};
 ghost use Rattle.std.specs.List.{flat_map};
-ghost use Rattle.std.specs.Ordering.{nat_cmp};
-ghost use Rattle.std.specs.BTreeMap.{get};
 ghost use Rattle.prof_bytes.specs.Outcome.{Gives, FailsBy};
 ghost use Rattle.prof_bytes.specs.Reading.{left_of};
 ghost use Rattle.dwarf_forms.specs.declared.declaration.Abbrev.{Abbrev};
@@ -17,7 +15,7 @@ ghost use Rattle.dwarf_info.specs.Values.{value_of, entry_values};
 ghost use Rattle.dwarf_info.specs.Attributes.{address_value};
 ghost use Rattle.dwarf_info.specs.Units.{first_values, section_offset, unit_bases, body_of, failing_as, read_unit};
 ghost use Rattle.dwarf_info.specs.Units.{unit_from, units_of, entries_in};
-ghost use Rattle.dwarf_info.specs.private.Tables.{AreTables, KeepTables, HaveTables};
+ghost use Rattle.dwarf_info.specs.private.Tables.{table_in, AreTables, KeepTables, HaveTables};
 
 use crate::attributes::{address_value, front, section_value};
 use crate::constants::{
@@ -26,20 +24,19 @@ use crate::constants::{
 use crate::entries::{push_some, read_entries};
 use crate::entry::{InfoEntry, UnitBases};
 use crate::fault::InfoFault;
-use crate::tables::know_table;
+use crate::tables::Tables;
 use crate::unit_header::{UnitHeader, offset_of, read_header};
 use crate::values::entry_value;
-use dwarf_forms::{Abbrevs, BadTable, FormFault, Value, reader_at};
+use dwarf_forms::{BadTable, Declarations, FormFault, Value, reader_at};
 use elf_image::DebugParts;
 use prof_bytes::{Fail, Reader};
 use std::alloc::Global;
-use std::collections::BTreeMap;
 
 /// The first value of an attribute of the entry at an offset, in a unit that ends at `end`.
 #[tactic(auto, using(crate::proofs::Past::no_value_past))]
 pub(crate) fn value_at<'a>(
     info: &'a [u8],
-    table: &Abbrevs,
+    table: &Declarations<'_>,
     end: u32,
     offset: u32,
     attribute: u64,
@@ -55,7 +52,7 @@ pub(crate) fn value_at<'a>(
 #[derive(Clone, Copy)]
 struct First<'i, 'a> {
     sections: &'i DebugParts<'a>,
-    table: &'i Abbrevs,
+    table: &'i Declarations<'i>,
     end: u32,
     offset: Option<u32>,
 }
@@ -130,7 +127,7 @@ fn first_offset(entries: &[InfoEntry], from: usize) -> Option<u32>
 #[tactic(auto, unfolding(crate::specs::Units::read_unit))]
 fn read_body<'a>(
     sections: &DebugParts<'a>,
-    table: &Abbrevs,
+    table: &Declarations<'_>,
     unit: (u32, UnitHeader),
     body: &mut Reader<'a, InfoFault>,
     entries: &mut Vec<InfoEntry>,
@@ -163,7 +160,7 @@ fn read_headed<'a>(
     sections: &DebugParts<'a>,
     unit: (u32, UnitHeader),
     body: &mut Reader<'a, InfoFault>,
-    tables: &mut BTreeMap<u32, Abbrevs>,
+    tables: &mut Tables,
     entries: &mut Vec<InfoEntry>,
 ) -> Result<UnitBases, Fail<InfoFault>>
     requires small { length sections.now.info.now < 2 ^ 31 }
@@ -176,15 +173,15 @@ fn read_headed<'a>(
         ≤ length entries.old.items + length (left_of body.old.at)) }
     ensures are { IfOk result (λ _. AreTables sections.now.«abbrev».now tables.new) }
     ensures keep { IfOk result (λ _. KeepTables tables.old tables.new) }
-    ensures has { IfOk result (λ u. is_some (get nat_cmp tables.new u.header.debug_abbrev_offset) ≡ true) }
+    ensures has { IfOk result (λ u. is_some (table_in tables.new u.header.debug_abbrev_offset) ≡ true) }
 {
     let header = unit.1;
-    match know_table(alloc, tables, sections.abbrev, header.debug_abbrev_offset) {
+    match tables.know(alloc, sections.abbrev, header.debug_abbrev_offset) {
         Ok(()) => {}
         Err(fail) => return Err(table_fault(fail, header.offset)),
     }
-    let table = &tables[&header.debug_abbrev_offset];
-    read_body(sections, table, unit, body, entries)
+    let table = tables.get(header.debug_abbrev_offset).unwrap();
+    read_body(sections, &table, unit, body, entries)
 }
 
 /// The unit that begins here, `None` where it is passed over, and the index of the next one.
@@ -194,7 +191,7 @@ fn read_unit<'a>(
     sections: &DebugParts<'a>,
     index: u32,
     reader: &mut Reader<'a, InfoFault>,
-    tables: &mut BTreeMap<u32, Abbrevs>,
+    tables: &mut Tables,
     entries: &mut Vec<InfoEntry>,
 ) -> Result<(Option<UnitBases>, u32), Fail<InfoFault>>
     requires small { length sections.now.info.now < 2 ^ 31 }
@@ -211,7 +208,7 @@ fn read_unit<'a>(
     ensures are { IfOk result (λ _. AreTables sections.now.«abbrev».now tables.new) }
     ensures keep { IfOk result (λ _. KeepTables tables.old tables.new) }
     ensures has { IfOk result (λ r. IfSome r.0
-        (λ u. is_some (get nat_cmp tables.new u.header.debug_abbrev_offset) ≡ true)) }
+        (λ u. is_some (table_in tables.new u.header.debug_abbrev_offset) ≡ true)) }
     ensures whole { IfOk result (λ _. reader.new.at.whole ≡ reader.old.at.whole) }
 {
     let offset = offset_of(reader);
@@ -231,7 +228,7 @@ fn read_unit<'a>(
 pub(crate) fn read_units(
     alloc: Global,
     sections: &DebugParts<'_>,
-    tables: &mut BTreeMap<u32, Abbrevs>,
+    tables: &mut Tables,
     entries: &mut Vec<InfoEntry>,
 ) -> Result<Vec<UnitBases>, Fail<InfoFault>>
     requires small { length sections.now.info.now < 2 ^ 31 }

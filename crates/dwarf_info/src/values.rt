@@ -1,5 +1,5 @@
 //! The values of one entry (DWARF 5, section 7.5.3).
-ghost use Rattle.std.specs.Prelude.{◌≡◌, IfOk, find, option_map};
+ghost use Rattle.std.specs.Prelude.{◌≡◌, ◌==◌, IfOk, find, option_copied, option_map};
 ghost use Rattle.prof_bytes.specs.Outcome.{GivesAt};
 ghost use Rattle.prof_bytes.specs.Fields.{bytes_from};
 ghost use Rattle.dwarf_forms.specs.Sizes.{passed_by};
@@ -7,7 +7,7 @@ ghost use Rattle.dwarf_forms.specs.Values.{form_value, value_from};
 ghost use Rattle.dwarf_info.specs.Values.{passed_from, values_from, value_of, declaration_of, entry_values};
 
 use crate::fault::InfoFault;
-use dwarf_forms::{Abbrevs, FormFault, Spec, Specs, Value, read_form};
+use dwarf_forms::{Declarations, FormFault, Spec, Specs, Value, read_form};
 use prof_bytes::Reader;
 
 fn one_value<'a, F: Copy>(
@@ -65,6 +65,13 @@ pub(crate) fn pass_values(
     }
 }
 
+/// The first of these attributes that has a code.
+fn spec_of(specs: &[Spec], attribute: u64) -> Option<&Spec>
+    ensures { option_copied result ≡ find (λ spec. spec.attribute == attribute) specs.now }
+{
+    specs.iter().find(|spec| spec.attribute == attribute)
+}
+
 /// The first value of an attribute among those of a declaration.
 fn value_by<'a>(
     reader: &mut Reader<'a, FormFault>,
@@ -84,10 +91,25 @@ fn value_by<'a>(
     None
 }
 
+/// The same; where the attribute is not declared, no value is read.
+#[tactic(auto, using(crate::proofs::OneValue::not_declared))]
+fn declared_value<'a>(
+    reader: &mut Reader<'a, FormFault>,
+    specs: &[Spec],
+    attribute: u64,
+) -> Option<Value<'a>>
+    ensures { option_map form_value result ≡ value_of attribute (values_from specs.now reader.old) }
+{
+    match spec_of(specs, attribute) {
+        Some(_) => value_by(reader, specs, attribute),
+        None => None,
+    }
+}
+
 /// The first value of an attribute of the entry that begins here.
 pub(crate) fn entry_value<'a>(
     reader: &mut Reader<'a, FormFault>,
-    table: &Abbrevs,
+    table: &Declarations<'_>,
     attribute: u64,
 ) -> Option<Value<'a>>
     ensures { option_map form_value result ≡ value_of attribute (entry_values table.now reader.old) }
@@ -96,7 +118,7 @@ pub(crate) fn entry_value<'a>(
         return None;
     };
     match table.find(code) {
-        Some(declared) => value_by(reader, declared.specs.as_slice(), attribute),
+        Some(declared) => declared_value(reader, declared.specs.as_slice(), attribute),
         None => None,
     }
 }

@@ -84,8 +84,8 @@ impl<'a> Structure<'a> {
     }
 }
 
-/// The structure of a program by its debug information, or the first fault in section order. Linear in the entries and in
-/// the ranges of the items, and n log n in the items.
+/// The structure of a program by its debug information, or the first fault in section order. Linear in the entries and
+/// in the ranges of the items, and n log n in the items.
 #[tactic(auto, unfolding(crate::specs::Structure::structure_of))]
 pub fn read_structure<'a>(
     alloc: Global,

@@ -24,3 +24,4 @@ pub use elf::{PF_R, PF_W, PF_X, number_laws};
 pub use fault::{ElfFault, ElfRule};
 pub use image::{Image, read_image};
 pub use part::{Function, Segment};
+pub use program::STACKS_BEGIN;

@@ -17,8 +17,8 @@ use address_ranges::{AddressRange, RangeTable};
 use prof_bytes::{Fail, Memory};
 use std::alloc::Global;
 
-/// Where the addresses for stacks begin.
-const STACKS_BEGIN: u64 = 0xf000_0000;
+/// The lowest address of the stacks. No segment of a program reaches above it.
+pub const STACKS_BEGIN: u32 = 0xf000_0000;
 
 fn is_load(header: &ProgramHeader) -> bool
     ensures { result ≡ is_load header.now }
@@ -63,7 +63,7 @@ fn too_high(headers: &[ProgramHeader]) -> Option<u32>
 {
     headers
         .iter()
-        .find(|h| STACKS_BEGIN < u64::from(h.p_vaddr) + u64::from(h.p_memsz))
+        .find(|h| u64::from(STACKS_BEGIN) < u64::from(h.p_vaddr) + u64::from(h.p_memsz))
         .map(|h| h.offset)
 }
 

@@ -183,7 +183,8 @@ pub(crate) fn read_functions<'a>(
     requires headers { headers.now ≡ section_headers file.now }
     requires checked { sections_of file.now ≡ Ok tt }
     ensures fit { IfOk result (λ all. All (λ f. f.start + f.size < 2 ^ 32) (map symbol_view all)) }
-    ensures functions { Gives (λ all. map symbol_view all) result (after (symbols_in file.now (symbol_table file.now)) (functions file.now)) }
+    ensures functions { Gives (λ all. map symbol_view all) result
+        (after (symbols_in file.now (symbol_table file.now)) (functions file.now)) }
 {
     match symbol_table(file, headers) {
         Some(table) => {

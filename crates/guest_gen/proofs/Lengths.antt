@@ -5,7 +5,8 @@ use Rattle.std.proofs.lemmas.List.{length-append}
 use Rattle.std.proofs.lemmas.Fmt.{length-decimal-le}
 use Rattle.std.proofs.lemmas.List.FromFn.{length-range_with_len}
 use Rattle.std.specs.Fmt.{digits}
-use Rattle.guest_gen.specs.Code.{word, code, function_bytes, functions_bytes, start_words}
+use Rattle.guest_gen.specs.Code.{code, function_bytes, functions_bytes, start_words}
+use Rattle.prof_bytes.specs.Number.{word}
 use Rattle.guest_gen.specs.declared.file.Sizes.{Sizes}
 use Rattle.guest_gen.specs.declared.file.SectionHeader.{SectionHeader}
 use Rattle.guest_gen.specs.Draws.{draw, state_after}

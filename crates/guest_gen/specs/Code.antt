@@ -1,15 +1,9 @@
 -- The code of a guest: words of RV32I (RISC-V unprivileged manual, chapters "RV32I" and "Instruction set listings").
 use Rattle.std.specs.Prelude.{ℕ, ◌+◌, ◌-◌, ◌*◌, ◌/◌, ◌%◌, ◌^◌, nat_lt, List, [], ◌∷◌, ◌++◌, if◌then◌else◌}
 use Rattle.std.specs.List.{flat_map, range_with_len}
-use Rattle.prof_bytes.specs.Number.{number_bytes}
+use Rattle.prof_bytes.specs.Number.{words}
 use Rattle.guest_gen.specs.declared.code.Function.{Function}
 use Rattle.guest_gen.specs.Draws.{draw, state_after}
-
-abbrev pub word : ℕ → List ℕ
-word n = number_bytes 4 n
-
-abbrev pub words : List ℕ → List ℕ
-words ns = flat_map word ns
 
 -- how many functions there are
 abbrev pub functions : ℕ
@@ -66,11 +60,11 @@ function_words i f = 0xff010113 ∷ 0x00112623 ∷ 0x00812423 ∷ (0x00000413 + 
 
 -- a function, which draws behind those before it
 unfoldable pub function_bytes : ℕ → ℕ → List ℕ
-function_bytes s i = flat_map word (function_words i (function_of (state_after (3 * i) s) i))
+function_bytes s i = words (function_words i (function_of (state_after (3 * i) s) i))
 
 -- so many functions
 unfoldable pub functions_bytes : ℕ → ℕ → List ℕ
 functions_bytes s count = flat_map (function_bytes s) (range_with_len 0 count)
 
 abbrev pub code : ℕ → List ℕ
-code s = flat_map word start_words ++ functions_bytes s functions
+code s = words start_words ++ functions_bytes s functions

@@ -1,14 +1,14 @@
 -- The file of a guest: ELF32 (System V ABI, chapters 4 and 5; RISC-V ELF psABI).
 use Rattle.std.specs.Prelude.{ℕ, ◌+◌, ◌*◌, List, [], ◌∷◌, ◌++◌, length, map, take, replicate, sum_by, codes, decimal}
 use Rattle.std.specs.List.{flat_map, range_with_len}
-use Rattle.prof_bytes.specs.Number.{number_bytes}
+use Rattle.prof_bytes.specs.Number.{number_bytes, words}
 use Rattle.guest_gen.specs.declared.elf.TheConstants.{ELFMAG0, ELFCLASS32, ELFDATA2LSB, EV_CURRENT, ET_EXEC, EM_RISCV}
 use Rattle.guest_gen.specs.declared.elf.TheConstants.{ELF32_EHDR_SIZE, ELF32_PHDR_SIZE, ELF32_SHDR_SIZE, PT_LOAD}
 use Rattle.guest_gen.specs.declared.elf.TheConstants.{ELF32_SYM_SIZE, PF_R, PF_X, SHN_ABS, SHT_PROGBITS, SHT_STRTAB}
 use Rattle.guest_gen.specs.declared.elf.TheConstants.{SHT_SYMTAB, STB_GLOBAL, STT_FUNC}
 use Rattle.guest_gen.specs.declared.file.Sizes.{Sizes}
 use Rattle.guest_gen.specs.declared.file.SectionHeader.{SectionHeader}
-use Rattle.guest_gen.specs.Code.{words, entry, functions, function_size, function_start}
+use Rattle.guest_gen.specs.Code.{entry, functions, function_size, function_start}
 use Rattle.guest_gen.specs.Frames.{debug_frame}
 
 abbrev pub half : ℕ → List ℕ

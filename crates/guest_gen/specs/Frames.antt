@@ -1,7 +1,8 @@
 -- The call frame information of a guest (DWARF 5, section 6.4, and the RISC-V psABI).
 use Rattle.std.specs.Prelude.{ℕ, List, [], ◌∷◌, ◌++◌}
 use Rattle.std.specs.List.{flat_map, range_with_len}
-use Rattle.guest_gen.specs.Code.{word, functions, function_size, function_start}
+use Rattle.guest_gen.specs.Code.{functions, function_size, function_start}
+use Rattle.prof_bytes.specs.Number.{word, words}
 
 -- version 3, no augmentation, code alignment 1, data alignment -4, return address in x1; DW_CFA_def_cfa x2, 0
 abbrev pub cie : List ℕ
@@ -17,7 +18,7 @@ frame_instructions = 0x44 ∷ 0x0e ∷ 0x10 ∷ 0x44 ∷ 0x81 ∷ 0x01 ∷ 0x44 
 
 -- the FDE of a function
 unfoldable pub fde : ℕ → List ℕ
-fde i = flat_map word (28 ∷ 0 ∷ function_start i ∷ function_size ∷ []) ++ frame_instructions
+fde i = words (28 ∷ 0 ∷ function_start i ∷ function_size ∷ []) ++ frame_instructions
 
 unfoldable pub fdes : ℕ → List ℕ
 fdes count = flat_map fde (range_with_len 0 count)

@@ -9,12 +9,12 @@ use Rattle.guest_gen.specs.File.{file_of}
 -- ---- the schedule: which hart runs, and for how many instructions
 
 -- a slice, by two draws
-abbrev pub line_of : ℕ → List ℕ
-line_of s = decimal (draw s 0 % 4) ++ codes " " ++ decimal (1 + draw s 1 % 997) ++ codes "\n"
+abbrev pub drawn_line : ℕ → List ℕ
+drawn_line s = decimal (draw s 0 % 4) ++ codes " " ++ decimal (1 + draw s 1 % 997) ++ codes "\n"
 
 -- a slice, which draws behind those before it
 unfoldable pub slice_line : ℕ → ℕ → List ℕ
-slice_line s j = line_of (state_after (2 * j) s)
+slice_line s j = drawn_line (state_after (2 * j) s)
 
 -- so many slices
 unfoldable pub slice_lines : ℕ → ℕ → List ℕ

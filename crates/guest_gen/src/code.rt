@@ -3,12 +3,12 @@ ghost use Rattle.std.specs.Prelude.{◌≡◌, ◌<◌, ◌≤◌, ◌+◌, ◌*
 ghost use Rattle.std.specs.List.{flat_map};
 ghost use Rattle.guest_gen.specs.Draws.{state_after};
 ghost use Rattle.guest_gen.specs.Code.{call_of, code, function_bytes, functions_bytes, function_of, function_start};
-ghost use Rattle.guest_gen.specs.Code.{function_words, jal, start_words, word, words};
+ghost use Rattle.guest_gen.specs.Code.{function_words, jal, start_words};
+ghost use Rattle.prof_bytes.specs.Number.{word, words};
 ghost use Rattle.guest_gen.specs.private.Fits.{IsFurther};
 
 use crate::draws::Draws;
-use crate::put::put_words;
-use prof_bytes::Memory;
+use prof_bytes::{Memory, put_words};
 use std::alloc::Global;
 
 /// How many functions there are.

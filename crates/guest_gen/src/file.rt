@@ -14,9 +14,9 @@ use crate::elf::{
     SHT_SYMTAB,
 };
 use crate::frames::debug_frame;
-use crate::put::{put_halves, put_words};
+use crate::put::put_halves;
 use crate::symbols::{strtab, symtab};
-use prof_bytes::{Memory, Text};
+use prof_bytes::{Memory, Text, put_words};
 use std::alloc::Global;
 
 /// The sizes in bytes of the code and of the sections, in their order.

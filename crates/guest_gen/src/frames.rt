@@ -3,8 +3,7 @@ ghost use Rattle.std.specs.Prelude.{◌≡◌, ◌<◌, ◌≤◌, ◌++◌, IfO
 ghost use Rattle.guest_gen.specs.Frames.{cie, debug_frame, fde, fdes, frame_instructions};
 
 use crate::code::{FUNCTION_SIZE, FUNCTIONS, function_start};
-use crate::put::put_words;
-use prof_bytes::Memory;
+use prof_bytes::{Memory, put_words};
 use std::alloc::Global;
 
 /// The CIE.

@@ -3,7 +3,7 @@ ghost use Rattle.std.specs.Prelude.{◌≡◌, ◌<◌, ◌≤◌, ◌*◌, ◌+
 ghost use Rattle.guest_gen.specs.Draws.{state_after};
 ghost use Rattle.guest_gen.specs.Code.{code, functions};
 ghost use Rattle.guest_gen.specs.File.{file_of};
-ghost use Rattle.guest_gen.specs.Guest.{guest_of, guest_schedule, line_of, slice_lines, slices};
+ghost use Rattle.guest_gen.specs.Guest.{guest_of, guest_schedule, drawn_line, slice_lines, slices};
 
 use crate::code::code;
 use crate::draws::Draws;
@@ -28,7 +28,7 @@ const SLICES: u32 = 4000;
 /// A slice: a hart and a number of instructions.
 #[tactic(auto, unfolding(crate::specs::Draws::state_after))]
 fn put_slice(out: &mut Vec<u8>, draws: &mut Draws) -> Result<(), Memory>
-    ensures line { OnOk result (out.new.items ≡ out.old.items ++ line_of draws.old.state) }
+    ensures line { OnOk result (out.new.items ≡ out.old.items ++ drawn_line draws.old.state) }
     ensures state { OnOk result (draws.new.state ≡ state_after 2 draws.old.state) }
 {
     let hart = draws.draw() % 4;

@@ -1,21 +1,10 @@
 //! What is appended to bytes. Each call's bytes are whole where it succeeds.
 ghost use Rattle.std.specs.Prelude.{◌≡◌, ◌++◌, decimal, OnOk};
-ghost use Rattle.std.specs.List.{flat_map};
-ghost use Rattle.guest_gen.specs.Code.{words};
 ghost use Rattle.guest_gen.specs.File.{half, halves};
 
 use byteorder::{ByteOrder, LittleEndian};
 use itoa::Buffer;
-use prof_bytes::{Memory, put_u32};
-
-pub(crate) fn put_words(out: &mut Vec<u8>, numbers: &[u32]) -> Result<(), Memory>
-    ensures { OnOk result (out.new.items ≡ out.old.items ++ words numbers.now) }
-{
-    for number in numbers {
-        put_u32(out, *number)?;
-    }
-    Ok(())
-}
+use prof_bytes::Memory;
 
 pub(crate) fn put_half(out: &mut Vec<u8>, number: u16) -> Result<(), Memory>
     ensures { OnOk result (out.new.items ≡ out.old.items ++ half number) }

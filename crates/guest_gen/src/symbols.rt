@@ -5,8 +5,8 @@ ghost use Rattle.guest_gen.specs.private.Names.{function_names, function_symbols
 
 use crate::code::{ENTRY, FUNCTION_SIZE, FUNCTIONS, function_start};
 use crate::elf::{SHN_ABS, STB_GLOBAL, STT_FUNC};
-use crate::put::{put_decimal, put_half, put_words};
-use prof_bytes::Memory;
+use crate::put::{put_decimal, put_half};
+use prof_bytes::{Memory, put_words};
 use std::alloc::Global;
 
 /// A global function's symbol.

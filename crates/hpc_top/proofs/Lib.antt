@@ -11,3 +11,4 @@ pub mod Measuring
 pub mod Addresses
 pub mod Scheduled
 pub mod Apart
+pub mod Tables

@@ -15,7 +15,7 @@ use Rattle.elf_image.specs.Headers.{symbol_table}
 use Rattle.rv_run.specs.declared.schedule.Slice.{Slice}
 use Rattle.rv_run.specs.declared.schedule.ScheduleFault.{ScheduleFault}
 use Rattle.rv_run.specs.Numerals.{decimal_in, decimal_value, is_decimal}
-use Rattle.rv_run.specs.Schedule.{NumberedLine, Scheduled, before, entries, harts_in, harts_word, lines, most_harts, most_instructions, numbered, or_fault, schedule_in, schedule_of, slice_by, slice_cut, slice_in, slices_of}
+use Rattle.rv_run.specs.Schedule.{NumberedLine, Scheduled, slices_before, entries, harts_in, harts_word, lines, most_harts, most_instructions, numbered, or_fault, schedule_in, schedule_of, slice_by, slice_cut, slice_in, slices_of}
 use Rattle.hpc_top.specs.Program.{program, program_from, scheduled, scheduled_from}
 use Rattle.hpc_top.proofs.Fetching.{bind_ok}
 
@@ -77,7 +77,7 @@ slices_own : (harts used : ℕ) (all : List NumberedLine) (slices : List Slice) 
 unfolding slices_of
 slices_own harts used [] slices some is = subst (AllByRecursion (λ (slice : Slice). slice.hart < harts)) (ok_same [] slices is) tt
 slices_own harts used (line ∷ rest) slices some is =
-    let b = bind_ok (or_fault line.number (slice_in harts used line.bytes)) (λ slice. before (slice ∷ []) (slices_of harts (used + slice.count) rest)) slices is in
+    let b = bind_ok (or_fault line.number (slice_in harts used line.bytes)) (λ slice. slices_before (slice ∷ []) (slices_of harts (used + slice.count) rest)) slices is in
     let c = bind_ok (slices_of harts (used + b.0.count) rest) (λ more. Ok ((b.0 ∷ []) ++ more)) slices b.2 in
     subst (AllByRecursion (λ (slice : Slice). slice.hart < harts)) (ok_same (b.0 ∷ c.0) slices c.2)
     (slice_own harts used line.bytes (position (λ byte. byte == 32) line.bytes) b.0 some (fault_ok line.number (slice_in harts used line.bytes) b.0 b.1), slices_own harts (used + b.0.count) rest c.0 some c.1)

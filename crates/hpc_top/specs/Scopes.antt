@@ -1,5 +1,5 @@
--- What is known of a program's code: its structure by debug information, its line tables and its function symbols; or the
--- first fault of its debug information.
+-- What is known of a program's code: its structure by debug information, its line tables and its function symbols; or
+-- the first fault of its debug information.
 use Rattle.std.specs.Prelude.{ℕ, List, map, filter_map, Result, Ok, Err, codes}
 use Rattle.std.specs.Ordering.{nat_cmp}
 use Rattle.prof_bytes.specs.Outcome.{◌>>=◌}
@@ -53,7 +53,8 @@ lines_from (Err fault) = Err (Lines fault.offset)
 -- the line tables at these offsets
 abbrev pub line_tables : ProgramImage → List ℕ → Result LineTables InputFault
 line_tables image offsets =
-    lines_from (lines_at (bytes_of_name image.sections (codes ".debug_line")) (debug_texts image) image.segments offsets)
+    lines_from (lines_at (bytes_of_name image.sections (codes ".debug_line")) (debug_texts image) image.segments
+    offsets)
 
 abbrev pub structure_from : Result ProgramStructure StructureFault → Result ProgramStructure InputFault
 structure_from (Ok structure) = Ok structure

@@ -2,7 +2,7 @@
 ghost use Rattle.std.specs.Prelude.{◌≡◌, ◌≤◌, ◌++◌, decimal, fold, IfOk, IsTrue, length, OnOk};
 ghost use Rattle.guest_gen.specs.Guest.{guest_of};
 ghost use Rattle.prof_bytes.specs.Outcome.{Gives};
-ghost use Rattle.scope_types.specs.Key.{fnv, fnv_step};
+ghost use Rattle.scope_types.specs.Key.{fnv};
 ghost use Rattle.hpc_top.specs.Drill.{database_line, drill_lines, drill_product, drilled, nodes_line, number_line};
 ghost use Rattle.hpc_top.specs.Drill.{totals_line};
 ghost use Rattle.hpc_top.specs.Job.{IsJob};
@@ -18,6 +18,7 @@ use guest_gen::guest;
 use itoa::Buffer;
 use merge_crew::Crews;
 use prof_bytes::{Fail, Memory, Text};
+use scope_types::{FNV_BASIS, fnv_step};
 use std::alloc::Global;
 use std::thread::Threads;
 use tree_types::counts_decide;
@@ -25,24 +26,13 @@ use view_tables::put_address;
 
 // ---- the fold
 
-/// Where the hash begins, and what each step multiplies by.
-const OFFSET_BASIS: u32 = 2_166_136_261;
-
-const PRIME: u32 = 16_777_619;
-
-fn with_byte(key: u32, byte: u8) -> u32
-    ensures { result ≡ fnv_step key byte }
-{
-    (key ^ u32::from(byte)).wrapping_mul(PRIME)
-}
-
 /// The FNV-1a hash of 32 bits.
 fn fold_of(bytes: &[u8]) -> u32
     ensures { result ≡ fnv bytes.now }
 {
     bytes
         .iter()
-        .fold(OFFSET_BASIS, |key, byte| with_byte(key, *byte))
+        .fold(FNV_BASIS, |key, byte| fnv_step(key, u32::from(*byte)))
 }
 
 // ---- the lines

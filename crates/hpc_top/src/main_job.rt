@@ -66,7 +66,8 @@ fn profile_counted<R: Threads + Sync, C: Crews>(
         → samples_in ccts.now ≡ length samples → All (λ s. s.hart < length ccts.now) samples
         → Profiles (merging (C.gives merge.now.crews.now) (C.whole merge.now.crews.now) merge.now.workers)
         merge.now.period result
-        (profiled (length ccts.now) (naming_of finder.now) (call_path (found_at finder.now)) machine.now.state samples) }
+        (profiled (length ccts.now) (naming_of finder.now) (call_path (found_at finder.now)) machine.now.state
+        samples) }
 {
     samples_are_counted();
     profiles_are_writable();
@@ -247,8 +248,8 @@ fn made_of(run: RunProfile) -> Result<Made, Memory>
 }
 
 /// The database and the report of a job and the crew that merged it, or the first refusal of its files. The crew is one
-/// that `crews` gives, its stripes are those of the job's plan, and the database and the report's table are of the pieces
-/// that they name. Where `crews` merges all, database and report are the job's.
+/// that `crews` gives, its stripes are those of the job's plan, and the database and the report's table are of the
+/// pieces that they name. Where `crews` merges all, database and report are the job's.
 pub fn profile<R: Threads + Sync + AllocGlobal, C: Crews>(
     rt: &R,
     job: &Job<'_>,

@@ -19,7 +19,7 @@ use metric_sums::sums;
 use prof_bytes::{Fail, Listed, Memory};
 use scope_expand::{Expander, call_paths_have_roots};
 use scope_find::Finder;
-use sparse_planes::{by_context, by_profile};
+use sparse_planes::both_planes;
 use std::alloc::Global;
 use std::thread::Threads;
 use stripe_table::StripeSet;
@@ -81,9 +81,9 @@ fn content_named<R: Threads + Sync>(
     let tree = join_stripes(alloc, stripes, harts)?;
     let names = expander.names(&tree)?;
     let values = sums(alloc, &tree, period)?;
-    let profiles = by_profile(rt, alloc, &values)?;
-    let contexts = by_context(rt, alloc, &values)?;
+    let planes = both_planes(rt, alloc, &values)?;
     drop(values);
+    let (profiles, contexts) = planes;
     Ok(Content {
         period,
         harts: tree.harts(),

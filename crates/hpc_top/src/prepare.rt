@@ -6,7 +6,8 @@ ghost use Rattle.hpc_top.specs.Task.{input_file, measurement_file, prof_files, p
 ghost use Rattle.hpc_top.specs.Task.{schedule_file, struct_files, task_of};
 ghost use Rattle.hpc_top.specs.Task.{database_file, view_files};
 ghost use Rattle.hpc_top.specs.private.Steps.{Prepares};
-ghost use Rattle.hpc_top.specs.private.Views.{view_drill, view_prof, view_profile, view_request, view_run, view_view, view_want};
+ghost use Rattle.hpc_top.specs.private.Views.{view_drill, view_prof, view_profile, view_request, view_run, view_view};
+ghost use Rattle.hpc_top.specs.private.Views.{view_want};
 ghost use Rattle.prof_devices.specs.Outside.{ShelfState};
 
 use crate::attribution::attribute;

@@ -4,7 +4,8 @@ ghost use Rattle.std.specs.List.{list_all};
 ghost use Rattle.std.specs.Option.{option_copied};
 ghost use Rattle.hpc_top.specs.Words.{drill_words, is_file_name, prof_words, profile_words, request_of, run_words};
 ghost use Rattle.hpc_top.specs.Words.{struct_words, table_named, view_words};
-ghost use Rattle.hpc_top.specs.private.Views.{view_drills, view_profiles, view_profs, view_requests, view_runs, view_tables, view_views};
+ghost use Rattle.hpc_top.specs.private.Views.{view_drills, view_profiles, view_profs, view_requests, view_runs};
+ghost use Rattle.hpc_top.specs.private.Views.{view_tables, view_views};
 
 use crate::request::{
     DrillWords, ProfWords, ProfileWords, Request, RunWords, ViewTable, ViewWords,

@@ -5,14 +5,14 @@ use Rattle.std.proofs.lemmas.Bool.{ltb-false}
 use Rattle.std.proofs.lemmas.List.{take-append-drop, drop-drop, get_or-drop}
 use Rattle.std.proofs.lemmas.List.Elements.{All-cons, All-nil}
 use Rattle.byteorder.specs.Numbers.{little_from-lt}
-use Rattle.prof_bytes.specs.Number.{IsBytes, number_in}
+use Rattle.prof_bytes.specs.Number.{IsBytes, number_in, word}
 use Rattle.prof_bytes.specs.Outcome.{◌>>=◌}
 use Rattle.prof_bytes.specs.Reading.{At, left_of, moved}
 use Rattle.prof_bytes.proofs.Again.{number_again}
 use Rattle.scope_types.specs.declared.frame.Frame.{Frame}
 use Rattle.measure_file.specs.Fields.{fault_at, word_from, word_by, times}
 use Rattle.measure_file.specs.Measurable.{HasWord}
-use Rattle.measure_file.specs.Spelling.{word, frame_bytes}
+use Rattle.measure_file.specs.Spelling.{frame_bytes}
 use Rattle.measure_file.specs.Reading.{frame_from}
 
 -- ---- steps

@@ -5,14 +5,14 @@ use Rattle.std.specs.List.{flat_map}
 use Rattle.std.proofs.lemmas.Bool.{and_parts, leb-true, ltb-false, or_parts, not-false}
 use Rattle.std.proofs.lemmas.List.{length-replicate, nil_from_length, take-append-drop}
 use Rattle.std.proofs.lemmas.List.Elements.{All-replicate, All-nil}
-use Rattle.prof_bytes.specs.Number.{IsBytes}
+use Rattle.prof_bytes.specs.Number.{IsBytes, word}
 use Rattle.prof_bytes.specs.Reading.{At, left_of}
 use Rattle.scope_types.specs.declared.frame.Counted.{Counted}
 use Rattle.measure_file.specs.declared.head.MeasureHead.{MeasureHead}
 use Rattle.measure_file.specs.Fields.{fault_at, word_from, word_by, times}
 use Rattle.measure_file.specs.Measurable.{AreDistinct, AreMeasured, IsCounted, IsHead, IsMeasurable}
 use Rattle.measure_file.specs.Reading.{after_magic, ended, hart_from, is_harts, is_period, measurement_in, tables_from}
-use Rattle.measure_file.specs.Spelling.{word, magic, hart_bytes, spelling}
+use Rattle.measure_file.specs.Spelling.{magic, hart_bytes, spelling}
 use Rattle.measure_file.proofs.Back.{bind_ok, guard_ok, ok_same, Took, took_both, bytes_on, word_back, ruled_back}
 use Rattle.measure_file.proofs.BackPaths.{harts_back}
 use Rattle.measure_file.proofs.BehindMagic.{behind_entry, behind_harts, behind_magic, behind_period, behind_program, head_of, measurement_is}

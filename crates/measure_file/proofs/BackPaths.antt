@@ -2,7 +2,7 @@
 use Rattle.std.proofs.Common.{◌≡◌, ℕ, zero, suc, ◌+◌, ◌≤◌, false, List, [], ◌∷◌, ◌++◌, length, replicate, All, Ok, refl, sym, ap, subst, ◌∙◌, append_assoc, append-nil, arith}
 use Rattle.std.specs.List.{flat_map}
 use Rattle.std.proofs.lemmas.List.{length-append}
-use Rattle.prof_bytes.specs.Number.{IsBytes}
+use Rattle.prof_bytes.specs.Number.{IsBytes, word}
 use Rattle.prof_bytes.specs.Reading.{At}
 use Rattle.scope_types.specs.declared.frame.Counted.{Counted}
 use Rattle.scope_types.specs.declared.frame.Frame.{Frame}
@@ -11,7 +11,7 @@ use Rattle.thread_cct.specs.Adding.{has_path, of_hart, with_path}
 use Rattle.measure_file.specs.Fields.{fault_at, word_from, word_by, times}
 use Rattle.measure_file.specs.Measurable.{AreMeasured, HasWord, IsCounted}
 use Rattle.measure_file.specs.Reading.{frame_from, hart_from, is_count, is_end, is_length, new_path, path_from}
-use Rattle.measure_file.specs.Spelling.{word, end_number, frame_bytes, path_bytes, hart_bytes}
+use Rattle.measure_file.specs.Spelling.{end_number, frame_bytes, path_bytes, hart_bytes}
 use Rattle.measure_file.proofs.Back.{bind_ok, guard_ok, ok_same, Took, took_none, took_both, bytes_on, word_back, ruled_back, frames_back}
 use Rattle.measure_file.proofs.Behind.{behind_count, behind_end, behind_frames, behind_length, counted_of, path_is, count_rule, length_rule, end_again}
 use Rattle.measure_file.proofs.Seams.{Tables, own_of, own_put, measured_more}

@@ -9,13 +9,13 @@ use Rattle.scope_types.specs.Distinct.{frames_in, samples_in}
 use Rattle.scope_types.specs.Limits.{most_path_frames, most_samples}
 use Rattle.scope_types.specs.Raw.{most_frames}
 use Rattle.measure_file.specs.Fields.{Read, word_by, times}
-use Rattle.measure_file.specs.Reading.{frame_from, is_count, is_end, is_length, end_of, new_path, path_from}
+use Rattle.measure_file.specs.Reading.{frame_from, is_count, is_end, is_length, path_end, new_path, path_from}
 use Rattle.measure_file.specs.Spelling.{end_number}
 use Rattle.measure_file.proofs.Seams.{Tables}
 
 -- what is read behind a path's frames, its length, its end and its count
 abbrev pub counted_of : ℕ → ℕ → List Frame → Counted
-counted_of count end frames = record { path = record { end = end_of end; frames = frames }; count = count }
+counted_of count end frames = record { path = record { end = path_end end; frames = frames }; count = count }
 
 abbrev pub behind_frames : ℕ → Tables → ℕ → ℕ → At → List Frame × At → Read Tables
 behind_frames hart tables count end first_pc read = new_path hart first_pc.offset (counted_of count end read.0) tables >>= (λ paths. Ok (paths, read.1))
@@ -44,7 +44,7 @@ length_rule before n e =
     let first = and_parts _ _ parts.0 in
     (leb-true 1 n first.0, leb-true n most_frames first.1, leb-true (before + n) most_path_frames parts.1)
 
-pub end_again : (n : ℕ) → is_end n ≡ true → end_number (end_of n) ≡ n
+pub end_again : (n : ℕ) → is_end n ≡ true → end_number (path_end n) ≡ n
 end_again zero e = refl
 end_again (suc zero) e = refl
 end_again (suc (suc zero)) e = refl

@@ -7,7 +7,7 @@ use Rattle.std.proofs.lemmas.List.Elements.{All-head, All-tail}
 use Rattle.std.proofs.lemmas.List.Folds.{list_any-append}
 use Rattle.std.proofs.lemmas.List.Sums.{sum_by-cons}
 use Rattle.byteorder.specs.Numbers.{little_number-reads_back}
-use Rattle.prof_bytes.specs.Number.{number_in}
+use Rattle.prof_bytes.specs.Number.{number_in, word}
 use Rattle.prof_bytes.specs.Outcome.{◌>>=◌}
 use Rattle.prof_bytes.specs.Reading.{At, left_of, moved}
 use Rattle.scope_types.specs.declared.frame.Counted.{Counted}
@@ -24,8 +24,8 @@ use Rattle.thread_cct.proofs.Paths.{paths_below}
 use Rattle.measure_file.specs.declared.fault.MeasureFault.{MeasureFault}
 use Rattle.measure_file.specs.Fields.{Read, fault_at, word_from, word_by, times}
 use Rattle.measure_file.specs.Measurable.{AreDistinct, HasWord, IsCounted}
-use Rattle.measure_file.specs.Reading.{frame_from, hart_from, is_count, is_end, is_length, end_of, new_path, path_from}
-use Rattle.measure_file.specs.Spelling.{word, end_number, frame_bytes, path_bytes, hart_bytes}
+use Rattle.measure_file.specs.Reading.{frame_from, hart_from, is_count, is_end, is_length, path_end, new_path, path_from}
+use Rattle.measure_file.specs.Spelling.{end_number, frame_bytes, path_bytes, hart_bytes}
 use Rattle.measure_file.proofs.Behind.{behind_count, behind_end, behind_frames, behind_length, counted_of, path_is}
 use Rattle.measure_file.proofs.Seams.{Tables, count_of, frames_of, own_of, own_put, own_sum, sum_more}
 use Rattle.measure_file.proofs.Sums.{no_sums}
@@ -76,7 +76,7 @@ frames_forth (f ∷ fs) i before at rest words left =
 
 -- ---- paths
 
-end_back : (end : End) → end_of (end_number end) ≡ end
+end_back : (end : End) → path_end (end_number end) ≡ end
 end_back Whole = refl
 end_back (Partial NoFde) = refl
 end_back (Partial NoCfa) = refl

@@ -11,7 +11,8 @@ use Rattle.measure_file.specs.declared.fault.MeasureFault.{MeasureFault}
 use Rattle.measure_file.specs.Fields.{Read, fault_at}
 use Rattle.measure_file.specs.Measurable.{AreMeasured, IsMeasurable}
 use Rattle.measure_file.specs.Reading.{after_magic, ended, is_harts, is_period, measurement_in, tables_from}
-use Rattle.measure_file.specs.Spelling.{word, magic, hart_bytes, spelling}
+use Rattle.measure_file.specs.Spelling.{magic, hart_bytes, spelling}
+use Rattle.prof_bytes.specs.Number.{word}
 use Rattle.measure_file.proofs.BehindMagic.{behind_entry, behind_harts, behind_magic, behind_period, behind_program, measurement_is}
 use Rattle.measure_file.proofs.Forth.{word_forth, ruled_forth, harts_forth}
 use Rattle.measure_file.proofs.Seams.{Tables}

@@ -9,7 +9,8 @@ use Rattle.scope_types.specs.declared.frame.Frame.{Frame}
 use Rattle.scope_types.specs.Distinct.{frames_in, samples_in}
 use Rattle.scope_types.specs.Limits.{most_path_frames, most_samples}
 use Rattle.measure_file.specs.declared.head.MeasureHead.{MeasureHead}
-use Rattle.measure_file.specs.Spelling.{word, end_number, frame_bytes, path_bytes, hart_bytes, head_bytes, spelling, most_bytes}
+use Rattle.measure_file.specs.Spelling.{end_number, frame_bytes, path_bytes, hart_bytes, head_bytes, spelling, most_bytes}
+use Rattle.prof_bytes.specs.Number.{word}
 
 abbrev HasCount : Counted → Type 0
 HasCount c = 0 < c.count

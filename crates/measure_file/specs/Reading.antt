@@ -38,8 +38,8 @@ abbrev pub is_end : ℕ → Bool
 is_end n = nat_le n 5
 
 -- the end of a path with this number
-abbrev pub end_of : ℕ → End
-end_of n = if n == 0 then Whole else if n == 1 then Partial NoFde else if n == 2 then Partial NoCfa
+abbrev pub path_end : ℕ → End
+path_end n = if n == 0 then Whole else if n == 1 then Partial NoFde else if n == 2 then Partial NoCfa
     else if n == 3 then Partial Expression else if n == 4 then Partial Unmapped else Partial Depth
 
 -- ---- paths
@@ -62,7 +62,8 @@ path_from hart tables at = do
   (end, next) ← word_by is_end next
   (length, first_pc) ← word_by (is_length (frames_in tables)) next
   (frames, next) ← times (λ i. frame_from) length 0 [] first_pc
-  paths ← new_path hart first_pc.offset (record { path = record { end = end_of end; frames = frames }; count = count })
+  paths ← new_path hart first_pc.offset
+      (record { path = record { end = path_end end; frames = frames }; count = count })
       tables
   Ok (paths, next)
 

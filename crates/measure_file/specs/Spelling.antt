@@ -1,16 +1,13 @@
 -- The bytes of a measurement, version 1.
 use Rattle.std.specs.Prelude.{ℕ, List, ◌++◌, length, codes}
 use Rattle.std.specs.List.{flat_map}
-use Rattle.prof_bytes.specs.Number.{number_bytes}
+use Rattle.prof_bytes.specs.Number.{word}
 use Rattle.scope_types.specs.declared.frame.Counted.{Counted}
 use Rattle.scope_types.specs.declared.frame.Frame.{Frame}
 use Rattle.scope_types.specs.declared.frame.End.{End}
 use Rattle.scope_types.specs.declared.frame.End.TheVariants.{Whole, Partial}
 use Rattle.scope_types.specs.declared.frame.PartialCause.TheVariants.{NoFde, NoCfa, Expression, Unmapped, Depth}
 use Rattle.measure_file.specs.declared.head.MeasureHead.{MeasureHead}
-
-abbrev pub word : ℕ → List ℕ
-word n = number_bytes 4 n
 
 -- what a file begins with
 abbrev pub magic : List ℕ

@@ -3,7 +3,7 @@ ghost use Rattle.std.specs.Prelude.{◌≡◌, ◌+◌, ◌≤◌, length, IfOk,
 ghost use Rattle.prof_bytes.specs.Outcome.{GivesAt, GivesFrom};
 ghost use Rattle.scope_types.specs.Limits.{most_path_frames, most_samples};
 ghost use Rattle.measure_file.specs.Fields.{word_from, word_by, times};
-ghost use Rattle.measure_file.specs.Reading.{is_count, is_end, is_length, is_period, is_harts, end_of, frame_from};
+ghost use Rattle.measure_file.specs.Reading.{is_count, is_end, is_length, is_period, is_harts, path_end, frame_from};
 
 use crate::fault::MeasureFault;
 use prof_bytes::{Cursor, Fail};
@@ -74,8 +74,8 @@ pub(crate) fn read_count(cursor: &mut Cursor<'_>, samples: u32) -> Result<u32, M
     Ok(count)
 }
 
-pub(crate) fn end_of(number: u32) -> End
-    ensures { result ≡ end_of number }
+pub(crate) fn path_end(number: u32) -> End
+    ensures { result ≡ path_end number }
 {
     match number {
         0 => End::Whole,

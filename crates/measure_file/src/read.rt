@@ -7,7 +7,7 @@ ghost use Rattle.measure_file.specs.Reading.{path_from, hart_from, measurement_i
 
 use crate::fault::MeasureFault;
 use crate::fields::{
-    end_of, fault_at, read_count, read_end, read_frames, read_harts, read_length, read_period,
+    fault_at, path_end, read_count, read_end, read_frames, read_harts, read_length, read_period,
     read_word,
 };
 use crate::head::MeasureHead;
@@ -34,7 +34,7 @@ fn read_path(
     let length = read_length(cursor, paths.frames())?;
     let first_pc = cursor.place();
     let frames = read_frames(alloc, cursor, length)?;
-    paths.put(hart, RawPath::of(end_of(end), frames), count, first_pc)
+    paths.put(hart, RawPath::of(path_end(end), frames), count, first_pc)
 }
 
 /// So many paths of a hart.

@@ -2,8 +2,6 @@
 use Rattle.std.proofs.Common.{◌≡◌, ◌≢◌, ℕ, zero, suc, ◌+◌, ◌*◌, ◌<◌, ◌≤◌, ◌==◌, List, [], ◌∷◌, ◌++◌, length, sym, refl, ap, ◌∙◌, subst, arith, eq-eqb, ne_eqb, length-append, Result, Ok, Err, IfOk, Some, slice_get}
 use mathlib.Core.Logic.{dite}
 use native.Mathlib.Decide.{ℕ_discrete}
-use Rattle.scope_types.specs.declared.path.Piece.{Piece}
-use Rattle.thread_cct.specs.Plan.{piece_of}
 use Rattle.stripe_table.specs.Limits.{Chunks}
 use Rattle.stripe_table.specs.Views.{times, weight, up_to}
 use Rattle.stripe_table.specs.Ends.{AllFit, names_of}

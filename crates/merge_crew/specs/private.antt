@@ -2,3 +2,4 @@ pub mod Offers
 pub mod Counts
 pub mod Workers
 pub mod Settling
+pub mod Waits

@@ -26,7 +26,8 @@ pub trait Crews: Sync {
 
     fn gate(&self) -> &Self::Gate;
 
-    /// Hands out the stripes that workers filled, or others of the same plan. `unfilled` makes some that have no pieces.
+    /// Hands out the stripes that workers filled, or others of the same plan. `unfilled` makes some that have no
+    /// pieces.
     fn hand_out<F: FnOnce() -> Result<Crew, Memory>>(
         &self,
         crew: Crew,

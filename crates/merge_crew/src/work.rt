@@ -1,25 +1,38 @@
-//! What one worker does: it claims chunks, and offers their pieces to the stripes.
-ghost use Rattle.std.specs.Prelude.{◌≡◌, ℕ, ◌+◌, ◌-◌, ◌*◌, ◌<◌, ◌≤◌, ◌⊎◌, ◌^◌, None, Some, length, slice_get};
+//! What one worker does: it claims chunks, and offers their pieces to the stripes. A piece whose stripe is busy waits
+//! behind the others.
+ghost use Rattle.std.specs.Prelude.{◌≡◌, ℕ, ◌+◌, ◌-◌, ◌*◌, ◌<◌, ◌≤◌, ◌⊎◌, ◌^◌, ◌++◌, ◌∷◌, [], None, ltb, length, map};
+ghost use Rattle.std.specs.Prelude.{if◌then◌else◌, OnOk};
+ghost use Rattle.std.specs.VecDeque.{deque_capacity, deque_len};
 ghost use Rattle.stripe_table.specs.Limits.{IsPieceOf};
 ghost use Rattle.stripe_table.specs.Values.{IsPassOf};
-ghost use Rattle.stripe_table.specs.Views.{owes};
+ghost use Rattle.stripe_table.specs.Views.{chunk_pieces, owes, times_piece};
 ghost use Rattle.stripe_table.specs.declared.view.Hold.TheVariants.{Free};
-ghost use Rattle.thread_cct.specs.Plan.{expanded, piece_of};
-ghost use Rattle.merge_crew.specs.private.Offers.{OnlyOffers, OffersOnce, OffersUpTo, OwesOthers};
-ghost use Rattle.merge_crew.specs.private.Counts.{Counts, HasEnded, KeepsDraws, KeepsPasses};
+ghost use Rattle.thread_cct.specs.Plan.{expanded, pieces_of};
+ghost use Rattle.merge_crew.specs.private.Offers.{OnlyOffers, OffersOnce, OwesRest};
+ghost use Rattle.merge_crew.specs.private.Counts.{Counts, DrewAll, HasEnded, KeepsDraws, KeepsPasses};
+ghost use Rattle.merge_crew.specs.private.Waits.{Waits, first_time, later, offers_left, times_waiting};
 
 use prof_bytes::Memory;
 use prof_devices::Gate;
 use scope_types::{Expand, Piece};
 use std::alloc::Global;
+use std::collections::VecDeque;
+use std::thread;
 use stripe_table::{Offered, Pass, Stripes};
 use thread_cct::{Pieces, Plan, pieces_make_the_plan};
 
 /// How often a piece is offered while its stripe is busy.
 const MOST_OFFERS: u32 = 64;
 
-/// How many stripes there are.
-const STRIPES: u32 = 16;
+/// How many pieces a worker lets wait while it claims more chunks.
+const MOST_WAITING: usize = 64;
+
+/// A piece that its stripe doesn't have yet, and how often it was offered.
+#[derive(Drop)]
+pub(crate) struct Waiting {
+    pub(crate) piece: Piece,
+    pub(crate) offers: u32,
+}
 
 /// A worker: its pass over the chunks, its number from 0, and what became of the pieces that it offered.
 #[derive(Drop)]
@@ -45,68 +58,162 @@ fn offer_once(stripes: &Stripes, pass: &mut Pass, piece: &Piece) -> Offered
     ensures of { IsPassOf stripes.now pass.new }
     ensures keeps { OnlyOffers pass.old.view pass.new.view }
     ensures offers { OffersOnce pass.old.view pass.new.view result }
-    ensures owed { OwesOthers piece.now.chunk piece.now.stripe pass.old.view pass.new.view }
+    ensures owed { OwesRest piece.now.chunk piece.now.stripe pass.old.view pass.new.view }
 {
     stripes.offer(pass, piece)
 }
 
-/// Offers a piece until it isn't busy, 64 times at most.
-fn offer_up(stripes: &Stripes, pass: &mut Pass, piece: &Piece) -> Offered
-    requires of { IsPassOf stripes.now pass.old }
-    requires free { pass.old.view.hold ≡ Free }
-    requires owed { 0 < owes piece.now.chunk piece.now.stripe pass.old.view }
-    requires piece { IsPieceOf stripes.now.plan piece.now }
-    ensures of { IsPassOf stripes.now pass.new }
-    ensures keeps { OnlyOffers pass.old.view pass.new.view }
-    ensures offers { OffersUpTo 64 pass.old.view pass.new.view result }
-    ensures owed { OwesOthers piece.now.chunk piece.now.stripe pass.old.view pass.new.view }
+/// Lets a piece that was busy wait behind the others, unless it was offered 64 times. Gives whether it waits.
+fn waits_on(queue: &mut VecDeque<Waiting>, waiting: Waiting) -> bool
+    requires room { deque_len queue.old < deque_capacity queue.old }
+    requires offers { waiting.offers < 64 }
+    ensures waits { result ≡ ltb (waiting.offers + 1) 64 }
+    ensures queue { queue.new.items
+        ≡ (if ltb (waiting.offers + 1) 64 then queue.old.items ++ later waiting ∷ [] else queue.old.items) }
 {
-    for i in 1..MOST_OFFERS {
-        match offer_once(stripes, pass, piece) {
-            Offered::Busy { .. } => {}
-            other => return other,
-        }
+    let Waiting { piece, offers } = waiting;
+    if offers + 1 >= MOST_OFFERS {
+        return false;
     }
-    offer_once(stripes, pass, piece)
+    queue.push_back_reserved(Waiting {
+        piece,
+        offers: offers + 1,
+    });
+    true
 }
 
-/// Offers a piece, which the gate is told of first, and counts what became of it.
-fn offer_piece<G: Gate>(stripes: &Stripes, worker: &mut Worker, piece: &Piece, gate: &G)
-    requires counts { Counts stripes.now (16 - piece.now.stripe) worker.old }
-    requires owed { 0 < owes piece.now.chunk piece.now.stripe worker.old.pass.view }
-    requires piece { IsPieceOf stripes.now.plan piece.now }
+/// Offers a piece, which the gate is told of before the first time, and counts what became of it.
+fn offer_piece<G: Gate>(
+    stripes: &Stripes,
+    worker: &mut Worker,
+    queue: &mut VecDeque<Waiting>,
+    waiting: Waiting,
+    gate: &G,
+)
+    requires room { deque_len queue.old < deque_capacity queue.old }
+    requires counts { Counts stripes.now (length queue.old.items + 1) worker.old }
+    requires waits { Waits stripes.now.plan (waiting ∷ queue.old.items) worker.old.pass.view worker.old.busy_left }
     requires few { worker.old.pass.view.got < 2 ^ 32 }
-    ensures counts { Counts stripes.now (15 - piece.now.stripe) worker.new }
+    ensures counts { Counts stripes.now (length queue.new.items) worker.new }
+    ensures waits { Waits stripes.now.plan queue.new.items worker.new.pass.view worker.new.busy_left }
     ensures keeps { KeepsDraws worker.old worker.new }
-    ensures owed { OwesOthers piece.now.chunk piece.now.stripe worker.old.pass.view worker.new.pass.view }
+    ensures fewer { offers_left queue.new.items < offers_left (waiting ∷ queue.old.items) }
 {
-    gate.pass(worker.number, piece.chunk, piece.stripe);
-    match offer_up(stripes, &mut worker.pass, piece) {
+    if waiting.offers == 0 {
+        gate.pass(worker.number, waiting.piece.chunk, waiting.piece.stripe);
+    }
+    match offer_once(stripes, &mut worker.pass, &waiting.piece) {
         Offered::Merged => worker.merged += 1,
         Offered::Present { .. } => worker.present += 1,
-        Offered::Busy { .. } => worker.busy_left += 1,
+        Offered::Busy { .. } => {
+            if !waits_on(queue, waiting) {
+                worker.busy_left += 1;
+            }
+        }
         Offered::Memory(memory) => worker.failed = Some(memory),
     }
 }
 
-/// Offers all pieces of a chunk.
+/// Offers the piece that waits longest.
+fn offer_next<G: Gate>(
+    stripes: &Stripes,
+    worker: &mut Worker,
+    queue: &mut VecDeque<Waiting>,
+    gate: &G,
+)
+    requires counts { Counts stripes.now (length queue.old.items) worker.old }
+    requires waits { Waits stripes.now.plan queue.old.items worker.old.pass.view worker.old.busy_left }
+    requires few { worker.old.pass.view.got < 2 ^ 32 }
+    ensures counts { Counts stripes.now (length queue.new.items) worker.new }
+    ensures waits { Waits stripes.now.plan queue.new.items worker.new.pass.view worker.new.busy_left }
+    ensures keeps { KeepsDraws worker.old worker.new }
+    ensures fewer { 0 < length queue.old.items → offers_left queue.new.items < offers_left queue.old.items }
+{
+    if let Some(waiting) = queue.pop_front() {
+        offer_piece(stripes, worker, queue, waiting, gate);
+    }
+}
+
+/// Offers each piece once.
+fn offer_each<G: Gate>(
+    stripes: &Stripes,
+    worker: &mut Worker,
+    queue: &mut VecDeque<Waiting>,
+    gate: &G,
+)
+    requires counts { Counts stripes.now (length queue.old.items) worker.old }
+    requires waits { Waits stripes.now.plan queue.old.items worker.old.pass.view worker.old.busy_left }
+    requires few { worker.old.pass.view.got < 2 ^ 32 }
+    ensures counts { Counts stripes.now (length queue.new.items) worker.new }
+    ensures waits { Waits stripes.now.plan queue.new.items worker.new.pass.view worker.new.busy_left }
+    ensures keeps { KeepsDraws worker.old worker.new }
+{
+    for _ in 0..queue.len() {
+        offer_next(stripes, worker, queue, gate);
+    }
+}
+
+/// Offers pieces until no more than so many wait. Other threads may run between the offers.
+fn offer_down<G: Gate>(
+    stripes: &Stripes,
+    worker: &mut Worker,
+    queue: &mut VecDeque<Waiting>,
+    most: usize,
+    gate: &G,
+)
+    requires counts { Counts stripes.now (length queue.old.items) worker.old }
+    requires waits { Waits stripes.now.plan queue.old.items worker.old.pass.view worker.old.busy_left }
+    requires few { worker.old.pass.view.got < 2 ^ 32 }
+    ensures counts { Counts stripes.now (length queue.new.items) worker.new }
+    ensures waits { Waits stripes.now.plan queue.new.items worker.new.pass.view worker.new.busy_left }
+    ensures keeps { KeepsDraws worker.old worker.new }
+    ensures down { worker.new.failed ≡ None → length queue.new.items ≤ most }
+{
+    while queue.len() > most && worker.failed.is_none() {
+        offer_next(stripes, worker, queue, gate);
+        thread::yield_now();
+    }
+}
+
+/// Puts pieces that were not offered behind those that wait.
+fn put_last(queue: &mut VecDeque<Waiting>, pieces: Vec<Piece>) -> Result<(), Memory>
+    ensures { OnOk result (queue.new.items ≡ queue.old.items ++ map first_time pieces.items) }
+{
+    for piece in pieces {
+        queue.push_back(Waiting { piece, offers: 0 })?;
+    }
+    Ok(())
+}
+
+/// Offers all pieces of a chunk, and once more those that wait.
 fn offer_chunk<G: Gate>(
     stripes: &Stripes,
     worker: &mut Worker,
+    queue: &mut VecDeque<Waiting>,
     _chunk: u32,
-    pieces: &Pieces,
+    pieces: Pieces,
     gate: &G,
 )
-    requires counts { Counts stripes.now 16 worker.old }
-    requires owed { (s : ℕ) → s < 16 → 0 < owes _chunk s worker.old.pass.view }
-    requires pieces { (s : ℕ) → s < 16 → slice_get pieces.now s ≡ Some (piece_of stripes.now.plan _chunk s) }
+    requires counts { Counts stripes.now (length queue.old.items + 16) worker.old }
+    requires waits { Waits stripes.now.plan queue.old.items worker.old.pass.view worker.old.busy_left }
+    requires owed { (c s : ℕ) → times_waiting c s queue.old.items + times_piece c s (chunk_pieces _chunk 16)
+        ≤ owes c s worker.old.pass.view }
     requires chunk { _chunk < length stripes.now.plan }
+    requires pieces { pieces ≡ pieces_of stripes.now.plan _chunk }
     requires few { worker.old.pass.view.got < 2 ^ 32 }
-    ensures counts { Counts stripes.now 0 worker.new }
+    ensures counts { Counts stripes.now (length queue.new.items) worker.new }
+    ensures waits { Waits stripes.now.plan queue.new.items worker.new.pass.view worker.new.busy_left }
     ensures keeps { KeepsDraws worker.old worker.new }
 {
-    for stripe in 0..STRIPES {
-        offer_piece(stripes, worker, pieces.piece(stripe), gate);
+    match put_last(queue, pieces.into_vec()) {
+        Ok(()) => {
+            offer_each(stripes, worker, queue, gate);
+            offer_down(stripes, worker, queue, MOST_WAITING, gate);
+        }
+        Err(memory) => {
+            queue.clear();
+            worker.failed = Some(memory);
+        }
     }
 }
 
@@ -115,43 +222,52 @@ fn merge_chunk<E: Expand, G: Gate>(
     alloc: Global,
     stripes: &Stripes,
     worker: &mut Worker,
+    queue: &mut VecDeque<Waiting>,
     plan: &Plan<'_>,
     expand: &E,
     memo: &mut E::Memo,
     gate: &G,
     chunk: u32,
 )
-    requires counts { Counts stripes.now 16 worker.old }
+    requires counts { Counts stripes.now (length queue.old.items + 16) worker.old }
+    requires waits { Waits stripes.now.plan queue.old.items worker.old.pass.view worker.old.busy_left }
     requires memo { E.fits expand.now memo.old }
     requires plan { stripes.now.plan ≡ expanded plan.now (E.call_path expand.now) }
-    requires owed { (s : ℕ) → s < 16 → 0 < owes chunk s worker.old.pass.view }
+    requires owed { (c s : ℕ) → times_waiting c s queue.old.items + times_piece c s (chunk_pieces chunk 16)
+        ≤ owes c s worker.old.pass.view }
     requires chunk { chunk < length stripes.now.plan }
     requires few { worker.old.pass.view.got < 2 ^ 32 }
-    ensures counts { Counts stripes.now 0 worker.new }
+    ensures counts { Counts stripes.now (length queue.new.items) worker.new }
+    ensures waits { Waits stripes.now.plan queue.new.items worker.new.pass.view worker.new.busy_left }
     ensures memo { E.fits expand.now memo.new }
     ensures keeps { KeepsDraws worker.old worker.new }
 {
     pieces_make_the_plan();
     match plan.cut(alloc, expand, memo, chunk) {
-        Ok(pieces) => offer_chunk(stripes, worker, chunk, &pieces, gate),
+        Ok(pieces) => offer_chunk(stripes, worker, queue, chunk, pieces, gate),
         Err(memory) => worker.failed = Some(memory),
     }
 }
 
 /// Claims chunks and offers their pieces, until no chunk is left, the worker has drawn as many numbers as there are
-/// chunks, or memory ran out.
-pub(crate) fn work<E: Expand, G: Gate>(
+/// chunks, or memory ran out. Some pieces may wait then.
+fn claim_all<E: Expand, G: Gate>(
     alloc: Global,
     stripes: &Stripes,
     worker: &mut Worker,
+    queue: &mut VecDeque<Waiting>,
     plan: &Plan<'_>,
     expand: &E,
     gate: &G,
 )
-    requires counts { Counts stripes.now 0 worker.old }
+    requires counts { Counts stripes.now (length queue.old.items) worker.old }
+    requires waits { Waits stripes.now.plan queue.old.items worker.old.pass.view worker.old.busy_left }
     requires plan { stripes.now.plan ≡ expanded plan.now (E.call_path expand.now) }
     requires none { worker.old.pass.view.got ≡ 0 }
-    ensures ended { HasEnded stripes.now worker.new }
+    ensures counts { Counts stripes.now (length queue.new.items) worker.new }
+    ensures waits { Waits stripes.now.plan queue.new.items worker.new.pass.view worker.new.busy_left }
+    ensures few { worker.new.pass.view.got < 2 ^ 32 }
+    ensures drew { DrewAll stripes.now worker.new }
     ensures keeps { KeepsPasses worker.old worker.new }
 {
     pieces_make_the_plan();
@@ -169,6 +285,28 @@ pub(crate) fn work<E: Expand, G: Gate>(
             return;
         };
         drawn += 1;
-        merge_chunk(alloc, stripes, worker, plan, expand, &mut memo, gate, chunk);
+        merge_chunk(
+            alloc, stripes, worker, queue, plan, expand, &mut memo, gate, chunk,
+        );
     }
+}
+
+/// Claims chunks and offers their pieces, and at last those that wait.
+pub(crate) fn work<E: Expand, G: Gate>(
+    alloc: Global,
+    stripes: &Stripes,
+    worker: &mut Worker,
+    plan: &Plan<'_>,
+    expand: &E,
+    gate: &G,
+)
+    requires counts { Counts stripes.now 0 worker.old }
+    requires plan { stripes.now.plan ≡ expanded plan.now (E.call_path expand.now) }
+    requires none { worker.old.pass.view.got ≡ 0 }
+    ensures ended { HasEnded stripes.now worker.new }
+    ensures keeps { KeepsPasses worker.old worker.new }
+{
+    let mut queue = VecDeque::new(alloc);
+    claim_all(alloc, stripes, worker, &mut queue, plan, expand, gate);
+    offer_down(stripes, worker, &mut queue, 0, gate);
 }

@@ -5,4 +5,3 @@ pub mod Kept
 pub mod Seen
 pub mod Nodes
 pub mod Samples
-pub mod Joined

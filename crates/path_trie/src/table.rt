@@ -1,14 +1,13 @@
 //! The nodes of a trie. A node is sought right after its parent first, and else among the branches.
-ghost use Rattle.std.specs.Prelude.{◌≡◌, ℕ, ◌+◌, ◌<◌, ◌≤◌, ◌≢◌, ◌==◌, ◌∷◌, ◌++◌, [], length, fold, MatchOption};
-ghost use Rattle.std.specs.Prelude.{vec_len, vec_capacity, IfOk, OnOk};
+ghost use Rattle.std.specs.Prelude.{◌≡◌, ◌+◌, ◌<◌, ◌≤◌, ◌==◌, ◌∷◌, ◌++◌, [], length, fold, MatchOption};
+ghost use Rattle.std.specs.Prelude.{vec_len, vec_capacity, OnOk};
 ghost use Rattle.indexmap.specs.IndexMap.{spare};
 ghost use Rattle.scope_types.specs.Limits.{most_path_scopes};
-ghost use Rattle.tree_types.specs.Nodes.{no_parent};
 ghost use Rattle.tree_types.specs.Paths.{prefixes};
 ghost use Rattle.tree_types.specs.PathsOf.{tree_paths};
 ghost use Rattle.path_trie.specs.Trie.{IsPlace, path_at, with_node};
-ghost use Rattle.path_trie.specs.private.Linked.{Linked, Rooted, Extends, IsAbsent, Key, AreMoved, node_at, node_with};
-ghost use Rattle.path_trie.specs.private.Linked.{next_index, last_one, branch_at, with_branch, moved};
+ghost use Rattle.path_trie.specs.private.Linked.{Linked, Extends, IsAbsent, Key, node_at, node_with};
+ghost use Rattle.path_trie.specs.private.Linked.{next_index, last_one, branch_at, with_branch};
 
 use indexmap::IndexMap;
 use prof_bytes::Memory;
@@ -113,59 +112,6 @@ impl NodeTable {
             node = self.enter(node, *scope);
         }
         node
-    }
-
-    /// The child of a node with this scope, put last unless it is there.
-    fn enter_with_room(&mut self, parent: u32, scope: Scope) -> Result<u32, Memory>
-        requires linked { Linked self.old.nodes.items self.old.branches.entries }
-        requires place { IsPlace parent (length self.old.nodes.items) }
-        requires few { length self.old.nodes.items < most_path_scopes }
-        ensures linked { OnOk result (Linked self.new.nodes.items self.new.branches.entries) }
-        ensures paths { OnOk result (tree_paths self.new.nodes.items ≡ with_node (tree_paths self.old.nodes.items)
-            (path_at (tree_paths self.old.nodes.items) parent ++ scope ∷ [])) }
-        ensures path { IfOk result (λ place. path_at (tree_paths self.new.nodes.items) place
-            ≡ path_at (tree_paths self.old.nodes.items) parent ++ scope ∷ []) }
-        ensures place { IfOk result (λ place. place < length self.new.nodes.items) }
-        ensures extends { OnOk result (Extends (tree_paths self.old.nodes.items) (tree_paths self.new.nodes.items)) }
-        ensures len { OnOk result (length self.new.nodes.items ≤ length self.old.nodes.items + 1) }
-    {
-        self.reserve(1, 1)?;
-        let place = self.enter(parent, scope);
-        Ok(place)
-    }
-
-    /// Puts in the nodes of another table. The place of each.
-    pub fn put_nodes(&mut self, alloc: Global, nodes: &[Node]) -> Result<Vec<u32>, Memory>
-        requires linked { Linked self.old.nodes.items self.old.branches.entries }
-        requires nodes { Rooted nodes.now }
-        requires few { length self.old.nodes.items + length nodes.now ≤ most_path_scopes }
-        ensures linked { OnOk result (Linked self.new.nodes.items self.new.branches.entries) }
-        ensures paths { OnOk result (tree_paths self.new.nodes.items
-            ≡ fold with_node (tree_paths self.old.nodes.items) (tree_paths nodes.now)) }
-        ensures places { IfOk result
-            (λ places. AreMoved nodes.now self.new.nodes.items places.items (length nodes.now)) }
-        ensures extends { OnOk result (Extends (tree_paths self.old.nodes.items) (tree_paths self.new.nodes.items)) }
-        ensures len { OnOk result (length self.new.nodes.items ≤ length self.old.nodes.items + length nodes.now) }
-    {
-        let mut places = Vec::new(alloc);
-        for node in nodes {
-            let parent = moved_place(places.as_slice(), node.parent);
-            let place = self.enter_with_room(parent, node.scope)?;
-            places.push(place)?;
-        }
-        Ok(places)
-    }
-}
-
-/// Where a place of one table is in another, by its list of places.
-pub fn moved_place(places: &[u32], place: u32) -> u32
-    requires { place ≢ no_parent → place < length places.now }
-    ensures { result ≡ moved places.now place }
-{
-    if place == NO_PARENT {
-        NO_PARENT
-    } else {
-        places[place as usize]
     }
 }
 

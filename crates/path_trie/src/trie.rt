@@ -1,6 +1,5 @@
 ghost use Rattle.std.specs.Prelude.{◌≡◌, ℕ, ◌+◌, ◌<◌, ◌≤◌, ◌≢◌, ◌||◌, [], ◌++◌, length, map, sum_by, filter, All};
-ghost use Rattle.std.specs.Prelude.{vec_capacity, IfOk, OnOk, OnErr};
-ghost use Rattle.std.specs.List.{flat_map};
+ghost use Rattle.std.specs.Prelude.{vec_capacity, OnOk, OnErr};
 ghost use Rattle.indexmap.specs.IndexMap.{spare};
 ghost use Rattle.scope_types.specs.Limits.{most_samples, most_path_scopes};
 ghost use Rattle.tree_types.specs.Nodes.{no_parent};
@@ -8,9 +7,9 @@ ghost use Rattle.tree_types.specs.Paths.{Path};
 ghost use Rattle.tree_types.specs.PathsOf.{tree_paths};
 ghost use Rattle.path_trie.specs.Trie.{has_node, all_prefixes, trie_nodes, node_path, node_of, IsPlace, entry_of};
 ghost use Rattle.path_trie.specs.Trie.{count_of, samples_of, scopes_of, StandBefore};
-ghost use Rattle.path_trie.specs.private.Linked.{IsTrie, entries_at, ends_at, moved_end};
+ghost use Rattle.path_trie.specs.private.Linked.{IsTrie, entries_at, ends_at};
 
-use crate::table::{NodeTable, moved_place};
+use crate::table::NodeTable;
 use prof_bytes::Memory;
 use scope_types::{Entry, Piece};
 use std::alloc::Global;
@@ -111,34 +110,6 @@ impl Trie {
         Ok(())
     }
 
-    /// A trie of the entries of several, in their order.
-    pub fn joined(alloc: Global, tries: &[&Trie]) -> Result<Trie, Memory>
-        requires samples { sum_by (λ t. samples_of t.now) tries.now ≤ most_samples }
-        requires nodes { sum_by (λ t. length (trie_nodes t.now)) tries.now ≤ most_path_scopes }
-        ensures { IfOk result (λ trie. trie ≡ flat_map (λ t. t.now) tries.now) }
-    {
-        let mut all = Trie::empty(alloc);
-        for trie in tries {
-            all = all.joined_with(alloc, trie)?;
-        }
-        Ok(all)
-    }
-
-    /// A trie of these entries, and then another's.
-    fn joined_with(self, alloc: Global, other: &Trie) -> Result<Trie, Memory>
-        requires samples { samples_of self + samples_of other.now ≤ most_samples }
-        requires nodes { length (trie_nodes self) + length (trie_nodes other.now) ≤ most_path_scopes }
-        ensures { IfOk result (λ trie. trie ≡ self ++ other.now) }
-    {
-        let Trie {
-            mut table,
-            mut ends,
-        } = self;
-        let places = table.put_nodes(alloc, other.table.nodes.as_slice())?;
-        put_ends(&mut ends, other.ends.as_slice(), places.as_slice())?;
-        Ok(Trie { table, ends })
-    }
-
     /// How many nodes there are.
     pub fn len(&self) -> u32
         ensures { result ≡ length (trie_nodes self.now) }
@@ -181,21 +152,6 @@ impl Trie {
     {
         count_ends(self.ends.as_slice(), node, hart)
     }
-}
-
-/// Puts in another trie's ends, whose nodes have these places.
-fn put_ends(ends: &mut Vec<PathEnd>, others: &[PathEnd], places: &[u32]) -> Result<(), Memory>
-    requires { All (λ e. IsPlace e.node (length places.now)) others.now }
-    ensures { OnOk result (ends.new.items ≡ ends.old.items ++ map (moved_end places.now) others.now) }
-{
-    for end in others {
-        ends.push(PathEnd {
-            node: moved_place(places, end.node),
-            hart: end.hart,
-            count: end.count,
-        })?;
-    }
-    Ok(())
 }
 
 fn count_ends(ends: &[PathEnd], node: u32, hart: u32) -> u64

@@ -1,10 +1,19 @@
 -- A number and its bytes, the lowest byte first: one definition for reads and for puts.
 use Rattle.std.specs.Prelude.{ℕ, ◌<◌, List, length, slice_index, Option, Some, None, if◌then◌else◌, nat_lt}
+use Rattle.std.specs.List.{flat_map}
 use Rattle.byteorder.specs.Endian.{little_bytes, little_number}
 
 -- the lowest `count` bytes of the number
 abbrev pub number_bytes : ℕ → ℕ → List ℕ
 number_bytes count number = little_bytes count number
+
+-- a number of four bytes
+abbrev pub word : ℕ → List ℕ
+word number = number_bytes 4 number
+
+-- numbers of four bytes, one after another
+abbrev pub words : List ℕ → List ℕ
+words numbers = flat_map word numbers
 
 -- the number in the first `count` bytes
 abbrev pub number_in : ℕ → List ℕ → ℕ

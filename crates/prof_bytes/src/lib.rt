@@ -17,6 +17,6 @@ mod text;
 pub use cursor::Cursor;
 pub use fail::{Fail, Memory};
 pub use listed::Listed;
-pub use number::{put_u32, put_u64};
+pub use number::{put_u32, put_u64, put_words};
 pub use reader::Reader;
 pub use text::Text;

@@ -1,17 +1,27 @@
 ghost use Rattle.std.specs.Prelude.{◌≡◌, ◌++◌, OnOk, OnErr};
-ghost use Rattle.prof_bytes.specs.Number.{number_bytes};
+ghost use Rattle.prof_bytes.specs.Number.{number_bytes, word, words};
 
 use crate::fail::Memory;
 use byteorder::{ByteOrder, LittleEndian};
 
 /// Appends the four bytes of the number. After want of memory nothing was appended.
 pub fn put_u32(out: &mut Vec<u8>, number: u32) -> Result<(), Memory>
-    ensures ok { OnOk result (out.new.items ≡ out.old.items ++ number_bytes 4 number) }
+    ensures ok { OnOk result (out.new.items ≡ out.old.items ++ word number) }
     ensures err { OnErr result (out.new.items ≡ out.old.items) }
 {
     let mut bytes = [0; 4];
     LittleEndian::write_u32(&mut bytes, number);
     out.extend_from_slice(&bytes)?;
+    Ok(())
+}
+
+/// Appends the four bytes of each number.
+pub fn put_words(out: &mut Vec<u8>, numbers: &[u32]) -> Result<(), Memory>
+    ensures { OnOk result (out.new.items ≡ out.old.items ++ words numbers.now) }
+{
+    for number in numbers {
+        put_u32(out, *number)?;
+    }
     Ok(())
 }
 

@@ -2,12 +2,12 @@
 use Rattle.std.proofs.Common.{◌≡◌, ℕ, zero, suc, ◌+◌, ◌<◌, ◌≤◌, nat_lt, List, [], ◌∷◌, ◌++◌, length, take, drop, Ok, refl, sym, ap, ap₂, subst, ◌∙◌, append_assoc, append-nil, arith, take-append-drop, drop-drop, get_or-drop, length-take-le}
 use Rattle.std.specs.List.{flat_map}
 use Rattle.std.proofs.lemmas.Bool.{ltb-false}
-use Rattle.prof_bytes.specs.Number.{IsBytes, number_bytes, number_in}
+use Rattle.prof_bytes.specs.Number.{IsBytes, number_bytes, number_in, word, words}
 use Rattle.prof_bytes.specs.Reading.{At, left_of, moved}
 use Rattle.prof_bytes.proofs.Again.{number_again}
 use Rattle.prof_db.specs.Fields.{Read, adding, bytes_from, not_whole, number_from, times, word_from}
 use Rattle.prof_db.specs.Layout.{text_from}
-use Rattle.prof_db.specs.Spelling.{text_bytes, word, words}
+use Rattle.prof_db.specs.Spelling.{text_bytes}
 use Rattle.prof_db.proofs.Outcomes.{bind_ok, guard_ok, ok_same}
 
 -- ---- what was taken

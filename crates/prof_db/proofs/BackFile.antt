@@ -4,7 +4,7 @@ use Rattle.std.specs.Cmp.Lexicographic.{pointwise, same_text}
 use Rattle.std.specs.List.{flat_map}
 use Rattle.std.proofs.lemmas.Bool.{ltb-false, not-false, or_parts}
 use Rattle.std.proofs.lemmas.List.{length-map, nil_from_length}
-use Rattle.prof_bytes.specs.Number.{IsBytes}
+use Rattle.prof_bytes.specs.Number.{IsBytes, word, words}
 use Rattle.prof_bytes.specs.Outcome.{◌>>=◌}
 use Rattle.prof_bytes.specs.Reading.{At, left_of}
 use Rattle.tree_types.specs.declared.content.Content.{Content}
@@ -21,7 +21,7 @@ use Rattle.prof_db.specs.Layout.{after_magic, body_from, column_from, ended, fil
 use Rattle.prof_db.specs.NameRules.{file_name, names_in, proc_name, used_files, used_procs}
 use Rattle.prof_db.specs.NodeRules.{in_range, node_of}
 use Rattle.prof_db.specs.Rules.{database_in}
-use Rattle.prof_db.specs.Spelling.{context_entry_bytes, node_bytes, profile_entry_bytes, spelling, with_count, word, words}
+use Rattle.prof_db.specs.Spelling.{context_entry_bytes, node_bytes, profile_entry_bytes, spelling, with_count}
 use Rattle.prof_db.specs.ValueRules.{context_fields, plane_fields, profile_fields}
 use Rattle.prof_db.proofs.Back.{Took, bytes_on, last_word, list_back, number_back, took_both, took_word}
 use Rattle.prof_db.proofs.BackItems.{file_back, node_back, proc_back, raw_file_bytes, raw_node_bytes, raw_proc_bytes}

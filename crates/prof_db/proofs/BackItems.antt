@@ -1,7 +1,7 @@
 -- What was read has just these bytes: procedures, files and nodes, by their numbers.
 use Rattle.std.proofs.Common.{◌≡◌, ℕ, ◌==◌, Bool, true, false, cond, List, [], ◌∷◌, ◌++◌, Ok, Err, refl, sym, subst, if◌then◌else◌}
 use Rattle.std.proofs.lemmas.Bool.{eqb-true}
-use Rattle.prof_bytes.specs.Number.{IsBytes}
+use Rattle.prof_bytes.specs.Number.{IsBytes, word, words}
 use Rattle.prof_bytes.specs.Outcome.{◌>>=◌}
 use Rattle.prof_bytes.specs.Reading.{At}
 use Rattle.prof_db.specs.declared.raw.RawFile.{RawFile}
@@ -13,7 +13,7 @@ use Rattle.prof_db.specs.declared.raw.RawScope.{RawScope}
 use Rattle.prof_db.specs.declared.raw.RawScope.TheVariants.{Root, Proc, Inline, Call, Stmt}
 use Rattle.prof_db.specs.Fields.{Read, not_whole, word_from}
 use Rattle.prof_db.specs.Layout.{address_from, call_from, file_from, frame_from, inline_from, line_from, node_from, proc_from, root_from, row_from, scope_from, stmt_from, text_from}
-use Rattle.prof_db.specs.Spelling.{text_bytes, word, words}
+use Rattle.prof_db.specs.Spelling.{text_bytes}
 use Rattle.prof_db.proofs.Back.{Took, bytes_on, last_word, number_back, text_back, took_both, took_word}
 use Rattle.prof_db.proofs.Outcomes.{bind_ok, ok_same}
 

@@ -23,8 +23,9 @@ use Rattle.prof_db.specs.declared.raw.RawProc.{RawProc}
 use Rattle.prof_db.specs.declared.raw.RawScope.{RawScope}
 use Rattle.prof_db.specs.declared.raw.RawScope.TheVariants as raws
 use Rattle.prof_db.specs.NameRules.{file_name, is_proc, proc_name, procs_kept}
-use Rattle.prof_db.specs.NodeRules.{file_numbered, in_range, line_in_range, line_of, node_of, proc_numbered, scope_of}
-use Rattle.prof_db.specs.Spelling.{file_bytes, file_index, line_numbers, node_bytes, proc_index, procedure_bytes, scope_numbers, text_bytes, word, words}
+use Rattle.prof_db.specs.NodeRules.{file_numbered, in_range, line_in_range, line_id, node_of, proc_numbered, scope_of}
+use Rattle.prof_db.specs.Spelling.{file_bytes, file_index, line_numbers, node_bytes, proc_index, procedure_bytes, scope_numbers, text_bytes}
+use Rattle.prof_bytes.specs.Number.{word, words}
 use Rattle.prof_db.proofs.BackItems.{raw_file_bytes, raw_line_numbers, raw_node_bytes, raw_proc_bytes, raw_scope_numbers}
 use Rattle.prof_db.proofs.OwnNames.{is_proc_at, lists_same, turned, words_are}
 
@@ -62,7 +63,7 @@ module _ (names : Names) (procs_up : AllPairs (λ p q. proc_order p.id q.id ≡ 
 
   -- ---- scopes
 
-  line_again : (line : RawLine) → line_in_range (length names.files) line ≡ true → line_numbers names (line_of names line) ≡ raw_line_numbers line
+  line_again : (line : RawLine) → line_in_range (length names.files) line ≡ true → line_numbers names (line_id names line) ≡ raw_line_numbers line
   line_again (raw_lines.Row f line) ok = λ i. 0 ∷ file_found f (ltb-true f (length names.files) ok) i ∷ line ∷ []
   line_again (raw_lines.Address address) ok = refl
 

@@ -3,7 +3,7 @@ use Rattle.std.proofs.Common.{◌≡◌, ℕ, zero, suc, ◌+◌, ◌*◌, ◌�
 use Rattle.std.specs.List.{flat_map}
 use Rattle.std.proofs.lemmas.Bool.{and_parts, eqb-true, ltb-false, not-true}
 use Rattle.std.proofs.lemmas.List.Concat.{flat_map-append}
-use Rattle.prof_bytes.specs.Number.{IsBytes, number_bytes, number_in}
+use Rattle.prof_bytes.specs.Number.{IsBytes, number_bytes, number_in, word}
 use Rattle.prof_bytes.specs.Outcome.{◌>>=◌}
 use Rattle.prof_bytes.specs.Reading.{At, left_of, moved}
 use Rattle.tree_types.specs.declared.content.ContextEntry.{ContextEntry}
@@ -11,7 +11,7 @@ use Rattle.tree_types.specs.declared.content.ProfileEntry.{ProfileEntry}
 use Rattle.prof_db.specs.declared.raw.RawEntry.{RawEntry}
 use Rattle.prof_db.specs.Fields.{Read, adding, fault, number_from, times, word_from}
 use Rattle.prof_db.specs.Layout.{column_from, entry_from, past_column, past_entry}
-use Rattle.prof_db.specs.Spelling.{context_entry_bytes, kind_number, long, profile_entry_bytes, with_count, word}
+use Rattle.prof_db.specs.Spelling.{context_entry_bytes, kind_number, long, profile_entry_bytes, with_count}
 use Rattle.prof_db.specs.ValueRules.{Field, column_fields, context_fields, fields_kept, plane_fields, profile_fields, stands_at}
 use Rattle.prof_db.proofs.Back.{Took, number_moved, stands_took, took_both, took_none}
 use Rattle.prof_db.proofs.FieldSteps.{fields_append}

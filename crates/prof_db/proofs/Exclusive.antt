@@ -32,7 +32,7 @@ use Rattle.tree_types.proofs.Counting.{one}
 use Rattle.prof_db.specs.declared.raw.RawEntry.{RawEntry}
 use Rattle.prof_db.specs.NameRules.{pair_less}
 use Rattle.prof_db.specs.NodeRules.{is_statement}
-use Rattle.prof_db.specs.ValueRules.{count_of, entries_ascend, entries_kept, entry_at, entry_breaks, is_exclusive, is_value, samples_of}
+use Rattle.prof_db.specs.ValueRules.{entry_count, entries_ascend, entries_kept, entry_at, entry_breaks, is_exclusive, is_value, entry_samples}
 use Rattle.prof_db.proofs.Preorder.{and_parts}
 use Rattle.prof_db.proofs.Repeated.{none_broken}
 
@@ -168,13 +168,13 @@ differ a b c x y z up zero_c zero_z =
     and_last false u e = refl
 
 -- the samples of exclusive values are those of their counts
-pub samples_are : (period : ℕ) (es : List RawEntry) → counts_in (map (count_of period) (filter is_exclusive es)) ≡ sum_by (samples_of period) es
+pub samples_are : (period : ℕ) (es : List RawEntry) → counts_in (map (entry_count period) (filter is_exclusive es)) ≡ sum_by (entry_samples period) es
 samples_are period [] = refl
 samples_are period (e ∷ es) =
-    elim (is_exclusive e) as (λ b. counts_in (map (count_of period) (cond b (e ∷ filter is_exclusive es) (filter is_exclusive es))) ≡ cond b (e.value / period) 0 + sum_by (samples_of period) es) [
-      | true ↦ sum_by-cons (λ (c : NodeCount). c.count) (count_of period e) (map (count_of period) (filter is_exclusive es)) ∙ ap (λ (n : ℕ). e.value / period + n) (samples_are period es)
+    elim (is_exclusive e) as (λ b. counts_in (map (entry_count period) (cond b (e ∷ filter is_exclusive es) (filter is_exclusive es))) ≡ cond b (e.value / period) 0 + sum_by (entry_samples period) es) [
+      | true ↦ sum_by-cons (λ (c : NodeCount). c.count) (entry_count period e) (map (entry_count period) (filter is_exclusive es)) ∙ ap (λ (n : ℕ). e.value / period + n) (samples_are period es)
       | false ↦ samples_are period es ∙ (omega arith)
-    ] ∙ sym (sum_by-cons (samples_of period) e es)
+    ] ∙ sym (sum_by-cons (entry_samples period) e es)
 
 -- ---- what the rule says
 
@@ -202,7 +202,7 @@ module _ (period harts : ℕ) (nodes : List Node) (entries : List RawEntry) (kep
   is_next i = i == 0 || entries_ascend (entry_at entries (i - 1)) (at i)
 
   abbrev has_room : ℕ → Bool
-  has_room i = nat_le (sum_by (samples_of period) (take (i + 1) entries)) most_samples
+  has_room i = nat_le (sum_by (entry_samples period) (take (i + 1) entries)) most_samples
 
   whole : (i : ℕ) → i < length entries → (is_value period harts nodes (at i) && (is_next i && has_room i)) ≡ true
   whole i lt = not_false (is_value period harts nodes (at i) && (is_next i && has_room i)) (none_broken 6 (entry_breaks period harts nodes entries) (λ i. (entry_at entries i).offset) 0 (length entries) i kept (omega arith) (omega arith))
@@ -213,8 +213,8 @@ module _ (period harts : ℕ) (nodes : List Node) (entries : List RawEntry) (kep
   order_ok : (i : ℕ) → i < length entries → (is_next i ≡ true) × (has_room i ≡ true)
   order_ok i lt = and_parts (is_next i) (has_room i) (and_parts (is_value period harts nodes (at i)) (is_next i && has_room i) (whole i lt)).1
 
-  total_ok : (i : ℕ) → i < length entries → sum_by (samples_of period) (take (i + 1) entries) ≤ most_samples
-  total_ok i lt = fits (sum_by (samples_of period) (take (i + 1) entries)) most_samples (order_ok i lt).1
+  total_ok : (i : ℕ) → i < length entries → sum_by (entry_samples period) (take (i + 1) entries) ≤ most_samples
+  total_ok i lt = fits (sum_by (entry_samples period) (take (i + 1) entries)) most_samples (order_ok i lt).1
 
   next_up : (i : ℕ) → suc i < length entries → entries_ascend (at i) (at (suc i)) ≡ true
   next_up i lt =
@@ -249,14 +249,14 @@ module _ (period harts : ℕ) (nodes : List Node) (entries : List RawEntry) (kep
   exclusive = filter is_exclusive entries
 
   abbrev counts : List NodeCount
-  counts = map (count_of period) exclusive
+  counts = map (entry_count period) exclusive
 
-  apart : (e f : RawEntry) → entries_ascend e f ≡ true → is_exclusive e ≡ true → is_exclusive f ≡ true → same_place (count_of period e) (count_of period f) ≡ false
+  apart : (e f : RawEntry) → entries_ascend e f ≡ true → is_exclusive e ≡ true → is_exclusive f ≡ true → same_place (entry_count period e) (entry_count period f) ≡ false
   apart e f up first second = differ e.hart e.node e.kind f.hart f.node f.kind up (is_equal e.kind 0 first) (is_equal f.kind 0 second)
 
   distinct : IsDistinct same_place counts
   distinct = IsDistinct-from_apart same_place counts (λ i j d below lt.
-      let long = length-map exclusive (count_of period) in
+      let long = length-map exclusive (entry_count period) in
       let e : RawEntry = get_or exclusive i none in
       let f : RawEntry = get_or exclusive j none in
       let second : j < length exclusive = omega arith in
@@ -264,8 +264,8 @@ module _ (period harts : ℕ) (nodes : List Node) (entries : List RawEntry) (kep
       let up : entries_ascend e f ≡ true = AllPairs-filter (λ e f. entries_ascend e f ≡ true) is_exclusive entries ascend i j none below second in
       let e_is : is_exclusive e ≡ true = All-get_or (λ (x : RawEntry). is_exclusive x ≡ true) exclusive i none first (filter_passes is_exclusive entries) in
       let f_is : is_exclusive f ≡ true = All-get_or (λ (x : RawEntry). is_exclusive x ≡ true) exclusive j none second (filter_passes is_exclusive entries) in
-      subst (λ (b : NodeCount). same_place (get_or counts i d) b ≡ false) (sym (get_or-map (count_of period) exclusive j none d second))
-      (subst (λ (a : NodeCount). same_place a (count_of period f) ≡ false) (sym (get_or-map (count_of period) exclusive i none d first)) (apart e f up e_is f_is)))
+      subst (λ (b : NodeCount). same_place (get_or counts i d) b ≡ false) (sym (get_or-map (entry_count period) exclusive j none d second))
+      (subst (λ (a : NodeCount). same_place a (entry_count period f) ≡ false) (sym (get_or-map (entry_count period) exclusive i none d first)) (apart e f up e_is f_is)))
 
   -- each exclusive value, as a count
   abbrev IsGood : RawEntry → Type 0
@@ -317,13 +317,13 @@ module _ (period harts : ℕ) (nodes : List Node) (entries : List RawEntry) (kep
 
     -- each count is that of a node and a hart that there are, and counts some samples
     pub counts_inside : All (λ c. c.node < length nodes) counts
-    counts_inside = all_map (λ (c : NodeCount). c.node < length nodes) (count_of period) exclusive none (λ i d lt. good_node (get_or exclusive i d) (good i d lt))
+    counts_inside = all_map (λ (c : NodeCount). c.node < length nodes) (entry_count period) exclusive none (λ i d lt. good_node (get_or exclusive i d) (good i d lt))
 
     pub counts_harts : All (λ c. c.hart < harts) counts
-    counts_harts = all_map (λ (c : NodeCount). c.hart < harts) (count_of period) exclusive none (λ i d lt. good_hart (get_or exclusive i d) (good i d lt))
+    counts_harts = all_map (λ (c : NodeCount). c.hart < harts) (entry_count period) exclusive none (λ i d lt. good_hart (get_or exclusive i d) (good i d lt))
 
     pub counts_some : All (λ c. 0 < c.count) counts
-    counts_some = all_map (λ (c : NodeCount). 0 < c.count) (count_of period) exclusive none some_counts
+    counts_some = all_map (λ (c : NodeCount). 0 < c.count) (entry_count period) exclusive none some_counts
 
     -- the tree of the sorted counts
     module _ (sorted : List NodeCount) (moved : IsPermutation counts sorted) (up : AllPairs (λ a b. count_order b a ≢ Less) sorted) (few : length nodes < no_parent) (preorder : IsPreorder nodes) where
@@ -339,18 +339,18 @@ module _ (period harts : ℕ) (nodes : List Node) (entries : List RawEntry) (kep
 
   -- ---- samples
 
-  all_samples : (n : ℕ) → length entries ≡ n → sum_by (samples_of period) entries ≤ most_samples
-  all_samples zero is = subst (λ (es : List RawEntry). sum_by (samples_of period) es ≤ most_samples) (take_all (length entries) entries (omega arith)) (subst (λ (k : ℕ). sum_by (samples_of period) (take k entries) ≤ most_samples) (sym is) (omega arith))
-  all_samples (suc n) is = subst (λ (es : List RawEntry). sum_by (samples_of period) es ≤ most_samples) (take_all (n + 1) entries (omega arith)) (total_ok n (omega arith))
+  all_samples : (n : ℕ) → length entries ≡ n → sum_by (entry_samples period) entries ≤ most_samples
+  all_samples zero is = subst (λ (es : List RawEntry). sum_by (entry_samples period) es ≤ most_samples) (take_all (length entries) entries (omega arith)) (subst (λ (k : ℕ). sum_by (entry_samples period) (take k entries) ≤ most_samples) (sym is) (omega arith))
+  all_samples (suc n) is = subst (λ (es : List RawEntry). sum_by (entry_samples period) es ≤ most_samples) (take_all (n + 1) entries (omega arith)) (total_ok n (omega arith))
 
   pub few_samples : counts_in counts ≤ most_samples
   few_samples = let all = all_samples (length entries) refl in let are = samples_are period entries in omega (arith, all, are)
 
-  pub each_few : All (λ e. samples_of period e ≤ most_samples) entries
+  pub each_few : All (λ e. entry_samples period e ≤ most_samples) entries
   each_few i d lt =
-      let more = sum_by_more (samples_of period) entries i none lt in
+      let more = sum_by_more (entry_samples period) entries i none lt in
       let most = total_ok i lt in
-      subst (λ (e : RawEntry). samples_of period e ≤ most_samples) (sym (get_or_default entries i d none lt)) (omega (arith, more, most))
+      subst (λ (e : RawEntry). entry_samples period e ≤ most_samples) (sym (get_or_default entries i d none lt)) (omega (arith, more, most))
 
 pub few_moved : (cs ds : List NodeCount) → IsPermutation cs ds → counts_in cs ≤ most_samples → counts_in ds ≤ most_samples
 few_moved cs ds moved few = let same = sum_by-IsPermutation (λ (c : NodeCount). c.count) cs ds moved in omega (arith, same, few)
@@ -389,9 +389,9 @@ pub moved_from : (old is new : List NodeCount) → old ≡ is → IsPermutation 
 moved_from old is new same moved = subst (λ (cs : List NodeCount). IsPermutation cs new) same moved
 
 -- behind an entry that is not broken the samples are few
-pub passed_sum : (period harts : ℕ) (nodes : List Node) (entries : List RawEntry) (i : ℕ) → entry_breaks period harts nodes entries i ≡ false → sum_by (samples_of period) (take (i + 1) entries) ≤ most_samples
+pub passed_sum : (period harts : ℕ) (nodes : List Node) (entries : List RawEntry) (i : ℕ) → entry_breaks period harts nodes entries i ≡ false → sum_by (entry_samples period) (take (i + 1) entries) ≤ most_samples
 passed_sum period harts nodes entries i whole =
     let value : Bool = is_value period harts nodes (entry_at entries i) in
     let next : Bool = i == 0 || entries_ascend (entry_at entries (i - 1)) (entry_at entries i) in
-    let room : Bool = nat_le (sum_by (samples_of period) (take (i + 1) entries)) most_samples in
-    fits (sum_by (samples_of period) (take (i + 1) entries)) most_samples (and_parts next room (and_parts value (next && room) (not_false (value && (next && room)) whole)).1).1
+    let room : Bool = nat_le (sum_by (entry_samples period) (take (i + 1) entries)) most_samples in
+    fits (sum_by (entry_samples period) (take (i + 1) entries)) most_samples (and_parts next room (and_parts value (next && room) (not_false (value && (next && room)) whole)).1).1

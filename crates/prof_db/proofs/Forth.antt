@@ -6,12 +6,12 @@ use Rattle.std.proofs.lemmas.Bool.{le-ltb}
 use Rattle.std.proofs.lemmas.List.{drop-drop, length-append}
 use Rattle.std.proofs.lemmas.List.Elements.{All-head, All-tail}
 use Rattle.byteorder.specs.Numbers.{length-bytes_low_first, little_number-reads_back}
-use Rattle.prof_bytes.specs.Number.{number_bytes, number_in}
+use Rattle.prof_bytes.specs.Number.{number_bytes, number_in, word}
 use Rattle.prof_bytes.specs.Outcome.{◌>>=◌}
 use Rattle.prof_bytes.specs.Reading.{At, left_of, moved}
 use Rattle.prof_db.specs.Fields.{Read, adding, bytes_from, not_whole, number_from, times, word_from}
 use Rattle.prof_db.specs.Layout.{text_from}
-use Rattle.prof_db.specs.Spelling.{text_bytes, word}
+use Rattle.prof_db.specs.Spelling.{text_bytes}
 use Rattle.prof_db.specs.Stored.{IsWord}
 
 -- a read gives a value, and leaves these bytes

@@ -17,7 +17,8 @@ use Rattle.prof_db.specs.declared.raw.RawProc.{RawProc}
 use Rattle.prof_db.specs.Fields.{Read, fault, not_whole, times}
 use Rattle.prof_db.specs.Layout.{after_magic, body_from, file_from, head_from, layout_in, node_from, past_column, proc_from}
 use Rattle.prof_db.specs.NameRules.{file_name}
-use Rattle.prof_db.specs.Spelling.{context_entry_bytes, file_bytes, node_bytes, procedure_bytes, profile_entry_bytes, spelling, with_count, word, words}
+use Rattle.prof_db.specs.Spelling.{context_entry_bytes, file_bytes, node_bytes, procedure_bytes, profile_entry_bytes, spelling, with_count}
+use Rattle.prof_bytes.specs.Number.{word, words}
 use Rattle.prof_db.specs.Stored.{IsWord}
 use Rattle.prof_db.proofs.BackFile.{behind_columns, behind_file_list, behind_files, behind_harts, behind_head, behind_magic, behind_node_list, behind_past, behind_period, behind_proc_list, behind_procs, body_is, head_end, layout_is, made_of, magic}
 use Rattle.prof_db.proofs.Forth.{Comes, items_forth, word_forth}

@@ -25,7 +25,8 @@ use Rattle.prof_db.specs.declared.raw.RawScope.TheVariants.{Root, Proc, Inline, 
 use Rattle.prof_db.specs.Fields.{Read}
 use Rattle.prof_db.specs.Layout.{address_from, call_from, file_from, frame_from, inline_from, line_from, node_from, proc_from, root_from, row_from, scope_from, stmt_from}
 use Rattle.prof_db.specs.NameRules.{file_name}
-use Rattle.prof_db.specs.Spelling.{file_bytes, file_index, line_numbers, node_bytes, proc_index, procedure_bytes, scope_numbers, text_bytes, word, words}
+use Rattle.prof_db.specs.Spelling.{file_bytes, file_index, line_numbers, node_bytes, proc_index, procedure_bytes, scope_numbers, text_bytes}
+use Rattle.prof_bytes.specs.Number.{word, words}
 use Rattle.prof_db.specs.Stored.{IsWord}
 use Rattle.prof_db.proofs.BackItems.{address_end, behind_callee, behind_file, behind_kind, behind_number, behind_parent, behind_row_file, behind_table, by_line_kind, by_tag, call_end, file_end, frame_end, inline_end, node_end, proc_end, raw_line_numbers, raw_scope_numbers, root_end, row_end, stmt_end}
 use Rattle.prof_db.proofs.Forth.{Comes, Reads, text_forth, word_forth}

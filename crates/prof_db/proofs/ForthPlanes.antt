@@ -4,7 +4,7 @@ use Rattle.std.proofs.lemmas.List.{map-append}
 use Rattle.std.specs.List.{enumerate_from, flat_map}
 use Rattle.std.proofs.lemmas.Bool.{and_from, eq-eqb}
 use Rattle.std.proofs.lemmas.List.Elements.{All-append, All-cons, All-head, All-nil, All-tail}
-use Rattle.prof_bytes.specs.Number.{number_in}
+use Rattle.prof_bytes.specs.Number.{number_in, word}
 use Rattle.prof_bytes.specs.Outcome.{◌>>=◌}
 use Rattle.prof_bytes.specs.Reading.{At, left_of, moved}
 use Rattle.tree_types.specs.declared.content.ContextEntry.{ContextEntry}
@@ -14,7 +14,7 @@ use Rattle.tree_types.specs.declared.content.ProfileEntry.{ProfileEntry}
 use Rattle.prof_db.specs.declared.raw.RawEntry.{RawEntry}
 use Rattle.prof_db.specs.Fields.{Read, fault, times}
 use Rattle.prof_db.specs.Layout.{column_from, entry_from, past_column, past_entry}
-use Rattle.prof_db.specs.Spelling.{context_entry_bytes, kind_number, long, profile_entry_bytes, with_count, word}
+use Rattle.prof_db.specs.Spelling.{context_entry_bytes, kind_number, long, profile_entry_bytes, with_count}
 use Rattle.prof_db.specs.Stored.{IsWord}
 use Rattle.prof_db.specs.ValueRules.{Field, column_fields, context_fields, fields_kept, plane_fields, profile_fields, stands_at}
 use Rattle.prof_db.proofs.BackPlanes.{behind_count, behind_entry_kind, behind_entry_node, behind_hart, behind_past_count, behind_past_kind, entry_end, field_bytes, past_end}

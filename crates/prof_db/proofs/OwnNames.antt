@@ -32,7 +32,7 @@ use Rattle.tree_types.proofs.PathSteps.{as_many_paths}
 use Rattle.tree_types.proofs.Selecting.{map_of_flat_map}
 use Rattle.tree_types.proofs.Sorting.{bool_same, has, has_ascending, has-from_Contains, Contains-from_has, same_sorted, sorted_ascending}
 use Rattle.prof_db.specs.NameRules.{file_at, file_breaks, file_is_wrong, file_name, files_ascend, files_kept, is_among, is_proc, line_file, most_name_bytes, names_in, pair_less, proc_at, proc_breaks, proc_id, proc_is_wrong, proc_name, procs_ascend, procs_kept, scope_file, scope_proc, used_files, used_procs}
-use Rattle.prof_db.specs.NodeRules.{in_range, line_in_range, line_of, node_of, scope_of}
+use Rattle.prof_db.specs.NodeRules.{in_range, line_in_range, line_id, node_of, scope_of}
 use Rattle.prof_db.specs.declared.raw.Layout.{Layout}
 use Rattle.prof_db.specs.declared.raw.RawFile.{RawFile}
 use Rattle.prof_db.specs.declared.raw.RawLine.{RawLine}
@@ -269,7 +269,7 @@ proc_key ps k = (get_or ps k (record { id = Nameless; name = [] })).id
 abbrev file_key_at : List FileName → ℕ → FileId
 file_key_at fs k = file_key (get_or fs k (record { table = 0; file = 0; name = [] }))
 
-line_uses : (names : Names) (line : RawLine) → line_files (line_of names line) ≡ map (file_key_at names.files) (line_file line)
+line_uses : (names : Names) (line : RawLine) → line_files (line_id names line) ≡ map (file_key_at names.files) (line_file line)
 line_uses names (raw_lines.Row f line) = refl
 line_uses names (raw_lines.Address address) = refl
 

@@ -30,7 +30,7 @@ use Rattle.prof_db.specs.declared.raw.RawScope.TheVariants as raws
 use Rattle.prof_db.specs.NameRules.{is_among, names_in}
 use Rattle.prof_db.specs.NodeRules.{in_preorder, in_range, is_placed, is_statement, node_breaks, node_is_wrong, node_of, parents_of, raw_node_at}
 use Rattle.prof_db.specs.Rules.{database_in}
-use Rattle.prof_db.specs.ValueRules.{count_of, is_exclusive, sampled, statement_breaks, tree_of}
+use Rattle.prof_db.specs.ValueRules.{entry_count, is_exclusive, sampled_nodes, statement_breaks, tree_of}
 use Rattle.prof_db.proofs.Exclusive.{counts_harts, counts_inside, counts_some, few_samples}
 use Rattle.prof_db.proofs.OwnNames.{among_at, contains_map, names_own}
 use Rattle.prof_db.proofs.OwnPaths.{listed_own, nodes_own, own_is, paths_all, some_scope}
@@ -99,22 +99,22 @@ module _ (layout : Layout) (c : Content) (p : Passed layout c) where
   exclusive = filter is_exclusive layout.entries
 
   abbrev counts : List NodeCount
-  counts = map (count_of layout.period) exclusive
+  counts = map (entry_count layout.period) exclusive
 
   statement_sampled : (i : ℕ) → i < length ns → is_statement (node_at ns i).scope ≡ true → (k : NodeCount) × Contains counts k × (k.node ≡ i) × (0 < k.count)
   statement_sampled i lt is =
-      let whole = none_broken 6 (statement_breaks ns (sampled layout.entries)) (λ i. (raw_node_at layout.nodes i).offset) 0 (length ns) i p.statements (omega arith) (omega arith) in
-      let there : is_among (sampled layout.entries) i ≡ true =
-      not-false (is_among (sampled layout.entries) i) (sym (ap (λ b. b && not (is_among (sampled layout.entries) i)) is) ∙ whole) in
-      let a = among_at (sampled layout.entries) i there in
+      let whole = none_broken 6 (statement_breaks ns (sampled_nodes layout.entries)) (λ i. (raw_node_at layout.nodes i).offset) 0 (length ns) i p.statements (omega arith) (omega arith) in
+      let there : is_among (sampled_nodes layout.entries) i ≡ true =
+      not-false (is_among (sampled_nodes layout.entries) i) (sym (ap (λ b. b && not (is_among (sampled_nodes layout.entries) i)) is) ∙ whole) in
+      let a = among_at (sampled_nodes layout.entries) i there in
       let long = length-map exclusive (λ (e : RawEntry). e.node) in
       let within : a.0 < length exclusive = (let less = a.1 in omega (arith, less, long)) in
       let d : RawEntry = record { offset = 0; hart = 0; node = 0; kind = 0; value = 0 } in
-      let has : Contains counts (count_of layout.period (get_or exclusive a.0 d)) = contains_map (count_of layout.period) exclusive a.0 d within in (
-        count_of layout.period (get_or exclusive a.0 d),
+      let has : Contains counts (entry_count layout.period (get_or exclusive a.0 d)) = contains_map (entry_count layout.period) exclusive a.0 d within in (
+        entry_count layout.period (get_or exclusive a.0 d),
         has,
         sym (get_or-map (λ (e : RawEntry). e.node) exclusive a.0 d 0 within) ∙ a.2,
-        All-contains (λ (k : NodeCount). 0 < k.count) counts (count_of layout.period (get_or exclusive a.0 d)) (counts_some layout.period layout.harts ns layout.entries p.entries period_some) has,
+        All-contains (λ (k : NodeCount). 0 < k.count) counts (entry_count layout.period (get_or exclusive a.0 d)) (counts_some layout.period layout.harts ns layout.entries p.entries period_some) has,
       )
 
   -- ---- the paths

@@ -15,7 +15,7 @@ use Rattle.prof_db.specs.Layout.{layout_in}
 use Rattle.prof_db.specs.NameRules.{files_kept, head_kept, names_in, names_kept, procs_kept, used_files, used_procs}
 use Rattle.prof_db.specs.NodeRules.{node_of, nodes_kept}
 use Rattle.prof_db.specs.Rules.{content_in, database_in, nodes_in, planes_in, values_in}
-use Rattle.prof_db.specs.ValueRules.{context_fields, entries_kept, fields_kept, plane_fields, profile_fields, sampled, statements_kept}
+use Rattle.prof_db.specs.ValueRules.{context_fields, entries_kept, fields_kept, plane_fields, profile_fields, sampled_nodes, statements_kept}
 use Rattle.prof_db.proofs.Outcomes.{bind_ok, guard_ok, kept_ok, ok_same}
 
 -- ---- the rules, one behind the other
@@ -36,7 +36,7 @@ abbrev pub behind_statements : Layout → Content → Unit {0} → Read
 behind_statements layout content done = fields_kept 7 (plane_fields context_fields content.contexts) layout.contexts >>= behind_contexts content
 
 abbrev pub behind_profiles : Layout → Content → Unit {0} × At → Read
-behind_profiles layout content read = statements_kept layout.nodes content.nodes (sampled layout.entries) >>= behind_statements layout content
+behind_profiles layout content read = statements_kept layout.nodes content.nodes (sampled_nodes layout.entries) >>= behind_statements layout content
 
 pub planes_are : (layout : Layout) (content : Content) → planes_in layout content ≡ (fields_kept 6 (plane_fields profile_fields content.profiles) layout.profiles >>= behind_profiles layout content)
 unfolding planes_in
@@ -83,7 +83,7 @@ pub record Passed (layout : Layout) (c : Content) : Type 0 where
   pub entries : entries_kept layout.period layout.harts (own_nodes layout) layout.entries ≡ Ok tt
   pub behind_profiles : At
   pub profiles : fields_kept 6 (plane_fields profile_fields (own_content layout).profiles) layout.profiles ≡ Ok (tt, behind_profiles)
-  pub statements : statements_kept layout.nodes (own_nodes layout) (sampled layout.entries) ≡ Ok tt
+  pub statements : statements_kept layout.nodes (own_nodes layout) (sampled_nodes layout.entries) ≡ Ok tt
   pub behind_contexts : At
   pub contexts : fields_kept 7 (plane_fields context_fields (own_content layout).contexts) layout.contexts ≡ Ok (tt, behind_contexts)
   pub is : own_content layout ≡ c
@@ -101,7 +101,7 @@ passed bytes c read =
     (sym (values_are layout (own_content layout)) ∙ nodes.1) in
     let profiles = bind_ok (fields_kept 6 (plane_fields profile_fields (own_content layout).profiles) layout.profiles) (behind_profiles layout (own_content layout)) c
     (sym (planes_are layout (own_content layout)) ∙ entries.1) in
-    let statements = kept_ok (statements_kept layout.nodes (own_nodes layout) (sampled layout.entries)) (behind_statements layout (own_content layout)) c profiles.2 in
+    let statements = kept_ok (statements_kept layout.nodes (own_nodes layout) (sampled_nodes layout.entries)) (behind_statements layout (own_content layout)) c profiles.2 in
     let contexts = bind_ok (fields_kept 7 (plane_fields context_fields (own_content layout).contexts) layout.contexts) (behind_contexts (own_content layout)) c statements.1 in (
       layout,
       a.1,

@@ -43,7 +43,7 @@ use Rattle.prof_db.specs.declared.raw.RawEntry.{RawEntry}
 use Rattle.prof_db.specs.NodeRules.{is_statement}
 use Rattle.prof_db.specs.Spelling.{kind_number}
 use Rattle.prof_db.specs.Stored.{IsStored}
-use Rattle.prof_db.specs.ValueRules.{count_of, entries_ascend, entry_at, entry_breaks, is_exclusive, is_value, samples_of, tree_of}
+use Rattle.prof_db.specs.ValueRules.{entry_count, entries_ascend, entry_at, entry_breaks, is_exclusive, is_value, entry_samples, tree_of}
 use Rattle.prof_db.proofs.Exclusive.{first_up, samples_are, second_up, third_up}
 use Rattle.prof_db.proofs.ForthPlanes.{raw_column, raw_entry}
 use Rattle.prof_db.proofs.OwnNames.{all_lists, pairs_map}
@@ -56,13 +56,13 @@ module _ (period : ℕ) (ns : List Node) where
   copies c = replicate c.count (counted_path ns c)
 
   abbrev of_entries : List RawEntry → List HartPath
-  of_entries es = flat_map copies (map (count_of period) (filter is_exclusive es))
+  of_entries es = flat_map copies (map (entry_count period) (filter is_exclusive es))
 
   entries_append : (a b : List RawEntry) → of_entries (a ++ b) ≡ of_entries a ++ of_entries b
   entries_append a b =
-      ap (λ (es : List RawEntry). flat_map copies (map (count_of period) es)) (filter-append is_exclusive a b)
-      ∙ ap (flat_map copies) (map-append (count_of period) (filter is_exclusive a) (filter is_exclusive b))
-      ∙ flat_map-append copies (map (count_of period) (filter is_exclusive a)) (map (count_of period) (filter is_exclusive b))
+      ap (λ (es : List RawEntry). flat_map copies (map (entry_count period) es)) (filter-append is_exclusive a b)
+      ∙ ap (flat_map copies) (map-append (entry_count period) (filter is_exclusive a) (filter is_exclusive b))
+      ∙ flat_map-append copies (map (entry_count period) (filter is_exclusive a)) (map (entry_count period) (filter is_exclusive b))
 
   column_paths : (hart : ℕ) (es : List ProfileEntry) → of_entries (map (raw_entry hart) es) ≡ flat_map (entry_paths period (tree_paths ns) hart) es
   column_paths hart [] = refl
@@ -336,7 +336,7 @@ module _ (c : Content) (s : IsStored c) where
       let value_is : is_value c.period c.harts ns e ≡ true =
       and_from _ _ (lt-ltb e.node (length ns) g.node) (and_from _ _ (lt-ltb e.hart c.harts g.hart) (and_from _ _ (lt-ltb e.kind 3 g.kind) (and_from _ _ some excl))) in
       let next : (i == 0 || entries_ascend (entry_at entries (i - 1)) e) ≡ true = is_next i lt in
-      let room : nat_le (sum_by (samples_of c.period) (take (i + 1) entries)) most_samples ≡ true = le-leb (sum_by (samples_of c.period) (take (i + 1) entries)) most_samples (enough i) in
+      let room : nat_le (sum_by (entry_samples c.period) (take (i + 1) entries)) most_samples ≡ true = le-leb (sum_by (entry_samples c.period) (take (i + 1) entries)) most_samples (enough i) in
       ap not (and_from _ _ value_is (and_from _ _ next room))
     where
       is_next : (i : ℕ) → i < length entries → (i == 0 || entries_ascend (entry_at entries (i - 1)) (entry_at entries i)) ≡ true
@@ -346,9 +346,9 @@ module _ (c : Content) (s : IsStored c) where
           or_right (suc i == 0) (entries_ascend (entry_at entries (suc i - 1)) (entry_at entries (suc i)))
           (ap (λ (j : ℕ). entries_ascend (entry_at entries j) (entry_at entries (suc i))) k ∙ ascend i (suc i) _ (omega arith) lt)
 
-      enough : (i : ℕ) → sum_by (samples_of c.period) (take (i + 1) entries) ≤ most_samples
+      enough : (i : ℕ) → sum_by (entry_samples c.period) (take (i + 1) entries) ≤ most_samples
       enough i =
-          let part = sum_by-take-le (samples_of c.period) entries (i + 1) in
+          let part = sum_by-take-le (entry_samples c.period) entries (i + 1) in
           let all = samples_are c.period entries in
           let many = paths_in_tree tree in
           let most = few_samples in

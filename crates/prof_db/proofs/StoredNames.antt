@@ -29,7 +29,7 @@ use Rattle.tree_types.proofs.NamesAgain.{file_order_tells, file_order_total, pro
 use Rattle.tree_types.proofs.Selecting.{map_of_flat_map, map_of_map}
 use Rattle.tree_types.proofs.Sorting.{Contains-from_has, has, has-from_Contains, has_ascending}
 use Rattle.prof_db.specs.NameRules.{is_among, line_file, scope_file, scope_proc}
-use Rattle.prof_db.specs.NodeRules.{in_range, line_in_range, line_of, node_of, scope_of}
+use Rattle.prof_db.specs.NodeRules.{in_range, line_in_range, line_id, node_of, scope_of}
 use Rattle.prof_db.specs.Spelling.{file_index, proc_index}
 use Rattle.prof_db.specs.Stored.{IsStored}
 use Rattle.prof_db.proofs.BackNames.{position_own}
@@ -149,7 +149,7 @@ module _ (c : Content) (s : IsStored c) where
   file_parts : (a b : FileId) → a ≡ b → (a.0 ≡ b.0) × (a.1 ≡ b.1)
   file_parts a b is = (ap (λ (f : FileId). f.0) is, ap (λ (f : FileId). f.1) is)
 
-  line_again : (line : LineId) → All (Contains files_of_nodes) (line_files line) → line_of names (raw_line names line) ≡ line
+  line_again : (line : LineId) → All (Contains files_of_nodes) (line_files line) → line_id names (raw_line names line) ≡ line
   line_again (lines.Row table file line) found =
       let is = (file_found (table, file) (only (Contains files_of_nodes) (table, file) found)).1 in
       let parts = file_parts _ _ is in

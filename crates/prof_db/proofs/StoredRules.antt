@@ -43,7 +43,7 @@ use Rattle.prof_db.specs.NodeRules.{in_preorder, in_range, is_placed, is_stateme
 use Rattle.prof_db.specs.Rules.{content_in, database_in, nodes_in, planes_in, values_in}
 use Rattle.prof_db.specs.Spelling.{file_index, proc_index, spelling}
 use Rattle.prof_db.specs.Stored.{IsNamed, IsStored}
-use Rattle.prof_db.specs.ValueRules.{context_fields, count_of, entries_ascend, entries_kept, entry_at, entry_breaks, fields_kept, is_exclusive, is_value, plane_fields, profile_fields, sampled, samples_of, statement_breaks, statements_kept, tree_of}
+use Rattle.prof_db.specs.ValueRules.{context_fields, entry_count, entries_ascend, entries_kept, entry_at, entry_breaks, fields_kept, is_exclusive, is_value, plane_fields, profile_fields, sampled_nodes, entry_samples, statement_breaks, statements_kept, tree_of}
 use Rattle.prof_db.proofs.BackPlanes.{context_bytes, profile_bytes}
 use Rattle.prof_db.proofs.ForthFile.{IsLaid, context_plane, layout_forth, layout_of}
 use Rattle.prof_db.proofs.ForthItems.{bare_node, bare_proc, proc_kind, proc_number, proc_words_are, raw_node, raw_proc}
@@ -142,15 +142,15 @@ bare_at (e ∷ es) (suc k) = bare_at es k
 
 bare_breaks : (period harts : ℕ) (nodes : List Node) (es : List RawEntry) (i : ℕ) → entry_breaks period harts nodes (map bare_entry es) i ≡ entry_breaks period harts nodes es i
 bare_breaks period harts nodes es i =
-    let sums : sum_by (samples_of period) (take (i + 1) (map bare_entry es)) ≡ sum_by (samples_of period) (take (i + 1) es) =
-    ap (sum_by (samples_of period)) (take-map bare_entry (i + 1) es) ∙ sum_by-map (samples_of period) bare_entry (take (i + 1) es) in
+    let sums : sum_by (entry_samples period) (take (i + 1) (map bare_entry es)) ≡ sum_by (entry_samples period) (take (i + 1) es) =
+    ap (sum_by (entry_samples period)) (take-map bare_entry (i + 1) es) ∙ sum_by-map (entry_samples period) bare_entry (take (i + 1) es) in
     λ t. not (is_value period harts nodes (bare_at es i t) && ((i == 0 || entries_ascend (bare_at es (i - 1) t) (bare_at es i t)) && nat_le (sums t) most_samples))
 
-bare_counts : (period : ℕ) (es : List RawEntry) → map (count_of period) (filter is_exclusive (map bare_entry es)) ≡ map (count_of period) (filter is_exclusive es)
+bare_counts : (period : ℕ) (es : List RawEntry) → map (entry_count period) (filter is_exclusive (map bare_entry es)) ≡ map (entry_count period) (filter is_exclusive es)
 bare_counts period es =
-    ap (map (count_of period)) (filter_of_map is_exclusive bare_entry es) ∙ map_of_map (count_of period) bare_entry (filter is_exclusive es)
+    ap (map (entry_count period)) (filter_of_map is_exclusive bare_entry es) ∙ map_of_map (entry_count period) bare_entry (filter is_exclusive es)
 
-bare_sampled : (es : List RawEntry) → sampled (map bare_entry es) ≡ sampled es
+bare_sampled : (es : List RawEntry) → sampled_nodes (map bare_entry es) ≡ sampled_nodes es
 bare_sampled es = ap (map (λ (e : RawEntry). e.node)) (filter_of_map is_exclusive bare_entry es) ∙ map_of_map (λ (e : RawEntry). e.node) bare_entry (filter is_exclusive es)
 
 module _ (c : Content) (s : IsStored c) (laid : IsLaid c) where
@@ -293,7 +293,7 @@ module _ (c : Content) (s : IsStored c) (laid : IsLaid c) where
 
   tree_is : tree_of c.period c.harts c.nodes laid.entries ≡ tree c s
   tree_is =
-      let same = sym (bare_counts c.period laid.entries) ∙ ap (λ (es : List RawEntry). map (count_of c.period) (filter is_exclusive es)) laid.same_entries in
+      let same = sym (bare_counts c.period laid.entries) ∙ ap (λ (es : List RawEntry). map (entry_count c.period) (filter is_exclusive es)) laid.same_entries in
       λ i. record { harts = c.harts; nodes = c.nodes; counts = same i }
 
   content_is : content_in layout names c.nodes ≡ c
@@ -315,7 +315,7 @@ module _ (c : Content) (s : IsStored c) (laid : IsLaid c) where
   -- ---- each statement has samples
 
   abbrev IsSampled : ℕ → HartPath → Type 0
-  IsSampled i p = p.path ≡ node_path c.nodes i → is_among (sampled (entries c s)) i ≡ true
+  IsSampled i p = p.path ≡ node_path c.nodes i → is_among (sampled_nodes (entries c s)) i ≡ true
 
   abbrev exclusive : List RawEntry
   exclusive = filter is_exclusive (entries c s)
@@ -323,30 +323,30 @@ module _ (c : Content) (s : IsStored c) (laid : IsLaid c) where
   abbrev no_entry : RawEntry
   no_entry = record { offset = 0; hart = 0; node = 0; kind = 0; value = 0 }
 
-  statement_sampled : (i : ℕ) → i < length c.nodes → is_statement (node_at c.nodes i).scope ≡ true → is_among (sampled (entries c s)) i ≡ true
+  statement_sampled : (i : ℕ) → i < length c.nodes → is_statement (node_at c.nodes i).scope ≡ true → is_among (sampled_nodes (entries c s)) i ≡ true
   statement_sampled i lt is =
       let p = statement_ends c s i lt is in
       let all : All (IsSampled i) (paths_of c) = subst (All (IsSampled i)) (paths_are c s) (paths_all (tree c s) (IsSampled i) counted) in
       All-contains (IsSampled i) (paths_of c) p.0 all p.1 p.2
     where
-      counted : All (λ k. IsSampled i (counted_path c.nodes k)) (map (count_of c.period) exclusive)
-      counted = All-map (λ (k : NodeCount). IsSampled i (counted_path c.nodes k)) (count_of c.period) exclusive (λ j d less path_is.
+      counted : All (λ k. IsSampled i (counted_path c.nodes k)) (map (entry_count c.period) exclusive)
+      counted = All-map (λ (k : NodeCount). IsSampled i (counted_path c.nodes k)) (entry_count c.period) exclusive (λ j d less path_is.
           let e : RawEntry = get_or exclusive j d in
           let long = as_many_paths c.nodes in
           let many = length-map exclusive (λ (x : RawEntry). x.node) in
           let node : e.node < length c.nodes = (All-filter is_exclusive (λ (x : RawEntry). x.node < length c.nodes) (entries c s) (λ k f within. (good c s k f within).node)) j d less in
           let same : e.node ≡ i = numbers_tell (tree_paths c.nodes) (preorder c s).ascend e.node i (omega (arith, node, long)) (omega (arith, lt, long)) path_is in
-          let at : get_or (sampled (entries c s)) j 0 ≡ i = get_or-map (λ (x : RawEntry). x.node) exclusive j d 0 less ∙ same in
-          list_any_at (λ (k : ℕ). k == i) (sampled (entries c s)) j 0 (omega (arith, less, many)) (eq-eqb (get_or (sampled (entries c s)) j 0) i at))
+          let at : get_or (sampled_nodes (entries c s)) j 0 ≡ i = get_or-map (λ (x : RawEntry). x.node) exclusive j d 0 less ∙ same in
+          list_any_at (λ (k : ℕ). k == i) (sampled_nodes (entries c s)) j 0 (omega (arith, less, many)) (eq-eqb (get_or (sampled_nodes (entries c s)) j 0) i at))
 
-  statements_ok : statements_kept laid.nodes c.nodes (sampled laid.entries) ≡ Ok tt
+  statements_ok : statements_kept laid.nodes c.nodes (sampled_nodes laid.entries) ≡ Ok tt
   statements_ok =
-      none_fails 6 (statement_breaks c.nodes (sampled laid.entries)) (λ i. (raw_node_at laid.nodes i).offset) 0 (length c.nodes) (λ k lt. whole k (omega (arith, lt)))
+      none_fails 6 (statement_breaks c.nodes (sampled_nodes laid.entries)) (λ i. (raw_node_at laid.nodes i).offset) 0 (length c.nodes) (λ k lt. whole k (omega (arith, lt)))
     where
-      whole : (k : ℕ) → k < length c.nodes → statement_breaks c.nodes (sampled laid.entries) k ≡ false
+      whole : (k : ℕ) → k < length c.nodes → statement_breaks c.nodes (sampled_nodes laid.entries) k ≡ false
       whole k lt =
-          let same : is_among (sampled laid.entries) k ≡ is_among (sampled (entries c s)) k = ap (λ (l : List ℕ). is_among l k) (sym (bare_sampled laid.entries) ∙ ap sampled laid.same_entries) in
-          elim (is_statement (node_at c.nodes k).scope) as (λ b. is_statement (node_at c.nodes k).scope ≡ b → (b && not (is_among (sampled laid.entries) k)) ≡ false) [
+          let same : is_among (sampled_nodes laid.entries) k ≡ is_among (sampled_nodes (entries c s)) k = ap (λ (l : List ℕ). is_among l k) (sym (bare_sampled laid.entries) ∙ ap sampled_nodes laid.same_entries) in
+          elim (is_statement (node_at c.nodes k).scope) as (λ b. is_statement (node_at c.nodes k).scope ≡ b → (b && not (is_among (sampled_nodes laid.entries) k)) ≡ false) [
             | true ↦ λ e. ap not (same ∙ statement_sampled k lt e)
             | false ↦ λ e. refl
           ] refl

@@ -2,7 +2,7 @@
 use Rattle.std.proofs.Common.{◌≡◌, ℕ, ◌%◌, ◌^◌, List, [], ◌++◌, sym, ap, ◌∙◌, append_assoc, rules}
 use Rattle.std.proofs.lemmas.List.Concat.{flat_map-append}
 use Rattle.prof_bytes.proofs.Appending.{two_parts}
-use Rattle.prof_db.specs.Spelling.{word, words}
+use Rattle.prof_bytes.specs.Number.{word, words}
 
 -- words in two parts
 pub words_parts : (start a b : List ℕ) (front back : List ℕ) → a ≡ start ++ words front → b ≡ a ++ words back → b ≡ start ++ words (front ++ back)

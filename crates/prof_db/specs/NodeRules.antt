@@ -33,16 +33,16 @@ proc_numbered names p = (slice_index_or names.procs p (record { id = Nameless; n
 abbrev pub file_numbered : Names → ℕ → FileName
 file_numbered names f = slice_index_or names.files f (record { table = 0; file = 0; name = [] })
 
-abbrev pub line_of : Names → RawLine → LineId
-line_of names (Row f line) = lines.Row (file_numbered names f).table (file_numbered names f).file line
-line_of names (Address address) = lines.Address address
+abbrev pub line_id : Names → RawLine → LineId
+line_id names (Row f line) = lines.Row (file_numbered names f).table (file_numbered names f).file line
+line_id names (Address address) = lines.Address address
 
 abbrev pub scope_of : Names → RawScope → Scope
 scope_of names (Root kind) = scopes.Root (if kind == 0 then Thread else Partial)
 scope_of names (Proc p) = scopes.Proc (proc_numbered names p)
-scope_of names (Inline p line) = scopes.Inline (proc_numbered names p) (line_of names line)
-scope_of names (Call line) = scopes.Call (line_of names line)
-scope_of names (Stmt line) = scopes.Stmt (line_of names line)
+scope_of names (Inline p line) = scopes.Inline (proc_numbered names p) (line_id names line)
+scope_of names (Call line) = scopes.Call (line_id names line)
+scope_of names (Stmt line) = scopes.Stmt (line_id names line)
 
 abbrev pub node_of : Names → RawNode → Node
 node_of names n = record { parent = n.parent; scope = scope_of names n.scope }
@@ -70,8 +70,8 @@ line_up nodes (suc most) i = if nat_lt i (length nodes) then i ∷ line_up nodes
 abbrev pub siblings_ascend : Node → Node → Bool
 siblings_ascend m n = m.parent == n.parent && is_lt (scope_order m.scope n.scope)
 
--- a node is the first child of the node before it, or a sibling of that node or of one of its ancestors, behind which its
--- scope comes; the first node is a root
+-- a node is the first child of the node before it, or a sibling of that node or of one of its ancestors, behind which
+-- its scope comes; the first node is a root
 abbrev pub in_preorder : List Node → ℕ → Bool
 in_preorder nodes zero = (node_at nodes 0).parent == no_parent
 in_preorder nodes (suc i) =
@@ -94,7 +94,8 @@ is_statement (scopes.Inline p line) = false
 is_statement (scopes.Call line) = false
 is_statement (scopes.Stmt line) = true
 
--- a procedure stands under a root or a call; what is inlined, a call and a statement under a procedure or what is inlined
+-- a procedure stands under a root or a call; what is inlined, a call and a statement under a procedure or what is
+-- inlined
 abbrev pub stands_under : Scope → Scope → Bool
 stands_under (scopes.Root kind) (scopes.Proc p) = true
 stands_under (scopes.Call call) (scopes.Proc p) = true

@@ -12,7 +12,7 @@ use Rattle.prof_db.specs.Layout.{layout_in}
 use Rattle.prof_db.specs.NameRules.{head_kept, names_kept, names_in}
 use Rattle.prof_db.specs.NodeRules.{node_of, nodes_kept}
 use Rattle.prof_db.specs.ValueRules.{entries_kept, tree_of, profile_fields, context_fields, plane_fields, fields_kept}
-use Rattle.prof_db.specs.ValueRules.{sampled, statements_kept}
+use Rattle.prof_db.specs.ValueRules.{sampled_nodes, statements_kept}
 
 -- the content, where both planes have just the values of the tree
 abbrev pub content_in : Layout → Names → List Node → Content
@@ -29,7 +29,7 @@ content_in layout names nodes = record {
 unfoldable pub planes_in : Layout → Content → Result Content DbFault
 planes_in layout content = do
   (done, next) ← fields_kept 6 (plane_fields profile_fields content.profiles) layout.profiles
-  done ← statements_kept layout.nodes content.nodes (sampled layout.entries)
+  done ← statements_kept layout.nodes content.nodes (sampled_nodes layout.entries)
   (done, next) ← fields_kept 7 (plane_fields context_fields content.contexts) layout.contexts
   Ok content
 

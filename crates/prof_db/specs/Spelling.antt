@@ -1,7 +1,7 @@
 -- The bytes of a database, version 1.
 use Rattle.std.specs.Prelude.{ℕ, List, [], ◌∷◌, ◌++◌, length, codes}
 use Rattle.std.specs.List.{flat_map, position_or_len}
-use Rattle.prof_bytes.specs.Number.{number_bytes}
+use Rattle.prof_bytes.specs.Number.{number_bytes, word, words}
 use Rattle.std.specs.Ordering.{is_eq}
 use Rattle.scope_types.specs.declared.scope.ProcId.{ProcId}
 use Rattle.scope_types.specs.declared.scope.LineId.{LineId}
@@ -20,15 +20,8 @@ use Rattle.tree_types.specs.declared.content.FileName.{FileName}
 use Rattle.tree_types.specs.declared.content.ProcName.{ProcName}
 use Rattle.tree_types.specs.Naming.{proc_order, file_order}
 
-abbrev pub word : ℕ → List ℕ
-word n = number_bytes 4 n
-
 abbrev pub long : ℕ → List ℕ
 long n = number_bytes 8 n
-
--- four bytes each
-abbrev pub words : List ℕ → List ℕ
-words ns = flat_map word ns
 
 -- the length, and the bytes
 abbrev pub text_bytes : List ℕ → List ℕ

@@ -27,8 +27,8 @@ entry_at entries i = slice_index_or entries i (record { offset = 0; hart = 0; no
 abbrev pub is_exclusive : RawEntry → Bool
 is_exclusive e = e.kind == 0
 
-abbrev pub samples_of : ℕ → RawEntry → ℕ
-samples_of period e = if is_exclusive e then e.value / period else 0
+abbrev pub entry_samples : ℕ → RawEntry → ℕ
+entry_samples period e = if is_exclusive e then e.value / period else 0
 
 -- a value of a node and of a hart. An exclusive one is that of a statement, and of whole samples
 abbrev pub is_value : ℕ → ℕ → List Node → RawEntry → Bool
@@ -45,7 +45,7 @@ abbrev pub entry_breaks : ℕ → ℕ → List Node → List RawEntry → ℕ �
 entry_breaks period harts nodes entries i =
     not (is_value period harts nodes (entry_at entries i)
     && ((i == 0 || entries_ascend (entry_at entries (i - 1)) (entry_at entries i))
-    && nat_le (sum_by (samples_of period) (take (i + 1) entries)) most_samples))
+    && nat_le (sum_by (entry_samples period) (take (i + 1) entries)) most_samples))
 
 abbrev pub entries_kept : ℕ → ℕ → List Node → List RawEntry → Kept
 entries_kept period harts nodes entries =
@@ -53,15 +53,15 @@ entries_kept period harts nodes entries =
 
 -- ---- the tree whose values these are
 
-abbrev pub count_of : ℕ → RawEntry → NodeCount
-count_of period e = record { node = e.node; hart = e.hart; count = e.value / period }
+abbrev pub entry_count : ℕ → RawEntry → NodeCount
+entry_count period e = record { node = e.node; hart = e.hart; count = e.value / period }
 
 -- the nodes, and the samples that the exclusive values count
 abbrev pub tree_of : ℕ → ℕ → List Node → List RawEntry → CountedTree
 tree_of period harts nodes entries = record {
   harts = harts;
   nodes = nodes;
-  counts = map (count_of period) (filter is_exclusive entries);
+  counts = map (entry_count period) (filter is_exclusive entries);
 }
 
 -- ---- the sixth rule, second, and the seventh: the fields of a plane
@@ -98,8 +98,8 @@ fields_kept rule (field ∷ fields) at = if stands_at field at then fields_kept 
 
 -- ---- the sixth rule, third: each statement has samples
 
-abbrev pub sampled : List RawEntry → List ℕ
-sampled entries = map (λ e. e.node) (filter is_exclusive entries)
+abbrev pub sampled_nodes : List RawEntry → List ℕ
+sampled_nodes entries = map (λ e. e.node) (filter is_exclusive entries)
 
 abbrev pub statement_breaks : List Node → List ℕ → ℕ → Bool
 statement_breaks nodes numbers i = is_statement (node_at nodes i).scope && not (is_among numbers i)

@@ -4,7 +4,8 @@ use Rattle.tree_types.specs.declared.content.Content.{Content}
 use Rattle.tree_types.specs.NamesAscend.{NamesAscend}
 use Rattle.tree_types.specs.Nodes.{no_parent}
 
--- names that ascend, a column for each hart, and one for each node, of which there are few enough that each has a number
+-- names that ascend, a column for each hart, and one for each node, of which there are few enough that each has a
+-- number
 pub record IsWritable (c : Content) : Type 0 where
   pub names : NamesAscend c.names
   pub harts : length c.profiles ≡ c.harts

@@ -5,10 +5,10 @@ ghost use Rattle.std.specs.Prelude.{sum_by, take, All, IfOk, OnOk};
 ghost use Rattle.prof_bytes.specs.Outcome.{Gives};
 ghost use Rattle.scope_types.specs.Limits.{most_samples};
 ghost use Rattle.tree_types.specs.Tree.{node_at};
-ghost use Rattle.prof_db.specs.ValueRules.{count_of, entries_ascend, entries_kept, entry_breaks, is_exclusive};
+ghost use Rattle.prof_db.specs.ValueRules.{entry_count, entries_ascend, entries_kept, entry_breaks, is_exclusive};
 ghost use Rattle.prof_db.specs.NodeRules.{is_statement};
 ghost use Rattle.prof_db.specs.ValueRules.{entry_at};
-ghost use Rattle.prof_db.specs.ValueRules.{is_value, sampled, samples_of, statements_kept};
+ghost use Rattle.prof_db.specs.ValueRules.{is_value, sampled_nodes, entry_samples, statements_kept};
 
 use crate::fault::DbFault;
 use crate::fields::fault_at;
@@ -29,9 +29,9 @@ fn is_exclusive(e: RawEntry) -> bool
     e.kind == 0
 }
 
-fn samples_of(period: u32, e: RawEntry) -> u64
+fn entry_samples(period: u32, e: RawEntry) -> u64
     requires { 0 < period }
-    ensures { result ≡ samples_of period e }
+    ensures { result ≡ entry_samples period e }
 {
     if is_exclusive(e) {
         e.value / u64::from(period)
@@ -44,7 +44,8 @@ fn samples_of(period: u32, e: RawEntry) -> u64
 fn is_whole(period: u32, nodes: &[Node], e: RawEntry) -> bool
     requires period { 0 < period }
     requires node { e.node < length nodes.now }
-    ensures { result ≡ (not (is_exclusive e) || (is_statement (node_at nodes.now e.node).scope && e.value % period == 0)) }
+    ensures { result ≡ (not (is_exclusive e)
+        || (is_statement (node_at nodes.now e.node).scope && e.value % period == 0)) }
 {
     !is_exclusive(e)
         || (is_statement(nodes[e.node as usize].scope) && e.value % u64::from(period) == 0)
@@ -75,14 +76,14 @@ fn entry_is_broken(
 ) -> bool
     requires period { 0 < period }
     requires index { i < length entries.now }
-    requires samples { samples ≡ sum_by (samples_of period) (take i entries.now) }
+    requires samples { samples ≡ sum_by (entry_samples period) (take i entries.now) }
     requires few { samples ≤ most_samples }
     ensures { result ≡ entry_breaks period harts nodes.now entries.now i }
 {
     let e = entries[i];
     !(is_value(period, harts, nodes, e)
         && ((i == 0 || entries_ascend(entries[i - 1], e))
-            && samples_of(period, e) <= MOST_SAMPLES - samples))
+            && entry_samples(period, e) <= MOST_SAMPLES - samples))
 }
 
 /// Each entry by itself, and the sum of all samples.
@@ -107,9 +108,9 @@ pub(crate) fn judge_entries(
 
 fn put_count(counts: &mut Vec<NodeCount>, period: u32, e: RawEntry) -> Result<(), Memory>
     requires period { 0 < period }
-    requires few { samples_of period e ≤ most_samples }
+    requires few { entry_samples period e ≤ most_samples }
     ensures { OnOk result (counts.new.items
-        ≡ counts.old.items ++ map (count_of period) (filter is_exclusive (e ∷ []))) }
+        ≡ counts.old.items ++ map (entry_count period) (filter is_exclusive (e ∷ []))) }
 {
     if is_exclusive(e) {
         counts.push(NodeCount {
@@ -128,8 +129,8 @@ pub(crate) fn counts_in(
     entries: &[RawEntry],
 ) -> Result<Vec<NodeCount>, Memory>
     requires period { 0 < period }
-    requires few { All (λ e. samples_of period e ≤ most_samples) entries.now }
-    ensures { IfOk result (λ counts. counts.items ≡ map (count_of period) (filter is_exclusive entries.now)) }
+    requires few { All (λ e. entry_samples period e ≤ most_samples) entries.now }
+    ensures { IfOk result (λ counts. counts.items ≡ map (entry_count period) (filter is_exclusive entries.now)) }
 {
     let mut counts = Vec::new(alloc);
     for e in entries {
@@ -139,8 +140,8 @@ pub(crate) fn counts_in(
 }
 
 /// The numbers of the nodes that have samples.
-pub(crate) fn sampled(alloc: Global, entries: &[RawEntry]) -> Result<Vec<u32>, Memory>
-    ensures { IfOk result (λ numbers. numbers.items ≡ sampled entries.now) }
+pub(crate) fn sampled_nodes(alloc: Global, entries: &[RawEntry]) -> Result<Vec<u32>, Memory>
+    ensures { IfOk result (λ numbers. numbers.items ≡ sampled_nodes entries.now) }
 {
     let mut numbers = Vec::new(alloc);
     for e in entries {
@@ -167,9 +168,9 @@ fn entry_offset(entries: &[RawEntry], i: usize) -> u64
 fn samples_at(period: u32, entries: &[RawEntry], i: usize) -> u64
     requires period { 0 < period }
     requires index { i < length entries.now }
-    ensures { result ≡ samples_of period (entry_at entries.now i) }
+    ensures { result ≡ entry_samples period (entry_at entries.now i) }
 {
-    samples_of(period, entries[i])
+    entry_samples(period, entries[i])
 }
 
 /// Each statement has samples. `numbers` are those of the nodes that have.

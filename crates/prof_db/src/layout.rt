@@ -2,7 +2,8 @@
 ghost use Rattle.std.specs.Prelude.{◌≡◌, []};
 ghost use Rattle.prof_bytes.specs.Outcome.{Gives, GivesAt, GivesFrom};
 ghost use Rattle.prof_db.specs.Fields.{adding, times};
-ghost use Rattle.prof_db.specs.Layout.{after_magic, body_from, column_from, entry_from, file_from, layout_in, node_from};
+ghost use Rattle.prof_db.specs.Layout.{after_magic, body_from, column_from, entry_from, file_from, layout_in};
+ghost use Rattle.prof_db.specs.Layout.{node_from};
 ghost use Rattle.prof_db.specs.Layout.{past_column, past_entry, proc_from};
 
 use crate::fault::DbFault;

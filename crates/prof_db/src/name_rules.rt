@@ -4,7 +4,8 @@ ghost use Rattle.prof_bytes.specs.Outcome.{Gives};
 ghost use Rattle.tree_types.specs.Nodes.{no_parent};
 ghost use Rattle.prof_db.specs.NameRules.{file_at, proc_at};
 ghost use Rattle.prof_db.specs.NameRules.{file_is_wrong, file_name, files_ascend, files_kept, head_kept, is_proc};
-ghost use Rattle.prof_db.specs.NameRules.{line_file, names_in, names_kept, pair_less, proc_id, proc_is_wrong, proc_name};
+ghost use Rattle.prof_db.specs.NameRules.{line_file, names_in, names_kept, pair_less, proc_id, proc_is_wrong};
+ghost use Rattle.prof_db.specs.NameRules.{proc_name};
 ghost use Rattle.prof_db.specs.NameRules.{procs_ascend, procs_kept, scope_file, scope_proc, used_files, used_procs};
 
 use crate::fault::DbFault;

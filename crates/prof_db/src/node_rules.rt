@@ -5,7 +5,7 @@ ghost use Rattle.std.specs.List.{list_any};
 ghost use Rattle.prof_bytes.specs.Outcome.{Gives};
 ghost use Rattle.tree_types.specs.Tree.{node_at};
 ghost use Rattle.prof_db.specs.NodeRules.{file_numbered, in_preorder, in_range, is_placed, is_root, is_statement};
-ghost use Rattle.prof_db.specs.NodeRules.{line_in_range, line_of, line_up, node_is_wrong, node_of, nodes_kept};
+ghost use Rattle.prof_db.specs.NodeRules.{line_in_range, line_id, line_up, node_is_wrong, node_of, nodes_kept};
 ghost use Rattle.prof_db.specs.NodeRules.{raw_node_at};
 ghost use Rattle.prof_db.specs.NodeRules.{parents_of, proc_numbered, scope_of, siblings_ascend, stands_under};
 ghost use Rattle.prof_db.specs.declared.raw.RawLine.TheVariants as raw_lines;
@@ -31,7 +31,7 @@ fn proc_numbered(names: &Names, p: u32) -> ProcId
 }
 
 fn row_of(names: &Names, file: u32, line: u32) -> LineId
-    ensures { result ≡ line_of names.now (raw_lines.Row file line) }
+    ensures { result ≡ line_id names.now (raw_lines.Row file line) }
 {
     match names.files.items().get(file as usize) {
         Some(found) => LineId::Row {
@@ -47,8 +47,8 @@ fn row_of(names: &Names, file: u32, line: u32) -> LineId
     }
 }
 
-fn line_of(names: &Names, line: RawLine) -> LineId
-    ensures { result ≡ line_of names.now line }
+fn line_id(names: &Names, line: RawLine) -> LineId
+    ensures { result ≡ line_id names.now line }
 {
     match line {
         RawLine::Row { file, line } => row_of(names, file, line),
@@ -74,10 +74,10 @@ fn scope_of(names: &Names, scope: RawScope) -> Scope
         RawScope::Proc(p) => Scope::Proc(proc_numbered(names, p)),
         RawScope::Inline { callee, call } => Scope::Inline {
             callee: proc_numbered(names, callee),
-            call: line_of(names, call),
+            call: line_id(names, call),
         },
-        RawScope::Call(line) => Scope::Call(line_of(names, line)),
-        RawScope::Stmt(line) => Scope::Stmt(line_of(names, line)),
+        RawScope::Call(line) => Scope::Call(line_id(names, line)),
+        RawScope::Stmt(line) => Scope::Stmt(line_id(names, line)),
     }
 }
 

@@ -56,7 +56,8 @@ fn same_context_entry(cursor: &mut Cursor<'_>, e: ContextEntry) -> Result<(), Db
 }
 
 fn same_profile_entries(cursor: &mut Cursor<'_>, entries: &[ProfileEntry]) -> Result<(), DbFault>
-    ensures { GivesAt (λ done. done) result cursor.new (fields_kept 6 (flat_map profile_fields entries.now) cursor.old) }
+    ensures { GivesAt (λ done. done) result cursor.new
+        (fields_kept 6 (flat_map profile_fields entries.now) cursor.old) }
 {
     for e in entries {
         same_profile_entry(cursor, *e)?;
@@ -65,7 +66,8 @@ fn same_profile_entries(cursor: &mut Cursor<'_>, entries: &[ProfileEntry]) -> Re
 }
 
 fn same_context_entries(cursor: &mut Cursor<'_>, entries: &[ContextEntry]) -> Result<(), DbFault>
-    ensures { GivesAt (λ done. done) result cursor.new (fields_kept 7 (flat_map context_fields entries.now) cursor.old) }
+    ensures { GivesAt (λ done. done) result cursor.new
+        (fields_kept 7 (flat_map context_fields entries.now) cursor.old) }
 {
     for e in entries {
         same_context_entry(cursor, *e)?;

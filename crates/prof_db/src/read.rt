@@ -11,7 +11,7 @@ ghost use Rattle.tree_types.specs.Tree.{IsPreorder, count_order, counts_in};
 ghost use Rattle.prof_db.specs.ValueRules.{entries_kept, tree_of};
 ghost use Rattle.prof_db.specs.Rules.{content_in, database_in, nodes_in, planes_in, values_in};
 
-use crate::entry_rules::{counts_in, judge_entries, judge_statements, sampled};
+use crate::entry_rules::{counts_in, judge_entries, judge_statements, sampled_nodes};
 use crate::fault::DbFault;
 use crate::layout::read_layout;
 use crate::name_rules::{judge_head, judge_names, names_of};
@@ -88,7 +88,7 @@ fn judge_planes(
     ensures { Gives (λ c. c) result (planes_in layout.now content) }
 {
     judge_profiles(&layout.profiles, layout.harts, &content.profiles)?;
-    let numbers = sampled(alloc, layout.entries.items())?;
+    let numbers = sampled_nodes(alloc, layout.entries.items())?;
     judge_statements(
         alloc,
         layout.nodes.items(),

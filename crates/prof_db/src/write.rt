@@ -5,11 +5,12 @@ ghost use Rattle.std.specs.Ordering.{is_eq};
 ghost use Rattle.scope_types.specs.Words.{root_words, proc_words};
 ghost use Rattle.tree_types.specs.NamesAscend.{NamesAscend};
 ghost use Rattle.prof_db.specs.Writable.{IsWritable};
-ghost use Rattle.prof_db.specs.Spelling.{word, words, text_bytes, procedure_bytes, file_bytes, node_bytes};
+ghost use Rattle.prof_db.specs.Spelling.{text_bytes, procedure_bytes, file_bytes, node_bytes};
+ghost use Rattle.prof_bytes.specs.Number.{word, words};
 ghost use Rattle.prof_db.specs.Spelling.{kind_number, line_numbers, scope_numbers, proc_index, file_index};
 ghost use Rattle.prof_db.specs.Spelling.{profile_entry_bytes, context_entry_bytes, with_count, head_bytes, spelling};
 
-use prof_bytes::{Memory, Text, put_u32, put_u64};
+use prof_bytes::{Memory, Text, put_u32, put_u64, put_words};
 use scope_types::{LineId, ProcId, RootKind, Scope};
 use std::alloc::Global;
 use tree_types::{
@@ -23,15 +24,6 @@ fn count(length: usize) -> u32
     ensures { word result ≡ word length }
 {
     (length % 0x1_0000_0000) as u32
-}
-
-fn put_words(out: &mut Vec<u8>, numbers: &[u32]) -> Result<(), Memory>
-    ensures { OnOk result (out.new.items ≡ out.old.items ++ words numbers.now) }
-{
-    for number in numbers {
-        put_u32(out, *number)?;
-    }
-    Ok(())
 }
 
 fn put_text(out: &mut Vec<u8>, name: &Text) -> Result<(), Memory>

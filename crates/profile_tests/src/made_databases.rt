@@ -1,11 +1,14 @@
-//! Tables of databases that no run made: of two harts, with inlined procedures, a recursion and a path that is cut, and of
-//! a long chain of callers. Their bytes and their tables are those of `checks/databases.py`.
+//! Tables of databases that no run made: of two harts, with inlined procedures, a recursion and a path that is cut, and
+//! of a long chain of callers. Their bytes and their tables are those of `checks/databases.py`.
 use crate::databases::EMPTY_DATABASE;
 use crate::measurements::put_by;
 use crate::views::database_alone;
+use prof_db::read_db;
 use prof_devices::SureShelf;
+use std::alloc::Global;
 use std::test::Fail;
 use std::thread::Threads;
+use view_tables::{top_down, top_down_length};
 
 /// Two harts, with a period of 97.
 const TWO_HARTS: &[u8] = b"\
@@ -264,5 +267,19 @@ fn other_table(rt: &(impl Threads + Sync + AllocGlobal)) -> Result<Option<&'stat
 #[test]
 fn tables_of_made_databases(rt: HostRuntime) -> Result<(), Fail> {
     assert_eq!(rt; other_table(&rt)?, None);
+    Ok(())
+}
+
+/// Whether the database's content has this top-down table, and its length is told without it.
+fn has_top_table(alloc: Global, database: &[u8], table: &str) -> Result<bool, Fail> {
+    let content = read_db(alloc, database).ok().ok_or("no content")?;
+    let text = top_down(alloc, &content).ok().ok_or("memory")?;
+    Ok(text.bytes() == table.as_bytes() && top_down_length(&content) == table.len() as u64)
+}
+
+#[test]
+fn top_down_tables_and_their_lengths(rt: HostRuntime) -> Result<(), Fail> {
+    assert!(rt; has_top_table(rt.alloc(), TWO_HARTS, TWO_TOP)?);
+    assert!(rt; has_top_table(rt.alloc(), EMPTY_DATABASE, TOP_HEADER)?);
     Ok(())
 }

@@ -1,5 +1,5 @@
-//! What `view` refuses: words that name no table, and databases that break a rule; and devices that fail under it. Offsets
-//! and rules are those of `checks/database_rules`.
+//! What `view` refuses: words that name no table, and databases that break a rule; and devices that fail under it.
+//! Offsets and rules are those of `checks/database_rules`.
 use crate::call_paths::changed;
 use crate::databases::database_of_four;
 use crate::measurements::TABLE;
@@ -184,8 +184,8 @@ fn views_that_are_refused(rt: HostRuntime) -> Result<(), Fail> {
     Ok(())
 }
 
-/// A view in which one call fails: which one of the shelf, and of the output, 0 for none; the answer, and how many bytes
-/// the output has then.
+/// A view in which one call fails: which one of the shelf, and of the output, 0 for none; the answer, and how many
+/// bytes the output has then.
 struct Failure {
     name: &'static str,
     shelf_call: u64,

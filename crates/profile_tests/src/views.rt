@@ -1,5 +1,5 @@
-//! What `view` puts: the three tables of a database that is written by hand, and of databases that `profile` stored. The
-//! tables are written by hand from their layout.
+//! What `view` puts: the three tables of a database that is written by hand, and of databases that `profile` stored.
+//! The tables are written by hand from their layout.
 use crate::call_paths::{RECURSION, SEVEN_FRAMES};
 use crate::databases::database_of_four;
 use crate::debug_programs::WITH_ENTRIES;

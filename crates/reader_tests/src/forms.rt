@@ -21,80 +21,144 @@ use prof_bytes::{Cursor, Memory};
 use std::alloc::Global;
 use std::test::Fail;
 
-/// A form, bytes, the value that stands in them, and how many they are.
-static FORMS: [(u64, &[u8], Value<'static>, usize); 20] = [
-    (DW_FORM_addr, &[0, 0, 1, 0], Value::Address(0x10000), 4),
-    (DW_FORM_block2, &[2, 0, 7, 8, 9], Value::Bytes(&[7, 8]), 4),
-    (DW_FORM_block4, &[1, 0, 0, 0, 7], Value::Bytes(&[7]), 5),
-    (DW_FORM_block, &[0x81, 0, 7], Value::Bytes(&[7]), 3),
-    (DW_FORM_block1, &[0, 7], Value::Bytes(&[]), 1),
+/// A name, a form, bytes, the value that stands in them, and how many they are.
+static FORMS: [(&str, u64, &[u8], Value<'static>, usize); 20] = [
     (
+        "addr",
+        DW_FORM_addr,
+        &[0, 0, 1, 0],
+        Value::Address(0x10000),
+        4,
+    ),
+    (
+        "block2",
+        DW_FORM_block2,
+        &[2, 0, 7, 8, 9],
+        Value::Bytes(&[7, 8]),
+        4,
+    ),
+    (
+        "block4",
+        DW_FORM_block4,
+        &[1, 0, 0, 0, 7],
+        Value::Bytes(&[7]),
+        5,
+    ),
+    ("block", DW_FORM_block, &[0x81, 0, 7], Value::Bytes(&[7]), 3),
+    ("block1", DW_FORM_block1, &[0, 7], Value::Bytes(&[]), 1),
+    (
+        "exprloc",
         DW_FORM_exprloc,
         &[2, 0x91, 0x7c],
         Value::Bytes(&[0x91, 0x7c]),
         3,
     ),
-    (DW_FORM_data1, &[0xff], Value::Number(255), 1),
-    (DW_FORM_data2, &[1, 2], Value::Number(0x201), 2),
-    (DW_FORM_data4, &[1, 2, 3, 4], Value::Number(0x0403_0201), 4),
+    ("data1", DW_FORM_data1, &[0xff], Value::Number(255), 1),
+    ("data2", DW_FORM_data2, &[1, 2], Value::Number(0x201), 2),
     (
+        "data4",
+        DW_FORM_data4,
+        &[1, 2, 3, 4],
+        Value::Number(0x0403_0201),
+        4,
+    ),
+    (
+        "data8",
         DW_FORM_data8,
         &[1, 0, 0, 0, 0, 0, 0, 0x80],
         Value::Number(0x8000_0000_0000_0001),
         8,
     ),
     (
+        "data16",
         DW_FORM_data16,
         &[1, 2, 3, 4, 5, 6, 7, 8, 9, 10, 11, 12, 13, 14, 15, 16, 17],
         Value::Bytes(&[1, 2, 3, 4, 5, 6, 7, 8, 9, 10, 11, 12, 13, 14, 15, 16]),
         16,
     ),
-    (DW_FORM_sdata, &[0x7f], Value::Signed(-1), 1),
+    ("sdata", DW_FORM_sdata, &[0x7f], Value::Signed(-1), 1),
     (
+        "udata",
         DW_FORM_udata,
         &[0xe5, 0x8e, 0x26],
         Value::Number(624_485),
         3,
     ),
-    (DW_FORM_flag, &[2], Value::Flag(true), 1),
-    (DW_FORM_flag, &[0], Value::Flag(false), 1),
-    (DW_FORM_flag_present, &[], Value::Flag(true), 0),
-    (DW_FORM_implicit_const, &[5], Value::Signed(-3), 0),
-    (DW_FORM_string, &[0x61, 0, 0x62], Value::Name(&[0x61]), 2),
-    (DW_FORM_indirect, &[0x0b, 9], Value::Number(9), 2),
-    (DW_FORM_indirect, &[0x85, 0, 1, 2], Value::Number(0x201), 4),
+    ("flag that is set", DW_FORM_flag, &[2], Value::Flag(true), 1),
+    (
+        "flag that is not set",
+        DW_FORM_flag,
+        &[0],
+        Value::Flag(false),
+        1,
+    ),
+    (
+        "flag_present",
+        DW_FORM_flag_present,
+        &[],
+        Value::Flag(true),
+        0,
+    ),
+    (
+        "implicit_const",
+        DW_FORM_implicit_const,
+        &[5],
+        Value::Signed(-3),
+        0,
+    ),
+    (
+        "string",
+        DW_FORM_string,
+        &[0x61, 0, 0x62],
+        Value::Name(&[0x61]),
+        2,
+    ),
+    (
+        "indirect",
+        DW_FORM_indirect,
+        &[0x0b, 9],
+        Value::Number(9),
+        2,
+    ),
+    (
+        "indirect in two bytes",
+        DW_FORM_indirect,
+        &[0x85, 0, 1, 2],
+        Value::Number(0x201),
+        4,
+    ),
 ];
 
-/// The forms that are numbers with another meaning: the form, the value of bytes that begin with a 5
+/// The forms that are numbers with another meaning: name and form, the value of bytes that begin with a 5
 /// and zeros, and how many bytes.
-static MEANINGS: [(u64, Value<'static>, usize); 27] = [
-    (DW_FORM_strp, Value::StrAt(5), 4),
-    (DW_FORM_line_strp, Value::LineStrAt(5), 4),
-    (DW_FORM_sec_offset, Value::Section(5), 4),
-    (DW_FORM_ref_addr, Value::InfoRef(5), 4),
-    (DW_FORM_ref1, Value::UnitRef(5), 1),
-    (DW_FORM_ref2, Value::UnitRef(5), 2),
-    (DW_FORM_ref4, Value::UnitRef(5), 4),
-    (DW_FORM_ref8, Value::UnitRef(5), 8),
-    (DW_FORM_ref_udata, Value::UnitRef(5), 1),
-    (DW_FORM_strx, Value::StrIndex(5), 1),
-    (DW_FORM_strx1, Value::StrIndex(5), 1),
-    (DW_FORM_strx2, Value::StrIndex(5), 2),
-    (DW_FORM_strx3, Value::StrIndex(5), 3),
-    (DW_FORM_strx4, Value::StrIndex(5), 4),
-    (DW_FORM_addrx, Value::AddrIndex(5), 1),
-    (DW_FORM_addrx1, Value::AddrIndex(5), 1),
-    (DW_FORM_addrx2, Value::AddrIndex(5), 2),
-    (DW_FORM_addrx3, Value::AddrIndex(5), 3),
-    (DW_FORM_addrx4, Value::AddrIndex(5), 4),
-    (DW_FORM_rnglistx, Value::ListIndex(5), 1),
-    (DW_FORM_loclistx, Value::Passed, 1),
-    (DW_FORM_ref_sup4, Value::Passed, 4),
-    (DW_FORM_strp_sup, Value::Passed, 4),
-    (DW_FORM_ref_sig8, Value::Passed, 8),
-    (DW_FORM_ref_sup8, Value::Passed, 8),
-    (DW_FORM_udata, Value::Number(5), 1),
-    (DW_FORM_sdata, Value::Signed(5), 1),
+static MEANINGS: [(&str, u64, Value<'static>, usize); 27] = [
+    ("strp", DW_FORM_strp, Value::StrAt(5), 4),
+    ("line_strp", DW_FORM_line_strp, Value::LineStrAt(5), 4),
+    ("sec_offset", DW_FORM_sec_offset, Value::Section(5), 4),
+    ("ref_addr", DW_FORM_ref_addr, Value::InfoRef(5), 4),
+    ("ref1", DW_FORM_ref1, Value::UnitRef(5), 1),
+    ("ref2", DW_FORM_ref2, Value::UnitRef(5), 2),
+    ("ref4", DW_FORM_ref4, Value::UnitRef(5), 4),
+    ("ref8", DW_FORM_ref8, Value::UnitRef(5), 8),
+    ("ref_udata", DW_FORM_ref_udata, Value::UnitRef(5), 1),
+    ("strx", DW_FORM_strx, Value::StrIndex(5), 1),
+    ("strx1", DW_FORM_strx1, Value::StrIndex(5), 1),
+    ("strx2", DW_FORM_strx2, Value::StrIndex(5), 2),
+    ("strx3", DW_FORM_strx3, Value::StrIndex(5), 3),
+    ("strx4", DW_FORM_strx4, Value::StrIndex(5), 4),
+    ("addrx", DW_FORM_addrx, Value::AddrIndex(5), 1),
+    ("addrx1", DW_FORM_addrx1, Value::AddrIndex(5), 1),
+    ("addrx2", DW_FORM_addrx2, Value::AddrIndex(5), 2),
+    ("addrx3", DW_FORM_addrx3, Value::AddrIndex(5), 3),
+    ("addrx4", DW_FORM_addrx4, Value::AddrIndex(5), 4),
+    ("rnglistx", DW_FORM_rnglistx, Value::ListIndex(5), 1),
+    ("loclistx", DW_FORM_loclistx, Value::Passed, 1),
+    ("ref_sup4", DW_FORM_ref_sup4, Value::Passed, 4),
+    ("strp_sup", DW_FORM_strp_sup, Value::Passed, 4),
+    ("ref_sig8", DW_FORM_ref_sig8, Value::Passed, 8),
+    ("ref_sup8", DW_FORM_ref_sup8, Value::Passed, 8),
+    ("udata", DW_FORM_udata, Value::Number(5), 1),
+    ("sdata", DW_FORM_sdata, Value::Signed(5), 1),
 ];
 
 fn same(a: &Value<'_>, b: &Value<'_>) -> bool {
@@ -126,20 +190,20 @@ fn reads(bytes: &[u8], form: u64, wanted: &Value<'_>, count: usize) -> bool {
 }
 
 /// The first form in whose bytes another value is read.
-fn other_value() -> Option<u64> {
-    for (form, bytes, value, count) in &FORMS {
+fn other_value() -> Option<&'static str> {
+    for (name, form, bytes, value, count) in &FORMS {
         if !reads(bytes, *form, value, *count) {
-            return Some(*form);
+            return Some(name);
         }
     }
     None
 }
 
 /// The first form whose number is read with another meaning.
-fn other_meaning() -> Option<u64> {
-    for (form, value, count) in &MEANINGS {
+fn other_meaning() -> Option<&'static str> {
+    for (name, form, value, count) in &MEANINGS {
         if !reads(&[5, 0, 0, 0, 0, 0, 0, 0, 0], *form, value, *count) {
-            return Some(*form);
+            return Some(name);
         }
     }
     None
@@ -151,20 +215,66 @@ fn each_form(rt: HostRuntime) -> Result<(), Fail> {
     Ok(())
 }
 
-/// A form, bytes in which it has no value, and why.
-static REFUSED: [(u64, &[u8], FormFault); 12] = [
-    (0x02, &[1, 2, 3, 4], FormFault::Unknown),
-    (0x00, &[1], FormFault::Unknown),
-    (0x2d, &[1], FormFault::Unknown),
-    (DW_FORM_indirect, &[0x21, 1], FormFault::Unknown),
-    (DW_FORM_indirect, &[0x16, 0x0b, 1], FormFault::Unknown),
-    (DW_FORM_indirect, &[0x02], FormFault::Unknown),
-    (DW_FORM_indirect, &[0x80], FormFault::Short),
-    (DW_FORM_indirect, &[0x06, 1, 2, 3], FormFault::Short),
-    (DW_FORM_data4, &[1, 2, 3], FormFault::Short),
-    (DW_FORM_block1, &[3, 1, 2], FormFault::Short),
-    (DW_FORM_string, &[0x61, 0x62], FormFault::Short),
+/// A name, a form, bytes in which it has no value, and why.
+static REFUSED: [(&str, u64, &[u8], FormFault); 12] = [
     (
+        "DWARF 5 has no form 2",
+        0x02,
+        &[1, 2, 3, 4],
+        FormFault::Unknown,
+    ),
+    ("no form 0", 0x00, &[1], FormFault::Unknown),
+    ("no form behind the last", 0x2d, &[1], FormFault::Unknown),
+    (
+        "indirect implicit_const",
+        DW_FORM_indirect,
+        &[0x21, 1],
+        FormFault::Unknown,
+    ),
+    (
+        "indirect indirect",
+        DW_FORM_indirect,
+        &[0x16, 0x0b, 1],
+        FormFault::Unknown,
+    ),
+    (
+        "indirect form 2",
+        DW_FORM_indirect,
+        &[0x02],
+        FormFault::Unknown,
+    ),
+    (
+        "indirect form that does not end",
+        DW_FORM_indirect,
+        &[0x80],
+        FormFault::Short,
+    ),
+    (
+        "indirect data4 of three bytes",
+        DW_FORM_indirect,
+        &[0x06, 1, 2, 3],
+        FormFault::Short,
+    ),
+    (
+        "data4 of three bytes",
+        DW_FORM_data4,
+        &[1, 2, 3],
+        FormFault::Short,
+    ),
+    (
+        "block1 of two bytes in place of three",
+        DW_FORM_block1,
+        &[3, 1, 2],
+        FormFault::Short,
+    ),
+    (
+        "string without its 0",
+        DW_FORM_string,
+        &[0x61, 0x62],
+        FormFault::Short,
+    ),
+    (
+        "udata above 2^64",
         DW_FORM_udata,
         &[0x80, 0x80, 0x80, 0x80, 0x80, 0x80, 0x80, 0x80, 0x80, 2],
         FormFault::Short,
@@ -181,10 +291,10 @@ fn refuses(bytes: &[u8], form: u64, fault: FormFault) -> bool {
 }
 
 /// The first form that is not refused so.
-fn other_refusal() -> Option<u64> {
-    for (form, bytes, fault) in &REFUSED {
+fn other_refusal() -> Option<&'static str> {
+    for (name, form, bytes, fault) in &REFUSED {
         if !refuses(bytes, *form, *fault) {
-            return Some(*form);
+            return Some(name);
         }
     }
     None
@@ -315,35 +425,74 @@ fn declarations_of_a_program(rt: HostRuntime) -> Result<(), Fail> {
     Ok(())
 }
 
-/// Tables, an offset in them, and the tag that code 1 has there; `None` where the table is not whole.
-static TABLES: [(&[u8], u32, Option<u64>); 11] = [
+/// A name, a table, an offset in it, and the tag that code 1 has there; `None` where the table is not whole.
+static TABLES: [(&str, &[u8], u32, Option<u64>); 11] = [
     (
+        "one declaration",
         &[1, 0x11, 0, 0x10, 0x17, 0, 0, 0],
         0,
         Some(DW_TAG_compile_unit),
     ),
-    (&[1, 0x11, 0, 0x10, 0x17, 0, 0, 0], 8, None),
-    (&[1, 0x11, 0, 0x10, 0x17, 0, 0, 0], 9, None),
-    (&[1, 0x11, 0, 0x10, 0x17, 0, 0], 0, None),
     (
+        "at the section's end",
+        &[1, 0x11, 0, 0x10, 0x17, 0, 0, 0],
+        8,
+        None,
+    ),
+    (
+        "behind the section's end",
+        &[1, 0x11, 0, 0x10, 0x17, 0, 0, 0],
+        9,
+        None,
+    ),
+    (
+        "without the closing 0",
+        &[1, 0x11, 0, 0x10, 0x17, 0, 0],
+        0,
+        None,
+    ),
+    (
+        "the first of two with a code",
         &[1, 0x11, 0, 0, 0, 1, 0x2e, 0, 0, 0, 0],
         0,
         Some(DW_TAG_compile_unit),
     ),
     (
+        "behind another code",
         &[2, 0x2e, 0, 0, 0, 1, 0x11, 0, 0, 0, 1, 0x2e, 0, 0, 0, 0],
         0,
         Some(DW_TAG_compile_unit),
     ),
-    (&[2, 0x2e, 0, 0, 0, 3, 0x11, 0, 0, 0, 0], 0, None),
-    (&[9, 9, 1, 0x11, 7, 0, 0, 0], 2, Some(DW_TAG_compile_unit)),
-    (&[1, 0x11, 0, 3, 0x21, 0x80, 0, 0, 0], 0, None),
     (
+        "another code alone",
+        &[2, 0x2e, 0, 0, 0, 3, 0x11, 0, 0, 0, 0],
+        0,
+        None,
+    ),
+    (
+        "at an offset",
+        &[9, 9, 1, 0x11, 7, 0, 0, 0],
+        2,
+        Some(DW_TAG_compile_unit),
+    ),
+    (
+        "implicit_const without its end",
+        &[1, 0x11, 0, 3, 0x21, 0x80, 0, 0, 0],
+        0,
+        None,
+    ),
+    (
+        "implicit_const",
         &[1, 0x11, 0, 3, 0x21, 0, 0, 0, 0],
         0,
         Some(DW_TAG_compile_unit),
     ),
-    (&[1, 0x11, 0, 0, 5, 0, 0, 0], 0, Some(DW_TAG_compile_unit)),
+    (
+        "an attribute with form 0 ends the list",
+        &[1, 0x11, 0, 0, 5, 0, 0, 0],
+        0,
+        Some(DW_TAG_compile_unit),
+    ),
 ];
 
 fn tag_of(table: &Abbrevs) -> Option<u64> {
@@ -359,11 +508,11 @@ fn tag_at(alloc: Global, bytes: &[u8], offset: u32) -> Result<Option<u64>, Memor
     }
 }
 
-/// The index of the first table in which code 1 has another tag.
-fn other_tag(alloc: Global) -> Result<Option<usize>, Memory> {
-    for (index, (bytes, offset, wanted)) in TABLES.iter().enumerate() {
+/// The first table in which code 1 has another tag.
+fn other_tag(alloc: Global) -> Result<Option<&'static str>, Memory> {
+    for (name, bytes, offset, wanted) in &TABLES {
         if tag_at(alloc, bytes, *offset)? != *wanted {
-            return Ok(Some(index));
+            return Ok(Some(name));
         }
     }
     Ok(None)
@@ -372,5 +521,66 @@ fn other_tag(alloc: Global) -> Result<Option<usize>, Memory> {
 #[test]
 fn tables_by_their_offset(rt: HostRuntime) -> Result<(), Fail> {
     assert_eq!(rt; other_tag(rt.alloc())?, None);
+    Ok(())
+}
+
+/// The index of a declaration, and the tags that codes 1 and 3 have from it on.
+type End = (usize, Option<u64>, Option<u64>);
+
+/// Three declarations of five bytes each.
+static THREE: [u8; 16] = [1, 0x11, 0, 0, 0, 2, 0x2e, 0, 0, 0, 3, 0x24, 0, 0, 0, 0];
+
+/// Three whose codes fall.
+static FALLING: [u8; 16] = [7, 0x11, 0, 0, 0, 3, 0x24, 0, 0, 0, 1, 0x2e, 0, 0, 0, 0];
+
+/// Two of one code.
+static TWICE: [u8; 11] = [1, 0x11, 0, 0, 0, 1, 0x2e, 0, 0, 0, 0];
+
+/// Offsets in the first, and what stands there.
+static ENDS: [(u32, Option<End>); 5] = [
+    (
+        0,
+        Some((0, Some(DW_TAG_compile_unit), Some(DW_TAG_base_type))),
+    ),
+    (5, Some((1, None, Some(DW_TAG_base_type)))),
+    (10, Some((2, None, Some(DW_TAG_base_type)))),
+    (6, None),
+    (15, None),
+];
+
+fn end_at(table: &Abbrevs, offset: u32) -> Option<End> {
+    let index = table.from_index(0).index_at(offset)?;
+    let end = table.from_index(index);
+    let first = end.find(1).map(|declared| declared.tag);
+    let third = end.find(3).map(|declared| declared.tag);
+    Some((index, first, third))
+}
+
+/// What stands at an offset of a table that begins the bytes.
+fn end_in(alloc: Global, bytes: &[u8], offset: u32) -> Result<Option<End>, Memory> {
+    match read_abbrevs(alloc, bytes, 0) {
+        Ok(table) => Ok(end_at(&table, offset)),
+        Err(prof_bytes::Fail::Fault(BadTable)) => Ok(None),
+        Err(prof_bytes::Fail::Memory(memory)) => Err(memory),
+    }
+}
+
+/// The first offset at which another end stands.
+fn other_end(alloc: Global) -> Result<Option<u32>, Memory> {
+    for (offset, wanted) in &ENDS {
+        if end_in(alloc, &THREE, *offset)? != *wanted {
+            return Ok(Some(*offset));
+        }
+    }
+    Ok(None)
+}
+
+#[test]
+fn ends_of_tables(rt: HostRuntime) -> Result<(), Fail> {
+    let alloc = rt.alloc();
+    assert_eq!(rt; other_end(alloc)?, None);
+    let falling = Some((1, Some(DW_TAG_subprogram), Some(DW_TAG_base_type)));
+    assert_eq!(rt; end_in(alloc, &FALLING, 5)?, falling);
+    assert_eq!(rt; end_in(alloc, &TWICE, 5)?, None);
     Ok(())
 }

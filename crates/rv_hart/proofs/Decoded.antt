@@ -1,7 +1,8 @@
 -- What is kept decoded is what a fetch gives.
-use Rattle.std.proofs.Common.{◌≡◌, ℕ, suc, ◌+◌, ◌-◌, ◌*◌, ◌/◌, ◌%◌, ◌^◌, ◌<◌, ◌≤◌, inl, inr, Bool, List, [], ◌∷◌, ◌++◌, map, length, get_or, slice_get, find, Option, Some, None, IfSome, Bor, option_map, unwrap_or, refl, sym, ap, subst, ◌∙◌, arith}
+use Rattle.std.proofs.Common.{◌≡◌, ◌==◌, ◌&&◌, true, false, cond, ℕ, suc, ◌+◌, ◌*◌, ◌%◌, ◌^◌, ◌<◌, ◌≤◌, inl, inr, Bool, List, [], ◌∷◌, ◌++◌, map, length, get_or, slice_get, find, Option, Some, None, IfSome, Bor, option_map, unwrap_or, refl, sym, ap, subst, ◌∙◌, arith}
 use Rattle.std.specs.List.{range_with_len}
 use Rattle.std.specs.Option.{option_copied}
+use Rattle.std.proofs.lemmas.Bool.{eqb-true}
 use Rattle.std.proofs.lemmas.Bool.Decides.{leb_tells}
 use Rattle.std.proofs.lemmas.List.{get_or_append_left, get_or-append-add}
 use Rattle.std.proofs.lemmas.List.FromFn.{get_or-map-range_with_len, length-map-range_with_len}
@@ -14,9 +15,9 @@ use Rattle.rv_table.specs.declared.inst.Inst.{Inst}
 use Rattle.rv_table.specs.Table.{HasRegisters, decoded}
 use Rattle.rv_hart.specs.declared.decoded_code.DecodedCode.{DecodedCode}
 use Rattle.rv_hart.specs.declared.paged_memory.PagedMemory.{PagedMemory}
-use Rattle.rv_hart.specs.AddressSpace.{region_at, byte_in, grants}
-use Rattle.rv_hart.specs.Step.{fetched_at}
-use Rattle.rv_hart.specs.private.Paging.{IsHome, IsPaged, value, memory_of}
+use Rattle.rv_hart.specs.AddressSpace.{AddressSpace, region_at, number_at, byte_in, grants}
+use Rattle.rv_hart.specs.Step.{fetched_at, is_fetched_from}
+use Rattle.rv_hart.specs.private.Paging.{IsHome, IsPaged, value, memory_of, placed}
 use Rattle.rv_hart.specs.private.Decoding.{first_in, first_word, IsKept, AreKept, IsCode, AreCode, KeepsSpace}
 use Rattle.rv_hart.proofs.Apart.{find-all}
 use Rattle.rv_hart.proofs.Near.{spelled, covers-region}
@@ -80,10 +81,6 @@ kept-word paged home at inst is own aligned small kept =
     ∙ ap (λ (bytes : List ℕ). Some (decoded (number_in 4 bytes))) (fixed-word paged home at inst is own kept)
     ∙ ap (λ (i : Inst). Some i) (sym kept.word)
 
--- the address of a word, by its distance from the first
-address-is : (pc base distance place : ℕ) → pc < 2 ^ 32 → distance ≡ (pc + (2 ^ 32 - base)) % 2 ^ 32 → place ≡ distance / 4 + distance % 4 * 2 ^ 30 → base + 4 * place < 2 ^ 32 → base + 4 * place ≡ pc
-address-is pc base distance place small is place_is low = omega arith
-
 kept-of : (paged : PagedMemory) (code : DecodedCode) (k : ℕ) (inst : Inst) → IsCode paged.file.now paged.regions code → slice_get code.items.items k ≡ Some inst → IsKept paged.file.now code.home (code.base + 4 * k) inst
 kept-of paged code k inst is there =
     let same : get_or code.items.items k inst ≡ inst = sym (unwrap_or-slice_get code.items.items k inst) ∙ ap (λ (o : Option Inst). unwrap_or o inst) there in
@@ -94,22 +91,17 @@ low-of paged code at inst is own kept =
     let last : at + 3 < 2 ^ 32 = held-low paged code.home (at + 3) is (covers-region paged.regions code.home at 4 3 own kept.covered (omega arith)) in
     omega arith
 
-kept-here : (paged : PagedMemory) (code : DecodedCode) (pc distance place : ℕ) (inst : Inst) → IsCode paged.file.now paged.regions code → IsPaged paged → pc < 2 ^ 32 → distance ≡ (pc + (2 ^ 32 - code.base)) % 2 ^ 32 → place ≡ distance / 4 + distance % 4 * 2 ^ 30 → slice_get code.items.items place ≡ Some inst
-    → (code.base + 4 * place ≡ pc) × IsKept paged.file.now code.home (code.base + 4 * place) inst
-kept-here paged code pc distance place inst is paged_is small far place_is there =
-    let kept : IsKept paged.file.now code.home (code.base + 4 * place) inst = kept-of paged code place inst is there in (
-      address-is pc code.base distance place small far place_is (low-of paged code (code.base + 4 * place) inst paged_is is.own kept),
-      kept,
-    )
-
--- the word that is kept for pc is the one that is fetched
-pub kept-fetched : (paged : PagedMemory) (code : DecodedCode) (pc distance place : ℕ) (found : Option (Bor Inst)) → IsPaged paged → IsCode paged.file.now paged.regions code → pc < 2 ^ 32 → distance ≡ (pc + (2 ^ 32 - code.base)) % 2 ^ 32 → place ≡ distance / 4 + distance % 4 * 2 ^ 30 → option_copied found ≡ slice_get code.items.items place
-    → IfSome found (λ inst. option_map decoded (fetched_at (memory_of paged) pc) ≡ Some inst.now)
-kept-fetched paged code pc distance place None paged_is is small far place_is there = tt
-kept-fetched paged code pc distance place (Some inst) paged_is is small far place_is there =
-    let both : (code.base + 4 * place ≡ pc) × IsKept paged.file.now code.home (code.base + 4 * place) inst.now = kept-here paged code pc distance place inst.now is paged_is small far place_is (sym there) in
-    let kept : IsKept paged.file.now code.home pc inst.now = subst (λ (at : ℕ). IsKept paged.file.now code.home at inst.now) both.0 both.1 in
-    kept-word paged code.home pc inst.now paged_is is.own (omega (arith, is.aligned, both.0)) small kept
+-- the word that is kept at a place is the one that is fetched there
+pub kept-fetched : (paged : PagedMemory) (code : DecodedCode) (place : ℕ) (found : Option (Bor Inst)) → IsPaged paged → IsCode paged.file.now paged.regions code → option_copied found ≡ slice_get code.items.items place
+    → IfSome found (λ inst. option_map decoded (fetched_at (memory_of paged) (placed code.base place)) ≡ Some inst.now)
+kept-fetched paged code place None paged_is is there = tt
+kept-fetched paged code place (Some inst) paged_is is there =
+    let at : ℕ = code.base + 4 * place in
+    let kept : IsKept paged.file.now code.home at inst.now = kept-of paged code place inst.now is (sym there) in
+    let low : at < 2 ^ 32 = low-of paged code at inst.now paged_is is.own kept in
+    let here : placed code.base place ≡ at = omega (arith, low) in
+    ap (λ (a : ℕ). option_map decoded (fetched_at (memory_of paged) a)) here
+    ∙ kept-word paged code.home at inst.now paged_is is.own (omega (arith, is.aligned)) low kept
 
 pub kept-registers : (paged : PagedMemory) (code : DecodedCode) (k : ℕ) (found : Option (Bor Inst)) → IsCode paged.file.now paged.regions code → option_copied found ≡ slice_get code.items.items k → IfSome found (λ inst. HasRegisters inst.now)
 kept-registers paged code k None is there = tt
@@ -123,3 +115,13 @@ keeps-on old new last codes keeps rest paged =
       home = subst (λ (p : PagedMemory). IsHome p.regions last) (sym rest) keeps.home;
       code = subst (λ (p : PagedMemory). AreCode p.file.now p.regions codes) (sym rest) keeps.code;
     }
+
+-- an address from which a word is fetched is a multiple of 4
+pub fetched-aligned : (memory : AddressSpace) (pc : ℕ) (inst : Inst) → option_map decoded (fetched_at memory pc) ≡ Some inst → pc % 4 ≡ 0
+fetched-aligned memory pc inst is = by_case (pc % 4 == 0) refl
+  where
+    by_case : (b : Bool) → (pc % 4 == 0) ≡ b → pc % 4 ≡ 0
+    by_case true e = eqb-true (pc % 4) 0 e
+    by_case false e =
+        let none : fetched_at memory pc ≡ None = ap (λ (t : Bool). cond (t && is_fetched_from pc (region_at memory.regions pc)) (Some (number_at memory pc 4)) None) e in
+        absurd (let clash : None ≡ Some inst = sym (ap (option_map decoded) none) ∙ is in cc)

@@ -34,6 +34,14 @@ ran-more count s t u how was is retires =
           ];
     }
 
+-- the same by how many are left of the most
+pub ran-start : (most : ℕ) (s : State) → Ran (most - most) s s
+ran-start most s = subst (λ (n : ℕ). Ran n s s) (let e : 0 ≡ most - most = omega arith in e) (ran-none s)
+
+pub ran-next : (most left : ℕ) (s t u : State) (how : Stepped) → 0 < left → left ≤ most → Ran (most - left) s t → (u, how) ≡ step_of t → how ≡ stepped.Retired → Ran (most - (left - 1)) s u
+ran-next most left s t u how some few was is retires =
+    subst (λ (n : ℕ). Ran n s u) (let e : most - left + 1 ≡ most - (left - 1) = omega arith in e) (ran-more (most - left) s t u how was is retires)
+
 after-twice : (m n : ℕ) (s : State) → after_steps (m + n) s ≡ after_steps n (after_steps m s)
 unfolding after_steps
 after-twice m zero s = ap (λ (j : ℕ). after_steps j s) (let e : m + 0 ≡ m = omega arith in e)

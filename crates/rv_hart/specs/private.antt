@@ -2,3 +2,4 @@
 pub mod Decoding
 pub mod Pages
 pub mod Paging
+pub mod Lending

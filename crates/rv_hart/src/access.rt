@@ -1,5 +1,6 @@
 //! Loads and stores of what is kept.
-ghost use Rattle.std.specs.Prelude.{◌≡◌, ◌<◌, ◌≤◌, ◌%◌, ◌*◌, ◌^◌, true, IfOk, IfSome, OnErr, length};
+ghost use Rattle.std.specs.Prelude.{◌≡◌, ◌<◌, ◌≤◌, ◌%◌, ◌*◌, ◌^◌, true, IfOk, IfSome, OnErr, length, take};
+ghost use Rattle.prof_bytes.specs.Number.{number_bytes};
 ghost use Rattle.elf_image.specs.declared.elf.TheConstants.{PF_W};
 ghost use Rattle.rv_hart.specs.AddressSpace.{is_size, loaded, stored, may_all, region_at};
 ghost use Rattle.rv_hart.specs.private.Paging.{memory_of, IsPaged, IsHome};
@@ -123,6 +124,66 @@ pub(crate) fn store(
         return Ok(true);
     }
     store_apart(paged, alloc, at, bytes)
+}
+
+/// The lowest bytes of a word, the lowest first.
+#[inline(always)]
+fn lowest_bytes(bytes: &[u8; 4], size: usize) -> &[u8]
+    requires { size ≤ 4 }
+    ensures { result.now ≡ take size bytes.now }
+{
+    &bytes[..size]
+}
+
+/// Writes the lowest bytes of a word from `at` on, where each may be written, and says whether.
+#[inline(always)]
+pub(crate) fn store_word(
+    paged: &mut PagedMemory,
+    alloc: Global,
+    at: u32,
+    word: u32,
+    size: usize,
+) -> Result<bool, Memory>
+    requires paged { IsPaged paged.old }
+    requires size { size ≤ 4 }
+    ensures rest { paged.new ≡ record paged.old { blocks = paged.new.blocks } }
+    ensures paged { IsPaged paged.new }
+    ensures ok { IfOk result (λ answer.
+        (answer, memory_of paged.new) ≡ stored (memory_of paged.old) at (number_bytes size word)) }
+    ensures err { OnErr result (memory_of paged.new ≡ memory_of paged.old) }
+    ensures writable { OnErr result
+        (may_all PF_W (memory_of paged.old) at (length (number_bytes size word)) ≡ true) }
+{
+    let bytes = word.to_le_bytes();
+    let source = lowest_bytes(&bytes, size);
+    if !source.is_empty() && source.len() <= 4 && paged.write_near(at, source) {
+        return Ok(true);
+    }
+    store_word_apart(paged, alloc, at, word, size)
+}
+
+/// The same where pages may have to be made. It takes the word, so that the word's bytes need no place in memory above.
+#[cold]
+#[inline(never)]
+fn store_word_apart(
+    paged: &mut PagedMemory,
+    alloc: Global,
+    at: u32,
+    word: u32,
+    size: usize,
+) -> Result<bool, Memory>
+    requires paged { IsPaged paged.old }
+    requires size { size ≤ 4 }
+    ensures rest { paged.new ≡ record paged.old { blocks = paged.new.blocks } }
+    ensures paged { IsPaged paged.new }
+    ensures ok { IfOk result (λ answer.
+        (answer, memory_of paged.new) ≡ stored (memory_of paged.old) at (number_bytes size word)) }
+    ensures err { OnErr result (memory_of paged.new ≡ memory_of paged.old) }
+    ensures writable { OnErr result
+        (may_all PF_W (memory_of paged.old) at (length (number_bytes size word)) ≡ true) }
+{
+    let bytes = word.to_le_bytes();
+    store_apart(paged, alloc, at, lowest_bytes(&bytes, size))
 }
 
 /// The same where pages may have to be made.

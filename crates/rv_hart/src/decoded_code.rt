@@ -1,5 +1,5 @@
 //! Words that are decoded once: those of regions that may be executed and not written, which no store reaches.
-ghost use Rattle.std.specs.Prelude.{◌≡◌, ◌+◌, ◌<◌, ◌≤◌, ◌^◌, [], true, IfOk, IfSome, Some, length, option_map};
+ghost use Rattle.std.specs.Prelude.{◌≡◌, ◌+◌, ◌<◌, ◌≤◌, ◌%◌, ◌^◌, [], true, IfOk, IfSome, Some, length, option_map};
 ghost use Rattle.std.specs.Prelude.{slice_get};
 ghost use Rattle.std.specs.Option.{option_copied};
 ghost use Rattle.elf_image.specs.Image.{range_of};
@@ -7,7 +7,7 @@ ghost use Rattle.rv_table.specs.Table.{HasRegisters, decoded};
 ghost use Rattle.rv_hart.specs.Step.{fetched_at};
 ghost use Rattle.rv_hart.specs.private.Decoding.{first_word, AreKept, IsCode, AreCode};
 ghost use Rattle.rv_hart.specs.private.Pages.{nowhere};
-ghost use Rattle.rv_hart.specs.private.Paging.{IsPaged, covers_all, memory_of};
+ghost use Rattle.rv_hart.specs.private.Paging.{IsPaged, covers_all, memory_of, placed};
 
 use crate::paged_memory::PagedMemory;
 use crate::read::{near_in_file, number};
@@ -152,22 +152,56 @@ fn item_at(items: &[Inst], index: usize) -> Option<&Inst>
     items.get(index)
 }
 
-/// The instruction at pc, where its word is kept.
+/// The address of the word at a place, modulo 2^32.
+#[inline(always)]
+pub(crate) fn pc_of(base: u32, place: usize) -> u32
+    ensures { result ≡ placed base place }
+{
+    base.wrapping_add(((place % 0x1_0000_0000) as u32).wrapping_mul(4))
+}
+
+/// The place of the word at an address.
+#[inline(always)]
+pub(crate) fn place_of(base: u32, pc: u32) -> usize
+    requires base { base % 4 ≡ 0 }
+    requires pc { pc % 4 ≡ 0 }
+    ensures { placed base result ≡ pc }
+{
+    (pc.wrapping_sub(base) / 4) as usize
+}
+
+/// The instruction at a place, where its word is kept.
 #[inline(always)]
 pub(crate) fn kept_at<'c>(
-    code: &'c DecodedCode,
+    items: &'c [Inst],
+    code: &DecodedCode,
     paged: &PagedMemory<'_>,
-    pc: u32,
+    place: usize,
 ) -> Option<&'c Inst>
+    requires items { items.now ≡ code.now.items.items }
     requires paged { IsPaged paged.now }
     requires code { IsCode paged.now.file.now paged.now.regions code.now }
     ensures fetched { IfSome result (λ inst.
-        option_map decoded (fetched_at (memory_of paged.now) pc) ≡ Some inst.now) }
+        option_map decoded (fetched_at (memory_of paged.now) (placed code.now.base place)) ≡ Some inst.now) }
     ensures registers { IfSome result (λ inst. HasRegisters inst.now) }
 {
+    let _ = code;
     let _ = paged;
-    let distance = pc.wrapping_sub(code.base);
-    // No word is as far from the first as this makes those that lie at no multiple of 4.
-    let place = distance / 4 + distance % 4 * 0x4000_0000;
-    item_at(&code.items, place as usize)
+    item_at(items, place)
+}
+
+/// The instruction at pc, where its word is kept.
+pub(crate) fn first_kept(code: &DecodedCode, paged: &PagedMemory<'_>, pc: u32) -> Option<Inst>
+    requires paged { IsPaged paged.now }
+    requires code { IsCode paged.now.file.now paged.now.regions code.now }
+    ensures fetched { IfSome result (λ inst. option_map decoded (fetched_at (memory_of paged.now) pc) ≡ Some inst) }
+    ensures registers { IfSome result (λ inst. HasRegisters inst) }
+{
+    if pc % 4 != 0 {
+        return None;
+    }
+    match kept_at(code.items.as_slice(), code, paged, place_of(code.base, pc)) {
+        Some(inst) => Some(*inst),
+        None => None,
+    }
 }

@@ -17,10 +17,10 @@ pub enum Stepped {
 /// Why an instruction trapped.
 #[derive(Clone, Copy, Debug, PartialEq, Eq)]
 pub enum Cause {
-    /// The word at pc is no instruction of RV32IM.
-    Illegal,
     /// pc is no multiple of 4, or its four bytes do not lie in one segment that may be executed.
     Fetch,
+    /// The word at pc is no instruction of RV32IM.
+    Illegal,
     /// A byte that is loaded may not be read.
     Load,
     /// A byte that is stored may not be written.

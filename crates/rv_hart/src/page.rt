@@ -1,16 +1,18 @@
 //! Pages of 4 KiB for what was written, in blocks of 1 MiB.
-ghost use Rattle.std.specs.Prelude.{◌≡◌, ◌++◌, ◌∷◌, [], ◌+◌, ◌<◌, ◌≤◌, length, slice_get, slice_set, OnOk, OnErr};
+ghost use Rattle.std.specs.Prelude.{◌≡◌, ◌++◌, ◌∷◌, [], ◌+◌, ◌<◌, ◌≤◌, ◌^◌, ℕ, true, length, slice_get, slice_set};
+ghost use Rattle.std.specs.Prelude.{OnOk, OnErr};
 ghost use Rattle.std.specs.Prelude.{unwrap_or};
 ghost use Rattle.std.specs.Option.{option_copied};
-ghost use Rattle.std.specs.Prelude.{◌&&◌};
 ghost use Rattle.elf_image.specs.declared.elf.TheConstants.{PF_R, PF_W};
 ghost use Rattle.rv_hart.specs.AddressSpace.{has};
-ghost use Rattle.rv_hart.specs.private.Pages.{blank, spliced, with_bytes, page_at, end_with};
+ghost use Rattle.rv_hart.specs.private.Pages.{blank, spliced, with_bytes, page_at, places_with};
 ghost use Rattle.rv_hart.specs.private.Paging.{bit_of, covers_all};
+ghost use Rattle.rv_hart.specs.private.Lending.{AreOf};
 
 use crate::right::{NOWHERE, Right, grants};
 use elf_image::Segment;
 use prof_bytes::Memory;
+use scope_types::MemorySlice;
 use std::alloc::Global;
 use std::marker::Model;
 
@@ -19,9 +21,9 @@ use std::marker::Model;
 #[derive(Drop)]
 pub(crate) struct Page {
     home: Segment,
-    /// Where the region ends, if it may be read and if it may be written; and else 0.
-    read_end: u32,
-    write_end: u32,
+    /// At how many addresses, from the region's start on, four bytes may be read, and written.
+    readable: u32,
+    writable: u32,
     bytes: Vec<u8>,
 }
 
@@ -34,27 +36,32 @@ impl Model for Page {
 
     ghost use Rattle.std.specs.Prelude.{◌≡◌};
     ghost use Rattle.elf_image.specs.declared.elf.TheConstants.{PF_R, PF_W};
-    ghost use Rattle.rv_hart.specs.private.Pages.{end_with};
+    ghost use Rattle.rv_hart.specs.private.Pages.{places_with};
 
-    ghost invariant = { λ page. (page.read_end ≡ end_with PF_R page.home)
-        × (page.write_end ≡ end_with PF_W page.home) };
+    ghost invariant = { λ page. (page.readable ≡ places_with PF_R page.home)
+        × (page.writable ≡ places_with PF_W page.home) };
 }
 
-/// Where the region ends if it has the right, and else 0.
-fn end_with(home: &Segment, right: Right) -> u32
-    ensures { result ≡ end_with (bit_of right) home.now }
+/// At how many addresses, from the region's start on, the right is had for four bytes.
+fn places_with(home: &Segment, right: Right) -> u32
+    ensures { result ≡ places_with (bit_of right) home.now }
 {
-    if grants(home, right) { home.end } else { 0 }
+    if grants(home, right) {
+        home.end.saturating_sub(home.start).saturating_sub(3)
+    } else {
+        0
+    }
 }
 
-/// Whether a region holds so many addresses from `at` on and has a right, by where it ends if it has it.
+/// Whether four bytes from `at` on lie in a region and it has a right, by at how many addresses that is so.
 #[inline(always)]
-fn reaches(home: &Segment, end: u32, at: u32, count: usize, right: Right) -> bool
-    requires end { end ≡ end_with (bit_of right) home.now }
-    requires count { (0 < count) × (count ≤ 4) }
-    ensures { result ≡ (covers_all home.now at count && has (bit_of right) home.now) }
+fn reaches(home: &Segment, places: u32, at: u32, right: Right) -> bool
+    requires { places ≡ places_with (bit_of right) home.now }
+    ensures covered { result ≡ true → (count : ℕ) → count ≤ 4 → covers_all home.now at count ≡ true }
+    ensures granted { result ≡ true → has (bit_of right) home.now ≡ true }
 {
-    home.start <= at && at as usize + count <= end as usize
+    let _ = (home.end, right);
+    at.wrapping_sub(home.start) < places
 }
 
 impl Page {
@@ -63,8 +70,8 @@ impl Page {
     {
         Page {
             home,
-            read_end: end_with(&home, Right::Read),
-            write_end: end_with(&home, Right::Write),
+            readable: places_with(&home, Right::Read),
+            writable: places_with(&home, Right::Write),
             bytes,
         }
     }
@@ -83,22 +90,38 @@ impl Page {
         self.bytes.as_slice()
     }
 
-    /// Whether the page's region holds so many addresses from `at` on and may be read.
+    /// Whether the page's region holds four addresses from `at` on and may be read.
     #[inline(always)]
-    pub(crate) fn is_readable(&self, at: u32, count: usize) -> bool
-        requires { (0 < count) × (count ≤ 4) }
-        ensures { result ≡ (covers_all self.now.home at count && has PF_R self.now.home) }
+    pub(crate) fn is_readable(&self, at: u32) -> bool
+        ensures covered { result ≡ true → (count : ℕ) → count ≤ 4 → covers_all self.now.home at count ≡ true }
+        ensures granted { result ≡ true → has PF_R self.now.home ≡ true }
     {
-        reaches(&self.home, self.read_end, at, count, Right::Read)
+        reaches(&self.home, self.readable, at, Right::Read)
     }
 
-    /// Whether the page's region holds so many addresses from `at` on and may be written.
+    /// Whether the page's region holds four addresses from `at` on and may be written.
     #[inline(always)]
-    pub(crate) fn is_writable(&self, at: u32, count: usize) -> bool
-        requires { (0 < count) × (count ≤ 4) }
-        ensures { result ≡ (covers_all self.now.home at count && has PF_W self.now.home) }
+    pub(crate) fn is_writable(&self, at: u32) -> bool
+        ensures covered { result ≡ true → (count : ℕ) → count ≤ 4 → covers_all self.now.home at count ≡ true }
+        ensures granted { result ≡ true → has PF_W self.now.home ≡ true }
     {
-        reaches(&self.home, self.write_end, at, count, Right::Write)
+        reaches(&self.home, self.writable, at, Right::Write)
+    }
+
+    /// The bytes of the page, which begins at `base`, that lie in its region, if that may be read.
+    pub(crate) fn lent(&self, base: u32) -> MemorySlice<'_>
+        requires { base + length self.now.bytes ≤ 2 ^ 32 }
+        ensures { AreOf self.now base result }
+    {
+        if !grants(&self.home, Right::Read) {
+            return MemorySlice::empty();
+        }
+        let low = self.home.start.saturating_sub(base) as usize;
+        let high = (self.home.end.saturating_sub(base) as usize).min(self.bytes.len());
+        if low >= high {
+            return MemorySlice::empty();
+        }
+        MemorySlice::of(base + low as u32, &self.bytes[low..high])
     }
 
     /// Puts other bytes in, from this offset on.

@@ -1,13 +1,15 @@
 //! How memory is kept: pages for what was written, and the file for what was not.
 ghost use Rattle.std.specs.Prelude.{◌≡◌, ◌<◌, ◌≤◌, IfSome, unwrap_or};
 ghost use Rattle.std.specs.Option.{option_copied};
-ghost use Rattle.rv_hart.specs.AddressSpace.{region_at, first_byte, byte_in};
-ghost use Rattle.rv_hart.specs.private.Paging.{page_of, value, IsHome};
+ghost use Rattle.rv_hart.specs.AddressSpace.{region_at, first_byte, byte_in, loaded};
+ghost use Rattle.rv_hart.specs.private.Paging.{page_of, value, memory_of, IsHome, IsPaged};
+ghost use Rattle.scope_types.specs.Memory.{HasWords};
 ghost use Rattle.rv_hart.specs.private.Pages.{blank};
 
 use crate::page::{Block, Page};
 use crate::right::NOWHERE;
 use elf_image::{RangeTable, Segment};
+use scope_types::MemorySlice;
 
 /// The file, the regions, and what was written, in blocks of at most 256 pages.
 #[derive(Drop)]
@@ -59,6 +61,17 @@ impl<'a> PagedMemory<'a> {
         match self.page(at) {
             Some(page) => page.bytes(),
             None => &[],
+        }
+    }
+
+    /// The bytes of the address's page that lie in its region, if the page was made and the region may be read.
+    pub(crate) fn page_slice(&self, at: u32) -> MemorySlice<'_>
+        requires { IsPaged self.now }
+        ensures { HasWords (λ at. loaded (memory_of self.now) at 4) result }
+    {
+        match self.page(at) {
+            Some(page) => page.lent(at / 4096 * 4096),
+            None => MemorySlice::empty(),
         }
     }
 

@@ -127,7 +127,7 @@ impl<'a> PagedMemory<'a> {
         ensures fits { IfSome result (λ number. number < 2 ^ (8 * count)) }
     {
         let page = self.page(at)?;
-        if !page.is_readable(at, count) {
+        if !page.is_readable(at) {
             return None;
         }
         let offset = at as usize % 4096;

@@ -7,7 +7,7 @@ ghost use Rattle.rv_hart.specs.Step.{fetched_at, step_of, StoresNow};
 ghost use Rattle.rv_hart.specs.Stepping.{state_of};
 
 use crate::access;
-use crate::decoded_code::{DecodedCode, code_at, decoded_regions};
+use crate::decoded_code::{DecodedCode, code_at, decoded_regions, first_kept};
 use crate::hart::Hart;
 use crate::outcome::{Cause, Stepped};
 use crate::paged_memory::PagedMemory;
@@ -17,7 +17,7 @@ use crate::window::run_kept;
 use elf_image::{Image, RangeTable, Segment};
 use prof_bytes::Memory;
 use rv_table::decode;
-use scope_types::Look;
+use scope_types::{Look, MemorySlice};
 use std::alloc::Global;
 use std::marker::Model;
 
@@ -115,17 +115,17 @@ impl<'a> Space<'a> {
         ensures memory { OnErr result.1 (StoresNow (state_of hart.new self.new)) }
         ensures short { OnErr result.1 (result.0 < most) }
     {
+        if let Some(code) = code_at(&self.decoded, &self.paged, hart.pc) {
+            if let Some(first) = first_kept(code, &self.paged, hart.pc) {
+                return run_kept(&first, code, hart, &mut self.paged, self.alloc, most);
+            }
+        }
         let Some(word) = self.fetch(hart.pc) else {
             return (0, Ok(Stepped::Trap(Cause::Fetch)));
         };
         let first = decode(word);
-        match code_at(&self.decoded, &self.paged, hart.pc) {
-            Some(code) => run_kept(&first, code, hart, &mut self.paged, self.alloc, most),
-            None => {
-                let code = DecodedCode::none(self.alloc);
-                run_kept(&first, &code, hart, &mut self.paged, self.alloc, most)
-            }
-        }
+        let code = DecodedCode::none(self.alloc);
+        run_kept(&first, &code, hart, &mut self.paged, self.alloc, most)
     }
 
     /// The word at pc, where it may be fetched.
@@ -151,5 +151,10 @@ impl<'a> Look for Space<'a> {
 
     fn word(&self, at: u32) -> Option<u32> {
         self.load(at, 4)
+    }
+
+    /// The bytes of the address's page that lie in its region.
+    fn slice(&self, at: u32) -> MemorySlice<'_> {
+        self.paged.page_slice(at)
     }
 }

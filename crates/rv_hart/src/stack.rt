@@ -2,10 +2,7 @@
 ghost use Rattle.std.specs.Prelude.{◌≡◌, ◌<◌};
 ghost use Rattle.rv_hart.specs.AddressSpace.{stack_of};
 
-use elf_image::{PF_R, PF_W, Segment};
-
-/// The lowest address of the stacks. No segment of a program reaches above it.
-const STACKS_BEGIN: u32 = 0xf000_0000;
+use elf_image::{PF_R, PF_W, STACKS_BEGIN, Segment};
 
 /// How many addresses a stack has: 512 KiB.
 const STACK_SIZE: u32 = 0x8_0000;

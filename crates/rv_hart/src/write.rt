@@ -212,7 +212,7 @@ impl<'a> PagedMemory<'a> {
         if at as usize % 4096 + count > page.bytes().len() {
             return false;
         }
-        page.is_writable(at, count)
+        page.is_writable(at)
     }
 
     /// Makes the pages of so many addresses.

@@ -8,7 +8,7 @@ use Rattle.std.proofs.lemmas.List.Quantifiers.{position-Some}
 use Rattle.prof_bytes.specs.Outcome.{◌>>=◌}
 use Rattle.rv_run.specs.declared.schedule.Slice.{Slice}
 use Rattle.rv_run.specs.declared.schedule.ScheduleFault.{ScheduleFault}
-use Rattle.rv_run.specs.Schedule.{lines, with_first, NumberedLine, numbered, entries, is_ignored, before, or_fault, slice_in, slices_of}
+use Rattle.rv_run.specs.Schedule.{lines, with_first, NumberedLine, numbered, entries, is_ignored, slices_before, or_fault, slice_in, slices_of}
 use Rattle.rv_run.specs.private.Reading.{first_of, rest_of}
 
 abbrev is_feed : ℕ → Bool
@@ -89,33 +89,33 @@ pub entries-no : (line : NumberedLine) (rest : List NumberedLine) → is_ignored
 entries-no line rest e = ap (λ (b : Bool). cond (not b) (line ∷ entries rest) (entries rest)) e
 
 -- slices that were read, and those of the lines that are left
-pub before-before : (xs ys : List Slice) (rest : Result (List Slice) ScheduleFault) → before xs (before ys rest) ≡ before (xs ++ ys) rest
+pub before-before : (xs ys : List Slice) (rest : Result (List Slice) ScheduleFault) → slices_before xs (slices_before ys rest) ≡ slices_before (xs ++ ys) rest
 before-before xs ys (Ok more) = ap (λ (all : List Slice). Ok all) (sym (append_assoc xs ys more))
 before-before xs ys (Err fault) = refl
 
 pub read-one : (harts used : ℕ) (left rest : List NumberedLine) (line : NumberedLine) (slice : Slice) → Some line ≡ first_of left → rest ≡ rest_of left → slice_in harts used line.bytes ≡ Some slice
-    → slices_of harts used left ≡ before (slice ∷ []) (slices_of harts (used + slice.count) rest)
+    → slices_of harts used left ≡ slices_before (slice ∷ []) (slices_of harts (used + slice.count) rest)
 unfolding slices_of
 read-one harts used [] rest line slice first more is = absurd cc
 read-one harts used (x ∷ xs) rest line slice first more is =
     let same : line ≡ x = cc in
-    ap (λ (found : Option Slice). or_fault x.number found >>= (λ (s : Slice). before (s ∷ []) (slices_of harts (used + s.count) xs))) (ap (λ (l : NumberedLine). slice_in harts used l.bytes) (sym same) ∙ is)
-    ∙ ap (λ (ls : List NumberedLine). before (slice ∷ []) (slices_of harts (used + slice.count) ls)) (sym more)
+    ap (λ (found : Option Slice). or_fault x.number found >>= (λ (s : Slice). slices_before (s ∷ []) (slices_of harts (used + s.count) xs))) (ap (λ (l : NumberedLine). slice_in harts used l.bytes) (sym same) ∙ is)
+    ∙ ap (λ (ls : List NumberedLine). slices_before (slice ∷ []) (slices_of harts (used + slice.count) ls)) (sym more)
 
 pub read-bad : (harts used : ℕ) (left : List NumberedLine) (line : NumberedLine) → Some line ≡ first_of left → slice_in harts used line.bytes ≡ None → slices_of harts used left ≡ Err (record { line = line.number })
 unfolding slices_of
 read-bad harts used [] line first bad = absurd cc
 read-bad harts used (x ∷ xs) line first bad =
     let same : line ≡ x = cc in
-    ap (λ (found : Option Slice). or_fault x.number found >>= (λ (s : Slice). before (s ∷ []) (slices_of harts (used + s.count) xs))) (ap (λ (l : NumberedLine). slice_in harts used l.bytes) (sym same) ∙ bad)
+    ap (λ (found : Option Slice). or_fault x.number found >>= (λ (s : Slice). slices_before (s ∷ []) (slices_of harts (used + s.count) xs))) (ap (λ (l : NumberedLine). slice_in harts used l.bytes) (sym same) ∙ bad)
     ∙ ap (λ (l : NumberedLine). Err (record { line = l.number })) (sym same)
 
-pub read-end : (harts used : ℕ) (left : List NumberedLine) (slices : List Slice) → None ≡ first_of left → before slices (slices_of harts used left) ≡ Ok slices
+pub read-end : (harts used : ℕ) (left : List NumberedLine) (slices : List Slice) → None ≡ first_of left → slices_before slices (slices_of harts used left) ≡ Ok slices
 unfolding slices_of
 read-end harts used [] slices none = ap (λ (all : List Slice). Ok all) (append-nil slices)
 read-end harts used (x ∷ xs) slices none = absurd cc
 
-pub starts : (rest : Result (List Slice) ScheduleFault) → rest ≡ before [] rest
+pub starts : (rest : Result (List Slice) ScheduleFault) → rest ≡ slices_before [] rest
 starts (Ok more) = refl
 starts (Err fault) = refl
 

@@ -14,7 +14,7 @@ use Rattle.elf_image.specs.Image.{ProgramImage}
 use Rattle.rv_run.specs.declared.schedule.Slice.{Slice}
 use Rattle.rv_run.specs.Schedule.{Scheduled, IsSchedule, IsSlice}
 use Rattle.rv_run.specs.State.{HartState, MachineState, hart_in, first_hart, first_state, is_running}
-use Rattle.rv_run.specs.Calls.{all_readable, bytes_at}
+use Rattle.rv_run.specs.Calls.{all_readable, memory_bytes}
 use Rattle.rv_run.specs.Progress.{Progress, IsFresh}
 use Rattle.rv_run.specs.private.Queue.{IsReady, StandsAt}
 
@@ -77,7 +77,7 @@ readable-low memory at count all =
     leb-true (at + count) (2 ^ 32) parts.0
 
 -- a byte more that was copied
-pub copied-more : (memory : AddressSpace) (at place : ℕ) (bytes : List ℕ) (byte : ℕ) → bytes ≡ bytes_at memory at place → byte ≡ byte_at memory (at + place) → bytes ++ byte ∷ [] ≡ bytes_at memory at (place + 1)
+pub copied-more : (memory : AddressSpace) (at place : ℕ) (bytes : List ℕ) (byte : ℕ) → bytes ≡ memory_bytes memory at place → byte ≡ byte_at memory (at + place) → bytes ++ byte ∷ [] ≡ memory_bytes memory at (place + 1)
 copied-more memory at place bytes byte so_far is =
     ap₂ (λ (xs : List ℕ) (b : ℕ). xs ++ b ∷ []) so_far is ∙ sym (map-range_with_len_more (byte_at memory) at place (at + place) refl)
 

@@ -5,7 +5,7 @@ use Rattle.std.proofs.lemmas.Bool.Decides.{eqb_tells}
 use Rattle.rv_run.specs.declared.schedule.Slice.{Slice}
 use Rattle.rv_run.specs.declared.machine.Due.{Due}
 use Rattle.rv_run.specs.private.Reading.{first_of, rest_of}
-use Rattle.rv_run.specs.Schedule.{instructions, count_of, most_instructions}
+use Rattle.rv_run.specs.Schedule.{instructions, slice_count, most_instructions}
 use Rattle.rv_run.specs.State.{MachineState, hart_of, is_running}
 use Rattle.rv_run.specs.Calls.{Acted}
 use Rattle.rv_run.specs.Run.{Run, acts, state_after, next_instant, finished, preceded, joined, run_slice, run_slices}
@@ -95,7 +95,7 @@ stands-none s [] none = tt
 stands-none s (x ∷ rest) none = absurd cc
 
 count-cons : (slice : Slice) (rest : List Slice) → instructions (slice ∷ rest) ≡ slice.count + instructions rest
-count-cons slice rest = sum-map count_of (slice ∷ rest) ∙ sum_by-cons count_of slice rest ∙ ap (λ (n : ℕ). slice.count + n) (sym (sum-map count_of rest))
+count-cons slice rest = sum-map slice_count (slice ∷ rest) ∙ sum_by-cons slice_count slice rest ∙ ap (λ (n : ℕ). slice.count + n) (sym (sum-map slice_count rest))
 
 pub fewer : (left : List Slice) → instructions (rest_of left) ≤ instructions left
 fewer [] = omega arith
@@ -148,14 +148,14 @@ room-less s new left hart is_retired some room counts other =
     apart ne = omega (arith, counts.others other ne, less-by 1 left some, room other)
 
 abbrev sum_by-of : List Slice → ℕ
-sum_by-of xs = sum_by count_of xs
+sum_by-of xs = sum_by slice_count xs
 
 pub one-more : (slices : List Slice) (slice : Slice) → instructions (slices ++ slice ∷ []) ≡ instructions slices + slice.count
 one-more slices slice =
-    sum-map count_of (slices ++ slice ∷ [])
-    ∙ sum_by-append count_of slices (slice ∷ [])
-    ∙ ap (λ (n : ℕ). n + sum_by-of (slice ∷ [])) (sym (sum-map count_of slices))
-    ∙ (let e : sum_by-of (slice ∷ []) ≡ slice.count = sum_by-cons count_of slice [] ∙ omega arith in ap (λ (n : ℕ). instructions slices + n) e)
+    sum-map slice_count (slices ++ slice ∷ [])
+    ∙ sum_by-append slice_count slices (slice ∷ [])
+    ∙ ap (λ (n : ℕ). n + sum_by-of (slice ∷ [])) (sym (sum-map slice_count slices))
+    ∙ (let e : sum_by-of (slice ∷ []) ≡ slice.count = sum_by-cons slice_count slice [] ∙ omega arith in ap (λ (n : ℕ). instructions slices + n) e)
 
 -- a slice that has nothing left, or whose hart has ended
 pub cannot : (count : ℕ) (b : Bool) → (nat_lt 0 count && b) ≡ false → (count ≡ 0) ⊎ (b ≡ false)

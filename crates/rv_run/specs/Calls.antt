@@ -50,15 +50,16 @@ reads descriptor at count s =
     else only_answers (negative EBADF) s
 
 -- the bytes in memory from this address on
-abbrev pub bytes_at : AddressSpace → ℕ → ℕ → List ℕ
-bytes_at memory at count = map (byte_at memory) (range_with_len at count)
+abbrev pub memory_bytes : AddressSpace → ℕ → ℕ → List ℕ
+memory_bytes memory at count = map (byte_at memory) (range_with_len at count)
 
 -- how many of so many bytes the output has room for
 abbrev pub taken : ℕ → List ℕ → ℕ
 taken count output = min count (most_output - length output)
 
 abbrev pub writes_out : ℕ → ℕ → MachineState → Answered
-writes_out at count s = record { state = record s { output = s.output ++ bytes_at s.memory at count }; answer = count }
+writes_out at count s =
+    record { state = record s { output = s.output ++ memory_bytes s.memory at count }; answer = count }
 
 -- each of so many addresses from this one on is below 2^32 and may be read
 abbrev pub all_readable : AddressSpace → ℕ → ℕ → Bool

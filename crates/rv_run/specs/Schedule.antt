@@ -78,8 +78,8 @@ abbrev pub or_fault : {X : Type 0} → ℕ → Option X → Result X ScheduleFau
 or_fault line None = Err (record { line = line })
 or_fault line (Some x) = Ok x
 
-abbrev pub before : List Slice → Result (List Slice) ScheduleFault → Result (List Slice) ScheduleFault
-before slices rest = do
+abbrev pub slices_before : List Slice → Result (List Slice) ScheduleFault → Result (List Slice) ScheduleFault
+slices_before slices rest = do
   more ← rest
   Ok (slices ++ more)
 
@@ -88,7 +88,7 @@ unfoldable pub slices_of : ℕ → ℕ → List NumberedLine → Result (List Sl
 slices_of harts used [] = Ok []
 slices_of harts used (line ∷ rest) = do
   slice ← or_fault line.number (slice_in harts used line.bytes)
-  before (slice ∷ []) (slices_of harts (used + slice.count) rest)
+  slices_before (slice ∷ []) (slices_of harts (used + slice.count) rest)
 
 -- the first line is that of the harts. Where there is none, the fault is at the end of all lines
 abbrev pub schedule_in : ℕ → List NumberedLine → Result Scheduled ScheduleFault
@@ -102,12 +102,12 @@ schedule_in end (first ∷ rest) = do
 abbrev pub schedule_of : List ℕ → Result Scheduled ScheduleFault
 schedule_of bytes = schedule_in (length (lines bytes) + 1) (entries (numbered 1 (lines bytes)))
 
-abbrev pub count_of : Slice → ℕ
-count_of slice = slice.count
+abbrev pub slice_count : Slice → ℕ
+slice_count slice = slice.count
 
 -- how many instructions the slices have
 abbrev pub instructions : List Slice → ℕ
-instructions slices = sum (map count_of slices)
+instructions slices = sum (map slice_count slices)
 
 -- a slice of one of so many harts, which is not empty
 pub record IsSlice (harts : ℕ) (slice : Slice) : Type 0 where

@@ -2,7 +2,7 @@
 ghost use Rattle.std.specs.Prelude.{◌≡◌, ◌+◌, ◌≤◌, ◌^◌, true, IfOk};
 ghost use Rattle.elf_image.specs.declared.elf.TheConstants.{PF_R};
 ghost use Rattle.rv_hart.specs.AddressSpace.{byte_at, may};
-ghost use Rattle.rv_run.specs.Calls.{all_readable, bytes_at};
+ghost use Rattle.rv_run.specs.Calls.{all_readable, memory_bytes};
 
 use prof_bytes::Memory;
 use rv_hart::Space;
@@ -43,7 +43,7 @@ pub(crate) fn copied(
     count: u32,
 ) -> Result<Vec<u8>, Memory>
     requires { all_readable space.now at count ≡ true }
-    ensures { IfOk result (λ bytes. bytes.items ≡ bytes_at space.now at count) }
+    ensures { IfOk result (λ bytes. bytes.items ≡ memory_bytes space.now at count) }
 {
     let mut bytes = Vec::new(alloc);
     for offset in 0..count {

@@ -1,8 +1,6 @@
 /// The operation of an instruction: one variant for each instruction of RV32IM, by the manual's names.
 #[derive(Clone, Copy, Debug, PartialEq, Eq)]
 pub enum Op {
-    /// The word is no instruction of RV32IM.
-    Illegal,
     Lui,
     Auipc,
     Jal,
@@ -51,6 +49,8 @@ pub enum Op {
     Fence,
     Ecall,
     Ebreak,
+    /// The word is no instruction of RV32IM.
+    Illegal,
 }
 
 /// An instruction: its operation and its fields ("Base Instruction Formats"). A field that the format lacks is 0.

@@ -6,23 +6,25 @@ ghost use Rattle.scope_types.specs.Words.{root_words, proc_words, line_words};
 
 use crate::scope::{LineId, ProcId, RootKind, Scope};
 
-/// Where the hash begins, and what each step multiplies by.
-const OFFSET_BASIS: u32 = 2_166_136_261;
+/// What the hash begins with: the offset basis.
+pub const FNV_BASIS: u32 = 2_166_136_261;
 
-const PRIME: u32 = 16_777_619;
+/// What each step multiplies by.
+const FNV_PRIME: u32 = 16_777_619;
 
-fn with_word(key: u32, word: u32) -> u32
+/// One step of the FNV-1a hash of 32 bits.
+pub fn fnv_step(key: u32, word: u32) -> u32
     ensures { result ≡ fnv_step key word }
 {
-    (key ^ word).wrapping_mul(PRIME)
+    (key ^ word).wrapping_mul(FNV_PRIME)
 }
 
 fn with_kind(key: u32, kind: RootKind) -> u32
     ensures { result ≡ fold fnv_step key (root_words kind) }
 {
     match kind {
-        RootKind::Thread => with_word(key, 0),
-        RootKind::Partial => with_word(key, 1),
+        RootKind::Thread => fnv_step(key, 0),
+        RootKind::Partial => fnv_step(key, 1),
     }
 }
 
@@ -30,24 +32,24 @@ fn with_procedure(key: u32, procedure: ProcId) -> u32
     ensures { result ≡ fold fnv_step key (proc_words procedure) }
 {
     match procedure {
-        ProcId::Die(offset) => with_word(with_word(key, 0), offset),
-        ProcId::Sym(address) => with_word(with_word(key, 1), address),
-        ProcId::Nameless => with_word(with_word(key, 2), 0),
+        ProcId::Die(offset) => fnv_step(fnv_step(key, 0), offset),
+        ProcId::Sym(address) => fnv_step(fnv_step(key, 1), address),
+        ProcId::Nameless => fnv_step(fnv_step(key, 2), 0),
     }
 }
 
 fn with_row(key: u32, table: u32, file: u32, line: u32) -> u32
     ensures { result ≡ fnv_step (fnv_step (fnv_step key table) file) line }
 {
-    with_word(with_word(with_word(key, table), file), line)
+    fnv_step(fnv_step(fnv_step(key, table), file), line)
 }
 
 fn with_line(key: u32, line: LineId) -> u32
     ensures { result ≡ fold fnv_step key (line_words line) }
 {
     match line {
-        LineId::Row { table, file, line } => with_row(with_word(key, 0), table, file, line),
-        LineId::Address(address) => with_word(with_word(key, 1), address),
+        LineId::Row { table, file, line } => with_row(fnv_step(key, 0), table, file, line),
+        LineId::Address(address) => fnv_step(fnv_step(key, 1), address),
     }
 }
 
@@ -62,11 +64,11 @@ fn with_scope(key: u32, scope: Scope) -> u32
     ensures { result ≡ key_after key scope }
 {
     match scope {
-        Scope::Root(kind) => with_kind(with_word(key, 0), kind),
-        Scope::Proc(procedure) => with_procedure(with_word(key, 1), procedure),
-        Scope::Inline { callee, call } => with_inline(with_word(key, 2), callee, call),
-        Scope::Call(line) => with_line(with_word(key, 3), line),
-        Scope::Stmt(line) => with_line(with_word(key, 4), line),
+        Scope::Root(kind) => with_kind(fnv_step(key, 0), kind),
+        Scope::Proc(procedure) => with_procedure(fnv_step(key, 1), procedure),
+        Scope::Inline { callee, call } => with_inline(fnv_step(key, 2), callee, call),
+        Scope::Call(line) => with_line(fnv_step(key, 3), line),
+        Scope::Stmt(line) => with_line(fnv_step(key, 4), line),
     }
 }
 
@@ -75,7 +77,7 @@ fn key_of_all(scopes: &[Scope]) -> u32
 {
     scopes
         .iter()
-        .fold(OFFSET_BASIS, |key, scope| with_scope(key, *scope))
+        .fold(FNV_BASIS, |key, scope| with_scope(key, *scope))
 }
 
 /// The key of a path, by which it is dealt to one of the sixteen stripes: the hash of the words of the

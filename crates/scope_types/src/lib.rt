@@ -10,12 +10,14 @@ mod expand;
 mod frame;
 mod hash;
 mod look;
+mod memory_slice;
 mod path;
 mod scope;
 
 pub use expand::Expand;
 pub use frame::{Counted, End, Frame, PartialCause, RawPath};
-pub use hash::key;
+pub use hash::{FNV_BASIS, fnv_step, key};
 pub use look::{Look, Unwind};
+pub use memory_slice::MemorySlice;
 pub use path::{Entry, Piece, ScopePath};
 pub use scope::{LineId, ProcId, RootKind, Scope, compare, compare_paths, order_laws};

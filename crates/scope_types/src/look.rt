@@ -1,7 +1,9 @@
 ghost use Rattle.std.specs.Prelude.{◌≡◌, ℕ, List, Option, IfOk};
+ghost use Rattle.scope_types.specs.Memory.{HasWords};
 ghost use Rattle.scope_types.specs.Raw.{Raw};
 
 use crate::frame::RawPath;
+use crate::memory_slice::MemorySlice;
 use prof_bytes::Memory;
 
 /// Memory that an unwinder looks into.
@@ -13,6 +15,14 @@ pub trait Look {
     /// The word at the address; `None` exactly where a load of its four bytes would trap.
     fn word(&self, at: u32) -> Option<u32>
         ensures { result ≡ words self.now at };
+
+    /// Bytes of memory about an address, if any are at hand. Words that lie whole among them are found there in less
+    /// time.
+    fn slice(&self, _at: u32) -> MemorySlice<'_>
+        ensures { HasWords (words self.now) result }
+    {
+        MemorySlice::empty()
+    }
 }
 
 /// What finds the call path of an instruction.

@@ -1,8 +1,8 @@
 -- The columns of nodes, a node at a time.
-use Rattle.std.proofs.Common.{◌≡◌, ℕ, zero, suc, ◌+◌, ◌-◌, ◌<◌, ◌≤◌, ◌==◌, ◌&&◌, Bool, true, false, cond, List, [], ◌∷◌, ◌++◌, length, get_or, take, drop, map, filter, Less, Equal, AllPairs, refl, sym, ap, subst, ◌∙◌, arith, inl, inr, append-nil, append_assoc, length-append, length-take, length-drop, take-append-drop}
+use Rattle.std.proofs.Common.{◌≡◌, ℕ, suc, ◌+◌, ◌-◌, ◌<◌, ◌≤◌, ◌==◌, ◌&&◌, Bool, true, false, cond, List, [], ◌∷◌, ◌++◌, length, get_or, take, drop, map, filter, Less, Equal, AllPairs, refl, sym, ap, subst, ◌∙◌, arith, inl, inr, append-nil, length-append, length-take, length-drop, take-append-drop}
 use Rattle.std.specs.Prelude.{◌≢◌}
 use Rattle.std.specs.declared.cmp.Ordering.TheVariants.{Greater}
-use Rattle.std.specs.List.{flat_map, range_with_len}
+use Rattle.std.specs.List.{flat_map}
 use Rattle.std.specs.Ordering.{nat_cmp, ordering_then}
 use Rattle.std.proofs.lemmas.Bool.{cases_order, cases_eq, eq-eqb, ne_eqb}
 use Rattle.std.proofs.lemmas.Bool.Decides.{nat_tests}
@@ -13,7 +13,7 @@ use Rattle.tree_types.specs.Columns.{AreStarts, cut}
 use Rattle.tree_types.specs.declared.content.ContextEntry.{ContextEntry}
 use Rattle.tree_types.specs.declared.content.Kind.{Kind}
 use Rattle.tree_types.specs.declared.node_values.NodeValue.{NodeValue}
-use Rattle.tree_types.specs.NodeValues.{AreValues, NodeValues, kind_rank, value_order}
+use Rattle.tree_types.specs.NodeValues.{NodeValues, kind_rank, value_order}
 use Rattle.tree_types.specs.Planes.{kinds}
 use Rattle.tree_types.specs.ValueColumns.{in_context, kind_entries, node_entries, columns_by_node}
 use Rattle.tree_types.proofs.Cutting.{no_starts, no_columns, starts_more, cut_more}

@@ -1,5 +1,6 @@
 //! The values by node. Those of a node stand together, so that each node's are put in order by themselves.
-ghost use Rattle.std.specs.Prelude.{◌≡◌, ◌≢◌, ℕ, ◌<◌, ◌≤◌, ◌++◌, ◌==◌, ◌∷◌, [], List, length, map, filter, slice_index_or, IfOk, OnOk};
+ghost use Rattle.std.specs.Prelude.{◌≡◌, ◌≢◌, ℕ, ◌<◌, ◌≤◌, ◌++◌, ◌==◌, ◌∷◌, [], List, length, map, filter};
+ghost use Rattle.std.specs.Prelude.{slice_index_or, IfOk, OnOk};
 ghost use Rattle.std.specs.List.{flat_map};
 ghost use Rattle.scope_types.specs.Alike.{Alike};
 ghost use Rattle.scope_types.specs.CallPaths.{HartPath};

@@ -6,8 +6,10 @@
 //! `tree_types` and `scope_types`.
 #![tactic(auto)]
 
+mod both;
 mod contexts;
 mod profiles;
 
+pub use both::both_planes;
 pub use contexts::{by_context, filled as context_columns};
 pub use profiles::{by_profile, filled as profile_columns};

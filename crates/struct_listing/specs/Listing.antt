@@ -1,5 +1,5 @@
--- The structure of a program as text: its subprograms, the calls that are inlined into them, and the functions that only
--- symbols know. HPCToolkit's manual, hpcstruct; DWARF 5, section 3.3.
+-- The structure of a program as text: its subprograms, the calls that are inlined into them, and the functions that
+-- only symbols know. HPCToolkit's manual, hpcstruct; DWARF 5, section 3.3.
 use Rattle.std.specs.Prelude.{ℕ, ◌+◌, ◌-◌, ◌*◌, ◌&&◌, not, nat_lt, Bool, List, [], ◌∷◌, ◌++◌, codes, count_by, drop}
 use Rattle.std.specs.Prelude.{filter, is_none, take, unwrap_or}
 use Rattle.std.specs.List.{flat_map}

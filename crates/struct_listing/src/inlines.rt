@@ -1,5 +1,6 @@
 //! The calls that are inlined into a subprogram.
-ghost use Rattle.std.specs.Prelude.{◌≡◌, ◌+◌, ◌*◌, ◌<◌, ◌≤◌, ◌^◌, ◌++◌, ◌∷◌, [], true, nat_lt, filter, length, slice_get};
+ghost use Rattle.std.specs.Prelude.{◌≡◌, ◌+◌, ◌*◌, ◌<◌, ◌≤◌, ◌^◌, ◌++◌, ◌∷◌, [], true, nat_lt, filter, length};
+ghost use Rattle.std.specs.Prelude.{slice_get};
 ghost use Rattle.std.specs.Prelude.{Some, OnOk, if◌then◌else◌};
 ghost use Rattle.tree_types.specs.TopDown.{line_label, spaces};
 ghost use Rattle.dwarf_inline.specs.Structure.{IsWhole};

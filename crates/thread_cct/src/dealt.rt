@@ -124,4 +124,12 @@ impl Pieces {
     {
         &self.pieces[stripe as usize]
     }
+
+    /// The pieces themselves, by stripe. Takes no memory.
+    pub fn into_vec(self) -> Vec<Piece>
+        ensures { result.items ≡ self }
+    {
+        let Pieces { pieces } = self;
+        pieces
+    }
 }

@@ -1,10 +1,11 @@
--- Where a walk in preorder begins and where it ends.
-use Rattle.std.proofs.Common.{◌≡◌, ℕ, ◌+◌, ◌<◌, ◌≤◌, ◌≢◌, inl, inr, Bool, cond, List, [], ◌∷◌, ◌++◌, length, get_or, set, map, replicate, ◌-◌, AllPairs, Contains, Less, refl, sym, ap, ap₂, subst, ◌∙◌, arith, append_assoc, length-append}
+-- Where walks over tries begin and where they end.
+use Rattle.std.proofs.Common.{◌≡◌, ℕ, suc, ◌+◌, ◌<◌, ◌≤◌, ◌≢◌, inl, inr, true, List, [], ◌∷◌, ◌++◌, length, get_or, map, replicate, ◌-◌, None, All, AllPairs, Contains, Less, refl, sym, ap, ap₂, subst, ◌∙◌, arith, append_assoc, length-append}
+use Rattle.std.specs.List.{flat_map}
 use Rattle.std.specs.List.Sorted.{IsStrictlySortedBy}
-use Rattle.std.proofs.Math.Seq.{get_or-append_seam}
-use Rattle.std.proofs.lemmas.Bool.{cases_eq, cases_order, ne_eqb}
+use Rattle.std.proofs.Math.ListN.{get_or-append}
+use Rattle.std.proofs.lemmas.Bool.{cases_lt, cases_order}
 use Rattle.std.proofs.lemmas.Cmp.{tied_itself}
-use Rattle.std.proofs.lemmas.List.{get_or_default, length-replicate, get_or-replicate}
+use Rattle.std.proofs.lemmas.List.{get_or_default, get_or-append_right, length-replicate, get_or-replicate}
 use Rattle.std.proofs.lemmas.List.Elements.{All-get_or, Contains-get_or}
 use Rattle.std.proofs.lemmas.Map.Keys.{sorted_from_all_adjacent}
 use Rattle.std.proofs.lemmas.Option.{slice_get-get_or}
@@ -17,38 +18,27 @@ use Rattle.tree_types.specs.declared.content.Node.{Node}
 use Rattle.tree_types.specs.Laws.{IsNonemptyPrefix}
 use Rattle.tree_types.specs.Nodes.{no_parent}
 use Rattle.tree_types.specs.Paths.{Path}
-use Rattle.tree_types.specs.PathsOf.{tree_paths, path_below}
+use Rattle.tree_types.specs.PathsOf.{tree_paths}
 use Rattle.tree_types.specs.Tree.{IsPreorder}
-use Rattle.tree_types.proofs.PathSteps.{as_many_paths, root_path, inner_path}
+use Rattle.tree_types.proofs.PathSteps.{as_many_paths}
 use Rattle.tree_types.proofs.Sorting.{bool_same, same_ascending, ascending_of_sorted}
-use Rattle.path_trie.specs.Trie.{IsPlace, StandBefore, path_at, has_node, node_of, trie_nodes}
+use Rattle.path_trie.specs.declared.trie.PathEnd.{PathEnd}
+use Rattle.path_trie.specs.Trie.{IsPlace, StandBefore, path_at, entry_of, has_node, node_of, trie_nodes}
 use Rattle.path_trie.specs.private.Linked.{node_at, no_node, Rooted}
 use Rattle.path_trie.proofs.Kept.{nodes_are}
 use Rattle.path_trie.proofs.Nodes.{each_prefix, no_other, each_once}
 use Rattle.path_trie.proofs.Places.{path_none, not_empty, has_at}
-use Rattle.tree_join.specs.declared.children.Sibling.{Sibling}
+use Rattle.tree_join.specs.declared.children.Children.{Children}
+use Rattle.tree_join.specs.declared.walker.Walker.{Walker}
 use Rattle.tree_join.specs.private.Children.{Groups, AreChildren, children_of}
-use Rattle.tree_join.specs.private.Walk.{number_at, renumbered, path_of, AreNodes, IsBelow, Walked}
+use Rattle.tree_join.specs.private.Walk.{number_at, path_of, nodes_in, entries_in, head_of, AreNodes, IsBelow, IsReady, IsWalker, Walking, Walks, WalksTrie}
 use Rattle.tree_join.proofs.Groups.{children_are}
 use Rattle.tree_join.proofs.Parting.{parts_same, siblings_part}
-use Rattle.tree_join.proofs.Walking.{kid_path, through, at_index, count_among, order_short, step}
+use Rattle.tree_join.proofs.Rooted.{rooted_from}
+use Rattle.tree_join.proofs.Steps.{none_left, order_few}
+use Rattle.tree_join.proofs.Walking.{kid_path, through, at_index, has_from}
 
 -- ---- the nodes of a trie
-
-below_from : (nodes : List Node) → ((i : ℕ) → i < length nodes → IsPlace (node_at nodes i).parent i) → (i : ℕ) → i < length nodes → path_of (tree_paths nodes) i ≡ path_below (tree_paths nodes) (node_at nodes i)
-below_from nodes before i lt =
-    let n : Node = node_at nodes i in
-    let paths : List Path = tree_paths nodes in
-    elim (cases_eq n.parent no_parent) [
-      | inl root ↦ root_path nodes i no_node lt root ∙ ap (λ (x : Path). x ++ n.scope ∷ []) (sym (path_none paths n.parent root))
-      | inr inner ↦
-          inner_path nodes i no_node lt inner (before i lt inner)
-          ∙ ap (λ b. cond b [] (get_or paths n.parent []) ++ n.scope ∷ []) (sym (ne_eqb n.parent no_parent inner))
-    ]
-
-pub rooted_from : (nodes : List Node) → ((i : ℕ) → i < length nodes → IsPlace (node_at nodes i).parent i)
-    → ((i j : ℕ) → i < length nodes → j < length nodes → path_of (tree_paths nodes) i ≡ path_of (tree_paths nodes) j → i ≡ j) → Rooted nodes
-rooted_from nodes before once = record { long = as_many_paths nodes; before = before; below = below_from nodes before; once = once }
 
 pub nodes_of_trie : (nodes : List Node) (es : List Entry) → tree_paths nodes ≡ trie_nodes es → StandBefore nodes → length nodes ≤ most_path_scopes → AreNodes nodes
 nodes_of_trie nodes es is stand few = record {
@@ -91,9 +81,6 @@ module _ (nodes : List Node) (are : AreNodes nodes) (kids : List ℕ) (children 
   kid_has : (j : ℕ) → j < length kids → path_of paths (kid j) ≡ path_at paths no_parent ++ (node_at nodes (kid j)).scope ∷ []
   kid_has j lt = kid_path nodes are (kid j) no_parent (kid_is j lt).0 (kid_is j lt).1
 
-  none_yet : length (tree_paths []) ≡ 0
-  none_yet = as_many_paths []
-
   covered_by : (q : ℕ) → q < length nodes → (x : Path) → path_of paths q ≡ x → (j : ℕ) × (j < length kids) × IsBelow (path_of paths (kid j)) (path_of paths q)
   covered_by q lt [] is = absurd (not_empty (path_at paths (node_at nodes q).parent) (node_at nodes q).scope (sym (are.rooted.below q lt) ∙ is))
   covered_by q lt (s ∷ r) is =
@@ -101,13 +88,10 @@ module _ (nodes : List Node) (are : AreNodes nodes) (kids : List ℕ) (children 
       let found = children.all c.0 c.1 c.2 in
       (found.0, found.1, subst (λ (k : ℕ). IsBelow (path_of paths k) (path_of paths q)) (sym (get_or_default kids found.0 0 c.0 found.1 ∙ found.2)) c.3)
 
-  pub start : Walked nodes (replicate (length nodes) no_parent) kids []
+  pub start : Walks nodes (replicate (length nodes) no_parent) kids []
   start = record {
     long = length-replicate (length nodes) no_parent;
     numbered = λ q lt set. absurd (set (get_or-replicate (length nodes) q no_parent no_parent lt));
-    ascend = λ i j d below lt. (let none = none_yet in absurd (omega arith));
-    among = λ i lt. absurd (omega arith);
-    before = λ i lt. absurd (omega arith);
     places = λ j lt. (kid_is j lt).0;
     parents = λ j lt inner. absurd (inner (kid_is j lt).1);
     ahead = λ i j lt. absurd (omega arith);
@@ -117,118 +101,119 @@ module _ (nodes : List Node) (are : AreNodes nodes) (kids : List ℕ) (children 
     covered = λ q lt none. covered_by q lt (path_of paths q) refl;
   }
 
+module _ (children : Children) (nodes : List Node) (es : List Entry) (ends : List PathEnd) (numbers stack none : List ℕ) (same : children.nodes.now ≡ nodes)
+    (groups : Groups nodes children.flags.items children.siblings.items) (paths_are : tree_paths nodes ≡ trie_nodes es) (before : StandBefore nodes) (few : length nodes ≤ most_path_scopes)
+    (ends_are : map (entry_of (trie_nodes es)) ends ≡ es) (ends_in : All (λ e. IsPlace e.node (length (trie_nodes es))) ends) where
+  pub entries_are : map (entry_of (tree_paths children.nodes.now)) ends ≡ es
+  entries_are = ap (λ (ns : List Node). map (entry_of (tree_paths ns)) ends) same ∙ ap (λ (ps : List Path). map (entry_of ps) ends) paths_are ∙ ends_are
+
+  pub start_at : numbers ≡ replicate (length nodes) no_parent → none ≡ [] → stack ≡ none ++ children_of children.nodes.now children.flags.items children.siblings.items no_parent → WalksTrie children ends numbers stack []
+  start_at numbers_are none_is stack_is =
+      let are : AreNodes nodes = nodes_of_trie nodes es paths_are before few in
+      let kids : List ℕ = children_of nodes children.flags.items children.siblings.items no_parent in
+      let stack_all : stack ≡ kids = stack_is ∙ ap₂ (λ (a : List ℕ) (n : List Node). a ++ children_of n children.flags.items children.siblings.items no_parent) none_is same in
+      let begun = start nodes are kids (children_are nodes children.flags.items children.siblings.items groups are no_parent (λ inner. absurd (inner refl))) in
+      let walk : Walks nodes numbers stack [] = subst (λ (x : List ℕ). Walks nodes x stack []) (sym numbers_are) (subst (λ (x : List ℕ). Walks nodes (replicate (length nodes) no_parent) x []) (sym stack_all) begun) in
+      let long : length (trie_nodes es) ≡ length nodes = sym (ap (λ (ps : List Path). length ps) paths_are) ∙ as_many_paths nodes in
+      record {
+        groups = subst (λ (ns : List Node). Groups ns children.flags.items children.siblings.items) (sym same) groups;
+        are = subst AreNodes (sym same) are;
+        nodes_are = ap tree_paths same ∙ paths_are ∙ ap trie_nodes (sym entries_are);
+        ends_in = subst (λ (ns : List Node). All (λ e. IsPlace e.node (length ns)) ends) (sym same) (subst (λ (k : ℕ). All (λ e. IsPlace e.node k) ends) long ends_in);
+        walks = subst (λ (ns : List Node). Walks ns numbers stack []) (sym same) walk;
+      }
+
+pub ready : (order : List Node) (w : Walker) → IsWalker order w → IsReady w
+ready order w is = record {
+  groups = is.groups;
+  few = is.are.few;
+  long = is.walks.long;
+  places = λ i d lt. subst (λ (p : ℕ). p < length (nodes_in w)) (get_or_default w.stack.items i 0 d lt) (is.walks.places i lt);
+  before = is.are.rooted.before;
+}
+
+pub all_ready : (parts : List (List Entry)) (walkers : List Walker) (order : List Node) → Walking parts walkers order → All IsReady walkers
+all_ready parts walkers order is = λ i d lt. ready order (get_or walkers i d) (is.each i d lt)
+
 -- ---- the end
 
-module _ (nodes : List Node) (numbers : List ℕ) (order : List Node) (are : AreNodes nodes) (w : Walked nodes numbers [] order) where
-  abbrev own_paths : List Path
-  own_paths = tree_paths nodes
+-- the numbers of nodes lead to nodes of the same paths
+abbrev pub Numbered : List Node → List Node → List ℕ → Type 0
+Numbered order nodes numbers = (q : ℕ) → q < length nodes → (number_at numbers q < length order) × (path_of (tree_paths order) (number_at numbers q) ≡ path_of (tree_paths nodes) q)
 
+pub number_is : (order : List Node) (w : Walker) → IsWalker order w → head_of w ≡ None → Numbered order (nodes_in w) w.numbers.items
+number_is order w is ended q lt =
+    is.walks.numbered q lt (λ none. (let found = is.walks.covered q lt none in let in_stack = found.1 in let empty = none_left order w is ended in absurd (omega arith)))
+
+from_walks : (ws : List Walker) (q : Path) → Contains (flat_map trie_nodes (map entries_in ws)) q → (w : Walker) × Contains ws w × Contains (trie_nodes (entries_in w)) q
+from_walks [] q c = (let lt = c.1 in absurd (omega arith))
+from_walks (w ∷ ws) q c =
+    let own : List Path = trie_nodes (entries_in w) in
+    let rest : List Path = flat_map trie_nodes (map entries_in ws) in
+    let lt = c.1 in let long = length-append own rest in
+    elim (cases_lt c.0 (length own)) [
+      | inl less ↦ (w, (0, omega arith, refl), (c.0, less, sym (get_or-append own rest q c.0 less) ∙ c.2))
+      | inr le ↦ later (from_walks ws q (c.0 - length own, omega arith, sym (get_or-append_right own rest (length own) c.0 q refl le) ∙ c.2))
+    ]
+  where
+    later : (v : Walker) × Contains ws v × Contains (trie_nodes (entries_in v)) q → (v : Walker) × Contains (w ∷ ws) v × Contains (trie_nodes (entries_in v)) q
+    later (v, at, has) = (let lt = at.1 in (v, (suc at.0, omega arith, at.2), has))
+
+module _ (parts : List (List Entry)) (walkers : List Walker) (order : List Node) (is : Walking parts walkers order) where
   abbrev done : List Path
   done = tree_paths order
-
-  done_long : length done ≡ length order
-  done_long = as_many_paths order
-
-  all_numbered : (q : ℕ) → q < length nodes → number_at numbers q ≢ no_parent
-  all_numbered q lt none = (let found = w.covered q lt none in let in_stack = found.1 in absurd (omega arith))
-
-  pub number_is : (q : ℕ) → q < length nodes → (number_at numbers q < length order) × (path_of done (number_at numbers q) ≡ path_of own_paths q)
-  number_is q lt = w.numbered q lt (all_numbered q lt)
-
-  same_nodes : (q : Path) → has_node done q ≡ has_node own_paths q
-  same_nodes q =
-      let nodes_long = are.rooted.long in let order_long = done_long in
-      bool_same (has_node done q) (has_node own_paths q)
-      (λ has.
-      let at = at_index nodes are done q has in
-      let found = w.among at.0 (let lt = at.1 in omega arith) in
-      has_at own_paths found.0 q (let lt = found.1 in omega arith) (found.2 ∙ at.2))
-      (λ has.
-      let at = at_index nodes are own_paths q has in
-      let found = number_is at.0 (let lt = at.1 in omega arith) in
-      has_at done (number_at numbers at.0) q (let lt = found.0 in omega arith) (found.1 ∙ at.2))
-
-  done_sorted : IsStrictlySortedBy path_order done
-  done_sorted = sorted_from_all_adjacent path_order_total done [] (λ k lt. w.ascend k (k + 1) [] (omega arith) lt)
-
-  pub done_is : done ≡ ascending path_order own_paths
-  done_is = sym (ascending_of_sorted path_order_total path_order_tells done done_sorted) ∙ same_ascending path_order_total path_order_tells done own_paths same_nodes
-
-  pub order_few : length order ≤ length nodes
-  order_few = (let le = count_among nodes are done w.ascend (λ i lt. w.among i (let long = done_long in omega arith)) in let long = done_long in omega arith)
 
   less_self : (x : Path) → path_order x x ≡ Less → ⊥
   less_self x less = (let two = sym less ∙ tied_itself path_order_total x in absurd cc)
 
   pub rooted_order : Rooted order
-  rooted_order = rooted_from order w.before (λ i j i_lt j_lt e.
-      let long = done_long in
+  rooted_order = rooted_from order is.before (λ i j i_lt j_lt e.
+      let long = as_many_paths order in
       elim (cases_order i j) [
         | inl same ↦ same
-        | inr (inl less) ↦ absurd (less_self (path_of done i) (ap (path_order (path_of done i)) e ∙ w.ascend i j [] less (omega arith)))
-        | inr (inr more) ↦ absurd (less_self (path_of done j) (ap (path_order (path_of done j)) (sym e) ∙ w.ascend j i [] more (omega arith)))
+        | inr (inl less) ↦ absurd (less_self (path_of done i) (ap (path_order (path_of done i)) e ∙ is.ascend i j [] less (omega arith)))
+        | inr (inr more) ↦ absurd (less_self (path_of done j) (ap (path_order (path_of done j)) (sym e) ∙ is.ascend j i [] more (omega arith)))
       ])
-
-  pub order_is : order ≡ map (node_of (ascending path_order own_paths)) (ascending path_order own_paths)
-  order_is =
-      nodes_are order rooted_order (let few = order_few in let limit = are.few in omega arith)
-      ∙ ap (λ (ps : List Path). map (node_of ps) ps) done_is
 
   pub in_order : IsPreorder order
   in_order = record {
     parents = λ i d lt inner.
         let at : get_or order i d ≡ node_at order i = get_or_default order i d no_node lt in
-        subst (λ (n : Node). n.parent < i) (sym at) (w.before i lt (subst (λ (n : Node). n.parent ≢ no_parent) at inner));
-    ascend = w.ascend;
+        subst (λ (n : Node). n.parent < i) (sym at) (is.before i lt (subst (λ (n : Node). n.parent ≢ no_parent) at inner));
+    ascend = is.ascend;
   }
 
--- ---- the loop
+  done_sorted : IsStrictlySortedBy path_order done
+  done_sorted = sorted_from_all_adjacent path_order_total done [] (λ k lt. is.ascend k (k + 1) [] (omega arith) lt)
 
-pub start_at : (nodes now : List Node) (flags : List Bool) (siblings : List Sibling) (numbers stack none : List ℕ) (order : List Node) → AreNodes nodes → now ≡ nodes → Groups nodes flags siblings
-    → numbers ≡ replicate (length nodes) no_parent → none ≡ [] → stack ≡ none ++ children_of now flags siblings no_parent → order ≡ [] → Walked nodes numbers stack order
-start_at nodes now flags siblings numbers stack none order are same groups numbers_is none_is stack_is order_is =
-    let kids : List ℕ = children_of nodes flags siblings no_parent in
-    let stack_all : stack ≡ kids = stack_is ∙ ap₂ (λ (a : List ℕ) (n : List Node). a ++ children_of n flags siblings no_parent) none_is same in
-    let begun = start nodes are kids (children_are nodes flags siblings groups are no_parent (λ inner. absurd (inner refl))) in
-    subst (λ (x : List ℕ). Walked nodes x stack order) (sym numbers_is)
-    (subst (λ (x : List ℕ). Walked nodes (replicate (length nodes) no_parent) x order) (sym stack_all)
-    (subst (Walked nodes (replicate (length nodes) no_parent) kids) (sym order_is) begun))
+  module _ (ended : All (λ w. head_of w ≡ None) walkers) where
+    abbrev all : List Path
+    all = flat_map trie_nodes parts
 
-module _ (nodes : List Node) (flags : List Bool) (siblings : List Sibling) (numbers stack rest : List ℕ) (order : List Node) (p : ℕ) (are : AreNodes nodes) (groups : Groups nodes flags siblings)
-    (w : Walked nodes numbers stack order) (popped : stack ≡ rest ++ p ∷ []) where
-  walked_on : Walked nodes numbers (rest ++ p ∷ []) order
-  walked_on = subst (λ (x : List ℕ). Walked nodes numbers x order) popped w
+    numbered_path : (q : Path) → Contains all q → has_node done q ≡ true
+    numbered_path q there =
+        let found = from_walks walkers q (subst (λ (ps : List (List Entry)). Contains (flat_map trie_nodes ps) q) (sym is.parts_are) there) in
+        let w : Walker = found.0 in
+        let at = found.1 in
+        let own : IsWalker order w = subst (IsWalker order) at.2 (is.each at.0 w at.1) in
+        let last : head_of w ≡ None = subst (λ (v : Walker). head_of v ≡ None) at.2 (ended at.0 w at.1) in
+        let place : Contains (tree_paths (nodes_in w)) q = subst (λ (ps : List Path). Contains ps q) (sym own.nodes_are) found.2 in
+        let inside = place.1 in
+        let number = number_is order w own last place.0 (let long = as_many_paths (nodes_in w) in omega arith) in
+        let below = number.0 in
+        has_at done (number_at w.numbers.items place.0) q (let long = as_many_paths order in omega arith)
+        (number.1 ∙ get_or_default (tree_paths (nodes_in w)) place.0 [] q place.1 ∙ place.2)
 
-  in_nodes : p < length nodes
-  in_nodes = (let at : get_or stack (length rest) 0 ≡ p = ap (λ (x : List ℕ). get_or x (length rest) 0) popped ∙ get_or-append_seam rest p [] 0 in
-      subst (λ (q : ℕ). q < length nodes) at (w.places (length rest) (let long = ap (λ (x : List ℕ). length x) popped in let parts = length-append rest (p ∷ []) in omega arith)))
+    same_nodes : (q : Path) → has_node done q ≡ has_node all q
+    same_nodes q =
+        bool_same (has_node done q) (has_node all q)
+        (λ has. let at = at_index done q has in has_from all q (subst (Contains all) at.2 (is.among at.0 (let lt = at.1 in let long = as_many_paths order in omega arith))))
+        (λ has. let at = at_index all q has in numbered_path q (at.0, at.1, get_or_default all at.0 q [] at.1 ∙ at.2))
 
-  kids_are : AreChildren nodes p (children_of nodes flags siblings p)
-  kids_are = children_are nodes flags siblings groups are p (λ inner. in_nodes)
+    pub done_is : done ≡ ascending path_order all
+    done_is = sym (ascending_of_sorted path_order_total path_order_tells done done_sorted) ∙ same_ascending path_order_total path_order_tells done all same_nodes
 
-  pub next_place : p < length nodes
-  next_place = in_nodes
-
-  pub next_within : (now : List Node) → now ≡ nodes → p < length now
-  next_within now same = subst (λ (ns : List Node). p < length ns) (sym same) in_nodes
-
-  pub next_few : length order ≤ most_path_scopes
-  next_few = (let short = order_short nodes are numbers rest (children_of nodes flags siblings p) order p walked_on kids_are in let few = are.few in omega arith)
-
-  pub next_short : length order < length nodes
-  next_short = order_short nodes are numbers rest (children_of nodes flags siblings p) order p walked_on kids_are
-
-  pub next_step : (now : List Node) (numbers_new stack_new : List ℕ) (order_new : List Node) → now ≡ nodes → numbers_new ≡ set numbers p (length order) → stack_new ≡ rest ++ children_of now flags siblings p
-      → order_new ≡ order ++ renumbered nodes numbers p ∷ [] → Walked nodes numbers_new stack_new order_new
-  next_step now numbers_new stack_new order_new same numbers_is stack_is order_is =
-      let kids : List ℕ = children_of nodes flags siblings p in
-      let stack_all : stack_new ≡ rest ++ kids = stack_is ∙ ap (λ (n : List Node). rest ++ children_of n flags siblings p) same in
-      let on = step nodes are numbers rest kids order p walked_on kids_are in
-      subst (λ (x : List ℕ). Walked nodes x stack_new order_new) (sym numbers_is)
-      (subst (λ (x : List ℕ). Walked nodes (set numbers p (length order)) x order_new) (sym stack_all)
-      (subst (Walked nodes (set numbers p (length order)) (rest ++ kids)) (sym order_is) on))
-
-  pub next_less : (order_new : List Node) → order_new ≡ order ++ renumbered nodes numbers p ∷ [] → length nodes - length order_new < length nodes - length order
-  next_less order_new order_is =
-      let long : length order_new ≡ length order + 1 = ap (λ (x : List Node). length x) order_is ∙ length-append order (renumbered nodes numbers p ∷ []) in
-      let short = next_short in omega arith
+    pub order_is : order ≡ map (node_of (ascending path_order all)) (ascending path_order all)
+    order_is =
+        nodes_are order rooted_order (let few = order_few parts walkers order is in omega arith)
+        ∙ ap (λ (ps : List Path). map (node_of ps) ps) done_is

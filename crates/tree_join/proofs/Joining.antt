@@ -1,27 +1,32 @@
--- A walk and sums of a trie's nodes and ends are its tree.
-use Rattle.std.proofs.Common.{◌≡◌, ℕ, zero, suc, ◌+◌, ◌<◌, ◌≤◌, ◌≢◌, ◌==◌, ◌&&◌, nat_lt, not, inl, inr, Bool, true, false, cond, List, [], ◌∷◌, length, map, filter, sum_by, All, refl, sym, ap, ap₂, subst, ◌∙◌, arith, true≢false}
+-- Nodes in order, and the sums of all ends' counts, are the tree of the entries.
+use Rattle.std.proofs.Common.{◌≡◌, ℕ, zero, suc, ◌+◌, ◌<◌, ◌≤◌, ◌≢◌, ◌==◌, ◌&&◌, nat_lt, not, inl, inr, Bool, true, false, cond, List, [], ◌∷◌, length, get_or, map, filter, sum_by, None, All, refl, sym, ap, ap₂, subst, ◌∙◌, arith, true≢false}
+use Rattle.std.specs.List.{flat_map}
 use Rattle.std.proofs.lemmas.Bool.{cases_eq, eq-eqb, ne_eqb, lt-ltb}
-use Rattle.std.proofs.lemmas.List.Elements.{All-nil, All-cons, All-head, All-tail, All-map, All-weaker}
-use Rattle.std.proofs.lemmas.List.Sums.{sum_by-cons}
+use Rattle.std.proofs.lemmas.List.Concat.{length-flat_map}
+use Rattle.std.proofs.lemmas.List.Elements.{All-nil, All-append, All-cons, All-head, All-tail, All-map, All-weaker}
+use Rattle.std.proofs.lemmas.List.Sums.{sum_by-append, sum_by-cons}
 use Rattle.scope_types.specs.declared.path.Entry.{Entry}
-use Rattle.scope_types.specs.Limits.{most_samples}
-use Rattle.scope_types.specs.Order.{path_order}
-use Rattle.tree_types.specs.Ascending.{ascending}
+use Rattle.scope_types.specs.Limits.{most_samples, most_path_scopes}
 use Rattle.tree_types.specs.declared.content.Node.{Node}
 use Rattle.tree_types.specs.declared.counted_tree.NodeCount.{NodeCount}
 use Rattle.tree_types.specs.Nodes.{no_parent}
 use Rattle.tree_types.specs.Paths.{Path}
 use Rattle.tree_types.specs.PathsOf.{tree_paths}
-use Rattle.tree_types.specs.Tree.{IsTree, count_at, counts_in}
+use Rattle.tree_types.specs.Tree.{CountedTree, IsTree, count_at, counts_in}
+use Rattle.tree_types.proofs.PathSteps.{as_many_paths}
 use Rattle.path_trie.specs.declared.trie.PathEnd.{PathEnd}
-use Rattle.path_trie.specs.Trie.{IsPlace, path_at, same_path, entry_of, trie_nodes, node_of, node_path, count_of, samples_of, entries_of}
-use Rattle.path_trie.specs.private.Linked.{node_at}
+use Rattle.path_trie.specs.Trie.{IsPlace, path_at, same_path, entry_of, trie_nodes, node_path, count_of, samples_of, entries_of}
+use Rattle.path_trie.specs.private.Linked.{node_at, Rooted}
 use Rattle.path_trie.proofs.Places.{path_none, not_empty, path_itself, path_false}
-use Rattle.tree_join.specs.Join.{joined_nodes}
-use Rattle.tree_join.specs.private.Sums.{counts_some, count_of_end, counts_of, AreSums}
-use Rattle.tree_join.specs.private.Walk.{number_at, path_of, AreNodes, Walked}
-use Rattle.tree_join.proofs.Ends.{number_is, done_is, order_is, in_order, order_few, rooted_order}
-use Rattle.tree_join.proofs.Sums.{owns, count_cons}
+use Rattle.tree_join.specs.Join.{nodes_of_all}
+use Rattle.tree_join.specs.declared.walker.Walker.{Walker}
+use Rattle.tree_join.specs.private.Result.{IsTreeOf}
+use Rattle.tree_join.specs.private.Sums.{counts_some, count_of_end, counts_of, all_counts, AreSums, HasPlaces}
+use Rattle.tree_join.specs.private.Walk.{number_at, path_of, nodes_in, entries_in, head_of, IsWalker, Walking}
+use Rattle.tree_join.proofs.Ends.{Numbered, number_is, done_is, order_is, in_order, rooted_order}
+use Rattle.tree_join.proofs.Paths.{paths_several}
+use Rattle.tree_join.proofs.Steps.{order_few}
+use Rattle.tree_join.proofs.Sums.{owns, count_cons, count_append}
 use Rattle.tree_join.proofs.Walking.{inner_at}
 
 abbrev end_count : PathEnd → ℕ
@@ -69,44 +74,30 @@ pub samples_are : (paths : List Path) (ends : List PathEnd) → samples_of (map 
 samples_are paths [] = refl
 samples_are paths (e ∷ ends) = sum_by-cons entry_count (entry_of paths e) (map (entry_of paths) ends) ∙ ap (λ (n : ℕ). e.count + n) (samples_are paths ends) ∙ sym (sum_by-cons end_count e ends)
 
-pub counts_few : (numbers : List ℕ) (ends : List PathEnd) (paths : List Path) (es : List Entry) → map (entry_of paths) ends ≡ es → samples_of es ≤ most_samples → counts_in (counts_of numbers ends) ≤ most_samples
-counts_few numbers ends paths es are few = (let some = few_counts numbers ends in let all = samples_are paths ends in let same = ap samples_of are in omega arith)
+-- ---- the counts of one trie's ends
 
-pub places_seen : (nodes : List Node) (numbers : List ℕ) (order : List Node) (ends : List PathEnd) (es : List Entry) → tree_paths nodes ≡ trie_nodes es → AreNodes nodes → Walked nodes numbers [] order
-    → All (λ e. IsPlace e.node (length (trie_nodes es))) ends → All (λ e. IsPlace e.node (length numbers)) ends
-places_seen nodes numbers order ends es paths are w places =
-    let long = are.rooted.long in let own = w.long in let same = ap (λ (ps : List Path). length ps) paths in
-    subst (λ (n : ℕ). All (λ e. IsPlace e.node n) ends) (omega arith) places
-
--- ---- the tree
-
-module _ (nodes : List Node) (numbers : List ℕ) (order : List Node) (ends : List PathEnd) (es : List Entry) (sums : List NodeCount) (paths_are : tree_paths nodes ≡ trie_nodes es)
-    (are : AreNodes nodes) (w : Walked nodes numbers [] order) (ends_are : map (entry_of (trie_nodes es)) ends ≡ es) (places : All (λ e. IsPlace e.node (length (trie_nodes es))) ends)
-    (s : AreSums (counts_of numbers ends) sums) where
+module _ (order nodes : List Node) (numbers : List ℕ) (ends : List PathEnd) (rooted : Rooted order) (numbered : Numbered order nodes numbers) where
   abbrev own_paths : List Path
   own_paths = tree_paths nodes
 
   abbrev done : List Path
   done = tree_paths order
 
-  own_places : All (λ e. IsPlace e.node (length nodes)) ends
-  own_places = (let long = are.rooted.long in let same = ap (λ (ps : List Path). length ps) paths_are in subst (λ (n : ℕ). All (λ e. IsPlace e.node n) ends) (omega arith) places)
-
   module _ (node hart : ℕ) (lt : node < length order) where
     abbrev q : Path
     q = path_of done node
 
     q_some : q ≡ [] → ⊥
-    q_some e = (let r = rooted_order nodes numbers order are w in not_empty (path_at done (node_at order node).parent) (node_at order node).scope (sym (r.below node lt) ∙ e))
+    q_some e = (let r = rooted in not_empty (path_at done (node_at order node).parent) (node_at order node).scope (sym (r.below node lt) ∙ e))
 
     number_same : (m : ℕ) → m < length nodes → same_path q (path_of own_paths m) ≡ (number_at numbers m == node)
     number_same m m_lt =
         let k : ℕ = number_at numbers m in
-        let is = number_is nodes numbers order are w m m_lt in
+        let is = numbered m m_lt in
         elim (cases_eq k node) [
           | inl same ↦ ap (same_path q) (sym is.1 ∙ ap (path_of done) same) ∙ path_itself q ∙ sym (eq-eqb k node same)
           | inr apart ↦
-              path_false q (path_of own_paths m) (λ e. (let r = rooted_order nodes numbers order are w in apart (sym (r.once node k lt is.0 (e ∙ sym is.1)))))
+              path_false q (path_of own_paths m) (λ e. (let r = rooted in apart (sym (r.once node k lt is.0 (e ∙ sym is.1)))))
               ∙ sym (ne_eqb k node apart)
         ]
 
@@ -161,43 +152,131 @@ module _ (nodes : List Node) (numbers : List ℕ) (order : List Node) (ends : Li
         first_count e xs ∙ ap₂ (λ (a b : ℕ). a + b) (one_end e (All-head P e xs all)) (counts_same xs (All-tail P e xs all))
         ∙ sym (first_entry (entry_of own_paths e) (map (entry_of own_paths) xs))
 
-    pub counts_are : count_at sums node hart ≡ count_of es hart (node_path (joined_nodes es) node)
-    counts_are =
-        s.same node hart ∙ counts_same ends own_places
-        ∙ ap (λ (ps : List Path). count_of (map (entry_of ps) ends) hart q) paths_are
-        ∙ ap (λ (l : List Entry). count_of l hart q) ends_are
-        ∙ ap (λ (ps : List Path). count_of es hart (node_path ps node)) (done_is nodes numbers order are w ∙ ap (ascending path_order) paths_are)
-
-  pub nodes_joined : order ≡ map (node_of (joined_nodes es)) (joined_nodes es)
-  nodes_joined = order_is nodes numbers order are w ∙ ap (λ (ps : List Path). map (node_of (ascending path_order ps)) (ascending path_order ps)) paths_are
-
-  counts_all : (P : NodeCount → Type 0) → ((e : PathEnd) → IsPlace e.node (length nodes) → counts_some e ≡ true → P (count_of_end numbers e)) → All P (counts_of numbers ends)
-  counts_all P holds =
+  pub counts_all : (P : NodeCount → Type 0) → All (λ e. IsPlace e.node (length nodes)) ends → ((e : PathEnd) → IsPlace e.node (length nodes) → counts_some e ≡ true → P (count_of_end numbers e)) → All P (counts_of numbers ends)
+  counts_all P places holds =
       All-map P (count_of_end numbers) (filter counts_some ends)
       (All-weaker (λ e. IsPlace e.node (length nodes) × (counts_some e ≡ true)) (λ e. P (count_of_end numbers e)) (λ e both. holds e both.0 both.1) (filter counts_some ends)
-      (filter_passes (λ e. IsPlace e.node (length nodes)) counts_some ends own_places))
+      (filter_passes (λ e. IsPlace e.node (length nodes)) counts_some ends places))
 
-  pub tree_is : (harts : ℕ) → All (λ e. 0 < e.count → e.hart < harts) es → IsTree (record { harts = harts; nodes = order; counts = sums })
-  tree_is harts below = record {
-    few = (let short = order_few nodes numbers order are w in let few = are.few in omega arith);
-    preorder = in_order nodes numbers order are w;
-    nodes = s.nodes (length order) (counts_all (λ c. c.node < length order) (λ e place on. (number_is nodes numbers order are w e.node (place (some_is e on).0)).0));
-    harts = s.harts harts (All-map (λ c. c.hart < harts) (count_of_end numbers) (filter counts_some ends)
-        (All-weaker (λ e. (0 < e.count → e.hart < harts) × (counts_some e ≡ true)) (λ e. e.hart < harts) (λ e both. both.0 (some_is e both.1).1) (filter counts_some ends)
-        (filter_passes (λ e. 0 < e.count → e.hart < harts) counts_some ends ends_below)));
-    some = s.some (counts_all (λ c. 0 < c.count) (λ e place on. (some_is e on).1));
-    ascend = s.ascend;
-  }
-    where
-      from_entries : (xs : List PathEnd) → All (λ (e : Entry). 0 < e.count → e.hart < harts) (map (entry_of (trie_nodes es)) xs) → All (λ (e : PathEnd). 0 < e.count → e.hart < harts) xs
-      from_entries [] all = All-nil (λ e. 0 < e.count → e.hart < harts)
-      from_entries (x ∷ xs) all =
+-- ---- all tries
+
+flat_all : {X Y : Type 0} (P : Y → Type 0) (f : X → List Y) (xs : List X) → All (λ x. All P (f x)) xs → All P (flat_map f xs)
+flat_all P f [] each = All-nil P
+flat_all P f (x ∷ xs) each = All-append P (f x) (flat_map f xs) (All-head (λ y. All P (f y)) x xs each) (flat_all P f xs (All-tail (λ y. All P (f y)) x xs each))
+
+samples_few : (walkers : List Walker) → sum_by samples_of (map entries_in walkers) ≤ most_samples → counts_in (all_counts walkers) ≤ most_samples
+samples_few walkers few = (let le = less walkers in omega arith)
+  where
+    less : (ws : List Walker) → counts_in (all_counts ws) ≤ sum_by samples_of (map entries_in ws)
+    less [] = omega arith
+    less (w ∷ ws) =
+        let own : List NodeCount = counts_of w.numbers.items w.ends.now in
+        let rest = less ws in
+        let parts = sum_by-append node_count own (all_counts ws) in
+        let first = few_counts w.numbers.items w.ends.now in
+        let samples = samples_are (tree_paths (nodes_in w)) w.ends.now in
+        let all = sum_by-cons samples_of (entries_in w) (map entries_in ws) in
+        omega arith
+
+pub begin : (walkers : List Walker) → All (IsWalker []) walkers → sum_by (λ es. length (trie_nodes es)) (map entries_in walkers) ≤ most_path_scopes → Walking (map entries_in walkers) walkers []
+begin walkers each few = record {
+  parts_are = refl;
+  each = each;
+  ascend = λ i j d below lt. (let none = as_many_paths [] in absurd (omega arith));
+  before = λ i lt. absurd (omega arith);
+  among = λ i lt. absurd (omega arith);
+  few = subst (λ (n : ℕ). n ≤ most_path_scopes) (sym (length-flat_map trie_nodes (map entries_in walkers))) few;
+}
+
+module _ (parts : List (List Entry)) (walkers : List Walker) (order : List Node) (is : Walking parts walkers order) where
+  pub few_samples : sum_by samples_of parts ≤ most_samples → counts_in (all_counts walkers) ≤ most_samples
+  few_samples few = samples_few walkers (subst (λ (ps : List (List Entry)). sum_by samples_of ps ≤ most_samples) (sym is.parts_are) few)
+
+  pub have_places : All HasPlaces walkers
+  have_places i d lt =
+      let own = is.each i d lt in
+      subst (λ (n : ℕ). All (λ e. IsPlace e.node n) (get_or walkers i d).ends.now) (sym own.walks.long) own.ends_in
+
+  module _ (ended : All (λ w. head_of w ≡ None) walkers) (sums : List NodeCount) (s : AreSums (all_counts walkers) sums) where
+    rooted : Rooted order
+    rooted = rooted_order parts walkers order is
+
+    one_numbered : (i : ℕ) (d : Walker) → i < length walkers → Numbered order (nodes_in (get_or walkers i d)) (get_or walkers i d).numbers.items
+    one_numbered i d lt = number_is order (get_or walkers i d) (is.each i d lt) (ended i d lt)
+
+    module _ (node hart : ℕ) (lt : node < length order) where
+      abbrev q_at : Path
+      q_at = path_of (tree_paths order) node
+
+      abbrev Same : Walker → Type 0
+      Same w = count_at (counts_of w.numbers.items w.ends.now) node hart ≡ count_of (entries_in w) hart q_at
+
+      each_same : All Same walkers
+      each_same i d i_lt =
+          let w : Walker = get_or walkers i d in
+          let own = is.each i d i_lt in
+          counts_same order (nodes_in w) w.numbers.items w.ends.now rooted (one_numbered i d i_lt) node hart lt w.ends.now own.ends_in
+
+      all_same : (ws : List Walker) → All Same ws → count_at (all_counts ws) node hart ≡ sum_by (λ es. count_of es hart q_at) (map entries_in ws)
+      all_same [] all = refl
+      all_same (w ∷ ws) all =
+          count_append (counts_of w.numbers.items w.ends.now) (all_counts ws) node hart ∙ ap₂ (λ (a b : ℕ). a + b) (All-head Same w ws all) (all_same ws (All-tail Same w ws all))
+          ∙ sym (sum_by-cons (λ es. count_of es hart q_at) (entries_in w) (map entries_in ws))
+
+      counts_are : count_at sums node hart ≡ sum_by (λ es. count_of es hart (node_path (nodes_of_all parts) node)) parts
+      counts_are =
+          s.same node hart ∙ all_same walkers each_same
+          ∙ ap (sum_by (λ es. count_of es hart q_at)) is.parts_are
+          ∙ ap (λ (ps : List Path). sum_by (λ es. count_of es hart (node_path ps node)) parts) (done_is parts walkers order is ended)
+
+    counts_hold : (P : NodeCount → Type 0) → ((w : Walker) (e : PathEnd) → Numbered order (nodes_in w) w.numbers.items → IsPlace e.node (length (nodes_in w)) → counts_some e ≡ true → P (count_of_end w.numbers.items e)) → All P (all_counts walkers)
+    counts_hold P holds =
+        flat_all P (λ w. counts_of w.numbers.items w.ends.now) walkers
+        (λ i d lt. counts_all order (nodes_in (get_or walkers i d)) (get_or walkers i d).numbers.items (get_or walkers i d).ends.now rooted (one_numbered i d lt) P (is.each i d lt).ends_in
+        (λ e place on. holds (get_or walkers i d) e (one_numbered i d lt) place on))
+
+    module _ (harts : ℕ) (below : All (λ es. All (λ (e : Entry). 0 < e.count → e.hart < harts) es) parts) where
+      from_entries : (paths : List Path) (xs : List PathEnd) → All (λ (e : Entry). 0 < e.count → e.hart < harts) (map (entry_of paths) xs) → All (λ (e : PathEnd). 0 < e.count → e.hart < harts) xs
+      from_entries paths [] all = All-nil (λ e. 0 < e.count → e.hart < harts)
+      from_entries paths (x ∷ xs) all =
           let P : Entry → Type 0 = λ e. 0 < e.count → e.hart < harts in
-          All-cons (λ e. 0 < e.count → e.hart < harts) x xs (All-head P (entry_of (trie_nodes es) x) (map (entry_of (trie_nodes es)) xs) all)
-          (from_entries xs (All-tail P (entry_of (trie_nodes es) x) (map (entry_of (trie_nodes es)) xs) all))
+          All-cons (λ e. 0 < e.count → e.hart < harts) x xs (All-head P (entry_of paths x) (map (entry_of paths) xs) all)
+          (from_entries paths xs (All-tail P (entry_of paths x) (map (entry_of paths) xs) all))
 
-      ends_below : All (λ (e : PathEnd). 0 < e.count → e.hart < harts) ends
-      ends_below = from_entries ends (subst (All (λ (e : Entry). 0 < e.count → e.hart < harts)) (sym ends_are) below)
+      of_walkers : (ws : List Walker) → All (λ es. All (λ (e : Entry). 0 < e.count → e.hart < harts) es) (map entries_in ws) → All (λ w. All (λ (c : NodeCount). c.hart < harts) (counts_of w.numbers.items w.ends.now)) ws
+      of_walkers [] all = All-nil (λ w. All (λ (c : NodeCount). c.hart < harts) (counts_of w.numbers.items w.ends.now))
+      of_walkers (w ∷ ws) all =
+          let P : List Entry → Type 0 = λ es. All (λ (e : Entry). 0 < e.count → e.hart < harts) es in
+          let own = from_entries (tree_paths (nodes_in w)) w.ends.now (All-head P (entries_in w) (map entries_in ws) all) in
+          All-cons (λ w. All (λ (c : NodeCount). c.hart < harts) (counts_of w.numbers.items w.ends.now)) w ws
+          (All-map (λ c. c.hart < harts) (count_of_end w.numbers.items) (filter counts_some w.ends.now)
+          (All-weaker (λ e. (0 < e.count → e.hart < harts) × (counts_some e ≡ true)) (λ e. e.hart < harts) (λ e both. both.0 (some_is e both.1).1) (filter counts_some w.ends.now)
+          (filter_passes (λ e. 0 < e.count → e.hart < harts) counts_some w.ends.now own)))
+          (of_walkers ws (All-tail P (entries_in w) (map entries_in ws) all))
 
-pub sums_at : (seen numbers : List ℕ) (ends : List PathEnd) (sums : List NodeCount) → seen ≡ numbers → AreSums (counts_of seen ends) sums → AreSums (counts_of numbers ends) sums
-sums_at seen numbers ends sums is are = subst (λ (l : List ℕ). AreSums (counts_of l ends) sums) is are
+      abbrev pub joined_tree : CountedTree
+      joined_tree = record { harts = harts; nodes = order; counts = sums }
+
+      pub tree_is : IsTree joined_tree
+      tree_is = record {
+        few = (let few = order_few parts walkers order is in omega arith);
+        preorder = in_order parts walkers order is;
+        nodes = s.nodes (length order) (counts_hold (λ c. c.node < length order) (λ w e numbered place on. (numbered e.node (place (some_is e on).0)).0));
+        harts = s.harts harts (flat_all (λ c. c.hart < harts) (λ w. counts_of w.numbers.items w.ends.now) walkers (of_walkers walkers (subst (All (λ es. All (λ (e : Entry). 0 < e.count → e.hart < harts) es)) (sym is.parts_are) below)));
+        some = s.some (counts_hold (λ c. 0 < c.count) (λ w e numbered place on. (some_is e on).1));
+        ascend = s.ascend;
+      }
+
+      pub tree_made : IsTreeOf parts harts joined_tree
+      tree_made =
+          let nodes = order_is parts walkers order is ended in
+          record {
+            harts_are = refl;
+            nodes = nodes;
+            counts = counts_are;
+            few = tree_is.few;
+            paths = paths_several parts harts joined_tree tree_is refl nodes counts_are;
+          }
+
+pub tree_from : (parts : List (List Entry)) (harts : ℕ) (made tree : CountedTree) → tree ≡ made → IsTreeOf parts harts made → IsTreeOf parts harts tree
+tree_from parts harts made tree is of = subst (IsTreeOf parts harts) (sym is) of

@@ -1,11 +1,15 @@
 pub mod Parting
+pub mod Rooted
 pub mod Walking
+pub mod Heads
 pub mod Groups
+pub mod Steps
 pub mod Ends
 pub mod Sums
-pub mod Joining
-pub mod Several
 pub mod Paths
+pub mod Several
+pub mod Walks
+pub mod Joining
 pub mod Named
 pub mod Parts
 pub mod Sampled

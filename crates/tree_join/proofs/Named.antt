@@ -1,12 +1,12 @@
 -- Sums over the pieces that the stripes name.
-use Rattle.std.proofs.Common.{◌≡◌, ℕ, zero, suc, ◌+◌, ◌<◌, ◌≤◌, List, [], ◌∷◌, ◌++◌, length, get_or, sum_by, refl, sym, ap, ap₂, subst, ◌∙◌, arith}
+use Rattle.std.proofs.Common.{◌≡◌, ℕ, zero, suc, ◌+◌, ◌<◌, ◌≤◌, List, [], ◌++◌, length, get_or, sum_by, refl, sym, ap, ap₂, subst, ◌∙◌, arith}
 use Rattle.std.specs.List.{flat_map, range_with_len}
 use Rattle.std.proofs.lemmas.List.Sums.{sum_by-cons}
 use Rattle.scope_types.specs.declared.path.Entry.{Entry}
 use Rattle.tree_types.proofs.Counting.{sum_by-add, sum_by-zero}
 use Rattle.thread_cct.proofs.PlanLaws.{all_held}
 use Rattle.stripe_table.specs.Ends.{SetValue, AllFit, NamesAll, names_of}
-use Rattle.stripe_table.specs.Limits.{Chunks, dealt}
+use Rattle.stripe_table.specs.Limits.{dealt}
 use Rattle.stripe_table.specs.Views.{up_to}
 use Rattle.stripe_table.proofs.Sums.{sum_over_below, sum_over_all, up_to_list}
 

@@ -1,10 +1,10 @@
 -- The order of paths where they part.
-use Rattle.std.proofs.Common.{◌≡◌, [], ◌∷◌, ◌++◌, Less, Equal, Greater, refl, sym, ap, subst, ◌∙◌, append_assoc}
-use Rattle.std.specs.Ordering.{ordering_then}
+use Rattle.std.proofs.Common.{◌≡◌, [], ◌∷◌, ◌++◌, Less, Equal, Greater, refl, sym, ap, ap₂, subst, ◌∙◌, append_assoc}
+use Rattle.std.specs.Ordering.{ordering_then, ordering_reverse}
 use Rattle.std.proofs.lemmas.Cmp.{tied_itself}
 use Rattle.scope_types.specs.declared.scope.Scope.{Scope}
 use Rattle.scope_types.specs.Order.{scope_order, path_order}
-use Rattle.scope_types.proofs.Orders.{scope_order_total}
+use Rattle.scope_types.proofs.Orders.{scope_order_total, scope_order_tells}
 use Rattle.tree_types.specs.Paths.{Path}
 use Rattle.tree_join.specs.private.Walk.{Parts}
 
@@ -62,3 +62,37 @@ siblings_part f s t less = record {
   is_right = refl;
   less = less;
 }
+
+-- what stands between a path and its child goes on from the path with a smaller scope, and so does what extends it
+pub between : (f p : Path) (t : Scope) (r : Path) → path_order f p ≡ Less → path_order p (f ++ t ∷ []) ≡ Less → Parts (p ++ r) (f ++ t ∷ [])
+between [] [] t r e g = absurd cc
+between [] (u ∷ p) t r e g =
+    elim (scope_order u t) as (λ o. scope_order u t ≡ o → ordering_then o (path_order p []) ≡ Less → Parts (u ∷ p ++ r) (t ∷ [])) [
+      | Less ↦ λ is h. record { front = []; left = u; right = t; left_rest = p ++ r; right_rest = []; is_left = refl; is_right = refl; less = is }
+      | Equal ↦ λ is h. absurd (none_less p h)
+      | Greater ↦ λ is h. absurd cc
+    ] refl g
+  where
+    none_less : (p : Path) → path_order p [] ≡ Less → ⊥
+    none_less [] h = cc
+    none_less (x ∷ p) h = cc
+between (v ∷ f) [] t r e g = absurd cc
+between (v ∷ f) (w ∷ p) t r e g =
+    let turned : scope_order w v ≡ ordering_reverse (scope_order v w) = scope_order_total.antisymm w v in
+    elim (scope_order v w) as (λ o. scope_order v w ≡ o → ordering_then o (path_order f p) ≡ Less → ordering_then (ordering_reverse o) (path_order p (f ++ t ∷ [])) ≡ Less → Parts (w ∷ p ++ r) (v ∷ f ++ t ∷ [])) [
+      | Less ↦ λ is h k. absurd cc
+      | Equal ↦ λ is h k. longer_front v w (scope_order_tells v w is) (between f p t r h k)
+      | Greater ↦ λ is h k. absurd cc
+    ] refl e (ap (λ o. ordering_then o (path_order p (f ++ t ∷ []))) (sym turned) ∙ g)
+  where
+    longer_front : (v w : Scope) → v ≡ w → Parts (p ++ r) (f ++ t ∷ []) → Parts (w ∷ p ++ r) (v ∷ f ++ t ∷ [])
+    longer_front v w same parts = record {
+      front = v ∷ parts.front;
+      left = parts.left;
+      right = parts.right;
+      left_rest = parts.left_rest;
+      right_rest = parts.right_rest;
+      is_left = ap₂ (λ (x : Scope) (l : Path). x ∷ l) (sym same) parts.is_left;
+      is_right = ap (λ (l : Path). v ∷ l) parts.is_right;
+      less = parts.less;
+    }

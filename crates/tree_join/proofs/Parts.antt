@@ -1,5 +1,5 @@
 -- What the tries of the stripes stand for, in the words of the plan.
-use Rattle.std.proofs.Common.{◌≡◌, ℕ, ◌+◌, ◌<◌, ◌≤◌, ◌==◌, inl, inr, List, [], ◌∷◌, ◌++◌, length, get_or, map, filter, replicate, sum_by, All, Bor, Result, Ok, Err, IfOk, refl, sym, ap, subst, ◌∙◌, arith}
+use Rattle.std.proofs.Common.{◌≡◌, ℕ, ◌+◌, ◌<◌, ◌≤◌, ◌==◌, inl, inr, List, [], ◌∷◌, ◌++◌, length, get_or, map, replicate, sum_by, All, Bor, Result, Ok, Err, IfOk, refl, sym, ap, subst, ◌∙◌, arith}
 use Rattle.std.specs.List.{flat_map, range_with_len}
 use Rattle.std.proofs.lemmas.Bool.{cases_lt}
 use Rattle.std.proofs.lemmas.List.{get_or_past, length-replicate, map-append}
@@ -7,7 +7,6 @@ use Rattle.std.proofs.lemmas.List.Concat.{flat_map-append, length-flat_map}
 use Rattle.std.proofs.lemmas.List.Elements.{All-nil, All-cons, All-append, All-filter, All-head, All-map, All-tail, All-weaker}
 use Rattle.std.proofs.lemmas.List.Folds.{flat_map-map}
 use Rattle.std.proofs.lemmas.List.FromFn.{get_or-range_with_len, length-range_with_len, map-range_with_len_more}
-use Rattle.std.proofs.lemmas.List.Sums.{sum_by-cons}
 use Rattle.prof_bytes.specs.declared.fail.Memory.{Memory}
 use Rattle.scope_types.specs.declared.path.Entry.{Entry}
 use Rattle.scope_types.specs.Alike.{Alike}
@@ -19,14 +18,14 @@ use Rattle.tree_types.specs.Database.{node_list}
 use Rattle.tree_types.specs.Nodes.{nodes, no_parent}
 use Rattle.tree_types.specs.Tree.{CountedTree, paths_in}
 use Rattle.tree_types.proofs.TreeLaws.{nodes_listed}
-use Rattle.path_trie.specs.Trie.{samples_of, scopes_of, trie_nodes}
+use Rattle.path_trie.specs.Trie.{samples_of, trie_nodes}
 use Rattle.stripe_table.specs.Ends.{SetValue, AllFit, named_paths, names_of, paths_named_by, trie_of}
 use Rattle.stripe_table.specs.Limits.{Chunks, IsLimited, dealt}
 use Rattle.stripe_table.specs.declared.stripe.Stripe.{Stripe}
 use Rattle.tree_join.specs.Join.{stripe_parts}
 use Rattle.tree_join.proofs.Named.{named_sum, named_within, range_flat, range_le, range_same}
 use Rattle.tree_join.proofs.Paths.{HasPaths, IsOwn, each_own}
-use Rattle.tree_join.proofs.Several.{entries_in, parts_of}
+use Rattle.tree_join.proofs.Several.{entries_in, parts_of, sum_parts}
 
 -- ---- lists
 
@@ -42,10 +41,6 @@ flat_all P f each (x ∷ xs) = All-append P (f x) (flat_map f xs) (each x) (flat
 pub flat_parts_all : (P : Entry → Type 0) (parts : List (List Entry)) → All (All P) parts → All P (flat_map (λ es. es) parts)
 flat_parts_all P [] all = All-nil P
 flat_parts_all P (es ∷ parts) all = All-append P es (flat_map (λ es. es) parts) (All-head (All P) es parts all) (flat_parts_all P parts (All-tail (All P) es parts all))
-
-pub sum_parts : {X : Type 0} (f : List Entry → ℕ) (g : X → List Entry) (xs : List X) → sum_by f (map g xs) ≡ sum_by (λ x. f (g x)) xs
-sum_parts f g [] = refl
-sum_parts f g (x ∷ xs) = sum_by-cons f (g x) (map g xs) ∙ ap (λ (n : ℕ). f (g x) + n) (sum_parts f g xs) ∙ sym (sum_by-cons (λ x. f (g x)) x xs)
 
 -- one trie more
 pub next_trie : (all : List Stripe) (k : ℕ) (ts more : List (Bor (List Entry))) (t : Bor (List Entry)) → parts_of ts ≡ map (trie_of all) (range_with_len 0 k) → more ≡ ts ++ t ∷ [] → t.now ≡ trie_of all k

@@ -1,8 +1,7 @@
 -- The paths of a joined tree are those of the entries.
-use Rattle.std.proofs.Common.{◌≡◌, ℕ, ◌<◌, ◌≤◌, List, [], ◌∷◌, ◌++◌, length, get_or, map, replicate, sum_by, All, Bor, Result, Ok, Err, IfOk, refl, sym, ap, subst, ◌∙◌, arith}
+use Rattle.std.proofs.Common.{◌≡◌, ℕ, ◌<◌, ◌≤◌, List, [], ◌∷◌, length, get_or, map, replicate, sum_by, All, sym, ap, subst, ◌∙◌, arith}
 use Rattle.std.specs.List.{flat_map}
 use Rattle.std.proofs.lemmas.List.Elements.{All-nil, All-append, All-head, All-replicate, All-tail, All-weaker}
-use Rattle.prof_bytes.specs.declared.fail.Memory.{Memory}
 use Rattle.scope_types.specs.declared.path.Entry.{Entry}
 use Rattle.scope_types.specs.Alike.{Alike}
 use Rattle.thread_cct.specs.Plan.{CountsSamples}
@@ -17,9 +16,8 @@ use Rattle.tree_types.proofs.CountedPaths.{paths_made}
 use Rattle.tree_types.proofs.TreeLaws.{nodes_listed}
 use Rattle.tree_types.proofs.TreePaths.{tree_paths_is}
 use Rattle.path_trie.specs.Trie.{node_of, node_path, count_of}
-use Rattle.path_trie.proofs.Samples.{nodes_of_samples, counts_of_samples}
-use Rattle.tree_join.specs.Join.{joined_nodes}
-use Rattle.tree_join.proofs.Several.{entries_in, parts_of, flat_parts}
+use Rattle.path_trie.proofs.Samples.{nodes_of_samples, counts_of_samples, nodes_of_parts, counts_of_parts}
+use Rattle.tree_join.specs.Join.{joined_nodes, nodes_of_all}
 
 -- the tree has the paths of these entries
 abbrev pub HasPaths : List Entry → CountedTree → Type 0
@@ -67,6 +65,17 @@ module _ (es : List Entry) (tree : CountedTree) (is : IsTree tree) (nodes_are : 
   paths_joined =
       (paths_made tree ps is listed few (All-weaker (IsOwn tree.harts) (λ p. p.hart < tree.harts) (λ p o. o.0) ps own) (All-weaker (IsOwn tree.harts) (λ p. 0 < length p.path) (λ p o. o.1) ps own) counted, listed)
 
-pub paths_several : (harts : ℕ) (ts : List (Bor (List Entry))) (es : List Entry) (r : Result CountedTree Memory) → es ≡ flat_map entries_in ts → (All (CountsSamples harts) es → IfOk r (HasPaths es))
-    → All (CountsSamples harts) (flat_map (λ es. es) (parts_of ts)) → IfOk r (HasPaths (flat_map (λ es. es) (parts_of ts)))
-paths_several harts ts es r is h = subst (λ (l : List Entry). All (CountsSamples harts) l → IfOk r (HasPaths l)) (is ∙ flat_parts ts) h
+-- the entries of several tries, one after the other
+abbrev pub all_in : List (List Entry) → List Entry
+all_in parts = flat_map (λ es. es) parts
+
+pub paths_several : (parts : List (List Entry)) (harts : ℕ) (tree : CountedTree) → IsTree tree → tree.harts ≡ harts → tree.nodes ≡ map (node_of (nodes_of_all parts)) (nodes_of_all parts)
+    → ((node hart : ℕ) → node < length tree.nodes → count_at tree.counts node hart ≡ sum_by (λ es. count_of es hart (node_path (nodes_of_all parts) node)) parts)
+    → All (CountsSamples harts) (all_in parts) → HasPaths (all_in parts) tree
+paths_several parts harts tree is harts_are nodes counts all =
+    let same : nodes_of_all parts ≡ joined_nodes (all_in parts) = sym (nodes_of_parts parts) in
+    paths_joined (all_in parts) tree is (nodes ∙ ap (λ (ns : List Path). map (node_of ns) ns) same)
+    (λ node hart lt.
+    counts node hart lt ∙ sym (counts_of_parts parts hart (node_path (nodes_of_all parts) node))
+    ∙ ap (λ (ns : List Path). count_of (all_in parts) hart (node_path ns node)) same)
+    (subst (λ (h : ℕ). All (CountsSamples h) (all_in parts)) (sym harts_are) all)

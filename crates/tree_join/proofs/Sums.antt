@@ -47,7 +47,7 @@ pub count_moved : (xs ys : List NodeCount) (node hart : ℕ) → IsPermutation x
 count_moved xs ys node hart moved =
     filter_sum (owns node hart) ys ∙ sum_by-IsPermutation (λ (c : NodeCount). cond (owns node hart c) c.count 0) xs ys moved ∙ sym (filter_sum (owns node hart) xs)
 
-count_append : (xs ys : List NodeCount) (node hart : ℕ) → count_at (xs ++ ys) node hart ≡ count_at xs node hart + count_at ys node hart
+pub count_append : (xs ys : List NodeCount) (node hart : ℕ) → count_at (xs ++ ys) node hart ≡ count_at xs node hart + count_at ys node hart
 count_append xs ys node hart = ap (sum_by count_in) (filter-append (owns node hart) xs ys) ∙ sum_by-append count_in (filter (owns node hart) xs) (filter (owns node hart) ys)
 
 one_count : (c : NodeCount) (node hart : ℕ) → count_at (c ∷ []) node hart ≡ cond (owns node hart c) c.count 0

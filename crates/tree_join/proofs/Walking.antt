@@ -1,5 +1,5 @@
--- One node more of a walk in preorder.
-use Rattle.std.proofs.Common.{◌≡◌, ℕ, ◌+◌, ◌-◌, ◌<◌, ◌≤◌, ◌≢◌, inl, inr, true, cond, List, [], ◌∷◌, ◌++◌, length, get_or, set, AllPairs, Less, is_eq, refl, sym, ap, subst, ◌∙◌, arith, append-nil, append_assoc, length-append, get_or-set_same, get_or-set_other}
+-- One node more in order, of a walk over a trie.
+use Rattle.std.proofs.Common.{◌≡◌, ℕ, ◌+◌, ◌-◌, ◌<◌, ◌≤◌, ◌≢◌, inl, inr, true, cond, List, [], ◌∷◌, ◌++◌, length, get_or, set, AllPairs, Contains, Less, is_eq, refl, sym, ap, subst, ◌∙◌, arith, append-nil, append_assoc, length-append, get_or-set_same, get_or-set_other}
 use Rattle.std.specs.List.{IsDistinct}
 use Rattle.std.specs.Ordering.{eq_by_cmp}
 use Rattle.std.proofs.Math.ListN.{get_or-append}
@@ -8,10 +8,10 @@ use Rattle.std.proofs.lemmas.Bool.{cases_eq, cases_lt, eq-eqb, ne_eqb}
 use Rattle.std.proofs.lemmas.Cmp.{eq_by_cmp_equiv}
 use Rattle.std.proofs.lemmas.List.{get_or-append-add, get_or-append_right, get_or_default, length-set}
 use Rattle.std.proofs.lemmas.List.Elements.{All-get_or}
-use Rattle.std.proofs.lemmas.List.Quantifiers.{all_pairs_push}
 use Rattle.std.proofs.lemmas.Map.Keys.{IsDistinct-from_apart}
 use Rattle.std.proofs.lemmas.Map.Made.{length-le_from_is_member}
 use Rattle.scope_types.specs.declared.scope.Scope.{Scope}
+use Rattle.scope_types.specs.Limits.{most_path_scopes}
 use Rattle.scope_types.specs.Order.{path_order}
 use Rattle.scope_types.proofs.Orders.{path_order_total, path_order_tells}
 use Rattle.tree_types.proofs.Sorting.{Contains-from_has}
@@ -21,14 +21,34 @@ use Rattle.tree_types.specs.Paths.{Path}
 use Rattle.tree_types.specs.PathsOf.{tree_paths, path_below}
 use Rattle.tree_types.proofs.PathSteps.{as_many_paths}
 use Rattle.path_trie.specs.Trie.{IsPlace, path_at, has_node}
-use Rattle.path_trie.specs.private.Linked.{node_at, no_node}
+use Rattle.path_trie.specs.private.Linked.{node_at}
 use Rattle.path_trie.proofs.Places.{place_once, path_none, snoc_same, tree_paths_push, has_at, last_cases}
 use Rattle.tree_join.specs.private.Children.{AreChildren}
-use Rattle.tree_join.specs.private.Walk.{number_at, parent_number_at, renumbered, path_of, AreNodes, Parts, IsBelow, Walked}
+use Rattle.tree_join.specs.private.Walk.{number_at, parent_number_at, renumbered, path_of, AreNodes, Parts, IsBelow, Walks}
 use Rattle.tree_join.proofs.Parting.{prefix_less, less_longer, parts_less, parts_longer, parts_same, siblings_part}
 
 pub inner_at : (paths : List Path) (p : ℕ) → p ≢ no_parent → path_at paths p ≡ get_or paths p []
 inner_at paths p inner = ap (λ b. cond b [] (get_or paths p [])) (ne_eqb p no_parent inner)
+
+-- ---- no more nodes are in order than there are
+
+apart_from_less : (xs : List Path) → AllPairs (λ a b. path_order a b ≡ Less) xs → IsDistinct (eq_by_cmp path_order) xs
+apart_from_less xs up = IsDistinct-from_apart (eq_by_cmp path_order) xs (λ i j d below lt. ap is_eq (up i j d below lt))
+
+pub at_index : (xs : List Path) (q : Path) → has_node xs q ≡ true → (i : ℕ) × (i < length xs) × (get_or xs i [] ≡ q)
+at_index xs q has =
+    let found = Contains-from_has path_order_total path_order_tells q xs has in
+    (found.0, found.1, get_or_default xs found.0 [] q found.1 ∙ found.2)
+
+pub has_from : (paths : List Path) (q : Path) → Contains paths q → has_node paths q ≡ true
+has_from paths q found = has_at paths found.0 q found.1 (get_or_default paths found.0 [] q found.1 ∙ found.2)
+
+pub count_among : (paths xs : List Path) → AllPairs (λ a b. path_order a b ≡ Less) xs → ((i : ℕ) → i < length xs → Contains paths (get_or xs i [])) → length xs ≤ length paths
+count_among paths xs up among =
+    length-le_from_is_member (eq_by_cmp_equiv path_order_total) xs paths (apart_from_less xs up)
+    (λ q has. let at = at_index xs q has in has_from paths q (subst (Contains paths) at.2 (among at.0 at.1)))
+
+-- ---- the nodes of a trie
 
 module _ (nodes : List Node) (are : AreNodes nodes) where
   abbrev paths : List Path
@@ -52,32 +72,11 @@ module _ (nodes : List Node) (are : AreNodes nodes) where
       let same : n.parent ≡ p = place_once nodes are.rooted are.few n.parent p wider place parts.0 in
       (c, found.1, same, record { rest = r; is = is ∙ sym (append_assoc (path_at paths p) (s ∷ []) r) ∙ ap (λ (x : Path). x ++ r) (sym found.2) })
 
-  -- ---- no more nodes are in order than there are
+  -- ---- the node that is next
 
-  apart_from_less : (xs : List Path) → AllPairs (λ a b. path_order a b ≡ Less) xs → IsDistinct (eq_by_cmp path_order) xs
-  apart_from_less xs up = IsDistinct-from_apart (eq_by_cmp path_order) xs (λ i j d below lt. ap is_eq (up i j d below lt))
-
-  pub at_index : (xs : List Path) (q : Path) → has_node xs q ≡ true → (i : ℕ) × (i < length xs) × (get_or xs i [] ≡ q)
-  at_index xs q has =
-      let found = Contains-from_has path_order_total path_order_tells q xs has in
-      (found.0, found.1, get_or_default xs found.0 [] q found.1 ∙ found.2)
-
-  pub count_among : (xs : List Path) → AllPairs (λ a b. path_order a b ≡ Less) xs → ((i : ℕ) → i < length xs → (q : ℕ) × (q < length nodes) × (path_of paths q ≡ get_or xs i [])) → length xs ≤ length nodes
-  count_among xs up among =
-      let le = length-le_from_is_member (eq_by_cmp_equiv path_order_total) xs paths (apart_from_less xs up) (λ q has.
-      let at = at_index xs q has in
-      let node = among at.0 at.1 in
-      has_at paths node.0 q (let long = are.rooted.long in let lt = node.1 in omega arith) (node.2 ∙ at.2)) in
-      let long = are.rooted.long in omega arith
-
-  -- ---- one node more
-
-  module _ (numbers rest kids : List ℕ) (order : List Node) (p : ℕ) (w : Walked nodes numbers (rest ++ p ∷ []) order) (children : AreChildren nodes p kids) where
+  module _ (numbers rest : List ℕ) (order : List Node) (p : ℕ) (w : Walks nodes numbers (rest ++ p ∷ []) order) where
     abbrev before : List ℕ
     before = rest ++ p ∷ []
-
-    abbrev after : List ℕ
-    after = rest ++ kids
 
     abbrev done : List Path
     done = tree_paths order
@@ -106,30 +105,11 @@ module _ (nodes : List Node) (are : AreNodes nodes) where
     top_parent : node.parent ≢ no_parent → number_at numbers node.parent ≢ no_parent
     top_parent = subst (λ (q : ℕ). (node_at nodes q).parent ≢ no_parent → number_at numbers (node_at nodes q).parent ≢ no_parent) top_at (w.parents (length rest) top_in)
 
-    top_ahead : (i : ℕ) → i < length order → path_order (path_of done i) own ≡ Less
+    pub top_ahead : (i : ℕ) → i < length order → path_order (path_of done i) own ≡ Less
     top_ahead i lt = subst (λ (q : ℕ). path_order (path_of done i) (path_of paths q) ≡ Less) top_at (w.ahead i (length rest) lt top_in)
 
     done_long : length done ≡ length order
     done_long = as_many_paths order
-
-    rest_after : (j : ℕ) → j < length rest → get_or after j 0 ≡ get_or rest j 0
-    rest_after j lt = get_or-append rest kids 0 j lt
-
-    more_up : AllPairs (λ a b. path_order a b ≡ Less) (done ++ own ∷ [])
-    more_up =
-        all_pairs_push (λ a b. path_order a b ≡ Less) done own w.ascend
-        (λ k d lt. ap (λ (x : Path). path_order x own) (get_or_default done k d [] lt) ∙ top_ahead k (let long = done_long in omega arith))
-
-    more_among : (i : ℕ) → i < length (done ++ own ∷ []) → (q : ℕ) × (q < length nodes) × (path_of paths q ≡ get_or (done ++ own ∷ []) i [])
-    more_among i lt =
-        let long = length-append done (own ∷ []) in
-        elim (last_cases i (length done) (omega arith)) [
-          | inl less ↦ (let found = w.among i (let same = done_long in omega arith) in (found.0, found.1, found.2 ∙ sym (get_or-append done (own ∷ []) [] i less)))
-          | inr is ↦ (p, top_place, sym (ap (λ (k : ℕ). get_or (done ++ own ∷ []) k []) is ∙ get_or-append_seam done own [] []))
-        ]
-
-    pub order_short : length order < length nodes
-    order_short = (let le = count_among (done ++ own ∷ []) more_up more_among in let long = length-append done (own ∷ []) in let same = done_long in omega arith)
 
     -- the node as it is put in order
 
@@ -145,7 +125,7 @@ module _ (nodes : List Node) (are : AreNodes nodes) where
     parent_in : node.parent ≢ no_parent → node.parent < length nodes
     parent_in inner = (let less = are.rooted.before p top_place inner in let lt = top_place in omega arith)
 
-    parent_place : IsPlace parent_new (length order)
+    pub parent_place : IsPlace parent_new (length order)
     parent_place apart =
         elim (cases_eq node.parent no_parent) [
           | inl e ↦ absurd (apart (parent_none e))
@@ -161,207 +141,229 @@ module _ (nodes : List Node) (are : AreNodes nodes) where
               ∙ (w.numbered node.parent (parent_in inner) (top_parent inner)).1 ∙ sym (inner_at paths node.parent inner)
         ]
 
-    new_path : path_below done (renumbered nodes numbers p) ≡ own
+    pub new_path : path_below done (renumbered nodes numbers p) ≡ own
     new_path = ap (λ (x : Path). x ++ node.scope ∷ []) parent_path ∙ sym (are.rooted.below p top_place)
 
-    abbrev order_new : List Node
-    order_new = order ++ renumbered nodes numbers p ∷ []
+    -- ---- one node more
 
-    done_new : tree_paths order_new ≡ done ++ own ∷ []
-    done_new = tree_paths_push order (renumbered nodes numbers p) ∙ ap (λ (x : Path). done ++ x ∷ []) new_path
+    module _ (kids : List ℕ) (children : AreChildren nodes p kids) (few : length order ≤ most_path_scopes) where
+      abbrev after : List ℕ
+      after = rest ++ kids
 
-    order_long : length order_new ≡ length order + 1
-    order_long = length-append order (renumbered nodes numbers p ∷ [])
+      rest_after : (j : ℕ) → j < length rest → get_or after j 0 ≡ get_or rest j 0
+      rest_after j lt = get_or-append rest kids 0 j lt
 
-    done_old : (i : ℕ) → i < length order → path_of (tree_paths order_new) i ≡ path_of done i
-    done_old i lt = ap (λ (ps : List Path). get_or ps i []) done_new ∙ get_or-append done (own ∷ []) [] i (let long = done_long in omega arith)
+      abbrev order_new : List Node
+      order_new = order ++ renumbered nodes numbers p ∷ []
 
-    done_last : (i : ℕ) → i ≡ length order → path_of (tree_paths order_new) i ≡ own
-    done_last i is = ap (λ (ps : List Path). get_or ps i []) done_new ∙ ap (λ (k : ℕ). get_or (done ++ own ∷ []) k []) (is ∙ sym done_long) ∙ get_or-append_seam done own [] []
+      done_new : tree_paths order_new ≡ done ++ own ∷ []
+      done_new = tree_paths_push order (renumbered nodes numbers p) ∙ ap (λ (x : Path). done ++ x ∷ []) new_path
 
-    -- its number
+      order_long : length order_new ≡ length order + 1
+      order_long = length-append order (renumbered nodes numbers p ∷ [])
 
-    abbrev numbers_new : List ℕ
-    numbers_new = set numbers p (length order)
+      done_old : (i : ℕ) → i < length order → path_of (tree_paths order_new) i ≡ path_of done i
+      done_old i lt = ap (λ (ps : List Path). get_or ps i []) done_new ∙ get_or-append done (own ∷ []) [] i (let long = done_long in omega arith)
 
-    number_own : number_at numbers_new p ≡ length order
-    number_own = get_or-set_same numbers p (length order) no_parent (let long = w.long in let lt = top_place in omega arith)
+      done_last : (i : ℕ) → i ≡ length order → path_of (tree_paths order_new) i ≡ own
+      done_last i is = ap (λ (ps : List Path). get_or ps i []) done_new ∙ ap (λ (k : ℕ). get_or (done ++ own ∷ []) k []) (is ∙ sym done_long) ∙ get_or-append_seam done own [] []
 
-    number_other : (q : ℕ) → q ≢ p → number_at numbers_new q ≡ number_at numbers q
-    number_other q apart = get_or-set_other numbers p q (length order) no_parent apart
+      -- its number
 
-    own_number : number_at numbers_new p ≢ no_parent
-    own_number e = (let is = number_own in let short = order_short in let few = are.few in absurd (omega arith))
+      abbrev numbers_new : List ℕ
+      numbers_new = set numbers p (length order)
 
-    still : (q : ℕ) → number_at numbers q ≢ no_parent → number_at numbers_new q ≢ no_parent
-    still q set e =
-        elim (cases_eq q p) [
-          | inl is ↦ own_number (ap (number_at numbers_new) (sym is) ∙ e)
-          | inr apart ↦ set (sym (number_other q apart) ∙ e)
-        ]
+      number_own : number_at numbers_new p ≡ length order
+      number_own = get_or-set_same numbers p (length order) no_parent (let long = w.long in let lt = top_place in omega arith)
 
-    numbered_new : (q : ℕ) → q < length nodes → number_at numbers_new q ≢ no_parent → (number_at numbers_new q < length order_new) × (path_of (tree_paths order_new) (number_at numbers_new q) ≡ path_of paths q)
-    numbered_new q lt set =
-        let long = order_long in
-        elim (cases_eq q p) [
-          | inl is ↦
-              let at : number_at numbers_new q ≡ length order = ap (number_at numbers_new) is ∙ number_own in
-              (omega arith, done_last (number_at numbers_new q) at ∙ ap (path_of paths) (sym is))
-          | inr apart ↦
-              let at : number_at numbers_new q ≡ number_at numbers q = number_other q apart in
-              let old = w.numbered q lt (λ e. set (at ∙ e)) in
-              let less : number_at numbers_new q < length order = subst (λ (n : ℕ). n < length order) (sym at) old.0 in
-              (omega arith, done_old (number_at numbers_new q) less ∙ ap (path_of done) at ∙ old.1)
-        ]
+      number_other : (q : ℕ) → q ≢ p → number_at numbers_new q ≡ number_at numbers q
+      number_other q apart = get_or-set_other numbers p q (length order) no_parent apart
 
-    among_new : (i : ℕ) → i < length order_new → (q : ℕ) × (q < length nodes) × (path_of paths q ≡ path_of (tree_paths order_new) i)
-    among_new i lt =
-        let long = order_long in
-        elim (last_cases i (length order) (omega arith)) [
-          | inl less ↦ (let found = w.among i less in (found.0, found.1, found.2 ∙ sym (done_old i less)))
-          | inr is ↦ (p, top_place, sym (done_last i is))
-        ]
+      own_number : number_at numbers_new p ≢ no_parent
+      own_number e = (let is = number_own in absurd (omega arith))
 
-    before_new : (i : ℕ) → i < length order_new → IsPlace (node_at order_new i).parent i
-    before_new i lt =
-        let long = order_long in
-        elim (last_cases i (length order) (omega arith)) [
-          | inl less ↦ subst (λ (n : Node). IsPlace n.parent i) (sym (get_or-append order (renumbered nodes numbers p ∷ []) no_node i less)) (w.before i less)
-          | inr is ↦
-              let at : node_at order_new i ≡ renumbered nodes numbers p = ap (node_at order_new) is ∙ get_or-append_seam order (renumbered nodes numbers p) [] no_node in
-              subst (λ (n : Node). IsPlace n.parent i) (sym at) (subst (IsPlace parent_new) (sym is) parent_place)
-        ]
-
-    -- the stack
-
-    after_long : length after ≡ length rest + length kids
-    after_long = length-append rest kids
-
-    abbrev kid : ℕ → ℕ
-    kid j = get_or kids (j - length rest) 0
-
-    kid_at : (j : ℕ) → length rest ≤ j → get_or after j 0 ≡ kid j
-    kid_at j le = get_or-append_right rest kids (length rest) j 0 refl le
-
-    kid_in : (j : ℕ) → length rest ≤ j → j < length after → j - length rest < length kids
-    kid_in j le lt = (let long = after_long in omega arith)
-
-    kid_is : (j : ℕ) → length rest ≤ j → j < length after → (kid j < length nodes) × ((node_at nodes (kid j)).parent ≡ p)
-    kid_is j le lt = All-get_or (λ k. (k < length nodes) × ((node_at nodes k).parent ≡ p)) kids (j - length rest) 0 (kid_in j le lt) children.only
-
-    kid_long : (j : ℕ) → length rest ≤ j → j < length after → path_of paths (kid j) ≡ own ++ (node_at nodes (kid j)).scope ∷ []
-    kid_long j le lt = (let is = kid_is j le lt in kid_path (kid j) p is.0 is.1 ∙ ap (λ (x : Path). x ++ (node_at nodes (kid j)).scope ∷ []) (own_path p top_place))
-
-    places_new : (j : ℕ) → j < length after → get_or after j 0 < length nodes
-    places_new j lt =
-        elim (cases_lt j (length rest)) [
-          | inl less ↦ subst (λ (q : ℕ). q < length nodes) (rest_at j less ∙ sym (rest_after j less)) (w.places j (let long = stack_long in omega arith))
-          | inr le ↦ subst (λ (q : ℕ). q < length nodes) (sym (kid_at j le)) (kid_is j le lt).0
-        ]
-
-    parents_new : (j : ℕ) → j < length after → (node_at nodes (get_or after j 0)).parent ≢ no_parent → number_at numbers_new (node_at nodes (get_or after j 0)).parent ≢ no_parent
-    parents_new j lt =
-        let P : ℕ → Type 0 = λ q. (node_at nodes q).parent ≢ no_parent → number_at numbers_new (node_at nodes q).parent ≢ no_parent in
-        elim (cases_lt j (length rest)) [
-          | inl less ↦ subst P (rest_at j less ∙ sym (rest_after j less)) (λ inner. still (node_at nodes (get_or before j 0)).parent (w.parents j (let long = stack_long in omega arith) inner))
-          | inr le ↦ subst P (sym (kid_at j le)) (λ inner e. own_number (ap (number_at numbers_new) (sym (kid_is j le lt).1) ∙ e))
-        ]
-
-    -- what is in order stands before a node of the stack
-    ahead_rest : (i j : ℕ) → i < length order_new → j < length rest → path_order (path_of (tree_paths order_new) i) (path_of paths (get_or rest j 0)) ≡ Less
-    ahead_rest i j lt less =
-        let long = order_long in let stack = stack_long in
-        elim (last_cases i (length order) (omega arith)) [
-          | inl old ↦
-              ap (λ (x : Path). path_order x (path_of paths (get_or rest j 0))) (done_old i old)
-              ∙ subst (λ (q : ℕ). path_order (path_of done i) (path_of paths q) ≡ Less) (rest_at j less) (w.ahead i j old (omega arith))
-          | inr is ↦
-              ap (λ (x : Path). path_order x (path_of paths (get_or rest j 0))) (done_last i is)
-              ∙ parts_less own (path_of paths (get_or rest j 0)) (top_parts j less)
-        ]
-      where
-        top_parts : (j : ℕ) → j < length rest → Parts own (path_of paths (get_or rest j 0))
-        top_parts j less =
-            parts_same own (path_of paths (get_or rest j 0)) (path_of paths (get_or before (length rest) 0)) (path_of paths (get_or before j 0))
-            (ap (path_of paths) (sym top_at)) (ap (path_of paths) (sym (rest_at j less))) (w.apart j (length rest) less top_in)
-
-    ahead_kid : (i j : ℕ) → i < length order_new → length rest ≤ j → j < length after → path_order (path_of (tree_paths order_new) i) (path_of paths (kid j)) ≡ Less
-    ahead_kid i j lt le in_stack =
-        let long = order_long in
-        let s : Scope = (node_at nodes (kid j)).scope in
-        ap (path_order (path_of (tree_paths order_new) i)) (kid_long j le in_stack)
-        ∙ elim (last_cases i (length order) (omega arith)) [
-          | inl old ↦ ap (λ (x : Path). path_order x (own ++ s ∷ [])) (done_old i old) ∙ less_longer (path_of done i) own (s ∷ []) (top_ahead i old)
-          | inr is ↦ ap (λ (x : Path). path_order x (own ++ s ∷ [])) (done_last i is) ∙ prefix_less own s []
-        ]
-
-    ahead_new : (i j : ℕ) → i < length order_new → j < length after → path_order (path_of (tree_paths order_new) i) (path_of paths (get_or after j 0)) ≡ Less
-    ahead_new i j i_lt j_lt =
-        elim (cases_lt j (length rest)) [
-          | inl less ↦ ap (λ (q : ℕ). path_order (path_of (tree_paths order_new) i) (path_of paths q)) (rest_after j less) ∙ ahead_rest i j i_lt less
-          | inr le ↦ ap (λ (q : ℕ). path_order (path_of (tree_paths order_new) i) (path_of paths q)) (kid_at j le) ∙ ahead_kid i j i_lt le j_lt
-        ]
-
-    apart_new : (i j : ℕ) → i < j → j < length after → Parts (path_of paths (get_or after j 0)) (path_of paths (get_or after i 0))
-    apart_new i j below lt =
-        let stack = stack_long in
-        elim (cases_lt j (length rest)) [
-          | inl less ↦
-              parts_same (path_of paths (get_or after j 0)) (path_of paths (get_or after i 0)) (path_of paths (get_or before j 0)) (path_of paths (get_or before i 0))
-              (ap (path_of paths) (rest_after j less ∙ sym (rest_at j less))) (ap (path_of paths) (rest_after i (omega arith) ∙ sym (rest_at i (omega arith)))) (w.apart i j below (omega arith))
-          | inr le ↦ elim (cases_lt i (length rest)) [
-            | inl less ↦
-                parts_same (path_of paths (get_or after j 0)) (path_of paths (get_or after i 0)) (own ++ (node_at nodes (kid j)).scope ∷ []) (path_of paths (get_or before i 0))
-                (ap (path_of paths) (kid_at j le) ∙ kid_long j le lt) (ap (path_of paths) (rest_after i less ∙ sym (rest_at i less)))
-                (parts_longer own (path_of paths (get_or before i 0)) ((node_at nodes (kid j)).scope ∷ [])
-                (parts_same own (path_of paths (get_or before i 0)) (path_of paths (get_or before (length rest) 0)) (path_of paths (get_or before i 0)) (ap (path_of paths) (sym top_at)) refl (w.apart i (length rest) less top_in)))
-            | inr i_le ↦
-                parts_same (path_of paths (get_or after j 0)) (path_of paths (get_or after i 0)) (own ++ (node_at nodes (kid j)).scope ∷ []) (own ++ (node_at nodes (kid i)).scope ∷ [])
-                (ap (path_of paths) (kid_at j le) ∙ kid_long j le lt) (ap (path_of paths) (kid_at i i_le) ∙ kid_long i i_le (omega arith))
-                (siblings_part own (node_at nodes (kid j)).scope (node_at nodes (kid i)).scope (children.fall (i - length rest) (j - length rest) 0 (omega arith) (kid_in j le lt)))
+      still : (q : ℕ) → number_at numbers q ≢ no_parent → number_at numbers_new q ≢ no_parent
+      still q set e =
+          elim (cases_eq q p) [
+            | inl is ↦ own_number (ap (number_at numbers_new) (sym is) ∙ e)
+            | inr apart ↦ set (sym (number_other q apart) ∙ e)
           ]
-        ]
 
-    covered_rest : (q j : ℕ) → j < length rest → IsBelow (path_of paths (get_or before j 0)) (path_of paths q) → (k : ℕ) × (k < length after) × IsBelow (path_of paths (get_or after k 0)) (path_of paths q)
-    covered_rest q j less below =
-        (j, (let long = after_long in omega arith), subst (λ (x : ℕ). IsBelow (path_of paths x) (path_of paths q)) (rest_at j less ∙ sym (rest_after j less)) below)
+      numbered_new : (q : ℕ) → q < length nodes → number_at numbers_new q ≢ no_parent → (number_at numbers_new q < length order_new) × (path_of (tree_paths order_new) (number_at numbers_new q) ≡ path_of paths q)
+      numbered_new q lt set =
+          let long = order_long in
+          elim (cases_eq q p) [
+            | inl is ↦
+                let at : number_at numbers_new q ≡ length order = ap (number_at numbers_new) is ∙ number_own in
+                (omega arith, done_last (number_at numbers_new q) at ∙ ap (path_of paths) (sym is))
+            | inr apart ↦
+                let at : number_at numbers_new q ≡ number_at numbers q = number_other q apart in
+                let old = w.numbered q lt (λ e. set (at ∙ e)) in
+                let less : number_at numbers_new q < length order = subst (λ (n : ℕ). n < length order) (sym at) old.0 in
+                (omega arith, done_old (number_at numbers_new q) less ∙ ap (path_of done) at ∙ old.1)
+          ]
 
-    covered_kid : (q c : ℕ) → c < length nodes → (node_at nodes c).parent ≡ p → IsBelow (path_of paths c) (path_of paths q) → (k : ℕ) × (k < length after) × IsBelow (path_of paths (get_or after k 0)) (path_of paths q)
-    covered_kid q c lt is below =
-        let found = children.all c lt is in
-        let k : ℕ = found.0 in
-        let at : get_or after (length rest + k) 0 ≡ c = get_or-append-add rest kids k 0 ∙ get_or_default kids k 0 c found.1 ∙ found.2 in
-        (length rest + k, (let long = after_long in let in_kids = found.1 in omega arith), subst (λ (x : ℕ). IsBelow (path_of paths x) (path_of paths q)) (sym at) below)
+      -- the stack
 
-    covered_top : (q : ℕ) → q < length nodes → q ≢ p → (r : Path) → path_of paths q ≡ own ++ r → (k : ℕ) × (k < length after) × IsBelow (path_of paths (get_or after k 0)) (path_of paths q)
-    covered_top q lt apart [] is = absurd (apart (are.rooted.once q p lt top_place (is ∙ append-nil own)))
-    covered_top q lt apart (s ∷ r) is =
-        let c = through q p s r lt (λ inner. top_place) (is ∙ ap (λ (x : Path). x ++ s ∷ r) (sym (own_path p top_place))) in
-        covered_kid q c.0 c.1 c.2 c.3
+      after_long : length after ≡ length rest + length kids
+      after_long = length-append rest kids
 
-    covered_new : (q : ℕ) → q < length nodes → number_at numbers_new q ≡ no_parent → (k : ℕ) × (k < length after) × IsBelow (path_of paths (get_or after k 0)) (path_of paths q)
-    covered_new q lt none =
-        let apart : q ≢ p = λ is. own_number (ap (number_at numbers_new) (sym is) ∙ none) in
-        let old = w.covered q lt (sym (number_other q apart) ∙ none) in
-        let j_lt = old.1 in
-        let long = stack_long in
-        elim (last_cases old.0 (length rest) (omega arith)) [
-          | inl less ↦ covered_rest q old.0 less old.2
-          | inr is ↦
-              let top : get_or before old.0 0 ≡ p = ap (λ (k : ℕ). get_or before k 0) is ∙ top_at in
-              covered_top q lt apart old.2.rest (old.2.is ∙ ap (λ (x : ℕ). path_of paths x ++ old.2.rest) top)
-        ]
+      abbrev kid : ℕ → ℕ
+      kid j = get_or kids (j - length rest) 0
 
-    pub step : Walked nodes numbers_new after order_new
-    step = record {
-      long = length-set numbers p (length order) ∙ w.long;
-      numbered = numbered_new;
-      ascend = subst (AllPairs (λ a b. path_order a b ≡ Less)) (sym done_new) more_up;
-      among = among_new;
-      before = before_new;
-      places = places_new;
-      parents = parents_new;
-      ahead = ahead_new;
-      apart = apart_new;
-      covered = covered_new;
+      kid_at : (j : ℕ) → length rest ≤ j → get_or after j 0 ≡ kid j
+      kid_at j le = get_or-append_right rest kids (length rest) j 0 refl le
+
+      kid_in : (j : ℕ) → length rest ≤ j → j < length after → j - length rest < length kids
+      kid_in j le lt = (let long = after_long in omega arith)
+
+      kid_is : (j : ℕ) → length rest ≤ j → j < length after → (kid j < length nodes) × ((node_at nodes (kid j)).parent ≡ p)
+      kid_is j le lt = All-get_or (λ k. (k < length nodes) × ((node_at nodes k).parent ≡ p)) kids (j - length rest) 0 (kid_in j le lt) children.only
+
+      kid_long : (j : ℕ) → length rest ≤ j → j < length after → path_of paths (kid j) ≡ own ++ (node_at nodes (kid j)).scope ∷ []
+      kid_long j le lt = (let is = kid_is j le lt in kid_path (kid j) p is.0 is.1 ∙ ap (λ (x : Path). x ++ (node_at nodes (kid j)).scope ∷ []) (own_path p top_place))
+
+      places_new : (j : ℕ) → j < length after → get_or after j 0 < length nodes
+      places_new j lt =
+          elim (cases_lt j (length rest)) [
+            | inl less ↦ subst (λ (q : ℕ). q < length nodes) (rest_at j less ∙ sym (rest_after j less)) (w.places j (let long = stack_long in omega arith))
+            | inr le ↦ subst (λ (q : ℕ). q < length nodes) (sym (kid_at j le)) (kid_is j le lt).0
+          ]
+
+      parents_new : (j : ℕ) → j < length after → (node_at nodes (get_or after j 0)).parent ≢ no_parent → number_at numbers_new (node_at nodes (get_or after j 0)).parent ≢ no_parent
+      parents_new j lt =
+          let P : ℕ → Type 0 = λ q. (node_at nodes q).parent ≢ no_parent → number_at numbers_new (node_at nodes q).parent ≢ no_parent in
+          elim (cases_lt j (length rest)) [
+            | inl less ↦ subst P (rest_at j less ∙ sym (rest_after j less)) (λ inner. still (node_at nodes (get_or before j 0)).parent (w.parents j (let long = stack_long in omega arith) inner))
+            | inr le ↦ subst P (sym (kid_at j le)) (λ inner e. own_number (ap (number_at numbers_new) (sym (kid_is j le lt).1) ∙ e))
+          ]
+
+      -- what is in order stands before a node of the stack
+      ahead_rest : (i j : ℕ) → i < length order_new → j < length rest → path_order (path_of (tree_paths order_new) i) (path_of paths (get_or rest j 0)) ≡ Less
+      ahead_rest i j lt less =
+          let long = order_long in let stack = stack_long in
+          elim (last_cases i (length order) (omega arith)) [
+            | inl old ↦
+                ap (λ (x : Path). path_order x (path_of paths (get_or rest j 0))) (done_old i old)
+                ∙ subst (λ (q : ℕ). path_order (path_of done i) (path_of paths q) ≡ Less) (rest_at j less) (w.ahead i j old (omega arith))
+            | inr is ↦
+                ap (λ (x : Path). path_order x (path_of paths (get_or rest j 0))) (done_last i is)
+                ∙ parts_less own (path_of paths (get_or rest j 0)) (top_parts j less)
+          ]
+        where
+          top_parts : (j : ℕ) → j < length rest → Parts own (path_of paths (get_or rest j 0))
+          top_parts j less =
+              parts_same own (path_of paths (get_or rest j 0)) (path_of paths (get_or before (length rest) 0)) (path_of paths (get_or before j 0))
+              (ap (path_of paths) (sym top_at)) (ap (path_of paths) (sym (rest_at j less))) (w.apart j (length rest) less top_in)
+
+      ahead_kid : (i j : ℕ) → i < length order_new → length rest ≤ j → j < length after → path_order (path_of (tree_paths order_new) i) (path_of paths (kid j)) ≡ Less
+      ahead_kid i j lt le in_stack =
+          let long = order_long in
+          let s : Scope = (node_at nodes (kid j)).scope in
+          ap (path_order (path_of (tree_paths order_new) i)) (kid_long j le in_stack)
+          ∙ elim (last_cases i (length order) (omega arith)) [
+            | inl old ↦ ap (λ (x : Path). path_order x (own ++ s ∷ [])) (done_old i old) ∙ less_longer (path_of done i) own (s ∷ []) (top_ahead i old)
+            | inr is ↦ ap (λ (x : Path). path_order x (own ++ s ∷ [])) (done_last i is) ∙ prefix_less own s []
+          ]
+
+      ahead_new : (i j : ℕ) → i < length order_new → j < length after → path_order (path_of (tree_paths order_new) i) (path_of paths (get_or after j 0)) ≡ Less
+      ahead_new i j i_lt j_lt =
+          elim (cases_lt j (length rest)) [
+            | inl less ↦ ap (λ (q : ℕ). path_order (path_of (tree_paths order_new) i) (path_of paths q)) (rest_after j less) ∙ ahead_rest i j i_lt less
+            | inr le ↦ ap (λ (q : ℕ). path_order (path_of (tree_paths order_new) i) (path_of paths q)) (kid_at j le) ∙ ahead_kid i j i_lt le j_lt
+          ]
+
+      apart_new : (i j : ℕ) → i < j → j < length after → Parts (path_of paths (get_or after j 0)) (path_of paths (get_or after i 0))
+      apart_new i j below lt =
+          let stack = stack_long in
+          elim (cases_lt j (length rest)) [
+            | inl less ↦
+                parts_same (path_of paths (get_or after j 0)) (path_of paths (get_or after i 0)) (path_of paths (get_or before j 0)) (path_of paths (get_or before i 0))
+                (ap (path_of paths) (rest_after j less ∙ sym (rest_at j less))) (ap (path_of paths) (rest_after i (omega arith) ∙ sym (rest_at i (omega arith)))) (w.apart i j below (omega arith))
+            | inr le ↦ elim (cases_lt i (length rest)) [
+              | inl less ↦
+                  parts_same (path_of paths (get_or after j 0)) (path_of paths (get_or after i 0)) (own ++ (node_at nodes (kid j)).scope ∷ []) (path_of paths (get_or before i 0))
+                  (ap (path_of paths) (kid_at j le) ∙ kid_long j le lt) (ap (path_of paths) (rest_after i less ∙ sym (rest_at i less)))
+                  (parts_longer own (path_of paths (get_or before i 0)) ((node_at nodes (kid j)).scope ∷ [])
+                  (parts_same own (path_of paths (get_or before i 0)) (path_of paths (get_or before (length rest) 0)) (path_of paths (get_or before i 0)) (ap (path_of paths) (sym top_at)) refl (w.apart i (length rest) less top_in)))
+              | inr i_le ↦
+                  parts_same (path_of paths (get_or after j 0)) (path_of paths (get_or after i 0)) (own ++ (node_at nodes (kid j)).scope ∷ []) (own ++ (node_at nodes (kid i)).scope ∷ [])
+                  (ap (path_of paths) (kid_at j le) ∙ kid_long j le lt) (ap (path_of paths) (kid_at i i_le) ∙ kid_long i i_le (omega arith))
+                  (siblings_part own (node_at nodes (kid j)).scope (node_at nodes (kid i)).scope (children.fall (i - length rest) (j - length rest) 0 (omega arith) (kid_in j le lt)))
+            ]
+          ]
+
+      covered_rest : (q j : ℕ) → j < length rest → IsBelow (path_of paths (get_or before j 0)) (path_of paths q) → (k : ℕ) × (k < length after) × IsBelow (path_of paths (get_or after k 0)) (path_of paths q)
+      covered_rest q j less below =
+          (j, (let long = after_long in omega arith), subst (λ (x : ℕ). IsBelow (path_of paths x) (path_of paths q)) (rest_at j less ∙ sym (rest_after j less)) below)
+
+      covered_kid : (q c : ℕ) → c < length nodes → (node_at nodes c).parent ≡ p → IsBelow (path_of paths c) (path_of paths q) → (k : ℕ) × (k < length after) × IsBelow (path_of paths (get_or after k 0)) (path_of paths q)
+      covered_kid q c lt is below =
+          let found = children.all c lt is in
+          let k : ℕ = found.0 in
+          let at : get_or after (length rest + k) 0 ≡ c = get_or-append-add rest kids k 0 ∙ get_or_default kids k 0 c found.1 ∙ found.2 in
+          (length rest + k, (let long = after_long in let in_kids = found.1 in omega arith), subst (λ (x : ℕ). IsBelow (path_of paths x) (path_of paths q)) (sym at) below)
+
+      covered_top : (q : ℕ) → q < length nodes → q ≢ p → (r : Path) → path_of paths q ≡ own ++ r → (k : ℕ) × (k < length after) × IsBelow (path_of paths (get_or after k 0)) (path_of paths q)
+      covered_top q lt apart [] is = absurd (apart (are.rooted.once q p lt top_place (is ∙ append-nil own)))
+      covered_top q lt apart (s ∷ r) is =
+          let c = through q p s r lt (λ inner. top_place) (is ∙ ap (λ (x : Path). x ++ s ∷ r) (sym (own_path p top_place))) in
+          covered_kid q c.0 c.1 c.2 c.3
+
+      covered_new : (q : ℕ) → q < length nodes → number_at numbers_new q ≡ no_parent → (k : ℕ) × (k < length after) × IsBelow (path_of paths (get_or after k 0)) (path_of paths q)
+      covered_new q lt none =
+          let apart : q ≢ p = λ is. own_number (ap (number_at numbers_new) (sym is) ∙ none) in
+          let old = w.covered q lt (sym (number_other q apart) ∙ none) in
+          let j_lt = old.1 in
+          let long = stack_long in
+          elim (last_cases old.0 (length rest) (omega arith)) [
+            | inl less ↦ covered_rest q old.0 less old.2
+            | inr is ↦
+                let top : get_or before old.0 0 ≡ p = ap (λ (k : ℕ). get_or before k 0) is ∙ top_at in
+                covered_top q lt apart old.2.rest (old.2.is ∙ ap (λ (x : ℕ). path_of paths x ++ old.2.rest) top)
+          ]
+
+      pub step : Walks nodes numbers_new after order_new
+      step = record {
+        long = length-set numbers p (length order) ∙ w.long;
+        numbered = numbered_new;
+        places = places_new;
+        parents = parents_new;
+        ahead = ahead_new;
+        apart = apart_new;
+        covered = covered_new;
+      }
+
+  -- ---- a node in order that is next in other walks
+
+  module _ (numbers stack : List ℕ) (order : List Node) (x : Node) (own : Path) (w : Walks nodes numbers stack order) (is : path_below (tree_paths order) x ≡ own)
+      (leads : (j : ℕ) → j < length stack → path_order own (path_of paths (get_or stack j 0)) ≡ Less) where
+    abbrev order_more : List Node
+    order_more = order ++ x ∷ []
+
+    more_paths : tree_paths order_more ≡ tree_paths order ++ own ∷ []
+    more_paths = tree_paths_push order x ∙ ap (λ (q : Path). tree_paths order ++ q ∷ []) is
+
+    more_old : (i : ℕ) → i < length order → path_of (tree_paths order_more) i ≡ path_of (tree_paths order) i
+    more_old i lt = ap (λ (ps : List Path). get_or ps i []) more_paths ∙ get_or-append (tree_paths order) (own ∷ []) [] i (let long = as_many_paths order in omega arith)
+
+    more_last : (i : ℕ) → i ≡ length order → path_of (tree_paths order_more) i ≡ own
+    more_last i at =
+        ap (λ (ps : List Path). get_or ps i []) more_paths ∙ ap (λ (k : ℕ). get_or (tree_paths order ++ own ∷ []) k []) (at ∙ sym (as_many_paths order))
+        ∙ get_or-append_seam (tree_paths order) own [] []
+
+    pub stay : Walks nodes numbers stack order_more
+    stay = record {
+      long = w.long;
+      numbered = λ q lt set. (let old = w.numbered q lt set in ((let long = length-append order (x ∷ []) in let less = old.0 in omega arith), more_old (number_at numbers q) old.0 ∙ old.1));
+      places = w.places;
+      parents = w.parents;
+      ahead = λ i j i_lt j_lt.
+          let long = length-append order (x ∷ []) in
+          elim (last_cases i (length order) (omega arith)) [
+            | inl old ↦ ap (λ (q : Path). path_order q (path_of paths (get_or stack j 0))) (more_old i old) ∙ w.ahead i j old j_lt
+            | inr at ↦ ap (λ (q : Path). path_order q (path_of paths (get_or stack j 0))) (more_last i at) ∙ leads j j_lt
+          ];
+      apart = w.apart;
+      covered = w.covered;
     }

@@ -1,3 +1,4 @@
 pub mod Children
 pub mod Walk
 pub mod Sums
+pub mod Result

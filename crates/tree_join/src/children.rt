@@ -108,7 +108,7 @@ fn sorted_siblings(alloc: Global, nodes: &[Node], flags: &[bool]) -> Result<Vec<
 /// The children of nodes.
 #[derive(Drop)]
 pub struct Children<'a> {
-    nodes: &'a [Node],
+    pub nodes: &'a [Node],
     flags: Vec<bool>,
     siblings: Vec<Sibling>,
 }

@@ -1,27 +1,23 @@
 //! The counts of nodes and harts, in order.
-ghost use Rattle.std.specs.Prelude.{◌≡◌, ◌<◌, ◌≤◌, ◌≢◌, ◌==◌, ◌&&◌, length, All, AllPairs, IfOk};
+ghost use Rattle.std.specs.Prelude.{◌≡◌, ◌≤◌, ◌≢◌, ◌==◌, ◌&&◌, ◌++◌, length, All, AllPairs, IfOk, OnOk};
 ghost use Rattle.std.specs.List.Sorted.{IsPermutation};
 ghost use Rattle.std.specs.declared.cmp.Ordering.TheVariants.{Less};
 ghost use Rattle.scope_types.specs.Limits.{most_samples};
 ghost use Rattle.tree_types.specs.Tree.{count_order, counts_in};
 ghost use Rattle.path_trie.specs.Trie.{IsPlace};
-ghost use Rattle.tree_join.specs.private.Sums.{counts_of, AreSums};
+ghost use Rattle.tree_join.specs.private.Sums.{counts_of, all_counts, AreSums, HasPlaces};
 
+use crate::walker::Walker;
 use path_trie::PathEnd;
 use prof_bytes::Memory;
 use std::alloc::Global;
 use tree_types::{NO_PARENT, NodeCount};
 
-/// The counts of ends at nodes, by the nodes' numbers.
-fn renumbered_counts(
-    alloc: Global,
-    ends: &[PathEnd],
-    numbers: &[u32],
-) -> Result<Vec<NodeCount>, Memory>
+/// Puts the counts of ends at nodes, by the nodes' numbers.
+fn put_counts(counts: &mut Vec<NodeCount>, ends: &[PathEnd], numbers: &[u32]) -> Result<(), Memory>
     requires { All (λ e. IsPlace e.node (length numbers.now)) ends.now }
-    ensures { IfOk result (λ counts. counts.items ≡ counts_of numbers.now ends.now) }
+    ensures { OnOk result (counts.new.items ≡ counts.old.items ++ counts_of numbers.now ends.now) }
 {
-    let mut counts = Vec::new(alloc);
     for end in ends {
         if end.node != NO_PARENT && end.count > 0 {
             counts.push(NodeCount {
@@ -30,6 +26,18 @@ fn renumbered_counts(
                 count: end.count,
             })?;
         }
+    }
+    Ok(())
+}
+
+/// The counts of the ends of all tries that were walked over, trie by trie.
+fn numbered_counts(alloc: Global, walkers: &[Walker]) -> Result<Vec<NodeCount>, Memory>
+    requires { All HasPlaces walkers.now }
+    ensures { IfOk result (λ counts. counts.items ≡ all_counts walkers.now) }
+{
+    let mut counts = Vec::new(alloc);
+    for walker in walkers {
+        put_counts(&mut counts, walker.ends, walker.numbers.as_slice())?;
     }
     Ok(counts)
 }
@@ -72,13 +80,13 @@ fn add_up(alloc: Global, counts: &[NodeCount]) -> Result<Vec<NodeCount>, Memory>
     Ok(sums)
 }
 
-/// The counts of ends by the nodes' numbers, those of each node and hart added up, in order.
-pub fn summed(alloc: Global, ends: &[PathEnd], numbers: &[u32]) -> Result<Vec<NodeCount>, Memory>
-    requires places { All (λ e. IsPlace e.node (length numbers.now)) ends.now }
-    requires few { counts_in (counts_of numbers.now ends.now) ≤ most_samples }
-    ensures { IfOk result (λ sums. AreSums (counts_of numbers.now ends.now) sums.items) }
+/// The counts of the ends of all tries that were walked over, those of each node and hart added up, in order.
+pub fn summed(alloc: Global, walkers: &[Walker]) -> Result<Vec<NodeCount>, Memory>
+    requires places { All HasPlaces walkers.now }
+    requires few { counts_in (all_counts walkers.now) ≤ most_samples }
+    ensures { IfOk result (λ sums. AreSums (all_counts walkers.now) sums.items) }
 {
-    let mut counts = renumbered_counts(alloc, ends, numbers)?;
+    let mut counts = numbered_counts(alloc, walkers)?;
     sort(&mut counts);
     add_up(alloc, counts.as_slice())
 }

@@ -1,5 +1,5 @@
 //! The tree of one trie, and of several.
-ghost use Rattle.std.specs.Prelude.{◌≡◌, ℕ, ◌<◌, ◌≤◌, length, map, sum_by, All, IfOk};
+ghost use Rattle.std.specs.Prelude.{◌≡◌, ℕ, ◌<◌, ◌≤◌, [], length, map, sum_by, All, IfOk};
 ghost use Rattle.std.specs.List.{flat_map};
 ghost use Rattle.scope_types.specs.Alike.{Alike};
 ghost use Rattle.scope_types.specs.CallPaths.{each_path};
@@ -10,9 +10,12 @@ ghost use Rattle.tree_types.specs.Nodes.{no_parent};
 ghost use Rattle.tree_types.specs.Tree.{count_at, paths_in};
 ghost use Rattle.path_trie.specs.Trie.{trie_nodes, node_of, node_path, count_of, samples_of};
 ghost use Rattle.tree_join.specs.Join.{joined_nodes, nodes_of_all};
+ghost use Rattle.tree_join.specs.private.Walk.{IsWalker, entries_in};
+ghost use Rattle.tree_join.specs.private.Result.{IsTreeOf};
 
 use crate::counts::summed;
-use crate::walk::{Preorder, in_preorder};
+use crate::walk::walk;
+use crate::walker::Walker;
 use path_trie::Trie;
 use prof_bytes::Memory;
 use std::alloc::Global;
@@ -31,9 +34,34 @@ pub fn join_trie(alloc: Global, trie: &Trie, harts: u32) -> Result<Tree, Memory>
         → IfOk result (λ tree. Alike (paths_in tree) (each_path trie.now)
         × (tree.nodes ≡ node_list (each_path trie.now))) }
 {
-    let Preorder { nodes, numbers } = in_preorder(alloc, trie.nodes())?;
-    let counts = summed(alloc, trie.ends(), numbers.as_slice())?;
+    let mut walkers = Vec::new(alloc);
+    walkers.push(Walker::of(alloc, trie)?)?;
+    tree_of(alloc, walkers.as_mut_slice(), harts)
+}
+
+/// The tree of what is walked over, for so many harts.
+fn tree_of(alloc: Global, walkers: &mut [Walker], harts: u32) -> Result<Tree, Memory>
+    requires each { All (IsWalker []) walkers.old }
+    requires samples { sum_by samples_of (map entries_in walkers.old) ≤ most_samples }
+    requires nodes { sum_by (λ es. length (trie_nodes es)) (map entries_in walkers.old) ≤ most_path_scopes }
+    requires harts { All (λ es. All (λ e. 0 < e.count → e.hart < harts) es) (map entries_in walkers.old) }
+    ensures { IfOk result (IsTreeOf (map entries_in walkers.old) harts) }
+{
+    let nodes = walk(alloc, walkers)?;
+    let counts = summed(alloc, walkers)?;
     Ok(Tree::of(harts, nodes, counts))
+}
+
+/// The walks over tries, in their order.
+fn walkers_of<'a>(alloc: Global, tries: &[&'a Trie]) -> Result<Vec<Walker<'a>>, Memory>
+    ensures each { IfOk result (λ walkers. All (IsWalker []) walkers.items) }
+    ensures entries { IfOk result (λ walkers. map entries_in walkers.items ≡ map (λ t. t.now) tries.now) }
+{
+    let mut walkers = Vec::new(alloc);
+    for trie in tries {
+        walkers.push(Walker::of(alloc, trie)?)?;
+    }
+    Ok(walkers)
 }
 
 /// The tree of several tries together, for so many harts: their nodes, each once and in preorder, and the sums of
@@ -53,6 +81,6 @@ pub fn join_tries(alloc: Global, tries: &[&Trie], harts: u32) -> Result<Tree, Me
     ensures paths { let es = flat_map (λ es. es) (map (λ t. t.now) tries.now) in All (CountsSamples harts) es
         → IfOk result (λ tree. Alike (paths_in tree) (each_path es) × (tree.nodes ≡ node_list (each_path es))) }
 {
-    let all = Trie::joined(alloc, tries)?;
-    join_trie(alloc, &all, harts)
+    let mut walkers = walkers_of(alloc, tries)?;
+    tree_of(alloc, walkers.as_mut_slice(), harts)
 }

@@ -11,6 +11,7 @@ mod join;
 mod laws;
 mod stripes;
 mod walk;
+mod walker;
 
 pub use join::{join_trie, join_tries};
 pub use laws::{stripes_hold_the_samples, stripes_hold_their_pieces};

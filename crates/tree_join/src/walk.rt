@@ -1,85 +1,132 @@
-//! The nodes of a trie in preorder.
-ghost use Rattle.std.specs.Prelude.{◌≡◌, ◌+◌, ◌<◌, ◌≤◌, ◌≢◌, ◌∷◌, ◌++◌, [], length, replicate, slice_set, IfOk, OnOk};
-ghost use Rattle.scope_types.specs.Limits.{most_path_scopes};
-ghost use Rattle.tree_types.specs.Nodes.{no_parent};
-ghost use Rattle.path_trie.specs.Trie.{StandBefore};
-ghost use Rattle.path_trie.specs.private.Linked.{node_at};
-ghost use Rattle.tree_join.specs.private.Walk.{parent_number_at, renumbered, AreNodes, Walked};
+//! Walks over several tries at once, whose nodes are put in one preorder.
+ghost use Rattle.std.specs.Prelude.{◌≡◌, ◌≢◌, ℕ, ◌<◌, ◌≤◌, ◌∷◌, ◌++◌, [], length, map, slice_index_or, All};
+ghost use Rattle.std.specs.Prelude.{IfOk, IfSome, OnOk, None, Some, true};
+ghost use Rattle.tree_join.specs.declared.walker.Walker.{Walker};
+ghost use Rattle.tree_join.specs.private.Walk.{IsReady, FirstBut, Leads, NotAfter, PassUpTo, Walking, earlier_of};
+ghost use Rattle.tree_join.specs.private.Walk.{entries_in, head_of, node_before};
 
-use crate::children::Children;
+use crate::walker::{Walker, is_before};
 use prof_bytes::Memory;
 use std::alloc::Global;
-use tree_types::{NO_PARENT, Node};
+use tree_types::Node;
 
-/// Nodes in preorder, each with its parent's number; and the number of each node by its index before.
-#[derive(Drop)]
-pub struct Preorder {
-    pub nodes: Vec<Node>,
-    pub numbers: Vec<u32>,
-}
-
-/// The number of a parent, of which `NO_PARENT` is none.
-fn parent_number(numbers: &[u32], parent: u32) -> u32
-    requires { parent ≢ no_parent → parent < length numbers.now }
-    ensures { result ≡ parent_number_at numbers.now parent }
+/// The first of two nodes that are next, with the index of its walk.
+fn earlier(first: Option<(usize, Node)>, at: usize, head: Option<Node>) -> Option<(usize, Node)>
+    ensures { result ≡ earlier_of first at head }
 {
-    if parent == NO_PARENT {
-        NO_PARENT
-    } else {
-        numbers[parent as usize]
+    let Some(node) = head else {
+        return first;
+    };
+    match first {
+        Some((_, other)) if !is_before(&node, &other) => first,
+        _ => Some((at, node)),
     }
 }
 
-/// No number for each of so many nodes.
-fn no_numbers(alloc: Global, count: usize) -> Result<Vec<u32>, Memory>
-    ensures { IfOk result (λ numbers. numbers.items ≡ replicate count no_parent) }
+/// The first of the nodes that are next, with the index of its walk. A walk with the index `left_out` is left out.
+fn first_but(walkers: &[Walker], left_out: usize) -> Option<(usize, Node)>
+    requires { All IsReady walkers.now }
+    ensures { FirstBut walkers.now left_out (length walkers.now) result }
 {
-    Ok(vec![in alloc; NO_PARENT; count]?)
+    let mut first = None;
+    for at in 0..walkers.len() {
+        if at != left_out {
+            first = earlier(first, at, walkers[at].head());
+        }
+    }
+    first
 }
 
-/// Gives a node the next number, and puts it in order.
-fn visit(
-    nodes: &[Node],
-    place: u32,
-    numbers: &mut Vec<u32>,
-    order: &mut Vec<Node>,
-) -> Result<(), Memory>
-    requires place { place < length nodes.now }
-    requires numbers { length numbers.old.items ≡ length nodes.now }
-    requires parent { (node_at nodes.now place).parent ≢ no_parent
-        → (node_at nodes.now place).parent < length nodes.now }
-    requires few { length order.old.items ≤ most_path_scopes }
-    ensures order { OnOk result (order.new.items
-        ≡ order.old.items ++ renumbered nodes.now numbers.old.items place ∷ []) }
-    ensures numbers { OnOk result (numbers.new.items ≡ slice_set numbers.old.items place (length order.old.items)) }
+/// Gives a node its number in each walk whose next node it is.
+fn advance_each(walkers: &mut [Walker], node: &Node, number: u32) -> Result<(), Memory>
+    requires { All IsReady walkers.old }
+    ensures { OnOk result (PassUpTo (length walkers.old) node.now number walkers.old walkers.new) }
 {
-    let node = nodes[place as usize];
-    let parent = parent_number(numbers.as_slice(), node.parent);
-    numbers[place as usize] = order.len() as u32;
-    order.push(Node {
-        parent,
-        scope: node.scope,
-    })?;
+    for at in 0..walkers.len() {
+        let walker = &mut walkers[at];
+        if walker.is_next(node) {
+            walker.advance(number)?;
+        }
+    }
     Ok(())
 }
 
-/// Nodes in preorder, siblings by their scopes.
-pub fn in_preorder(alloc: Global, nodes: &[Node]) -> Result<Preorder, Memory>
-    requires nodes { AreNodes nodes.now }
-    requires before { StandBefore nodes.now }
-    ensures { IfOk result (λ o. Walked nodes.now o.numbers.items [] o.nodes.items) }
+/// Puts the first of the nodes that are next in order.
+fn put_first(walkers: &mut [Walker], node: Node, order: &mut Vec<Node>) -> Result<(), Memory>
+    requires walking { Walking (map entries_in walkers.old) walkers.old order.old.items }
+    requires next { (k : ℕ) × (k < length walkers.old)
+        × ((d : Walker) → head_of (slice_index_or walkers.old k d) ≡ Some node) }
+    requires first { All (NotAfter node) walkers.old }
+    ensures walking { OnOk result (Walking (map entries_in walkers.old) walkers.new order.new.items) }
+    ensures order { OnOk result (order.new.items ≡ order.old.items ++ node ∷ []) }
+    ensures len { OnOk result (length walkers.new ≡ length walkers.old) }
 {
-    let children = Children::of(alloc, nodes)?;
-    let mut numbers = no_numbers(alloc, nodes.len())?;
-    let mut order = Vec::new(alloc);
-    let mut stack = Vec::new(alloc);
-    children.push(NO_PARENT, &mut stack)?;
-    while let Some(place) = stack.pop() {
-        visit(nodes, place, &mut numbers, &mut order)?;
-        children.push(place, &mut stack)?;
+    advance_each(walkers, &node, order.len() as u32)?;
+    order.push(node)?;
+    Ok(())
+}
+
+/// Puts the node that is next in one walk in order. It stands before those of the others.
+fn put_own(
+    walkers: &mut [Walker],
+    at: usize,
+    node: Node,
+    order: &mut Vec<Node>,
+) -> Result<(), Memory>
+    requires walking { Walking (map entries_in walkers.old) walkers.old order.old.items }
+    requires at { at < length walkers.old }
+    requires next { (d : Walker) → head_of (slice_index_or walkers.old at d) ≡ Some node }
+    requires leads { (i : ℕ) (d : Walker) → i < length walkers.old → i ≢ at
+        → Leads node (slice_index_or walkers.old i d) }
+    ensures walking { OnOk result (Walking (map entries_in walkers.old) walkers.new order.new.items) }
+    ensures order { OnOk result (order.new.items ≡ order.old.items ++ node ∷ []) }
+    ensures len { OnOk result (length walkers.new ≡ length walkers.old) }
+    ensures others { OnOk result ((i : ℕ) (d : Walker) → i ≢ at
+        → slice_index_or walkers.new i d ≡ slice_index_or walkers.old i d) }
+{
+    let number = order.len() as u32;
+    walkers[at].advance(number)?;
+    order.push(node)?;
+    Ok(())
+}
+
+/// The node that is next in a walk, if it stands before another one.
+fn leading(walker: &Walker, limit: Option<(usize, Node)>) -> Option<Node>
+    requires { IsReady walker.now }
+    ensures { IfSome result (λ node. (head_of walker.now ≡ Some node)
+        × IfSome limit (λ other. node_before node other.1 ≡ true)) }
+{
+    let node = walker.head()?;
+    match limit {
+        Some((_, other)) if !is_before(&node, &other) => None,
+        _ => Some(node),
     }
-    Ok(Preorder {
-        nodes: order,
-        numbers,
-    })
+}
+
+/// Puts nodes of one walk in order, as long as they stand before what is next in the others.
+fn put_run(walkers: &mut [Walker], at: usize, order: &mut Vec<Node>) -> Result<(), Memory>
+    requires walking { Walking (map entries_in walkers.old) walkers.old order.old.items }
+    requires at { at < length walkers.old }
+    ensures walking { OnOk result (Walking (map entries_in walkers.old) walkers.new order.new.items) }
+    ensures longer { OnOk result (length order.old.items ≤ length order.new.items) }
+{
+    let limit = first_but(walkers, at);
+    while let Some(node) = leading(&walkers[at], limit) {
+        put_own(walkers, at, node, order)?;
+    }
+    Ok(())
+}
+
+/// Puts all nodes in preorder, siblings by their scopes, those of one path once.
+pub fn walk(alloc: Global, walkers: &mut [Walker]) -> Result<Vec<Node>, Memory>
+    requires { Walking (map entries_in walkers.old) walkers.old [] }
+    ensures walking { IfOk result (λ order. Walking (map entries_in walkers.old) walkers.new order.items) }
+    ensures ended { OnOk result (All (λ w. head_of w ≡ None) walkers.new) }
+{
+    let mut order = Vec::new(alloc);
+    while let Some((at, node)) = first_but(walkers, walkers.len()) {
+        put_first(walkers, node, &mut order)?;
+        put_run(walkers, at, &mut order)?;
+    }
+    Ok(order)
 }

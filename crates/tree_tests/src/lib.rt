@@ -1,5 +1,5 @@
-//! Tests of calling context trees: tries of counted call paths, the trees that are made of them, the plan of a merge and
-//! its pieces, the workers of a merge, the values of a tree and their planes, and measurement files.
+//! Tests of calling context trees: tries of counted call paths, the trees that are made of them, the plan of a merge
+//! and its pieces, the workers of a merge, the values of a tree and their planes, and measurement files.
 //!
 //! It has no code of its own: a crate with tests is proved twice, and these prove none of the crates
 //! below again. The expected values are written by hand from the definitions.

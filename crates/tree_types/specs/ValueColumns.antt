@@ -1,4 +1,5 @@
--- The values of a tree as the two planes of HPCToolkit's databases: by hart (profile-major) and by node (context-major).
+-- The values of a tree as the two planes of HPCToolkit's databases: by hart (profile-major) and by node
+-- (context-major).
 use Rattle.std.specs.Prelude.{ℕ, ◌==◌, ◌&&◌, List, map, filter}
 use Rattle.std.specs.List.{flat_map, range_with_len}
 use Rattle.tree_types.specs.declared.content.Kind.{Kind}

@@ -19,7 +19,7 @@ use Rattle.view_tables.specs.declared.place.Split.{Split}
 use Rattle.view_tables.specs.declared.place.View.{View}
 use Rattle.view_tables.specs.Views.{Item, ViewRow, Sample, all_items, begins_with, holds, item_order, row_at, row_order, rows_under, same_item}
 use Rattle.view_tables.specs.private.Frames.{AreFrames, covered}
-use Rattle.view_tables.specs.private.Places.{AreSplits, item_seen, items_seen, row_seen, samples_of}
+use Rattle.view_tables.specs.private.Places.{AreSplits, item_seen, items_seen, row_seen, content_samples}
 use Rattle.view_tables.proofs.Narrowed.{group, group_covers, group_frames}
 use Rattle.view_tables.proofs.ViewOrders.{item_order_total, item_order_tells, row_order_total, row_order_tells}
 
@@ -76,7 +76,7 @@ any_both t xs ys inside h =
 
 module _ (view : View) (c : Content) (chain : List Item) (splits : List Split) (profile : IsProfile c) (frames : Frames) (all : AreFrames view c frames) (are : AreSplits view c chain splits) where
   abbrev samples : List Sample
-  samples = samples_of view c
+  samples = content_samples view c
 
   abbrev row : Item → ViewRow
   row = row_at c.period samples chain
@@ -139,7 +139,7 @@ is_some r = not (r.inclusive == 0)
 
 -- the row of an item
 abbrev pub row_of_item : View → Content → List ItemRef → ItemRef → ViewRow
-row_of_item view c chain item = row_at c.period (samples_of view c) (items_seen chain) (item_seen item)
+row_of_item view c chain item = row_at c.period (content_samples view c) (items_seen chain) (item_seen item)
 
 abbrev pub rows_so_far : View → Content → List ItemRef → List RowRef → List ItemRef → Type 0
 rows_so_far view c chain rows items = map row_seen rows ≡ filter is_some (map (row_of_item view c chain) items)
@@ -170,18 +170,18 @@ module _ (view : View) (c : Content) (chain : List ItemRef) where
       ∙ sym (one_more items i item lt is)
 
   pub rows_all : (rows : List RowRef) (items : List ItemRef) (i : ℕ) → length items ≤ i → rows_so_far view c chain rows (take i items)
-      → map row_seen rows ≡ filter is_some (map (row_at c.period (samples_of view c) (items_seen chain)) (items_seen items))
+      → map row_seen rows ≡ filter is_some (map (row_at c.period (content_samples view c) (items_seen chain)) (items_seen items))
   rows_all rows items i le so_far =
       so_far ∙ ap (λ (l : List ItemRef). filter is_some (map (row_of_item view c chain) l)) (take_all i items le)
-      ∙ ap (filter is_some) (sym (map_of_map (row_at c.period (samples_of view c) (items_seen chain)) item_seen items))
+      ∙ ap (filter is_some) (sym (map_of_map (row_at c.period (content_samples view c) (items_seen chain)) item_seen items))
 
   pub rows_are : (splits : List Split) (items : List ItemRef) (rows sorted : List RowRef) (frames : Frames) → IsProfile c → AreFrames view c frames → AreSplits view c (items_seen chain) splits
       → items_seen items ≡ ascending item_order (map (λ s. item_seen s.item) splits)
-      → map row_seen rows ≡ filter is_some (map (row_at c.period (samples_of view c) (items_seen chain)) (items_seen items))
+      → map row_seen rows ≡ filter is_some (map (row_at c.period (content_samples view c) (items_seen chain)) (items_seen items))
       → map row_seen sorted ≡ ascending row_order (map row_seen rows)
-      → map row_seen sorted ≡ rows_under c.period (samples_of view c) (items_seen chain)
+      → map row_seen sorted ≡ rows_under c.period (content_samples view c) (items_seen chain)
   rows_are splits items rows sorted frames profile all are firsts found order =
-      order ∙ ap (ascending row_order) (found ∙ ap (λ (l : List Item). filter is_some (map (row_at c.period (samples_of view c) (items_seen chain)) l)) firsts)
+      order ∙ ap (ascending row_order) (found ∙ ap (λ (l : List Item). filter is_some (map (row_at c.period (content_samples view c) (items_seen chain)) l)) firsts)
       ∙ rows_found view c (items_seen chain) splits profile frames all are
 
 pub ruleset rows_steps = (row_put, row_pass, rows_all, rows_are)

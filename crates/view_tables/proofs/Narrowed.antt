@@ -18,7 +18,7 @@ use Rattle.view_tables.specs.declared.place.Split.{Split}
 use Rattle.view_tables.specs.declared.place.View.{View}
 use Rattle.view_tables.specs.Views.{Item, Sample, begins_with, ends, holds, same_item}
 use Rattle.view_tables.specs.private.Frames.{AreFrames, AreRanges, covered, parent_at, sum_below, weight_if}
-use Rattle.view_tables.specs.private.Places.{AreSplits, Held, cut_of, cut_one, cuts, has_frame, held, item_seen, narrowed, node_items, of_item, place_at, sample_at, samples_of, ups}
+use Rattle.view_tables.specs.private.Places.{AreSplits, Held, cut_of, cut_one, cuts, has_frame, held, item_seen, narrowed, node_items, of_item, place_at, sample_at, content_samples, ups}
 use Rattle.view_tables.proofs.Covered.{covered_is, sum_more, sum_none, sum_rises, sum_same}
 use Rattle.view_tables.proofs.Cuts.{a_frame_adds, no_frame_skips}
 use Rattle.view_tables.proofs.Descendants.{parent_less}
@@ -131,7 +131,7 @@ module _ (view : View) (c : Content) (chain : List Item) (profile : IsProfile c)
     marks = filter is_mark (range_with_len 0 (length c.nodes))
 
     -- the inclusive value of a chain
-    pub marks_cover : covered frames.ends.items frames.sums.items 0 marks ≡ c.period * count_by (holds chain) (samples_of view c)
+    pub marks_cover : covered frames.ends.items frames.sums.items 0 marks ≡ c.period * count_by (holds chain) (content_samples view c)
     marks_cover =
         covered_is (length c.nodes) (parent_at c) is_mark below w frames.ends.items frames.sums.items below_is none_past (λ j lt up. parent_less c j profile lt up)
         (λ i lt. (are.ends.each i (omega arith) lt).behind) (λ i lt. (are.ends.each i (omega arith) lt).within)
@@ -157,7 +157,7 @@ module _ (view : View) (c : Content) (chain : List Item) (profile : IsProfile c)
         omega (arith, first, rest, more, e)
 
     -- the exclusive value of a chain
-    pub marks_weigh : sum_by w marks ≡ c.period * count_by (ends chain) (samples_of view c)
+    pub marks_weigh : sum_by w marks ≡ c.period * count_by (ends chain) (content_samples view c)
     marks_weigh =
         let all = range_sum (λ j. cond (is_mark j) (w j) 0) 0 (length c.nodes) in
         let none = sum_none (λ j. cond (is_mark j) (w j) 0) in
@@ -179,11 +179,11 @@ module _ (view : View) (c : Content) (chain : List Item) (profile : IsProfile c)
             nothing true = refl
             nothing false = refl
 
-    value_few : (t : Sample → Bool) → c.period * count_by t (samples_of view c) ≤ 2 ^ 52
+    value_few : (t : Sample → Bool) → c.period * count_by t (content_samples view c) ≤ 2 ^ 52
     value_few t =
-        let some = count_by-le-length t (samples_of view c) in
-        let all : length (samples_of view c) ≡ length (paths_of c) = length-map (paths_of c) _ in
-        let most : c.period * count_by t (samples_of view c) ≤ c.period * length (paths_of c) = mul-le-mul_left c.period (omega (arith, some, all)) in
+        let some = count_by-le-length t (content_samples view c) in
+        let all : length (content_samples view c) ≡ length (paths_of c) = length-map (paths_of c) _ in
+        let most : c.period * count_by t (content_samples view c) ≤ c.period * length (paths_of c) = mul-le-mul_left c.period (omega (arith, some, all)) in
         let small = are.small in
         omega (arith, most, small)
 
@@ -243,10 +243,10 @@ module _ (view : View) (c : Content) (chain : List Item) (item : Item) (splits f
       (all_inside (mark view c longer) 0 (length c.nodes) m (let z : 0 + length c.nodes ≡ m = omega (arith, long) in z))))
 
   module _ (profile : IsProfile c) (frames : Frames) (all : AreFrames view c frames) where
-    pub group_covers : covered frames.ends.items frames.sums.items 0 (group_frames found) ≡ c.period * count_by (holds longer) (samples_of view c)
+    pub group_covers : covered frames.ends.items frames.sums.items 0 (group_frames found) ≡ c.period * count_by (holds longer) (content_samples view c)
     group_covers = ap (covered frames.ends.items frames.sums.items 0) group_marks ∙ marks_cover view c longer profile frames all
 
-    pub group_weighs : sum_by (λ s. slice_index frames.weights.items s.rest.frame) found ≡ c.period * count_by (ends longer) (samples_of view c)
+    pub group_weighs : sum_by (λ s. slice_index frames.weights.items s.rest.frame) found ≡ c.period * count_by (ends longer) (content_samples view c)
     group_weighs =
         sym (sum_by-map (slice_index frames.weights.items) (λ (s : Split). s.rest.frame) found)
         ∙ ap (sum_by (slice_index frames.weights.items)) group_marks ∙ marks_weigh view c longer profile frames all

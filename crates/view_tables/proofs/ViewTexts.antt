@@ -21,7 +21,7 @@ use Rattle.view_tables.specs.declared.place.Place.{Place}
 use Rattle.view_tables.specs.declared.place.Split.{Split}
 use Rattle.view_tables.specs.declared.place.View.{View}
 use Rattle.view_tables.specs.Views.{Item, ViewRow, Sample, all_items, holds, row_at, row_order, rows_under, same_item, view_row, view_rows, view_table}
-use Rattle.view_tables.specs.private.Places.{ArePlaces, AreSplits, all_places, held, item_seen, items_seen, mark_of, narrowed, row_seen, sample_of, samples_of}
+use Rattle.view_tables.specs.private.Places.{ArePlaces, AreSplits, all_places, held, item_seen, items_seen, mark_of, narrowed, row_seen, sample_of, content_samples}
 use Rattle.view_tables.specs.declared.place.View.TheVariants.{Callers, Flat}
 use Rattle.view_tables.specs.Callers.{callers}
 use Rattle.view_tables.specs.Flat.{flat}
@@ -90,7 +90,7 @@ module _ (view : View) (c : Content) where
   -- ---- text
 
   abbrev samples : List Sample
-  samples = samples_of view c
+  samples = content_samples view c
 
   pub as_many_samples : length samples ≡ length (paths_of c)
   as_many_samples = length-map (paths_of c) (λ p. sample_of view (naming_in c.names) (reverse p.path))
@@ -167,11 +167,11 @@ five_parts out a b d e f v s m l n ea eb ed ee ef =
     let whole : f ≡ ((((out ++ v) ++ s) ++ m) ++ l) ++ n = cc in
     whole ∙ regroup out v s m l n
 
-pub callers_is : (c : Content) (depth levels : ℕ) → levels ≡ depth + 1 → view_table c.period (naming_in c.names) (mark_of Callers) (samples_of Callers c) levels ≡ callers c.period (naming_in c.names) depth (paths_of c)
+pub callers_is : (c : Content) (depth levels : ℕ) → levels ≡ depth + 1 → view_table c.period (naming_in c.names) (mark_of Callers) (content_samples Callers c) levels ≡ callers c.period (naming_in c.names) depth (paths_of c)
 unfolding callers
-callers_is c depth levels e = ap (view_table c.period (naming_in c.names) (mark_of Callers) (samples_of Callers c)) e
+callers_is c depth levels e = ap (view_table c.period (naming_in c.names) (mark_of Callers) (content_samples Callers c)) e
 
-pub flat_is : (c : Content) → view_table c.period (naming_in c.names) (mark_of Flat) (samples_of Flat c) 3 ≡ flat c.period (naming_in c.names) (paths_of c)
+pub flat_is : (c : Content) → view_table c.period (naming_in c.names) (mark_of Flat) (content_samples Flat c) 3 ≡ flat c.period (naming_in c.names) (paths_of c)
 unfolding flat
 flat_is c = refl
 

@@ -9,7 +9,7 @@ ghost use Rattle.tree_types.specs.OfContent.{IsProfile};
 ghost use Rattle.view_tables.specs.Views.{item_order, row_at, row_order, rows_under, same_item};
 ghost use Rattle.view_tables.specs.private.Frames.{AreFrames, AreHeads, AreRanges, covered};
 ghost use Rattle.view_tables.specs.private.Places.{ArePlaces, AreByItem, AreSplits, cut_of, cuts, held, item_seen};
-ghost use Rattle.view_tables.specs.private.Places.{items_seen, row_seen, samples_of};
+ghost use Rattle.view_tables.specs.private.Places.{items_seen, row_seen, content_samples};
 
 use crate::frames::Frames;
 use crate::item::{ItemRef, RowRef, compare_items};
@@ -81,7 +81,8 @@ pub fn group_of<'b, 'a>(splits: &'b [Split<'a>], item: ItemRef<'a>) -> &'b [Spli
 fn covered(frames: &Frames, group: &[Split<'_>]) -> u64
     requires ranges { AreRanges frames.now.ends.items frames.now.sums.items }
     requires inside { All (λ s. s.rest.frame < length frames.now.ends.items) group.now }
-    requires small { covered frames.now.ends.items frames.now.sums.items 0 (map (λ s. s.rest.frame) group.now) ≤ 2 ^ 52 }
+    requires small { covered frames.now.ends.items frames.now.sums.items 0 (map (λ s. s.rest.frame) group.now)
+        ≤ 2 ^ 52 }
     ensures { result ≡ covered frames.now.ends.items frames.now.sums.items 0 (map (λ s. s.rest.frame) group.now) }
 {
     let mut sum: u64 = 0;
@@ -161,7 +162,7 @@ fn row_of<'a>(
     requires splits { AreSplits view content.now (items_seen chain.now) splits.now }
     requires sorted { AreByItem splits.now }
     ensures { row_seen result
-        ≡ row_at content.now.period (samples_of view content.now) (items_seen chain.now) (item_seen item.entry) }
+        ≡ row_at content.now.period (content_samples view content.now) (items_seen chain.now) (item_seen item.entry) }
 {
     let group = group_of(splits, item);
     RowRef {
@@ -187,7 +188,8 @@ fn rows_of_items<'a>(
     requires splits { AreSplits view content.now (items_seen chain.now) splits.now }
     requires sorted { AreByItem splits.now }
     ensures { IfOk result (λ rows. map row_seen rows.items ≡ filter (λ r. not (r.inclusive == 0))
-        (map (row_at content.now.period (samples_of view content.now) (items_seen chain.now)) (items_seen items.now))) }
+        (map (row_at content.now.period (content_samples view content.now) (items_seen chain.now))
+        (items_seen items.now))) }
 {
     let mut rows = Vec::new(alloc);
     for item in items {
@@ -214,7 +216,7 @@ pub fn rows_of<'a>(
     requires splits { AreSplits view content.now (items_seen chain.now) splits.now }
     requires sorted { AreByItem splits.now }
     ensures { IfOk result (λ rows. map row_seen rows.items
-        ≡ rows_under content.now.period (samples_of view content.now) (items_seen chain.now)) }
+        ≡ rows_under content.now.period (content_samples view content.now) (items_seen chain.now)) }
 {
     let items = first_items(alloc, splits)?;
     let mut rows = rows_of_items(

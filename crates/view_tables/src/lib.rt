@@ -3,8 +3,8 @@
 //! It promises that the top-down table, the callers table and the flat table of a content are byte for byte those of
 //! their definitions (HPCToolkit's manual, "Top-down view", "Bottom-up view" and "Flat view"): a header, and rows with
 //! values, shares of the total and labels. The top-down table has a row for each node; the callers table one for each
-//! procedure and, under it, its chains of callers; the flat table one for each file, procedure and line. Below stand the
-//! tree's definitions and the content.
+//! procedure and, under it, its chains of callers; the flat table one for each file, procedure and line. Below stand
+//! the tree's definitions and the content.
 #![tactic(auto)]
 
 mod columns;

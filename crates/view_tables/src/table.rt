@@ -32,8 +32,8 @@ fn put_node_row(
     put_row(out, &content.names, &row)
 }
 
-/// Appends the top-down table of a content. Each node is looked at once, and its names are found by halving; nothing but
-/// the text takes memory.
+/// Appends the top-down table of a content. Each node is looked at once, and its names are found by halving; nothing
+/// but the text takes memory.
 #[tactic(auto, using(crate::proofs::TableRows::table_steps))]
 pub fn put_top_down(out: &mut Vec<u8>, content: &Content) -> Result<(), Memory>
     requires { IsProfile content.now }

@@ -6,10 +6,11 @@ ghost use Rattle.tree_types.specs.OfContent.{IsProfile};
 ghost use Rattle.tree_types.specs.PathsOf.{paths_of};
 ghost use Rattle.view_tables.specs.Callers.{callers};
 ghost use Rattle.view_tables.specs.Flat.{flat};
-ghost use Rattle.view_tables.specs.Views.{item_label, mark_at, rows_under, view_header, view_row, view_rows, view_table};
+ghost use Rattle.view_tables.specs.Views.{item_label, mark_at, rows_under, view_header, view_row, view_rows};
+ghost use Rattle.view_tables.specs.Views.{view_table};
 ghost use Rattle.view_tables.specs.private.Frames.{AreFrames};
 ghost use Rattle.view_tables.specs.private.Places.{ArePlaces, AreByItem, AreSplits, item_seen, items_seen, mark_of};
-ghost use Rattle.view_tables.specs.private.Places.{row_seen, samples_of};
+ghost use Rattle.view_tables.specs.private.Places.{row_seen, content_samples};
 ghost use Rattle.view_tables.specs.private.Rows.{total_value};
 
 use crate::columns::{put_spaces, put_values};
@@ -110,7 +111,7 @@ fn level_of<'a>(
     ensures splits { IfOk result (λ level. AreSplits view content.now (items_seen chain.now) level.splits.items) }
     ensures sorted { IfOk result (λ level. AreByItem level.splits.items) }
     ensures rows { IfOk result (λ level. map row_seen level.rows.items
-        ≡ rows_under content.now.period (samples_of view content.now) (items_seen chain.now)) }
+        ≡ rows_under content.now.period (content_samples view content.now) (items_seen chain.now)) }
     ensures within { IfOk result
         (λ level. All (λ r. (0 < r.inclusive.0) × (r.inclusive.0 ≤ total_value content.now)) level.rows.items) }
 {
@@ -178,7 +179,7 @@ fn put_rows<'a>(
     requires places { ArePlaces view content.now (items_seen chain.now) places.now }
     requires levels { length chain.now + levels ≤ 9 }
     ensures { OnOk result (out.new.items ≡ out.old.items ++ view_rows content.now.period
-        (naming_in content.now.names) (mark_of view) (samples_of view content.now) levels (items_seen chain.now)) }
+        (naming_in content.now.names) (mark_of view) (content_samples view content.now) levels (items_seen chain.now)) }
 {
     if levels == 0 {
         return Ok(());
@@ -215,7 +216,7 @@ fn view_of(alloc: Global, view: View, content: &Content, levels: usize) -> Resul
     requires profile { IsProfile content.now }
     requires levels { levels ≤ 9 }
     ensures { IfOk result (λ text. text ≡ view_table content.now.period (naming_in content.now.names) (mark_of view)
-        (samples_of view content.now) levels) }
+        (content_samples view content.now) levels) }
 {
     let mut out = Vec::new(alloc);
     put_view_header(&mut out)?;
@@ -253,7 +254,8 @@ pub fn callers(alloc: Global, content: &Content, depth: u32) -> Result<Text, Mem
 #[tactic(auto, using(crate::proofs::ViewTexts::flat_is))]
 pub fn flat(alloc: Global, content: &Content) -> Result<Text, Memory>
     requires { IsProfile content.now }
-    ensures { IfOk result (λ text. text ≡ flat content.now.period (naming_in content.now.names) (paths_of content.now)) }
+    ensures { IfOk result (λ text. text
+        ≡ flat content.now.period (naming_in content.now.names) (paths_of content.now)) }
 {
     view_of(alloc, View::Flat, content, 3)
 }

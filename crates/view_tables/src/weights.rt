@@ -38,8 +38,8 @@ fn pass_up(weights: &mut Vec<u64>, number: u32, parent: u32)
     }
 }
 
-/// The weight of each frame; 0 for other nodes. From the last node to the first, what stands at a node without a frame is
-/// passed to its parent.
+/// The weight of each frame; 0 for other nodes. From the last node to the first, what stands at a node without a frame
+/// is passed to its parent.
 #[tactic(auto, using(crate::proofs::NodeWeights::weight_steps))]
 pub fn weights_in(
     alloc: Global,

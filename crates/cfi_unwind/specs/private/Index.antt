@@ -1,5 +1,6 @@
 -- Unwind rules that are made ready.
-use Rattle.std.specs.Prelude.{◌≡◌, ◌⊎◌, ◌<◌, ◌≤◌, ◌+◌, ◌-◌, ◌*◌, ◌^◌, ℕ, List, length, get_or, slice_get, Option, Some, None}
+use Rattle.std.specs.Prelude.{◌≡◌, ◌⊎◌, ◌<◌, ◌≤◌, ◌+◌, ◌-◌, ◌*◌, ◌^◌, ℕ, List, length, get_or, slice_get, Option}
+use Rattle.std.specs.Prelude.{Some, None}
 use Rattle.cfi_table.specs.declared.rows.Row.{Row}
 use Rattle.cfi_table.specs.declared.rules.Rules.{Rules}
 use Rattle.cfi_table.specs.Frames.{Frames, rules_at}

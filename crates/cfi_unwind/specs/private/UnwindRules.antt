@@ -1,5 +1,6 @@
 -- The rules at an address in a short form, which leaves out the registers that are kept.
-use Rattle.std.specs.Prelude.{◌≡◌, ℕ, Bool, true, false, List, [], ◌∷◌, length, get_or, slice_set, map, Option, Result, Ok}
+use Rattle.std.specs.Prelude.{◌≡◌, ℕ, Bool, true, false, List, [], ◌∷◌, length, get_or, slice_set, map, Option}
+use Rattle.std.specs.Prelude.{Result, Ok}
 use Rattle.std.specs.Prelude.{Err, if◌then◌else◌}
 use Rattle.std.specs.List.{list_any}
 use Rattle.scope_types.specs.declared.frame.End.{End}
@@ -11,11 +12,11 @@ use Rattle.cfi_table.specs.declared.rules.Rules.{Rules}
 use Rattle.cfi_unwind.specs.declared.caller.Unwound.{Unwound}
 use Rattle.cfi_unwind.specs.declared.caller.Unwound.TheVariants.{Caller, Ends}
 use Rattle.cfi_unwind.specs.declared.unwind_rule.RegisterRule.{RegisterRule}
-use Rattle.cfi_unwind.specs.declared.unwind_rule.SavedRegister.{SavedRegister}
+use Rattle.cfi_unwind.specs.declared.saved_registers.SavedRegister.{SavedRegister}
 use Rattle.cfi_unwind.specs.declared.unwind_rule.FrameLayout.{FrameLayout}
 use Rattle.cfi_unwind.specs.declared.unwind_rule.UnwindRule.{UnwindRule}
 use Rattle.cfi_unwind.specs.declared.unwind_rule.UnwindRule.TheVariants as unwind_rules
-use Rattle.cfi_unwind.specs.Caller.{Words, sum, is_unmapped, recovered, recovered_all}
+use Rattle.cfi_unwind.specs.Caller.{Words, sum, is_expression, is_unmapped, recovered, recovered_all}
 use Rattle.cfi_unwind.specs.private.Stepwise.{caller_at, caller_from, caller_if}
 
 abbrev pub is_kept : Rule → Bool
@@ -50,9 +51,18 @@ Recovers few regs = (words : Words) (registers : List ℕ) (cfa : ℕ) → lengt
 abbrev pub saved_rule : SavedRegister → RegisterRule
 saved_rule saved = record { register = saved.register; rule = rules.Saved saved.offset }
 
--- the return register alone is not kept, and saved
-abbrev pub returned : FrameLayout → ℕ → List RegisterRule
-returned layout offset = record { register = layout.return_register; rule = rules.Saved offset } ∷ []
+-- the registers are saved, the others are kept, and no rule is an expression
+pub record AreSaved (saved : List SavedRegister) (regs : List Rule) : Type 0 where
+  pub recovers : Recovers (map saved_rule saved) regs
+  pub expression : list_any is_expression regs ≡ false
+
+-- the canonical frame address is so far above x2, and x1 has the return address
+abbrev pub usual : ℕ → FrameLayout
+usual cfa_offset = record { cfa_register = 2; cfa_offset = cfa_offset; return_register = 1 }
+
+-- x1 alone is not kept, and saved
+abbrev pub returned : ℕ → List RegisterRule
+returned offset = record { register = 1; rule = rules.Saved offset } ∷ []
 
 abbrev pub cfa_by : List ℕ → FrameLayout → ℕ
 cfa_by registers layout = sum (get_or registers layout.cfa_register 0) layout.cfa_offset
@@ -74,10 +84,10 @@ unwound_with words registers layout few = unwound_over words registers layout.re
 -- what an unwind rule finds of an activation
 abbrev pub unwound_by : Words → List ℕ → UnwindRule → Unwound
 unwound_by words registers (unwind_rules.Ends end) = Ends end
-unwound_by words registers (unwind_rules.ReturnSaved layout offset) =
-    unwound_with words registers layout (returned layout offset)
+unwound_by words registers (unwind_rules.ReturnSaved cfa_offset offset) =
+    unwound_with words registers (usual cfa_offset) (returned offset)
 unwound_by words registers (unwind_rules.Saved layout saved) =
-    unwound_with words registers layout (map saved_rule saved.items)
+    unwound_with words registers layout (map saved_rule saved)
 unwound_by words registers (unwind_rules.Mixed layout few) = unwound_with words registers layout few.items
 
 -- the caller's pc with the registers there, or how the path ends

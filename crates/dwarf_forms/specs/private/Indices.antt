@@ -1,5 +1,5 @@
 -- Where the declarations of an abbreviation table are found by their code.
-use Rattle.std.specs.Prelude.{◌≡◌, ℕ, ◌+◌, ◌<◌, ◌≤◌, ◌==◌, List, length, drop, position, slice_index_or}
+use Rattle.std.specs.Prelude.{◌≡◌, ℕ, ◌+◌, ◌<◌, ◌≤◌, ◌==◌, List, length, position, slice_index_or}
 use Rattle.std.specs.Ordering.{nat_cmp}
 use Rattle.std.specs.BTreeMap.{get, BTreeMap}
 use Rattle.dwarf_forms.specs.declared.declaration.Abbrev.{Abbrev}
@@ -16,7 +16,7 @@ pub record IsNumbered (declared : List Abbrev) (count : ℕ) : Type 0 where
 abbrev pub AreIndices : List Abbrev → Indices → Type 0
 AreIndices declared indices = (code : ℕ) → get nat_cmp indices code ≡ position (λ d. d.code == code) declared
 
--- the declarations at the front are numbered, and the codes of the others lead to their indices among these
+-- the declarations at the front are numbered; where there are others, each code leads to its first declaration
 pub record AreKept (declared : List Abbrev) (count : ℕ) (indices : Indices) : Type 0 where
   pub front : IsNumbered declared count
-  pub others : AreIndices (drop count declared) indices
+  pub others : count < length declared → AreIndices declared indices

@@ -6,7 +6,8 @@ use Rattle.dwarf_info.specs.declared.entry.UnitBases.{UnitBases}
 use Rattle.dwarf_info.specs.declared.entry.InfoEntry.{InfoEntry}
 use Rattle.dwarf_info.specs.Sections.{Sections}
 use Rattle.dwarf_info.specs.Units.{unit_of}
-use Rattle.dwarf_info.specs.private.Tables.{Tables, AreTables, HaveTables}
+use Rattle.dwarf_info.specs.declared.tables.Tables.{Tables}
+use Rattle.dwarf_info.specs.private.Tables.{AreTables, HaveTables}
 
 -- the first `count` entries stand before an offset, and the others there or behind it
 pub record IsSplit (offset : ℕ) (entries : List InfoEntry) (count : ℕ) : Type 0 where

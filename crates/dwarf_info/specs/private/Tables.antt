@@ -1,25 +1,41 @@
--- The abbreviation tables that were read, by their offset.
-use Rattle.std.specs.Prelude.{◌≡◌, ℕ, true, is_some, List, Some, slice_get, Ok}
+-- The abbreviation tables that are known, by their offset.
+use Rattle.std.specs.Prelude.{◌≡◌, ◌<◌, ℕ, length, true, is_some, List, drop, Option, Some, option_map}
+use Rattle.std.specs.Prelude.{option_and_then, slice_get, Ok}
 use Rattle.std.specs.Ordering.{nat_cmp}
-use Rattle.std.specs.BTreeMap.{get, BTreeMap}
+use Rattle.std.specs.BTreeMap.{get}
 use Rattle.dwarf_forms.specs.declared.declaration.Abbrev.{Abbrev}
 use Rattle.dwarf_forms.specs.Abbreviations.{table_at}
+use Rattle.dwarf_info.specs.declared.tables.Suffix.{Suffix}
+use Rattle.dwarf_info.specs.declared.tables.Tables.{Tables}
 use Rattle.dwarf_info.specs.declared.entry.UnitBases.{UnitBases}
 
-abbrev pub Tables : Type 0
-Tables = BTreeMap ℕ (List Abbrev)
+-- the declarations of a suffix of one of the tables that were read
+abbrev pub suffix_of : List (List Abbrev) → Suffix → Option (List Abbrev)
+suffix_of read suffix = option_map (drop suffix.from) (slice_get read suffix.table)
+
+-- the table at an offset, if it is known
+abbrev pub table_in : Tables → ℕ → Option (List Abbrev)
+table_in tables offset = option_and_then (suffix_of tables.read.items) (get nat_cmp tables.suffixes offset)
+
+-- the table at an offset of the section is a suffix of one that was read
+pub record IsSuffix (section : List ℕ) (read : List (List Abbrev)) (suffix : Suffix) (offset : ℕ) : Type 0 where
+  pub table : List Abbrev
+  pub stands : suffix_of read suffix ≡ Some table
+  pub is : table_at section offset ≡ Ok table
 
 -- each is the table at its offset of the section
-abbrev pub AreTables : List ℕ → Tables → Type 0
-AreTables section tables =
-    (offset : ℕ) (table : List Abbrev) → get nat_cmp tables offset ≡ Some table → table_at section offset ≡ Ok table
+pub record AreTables (section : List ℕ) (tables : Tables) : Type 0 where
+  pub within : (offset : ℕ) (suffix : Suffix) → get nat_cmp tables.suffixes offset ≡ Some suffix
+      → suffix.table < length tables.read.items
+  pub are : (offset : ℕ) (table : List Abbrev) → table_in tables offset ≡ Some table
+      → table_at section offset ≡ Ok table
 
 -- none is lost
 abbrev pub KeepTables : Tables → Tables → Type 0
-KeepTables old new = (offset : ℕ) → is_some (get nat_cmp old offset) ≡ true → is_some (get nat_cmp new offset) ≡ true
+KeepTables old new = (offset : ℕ) → is_some (table_in old offset) ≡ true → is_some (table_in new offset) ≡ true
 
 -- each unit's table is among them
 abbrev pub HaveTables : Tables → List UnitBases → Type 0
 HaveTables tables units =
     (i : ℕ) (bases : UnitBases) → slice_get units i ≡ Some bases
-    → is_some (get nat_cmp tables bases.header.debug_abbrev_offset) ≡ true
+    → is_some (table_in tables bases.header.debug_abbrev_offset) ≡ true

@@ -37,8 +37,8 @@ profiled harts naming expand final samples = do
   a ← attributed harts naming expand samples
   Ok (record { attributed = a; final = final })
 
--- what is merged of samples: the crew is one that may come, its stripes are those of the samples' plan, and the content is
--- that of the pieces that they name. Where crews merge all, these are the call paths of all samples
+-- what is merged of samples: the crew is one that may come, its stripes are those of the samples' plan, and the content
+-- is that of the pieces that they name. Where crews merge all, these are the call paths of all samples
 pub record IsMergeOf (by : Merging) (period : ℕ) (a : Attributed) (m : Merged) : Type 0 where
   pub gives : by.gives m.crew
   pub plan : IsOfPlan (sample_plan a) m.crew

@@ -24,8 +24,9 @@ pub record KeepsPasses (w w' : Worker) : Type 0 where
   pub splits : w'.pass.view.splits ≡ w.pass.view.splits
   pub joins : w'.pass.view.joins ≡ w.pass.view.joins
 
--- nor drawn a number
+-- nor drawn a number, and a failed allocation is told of still
 pub record KeepsDraws (w w' : Worker) : Type 0 where
+  pub failed : w'.failed ≡ None → w.failed ≡ None
   pub got : w'.pass.view.got ≡ w.pass.view.got
   pub over : w'.pass.view.over ≡ w.pass.view.over
   pub passes : KeepsPasses w w'

@@ -1,6 +1,6 @@
 -- What the offers of a piece do to a pass.
-use Rattle.std.specs.Prelude.{◌≡◌, ℕ, ◌+◌, ◌<◌, ◌≤◌, length}
-use Rattle.stripe_table.specs.Views.{owes}
+use Rattle.std.specs.Prelude.{◌≡◌, ℕ, ◌+◌, ◌≤◌, length}
+use Rattle.stripe_table.specs.Views.{is_piece, owes, weight}
 use Rattle.stripe_table.specs.declared.view.PassView.{PassView}
 use Rattle.stripe_table.specs.declared.view.Hold.TheVariants.{Free}
 use Rattle.stripe_table.specs.declared.offer.Offered.{Offered}
@@ -16,13 +16,6 @@ pub record OnlyOffers (v w : PassView) : Type 0 where
   pub joins : w.joins ≡ v.joins
   pub free : w.hold ≡ Free
 
--- what became of a piece that was offered until it wasn't busy, so many times at most
-abbrev pub OffersUpTo : ℕ → PassView → PassView → Offered → Type 0
-OffersUpTo n v w Merged = (length w.puts ≡ length v.puts + 1) × (w.met ≡ v.met) × (v.busy ≤ w.busy)
-OffersUpTo n v w (Present p) = (length w.puts ≡ length v.puts) × (w.met ≡ v.met + 1) × (v.busy ≤ w.busy)
-OffersUpTo n v w (Busy l f) = (length w.puts ≡ length v.puts) × (w.met ≡ v.met) × (v.busy + n ≤ w.busy)
-OffersUpTo n v w (Memory failed) = (length w.puts ≡ length v.puts) × (w.met ≡ v.met) × (v.busy ≤ w.busy)
-
 -- a busy piece is owed as before
 abbrev pub OwesBusy : PassView → PassView → Offered → Type 0
 OwesBusy v w Merged = Unit {0}
@@ -31,9 +24,16 @@ OwesBusy v w (Busy l f) = w.owed ≡ v.owed
 OwesBusy v w (Memory failed) = Unit {0}
 
 -- what became of a piece that was offered once
-abbrev pub OffersOnce : PassView → PassView → Offered → Type 0
-OffersOnce v w r = OffersUpTo 1 v w r × OwesBusy v w r
+abbrev pub OfferedOnce : PassView → PassView → Offered → Type 0
+OfferedOnce v w Merged = (length w.puts ≡ length v.puts + 1) × (w.met ≡ v.met) × (v.busy ≤ w.busy)
+OfferedOnce v w (Present p) = (length w.puts ≡ length v.puts) × (w.met ≡ v.met + 1) × (v.busy ≤ w.busy)
+OfferedOnce v w (Busy l f) = (length w.puts ≡ length v.puts) × (w.met ≡ v.met) × (v.busy + 1 ≤ w.busy)
+OfferedOnce v w (Memory failed) = (length w.puts ≡ length v.puts) × (w.met ≡ v.met) × (v.busy ≤ w.busy)
 
--- of the chunk c, only the piece for stripe s may be owed less
-abbrev pub OwesOthers : ℕ → ℕ → PassView → PassView → Type 0
-OwesOthers c s v w = (t : ℕ) → (t ≡ s → ⊥) → owes c t w ≡ owes c t v
+-- and a busy one is owed as before
+abbrev pub OffersOnce : PassView → PassView → Offered → Type 0
+OffersOnce v w r = OfferedOnce v w r × OwesBusy v w r
+
+-- of all pieces, one of chunk c for stripe s at most is owed less
+abbrev pub OwesRest : ℕ → ℕ → PassView → PassView → Type 0
+OwesRest c s v w = (d t : ℕ) → owes d t v ≤ owes d t w + weight (is_piece d t (c, s))

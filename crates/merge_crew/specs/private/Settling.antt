@@ -1,6 +1,6 @@
 -- Marks of the chunks that stripes name, and what settling does to the names.
 use Rattle.std.specs.Prelude.{◌≡◌, ℕ, ◌<◌, Bool, false, ltb, List, [], length, slice_index_or}
-use Rattle.stripe_table.specs.Ends.{SetValue, names_of}
+use Rattle.stripe_table.specs.Ends.{names_of}
 use Rattle.stripe_table.specs.Views.{times, up_to}
 use Rattle.stripe_table.specs.declared.stripe.Stripe.{Stripe}
 

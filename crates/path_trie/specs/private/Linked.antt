@@ -72,27 +72,12 @@ pub record Extends (old new : List Path) : Type 0 where
   pub longer : length old ≤ length new
   pub same : (place : ℕ) → IsPlace place (length old) → path_at new place ≡ path_at old place
 
--- where a place of one table is in another
-abbrev pub moved : List ℕ → ℕ → ℕ
-moved places place = if place == no_parent then no_parent else slice_index_or places place no_parent
-
--- the places of the first k nodes of one table in another, with the same paths
-pub record AreMoved (nodes others : List Node) (places : List ℕ) (k : ℕ) : Type 0 where
-  pub long : length places ≡ k
-  pub within : (i : ℕ) → i < k → slice_index_or places i no_parent < length others
-  pub same : (i : ℕ) → i < k
-      → path_at (tree_paths others) (slice_index_or places i no_parent) ≡ slice_index_or (tree_paths nodes) i []
-
 -- 1 where the place is the last node's, which has no children, and else 0
 abbrev pub last_one : List Node → ℕ → ℕ
 last_one nodes place = if next_index place == length nodes then 1 else 0
 
 abbrev pub entries_at : List Node → List PathEnd → List Entry
 entries_at nodes ends = map (entry_of (tree_paths nodes)) ends
-
--- an end at its place in another table
-abbrev pub moved_end : List ℕ → PathEnd → PathEnd
-moved_end places e = record { node = moved places e.node; hart = e.hart; count = e.count }
 
 -- an end of a hart at a node
 abbrev pub ends_at : ℕ → ℕ → PathEnd → Bool

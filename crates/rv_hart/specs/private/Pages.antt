@@ -1,5 +1,5 @@
 -- Pages of memory and the blocks that they stand in.
-use Rattle.std.specs.Prelude.{◌≡◌, ◌==◌, if◌then◌else◌, ℕ, ◌+◌, ◌/◌, ◌%◌, ◌^◌, List, [], ◌++◌, length, take, drop}
+use Rattle.std.specs.Prelude.{◌≡◌, ◌==◌, if◌then◌else◌, ℕ, ◌+◌, ◌-◌, ◌/◌, ◌%◌, ◌^◌, List, [], ◌++◌, length, take, drop}
 use Rattle.std.specs.List.{slice_index_or}
 use Rattle.elf_image.specs.declared.part.Segment.{Segment}
 use Rattle.rv_hart.specs.AddressSpace.{has}
@@ -35,6 +35,6 @@ page_in blocks number = page_at (slice_index_or blocks (number / 2 ^ 8) []) (num
 abbrev pub IsSetAt : List (List Paged) → List (List Paged) → ℕ → Paged → Type 0
 IsSetAt old new number page = (n : ℕ) → page_in new n ≡ (if n == number then page else page_in old n)
 
--- where a region ends if it has a right, and else 0
-abbrev pub end_with : ℕ → Segment → ℕ
-end_with right home = if has right home then home.end else 0
+-- at how many addresses, from a region's start on, it has a right for four bytes
+abbrev pub places_with : ℕ → Segment → ℕ
+places_with right home = if has right home then home.end - home.start - 3 else 0

@@ -1,6 +1,7 @@
 -- How memory is kept: what was written in pages of 4 KiB, these in blocks of 1 MiB; and what was never
 -- written as the file has it.
-use Rattle.std.specs.Prelude.{◌≡◌, ℕ, ◌+◌, ◌-◌, ◌/◌, ◌%◌, ◌^◌, ◌≤◌, ◌&&◌, Bool, true, false, List, length, slice_index}
+use Rattle.std.specs.Prelude.{◌≡◌, ℕ, ◌+◌, ◌-◌, ◌*◌, ◌/◌, ◌%◌, ◌^◌, ◌≤◌, ◌&&◌, Bool, true, false, List, length}
+use Rattle.std.specs.Prelude.{slice_index}
 use Rattle.std.specs.Prelude.{Some, None, if◌then◌else◌, nat_le, nat_lt}
 use Rattle.std.specs.List.{slice_index_or}
 use Rattle.elf_image.specs.declared.part.Segment.{Segment}
@@ -12,7 +13,7 @@ use Rattle.rv_hart.specs.private.Pages.{Paged, page_in}
 use Rattle.elf_image.specs.declared.elf.TheConstants.{PF_R, PF_W, PF_X}
 use Rattle.rv_hart.specs.AddressSpace.{AddressSpace, first_byte, region_at, each_address, may}
 use Rattle.rv_hart.specs.declared.hart.Hart.{Hart}
-use Rattle.rv_hart.specs.Step.{State}
+use Rattle.rv_hart.specs.Step.{State, state}
 use Rattle.rv_hart.specs.Stepping.{state_of}
 
 -- a page by its number, and the page of an address
@@ -37,6 +38,17 @@ memory_of paged = record { regions = paged.regions; bytes = each_address (value 
 -- a hart with the memory that is kept
 abbrev pub kept_state : Hart → PagedMemory → State
 kept_state hart paged = state_of hart (memory_of paged)
+
+-- the address of a word by its place among the words from an address on
+abbrev pub placed : ℕ → ℕ → ℕ
+placed base place = (base + 4 * place) % 2 ^ 32
+
+-- a hart that goes from place to place, and with the memory that is kept: its own pc stands still meanwhile
+abbrev pub state_at : ℕ → ℕ → Hart → AddressSpace → State
+state_at base place hart memory = state (placed base place) hart.regs memory
+
+abbrev pub placed_state : ℕ → ℕ → Hart → PagedMemory → State
+placed_state base place hart paged = state_at base place hart (memory_of paged)
 
 -- each address that this segment holds has it as its region
 abbrev pub IsHome : List Segment → Segment → Type 0

@@ -1,6 +1,8 @@
 -- Two raw paths that test the same are one, and are hashed alike: the laws of `RawPath` as a key.
-use Rattle.std.proofs.Common.{◌≡◌, ℕ, Bool, true, false, ◌&&◌, List, ◌++◌, refl, sym, ap, ap₂, subst, rules, IsTrue}
+use Rattle.std.proofs.Common.{◌≡◌, ℕ, Bool, true, false, ◌&&◌, ◌+◌, ◌*◌, ◌^◌, List, ◌∷◌, ◌++◌, refl, sym, ap, ap₂}
+use Rattle.std.proofs.Common.{subst, rules, IsTrue}
 use Rattle.std.specs.Prelude.{fold}
+use Rattle.std.specs.List.{flat_map}
 use Rattle.std.specs.Bool.{Decides}
 use Rattle.std.specs.Cmp.{IsEquivalence, IsPartialEquivalence, decided, partial_equiv_from_equiv}
 use Rattle.std.specs.Cmp.Lexicographic.{pointwise, pointwise_decides}
@@ -61,14 +63,23 @@ raw_per = partial_equiv_from_equiv raw_equiv
 
 -- ---- hashing
 
+-- four addresses as one number, the first the lowest
+abbrev pub joined : ℕ → ℕ → ℕ → ℕ → ℕ
+joined a b c d = a + b * 2 ^ 32 + (c + d * 2 ^ 32) * 2 ^ 64
+
+-- four frames at a time, and then those that are left one by one
+abbrev pub frame_writes : List Frame → List (List ℕ)
+frame_writes (a ∷ b ∷ c ∷ d ∷ frames) = fed.u128 (joined a.pc b.pc c.pc d.pc) ++ frame_writes frames
+frame_writes frames = flat_map frame_hash.hash_input frames
+
 abbrev pub raw_writes : Raw → List (List ℕ)
-raw_writes a = end_hash.hash_input a.end ++ fed.slice frame_hash.hash_input a.frames
+raw_writes a = end_hash.hash_input a.end ++ frame_writes a.frames
 
 pub same_writes : (a b : Raw) → IsTrue (same_raw a b) → raw_writes a ≡ raw_writes b
 same_writes a b same = ap raw_writes ((raw_decides a b).0 same)
 
 pub writes_in_turn : {S : Type 0} (write : S → List ℕ → S) (state : S) (a : Raw)
-    → fold write (fold write state (end_hash.hash_input a.end)) (fed.slice frame_hash.hash_input a.frames)
+    → fold write (fold write state (end_hash.hash_input a.end)) (frame_writes a.frames)
     ≡ fold write state (raw_writes a)
 writes_in_turn write state a = sym
-    (fold-append write state (end_hash.hash_input a.end) (fed.slice frame_hash.hash_input a.frames))
+    (fold-append write state (end_hash.hash_input a.end) (frame_writes a.frames))

@@ -1,10 +1,13 @@
 -- Counts by node and hart, added up.
-use Rattle.std.specs.Prelude.{◌≡◌, ℕ, ◌+◌, ◌<◌, ◌==◌, ◌&&◌, nat_lt, not, List, map, filter, All, AllPairs, Bool}
+use Rattle.std.specs.Prelude.{◌≡◌, ℕ, ◌+◌, ◌<◌, ◌==◌, ◌&&◌, nat_lt, not, List, length, map, filter, All, AllPairs, Bool}
+use Rattle.std.specs.List.{flat_map}
 use Rattle.std.specs.declared.cmp.Ordering.TheVariants.{Less}
 use Rattle.tree_types.specs.declared.counted_tree.NodeCount.{NodeCount}
 use Rattle.tree_types.specs.Nodes.{no_parent}
 use Rattle.tree_types.specs.Tree.{count_order, count_at, counts_in}
 use Rattle.path_trie.specs.declared.trie.PathEnd.{PathEnd}
+use Rattle.path_trie.specs.Trie.{IsPlace}
+use Rattle.tree_join.specs.declared.walker.Walker.{Walker}
 use Rattle.tree_join.specs.private.Walk.{number_at}
 
 -- an end at a node, of some samples
@@ -17,6 +20,14 @@ count_of_end numbers e = record { node = number_at numbers e.node; hart = e.hart
 
 abbrev pub counts_of : List ℕ → List PathEnd → List NodeCount
 counts_of numbers ends = map (count_of_end numbers) (filter counts_some ends)
+
+-- the counts of all tries that are walked over, trie by trie
+abbrev pub all_counts : List Walker → List NodeCount
+all_counts walkers = flat_map (λ w. counts_of w.numbers.items w.ends.now) walkers
+
+-- each end is at a node that may have a number
+abbrev pub HasPlaces : Walker → Type 0
+HasPlaces w = All (λ e. IsPlace e.node (length w.numbers.items)) w.ends.now
 
 -- a count with another added
 abbrev pub grown : NodeCount → NodeCount → NodeCount

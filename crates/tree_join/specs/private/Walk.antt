@@ -1,16 +1,24 @@
--- A walk over a trie's nodes in preorder.
-use Rattle.std.specs.Prelude.{◌≡◌, ◌≢◌, ℕ, ◌<◌, ◌≤◌, ◌==◌, List, [], ◌∷◌, ◌++◌, length, AllPairs}
-use Rattle.std.specs.Prelude.{slice_index_or, if◌then◌else◌}
+-- Walks over several tries at once, whose nodes are put in one preorder.
+use Rattle.std.specs.Prelude.{◌≡◌, ◌≢◌, ℕ, ◌-◌, ◌<◌, ◌≤◌, ◌==◌, ◌&&◌, ◌||◌, ◌⊎◌, nat_lt, List, [], ◌∷◌, ◌++◌, length}
+use Rattle.std.specs.Prelude.{map, All, AllPairs, Contains, Bool, true, false, Option, None, Some, IfSome}
+use Rattle.std.specs.Prelude.{slice_get, slice_index_or, slice_set, if◌then◌else◌}
+use Rattle.std.specs.List.{flat_map}
+use Rattle.std.specs.Ordering.{is_lt}
 use Rattle.std.specs.declared.cmp.Ordering.TheVariants.{Less}
 use Rattle.scope_types.specs.declared.scope.Scope.{Scope}
+use Rattle.scope_types.specs.declared.path.Entry.{Entry}
 use Rattle.scope_types.specs.Limits.{most_path_scopes}
 use Rattle.scope_types.specs.Order.{scope_order, path_order}
 use Rattle.tree_types.specs.declared.content.Node.{Node}
 use Rattle.tree_types.specs.Nodes.{no_parent}
 use Rattle.tree_types.specs.Paths.{Path}
 use Rattle.tree_types.specs.PathsOf.{tree_paths}
-use Rattle.path_trie.specs.Trie.{IsPlace}
-use Rattle.path_trie.specs.private.Linked.{node_at, Rooted}
+use Rattle.path_trie.specs.declared.trie.PathEnd.{PathEnd}
+use Rattle.path_trie.specs.Trie.{IsPlace, entry_of, trie_nodes}
+use Rattle.path_trie.specs.private.Linked.{node_at, next_index, Rooted}
+use Rattle.tree_join.specs.declared.children.Children.{Children}
+use Rattle.tree_join.specs.declared.walker.Walker.{Walker}
+use Rattle.tree_join.specs.private.Children.{Groups, children_of}
 
 -- the number that a place has got, or no parent's
 abbrev pub number_at : List ℕ → ℕ → ℕ
@@ -51,17 +59,13 @@ pub record IsBelow (a b : Path) : Type 0 where
   pub rest : Path
   pub is : b ≡ a ++ rest
 
--- what has been walked over: the places whose numbers are set, in preorder; the stack has the places that are
--- next, the first at its end, with all that is below them
-pub record Walked (nodes : List Node) (numbers stack : List ℕ) (order : List Node) : Type 0 where
+-- a walk over one trie's nodes: the numbers of those that are in order; the stack has the places that are next, the
+-- first at its end, with all that is below them
+pub record Walks (nodes : List Node) (numbers stack : List ℕ) (order : List Node) : Type 0 where
   pub long : length numbers ≡ length nodes
   pub numbered : (q : ℕ) → q < length nodes → number_at numbers q ≢ no_parent
       → (number_at numbers q < length order)
       × (path_of (tree_paths order) (number_at numbers q) ≡ path_of (tree_paths nodes) q)
-  pub ascend : AllPairs (λ a b. path_order a b ≡ Less) (tree_paths order)
-  pub among : (i : ℕ) → i < length order
-      → (q : ℕ) × (q < length nodes) × (path_of (tree_paths nodes) q ≡ path_of (tree_paths order) i)
-  pub before : (i : ℕ) → i < length order → IsPlace (node_at order i).parent i
   pub places : (j : ℕ) → j < length stack → slice_index_or stack j 0 < length nodes
   pub parents : (j : ℕ) → j < length stack → (node_at nodes (slice_index_or stack j 0)).parent ≢ no_parent
       → number_at numbers (node_at nodes (slice_index_or stack j 0)).parent ≢ no_parent
@@ -73,3 +77,98 @@ pub record Walked (nodes : List Node) (numbers stack : List ℕ) (order : List N
   pub covered : (q : ℕ) → q < length nodes → number_at numbers q ≡ no_parent
       → (j : ℕ) × (j < length stack)
       × IsBelow (path_of (tree_paths nodes) (slice_index_or stack j 0)) (path_of (tree_paths nodes) q)
+
+abbrev pub nodes_in : Walker → List Node
+nodes_in w = w.children.nodes.now
+
+-- the entries of the trie that is walked over
+abbrev pub entries_in : Walker → List Entry
+entries_in w = map (entry_of (tree_paths (nodes_in w))) w.ends.now
+
+abbrev pub next_node : List Node → List ℕ → Option ℕ → Option Node
+next_node nodes numbers None = None
+next_node nodes numbers (Some place) = Some (renumbered nodes numbers place)
+
+-- the node that is next, with its parent's number
+abbrev pub head_of : Walker → Option Node
+head_of w = next_node (nodes_in w) w.numbers.items (slice_get w.stack.items (length w.stack.items - 1))
+
+-- what a walker is read by
+pub record IsReady (w : Walker) : Type 0 where
+  pub groups : Groups (nodes_in w) w.children.flags.items w.children.siblings.items
+  pub few : length (nodes_in w) ≤ most_path_scopes
+  pub long : length w.numbers.items ≡ length (nodes_in w)
+  pub places : All (λ p. p < length (nodes_in w)) w.stack.items
+  pub before : (i : ℕ) → i < length (nodes_in w) → IsPlace (node_at (nodes_in w) i).parent i
+
+-- a walk over a trie, of whose nodes those that are numbered stand in order
+pub record WalksTrie (children : Children) (ends : List PathEnd) (numbers stack : List ℕ) (order : List Node)
+    : Type 0 where
+  pub groups : Groups children.nodes.now children.flags.items children.siblings.items
+  pub are : AreNodes children.nodes.now
+  pub nodes_are : tree_paths children.nodes.now ≡ trie_nodes (map (entry_of (tree_paths children.nodes.now)) ends)
+  pub ends_in : All (λ e. IsPlace e.node (length children.nodes.now)) ends
+  pub walks : Walks children.nodes.now numbers stack order
+
+abbrev pub IsWalker : List Node → Walker → Type 0
+IsWalker order w = WalksTrie w.children w.ends.now w.numbers.items w.stack.items order
+
+-- walks over tries of these entries, and what they have put in order
+pub record Walking (parts : List (List Entry)) (walkers : List Walker) (order : List Node) : Type 0 where
+  pub parts_are : map entries_in walkers ≡ parts
+  pub each : All (IsWalker order) walkers
+  pub ascend : AllPairs (λ a b. path_order a b ≡ Less) (tree_paths order)
+  pub before : (i : ℕ) → i < length order → IsPlace (node_at order i).parent i
+  pub among : (i : ℕ) → i < length order → Contains (flat_map trie_nodes parts) (path_of (tree_paths order) i)
+  pub few : length (flat_map trie_nodes parts) ≤ most_path_scopes
+
+-- whether a node stands before another, where both are next: the one whose parent is deeper, and below one parent
+-- the one with the smaller scope
+abbrev pub node_before : Node → Node → Bool
+node_before a b = nat_lt (next_index b.parent) (next_index a.parent)
+    || (next_index b.parent == next_index a.parent && is_lt (scope_order a.scope b.scope))
+
+-- the place that is next has got a number, and its children are next
+pub record Advances (number : ℕ) (w v : Walker) : Type 0 where
+  pub rest : List ℕ
+  pub place : ℕ
+  pub popped : w.stack.items ≡ rest ++ place ∷ []
+  pub numbers : v.numbers.items ≡ slice_set w.numbers.items place number
+  pub stack : v.stack.items
+      ≡ rest ++ children_of (nodes_in w) w.children.flags.items w.children.siblings.items place
+  pub children : v.children ≡ w.children
+  pub ends : v.ends ≡ w.ends
+
+-- a walk whose next node is this one advances, and another one stays
+abbrev pub Passes : Node → ℕ → Walker → Walker → Type 0
+Passes node number w v = ((head_of w ≡ Some node) × Advances number w v)
+    ⊎ ((head_of w ≢ Some node) × (v ≡ w))
+
+-- each of the first walks passes a node, and the others are as they were
+pub record PassUpTo (k : ℕ) (node : Node) (number : ℕ) (old new : List Walker) : Type 0 where
+  pub long : length new ≡ length old
+  pub first : (i : ℕ) (d : Walker) → i < k → i < length old
+      → Passes node number (slice_index_or old i d) (slice_index_or new i d)
+  pub rest : (i : ℕ) (d : Walker) → k ≤ i → slice_index_or new i d ≡ slice_index_or old i d
+
+-- a node that stands before what is next in a walk, if anything is
+abbrev pub Leads : Node → Walker → Type 0
+Leads node w = IfSome (head_of w) (λ h. node_before node h ≡ true)
+
+-- a node before which nothing stands that is next in a walk
+abbrev pub NotAfter : Node → Walker → Type 0
+NotAfter node w = IfSome (head_of w) (λ h. node_before h node ≡ false)
+
+-- the first of two nodes that are next
+abbrev pub earlier_of : Option (ℕ × Node) → ℕ → Option Node → Option (ℕ × Node)
+earlier_of first at None = first
+earlier_of None at (Some node) = Some (at, node)
+earlier_of (Some first) at (Some node) = if node_before node first.1 then Some (at, node) else Some first
+
+-- of the first k walks but one, the first of the nodes that are next, with the index of its walk
+abbrev pub FirstBut : List Walker → ℕ → ℕ → Option (ℕ × Node) → Type 0
+FirstBut walkers left_out k None = (i : ℕ) (d : Walker) → i < k → i ≢ left_out
+    → head_of (slice_index_or walkers i d) ≡ None
+FirstBut walkers left_out k (Some first) = (first.0 < length walkers)
+    × ((d : Walker) → head_of (slice_index_or walkers first.0 d) ≡ Some first.1)
+    × ((i : ℕ) (d : Walker) → i < k → i ≢ left_out → NotAfter first.1 (slice_index_or walkers i d))

@@ -57,7 +57,8 @@ first_of (items ∷ sample) = items
 abbrev pub items_at : View → Naming → Path → ℕ → List Item
 items_at Callers naming scopes level = procs_up scopes
 items_at Flat naming [] level = []
-items_at Flat naming (s ∷ outer) level = drop level (first_of (flat_map (λ line. frame_at naming line outer) (call_line s)))
+items_at Flat naming (s ∷ outer) level =
+    drop level (first_of (flat_map (λ line. frame_at naming line outer) (call_line s)))
 
 -- the items of a node's frame
 abbrev pub node_items : View → Content → ℕ → List Item
@@ -115,8 +116,8 @@ abbrev pub all_places : View → Content → List Held
 all_places view c = flat_map (place_at view c) (range_with_len 0 (length c.nodes))
 
 -- the samples of a content
-abbrev pub samples_of : View → Content → List Sample
-samples_of view c = map (λ p. sample_of view (naming_in c.names) (reverse p.path)) (paths_of c)
+abbrev pub content_samples : View → Content → List Sample
+content_samples view c = map (λ p. sample_of view (naming_in c.names) (reverse p.path)) (paths_of c)
 
 -- the places that a chain leaves
 abbrev pub ArePlaces : View → Content → List Item → List Place → Type 0

@@ -1,6 +1,5 @@
-use Rattle.std.proofs.Common.{◌≡◌, map, take}
-use Rattle.cfi_unwind.specs.private.UnwindRules.{saved_rule}
+use Rattle.cfi_unwind.proofs.FewRules.{SavedTo}
 use Rattle.cfi_unwind.proofs.unwind_rule.saved_of.Given as goal
 
-abbrev pub invariant-loop-each : goal.invariant-loop-each
-invariant-loop-each l = map saved_rule l.saved.items ≡ take l.each-index l.registers
+abbrev pub invariant-loop-register : goal.invariant-loop-register
+invariant-loop-register l = SavedTo l.rules l.register l.saved

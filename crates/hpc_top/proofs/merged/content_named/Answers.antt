@@ -19,9 +19,8 @@ returns-clause-content g c =
     let few = c.in_ok-tree.ensures.few in
     let ns = c.in_ok-tree.ensures.nodes in
     let named = c.in_ok-names.ensures.paths ps (ap tree_paths ns ∙ c.trees_hold_paths.ensures.paths ps few) in
-    let profiles = c.in_ok-profiles.ensures.paths c.args.period tree ps c.in_ok-values.ensures.values c.harts.ensures.tree c.in_ok-tree.ensures.paths ns few in
-    let contexts = c.in_ok-contexts.ensures.paths c.args.period tree ps c.in_ok-values.ensures.values c.harts.ensures.tree c.in_ok-tree.ensures.paths ns few in
-    content_is c.args.period tree.harts (naming_of c.args.expander.now) ps (record { period = c.args.period; harts = c.harts.result; names = c.in_ok-names.names; nodes = c.of.result; profiles = c.in_ok-profiles.profiles; contexts = c.in_ok-contexts.contexts }) refl c.harts.ensures.harts named (c.of.ensures ∙ c.into_nodes.ensures ∙ ns) profiles contexts
+    let planes = c.in_ok-planes.ensures.paths c.args.period tree ps c.in_ok-values.ensures.values c.harts.ensures.tree c.in_ok-tree.ensures.paths ns few in
+    content_is c.args.period tree.harts (naming_of c.args.expander.now) ps (record { period = c.args.period; harts = c.harts.result; names = c.in_ok-names.names; nodes = c.of.result; profiles = c.in_ok-planes.planes.0; contexts = c.in_ok-planes.planes.1 }) refl c.harts.ensures.harts named (c.of.ensures ∙ c.into_nodes.ensures ∙ ns) planes.0 planes.1
     ∙ ap (λ (n : ℕ). content_of c.args.period n (naming_of c.args.expander.now) ps) c.in_ok-tree.ensures.harts
 
 pub returns-clause-profile : goal.returns-clause-profile

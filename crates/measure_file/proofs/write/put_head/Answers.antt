@@ -1,4 +1,5 @@
-use Rattle.measure_file.specs.Spelling.{word, magic}
+use Rattle.measure_file.specs.Spelling.{magic}
+use Rattle.prof_bytes.specs.Number.{word}
 use Rattle.measure_file.proofs.Writing.{five_parts}
 use Rattle.measure_file.proofs.write.put_head.Goals as goal
 

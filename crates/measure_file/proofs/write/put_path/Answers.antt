@@ -1,7 +1,8 @@
 use Rattle.std.proofs.Common.{List, ◌++◌, ◌∙◌, ap, length}
 use Rattle.std.specs.List.{flat_map}
 use Rattle.scope_types.specs.declared.frame.Frame.{Frame}
-use Rattle.measure_file.specs.Spelling.{word, end_number, frame_bytes}
+use Rattle.measure_file.specs.Spelling.{end_number, frame_bytes}
+use Rattle.prof_bytes.specs.Number.{word}
 use Rattle.measure_file.proofs.Writing.{four_parts}
 use Rattle.measure_file.proofs.write.put_path.Goals as goal
 

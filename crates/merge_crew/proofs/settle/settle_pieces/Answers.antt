@@ -1,4 +1,4 @@
-use Rattle.std.proofs.Common.{rules, ◌≡◌, ◌<◌, ℕ, ◌∙◌, ap, subst, arith, Some}
+use Rattle.std.proofs.Common.{rules, ◌≡◌, ◌<◌, ℕ, ◌∙◌, subst, arith}
 use Rattle.stripe_table.specs.Ends.{names_of}
 use Rattle.stripe_table.specs.Views.{times}
 use Rattle.stripe_table.specs.declared.stripe.Stripe.{Stripe}

@@ -1,4 +1,4 @@
-use Rattle.std.proofs.Common.{ap, subst}
+use Rattle.std.proofs.Common.{subst}
 use Rattle.stripe_table.specs.Ends.{AllFit}
 use Rattle.stripe_table.specs.declared.view.PassView.{PassView}
 use Rattle.merge_crew.proofs.Settling.{rest_counted}

@@ -1,7 +1,7 @@
 use Rattle.std.proofs.Common.{◌<◌, ◌≤◌, length, sym, ap, ◌∙◌, arith}
 use Rattle.std.proofs.lemmas.List.Sums.{sum_by_more}
 use Rattle.prof_db.specs.Fields.{fault}
-use Rattle.prof_db.specs.ValueRules.{entry_at, entry_breaks, samples_of}
+use Rattle.prof_db.specs.ValueRules.{entry_at, entry_breaks, entry_samples}
 use Rattle.prof_db.proofs.Exclusive.{passed_sum}
 use Rattle.prof_db.proofs.Broken.{failed}
 use Rattle.prof_db.proofs.Repeated.{all_pass, breaks_at, passes_on}
@@ -20,7 +20,7 @@ loop-i-preserved c =
     let whole = sym c.entry_is_broken.ensures ∙ c.if-entry_is_broken.false in
     let sum_is = c.loop-i.invariant.sum in
     let own_is = c.samples_at-samples.ensures in
-    let more = sum_by_more (samples_of c.args.period) c.args.entries.now c.loop-i.i (record { offset = 0; hart = 0; node = 0; kind = 0; value = 0 }) lt in
+    let more = sum_by_more (entry_samples c.args.period) c.args.entries.now c.loop-i.i (record { offset = 0; hart = 0; node = 0; kind = 0; value = 0 }) lt in
     let most = passed_sum c.args.period c.args.harts c.args.nodes.now c.args.entries.now c.loop-i.i whole in
     record {
       kept = passes_on 6 (entry_breaks c.args.period c.args.harts c.args.nodes.now c.args.entries.now) (λ i. (entry_at c.args.entries.now i).offset) (length c.args.entries.now) c.loop-i.i _ lt whole c.loop-i.invariant.kept;
@@ -39,6 +39,6 @@ overflow_add-samples c =
     let whole = sym c.entry_is_broken.ensures ∙ c.if-entry_is_broken.false in
     let sum_is = c.loop-i.invariant.sum in
     let own_is = c.samples_at-samples.ensures in
-    let more = sum_by_more (samples_of c.args.period) c.args.entries.now c.loop-i.i (record { offset = 0; hart = 0; node = 0; kind = 0; value = 0 }) lt in
+    let more = sum_by_more (entry_samples c.args.period) c.args.entries.now c.loop-i.i (record { offset = 0; hart = 0; node = 0; kind = 0; value = 0 }) lt in
     let most = passed_sum c.args.period c.args.harts c.args.nodes.now c.args.entries.now c.loop-i.i whole in
     omega arith

@@ -1,4 +1,5 @@
-use Rattle.prof_db.specs.Spelling.{word, text_bytes}
+use Rattle.prof_db.specs.Spelling.{text_bytes}
+use Rattle.prof_bytes.specs.Number.{word}
 use Rattle.prof_db.proofs.Writing.{three_parts}
 use Rattle.prof_db.proofs.write.put_file.Goals as goal
 

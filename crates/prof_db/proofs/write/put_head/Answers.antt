@@ -3,7 +3,7 @@ use Rattle.std.specs.Prelude.{codes}
 use Rattle.tree_types.specs.declared.content.ProcName.{ProcName}
 use Rattle.tree_types.specs.declared.content.FileName.{FileName}
 use Rattle.tree_types.specs.declared.content.Node.{Node}
-use Rattle.prof_db.specs.Spelling.{word, words}
+use Rattle.prof_bytes.specs.Number.{word, words}
 use Rattle.prof_bytes.proofs.Appending.{two_parts}
 use Rattle.prof_db.proofs.write.put_head.Goals as goal
 

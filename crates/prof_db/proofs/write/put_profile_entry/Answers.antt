@@ -1,5 +1,6 @@
 use Rattle.std.proofs.Common.{ap, ◌∙◌, ◌++◌}
-use Rattle.prof_db.specs.Spelling.{word, long, kind_number}
+use Rattle.prof_db.specs.Spelling.{long, kind_number}
+use Rattle.prof_bytes.specs.Number.{word}
 use Rattle.prof_db.proofs.Writing.{three_parts}
 use Rattle.prof_db.proofs.write.put_profile_entry.Goals as goal
 

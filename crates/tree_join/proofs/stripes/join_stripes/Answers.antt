@@ -1,4 +1,4 @@
-use Rattle.std.proofs.Common.{map, ap, ◌∙◌}
+use Rattle.std.proofs.Common.{ap, ◌∙◌}
 use Rattle.tree_join.proofs.Parts.{tries_samples, tries_nodes, tries_harts, named_alike, named_nodes, named_few, named_own, named_samples}
 use Rattle.tree_join.proofs.Several.{parts_of}
 use Rattle.tree_join.proofs.stripes.join_stripes.Goals as goal

@@ -1,4 +1,4 @@
-use Rattle.std.proofs.Common.{◌≡◌, ◌+◌, ◌<◌, arith}
+use Rattle.std.proofs.Common.{arith}
 use Rattle.tree_join.proofs.Parts.{next_trie, all_tries}
 use Rattle.tree_join.proofs.stripes.tries_of.Goals as goal
 

@@ -1,6 +1,6 @@
 use Rattle.std.proofs.Common.{◌≡◌, ◌∙◌}
 use Rattle.view_tables.specs.Views.{row_at}
-use Rattle.view_tables.specs.private.Places.{item_seen, items_seen, samples_of}
+use Rattle.view_tables.specs.private.Places.{item_seen, items_seen, content_samples}
 use Rattle.view_tables.proofs.Narrowed.{cover_small, group_covers, group_inside, group_weighs, ranges_of, weigh_small}
 use Rattle.view_tables.proofs.group.row_of.Goals as goal
 
@@ -25,7 +25,7 @@ weight_of-requires-clause-small c =
 
 pub returns : goal.returns
 returns c =
-    let row = row_at c.args.content.now.period (samples_of c.args.view c.args.content.now) (items_seen c.args.chain.now) (item_seen c.args.item) in
+    let row = row_at c.args.content.now.period (content_samples c.args.view c.args.content.now) (items_seen c.args.chain.now) (item_seen c.args.item) in
     let inclusive : c.covered.result ≡ row.inclusive =
     c.covered.ensures ∙ group_covers c.args.view c.args.content.now (items_seen c.args.chain.now) (item_seen c.args.item) c.args.splits.now c.group_of-group.result.now c.requires.splits c.group_of-group.ensures c.requires.profile c.args.frames.now c.requires.frames in
     let exclusive : c.weight_of.result ≡ row.exclusive =

@@ -1,9 +1,7 @@
-use Rattle.std.proofs.Common.{◌≡◌, ◌+◌, ◌/◌, ◌%◌, ◌^◌, ◌≤◌, ◌&&◌, ℕ, true, List, length, sym, subst, ◌∙◌, arith}
-use Rattle.std.proofs.lemmas.Bool.{and_parts}
+use Rattle.std.proofs.Common.{◌+◌, ◌/◌, ◌%◌, ◌^◌, ◌≤◌, ℕ, List, length, sym, subst, arith}
 use Rattle.elf_image.specs.declared.elf.TheConstants.{PF_W}
-use Rattle.rv_hart.specs.AddressSpace.{has}
 use Rattle.rv_hart.specs.private.Pages.{Paged}
-use Rattle.rv_hart.specs.private.Paging.{IsHome, covers_all, page_of}
+use Rattle.rv_hart.specs.private.Paging.{IsHome, page_of}
 use Rattle.rv_hart.proofs.Near.{all-granted}
 use Rattle.rv_hart.proofs.paged_memory.PagedMemory.is_near.Goals as goal
 
@@ -20,7 +18,6 @@ returns-clause-page c given =
 
 pub returns-clause-granted : goal.returns-clause-granted
 returns-clause-granted c given =
-    let writable : (covers_all c.in-Some.page.now.home c.args.at c.args.count && has PF_W c.in-Some.page.now.home) ≡ true = sym c.is_writable.ensures ∙ given in
     let own : IsHome c.args.self.now.regions c.in-Some.page.now.home =
     subst (λ (page : Paged). IsHome c.args.self.now.regions page.home) (sym c.in-Some.ensures) (c.requires.paged.homes _) in
-    all-granted c.args.self.now.regions c.in-Some.page.now.home PF_W c.args.at c.args.count own (and_parts _ _ writable).0 (and_parts _ _ writable).1
+    all-granted c.args.self.now.regions c.in-Some.page.now.home PF_W c.args.at c.args.count own (c.is_writable.ensures.covered given c.args.count c.requires.count.1) (c.is_writable.ensures.granted given)

@@ -1,0 +1,21 @@
+-- A path that is walked from the innermost frame outwards.
+use Rattle.std.specs.Prelude.{◌≡◌, ◌-◌, List, ◌++◌, length}
+use Rattle.scope_types.specs.declared.frame.Frame.{Frame}
+use Rattle.scope_types.specs.Memory.{BytesAt, HasWords}
+use Rattle.scope_types.specs.Raw.{Raw, most_frames}
+use Rattle.cfi_unwind.specs.declared.caller.Activation.{Activation}
+use Rattle.cfi_unwind.specs.Caller.{Words, Unwinding}
+use Rattle.cfi_unwind.specs.Path.{path_from}
+
+-- frames, and the path outside of them
+abbrev pub joined : List Frame → Raw → Raw
+joined frames outer = record { end = outer.end; frames = frames ++ outer.frames }
+
+-- the path that has these frames and goes on from here
+abbrev pub path_over : Unwinding → Words → List Frame → Activation → Raw
+path_over u words frames here = joined frames (path_from (most_frames - length frames) u words here)
+
+-- it is the same path from the one activation as from the other, over each memory that has the words that are near
+abbrev pub GoesOn : Unwinding → BytesAt → List Frame → Activation → List Frame → Activation → Type 0
+GoesOn u near frames here after caller = (words : Words) → HasWords words near
+    → path_over u words frames here ≡ path_over u words after caller

@@ -1,0 +1,77 @@
+-- Words in the bytes of a page that are lent.
+use Rattle.std.proofs.Common.{◌≡◌, ℕ, ◌+◌, ◌-◌, ◌*◌, ◌/◌, ◌%◌, ◌^◌, ◌<◌, ◌≤◌, ◌&&◌, Bool, true, false, cond, List, length, take, drop, get_or, Option, Some, None, IfSome, nat_le, refl, sym, ap, ap₂, subst, ◌∙◌, arith}
+use Rattle.std.proofs.lemmas.List.{ext_get_or}
+use Rattle.std.proofs.lemmas.Bool.{and_parts, leb-true, le-leb}
+use Rattle.elf_image.specs.declared.elf.TheConstants.{PF_R}
+use Rattle.prof_bytes.specs.Number.{number_in}
+use Rattle.scope_types.specs.Memory.{word_in}
+use Rattle.rv_hart.specs.AddressSpace.{has, loaded}
+use Rattle.rv_hart.specs.declared.paged_memory.PagedMemory.{PagedMemory}
+use Rattle.rv_hart.specs.private.Pages.{Paged}
+use Rattle.rv_hart.specs.private.Paging.{page_numbered, page_of, memory_of, IsPaged}
+use Rattle.rv_hart.specs.private.Lending.{StandsIn}
+use Rattle.rv_hart.proofs.Near.{part-get, part-length}
+use Rattle.rv_hart.proofs.Whole.{page-loaded}
+
+-- four bytes of some that are lent, as they stand in the page
+lent-bytes : (xs : List ℕ) (low count offset : ℕ) → low + count ≤ length xs → offset + 4 ≤ count → take 4 (drop offset (take count (drop low xs))) ≡ take 4 (drop (low + offset) xs)
+lent-bytes xs low count offset within inside =
+    let lent : length (take count (drop low xs)) ≡ count = part-length xs low count within in
+    ext_get_or 0 (take 4 (drop offset (take count (drop low xs)))) (take 4 (drop (low + offset) xs))
+    (part-length (take count (drop low xs)) offset 4 (omega (arith, lent, inside)) ∙ sym (part-length xs (low + offset) 4 (omega arith)))
+    (λ i few.
+    let four = part-length (take count (drop low xs)) offset 4 (omega (arith, lent, inside)) in
+    let lower : i < 4 = omega (arith, few, four) in
+    part-get (take count (drop low xs)) offset 4 i lower
+    ∙ part-get xs low count (offset + i) (omega arith)
+    ∙ ap (λ (k : ℕ). get_or xs k 0) (let e : low + (offset + i) ≡ low + offset + i = omega arith in e)
+    ∙ sym (part-get xs (low + offset) 4 i lower))
+
+-- the bytes that lie in the page's region
+pub part-words : (page : Paged) (base low high : ℕ) → has PF_R page.home ≡ true → page.home.start ≤ base + low → low < high → base + high ≤ page.home.end → high ≤ length page.bytes
+    → (at : ℕ) → IfSome (word_in (record { base = base + low; bytes = take (high - low) (drop low page.bytes) }) at) (StandsIn page base at)
+part-words page base low high granted from some to within at =
+    go (nat_le (base + low) at && nat_le (at + 4) (base + low + length lent)) refl
+  where
+    lent : List ℕ
+    lent = take (high - low) (drop low page.bytes)
+
+    long : length lent ≡ high - low
+    long = part-length page.bytes low (high - low) (omega arith)
+
+    word : ℕ
+    word = number_in 4 (take 4 (drop (at - (base + low)) lent))
+
+    go : (b : Bool) → (nat_le (base + low) at && nat_le (at + 4) (base + low + length lent)) ≡ b → IfSome (cond b (Some word) None) (StandsIn page base at)
+    go false e = tt
+    go true e =
+        let tests = and_parts (nat_le (base + low) at) (nat_le (at + 4) (base + low + length lent)) e in
+        let above : base + low ≤ at = leb-true (base + low) at tests.0 in
+        let before : at + 4 ≤ base + low + length lent = leb-true (at + 4) (base + low + length lent) tests.1 in
+        let below : at + 4 ≤ base + high = omega (arith, before, long, some) in
+        record {
+          low = omega arith;
+          within = omega arith;
+          covered = ap₂ (λ (a b : Bool). a && b) (le-leb page.home.start at (omega arith)) (le-leb (at + 4) page.home.end (omega arith));
+          granted = granted;
+          word_is =
+              ap (number_in 4) (lent-bytes page.bytes low (high - low) (at - (base + low)) (omega arith) (omega arith)
+              ∙ ap (λ (k : ℕ). take 4 (drop k page.bytes)) (let e : low + (at - (base + low)) ≡ at - base = omega arith in e));
+        }
+
+-- a word that stands in a page is what a load gives
+stands-loaded : (paged : PagedMemory) (at base a word : ℕ) (page : Paged) → IsPaged paged → page ≡ page_of paged at → base ≡ at / 2 ^ 12 * 2 ^ 12 → StandsIn page base a word → loaded (memory_of paged) a 4 ≡ Some word
+stands-loaded paged at base a word page is same base_is stands =
+    let short : length page.bytes ≤ 2 ^ 12 = subst (λ (p : Paged). length p.bytes ≤ 2 ^ 12) (sym same) (is.short (at / 2 ^ 12)) in
+    let low = stands.low in
+    let within = stands.within in
+    let offset : a - base ≡ a % 2 ^ 12 = omega arith in
+    let here : page_of paged at ≡ page_of paged a = (let e : at / 2 ^ 12 ≡ a / 2 ^ 12 = omega arith in ap (page_numbered paged) e) in
+    let bytes : List ℕ = take 4 (drop (a % 2 ^ 12) page.bytes) in
+    let inside : a % 2 ^ 12 + 4 ≤ length page.bytes = omega arith in
+    page-loaded paged a 4 word page bytes is (same ∙ here) stands.covered stands.granted inside refl
+    (stands.word_is ∙ ap (λ (k : ℕ). number_in 4 (take 4 (drop k page.bytes))) offset ∙ sym (ap (λ (k : ℕ). number_in k bytes) (part-length page.bytes (a % 2 ^ 12) 4 inside)))
+
+pub words-loaded : (paged : PagedMemory) (at base a : ℕ) (page : Paged) (word : Option ℕ) → IsPaged paged → page ≡ page_of paged at → base ≡ at / 2 ^ 12 * 2 ^ 12 → IfSome word (StandsIn page base a) → IfSome word (λ word. loaded (memory_of paged) a 4 ≡ Some word)
+words-loaded paged at base a page None is same base_is stands = tt
+words-loaded paged at base a page (Some word) is same base_is stands = stands-loaded paged at base a word page is same base_is stands

@@ -1,0 +1,119 @@
+//! A walk over one trie's nodes in preorder.
+ghost use Rattle.std.specs.Prelude.{◌≡◌, ◌<◌, ◌≤◌, ◌≢◌, [], length, replicate, IfOk, OnOk, None, Some, true, false};
+ghost use Rattle.scope_types.specs.Limits.{most_samples};
+ghost use Rattle.tree_types.specs.Nodes.{no_parent};
+ghost use Rattle.path_trie.specs.Trie.{samples_of};
+ghost use Rattle.path_trie.specs.private.Linked.{node_at};
+ghost use Rattle.tree_join.specs.private.Walk.{parent_number_at, renumbered, node_before, IsReady, IsWalker, Advances};
+ghost use Rattle.tree_join.specs.private.Walk.{entries_in, head_of};
+
+use crate::children::Children;
+use path_trie::{PathEnd, Trie};
+use prof_bytes::Memory;
+use std::alloc::Global;
+use tree_types::{NO_PARENT, Node};
+
+/// A trie's ends and children; the number of each of its nodes that is put in order; and the indices of those that
+/// are next, the first of them last.
+#[derive(Drop)]
+pub struct Walker<'a> {
+    pub ends: &'a [PathEnd],
+    pub children: Children<'a>,
+    pub numbers: Vec<u32>,
+    pub stack: Vec<u32>,
+}
+
+/// The number of a parent, of which `NO_PARENT` is none.
+fn parent_number(numbers: &[u32], parent: u32) -> u32
+    requires { parent ≢ no_parent → parent < length numbers.now }
+    ensures { result ≡ parent_number_at numbers.now parent }
+{
+    if parent == NO_PARENT {
+        NO_PARENT
+    } else {
+        numbers[parent as usize]
+    }
+}
+
+/// A node as it is put in order, with its parent's number.
+fn in_order(nodes: &[Node], numbers: &[u32], place: u32) -> Node
+    requires place { place < length nodes.now }
+    requires parent { (node_at nodes.now place).parent ≢ no_parent
+        → (node_at nodes.now place).parent < length numbers.now }
+    ensures { result ≡ renumbered nodes.now numbers.now place }
+{
+    let node = nodes[place as usize];
+    Node {
+        parent: parent_number(numbers, node.parent),
+        scope: node.scope,
+    }
+}
+
+/// No number for each of so many nodes.
+fn no_numbers(alloc: Global, count: usize) -> Result<Vec<u32>, Memory>
+    ensures { IfOk result (λ numbers. numbers.items ≡ replicate count no_parent) }
+{
+    Ok(vec![in alloc; NO_PARENT; count]?)
+}
+
+/// Whether a node stands before another, where both are the next ones of walks.
+pub fn is_before(a: &Node, b: &Node) -> bool
+    ensures { result ≡ node_before a.now b.now }
+{
+    let (own, other) = (a.parent.wrapping_add(1), b.parent.wrapping_add(1));
+    other < own || other == own && a.scope < b.scope
+}
+
+impl<'a> Walker<'a> {
+    /// A walk that begins with the roots.
+    pub fn of(alloc: Global, trie: &'a Trie) -> Result<Walker<'a>, Memory>
+        ensures walks { IfOk result (IsWalker []) }
+        ensures entries { IfOk result (λ walker. entries_in walker ≡ trie.now) }
+        ensures samples { IfOk result (λ walker. samples_of (entries_in walker) ≤ most_samples) }
+    {
+        let nodes = trie.nodes();
+        let children = Children::of(alloc, nodes)?;
+        let numbers = no_numbers(alloc, nodes.len())?;
+        let mut stack = Vec::new(alloc);
+        children.push(NO_PARENT, &mut stack)?;
+        Ok(Walker {
+            ends: trie.ends(),
+            children,
+            numbers,
+            stack,
+        })
+    }
+
+    /// The node that is next, as it is put in order.
+    pub fn head(&self) -> Option<Node>
+        requires { IsReady self.now }
+        ensures { result ≡ head_of self.now }
+    {
+        let place = *self.stack.last()?;
+        Some(in_order(self.children.nodes, self.numbers.as_slice(), place))
+    }
+
+    /// Whether a node is next.
+    pub fn is_next(&self, node: &Node) -> bool
+        requires { IsReady self.now }
+        ensures yes { result ≡ true → head_of self.now ≡ Some node.now }
+        ensures no { result ≡ false → head_of self.now ≢ Some node.now }
+    {
+        match self.head() {
+            Some(head) => head == *node,
+            None => false,
+        }
+    }
+
+    /// Gives the node that is next a number. Its children are next.
+    pub fn advance(&mut self, number: u32) -> Result<(), Memory>
+        requires { IsReady self.old }
+        ensures { OnOk result (head_of self.old ≢ None → Advances number self.old self.new) }
+    {
+        if let Some(place) = self.stack.pop() {
+            self.numbers[place as usize] = number;
+            self.children.push(place, &mut self.stack)?;
+        }
+        Ok(())
+    }
+}
