@@ -62,11 +62,21 @@ def names(count):
     return unit(b"\1\0" * count), declaration(1, [(DW_AT_name, DW_FORM_string)]) + b"\0"
 
 
-def tables(count):
-    """Units each of which names a suffix of one abbreviation table, a declaration shorter than the one before."""
+def suffixes(count, numbers):
+    """Units each of which names a suffix of one abbreviation table, from the declaration with a number on."""
     step = len(declaration(128))
     table = b"".join(declaration(code) for code in range(128, 128 + count)) + b"\0"
-    return b"".join(unit(uleb(127 + count), n * step) for n in range(count)), table
+    return b"".join(unit(uleb(127 + count), n * step) for n in numbers), table
+
+
+def tables(count):
+    """Units each of which names a table a declaration shorter than the one before."""
+    return suffixes(count, range(count))
+
+
+def longer_tables(count):
+    """Units each of which names a table a declaration longer than the one before."""
+    return suffixes(count, reversed(range(count)))
 
 
 def long_numbers(count, length=10_000_000):
@@ -76,7 +86,7 @@ def long_numbers(count, length=10_000_000):
 
 
 KINDS = {"entries": entries, "codes": codes, "empty_values": empty_values, "names": names, "tables": tables,
-         "long_numbers": long_numbers}
+         "longer_tables": longer_tables, "long_numbers": long_numbers}
 
 
 def main():

@@ -16,8 +16,7 @@ PHASES = [
     ("expand and merge", "std::thread::fork::chunks_from"),
     ("join, values", "tree_join::stripes::join_stripes"),
     ("planes", "sparse_planes::both::"),
-    ("database", "prof_db::write::write_db"),
-    ("store, table", "hpc_top::report::put_table"),
+    ("database and table, store", "hpc_top::both::"),
 ]
 
 

@@ -55,9 +55,6 @@ back_value low (suc m) d before (s ∷ steps) address up lt above =
 
 -- ---- two tables in one
 
-step_of : ℕ → Option ℕ → Option ℕ → Step
-step_of start x y = record { start = start; holder = option_or x y }
-
 -- what is left to be laid over one another, in at most so many steps
 unfoldable pub merged : ℕ → Option ℕ → List Step → Option ℕ → List Step → List Step
 merged zero x xs y ys = []

@@ -3,11 +3,13 @@ use Rattle.std.proofs.Common.{◌≡◌, ℕ, zero, suc, ◌+◌, ◌-◌, ◌�
 use Rattle.std.specs.Prelude.{◌==◌, ◌||◌, All, nat_lt, nat_le}
 use Rattle.std.proofs.lemmas.Bool.Decides.{nat_tests}
 use Rattle.std.proofs.lemmas.List.{append-nil}
+use Rattle.std.proofs.lemmas.Bool.{eq-eqb}
 use Rattle.prof_bytes.specs.Outcome.{◌>>=◌}
 use Rattle.prof_bytes.specs.Number.{number_in}
 use Rattle.prof_bytes.specs.Reading.{left_of}
 use Rattle.prof_bytes.specs.Fields.{Input, taken, number_from, part_from, answered, first_reserved_length}
 use Rattle.prof_bytes.specs.Reading.{moved, up_to}
+use Rattle.prof_bytes.proofs.Tests.{not_zero}
 use Rattle.cfi_table.specs.declared.fault.FrameFault.{FrameFault}
 use Rattle.cfi_table.specs.declared.extent.Extent.{Extent}
 use Rattle.cfi_table.specs.Instructions.{Reading}
@@ -97,33 +99,27 @@ pub record KeepsChain (section : List ℕ) (input : Input FrameFault) (front : L
   pub so_far : behind front (chain_from count input) ≡ extents_of section
   pub placed : All (IsPlaced section) front
 
-not_none : (n : ℕ) → 0 < n → (n == 0) ≡ false
-not_none n lt = grind (arith, nat_tests)
-
-is_none : (n : ℕ) → n ≡ 0 → (n == 0) ≡ true
-is_none n e = grind (arith, nat_tests)
-
 -- the input with the fault at its own offset
 abbrev pub marked : Input FrameFault → Input FrameFault
 marked input = record input { missing = fault_at input }
 
 step_over : (m : ℕ) (input body rest : Input FrameFault) → 0 < length (left_of input.at) → part_from (marked input) ≡ Ok (body, rest) → length (left_of body.at) ≡ 0 → chain_from (suc m) input ≡ chain_from m rest
 unfolding chain_from
-step_over m input body rest lt is none = rw (not_none _ lt, is, is_none _ none) refl
+step_over m input body rest lt is none = rw (not_zero _ lt, is, eq-eqb _ 0 none) refl
 
 step_on : (m : ℕ) (input body rest : Input FrameFault) → 0 < length (left_of input.at) → part_from (marked input) ≡ Ok (body, rest) → 0 < length (left_of body.at)
     → chain_from (suc m) input ≡ before_others (entry_between input rest) (chain_from m rest)
 unfolding chain_from
-step_on m input body rest lt is some = rw (not_none _ lt, is, not_none _ some) refl
+step_on m input body rest lt is some = rw (not_zero _ lt, is, not_zero _ some) refl
 
 step_fault : (m : ℕ) (input : Input FrameFault) (fault : FrameFault) → 0 < length (left_of input.at) → part_from (marked input) ≡ Err fault → chain_from (suc m) input ≡ ([], Some fault)
 unfolding chain_from
-step_fault m input fault lt is = rw (not_none _ lt, is) refl
+step_fault m input fault lt is = rw (not_zero _ lt, is) refl
 
 pub step_end : (m : ℕ) (input : Input FrameFault) → length (left_of input.at) ≡ 0 → chain_from m input ≡ ([], None)
 unfolding chain_from
 step_end zero input none = refl
-step_end (suc m) input none = rw (is_none _ none) refl
+step_end (suc m) input none = rw (eq-eqb _ 0 none) refl
 
 pub shorter : (input body rest : Input FrameFault) → 0 < length (left_of input.at) → part_from (marked input) ≡ Ok (body, rest) → length (left_of rest.at) < length (left_of input.at)
 shorter input body rest lt is =

@@ -1,5 +1,5 @@
 -- The forms of the CFA's rules say which instruction is at fault.
-use Rattle.std.proofs.Common.{◌≡◌, ℕ, zero, suc, Bool, true, false, cond, List, [], ◌∷◌, length, Option, Some, None, Result, Ok, Err, refl, sym, ap, ◌∙◌}
+use Rattle.std.proofs.Common.{◌≡◌, ℕ, zero, suc, Bool, true, false, cond, List, [], ◌∷◌, length, Option, Some, None, Ok, Err, refl, sym, ap, ◌∙◌}
 use Rattle.std.specs.Prelude.{◌==◌, nat_lt, option_map}
 use Rattle.std.specs.List.{slice_set}
 use Rattle.prof_bytes.specs.Outcome.{◌>>=◌, viewed}
@@ -82,9 +82,6 @@ execute_as_forms initial instructions.RestoreState s = with_remembered_forms s.r
 
 abbrev seen : State × Input FrameFault → CfaForms × Input FrameFault
 seen t = (forms_of t.0, t.1)
-
-abbrev after_state : (State × Input FrameFault → Result State FrameFault) → Reading State → Result State FrameFault
-after_state next r = r >>= next
 
 step_as_forms : (initial : List Rule) (f : AlignmentFactors) (input : Input FrameFault) (s : State) → viewed seen (step_by (execute initial) f input s) ≡ step_by execute_forms f input (forms_of s)
 step_as_forms initial f input s = decoded (instruction_from f (record input { missing = fault_at input }))

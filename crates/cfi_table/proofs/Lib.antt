@@ -9,3 +9,4 @@ pub mod Room
 pub mod Undone
 pub mod Resuming
 pub mod Walking
+pub mod Changed

@@ -1,5 +1,5 @@
 -- A run by one limit, and what it says of the runs by later ones.
-use Rattle.std.proofs.Common.{◌≡◌, ℕ, ◌≤◌, ◌<◌, ◌^◌, Bool, true, false, cond, List, length, Option, Some, Result, Ok, Err, refl, sym, ap, ◌∙◌, arith}
+use Rattle.std.proofs.Common.{◌≡◌, ℕ, ◌≤◌, ◌<◌, ◌^◌, Bool, true, false, cond, List, length, Option, Some, Result, Ok, refl, sym, ap, ◌∙◌, arith}
 use Rattle.std.specs.Prelude.{nat_lt}
 use Rattle.std.proofs.lemmas.Bool.Decides.{nat_tests}
 use Rattle.prof_bytes.specs.Outcome.{FailsBy}
@@ -9,7 +9,7 @@ use Rattle.prof_bytes.specs.declared.fail.Fail.{Fail}
 use Rattle.cfi_table.specs.declared.fault.FrameFault.{FrameFault}
 use Rattle.cfi_table.specs.declared.instruction.AlignmentFactors.{AlignmentFactors}
 use Rattle.cfi_table.specs.declared.rules.Rule.{Rule}
-use Rattle.cfi_table.specs.Rules.{State, execute, is_past, step_by, run_by, run_all}
+use Rattle.cfi_table.specs.Rules.{State, execute, is_past, step_by, run_all}
 use Rattle.cfi_table.specs.private.Resuming.{resumed}
 use Rattle.cfi_table.proofs.Runs.{Keeps, step_moves, keeps_short, run_end, begins, turns, stops_here, fails_by, ends_here}
 use Rattle.cfi_table.proofs.Room.{instructions_have_room}

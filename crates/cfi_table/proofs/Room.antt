@@ -1,10 +1,10 @@
 -- As much room as there are bytes is enough.
 use Rattle.std.proofs.Common.{◌≡◌, ℕ, zero, suc, ◌≤◌, ◌<◌, Bool, true, false, cond, [], length, Option, None, Result, Ok, Err, refl, sym, ap, arith}
 use Rattle.std.specs.Prelude.{◌==◌}
-use Rattle.std.proofs.lemmas.Bool.Decides.{nat_tests}
 use Rattle.prof_bytes.specs.Outcome.{◌>>=◌}
 use Rattle.prof_bytes.specs.Reading.{left_of}
 use Rattle.prof_bytes.specs.Fields.{Input, part_from}
+use Rattle.prof_bytes.proofs.Tests.{above_zero}
 use Rattle.cfi_table.specs.declared.fault.FrameFault.{FrameFault}
 use Rattle.cfi_table.specs.declared.instruction.AlignmentFactors.{AlignmentFactors}
 use Rattle.cfi_table.specs.declared.instruction.CallFrameInstruction.{CallFrameInstruction}
@@ -14,9 +14,6 @@ use Rattle.cfi_table.specs.Entries.{before_others, chained, chain_from}
 use Rattle.cfi_table.specs.Laws.{EntriesHaveRoom, InstructionsHaveRoom}
 use Rattle.cfi_table.proofs.Chains.{marked, entry_between, shorter, step_end}
 use Rattle.cfi_table.proofs.Runs.{run_end, shortens}
-
-some_left : (n : ℕ) → (n == 0) ≡ false → 0 < n
-some_left n e = grind (arith, nat_tests)
 
 same_entries : (m n : ℕ) (input : Input FrameFault) → length (left_of input.at) ≤ m → length (left_of input.at) ≤ n → chain_from m input ≡ chain_from n input
 unfolding chain_from
@@ -41,7 +38,7 @@ same_entries (suc m) (suc n) input a b = go (length (left_of input.at) == 0) ref
     go : (e : Bool) → (length (left_of input.at) == 0) ≡ e → (r : Reading (Input FrameFault)) → part_from (marked input) ≡ r → Again
         → cond e ([], None) (chained input (λ next. chain_from m next) r) ≡ cond e ([], None) (chained input (λ next. chain_from n next) r)
     go true left r is again = refl
-    go false left r is again = linked r is (some_left _ left) again
+    go false left r is again = linked r is (above_zero _ left) again
 
 same_run : {S : Type 0} (x : CallFrameInstruction → S → Option S) (stops : S → Bool) (m n : ℕ) (f : AlignmentFactors) (input : Input FrameFault) (s : S) → length (left_of input.at) ≤ m → length (left_of input.at) ≤ n
     → run_by x stops m f input s ≡ run_by x stops n f input s
@@ -70,7 +67,7 @@ same_run {S} x stops (suc m) (suc n) f input s a b = go (length (left_of input.a
         → (let u : Result S FrameFault = cond e (Ok s) (r >>= λ done. cond (stops done.0) (Ok done.0) (run_by x stops m f done.1 done.0)) in u)
         ≡ cond e (Ok s) (r >>= λ done. cond (stops done.0) (Ok done.0) (run_by x stops n f done.1 done.0))
     go true left r is again = refl
-    go false left r is again = stepped r is (some_left _ left) again
+    go false left r is again = stepped r is (above_zero _ left) again
 
 pub entries_have_room : EntriesHaveRoom
 entries_have_room room input enough = same_entries room (length (left_of input.at)) input enough (omega arith)

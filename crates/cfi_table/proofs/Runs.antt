@@ -1,12 +1,12 @@
 -- Runs of instructions, one more at a time.
 use Rattle.std.proofs.Common.{◌≡◌, ℕ, zero, suc, ◌-◌, ◌≤◌, ◌<◌, ◌^◌, Bool, true, false, List, length, length-drop, Option, Some, None, Ok, Err, refl, sym, ap, ◌∙◌, arith}
-use Rattle.std.specs.Prelude.{◌==◌}
-use Rattle.std.proofs.lemmas.Bool.Decides.{nat_tests}
+use Rattle.std.proofs.lemmas.Bool.{eq-eqb}
 use Rattle.prof_bytes.specs.Outcome.{◌>>=◌, FailsBy}
 use Rattle.prof_bytes.specs.Reading.{left_of}
 use Rattle.prof_bytes.specs.Fields.{Input}
 use Rattle.prof_bytes.specs.declared.fail.Fail.{Fail}
 use Rattle.prof_bytes.specs.declared.fail.Fail.TheVariants as fails
+use Rattle.prof_bytes.proofs.Tests.{not_zero}
 use Rattle.cfi_table.specs.declared.fault.FrameFault.{FrameFault}
 use Rattle.cfi_table.specs.declared.instruction.AlignmentFactors.{AlignmentFactors}
 use Rattle.cfi_table.specs.declared.instruction.CallFrameInstruction.{CallFrameInstruction}
@@ -14,31 +14,25 @@ use Rattle.cfi_table.specs.Instructions.{Reading, instruction_from}
 use Rattle.cfi_table.specs.Rules.{or_fault, fault_at, step_by, run_by}
 use Rattle.cfi_table.proofs.Moves.{instruction_moves}
 
-some_left : (n : ℕ) → 0 < n → (n == 0) ≡ false
-some_left n lt = grind (arith, nat_tests)
-
-none_left : (n : ℕ) → n ≡ 0 → (n == 0) ≡ true
-none_left n e = grind (arith, nat_tests)
-
 pub run_end : {S : Type 0} (x : CallFrameInstruction → S → Option S) (stops : S → Bool) (m : ℕ) (f : AlignmentFactors) (input : Input FrameFault) (s : S) → length (left_of input.at) ≡ 0 → run_by x stops m f input s ≡ Ok s
 unfolding run_by
 run_end x stops zero f input s none = refl
-run_end x stops (suc m) f input s none = rw (none_left _ none) refl
+run_end x stops (suc m) f input s none = rw (eq-eqb _ 0 none) refl
 
 run_more : {S : Type 0} (x : CallFrameInstruction → S → Option S) (stops : S → Bool) (m : ℕ) (f : AlignmentFactors) (input next : Input FrameFault) (s t : S) → 0 < length (left_of input.at) → step_by x f input s ≡ Ok (t, next) → stops t ≡ false
     → run_by x stops (suc m) f input s ≡ run_by x stops m f next t
 unfolding run_by
-run_more x stops m f input next s t some is goes = rw (some_left _ some, is, goes) refl
+run_more x stops m f input next s t some is goes = rw (not_zero _ some, is, goes) refl
 
 run_stop : {S : Type 0} (x : CallFrameInstruction → S → Option S) (stops : S → Bool) (m : ℕ) (f : AlignmentFactors) (input next : Input FrameFault) (s t : S) → 0 < length (left_of input.at) → step_by x f input s ≡ Ok (t, next) → stops t ≡ true
     → run_by x stops (suc m) f input s ≡ Ok t
 unfolding run_by
-run_stop x stops m f input next s t some is stop = rw (some_left _ some, is, stop) refl
+run_stop x stops m f input next s t some is stop = rw (not_zero _ some, is, stop) refl
 
 run_fault : {S : Type 0} (x : CallFrameInstruction → S → Option S) (stops : S → Bool) (m : ℕ) (f : AlignmentFactors) (input : Input FrameFault) (s : S) (fault : FrameFault) → 0 < length (left_of input.at) → step_by x f input s ≡ Err fault
     → run_by x stops (suc m) f input s ≡ Err fault
 unfolding run_by
-run_fault x stops m f input s fault some is = rw (some_left _ some, is) refl
+run_fault x stops m f input s fault some is = rw (not_zero _ some, is) refl
 
 -- a step takes bytes
 pub step_moves : {S : Type 0} (x : CallFrameInstruction → S → Option S) (f : AlignmentFactors) (input next : Input FrameFault) (s t : S) → step_by x f input s ≡ Ok (t, next) → (next.at.whole ≡ input.at.whole) × (input.at.offset < next.at.offset)

@@ -1,6 +1,6 @@
 -- The rows of an FDE, made one after another.
-use Rattle.std.proofs.Common.{◌≡◌, ℕ, ◌+◌, ◌≤◌, ◌<◌, ◌^◌, Bool, true, false, cond, List, length, map, Option, Some, None, Result, Ok, Err, refl, sym, subst, ap, ap₂, ◌∙◌, arith}
-use Rattle.std.specs.Prelude.{IfOk, IfSome, min, nat_le, nat_lt, find, slice_get, ◌&&◌}
+use Rattle.std.proofs.Common.{◌≡◌, ℕ, ◌≤◌, ◌<◌, ◌^◌, Bool, true, false, cond, List, length, map, Option, Some, None, Result, Ok, Err, refl, sym, subst, ap, ◌∙◌, arith}
+use Rattle.std.specs.Prelude.{IfOk, IfSome, min, nat_lt, find, slice_get}
 use Rattle.std.specs.Option.{option_and_then}
 use Rattle.std.proofs.lemmas.Bool.Decides.{nat_tests}
 use Rattle.prof_bytes.specs.Outcome.{FailsBy}
@@ -21,7 +21,7 @@ use Rattle.cfi_table.specs.Rules.{State, is_past, run_all}
 use Rattle.cfi_table.specs.Entries.{after_fde}
 use Rattle.cfi_table.specs.Frames.{Frames, range_of, rules_with, rules_of}
 use Rattle.cfi_table.specs.Rows.{FdeRows, row_from, IsRow, IsNextRow, AreFirst}
-use Rattle.cfi_table.specs.private.Resuming.{resumed, GoesOn}
+use Rattle.cfi_table.specs.private.Resuming.{resumed}
 use Rattle.cfi_table.specs.private.Walking.{IsAtRow, AreRows}
 use Rattle.cfi_table.proofs.Resuming.{resumed_here, resumed_past, resumed_at_end}
 
@@ -75,11 +75,6 @@ end_last fde start location le =
     let past : nat_lt start location ≡ false = grind (arith, nat_tests) in
     rw past refl
 
-from_inside : (fde : Fde) (address : ℕ) → address < (range_of fde).end → row_from fde address ≡ Some address
-from_inside fde address lt =
-    let inside : nat_lt address (range_of fde).end ≡ true = grind (arith, nat_tests) in
-    rw inside refl
-
 from_behind : (fde : Fde) (address : ℕ) → (range_of fde).end ≤ address → row_from fde address ≡ None
 from_behind fde address le =
     let inside : nat_lt address (range_of fde).end ≡ false = grind (arith, nat_tests) in
@@ -88,7 +83,7 @@ from_behind fde address le =
 -- ---- a row that ends where the location rises above its start
 
 pub past_row : (section : List ℕ) (fde : Fde) (initial : List Rule) (start : ℕ) (t : State) (next : Input FrameFault) (row : Row) → HasRun section fde initial start t next → start < t.location
-    → row ≡ record { start = start; end = row_end fde start t.location; rules = Some (rules_in fde t) } → IsRow section fde row
+    → row ≡ record { start = start; end = row_end fde start t.location } → IsRow section fde row (Some (rules_in fde t))
 past_row section fde initial start t next row run past is =
     let ends : row.end ≡ min t.location (range_of fde).end = ap (λ (r : Row). r.end) is ∙ end_past fde start t.location past in
     let begins : row.start ≡ start = ap (λ (r : Row). r.start) is in
@@ -99,8 +94,7 @@ past_row section fde initial start t next row run past is =
       low = omega arith;
       within = omega arith;
       rules = λ address from to.
-          rules_here section fde address t (run.states address (omega arith) ∙ resumed_past address initial fde.cie.factors next t (omega arith))
-          ∙ sym (ap (λ (r : Row). r.rules) is);
+          rules_here section fde address t (run.states address (omega arith) ∙ resumed_past address initial fde.cie.factors next t (omega arith));
     }
 
 pub next_past : (section : List ℕ) (fde : Fde) (initial : List Rule) (start : ℕ) (t : State) (next : Input FrameFault) → HasRun section fde initial start t next → start < t.location
@@ -139,7 +133,7 @@ from_past fde start location end next past is ends = is ∙ from_end_past fde st
 -- ---- the last row
 
 pub last_row : (section : List ℕ) (fde : Fde) (initial : List Rule) (start : ℕ) (t : State) (next : Input FrameFault) (row : Row) → HasRun section fde initial start t next → t.location ≤ start
-    → row ≡ record { start = start; end = row_end fde start t.location; rules = Some (rules_in fde t) } → IsRow section fde row
+    → row ≡ record { start = start; end = row_end fde start t.location } → IsRow section fde row (Some (rules_in fde t))
 last_row section fde initial start t next row run le is =
     let ends : row.end ≡ (range_of fde).end = ap (λ (r : Row). r.end) is ∙ end_last fde start t.location le in
     let begins : row.start ≡ start = ap (λ (r : Row). r.start) is in
@@ -151,8 +145,7 @@ last_row section fde initial start t next row run le is =
       low = omega arith;
       within = omega arith;
       rules = λ address from to.
-          rules_here section fde address t (run.states address (omega arith) ∙ resumed_at_end (Some address) initial fde.cie.factors next t none)
-          ∙ sym (ap (λ (r : Row). r.rules) is);
+          rules_here section fde address t (run.states address (omega arith) ∙ resumed_at_end (Some address) initial fde.cie.factors next t none);
     }
 
 pub from_last : (fde : Fde) (start location end : ℕ) → location ≤ start → end ≡ row_end fde start location → None ≡ row_from fde end
@@ -162,7 +155,7 @@ from_last fde start location end le ends = sym (from_behind fde (range_of fde).e
 
 faulty : (section : List ℕ) (fde : Fde) (initial : List Rule) (s : State) (input : Input FrameFault) (start : ℕ) (fault : FrameFault) (row : Row) → IsAtRow section fde initial s input start
     → ((address later : ℕ) → (let o : Option ℕ = Some start in o) ≡ Some address → address ≤ later → run_all (Some later) initial fde.cie.factors input s ≡ Err fault)
-    → row ≡ record { start = start; end = (range_of fde).end; rules = None } → IsRow section fde row
+    → row ≡ record { start = start; end = (range_of fde).end } → IsRow section fde row None
 faulty section fde initial s input start fault row at later is =
     let ends : row.end ≡ (range_of fde).end = ap (λ (r : Row). r.end) is in
     let begins : row.start ≡ start = ap (λ (r : Row). r.start) is in
@@ -174,46 +167,30 @@ faulty section fde initial s input start fault row at later is =
       low = omega arith;
       within = omega arith;
       rules = λ address from to.
-          no_rules_here section fde address fault (at.states address (omega arith) ∙ resumed_here address initial fde.cie.factors input s (omega arith) ∙ later start address refl (omega arith))
-          ∙ sym (ap (λ (r : Row). r.rules) is);
+          no_rules_here section fde address fault (at.states address (omega arith) ∙ resumed_here address initial fde.cie.factors input s (omega arith) ∙ later start address refl (omega arith));
     }
 
 pub faulty_row : (section : List ℕ) (fde : Fde) (initial : List Rule) (s : State) (input : Input FrameFault) (start : ℕ) (fail : Fail FrameFault) (fault : FrameFault) (range : AddressRange) → IsAtRow section fde initial s input start
     → fail ≡ fails.Fault fault → ((address later : ℕ) → (let o : Option ℕ = Some start in o) ≡ Some address → address ≤ later → FailsBy fail (run_all (Some later) initial fde.cie.factors input s))
-    → range ≡ range_of fde → IsRow section fde (record { start = start; end = range.end; rules = None })
+    → range ≡ range_of fde → IsRow section fde (record { start = start; end = range.end }) None
 faulty_row section fde initial s input start fail fault range at is later range_is =
     let P : Fail FrameFault → Type 0 = λ f. (address later : ℕ) → (let o : Option ℕ = Some start in o) ≡ Some address → address ≤ later → FailsBy f (run_all (Some later) initial fde.cie.factors input s) in
-    faulty section fde initial s input start fault (record { start = start; end = range.end; rules = None }) at (subst P is later) (ap (λ (r : AddressRange). (let row : Row = record { start = start; end = r.end; rules = None } in row)) range_is)
+    faulty section fde initial s input start fault (record { start = start; end = range.end }) at (subst P is later) (ap (λ (r : AddressRange). (let row : Row = record { start = start; end = r.end } in row)) range_is)
 
 pub from_fault : (fde : Fde) (range : AddressRange) → range ≡ range_of fde → None ≡ row_from fde range.end
 from_fault fde range is = sym (from_behind fde (range_of fde).end (omega arith)) ∙ ap (λ (r : AddressRange). row_from fde r.end) (sym is)
 
 -- ---- the row that was made
 
-pub row_is : (fde : Fde) (start end location : ℕ) (t : State) (found : Rules) → end ≡ row_end fde start location → location ≡ t.location → found ≡ rules_in fde t
-    → (let row : Row = record { start = start; end = end; rules = Some found } in row) ≡ record { start = start; end = row_end fde start t.location; rules = Some (rules_in fde t) }
-row_is fde start end location t found ends at is = ap₂ (λ (n : ℕ) (r : Rules). (let row : Row = record { start = start; end = n; rules = Some r } in row)) (ends ∙ ap (row_end fde start) at) is
+pub row_is : (fde : Fde) (start end location : ℕ) (t : State) → end ≡ row_end fde start location → location ≡ t.location
+    → (let row : Row = record { start = start; end = end } in row) ≡ record { start = start; end = row_end fde start t.location }
+row_is fde start end location t ends at = ap (λ (n : ℕ). (let row : Row = record { start = start; end = n } in row)) (ends ∙ ap (row_end fde start) at)
 
-pub is_next : (section : List ℕ) (fde : Fde) (n : Option ℕ) (before after : FdeRows) (row : Row) → record { section = section; fde = fde; next = n } ≡ before → n ≡ Some row.start → after.next ≡ row_from fde row.end → IsRow section fde row
+pub is_next : (section : List ℕ) (fde : Fde) (n : Option ℕ) (found : Option Rules) (before after : FdeRows) (row : Row) → record { section = section; fde = fde; next = n; rules = found } ≡ before → n ≡ Some row.start → after.next ≡ row_from fde row.end → IsRow section fde row after.rules
     → IsNextRow before after row
-is_next section fde n before after row view from to is = subst (λ (b : FdeRows). IsNextRow b after row) view (record { is = is; start = from; next = to })
+is_next section fde n found before after row view from to is = subst (λ (b : FdeRows). IsNextRow b after row) view (record { is = is; start = from; next = to })
 
 -- ---- the first row
-
-pub first_rows : (section : List ℕ) (fde : Fde) (initial : List Rule) (s : State) (input : Input FrameFault) → s.location ≡ fde.initial_location → length input.at.whole < 2 ^ 32
-    → ((limit : Option ℕ) → after_fde limit section fde ≡ run_all limit initial fde.cie.factors input s)
-    → AreRows section fde initial s input (row_from fde fde.initial_location)
-first_rows section fde initial s input here short runs = go (nat_lt fde.initial_location (range_of fde).end) refl
-  where
-    go : (b : Bool) → nat_lt fde.initial_location (range_of fde).end ≡ b → IfSome (let o : Option ℕ = cond b (Some fde.initial_location) None in o) (IsAtRow section fde initial s input)
-    go false e = tt
-    go true e = record {
-      short = short;
-      some = (let lt : fde.initial_location < (range_of fde).end = grind (arith, nat_tests) in lt);
-      low = omega arith;
-      here = omega arith;
-      states = λ address le. runs (Some address) ∙ sym (resumed_here address initial fde.cie.factors input s (omega arith));
-    }
 
 -- ---- the FDE that is the first to hold all of its addresses
 
@@ -226,7 +203,7 @@ first_holder fdes number fde is first address held =
 
 pub first_of : (frames : Frames) (section : List ℕ) (fdes : List Fde) (fde : Fde) (found : Option Fde) (range : AddressRange) (number : ℕ) (r : Result (Option FdeRows) Memory) → section ≡ frames.section → fdes ≡ frames.fdes
     → found ≡ slice_get fdes number → found ≡ Some fde → range ≡ range_of fde → IsFirst (map range_of frames.fdes) range.start range.end number
-    → IfOk r (λ rows. IfSome rows (λ rows. rows ≡ record { section = section; fde = fde; next = row_from fde fde.initial_location })) → IfOk r (λ rows. IfSome rows (AreFirst frames))
+    → IfOk r (λ rows. IfSome rows (λ rows. rows ≡ record { section = section; fde = fde; next = row_from fde fde.initial_location; rules = None })) → IfOk r (λ rows. IfSome rows (AreFirst frames))
 first_of frames section fdes fde found range number (Err memory) same all at is range_is first made = tt
 first_of frames section fdes fde found range number (Ok None) same all at is range_is first made = tt
 first_of frames section fdes fde found range number (Ok (Some rows)) same all at is range_is first made =

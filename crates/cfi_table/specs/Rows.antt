@@ -3,28 +3,30 @@ use Rattle.std.specs.Prelude.{◌≡◌, ℕ, ◌≤◌, ◌<◌, nat_lt, true, 
 use Rattle.address_ranges.specs.Ranges.{holds}
 use Rattle.cfi_table.specs.declared.fde.Fde.{Fde}
 use Rattle.cfi_table.specs.declared.rows.Row.{Row}
+use Rattle.cfi_table.specs.declared.rules.Rules.{Rules}
 use Rattle.cfi_table.specs.Frames.{Frames, fde_at, range_of, rules_of}
 
--- an FDE of a section, and where its next row begins, if there is one
+-- an FDE of a section, where its next row begins, if there is one, and the rules of the row before that
 pub record FdeRows : Type 0 where
   pub section : List ℕ
   pub fde : Fde
   pub next : Option ℕ
+  pub rules : Option Rules
 
 -- where a row begins at an address, if the FDE has one there
 abbrev pub row_from : Fde → ℕ → Option ℕ
 row_from fde address = if nat_lt address (range_of fde).end then Some address else None
 
 -- the row has addresses of the FDE, and at each the rules are these
-pub record IsRow (section : List ℕ) (fde : Fde) (row : Row) : Type 0 where
+pub record IsRow (section : List ℕ) (fde : Fde) (row : Row) (found : Option Rules) : Type 0 where
   pub some : row.start < row.end
   pub low : fde.initial_location ≤ row.start
   pub within : row.end ≤ (range_of fde).end
-  pub rules : (address : ℕ) → row.start ≤ address → address < row.end → rules_of section address fde ≡ row.rules
+  pub rules : (address : ℕ) → row.start ≤ address → address < row.end → rules_of section address fde ≡ found
 
--- the row is the next one, and the one behind it begins where it ends
+-- the row is the next one, it has these rules, and the one behind it begins where it ends
 pub record IsNextRow (before after : FdeRows) (row : Row) : Type 0 where
-  pub is : IsRow before.section before.fde row
+  pub is : IsRow before.section before.fde row after.rules
   pub start : before.next ≡ Some row.start
   pub next : after.next ≡ row_from before.fde row.end
 

@@ -1,6 +1,6 @@
 -- The rules that call frame instructions make (DWARF 5, sections 6.4.2 and 6.4.3).
-use Rattle.std.specs.Prelude.{ℕ, ◌+◌, ◌%◌, ◌^◌, ◌==◌, Bool, false, nat_lt, List, [], ◌∷◌, length, zero, suc, replicate}
-use Rattle.std.specs.Prelude.{slice_get}
+use Rattle.std.specs.Prelude.{◌≡◌, ℕ, ◌≤◌, ◌<◌, ◌+◌, ◌%◌, ◌^◌, ◌==◌, Bool, false, nat_lt, List, [], ◌∷◌}
+use Rattle.std.specs.Prelude.{length, zero, suc, replicate, slice_get}
 use Rattle.std.specs.Prelude.{Option, Some, None, Result, Ok, Err, if◌then◌else◌, unwrap_or}
 use Rattle.std.specs.List.{slice_set}
 use Rattle.std.specs.Option.{option_map_or}
@@ -44,6 +44,10 @@ with_rule register rule s = if nat_lt register 32 then record s { regs = slice_s
 
 abbrev pub rule_at : List Rule → ℕ → Rule
 rule_at regs register = unwrap_or (slice_get regs register) rules.Kept
+
+-- the registers from one up to another have the same value
+abbrev pub AreSameValue : List Rule → ℕ → ℕ → Type 0
+AreSameValue regs from to = (register : ℕ) → from ≤ register → register < to → rule_at regs register ≡ rules.Kept
 
 -- def_cfa: no register above 31
 abbrev pub with_cfa : ℕ → ℕ → State → Option State

@@ -4,3 +4,4 @@ pub mod KnownCies
 pub mod Undoing
 pub mod Resuming
 pub mod Walking
+pub mod Changed

@@ -116,6 +116,7 @@ fn advance_loc(factors: &AlignmentFactors, delta: u32) -> CallFrameInstruction
     CallFrameInstruction::AdvanceLoc(scaled(delta, factors.code_alignment_factor))
 }
 
+#[inline(always)]
 #[tactic(auto, unfolding(crate::specs::Instructions::cfa_from))]
 fn cfa_instruction(
     factors: &AlignmentFactors,
@@ -205,6 +206,7 @@ fn register_rule(
 }
 
 /// The instruction of an opcode that has the whole byte.
+#[inline(always)]
 #[tactic(auto, unfolding(crate::specs::Instructions::extended_from))]
 fn extended(
     factors: &AlignmentFactors,
@@ -239,6 +241,7 @@ fn extended(
     }
 }
 
+#[inline(always)]
 #[tactic(auto, unfolding(crate::specs::Instructions::opcode_then))]
 pub fn opcode_then(
     factors: &AlignmentFactors,
@@ -263,6 +266,7 @@ pub fn opcode_then(
 
 /// The instruction that is next. It is at fault where its opcode is none of those that are read, or an
 /// operand runs past the end or is too wide.
+#[inline(always)]
 #[tactic(auto, unfolding(crate::specs::Instructions::instruction_from))]
 pub fn next_instruction(
     factors: &AlignmentFactors,

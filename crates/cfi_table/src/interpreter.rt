@@ -11,7 +11,7 @@ ghost use Rattle.cfi_table.specs.private.Resuming.{resumed, GoesOn};
 use crate::fault::FrameFault;
 use crate::instruction::{AlignmentFactors, CallFrameInstruction, next_instruction};
 use crate::register_rules::RegisterRules;
-use crate::rules::{Cfa, Rule};
+use crate::rules::{Cfa, Rule, RulesRef};
 use prof_bytes::{Fail, Memory, Reader};
 use std::alloc::Global;
 use std::marker::Model;
@@ -243,6 +243,13 @@ impl Interpreter {
         ensures { result ≡ self.now.cfa }
     {
         self.cfa
+    }
+
+    /// The rules, where that register has the return address.
+    pub(crate) fn rules(&self, return_register: u8) -> RulesRef<'_>
+        ensures { result ≡ record { cfa = self.now.cfa; regs = self.now.regs; return_register = return_register } }
+    {
+        self.rules.lent(self.cfa, return_register)
     }
 
     /// Goes on from this address.

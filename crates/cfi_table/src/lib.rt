@@ -21,6 +21,7 @@ mod known_cie;
 mod laws;
 mod register_rules;
 mod rows;
+mod rule_map;
 mod rules;
 
 pub use checker::{CfaForm, Checker, CieEnd};
@@ -41,4 +42,4 @@ pub use instruction::{
 };
 pub use laws::bytes_are_room_enough;
 pub use rows::{Row, Rows};
-pub use rules::{Cfa, Rule, Rules};
+pub use rules::{Cfa, Rule, Rules, RulesRef};

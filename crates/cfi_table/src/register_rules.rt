@@ -1,10 +1,11 @@
 //! The rules of the registers, and how they were when remember_state kept them.
 ghost use Rattle.std.specs.Prelude.{◌≡◌, ◌∷◌, [], ◌<◌, IfOk, MatchOption, length, reverse};
 ghost use Rattle.std.specs.List.{slice_set};
-ghost use Rattle.cfi_table.specs.Rules.{all_same_value};
+ghost use Rattle.cfi_table.specs.Rules.{all_same_value, rule_at};
 ghost use Rattle.cfi_table.specs.private.Undoing.{remembered_of, IsMarked, changed};
 
-use crate::rules::{Cfa, Rule};
+use crate::rule_map::RuleMap;
+use crate::rules::{Cfa, Rule, RulesRef};
 use prof_bytes::Memory;
 use std::alloc::Global;
 use std::marker::Model;
@@ -22,7 +23,7 @@ pub(crate) enum Undo {
 /// last. A state that is remembered takes no copy of the rules, and a change one step to take it back.
 #[derive(Drop)]
 pub(crate) struct RegisterRules {
-    regs: [Rule; 32],
+    regs: RuleMap,
     undo: Vec<Undo>,
 }
 
@@ -42,7 +43,7 @@ impl Model for RegisterRules {
 }
 
 /// Keeps the register's rule before it is changed, where a state was remembered.
-fn keep(undo: &mut Vec<Undo>, regs: &[Rule; 32], register: u8) -> Result<(), Memory>
+fn keep(undo: &mut Vec<Undo>, regs: &RuleMap, register: u8) -> Result<(), Memory>
     requires { register < 32 }
     ensures same { IfOk result (λ done. (rule : Rule)
         → remembered_of (slice_set regs.now register rule) (reverse undo.new.items)
@@ -52,13 +53,13 @@ fn keep(undo: &mut Vec<Undo>, regs: &[Rule; 32], register: u8) -> Result<(), Mem
     if undo.is_empty() {
         return Ok(());
     }
-    let rule = regs[register as usize];
+    let rule = regs.rule(register);
     undo.push(Undo::Change { register, rule })?;
     Ok(())
 }
 
 /// Goes back to the state that was remembered last, and gives its rule for the canonical frame address.
-fn undone(regs: &mut [Rule; 32], undo: &mut Vec<Undo>) -> Option<Cfa>
+fn undone(regs: &mut RuleMap, undo: &mut Vec<Undo>) -> Option<Cfa>
     requires { IsMarked (reverse undo.old.items) }
     ensures state { MatchOption result ((remembered_of regs.old (reverse undo.old.items) ≡ []) × (regs.new ≡ regs.old)
         × (undo.new.items ≡ []))
@@ -72,7 +73,7 @@ fn undone(regs: &mut [Rule; 32], undo: &mut Vec<Undo>) -> Option<Cfa>
     while let Some(last) = undo.pop() {
         match last {
             Undo::Mark(cfa) => return Some(cfa),
-            Undo::Change { register, rule } => regs[(register % 32) as usize] = rule,
+            Undo::Change { register, rule } => regs.set(register % 32, rule),
         }
     }
     None
@@ -84,7 +85,7 @@ impl RegisterRules {
         ensures { result ≡ record { regs = all_same_value; remembered = [] } }
     {
         RegisterRules {
-            regs: [Rule::Kept; 32],
+            regs: RuleMap::kept(),
             undo: Vec::new(alloc),
         }
     }
@@ -92,7 +93,14 @@ impl RegisterRules {
     pub(crate) fn regs(&self) -> [Rule; 32]
         ensures { result ≡ self.now.regs }
     {
-        self.regs
+        self.regs.rules()
+    }
+
+    /// The rules with these others.
+    pub(crate) fn lent(&self, cfa: Cfa, return_register: u8) -> RulesRef<'_>
+        ensures { result ≡ record { cfa = cfa; regs = self.now.regs; return_register = return_register } }
+    {
+        self.regs.lent(cfa, return_register)
     }
 
     /// A rule for a register; those of registers from 32 on are passed over.
@@ -103,7 +111,7 @@ impl RegisterRules {
             return Ok(());
         }
         keep(&mut self.undo, &self.regs, register as u8)?;
-        self.regs[register as usize] = rule;
+        self.regs.set(register as u8, rule);
         Ok(())
     }
 

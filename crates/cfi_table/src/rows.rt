@@ -10,7 +10,7 @@ use crate::extent::{instructions, size_of};
 use crate::fault::FrameFault;
 use crate::fde::Fde;
 use crate::interpreter::Interpreter;
-use crate::rules::{Rule, Rules};
+use crate::rules::{Rule, RulesRef};
 use address_ranges::HasRange;
 use prof_bytes::{Fail, Memory, Reader};
 use std::alloc::Global;
@@ -23,10 +23,10 @@ pub struct Row {
     pub start: u32,
     /// The address behind the last, 2^32 at most.
     pub end: u64,
-    pub rules: Option<Rules>,
 }
 
-/// The rows of an FDE, one after another. Each instruction is carried out once for all of them.
+/// The rows of an FDE, one after another. Each instruction is carried out once for all of them. The rules of the last
+/// row that was made are lent, until the next one is.
 #[derive(Drop)]
 pub struct Rows<'a> {
     section: &'a [u8],
@@ -35,15 +35,22 @@ pub struct Rows<'a> {
     state: Interpreter,
     reader: Reader<'a, FrameFault>,
     next: Option<u32>,
+    /// Whether a row was made, and the instructions up to its end are not at fault.
+    has_rules: bool,
 }
 
 impl<'a> Model for Rows<'a> {
     ghost use Rattle.cfi_table.specs.Rows.{FdeRows};
-    ghost use Rattle.cfi_table.specs.private.Walking.{AreRows};
+    ghost use Rattle.cfi_table.specs.private.Walking.{AreRows, rules_made};
 
     ghost Value = { FdeRows };
 
-    ghost view = { λ rows. record { section = rows.section.now; fde = rows.fde; next = rows.next } };
+    ghost view = { λ rows. record {
+      section = rows.section.now;
+      fde = rows.fde;
+      next = rows.next;
+      rules = rules_made rows.has_rules rows.fde rows.state;
+    } };
 
     ghost invariant = { λ rows. AreRows rows.section.now rows.fde rows.initial rows.state rows.reader rows.next };
 }
@@ -71,20 +78,6 @@ fn row_end(fde: &Fde, start: u32, location: u32) -> u64
     }
 }
 
-fn rules_with(fde: &Fde, state: &Interpreter) -> Rules
-    ensures { result ≡ record {
-      cfa = state.now.cfa;
-      regs = state.now.regs;
-      return_register = fde.now.cie.return_address_register;
-    } }
-{
-    Rules {
-        cfa: state.cfa(),
-        regs: state.regs(),
-        return_register: fde.cie.return_address_register,
-    }
-}
-
 impl<'a> Rows<'a> {
     /// The rows of the FDE from its first address on; nothing where its CIE's instructions are at fault.
     #[tactic(auto, unfolding(crate::specs::Entries::after_fde, crate::specs::Entries::after_cie))]
@@ -98,6 +91,7 @@ impl<'a> Rows<'a> {
           section = section.now;
           fde = fde.now;
           next = row_from fde.now fde.now.initial_location;
+          rules = None;
         })) }
     {
         let mut state = Interpreter::none(alloc);
@@ -116,6 +110,7 @@ impl<'a> Rows<'a> {
             state,
             reader: instructions(section, &fde.instructions),
             next: row_from(fde, fde.initial_location),
+            has_rules: false,
         }))
     }
 
@@ -137,26 +132,37 @@ impl<'a> Rows<'a> {
             return Ok(None);
         };
         self.next = None;
+        self.has_rules = false;
         let factors = self.fde.cie.factors;
         match self
             .state
             .run(Some(start), &self.initial, &factors, &mut self.reader)
         {
             Ok(()) => {
+                self.has_rules = true;
                 let location = self.state.location();
                 let end = row_end(&self.fde, start, location);
-                let rules = Some(rules_with(&self.fde, &self.state));
                 if start < location {
                     self.next = row_from(&self.fde, location);
                 }
-                Ok(Some(Row { start, end, rules }))
+                Ok(Some(Row { start, end }))
             }
             Err(Fail::Fault(_)) => Ok(Some(Row {
                 start,
                 end: self.fde.range().end,
-                rules: None,
             })),
             Err(Fail::Memory(memory)) => Err(memory),
+        }
+    }
+
+    /// The rules of the row that was made last; nothing where none was, or its instructions are at fault.
+    pub fn rules(&self) -> Option<RulesRef<'_>>
+        ensures { result ≡ self.now.rules }
+    {
+        if self.has_rules {
+            Some(self.state.rules(self.fde.cie.return_address_register))
+        } else {
+            None
         }
     }
 }

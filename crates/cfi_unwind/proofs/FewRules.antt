@@ -6,9 +6,10 @@ use Rattle.std.proofs.lemmas.List.{append-nil, get_or-set_other, length-set, map
 use Rattle.std.proofs.lemmas.List.Elements.{filter_map-append}
 use Rattle.std.proofs.lemmas.List.Folds.{list_any-append, list_any_at, list_any_more}
 use Rattle.std.proofs.lemmas.List.FromFn.{map-range_with_len_more}
+use Rattle.prof_bytes.proofs.Tests.{or_false}
 use Rattle.cfi_table.specs.declared.rules.Rule.{Rule}
 use Rattle.cfi_table.specs.declared.rules.Rule.TheVariants as rules
-use Rattle.cfi_table.specs.Rules.{rule_at}
+use Rattle.cfi_table.specs.Rules.{rule_at, AreSameValue}
 use Rattle.cfi_unwind.specs.declared.unwind_rule.RegisterRule.{RegisterRule}
 use Rattle.cfi_unwind.specs.declared.saved_registers.SavedRegister.{SavedRegister}
 use Rattle.cfi_unwind.specs.Caller.{Words, sum, is_expression, is_unmapped, recovered, recovered_all}
@@ -155,10 +156,6 @@ rule_next : (words : Words) (cfa : ℕ) (regs : List Rule) (n : ℕ) → n < len
 rule_next words cfa regs n low =
     list_any_more (is_unmapped words cfa) regs n rules.Kept low ∙ ap (λ (rule : Rule). list_any (is_unmapped words cfa) (take n regs) || is_unmapped words cfa rule) (rule_here regs n rules.Kept low)
 
-or_false : (b : Bool) → (b || false) ≡ b
-or_false true = refl
-or_false false = refl
-
 kept_next : (words : Words) (registers : List ℕ) (cfa : ℕ) (regs : List Rule) (n : ℕ) (values : List ℕ) → n < 32 → length regs ≡ 32 → is_kept (rule_at regs n) ≡ true
     → RecoveredTo words registers cfa regs n (not_kept_to regs n) values → RecoveredTo words registers cfa regs (n + 1) (not_kept_to regs (n + 1)) values
 kept_next words registers cfa regs n values low full kept before =
@@ -269,6 +266,16 @@ saved_on regs n j d rule offset saved next low full same looked is pushed before
           ∙ sym (takes_rule regs n (ap is_kept here));
       expression = no_more regs n j d rule low full same looked (ap is_expression is) before.expression;
     }
+
+-- registers that are kept up to another one
+pub kept_up_to : (regs : List Rule) (from count to : ℕ) (saved : List SavedRegister) → from + count ≡ to → to ≤ 32 → length regs ≡ 32 → AreSameValue regs from to → SavedTo regs from saved → SavedTo regs to saved
+kept_up_to regs from zero to saved end low full same before = subst (λ (n : ℕ). SavedTo regs n saved) (omega arith) before
+kept_up_to regs from (suc count) to saved end low full same before =
+    let last : ℕ = from + count in
+    let under : last < 32 = omega arith in
+    let kept : get_or regs last rules.Kept ≡ rules.Kept = rule_here regs last rules.Kept (omega arith) ∙ same last (omega arith) (omega arith) in
+    let so_far = kept_up_to regs from count last saved refl (omega arith) full (λ register above below. same register above (omega arith)) before in
+    subst (λ (n : ℕ). SavedTo regs n saved) (omega arith) (kept_on regs last last rules.Kept (get_or regs last rules.Kept) saved under full refl refl kept so_far)
 
 pub all_saved : (regs : List Rule) (n : ℕ) (saved : List SavedRegister) → n ≡ 32 → length regs ≡ 32 → SavedTo regs n saved → AreSaved saved regs
 all_saved regs n saved end full done = record {

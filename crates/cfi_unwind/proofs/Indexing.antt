@@ -1,15 +1,16 @@
 -- An index to which unwind rules are added, and what is found in it.
-use Rattle.std.proofs.Common.{Bor, cond, ◌≡◌, ℕ, ◌+◌, ◌-◌, ◌*◌, ◌<◌, ◌≤◌, ◌^◌, List, [], length, get_or, set, replicate, Option, Some, None, inl, inr, refl, sym, subst, ap, ◌∙◌, arith}
-use Rattle.std.specs.Prelude.{IfSome, MatchOption, ◌⊎◌, slice_get, unwrap_or, option_map, min, nat_le, nat_lt, ◌&&◌, true, false, Bool}
+use Rattle.std.proofs.Common.{Bor, cond, ◌≡◌, ℕ, ◌+◌, ◌-◌, ◌*◌, ◌<◌, ◌≤◌, ◌^◌, List, [], ◌∷◌, length, get_or, set, map, Option, Some, None, inl, inr, refl, sym, subst, ap, ◌∙◌, arith}
+use Rattle.std.specs.Prelude.{IfSome, MatchOption, ◌⊎◌, find, is_some, not, slice_get, unwrap_or, option_map, min, nat_le, nat_lt, ◌&&◌, true, false, Bool}
 use Rattle.std.specs.Option.{option_copied, option_and_then}
 use Rattle.std.proofs.lemmas.Bool.{cases_lt}
 use Rattle.std.proofs.lemmas.Bool.Decides.{nat_tests}
-use Rattle.std.proofs.lemmas.List.{get_or-replicate, get_or-set_same, get_or-set_other, length-replicate, length-set}
+use Rattle.std.proofs.lemmas.List.{get_or-set_same, get_or-set_other, length-set}
 use Rattle.std.proofs.lemmas.Option.{slice_get_past, unwrap_or-slice_get}
+use Rattle.prof_bytes.proofs.Tests.{some_same}
 use Rattle.cfi_table.specs.declared.fde.Fde.{Fde}
 use Rattle.cfi_table.specs.declared.rows.Row.{Row}
 use Rattle.cfi_table.specs.declared.rules.Rules.{Rules}
-use Rattle.cfi_table.specs.Frames.{Frames, fde_at, range_of, rules_of, rules_at}
+use Rattle.cfi_table.specs.Frames.{Frames, fde_at, range_of, rules_of, rules_at, least_above, lesser}
 use Rattle.cfi_table.specs.Rows.{FdeRows, row_from, IsNextRow, AreFirst}
 use Rattle.cfi_unwind.specs.declared.index.Index.{Index}
 use Rattle.cfi_unwind.specs.declared.unwind_rule.UnwindRule.{UnwindRule}
@@ -53,39 +54,6 @@ still_id : (unwind_rules after : List UnwindRule) (id : ℕ) (found : Option Rul
 still_id unwind_rules after id found keeps (inl none) = inl none
 still_id unwind_rules after id found keeps (inr at) = inr (keeps id found at)
 
-pub none_is : (frames : Frames) (first : ℕ) (index : Index) → index.ids.items ≡ [] → index.unwind_rules.items ≡ [] → IsIndex frames index
-none_is frames first index ids unwind_rules =
-    let none : length index.ids.items ≡ 0 = ap (λ (ps : List ℕ). length ps) ids in
-    record {
-      ids = λ k lt. absurd (omega arith);
-      nowhere = λ some. absurd (omega arith);
-      few = (let few : length index.unwind_rules.items ≡ 0 = ap (λ (ss : List UnwindRule). length ss) unwind_rules in omega arith);
-    }
-
-pub unset_is : (frames : Frames) (index : Index) (count : ℕ) → index.ids.items ≡ replicate count no_id → IsAt index.unwind_rules.items 0 None → length index.unwind_rules.items ≤ 1 → IsIndex frames index
-unset_is frames index count ids at few =
-    let len : length index.ids.items ≡ count = ap (λ (ps : List ℕ). length ps) ids ∙ length-replicate count no_id in
-    record {
-      ids = λ k lt. inl (ap (λ (ps : List ℕ). get_or ps k 0) ids ∙ get_or-replicate count k no_id 0 (omega arith));
-      nowhere = λ some. at;
-      few = omega arith;
-    }
-
--- unwind rules are added, and the ids stay
-pub keeps_ids : (frames : Frames) (index after : Index) → after.first ≡ index.first → after.ids.items ≡ index.ids.items → KeepsRules index.unwind_rules.items after.unwind_rules.items → length after.unwind_rules.items ≤ 2 ^ 20
-    → KeepsIndex frames index after
-keeps_ids frames index after first ids keeps few is = record {
-  ids = λ k lt.
-      let P : ℕ → List ℕ → Type 0 = λ f ps. IsId after.unwind_rules.items (get_or ps k 0) (rules_at frames (4 * (f + k))) in
-      let len : length after.ids.items ≡ length index.ids.items = ap (λ (ps : List ℕ). length ps) ids in
-      let there = still_id index.unwind_rules.items after.unwind_rules.items (get_or index.ids.items k 0) (rules_at frames (4 * (index.first + k))) keeps (is.ids k (omega arith)) in
-      subst (λ (f : ℕ). P f after.ids.items) (sym first) (subst (λ (ps : List ℕ). P index.first ps) (sym ids) there);
-  nowhere = λ some.
-      let len : length after.ids.items ≡ length index.ids.items = ap (λ (ps : List ℕ). length ps) ids in
-      keeps 0 None (is.nowhere (omega arith));
-  few = few;
-}
-
 -- and some ids are set to that of an unwind rule that follows the rules there
 pub keeps_filled : (frames : Frames) (index after : Index) (low high id : ℕ) → after.first ≡ index.first → IsFilled index.ids.items after.ids.items low high id → KeepsRules index.unwind_rules.items after.unwind_rules.items
     → length after.unwind_rules.items ≤ 2 ^ 20 → ((k : ℕ) → low ≤ k → k < high → IsAt after.unwind_rules.items id (rules_at frames (4 * (index.first + k))))
@@ -114,20 +82,6 @@ keeps_filled frames index after low high id first filled keeps few follows is = 
 
 -- ---- rows
 
--- the words of a row's addresses have its rules
-pub row_there : (frames : Frames) (row : Row) (first start end low high k : ℕ) → IsRowIn frames row → row.start ≤ 4 * start → 4 * end < row.end + 4 → start - first ≤ low → high ≤ end - first → low ≤ k → k < high
-    → rules_at frames (4 * (first + k)) ≡ row.rules
-row_there frames row first start end low high k is from to at_low at_high le lt = is (4 * (first + k)) (omega arith) (omega arith)
-
-pub keeps_row : (frames : Frames) (index after : Index) (row : Row) (start end low high id : ℕ) → after.first ≡ index.first → IsFilled index.ids.items after.ids.items low high id → KeepsRules index.unwind_rules.items after.unwind_rules.items
-    → length after.unwind_rules.items ≤ 2 ^ 20 → IsAt after.unwind_rules.items id row.rules → row.start ≤ 4 * start → 4 * end < row.end + 4 → start - index.first ≤ low → high ≤ end - index.first
-    → IsRowIn frames row → KeepsIndex frames index after
-keeps_row frames index after row start end low high id first filled keeps few at from to at_low at_high is =
-    keeps_filled frames index after low high id first filled keeps few (λ k le lt.
-    let there = row_there frames row index.first start end low high k is from to at_low at_high le lt in
-    let P : Option Rules → Type 0 = λ o. IsAt after.unwind_rules.items id o in
-    subst P (sym there) at)
-
 -- one id is set, or is not
 pub keeps_one : (frames : Frames) (index after : Index) (k id pc : ℕ) → after.first ≡ index.first → after.ids.items ≡ set index.ids.items k id → k < length index.ids.items → KeepsRules index.unwind_rules.items after.unwind_rules.items
     → length after.unwind_rules.items ≤ 2 ^ 20 → pc ≡ 4 * (index.first + k) → IsAt after.unwind_rules.items id (rules_at frames pc) → KeepsIndex frames index after
@@ -142,11 +96,11 @@ in_range : (low high n : ℕ) → low ≤ n → n < high → (nat_le low n && na
 in_range low high n le lt = grind (arith, nat_tests)
 
 -- what the next row of an FDE that is the first to hold its addresses says
-pub row_is_in : (frames : Frames) (rows before after : FdeRows) (row : Row) → AreFirst frames rows → before.section ≡ rows.section → before.fde ≡ rows.fde → IsNextRow before after row → IsRowIn frames row
-row_is_in frames rows before after row first section fde next address from to =
+pub row_is_in : (frames : Frames) (rows before after : FdeRows) (row : Row) (found : Option Rules) → AreFirst frames rows → before.section ≡ rows.section → before.fde ≡ rows.fde → IsNextRow before after row → found ≡ after.rules → IsRowIn frames row found
+row_is_in frames rows before after row found first section fde next is address from to =
     let low = next.is.low in
     let high = next.is.within in
-    let own : rules_of before.section address before.fde ≡ row.rules = next.is.rules address from to in
+    let own : rules_of before.section address before.fde ≡ after.rules = next.is.rules address from to in
     let is_low : (range_of before.fde).start ≡ (range_of rows.fde).start = ap (λ (f : Fde). (range_of f).start) fde in
     let is_high : (range_of before.fde).end ≡ (range_of rows.fde).end = ap (λ (f : Fde). (range_of f).end) fde in
     let a : (range_of rows.fde).start ≤ address = omega arith in
@@ -156,6 +110,7 @@ row_is_in frames rows before after row first section fde next address from to =
     ∙ ap (λ (s : List ℕ). rules_of s address rows.fde) (sym (section ∙ first.section))
     ∙ ap (λ (f : Fde). rules_of before.section address f) (sym fde)
     ∙ own
+    ∙ sym is
 
 pub next_is : (found : Option Row) (row : Row) (before after : FdeRows) → found ≡ Some row → MatchOption found (before.next ≡ None) (IsNextRow before after) → IsNextRow before after row
 next_is found row before after is next = subst (λ (o : Option Row). MatchOption o (before.next ≡ None) (IsNextRow before after)) is next
@@ -181,12 +136,56 @@ room_shrinks before after row fde next =
 
 -- ---- addresses that no FDE holds
 
-pub held_by_none : (frames : Frames) (address : ℕ) → option_map (λ (f : Fde). f.offset) (fde_at frames address) ≡ None → rules_at frames address ≡ None
-held_by_none frames address is = go (fde_at frames address) is
+-- no FDE holds an address from one on that none holds and above which none starts
+abbrev held : ℕ → Fde → Bool
+held address fde = nat_le fde.initial_location address && nat_lt address (fde.initial_location + fde.address_range)
+
+not_held : (pc address : ℕ) (fde : Fde) → pc ≤ address → held pc fde ≡ false → nat_lt pc fde.initial_location ≡ false → held address fde ≡ false
+not_held pc address fde le none above = grind (arith, nat_tests)
+
+held_by_none_from : (fdes : List Fde) (pc address : ℕ) → pc ≤ address → find (held pc) fdes ≡ None → least_above pc (map (λ (f : Fde). f.initial_location) fdes) ≡ None → find (held address) fdes ≡ None
+held_by_none_from [] pc address le none above = refl
+held_by_none_from (fde ∷ fdes) pc address le none above = go (held_by_none_from fdes pc address le) (held pc fde) (nat_lt pc fde.initial_location) refl refl none above
   where
-    go : (o : Option Fde) → option_map (λ (f : Fde). f.offset) o ≡ None → option_and_then (rules_of frames.section address) o ≡ None
-    go None e = refl
-    go (Some fde) e = absurd cc
+    Above : Bool → Type 0
+    Above b = (let o : Option ℕ = cond b (lesser fde.initial_location (least_above pc (map (λ (f : Fde). f.initial_location) fdes))) (least_above pc (map (λ (f : Fde). f.initial_location) fdes)) in o) ≡ None
+
+    Found : Bool → Type 0
+    Found b = (let o : Option Fde = cond b (Some fde) (find (held pc) fdes) in o) ≡ None
+
+    some : (o : Option ℕ) → lesser fde.initial_location o ≡ None → ⊥
+    some None e = absurd cc
+    some (Some n) e = absurd cc
+
+    go : (find (held pc) fdes ≡ None → least_above pc (map (λ (f : Fde). f.initial_location) fdes) ≡ None → find (held address) fdes ≡ None) → (here later : Bool) → held pc fde ≡ here → nat_lt pc fde.initial_location ≡ later → Found here → Above later → find (held address) (fde ∷ fdes) ≡ None
+    go rest true later is at found up = absurd cc
+    go rest false true is at found up = absurd (some (least_above pc (map (λ (f : Fde). f.initial_location) fdes)) up)
+    go rest false false is at found up = rw (not_held pc address fde le is at) (rest found up)
+
+no_rules : (frames : Frames) (address : ℕ) → fde_at frames address ≡ None → rules_at frames address ≡ None
+no_rules frames address none = ap (λ (o : Option Fde). option_and_then (rules_of frames.section address) o) none
+
+no_fde : (o : Option Fde) → option_map (λ (f : Fde). f.offset) o ≡ None → o ≡ None
+no_fde None e = refl
+no_fde (Some fde) e = absurd cc
+
+pub no_rules_from : (frames : Frames) (pc address : ℕ) → pc ≤ address → option_map (λ (f : Fde). f.offset) (fde_at frames pc) ≡ None → least_above pc (map (λ (f : Fde). f.initial_location) frames.fdes) ≡ None
+    → rules_at frames address ≡ None
+no_rules_from frames pc address le none above =
+    no_rules frames address (held_by_none_from frames.fdes pc address le (no_fde (fde_at frames pc) none) above)
+
+pub none_if : {X : Type 0} (o : Option X) (b : Bool) → is_some o ≡ not b → b ≡ true → o ≡ None
+none_if None b e is = refl
+none_if (Some x) true e is = absurd cc
+none_if (Some x) false e is = absurd cc
+
+-- words behind all FDEs get the first unwind rule
+pub keeps_last : (frames : Frames) (index after : Index) (low count : ℕ) → after.first ≡ index.first → after.unwind_rules.items ≡ index.unwind_rules.items → IsFilled index.ids.items after.ids.items low count 0 → low < length index.ids.items → count ≤ length index.ids.items
+    → ((address : ℕ) → 4 * (index.first + low) ≤ address → rules_at frames address ≡ None) → KeepsIndex frames index after
+keeps_last frames index after low count first items filled some within none is =
+    let few = is.few in
+    keeps_filled frames index after low count 0 first filled (λ id found at. subst (λ (rs : List UnwindRule). IsAt rs id found) (sym items) at) (let long = ap (λ (rs : List UnwindRule). length rs) items in omega arith)
+    (λ k le lt. subst (λ (o : Option Rules). IsAt after.unwind_rules.items 0 o) (sym (none (4 * (index.first + k)) (omega arith))) (subst (λ (rs : List UnwindRule). IsAt rs 0 None) (sym items) (is.nowhere (omega arith)))) is
 
 -- ---- the entry region
 
@@ -236,16 +235,13 @@ ends_in u index after start end low high id first filled keeps few ends start_fr
 
 -- ---- what is found
 
-some_is : {X : Type 0} (a b : X) → Some a ≡ Some b → a ≡ b
-some_is a b e = cc
-
 -- the unwind rule at an id finds the callers at the address
 rule_there : (u : Unwinding) (pc : ℕ) (unwind_rules : List UnwindRule) (id : ℕ) (r : Option (Bor UnwindRule)) → length unwind_rules ≤ 2 ^ 20 → (id ≡ no_id) ⊎ IsFinding u pc unwind_rules id → option_copied r ≡ slice_get unwind_rules id
     → IfSome r (λ unwind_rule. FindsCallers u pc unwind_rule.now)
 rule_there u pc unwind_rules id None few at e = tt
 rule_there u pc unwind_rules id (Some unwind_rule) few (inr at) e =
     let P : UnwindRule → Type 0 = λ s. FindsCallers u pc s in
-    subst P (sym (some_is unwind_rule.now at.unwind_rule (e ∙ at.stands))) at.finds
+    subst P (sym (some_same unwind_rule.now at.unwind_rule (e ∙ at.stands))) at.finds
 rule_there u pc unwind_rules id (Some unwind_rule) few (inl none) e =
     let wrong : Some unwind_rule.now ≡ None = e ∙ slice_get_past unwind_rules id (omega arith) in
     absurd cc

@@ -14,8 +14,9 @@ use Rattle.cfi_unwind.specs.declared.caller.Unwound.{Unwound}
 use Rattle.cfi_unwind.specs.declared.caller.Unwound.TheVariants.{Caller, Ends}
 use Rattle.cfi_unwind.specs.Caller.{Words, Unwinding, caller_of}
 use Rattle.cfi_unwind.specs.Chain.{frame_of}
-use Rattle.cfi_unwind.specs.Path.{within, outside, path_from}
+use Rattle.cfi_unwind.specs.Path.{within, outside, path_from, path_of}
 use Rattle.cfi_unwind.specs.declared.unwind_rule.UnwindRule.{UnwindRule}
+use Rattle.cfi_unwind.specs.declared.unwind_rule.UnwindRule.TheVariants as rules
 use Rattle.cfi_unwind.specs.declared.unwind_rule.UnwindRule.TheVariants.{ReturnSaved}
 use Rattle.cfi_unwind.specs.private.Index.{FindsCallers}
 use Rattle.cfi_unwind.specs.private.Walks.{joined, path_over}
@@ -51,6 +52,12 @@ is_full u words here frames high =
     let room : 512 - length frames ≡ 0 = omega arith in
     sym (ap (λ (r : ℕ). joined frames (path_from r u words here)) room
     ∙ ap (λ (fs : List Frame). record { end = Partial causes.Depth; frames = fs }) (append-nil frames))
+
+-- each path from an address ends there
+pub one_frame : (u : Unwinding) (words : Words) (here : Activation) (empty after : List Frame) (end : End) (path : Raw) → FindsCallers u here.pc (rules.Ends end) → length here.registers ≡ 32 → empty ≡ [] → after ≡ empty ++ frame_of here ∷ []
+    → path ≡ record { end = end; frames = after } → path ≡ path_of u here.pc here.registers words
+one_frame u words here empty after end path finds long none pushed is =
+    ends_here u words here [] after end path is (omega arith) (pushed ∙ ap (λ (fs : List Frame). fs ++ frame_of here ∷ []) none) (finds words here.registers long)
 
 -- the unwind rule that was made ready, where it is of the usual layout
 pub usual_finds : (u : Unwinding) (pc : ℕ) (ready : Option (Bor UnwindRule)) (rule : Bor UnwindRule) (cfa_offset offset : ℕ) → ready ≡ Some rule → rule.now ≡ ReturnSaved cfa_offset offset

@@ -8,7 +8,7 @@ ghost use Rattle.cfi_unwind.specs.Caller.{is_undefined, is_expression, has_expre
 ghost use Rattle.cfi_unwind.specs.Caller.{recovered_all, callers_registers, sum};
 ghost use Rattle.cfi_unwind.specs.private.Stepwise.{caller_at, caller_over, caller_from};
 
-use cfi_table::{Cfa, Rule, Rules};
+use cfi_table::{Cfa, Rule, RulesRef};
 use scope_types::{End, Look, PartialCause};
 
 /// A call of a procedure that has not returned: the address where it stands, and the registers x0 to
@@ -29,10 +29,10 @@ pub(crate) enum Unwound {
 }
 
 /// Whether the return address's rule says that there is none.
-pub(crate) fn is_outermost(rules: &Rules) -> bool
+pub(crate) fn is_outermost(rules: &RulesRef<'_>) -> bool
     ensures { result ≡ is_undefined (rule_at rules.now.regs rules.now.return_register) }
 {
-    match rules.regs.get(usize::from(rules.return_register)) {
+    match rules.regs().get(usize::from(rules.return_register())) {
         Some(rule) => matches!(rule, Rule::Undefined),
         None => false,
     }
@@ -45,10 +45,10 @@ fn any_expression(rules: &[Rule]) -> bool
 }
 
 /// Whether the rule of the canonical frame address or of a register is an expression.
-pub(crate) fn has_expression(rules: &Rules) -> bool
+pub(crate) fn has_expression(rules: &RulesRef<'_>) -> bool
     ensures { result ≡ has_expression rules.now }
 {
-    matches!(rules.cfa, Cfa::Expression) || any_expression(&rules.regs)
+    matches!(rules.cfa(), Cfa::Expression) || any_expression(rules.regs())
 }
 
 #[inline(always)]
@@ -138,22 +138,27 @@ fn caller_at(registers: &[u32; 32], return_register: u8) -> Unwound
 }
 
 /// What is found over the canonical frame address.
-fn caller_over<L: Look>(memory: &L, registers: &[u32; 32], rules: &Rules, cfa: u32) -> Unwound
+fn caller_over<L: Look>(
+    memory: &L,
+    registers: &[u32; 32],
+    rules: &RulesRef<'_>,
+    cfa: u32,
+) -> Unwound
     ensures { result ≡ caller_over (L.words memory.now) registers.now rules.now cfa }
 {
-    match recovered_all(memory, registers, cfa, &rules.regs) {
+    match recovered_all(memory, registers, cfa, rules.regs()) {
         Some(values) => {
             let mut values = values;
             values[0] = 0;
             values[2] = cfa;
-            caller_at(&values, rules.return_register)
+            caller_at(&values, rules.return_register())
         }
         None => Unwound::Ends(End::Partial(PartialCause::Unmapped)),
     }
 }
 
 /// What is found of an activation with these registers by the rules where it stands.
-fn caller_from<L: Look>(memory: &L, registers: &[u32; 32], rules: &Rules) -> Unwound
+fn caller_from<L: Look>(memory: &L, registers: &[u32; 32], rules: &RulesRef<'_>) -> Unwound
     ensures { result ≡ caller_from (L.words memory.now) registers.now rules.now }
 {
     if is_outermost(rules) {
@@ -162,7 +167,7 @@ fn caller_from<L: Look>(memory: &L, registers: &[u32; 32], rules: &Rules) -> Unw
     if has_expression(rules) {
         return Unwound::Ends(End::Partial(PartialCause::Expression));
     }
-    match cfa_of(registers, rules.cfa) {
+    match cfa_of(registers, rules.cfa()) {
         Some(cfa) => caller_over(memory, registers, rules, cfa),
         None => Unwound::Ends(End::Partial(PartialCause::NoCfa)),
     }
@@ -173,7 +178,7 @@ fn caller_from<L: Look>(memory: &L, registers: &[u32; 32], rules: &Rules) -> Unw
 pub(crate) fn caller_to<L: Look>(
     memory: &L,
     registers: &mut [u32; 32],
-    rules: &Rules,
+    rules: &RulesRef<'_>,
 ) -> Result<u32, End>
     ensures { after result registers.new ≡ caller_from (L.words memory.now) registers.old rules.now }
 {

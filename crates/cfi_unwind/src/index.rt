@@ -8,8 +8,10 @@ ghost use Rattle.cfi_table.specs.Rows.{AreFirst};
 ghost use Rattle.cfi_unwind.specs.private.Index.{no_id, IsAt, IsIndex, IsFilled, IsRowIn, KeepsIndex, KeepsRules};
 ghost use Rattle.cfi_unwind.specs.private.Index.{EndsWhole, FindsCallers, IsReady};
 
-use crate::unwind_rule::{UnwindRule, prepare};
-use cfi_table::{Cfa, FrameTable, Row, Rows, Rule, Rules};
+use crate::prepare::prepare;
+use crate::same_rules::is_same;
+use crate::unwind_rule::UnwindRule;
+use cfi_table::{FrameTable, Row, Rows, Rules, RulesRef};
 use elf_image::{Image, Segment};
 use prof_bytes::Memory;
 use scope_types::End;
@@ -41,44 +43,12 @@ pub(crate) struct Index {
     unwind_rules: Vec<UnwindRule>,
 }
 
-fn is_same_rule(rule: &Rule, other: &Rule) -> bool
-    ensures { result ≡ true → rule.now ≡ other.now }
+fn lent(rules: &Option<Rules>) -> Option<RulesRef<'_>>
+    ensures { result ≡ rules.now }
 {
-    rule == other
-}
-
-fn are_same(regs: &[Rule; 32], others: &[Rule; 32]) -> bool
-    ensures { result ≡ true → regs.now ≡ others.now }
-{
-    for number in 0..32usize {
-        if !is_same_rule(&regs[number], &others[number]) {
-            return false;
-        }
-    }
-    true
-}
-
-fn is_same_cfa(rule: &Cfa, other: &Cfa) -> bool
-    ensures { result ≡ true → rule.now ≡ other.now }
-{
-    rule == other
-}
-
-fn says_same(rules: &Rules, other: &Rules) -> bool
-    ensures { result ≡ true → rules.now ≡ other.now }
-{
-    rules.return_register == other.return_register
-        && is_same_cfa(&rules.cfa, &other.cfa)
-        && are_same(&rules.regs, &other.regs)
-}
-
-fn is_same(rules: &Option<Rules>, other: &Option<Rules>) -> bool
-    ensures { result ≡ true → rules.now ≡ other.now }
-{
-    match (rules, other) {
-        (Some(rules), Some(other)) => says_same(rules, other),
-        (None, None) => true,
-        _ => false,
+    match rules {
+        Some(rules) => Some(rules.lent()),
+        None => None,
     }
 }
 
@@ -86,12 +56,12 @@ fn is_same(rules: &Option<Rules>, other: &Option<Rules>) -> bool
 fn push_rule(
     alloc: Global,
     unwind_rules: &mut Vec<UnwindRule>,
-    rules: &Option<Rules>,
+    rules: Option<RulesRef<'_>>,
 ) -> Result<u32, Memory>
     requires { length unwind_rules.old.items < 2 ^ 20 }
     ensures keeps { KeepsRules unwind_rules.old.items unwind_rules.new.items }
     ensures few { length unwind_rules.new.items ≤ length unwind_rules.old.items + 1 }
-    ensures id { IfOk result (λ id. IsAt unwind_rules.new.items id rules.now) }
+    ensures id { IfOk result (λ id. IsAt unwind_rules.new.items id rules.entry) }
 {
     let id = unwind_rules.len() as u32;
     unwind_rules.push(prepare(alloc, rules)?)?;
@@ -194,13 +164,35 @@ fn id_of(
     if unwind_rules.len() >= MOST_RULES {
         return None;
     }
-    let id = push_rule(alloc, unwind_rules, rules).ok()?;
+    let id = push_rule(alloc, unwind_rules, lent(rules)).ok()?;
     *latest = Latest { id, rules: *rules };
     Some(id)
 }
 
-/// The id of the unwind rule at an address. Nothing where there is no memory, are too many, or not so many bytes
-/// of instructions left to be carried out.
+/// The id of the unwind rule of an address's rules. Nothing where there is no memory, are too many, or not so many
+/// bytes of instructions left to be carried out.
+#[inline(never)]
+fn id_by_rules(
+    alloc: Global,
+    table: &FrameTable,
+    unwind_rules: &mut Vec<UnwindRule>,
+    latest: &mut Latest,
+    left: &mut u64,
+    pc: u32,
+) -> Option<u32>
+    requires { length unwind_rules.old.items ≤ 2 ^ 20 }
+    ensures keeps { KeepsRules unwind_rules.old.items unwind_rules.new.items }
+    ensures few { length unwind_rules.new.items ≤ 2 ^ 20 }
+    ensures id { IsAt unwind_rules.old.items latest.old.id latest.old.rules
+        → IfSome result (λ id. IsAt unwind_rules.new.items id (rules_at table.now pc)) }
+    ensures latest { IsAt unwind_rules.old.items latest.old.id latest.old.rules
+        → IsAt unwind_rules.new.items latest.new.id latest.new.rules }
+{
+    let rules = rules_within(table, pc, left)?;
+    id_of(alloc, unwind_rules, latest, &rules)
+}
+
+/// The id of the unwind rule at an address, as `id_by_rules` finds it; that of addresses that no FDE holds is 0.
 fn id_anew(
     alloc: Global,
     table: &FrameTable,
@@ -220,8 +212,7 @@ fn id_anew(
     if table.fde_at(pc).is_none() {
         return Some(0);
     }
-    let rules = rules_within(table, pc, left)?;
-    id_of(alloc, unwind_rules, latest, &rules)
+    id_by_rules(alloc, table, unwind_rules, latest, left, pc)
 }
 
 fn id_at(ids: &[u32], number: usize) -> Option<u32>
@@ -249,8 +240,29 @@ fn first_rule(alloc: Global) -> Result<Vec<UnwindRule>, Memory>
     ensures few { IfOk result (λ unwind_rules. length unwind_rules.items ≤ 1) }
 {
     let mut unwind_rules = Vec::new(alloc);
-    push_rule(alloc, &mut unwind_rules, &None)?;
+    push_rule(alloc, &mut unwind_rules, None)?;
     Ok(unwind_rules)
+}
+
+/// From where on no id is set.
+fn last_unset(ids: &[u32]) -> usize
+    ensures { result ≤ length ids.now }
+{
+    let mut low = ids.len();
+    while low > 0 && ids[low - 1] == NO_ID {
+        low -= 1;
+    }
+    low
+}
+
+/// Whether no FDE holds the word of that number or an address behind it.
+fn is_behind(table: &FrameTable, first: u32, number: usize) -> bool
+    ensures { result ≡ true → (address : ℕ) → 4 * (first + number) ≤ address → rules_at table.now address ≡ None }
+{
+    match address_of(first, number) {
+        Some(pc) => table.fde_at(pc).is_none() && table.starts_above(pc).is_none(),
+        None => false,
+    }
 }
 
 impl Index {
@@ -280,9 +292,14 @@ impl Index {
         }
     }
 
-    /// Adds the unwind rule of a row at its addresses.
-    fn add_row(&mut self, alloc: Global, row: &Row) -> Result<(), Memory>
-        ensures { (frames : Frames) → IsRowIn frames row.now → KeepsIndex frames self.old self.new }
+    /// Adds the unwind rule of a row's rules at its addresses.
+    fn add_row(
+        &mut self,
+        alloc: Global,
+        row: Row,
+        rules: Option<RulesRef<'_>>,
+    ) -> Result<(), Memory>
+        ensures { (frames : Frames) → IsRowIn frames row rules.entry → KeepsIndex frames self.old self.new }
     {
         let first = u64::from(self.first);
         let count = self.ids.len();
@@ -291,7 +308,7 @@ impl Index {
         if low >= high || self.unwind_rules.len() >= MOST_RULES {
             return Ok(());
         }
-        let id = push_rule(alloc, &mut self.unwind_rules, &row.rules)?;
+        let id = push_rule(alloc, &mut self.unwind_rules, rules)?;
         fill(&mut self.ids, low, high, id);
         Ok(())
     }
@@ -301,7 +318,7 @@ impl Index {
         ensures { (frames : Frames) → AreFirst frames rows.old → KeepsIndex frames self.old self.new }
     {
         while let Some(row) = rows.next_row()? {
-            self.add_row(alloc, &row)?;
+            self.add_row(alloc, row, rows.rules())?;
         }
         Ok(())
     }
@@ -321,6 +338,17 @@ impl Index {
             }
         }
         Ok(())
+    }
+
+    /// Sets the ids behind the last FDE, which none holds.
+    fn add_last(&mut self, table: &FrameTable)
+        ensures { KeepsIndex table.now self.old self.new }
+    {
+        let count = self.ids.len();
+        let low = last_unset(&self.ids);
+        if low < count && is_behind(table, self.first, low) {
+            fill(&mut self.ids, low, count, 0);
+        }
     }
 
     /// Adds the unwind rules of the addresses that have none still, one after another. Most of them no FDE holds.
@@ -369,6 +397,7 @@ impl Index {
         let mut index = Index::unset(alloc, first, last.saturating_sub(first) as usize);
         let mut left = MOST_BYTES;
         if index.add_fdes(alloc, table, &mut left).is_ok() {
+            index.add_last(table);
             index.add_others(alloc, table, &mut left);
         }
         index

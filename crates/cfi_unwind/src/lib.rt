@@ -9,7 +9,9 @@
 mod caller;
 mod index;
 mod laws;
+mod prepare;
 mod region;
+mod same_rules;
 mod saved_registers;
 mod unwind_rule;
 mod unwinder;

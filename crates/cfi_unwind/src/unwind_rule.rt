@@ -1,43 +1,38 @@
 //! The rules at an address in a short form: how the path ends there, or where the caller's values are
 //! of the few registers that are not kept.
-ghost use Rattle.std.specs.Prelude.{◌≡◌, ◌≤◌, ℕ, List, None, IfOk, IfSome, MatchBool, get_or, length, map, take};
+ghost use Rattle.std.specs.Prelude.{◌≡◌, ◌≤◌, ℕ, List, None, IfOk, IfSome, MatchBool, get_or, length, map};
 ghost use Rattle.std.specs.Prelude.{false, true};
 ghost use Rattle.std.specs.List.{list_any, slice_set};
-ghost use Rattle.cfi_unwind.specs.private.UnwindRules.{is_kept, after, recovered_each, is_unmapped_register};
-ghost use Rattle.cfi_unwind.specs.private.UnwindRules.{saved_rule};
-ghost use Rattle.cfi_unwind.specs.Caller.{Words, is_undefined};
-ghost use Rattle.cfi_table.specs.Rules.{rule_at};
+ghost use Rattle.cfi_unwind.specs.private.UnwindRules.{after, recovered_each, is_unmapped_register, saved_rule};
+ghost use Rattle.cfi_unwind.specs.Caller.{Words};
 ghost use Rattle.scope_types.specs.Memory.{HasWords};
 ghost use Rattle.cfi_unwind.specs.declared.caller.Unwound.TheVariants.{Caller};
 ghost use Rattle.cfi_unwind.specs.private.UnwindRules.{cfa_by, usual, returned, left_with, unwound_with, unwound_by};
-ghost use Rattle.cfi_unwind.specs.private.UnwindRules.{AreSaved, Recovers, Follows, FollowsSome};
 
-use crate::caller::{call_of, has_expression, is_outermost, recovered, value_of};
+use crate::caller::{call_of, recovered, value_of};
 use crate::saved_registers::{SavedRegister, SavedRegisters};
-use cfi_table::{Cfa, Rule, Rules};
-use prof_bytes::Memory;
+use cfi_table::Rule;
 use scope_types::{End, Look, MemorySlice, PartialCause};
-use std::alloc::Global;
 
 /// The numbers of the registers that the psABI calls ra and sp.
-const RETURN_ADDRESS: u8 = 1;
+pub(crate) const RETURN_ADDRESS: u8 = 1;
 
-const STACK_POINTER: u8 = 2;
+pub(crate) const STACK_POINTER: u8 = 2;
 
 /// A register that is not kept, and its rule.
 #[derive(Clone, Copy, Debug)]
 pub(crate) struct RegisterRule {
-    register: u8,
-    rule: Rule,
+    pub(crate) register: u8,
+    pub(crate) rule: Rule,
 }
 
 /// Of which register's value the canonical frame address is how many bytes away, and which register has the
 /// return address in the caller.
 #[derive(Clone, Copy, Debug)]
 pub(crate) struct FrameLayout {
-    cfa_register: u8,
-    cfa_offset: u32,
-    return_register: u8,
+    pub(crate) cfa_register: u8,
+    pub(crate) cfa_offset: u32,
+    pub(crate) return_register: u8,
 }
 
 /// What the rules say of each activation at an address. Where there is a layout there is a caller, unless memory
@@ -64,149 +59,6 @@ fn usual(cfa_offset: u32) -> FrameLayout
         cfa_register: STACK_POINTER,
         cfa_offset,
         return_register: RETURN_ADDRESS,
-    }
-}
-
-fn is_kept(rule: &Rule) -> bool
-    ensures { result ≡ is_kept rule.now }
-{
-    matches!(*rule, Rule::Kept)
-}
-
-/// The registers that are not kept, in their order: those before a count.
-fn not_kept(rules: &[Rule; 32]) -> ([RegisterRule; 32], usize)
-    ensures few { result.1 ≤ 32 }
-    ensures recovers { Recovers (take result.1 result.0) rules.now }
-{
-    let nothing = RegisterRule {
-        register: 0,
-        rule: Rule::Kept,
-    };
-    let mut registers = [nothing; 32];
-    let mut count = 0;
-    for register in 0..32u8 {
-        let rule = rules[usize::from(register)];
-        if !is_kept(&rule) {
-            registers[count] = RegisterRule { register, rule };
-            count += 1;
-        }
-    }
-    (registers, count)
-}
-
-/// The saved registers, where each of the others is kept and there are not too many.
-fn saved_of(rules: &[Rule; 32]) -> Option<SavedRegisters>
-    ensures { IfSome result (λ saved. AreSaved saved rules.now) }
-{
-    let mut saved = SavedRegisters::none();
-    for register in 0..32u8 {
-        match rules[usize::from(register)] {
-            Rule::Kept => {}
-            Rule::Saved(offset) => {
-                if !saved.push(SavedRegister { register, offset }) {
-                    return None;
-                }
-            }
-            _ => return None,
-        }
-    }
-    Some(saved)
-}
-
-fn is_usual(layout: &FrameLayout) -> bool
-    ensures { result ≡ true → layout.now ≡ usual layout.now.cfa_offset }
-{
-    layout.cfa_register == STACK_POINTER && layout.return_register == RETURN_ADDRESS
-}
-
-/// The offset at which the return address is saved, where x1 is the only register that is not kept.
-fn return_offset(saved: &[SavedRegister]) -> Option<u32>
-    ensures { IfSome result (λ offset. returned offset ≡ map saved_rule saved.now) }
-{
-    match saved {
-        [only] if only.register == RETURN_ADDRESS => Some(only.offset),
-        _ => None,
-    }
-}
-
-/// The unwind rule of a layout and the registers that are saved, in the form that takes least time.
-fn rule_of(layout: FrameLayout, saved: SavedRegisters) -> UnwindRule
-    ensures { (words : Words) (before : List ℕ)
-        → unwound_by words before result ≡ unwound_with words before layout (map saved_rule saved) }
-{
-    if is_usual(&layout) {
-        if let Some(offset) = return_offset(saved.as_slice()) {
-            return UnwindRule::ReturnSaved {
-                cfa_offset: layout.cfa_offset,
-                offset,
-            };
-        }
-    }
-    UnwindRule::Saved(layout, saved)
-}
-
-/// The unwind rule of rules by which each register is kept or saved, and there is a return address.
-fn rule_by_saved(rules: &Rules, saved: SavedRegisters) -> UnwindRule
-    requires address { is_undefined (rule_at rules.now.regs rules.now.return_register) ≡ false }
-    requires saved { AreSaved saved rules.now.regs }
-    ensures { FollowsSome result rules.now }
-{
-    match rules.cfa {
-        Cfa::Register { reg, offset } => {
-            let layout = FrameLayout {
-                cfa_register: reg,
-                cfa_offset: offset,
-                return_register: rules.return_register,
-            };
-            rule_of(layout, saved)
-        }
-        Cfa::Missing => UnwindRule::Ends(End::Partial(PartialCause::NoCfa)),
-        Cfa::Expression => UnwindRule::Ends(End::Partial(PartialCause::Expression)),
-    }
-}
-
-/// The unwind rule of any rules by which there is a return address.
-fn rule_by_all(alloc: Global, rules: &Rules) -> Result<UnwindRule, Memory>
-    requires { is_undefined (rule_at rules.now.regs rules.now.return_register) ≡ false }
-    ensures { IfOk result (λ unwind_rule. FollowsSome unwind_rule rules.now) }
-{
-    if has_expression(rules) {
-        return Ok(UnwindRule::Ends(End::Partial(PartialCause::Expression)));
-    }
-    match rules.cfa {
-        Cfa::Register { reg, offset } => {
-            let layout = FrameLayout {
-                cfa_register: reg,
-                cfa_offset: offset,
-                return_register: rules.return_register,
-            };
-            let (registers, count) = not_kept(&rules.regs);
-            Ok(UnwindRule::Mixed(layout, Vec::from_slice(alloc, &registers[..count])?))
-        }
-        _ => Ok(UnwindRule::Ends(End::Partial(PartialCause::NoCfa))),
-    }
-}
-
-/// The unwind rule of rules that are in force.
-fn rule_by(alloc: Global, rules: &Rules) -> Result<UnwindRule, Memory>
-    ensures { IfOk result (λ unwind_rule. FollowsSome unwind_rule rules.now) }
-{
-    if is_outermost(rules) {
-        return Ok(UnwindRule::Ends(End::Whole));
-    }
-    match saved_of(&rules.regs) {
-        Some(saved) => Ok(rule_by_saved(rules, saved)),
-        None => rule_by_all(alloc, rules),
-    }
-}
-
-/// The unwind rule of the rules at an address, if there are any.
-pub(crate) fn prepare(alloc: Global, rules: &Option<Rules>) -> Result<UnwindRule, Memory>
-    ensures { IfOk result (λ unwind_rule. Follows unwind_rule rules.now) }
-{
-    match rules {
-        Some(rules) => rule_by(alloc, rules),
-        None => Ok(UnwindRule::Ends(End::Partial(PartialCause::NoFde))),
     }
 }
 
@@ -249,7 +101,11 @@ fn word_far<'m, L: Look>(memory: &'m L, at: u32) -> (MemorySlice<'m>, Option<u32
     ensures near { HasWords (L.words memory.now) result.0 }
     ensures word { result.1 ≡ L.words memory.now at }
 {
-    (memory.slice(at), memory.word(at))
+    let near = memory.slice(at);
+    match near.word(at) {
+        Some(word) => (near, Some(word)),
+        None => (near, memory.word(at)),
+    }
 }
 
 /// The word at an address: from the bytes that are near, where it lies in them. Else bytes about it are near then.

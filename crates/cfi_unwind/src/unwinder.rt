@@ -1,9 +1,10 @@
 //! The call path of an instruction.
-ghost use Rattle.std.specs.Prelude.{◌≡◌, ◌≤◌, IfOk, IfSome, length, nat_lt};
+ghost use Rattle.std.specs.Prelude.{◌≡◌, ◌≤◌, [], IfOk, IfSome, length, nat_lt};
 ghost use Rattle.cfi_unwind.specs.private.Walks.{GoesOn};
 ghost use Rattle.cfi_unwind.specs.Caller.{caller_of};
 ghost use Rattle.cfi_unwind.specs.private.UnwindRules.{after};
 ghost use Rattle.cfi_unwind.specs.private.Index.{FindsCallers};
+ghost use Rattle.cfi_unwind.specs.declared.unwind_rule.UnwindRule.TheVariants.{Ends};
 ghost use Rattle.cfi_unwind.specs.Path.{path_of, unwinding_of};
 ghost use Rattle.scope_types.specs.Memory.{HasWords};
 
@@ -110,7 +111,7 @@ impl<'a> Unwinder<'a> {
             return Ok(Err(End::Whole));
         }
         match self.table.rules_at(pc)? {
-            Some(rules) => Ok(caller_to(memory, registers, &rules)),
+            Some(rules) => Ok(caller_to(memory, registers, &rules.lent())),
             None => Ok(Err(End::Partial(PartialCause::NoFde))),
         }
     }
@@ -185,11 +186,31 @@ fn has_room(frames: &Vec<Frame>) -> bool
     frames.len() < MOST_FRAMES
 }
 
-impl<'a> Unwind for Unwinder<'a> {
-    ghost path_of = { path_of };
+impl<'a> Unwinder<'a> {
+    /// How each path from an address ends there, if that was made ready.
+    #[inline(always)]
+    fn end_at(&self, pc: u32) -> Option<End>
+        ensures { IfSome result (λ end. FindsCallers self.now pc (Ends end)) }
+    {
+        match self.ready_at(pc) {
+            Some(UnwindRule::Ends(end)) => Some(*end),
+            _ => None,
+        }
+    }
 
-    fn path<L: Look>(&self, pc: u32, regs: &[u32; 32], memory: &L) -> Result<RawPath, Memory> {
-        let mut frames = Vec::with_capacity(self.alloc, MANY_FRAMES)?;
+    /// The path whose frames go into an empty list.
+    #[inline(never)]
+    fn walk<L: Look>(
+        &self,
+        pc: u32,
+        regs: &[u32; 32],
+        memory: &L,
+        list: Vec<Frame>,
+    ) -> Result<RawPath, Memory>
+        requires { list.items ≡ [] }
+        ensures { IfOk result (λ path. path ≡ path_of self.now pc regs.now (L.words memory.now)) }
+    {
+        let mut frames = list;
         let mut registers = *regs;
         let mut near = MemorySlice::empty();
         let mut here = pc;
@@ -207,5 +228,34 @@ impl<'a> Unwind for Unwinder<'a> {
             }
         }
         Ok(RawPath::of(End::Partial(PartialCause::Depth), frames))
+    }
+}
+
+impl<'a> Unwind for Unwinder<'a> {
+    ghost path_of = { path_of };
+
+    fn path<L: Look>(&self, pc: u32, regs: &[u32; 32], memory: &L) -> Result<RawPath, Memory> {
+        let list = Vec::with_capacity(self.alloc, MANY_FRAMES)?;
+        self.path_in(pc, regs, memory, list)
+    }
+
+    /// A path of one frame copies no registers.
+    #[inline(always)]
+    fn path_in<L: Look>(
+        &self,
+        pc: u32,
+        regs: &[u32; 32],
+        memory: &L,
+        list: Vec<Frame>,
+    ) -> Result<RawPath, Memory> {
+        let mut frames = list;
+        frames.clear();
+        match self.end_at(pc) {
+            Some(end) => {
+                frames.push(Frame { pc })?;
+                Ok(RawPath::of(end, frames))
+            }
+            None => self.walk(pc, regs, memory, frames),
+        }
     }
 }

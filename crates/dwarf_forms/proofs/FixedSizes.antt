@@ -1,33 +1,20 @@
 -- Values of a fixed size are passed as so many bytes are.
-use Rattle.std.proofs.Common.{◌≡◌, ℕ, ℤ, ◌+◌, ◌-◌, ◌≤◌, ◌<◌, ◌==◌, Bool, true, false, inl, inr, List, ◌∷◌, length, take, Option, Some, None, Ok, Err, refl, sym, ap, ◌∙◌, arith}
-use Rattle.std.specs.Prelude.{option_map, option_and_then, if◌then◌else◌}
+use Rattle.std.proofs.Common.{◌≡◌, ℕ, ℤ, ◌+◌, ◌-◌, ◌≤◌, ◌<◌, ◌==◌, Bool, true, false, inl, inr, List, length, take, Option, Some, None, Ok, Err, refl, sym, ap, ◌∙◌, arith}
+use Rattle.std.specs.Prelude.{option_and_then, if◌then◌else◌}
 use Rattle.std.proofs.lemmas.Bool.{cases_lt, lt-ltb, le-ltb, eqb-true}
 use Rattle.prof_bytes.specs.Fields.{Input, number_from, bytes_from}
 use Rattle.prof_bytes.specs.Reading.{At, left_of, moved}
 use Rattle.dwarf_forms.specs.declared.constants.TheConstants.{DW_FORM_indirect}
-use Rattle.dwarf_forms.specs.declared.declaration.Spec.{Spec}
 use Rattle.dwarf_forms.specs.declared.encoding.Size.{Size}
 use Rattle.dwarf_forms.specs.declared.encoding.Size.TheVariants as sizes
 use Rattle.dwarf_forms.specs.declared.encoding.Encoding.{Encoding}
 use Rattle.dwarf_forms.specs.declared.encoding.Encoding.TheVariants as encodings
 use Rattle.dwarf_forms.specs.Forms.{encoding_of}
 use Rattle.dwarf_forms.specs.Values.{FormValue, Bytes, as_value, word_value, number_value, sized_from, encoded_from, known_from, indirect_from, direct_from, value_from}
-use Rattle.dwarf_forms.specs.Sizes.{number_size, encoding_size, form_size, fixed_size, passed_by}
+use Rattle.dwarf_forms.specs.Sizes.{number_size, encoding_size, form_size, passed_by}
 use Rattle.dwarf_forms.proofs.Moves.{left_moved}
 
 -- ---- the size of a list
-
-sizes_join : (total first : ℕ) (others : Option ℕ) → option_map (λ n. total + n) (option_map (λ n. first + n) others) ≡ option_map (λ n. total + first + n) others
-sizes_join total first None = refl
-sizes_join total first (Some n) = ap Some (let e : total + (first + n) ≡ total + first + n = omega arith in e)
-
--- one more form says its size
-pub one_more : (specs others : List Spec) (spec : Spec) (total more : ℕ) → total ≤ more → form_size spec.form ≡ Some (more - total)
-    → fixed_size specs ≡ option_map (λ n. total + n) (fixed_size (spec ∷ others)) → fixed_size specs ≡ option_map (λ n. more + n) (fixed_size others)
-one_more specs others spec total more le size so_far =
-    let e : total + (more - total) ≡ more = omega arith in
-    so_far ∙ ap (λ (o : Option ℕ). option_map (λ n. total + n) (option_and_then (λ first. option_map (λ n. first + n) (fixed_size others)) o)) size
-    ∙ sizes_join total (more - total) (fixed_size others) ∙ ap (λ (k : ℕ). option_map (λ n. k + n) (fixed_size others)) e
 
 -- ---- bytes
 

@@ -131,7 +131,7 @@ value_from unknown form implicit input =
     if form == DW_FORM_indirect then indirect_from unknown input else direct_from unknown form implicit input
 
 -- the value of a form at an offset of bytes, and the offset behind it
-abbrev pub value_at : ℕ → ℤ → At → Result (FormValue × At) FormFault
-value_at form implicit at = do
+abbrev pub form_value_at : ℕ → ℤ → At → Result (FormValue × At) FormFault
+form_value_at form implicit at = do
   (value, input) ← value_from Unknown form implicit (record { at = at; missing = Short })
   Ok (value, input.at)

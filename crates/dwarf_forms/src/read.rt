@@ -2,7 +2,7 @@
 ghost use Rattle.std.specs.Prelude.{◌≡◌, IfErr, IfOk};
 ghost use Rattle.prof_bytes.specs.Outcome.{GivesAt};
 ghost use Rattle.dwarf_forms.specs.Values.{form_value, word_value, number_value, sized_from, block_from, encoded_from};
-ghost use Rattle.dwarf_forms.specs.Values.{direct_from, named_from, value_from, value_at};
+ghost use Rattle.dwarf_forms.specs.Values.{direct_from, named_from, value_from, form_value_at};
 
 use crate::constants::{DW_FORM_implicit_const, DW_FORM_indirect};
 use crate::encoding::{Encoding, NumberClass, Size, WordClass, encoding_of};
@@ -136,7 +136,7 @@ pub fn read_value<'a>(
     form: u64,
     implicit: i64,
 ) -> Result<Value<'a>, FormFault>
-    ensures value { GivesAt form_value result cursor.new (value_at form implicit cursor.old) }
+    ensures value { GivesAt form_value result cursor.new (form_value_at form implicit cursor.old) }
     ensures stays { IfErr result (λ _. cursor.new ≡ cursor.old) }
 {
     let mut reader = Reader::of(cursor.fork(), FormFault::Short);

@@ -3,12 +3,13 @@ pub mod Past
 pub mod Bodies
 pub mod UnitLists
 pub mod RangeLists
-pub mod HalvedEntries
+pub mod SetFlags
+pub mod Indexed
 pub mod UnitEntries
 pub mod CodedEntries
 pub mod UnitMoves
 pub mod Rooms
+pub mod Marks
 pub mod Bounds
-pub mod Rising
 pub mod FixedValues
 pub mod Suffixes

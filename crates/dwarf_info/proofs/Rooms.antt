@@ -42,7 +42,7 @@ declared_moves index depth offset None input = tt
 declared_moves index depth offset (Some d) input =
     step_then 0 0 input (passed_from (UnknownForm offset) d.specs input) _ (passed_moves (UnknownForm offset) d.specs input) (λ r. omega arith)
 
-entry_moves : (declared : List Abbrev) (index depth : ℕ) (input : Input InfoFault) → StepMoves 1 input (entry_from declared index depth input)
+pub entry_moves : (declared : List Abbrev) (index depth : ℕ) (input : Input InfoFault) → StepMoves 1 input (entry_from declared index depth input)
 unfolding entry_from
 entry_moves declared index depth input =
     let set : Input InfoFault = record input { missing = BadUnit input.at.offset } in

@@ -2,7 +2,7 @@
 use Rattle.std.proofs.Common.{◌≡◌, ◌==◌, ℕ, ◌+◌, ◌<◌, ◌≤◌, Bool, inl, inr, eq-eqb, length-append, true, false, List, [], ◌∷◌, ◌++◌, zero, suc, length, drop, Option, Some, None, Ok, refl, sym, ap, ◌∙◌, subst, arith}
 use Rattle.std.specs.Prelude.{option_map, option_and_then, slice_get, is_some, if◌then◌else◌}
 use Rattle.std.specs.Ordering.{nat_cmp}
-use Rattle.std.specs.BTreeMap.{get, BTreeMap}
+use Rattle.std.specs.BTreeMap.{get}
 use Rattle.std.proofs.lemmas.Bool.{cases_lt, eqb-true}
 use Rattle.std.proofs.lemmas.Option.{same_Some, slice_get_past}
 use Rattle.std.proofs.lemmas.List.{drop-drop}
@@ -11,13 +11,10 @@ use Rattle.dwarf_forms.specs.Abbreviations.{table_at}
 use Rattle.dwarf_info.proofs.Bodies.{first_behind}
 use Rattle.dwarf_info.specs.declared.tables.Suffix.{Suffix}
 use Rattle.dwarf_info.specs.declared.tables.Tables.{Tables}
-use Rattle.dwarf_info.specs.private.Tables.{suffix_of, table_in, IsSuffix, AreTables, KeepTables}
+use Rattle.dwarf_info.specs.private.Tables.{suffix_of, table_in, IsSuffix, IsKnown, AreTables}
 
 abbrev Read : Type 0
 Read = List (List Abbrev)
-
-abbrev Suffixes : Type 0
-Suffixes = BTreeMap ℕ Suffix
 
 behind_of : (from to index : ℕ) (o : Option (List Abbrev)) (table : List Abbrev) → option_map (drop from) o ≡ Some table → to ≡ from + index → option_map (drop to) o ≡ Some (drop index table)
 behind_of from to index None table e sum = absurd cc
@@ -46,11 +43,6 @@ from_suffixes : (old new : Read) (p : Option Suffix) → ((k : ℕ) → k < leng
 from_suffixes old new None same within = refl
 from_suffixes old new (Some suffix) same within = ap (λ (o : Option (List Abbrev)). option_map (drop suffix.from) o) (same suffix.table (within suffix refl))
 
-pub record OneMore (section : List ℕ) (old new : Tables) (offset : ℕ) : Type 0 where
-  pub are : AreTables section new
-  pub keep : KeepTables old new
-  pub has : is_some (table_in new offset) ≡ true
-
 slice_within : {X : Type 0} (xs : List X) (i : ℕ) (x : X) → slice_get xs i ≡ Some x → i < length xs
 slice_within xs i x e = elim (cases_lt i (length xs)) [
   | inl lt ↦ lt
@@ -64,7 +56,7 @@ stands_within read suffix (Some whole) table e is = slice_within read suffix.tab
 pub one_more : (section : List ℕ) (old new : Tables) (offset : ℕ) (suffix : Suffix) → AreTables section old
     → length old.read.items ≤ length new.read.items → ((k : ℕ) → k < length old.read.items → slice_get new.read.items k ≡ slice_get old.read.items k)
     → ((q : ℕ) → get nat_cmp new.suffixes q ≡ if_some (offset == q) suffix (get nat_cmp old.suffixes q))
-    → IsSuffix section new.read.items suffix offset → OneMore section old new offset
+    → IsSuffix section new.read.items suffix offset → IsKnown section old new offset
 one_more section old new offset suffix tables longer same added stands = record {
   are = record {
     within = λ q p e. suffix_within q p (offset == q) (sym (added q) ∙ e);

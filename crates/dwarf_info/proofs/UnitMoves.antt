@@ -1,6 +1,6 @@
 -- How many bytes a unit and its header take.
 use Rattle.std.proofs.Common.{◌≡◌, ℕ, ◌+◌, ◌≤◌, Bool, true, false, inl, inr, [], length, take, Option, Some, None, Result, Ok, Err}
-use Rattle.std.proofs.Common.{refl, sym, ap, ◌∙◌, arith, subst, ◌==◌, ◌&&◌}
+use Rattle.std.proofs.Common.{refl, sym, ap, ◌∙◌, arith, ◌==◌, ◌&&◌}
 use Rattle.std.specs.Prelude.{nat_lt, nat_le, ◌||◌, if◌then◌else◌}
 use Rattle.std.proofs.lemmas.Bool.{cases_lt, lt-ltb}
 use Rattle.std.proofs.lemmas.List.{length-drop, length-take}
@@ -76,20 +76,10 @@ by_version_moves version offset end input =
     moves_if 0 input (version == 5) (version5_from offset end input) _ (version5_moves offset end input)
     (moves_if 0 input (nat_le 2 version && nat_le version 4) (Ok (nothing, input)) (Err input.missing) (stays input nothing) tt)
 
-pub header_moves : (offset end : ℕ) (input : Input InfoFault) → Moves 0 input (header_from offset end input)
+pub header_moves : (offset end : ℕ) (input : Input InfoFault) → Moves 2 input (header_from offset end input)
 unfolding header_from
 header_moves offset end input =
-    moves_then 0 0 input (number_from 2 input) _ (moves_less 2 0 input (number_from 2 input) (omega arith) (number_moves 2 input)) (λ version. by_version_moves version.0 offset end version.1)
-
--- what a unit leaves of the bytes of its part, and what is behind it
-pub unit_within : (offset end : ℕ) (set part next after : Input InfoFault) (header : Option UnitHeader) → part_from set ≡ Ok (part, next) → header_from offset end part ≡ Ok (header, after)
-    → length (left_of after.at) + length (left_of next.at) + 4 ≤ length (left_of set.at)
-unit_within offset end set part next after header parted headed =
-    let p : Parts set (Ok (part, next)) = subst (λ (r : Result (Input InfoFault × Input InfoFault) InfoFault). Parts set r) parted (parts set) in
-    let h : Moves 0 part (Ok (header, after)) = subst (λ (r : Result (Option UnitHeader × Input InfoFault) InfoFault). Moves 0 part r) headed (header_moves offset end part) in
-    let a = p.1 in
-    let b = h.1 in
-    omega arith
+    moves_then 2 0 input (number_from 2 input) _ (number_moves 2 input) (λ version. by_version_moves version.0 offset end version.1)
 
 -- a unit that is passed over
 pub unit_passed : (sections : Sections) (index offset end : ℕ) (input set part next after : Input InfoFault)

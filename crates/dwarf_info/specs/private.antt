@@ -1,3 +1,6 @@
 pub mod Bodies
 pub mod Tables
+pub mod Starts
+pub mod Indexed
 pub mod Parts
+pub mod Located

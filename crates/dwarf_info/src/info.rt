@@ -1,5 +1,5 @@
 //! Debug information that was read, and what is asked of its entries.
-ghost use Rattle.std.specs.Prelude.{◌≡◌, ◌<◌, ◌^◌, ℕ, List, true, is_some, length, map, IfOk, option_map};
+ghost use Rattle.std.specs.Prelude.{◌≡◌, ◌<◌, ◌^◌, ◌++◌, ℕ, List, true, is_some, length, map, IfOk, OnOk, option_map};
 ghost use Rattle.std.specs.Prelude.{option_copied, option_and_then, IfSome};
 ghost use Rattle.prof_bytes.specs.Outcome.{Gives};
 ghost use Rattle.dwarf_forms.specs.declared.value.FormFault.TheVariants.{Short};
@@ -7,27 +7,32 @@ ghost use Rattle.dwarf_forms.specs.Abbreviations.{table_at};
 ghost use Rattle.dwarf_forms.specs.Values.{form_value};
 ghost use Rattle.dwarf_info.specs.Sections.{sections_of, up_to};
 ghost use Rattle.dwarf_info.specs.Values.{value_of, entry_values};
-ghost use Rattle.dwarf_info.specs.Units.{unit_of, or_none, debug_info_of};
+ghost use Rattle.dwarf_info.specs.Units.{unit_of, or_none, entries_in, debug_info_of};
 ghost use Rattle.dwarf_info.specs.Queries.{unit_entry, attribute_value, attribute_text, attribute_entry};
 ghost use Rattle.dwarf_info.specs.Queries.{attribute_number, name_of, link_of, call_of};
 ghost use Rattle.dwarf_info.specs.Ranges.{attribute_ranges, low_pc_of, low_high_of, one_or_none, ranges_of};
+ghost use Rattle.dwarf_info.specs.private.Located.{IsLocated, found_unit, own_unit};
+ghost use Rattle.dwarf_info.specs.private.Indexed.{IsRead};
 ghost use Rattle.dwarf_info.specs.private.Tables.{table_in, AreTables};
 
-use crate::attributes::{address_value, small_value, text_value};
+use crate::attributes::{address_value, front, small_value, text_value};
 use crate::constants::{
     DW_AT_abstract_origin, DW_AT_call_file, DW_AT_call_line, DW_AT_high_pc, DW_AT_linkage_name,
     DW_AT_low_pc, DW_AT_name, DW_AT_ranges, DW_AT_specification,
 };
+use crate::entries::read_entries;
 use crate::entry::{InfoEntry, Unit, UnitBases};
 use crate::fault::InfoFault;
 use crate::indices::referred;
+use crate::offsets::{Offsets, count_up_to};
 use crate::pairs::Ranges;
 use crate::ranges::{high_value, list_value, ranges_at};
+use crate::starts::Starts;
 use crate::tables::Tables;
-use crate::units::{read_units, value_at};
+use crate::units::{named_tables, read_units, value_at};
 use dwarf_forms::Value;
 use elf_image::DebugParts;
-use prof_bytes::{Fail, Memory};
+use prof_bytes::{Fail, Memory, Reader};
 use std::alloc::Global;
 use std::marker::Model;
 
@@ -51,19 +56,62 @@ fn tabled_value<'a>(
     }
 }
 
+/// Appends the entries of a unit, which are read again.
+fn add_entries(
+    sections: &DebugParts<'_>,
+    tables: &Tables,
+    bases: &UnitBases,
+    entries: &mut Vec<InfoEntry>,
+) -> Result<(), Memory>
+    requires small { length sections.now.info.now < 2 ^ 31 }
+    requires are { AreTables sections.now.«abbrev».now tables.now }
+    requires has { is_some (table_in tables.now bases.now.header.debug_abbrev_offset) ≡ true }
+    requires read { IsRead (sections_of sections.now) bases.now }
+    ensures { OnOk result (entries.new.items ≡ entries.old.items ++ entries_in (sections_of sections.now) bases.now) }
+{
+    let header = bases.header;
+    let missing = InfoFault::BadUnit {
+        offset: header.offset,
+    };
+    let table = tables.get(header.debug_abbrev_offset).unwrap();
+    let bytes = front(sections.info, header.end);
+    let offset = header.first_entry as usize;
+    if offset > bytes.len() {
+        return Ok(());
+    }
+    let mut reader = Reader::new(bytes, offset, missing);
+    match read_entries(&mut reader, &table, bases.index, entries) {
+        Ok(()) => Ok(()),
+        Err(Fail::Memory(memory)) => Err(memory),
+        Err(Fail::Fault(_)) => unreachable!(),
+    }
+}
+
+/// An entry: its index, its unit and its offset.
+#[derive(Clone, Copy)]
+pub(crate) struct Located {
+    index: u32,
+    bases: UnitBases,
+    offset: u32,
+}
+
 /// Debug information that was read. It lends the sections' bytes.
 #[derive(Drop)]
 pub struct Info<'a> {
     sections: DebugParts<'a>,
     units: Vec<Unit>,
     bases: Vec<UnitBases>,
-    entries: Vec<InfoEntry>,
+    /// The offsets of the entries of all units.
+    offsets: Offsets,
+    /// The index of the first entry of each unit.
+    firsts: Vec<u32>,
     tables: Tables,
 }
 
 impl<'a> Model for Info<'a> {
+    ghost use Rattle.std.specs.List.{flat_map};
     ghost use Rattle.dwarf_info.specs.Sections.{sections_of};
-    ghost use Rattle.dwarf_info.specs.Units.{DebugInfo};
+    ghost use Rattle.dwarf_info.specs.Units.{DebugInfo, entries_in};
     ghost use Rattle.dwarf_info.specs.private.Parts.{IsWhole};
 
     ghost Value = { DebugInfo };
@@ -71,11 +119,11 @@ impl<'a> Model for Info<'a> {
     ghost view = { λ info. record {
       sections = sections_of info.sections;
       units = info.bases.items;
-      entries = info.entries.items;
+      entries = flat_map (entries_in (sections_of info.sections)) info.bases.items;
     } };
 
     ghost invariant = { λ info. IsWhole (sections_of info.sections) info.units.items info.bases.items
-        info.entries.items info.tables };
+        info.offsets info.firsts.items info.tables };
 }
 
 impl<'a> Info<'a> {
@@ -86,12 +134,23 @@ impl<'a> Info<'a> {
         self.units.as_slice()
     }
 
-    /// The entries of all units that were read, in section order. They are fewer than the bytes of `.debug_info`.
-    pub fn entries(&self) -> &[InfoEntry]
-        ensures entries { result.now ≡ self.now.entries }
+    /// How many entries all units have: fewer than `.debug_info` has bytes.
+    pub fn entry_count(&self) -> u32
+        ensures { result ≡ length self.now.entries }
+    {
+        self.offsets.count()
+    }
+
+    /// The entries of all units, in section order. They are read anew.
+    pub fn entries(&self, alloc: Global) -> Result<Vec<InfoEntry>, Memory>
+        ensures entries { IfOk result (λ v. v.items ≡ self.now.entries) }
         ensures few { length self.now.entries < 2 ^ 31 }
     {
-        self.entries.as_slice()
+        let mut entries = Vec::new(alloc);
+        for bases in self.bases.as_slice() {
+            add_entries(&self.sections, &self.tables, bases, &mut entries)?;
+        }
+        Ok(entries)
     }
 
     /// The entry's name, or else its linkage name.
@@ -99,9 +158,10 @@ impl<'a> Info<'a> {
         requires { i < length self.now.entries }
         ensures { option_copied result ≡ name_of self.now i }
     {
-        match self.text(i, DW_AT_name) {
+        let at = self.located(i)?;
+        match self.text(at, DW_AT_name) {
             Some(name) => Some(name),
-            None => self.text(i, DW_AT_linkage_name),
+            None => self.text(at, DW_AT_linkage_name),
         }
     }
 
@@ -112,9 +172,10 @@ impl<'a> Info<'a> {
         ensures link { result ≡ link_of self.now i }
         ensures in_range { IfSome result (λ j. j < length self.now.entries) }
     {
-        match self.reference(i, DW_AT_abstract_origin) {
+        let at = self.located(i)?;
+        match self.reference(at, DW_AT_abstract_origin) {
             Some(entry) => Some(entry),
-            None => self.reference(i, DW_AT_specification),
+            None => self.reference(at, DW_AT_specification),
         }
     }
 
@@ -123,91 +184,101 @@ impl<'a> Info<'a> {
         requires { i < length self.now.entries }
         ensures { result ≡ call_of self.now i }
     {
-        (
-            self.small(i, DW_AT_call_file),
-            self.small(i, DW_AT_call_line),
-        )
-    }
-
-    /// The unit of an entry, and the entry's offset.
-    fn unit_entry(&self, i: u32) -> Option<(UnitBases, u32)>
-        ensures { result ≡ option_map (λ e. (e.bases, e.entry.offset)) (unit_entry self.now i) }
-    {
-        let entry = self.entries.get(i as usize)?;
-        let bases = self.bases.get(entry.unit as usize)?;
-        Some((*bases, entry.offset))
-    }
-
-    /// The first value of an attribute of an entry.
-    fn value(&self, i: u32, attribute: u64) -> Option<Value<'a>>
-        ensures { option_map form_value result
-            ≡ option_and_then (attribute_value self.now attribute) (unit_entry self.now i) }
-    {
-        match self.unit_entry(i) {
-            Some((bases, offset)) => {
-                tabled_value(self.sections.info, &self.tables, bases, offset, attribute)
-            }
-            None => None,
+        match self.located(i) {
+            Some(at) => (
+                self.small(at, DW_AT_call_file),
+                self.small(at, DW_AT_call_line),
+            ),
+            None => (None, None),
         }
     }
 
-    fn text(&self, i: u32, attribute: u64) -> Option<&'a [u8]>
-        ensures { option_copied result ≡ option_and_then (attribute_text self.now attribute) (unit_entry self.now i) }
+    /// The entry with an index, its unit and its offset.
+    fn located(&self, i: u32) -> Option<Located>
+        ensures entry { option_map found_unit result ≡ option_map own_unit (unit_entry self.now i) }
+        ensures index { IfSome result (λ l. l.index ≡ i) }
     {
-        let (bases, _) = self.unit_entry(i)?;
-        let value = self.value(i, attribute)?;
-        text_value(&self.sections, bases.str_offsets_base, value)
+        let offset = self.offsets.get(i)?;
+        let unit = count_up_to(self.firsts.as_slice(), i).checked_sub(1)?;
+        Some(Located {
+            index: i,
+            bases: self.bases[unit],
+            offset,
+        })
     }
 
-    fn reference(&self, i: u32, attribute: u64) -> Option<u32>
-        ensures { result ≡ option_and_then (attribute_entry self.now attribute) (unit_entry self.now i) }
+    /// The first value of an attribute of an entry.
+    fn value(&self, at: Located, attribute: u64) -> Option<Value<'a>>
+        requires { IsLocated self.now at }
+        ensures { option_map form_value result
+            ≡ option_and_then (attribute_value self.now attribute) (unit_entry self.now at.index) }
     {
-        let (bases, _) = self.unit_entry(i)?;
-        let value = self.value(i, attribute)?;
-        referred(self.entries.as_slice(), bases.header.offset, value)
+        tabled_value(
+            self.sections.info,
+            &self.tables,
+            at.bases,
+            at.offset,
+            attribute,
+        )
     }
 
-    fn small(&self, i: u32, attribute: u64) -> Option<u32>
-        ensures { result ≡ attribute_number self.now attribute i }
+    fn text(&self, at: Located, attribute: u64) -> Option<&'a [u8]>
+        requires { IsLocated self.now at }
+        ensures { option_copied result
+            ≡ option_and_then (attribute_text self.now attribute) (unit_entry self.now at.index) }
     {
-        let value = self.value(i, attribute)?;
+        let value = self.value(at, attribute)?;
+        text_value(&self.sections, at.bases.str_offsets_base, value)
+    }
+
+    fn reference(&self, at: Located, attribute: u64) -> Option<u32>
+        requires { IsLocated self.now at }
+        ensures { result ≡ option_and_then (attribute_entry self.now attribute) (unit_entry self.now at.index) }
+    {
+        let value = self.value(at, attribute)?;
+        referred(&self.offsets, at.bases.header.offset, value)
+    }
+
+    fn small(&self, at: Located, attribute: u64) -> Option<u32>
+        requires { IsLocated self.now at }
+        ensures { result ≡ attribute_number self.now attribute at.index }
+    {
+        let value = self.value(at, attribute)?;
         small_value(value)
     }
 
     /// The ranges of the list that `DW_AT_ranges` names, unless it counts as absent.
-    fn listed(&self, alloc: Global, i: u32) -> Result<Option<Vec<(u32, u32)>>, Memory>
+    fn listed(&self, alloc: Global, at: Located) -> Result<Option<Vec<(u32, u32)>>, Memory>
+        requires { IsLocated self.now at }
         ensures { IfOk result (λ o. option_map (λ v. v.items) o
-            ≡ option_and_then (attribute_ranges self.now) (unit_entry self.now i)) }
+            ≡ option_and_then (attribute_ranges self.now) (unit_entry self.now at.index)) }
     {
-        let Some((bases, _)) = self.unit_entry(i) else {
+        let Some(value) = self.value(at, DW_AT_ranges) else {
             return Ok(None);
         };
-        let Some(value) = self.value(i, DW_AT_ranges) else {
-            return Ok(None);
-        };
-        let base = bases.low_pc.unwrap_or(0);
-        match list_value(&self.sections, bases.rnglists_base, value) {
-            Some(offset) => ranges_at(alloc, &self.sections, bases.addr_base, base, offset),
+        let base = at.bases.low_pc.unwrap_or(0);
+        match list_value(&self.sections, at.bases.rnglists_base, value) {
+            Some(offset) => ranges_at(alloc, &self.sections, at.bases.addr_base, base, offset),
             None => Ok(None),
         }
     }
 
-    fn low(&self, i: u32) -> Option<u32>
-        ensures { result ≡ option_and_then (low_pc_of self.now) (unit_entry self.now i) }
+    fn low(&self, at: Located) -> Option<u32>
+        requires { IsLocated self.now at }
+        ensures { result ≡ option_and_then (low_pc_of self.now) (unit_entry self.now at.index) }
     {
-        let (bases, _) = self.unit_entry(i)?;
-        let value = self.value(i, DW_AT_low_pc)?;
-        address_value(&self.sections, bases.addr_base, value)
+        let value = self.value(at, DW_AT_low_pc)?;
+        address_value(&self.sections, at.bases.addr_base, value)
     }
 
     /// The range from `DW_AT_low_pc` to `DW_AT_high_pc`.
-    fn bounds(&self, i: u32) -> Option<(u32, u32)>
-        ensures { result ≡ option_and_then (low_high_of self.now) (unit_entry self.now i) }
+    fn bounds(&self, at: Located) -> Option<(u32, u32)>
+        requires { IsLocated self.now at }
+        ensures { result ≡ option_and_then (low_high_of self.now) (unit_entry self.now at.index) }
     {
-        let (bases, _) = self.unit_entry(i)?;
-        let low = self.low(i)?;
-        let value = self.value(i, DW_AT_high_pc)?;
-        let high = high_value(&self.sections, bases.addr_base, low, value)?;
+        let low = self.low(at)?;
+        let value = self.value(at, DW_AT_high_pc)?;
+        let high = high_value(&self.sections, at.bases.addr_base, low, value)?;
         Some((low, high))
     }
 
@@ -220,9 +291,12 @@ impl<'a> Info<'a> {
         ensures few { length (ranges_of self.now i) < 2 ^ 31 }
     {
         let _ = &self.sections;
-        match self.listed(alloc, i)? {
+        let Some(at) = self.located(i) else {
+            return one_or_none(alloc, None);
+        };
+        match self.listed(alloc, at)? {
             Some(pairs) => Ok(Ranges::from_vec(pairs)),
-            None => one_or_none(alloc, self.bounds(i)),
+            None => one_or_none(alloc, self.bounds(at)),
         }
     }
 }
@@ -258,15 +332,18 @@ pub fn read_info<'a>(alloc: Global, sections: DebugParts<'a>) -> Result<Info<'a>
     requires lists { length sections.rnglists.now < 2 ^ 31 }
     ensures { Gives (λ info. info) result (debug_info_of (sections_of sections.entry)) }
 {
-    let mut tables = Tables::new(alloc);
-    let mut entries = Vec::new(alloc);
-    let bases = read_units(alloc, &sections, &mut tables, &mut entries)?;
+    let mut tables = named_tables(alloc, &sections)?;
+    let mut starts = Starts::new(alloc, sections.info.len())?;
+    let mut firsts = Vec::new(alloc);
+    let bases = read_units(alloc, &sections, &mut tables, &mut starts, &mut firsts)?;
     let units = shown_units(alloc, bases.as_slice())?;
+    let offsets = starts.offsets(alloc)?;
     Ok(Info {
         sections,
         units,
         bases,
-        entries,
+        offsets,
+        firsts,
         tables,
     })
 }

@@ -6,6 +6,7 @@ ghost use Rattle.std.specs.BTreeMap.{get};
 ghost use Rattle.prof_bytes.specs.Outcome.{FailsBy};
 ghost use Rattle.dwarf_forms.specs.Abbreviations.{table_at};
 ghost use Rattle.dwarf_info.specs.private.Tables.{table_in, IsSuffix, AreTables, KeepTables};
+ghost use Rattle.dwarf_info.specs.private.Tables.{IsFound, IsKnown};
 
 use dwarf_forms::{Abbrevs, BadTable, Declarations, read_abbrevs};
 use prof_bytes::{Fail, Memory};
@@ -19,6 +20,14 @@ pub(crate) struct Suffix {
     pub(crate) table: usize,
     /// The index of its first declaration there.
     pub(crate) from: usize,
+}
+
+/// What the table at an offset is: known, the end of one that was read, or read now.
+#[derive(Drop)]
+pub(crate) enum Found {
+    Known,
+    End(Suffix),
+    Read(Abbrevs),
 }
 
 /// The abbreviation tables that units name, by their offsets. One that is the end of another isn't read again.
@@ -82,15 +91,26 @@ impl Tables {
         })
     }
 
-    /// Reads the table at an offset and keeps it.
-    fn add_read(&mut self, alloc: Global, section: &[u8], offset: u32) -> Result<(), Fail<BadTable>>
-        requires { AreTables section.now self.old }
-        ensures are { IfOk result (λ _. AreTables section.now self.new) }
-        ensures keep { IfOk result (λ _. KeepTables self.old self.new) }
-        ensures has { IfOk result (λ _. is_some (table_in self.new offset) ≡ true) }
+    /// What the table at an offset is. It is read, unless it is known already or the end of one that is.
+    fn find(&self, alloc: Global, section: &[u8], offset: u32) -> Result<Found, Fail<BadTable>>
+        requires { AreTables section.now self.now }
+        ensures found { IfOk result (λ found. IsFound section.now self.now found offset) }
         ensures bad { IfErr result (λ fail. FailsBy fail (table_at section.now offset)) }
     {
-        let table = read_abbrevs(alloc, section, offset)?;
+        if self.get(offset).is_some() {
+            return Ok(Found::Known);
+        }
+        match self.suffix_near(offset) {
+            Some(suffix) => Ok(Found::End(suffix)),
+            None => Ok(Found::Read(read_abbrevs(alloc, section, offset)?)),
+        }
+    }
+
+    /// Keeps a table that was read.
+    fn keep_read(&mut self, table: Abbrevs, offset: u32) -> Result<(), Memory>
+        ensures { (section : List ℕ) → AreTables section self.old → table_at section offset ≡ Ok table
+            → IfOk result (λ _. IsKnown section self.old self.new offset) }
+    {
         let suffix = Suffix {
             table: self.read.len(),
             from: 0,
@@ -100,7 +120,19 @@ impl Tables {
         Ok(())
     }
 
-    /// Makes the table at an offset known: it is read, unless it is known already or the end of one that is.
+    /// Keeps what the table at an offset is.
+    fn keep(&mut self, found: Found, offset: u32) -> Result<(), Memory>
+        ensures { (section : List ℕ) → AreTables section self.old → IsFound section self.old found offset
+            → IfOk result (λ _. IsKnown section self.old self.new offset) }
+    {
+        match found {
+            Found::Known => Ok(()),
+            Found::End(suffix) => add_suffix(&mut self.suffixes, offset, suffix),
+            Found::Read(table) => self.keep_read(table, offset),
+        }
+    }
+
+    /// Makes the table at an offset known.
     pub(crate) fn know(
         &mut self,
         alloc: Global,
@@ -113,15 +145,29 @@ impl Tables {
         ensures has { IfOk result (λ _. is_some (table_in self.new offset) ≡ true) }
         ensures bad { IfErr result (λ fail. FailsBy fail (table_at section.now offset)) }
     {
-        if self.get(offset).is_some() {
-            return Ok(());
-        }
-        match self.suffix_near(offset) {
-            Some(suffix) => {
-                add_suffix(&mut self.suffixes, offset, suffix)?;
-                Ok(())
+        let found = self.find(alloc, section, offset)?;
+        self.keep(found, offset)?;
+        Ok(())
+    }
+
+    /// Makes the tables at these offsets known, up to the first that is none. Where the offsets ascend, and each table
+    /// is the end of the one before, one is read.
+    pub(crate) fn know_all(
+        &mut self,
+        alloc: Global,
+        section: &[u8],
+        offsets: &[u32],
+    ) -> Result<(), Memory>
+        requires { AreTables section.now self.old }
+        ensures { IfOk result (λ _. AreTables section.now self.new) }
+    {
+        for offset in offsets {
+            match self.find(alloc, section, *offset) {
+                Ok(found) => self.keep(found, *offset)?,
+                Err(Fail::Fault(_)) => return Ok(()),
+                Err(Fail::Memory(memory)) => return Err(memory),
             }
-            None => self.add_read(alloc, section, offset),
         }
+        Ok(())
     }
 }

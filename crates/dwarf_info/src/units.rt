@@ -1,9 +1,8 @@
 //! The units of `.debug_info`, each with its entries (DWARF 5, sections 3.1.1 and 7.5.1).
-ghost use Rattle.std.specs.Prelude.{◌≡◌, ◌+◌, ◌<◌, ◌≤◌, ◌++◌, ◌∷◌, [], ◌^◌, IfOk, IfSome, true, option_map, slice_get};
-ghost use Rattle.std.specs.Prelude.{option_and_then, is_some, length, option_to_list, List, Result, Ok, Some};
-ghost use Rattle.std.specs.List.{flat_map};
+ghost use Rattle.std.specs.Prelude.{◌≡◌, ◌+◌, ◌<◌, ◌≤◌, ◌++◌, ◌∷◌, [], ◌^◌, ℕ, IfOk, OnOk, IfSome, MatchOption, true};
+ghost use Rattle.std.specs.Prelude.{option_map, option_and_then, is_some, length, option_to_list, List, Result, Ok};
+ghost use Rattle.std.specs.Prelude.{Some};
 ghost use Rattle.prof_bytes.specs.Outcome.{Gives, FailsBy};
-ghost use Rattle.prof_bytes.specs.Reading.{left_of};
 ghost use Rattle.dwarf_forms.specs.declared.declaration.Abbrev.{Abbrev};
 ghost use Rattle.dwarf_forms.specs.declared.declaration.BadTable.{BadTable};
 ghost use Rattle.dwarf_forms.specs.declared.value.FormFault.TheVariants.{Short};
@@ -14,22 +13,24 @@ ghost use Rattle.dwarf_info.specs.Sections.{sections_of, up_to};
 ghost use Rattle.dwarf_info.specs.Values.{value_of, entry_values};
 ghost use Rattle.dwarf_info.specs.Attributes.{address_value};
 ghost use Rattle.dwarf_info.specs.Units.{first_values, section_offset, unit_bases, body_of, failing_as, read_unit};
-ghost use Rattle.dwarf_info.specs.Units.{unit_from, units_of, entries_in};
+ghost use Rattle.dwarf_info.specs.Units.{unit_from, units_of};
+ghost use Rattle.dwarf_info.specs.private.Indexed.{AreMarked, AreIndexed};
 ghost use Rattle.dwarf_info.specs.private.Tables.{table_in, AreTables, KeepTables, HaveTables};
 
 use crate::attributes::{address_value, front, section_value};
 use crate::constants::{
     DW_AT_addr_base, DW_AT_low_pc, DW_AT_rnglists_base, DW_AT_stmt_list, DW_AT_str_offsets_base,
 };
-use crate::entries::{push_some, read_entries};
-use crate::entry::{InfoEntry, UnitBases};
+use crate::entries::{mark_entries, push_some};
+use crate::entry::UnitBases;
 use crate::fault::InfoFault;
+use crate::starts::Starts;
 use crate::tables::Tables;
 use crate::unit_header::{UnitHeader, offset_of, read_header};
 use crate::values::entry_value;
 use dwarf_forms::{BadTable, Declarations, FormFault, Value, reader_at};
 use elf_image::DebugParts;
-use prof_bytes::{Fail, Reader};
+use prof_bytes::{Fail, Memory, Reader};
 use std::alloc::Global;
 
 /// The first value of an attribute of the entry at an offset, in a unit that ends at `end`.
@@ -114,63 +115,58 @@ fn table_fault(fail: Fail<BadTable>, offset: u32) -> Fail<InfoFault>
     }
 }
 
-fn first_offset(entries: &[InfoEntry], from: usize) -> Option<u32>
-    ensures { result ≡ option_map (λ e. e.offset) (slice_get entries.now from) }
-{
-    match entries.get(from) {
-        Some(entry) => Some(entry.offset),
-        None => None,
-    }
-}
-
-/// A unit whose table is known: its entries are appended.
+/// A unit whose table is known: the offsets of its entries are marked.
 #[tactic(auto, unfolding(crate::specs::Units::read_unit))]
 fn read_body<'a>(
     sections: &DebugParts<'a>,
     table: &Declarations<'_>,
     unit: (u32, UnitHeader),
     body: &mut Reader<'a, InfoFault>,
-    entries: &mut Vec<InfoEntry>,
+    starts: &mut Starts,
 ) -> Result<UnitBases, Fail<InfoFault>>
     requires small { length sections.now.info.now < 2 ^ 31 }
     requires stands { body.old ≡ body_of (sections_of sections.now) «unit».1 }
     requires known { table_at sections.now.«abbrev».now «unit».1.debug_abbrev_offset ≡ Ok table.now }
+    requires inside { length sections.now.info.now ≤ starts.old.bytes }
+    requires behind { starts.old.end ≤ «unit».1.first_entry }
     ensures read { Gives (λ u. u ∷ []) result (read_unit (sections_of sections.now) «unit».0 (Some «unit».1)) }
-    ensures entries { IfOk result (λ u. entries.new.items
-        ≡ entries.old.items ++ entries_in (sections_of sections.now) u) }
-    ensures few { IfOk result (λ _. length entries.new.items
-        ≤ length entries.old.items + length (left_of body.old.at)) }
-    ensures header { IfOk result (λ u. u.header ≡ «unit».1) }
+    ensures marked { IfOk result (AreMarked (sections_of sections.now) starts.old.offsets starts.new.offsets) }
+    ensures bytes { IfOk result (λ _. starts.new.bytes ≡ starts.old.bytes) }
+    ensures end { IfOk result (λ _. (bound : ℕ) → starts.old.end ≤ bound → «unit».1.end ≤ bound
+        → starts.new.end ≤ bound) }
+    ensures header { IfOk result (λ u. (u.header ≡ «unit».1) × (u.index ≡ «unit».0)) }
 {
     let (index, header) = unit;
-    let from = entries.len();
-    read_entries(body, table, index, entries)?;
+    let offset = mark_entries(body, table, index, starts)?;
     let first = First {
         sections,
         table,
         end: header.end,
-        offset: first_offset(entries.as_slice(), from),
+        offset,
     };
     Ok(unit_bases(first, index, header))
 }
 
-/// A unit with its header: its table is read unless it is known, and its entries are appended.
+/// A unit with its header: its table is read unless it is known, and the offsets of its entries are marked.
 fn read_headed<'a>(
     alloc: Global,
     sections: &DebugParts<'a>,
     unit: (u32, UnitHeader),
     body: &mut Reader<'a, InfoFault>,
     tables: &mut Tables,
-    entries: &mut Vec<InfoEntry>,
+    starts: &mut Starts,
 ) -> Result<UnitBases, Fail<InfoFault>>
     requires small { length sections.now.info.now < 2 ^ 31 }
     requires stands { body.old ≡ body_of (sections_of sections.now) «unit».1 }
     requires tables { AreTables sections.now.«abbrev».now tables.old }
+    requires inside { length sections.now.info.now ≤ starts.old.bytes }
+    requires behind { starts.old.end ≤ «unit».1.first_entry }
     ensures read { Gives (λ u. u ∷ []) result (read_unit (sections_of sections.now) «unit».0 (Some «unit».1)) }
-    ensures entries { IfOk result (λ u. entries.new.items
-        ≡ entries.old.items ++ entries_in (sections_of sections.now) u) }
-    ensures few { IfOk result (λ _. length entries.new.items
-        ≤ length entries.old.items + length (left_of body.old.at)) }
+    ensures marked { IfOk result (AreMarked (sections_of sections.now) starts.old.offsets starts.new.offsets) }
+    ensures bytes { IfOk result (λ _. starts.new.bytes ≡ starts.old.bytes) }
+    ensures end { IfOk result (λ _. (bound : ℕ) → starts.old.end ≤ bound → «unit».1.end ≤ bound
+        → starts.new.end ≤ bound) }
+    ensures number { IfOk result (λ u. u.index ≡ «unit».0) }
     ensures are { IfOk result (λ _. AreTables sections.now.«abbrev».now tables.new) }
     ensures keep { IfOk result (λ _. KeepTables tables.old tables.new) }
     ensures has { IfOk result (λ u. is_some (table_in tables.new u.header.debug_abbrev_offset) ≡ true) }
@@ -181,7 +177,7 @@ fn read_headed<'a>(
         Err(fail) => return Err(table_fault(fail, header.offset)),
     }
     let table = tables.get(header.debug_abbrev_offset).unwrap();
-    read_body(sections, &table, unit, body, entries)
+    read_body(sections, &table, unit, body, starts)
 }
 
 /// The unit that begins here, `None` where it is passed over, and the index of the next one.
@@ -192,19 +188,22 @@ fn read_unit<'a>(
     index: u32,
     reader: &mut Reader<'a, InfoFault>,
     tables: &mut Tables,
-    entries: &mut Vec<InfoEntry>,
+    starts: &mut Starts,
 ) -> Result<(Option<UnitBases>, u32), Fail<InfoFault>>
     requires small { length sections.now.info.now < 2 ^ 31 }
     requires whole { reader.old.at.whole ≡ sections.now.info.now }
     requires index { index < 2 ^ 31 }
     requires tables { AreTables sections.now.«abbrev».now tables.old }
+    requires inside { length sections.now.info.now ≤ starts.old.bytes }
+    requires behind { starts.old.end ≤ reader.old.at.offset }
     ensures read { Gives (λ r. (option_to_list r.0, r.1, reader.new)) result
         (unit_from (sections_of sections.now) index reader.old) }
-    ensures entries { IfOk result (λ r. entries.new.items
-        ≡ entries.old.items ++ flat_map (entries_in (sections_of sections.now)) (option_to_list r.0)) }
-    ensures few { IfOk result (λ _. length entries.new.items + length (left_of reader.new.at)
-        ≤ length entries.old.items + length (left_of reader.old.at)) }
-    ensures next { IfOk result (λ r. r.1 ≤ index + 1) }
+    ensures marked { IfOk result (λ r. MatchOption r.0 (starts.new.offsets ≡ starts.old.offsets)
+        (AreMarked (sections_of sections.now) starts.old.offsets starts.new.offsets)) }
+    ensures bytes { IfOk result (λ _. starts.new.bytes ≡ starts.old.bytes) }
+    ensures behind { IfOk result (λ _. starts.new.end ≤ reader.new.at.offset) }
+    ensures next { IfOk result (λ r. r.1 ≡ index + length (option_to_list r.0)) }
+    ensures number { IfOk result (λ r. IfSome r.0 (λ u. u.index ≡ index)) }
     ensures are { IfOk result (λ _. AreTables sections.now.«abbrev».now tables.new) }
     ensures keep { IfOk result (λ _. KeepTables tables.old tables.new) }
     ensures has { IfOk result (λ r. IfSome r.0
@@ -218,25 +217,40 @@ fn read_unit<'a>(
     match read_header(&mut body, offset, end)? {
         None => Ok((None, index)),
         Some(header) => {
-            let unit = read_headed(alloc, sections, (index, header), &mut body, tables, entries)?;
+            let unit = read_headed(alloc, sections, (index, header), &mut body, tables, starts)?;
             Ok((Some(unit), index + 1))
         }
     }
 }
 
-/// The units that are read, in section order, and the entries of all of them, at most one a byte.
+/// Appends the index of a unit's first entry, unless the unit is passed over.
+fn push_first(firsts: &mut Vec<u32>, unit: &Option<UnitBases>, first: u32) -> Result<(), Memory>
+    ensures { OnOk result (firsts.new.items
+        ≡ firsts.old.items ++ option_to_list (option_map (λ _. first) «unit».now)) }
+{
+    if unit.is_some() {
+        firsts.push(first)?;
+    }
+    Ok(())
+}
+
+/// The units that are read, in section order; the offsets of the entries of all of them, and the index of each unit's
+/// first entry.
 pub(crate) fn read_units(
     alloc: Global,
     sections: &DebugParts<'_>,
     tables: &mut Tables,
-    entries: &mut Vec<InfoEntry>,
+    starts: &mut Starts,
+    firsts: &mut Vec<u32>,
 ) -> Result<Vec<UnitBases>, Fail<InfoFault>>
     requires small { length sections.now.info.now < 2 ^ 31 }
     requires tables { AreTables sections.now.«abbrev».now tables.old }
-    requires empty { entries.old.items ≡ [] }
+    requires starts { starts.old ≡ record { offsets = []; end = 0; bytes = length sections.now.info.now } }
+    requires firsts { firsts.old.items ≡ [] }
     ensures units { Gives (λ v. v.items) result (units_of (sections_of sections.now)) }
-    ensures entries { IfOk result (λ v. entries.new.items ≡ flat_map (entries_in (sections_of sections.now)) v.items) }
-    ensures few { IfOk result (λ _. length entries.new.items ≤ length sections.now.info.now) }
+    ensures indexed { IfOk result (λ v. AreIndexed (sections_of sections.now) v.items
+        starts.new.offsets firsts.new.items) }
+    ensures bytes { IfOk result (λ _. starts.new.bytes ≡ length sections.now.info.now) }
     ensures are { IfOk result (λ _. AreTables sections.now.«abbrev».now tables.new) }
     ensures have { IfOk result (λ v. HaveTables tables.new v.items) }
 {
@@ -248,9 +262,58 @@ pub(crate) fn read_units(
         if reader.left() == 0 {
             return Ok(units);
         }
-        let (unit, next) = read_unit(alloc, sections, index, &mut reader, tables, entries)?;
+        let first = starts.count();
+        let (unit, next) = read_unit(alloc, sections, index, &mut reader, tables, starts)?;
+        push_first(firsts, &unit, first)?;
         push_some(&mut units, unit)?;
         index = next;
     }
     Ok(units)
+}
+
+/// The offset of the abbreviation table that the next unit names, if it has one that is read.
+fn next_table(reader: &mut Reader<'_, InfoFault>) -> Result<Option<u32>, InfoFault>
+    requires { length reader.old.at.whole < 2 ^ 31 }
+    ensures { reader.new.at.whole ≡ reader.old.at.whole }
+{
+    let offset = offset_of(reader);
+    let mut body = reader.part()?;
+    let end = offset_of(reader);
+    match read_header(&mut body, offset, end)? {
+        Some(header) => Ok(Some(header.debug_abbrev_offset)),
+        None => Ok(None),
+    }
+}
+
+/// Appends the offsets of the abbreviation tables that units name, up to the first header that is at fault.
+fn put_table_offsets(sections: &DebugParts<'_>, offsets: &mut Vec<u32>) -> Result<(), Memory>
+    requires { length sections.now.info.now < 2 ^ 31 }
+{
+    let mut reader = Reader::new(sections.info, 0, InfoFault::BadUnit { offset: 0 });
+    let room = sections.info.len();
+    for _ in 0..room {
+        if reader.left() == 0 {
+            return Ok(());
+        }
+        match next_table(&mut reader) {
+            Ok(Some(offset)) => offsets.push(offset)?,
+            Ok(None) => {}
+            Err(_) => return Ok(()),
+        }
+    }
+    Ok(())
+}
+
+/// The abbreviation tables that units name, up to the first header or table that is at fault. They are read in
+/// ascending order, so that one that is the end of another is met after it.
+pub(crate) fn named_tables(alloc: Global, sections: &DebugParts<'_>) -> Result<Tables, Memory>
+    requires { length sections.now.info.now < 2 ^ 31 }
+    ensures { IfOk result (λ tables. AreTables sections.now.«abbrev».now tables) }
+{
+    let mut offsets = Vec::new(alloc);
+    put_table_offsets(sections, &mut offsets)?;
+    offsets.sort_unstable();
+    let mut tables = Tables::new(alloc);
+    tables.know_all(alloc, sections.abbrev, offsets.as_slice())?;
+    Ok(tables)
 }

@@ -3,7 +3,8 @@ use Rattle.std.proofs.Common.{◌≡◌, ℕ, ◌+◌, ◌<◌, ◌≤◌, Bool,
 use Rattle.std.specs.Prelude.{All, filter, count_by, sum_by, nat_lt, ◌&&◌, ◌||◌, ◌==◌}
 use Rattle.std.proofs.lemmas.List.{get_or-take, get_or-drop, take_more, drop_more}
 use Rattle.std.proofs.lemmas.List.Sums.{length-filter, sum_by-take-drop, sum_by-cons, sum_by_push}
-use Rattle.std.proofs.lemmas.Bool.{lt-ltb, le-ltb, ltb-true, ne_eqb, eq-eqb}
+use Rattle.std.proofs.lemmas.Bool.{lt-ltb, le-ltb, ltb-true, ne_eqb, eq-eqb, or_right}
+use Rattle.prof_bytes.proofs.Tests.{and_false}
 use Rattle.dwarf_info.specs.Units.{DebugInfo}
 use Rattle.dwarf_inline.specs.Links.{Indexed, indexed, is_item, is_inlined, item_entries}
 use Rattle.dwarf_inline.specs.Nesting.{end_of, is_below, inlined_levels}
@@ -59,17 +60,9 @@ opens_more info items k d end old new lt is so_far are = λ j seen.
 abbrev encloses : DebugInfo → Indexed → Indexed → Bool
 encloses info e f = is_inlined f.1 && (f.0 == e.0 || is_below info f e)
 
-or_item : (b a : Bool) → a ≡ true → (b || a) ≡ true
-or_item true a is = refl
-or_item false a is = is
-
 and_first : (a b : Bool) → (a && b) ≡ true → a ≡ true
 and_first true b is = refl
 and_first false b is = absurd cc
-
-and_false : (a : Bool) → (a && false) ≡ false
-and_false true = refl
-and_false false = refl
 
 above : (info : DebugInfo) (e f : Indexed) → f.0 < e.0 → encloses info e f ≡ is_open info e.0 f
 above info e f lt = rw (ne_eqb f.0 e.0 (λ same. omega arith), lt-ltb f.0 e.0 lt) refl
@@ -83,7 +76,7 @@ itself info e inlined = rw (inlined, eq-eqb e.0 e.0 refl) refl
 among_items : (info : DebugInfo) (e : Indexed) → inlined_levels info e ≡ count_by (encloses info e) (item_entries info)
 among_items info e =
     sym (count_filter (λ f. is_item f.1) (encloses info e) (indexed info)
-    (λ f passes. or_item _ (is_inlined f.1) (and_first (is_inlined f.1) (f.0 == e.0 || is_below info f e) passes)))
+    (λ f passes. or_right _ (is_inlined f.1) (and_first (is_inlined f.1) (f.0 == e.0 || is_below info f e) passes)))
 
 levels_split : (info : DebugInfo) (items : List Indexed) (k : ℕ) (d : Indexed) → Ascending items → k < length items → is_inlined (get_or items k d).1 ≡ true
     → count_by (encloses info (get_or items k d)) items ≡ count_by (is_open info (get_or items k d).0) (take k items) + 1

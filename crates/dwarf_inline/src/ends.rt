@@ -76,14 +76,17 @@ pub(crate) fn items_among(
 pub(crate) fn afters_of(
     alloc: Global,
     info: &Info<'_>,
+    entries: &[InfoEntry],
     items: &[(u32, InfoEntry)],
     ends: &[u32],
 ) -> Result<Vec<u32>, Memory>
+    requires few { length entries.now < 2 ^ 31 }
+    requires entries { entries.now ≡ info.now.entries }
     requires items { items.now ≡ item_entries info.now }
     requires ends { AreEndsFrom info.now.entries 0 ends.now }
     ensures { IfOk result (λ afters. afters.items ≡ map (item_after info.now) items.now) }
 {
-    let counts = items_before(alloc, info.entries())?;
+    let counts = items_before(alloc, entries)?;
     let mut afters = Vec::new(alloc);
     for item in items {
         let end = ends[item.0 as usize];

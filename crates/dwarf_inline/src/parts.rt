@@ -21,6 +21,8 @@ const MOST_NAME: usize = 4096;
 #[derive(Clone, Copy)]
 pub(crate) struct Sources<'s, 'a, 'l, 'i> {
     pub(crate) info: &'s Info<'a>,
+    /// The entries of the info.
+    pub(crate) entries: &'s [InfoEntry],
     pub(crate) lines: &'s LineTable<'l>,
     pub(crate) image: &'s Image<'i>,
 }
@@ -59,13 +61,14 @@ fn add_ranges(
 }
 
 /// The line table of an entry's unit, where it is of version 5.
-fn table_of(info: &Info<'_>, lines: &LineTable<'_>, at: u32) -> Option<u32>
-    ensures { result ≡ table_of info.now lines.now at }
+fn table_of(sources: Sources<'_, '_, '_, '_>, at: u32) -> Option<u32>
+    requires { sources.entries.now ≡ sources.info.now.entries }
+    ensures { result ≡ table_of sources.entry.info.now sources.entry.lines.now at }
 {
-    let entry = info.entries().get(at as usize)?;
-    let unit = info.units().get(entry.unit as usize)?;
+    let entry = sources.entries.get(at as usize)?;
+    let unit = sources.info.units().get(entry.unit as usize)?;
     let table = unit.table?;
-    if lines.has_table(table) {
+    if sources.lines.has_table(table) {
         return Some(table);
     }
     None
@@ -86,13 +89,14 @@ fn row_of(table: Option<u32>, call: (Option<u32>, Option<u32>)) -> Option<LineId
 }
 
 /// Where an inlined subroutine with these ranges is called.
-fn call_at(info: &Info<'_>, lines: &LineTable<'_>, at: u32, ranges: &[(u32, u32)]) -> Option<LineId>
-    requires { at < length info.now.entries }
-    ensures { result ≡ call_at info.now lines.now at ranges.now }
+fn call_at(sources: Sources<'_, '_, '_, '_>, at: u32, ranges: &[(u32, u32)]) -> Option<LineId>
+    requires entries { sources.entries.now ≡ sources.info.now.entries }
+    requires entry { at < length sources.info.now.entries }
+    ensures { result ≡ call_at sources.entry.info.now sources.entry.lines.now at ranges.now }
 {
     match ranges {
         [] => None,
-        [first, ..] => match row_of(table_of(info, lines, at), info.call(at)) {
+        [first, ..] => match row_of(table_of(sources, at), sources.info.call(at)) {
             Some(row) => Some(row),
             None => Some(LineId::Address(first.0)),
         },
@@ -121,10 +125,12 @@ fn name_of<'a>(info: &Info<'a>, index: u32) -> &'a [u8]
 }
 
 /// The offset of the entry with an index.
-fn offset_of(info: &Info<'_>, index: u32) -> u32
-    ensures { (i : ℕ) → index ≡ identity info.now i → result ≡ identity_offset info.now i }
+fn offset_of(sources: Sources<'_, '_, '_, '_>, index: u32) -> u32
+    requires { sources.entries.now ≡ sources.info.now.entries }
+    ensures { (i : ℕ) → index ≡ identity sources.entry.info.now i
+        → result ≡ identity_offset sources.entry.info.now i }
 {
-    match info.entries().get(index as usize) {
+    match sources.entries.get(index as usize) {
         Some(entry) => entry.offset,
         None => 0,
     }
@@ -139,6 +145,7 @@ fn add_item<'a>(
     after: u32,
     origin: u32,
 ) -> Result<(), Memory>
+    requires entries { sources.entries.now ≡ sources.info.now.entries }
     requires entry { item.now.0 < length sources.info.now.entries }
     requires after { after ≡ item_after sources.info.now item.now }
     requires identity { origin ≡ identity sources.info.now item.now.0 }
@@ -156,7 +163,7 @@ fn add_item<'a>(
     let first = parts.ranges.len();
     let ranges = add_ranges(alloc, sources.info, sources.image, at, &mut parts.ranges)?;
     let call = if inlined {
-        call_at(sources.info, sources.lines, at, &parts.ranges[first..])
+        call_at(sources, at, &parts.ranges[first..])
     } else {
         None
     };
@@ -164,7 +171,7 @@ fn add_item<'a>(
         offset: entry.offset,
         inlined,
         after,
-        identity: offset_of(sources.info, origin),
+        identity: offset_of(sources, origin),
         call,
         first: first as u64,
         ranges,
@@ -181,6 +188,7 @@ pub(crate) fn read_parts<'a>(
     afters: &[u32],
     identities: &[u32],
 ) -> Result<Parts<'a>, Memory>
+    requires entries { sources.entries.now ≡ sources.info.now.entries }
     requires items { items.now ≡ item_entries sources.info.now }
     requires afters { afters.now ≡ map (item_after sources.info.now) items.now }
     requires identities { identities.now ≡ map (λ e. identity sources.info.now e.0) items.now }

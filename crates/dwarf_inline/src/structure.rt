@@ -95,11 +95,18 @@ pub fn read_structure<'a>(
 ) -> Result<Structure<'a>, Fail<StructureFault>>
     ensures { Gives (λ structure. structure) result (structure_of info.now lines.now image.now) }
 {
-    let items = items_among(alloc, info.entries())?;
-    let ends = ends_of(alloc, info.entries())?;
+    let all = info.entries(alloc)?;
+    let entries = all.as_slice();
+    let items = items_among(alloc, entries)?;
+    let ends = ends_of(alloc, entries)?;
     let identities = checked_items(alloc, info, items.as_slice(), ends.as_slice())?;
-    let afters = afters_of(alloc, info, items.as_slice(), ends.as_slice())?;
-    let sources = Sources { info, lines, image };
+    let afters = afters_of(alloc, info, entries, items.as_slice(), ends.as_slice())?;
+    let sources = Sources {
+        info,
+        entries,
+        lines,
+        image,
+    };
     let parts = read_parts(
         alloc,
         sources,

@@ -5,7 +5,7 @@ use Rattle.std.proofs.lemmas.Bool.{le-leb}
 use Rattle.std.proofs.lemmas.Bool.Decides.{leb_tells}
 use Rattle.dwarf_line.specs.declared.registers.LineRow.{LineRow}
 use Rattle.dwarf_line.specs.declared.rows.BestRow.{BestRow}
-use Rattle.dwarf_line.specs.Sequences.{row_at}
+use Rattle.dwarf_line.specs.Sequences.{last_row_at}
 use Rattle.dwarf_line.specs.private.BestRow.{better}
 use Rattle.dwarf_line.specs.private.Rising.{zero_row, address_at, Rises, IsSplit}
 use Rattle.dwarf_line.proofs.BestRows.{best_of, best_push}
@@ -48,11 +48,11 @@ found_up_to : (rows : List LineRow) (k : ℕ) → (best_up_to rows k).found ≡ 
 found_up_to rows zero = refl
 found_up_to rows (suc j) = refl
 
-pub in_force : (at : ℕ) (rows : List LineRow) (k : ℕ) → Rises rows → IsSplit at rows k → row_at at rows ≡ row_before rows k
+pub in_force : (at : ℕ) (rows : List LineRow) (k : ℕ) → Rises rows → IsSplit at rows k → last_row_at at rows ≡ row_before rows k
 in_force at rows k rises split =
     let m = length rows - k in
     let whole : take (k + m) rows ≡ rows = ap (λ (n : ℕ). take n rows) (let e : k + m ≡ length rows = omega (arith, split.within) in e) ∙ take-length rows in
-    ap (λ (rs : List LineRow). row_at at rs) (sym whole)
+    ap (λ (rs : List LineRow). last_row_at at rs) (sym whole)
     ∙ ap (λ (b : BestRow). b.found) (best_above at rows k m (omega (arith, split.within)) split.above ∙ best_below at rows k rises split.within split.below)
     ∙ found_up_to rows k
 
@@ -60,8 +60,8 @@ row_before_some : (rows : List LineRow) (k : ℕ) → 0 < k → row_before rows 
 row_before_some rows zero some = absurd (omega arith)
 row_before_some rows (suc j) some = ap (λ (n : ℕ). Some (get_or rows n zero_row)) (let e : j ≡ suc j - 1 = omega arith in e)
 
-pub none_in_force : (at : ℕ) (rows : List LineRow) (k : ℕ) → Rises rows → IsSplit at rows k → k ≡ 0 → None ≡ row_at at rows
+pub none_in_force : (at : ℕ) (rows : List LineRow) (k : ℕ) → Rises rows → IsSplit at rows k → k ≡ 0 → None ≡ last_row_at at rows
 none_in_force at rows k rises split none = sym (in_force at rows k rises split ∙ ap (row_before rows) none)
 
-pub last_in_force : (at : ℕ) (rows : List LineRow) (k : ℕ) → Rises rows → IsSplit at rows k → 0 < k → Some (get_or rows (k - 1) zero_row) ≡ row_at at rows
+pub last_in_force : (at : ℕ) (rows : List LineRow) (k : ℕ) → Rises rows → IsSplit at rows k → 0 < k → Some (get_or rows (k - 1) zero_row) ≡ last_row_at at rows
 last_in_force at rows k rises split some = sym (in_force at rows k rises split ∙ row_before_some rows k some)

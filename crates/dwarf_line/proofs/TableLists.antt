@@ -15,7 +15,7 @@ use Rattle.dwarf_line.specs.Names.{Texts}
 use Rattle.dwarf_line.specs.Headers.{Header}
 use Rattle.dwarf_line.specs.Programs.{matrix_from}
 use Rattle.dwarf_line.specs.Sequences.{sequences_from, is_counted}
-use Rattle.dwarf_line.specs.Lines.{TableNames, TableRead, names_of, table_by, line_table_of, line_tables_of, lines_of, lines_at}
+use Rattle.dwarf_line.specs.Lines.{TableNames, TableRead, table_names_of, table_by, line_table_of, line_tables_of, lines_of_tables, lines_at}
 use Rattle.dwarf_line.specs.private.Collecting.{collected}
 use Rattle.dwarf_line.specs.private.Tables.{behind}
 
@@ -39,8 +39,8 @@ by_matrix segments offset names old (Ok rows) =
 by_matrix segments offset names old (Err f) = refl
 
 pub table_is : (segments : List Segment) (offset : ℕ) (header : Header) (old : List Sequence)
-    → behind [] old (table_by segments offset (Some header)) ≡ with_names (names_of offset header) (collected (record { segments = segments; sequences = old; table = offset; rows = [] }) (matrix_from header.encoding header.program))
-table_is segments offset header old = sym (by_matrix segments offset (names_of offset header) old (matrix_from header.encoding header.program))
+    → behind [] old (table_by segments offset (Some header)) ≡ with_names (table_names_of offset header) (collected (record { segments = segments; sequences = old; table = offset; rows = [] }) (matrix_from header.encoding header.program))
+table_is segments offset header old = sym (by_matrix segments offset (table_names_of offset header) old (matrix_from header.encoding header.program))
 
 -- ---- tables behind others
 
@@ -100,7 +100,7 @@ none_left line texts segments names sequences = ap₂ (λ (n : List TableNames) 
 
 lines_by : (names : List TableNames) (sequences : List Sequence) (reads : List TableRead) (read : Reads)
     → read ≡ Ok reads → names ≡ map (λ t. t.names) reads → sequences ≡ flat_map (λ t. t.sequences) reads
-    → (read >>= (λ rs. Ok (lines_of rs))) ≡ Ok (record { tables = names; sequences = sequences })
+    → (read >>= (λ rs. Ok (lines_of_tables rs))) ≡ Ok (record { tables = names; sequences = sequences })
 lines_by names sequences reads read e f g = rw (e, f, g) refl
 
 pub lines_are : (line : List ℕ) (texts : Texts) (segments : List Segment) (offsets : List ℕ) (names : List TableNames) (sequences : List Sequence)
@@ -114,6 +114,6 @@ pub lines_fail : (fail : Fail LineFault) (line : List ℕ) (texts : Texts) (segm
 lines_fail (fails.Memory memory) line texts segments offsets e = tt
 lines_fail (fails.Fault fault) line texts segments offsets e = failed (line_tables_of line texts segments offsets) e
   where
-    failed : (read : Reads) → behind [] [] read ≡ Err fault → (read >>= (λ reads. Ok (lines_of reads))) ≡ Err fault
+    failed : (read : Reads) → behind [] [] read ≡ Err fault → (read >>= (λ reads. Ok (lines_of_tables reads))) ≡ Err fault
     failed (Ok reads) h = absurd cc
     failed (Err f) h = cc

@@ -26,8 +26,9 @@ pub record TableRead : Type 0 where
   pub names : TableNames
   pub sequences : List Sequence
 
-abbrev pub names_of : ℕ → Header → TableNames
-names_of offset header = record { offset = offset; directories = header.directories; file_names = header.file_names }
+abbrev pub table_names_of : ℕ → Header → TableNames
+table_names_of offset header =
+    record { offset = offset; directories = header.directories; file_names = header.file_names }
 
 -- a table by its header
 abbrev pub table_by : List Segment → ℕ → Option Header → Result (List TableRead) LineFault
@@ -35,7 +36,7 @@ table_by segments offset None = Ok []
 table_by segments offset (Some header) = do
   rows ← matrix_from header.encoding header.program
   Ok (record {
-    names = names_of offset header;
+    names = table_names_of offset header;
     sequences = filter (is_counted segments) (sequences_from offset [] rows);
   } ∷ [])
 
@@ -59,14 +60,14 @@ pub record Lines : Type 0 where
   pub tables : List TableNames
   pub sequences : List Sequence
 
-abbrev pub lines_of : List TableRead → Lines
-lines_of tables = record { tables = map (λ t. t.names) tables; sequences = flat_map (λ t. t.sequences) tables }
+abbrev pub lines_of_tables : List TableRead → Lines
+lines_of_tables tables = record { tables = map (λ t. t.names) tables; sequences = flat_map (λ t. t.sequences) tables }
 
 -- the line tables at offsets
 abbrev pub lines_at : List ℕ → Texts → List Segment → List ℕ → Result Lines LineFault
 lines_at line texts segments offsets = do
   tables ← line_tables_of line texts segments offsets
-  Ok (lines_of tables)
+  Ok (lines_of_tables tables)
 
 -- ---- names of files
 

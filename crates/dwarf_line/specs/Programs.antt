@@ -39,15 +39,15 @@ row_ending ends registers =
     record { address = registers.address; file = registers.file; line = registers.line; end_sequence = ends }
 
 -- the row that is appended, and the one that ends a sequence
-abbrev pub row_of : LineRegisters → LineRow
-row_of registers = row_ending false registers
+abbrev pub plain_row : LineRegisters → LineRow
+plain_row registers = row_ending false registers
 
 abbrev pub end_row_of : LineRegisters → LineRow
 end_row_of registers = row_ending true registers
 
 -- a row is appended, and the registers are as they were
 abbrev pub row_appended : LineRegisters → OpcodeEffect
-row_appended registers = record { row = Some (row_of registers); registers = registers }
+row_appended registers = record { row = Some (plain_row registers); registers = registers }
 
 -- no row is appended
 abbrev pub no_row_appended : LineRegisters → OpcodeEffect

@@ -36,8 +36,8 @@ abbrev pub greatest : ℕ → List LineRow → ℕ
 greatest at rows = fold max 0 (map (λ r. r.address) (filter (λ r. nat_le r.address at) rows))
 
 -- the last row at that address
-abbrev pub row_at : ℕ → List LineRow → Option LineRow
-row_at at rows = find (λ r. (r.address == greatest at rows) && nat_le r.address at) (reverse rows)
+abbrev pub last_row_at : ℕ → List LineRow → Option LineRow
+last_row_at at rows = find (λ r. (r.address == greatest at rows) && nat_le r.address at) (reverse rows)
 
 abbrev pub row_line : ℕ → LineRow → LineId
 row_line table row = lines.Row table row.file row.line
@@ -46,5 +46,5 @@ row_line table row = lines.Row table row.file row.line
 -- that one
 abbrev pub line_at : List Sequence → ℕ → Option LineId
 line_at sequences at =
-    option_and_then (λ q. option_map (row_line q.table) (row_at at q.rows))
+    option_and_then (λ q. option_map (row_line q.table) (last_row_at at q.rows))
     (find (λ q. holds at (sequence_range q)) sequences)

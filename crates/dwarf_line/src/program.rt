@@ -1,7 +1,7 @@
 //! The opcodes of the line number program (DWARF 5, section 6.2.5).
 ghost use Rattle.std.specs.Prelude.{◌≡◌, ◌<◌, ◌^◌, ◌+◌, ◌%◌, length};
 ghost use Rattle.prof_bytes.specs.Outcome.{GivesAt};
-ghost use Rattle.dwarf_line.specs.Programs.{start, at_address, at_line, row_of, end_row_of, row_appended};
+ghost use Rattle.dwarf_line.specs.Programs.{start, at_address, at_line, plain_row, end_row_of, row_appended};
 ghost use Rattle.dwarf_line.specs.Programs.{no_row_appended, special, advance_pc_from, set_file_from, skipped_from};
 ghost use Rattle.dwarf_line.specs.Programs.{registers_from, standard_from, extended, extended_from, by_opcode};
 ghost use Rattle.dwarf_line.specs.Programs.{opcode_from};
@@ -60,8 +60,8 @@ fn at_line(registers: LineRegisters, more: u128) -> LineRegisters
     }
 }
 
-fn row_of(registers: LineRegisters) -> LineRow
-    ensures { result ≡ row_of registers }
+fn plain_row(registers: LineRegisters) -> LineRow
+    ensures { result ≡ plain_row registers }
 {
     LineRow {
         address: registers.address,
@@ -86,7 +86,7 @@ fn row_appended(registers: LineRegisters) -> OpcodeEffect
     ensures { result ≡ row_appended registers }
 {
     OpcodeEffect {
-        row: Some(row_of(registers)),
+        row: Some(plain_row(registers)),
         registers,
     }
 }

@@ -2,7 +2,7 @@
 ghost use Rattle.std.specs.Prelude.{◌≡◌, ◌≤◌, ◌<◌, true, length};
 ghost use Rattle.dwarf_line.specs.private.BestRow.{better};
 ghost use Rattle.dwarf_line.specs.private.Rising.{Rises, IsSplit, address_at};
-ghost use Rattle.dwarf_line.specs.Sequences.{row_at};
+ghost use Rattle.dwarf_line.specs.Sequences.{last_row_at};
 
 use crate::registers::LineRow;
 use std::marker::Model;
@@ -61,7 +61,7 @@ fn count_up_to(at: u32, rows: &[LineRow]) -> usize
 /// The row in force among rows that rise.
 fn halved(at: u32, rows: &[LineRow]) -> Option<LineRow>
     requires { Rises rows.now }
-    ensures { result ≡ row_at at rows.now }
+    ensures { result ≡ last_row_at at rows.now }
 {
     let count = count_up_to(at, rows);
     if count == 0 {
@@ -87,12 +87,12 @@ impl Rows {
     /// The row in force at an address: by halving where the addresses of the rows rise, else by a look
     /// at each row.
     pub(crate) fn row_at(&self, at: u32) -> Option<LineRow>
-        ensures { result ≡ row_at at self.now }
+        ensures { result ≡ last_row_at at self.now }
     {
         if self.rising {
             return halved(at, self.items.as_slice());
         }
-        row_at(at, self.items.as_slice())
+        last_row_at(at, self.items.as_slice())
     }
 }
 
@@ -116,8 +116,8 @@ fn better(at: u32, best: BestRow, row: LineRow) -> BestRow
 }
 
 /// The last row at the greatest address that is at most `at`.
-fn row_at(at: u32, rows: &[LineRow]) -> Option<LineRow>
-    ensures { result ≡ row_at at rows.now }
+fn last_row_at(at: u32, rows: &[LineRow]) -> Option<LineRow>
+    ensures { result ≡ last_row_at at rows.now }
 {
     let mut best = BestRow {
         greatest: 0,

@@ -16,7 +16,8 @@ use Rattle.eh_frame.specs.Entries.{EhEntry, Content, PassedOver, Common, Descrip
 use Rattle.eh_frame.specs.Translation.{encoded, cie_head, fde_head, place_of, entry_body, aligned, with_length, block_with, block_of}
 use Rattle.eh_frame.specs.private.Adjoining.{AreAdjoining}
 use Rattle.eh_frame.proofs.Bounds.{FitsIn, content_fits}
-use Rattle.eh_frame.proofs.Members.{IsIn, bind_ok, ok_same, ok_cons, ok_of}
+use Rattle.prof_bytes.proofs.Outcomes.{bind_ok, ok_same}
+use Rattle.eh_frame.proofs.Members.{IsIn, ok_cons, ok_of}
 use Rattle.eh_frame.proofs.Places.{Sized, Chain, chain_end, chain_over, chain_on, chain_moved, chain_zeros, drop_behind}
 
 -- ---- a block at a place

@@ -1,10 +1,11 @@
 -- A chain of entries, one more at a time.
 use Rattle.std.proofs.Common.{◌≡◌, ℕ, zero, suc, ◌-◌, ◌≤◌, ◌<◌, Bool, true, false, cond, List, [], ◌∷◌, ◌++◌, length, Option, Some, None, Ok, Err, refl, sym, ap, ◌∙◌, append_assoc, arith}
 use Rattle.std.specs.Prelude.{◌==◌, All}
-use Rattle.std.proofs.lemmas.Bool.Decides.{nat_tests}
 use Rattle.std.proofs.lemmas.List.{append-nil}
+use Rattle.std.proofs.lemmas.Bool.{eq-eqb}
 use Rattle.prof_bytes.specs.Reading.{left_of}
 use Rattle.prof_bytes.specs.Fields.{Input, part_from}
+use Rattle.prof_bytes.proofs.Tests.{not_zero}
 use Rattle.cfi_table.specs.declared.fault.FrameFault.{FrameFault}
 use Rattle.cfi_table.specs.declared.extent.Extent.{Extent}
 use Rattle.cfi_table.specs.Instructions.{Reading}
@@ -21,29 +22,23 @@ pub record KeepsChain (section : List ℕ) (input : Input FrameFault) (front : L
   pub so_far : behind front (eh_chain_from count input) ≡ eh_extents section
   pub placed : All (IsPlaced section) front
 
-not_none : (n : ℕ) → 0 < n → (n == 0) ≡ false
-not_none n lt = grind (arith, nat_tests)
-
-is_none : (n : ℕ) → n ≡ 0 → (n == 0) ≡ true
-is_none n e = grind (arith, nat_tests)
-
 step_zero : (m : ℕ) (input body rest : Input FrameFault) → 0 < length (left_of input.at) → part_from (marked input) ≡ Ok (body, rest) → length (left_of body.at) ≡ 0 → eh_chain_from (suc m) input ≡ ([], None)
 unfolding eh_chain_from
-step_zero m input body rest lt is none = rw (not_none _ lt, is, is_none _ none) refl
+step_zero m input body rest lt is none = rw (not_zero _ lt, is, eq-eqb _ 0 none) refl
 
 step_on : (m : ℕ) (input body rest : Input FrameFault) → 0 < length (left_of input.at) → part_from (marked input) ≡ Ok (body, rest) → 0 < length (left_of body.at)
     → eh_chain_from (suc m) input ≡ before_others (entry_between input rest) (eh_chain_from m rest)
 unfolding eh_chain_from
-step_on m input body rest lt is some = rw (not_none _ lt, is, not_none _ some) refl
+step_on m input body rest lt is some = rw (not_zero _ lt, is, not_zero _ some) refl
 
 step_fault : (m : ℕ) (input : Input FrameFault) (fault : FrameFault) → 0 < length (left_of input.at) → part_from (marked input) ≡ Err fault → eh_chain_from (suc m) input ≡ ([], Some fault)
 unfolding eh_chain_from
-step_fault m input fault lt is = rw (not_none _ lt, is) refl
+step_fault m input fault lt is = rw (not_zero _ lt, is) refl
 
 step_end : (m : ℕ) (input : Input FrameFault) → length (left_of input.at) ≡ 0 → eh_chain_from m input ≡ ([], None)
 unfolding eh_chain_from
 step_end zero input none = refl
-step_end (suc m) input none = rw (is_none _ none) refl
+step_end (suc m) input none = rw (eq-eqb _ 0 none) refl
 
 pub goes_on : (section : List ℕ) (input body rest : Input FrameFault) (front next : List Extent) → 0 < length (left_of input.at) → part_from (marked input) ≡ Ok (body, rest) → 0 < length (left_of body.at)
     → next ≡ front ++ entry_between input rest ∷ [] → All (IsPlaced section) next → KeepsChain section input front → KeepsChain section rest next

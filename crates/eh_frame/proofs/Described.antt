@@ -21,7 +21,7 @@ use Rattle.eh_frame.specs.Addresses.{address_from}
 use Rattle.eh_frame.specs.Cies.{is_read, starts_from, until, cie_with, factors_of, cie_from_letters, cie_from_data, cie_from_factors, cie_from_augmentation, cie_from}
 use Rattle.eh_frame.specs.Runs.{addresses_of, cie_instructions, fde_instructions, rules_after}
 use Rattle.eh_frame.specs.Entries.{EhFde, Content, PassedOver, Common, Description, past_data, eh_fields_from, fde_with, content_of_cie, content_of_fde, content_by, is_eh_id, is_eh_cie, is_cie_before, cie_back, eh_cie_of, content_of}
-use Rattle.eh_frame.specs.Laws.{HasWords}
+use Rattle.eh_frame.specs.Laws.{HasWordOperands}
 use Rattle.eh_frame.proofs.Bounds.{fields_move}
 use Rattle.eh_frame.proofs.Listed.{address_moves}
 use Rattle.eh_frame.proofs.Members.{IsIn, found_in}
@@ -116,7 +116,7 @@ pub record DescriptionRead (section : List ℕ) (address : ℕ) (extents : List 
   pub initial_ran : cie_instructions section address fde.cie ≡ Ok (fde.initial, initial)
   pub own : State
   pub own_rules : rules_after None initial.regs fde.instructions (record initial { location = fde.initial_location }) ≡ Some own
-  pub words : All HasWords fde.instructions
+  pub words : All HasWordOperands fde.instructions
   pub start : fde.initial_location < 2 ^ 32
   pub range : fde.address_range < 2 ^ 32
 
@@ -218,7 +218,7 @@ pub initial_rules : (section : List ℕ) (address : ℕ) (cie : EhCie) (own : Li
 unfolding cie_instructions
 initial_rules section address cie own final ran = listed_rules all_same_value _ (addresses_of address cie) cie.factors (instructions_of section cie.initial_instructions) no_rules (own, final) ran
 
-pub initial_words : (section : List ℕ) (address : ℕ) (cie : EhCie) (own : List CallFrameInstruction) (final : State) → IsBytes section → cie_instructions section address cie ≡ Ok (own, final) → All HasWords own
+pub initial_words : (section : List ℕ) (address : ℕ) (cie : EhCie) (own : List CallFrameInstruction) (final : State) → IsBytes section → cie_instructions section address cie ≡ Ok (own, final) → All HasWordOperands own
 unfolding cie_instructions
 initial_words section address cie own final are ran =
     words_of all_same_value _ (addresses_of address cie) cie.factors (instructions_of section cie.initial_instructions) no_rules (own, final) (take_bytes cie.initial_instructions.end section are) ran

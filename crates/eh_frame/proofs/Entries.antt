@@ -4,7 +4,7 @@ use Rattle.std.specs.Prelude.{◌==◌, ◌&&◌, nat_lt, IfOk, find, filter, op
 use Rattle.std.specs.Option.{option_copied}
 use Rattle.std.specs.List.{flat_map}
 use Rattle.std.proofs.lemmas.Bool.Decides.{nat_tests}
-use Rattle.std.proofs.lemmas.List.{take_more, take_all, append-nil, map_push}
+use Rattle.std.proofs.lemmas.List.{take_more, append-nil, map_push}
 use Rattle.std.proofs.lemmas.List.Concat.{flat_map-append}
 use Rattle.std.proofs.lemmas.List.Elements.{filter_more}
 use Rattle.std.proofs.lemmas.Simd.{map-map}
@@ -112,9 +112,6 @@ ok_more P Q (Err e) more holds = tt
 pub is_cie_by : (section : List ℕ) (e : Extent) (id : ℕ) (input : Input FrameFault) → number_from 4 (body_of section e) ≡ Ok (id, input) → id ≡ EH_CIE_ID → is_eh_cie section e ≡ true
 is_cie_by section e id input is mark = rw (is, mark) refl
 
-pub no_cie_by : (section : List ℕ) (e : Extent) (id : ℕ) (input : Input FrameFault) → number_from 4 (body_of section e) ≡ Ok (id, input) → id ≢ EH_CIE_ID → is_eh_cie section e ≡ false
-no_cie_by section e id input is ne = rw is (other id EH_CIE_ID ne)
-
 pub cie_is : (section : List ℕ) (e : Extent) (id : ℕ) (input : Input FrameFault) (cie : Option EhCie) → number_from 4 (body_of section e) ≡ Ok (id, input) → cie_from e.end input ≡ Ok cie → eh_cie_of section e ≡ Ok cie
 unfolding eh_cie_of
 cie_is section e id input cie is read = rw (is, read) refl
@@ -214,9 +211,6 @@ pub record Reads (section : List ℕ) (address base : ℕ) (extents : List Exten
   pub read : all_ok (map (entry_of section address extents) (take k extents)) ≡ Ok found
   pub put : out ≡ flat_map (block_of base) found
 
-pub reads_none : (section : List ℕ) (address base : ℕ) (extents : List Extent) → Reads section address base extents 0 []
-reads_none section address base extents = record { found = []; read = refl; put = refl }
-
 read_as : (section : List ℕ) (address : ℕ) (extents : List Extent) (e : Extent) (content : Content) → content_of section address extents e ≡ Ok content → entry_of section address extents e ≡ Ok (entry_with e content)
 read_as section address extents e content is = rw is refl
 
@@ -252,13 +246,6 @@ reads_fault section address base extents k d (fails.Fault fault) out lt is kept 
     let faulty = refused (entry_body base) (content_of section address extents e) fault is in
     let entry : entry_of section address extents e ≡ Err fault = rw faulty refl in
     ap (λ (r : Result (List EhEntry) FrameFault). viewed (flat_map (block_of base)) r) (fault_at_index (entry_of section address extents) extents k d kept.found fault kept.read lt entry)
-
-pub reads_all : (section : List ℕ) (address base : ℕ) (extents : List Extent) (k : ℕ) (out : List ℕ) → length extents ≤ k → Reads section address base extents k out
-    → viewed (flat_map (block_of base)) (all_ok (map (entry_of section address extents) extents)) ≡ Ok out
-reads_all section address base extents k out le kept =
-    let all : all_ok (map (entry_of section address extents) extents) ≡ Ok kept.found = ap (λ (es : List Extent). all_ok (map (entry_of section address extents) es)) (sym (take_all k extents le)) ∙ kept.read in
-    ap (λ (r : Result (List EhEntry) FrameFault). viewed (flat_map (block_of base)) r) all
-    ∙ ap (λ (bs : List ℕ). Ok bs) (sym kept.put)
 
 -- ---- the section, and a faulty length behind its entries
 

@@ -19,7 +19,7 @@ use Rattle.cfi_table.specs.Rules.{State, execute, is_past, no_rules, all_same_va
 use Rattle.cfi_table.specs.Entries.{body_of, instructions_of, cie_from_factors, cie_from_sizes, cie_from_augmentation, cie_from, after_cie, continued, is_cie, cie_at, cie_of, checked_cie, checked_fde, fde_fields_from, fde_with, read_entry}
 use Rattle.eh_frame.specs.Runs.{rules_after}
 use Rattle.eh_frame.specs.Translation.{encoded, cie_head, fde_head, aligned}
-use Rattle.eh_frame.specs.Laws.{ones, HasWords}
+use Rattle.eh_frame.specs.Laws.{ones, HasWordOperands}
 use Rattle.eh_frame.proofs.ReadBack.{on, behind, byte_read, word_read, register_read}
 use Rattle.eh_frame.proofs.Runs.{run_back}
 
@@ -132,7 +132,7 @@ cie_back section e register own small size is = record {
         let count : length (drop (e.offset + 4) (take e.end section)) ≡ 9 + length rest = ap (λ (xs : List ℕ). length xs) here ∙ (omega arith) in
         omega (arith, length-drop (e.offset + 4) (take e.end section))
 
-pub cie_ran : (section : List ℕ) (e : Extent) (register : ℕ) (own : List CallFrameInstruction) (final : State) (c : CieBack section e register own) → All HasWords own → rules_after None all_same_value own no_rules ≡ Some final
+pub cie_ran : (section : List ℕ) (e : Extent) (register : ℕ) (own : List CallFrameInstruction) (final : State) (c : CieBack section e register own) → All HasWordOperands own → rules_after None all_same_value own no_rules ≡ Some final
     → after_cie section c.cie ≡ Ok final
 unfolding after_cie
 cie_ran section e register own final c words rules =
@@ -198,7 +198,7 @@ fde_back section extents e c pointer start range cie own small low few size is f
         let count : length (drop (e.offset + 4) (take e.end section)) ≡ 12 + length rest = ap (λ (xs : List ℕ). length xs) here ∙ (omega arith) in
         omega (arith, length-drop (e.offset + 4) (take e.end section))
 
-pub fde_ran : (limit : Option ℕ) (section : List ℕ) (extents : List Extent) (e : Extent) (start range : ℕ) (cie : Cie) (own : List CallFrameInstruction) (initial final : State) (f : FdeBack section extents e start range cie own) → cie.factors ≡ ones → All HasWords own
+pub fde_ran : (limit : Option ℕ) (section : List ℕ) (extents : List Extent) (e : Extent) (start range : ℕ) (cie : Cie) (own : List CallFrameInstruction) (initial final : State) (f : FdeBack section extents e start range cie own) → cie.factors ≡ ones → All HasWordOperands own
     → rules_after limit initial.regs own (record initial { location = start }) ≡ Some final → continued limit section f.fde initial ≡ Ok final
 fde_ran limit section extents e start range cie own initial final f factors words rules =
     rw (f.cie_is, factors, f.start_is)

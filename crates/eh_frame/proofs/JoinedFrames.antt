@@ -21,11 +21,12 @@ use Rattle.cfi_table.proofs.Chains.{in_order}
 use Rattle.eh_frame.specs.Entries.{EhFde, EhEntry, eh_extents, entry_of, faulty_end, eh_entries}
 use Rattle.eh_frame.specs.Translation.{place_of, block_of, translated, translation}
 use Rattle.eh_frame.specs.private.Adjoining.{AreAdjoining}
-use Rattle.eh_frame.specs.Both.{FrameDescription, described, eh_described, eh_range_of, eh_counted, frames_with_eh, descriptions_of_both, ranges_of, described_ranges, rules_by}
+use Rattle.eh_frame.specs.Both.{FrameDescription, described, eh_described, eh_range_of, eh_counted, frames_with_eh, descriptions_of_both, frame_ranges, described_ranges, rules_by}
 use Rattle.eh_frame.specs.Laws.{RangesAreBoth, RulesAreBoth}
 use Rattle.eh_frame.proofs.Bounds.{few_bytes}
 use Rattle.eh_frame.proofs.Chains.{adjoin}
-use Rattle.eh_frame.proofs.Members.{IsIn, in_back, bind_ok, ok_same, ok_append, ok_parts, ok_of, in_filtered}
+use Rattle.prof_bytes.proofs.Outcomes.{bind_ok, ok_same}
+use Rattle.eh_frame.proofs.Members.{IsIn, in_back, ok_append, ok_parts, ok_of, in_filtered}
 use Rattle.eh_frame.proofs.Places.{Chain, chain_moved, chain_joined, chain_whole, ends_within}
 use Rattle.eh_frame.proofs.EhPlaces.{eh_placed}
 use Rattle.eh_frame.proofs.Kept.{Entry, FdeIn, rules_joined, entry_kept, all_kept}
@@ -248,7 +249,7 @@ by_cases {Y} view seen section eh address segments small bytes same = go (frames
 
 pub ranges_are_both : RangesAreBoth
 ranges_are_both section eh address segments small bytes =
-    by_cases ranges_of described_ranges section eh address segments small bytes
+    by_cases frame_ranges described_ranges section eh address segments small bytes
     (λ own all back front matches. ranges_both section (section ++ flat_map (block_of (length section)) all) own.fdes back (filter_map (eh_counted segments) all) matches)
 
 pub rules_are_both : RulesAreBoth

@@ -22,9 +22,10 @@ use Rattle.eh_frame.specs.Runs.{rules_after}
 use Rattle.eh_frame.specs.Entries.{EhFde, EhEntry, Content, PassedOver, Common, Description, content_of, entry_with, entry_of}
 use Rattle.eh_frame.specs.Translation.{place_of, entry_body}
 use Rattle.eh_frame.specs.Both.{eh_range_of, eh_rules_with, eh_rules_from, eh_rules_of, eh_content_counted, eh_counted}
-use Rattle.eh_frame.specs.Laws.{HasWords}
+use Rattle.eh_frame.specs.Laws.{HasWordOperands}
 use Rattle.eh_frame.proofs.Kept.{Entry}
-use Rattle.eh_frame.proofs.Members.{IsIn, in_flat, find_one, ok_same, ok_in, cons_ok}
+use Rattle.prof_bytes.proofs.Outcomes.{ok_same}
+use Rattle.eh_frame.proofs.Members.{IsIn, in_flat, find_one, ok_in, cons_ok}
 use Rattle.eh_frame.proofs.Described.{CommonRead, DescriptionRead, Facts, initial_rules, initial_words, cie_content}
 use Rattle.eh_frame.proofs.EntriesBack.{CieBack, cie_back, cie_ran, FdeBack, fde_back, fde_ran, rules_up_to}
 use Rattle.eh_frame.proofs.Blocks.{translated_extent, extents_in, Stands, block_body, block_within}
@@ -89,7 +90,7 @@ common_reads section eh address base all extents es e cie own j is =
 
 -- the rules of an FDE that was written
 fde_rules : (place : ℕ) (section : List ℕ) (extents : List Extent) (e c : Extent) (g : EhFde) (initial u : State) (back : CieBack section c g.cie.return_address_register g.initial) (f : FdeBack section extents e g.initial_location g.address_range back.cie g.instructions)
-    → All HasWords g.instructions → after_cie section back.cie ≡ Ok initial → rules_after (Some place) initial.regs g.instructions (record initial { location = g.initial_location }) ≡ Some u
+    → All HasWordOperands g.instructions → after_cie section back.cie ≡ Ok initial → rules_after (Some place) initial.regs g.instructions (record initial { location = g.initial_location }) ≡ Some u
     → rules_of section place f.fde ≡ Some (eh_rules_with g.cie u)
 unfolding rules_of after_fde
 fde_rules place section extents e c g initial u back f words ran rules =

@@ -17,7 +17,8 @@ use Rattle.cfi_table.specs.Rules.{State}
 use Rattle.cfi_table.specs.Entries.{body_of, register_from, cie_with, cie_from_factors, cie_from_segment, cie_from_sizes, cie_from_augmentation, cie_from}
 use Rattle.cfi_table.specs.Entries.{after_cie, continued, after_fde, is_cie, cie_at, cie_of, checked_cie, checked_fde, fde_fields_from, fde_with, fde_of, fde_by, read_entry}
 use Rattle.cfi_table.specs.Frames.{all_ok, counted, rules_with, rules_of}
-use Rattle.eh_frame.proofs.Members.{IsIn, found_in, find_front, bind_ok, ok_same, ok_cons}
+use Rattle.prof_bytes.proofs.Outcomes.{bind_ok, ok_same}
+use Rattle.eh_frame.proofs.Members.{IsIn, found_in, find_front, ok_cons}
 
 -- ---- a CIE's instructions end where it ends
 

@@ -5,12 +5,14 @@ use Rattle.std.specs.List.{flat_map}
 use Rattle.std.proofs.lemmas.Bool.Decides.{nat_tests}
 use Rattle.std.proofs.lemmas.List.{append-nil}
 use Rattle.std.proofs.lemmas.List.Concat.{flat_map-append}
+use Rattle.std.proofs.lemmas.Bool.{eq-eqb}
 use Rattle.prof_bytes.specs.Outcome.{◌>>=◌, FailsBy, Gives, viewed}
 use Rattle.prof_bytes.specs.Reading.{left_of}
 use Rattle.prof_bytes.specs.Number.{number_in}
 use Rattle.prof_bytes.specs.Fields.{Input, taken, number_from}
 use Rattle.prof_bytes.specs.declared.fail.Fail.{Fail}
 use Rattle.prof_bytes.specs.declared.fail.Fail.TheVariants as fails
+use Rattle.prof_bytes.proofs.Tests.{not_zero}
 use Rattle.cfi_table.specs.declared.constants.TheConstants.{DW_CFA_set_loc}
 use Rattle.cfi_table.specs.declared.fault.FrameFault.{FrameFault}
 use Rattle.cfi_table.specs.declared.instruction.AlignmentFactors.{AlignmentFactors}
@@ -25,16 +27,10 @@ use Rattle.cfi_table.proofs.Forms.{execute_as_forms}
 use Rattle.cfi_table.proofs.Moves.{Moves, AllMove, stays, binds, number_moves, opcode_moves}
 use Rattle.eh_frame.specs.declared.address.Addresses.{Addresses}
 use Rattle.eh_frame.specs.Addresses.{address_from}
-use Rattle.eh_frame.specs.Runs.{eh_instruction_from, eh_step_by, before_all, listed_by, listed, addresses_of, cie_instructions, fde_instructions}
+use Rattle.eh_frame.specs.Runs.{eh_instruction_from, eh_step_by, before_all, listed_by, listed_instructions, addresses_of, cie_instructions, fde_instructions}
 use Rattle.eh_frame.specs.declared.cie.EhCie.{EhCie}
 use Rattle.eh_frame.specs.Translation.{encoded}
 use Rattle.eh_frame.specs.private.Checked.{listed_forms, put_behind}
-
-some_left : (n : ℕ) → 0 < n → (n == 0) ≡ false
-some_left n lt = grind (arith, nat_tests)
-
-none_left : (n : ℕ) → n ≡ 0 → (n == 0) ≡ true
-none_left n e = grind (arith, nat_tests)
 
 -- ---- an instruction takes bytes
 
@@ -102,17 +98,17 @@ shortens x a f input next i s t some is = let moves = step_moves x a f input nex
 list_end : {S : Type 0} (x : CallFrameInstruction → S → Option S) (m : ℕ) (a : Addresses) (f : AlignmentFactors) (input : Input FrameFault) (s : S) → length (left_of input.at) ≡ 0 → listed_by x m a f input s ≡ Ok ([], s)
 unfolding listed_by
 list_end x zero a f input s none = refl
-list_end x (suc m) a f input s none = rw (none_left _ none) refl
+list_end x (suc m) a f input s none = rw (eq-eqb _ 0 none) refl
 
 list_more : {S : Type 0} (x : CallFrameInstruction → S → Option S) (m : ℕ) (a : Addresses) (f : AlignmentFactors) (input next : Input FrameFault) (i : CallFrameInstruction) (s t : S) → 0 < length (left_of input.at) → eh_step_by x a f input s ≡ Ok ((i, t), next)
     → listed_by x (suc m) a f input s ≡ before_all i (listed_by x m a f next t)
 unfolding listed_by
-list_more x m a f input next i s t some is = rw (some_left _ some, is) refl
+list_more x m a f input next i s t some is = rw (not_zero _ some, is) refl
 
 list_fault : {S : Type 0} (x : CallFrameInstruction → S → Option S) (m : ℕ) (a : Addresses) (f : AlignmentFactors) (input : Input FrameFault) (s : S) (fault : FrameFault) → 0 < length (left_of input.at) → eh_step_by x a f input s ≡ Err fault
     → listed_by x (suc m) a f input s ≡ Err fault
 unfolding listed_by
-list_fault x m a f input s fault some is = rw (some_left _ some, is) refl
+list_fault x m a f input s fault some is = rw (not_zero _ some, is) refl
 
 -- ---- what a loop over instructions keeps
 
@@ -309,10 +305,10 @@ list_as_forms (suc m) initial a f input s = go (length (left_of input.at) == 0) 
     go false r q e same = steps r same ∙ ap (λ (p : Reading (CallFrameInstruction × CfaForms)). p >>= λ done. before_all done.0.0 (listed_by execute_forms m a f done.1 done.0.1)) e
 
 -- what the checker put is what the rules list
-pub put_as_forms : (initial : List Rule) (a : Addresses) (f : AlignmentFactors) (input : Input FrameFault) (s : State) (out : List ℕ) → viewed (λ (r : List CallFrameInstruction × State). out ++ flat_map encoded r.0) (listed initial a f input s)
+pub put_as_forms : (initial : List Rule) (a : Addresses) (f : AlignmentFactors) (input : Input FrameFault) (s : State) (out : List ℕ) → viewed (λ (r : List CallFrameInstruction × State). out ++ flat_map encoded r.0) (listed_instructions initial a f input s)
     ≡ viewed (λ (p : List ℕ × CfaForms). p.0) (viewed (put_behind out) (listed_forms a f input (forms_of s)))
 put_as_forms initial a f input s out =
-    seen (listed initial a f input s)
+    seen (listed_instructions initial a f input s)
     ∙ ap (λ (r : Result (List CallFrameInstruction × CfaForms) FrameFault). viewed (λ (p : List ℕ × CfaForms). p.0) (viewed (put_behind out) r)) (list_as_forms (length (left_of input.at)) initial a f input s)
   where
     seen : (r : Result (List CallFrameInstruction × State) FrameFault) → viewed (λ (r : List CallFrameInstruction × State). out ++ flat_map encoded r.0) r ≡ viewed (λ (p : List ℕ × CfaForms). p.0) (viewed (put_behind out) (viewed forms_list r))
@@ -321,25 +317,25 @@ put_as_forms initial a f input s out =
 
 -- where the checker ended well, so do the rules, with the same forms
 pub ends_as_forms : (initial : List Rule) (a : Addresses) (f : AlignmentFactors) (input : Input FrameFault) (s : State) (out : List ℕ) (p : List ℕ × CfaForms) → viewed (put_behind out) (listed_forms a f input (forms_of s)) ≡ Ok p
-    → (r : List CallFrameInstruction × State) × (listed initial a f input s ≡ Ok r) × (p.1 ≡ forms_of r.1)
-ends_as_forms initial a f input s out p e = from (listed initial a f input s) refl (ap (λ (r : Result (List CallFrameInstruction × CfaForms) FrameFault). viewed (put_behind out) r) (list_as_forms (length (left_of input.at)) initial a f input s) ∙ e)
+    → (r : List CallFrameInstruction × State) × (listed_instructions initial a f input s ≡ Ok r) × (p.1 ≡ forms_of r.1)
+ends_as_forms initial a f input s out p e = from (listed_instructions initial a f input s) refl (ap (λ (r : Result (List CallFrameInstruction × CfaForms) FrameFault). viewed (put_behind out) r) (list_as_forms (length (left_of input.at)) initial a f input s) ∙ e)
   where
     same : (p q : List ℕ × CfaForms) → (let r : Result (List ℕ × CfaForms) FrameFault = Ok p in r) ≡ Ok q → q.1 ≡ p.1
     same p q e = cc
 
-    from : (r : Result (List CallFrameInstruction × State) FrameFault) → listed initial a f input s ≡ r → viewed (put_behind out) (viewed forms_list r) ≡ Ok p → (r : List CallFrameInstruction × State) × (listed initial a f input s ≡ Ok r) × (p.1 ≡ forms_of r.1)
+    from : (r : Result (List CallFrameInstruction × State) FrameFault) → listed_instructions initial a f input s ≡ r → viewed (put_behind out) (viewed forms_list r) ≡ Ok p → (r : List CallFrameInstruction × State) × (listed_instructions initial a f input s ≡ Ok r) × (p.1 ≡ forms_of r.1)
     from (Err fault) is e = absurd cc
     from (Ok r) is e = (r, is, same (put_behind out (forms_list r)) p e)
 
 -- ---- what the checker puts, as the definitions have it
 
 pub put_fails : (initial : List Rule) (a : Addresses) (f : AlignmentFactors) (input : Input FrameFault) (s : State) (out : List ℕ) (fail : Fail FrameFault) → FailsBy fail (viewed (put_behind out) (listed_forms a f input (forms_of s)))
-    → FailsBy fail (viewed (λ (r : List CallFrameInstruction × State). out ++ flat_map encoded r.0) (listed initial a f input s))
+    → FailsBy fail (viewed (λ (r : List CallFrameInstruction × State). out ++ flat_map encoded r.0) (listed_instructions initial a f input s))
 put_fails initial a f input s out (fails.Memory memory) e = tt
 put_fails initial a f input s out (fails.Fault fault) e = put_as_forms initial a f input s out ∙ ap (λ (r : Result (List ℕ × CfaForms) FrameFault). viewed (λ (p : List ℕ × CfaForms). p.0) r) e
 
 pub put_gives : (initial : List Rule) (a : Addresses) (f : AlignmentFactors) (input : Input FrameFault) (s : State) (out : List ℕ) (p : List ℕ × CfaForms) → viewed (put_behind out) (listed_forms a f input (forms_of s)) ≡ Ok p
-    → viewed (λ (r : List CallFrameInstruction × State). out ++ flat_map encoded r.0) (listed initial a f input s) ≡ Ok p.0
+    → viewed (λ (r : List CallFrameInstruction × State). out ++ flat_map encoded r.0) (listed_instructions initial a f input s) ≡ Ok p.0
 put_gives initial a f input s out p e = put_as_forms initial a f input s out ∙ ap (λ (r : Result (List ℕ × CfaForms) FrameFault). viewed (λ (p : List ℕ × CfaForms). p.0) r) e
 
 pub own_gives : (address : ℕ) (cie : EhCie) (start : ℕ) (input : Input FrameFault) (initial : State) (k0 k : CfaForms) (out after : List ℕ) (r : Result (Unit {0}) (Fail FrameFault)) → k0 ≡ forms_of initial

@@ -1,9 +1,10 @@
 -- Elements of lists, what is found among them, and lists of results.
-use Rattle.std.proofs.Common.{◌≡◌, ℕ, ◌+◌, ◌≤◌, ◌<◌, Bool, true, false, cond, List, [], ◌∷◌, ◌++◌, map, Option, Some, None, Result, Ok, Err, inl, inr, refl, sym, ap, subst, ◌∙◌, arith}
+use Rattle.std.proofs.Common.{◌≡◌, ℕ, ◌+◌, ◌≤◌, ◌<◌, Bool, true, false, cond, List, [], ◌∷◌, ◌++◌, map, Option, Some, None, Result, Ok, inl, inr, refl, sym, ap, subst, ◌∙◌, arith}
 use Rattle.std.specs.Prelude.{◌⊎◌, ◌==◌, ◌&&◌, find}
 use Rattle.std.specs.List.{flat_map, filter_map, cons_option}
 use Rattle.std.proofs.lemmas.Bool.Decides.{nat_tests}
 use Rattle.prof_bytes.specs.Outcome.{◌>>=◌}
+use Rattle.prof_bytes.proofs.Outcomes.{bind_ok, ok_same}
 use Rattle.cfi_table.specs.Frames.{all_ok}
 use Rattle.cfi_table.specs.private.Placed.{AreRising}
 
@@ -69,13 +70,6 @@ find_front {X} p q (y ∷ xs) ys x same e = go (p y) refl e (λ f. find_front p 
     go false is e again = rw (sym (same y (inl refl)) ∙ is) (again e)
 
 -- ---- results
-
-pub bind_ok : {X Y F : Type 0} (r : Result X F) (f : X → Result Y F) (y : Y) → (r >>= f) ≡ Ok y → (x : X) × (r ≡ Ok x) × (f x ≡ Ok y)
-bind_ok (Ok x) f y is = (x, refl, is)
-bind_ok (Err e) f y is = absurd cc
-
-pub ok_same : {X F : Type 0} (x y : X) → (let u : Result X F = Ok x in u) ≡ Ok y → x ≡ y
-ok_same x y is = cc
 
 pub ok_cons : {X F : Type 0} (r : Result X F) (rs : List (Result X F)) (all : List X) → all_ok (r ∷ rs) ≡ Ok all → (x : X) × (xs : List X) × (r ≡ Ok x) × (all_ok rs ≡ Ok xs) × (all ≡ x ∷ xs)
 ok_cons {X} {F} r rs all e =

@@ -3,9 +3,11 @@ use Rattle.std.proofs.Common.{◌≡◌, ℕ, zero, suc, ◌+◌, ◌*◌, ◌-�
 use Rattle.std.specs.Prelude.{◌⊎◌, ◌==◌, nat_lt, nat_le, replicate}
 use Rattle.std.proofs.lemmas.Bool.Decides.{nat_tests}
 use Rattle.std.proofs.lemmas.List.{length-take, drop-append-le, replicate-append-replicate}
+use Rattle.std.proofs.lemmas.Bool.{eqb-true, eq-eqb}
 use Rattle.byteorder.specs.Numbers.{little_from-append}
 use Rattle.prof_bytes.specs.Number.{number_in}
 use Rattle.prof_bytes.specs.Fields.{Input, part_from, first_reserved_length}
+use Rattle.prof_bytes.proofs.Tests.{not_zero, above_zero}
 use Rattle.cfi_table.specs.declared.fault.FrameFault.{FrameFault}
 use Rattle.cfi_table.specs.declared.extent.Extent.{Extent}
 use Rattle.cfi_table.specs.Entries.{before_others, chain_from, extents_of}
@@ -60,12 +62,6 @@ part_either section p missing = from (nat_lt (length (drop p section)) 4) refl
 
 -- ---- steps of the chain
 
-not_none : (n : ℕ) → 0 < n → (n == 0) ≡ false
-not_none n lt = grind (arith, nat_tests)
-
-is_none : (n : ℕ) → n ≡ 0 → (n == 0) ≡ true
-is_none n e = grind (arith, nat_tests)
-
 pub sized_length : (section : List ℕ) (p : ℕ) (s : Sized section p) → length (drop (p + 4) (take (p + 4 + s.size) section)) ≡ s.size
 sized_length section p s =
     let within = s.within in
@@ -75,7 +71,7 @@ pub step_over : (m : ℕ) (section : List ℕ) (p : ℕ) (missing : FrameFault) 
 unfolding chain_from
 step_over m section p missing s none =
     let within = s.within in
-    rw (not_none (length (drop p section)) (omega arith), part_sized section p (record { offset = p }) s, is_none (length (drop (p + 4) (take (p + 4 + s.size) section))) (sized_length section p s ∙ none)) refl
+    rw (not_zero (length (drop p section)) (omega arith), part_sized section p (record { offset = p }) s, eq-eqb (length (drop (p + 4) (take (p + 4 + s.size) section))) 0 (sized_length section p s ∙ none)) refl
 
 pub step_on : (m : ℕ) (section : List ℕ) (p : ℕ) (missing : FrameFault) (s : Sized section p) → 0 < s.size
     → chain_from (suc m) (at_place section p missing) ≡ before_others (record { offset = p; end = p + 4 + s.size }) (chain_from m (at_place section (p + 4 + s.size) (record { offset = p })))
@@ -83,11 +79,11 @@ unfolding chain_from
 step_on m section p missing s some =
     let within = s.within in
     let long = sized_length section p s in
-    rw (not_none (length (drop p section)) (omega arith), part_sized section p (record { offset = p }) s, not_none (length (drop (p + 4) (take (p + 4 + s.size) section))) (omega arith)) refl
+    rw (not_zero (length (drop p section)) (omega arith), part_sized section p (record { offset = p }) s, not_zero (length (drop (p + 4) (take (p + 4 + s.size) section))) (omega arith)) refl
 
 step_fault : (m : ℕ) (section : List ℕ) (p : ℕ) (missing : FrameFault) → 0 < length (drop p section) → part_from (at_place section p (record { offset = p })) ≡ Err (record { offset = p }) → chain_from (suc m) (at_place section p missing) ≡ ([], Some (record { offset = p }))
 unfolding chain_from
-step_fault m section p missing some faulty = rw (not_none (length (drop p section)) some, faulty) refl
+step_fault m section p missing some faulty = rw (not_zero (length (drop p section)) some, faulty) refl
 
 -- ---- the entries from a place on, to the section's end
 
@@ -164,12 +160,6 @@ sized_joined section behind p le s =
 no_more : (es : List Extent) → (let u : List Extent × Option FrameFault = ([], None) in u) ≡ (es, None) → [] ≡ es
 no_more es e = ap (λ (x : List Extent × Option FrameFault). x.0) e
 
-none_left : (n : ℕ) → (n == 0) ≡ true → n ≡ 0
-none_left n e = grind (arith, nat_tests)
-
-some_left : (n : ℕ) → (n == 0) ≡ false → 0 < n
-some_left n e = grind (arith, nat_tests)
-
 joined_end : (section behind : List ℕ) (p : ℕ) (es later : List Extent) → [] ≡ es → p ≤ length section → length (drop p section) ≡ 0 → Chain (section ++ behind) (length section) later → Chain (section ++ behind) p (es ++ later)
 joined_end section behind p es later none le empty then =
     let here : length section ≡ p = omega (arith, length-drop p section) in
@@ -208,16 +198,16 @@ chain_joined (suc n) section behind p missing es later le enough e then =
         (again q others.0 (omega (arith, length-drop p section)) (omega (arith, length-drop p section, length-drop (p + 4 + s.size) section)) sound))
 
     sized : (s : Sized section p) (b : Bool) → (s.size == 0) ≡ b → Again → Chain (section ++ behind) p (es ++ later)
-    sized s true none again = over s (none_left s.size none) again
-    sized s false some again = on s (some_left s.size some) again
+    sized s true none again = over s (eqb-true s.size 0 none) again
+    sized s false some again = on s (above_zero s.size some) again
 
     go : (b : Bool) → (length (drop p section) == 0) ≡ b → Sized section p ⊎ (part_from (at_place section p (record { offset = p })) ≡ Err (record { offset = p })) → Again → Chain (section ++ behind) p (es ++ later)
     go true none either again =
-        let empty = none_left (length (drop p section)) none in
+        let empty = eqb-true (length (drop p section)) 0 none in
         joined_end section behind p es later (no_more es (sym (step_end (suc n) (at_place section p missing) empty) ∙ e)) le empty then
     go false some (inl s) again = sized s (s.size == 0) refl again
     go false some (inr faulty) again =
-        let wrong : (let u : List Extent × Option FrameFault = ([], Some (record { offset = p })) in u) ≡ (es, None) = sym (step_fault n section p missing (some_left (length (drop p section)) some) faulty) ∙ e in
+        let wrong : (let u : List Extent × Option FrameFault = ([], Some (record { offset = p })) in u) ≡ (es, None) = sym (step_fault n section p missing (above_zero (length (drop p section)) some) faulty) ∙ e in
         let broken : (let u : Option FrameFault = Some (record { offset = p }) in u) ≡ None = ap (λ (x : List Extent × Option FrameFault). x.1) wrong in
         absurd cc
 
@@ -243,10 +233,10 @@ ends_within (suc n) section p missing x le is =
     sized : (s : Sized section p) (b : Bool) → (s.size == 0) ≡ b → Again → x.end ≤ length section
     sized s true none again =
         let within = s.within in
-        again (p + 4 + s.size) (omega (arith, length-drop p section)) (subst P (step_over n section p missing s (none_left s.size none)) is)
-    sized s false some again = first s (subst P (step_on n section p missing s (some_left s.size some)) is) again
+        again (p + 4 + s.size) (omega (arith, length-drop p section)) (subst P (step_over n section p missing s (eqb-true s.size 0 none)) is)
+    sized s false some again = first s (subst P (step_on n section p missing s (above_zero s.size some)) is) again
 
     go : (b : Bool) → (length (drop p section) == 0) ≡ b → Sized section p ⊎ (part_from (at_place section p (record { offset = p })) ≡ Err (record { offset = p })) → Again → x.end ≤ length section
-    go true none either again = absurd (subst P (step_end (suc n) (at_place section p missing) (none_left (length (drop p section)) none)) is)
+    go true none either again = absurd (subst P (step_end (suc n) (at_place section p missing) (eqb-true (length (drop p section)) 0 none)) is)
     go false some (inl s) again = sized s (s.size == 0) refl again
-    go false some (inr faulty) again = absurd (subst P (step_fault n section p missing (some_left (length (drop p section)) some) faulty) is)
+    go false some (inr faulty) again = absurd (subst P (step_fault n section p missing (above_zero (length (drop p section)) some) faulty) is)

@@ -12,7 +12,7 @@ use Rattle.cfi_table.specs.declared.instruction.CallFrameInstruction.{CallFrameI
 use Rattle.cfi_table.specs.declared.instruction.CallFrameInstruction.TheVariants as instructions
 use Rattle.cfi_table.specs.Instructions.{word_of, scaled, offset_from, factored_from, block_from, cfa_from, rule_from, register_rule_from, extended_from, opcode_then, instruction_from}
 use Rattle.eh_frame.specs.Translation.{register_byte, offset_bytes, encoded}
-use Rattle.eh_frame.specs.Laws.{HasWords, kept_register, Reads, InstructionsReadBack}
+use Rattle.eh_frame.specs.Laws.{HasWordOperands, kept_register, Reads, InstructionsReadBack}
 
 -- ---- an input further on
 
@@ -201,7 +201,7 @@ cfa_expression_read input rest is =
     let last = behind input (15 ∷ []) (0 ∷ rest) is in
     (on 0 (on 1 (second input)), rw (byte_read input 15 (0 ∷ rest) is, block_read (second input) rest last) refl, behind (on 1 (second input)) [] rest (behind (second input) (0 ∷ []) rest last))
 
-pub instruction_read : (i : CallFrameInstruction) (input : Input FrameFault) (rest : List ℕ) → HasWords i → left_of input.at ≡ encoded i ++ rest → Reads (kept_register i) input rest
+pub instruction_read : (i : CallFrameInstruction) (input : Input FrameFault) (rest : List ℕ) → HasWordOperands i → left_of input.at ≡ encoded i ++ rest → Reads (kept_register i) input rest
 instruction_read instructions.Nop input rest words is = nop_read input rest is
 instruction_read (instructions.SetLoc address) input rest words is = set_loc_read address input rest words is
 instruction_read (instructions.AdvanceLoc delta) input rest words is = advance_read delta input rest words is

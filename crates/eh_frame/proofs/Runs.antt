@@ -8,6 +8,7 @@ use Rattle.std.proofs.lemmas.List.{length-replicate}
 use Rattle.prof_bytes.specs.Outcome.{◌>>=◌}
 use Rattle.prof_bytes.specs.Reading.{left_of}
 use Rattle.prof_bytes.specs.Fields.{Input}
+use Rattle.prof_bytes.proofs.Tests.{not_zero}
 use Rattle.cfi_table.specs.declared.fault.FrameFault.{FrameFault}
 use Rattle.cfi_table.specs.declared.instruction.AlignmentFactors.{AlignmentFactors}
 use Rattle.cfi_table.specs.declared.instruction.CallFrameInstruction.{CallFrameInstruction}
@@ -23,7 +24,7 @@ use Rattle.cfi_table.proofs.Runs.{run_end}
 use Rattle.eh_frame.specs.declared.address.Addresses.{Addresses}
 use Rattle.eh_frame.specs.Runs.{eh_instruction_from, eh_step_by, before_all, listed_by, rules_after}
 use Rattle.eh_frame.specs.Translation.{register_byte, encoded}
-use Rattle.eh_frame.specs.Laws.{ones, HasWords, kept_register, Reads, RunsReadBack}
+use Rattle.eh_frame.specs.Laws.{ones, HasWordOperands, kept_register, Reads, RunsReadBack}
 use Rattle.eh_frame.proofs.ReadBack.{instruction_read}
 
 -- ---- registers from 32 on are alike
@@ -100,14 +101,11 @@ one_byte (instructions.Restore register) = omega arith
 one_byte instructions.RememberState = omega arith
 one_byte instructions.RestoreState = omega arith
 
-some_left : (n : ℕ) → 0 < n → (n == 0) ≡ false
-some_left n lt = grind (arith, nat_tests)
-
 -- the instruction at the front is carried out, and these bytes are left
 abbrev Steps : List Rule → Input FrameFault → State → State → List ℕ → Type 0
 Steps initial input s t rest = (next : Input FrameFault) × (step_by (execute initial) ones input s ≡ Ok (t, next)) × (left_of next.at ≡ rest)
 
-steps : (initial : List Rule) (i : CallFrameInstruction) (rest : List ℕ) (input : Input FrameFault) (s t : State) → HasWords i → left_of input.at ≡ encoded i ++ rest → execute initial i s ≡ Some t → Steps initial input s t rest
+steps : (initial : List Rule) (i : CallFrameInstruction) (rest : List ℕ) (input : Input FrameFault) (s t : State) → HasWordOperands i → left_of input.at ≡ encoded i ++ rest → execute initial i s ≡ Some t → Steps initial input s t rest
 steps initial i rest input s t words is done =
     let read : Reads (kept_register i) (marked input) rest = instruction_read i (marked input) rest words is in
     (read.0, rw (read.1, kept_alike initial i s, done) refl, read.2)
@@ -115,12 +113,12 @@ steps initial i rest input s t words is done =
 run_more : (limit : Option ℕ) (initial : List Rule) (room : ℕ) (input next : Input FrameFault) (s t : State) → 0 < length (left_of input.at) → step_by (execute initial) ones input s ≡ Ok (t, next) → is_past limit t ≡ false
     → run_by (execute initial) (is_past limit) (suc room) ones input s ≡ run_by (execute initial) (is_past limit) room ones next t
 unfolding run_by
-run_more limit initial room input next s t some is goes = rw (some_left _ some, is, goes) refl
+run_more limit initial room input next s t some is goes = rw (not_zero _ some, is, goes) refl
 
 run_stop : (limit : Option ℕ) (initial : List Rule) (room : ℕ) (input next : Input FrameFault) (s t : State) → 0 < length (left_of input.at) → step_by (execute initial) ones input s ≡ Ok (t, next) → is_past limit t ≡ true
     → run_by (execute initial) (is_past limit) (suc room) ones input s ≡ Ok t
 unfolding run_by
-run_stop limit initial room input next s t some is stop = rw (some_left _ some, is, stop) refl
+run_stop limit initial room input next s t some is stop = rw (not_zero _ some, is, stop) refl
 
 -- ---- zeros do nothing
 
@@ -150,7 +148,7 @@ zeros_back limit initial (suc zeros) (suc room) input s is enough =
 ok_of : (s t : State) → Some s ≡ Some t → (let u : Result State FrameFault = Ok s in u) ≡ Ok t
 ok_of s t e = cc
 
-pub run_back : (limit : Option ℕ) (initial : List Rule) (all : List CallFrameInstruction) (zeros room : ℕ) (input : Input FrameFault) (s t : State) → All HasWords all → left_of input.at ≡ flat_map encoded all ++ replicate zeros 0
+pub run_back : (limit : Option ℕ) (initial : List Rule) (all : List CallFrameInstruction) (zeros room : ℕ) (input : Input FrameFault) (s t : State) → All HasWordOperands all → left_of input.at ≡ flat_map encoded all ++ replicate zeros 0
     → length (left_of input.at) ≤ room → rules_after limit initial all s ≡ Some t → run_by (execute initial) (is_past limit) room ones input s ≡ Ok t
 unfolding rules_after
 run_back limit initial [] zeros room input s t words is enough done = zeros_back limit initial zeros room input s is enough ∙ ok_of s t done

@@ -31,7 +31,7 @@ use Rattle.eh_frame.specs.declared.address.Application.{Application}
 use Rattle.eh_frame.specs.declared.address.Application.TheVariants as applications
 use Rattle.eh_frame.specs.Addresses.{applied, address_from}
 use Rattle.eh_frame.specs.Runs.{eh_instruction_from, eh_step_by, before_all, listed_by}
-use Rattle.eh_frame.specs.Laws.{HasWords}
+use Rattle.eh_frame.specs.Laws.{HasWordOperands}
 use Rattle.eh_frame.proofs.Listed.{step_moves}
 use Rattle.eh_frame.proofs.Runs.{step_ran}
 
@@ -77,7 +77,7 @@ scaled_small n f = mod-lt (n * f) (let e : 0 < 2 ^ 32 = omega arith in e)
 -- ---- instructions
 
 abbrev AllWords : Reading CallFrameInstruction → Type 0
-AllWords r = IfOk r (λ i. HasWords i.0)
+AllWords r = IfOk r (λ i. HasWordOperands i.0)
 
 of_small : (r : Reading ℕ) (next : ℕ × Input FrameFault → Reading CallFrameInstruction) → AllSmall r → ((n : ℕ × Input FrameFault) → n.0 < 2 ^ 32 → AllWords (next n)) → AllWords (r >>= next)
 of_small (Err fault) next small words = tt
@@ -179,10 +179,10 @@ instruction_words a f input are = from (nat_lt (length (left_of input.at)) 1) (n
 
 -- ---- lists of instructions
 
-all_none : All HasWords (let u : List CallFrameInstruction = [] in u)
+all_none : All HasWordOperands (let u : List CallFrameInstruction = [] in u)
 all_none k d lt = absurd (omega arith)
 
-all_more : (i : CallFrameInstruction) (is : List CallFrameInstruction) → HasWords i → All HasWords is → All HasWords (i ∷ is)
+all_more : (i : CallFrameInstruction) (is : List CallFrameInstruction) → HasWordOperands i → All HasWordOperands is → All HasWordOperands (i ∷ is)
 all_more i is words all zero d lt = words
 all_more i is words all (suc k) d lt = all k d (omega arith)
 
@@ -190,7 +190,7 @@ same_instruction : (p q : CallFrameInstruction × Input FrameFault) → (let u :
 same_instruction p q e = cc
 
 abbrev ListWords : Result (List CallFrameInstruction × State) FrameFault → Type 0
-ListWords r = IfOk r (λ x. All HasWords x.0)
+ListWords r = IfOk r (λ x. All HasWordOperands x.0)
 
 listed_words : (initial : List Rule) (room : ℕ) (a : Addresses) (f : AlignmentFactors) (input : Input FrameFault) (s : State) → IsBytes input.at.whole → ListWords (listed_by (execute initial) room a f input s)
 unfolding listed_by
@@ -200,13 +200,13 @@ listed_words initial (suc room) a f input s are = go (length (left_of input.at) 
     Again : Type 0
     Again = (next : Input FrameFault) (t : State) → IsBytes next.at.whole → ListWords (listed_by (execute initial) room a f next t)
 
-    one : (i : CallFrameInstruction) (r : Result (List CallFrameInstruction × State) FrameFault) → HasWords i → ListWords r → ListWords (before_all i r)
+    one : (i : CallFrameInstruction) (r : Result (List CallFrameInstruction × State) FrameFault) → HasWordOperands i → ListWords r → ListWords (before_all i r)
     one i (Err fault) words all = tt
     one i (Ok r) words all = all_more i r.0 words all
 
-    has : (i : CallFrameInstruction) (next : Input FrameFault) (r : Reading CallFrameInstruction) → r ≡ Ok (i, next) → AllWords r → HasWords i
+    has : (i : CallFrameInstruction) (next : Input FrameFault) (r : Reading CallFrameInstruction) → r ≡ Ok (i, next) → AllWords r → HasWordOperands i
     has i next (Err fault) is words = absurd cc
-    has i next (Ok j) is words = let P : CallFrameInstruction × Input FrameFault → Type 0 = λ k. HasWords k.0 in subst P (same_instruction j (i, next) is) words
+    has i next (Ok j) is words = let P : CallFrameInstruction × Input FrameFault → Type 0 = λ k. HasWordOperands k.0 in subst P (same_instruction j (i, next) is) words
 
     stepped : (d : Reading (CallFrameInstruction × State)) → eh_step_by (execute initial) a f input s ≡ d → Again → ListWords (d >>= λ done. before_all done.0.0 (listed_by (execute initial) room a f done.1 done.0.1))
     stepped (Err fault) is again = tt
@@ -219,5 +219,5 @@ listed_words initial (suc room) a f input s are = go (length (left_of input.at) 
     go true d is again = all_none
     go false d is again = stepped d is again
 
-pub words_of : (initial : List Rule) (room : ℕ) (a : Addresses) (f : AlignmentFactors) (input : Input FrameFault) (s : State) (r : List CallFrameInstruction × State) → IsBytes input.at.whole → listed_by (execute initial) room a f input s ≡ Ok r → All HasWords r.0
+pub words_of : (initial : List Rule) (room : ℕ) (a : Addresses) (f : AlignmentFactors) (input : Input FrameFault) (s : State) (r : List CallFrameInstruction × State) → IsBytes input.at.whole → listed_by (execute initial) room a f input s ≡ Ok r → All HasWordOperands r.0
 words_of initial room a f input s r are is = let P : Result (List CallFrameInstruction × State) FrameFault → Type 0 = λ x. ListWords x in subst P is (listed_words initial room a f input s are)

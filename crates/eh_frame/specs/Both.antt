@@ -96,8 +96,8 @@ descriptions_of_both debug_frame eh_frame address segments = do
   Ok (map (described debug_frame) own.fdes ++ map eh_described (filter_map (eh_counted segments) entries))
 
 -- the ranges of a table's frames, and those of frame descriptions
-abbrev pub ranges_of : Frames → List AddressRange
-ranges_of frames = map range_of frames.fdes
+abbrev pub frame_ranges : Frames → List AddressRange
+frame_ranges frames = map range_of frames.fdes
 
 abbrev pub described_ranges : List FrameDescription → List AddressRange
 described_ranges descriptions = map (λ d. d.range) descriptions

@@ -16,31 +16,31 @@ use Rattle.cfi_table.specs.Rules.{State, run_all}
 use Rattle.cfi_table.specs.Frames.{rules_at}
 use Rattle.eh_frame.specs.Runs.{rules_after}
 use Rattle.eh_frame.specs.Translation.{register_byte, encoded}
-use Rattle.eh_frame.specs.Both.{frames_with_eh, descriptions_of_both, ranges_of, described_ranges, rules_by}
+use Rattle.eh_frame.specs.Both.{frames_with_eh, descriptions_of_both, frame_ranges, described_ranges, rules_by}
 
 -- the factors of the translation
 abbrev pub ones : AlignmentFactors
 ones = record { code_alignment_factor = 1; data_alignment_factor = 1 }
 
 -- an instruction's addresses, steps and offsets have 32 bits
-abbrev pub HasWords : CallFrameInstruction → Type 0
-HasWords instructions.Nop = Unit {0}
-HasWords (instructions.SetLoc address) = address < 2 ^ 32
-HasWords (instructions.AdvanceLoc delta) = delta < 2 ^ 32
-HasWords (instructions.DefCfa register offset) = offset < 2 ^ 32
-HasWords (instructions.DefCfaRegister register) = Unit {0}
-HasWords (instructions.DefCfaOffset offset) = offset < 2 ^ 32
-HasWords instructions.DefCfaExpression = Unit {0}
-HasWords (instructions.Undefined register) = Unit {0}
-HasWords (instructions.SameValue register) = Unit {0}
-HasWords (instructions.Offset register offset) = offset < 2 ^ 32
-HasWords (instructions.ValOffset register offset) = offset < 2 ^ 32
-HasWords (instructions.Register register source) = Unit {0}
-HasWords (instructions.Expression register) = Unit {0}
-HasWords (instructions.ValExpression register) = Unit {0}
-HasWords (instructions.Restore register) = Unit {0}
-HasWords instructions.RememberState = Unit {0}
-HasWords instructions.RestoreState = Unit {0}
+abbrev pub HasWordOperands : CallFrameInstruction → Type 0
+HasWordOperands instructions.Nop = Unit {0}
+HasWordOperands (instructions.SetLoc address) = address < 2 ^ 32
+HasWordOperands (instructions.AdvanceLoc delta) = delta < 2 ^ 32
+HasWordOperands (instructions.DefCfa register offset) = offset < 2 ^ 32
+HasWordOperands (instructions.DefCfaRegister register) = Unit {0}
+HasWordOperands (instructions.DefCfaOffset offset) = offset < 2 ^ 32
+HasWordOperands instructions.DefCfaExpression = Unit {0}
+HasWordOperands (instructions.Undefined register) = Unit {0}
+HasWordOperands (instructions.SameValue register) = Unit {0}
+HasWordOperands (instructions.Offset register offset) = offset < 2 ^ 32
+HasWordOperands (instructions.ValOffset register offset) = offset < 2 ^ 32
+HasWordOperands (instructions.Register register source) = Unit {0}
+HasWordOperands (instructions.Expression register) = Unit {0}
+HasWordOperands (instructions.ValExpression register) = Unit {0}
+HasWordOperands (instructions.Restore register) = Unit {0}
+HasWordOperands instructions.RememberState = Unit {0}
+HasWordOperands instructions.RestoreState = Unit {0}
 
 -- the same with each register from 32 on as 32
 abbrev pub kept_register : CallFrameInstruction → CallFrameInstruction
@@ -70,7 +70,7 @@ Reads i input rest = (next : Input FrameFault) × (instruction_from ones input �
 -- a written instruction reads back as the one that was meant
 abbrev pub InstructionsReadBack : Type 0
 InstructionsReadBack = (i : CallFrameInstruction) (input : Input FrameFault) (rest : List ℕ)
-    → HasWords i → left_of input.at ≡ encoded i ++ rest → Reads (kept_register i) input rest
+    → HasWordOperands i → left_of input.at ≡ encoded i ++ rest → Reads (kept_register i) input rest
 
 -- ---- runs of instructions
 
@@ -78,7 +78,7 @@ InstructionsReadBack = (i : CallFrameInstruction) (input : Input FrameFault) (re
 abbrev pub RunsReadBack : Type 0
 RunsReadBack = (limit : Option ℕ) (initial : List Rule) (all : List CallFrameInstruction) (zeros : ℕ)
     (input : Input FrameFault) (s t : State)
-    → All HasWords all → left_of input.at ≡ flat_map encoded all ++ replicate zeros 0
+    → All HasWordOperands all → left_of input.at ≡ flat_map encoded all ++ replicate zeros 0
     → rules_after limit initial all s ≡ Some t → run_all limit initial ones input s ≡ Ok t
 
 -- ---- both sections
@@ -88,7 +88,7 @@ RunsReadBack = (limit : Option ℕ) (initial : List Rule) (all : List CallFrameI
 abbrev pub RangesAreBoth : Type 0
 RangesAreBoth = (debug_frame eh_frame : List ℕ) (address : ℕ) (segments : List Segment)
     → length debug_frame + 8 * length eh_frame < 2 ^ 31 → IsBytes eh_frame
-    → viewed ranges_of (frames_with_eh debug_frame eh_frame address segments)
+    → viewed frame_ranges (frames_with_eh debug_frame eh_frame address segments)
     ≡ viewed described_ranges (descriptions_of_both debug_frame eh_frame address segments)
 
 -- and at each address they have the rules of the first of both sections' frame descriptions that holds it

@@ -36,13 +36,13 @@ eh_step_by execution addresses factors input s = do
   Ok ((instruction, t), next)
 
 -- an instruction before others, and the state after them
-abbrev pub before : {S : Type 0} → CallFrameInstruction → List CallFrameInstruction × S
+abbrev pub instruction_before : {S : Type 0} → CallFrameInstruction → List CallFrameInstruction × S
     → List CallFrameInstruction × S
-before instruction others = (instruction ∷ others.0, others.1)
+instruction_before instruction others = (instruction ∷ others.0, others.1)
 
 abbrev pub before_all : {S F : Type 0} → CallFrameInstruction → Result (List CallFrameInstruction × S) F
     → Result (List CallFrameInstruction × S) F
-before_all instruction (Ok others) = Ok (before instruction others)
+before_all instruction (Ok others) = Ok (instruction_before instruction others)
 before_all instruction (Err fault) = Err fault
 
 -- the instructions in their order, and the state after they are carried out, or the fault of the first that has one.
@@ -56,9 +56,9 @@ listed_by execution (suc room) addresses factors input s =
     >>= λ done. before_all done.0.0 (listed_by execution room addresses factors done.1 done.0.1)
 
 -- `initial` are the rules after the CIE's instructions, to which restore goes back
-abbrev pub listed : List Rule → Addresses → AlignmentFactors → Input FrameFault → State
+abbrev pub listed_instructions : List Rule → Addresses → AlignmentFactors → Input FrameFault → State
     → Result (List CallFrameInstruction × State) FrameFault
-listed initial addresses factors input s =
+listed_instructions initial addresses factors input s =
     listed_by (execute initial) (length (left_of input.at)) addresses factors input s
 
 -- how addresses are read in entries of a CIE
@@ -67,13 +67,14 @@ addresses_of address cie = record { section = address; application = cie.applica
 
 -- a CIE's instructions, and the rules after them
 unfoldable pub cie_instructions : List ℕ → ℕ → EhCie → Result (List CallFrameInstruction × State) FrameFault
-cie_instructions section address cie = listed all_same_value (addresses_of address cie) cie.factors
+cie_instructions section address cie = listed_instructions all_same_value (addresses_of address cie) cie.factors
     (instructions_of section cie.initial_instructions) no_rules
 
 -- an FDE's instructions, carried out from its start on and from the rules after its CIE's
 abbrev pub fde_instructions : ℕ → EhCie → ℕ → Input FrameFault → State
     → Result (List CallFrameInstruction × State) FrameFault
-fde_instructions address cie initial_location input initial = listed initial.regs (addresses_of address cie)
+fde_instructions address cie initial_location input initial =
+    listed_instructions initial.regs (addresses_of address cie)
     cie.factors input (record initial { location = initial_location })
 
 -- ---- at an address

@@ -4,7 +4,7 @@ ghost use Rattle.prof_bytes.specs.Outcome.{Gives, viewed};
 ghost use Rattle.cfi_table.specs.Frames.{frames_of, rules_at};
 ghost use Rattle.eh_frame.specs.Translation.{translation};
 ghost use Rattle.eh_frame.specs.Both.{in_debug_frame, in_eh_frame, frames_with_eh, descriptions_of_both};
-ghost use Rattle.eh_frame.specs.Both.{ranges_of, described_ranges, rules_by};
+ghost use Rattle.eh_frame.specs.Both.{frame_ranges, described_ranges, rules_by};
 
 use crate::fault::EhFault;
 use crate::section::translate;
@@ -60,7 +60,7 @@ fn joined(alloc: Global, first: &[u8], second: &[u8]) -> Result<Vec<u8>, Memory>
     Ok(all)
 }
 
-/// The frames of `.debug_frame` with the translation of `.eh_frame` behind it.
+/// The frames of `.debug_frame` with the translation of `.eh_frame` behind it, if that has any bytes.
 #[tactic(auto, unfolding(crate::specs::Both::frames_with_eh))]
 fn translated_frames(
     alloc: Global,
@@ -73,8 +73,11 @@ fn translated_frames(
     ensures { Gives (λ table. table) result
         (frames_with_eh debug_frame.now eh_frame.now address image.now.segments) }
 {
-    debug_frames(alloc, debug_frame, image)?;
+    let table = debug_frames(alloc, debug_frame, image)?;
     let text = eh_frames(alloc, eh_frame, address, debug_frame.len() as u32)?;
+    if text.bytes().is_empty() {
+        return Ok(table);
+    }
     let all = joined(alloc, debug_frame, text.bytes())?;
     debug_frames(alloc, &all, image)
 }
@@ -91,7 +94,7 @@ pub fn read_both_frames(
     requires { length debug_frame.now + 8 * length eh_frame.now < 2 ^ 31 }
     ensures frames { Gives (λ table. table) result
         (frames_with_eh debug_frame.now eh_frame.now address image.now.segments) }
-    ensures ranges { Gives (λ table. ranges_of table) result (viewed described_ranges
+    ensures ranges { Gives (λ table. frame_ranges table) result (viewed described_ranges
         (descriptions_of_both debug_frame.now eh_frame.now address image.now.segments)) }
     ensures rules { (place : ℕ) → Gives (λ table. rules_at table place) result
         (viewed (λ descriptions. rules_by descriptions place)

@@ -2,7 +2,9 @@
 use Rattle.std.proofs.Common.{◌≡◌, ℕ, zero, suc, ◌+◌, ◌*◌, ◌<◌, ◌≤◌, Bool, true, false, cond, not, List, [], ◌∷◌, length, get_or, Option, Some, None, Result, Ok, refl, subst, arith, lit<}
 use Rattle.std.specs.Prelude.{find, option_map, ◌==◌, ◌&&◌}
 use Rattle.std.proofs.lemmas.Bool.Decides.{nat_tests}
+use Rattle.std.proofs.lemmas.Bool.{not-false}
 use Rattle.prof_bytes.specs.Outcome.{◌>>=◌}
+use Rattle.prof_bytes.proofs.Tests.{some_same}
 use Rattle.elf_image.specs.declared.header.SectionHeader.{SectionHeader}
 use Rattle.elf_image.specs.declared.fault.ElfFault.{ElfFault}
 use Rattle.elf_image.specs.declared.fault.ElfRule.{ElfRule}
@@ -33,10 +35,6 @@ find_none p [] e i d lt = absurd (omega arith)
 find_none p (x ∷ xs) e zero d lt = (cond_none (p x) x (find p xs) e).0
 find_none p (x ∷ xs) e (suc i) d lt = find_none p xs (cond_none (p x) x (find p xs) e).1 i d (omega arith)
 
-pub not_false : (b : Bool) → not b ≡ false → b ≡ true
-not_false true e = refl
-not_false false e = absurd cc
-
 pub within : (file : List ℕ) (offset size : ℕ) → lies_within file offset size ≡ true → 0 < size → offset + size ≤ length file
 within file offset size e some = grind (arith, nat_tests)
 
@@ -45,7 +43,7 @@ unfolding header_place
 headers_lie file none =
     let tests : List (Bool × ℕ) = header_tests file in
     let all = find_none (λ t. t.0) tests (option_map_none (λ t. t.1) (find (λ t. t.0) tests) none) in
-    (not_false _ (all 1 (true, 0) (lit< tt)), not_false _ (all 3 (true, 0) (lit< tt)))
+    (not-false _ (all 1 (true, 0) (lit< tt)), not-false _ (all 3 (true, 0) (lit< tt)))
 
 headers_within : (file : List ℕ) → header_of file ≡ Ok tt → (lies_within file (e_phoff file) (32 * e_phnum file) ≡ true) × (lies_within file (e_shoff file) (40 * e_shnum file) ≡ true)
 unfolding header_of
@@ -63,9 +61,6 @@ sections_within file e some = within file (e_shoff file) (40 * e_shnum file) (he
 
 -- ---- the symbol table
 
-pub some_is : {X : Type 0} (a b : X) → Some a ≡ Some b → a ≡ b
-some_is a b e = cc
-
 find_both : {X : Type 0} (p q : X → Bool) (xs : List X) (x : X) → find p xs ≡ Some x → find q xs ≡ None → (p x ≡ true) × (q x ≡ false)
 find_both p q [] x found none = absurd cc
 find_both {X} p q (y ∷ ys) x found none =
@@ -73,7 +68,7 @@ find_both {X} p q (y ∷ ys) x found none =
     go (p y) refl other.0 found (λ e. find_both p q ys x e other.1)
   where
     go : (b : Bool) → p y ≡ b → q y ≡ false → cond b (Some y) (find p ys) ≡ Some x → (find p ys ≡ Some x → (p x ≡ true) × (q x ≡ false)) → (p x ≡ true) × (q x ≡ false)
-    go true is here e rest = let P : X → Type 0 = λ z. (p z ≡ true) × (q z ≡ false) in subst P (some_is y x e) (is, here)
+    go true is here e rest = let P : X → Type 0 = λ z. (p z ≡ true) × (q z ≡ false) in subst P (some_same y x e) (is, here)
     go false is here e rest = rest e
 
 nothing_outside : (file : List ℕ) → sections_of file ≡ Ok tt → outside file (section_headers file) ≡ None

@@ -2,16 +2,13 @@
 use Rattle.std.proofs.Common.{◌≡◌, ℕ, suc, ◌<◌, Bool, true, false, cond, List, [], ◌∷◌, length, get_or, Some, None, refl, sym, ap, ◌∙◌, arith, inl, inr}
 use Rattle.std.specs.Prelude.{find, AllPairs, IsTrue, ◌||◌, ◌&&◌, nat_lt, nat_le}
 use Rattle.std.specs.List.{list_any}
-use Rattle.std.proofs.lemmas.Bool.{cases_lt}
+use Rattle.std.proofs.lemmas.Bool.{cases_lt, false_from_ne_true}
 use Rattle.std.proofs.lemmas.Bool.Decides.{nat_tests}
 use Rattle.std.proofs.lemmas.List.Folds.{list_any_at}
 use Rattle.elf_image.specs.declared.part.Segment.{Segment}
 use Rattle.elf_image.specs.Image.{in_segment, is_executable, are_apart, counts}
-use Rattle.elf_image.proofs.Checked.{find_none, some_is}
-
-pub not_true : (b : Bool) → (b ≡ true → ⊥) → b ≡ false
-not_true true h = absurd (h refl)
-not_true false h = refl
+use Rattle.elf_image.proofs.Checked.{find_none}
+use Rattle.prof_bytes.proofs.Tests.{some_same}
 
 find_some : {X : Type 0} (p : X → Bool) (xs : List X) (x : X) → find p xs ≡ Some x → (i : ℕ) × (i < length xs) × ((d : X) → get_or xs i d ≡ x) × (p x ≡ true)
 find_some p [] x e = absurd cc
@@ -19,7 +16,7 @@ find_some {X} p (y ∷ ys) x e = go (p y) refl e (λ f. find_some p ys x f)
   where
     go : (b : Bool) → p y ≡ b → cond b (Some y) (find p ys) ≡ Some x → (find p ys ≡ Some x → (i : ℕ) × (i < length ys) × ((d : X) → get_or ys i d ≡ x) × (p x ≡ true))
         → (i : ℕ) × (i < length (y ∷ ys)) × ((d : X) → get_or (y ∷ ys) i d ≡ x) × (p x ≡ true)
-    go true is e rest = let same : y ≡ x = some_is y x e in (0, omega arith, λ d. same, ap (λ (z : X). p z) (sym same) ∙ is)
+    go true is e rest = let same : y ≡ x = some_same y x e in (0, omega arith, λ d. same, ap (λ (z : X). p z) (sym same) ∙ is)
     go false is e rest = let r = rest e in (suc r.0, let lt : r.0 < length ys = r.1 in omega arith, r.2, r.3)
 
 any_some : {X : Type 0} (p : X → Bool) (xs : List X) → list_any p xs ≡ true → (i : ℕ) × (i < length xs) × ((d : X) → p (get_or xs i d) ≡ true)
@@ -73,7 +70,7 @@ any_code low high segments s apart lt found = go (is_code low high s) refl
 
     go : (b : Bool) → is_code low high s ≡ b → b ≡ list_any (is_code low high) segments
     go true e = sym (list_any_at (is_code low high) segments here.0 no_segment here.1 (ap (λ (t : Segment). is_code low high t) (here.2 no_segment) ∙ e))
-    go false e = sym (not_true _ (λ f. let x = other f in let y : true ≡ false = sym x ∙ e in cc))
+    go false e = sym (false_from_ne_true _ (λ f. let x = other f in let y : true ≡ false = sym x ∙ e in cc))
 
 pub some_counts : (low high : ℕ) (segments : List Segment) (s : Segment) → AllPairs (λ s t. IsTrue (are_apart s t)) segments → Some s ≡ find (in_segment low) segments → low < high
     → is_code low high s ≡ counts segments low high
@@ -93,7 +90,7 @@ none_counts low high segments none =
     no_and false = refl
 
     no_code : low < high → list_any (is_code low high) segments ≡ false
-    no_code lt = not_true _ (λ e.
+    no_code lt = false_from_ne_true _ (λ e.
         let k = any_some (is_code low high) segments e in
         let held = code_holds low high (get_or segments k.0 no_segment) (k.2 no_segment) lt in
         let not_held = find_none (in_segment low) segments (sym none) k.0 no_segment k.1 in

@@ -1,9 +1,9 @@
--- Where the first 0 byte stands: in the block of a place, or behind it.
+-- Where the first 0 byte stands: in the block of an index, or behind it.
 use Rattle.std.proofs.Common.{◌≡◌, ℕ, zero, suc, ◌+◌, ◌-◌, ◌<◌, ◌≤◌, Bool, true, false, cond, not, List, [], ◌∷◌, length, get_or, take, drop, Some, None, refl, ap, arith, length-take, length-drop}
 use Rattle.std.specs.Prelude.{nat_lt}
 use Rattle.std.specs.List.{position_or_len}
-use Rattle.std.proofs.lemmas.Bool.Decides.{nat_tests}
 use Rattle.std.proofs.lemmas.List.{drop_all}
+use Rattle.std.proofs.lemmas.Bool.{lt-ltb, le-ltb}
 use Rattle.elf_image.specs.Fields.{is_zero, text_in}
 use Rattle.elf_image.specs.private.Texts.{first_zero}
 
@@ -42,16 +42,16 @@ drop_drop (suc m) n zero xs e = absurd (omega arith)
 drop_drop (suc m) n (suc k) [] e = drop_all n [] (omega arith)
 drop_drop (suc m) n (suc k) (x ∷ xs) e = drop_drop m n k xs (omega arith)
 
-pub zero_in_block : (bytes : List ℕ) (start end place : ℕ) → place ≡ position_or_len is_zero (take (end - start) (drop start bytes)) → end ≤ length bytes → place < end - start → start + place ≡ first_zero bytes start
+pub zero_in_block : (bytes : List ℕ) (start end index : ℕ) → index ≡ position_or_len is_zero (take (end - start) (drop start bytes)) → end ≤ length bytes → index < end - start → start + index ≡ first_zero bytes start
 unfolding first_zero
-zero_in_block bytes start end place is le lt =
+zero_in_block bytes start end index is le lt =
     let len : length (take (end - start) (drop start bytes)) ≡ end - start = omega (arith, length-take (end - start) (drop start bytes), length-drop start bytes) in
     let found = in_front is_zero (end - start) (drop start bytes) (omega arith) in
     omega arith
 
-pub zero_later : (bytes : List ℕ) (start end place later : ℕ) → place ≡ position_or_len is_zero (take (end - start) (drop start bytes)) → start ≤ end → end ≤ length bytes → end - start ≤ place → later ≡ first_zero bytes end → later ≡ first_zero bytes start
+pub zero_later : (bytes : List ℕ) (start end index later : ℕ) → index ≡ position_or_len is_zero (take (end - start) (drop start bytes)) → start ≤ end → end ≤ length bytes → end - start ≤ index → later ≡ first_zero bytes end → later ≡ first_zero bytes start
 unfolding first_zero
-zero_later bytes start end place later is order le none next =
+zero_later bytes start end index later is order le none next =
     let len : length (take (end - start) (drop start bytes)) ≡ end - start = omega (arith, length-take (end - start) (drop start bytes), length-drop start bytes) in
     let behind = not_in_front is_zero (end - start) (drop start bytes) (omega arith) in
     let rest : drop (end - start) (drop start bytes) ≡ drop end bytes = drop_drop start (end - start) end bytes (omega arith) in
@@ -69,22 +69,15 @@ pub first_above : (bytes : List ℕ) (start : ℕ) → start ≤ first_zero byte
 unfolding first_zero
 first_above bytes start = omega arith
 
--- the text up to that place, and none where the place is the end
-test_of : (a b : ℕ) → a < b → nat_lt a b ≡ true
-test_of a b lt = grind (arith, nat_tests)
-
-test_not : (a b : ℕ) → b ≤ a → nat_lt a b ≡ false
-test_not a b le = grind (arith, nat_tests)
-
 pub text_is : (bytes : List ℕ) (start end : ℕ) → end ≡ first_zero bytes start → start ≤ length bytes → end < length bytes → Some (take (end - start) (drop start bytes)) ≡ text_in bytes start
 unfolding first_zero text_in
 text_is bytes start end is le lt =
-    let place : position_or_len is_zero (drop start bytes) ≡ end - start = omega arith in
-    let test : nat_lt (position_or_len is_zero (drop start bytes)) (length (drop start bytes)) ≡ true = test_of _ _ (omega (arith, length-drop start bytes)) in
-    rw (test, place) refl
+    let index : position_or_len is_zero (drop start bytes) ≡ end - start = omega arith in
+    let test : nat_lt (position_or_len is_zero (drop start bytes)) (length (drop start bytes)) ≡ true = lt-ltb _ _ (omega (arith, length-drop start bytes)) in
+    rw (test, index) refl
 
 pub text_is_not : (bytes : List ℕ) (start end : ℕ) → end ≡ first_zero bytes start → start ≤ length bytes → length bytes ≤ end → None ≡ text_in bytes start
 unfolding first_zero text_in
 text_is_not bytes start end is le ge =
-    let test : nat_lt (position_or_len is_zero (drop start bytes)) (length (drop start bytes)) ≡ false = test_not _ _ (omega (arith, length-drop start bytes)) in
+    let test : nat_lt (position_or_len is_zero (drop start bytes)) (length (drop start bytes)) ≡ false = le-ltb _ _ (omega (arith, length-drop start bytes)) in
     rw test refl

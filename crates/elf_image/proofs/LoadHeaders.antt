@@ -2,7 +2,7 @@
 use Rattle.std.proofs.Common.{inl, inr, ◌^◌, ◌≡◌, ℕ, zero, suc, ◌+◌, ◌*◌, ◌<◌, ◌≤◌, Bool, true, false, cond, not, List, [], ◌∷◌, length, get_or, map, None, Result, Ok, Err, refl, arith}
 use Rattle.std.specs.Prelude.{filter, All, AllPairs, IsTrue, ◌||◌, ◌&&◌, nat_lt}
 use Rattle.std.specs.List.{list_any, range_with_len}
-use Rattle.std.proofs.lemmas.Bool.{cases_lt}
+use Rattle.std.proofs.lemmas.Bool.{cases_lt, not-false}
 use Rattle.std.proofs.lemmas.Bool.Decides.{nat_tests}
 use Rattle.std.proofs.lemmas.List.{get_or-map, length-map}
 use Rattle.std.proofs.lemmas.List.FromFn.{length-map-range_with_len}
@@ -15,7 +15,7 @@ use Rattle.elf_image.specs.Image.{IsWithin, are_apart, stacks_begin}
 use Rattle.elf_image.specs.Headers.{program_header_at, e_phoff, e_phnum, program_headers, is_load, loads, segment_of, segments}
 use Rattle.elf_image.specs.Refusals.{share, shares_earlier, overfilled, unfilled, too_high, shared}
 use Rattle.elf_image.specs.Reading.{refused_at, header_of, each_segment_of, segments_of}
-use Rattle.elf_image.proofs.Checked.{passed, passed_last, option_map_none, find_none, within, not_false, programs_within}
+use Rattle.elf_image.proofs.Checked.{passed, passed_last, option_map_none, find_none, within, programs_within}
 
 -- headers with ever higher places, from some place on
 abbrev IsAscending : ℕ → List ProgramHeader → Type 0
@@ -94,7 +94,7 @@ none_over hs e = find_none (λ h. nat_lt h.p_memsz h.p_filesz) hs (option_map_no
 
 none_unfilled : (file : List ℕ) (hs : List ProgramHeader) → unfilled file hs ≡ None → (i : ℕ) (d : ProgramHeader) → i < length hs → lies_within file (get_or hs i d).p_offset (get_or hs i d).p_filesz ≡ true
 unfolding unfilled
-none_unfilled file hs e i d lt = not_false _ (find_none (λ h. not (lies_within file h.p_offset h.p_filesz)) hs (option_map_none (λ h. h.offset) _ e) i d lt)
+none_unfilled file hs e i d lt = not-false _ (find_none (λ h. not (lies_within file h.p_offset h.p_filesz)) hs (option_map_none (λ h. h.offset) _ e) i d lt)
 
 pub none_high : (hs : List ProgramHeader) → too_high hs ≡ None → (i : ℕ) (d : ProgramHeader) → i < length hs → nat_lt stacks_begin ((get_or hs i d).p_vaddr + (get_or hs i d).p_memsz) ≡ false
 unfolding too_high

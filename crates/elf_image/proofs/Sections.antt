@@ -5,9 +5,9 @@ use Rattle.std.proofs.lemmas.List.{length-take, length-drop}
 use Rattle.elf_image.specs.Fields.{same_bytes}
 use Rattle.elf_image.specs.Image.{Named, bytes_of_name}
 use Rattle.elf_image.specs.declared.header.SectionHeader.{SectionHeader}
-use Rattle.elf_image.specs.Headers.{has_bytes, is_section, bytes_of, section_of, section_headers, sections}
+use Rattle.elf_image.specs.Headers.{has_bytes, is_section, section_bytes, section_of, section_headers, sections}
 
-bytes_small : (file : List ℕ) (h : SectionHeader) → length (bytes_of file h) ≤ length file
+bytes_small : (file : List ℕ) (h : SectionHeader) → length (section_bytes file h) ≤ length file
 bytes_small file h =
     let taken = length-take h.sh_size (drop h.sh_offset file) in
     let dropped = length-drop h.sh_offset file in

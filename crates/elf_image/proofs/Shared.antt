@@ -12,7 +12,7 @@ use Rattle.address_ranges.specs.Ranges.{holds, IsFirst, IsNotFirst}
 use Rattle.elf_image.specs.Image.{range_of}
 use Rattle.elf_image.specs.Headers.{segment_of}
 use Rattle.elf_image.specs.Refusals.{share, shares_earlier}
-use Rattle.elf_image.proofs.Counted.{not_true}
+use Rattle.std.proofs.lemmas.Bool.{false_from_ne_true}
 use Rattle.address_ranges.proofs.Places.{position_map}
 
 some_same : (a b : ℕ) → Some a ≡ Some b → a ≡ b
@@ -76,7 +76,7 @@ pub alone : (r : Bool) (hs : List ProgramHeader) (i : ℕ) (d : ProgramHeader) �
     → MatchBool r (IsFirst (map range_of (map segment_of hs)) (get_or hs i d).p_vaddr ((get_or hs i d).p_vaddr + (get_or hs i d).p_memsz) i) (IsNotFirst (map range_of (map segment_of hs)) (get_or hs i d).p_vaddr ((get_or hs i d).p_vaddr + (get_or hs i d).p_memsz) i)
     → shares_earlier hs (get_or hs i d) ≡ not r
 alone true hs i d some up li first =
-    list_any_none (λ g. nat_lt g.offset (get_or hs i d).offset && share g (get_or hs i d)) hs (λ k e lk. not_true _ (λ t.
+    list_any_none (λ g. nat_lt g.offset (get_or hs i d).offset && share g (get_or hs i d)) hs (λ k e lk. false_from_ne_true _ (λ t.
     let g = get_or hs k e in
     let h = get_or hs i d in
     let b = in_both g h t (some k e lk) (some i d li) in

@@ -23,8 +23,8 @@ abbrev pub lies_within : List ℕ → ℕ → ℕ → Bool
 lies_within file offset size = size == 0 || nat_le (offset + size) (length file)
 
 -- so many entries of one size, one behind the other from an offset on
-abbrev pub table_of : {X : Type 0} → (ℕ → X) → ℕ → ℕ → ℕ → List X
-table_of entry_at first size count = map (λ k. entry_at (first + size * k)) (range_with_len 0 count)
+abbrev pub table_entries : {X : Type 0} → (ℕ → X) → ℕ → ℕ → ℕ → List X
+table_entries entry_at first size count = map (λ k. entry_at (first + size * k)) (range_with_len 0 count)
 
 abbrev pub is_zero : ℕ → Bool
 is_zero byte = byte == 0

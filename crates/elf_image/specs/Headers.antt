@@ -8,7 +8,7 @@ use Rattle.elf_image.specs.declared.elf.TheConstants.{SHN_UNDEF, SHT_NOBITS, SHT
 use Rattle.elf_image.specs.declared.header.ProgramHeader.{ProgramHeader}
 use Rattle.elf_image.specs.declared.header.SectionHeader.{SectionHeader}
 use Rattle.elf_image.specs.declared.header.Symbol.{Symbol}
-use Rattle.elf_image.specs.Fields.{byte_at, half_at, word_at, table_of, text_in}
+use Rattle.elf_image.specs.Fields.{byte_at, half_at, word_at, table_entries, text_in}
 use Rattle.elf_image.specs.Image.{Named, FunctionSymbol, counts}
 
 -- a program header of 32 bytes
@@ -38,8 +38,8 @@ section_header_at file offset = record {
 }
 
 -- a symbol of 16 bytes; its type is the low four bits of st_info
-abbrev pub symbol_at : List ℕ → ℕ → Symbol
-symbol_at file offset = record {
+abbrev pub symbol_entry : List ℕ → ℕ → Symbol
+symbol_entry file offset = record {
   offset = offset;
   st_name = word_at file offset;
   st_value = word_at file (offset + 4);
@@ -65,10 +65,10 @@ abbrev pub e_shstrndx : List ℕ → ℕ
 e_shstrndx file = half_at file 50
 
 unfoldable pub program_headers : List ℕ → List ProgramHeader
-program_headers file = table_of (program_header_at file) (e_phoff file) ELF32_PHDR_SIZE (e_phnum file)
+program_headers file = table_entries (program_header_at file) (e_phoff file) ELF32_PHDR_SIZE (e_phnum file)
 
 unfoldable pub section_headers : List ℕ → List SectionHeader
-section_headers file = table_of (section_header_at file) (e_shoff file) ELF32_SHDR_SIZE (e_shnum file)
+section_headers file = table_entries (section_header_at file) (e_shoff file) ELF32_SHDR_SIZE (e_shnum file)
 
 -- ---- segments
 
@@ -102,12 +102,12 @@ is_section h = not (h.sh_type == SHT_NULL)
 abbrev pub has_bytes : SectionHeader → Bool
 has_bytes h = not (h.sh_type == SHT_NULL) && not (h.sh_type == SHT_NOBITS)
 
-abbrev pub bytes_of : List ℕ → SectionHeader → List ℕ
-bytes_of file h = if has_bytes h then take h.sh_size (drop h.sh_offset file) else []
+abbrev pub section_bytes : List ℕ → SectionHeader → List ℕ
+section_bytes file h = if has_bytes h then take h.sh_size (drop h.sh_offset file) else []
 
 -- the bytes of the section with that index, and none where there is no such section
 abbrev pub bytes_of_index : List ℕ → ℕ → List ℕ
-bytes_of_index file index = option_map_or (bytes_of file) (slice_get (section_headers file) index) []
+bytes_of_index file index = option_map_or (section_bytes file) (slice_get (section_headers file) index) []
 
 -- a section's name, where it ends within the section that has the names; without such a section all names are empty
 unfoldable pub name_of : List ℕ → SectionHeader → Option (List ℕ)
@@ -116,7 +116,7 @@ name_of file h =
 
 abbrev pub section_of : List ℕ → SectionHeader → Named
 section_of file h =
-    record { name = unwrap_or (name_of file h) []; address = h.sh_addr; bytes = bytes_of file h }
+    record { name = unwrap_or (name_of file h) []; address = h.sh_addr; bytes = section_bytes file h }
 
 unfoldable pub sections : List ℕ → List Named
 sections file = map (section_of file) (filter is_section (section_headers file))
@@ -128,7 +128,8 @@ unfoldable pub symbol_table : List ℕ → Option SectionHeader
 symbol_table file = find (λ h. h.sh_type == SHT_SYMTAB) (section_headers file)
 
 abbrev pub symbols_of : List ℕ → SectionHeader → List Symbol
-symbols_of file table = table_of (symbol_at file) table.sh_offset ELF32_SYM_SIZE (table.sh_size / ELF32_SYM_SIZE)
+symbols_of file table =
+    table_entries (symbol_entry file) table.sh_offset ELF32_SYM_SIZE (table.sh_size / ELF32_SYM_SIZE)
 
 -- a symbol of type FUNC, with a section, whose range counts
 abbrev pub is_function : List Segment → Symbol → Bool
@@ -139,14 +140,14 @@ is_function loaded s =
 abbrev pub symbol_name : List ℕ → SectionHeader → Symbol → Option (List ℕ)
 symbol_name file table s = text_in (bytes_of_index file table.sh_link) s.st_name
 
-abbrev pub function_of : List ℕ → SectionHeader → Symbol → FunctionSymbol
-function_of file table s =
+abbrev pub function_symbol : List ℕ → SectionHeader → Symbol → FunctionSymbol
+function_symbol file table s =
     record { start = s.st_value; size = s.st_size; name = unwrap_or (symbol_name file table s) [] }
 
 abbrev pub functions_of : List ℕ → Option SectionHeader → List FunctionSymbol
 functions_of file None = []
 functions_of file (Some table) =
-    map (function_of file table) (filter (is_function (segments file)) (symbols_of file table))
+    map (function_symbol file table) (filter (is_function (segments file)) (symbols_of file table))
 
 unfoldable pub functions : List ℕ → List FunctionSymbol
 functions file = functions_of file (symbol_table file)

@@ -16,10 +16,10 @@ use Rattle.elf_image.specs.Refusals.{nameless_function}
 
 abbrev pub refused_at : ElfRule → Option ℕ → Result (Unit {0}) ElfFault
 refused_at rule None = Ok tt
-refused_at rule (Some place) = Err (record { rule = rule; offset = place })
+refused_at rule (Some offset) = Err (record { rule = rule; offset = offset })
 
-abbrev pub loaded : List ℕ → ProgramImage
-loaded file = record {
+abbrev pub image_of_file : List ℕ → ProgramImage
+image_of_file file = record {
   file = file;
   entry = word_at file 24;
   segments = segments file;
@@ -64,4 +64,4 @@ image_of file = do
   _ ← segments_of file
   _ ← sections_of file
   _ ← symbols_in file (symbol_table file)
-  Ok (loaded file)
+  Ok (image_of_file file)

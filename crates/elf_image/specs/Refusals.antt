@@ -48,7 +48,7 @@ not_riscv32_exec file = first_of (
 unfoldable pub compressed_code : List ℕ → Option ℕ
 compressed_code file = first_of ((has_flag EF_RISCV_RVC (word_at file 36), 36) ∷ [])
 
--- the sizes and places of the headers, and the section that has the names
+-- the sizes and offsets of the headers, and the section that has the names
 abbrev pub header_tests : List ℕ → List (Bool × ℕ)
 header_tests file =
     (differs (e_phnum file) 0 && differs (half_at file 42) ELF32_PHDR_SIZE, 42)

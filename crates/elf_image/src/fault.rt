@@ -14,7 +14,7 @@ pub enum ElfRule {
     NotRiscv32Exec,
     /// Its code has compressed instructions.
     CompressedCode,
-    /// The sizes or places of its headers are not as they must be.
+    /// The sizes or offsets of its headers are not as they must be.
     HeaderPlace,
     /// A segment's bytes or addresses are not as they must be; the offset is its header's.
     SegmentPlace,
@@ -33,22 +33,22 @@ pub struct ElfFault {
     pub offset: u32,
 }
 
-/// A refusal by the rule, where there is a place.
-pub(crate) fn refuse(rule: ElfRule, place: Option<u32>) -> Result<(), Fail<ElfFault>>
-    ensures { Gives (λ done. done) result (refused_at rule place) }
+/// A refusal by the rule, where there is an offset.
+pub(crate) fn refuse(rule: ElfRule, offset: Option<u32>) -> Result<(), Fail<ElfFault>>
+    ensures { Gives (λ done. done) result (refused_at rule offset) }
 {
-    match place {
+    match offset {
         Some(offset) => Err(Fail::Fault(ElfFault { rule, offset })),
         None => Ok(()),
     }
 }
 
-/// The place beside the first test that holds.
+/// The offset beside the first test that holds.
 pub(crate) fn first_of(tests: &[(bool, u32)]) -> Option<u32>
     ensures { result ≡ option_map (λ t. t.1) (find (λ t. t.0) tests.now) }
 {
     tests
         .iter()
         .find(|(holds, _)| *holds)
-        .map(|(_, place)| *place)
+        .map(|(_, offset)| *offset)
 }

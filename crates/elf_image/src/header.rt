@@ -3,7 +3,8 @@ ghost use Rattle.std.specs.Prelude.{◌≡◌, ◌+◌, ◌*◌, ◌<◌, ◌≤
 ghost use Rattle.std.specs.List.{range_with_len};
 ghost use Rattle.prof_bytes.specs.Outcome.{Gives};
 ghost use Rattle.elf_image.specs.Fields.{lies_within};
-ghost use Rattle.elf_image.specs.Headers.{program_header_at, section_header_at, symbol_at, e_phoff, e_phnum, e_shoff};
+ghost use Rattle.elf_image.specs.Headers.{program_header_at, section_header_at, symbol_entry, e_phoff, e_phnum};
+ghost use Rattle.elf_image.specs.Headers.{e_shoff};
 ghost use Rattle.elf_image.specs.Headers.{e_shnum, e_shstrndx, program_headers, section_headers};
 ghost use Rattle.elf_image.specs.Refusals.{not_elf, not_riscv32_exec, compressed_code, header_place};
 ghost use Rattle.elf_image.specs.Reading.{header_of};
@@ -86,8 +87,8 @@ fn section_header_at(file: &[u8], offset: u32) -> SectionHeader
     }
 }
 
-pub(crate) fn symbol_at(file: &[u8], offset: u32) -> Symbol
-    ensures { result ≡ symbol_at file.now offset }
+pub(crate) fn symbol_entry(file: &[u8], offset: u32) -> Symbol
+    ensures { result ≡ symbol_entry file.now offset }
 {
     let at = offset as usize;
     Symbol {

@@ -4,7 +4,8 @@ ghost use Rattle.std.specs.Prelude.{is_none, ◌&&◌};
 ghost use Rattle.std.specs.Option.{option_copied};
 ghost use Rattle.prof_bytes.specs.Outcome.{Gives};
 ghost use Rattle.elf_image.specs.Image.{named};
-ghost use Rattle.elf_image.specs.Headers.{e_shstrndx, is_section, has_bytes, bytes_of, bytes_of_index, section_headers};
+ghost use Rattle.elf_image.specs.Headers.{e_shstrndx, is_section, has_bytes, section_bytes, bytes_of_index};
+ghost use Rattle.elf_image.specs.Headers.{section_headers};
 ghost use Rattle.elf_image.specs.Headers.{name_of, section_of, sections};
 ghost use Rattle.elf_image.specs.Refusals.{outside, nameless, is_read, is_read_name, is_compressed, compressed_section};
 ghost use Rattle.elf_image.specs.Reading.{sections_of};
@@ -31,8 +32,8 @@ fn has_bytes(header: &SectionHeader) -> bool
     header.sh_type != SHT_NULL && header.sh_type != SHT_NOBITS
 }
 
-fn bytes_of<'a>(file: &'a [u8], header: &SectionHeader) -> &'a [u8]
-    ensures bytes { result.now ≡ bytes_of file.now header.now }
+fn section_bytes<'a>(file: &'a [u8], header: &SectionHeader) -> &'a [u8]
+    ensures bytes { result.now ≡ section_bytes file.now header.now }
     ensures few { length result.now ≤ length file.now }
 {
     if !has_bytes(header) {
@@ -55,7 +56,7 @@ pub(crate) fn bytes_of_index<'a>(
     ensures few { length result.now ≤ length file.now }
 {
     match headers.get(index) {
-        Some(header) => bytes_of(file, header),
+        Some(header) => section_bytes(file, header),
         None => &[],
     }
 }
@@ -167,7 +168,7 @@ fn section_of<'a>(file: &'a [u8], names: &Texts<'a>, header: &SectionHeader) -> 
             None => &[],
         },
         address: header.sh_addr,
-        bytes: bytes_of(file, header),
+        bytes: section_bytes(file, header),
     }
 }
 

@@ -6,15 +6,16 @@ ghost use Rattle.std.specs.Option.{option_copied};
 ghost use Rattle.prof_bytes.specs.Outcome.{Gives};
 ghost use Rattle.elf_image.specs.Fields.{text_in};
 ghost use Rattle.elf_image.specs.Image.{symbol_view, are_apart};
-ghost use Rattle.elf_image.specs.Headers.{section_headers, segments, bytes_of_index, symbol_table, symbol_at};
-ghost use Rattle.elf_image.specs.Headers.{symbols_of, is_function, symbol_name, function_of, functions_of, functions};
+ghost use Rattle.elf_image.specs.Headers.{section_headers, segments, bytes_of_index, symbol_table, symbol_entry};
+ghost use Rattle.elf_image.specs.Headers.{symbols_of, is_function, symbol_name, function_symbol, functions_of};
+ghost use Rattle.elf_image.specs.Headers.{functions};
 ghost use Rattle.elf_image.specs.Refusals.{is_text_table, bad_table, nameless_function};
 ghost use Rattle.elf_image.specs.Reading.{sections_of, symbols_in};
 ghost use Rattle.elf_image.specs.private.Checks.{after};
 
 use crate::elf::{ELF32_SYM_SIZE, SHN_UNDEF, SHT_STRTAB, SHT_SYMTAB, STT_FUNC};
 use crate::fault::{ElfFault, ElfRule, first_of, refuse};
-use crate::header::{SectionHeader, Symbol, symbol_at};
+use crate::header::{SectionHeader, Symbol, symbol_entry};
 use crate::part::{Function, Segment};
 use crate::section::bytes_of_index;
 use crate::segments::counts;
@@ -79,7 +80,7 @@ fn is_nameless(loaded: &RangeTable<Segment>, names: &Texts<'_>, symbol: &Symbol)
     is_function(loaded, symbol) && names.text_at(symbol.st_name).is_none()
 }
 
-/// The place of the first function symbol whose name does not end.
+/// The offset of the first function symbol whose name does not end.
 #[tactic(auto, unfolding(crate::specs::Refusals::nameless_function))]
 fn nameless_function(
     file: &[u8],
@@ -94,7 +95,7 @@ fn nameless_function(
     ensures { result ≡ nameless_function file.now table.now }
 {
     for k in 0..table.sh_size / ELF32_SYM_SIZE {
-        let symbol = symbol_at(file, table.sh_offset + ELF32_SYM_SIZE * k);
+        let symbol = symbol_entry(file, table.sh_offset + ELF32_SYM_SIZE * k);
         if is_nameless(loaded, names, &symbol) {
             return Some(symbol.offset);
         }
@@ -124,14 +125,14 @@ fn check_symbols(
     )
 }
 
-fn function_of<'a>(
+fn function_symbol<'a>(
     file: &[u8],
     names: &Texts<'a>,
     table: &SectionHeader,
     symbol: &Symbol,
 ) -> Function<'a>
     requires { names.now ≡ bytes_of_index file.now table.now.sh_link }
-    ensures { symbol_view result ≡ function_of file.now table.now symbol.now }
+    ensures { symbol_view result ≡ function_symbol file.now table.now symbol.now }
 {
     Function {
         start: symbol.st_value,
@@ -161,9 +162,9 @@ fn functions_of<'a>(
 {
     let mut all = Vec::new(alloc);
     for k in 0..table.sh_size / ELF32_SYM_SIZE {
-        let symbol = symbol_at(file, table.sh_offset + ELF32_SYM_SIZE * k);
+        let symbol = symbol_entry(file, table.sh_offset + ELF32_SYM_SIZE * k);
         if is_function(loaded, &symbol) {
-            all.push(function_of(file, names, table, &symbol))?;
+            all.push(function_symbol(file, names, table, &symbol))?;
         }
     }
     Ok(all)

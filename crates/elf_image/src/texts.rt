@@ -36,15 +36,15 @@ fn zero_or_end(bytes: &[u8]) -> usize
     ensures zero { result ≡ position_or_len is_zero bytes.now }
     ensures within { result ≤ length bytes.now }
 {
-    for (place, byte) in bytes.iter().enumerate() {
+    for (index, byte) in bytes.iter().enumerate() {
         if *byte == 0 {
-            return place;
+            return index;
         }
     }
     bytes.len()
 }
 
-/// The first 0 byte from a place on, where `later` is that from the end of its block on.
+/// The first 0 byte from an index on, where `later` is that from the end of its block on.
 fn zero_from(bytes: &[u8], start: usize, later: usize) -> usize
     requires within { start ≤ length bytes.now }
     requires later { later ≡ first_zero bytes.now (min (block * (start / block) + block) (length bytes.now)) }
@@ -53,9 +53,9 @@ fn zero_from(bytes: &[u8], start: usize, later: usize) -> usize
     ensures above { start ≤ result }
 {
     let end = (BLOCK * (start / BLOCK) + BLOCK).min(bytes.len());
-    let place = zero_or_end(&bytes[start..end]);
-    if place < end - start {
-        return start + place;
+    let index = zero_or_end(&bytes[start..end]);
+    if index < end - start {
+        return start + index;
     }
     later
 }
@@ -92,14 +92,14 @@ impl<'a> Model for Texts<'a> {
     ghost invariant = { λ texts. IsEnds texts.bytes.now texts.ends.items };
 }
 
-/// The first 0 byte from the end of the block of that place on.
-fn later_zero(bytes: &[u8], ends: &[u32], place: usize) -> usize
+/// The first 0 byte from the end of the block of that index on.
+fn later_zero(bytes: &[u8], ends: &[u32], index: usize) -> usize
     requires ends { IsEnds bytes.now ends.now }
-    requires within { place ≤ length bytes.now }
-    ensures { result ≡ first_zero bytes.now (min (block * (place / block) + block) (length bytes.now)) }
+    requires within { index ≤ length bytes.now }
+    ensures { result ≡ first_zero bytes.now (min (block * (index / block) + block) (length bytes.now)) }
 {
     let last = bytes.len() / BLOCK;
-    let number = place / BLOCK;
+    let number = index / BLOCK;
     if number < last {
         ends[last - number - 1] as usize
     } else {

@@ -2,7 +2,7 @@
 use Rattle.std.specs.Prelude.{ℕ, ◌+◌, ◌-◌, ◌*◌, ◌/◌, ◌%◌, ◌^◌, nat_lt, List, [], ◌∷◌, ◌++◌, if◌then◌else◌}
 use Rattle.std.specs.List.{flat_map, range_with_len}
 use Rattle.prof_bytes.specs.Number.{words}
-use Rattle.guest_gen.specs.declared.code.Function.{Function}
+use Rattle.guest_gen.specs.declared.code.DrawnFunction.{DrawnFunction}
 use Rattle.guest_gen.specs.Draws.{draw, state_after}
 
 -- how many functions there are
@@ -23,8 +23,8 @@ function_start i = 0x10010 + function_size * i
 
 -- it counts down from a number, and then calls two functions, by three draws: one of the next three, and one of the
 -- next five
-abbrev pub function_of : ℕ → ℕ → Function
-function_of s i = record {
+abbrev pub drawn_function : ℕ → ℕ → DrawnFunction
+drawn_function s i = record {
   turns = 1 + draw s 0 % 31;
   first = i + 1 + draw s 1 % 3;
   second = i + 1 + draw s 2 % 5;
@@ -42,8 +42,8 @@ jal rd offset = offset / 2 ^ 20 % 2 * 2 ^ 31 + offset / 2 % 2 ^ 10 * 2 ^ 21 + of
     + offset / 2 ^ 12 % 2 ^ 8 * 2 ^ 12 + rd * 2 ^ 7 + 0x6f
 
 -- from an address, a call of a function further on; nothing, where there is no function of that number
-abbrev pub call_of : ℕ → ℕ → ℕ
-call_of address callee = if nat_lt callee functions then jal 1 (function_start callee - address) else nop
+abbrev pub call_instruction : ℕ → ℕ → ℕ
+call_instruction address callee = if nat_lt callee functions then jal 1 (function_start callee - address) else nop
 
 -- call f0, again and again; two EBREAK
 abbrev pub start_words : List ℕ
@@ -51,16 +51,16 @@ start_words = 0x010000ef ∷ 0xffdff06f ∷ 0x00100073 ∷ 0x00100073 ∷ []
 
 -- ADDI sp, sp, -16; SW ra, 12(sp); SW s0, 8(sp); ADDI s0, x0, turns; three words that are repeated: ADDI a5, a5, 1,
 -- ADDI s0, s0, -1, BNE s0, x0, -8; the calls; LW ra, 12(sp); LW s0, 8(sp); ADDI sp, sp, 16; JALR x0, 0(ra)
-abbrev pub function_words : ℕ → Function → List ℕ
+abbrev pub function_words : ℕ → DrawnFunction → List ℕ
 function_words i f = 0xff010113 ∷ 0x00112623 ∷ 0x00812423 ∷ (0x00000413 + f.turns * 2 ^ 20) ∷ 0x00178793 ∷ 0xfff40413
-    ∷ 0xfe041ce3 ∷ call_of (function_start i + 28) f.first ∷ call_of (function_start i + 32) f.second ∷ 0x00c12083
-    ∷ 0x00812403 ∷ 0x01010113 ∷ 0x00008067 ∷ []
+    ∷ 0xfe041ce3 ∷ call_instruction (function_start i + 28) f.first ∷ call_instruction (function_start i + 32) f.second
+    ∷ 0x00c12083 ∷ 0x00812403 ∷ 0x01010113 ∷ 0x00008067 ∷ []
 
 -- ---- bytes
 
 -- a function, which draws behind those before it
 unfoldable pub function_bytes : ℕ → ℕ → List ℕ
-function_bytes s i = words (function_words i (function_of (state_after (3 * i) s) i))
+function_bytes s i = words (function_words i (drawn_function (state_after (3 * i) s) i))
 
 -- so many functions
 unfoldable pub functions_bytes : ℕ → ℕ → List ℕ

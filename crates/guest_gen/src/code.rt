@@ -2,7 +2,8 @@
 ghost use Rattle.std.specs.Prelude.{◌≡◌, ◌<◌, ◌≤◌, ◌+◌, ◌*◌, ◌++◌, IfOk, OnOk, length};
 ghost use Rattle.std.specs.List.{flat_map};
 ghost use Rattle.guest_gen.specs.Draws.{state_after};
-ghost use Rattle.guest_gen.specs.Code.{call_of, code, function_bytes, functions_bytes, function_of, function_start};
+ghost use Rattle.guest_gen.specs.Code.{call_instruction, code, function_bytes, functions_bytes, drawn_function};
+ghost use Rattle.guest_gen.specs.Code.{function_start};
 ghost use Rattle.guest_gen.specs.Code.{function_words, jal, start_words};
 ghost use Rattle.prof_bytes.specs.Number.{word, words};
 ghost use Rattle.guest_gen.specs.private.Fits.{IsFurther};
@@ -43,7 +44,7 @@ fn jal_ra(offset: u32) -> u32
 fn call(address: u32, callee: u32) -> u32
     requires few { callee < 1000 }
     requires further { address < function_start callee }
-    ensures { result ≡ call_of address callee }
+    ensures { result ≡ call_instruction address callee }
 {
     if callee < FUNCTIONS {
         jal_ra(function_start(callee) - address)
@@ -54,23 +55,23 @@ fn call(address: u32, callee: u32) -> u32
 
 /// What a function does: how often it counts, and the numbers of the functions that it calls.
 #[derive(Clone, Copy)]
-pub(crate) struct Function {
+pub(crate) struct DrawnFunction {
     pub(crate) turns: u32,
     pub(crate) first: u32,
     pub(crate) second: u32,
 }
 
 #[tactic(auto, unfolding(crate::specs::Draws::state_after))]
-fn drawn_function(draws: &mut Draws, number: u32) -> Function
+fn drawn_function(draws: &mut Draws, number: u32) -> DrawnFunction
     requires { number < 48 }
-    ensures function { result ≡ function_of draws.old.state number }
+    ensures function { result ≡ drawn_function draws.old.state number }
     ensures few { IsFurther number result }
     ensures state { draws.new.state ≡ state_after 3 draws.old.state }
 {
     let turns = 1 + draws.draw() % 31;
     let first = number + 1 + draws.draw() % 3;
     let second = number + 1 + draws.draw() % 5;
-    Function {
+    DrawnFunction {
         turns,
         first,
         second,
@@ -78,7 +79,7 @@ fn drawn_function(draws: &mut Draws, number: u32) -> Function
 }
 
 /// The code of a function, with its number.
-fn put_code(out: &mut Vec<u8>, number: u32, function: Function) -> Result<(), Memory>
+fn put_code(out: &mut Vec<u8>, number: u32, function: DrawnFunction) -> Result<(), Memory>
     requires number { number < 48 }
     requires few { IsFurther number function }
     ensures { OnOk result (out.new.items ≡ out.old.items ++ words (function_words number function)) }
@@ -112,7 +113,7 @@ fn put_code(out: &mut Vec<u8>, number: u32, function: Function) -> Result<(), Me
 fn put_function(out: &mut Vec<u8>, draws: &mut Draws, number: u32) -> Result<(), Memory>
     requires { number < 48 }
     ensures code { OnOk result (out.new.items
-        ≡ out.old.items ++ words (function_words number (function_of draws.old.state number))) }
+        ≡ out.old.items ++ words (function_words number (drawn_function draws.old.state number))) }
     ensures state { OnOk result (draws.new.state ≡ state_after 3 draws.old.state) }
 {
     let function = drawn_function(draws, number);

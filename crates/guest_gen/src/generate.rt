@@ -8,8 +8,7 @@ ghost use Rattle.guest_gen.specs.Guest.{guest_of, guest_schedule, drawn_line, sl
 use crate::code::code;
 use crate::draws::Draws;
 use crate::file::file;
-use crate::put::put_decimal;
-use prof_bytes::{Memory, Text};
+use prof_bytes::{Memory, Text, put_decimal};
 use std::alloc::Global;
 
 /// What a profile of the guest takes: its program as an ELF file, the input, which is empty, the schedule of four
@@ -33,9 +32,9 @@ fn put_slice(out: &mut Vec<u8>, draws: &mut Draws) -> Result<(), Memory>
 {
     let hart = draws.draw() % 4;
     let count = 1 + draws.draw() % 997;
-    put_decimal(out, hart)?;
+    put_decimal(out, u64::from(hart))?;
     out.push(b' ')?;
-    put_decimal(out, count)?;
+    put_decimal(out, u64::from(count))?;
     out.push(b'\n')?;
     Ok(())
 }

@@ -1,9 +1,8 @@
 //! What is appended to bytes. Each call's bytes are whole where it succeeds.
-ghost use Rattle.std.specs.Prelude.{◌≡◌, ◌++◌, decimal, OnOk};
+ghost use Rattle.std.specs.Prelude.{◌≡◌, ◌++◌, OnOk};
 ghost use Rattle.guest_gen.specs.File.{half, halves};
 
 use byteorder::{ByteOrder, LittleEndian};
-use itoa::Buffer;
 use prof_bytes::Memory;
 
 pub(crate) fn put_half(out: &mut Vec<u8>, number: u16) -> Result<(), Memory>
@@ -21,14 +20,5 @@ pub(crate) fn put_halves(out: &mut Vec<u8>, numbers: &[u16]) -> Result<(), Memor
     for number in numbers {
         put_half(out, *number)?;
     }
-    Ok(())
-}
-
-/// The number's decimal digits.
-pub(crate) fn put_decimal(out: &mut Vec<u8>, number: u32) -> Result<(), Memory>
-    ensures { OnOk result (out.new.items ≡ out.old.items ++ decimal number) }
-{
-    let mut buffer = Buffer::new();
-    out.extend_from_slice(buffer.format(number).as_bytes())?;
     Ok(())
 }

@@ -5,8 +5,8 @@ ghost use Rattle.guest_gen.specs.private.Names.{function_names, function_symbols
 
 use crate::code::{ENTRY, FUNCTION_SIZE, FUNCTIONS, function_start};
 use crate::elf::{SHN_ABS, STB_GLOBAL, STT_FUNC};
-use crate::put::{put_decimal, put_half};
-use prof_bytes::{Memory, put_words};
+use crate::put::put_half;
+use prof_bytes::{Memory, put_decimal, put_words};
 use std::alloc::Global;
 
 /// A global function's symbol.
@@ -70,7 +70,7 @@ fn put_function_name(out: &mut Vec<u8>, number: u32) -> Result<(), Memory>
     ensures { OnOk result (out.new.items ≡ out.old.items ++ name_bytes (function_name number)) }
 {
     out.push(b'f')?;
-    put_decimal(out, number)?;
+    put_decimal(out, u64::from(number))?;
     out.push(0)?;
     Ok(())
 }

@@ -8,9 +8,9 @@ use Rattle.elf_image.specs.Image.{ProgramImage}
 use Rattle.cfi_table.specs.Frames.{Frames as Described}
 use Rattle.cfi_unwind.specs.Caller.{Unwinding}
 use Rattle.cfi_unwind.specs.Path.{unwinding_of, path_of as unwound_by}
-use Rattle.dwarf_info.specs.Units.{DebugInfo, unit_of}
+use Rattle.dwarf_info.specs.Units.{unit_of}
 use Rattle.dwarf_line.specs.Lines.{Lines as LineTables}
-use Rattle.dwarf_inline.specs.Structure.{ProgramStructure, structure_of}
+use Rattle.dwarf_inline.specs.Structure.{structure_of}
 use Rattle.measure_file.specs.declared.fault.MeasureFault.{MeasureFault}
 use Rattle.measure_file.specs.declared.head.MeasureHead.{MeasureHead}
 use Rattle.measure_file.specs.Measurable.{AreMeasured, AreSampled, IsHead, IsMeasurable}
@@ -30,14 +30,12 @@ use Rattle.scope_types.specs.Expansion.{call_path}
 use Rattle.scope_types.specs.Limits.{most_path_frames, most_path_scopes, most_samples}
 use Rattle.scope_types.specs.Raw.{Raw}
 use Rattle.tree_types.specs.Database.{content_of}
-use Rattle.tree_types.specs.Naming.{Naming}
 use Rattle.tree_types.specs.TopDown.{top_down}
 use Rattle.hpc_top.specs.declared.status.InputFault.{InputFault}
 use Rattle.hpc_top.specs.declared.status.InputFault.TheVariants.{TooManyFrames, TooManySamples, WrongProgram}
 use Rattle.hpc_top.specs.Apart.{IsApart, RunThenProf}
-use Rattle.hpc_top.specs.Attribution.{Attributed, attributed, attributed_by, attributed_code, attribution_of, call_paths_of, measurement, measurement_from, of_program, prof_product}
+use Rattle.hpc_top.specs.Attribution.{Attributed, attributed, attributed_by, attributed_code, attribution_of, call_paths_of, measurement_from, of_program, prof_product}
 use Rattle.hpc_top.specs.Measure.{Measured, head_of, measured_program, measured_run, measurement_of, run_product}
-use Rattle.hpc_top.specs.Product.{Product}
 use Rattle.hpc_top.specs.Profile.{Profiled, product_of, profile_of, profiled_code, profiled_of, profiled_program, profiled_run}
 use Rattle.hpc_top.specs.Program.{frame_information, program, scheduled}
 use Rattle.hpc_top.specs.Report.{run_text}
@@ -46,13 +44,10 @@ use Rattle.hpc_top.specs.Scopes.{debug_entries, line_tables, program_scopes, str
 use Rattle.hpc_top.specs.Task.{program_limit}
 use Rattle.hpc_top.specs.Words.{most_period}
 use Rattle.hpc_top.proofs.Collecting.{at_most, tested_ok}
-use Rattle.hpc_top.proofs.Fetching.{bind_ok}
+use Rattle.prof_bytes.proofs.Outcomes.{bind_ok, ok_same}
 use Rattle.hpc_top.proofs.Products.{ContentsAlike, TablesAlike, attributed_as, scopes_decide}
 use Rattle.hpc_top.proofs.Scheduled.{entry_low, program_loaded, scheduled_own}
 use Rattle.hpc_top.proofs.Addresses.{IsOf, PathsHaveFrames, PathsHaveWords, low_first, samples_frames, samples_own, samples_words, slices_of}
-
-ok_same : {X F : Type 0} (x y : X) → ◌≡◌ {A = Result X F} (Ok x) (Ok y) → x ≡ y
-ok_same x y is = cc
 
 same_number : (n : ℕ) → (n == n) ≡ true
 same_number n = grind (arith, nat_tests)

@@ -5,6 +5,7 @@ use Rattle.std.proofs.lemmas.Bool.Decides.{nat_tests}
 use Rattle.std.proofs.lemmas.List.{length-append, length-map, take-append-le}
 use Rattle.std.proofs.lemmas.List.Sums.{sum_by-cons}
 use Rattle.std.proofs.lemmas.List.Elements.{All-head, All-tail, All-append, All-take, All-map, All-filter}
+use Rattle.std.proofs.lemmas.Bool.{lt-ltb, le-ltb}
 use Rattle.prof_bytes.specs.declared.fail.Fail.{Fail}
 use Rattle.prof_bytes.specs.declared.fail.Fail.TheVariants as fails
 use Rattle.prof_bytes.specs.Outcome.{◌>>=◌, FailsBy}
@@ -24,12 +25,6 @@ use Rattle.hpc_top.specs.Samples.{hart_raw, within_frames, within_samples, few_s
 use Rattle.hpc_top.specs.private.Collecting.{AllCounted, Exceeds, Goes, Stops, raws_to_come}
 
 -- ---- the limits
-
-above : (a b : ℕ) → a < b → nat_lt a b ≡ true
-above a b lt = grind (arith, nat_tests)
-
-not_above : (a b : ℕ) → b ≤ a → nat_lt a b ≡ false
-not_above a b le = grind (arith, nat_tests)
 
 -- a test of two
 abbrev pub tested : {X F : Type 0} → Bool → F → X → Result X F
@@ -181,7 +176,7 @@ module _ (path_of : Paths) (harts : ℕ) (start old new : Sampling) (ccts : List
         let grows : frames_in (distinct harts front) ≤ frames_in (distinct harts (front ++ more)) = grow more (All-take (λ (s : HartRaw). s.hart < harts) (most_samples - length front) rest (All-tail (λ (s : HartRaw). s.hart < harts) (hart_raw sample) rest (left sample given))) in
         let taken : take most_samples (raws_to_come path_of start) ≡ front ++ more = ap (take most_samples) all_parts ∙ take_front most_samples front rest now_few in
         let many_frames : nat_lt most_path_frames (frames_in (distinct harts (take most_samples (raws_to_come path_of start)))) ≡ true =
-        ap (λ (l : List HartRaw). nat_lt most_path_frames (frames_in (distinct harts l))) taken ∙ above most_path_frames (frames_in (distinct harts (front ++ more))) (omega (arith, over, grows)) in
+        ap (λ (l : List HartRaw). nat_lt most_path_frames (frames_in (distinct harts l))) taken ∙ lt-ltb most_path_frames (frames_in (distinct harts (front ++ more))) (omega (arith, over, grows)) in
         ap (λ (b : Bool). tested b TooMany (distinct harts (take most_samples (raws_to_come path_of start))) >>= λ _. within_samples (raws_to_come path_of start)) many_frames ∙ ap Err is.1
       where
         take_front : (n : ℕ) (xs ys : List HartRaw) → length xs ≤ n → take n (xs ++ ys) ≡ xs ++ take (n - length xs) ys
@@ -200,7 +195,7 @@ module _ (path_of : Paths) (harts : ℕ) (start old new : Sampling) (ccts : List
   fit rest front =
       let few : frames_in (distinct harts (take most_samples (raws_to_come path_of start))) ≤ most_path_frames =
       (let same = ap (λ (l : List HartRaw). frames_in (distinct harts l)) front in let are = ap frames_in sofar.counts in let fits = sofar.fits in omega (arith, same, are, fits)) in
-      ap (λ (b : Bool). tested b TooMany (distinct harts (take most_samples (raws_to_come path_of start))) >>= λ _. within_samples (raws_to_come path_of start)) (not_above most_path_frames (frames_in (distinct harts (take most_samples (raws_to_come path_of start)))) few)
+      ap (λ (b : Bool). tested b TooMany (distinct harts (take most_samples (raws_to_come path_of start))) >>= λ _. within_samples (raws_to_come path_of start)) (le-ltb most_path_frames (frames_in (distinct harts (take most_samples (raws_to_come path_of start)))) few)
 
   -- none is left
   pub so_far_over : IsOver path_of old new → (to_come new.machine).final ≡ (to_come old.machine).final → AllCounted path_of harts ccts start new
@@ -209,7 +204,7 @@ module _ (path_of : Paths) (harts : ℕ) (start old new : Sampling) (ccts : List
       let front : take most_samples (raws_to_come path_of start) ≡ sofar.done = ap (take most_samples) all ∙ take_all most_samples sofar.done sofar.few in
       let long : length (raws_to_come path_of start) ≤ most_samples = (let same = ap (λ (l : List HartRaw). length l) all in let few = sofar.few in omega (arith, same, few)) in
       record {
-        few = fit [] front ∙ ap (λ (b : Bool). tested b TooManySamples (raws_to_come path_of start)) (not_above most_samples (length (raws_to_come path_of start)) long);
+        few = fit [] front ∙ ap (λ (b : Bool). tested b TooManySamples (raws_to_come path_of start)) (le-ltb most_samples (length (raws_to_come path_of start)) long);
         counts = sofar.counts ∙ ap (distinct harts) (sym all);
         all = sofar.count ∙ ap (λ (l : List HartRaw). length l) (sym all);
         of_harts = subst (All (λ (s : HartRaw). s.hart < harts)) (sym all) sofar.done_harts;
@@ -225,7 +220,7 @@ module _ (path_of : Paths) (harts : ℕ) (start old new : Sampling) (ccts : List
       let total : length (raws_to_come path_of start) ≡ length sofar.done + length rest = ap (λ (l : List HartRaw). length l) sofar.parts ∙ length-append sofar.done rest in
       let more : most_samples < length (raws_to_come path_of start) =
       (let met = sofar.met in let few = sofar.few in let now = exceeds.many.over in let all = exceeds.many.all in let a = raws_long old in omega (arith, total, long, met, few, now, all, a)) in
-      fit rest front ∙ ap (λ (b : Bool). tested b TooManySamples (raws_to_come path_of start)) (above most_samples (length (raws_to_come path_of start)) more) ∙ ap Err (sym exceeds.is)
+      fit rest front ∙ ap (λ (b : Bool). tested b TooManySamples (raws_to_come path_of start)) (lt-ltb most_samples (length (raws_to_come path_of start)) more) ∙ ap Err (sym exceeds.is)
     where
       raws_long : (s : Sampling) → length (raws_to_come path_of s) ≡ length (samples_to_come path_of s)
       raws_long s = length-map (samples_to_come path_of s) hart_raw
@@ -233,10 +228,6 @@ module _ (path_of : Paths) (harts : ℕ) (start old new : Sampling) (ccts : List
   pub so_far_stops : (fail : Fail InputFault) → Stops path_of fail old new → FailsBy fail (few_samples harts (raws_to_come path_of start))
   so_far_stops (fails.Fault fault) stops = so_far_many fault stops
   so_far_stops (fails.Memory memory) stops = tt
-
--- fewer are left
-pub fewer_left : (path_of : Paths) (sample : Sample) (old new : Sampling) → Given path_of sample old new → length (samples_to_come path_of new) < length (samples_to_come path_of old)
-fewer_left path_of sample old new given = let e : length (samples_to_come path_of old) ≡ suc (length (samples_to_come path_of new)) = ap (λ (l : List Sample). length l) given.to_come in omega (arith, e)
 
 -- what the answer says
 pub given_by : (path_of : Paths) (answer : Option Sample) (sample : Sample) (old new : Sampling) → answer ≡ Some sample → Goes path_of (Ok answer) old new → Given path_of sample old new

@@ -1,5 +1,5 @@
 -- The content of the paths of a tree.
-use Rattle.std.proofs.Common.{◌≡◌, ℕ, ◌≤◌, true, List, [], ◌∷◌, length, count_by, refl, sym, ap, ◌∙◌, arith}
+use Rattle.std.proofs.Common.{◌≡◌, ℕ, ◌≤◌, true, List, [], ◌∷◌, length, count_by, refl, sym, ◌∙◌, arith}
 use Rattle.std.proofs.lemmas.List.Sums.{sum_by-cons}
 use Rattle.scope_types.specs.Alike.{Alike}
 use Rattle.scope_types.specs.CallPaths.{HartPath}
@@ -26,7 +26,3 @@ pub content_is : (period harts : ℕ) (naming : Naming) (ps : List HartPath) (co
 unfolding content_of
 content_is period harts naming ps content at of names ns profiles contexts =
     λ i. record { period = at i; harts = of i; names = names i; nodes = ns i; profiles = profiles i; contexts = contexts i }
-
-pub content_period : (period harts : ℕ) (naming : Naming) (ps : List HartPath) (content : Content) → content ≡ content_of period harts naming ps → content.period ≡ period
-unfolding content_of
-content_period period harts naming ps content is = ap (λ (c : Content). c.period) is

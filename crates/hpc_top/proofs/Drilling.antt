@@ -2,9 +2,8 @@
 use Rattle.std.proofs.Common.{◌≡◌, ℕ, ◌+◌, ◌<◌, List, ◌++◌, length, take, sum_by, codes, decimal, IsTrue, Result, Ok, sym, ap, ◌∙◌, append_assoc}
 use Rattle.std.proofs.lemmas.List.{length-map}
 use Rattle.std.proofs.lemmas.List.Sums.{sum_by_more}
-use Rattle.prof_bytes.specs.declared.fail.Fail.{Fail}
 use Rattle.prof_bytes.specs.declared.fail.Fail.TheVariants as fails
-use Rattle.prof_bytes.specs.Outcome.{◌>>=◌, FailsBy}
+use Rattle.prof_bytes.specs.Outcome.{◌>>=◌}
 use Rattle.guest_gen.specs.declared.generate.GuestFiles.{GuestFiles}
 use Rattle.prof_db.specs.Spelling.{spelling}
 use Rattle.rv_run.specs.State.{HartState, hart_in, no_hart}
@@ -49,23 +48,19 @@ nodes_long period harts naming ps content is = ap (λ (c : Content). length c.no
     node_count = length-map (nodes ps) _
 
 module _ (by : Merging) (period : ℕ) (contents : ContentsAlike) (tables : TablesAlike) (whole : IsTrue by.whole) where
-  lines_are : (number : ℕ) (p : Profiled) (run : RunProfile) → IsProfileOf by period p run → drill_lines number run.retired run.samples (length run.merged.content.nodes) run.database ≡ drill_text number period p
+  lines_are : (number : ℕ) (p : Profiled) (run : RunProfile) → IsProfileOf by period p run → drill_lines number run.retired run.samples (length run.merged.content.nodes) (spelling run.merged.content) ≡ drill_text number period p
   lines_are number p run is =
       let a : Attributed = p.attributed in
       let content : run.merged.content ≡ content_of period a.harts a.naming (call_paths_of a) = all_content by period contents tables a run.merged is.merged whole in
-      let database : run.database ≡ (attribution_of period a).stored = is.database ∙ ap spelling content in
+      let database : spelling run.merged.content ≡ (attribution_of period a).stored = ap spelling content in
       let many = nodes_long period a.harts a.naming (call_paths_of a) run.merged.content content in
       let retired = is.retired in
       let samples = is.samples in
       λ i. drill_lines number (retired i) (samples i) (many i) (database i)
 
   pub drilled_is : (number : ℕ) (files : GuestFiles) (run : RunProfile) (made : Prepared) → period ≡ files.period → Profiles by period (Ok run) (profiled_of files.elf files.input files.schedule files.period)
-      → ready made ≡ only_text (drill_lines number run.retired run.samples (length run.merged.content.nodes) run.database) → drilled number files ≡ Ok (ready made)
+      → ready made ≡ only_text (drill_lines number run.retired run.samples (length run.merged.content.nodes) (spelling run.merged.content)) → drilled number files ≡ Ok (ready made)
   drilled_is number files run made at (p, is, profile) text =
       ap (λ (r : Result Profiled InputFault). r >>= λ p. Ok (only_text (drill_text number files.period p))) is
       ∙ ap (λ (n : ℕ). Ok (only_text (drill_text number n p))) (sym at)
       ∙ ap Ok (sym (text ∙ ap only_text (lines_are number p run profile)))
-
-pub undrilled : (number : ℕ) (files : GuestFiles) (fail : Fail InputFault) → FailsBy fail (profiled_of files.elf files.input files.schedule files.period) → FailsBy fail (drilled number files)
-undrilled number files (fails.Fault fault) refused = ap (λ (r : Result Profiled InputFault). r >>= λ p. Ok (only_text (drill_text number files.period p))) refused
-undrilled number files (fails.Memory memory) refused = tt

@@ -3,6 +3,7 @@ use Rattle.std.proofs.Common.{◌≡◌, ℕ, suc, ◌+◌, ◌<◌, ◌≤◌, 
 use Rattle.std.proofs.lemmas.List.{take_more, take-append-drop, length-map, get_or-map}
 use Rattle.std.proofs.Math.Seq.{drop-cons}
 use Rattle.prof_bytes.specs.Outcome.{◌>>=◌}
+use Rattle.prof_bytes.proofs.Outcomes.{bind_ok}
 use Rattle.prof_devices.specs.Files.{Files}
 use Rattle.prof_devices.specs.Outside.{ShelfState, Fails}
 use Rattle.hpc_top.specs.declared.status.InputFault.{InputFault}
@@ -23,10 +24,6 @@ looked_on s t u a b = record { known = b.known ∙ a.known; files = b.files ∙ 
 
 pub told_on : (s t : ShelfState) → Looked s t → IsTrue s.known → IsTrue t.known
 told_on s t looked told = looked.known ∙ told
-
-pub bind_ok : {X Y F : Type 0} (r : Result X F) (f : X → Result Y F) (y : Y) → (r >>= f) ≡ Ok y → (x : X) × (r ≡ Ok x) × (f x ≡ Ok y)
-bind_ok (Ok x) f y e = (x, refl, e)
-bind_ok (Err z) f y e = absurd (cc)
 
 -- a file more
 contents_more : (files : Files) (ws : List Wanted) (w : Wanted) (texts : List (List ℕ)) (text : List ℕ) → contents files ws ≡ Ok texts → within files w ≡ Ok text → contents files (ws ++ w ∷ []) ≡ Ok (texts ++ text ∷ [])

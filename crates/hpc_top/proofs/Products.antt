@@ -165,16 +165,15 @@ module _ (by : Merging) (period harts : ℕ) (naming : Naming) (expand : Raw →
   -- ---- a run's profile: what was merged, and what the machine at its end and the counted samples tell
 
   pub run_is : (final : MachineState) (ccts : List (List Counted)) (samples : List HartRaw) → ccts ≡ distinct harts samples → EachCounted → length ccts ≡ harts → samples_in ccts ≡ length samples → (run : RunProfile)
-      → Merges by period (Ok run.merged) (attributed harts naming expand samples) → IsProfile run.merged.content → run.database ≡ spelling run.merged.content → run.lines ≡ counted_text period ccts final → run.samples ≡ samples_in ccts → run.retired ≡ retired_by final
+      → Merges by period (Ok run.merged) (attributed harts naming expand samples) → IsProfile run.merged.content → run.lines ≡ counted_text period ccts final → run.samples ≡ samples_in ccts → run.retired ≡ retired_by final
       → Profiles by period (Ok run) (profiled harts naming expand final samples)
-  run_is final ccts samples counts each many all run (a, is, merged) profile database lines count retired =
+  run_is final ccts samples counts each many all run (a, is, merged) profile lines count retired =
       let same : a ≡ whole_of samples = attributed_as harts naming expand samples a is in (
         record { attributed = a; final = final },
         ap (λ (r : Result Attributed InputFault). r >>= λ a. Ok (record { attributed = a; final = final })) is,
         record {
           merged = merged;
           profile = profile;
-          database = database;
           lines = lines ∙ counted_is each period harts final ccts samples counts many all ∙ ap (λ (b : Attributed). run_text period b.harts final b.samples) (sym same);
           samples = count ∙ all ∙ ap (λ (b : Attributed). length b.samples) (sym same);
           retired = retired;
@@ -211,13 +210,13 @@ module _ (by : Merging) (period : ℕ) (contents : ContentsAlike) (tables : Tabl
         gives = here.gives;
         plan = here.plan;
         product =
-            let s : made.database ≡ spelling (content_of period a.harts a.naming named) = parts.database ∙ is.database ∙ ap spelling here.content in
+            let s : made.database ≡ spelling (content_of period a.harts a.naming named) = parts.database ∙ ap spelling here.content in
             let table = here.table in
             let t : made.report ≡ lines_of period p ++ top_down period a.harts a.naming named = parts.report ∙ (λ i. lines i ++ table i) in
             λ i. record { stored = s i; text = t i };
         crew = here.crew;
         whole = λ all_merged.
-            let s : made.database ≡ spelling (content_of period a.harts a.naming (call_paths_of a)) = parts.database ∙ is.database ∙ ap spelling (all_content a m here all_merged) in
+            let s : made.database ≡ spelling (content_of period a.harts a.naming (call_paths_of a)) = parts.database ∙ ap spelling (all_content a m here all_merged) in
             let table = all_table a m here all_merged in
             let t : made.report ≡ lines_of period p ++ top_down period a.harts a.naming (call_paths_of a) = parts.report ∙ (λ i. lines i ++ table i) in
             λ i. record { stored = s i; text = t i };

@@ -1,7 +1,7 @@
 -- What is so of every schedule and of every program that was read.
-use Rattle.std.proofs.Common.{◌≡◌, ℕ, ◌+◌, ◌-◌, ◌<◌, ◌≤◌, ◌^◌, ◌==◌, ◌&&◌, Bool, true, false, cond, nat_eq, nat_le, nat_lt, List, [], ◌∷◌, ◌++◌, length, take, drop, Option, Some, None, Result, Ok, Err, refl, sym, ap, subst, ◌∙◌, arith}
+use Rattle.std.proofs.Common.{◌≡◌, ℕ, ◌+◌, ◌-◌, ◌<◌, ◌≤◌, ◌^◌, ◌==◌, ◌&&◌, Bool, true, false, cond, nat_eq, nat_le, List, [], ◌∷◌, ◌++◌, length, take, drop, Option, Some, None, Result, Ok, Err, refl, sym, ap, subst, arith}
 use Rattle.std.specs.List.{AllByRecursion, starts_with}
-use Rattle.std.specs.Prelude.{position, slice_index}
+use Rattle.std.specs.Prelude.{position}
 use Rattle.std.proofs.lemmas.Bool.{leb-true}
 use Rattle.std.proofs.lemmas.List.{get_or-drop}
 use Rattle.byteorder.specs.Numbers.{little_from-lt}
@@ -10,17 +10,14 @@ use Rattle.prof_bytes.specs.Outcome.{◌>>=◌}
 use Rattle.elf_image.specs.declared.fault.ElfFault.{ElfFault}
 use Rattle.elf_image.specs.Fields.{number_of, word_at}
 use Rattle.elf_image.specs.Image.{ProgramImage}
-use Rattle.elf_image.specs.Reading.{header_of, image_of, loaded, sections_of, segments_of, symbols_in}
+use Rattle.elf_image.specs.Reading.{header_of, image_of, image_of_file, sections_of, segments_of, symbols_in}
 use Rattle.elf_image.specs.Headers.{symbol_table}
 use Rattle.rv_run.specs.declared.schedule.Slice.{Slice}
 use Rattle.rv_run.specs.declared.schedule.ScheduleFault.{ScheduleFault}
 use Rattle.rv_run.specs.Numerals.{decimal_in, decimal_value, is_decimal}
 use Rattle.rv_run.specs.Schedule.{NumberedLine, Scheduled, slices_before, entries, harts_in, harts_word, lines, most_harts, most_instructions, numbered, or_fault, schedule_in, schedule_of, slice_by, slice_cut, slice_in, slices_of}
 use Rattle.hpc_top.specs.Program.{program, program_from, scheduled, scheduled_from}
-use Rattle.hpc_top.proofs.Fetching.{bind_ok}
-
-ok_same : {X F : Type 0} (x y : X) → ◌≡◌ {A = Result X F} (Ok x) (Ok y) → x ≡ y
-ok_same x y is = cc
+use Rattle.prof_bytes.proofs.Outcomes.{bind_ok, ok_same}
 
 some_same : {X : Type 0} (x y : X) → ◌≡◌ {A = Option X} (Some x) (Some y) → x ≡ y
 some_same x y is = cc
@@ -108,16 +105,16 @@ image_from : (r : Result ProgramImage ElfFault) (image : ProgramImage) → progr
 image_from (Ok x) image is = ap Ok (ok_same x image is)
 image_from (Err fault) image is = absurd cc
 
-image_loaded : (elf : List ℕ) (image : ProgramImage) → image_of elf ≡ Ok image → loaded elf ≡ image
+image_loaded : (elf : List ℕ) (image : ProgramImage) → image_of elf ≡ Ok image → image_of_file elf ≡ image
 unfolding image_of
 image_loaded elf image is =
-    let a = bind_ok (header_of elf) (λ _. segments_of elf >>= λ _. sections_of elf >>= λ _. symbols_in elf (symbol_table elf) >>= λ _. Ok (loaded elf)) image is in
-    let b = bind_ok (segments_of elf) (λ _. sections_of elf >>= λ _. symbols_in elf (symbol_table elf) >>= λ _. Ok (loaded elf)) image a.2 in
-    let c = bind_ok (sections_of elf) (λ _. symbols_in elf (symbol_table elf) >>= λ _. Ok (loaded elf)) image b.2 in
-    let d = bind_ok (symbols_in elf (symbol_table elf)) (λ _. Ok (loaded elf)) image c.2 in
-    ok_same (loaded elf) image d.2
+    let a = bind_ok (header_of elf) (λ _. segments_of elf >>= λ _. sections_of elf >>= λ _. symbols_in elf (symbol_table elf) >>= λ _. Ok (image_of_file elf)) image is in
+    let b = bind_ok (segments_of elf) (λ _. sections_of elf >>= λ _. symbols_in elf (symbol_table elf) >>= λ _. Ok (image_of_file elf)) image a.2 in
+    let c = bind_ok (sections_of elf) (λ _. symbols_in elf (symbol_table elf) >>= λ _. Ok (image_of_file elf)) image b.2 in
+    let d = bind_ok (symbols_in elf (symbol_table elf)) (λ _. Ok (image_of_file elf)) image c.2 in
+    ok_same (image_of_file elf) image d.2
 
-pub program_loaded : (elf : List ℕ) (image : ProgramImage) → program elf ≡ Ok image → loaded elf ≡ image
+pub program_loaded : (elf : List ℕ) (image : ProgramImage) → program elf ≡ Ok image → image_of_file elf ≡ image
 program_loaded elf image is = image_loaded elf image (image_from (image_of elf) image is)
 
 word_low : (file : List ℕ) (offset : ℕ) → IsBytes file → word_at file offset < 2 ^ 32

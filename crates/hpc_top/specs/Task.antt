@@ -1,7 +1,7 @@
 -- A command as data: the files that it fetches, the file that it stores, and what it makes of their contents.
 use Rattle.std.specs.Prelude.{ℕ, List, [], ◌∷◌, length, Option, Some, None, Result, Ok, Err, if◌then◌else◌, nat_lt}
 use Rattle.prof_bytes.specs.Outcome.{◌>>=◌}
-use Rattle.prof_devices.specs.Files.{Files, bytes_of}
+use Rattle.prof_devices.specs.Files.{Files, file_bytes}
 use Rattle.hpc_top.specs.declared.status.FileKind.{FileKind}
 use Rattle.hpc_top.specs.declared.status.FileKind.TheVariants as kinds
 use Rattle.hpc_top.specs.declared.status.InputFault.{InputFault}
@@ -30,7 +30,8 @@ pub record Task : Type 0 where
 -- the bytes of a file, unless it is too long
 abbrev pub within : Files → Wanted → Result (List ℕ) InputFault
 within files w =
-    if nat_lt w.limit (length (bytes_of files w.name)) then Err (TooLong w.file w.limit) else Ok (bytes_of files w.name)
+    if nat_lt w.limit (length (file_bytes files w.name)) then Err (TooLong w.file w.limit)
+    else Ok (file_bytes files w.name)
 
 -- the contents of the files in their order, or the first that is too long
 abbrev pub contents : Files → List Wanted → Result (List (List ℕ)) InputFault

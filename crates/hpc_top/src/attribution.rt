@@ -11,9 +11,9 @@ ghost use Rattle.hpc_top.specs.Task.{program_limit};
 ghost use Rattle.hpc_top.specs.private.Measuring.{attribution_or};
 ghost use Rattle.hpc_top.specs.private.Steps.{ready};
 
+use crate::both::database_and_table;
 use crate::merged::{Merge, merge_samples};
 use crate::program::program_of;
-use crate::report::table;
 use crate::scopes::{info_of, lines_of, structure_of};
 use crate::status::{InputFault, Prepared};
 use dwarf_inline::Structure;
@@ -22,7 +22,6 @@ use elf_image::Image;
 use measure_file::{MeasureHead, measurements_count_samples, read_measure};
 use merge_crew::Crews;
 use prof_bytes::Fail;
-use prof_db::{profiles_are_writable, write_db};
 use scope_find::Finder;
 use std::alloc::Global;
 use std::thread::Threads;
@@ -78,10 +77,8 @@ fn attribute_counted<R: Threads + Sync, C: Crews>(
         (attributed (length ccts.now) (naming_of finder.now) (call_path (found_at finder.now)) samples)) }
 {
     counts_decide();
-    profiles_are_writable();
     let merged = merge_samples(rt, alloc, merge, finder, ccts)?;
-    let stored = write_db(alloc, &merged.content)?;
-    let text = table(alloc, &merged.content)?;
+    let (stored, text) = database_and_table(rt, alloc, &merged.content)?;
     Ok(Prepared { stored, text })
 }
 

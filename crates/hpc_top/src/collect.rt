@@ -84,7 +84,11 @@ pub fn collect<U: Unwind>(
     let mut ccts = Ccts::start(alloc, harts)?;
     loop {
         match next_sample(samples, unwinder) {
-            Ok(Some(sample)) => count_sample(&mut ccts, &sample)?,
+            Ok(Some(sample)) => {
+                count_sample(&mut ccts, &sample)?;
+                let Sample { path, .. } = sample;
+                samples.take_back(path);
+            }
             Ok(None) => return Ok(ccts),
             Err(fail) => return Err(fail),
         }

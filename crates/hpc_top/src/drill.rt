@@ -2,12 +2,14 @@
 ghost use Rattle.std.specs.Prelude.{◌≡◌, ◌≤◌, ◌++◌, decimal, fold, IfOk, IsTrue, length, OnOk};
 ghost use Rattle.guest_gen.specs.Guest.{guest_of};
 ghost use Rattle.prof_bytes.specs.Outcome.{Gives};
+ghost use Rattle.prof_db.specs.Spelling.{spelling};
 ghost use Rattle.scope_types.specs.Key.{fnv};
 ghost use Rattle.hpc_top.specs.Drill.{database_line, drill_lines, drill_product, drilled, nodes_line, number_line};
 ghost use Rattle.hpc_top.specs.Drill.{totals_line};
 ghost use Rattle.hpc_top.specs.Job.{IsJob};
 ghost use Rattle.hpc_top.specs.private.Running.{files_of};
 ghost use Rattle.hpc_top.specs.private.Steps.{ready};
+ghost use Rattle.tree_types.specs.OfContent.{IsProfile};
 
 use crate::listed::text_alone;
 use crate::main_job::{Job, run_profile};
@@ -18,6 +20,7 @@ use guest_gen::guest;
 use itoa::Buffer;
 use merge_crew::Crews;
 use prof_bytes::{Fail, Memory, Text};
+use prof_db::{profiles_are_writable, write_db};
 use scope_types::{FNV_BASIS, fnv_step};
 use std::alloc::Global;
 use std::thread::Threads;
@@ -82,16 +85,20 @@ fn put_database_line(out: &mut Vec<u8>, database: &[u8]) -> Result<(), Memory>
     put_words(out, "\n")
 }
 
-/// The four lines on a run's profile.
+/// The four lines on a run's profile, whose database is made for its length and its fold.
 fn lines(alloc: Global, number: u32, run: &RunProfile) -> Result<Text, Memory>
+    requires { IsProfile run.now.merged.content }
     ensures { IfOk result (λ text. text ≡ drill_lines number run.now.retired run.now.samples
-        (length run.now.merged.content.nodes) run.now.database) }
+        (length run.now.merged.content.nodes) (spelling run.now.merged.content)) }
 {
+    profiles_are_writable();
+    let content = &run.merged.content;
+    let database = write_db(alloc, content)?;
     let mut out = Vec::new(alloc);
     put_number_line(&mut out, number)?;
     put_totals_line(&mut out, run.retired, run.samples)?;
-    put_nodes_line(&mut out, run.merged.content.nodes.items().len() as u64)?;
-    put_database_line(&mut out, run.database.bytes())?;
+    put_nodes_line(&mut out, content.nodes.items().len() as u64)?;
+    put_database_line(&mut out, database.bytes())?;
     Ok(Text::from_vec(out))
 }
 

@@ -7,6 +7,7 @@
 #![tactic(auto)]
 
 mod attribution;
+mod both;
 mod call;
 mod collect;
 mod drill;

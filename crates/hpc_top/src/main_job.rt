@@ -16,10 +16,11 @@ ghost use Rattle.hpc_top.specs.private.Merging.{profiled};
 ghost use Rattle.hpc_top.specs.private.Running.{IsMadeBy, Profiles};
 ghost use Rattle.tree_types.specs.OfContent.{IsProfile};
 
+use crate::both::database_and_report;
 use crate::collect::{collect, start_samples};
 use crate::merged::{Merge, Merged, merge_samples};
 use crate::program::{frames_of, program_of, schedule_of};
-use crate::report::{all_samples, report, run_report};
+use crate::report::{all_samples, run_report};
 use crate::run_profile::{RunProfile, all_retired};
 use crate::scopes::{info_of, lines_of, structure_of};
 use crate::status::{InputFault, Made};
@@ -30,7 +31,6 @@ use dwarf_line::LineTable;
 use elf_image::Image;
 use merge_crew::Crews;
 use prof_bytes::{Fail, Memory};
-use prof_db::{profiles_are_writable, write_db};
 use rv_run::{Machine, Schedule};
 use sample_clock::Samples;
 use scope_find::Finder;
@@ -70,13 +70,10 @@ fn profile_counted<R: Threads + Sync, C: Crews>(
         samples) }
 {
     samples_are_counted();
-    profiles_are_writable();
     let merged = merge_samples(rt, alloc, merge, finder, ccts)?;
     let lines = run_report(alloc, merge.period, ccts, machine)?;
-    let database = write_db(alloc, &merged.content)?;
     Ok(RunProfile {
         merged,
-        database,
         lines,
         samples: all_samples(ccts),
         retired: all_retired(ccts.harts(), machine),
@@ -228,17 +225,12 @@ pub fn run_profile<R: Threads + Sync, C: Crews>(
 }
 
 /// The database, the report and the crew of what was profiled.
-fn made_of(run: RunProfile) -> Result<Made, Memory>
+fn made_of<R: Threads + Sync>(rt: &R, alloc: Global, run: RunProfile) -> Result<Made, Memory>
     requires { IsProfile run.merged.content }
     ensures { IfOk result (λ made. IsMadeBy run made) }
 {
-    let RunProfile {
-        merged,
-        database,
-        lines,
-        ..
-    } = run;
-    let report = report(lines, &merged.content)?;
+    let RunProfile { merged, lines, .. } = run;
+    let (database, report) = database_and_report(rt, alloc, lines, &merged.content)?;
     let Merged { crew, .. } = merged;
     Ok(Made {
         database,
@@ -264,5 +256,5 @@ pub fn profile<R: Threads + Sync + AllocGlobal, C: Crews>(
 {
     counts_decide();
     let run = run_profile(rt, rt.alloc(), job, crews)?;
-    Ok(made_of(run)?)
+    Ok(made_of(rt, rt.alloc(), run)?)
 }

@@ -7,13 +7,13 @@ ghost use Rattle.tree_types.specs.OfContent.{IsProfile, content_table};
 ghost use Rattle.hpc_top.specs.Report.{cause_text, closed, end_text, hart_line, hart_lines, total_line};
 ghost use Rattle.hpc_top.specs.private.Merging.{counted_text};
 
-use prof_bytes::{Memory, Text};
+use prof_bytes::{Memory, Text, put_decimal};
 use rv_hart::Cause;
 use rv_run::{HartEnd, Machine};
 use std::alloc::Global;
 use thread_cct::Ccts;
 use tree_types::Content;
-use view_tables::{put_address, put_decimal, put_top_down, top_down_length};
+use view_tables::{put_address, put_top_down, top_down_length};
 
 fn cause_name(cause: Cause) -> &'static str
     ensures { result.now ≡ cause_text cause }
@@ -160,24 +160,12 @@ pub fn run_report(
     Ok(Text::from_vec(lines))
 }
 
-/// The content's table behind what stands there.
-fn put_table(bytes: &mut Vec<u8>, content: &Content) -> Result<(), Memory>
-    requires { IsProfile content.now }
-    ensures { OnOk result (bytes.new.items ≡ bytes.old.items ++ content_table content.now) }
-{
-    // A table may have gigabytes: where there is no room for it, memory runs out here, and not in the middle.
-    bytes.reserve(top_down_length(content) as usize)?;
-    put_top_down(bytes, content)
-}
-
 /// The content's table.
 pub fn table(alloc: Global, content: &Content) -> Result<Text, Memory>
     requires { IsProfile content.now }
     ensures { IfOk result (λ text. text ≡ content_table content.now) }
 {
-    let mut bytes = Vec::new(alloc);
-    put_table(&mut bytes, content)?;
-    Ok(Text::from_vec(bytes))
+    report(Text::from_vec(Vec::new(alloc)), content)
 }
 
 /// The report of a profile: the lines on its run, and the content's table.
@@ -186,6 +174,8 @@ pub fn report(lines: Text, content: &Content) -> Result<Text, Memory>
     ensures { IfOk result (λ text. text ≡ lines ++ content_table content.now) }
 {
     let mut bytes = lines.into_vec();
-    put_table(&mut bytes, content)?;
+    // A table may have gigabytes: where there is no room for it, memory runs out here, and not in the middle.
+    bytes.reserve(top_down_length(content) as usize)?;
+    put_top_down(&mut bytes, content)?;
     Ok(Text::from_vec(bytes))
 }

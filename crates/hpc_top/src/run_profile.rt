@@ -6,12 +6,11 @@ use crate::merged::Merged;
 use prof_bytes::Text;
 use rv_run::Machine;
 
-/// What was merged of a run's samples, the database of that, the lines on the run, how many samples it has, and how
-/// many instructions its harts retired together.
+/// What was merged of a run's samples, the lines on the run, how many samples it has, and how many instructions its
+/// harts retired together.
 #[derive(Drop)]
 pub struct RunProfile {
     pub merged: Merged,
-    pub database: Text,
     pub lines: Text,
     pub samples: u64,
     pub retired: u128,

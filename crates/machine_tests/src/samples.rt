@@ -100,14 +100,19 @@ fn next_sample(samples: &mut Samples<'_>, probe: &Probe) -> Result<Option<Sample
     }
 }
 
-/// Whether this sample comes next.
+/// Whether this sample comes next. Its path is given back.
 fn comes(
     samples: &mut Samples<'_>,
     probe: &Probe,
     wanted: &(u32, u64, u32, u32),
 ) -> Result<bool, Trouble> {
     match next_sample(samples, probe)? {
-        Some(sample) => Ok(is_sample(&sample, wanted)),
+        Some(sample) => {
+            let is_next = is_sample(&sample, wanted);
+            let Sample { path, .. } = sample;
+            samples.take_back(path);
+            Ok(is_next)
+        }
         None => Ok(false),
     }
 }

@@ -1,58 +1,19 @@
 -- What was read has just these bytes: words and frames.
-use Rattle.std.proofs.Common.{◌≡◌, ℕ, zero, suc, ◌+◌, ◌^◌, ◌<◌, ◌≤◌, Bool, true, false, cond, nat_lt, List, [], ◌∷◌, ◌++◌, length, take, drop, All, Result, Ok, Err, if◌then◌else◌, refl, sym, ap, ap₂, subst, ◌∙◌, append_assoc, append-nil, arith}
+use Rattle.std.proofs.Common.{◌≡◌, ℕ, zero, suc, ◌+◌, ◌^◌, ◌<◌, ◌≤◌, Bool, true, nat_lt, List, [], ◌∷◌, ◌++◌, length, All, Ok, Err, if◌then◌else◌, refl, sym, ap, subst, ◌∙◌, append_assoc, append-nil, arith}
 use Rattle.std.specs.List.{flat_map}
 use Rattle.std.proofs.lemmas.Bool.{ltb-false}
-use Rattle.std.proofs.lemmas.List.{take-append-drop, drop-drop, get_or-drop}
 use Rattle.std.proofs.lemmas.List.Elements.{All-cons, All-nil}
 use Rattle.byteorder.specs.Numbers.{little_from-lt}
 use Rattle.prof_bytes.specs.Number.{IsBytes, number_in, word}
-use Rattle.prof_bytes.specs.Outcome.{◌>>=◌}
 use Rattle.prof_bytes.specs.Reading.{At, left_of, moved}
-use Rattle.prof_bytes.proofs.Again.{number_again}
+use Rattle.prof_bytes.proofs.Outcomes.{bind_ok, guard_ok, ok_same, pass_ok}
+use Rattle.prof_bytes.proofs.Took.{Took, bytes_left, bytes_on, stands_took, took_both, took_none}
 use Rattle.scope_types.specs.declared.frame.Frame.{Frame}
-use Rattle.measure_file.specs.Fields.{fault_at, word_from, word_by, times}
+use Rattle.prof_bytes.specs.Repeated.{times}
+use Rattle.measure_file.specs.Fields.{fault_at, word_from, word_by}
 use Rattle.measure_file.specs.Measurable.{HasWord}
 use Rattle.measure_file.specs.Spelling.{frame_bytes}
 use Rattle.measure_file.specs.Reading.{frame_from}
-
--- ---- steps
-
-pub bind_ok : {X Y F : Type 0} (r : Result X F) (f : X → Result Y F) (y : Y) → (r >>= f) ≡ Ok y → (x : X) × (r ≡ Ok x) × (f x ≡ Ok y)
-bind_ok (Ok x) f y is = (x, refl, is)
-bind_ok (Err e) f y is = absurd cc
-
-pub guard_ok : {X F : Type 0} (b : Bool) (e : F) (x : Result X F) (y : X) → cond b (Err e) x ≡ Ok y → (b ≡ false) × (x ≡ Ok y)
-guard_ok true e x y is = absurd cc
-guard_ok false e x y is = (refl, is)
-
-pub pass_ok : {X F : Type 0} (b : Bool) (e : F) (x : Result X F) (y : X) → cond b x (Err e) ≡ Ok y → (b ≡ true) × (x ≡ Ok y)
-pass_ok true e x y is = (refl, is)
-pass_ok false e x y is = absurd cc
-
-pub ok_same : {X F : Type 0} (x y : X) → ◌≡◌ {A = Result X F} (Ok x) (Ok y) → x ≡ y
-ok_same x y is = cc
-
--- ---- what was taken
-
--- the bytes between two offsets
-pub record Took (at next : At) (text : List ℕ) : Type 0 where
-  pub whole : next.whole ≡ at.whole
-  pub left : left_of at ≡ text ++ left_of next
-
-pub took_none : (at : At) → Took at at []
-took_none at = record { whole = refl; left = refl }
-
-pub took_both : (at mid next : At) (a b : List ℕ) → Took at mid a → Took mid next b → Took at next (a ++ b)
-took_both at mid next a b first second = record {
-  whole = second.whole ∙ first.whole;
-  left = first.left ∙ ap (λ (l : List ℕ). a ++ l) second.left ∙ sym (append_assoc a b (left_of next));
-}
-
-pub bytes_on : (at next : At) (text : List ℕ) → Took at next text → IsBytes at.whole → IsBytes next.whole
-bytes_on at next text took bytes = subst IsBytes (sym took.whole) bytes
-
-bytes_left : (at : At) → IsBytes at.whole → IsBytes (left_of at)
-bytes_left at bytes i = subst (λ (b : ℕ). b < 256) (sym (get_or-drop at.offset at.whole i 0)) (bytes (at.offset + i))
 
 -- ---- words
 
@@ -63,10 +24,8 @@ word_back at next n bytes is =
     let n_is : number_in 4 (left_of at) ≡ n = ap (λ (p : ℕ × At). p.0) same in
     let next_is : moved 4 at ≡ next = ap (λ (p : ℕ × At). p.1) same in
     let long : 4 ≤ length (left_of at) = ltb-false (length (left_of at)) 4 whole.0 in
-    let again : word n ≡ take 4 (left_of at) = ap word (sym n_is) ∙ number_again 4 (left_of at) long (bytes_left at bytes) in
-    let rest : left_of next ≡ drop 4 (left_of at) = ap left_of (sym next_is) ∙ sym (drop-drop 4 at.offset at.whole) in
     let few : number_in 4 (left_of at) < 256 ^ 4 = little_from-lt 0 4 (left_of at) (bytes_left at bytes) in
-    (record { whole = sym (ap (λ (a : At). a.whole) next_is); left = sym (ap₂ (λ (a b : List ℕ). a ++ b) again rest ∙ take-append-drop 4 (left_of at)) }, omega (arith, few, n_is))
+    (subst (λ (a : At). Took at a (word n)) next_is (stands_took 4 at n bytes long n_is), omega (arith, few, n_is))
 
 pub ruled_back : (rule : ℕ → Bool) (at next : At) (n : ℕ) → IsBytes at.whole → word_by rule at ≡ Ok (n, next) → Took at next (word n) × (n < 2 ^ 32) × (rule n ≡ true)
 ruled_back rule at next n bytes is =

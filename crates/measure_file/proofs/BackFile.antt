@@ -9,11 +9,14 @@ use Rattle.prof_bytes.specs.Number.{IsBytes, word}
 use Rattle.prof_bytes.specs.Reading.{At, left_of}
 use Rattle.scope_types.specs.declared.frame.Counted.{Counted}
 use Rattle.measure_file.specs.declared.head.MeasureHead.{MeasureHead}
-use Rattle.measure_file.specs.Fields.{fault_at, word_from, word_by, times}
+use Rattle.prof_bytes.specs.Repeated.{times}
+use Rattle.measure_file.specs.Fields.{fault_at, word_from, word_by}
 use Rattle.measure_file.specs.Measurable.{AreDistinct, AreMeasured, IsCounted, IsHead, IsMeasurable}
 use Rattle.measure_file.specs.Reading.{after_magic, ended, hart_from, is_harts, is_period, measurement_in, tables_from}
 use Rattle.measure_file.specs.Spelling.{magic, hart_bytes, spelling}
-use Rattle.measure_file.proofs.Back.{bind_ok, guard_ok, ok_same, Took, took_both, bytes_on, word_back, ruled_back}
+use Rattle.prof_bytes.proofs.Outcomes.{bind_ok, guard_ok, ok_same}
+use Rattle.prof_bytes.proofs.Took.{Took, took_both, bytes_on}
+use Rattle.measure_file.proofs.Back.{word_back, ruled_back}
 use Rattle.measure_file.proofs.BackPaths.{harts_back}
 use Rattle.measure_file.proofs.BehindMagic.{behind_entry, behind_harts, behind_magic, behind_period, behind_program, head_of, measurement_is}
 use Rattle.measure_file.proofs.Seams.{Tables}

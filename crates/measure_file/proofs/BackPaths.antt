@@ -8,11 +8,14 @@ use Rattle.scope_types.specs.declared.frame.Counted.{Counted}
 use Rattle.scope_types.specs.declared.frame.Frame.{Frame}
 use Rattle.scope_types.specs.Distinct.{frames_in, samples_in}
 use Rattle.thread_cct.specs.Adding.{has_path, of_hart, with_path}
-use Rattle.measure_file.specs.Fields.{fault_at, word_from, word_by, times}
+use Rattle.prof_bytes.specs.Repeated.{times}
+use Rattle.measure_file.specs.Fields.{fault_at, word_from, word_by}
 use Rattle.measure_file.specs.Measurable.{AreMeasured, HasWord, IsCounted}
-use Rattle.measure_file.specs.Reading.{frame_from, hart_from, is_count, is_end, is_length, new_path, path_from}
+use Rattle.measure_file.specs.Reading.{frame_from, hart_from, is_count, is_end_number, is_length, new_path, path_from}
 use Rattle.measure_file.specs.Spelling.{end_number, frame_bytes, path_bytes, hart_bytes}
-use Rattle.measure_file.proofs.Back.{bind_ok, guard_ok, ok_same, Took, took_none, took_both, bytes_on, word_back, ruled_back, frames_back}
+use Rattle.prof_bytes.proofs.Outcomes.{bind_ok, guard_ok, ok_same}
+use Rattle.prof_bytes.proofs.Took.{Took, took_none, took_both, bytes_on}
+use Rattle.measure_file.proofs.Back.{word_back, ruled_back, frames_back}
 use Rattle.measure_file.proofs.Behind.{behind_count, behind_end, behind_frames, behind_length, counted_of, path_is, count_rule, length_rule, end_again}
 use Rattle.measure_file.proofs.Seams.{Tables, own_of, own_put, measured_more}
 
@@ -33,10 +36,10 @@ path_back done rest own at next new bytes are is =
     let at1 : At = a.0.1 in
     let count_is = ruled_back (is_count (samples_in tables)) at at1 count bytes a.1 in
     let bytes1 = bytes_on at at1 (word count) count_is.0 bytes in
-    let b = bind_ok (word_by is_end at1) (behind_end hart tables count) out a.2 in
+    let b = bind_ok (word_by is_end_number at1) (behind_end hart tables count) out a.2 in
     let end : ℕ = b.0.0 in
     let at2 : At = b.0.1 in
-    let end_is = ruled_back is_end at1 at2 end bytes1 b.1 in
+    let end_is = ruled_back is_end_number at1 at2 end bytes1 b.1 in
     let bytes2 = bytes_on at1 at2 (word end) end_is.0 bytes1 in
     let d = bind_ok (word_by (is_length (frames_in tables)) at2) (behind_length hart tables count end) out b.2 in
     let many : ℕ = d.0.0 in

@@ -8,8 +8,9 @@ use Rattle.scope_types.specs.declared.frame.Frame.{Frame}
 use Rattle.scope_types.specs.Distinct.{frames_in, samples_in}
 use Rattle.scope_types.specs.Limits.{most_path_frames, most_samples}
 use Rattle.scope_types.specs.Raw.{most_frames}
-use Rattle.measure_file.specs.Fields.{Read, word_by, times}
-use Rattle.measure_file.specs.Reading.{frame_from, is_count, is_end, is_length, path_end, new_path, path_from}
+use Rattle.prof_bytes.specs.Repeated.{times}
+use Rattle.measure_file.specs.Fields.{Read, word_by}
+use Rattle.measure_file.specs.Reading.{frame_from, is_count, is_end_number, is_length, path_end, new_path, path_from}
 use Rattle.measure_file.specs.Spelling.{end_number}
 use Rattle.measure_file.proofs.Seams.{Tables}
 
@@ -27,7 +28,7 @@ abbrev pub behind_end : ℕ → Tables → ℕ → ℕ × At → Read Tables
 behind_end hart tables count read = word_by (is_length (frames_in tables)) read.1 >>= behind_length hart tables count read.0
 
 abbrev pub behind_count : ℕ → Tables → ℕ × At → Read Tables
-behind_count hart tables read = word_by is_end read.1 >>= behind_end hart tables read.0
+behind_count hart tables read = word_by is_end_number read.1 >>= behind_end hart tables read.0
 
 pub path_is : (hart : ℕ) (tables : Tables) (at : At) → path_from hart tables at ≡ (word_by (is_count (samples_in tables)) at >>= behind_count hart tables)
 unfolding path_from
@@ -44,7 +45,7 @@ length_rule before n e =
     let first = and_parts _ _ parts.0 in
     (leb-true 1 n first.0, leb-true n most_frames first.1, leb-true (before + n) most_path_frames parts.1)
 
-pub end_again : (n : ℕ) → is_end n ≡ true → end_number (path_end n) ≡ n
+pub end_again : (n : ℕ) → is_end_number n ≡ true → end_number (path_end n) ≡ n
 end_again zero e = refl
 end_again (suc zero) e = refl
 end_again (suc (suc zero)) e = refl

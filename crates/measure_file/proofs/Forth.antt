@@ -22,9 +22,10 @@ use Rattle.scope_types.specs.private.SameRaw.{raw_equiv}
 use Rattle.thread_cct.specs.Adding.{has_path, of_hart, with_path}
 use Rattle.thread_cct.proofs.Paths.{paths_below}
 use Rattle.measure_file.specs.declared.fault.MeasureFault.{MeasureFault}
-use Rattle.measure_file.specs.Fields.{Read, fault_at, word_from, word_by, times}
+use Rattle.prof_bytes.specs.Repeated.{times}
+use Rattle.measure_file.specs.Fields.{Read, fault_at, word_from, word_by}
 use Rattle.measure_file.specs.Measurable.{AreDistinct, HasWord, IsCounted}
-use Rattle.measure_file.specs.Reading.{frame_from, hart_from, is_count, is_end, is_length, path_end, new_path, path_from}
+use Rattle.measure_file.specs.Reading.{frame_from, hart_from, is_count, is_end_number, is_length, path_end, new_path, path_from}
 use Rattle.measure_file.specs.Spelling.{end_number, frame_bytes, path_bytes, hart_bytes}
 use Rattle.measure_file.proofs.Behind.{behind_count, behind_end, behind_frames, behind_length, counted_of, path_is}
 use Rattle.measure_file.proofs.Seams.{Tables, count_of, frames_of, own_of, own_put, own_sum, sum_more}
@@ -121,7 +122,7 @@ path_forth done rest own c at text is new few short left =
     let lengths : is_length (frames_in tables) many ≡ true =
     and_from _ _ (and_from _ _ (le-leb 1 many is.frames.some) (le-leb many most_frames most)) (le-leb (frames_in tables + many) most_path_frames short) in
     let a = ruled_forth (is_count (samples_in tables)) at c.count text1 counts (omega (arith, few)) parted in
-    let b = ruled_forth is_end a.0 end text2 (le-leb end 5 five) (omega (arith, five)) a.2 in
+    let b = ruled_forth is_end_number a.0 end text2 (le-leb end 5 five) (omega (arith, five)) a.2 in
     let d = ruled_forth (is_length (frames_in tables)) b.0 many text3 lengths (omega (arith, most)) b.2 in
     let f = frames_forth frames 0 [] d.0 text is.addresses d.2 in (
       f.0,

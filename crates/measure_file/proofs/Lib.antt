@@ -1,5 +1,5 @@
 mod Sums
-mod Repeated
+mod FrameSteps
 mod Writing
 mod Lengths
 mod Back

@@ -1,5 +1,5 @@
 -- The fields of a measurement file: words of four bytes, read one after another up to the first fault.
-use Rattle.std.specs.Prelude.{ℕ, zero, suc, ◌+◌, Bool, length, Result, Ok, Err, if◌then◌else◌, nat_lt}
+use Rattle.std.specs.Prelude.{ℕ, Bool, length, Result, Ok, Err, if◌then◌else◌, nat_lt}
 use Rattle.prof_bytes.specs.Number.{number_in}
 use Rattle.prof_bytes.specs.Outcome.{◌>>=◌}
 use Rattle.prof_bytes.specs.Reading.{At, left_of, moved}
@@ -22,10 +22,3 @@ abbrev pub word_by : (ℕ → Bool) → At → Read ℕ
 word_by rule at = do
   (n, next) ← word_from at
   if rule n then Ok (n, next) else Err (fault_at at.offset)
-
--- a step that is taken so many times, each behind the last, with its number and what was read before
-unfoldable pub times : {S : Type 0} → (ℕ → S → At → Read S) → ℕ → ℕ → S → At → Read S
-times step zero i before at = Ok (before, at)
-times step (suc n) i before at = do
-  (so_far, next) ← step i before at
-  times step n (i + 1) so_far next

@@ -15,7 +15,8 @@ use Rattle.scope_types.specs.Limits.{most_path_frames, most_samples}
 use Rattle.thread_cct.specs.Adding.{has_path, of_hart, with_path}
 use Rattle.measure_file.specs.declared.fault.MeasureFault.{MeasureFault}
 use Rattle.measure_file.specs.declared.head.MeasureHead.{MeasureHead}
-use Rattle.measure_file.specs.Fields.{Read, fault_at, word_from, word_by, times}
+use Rattle.prof_bytes.specs.Repeated.{times}
+use Rattle.measure_file.specs.Fields.{Read, fault_at, word_from, word_by}
 use Rattle.measure_file.specs.Spelling.{magic}
 
 -- ---- the rules of single words
@@ -34,8 +35,8 @@ is_count before n = nat_le 1 n && nat_le (before + n) most_samples
 abbrev pub is_length : ℕ → ℕ → Bool
 is_length before n = nat_le 1 n && nat_le n most_frames && nat_le (before + n) most_path_frames
 
-abbrev pub is_end : ℕ → Bool
-is_end n = nat_le n 5
+abbrev pub is_end_number : ℕ → Bool
+is_end_number n = nat_le n 5
 
 -- the end of a path with this number
 abbrev pub path_end : ℕ → End
@@ -59,7 +60,7 @@ new_path hart offset counted tables = if has_path counted.path (of_hart tables h
 unfoldable pub path_from : ℕ → List (List Counted) → At → Read (List (List Counted))
 path_from hart tables at = do
   (count, next) ← word_by (is_count (samples_in tables)) at
-  (end, next) ← word_by is_end next
+  (end, next) ← word_by is_end_number next
   (length, first_pc) ← word_by (is_length (frames_in tables)) next
   (frames, next) ← times (λ i. frame_from) length 0 [] first_pc
   paths ← new_path hart first_pc.offset

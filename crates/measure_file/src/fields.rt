@@ -2,8 +2,10 @@
 ghost use Rattle.std.specs.Prelude.{◌≡◌, ◌+◌, ◌≤◌, length, IfOk, []};
 ghost use Rattle.prof_bytes.specs.Outcome.{GivesAt, GivesFrom};
 ghost use Rattle.scope_types.specs.Limits.{most_path_frames, most_samples};
-ghost use Rattle.measure_file.specs.Fields.{word_from, word_by, times};
-ghost use Rattle.measure_file.specs.Reading.{is_count, is_end, is_length, is_period, is_harts, path_end, frame_from};
+ghost use Rattle.prof_bytes.specs.Repeated.{times};
+ghost use Rattle.measure_file.specs.Fields.{word_from, word_by};
+ghost use Rattle.measure_file.specs.Reading.{is_count, is_end_number, is_length, is_period, is_harts, path_end};
+ghost use Rattle.measure_file.specs.Reading.{frame_from};
 
 use crate::fault::MeasureFault;
 use prof_bytes::{Cursor, Fail};
@@ -89,7 +91,7 @@ pub(crate) fn path_end(number: u32) -> End
 
 /// The number of a path's end.
 pub(crate) fn read_end(cursor: &mut Cursor<'_>) -> Result<u32, MeasureFault>
-    ensures { GivesAt (λ n. n) result cursor.new (word_by is_end cursor.old) }
+    ensures { GivesAt (λ n. n) result cursor.new (word_by is_end_number cursor.old) }
 {
     let offset = cursor.place();
     let end = read_word(cursor)?;

@@ -1,7 +1,7 @@
 //! A measurement of its bytes.
 ghost use Rattle.std.specs.Prelude.{◌≡◌, ◌<◌, length, IfOk, OnOk};
 ghost use Rattle.prof_bytes.specs.Outcome.{Gives, GivesAt, GivesFrom};
-ghost use Rattle.measure_file.specs.Fields.{times};
+ghost use Rattle.prof_bytes.specs.Repeated.{times};
 ghost use Rattle.measure_file.specs.Measurable.{IsMeasurable};
 ghost use Rattle.measure_file.specs.Reading.{path_from, hart_from, measurement_in, after_magic, tables_from};
 

@@ -1,5 +1,5 @@
 -- What an offer does to the pieces that wait, and how a chunk's pieces come behind them.
-use Rattle.std.proofs.Common.{◌≡◌, ℕ, ◌+◌, ◌-◌, ◌*◌, ◌<◌, ◌≤◌, Bool, true, false, cond, List, [], ◌∷◌, ◌++◌, length, map, All, sym, refl, ap, ◌∙◌, subst, arith, zero, suc, ltb, lt-ltb}
+use Rattle.std.proofs.Common.{◌≡◌, ℕ, ◌+◌, ◌-◌, ◌<◌, ◌≤◌, Bool, true, false, cond, List, [], ◌∷◌, ◌++◌, length, map, All, sym, refl, ap, ◌∙◌, subst, arith, zero, suc, ltb, lt-ltb}
 use Rattle.std.specs.List.{range_with_len}
 use Rattle.std.proofs.lemmas.List.Elements.{All-append, All-cons, All-head, All-nil, All-push, All-tail}
 use mathlib.Core.Logic.{dite}
@@ -95,10 +95,6 @@ module _ (plan : Chunks) (p : Waiting) (q : List Waiting) (v : PassView) (n : �
 -- fewer offers are left
 pub fewer_back : (p : Waiting) (q : List Waiting) → p.offers < 64 → offers_left (q ++ later p ∷ []) < offers_left (p ∷ q)
 fewer_back p q few = let a = total_snoc left q (later p) in omega arith
-
--- no pieces
-pub none_wait : (plan : Chunks) (v : PassView) (n : ℕ) → 64 * n ≤ v.busy → Waits plan [] v n
-none_wait plan v n busy = record { pieces = All-nil (is_of plan); few = All-nil is_few; owed = λ c s. omega arith; busy = omega arith }
 
 -- ---- a chunk's pieces
 

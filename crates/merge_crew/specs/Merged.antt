@@ -1,8 +1,8 @@
 -- What the workers of a merge leave.
 use Rattle.std.specs.Prelude.{◌≡◌, ℕ, ◌+◌, ◌*◌, ◌<◌, ◌≤◌, length}
 use Rattle.stripe_table.specs.Limits.{Chunks}
-use Rattle.stripe_table.specs.Ends.{AllFit, names_of}
-use Rattle.stripe_table.specs.Views.{times}
+use Rattle.stripe_table.specs.Ends.{AllFit, stripe_names}
+use Rattle.stripe_table.specs.Views.{occurrences}
 use Rattle.merge_crew.specs.declared.merge.Crew.{Crew}
 
 -- the stripes are those of an expanded plan, and each of the sixteen fits it
@@ -12,7 +12,7 @@ pub record IsOfPlan (chunks : Chunks) (crew : Crew) : Type 0 where
 
 -- each stripe names each chunk of the plan, once
 abbrev pub NamesEach : Chunks → Crew → Type 0
-NamesEach plan crew = (s c : ℕ) → s < 16 → c < length plan → times c (names_of crew.stripes.stripes s) ≡ 1
+NamesEach plan crew = (s c : ℕ) → s < 16 → c < length plan → occurrences c (stripe_names crew.stripes.stripes s) ≡ 1
 
 -- every chunk's piece is in each stripe, by so many workers or by the caller: the passes merged `merged` pieces, and
 -- the caller settled the others of the sixteen of each chunk, no more than the workers left busy or found there
@@ -30,7 +30,7 @@ pub record IsWhole (plan : Chunks) (workers : ℕ) (crew : Crew) : Type 0 where
 -- stripes of an expanded plan that no worker filled
 pub record IsUnfilled (chunks : Chunks) (crew : Crew) : Type 0 where
   pub of : IsOfPlan chunks crew
-  pub none : (s : ℕ) → s < 16 → length (names_of crew.stripes.stripes s) ≡ 0
+  pub none : (s : ℕ) → s < 16 → length (stripe_names crew.stripes.stripes s) ≡ 0
   pub merged : crew.merged ≡ 0
   pub busy_left : crew.busy_left ≡ 0
   pub present : crew.present ≡ 0

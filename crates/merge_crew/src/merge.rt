@@ -1,5 +1,5 @@
 ghost use Rattle.std.specs.Prelude.{◌≡◌, ℕ, ◌+◌, ◌*◌, ◌<◌, ◌≤◌, IfOk, length};
-ghost use Rattle.stripe_table.specs.Ends.{AllFit, names_of};
+ghost use Rattle.stripe_table.specs.Ends.{AllFit, stripe_names};
 ghost use Rattle.thread_cct.specs.Plan.{FitsExpansion, expanded};
 ghost use Rattle.merge_crew.specs.Merged.{IsOfPlan, IsUnfilled, NamesEach};
 
@@ -82,7 +82,7 @@ fn unfilled_stripes<E: Expand>(
     requires fits { FitsExpansion plan.now (E.call_path expand.now) }
     ensures plan { IfOk result (λ set. set.view.plan ≡ expanded plan.now (E.call_path expand.now)) }
     ensures fit { IfOk result (λ set. AllFit set.view.plan set.stripes) }
-    ensures none { IfOk result (λ set. (s : ℕ) → s < 16 → length (names_of set.stripes s) ≡ 0) }
+    ensures none { IfOk result (λ set. (s : ℕ) → s < 16 → length (stripe_names set.stripes s) ≡ 0) }
 {
     let (stripes, first) = Stripes::start(alloc, plan, expand)?;
     let set = stripes.close(first);

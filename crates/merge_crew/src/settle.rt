@@ -1,9 +1,9 @@
 //! What is left at the end: pieces that their stripes don't name, which the caller merges.
 ghost use Rattle.std.specs.Prelude.{◌≡◌, ℕ, ◌+◌, ◌*◌, ◌<◌, ◌≤◌, [], true, false, IfOk, Some};
 ghost use Rattle.std.specs.Prelude.{length, slice_get, slice_index_or, slice_set};
-ghost use Rattle.stripe_table.specs.Ends.{AllFit, names_of};
+ghost use Rattle.stripe_table.specs.Ends.{AllFit, stripe_names};
 ghost use Rattle.stripe_table.specs.Limits.{IsPieceOf};
-ghost use Rattle.stripe_table.specs.Views.{times};
+ghost use Rattle.stripe_table.specs.Views.{occurrences};
 ghost use Rattle.thread_cct.specs.Plan.{expanded, piece_of};
 ghost use Rattle.merge_crew.specs.private.Settling.{MarkIsExact, MarksAll, MarksChunks, SameNames, mark_at, names_in};
 
@@ -101,9 +101,9 @@ fn settle_piece(set: &mut StripeSet, marks: &[Marks], piece: &Piece) -> Result<u
     requires marks { MarkIsExact set.old.stripes marks.now piece.now.stripe piece.now.chunk }
     ensures view { set.new.view ≡ set.old.view }
     ensures fits { AllFit set.new.view.plan set.new.stripes }
-    ensures named { IfOk result (λ _. 0 < times piece.now.chunk (names_of set.new.stripes piece.now.stripe)) }
+    ensures named { IfOk result (λ _. 0 < occurrences piece.now.chunk (stripe_names set.new.stripes piece.now.stripe)) }
     ensures others { (c s : ℕ) → (c ≡ piece.now.chunk → s ≡ piece.now.stripe → ⊥)
-        → times c (names_of set.new.stripes s) ≡ times c (names_of set.old.stripes s) }
+        → occurrences c (stripe_names set.new.stripes s) ≡ occurrences c (stripe_names set.old.stripes s) }
     ensures count { IfOk result (λ k. (names_in set.new.stripes ≡ names_in set.old.stripes + k) × (k ≤ 1)) }
 {
     if is_marked(marks, piece.stripe, piece.chunk) {
@@ -126,7 +126,7 @@ fn settle_pieces(
     requires marks { (s : ℕ) → s < 16 → MarkIsExact set.old.stripes marks.now s _chunk }
     ensures view { set.new.view ≡ set.old.view }
     ensures fits { AllFit set.new.view.plan set.new.stripes }
-    ensures named { IfOk result (λ _. (s : ℕ) → s < 16 → 0 < times _chunk (names_of set.new.stripes s)) }
+    ensures named { IfOk result (λ _. (s : ℕ) → s < 16 → 0 < occurrences _chunk (stripe_names set.new.stripes s)) }
     ensures others { (c : ℕ) → (c ≡ _chunk → ⊥) → SameNames set.old.stripes set.new.stripes c }
     ensures count { IfOk result (λ k. (names_in set.new.stripes ≡ names_in set.old.stripes + k) × (k ≤ 16)) }
 {
@@ -156,7 +156,7 @@ fn settle_chunk<E: Expand>(
     ensures memo { E.fits expand.now memo.new }
     ensures view { set.new.view ≡ set.old.view }
     ensures fits { AllFit set.new.view.plan set.new.stripes }
-    ensures named { IfOk result (λ _. (s : ℕ) → s < 16 → 0 < times chunk (names_of set.new.stripes s)) }
+    ensures named { IfOk result (λ _. (s : ℕ) → s < 16 → 0 < occurrences chunk (stripe_names set.new.stripes s)) }
     ensures others { (c : ℕ) → (c ≡ chunk → ⊥) → SameNames set.old.stripes set.new.stripes c }
     ensures count { IfOk result (λ k. (names_in set.new.stripes ≡ names_in set.old.stripes + k) × (k ≤ 16)) }
 {
@@ -182,7 +182,7 @@ fn settle_all<E: Expand>(
     ensures view { set.new.view ≡ set.old.view }
     ensures fits { AllFit set.new.view.plan set.new.stripes }
     ensures named { IfOk result (λ _. (c s : ℕ) → c < length set.old.view.plan → s < 16
-        → 0 < times c (names_of set.new.stripes s)) }
+        → 0 < occurrences c (stripe_names set.new.stripes s)) }
     ensures count { IfOk result (λ k. names_in set.new.stripes ≡ names_in set.old.stripes + k) }
 {
     pieces_make_the_plan();
@@ -206,7 +206,7 @@ pub(crate) fn settle_rest<E: Expand>(
     ensures view { set.new.view ≡ set.old.view }
     ensures fits { IfOk result (λ _. AllFit set.new.view.plan set.new.stripes) }
     ensures named { IfOk result (λ _. (s c : ℕ) → s < 16 → c < length set.old.view.plan
-        → times c (names_of set.new.stripes s) ≡ 1) }
+        → occurrences c (stripe_names set.new.stripes s) ≡ 1) }
     ensures count { IfOk result (λ k. names_in set.old.stripes + k ≡ 16 * length set.old.view.plan) }
 {
     pieces_make_the_plan();

@@ -7,9 +7,9 @@ use Rattle.std.proofs.lemmas.List.Quantifiers.{all_pairs_push}
 use Rattle.metric_sums.specs.declared.line.Open.{Open}
 use Rattle.metric_sums.specs.private.Lines.{ends_with, is_node}
 
-all_front : {X : Type 0} (P : X → Type 0) (xs : List X) (x : X) → All P (xs ++ x ∷ []) → All P xs
-all_front P [] x all = All-nil P
-all_front P (y ∷ xs) x all = All-cons P y xs (All-head P y (xs ++ x ∷ []) all) (all_front P xs x (All-tail P y (xs ++ x ∷ []) all))
+pub fronts : {X : Type 0} (P : X → Type 0) (xs : List X) (x : X) → All P (xs ++ x ∷ []) → All P xs
+fronts P [] x all = All-nil P
+fronts P (y ∷ xs) x all = All-cons P y xs (All-head P y (xs ++ x ∷ []) all) (fronts P xs x (All-tail P y (xs ++ x ∷ []) all))
 
 pub all_last : {X : Type 0} (P : X → Type 0) (xs : List X) (x : X) → All P (xs ++ x ∷ []) → P x
 all_last P [] x all = All-head P x [] all
@@ -17,9 +17,6 @@ all_last P (y ∷ xs) x all = all_last P xs x (All-tail P y (xs ++ x ∷ []) all
 
 pub all_more : {X : Type 0} (P : X → Type 0) (xs : List X) (x : X) → All P xs → P x → All P (xs ++ x ∷ [])
 all_more P xs x all one = All-append P xs (x ∷ []) all (All-cons P x [] one (All-nil P))
-
-pub fronts : {X : Type 0} (P : X → Type 0) (xs : List X) (x : X) → All P (xs ++ x ∷ []) → All P xs
-fronts P xs x all = all_front P xs x all
 
 pairs_tail : {X : Type 0} (R : X → X → Type 0) (x : X) (xs : List X) → AllPairs R (x ∷ xs) → AllPairs R xs
 pairs_tail R x xs h i j d less lt = h (suc i) (suc j) d (omega arith) (omega arith)

@@ -1,10 +1,9 @@
 -- A node as it is kept: its parent's index and its own scope.
-use Rattle.std.proofs.Common.{◌≡◌, ℕ, ◌+◌, ◌-◌, ◌<◌, ◌≤◌, inl, inr, Bool, cond, List, [], ◌∷◌, ◌++◌, length, take, get_or, map, refl, sym, ap, ap₂, ◌∙◌, arith, is_eq, length-append}
+use Rattle.std.proofs.Common.{◌≡◌, ℕ, ◌+◌, ◌-◌, ◌<◌, ◌≤◌, inl, inr, Bool, cond, List, [], ◌∷◌, ◌++◌, length, get_or, map, sym, ap, ap₂, ◌∙◌, arith, is_eq, length-append}
 use Rattle.std.proofs.lemmas.Bool.{eq-eqb, ne_eqb}
 use Rattle.std.proofs.lemmas.Cmp.{tied_itself}
-use Rattle.std.proofs.lemmas.List.{take-append-le, take_all, same_lists, length-map, get_or-map, get_or_default}
+use Rattle.std.proofs.lemmas.List.{same_lists, length-map, get_or-map, get_or_default}
 use Rattle.std.proofs.lemmas.List.Sums.{position_or_len_is}
-use Rattle.scope_types.specs.declared.scope.Scope.{Scope}
 use Rattle.scope_types.specs.Limits.{most_path_scopes}
 use Rattle.scope_types.specs.Order.{path_order}
 use Rattle.scope_types.proofs.Orders.{path_order_total}
@@ -12,20 +11,10 @@ use Rattle.tree_types.specs.declared.content.Node.{Node}
 use Rattle.tree_types.specs.Paths.{Path}
 use Rattle.tree_types.specs.Nodes.{no_parent, node_number, parent_number, parent_path, own_scope}
 use Rattle.tree_types.specs.PathsOf.{tree_paths}
-use Rattle.path_trie.specs.Trie.{path_at, node_path, node_of}
+use Rattle.tree_types.proofs.TreePaths.{own_scope_last, parent_path_front}
+use Rattle.path_trie.specs.Trie.{path_at, nth_path, trie_node}
 use Rattle.path_trie.specs.private.Linked.{node_at, node_with, no_node, Rooted}
 use Rattle.path_trie.proofs.Places.{place_cases, path_none, path_some, path_false}
-
-own_scope_last : (f : Path) (s : Scope) → own_scope (f ++ s ∷ []) ≡ s
-own_scope_last [] s = refl
-own_scope_last (t ∷ []) s = refl
-own_scope_last (t ∷ u ∷ f) s = own_scope_last (u ∷ f) s
-
-take_front : (f : Path) (s : Scope) → parent_path (f ++ s ∷ []) ≡ f
-take_front f s =
-    let long : length (f ++ s ∷ []) ≡ length f + 1 = length-append f (s ∷ []) in
-    let less : length (f ++ s ∷ []) - 1 ≡ length f = omega (arith, long) in
-    ap (λ (k : ℕ). take k (f ++ s ∷ [])) less ∙ take-append-le (length f) f (s ∷ []) (omega arith) ∙ take_all (length f) f (omega arith)
 
 -- the number of a path in a list that has it once
 number_at : (ns : List Path) (i : ℕ) → i < length ns → ((k : ℕ) → k < length ns → get_or ns k [] ≡ get_or ns i [] → k ≡ i) → node_number ns (get_or ns i []) ≡ i
@@ -55,15 +44,15 @@ module _ (nodes : List Node) (l : Rooted nodes) (few : length nodes ≤ most_pat
             let at : f ≡ get_or paths n.parent [] = path_some paths n.parent (omega arith) in
             let above : length f ≡ length (path_at paths (node_at nodes n.parent).parent) + 1 = ap (λ (p : Path). length p) (at ∙ l.below n.parent within) ∙ length-append (path_at paths (node_at nodes n.parent).parent) ((node_at nodes n.parent).scope ∷ []) in
             ap (λ (b : Bool). cond b no_parent (node_number paths (parent_path q))) (ne_eqb (length q) 1 (λ e. absurd (omega arith)))
-            ∙ ap (node_number paths) (take_front f n.scope ∙ at)
+            ∙ ap (node_number paths) (parent_path_front f n.scope ∙ at)
             ∙ number_at paths n.parent (let same = l.long in omega arith) (λ k k_lt e. l.once k n.parent (let same = l.long in omega arith) within e)
       ]
 
-  pub node_is : (i : ℕ) → i < length nodes → node_at nodes i ≡ node_of paths (node_path paths i)
+  pub node_is : (i : ℕ) → i < length nodes → node_at nodes i ≡ trie_node paths (nth_path paths i)
   node_is i lt =
       ap₂ node_with (sym (parent_is i lt)) (sym (ap own_scope (l.below i lt) ∙ own_scope_last (path_at paths (node_at nodes i).parent) (node_at nodes i).scope))
 
-  pub nodes_are : nodes ≡ map (node_of paths) paths
+  pub nodes_are : nodes ≡ map (trie_node paths) paths
   nodes_are =
-      same_lists nodes (map (node_of paths) paths) (sym (length-map paths (node_of paths) ∙ l.long)) (λ k d lt.
-      get_or_default nodes k d no_node lt ∙ node_is k lt ∙ sym (get_or-map (node_of paths) paths k [] d (let same = l.long in omega arith)))
+      same_lists nodes (map (trie_node paths) paths) (sym (length-map paths (trie_node paths) ∙ l.long)) (λ k d lt.
+      get_or_default nodes k d no_node lt ∙ node_is k lt ∙ sym (get_or-map (trie_node paths) paths k [] d (let same = l.long in omega arith)))

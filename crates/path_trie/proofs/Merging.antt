@@ -4,14 +4,14 @@ use Rattle.std.specs.List.{flat_map}
 use Rattle.std.proofs.lemmas.List.{take_more, map-append}
 use Rattle.std.proofs.lemmas.List.Concat.{flat_map-append}
 use Rattle.std.proofs.lemmas.List.Elements.{All-nil, All-head, All-tail, All-push, All-weaker}
-use Rattle.std.proofs.lemmas.List.Sums.{fold-append, sum_by_more, sum_by_more_le, sum_by-append}
+use Rattle.std.proofs.lemmas.List.Sums.{fold-append, sum_by_more, sum_by-append}
 use Rattle.scope_types.specs.declared.path.Entry.{Entry}
 use Rattle.scope_types.specs.Limits.{most_samples, most_path_scopes}
 use Rattle.tree_types.specs.declared.content.Node.{Node}
 use Rattle.tree_types.specs.Paths.{Path, prefixes}
 use Rattle.tree_types.specs.PathsOf.{tree_paths}
 use Rattle.path_trie.specs.declared.trie.PathEnd.{PathEnd}
-use Rattle.path_trie.specs.Trie.{IsPlace, path_at, entry_of, with_node, all_prefixes, trie_nodes, scopes_of, samples_of}
+use Rattle.path_trie.specs.Trie.{IsIndex, path_at, counted_entry, with_node, all_prefixes, trie_nodes, entry_scopes, samples_of}
 use Rattle.path_trie.specs.private.Linked.{Branches, Linked, Extends, IsTrie, entries_at}
 use Rattle.path_trie.proofs.Places.{none_linked}
 
@@ -22,7 +22,7 @@ no_fields : IsTrie [] [] []
 unfolding tree_paths trie_nodes
 no_fields = record {
   linked = none_linked;
-  places = All-nil (λ e. IsPlace e.node 0);
+  indices = All-nil (λ e. IsIndex e.node 0);
   nodes_are = refl;
   few_nodes = omega arith;
   few_samples = omega arith;
@@ -37,30 +37,30 @@ no_nodes entries none = ap (λ (es : List Entry). fold with_node [] (all_prefixe
 
 -- ---- one entry more
 
-pub map_same : (ps qs : List Path) (n : ℕ) (ends : List PathEnd) → ((p : ℕ) → IsPlace p n → path_at qs p ≡ path_at ps p) → All (λ e. IsPlace e.node n) ends → map (entry_of qs) ends ≡ map (entry_of ps) ends
-map_same ps qs n [] same places = refl
-map_same ps qs n (e ∷ ends) same places =
-    let P : PathEnd → Type 0 = λ e. IsPlace e.node n in
-    ap₂ (λ (x : Path) (rest : List Entry). entry_with e.hart e.count x ∷ rest) (same e.node (All-head P e ends places)) (map_same ps qs n ends same (All-tail P e ends places))
+pub map_same : (ps qs : List Path) (n : ℕ) (ends : List PathEnd) → ((p : ℕ) → IsIndex p n → path_at qs p ≡ path_at ps p) → All (λ e. IsIndex e.node n) ends → map (counted_entry qs) ends ≡ map (counted_entry ps) ends
+map_same ps qs n [] same indices = refl
+map_same ps qs n (e ∷ ends) same indices =
+    let P : PathEnd → Type 0 = λ e. IsIndex e.node n in
+    ap₂ (λ (x : Path) (rest : List Entry). entry_with e.hart e.count x ∷ rest) (same e.node (All-head P e ends indices)) (map_same ps qs n ends same (All-tail P e ends indices))
 
 module _ (old nodes : List Node) (bs more : Branches) (ends : List PathEnd) (start : List Path) (after : List PathEnd) (entries from : List Entry) (e : Entry) (k node : ℕ) (path : Path)
-    (l : Linked old bs) (m : Linked nodes more) (places : All (λ e. IsPlace e.node (length old)) ends)
+    (l : Linked old bs) (m : Linked nodes more) (indices : All (λ e. IsIndex e.node (length old)) ends)
     (wide : Extends (tree_paths old) (tree_paths nodes)) (lt : k < length entries) (is : e ≡ get_or entries k e)
     (given : path ≡ e.path) (pushed : after ≡ ends ++ record { node = node; hart = e.hart; count = e.count } ∷ []) where
   abbrev end_new : PathEnd
   end_new = record { node = node; hart = e.hart; count = e.count }
 
-  all_places : IsPlace node (length nodes) → All (λ e. IsPlace e.node (length nodes)) (ends ++ end_new ∷ [])
-  all_places place =
-      All-push (λ e. IsPlace e.node (length nodes)) ends end_new
-      (All-weaker (λ e. IsPlace e.node (length old)) (λ e. IsPlace e.node (length nodes)) (λ e fits apart. (let less = fits apart in let a = l.rooted.long in let b = m.rooted.long in let c = wide.longer in omega arith)) ends places)
-      place
+  all_places : IsIndex node (length nodes) → All (λ e. IsIndex e.node (length nodes)) (ends ++ end_new ∷ [])
+  all_places index =
+      All-push (λ e. IsIndex e.node (length nodes)) ends end_new
+      (All-weaker (λ e. IsIndex e.node (length old)) (λ e. IsIndex e.node (length nodes)) (λ e fits apart. (let less = fits apart in let a = l.rooted.long in let b = m.rooted.long in let c = wide.longer in omega arith)) ends indices)
+      index
 
   all_entries : entries_at old ends ≡ from ++ take k entries → path_at (tree_paths nodes) node ≡ e.path → entries_at nodes (ends ++ end_new ∷ []) ≡ from ++ take (k + 1) entries
   all_entries so_far path_is =
-      map-append (entry_of (tree_paths nodes)) ends (end_new ∷ [])
+      map-append (counted_entry (tree_paths nodes)) ends (end_new ∷ [])
       ∙ ap₂ (λ (x : List Entry) (p : Path). x ++ entry_with e.hart e.count p ∷ [])
-      (map_same (tree_paths old) (tree_paths nodes) (length old) ends (λ p place. wide.same p (subst (IsPlace p) (sym l.rooted.long) place)) places ∙ so_far) path_is
+      (map_same (tree_paths old) (tree_paths nodes) (length old) ends (λ p index. wide.same p (subst (IsIndex p) (sym l.rooted.long) index)) indices ∙ so_far) path_is
       ∙ append_assoc from (take k entries) (e ∷ [])
       ∙ ap (λ (x : List Entry). from ++ x) (ap (λ (x : Entry). take k entries ++ x ∷ []) is ∙ sym (take_more entries k e lt))
 
@@ -72,8 +72,8 @@ module _ (old nodes : List Node) (bs more : Branches) (ends : List PathEnd) (sta
       ∙ ap (fold with_node start) (ap (λ (x : List Path). all_prefixes (take k entries) ++ x) (sym (append-nil (prefixes e.path)))
       ∙ sym (flat_map-append f (take k entries) (e ∷ [])) ∙ ap (flat_map f) (ap (λ (x : Entry). take k entries ++ x ∷ []) is ∙ sym (take_more entries k e lt)))
 
-  pub places_more : IsPlace node (length nodes) → All (λ e. IsPlace e.node (length nodes)) after
-  places_more place = subst (All (λ e. IsPlace e.node (length nodes))) (sym pushed) (all_places place)
+  pub places_more : IsIndex node (length nodes) → All (λ e. IsIndex e.node (length nodes)) after
+  places_more index = subst (All (λ e. IsIndex e.node (length nodes))) (sym pushed) (all_places index)
 
   pub entries_more : entries_at old ends ≡ from ++ take k entries → path_at (tree_paths nodes) node ≡ path → entries_at nodes after ≡ from ++ take (k + 1) entries
   entries_more so_far path_is = ap (entries_at nodes) pushed ∙ all_entries so_far (path_is ∙ given)
@@ -82,16 +82,9 @@ abbrev length_of : Entry → ℕ
 length_of e = length e.path
 
 pub scopes_more : (entries : List Entry) (k old now after : ℕ) (e : Entry) (path : Path) → k < length entries → e ≡ get_or entries k e → path ≡ e.path
-    → now ≤ old + scopes_of (take k entries) → after ≤ now + length path → after ≤ old + scopes_of (take (k + 1) entries)
+    → now ≤ old + entry_scopes (take k entries) → after ≤ now + length path → after ≤ old + entry_scopes (take (k + 1) entries)
 scopes_more entries k old now after e path lt is given so_far step =
     let one = sum_by_more length_of entries k e lt in
-    let same : length path ≡ length (get_or entries k e).path = ap (λ (p : Path). length p) given ∙ ap length_of is in
-    omega arith
-
-pub scopes_within : (entries : List Entry) (k old now most : ℕ) (e : Entry) (path : Path) → k < length entries → e ≡ get_or entries k e → path ≡ e.path
-    → now ≤ old + scopes_of (take k entries) → old + scopes_of entries ≤ most → now + length path ≤ most
-scopes_within entries k old now most e path lt is given so_far few =
-    let one = sum_by_more_le length_of entries k e lt in
     let same : length path ≡ length (get_or entries k e).path = ap (λ (p : Path). length p) given ∙ ap length_of is in
     omega arith
 
@@ -111,14 +104,14 @@ module _ (old nodes : List Node) (bs more : Branches) (ends all : List PathEnd) 
       ∙ ap (fold with_node []) (sym (flat_map-append f (entries_at old ends) entries))
       ∙ ap (λ (x : List Entry). fold with_node [] (all_prefixes x)) (sym are)
 
-  pub fits_all : Linked nodes more → All (λ e. IsPlace e.node (length nodes)) all → entries_at nodes all ≡ entries_at old ends ++ take k entries
+  pub fits_all : Linked nodes more → All (λ e. IsIndex e.node (length nodes)) all → entries_at nodes all ≡ entries_at old ends ++ take k entries
       → tree_paths nodes ≡ fold with_node (tree_paths old) (all_prefixes (take k entries))
-      → length nodes ≤ length old + scopes_of (take k entries) → length old + scopes_of entries ≤ most_path_scopes
+      → length nodes ≤ length old + entry_scopes (take k entries) → length old + entry_scopes entries ≤ most_path_scopes
       → samples_of (entries_at old ends) + samples_of entries ≤ most_samples → IsTrie nodes more all
-  fits_all linked places is paths len few samples = record {
+  fits_all linked indices is paths len few samples = record {
     linked = linked;
-    places = places;
+    indices = indices;
     nodes_are = nodes_all (entries_all is) paths;
-    few_nodes = (let same = ap scopes_of (take_all k entries le) in omega arith);
+    few_nodes = (let same = ap entry_scopes (take_all k entries le) in omega arith);
     few_samples = (let same = ap samples_of (entries_all is) in let parts = sum_by-append (λ (e : Entry). e.count) (entries_at old ends) entries in omega arith);
   }

@@ -6,26 +6,16 @@ use Rattle.std.proofs.lemmas.List.Elements.{filter-append}
 use Rattle.std.proofs.lemmas.List.Folds.{list_any-append}
 use Rattle.std.proofs.lemmas.List.Quantifiers.{all_pairs_push}
 use Rattle.std.proofs.lemmas.List.Sums.{fold-append, sum_by-cons, sum_by-append}
+use Rattle.prof_bytes.proofs.Tests.{or_false}
 use Rattle.scope_types.specs.declared.path.Entry.{Entry}
-use Rattle.scope_types.specs.Order.{path_order}
 use Rattle.scope_types.proofs.Orders.{path_order_total, path_order_tells}
-use Rattle.tree_types.specs.Ascending.{ascending}
 use Rattle.tree_types.specs.Laws.{IsNonemptyPrefix}
 use Rattle.tree_types.specs.Paths.{Path, prefixes}
 use Rattle.tree_types.proofs.Putting.{length-prefixes}
 use Rattle.tree_types.proofs.Prefixes.{has-from_prefix, prefix_from_has}
-use Rattle.tree_types.proofs.Sorting.{same_ascending, has-from_Contains, Contains-from_has}
-use Rattle.path_trie.specs.Trie.{same_path, has_node, with_node, all_prefixes, trie_nodes, entries_of, count_of, samples_of, scopes_of}
+use Rattle.tree_types.proofs.Sorting.{has-from_Contains, Contains-from_has}
+use Rattle.path_trie.specs.Trie.{same_path, has_node, with_node, all_prefixes, trie_nodes, entries_of, count_of, samples_of, entry_scopes}
 use Rattle.path_trie.proofs.Places.{path_is, has_at}
-
-pub or_false : (b : Bool) → (b || false) ≡ b
-or_false true = refl
-or_false false = refl
-
-or_again : (b c : Bool) → ((b || c) || c) ≡ (b || c)
-or_again true c = refl
-or_again false true = refl
-or_again false false = refl
 
 or_assoc : (a b c : Bool) → ((a || b) || c) ≡ (a || (b || c))
 or_assoc true b c = refl
@@ -50,9 +40,6 @@ has_fold ns (x ∷ xs) q = has_fold (with_node ns x) xs q ∙ ap (λ b. b || has
 pub has_trie : (es : List Entry) (q : Path) → has_node (trie_nodes es) q ≡ has_node (all_prefixes es) q
 unfolding trie_nodes
 has_trie es q = has_fold [] (all_prefixes es) q
-
-pub ascending_trie : (es : List Entry) → ascending path_order (trie_nodes es) ≡ ascending path_order (all_prefixes es)
-ascending_trie es = same_ascending path_order_total path_order_tells (trie_nodes es) (all_prefixes es) (has_trie es)
 
 has_all : (es : List Entry) (e : Entry) (i : ℕ) (n : Path) → i < length es → get_or es i e ≡ e → has_node (prefixes e.path) n ≡ true → has_node (all_prefixes es) n ≡ true
 has_all [] e i n lt is has = absurd (omega arith)
@@ -122,7 +109,7 @@ long_fold ns (x ∷ xs) = (let one = long_with ns x in let rest = long_fold (wit
 abbrev length_of : Entry → ℕ
 length_of e = length e.path
 
-prefixes_long : (es : List Entry) → length (all_prefixes es) ≡ scopes_of es
+prefixes_long : (es : List Entry) → length (all_prefixes es) ≡ entry_scopes es
 prefixes_long [] = refl
 prefixes_long (e ∷ es) =
     let parts = length-append (prefixes e.path) (all_prefixes es) in
@@ -131,7 +118,7 @@ prefixes_long (e ∷ es) =
     let all = sum_by-cons length_of e es in
     omega arith
 
-pub nodes_grow : (old new more : List Entry) → new ≡ old ++ more → length (trie_nodes new) ≤ length (trie_nodes old) + scopes_of more
+pub nodes_grow : (old new more : List Entry) → new ≡ old ++ more → length (trie_nodes new) ≤ length (trie_nodes old) + entry_scopes more
 nodes_grow old new more is =
     let same = ap (λ (es : List Entry). length (trie_nodes es)) is in
     let parts = ap (λ (ns : List Path). length ns) (trie_nodes-append old more) in
@@ -139,7 +126,7 @@ nodes_grow old new more is =
     let count = prefixes_long more in
     omega arith
 
-pub nodes_stay : (old new more : List Entry) → new ≡ old → length (trie_nodes new) ≤ length (trie_nodes old) + scopes_of more
+pub nodes_stay : (old new more : List Entry) → new ≡ old → length (trie_nodes new) ≤ length (trie_nodes old) + entry_scopes more
 nodes_stay old new more is = (let same = ap (λ (es : List Entry). length (trie_nodes es)) is in omega arith)
 
 pub nodes_merged : (old new more : List Entry) → new ≡ old ++ more → (n : Path) → has_node (trie_nodes new) n ≡ (has_node (trie_nodes old) n || has_node (all_prefixes more) n)

@@ -1,8 +1,6 @@
--- The nodes by place: which node is where, and one node more.
+-- The nodes by index: which node is where, and one node more.
 use Rattle.std.proofs.Common.{◌≡◌, ℕ, zero, suc, ◌+◌, ◌<◌, ◌≤◌, ◌≢◌, ◌==◌, ◌&&◌, ◌||◌, ◌⊎◌, inl, inr, Bool, true, false, cond, List, [], ◌∷◌, ◌++◌, length, get_or, Option, Some, None, MatchOption, Result, Ok, is_ok, slice_get, refl, sym, ap, ap₂, subst, ◌∙◌, arith, rules, true≢false}
 use Rattle.std.specs.Bool.{Decides}
-use Rattle.std.specs.List.{list_any}
-use Rattle.std.specs.Ordering.{eq_by_cmp}
 use Rattle.std.proofs.Math.Nat.{mod-eq_of_lt}
 use Rattle.std.proofs.Math.ListN.{get_or-append}
 use Rattle.std.proofs.Math.Seq.{get_or-append_seam}
@@ -15,15 +13,15 @@ use Rattle.std.proofs.lemmas.List.Sums.{fold-append}
 use Rattle.scope_types.specs.declared.scope.Scope.{Scope}
 use Rattle.scope_types.specs.Limits.{most_path_scopes}
 use Rattle.scope_types.specs.Order.{path_order}
-use Rattle.scope_types.specs.contracts.scope.ScopePartialEq.TheImpl.{ghosts as scopes}
-use Rattle.tree_types.specs.contracts.content.NodePartialEq.TheImpl.{ghosts as node_test}
 use Rattle.scope_types.proofs.Orders.{path_order_total, path_order_tells}
 use Rattle.tree_types.specs.declared.content.Node.{Node}
 use Rattle.tree_types.specs.Paths.{Path}
 use Rattle.tree_types.specs.Nodes.{no_parent}
 use Rattle.tree_types.specs.PathsOf.{tree_paths, path_below}
 use Rattle.tree_types.proofs.Sorting.{equal_from_is}
-use Rattle.path_trie.specs.Trie.{IsPlace, path_at, same_path, has_node, with_node}
+use Rattle.scope_types.specs.contracts.scope.ScopePartialEq.TheImpl.{ghosts as scopes}
+use Rattle.tree_types.specs.contracts.content.NodePartialEq.TheImpl.{ghosts as node_test}
+use Rattle.path_trie.specs.Trie.{IsIndex, path_at, same_path, has_node, with_node}
 use Rattle.path_trie.specs.private.Linked.{Key, Branches, same_key, branch_at, node_at, node_with, no_node, next_index, IsAbsent, with_branch, Rooted, Linked, Extends}
 
 -- ---- keys
@@ -46,21 +44,13 @@ key_is a b e =
 key_itself : (a : Key) → same_key a a ≡ true
 key_itself a = ap₂ (λ (s t : Bool). s && t) (eq-eqb a.0 a.0 refl) ((scope_decides a.1 a.1).1 refl)
 
--- ---- places
+-- ---- indices
 
-pub place_cases : (p n : ℕ) → IsPlace p n → (p ≡ no_parent) ⊎ (p < n)
+pub place_cases : (p n : ℕ) → IsIndex p n → (p ≡ no_parent) ⊎ (p < n)
 place_cases p n is = elim (cases_eq p no_parent) [ inl e ↦ inl e | inr apart ↦ inr (is apart) ]
 
 pub next_of : (p : ℕ) → p < most_path_scopes → next_index p ≡ p + 1
 next_of p lt = mod-eq_of_lt (omega arith)
-
-pub none_past : (nodes : List Node) (bs : Branches) (parent : ℕ) (scope : Scope) → Linked nodes bs → length nodes ≤ most_path_scopes → length nodes ≤ next_index parent → IsAbsent nodes parent scope
-none_past nodes bs parent scope l few past i lt is =
-    let place : IsPlace parent i = subst (λ (n : Node). IsPlace n.parent i) is (l.rooted.before i lt) in
-    elim (place_cases parent i place) [
-      | inl e ↦ (let first : next_index parent ≡ 0 = ap next_index e in absurd (omega arith))
-      | inr less ↦ (let next : next_index parent ≡ parent + 1 = next_of parent (omega arith) in absurd (omega arith))
-    ]
 
 pub none_listed : (nodes : List Node) (bs : Branches) (parent : ℕ) (scope : Scope) → Linked nodes bs → (node_at nodes (next_index parent) ≡ node_with parent scope → ⊥) → branch_at bs (parent, scope) ≡ None → IsAbsent nodes parent scope
 none_listed nodes bs parent scope l apart none i lt is =
@@ -95,7 +85,7 @@ snoc_same (x ∷ a) (y ∷ b) s t e =
     (ap₂ (λ (z : Scope) (c : Path). z ∷ c) first rest.0, rest.1)
 
 module _ (nodes : List Node) (l : Rooted nodes) (few : length nodes ≤ most_path_scopes) where
-  pub place_once : (p q : ℕ) → IsPlace p (length nodes) → IsPlace q (length nodes) → path_at (tree_paths nodes) p ≡ path_at (tree_paths nodes) q → p ≡ q
+  pub place_once : (p q : ℕ) → IsIndex p (length nodes) → IsIndex q (length nodes) → path_at (tree_paths nodes) p ≡ path_at (tree_paths nodes) q → p ≡ q
   place_once p q p_place q_place e =
       let paths : List Path = tree_paths nodes in
       elim (place_cases p (length nodes) p_place) [
@@ -164,7 +154,7 @@ tree_paths_push nodes n = fold-append (λ paths n. paths ++ path_below paths n �
 pub last_cases : (i n : ℕ) → i < n + 1 → (i < n) ⊎ (i ≡ n)
 last_cases i n lt = elim (cases_lt i n) [ inl less ↦ inl less | inr least ↦ inr (omega arith) ]
 
-module _ (nodes : List Node) (bs more : Branches) (parent : ℕ) (scope : Scope) (l : Linked nodes bs) (few : length nodes < most_path_scopes) (place : IsPlace parent (length nodes)) (absent : IsAbsent nodes parent scope)
+module _ (nodes : List Node) (bs more : Branches) (parent : ℕ) (scope : Scope) (l : Linked nodes bs) (few : length nodes < most_path_scopes) (index : IsIndex parent (length nodes)) (absent : IsAbsent nodes parent scope)
     (lookups : (q : Key) → branch_at more q ≡ with_branch (next_index parent == length nodes) (parent, scope) (length nodes) (branch_at bs q) q) where
   abbrev node_new : Node
   node_new = node_with parent scope
@@ -199,28 +189,28 @@ module _ (nodes : List Node) (bs more : Branches) (parent : ℕ) (scope : Scope)
   last_node : (i : ℕ) → i ≡ length nodes → node_at all i ≡ node_new
   last_node i is = ap (node_at all) is ∙ get_or-append_seam nodes node_new [] no_node
 
-  path_stays : (p : ℕ) → IsPlace p (length nodes) → path_at all_paths p ≡ path_at old_paths p
+  path_stays : (p : ℕ) → IsIndex p (length nodes) → path_at all_paths p ≡ path_at old_paths p
   path_stays p p_place =
       elim (place_cases p (length nodes) p_place) [
         | inl e ↦ path_none all_paths p e ∙ sym (path_none old_paths p e)
         | inr less ↦ ap (λ (x : Path). cond (p == no_parent) [] x) (old_at p less)
       ]
 
-  wider : (p i : ℕ) → i < length nodes → IsPlace p i → IsPlace p (length nodes)
+  wider : (p i : ℕ) → i < length nodes → IsIndex p i → IsIndex p (length nodes)
   wider p i lt p_place apart = (let less = p_place apart in omega arith)
 
   new_apart : (i : ℕ) → i < length nodes → get_or old_paths i [] ≡ new_path → ⊥
   new_apart i lt e =
       let n : Node = node_at nodes i in
       let parts = snoc_same (path_at old_paths n.parent) (path_at old_paths parent) n.scope scope (sym (l.rooted.below i lt) ∙ e) in
-      let same : n.parent ≡ parent = place_once nodes l.rooted (omega arith) n.parent parent (wider n.parent i lt (l.rooted.before i lt)) place parts.0 in
+      let same : n.parent ≡ parent = place_once nodes l.rooted (omega arith) n.parent parent (wider n.parent i lt (l.rooted.before i lt)) index parts.0 in
       absent i lt (ap₂ node_with same parts.1)
 
-  before_all : (i : ℕ) → i < length all → IsPlace (node_at all i).parent i
+  before_all : (i : ℕ) → i < length all → IsIndex (node_at all i).parent i
   before_all i lt =
       elim (last_cases i (length nodes) (let c = count in omega arith)) [
-        | inl less ↦ subst (λ (n : Node). IsPlace n.parent i) (sym (old_node i less)) (l.rooted.before i less)
-        | inr is ↦ subst (λ (n : Node). IsPlace n.parent i) (sym (last_node i is)) (subst (λ (k : ℕ). IsPlace parent k) (sym is) place)
+        | inl less ↦ subst (λ (n : Node). IsIndex n.parent i) (sym (old_node i less)) (l.rooted.before i less)
+        | inr is ↦ subst (λ (n : Node). IsIndex n.parent i) (sym (last_node i is)) (subst (λ (k : ℕ). IsIndex parent k) (sym is) index)
       ]
 
   below_all : (i : ℕ) → i < length all → get_or all_paths i [] ≡ path_below all_paths (node_at all i)
@@ -230,7 +220,7 @@ module _ (nodes : List Node) (bs more : Branches) (parent : ℕ) (scope : Scope)
             old_at i less ∙ l.rooted.below i less
             ∙ ap (λ (x : Path). x ++ (node_at nodes i).scope ∷ []) (sym (path_stays (node_at nodes i).parent (wider (node_at nodes i).parent i less (l.rooted.before i less))))
             ∙ ap (path_below all_paths) (sym (old_node i less))
-        | inr is ↦ new_at i is ∙ ap (λ (x : Path). x ++ scope ∷ []) (sym (path_stays parent place)) ∙ ap (path_below all_paths) (sym (last_node i is))
+        | inr is ↦ new_at i is ∙ ap (λ (x : Path). x ++ scope ∷ []) (sym (path_stays parent index)) ∙ ap (path_below all_paths) (sym (last_node i is))
       ]
 
   once_all : (i j : ℕ) → i < length all → j < length all → get_or all_paths i [] ≡ get_or all_paths j [] → i ≡ j
@@ -319,13 +309,8 @@ module _ (nodes : List Node) (bs more : Branches) (parent : ℕ) (scope : Scope)
   pub push_extends : Extends old_paths (tree_paths all)
   push_extends = record {
     longer = (let c = ap (λ (ps : List Path). length ps) paths_are in let d = length-append old_paths (new_path ∷ []) in omega arith);
-    same = λ p p_place. ap (λ (ps : List Path). path_at ps p) paths_are ∙ path_stays p (subst (IsPlace p) l.rooted.long p_place);
+    same = λ p p_place. ap (λ (ps : List Path). path_at ps p) paths_are ∙ path_stays p (subst (IsIndex p) l.rooted.long p_place);
   }
-
--- a node that is there
-pub there_path : (nodes : List Node) (bs : Branches) (parent : ℕ) (scope : Scope) (i : ℕ) → Linked nodes bs → length nodes < most_path_scopes → i < length nodes → node_at nodes i ≡ node_with parent scope
-    → path_at (tree_paths nodes) i ≡ path_at (tree_paths nodes) parent ++ scope ∷ []
-there_path nodes bs parent scope i l few lt is = path_some (tree_paths nodes) i (omega arith) ∙ l.rooted.below i lt ∙ ap (path_below (tree_paths nodes)) is
 
 pub there_paths : (nodes : List Node) (bs : Branches) (parent : ℕ) (scope : Scope) (i : ℕ) → Linked nodes bs → length nodes < most_path_scopes → i < length nodes → node_at nodes i ≡ node_with parent scope
     → tree_paths nodes ≡ with_node (tree_paths nodes) (path_at (tree_paths nodes) parent ++ scope ∷ [])
@@ -355,21 +340,21 @@ none_linked = record {
 pub pushed : {X E : Type 0} (after old more : List X) (r : Result (Unit {0}) E) (u : Unit {0}) → after ≡ cond (is_ok r) more old → r ≡ Ok u → after ≡ more
 pushed after old more r u is ok = is ∙ ap (λ r. cond (is_ok r) more old) ok
 
-module _ (nodes after : List Node) (bs more : Branches) (parent : ℕ) (scope : Scope) (at : ℕ) (l : Linked nodes bs) (few : length nodes < most_path_scopes) (place : IsPlace parent (length nodes)) (absent : IsAbsent nodes parent scope)
+module _ (nodes after : List Node) (bs more : Branches) (parent : ℕ) (scope : Scope) (at : ℕ) (l : Linked nodes bs) (few : length nodes < most_path_scopes) (index : IsIndex parent (length nodes)) (absent : IsAbsent nodes parent scope)
     (at_is : at ≡ length nodes) (is : after ≡ nodes ++ node_with parent scope ∷ [])
     (lookups : (q : Key) → branch_at more q ≡ with_branch (next_index parent == at) (parent, scope) at (branch_at bs q) q) where
   lookups_at : (q : Key) → branch_at more q ≡ with_branch (next_index parent == length nodes) (parent, scope) (length nodes) (branch_at bs q) q
   lookups_at q = lookups q ∙ ap (λ (k : ℕ). with_branch (next_index parent == k) (parent, scope) k (branch_at bs q) q) at_is
 
   pub entered_linked : Linked after more
-  entered_linked = subst (λ (ns : List Node). Linked ns more) (sym is) (linked_push nodes bs more parent scope l few place absent lookups_at)
+  entered_linked = subst (λ (ns : List Node). Linked ns more) (sym is) (linked_push nodes bs more parent scope l few index absent lookups_at)
 
   pub entered_paths : tree_paths after ≡ with_node (tree_paths nodes) (path_at (tree_paths nodes) parent ++ scope ∷ [])
-  entered_paths = ap tree_paths is ∙ push_paths nodes bs more parent scope l few place absent lookups_at
+  entered_paths = ap tree_paths is ∙ push_paths nodes bs more parent scope l few index absent lookups_at
 
   pub entered_path : path_at (tree_paths after) at ≡ path_at (tree_paths nodes) parent ++ scope ∷ []
   entered_path = ap (λ (ns : List Node). path_at (tree_paths ns) at) is ∙ ap (path_at (tree_paths (nodes ++ node_with parent scope ∷ []))) at_is
-      ∙ push_path nodes bs more parent scope l few place absent lookups_at
+      ∙ push_path nodes bs more parent scope l few index absent lookups_at
 
   pub entered_extends : Extends (tree_paths nodes) (tree_paths after)
-  entered_extends = subst (λ (ns : List Node). Extends (tree_paths nodes) (tree_paths ns)) (sym is) (push_extends nodes bs more parent scope l few place absent lookups_at)
+  entered_extends = subst (λ (ns : List Node). Extends (tree_paths nodes) (tree_paths ns)) (sym is) (push_extends nodes bs more parent scope l few index absent lookups_at)

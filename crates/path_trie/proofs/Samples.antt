@@ -17,7 +17,8 @@ use Rattle.tree_types.specs.Values.{ends_here, count_below}
 use Rattle.tree_types.proofs.Counting.{one, count_by-cons}
 use Rattle.tree_types.proofs.Sorting.{same_ascending}
 use Rattle.path_trie.specs.Trie.{same_path, has_node, all_prefixes, trie_nodes, entries_of, count_of, samples_of}
-use Rattle.path_trie.proofs.Nodes.{has_trie, or_false, counts_merged}
+use Rattle.path_trie.proofs.Nodes.{has_trie, counts_merged}
+use Rattle.prof_bytes.proofs.Tests.{or_false}
 
 abbrev every_prefix : List HartPath → List Path
 every_prefix ps = flat_map (λ p. prefixes p.path) ps

@@ -4,13 +4,14 @@ use Rattle.std.proofs.lemmas.Bool.{cases_eq, eq-eqb, ne_eqb}
 use Rattle.std.proofs.lemmas.List.{get_or_default}
 use Rattle.std.proofs.lemmas.List.Elements.{All-head, All-tail, All-weaker}
 use Rattle.std.proofs.lemmas.List.Sums.{sum_by-cons, sum_by_more_le}
+use Rattle.prof_bytes.proofs.Tests.{and_swap}
 use Rattle.scope_types.specs.declared.path.Entry.{Entry}
 use Rattle.scope_types.specs.Limits.{most_samples, most_path_scopes}
 use Rattle.tree_types.specs.declared.content.Node.{Node}
 use Rattle.tree_types.specs.Paths.{Path}
 use Rattle.tree_types.specs.PathsOf.{tree_paths}
 use Rattle.path_trie.specs.declared.trie.PathEnd.{PathEnd}
-use Rattle.path_trie.specs.Trie.{IsPlace, path_at, same_path, entry_of, trie_nodes, node_of, node_path, count_of, samples_of}
+use Rattle.path_trie.specs.Trie.{IsIndex, path_at, same_path, counted_entry, trie_nodes, trie_node, nth_path, count_of}
 use Rattle.path_trie.specs.private.Linked.{Branches, Linked, IsTrie, entries_at, no_node, ends_at}
 use Rattle.path_trie.proofs.Places.{place_once, path_some, path_false, path_itself}
 use Rattle.path_trie.proofs.Kept.{node_is, nodes_are}
@@ -22,23 +23,17 @@ pub count_seen : (nodes : List Node) (bs : Branches) (ends : List PathEnd) (now 
 count_seen nodes bs ends now fits is = sym fits.linked.rooted.long ∙ ap (λ (ps : List Path). length ps) (paths_seen nodes bs ends now fits is)
 
 pub node_seen : (nodes : List Node) (bs : Branches) (ends : List PathEnd) (now : List Entry) (i : ℕ) (n : Node) → IsTrie nodes bs ends → entries_at nodes ends ≡ now → i < length (trie_nodes now) → n ≡ get_or nodes i n
-    → n ≡ node_of (trie_nodes now) (node_path (trie_nodes now) i)
+    → n ≡ trie_node (trie_nodes now) (nth_path (trie_nodes now) i)
 node_seen nodes bs ends now i n fits is lt at =
     let count = count_seen nodes bs ends now fits is in
     let within : i < length nodes = omega arith in
     at ∙ get_or_default nodes i n no_node within ∙ node_is nodes fits.linked.rooted fits.few_nodes i within
-    ∙ ap (λ (ps : List Path). node_of ps (node_path ps i)) (paths_seen nodes bs ends now fits is)
+    ∙ ap (λ (ps : List Path). trie_node ps (nth_path ps i)) (paths_seen nodes bs ends now fits is)
 
-pub nodes_seen : (nodes : List Node) (bs : Branches) (ends : List PathEnd) (now : List Entry) (ns : List Node) → IsTrie nodes bs ends → entries_at nodes ends ≡ now → ns ≡ nodes → ns ≡ map (node_of (trie_nodes now)) (trie_nodes now)
-nodes_seen nodes bs ends now ns fits is same = same ∙ nodes_are nodes fits.linked.rooted fits.few_nodes ∙ ap (λ (ps : List Path). map (node_of ps) ps) (paths_seen nodes bs ends now fits is)
+pub nodes_seen : (nodes : List Node) (bs : Branches) (ends : List PathEnd) (now : List Entry) (ns : List Node) → IsTrie nodes bs ends → entries_at nodes ends ≡ now → ns ≡ nodes → ns ≡ map (trie_node (trie_nodes now)) (trie_nodes now)
+nodes_seen nodes bs ends now ns fits is same = same ∙ nodes_are nodes fits.linked.rooted fits.few_nodes ∙ ap (λ (ps : List Path). map (trie_node ps) ps) (paths_seen nodes bs ends now fits is)
 
 -- ---- counts
-
-and_swap : (a b : Bool) → (a && b) ≡ (b && a)
-and_swap true true = refl
-and_swap true false = refl
-and_swap false true = refl
-and_swap false false = refl
 
 abbrev end_count : PathEnd → ℕ
 end_count e = e.count
@@ -63,50 +58,39 @@ total_small ends node hart k total d lt so_far few =
     let more = sum_by_more_le end_count ends k d lt in
     omega arith
 
-counts_same : (paths : List Path) (test : Entry → Bool) (own : PathEnd → Bool) (ends : List PathEnd) → All (λ e. test (entry_of paths e) ≡ own e) ends → sum_by end_count (filter own ends) ≡ sum_by entry_count (filter test (map (entry_of paths) ends))
+counts_same : (paths : List Path) (test : Entry → Bool) (own : PathEnd → Bool) (ends : List PathEnd) → All (λ e. test (counted_entry paths e) ≡ own e) ends → sum_by end_count (filter own ends) ≡ sum_by entry_count (filter test (map (counted_entry paths) ends))
 counts_same paths test own [] same = refl
 counts_same paths test own (e ∷ ends) same =
-    let P : PathEnd → Type 0 = λ e. test (entry_of paths e) ≡ own e in
+    let P : PathEnd → Type 0 = λ e. test (counted_entry paths e) ≡ own e in
     let rest = counts_same paths test own ends (All-tail P e ends same) in
     ap (λ (b : Bool). sum_by end_count (cond b (e ∷ filter own ends) (filter own ends))) (sym (All-head P e ends same))
-    ∙ elim (test (entry_of paths e)) as (λ b. sum_by end_count (cond b (e ∷ filter own ends) (filter own ends)) ≡ sum_by entry_count (cond b (entry_of paths e ∷ filter test (map (entry_of paths) ends)) (filter test (map (entry_of paths) ends)))) [
-      | true ↦ sum_by-cons end_count e (filter own ends) ∙ ap (λ (n : ℕ). e.count + n) rest ∙ sym (sum_by-cons entry_count (entry_of paths e) (filter test (map (entry_of paths) ends)))
+    ∙ elim (test (counted_entry paths e)) as (λ b. sum_by end_count (cond b (e ∷ filter own ends) (filter own ends)) ≡ sum_by entry_count (cond b (counted_entry paths e ∷ filter test (map (counted_entry paths) ends)) (filter test (map (counted_entry paths) ends)))) [
+      | true ↦ sum_by-cons end_count e (filter own ends) ∙ ap (λ (n : ℕ). e.count + n) rest ∙ sym (sum_by-cons entry_count (counted_entry paths e) (filter test (map (counted_entry paths) ends)))
       | false ↦ rest
     ]
 
-same_test : (nodes : List Node) (bs : Branches) (node : ℕ) (e : PathEnd) → Linked nodes bs → length nodes ≤ most_path_scopes → node < length nodes → IsPlace e.node (length nodes)
-    → same_path (node_path (tree_paths nodes) node) (path_at (tree_paths nodes) e.node) ≡ (e.node == node)
-same_test nodes bs node e l few lt place =
+same_test : (nodes : List Node) (bs : Branches) (node : ℕ) (e : PathEnd) → Linked nodes bs → length nodes ≤ most_path_scopes → node < length nodes → IsIndex e.node (length nodes)
+    → same_path (nth_path (tree_paths nodes) node) (path_at (tree_paths nodes) e.node) ≡ (e.node == node)
+same_test nodes bs node e l few lt index =
     let paths : List Path = tree_paths nodes in
-    let at : path_at paths node ≡ node_path paths node = path_some paths node (omega arith) in
+    let at : path_at paths node ≡ nth_path paths node = path_some paths node (omega arith) in
     elim (cases_eq e.node node) [
-      | inl is ↦ ap (same_path (node_path paths node)) (ap (path_at paths) is ∙ at) ∙ path_itself (node_path paths node) ∙ sym (eq-eqb e.node node is)
+      | inl is ↦ ap (same_path (nth_path paths node)) (ap (path_at paths) is ∙ at) ∙ path_itself (nth_path paths node) ∙ sym (eq-eqb e.node node is)
       | inr apart ↦
-          path_false (node_path paths node) (path_at paths e.node) (λ same. apart (place_once nodes l.rooted few e.node node place (λ _. lt) (sym same ∙ sym at)))
+          path_false (nth_path paths node) (path_at paths e.node) (λ same. apart (place_once nodes l.rooted few e.node node index (λ _. lt) (sym same ∙ sym at)))
           ∙ sym (ne_eqb e.node node apart)
     ]
 
-pub samples_seen : (nodes : List Node) (bs : Branches) (ends xs : List PathEnd) → IsTrie nodes bs ends → xs ≡ ends → sum_by end_count xs ≤ most_samples
-samples_seen nodes bs ends xs fits is =
-    let all = all_same (tree_paths nodes) ends in
-    let few = fits.few_samples in
-    let same = ap (sum_by end_count) is in
-    omega arith
-  where
-    all_same : (paths : List Path) (ends : List PathEnd) → sum_by end_count ends ≡ samples_of (map (entry_of paths) ends)
-    all_same paths [] = refl
-    all_same paths (e ∷ ends) = sum_by-cons end_count e ends ∙ ap (λ (n : ℕ). e.count + n) (all_same paths ends) ∙ sym (sum_by-cons entry_count (entry_of paths e) (map (entry_of paths) ends))
-
 pub counts_seen : (nodes : List Node) (bs : Branches) (ends xs : List PathEnd) (now : List Entry) (node hart total : ℕ) → IsTrie nodes bs ends → entries_at nodes ends ≡ now → node < length (trie_nodes now) → xs ≡ ends
-    → total ≡ sum_by end_count (filter (ends_at node hart) xs) → total ≡ count_of now hart (node_path (trie_nodes now) node)
+    → total ≡ sum_by end_count (filter (ends_at node hart) xs) → total ≡ count_of now hart (nth_path (trie_nodes now) node)
 counts_seen nodes bs ends xs now node hart total fits is lt same counted =
     let paths : List Path = tree_paths nodes in
-    let q : Path = node_path paths node in
+    let q : Path = nth_path paths node in
     let test : Entry → Bool = λ x. (x.hart == hart) && same_path q x.path in
     let count = count_seen nodes bs ends now fits is in
     let within : node < length nodes = omega arith in
     counted ∙ ap (λ (x : List PathEnd). sum_by end_count (filter (ends_at node hart) x)) same
     ∙ counts_same paths test (ends_at node hart) ends
-    (All-weaker (λ e. IsPlace e.node (length nodes)) (λ e. test (entry_of paths e) ≡ ends_at node hart e)
-    (λ e place. ap (λ (b : Bool). (e.hart == hart) && b) (same_test nodes bs node e fits.linked fits.few_nodes within place) ∙ and_swap (e.hart == hart) (e.node == node)) ends fits.places)
-    ∙ ap₂ (λ (ps : List Path) (x : List Entry). count_of x hart (node_path ps node)) (paths_seen nodes bs ends now fits is) is
+    (All-weaker (λ e. IsIndex e.node (length nodes)) (λ e. test (counted_entry paths e) ≡ ends_at node hart e)
+    (λ e index. ap (λ (b : Bool). (e.hart == hart) && b) (same_test nodes bs node e fits.linked fits.few_nodes within index) ∙ and_swap (e.hart == hart) (e.node == node)) ends fits.indices)
+    ∙ ap₂ (λ (ps : List Path) (x : List Entry). count_of x hart (nth_path ps node)) (paths_seen nodes bs ends now fits is) is

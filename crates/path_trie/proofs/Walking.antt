@@ -24,5 +24,5 @@ prefix_all start paths path k le so_far = so_far ∙ ap (fold with_node start) (
 pub extends_again : (a b c : List Path) → Extends a b → Extends b c → Extends a c
 extends_again a b c first next = record {
   longer = (let f = first.longer in let n = next.longer in omega arith);
-  same = λ p place. next.same p (λ apart. (let f = first.longer in let less = place apart in omega arith)) ∙ first.same p place;
+  same = λ p index. next.same p (λ apart. (let f = first.longer in let less = index apart in omega arith)) ∙ first.same p index;
 }

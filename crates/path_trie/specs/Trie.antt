@@ -32,28 +32,28 @@ unfoldable pub trie_nodes : List Entry → List Path
 trie_nodes entries = fold with_node [] (all_prefixes entries)
 
 -- the path of the node with an index
-abbrev pub node_path : List Path → ℕ → Path
-node_path ns at = slice_index_or ns at []
+abbrev pub nth_path : List Path → ℕ → Path
+nth_path ns at = slice_index_or ns at []
 
 -- a node as it is kept: its parent's index, and its own scope
-abbrev pub node_of : List Path → Path → Node
-node_of ns n = record { parent = parent_number ns n; scope = own_scope n }
+abbrev pub trie_node : List Path → Path → Node
+trie_node ns n = record { parent = parent_number ns n; scope = own_scope n }
 
 -- where a path ends: at a node's index, which is below n, or at no node, where it has no scopes
-abbrev pub IsPlace : ℕ → ℕ → Type 0
-IsPlace place n = place ≢ no_parent → place < n
+abbrev pub IsIndex : ℕ → ℕ → Type 0
+IsIndex index n = index ≢ no_parent → index < n
 
 -- parents stand before their children
 abbrev pub StandBefore : List Node → Type 0
-StandBefore nodes = (i : ℕ) (n : Node) → slice_get nodes i ≡ Some n → IsPlace n.parent i
+StandBefore nodes = (i : ℕ) (n : Node) → slice_get nodes i ≡ Some n → IsIndex n.parent i
 
 -- the path that ends there
 abbrev pub path_at : List Path → ℕ → Path
-path_at ns place = if place == no_parent then [] else slice_index_or ns place []
+path_at ns index = if index == no_parent then [] else slice_index_or ns index []
 
 -- the entry that an end counts
-abbrev pub entry_of : List Path → PathEnd → Entry
-entry_of ns e = record { hart = e.hart; count = e.count; path = path_at ns e.node }
+abbrev pub counted_entry : List Path → PathEnd → Entry
+counted_entry ns e = record { hart = e.hart; count = e.count; path = path_at ns e.node }
 
 -- the entries of a hart and a path
 abbrev pub entries_of : List Entry → ℕ → Path → List Entry
@@ -68,5 +68,5 @@ abbrev pub count_of : List Entry → ℕ → Path → ℕ
 count_of entries hart path = samples_of (entries_of entries hart path)
 
 -- how many scopes the entries' paths have together
-abbrev pub scopes_of : List Entry → ℕ
-scopes_of entries = sum_by (λ e. length e.path) entries
+abbrev pub entry_scopes : List Entry → ℕ
+entry_scopes entries = sum_by (λ e. length e.path) entries

@@ -5,7 +5,7 @@ ghost use Rattle.indexmap.specs.IndexMap.{spare};
 ghost use Rattle.scope_types.specs.Limits.{most_path_scopes};
 ghost use Rattle.tree_types.specs.Paths.{prefixes};
 ghost use Rattle.tree_types.specs.PathsOf.{tree_paths};
-ghost use Rattle.path_trie.specs.Trie.{IsPlace, path_at, with_node};
+ghost use Rattle.path_trie.specs.Trie.{IsIndex, path_at, with_node};
 ghost use Rattle.path_trie.specs.private.Linked.{Linked, Extends, IsAbsent, Key, node_at, node_with};
 ghost use Rattle.path_trie.specs.private.Linked.{next_index, last_one, branch_at, with_branch};
 
@@ -66,7 +66,7 @@ impl NodeTable {
     /// The child of a node with this scope. It is put last unless it is there.
     fn enter(&mut self, parent: u32, scope: Scope) -> u32
         requires linked { Linked self.old.nodes.items self.old.branches.entries }
-        requires place { IsPlace parent (length self.old.nodes.items) }
+        requires index { IsIndex parent (length self.old.nodes.items) }
         requires few { length self.old.nodes.items < most_path_scopes }
         requires room { length self.old.nodes.items < vec_capacity self.old.nodes }
         requires branch_room { 0 < spare self.old.branches + last_one self.old.nodes.items parent }
@@ -75,7 +75,7 @@ impl NodeTable {
             (path_at (tree_paths self.old.nodes.items) parent ++ scope ∷ []) }
         ensures path { path_at (tree_paths self.new.nodes.items) result
             ≡ path_at (tree_paths self.old.nodes.items) parent ++ scope ∷ [] }
-        ensures place { result < length self.new.nodes.items }
+        ensures index { result < length self.new.nodes.items }
         ensures extends { Extends (tree_paths self.old.nodes.items) (tree_paths self.new.nodes.items) }
         ensures len { length self.new.nodes.items ≤ length self.old.nodes.items + 1 }
         ensures capacity { vec_capacity self.old.nodes ≤ vec_capacity self.new.nodes }
@@ -85,10 +85,10 @@ impl NodeTable {
         if let Some(child) = self.child(parent, scope) {
             return child;
         }
-        let place = self.nodes.len() as u32;
-        put_branch(&mut self.branches, parent, scope, place);
+        let index = self.nodes.len() as u32;
+        put_branch(&mut self.branches, parent, scope, index);
         self.nodes.push(Node { parent, scope }).unwrap();
-        place
+        index
     }
 
     /// Puts in each prefix of a path. The index of the last, or `NO_PARENT` where there is none.
@@ -101,7 +101,7 @@ impl NodeTable {
         ensures paths { tree_paths self.new.nodes.items
             ≡ fold with_node (tree_paths self.old.nodes.items) (prefixes path.now) }
         ensures path { path_at (tree_paths self.new.nodes.items) result ≡ path.now }
-        ensures place { IsPlace result (length self.new.nodes.items) }
+        ensures index { IsIndex result (length self.new.nodes.items) }
         ensures extends { Extends (tree_paths self.old.nodes.items) (tree_paths self.new.nodes.items) }
         ensures len { length self.new.nodes.items ≤ length self.old.nodes.items + length path.now }
         ensures capacity { vec_capacity self.old.nodes ≤ vec_capacity self.new.nodes }
@@ -116,14 +116,14 @@ impl NodeTable {
 }
 
 /// Puts a node among the branches, unless it stands right after its parent.
-fn put_branch(branches: &mut IndexMap<(u32, Scope), u32>, parent: u32, scope: Scope, place: u32)
-    requires { (next_index parent ≡ place → ⊥) → 0 < spare branches.old }
+fn put_branch(branches: &mut IndexMap<(u32, Scope), u32>, parent: u32, scope: Scope, index: u32)
+    requires { (next_index parent ≡ index → ⊥) → 0 < spare branches.old }
     ensures branches { (q : Key) → branch_at branches.new.entries q
-        ≡ with_branch (next_index parent == place) (parent, scope) place (branch_at branches.old.entries q) q }
-    ensures kept { next_index parent ≡ place → spare branches.old ≤ spare branches.new }
+        ≡ with_branch (next_index parent == index) (parent, scope) index (branch_at branches.old.entries q) q }
+    ensures kept { next_index parent ≡ index → spare branches.old ≤ spare branches.new }
     ensures room { spare branches.old ≤ spare branches.new + 1 }
 {
-    if parent.wrapping_add(1) != place {
-        branches.insert((parent, scope), place).unwrap();
+    if parent.wrapping_add(1) != index {
+        branches.insert((parent, scope), index).unwrap();
     }
 }

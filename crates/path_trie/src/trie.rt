@@ -5,8 +5,8 @@ ghost use Rattle.scope_types.specs.Limits.{most_samples, most_path_scopes};
 ghost use Rattle.tree_types.specs.Nodes.{no_parent};
 ghost use Rattle.tree_types.specs.Paths.{Path};
 ghost use Rattle.tree_types.specs.PathsOf.{tree_paths};
-ghost use Rattle.path_trie.specs.Trie.{has_node, all_prefixes, trie_nodes, node_path, node_of, IsPlace, entry_of};
-ghost use Rattle.path_trie.specs.Trie.{count_of, samples_of, scopes_of, StandBefore};
+ghost use Rattle.path_trie.specs.Trie.{has_node, all_prefixes, trie_nodes, nth_path, trie_node, IsIndex, counted_entry};
+ghost use Rattle.path_trie.specs.Trie.{count_of, samples_of, entry_scopes, StandBefore};
 ghost use Rattle.path_trie.specs.private.Linked.{IsTrie, entries_at, ends_at};
 
 use crate::table::NodeTable;
@@ -45,8 +45,8 @@ impl Model for Trie {
 
 /// How many scopes the entries' paths have together.
 fn scope_count(entries: &[Entry]) -> usize
-    requires { scopes_of entries.now ≤ most_path_scopes }
-    ensures { result ≡ scopes_of entries.now }
+    requires { entry_scopes entries.now ≤ most_path_scopes }
+    ensures { result ≡ entry_scopes entries.now }
 {
     entries.iter().map(|entry| entry.path.scopes().len()).sum()
 }
@@ -56,8 +56,8 @@ fn put_entries(table: &mut NodeTable, ends: &mut Vec<PathEnd>, entries: &[Entry]
     requires fits { IsTrie table.old.nodes.items table.old.branches.entries ends.old.items }
     requires samples { samples_of (entries_at table.old.nodes.items ends.old.items) + samples_of entries.now
         ≤ most_samples }
-    requires nodes { length table.old.nodes.items + scopes_of entries.now ≤ most_path_scopes }
-    requires room { length table.old.nodes.items + scopes_of entries.now ≤ vec_capacity table.old.nodes }
+    requires nodes { length table.old.nodes.items + entry_scopes entries.now ≤ most_path_scopes }
+    requires room { length table.old.nodes.items + entry_scopes entries.now ≤ vec_capacity table.old.nodes }
     requires branch_room { length entries.now ≤ spare table.old.branches }
     requires end_room { length ends.old.items + length entries.now ≤ vec_capacity ends.old }
     ensures fits { IsTrie table.new.nodes.items table.new.branches.entries ends.new.items }
@@ -93,14 +93,14 @@ impl Trie {
     #[tactic(auto, using(crate::proofs::Nodes::merge_steps))]
     pub fn merge(&mut self, piece: &Piece) -> Result<(), Memory>
         requires samples { samples_of self.old + samples_of piece.now.entries ≤ most_samples }
-        requires nodes { length (trie_nodes self.old) + scopes_of piece.now.entries ≤ most_path_scopes }
+        requires nodes { length (trie_nodes self.old) + entry_scopes piece.now.entries ≤ most_path_scopes }
         ensures ok { OnOk result (self.new ≡ self.old ++ piece.now.entries) }
         ensures err { OnErr result (self.new ≡ self.old) }
         ensures counts { OnOk result ((hart : ℕ) (path : Path)
             → count_of self.new hart path ≡ count_of self.old hart path + count_of piece.now.entries hart path) }
         ensures nodes { OnOk result ((n : Path) → has_node (trie_nodes self.new) n
             ≡ (has_node (trie_nodes self.old) n || has_node (all_prefixes piece.now.entries) n)) }
-        ensures grow { length (trie_nodes self.new) ≤ length (trie_nodes self.old) + scopes_of piece.now.entries }
+        ensures grow { length (trie_nodes self.new) ≤ length (trie_nodes self.old) + entry_scopes piece.now.entries }
         ensures samples { OnOk result (samples_of self.new ≡ samples_of self.old + samples_of piece.now.entries) }
     {
         let entries = piece.entries.items();
@@ -120,7 +120,7 @@ impl Trie {
     /// The node with an index.
     pub fn node(&self, at: u32) -> Node
         requires { at < length (trie_nodes self.now) }
-        ensures node { result ≡ node_of (trie_nodes self.now) (node_path (trie_nodes self.now) at) }
+        ensures node { result ≡ trie_node (trie_nodes self.now) (nth_path (trie_nodes self.now) at) }
         ensures before { result.parent ≢ no_parent → result.parent < at }
     {
         self.table.nodes[at as usize]
@@ -128,7 +128,7 @@ impl Trie {
 
     /// The nodes, in order of first appearance.
     pub fn nodes(&self) -> &[Node]
-        ensures nodes { result.now ≡ map (node_of (trie_nodes self.now)) (trie_nodes self.now) }
+        ensures nodes { result.now ≡ map (trie_node (trie_nodes self.now)) (trie_nodes self.now) }
         ensures paths { tree_paths result.now ≡ trie_nodes self.now }
         ensures before { StandBefore result.now }
         ensures few { length result.now ≤ most_path_scopes }
@@ -138,8 +138,8 @@ impl Trie {
 
     /// Where the paths of the merged entries end, in order of merging.
     pub fn ends(&self) -> &[PathEnd]
-        ensures entries { map (entry_of (trie_nodes self.now)) result.now ≡ self.now }
-        ensures places { All (λ e. IsPlace e.node (length (trie_nodes self.now))) result.now }
+        ensures entries { map (counted_entry (trie_nodes self.now)) result.now ≡ self.now }
+        ensures indices { All (λ e. IsIndex e.node (length (trie_nodes self.now))) result.now }
         ensures few { samples_of self.now ≤ most_samples }
     {
         self.ends.as_slice()
@@ -148,7 +148,7 @@ impl Trie {
     /// How many samples of a hart end at a node. The time is that of a walk over all ends.
     pub fn count(&self, node: u32, hart: u32) -> u64
         requires { node < length (trie_nodes self.now) }
-        ensures { result ≡ count_of self.now hart (node_path (trie_nodes self.now) node) }
+        ensures { result ≡ count_of self.now hart (nth_path (trie_nodes self.now) node) }
     {
         count_ends(self.ends.as_slice(), node, hart)
     }

@@ -7,21 +7,21 @@ use Rattle.std.proofs.lemmas.Bool.{cases_lt, lt-ltb, le-ltb, lt-leb}
 use Rattle.std.proofs.lemmas.List.{length-take-le, length-take, take-take}
 use Rattle.prof_bytes.specs.Leb.{leb_group, is_last, unsigned_of, signed_of, uleb_at, sleb_at}
 
--- the first place that passes is the same among the first elements, or is not among these
-abbrev SamePlace : {X : Type 0} → (X → Bool) → ℕ → List X → Type 0
-SamePlace p k xs =
+-- the first index that passes is the same among the first elements, or is not among these
+abbrev SameIndex : {X : Type 0} → (X → Bool) → ℕ → List X → Type 0
+SameIndex p k xs =
     (position_or_len p (take k xs) ≡ position_or_len p xs)
     ⊎ ((position_or_len p (take k xs) ≡ k) × (k ≤ position_or_len p xs) × (length (take k xs) ≡ k))
 
-one_more : {X : Type 0} (p : X → Bool) (k : ℕ) (x : X) (xs : List X) (b : Bool) → p x ≡ b → SamePlace p k xs → SamePlace p (suc k) (x ∷ xs)
+one_more : {X : Type 0} (p : X → Bool) (k : ℕ) (x : X) (xs : List X) (b : Bool) → p x ≡ b → SameIndex p k xs → SameIndex p (suc k) (x ∷ xs)
 one_more p k x xs true passes rest = inl (rw passes refl)
 one_more p k x xs false passes (inl same) = inl (rw passes (ap (λ (n : ℕ). 1 + n) same))
 one_more p k x xs false passes (inr past) = inr (rw passes (let a = past.0 in omega arith, let b = past.1 in omega arith, let c = past.2 in omega arith))
 
-same_place : {X : Type 0} (p : X → Bool) (k : ℕ) (xs : List X) → SamePlace p k xs
-same_place p zero xs = inr (refl, omega arith, refl)
-same_place p (suc k) [] = inl refl
-same_place p (suc k) (x ∷ xs) = one_more p k x xs (p x) refl (same_place p k xs)
+same_index : {X : Type 0} (p : X → Bool) (k : ℕ) (xs : List X) → SameIndex p k xs
+same_index p zero xs = inr (refl, omega arith, refl)
+same_index p (suc k) [] = inl refl
+same_index p (suc k) (x ∷ xs) = one_more p k x xs (p x) refl (same_index p k xs)
 
 none_in : (bytes : List ℕ) → length bytes ≤ position_or_len is_last bytes → leb_group bytes ≡ None
 none_in bytes past = rw (le-ltb (position_or_len is_last bytes) (length bytes) past) refl
@@ -36,7 +36,7 @@ in_ten {X} of bytes long =
     let n : ℕ = position_or_len is_last bytes in
     let front : List ℕ = take 10 bytes in
     let size = length-take 10 bytes in
-    let same = same_place is_last 10 bytes in
+    let same = same_index is_last 10 bytes in
     let give : Option (List ℕ) → Option X = option_and_then of in
     elim (cases_lt n (length bytes)) [
       | inl lt ↦ elim (cases_lt n 10) [

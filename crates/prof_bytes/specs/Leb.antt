@@ -8,7 +8,7 @@ is_last byte = nat_lt byte 128
 
 -- the bytes of the number that stands at the front, up to its last one
 abbrev pub leb_group : List ℕ → Option (List ℕ)
-leb_group bytes = option_map (λ place. take (place + 1) bytes) (position is_last bytes)
+leb_group bytes = option_map (λ index. take (index + 1) bytes) (position is_last bytes)
 
 -- the number that they hold: seven bits a byte, the lowest first
 abbrev pub seven_bits : List ℕ → ℕ

@@ -3,3 +3,4 @@ pub mod Leb
 pub mod Reading
 pub mod Outcome
 pub mod Fields
+pub mod Repeated

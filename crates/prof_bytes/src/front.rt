@@ -59,9 +59,9 @@ pub(crate) fn bytes_front(bytes: &[u8], count: usize) -> Option<&[u8]>
     Some(&bytes[..count])
 }
 
-fn zero_place(bytes: &[u8]) -> Option<usize>
-    ensures place { result ≡ position (λ byte. byte == 0) bytes.now }
-    ensures within { IfSome result (λ place. place < length bytes.now) }
+fn zero_index(bytes: &[u8]) -> Option<usize>
+    ensures index { result ≡ position (λ byte. byte == 0) bytes.now }
+    ensures within { IfSome result (λ index. index < length bytes.now) }
 {
     bytes.iter().position(|byte| *byte == 0)
 }
@@ -69,7 +69,7 @@ fn zero_place(bytes: &[u8]) -> Option<usize>
 pub(crate) fn text_front(bytes: &[u8]) -> Option<&[u8]>
     ensures { option_map (λ text. (text.now, length text.now + 1)) result ≡ text_at bytes.now }
 {
-    match zero_place(bytes) {
+    match zero_index(bytes) {
         Some(end) => Some(&bytes[..end]),
         None => None,
     }

@@ -7,9 +7,9 @@ ghost use Rattle.prof_bytes.specs.Leb.{is_last, leb_group, seven_bits, unsigned_
 /// The most bytes that a number may have.
 const MOST_BYTES: usize = 10;
 
-fn last_place(bytes: &[u8]) -> Option<usize>
-    ensures place { result ≡ position is_last bytes.now }
-    ensures within { IfSome result (λ place. place < length bytes.now) }
+fn last_index(bytes: &[u8]) -> Option<usize>
+    ensures index { result ≡ position is_last bytes.now }
+    ensures within { IfSome result (λ index. index < length bytes.now) }
 {
     bytes.iter().position(|byte| *byte < 128)
 }
@@ -28,7 +28,7 @@ fn front(bytes: &[u8]) -> &[u8]
 fn group_front(bytes: &[u8]) -> Option<&[u8]>
     ensures { option_copied result ≡ leb_group bytes.now }
 {
-    match last_place(bytes) {
+    match last_index(bytes) {
         Some(end) => Some(&bytes[..end + 1]),
         None => None,
     }

@@ -1,8 +1,9 @@
-//! Bytes: owned texts and lists, numbers written as bytes, and a cursor that reads numbers back.
+//! Bytes: owned texts and lists, numbers written as bytes or as decimal digits, and a cursor that reads numbers back.
 //!
 //! It promises that each read gives exactly the number that the bytes spell, or nothing where the
 //! bytes run out, and that what was read gives the same bytes when it is written again. Numbers are
-//! little endian; LEB128 is that of DWARF 5, section 7.6. Below stands `byteorder` alone.
+//! little endian; LEB128 is that of DWARF 5, section 7.6. Below stand `byteorder` and
+//! `itoa`.
 #![tactic(auto)]
 
 mod cursor;
@@ -17,6 +18,6 @@ mod text;
 pub use cursor::Cursor;
 pub use fail::{Fail, Memory};
 pub use listed::Listed;
-pub use number::{put_u32, put_u64, put_words};
+pub use number::{put_decimal, put_u32, put_u64, put_words};
 pub use reader::Reader;
 pub use text::Text;

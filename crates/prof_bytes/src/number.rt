@@ -1,8 +1,9 @@
-ghost use Rattle.std.specs.Prelude.{◌≡◌, ◌++◌, OnOk, OnErr};
+ghost use Rattle.std.specs.Prelude.{◌≡◌, ◌++◌, decimal, OnOk, OnErr};
 ghost use Rattle.prof_bytes.specs.Number.{number_bytes, word, words};
 
 use crate::fail::Memory;
 use byteorder::{ByteOrder, LittleEndian};
+use itoa::Buffer;
 
 /// Appends the four bytes of the number. After want of memory nothing was appended.
 pub fn put_u32(out: &mut Vec<u8>, number: u32) -> Result<(), Memory>
@@ -33,5 +34,15 @@ pub fn put_u64(out: &mut Vec<u8>, number: u64) -> Result<(), Memory>
     let mut bytes = [0; 8];
     LittleEndian::write_u64(&mut bytes, number);
     out.extend_from_slice(&bytes)?;
+    Ok(())
+}
+
+/// Appends the number's decimal digits. After want of memory nothing was appended.
+pub fn put_decimal(out: &mut Vec<u8>, number: u64) -> Result<(), Memory>
+    ensures ok { OnOk result (out.new.items ≡ out.old.items ++ decimal number) }
+    ensures err { OnErr result (out.new.items ≡ out.old.items) }
+{
+    let mut buffer = Buffer::new();
+    out.extend_from_slice(buffer.format(number).as_bytes())?;
     Ok(())
 }

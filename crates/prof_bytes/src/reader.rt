@@ -38,7 +38,7 @@ impl<'a, F: Copy> Reader<'a, F> {
         }
     }
 
-    /// A reader of the bytes from the cursor's place on.
+    /// A reader of the bytes from the cursor's offset on.
     pub fn of(cursor: Cursor<'a>, missing: F) -> Reader<'a, F>
         ensures { result ≡ record { at = cursor.entry; missing = missing } }
     {

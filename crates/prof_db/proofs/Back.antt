@@ -1,30 +1,17 @@
 -- What was read has just these bytes: numbers, texts and lists.
-use Rattle.std.proofs.Common.{◌≡◌, ℕ, zero, suc, ◌+◌, ◌<◌, ◌≤◌, nat_lt, List, [], ◌∷◌, ◌++◌, length, take, drop, Ok, refl, sym, ap, ap₂, subst, ◌∙◌, append_assoc, append-nil, arith, take-append-drop, drop-drop, get_or-drop, length-take-le}
+use Rattle.std.proofs.Common.{◌≡◌, ℕ, zero, suc, ◌+◌, ◌≤◌, nat_lt, List, [], ◌∷◌, ◌++◌, length, take, drop, Ok, refl, sym, ap, subst, ◌∙◌, append_assoc, append-nil, arith, take-append-drop, drop-drop, length-take-le}
 use Rattle.std.specs.List.{flat_map}
 use Rattle.std.proofs.lemmas.Bool.{ltb-false}
 use Rattle.prof_bytes.specs.Number.{IsBytes, number_bytes, number_in, word, words}
 use Rattle.prof_bytes.specs.Reading.{At, left_of, moved}
-use Rattle.prof_bytes.proofs.Again.{number_again}
-use Rattle.prof_db.specs.Fields.{Read, adding, bytes_from, not_whole, number_from, times, word_from}
+use Rattle.prof_bytes.proofs.Took.{Took, bytes_on, stands_took, took_both, took_none}
+use Rattle.prof_bytes.specs.Repeated.{adding, times}
+use Rattle.prof_db.specs.Fields.{Read, bytes_from, not_whole, number_from, word_from}
 use Rattle.prof_db.specs.Layout.{text_from}
 use Rattle.prof_db.specs.Spelling.{text_bytes}
-use Rattle.prof_db.proofs.Outcomes.{bind_ok, guard_ok, ok_same}
+use Rattle.prof_bytes.proofs.Outcomes.{bind_ok, guard_ok, ok_same}
 
--- ---- what was taken
-
--- the bytes between two offsets
-pub record Took (at next : At) (text : List ℕ) : Type 0 where
-  pub whole : next.whole ≡ at.whole
-  pub left : left_of at ≡ text ++ left_of next
-
-pub took_none : (at : At) → Took at at []
-took_none at = record { whole = refl; left = refl }
-
-pub took_both : (at mid next : At) (a b : List ℕ) → Took at mid a → Took mid next b → Took at next (a ++ b)
-took_both at mid next a b first second = record {
-  whole = second.whole ∙ first.whole;
-  left = first.left ∙ ap (λ (l : List ℕ). a ++ l) second.left ∙ sym (append_assoc a b (left_of next));
-}
+-- ---- words
 
 -- a word more
 pub took_word : (at mid next : At) (n : ℕ) (ns : List ℕ) → Took at mid (word n) → Took mid next (words ns) → Took at next (words (n ∷ ns))
@@ -32,12 +19,6 @@ took_word at mid next n ns first rest = took_both at mid next (word n) (words ns
 
 pub last_word : (at next : At) (n : ℕ) → Took at next (word n) → Took at next (words (n ∷ []))
 last_word at next n first = took_word at next next n [] first (took_none next)
-
-pub bytes_on : (at next : At) (text : List ℕ) → Took at next text → IsBytes at.whole → IsBytes next.whole
-bytes_on at next text took bytes = subst IsBytes (sym took.whole) bytes
-
-bytes_left : (at : At) → IsBytes at.whole → IsBytes (left_of at)
-bytes_left at bytes i = subst (λ (b : ℕ). b < 256) (sym (get_or-drop at.offset at.whole i 0)) (bytes (at.offset + i))
 
 -- ---- numbers
 
@@ -47,13 +28,6 @@ number_moved width at next n is =
     let whole = guard_ok (nat_lt (length (left_of at)) width) (not_whole at) (Ok (number_in width (left_of at), moved width at)) (n, next) is in
     let same : ◌≡◌ {A = ℕ × At} (number_in width (left_of at), moved width at) (n, next) = ok_same (number_in width (left_of at), moved width at) (n, next) whole.1 in
     (ltb-false (length (left_of at)) width whole.0, ap (λ (p : ℕ × At). p.0) same, ap (λ (p : ℕ × At). p.1) same)
-
--- what stands there and what follows it
-pub stands_took : (width : ℕ) (at : At) (n : ℕ) → IsBytes at.whole → width ≤ length (left_of at) → number_in width (left_of at) ≡ n → Took at (moved width at) (number_bytes width n)
-stands_took width at n bytes long is =
-    let again : number_bytes width n ≡ take width (left_of at) = ap (number_bytes width) (sym is) ∙ number_again width (left_of at) long (bytes_left at bytes) in
-    let rest : left_of (moved width at) ≡ drop width (left_of at) = sym (drop-drop width at.offset at.whole) in
-    record { whole = refl; left = sym (ap₂ (λ (a b : List ℕ). a ++ b) again rest ∙ take-append-drop width (left_of at)) }
 
 pub number_back : (width : ℕ) (at next : At) (n : ℕ) → IsBytes at.whole → number_from width at ≡ Ok (n, next) → Took at next (number_bytes width n)
 number_back width at next n bytes is =

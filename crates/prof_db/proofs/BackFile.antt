@@ -16,19 +16,21 @@ use Rattle.prof_db.specs.declared.raw.RawEntry.{RawEntry}
 use Rattle.prof_db.specs.declared.raw.RawFile.{RawFile}
 use Rattle.prof_db.specs.declared.raw.RawNode.{RawNode}
 use Rattle.prof_db.specs.declared.raw.RawProc.{RawProc}
-use Rattle.prof_db.specs.Fields.{Read, adding, fault, not_whole, times, word_from}
+use Rattle.prof_bytes.specs.Repeated.{adding, times}
+use Rattle.prof_db.specs.Fields.{Read, fault, not_whole, word_from}
 use Rattle.prof_db.specs.Layout.{after_magic, body_from, column_from, ended, file_from, head_from, layout_in, node_from, past_column, proc_from}
 use Rattle.prof_db.specs.NameRules.{file_name, names_in, proc_name, used_files, used_procs}
 use Rattle.prof_db.specs.NodeRules.{in_range, node_of}
 use Rattle.prof_db.specs.Rules.{database_in}
 use Rattle.prof_db.specs.Spelling.{context_entry_bytes, node_bytes, profile_entry_bytes, spelling, with_count}
 use Rattle.prof_db.specs.ValueRules.{context_fields, plane_fields, profile_fields}
-use Rattle.prof_db.proofs.Back.{Took, bytes_on, last_word, list_back, number_back, took_both, took_word}
+use Rattle.prof_bytes.proofs.Took.{Took, bytes_on, took_both}
+use Rattle.prof_db.proofs.Back.{last_word, list_back, number_back, took_word}
 use Rattle.prof_db.proofs.BackItems.{file_back, node_back, proc_back, raw_file_bytes, raw_node_bytes, raw_proc_bytes}
 use Rattle.prof_db.proofs.BackNames.{files_spelled, nodes_spelled, procs_spelled}
 use Rattle.prof_db.proofs.BackPlanes.{column_moved, columns_end, context_bytes, field_bytes, fields_took, past_column_moved, profile_bytes}
 use Rattle.prof_db.proofs.Contents.{contexts_long, profiles_long}
-use Rattle.prof_db.proofs.Outcomes.{bind_ok, guard_ok, ok_same}
+use Rattle.prof_bytes.proofs.Outcomes.{bind_ok, guard_ok, ok_same}
 use Rattle.prof_db.proofs.Owned.{ranged}
 use Rattle.prof_db.proofs.OwnNames.{files_up, procs_up}
 use Rattle.prof_db.proofs.Passed.{Passed, own_content, own_nodes, passed}

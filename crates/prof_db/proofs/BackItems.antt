@@ -14,8 +14,9 @@ use Rattle.prof_db.specs.declared.raw.RawScope.TheVariants.{Root, Proc, Inline, 
 use Rattle.prof_db.specs.Fields.{Read, not_whole, word_from}
 use Rattle.prof_db.specs.Layout.{address_from, call_from, file_from, frame_from, inline_from, line_from, node_from, proc_from, root_from, row_from, scope_from, stmt_from, text_from}
 use Rattle.prof_db.specs.Spelling.{text_bytes}
-use Rattle.prof_db.proofs.Back.{Took, bytes_on, last_word, number_back, text_back, took_both, took_word}
-use Rattle.prof_db.proofs.Outcomes.{bind_ok, ok_same}
+use Rattle.prof_bytes.proofs.Took.{Took, bytes_on, took_both}
+use Rattle.prof_db.proofs.Back.{last_word, number_back, text_back, took_word}
+use Rattle.prof_bytes.proofs.Outcomes.{bind_ok, ok_same}
 
 -- ---- the numbers of what was read
 

@@ -9,27 +9,29 @@ use Rattle.prof_bytes.specs.Reading.{At, left_of, moved}
 use Rattle.tree_types.specs.declared.content.ContextEntry.{ContextEntry}
 use Rattle.tree_types.specs.declared.content.ProfileEntry.{ProfileEntry}
 use Rattle.prof_db.specs.declared.raw.RawEntry.{RawEntry}
-use Rattle.prof_db.specs.Fields.{Read, adding, fault, number_from, times, word_from}
+use Rattle.prof_bytes.specs.Repeated.{adding, times}
+use Rattle.prof_db.specs.Fields.{Read, fault, number_from, word_from}
 use Rattle.prof_db.specs.Layout.{column_from, entry_from, past_column, past_entry}
 use Rattle.prof_db.specs.Spelling.{context_entry_bytes, kind_number, long, profile_entry_bytes, with_count}
-use Rattle.prof_db.specs.ValueRules.{Field, column_fields, context_fields, fields_kept, plane_fields, profile_fields, stands_at}
-use Rattle.prof_db.proofs.Back.{Took, number_moved, stands_took, took_both, took_none}
+use Rattle.prof_db.specs.ValueRules.{ValueField, column_fields, context_fields, fields_kept, plane_fields, profile_fields, stands_at}
+use Rattle.prof_bytes.proofs.Took.{Took, stands_took, took_both, took_none}
+use Rattle.prof_db.proofs.Back.{number_moved}
 use Rattle.prof_db.proofs.FieldSteps.{fields_append}
-use Rattle.prof_db.proofs.Outcomes.{bind_ok, ok_same, pass_ok}
+use Rattle.prof_bytes.proofs.Outcomes.{bind_ok, ok_same, pass_ok}
 
 abbrev Stood : Type 0
 Stood = Unit {0} × At
 
 -- ---- fields that stand there
 
-abbrev pub field_bytes : Field → List ℕ
+abbrev pub field_bytes : ValueField → List ℕ
 field_bytes f = number_bytes f.0 f.1
 
-abbrev width : List Field → ℕ
+abbrev width : List ValueField → ℕ
 width [] = 0
 width (f ∷ fs) = f.0 + width fs
 
-first_stands : (rule : ℕ) (field : Field) (fields : List Field) (at : At) (end : Stood) → fields_kept rule (field ∷ fields) at ≡ Ok end
+first_stands : (rule : ℕ) (field : ValueField) (fields : List ValueField) (at : At) (end : Stood) → fields_kept rule (field ∷ fields) at ≡ Ok end
     → (field.0 ≤ length (left_of at)) × (number_in field.0 (left_of at) ≡ field.1) × (fields_kept rule fields (moved field.0 at) ≡ Ok end)
 unfolding fields_kept
 first_stands rule field fields at end is =
@@ -41,7 +43,7 @@ no_fields : (rule : ℕ) (at next : At) → fields_kept rule [] at ≡ Ok (tt, n
 unfolding fields_kept
 no_fields rule at next is = let same : ◌≡◌ {A = Stood} (tt, at) (tt, next) = ok_same (tt, at) (tt, next) is in ap (λ (p : Stood). p.1) same
 
-pub fields_took : (rule : ℕ) (fields : List Field) (at next : At) → IsBytes at.whole → fields_kept rule fields at ≡ Ok (tt, next) → Took at next (flat_map field_bytes fields)
+pub fields_took : (rule : ℕ) (fields : List ValueField) (at next : At) → IsBytes at.whole → fields_kept rule fields at ≡ Ok (tt, next) → Took at next (flat_map field_bytes fields)
 fields_took rule [] at next bytes is = subst (λ (a : At). Took at a []) (no_fields rule at next is) (took_none at)
 fields_took rule (field ∷ fields) at next bytes is =
     let a = first_stands rule field fields at (tt, next) is in
@@ -56,17 +58,17 @@ moved_twice a b c at is = let far : at.offset + a + b ≡ at.offset + c = omega 
 not_moved : (at : At) → moved 0 at ≡ at
 not_moved at = let far : at.offset + 0 ≡ at.offset = omega arith in λ i. record { whole = at.whole; offset = far i }
 
-fields_moved : (rule : ℕ) (fields : List Field) (at next : At) → fields_kept rule fields at ≡ Ok (tt, next) → moved (width fields) at ≡ next
+fields_moved : (rule : ℕ) (fields : List ValueField) (at next : At) → fields_kept rule fields at ≡ Ok (tt, next) → moved (width fields) at ≡ next
 fields_moved rule [] at next is = not_moved at ∙ no_fields rule at next is
 fields_moved rule (field ∷ fields) at next is =
     let a = first_stands rule field fields at (tt, next) is in
     sym (moved_twice field.0 (width fields) (field.0 + width fields) at refl) ∙ fields_moved rule fields (moved field.0 at) next a.2
 
-width_append : (a b : List Field) → width (a ++ b) ≡ width a + width b
+width_append : (a b : List ValueField) → width (a ++ b) ≡ width a + width b
 width_append [] b = omega arith
 width_append (f ∷ a) b = (let rest = width_append a b in omega (arith, rest))
 
-width_entries : {X : Type 0} (fields : X → List Field) → ((x : X) → width (fields x) ≡ 16) → (xs : List X) → width (flat_map fields xs) ≡ 16 * length xs
+width_entries : {X : Type 0} (fields : X → List ValueField) → ((x : X) → width (fields x) ≡ 16) → (xs : List X) → width (flat_map fields xs) ≡ 16 * length xs
 width_entries fields wide [] = omega arith
 width_entries fields wide (x ∷ xs) =
     let one = wide x in
@@ -169,7 +171,7 @@ past_column_moved i before after at next is =
 
 -- ---- columns end where their fields do
 
-module _ {X S : Type 0} (rule : ℕ) (fields : X → List Field) (wide : (x : X) → width (fields x) ≡ 16) (step : ℕ → S → At → Read S)
+module _ {X S : Type 0} (rule : ℕ) (fields : X → List ValueField) (wide : (x : X) → width (fields x) ≡ 16) (step : ℕ → S → At → Read S)
     (sized : (i : ℕ) (b a : S) (at next : At) → step i b at ≡ Ok (a, next) → column_end at ≡ next) where
   abbrev behind_column : ℕ → ℕ → S × At → Read S
   behind_column n i read = times step n (i + 1) read.0 read.1
@@ -206,7 +208,7 @@ flat_again : {X Y Z : Type 0} (g : Y → List Z) (f : X → List Y) (xs : List X
 flat_again g f [] = refl
 flat_again {Z = Z} g f (x ∷ xs) = flat_map-append g (f x) (flat_map f xs) ∙ ap (λ (l : List Z). flat_map g (f x) ++ l) (flat_again g f xs)
 
-plane_bytes : {X : Type 0} (fields : X → List Field) (spelled : X → List ℕ) → ((x : X) → flat_map field_bytes (fields x) ≡ spelled x) → (columns : List (List X))
+plane_bytes : {X : Type 0} (fields : X → List ValueField) (spelled : X → List ℕ) → ((x : X) → flat_map field_bytes (fields x) ≡ spelled x) → (columns : List (List X))
     → flat_map field_bytes (plane_fields fields columns) ≡ flat_map (with_count spelled) columns
 plane_bytes {X} fields spelled each columns =
     flat_again field_bytes (column_fields fields) columns ∙ (λ i. flat_map (λ (xs : List X). column xs i) columns)

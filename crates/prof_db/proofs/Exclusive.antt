@@ -6,7 +6,7 @@ use Rattle.std.specs.FinMap.{nat_cmp-IsAntisymmetric, slice_cmp-IsAntisymmetric}
 use Rattle.std.specs.List.{IsDistinct, flat_map, range_with_len}
 use Rattle.std.specs.List.Sorted.{IsPermutation, IsSortedBy}
 use Rattle.std.specs.Ordering.{nat_cmp, is_lt, ordering_then, ordering_reverse}
-use Rattle.std.proofs.lemmas.Bool.{cases_eq, or_cases, eq-eqb, ne_eqb, lt-ltb}
+use Rattle.std.proofs.lemmas.Bool.{cases_eq, or_cases, eq-eqb, ne_eqb, lt-ltb, or_right, not-false}
 use Rattle.std.proofs.lemmas.Bool.Decides.{nat_tests}
 use Rattle.std.proofs.lemmas.Cmp.{nat_list_cmp_total}
 use Rattle.std.proofs.Math.Nat.{div-add-mod}
@@ -34,11 +34,7 @@ use Rattle.prof_db.specs.NameRules.{pair_less}
 use Rattle.prof_db.specs.NodeRules.{is_statement}
 use Rattle.prof_db.specs.ValueRules.{entry_count, entries_ascend, entries_kept, entry_at, entry_breaks, is_exclusive, is_value, entry_samples}
 use Rattle.prof_db.proofs.Preorder.{and_parts}
-use Rattle.prof_db.proofs.Repeated.{none_broken}
-
-not_false : (b : Bool) → not b ≡ false → b ≡ true
-not_false true e = refl
-not_false false e = absurd (true≢false e)
+use Rattle.prof_db.proofs.FirstBroken.{none_broken}
 
 fits : (m n : ℕ) → nat_le m n ≡ true → m ≤ n
 fits m n e = grind (arith, nat_tests)
@@ -71,28 +67,28 @@ sorted_pairs xs up i j d below lt less =
     let not_less : is_lt (count_order (get_or xs j d) (get_or xs i d)) ≡ false = sorted_far (λ x y. is_lt (count_order x y)) (ranks_by count_order_total (λ (c : NodeCount). c)) xs up_all i j d (omega arith) lt in
     true≢false (sym (ap is_lt less) ∙ not_less)
 
-abbrev same_place : NodeCount → NodeCount → Bool
-same_place a b = a.node == b.node && a.hart == b.hart
+abbrev same_pair : NodeCount → NodeCount → Bool
+same_pair a b = a.node == b.node && a.hart == b.hart
 
-tied : (a b : NodeCount) → count_order a b ≡ Equal → same_place a b ≡ true
+tied : (a b : NodeCount) → count_order a b ≡ Equal → same_pair a b ≡ true
 tied a b e =
     let lists : (a.node ∷ a.hart ∷ []) ≡ (b.node ∷ b.hart ∷ []) = slice_cmp-IsAntisymmetric nat_cmp-IsAntisymmetric (a.node ∷ a.hart ∷ []) (b.node ∷ b.hart ∷ []) e in
     let nodes : a.node ≡ b.node = cc in
     let harts : a.hart ≡ b.hart = cc in
     (λ i. eq-eqb a.node b.node nodes i && eq-eqb a.hart b.hart harts i)
 
-flips : (a b : NodeCount) → same_place a b ≡ same_place b a
+flips : (a b : NodeCount) → same_pair a b ≡ same_pair b a
 flips a b = λ i. turned a.node b.node i && turned a.hart b.hart i
   where
     turned : (m n : ℕ) → (m == n) ≡ (n == m)
     turned m n = elim (cases_eq m n) [ inl is ↦ eq-eqb m n is ∙ sym (eq-eqb n m (sym is)) | inr apart ↦ ne_eqb m n apart ∙ sym (ne_eqb n m (λ e. apart (sym e))) ]
 
 -- what is sorted and has each node and hart once ascends strictly
-sorted_up : (xs : List NodeCount) → AllPairs (λ a b. count_order b a ≢ Less) xs → IsDistinct same_place xs → AllPairs (λ a b. count_order a b ≡ Less) xs
+sorted_up : (xs : List NodeCount) → AllPairs (λ a b. count_order b a ≢ Less) xs → IsDistinct same_pair xs → AllPairs (λ a b. count_order a b ≡ Less) xs
 sorted_up xs up distinct i j d below lt =
     let a : NodeCount = get_or xs i d in
     let b : NodeCount = get_or xs j d in
-    let apart : same_place a b ≡ false = apart_from_distinct same_place xs i j d distinct below lt in
+    let apart : same_pair a b ≡ false = apart_from_distinct same_pair xs i j d distinct below lt in
     elim (count_order a b) as (λ o. count_order a b ≡ o → o ≡ Less) [
       | Less ↦ λ e. refl
       | Equal ↦ λ e. absurd (true≢false (sym (tied a b e) ∙ apart))
@@ -123,15 +119,11 @@ up_parts a b c x y z e =
 pub first_up : (a b c x y z : ℕ) → a < x → threes_up a b c x y z ≡ true
 first_up a b c x y z lt = ap (λ t. t || (a == x && pair_less b c y z)) (lt-ltb a x lt)
 
-or_right_true : (t u : Bool) → u ≡ true → (t || u) ≡ true
-or_right_true true u e = refl
-or_right_true false u e = e
-
 pub second_up : (a b c x y z : ℕ) → a ≡ x → b < y → threes_up a b c x y z ≡ true
-second_up a b c x y z same lt = or_right_true (nat_lt a x) (a == x && pair_less b c y z) ((λ i. eq-eqb a x same i && (lt-ltb b y lt i || (b == y && nat_lt c z))))
+second_up a b c x y z same lt = or_right (nat_lt a x) (a == x && pair_less b c y z) ((λ i. eq-eqb a x same i && (lt-ltb b y lt i || (b == y && nat_lt c z))))
 
 pub third_up : (a b c x y z : ℕ) → a ≡ x → b ≡ y → c < z → threes_up a b c x y z ≡ true
-third_up a b c x y z same next lt = or_right_true (nat_lt a x) (a == x && pair_less b c y z) ((λ i. eq-eqb a x same i && pair_less b c y z) ∙ or_right_true (nat_lt b y) (b == y && nat_lt c z) (λ i. eq-eqb b y next i && lt-ltb c z lt i))
+third_up a b c x y z same next lt = or_right (nat_lt a x) (a == x && pair_less b c y z) ((λ i. eq-eqb a x same i && pair_less b c y z) ∙ or_right (nat_lt b y) (b == y && nat_lt c z) (λ i. eq-eqb b y next i && lt-ltb c z lt i))
 
 chained : (a b c d e f g h k : ℕ) → threes_up a b c d e f ≡ true → threes_up d e f g h k ≡ true → threes_up a b c g h k ≡ true
 chained a b c d e f g h k up on =
@@ -205,7 +197,7 @@ module _ (period harts : ℕ) (nodes : List Node) (entries : List RawEntry) (kep
   has_room i = nat_le (sum_by (entry_samples period) (take (i + 1) entries)) most_samples
 
   whole : (i : ℕ) → i < length entries → (is_value period harts nodes (at i) && (is_next i && has_room i)) ≡ true
-  whole i lt = not_false (is_value period harts nodes (at i) && (is_next i && has_room i)) (none_broken 6 (entry_breaks period harts nodes entries) (λ i. (entry_at entries i).offset) 0 (length entries) i kept (omega arith) (omega arith))
+  whole i lt = not-false (is_value period harts nodes (at i) && (is_next i && has_room i)) (none_broken 6 (entry_breaks period harts nodes entries) (λ i. (entry_at entries i).offset) 0 (length entries) i kept (omega arith) (omega arith))
 
   value_ok : (i : ℕ) → i < length entries → is_value period harts nodes (at i) ≡ true
   value_ok i lt = (and_parts (is_value period harts nodes (at i)) (is_next i && has_room i) (whole i lt)).0
@@ -251,11 +243,11 @@ module _ (period harts : ℕ) (nodes : List Node) (entries : List RawEntry) (kep
   abbrev counts : List NodeCount
   counts = map (entry_count period) exclusive
 
-  apart : (e f : RawEntry) → entries_ascend e f ≡ true → is_exclusive e ≡ true → is_exclusive f ≡ true → same_place (entry_count period e) (entry_count period f) ≡ false
+  apart : (e f : RawEntry) → entries_ascend e f ≡ true → is_exclusive e ≡ true → is_exclusive f ≡ true → same_pair (entry_count period e) (entry_count period f) ≡ false
   apart e f up first second = differ e.hart e.node e.kind f.hart f.node f.kind up (is_equal e.kind 0 first) (is_equal f.kind 0 second)
 
-  distinct : IsDistinct same_place counts
-  distinct = IsDistinct-from_apart same_place counts (λ i j d below lt.
+  distinct : IsDistinct same_pair counts
+  distinct = IsDistinct-from_apart same_pair counts (λ i j d below lt.
       let long = length-map exclusive (entry_count period) in
       let e : RawEntry = get_or exclusive i none in
       let f : RawEntry = get_or exclusive j none in
@@ -264,8 +256,8 @@ module _ (period harts : ℕ) (nodes : List Node) (entries : List RawEntry) (kep
       let up : entries_ascend e f ≡ true = AllPairs-filter (λ e f. entries_ascend e f ≡ true) is_exclusive entries ascend i j none below second in
       let e_is : is_exclusive e ≡ true = All-get_or (λ (x : RawEntry). is_exclusive x ≡ true) exclusive i none first (filter_passes is_exclusive entries) in
       let f_is : is_exclusive f ≡ true = All-get_or (λ (x : RawEntry). is_exclusive x ≡ true) exclusive j none second (filter_passes is_exclusive entries) in
-      subst (λ (b : NodeCount). same_place (get_or counts i d) b ≡ false) (sym (get_or-map (entry_count period) exclusive j none d second))
-      (subst (λ (a : NodeCount). same_place a (entry_count period f) ≡ false) (sym (get_or-map (entry_count period) exclusive i none d first)) (apart e f up e_is f_is)))
+      subst (λ (b : NodeCount). same_pair (get_or counts i d) b ≡ false) (sym (get_or-map (entry_count period) exclusive j none d second))
+      (subst (λ (a : NodeCount). same_pair a (entry_count period f) ≡ false) (sym (get_or-map (entry_count period) exclusive i none d first)) (apart e f up e_is f_is)))
 
   -- each exclusive value, as a count
   abbrev IsGood : RawEntry → Type 0
@@ -334,7 +326,7 @@ module _ (period harts : ℕ) (nodes : List Node) (entries : List RawEntry) (kep
         nodes = All-permutation (λ c. c.node < length nodes) counts sorted moved counts_inside;
         harts = All-permutation (λ c. c.hart < harts) counts sorted moved counts_harts;
         some = All-permutation (λ c. 0 < c.count) counts sorted moved counts_some;
-        ascend = sorted_up sorted up (IsDistinct-IsPermutation same_place flips counts sorted moved distinct);
+        ascend = sorted_up sorted up (IsDistinct-IsPermutation same_pair flips counts sorted moved distinct);
       }
 
   -- ---- samples
@@ -394,4 +386,4 @@ passed_sum period harts nodes entries i whole =
     let value : Bool = is_value period harts nodes (entry_at entries i) in
     let next : Bool = i == 0 || entries_ascend (entry_at entries (i - 1)) (entry_at entries i) in
     let room : Bool = nat_le (sum_by (entry_samples period) (take (i + 1) entries)) most_samples in
-    fits (sum_by (entry_samples period) (take (i + 1) entries)) most_samples (and_parts next room (and_parts value (next && room) (not_false (value && (next && room)) whole)).1).1
+    fits (sum_by (entry_samples period) (take (i + 1) entries)) most_samples (and_parts next room (and_parts value (next && room) (not-false (value && (next && room)) whole)).1).1

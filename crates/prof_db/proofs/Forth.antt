@@ -1,5 +1,5 @@
 -- What was written is read as the same: numbers, texts and lists.
-use Rattle.std.proofs.Common.{◌≡◌, ℕ, zero, suc, ◌+◌, ◌^◌, ◌<◌, Bool, false, cond, nat_lt, List, [], ◌∷◌, ◌++◌, length, map, take, drop, All, Ok, Err, refl, sym, ap, ap₂, ◌∙◌, append_assoc, append-nil, arith}
+use Rattle.std.proofs.Common.{◌≡◌, ℕ, ◌+◌, ◌^◌, ◌<◌, Bool, false, cond, nat_lt, List, [], ◌∷◌, ◌++◌, length, map, take, drop, All, Ok, Err, refl, sym, ap, ap₂, ◌∙◌, append_assoc, append-nil, arith}
 use Rattle.std.proofs.Math.Seq.{drop-append_seam, take-append_seam}
 use Rattle.std.specs.List.{flat_map}
 use Rattle.std.proofs.lemmas.Bool.{le-ltb}
@@ -9,7 +9,8 @@ use Rattle.byteorder.specs.Numbers.{length-bytes_low_first, little_number-reads_
 use Rattle.prof_bytes.specs.Number.{number_bytes, number_in, word}
 use Rattle.prof_bytes.specs.Outcome.{◌>>=◌}
 use Rattle.prof_bytes.specs.Reading.{At, left_of, moved}
-use Rattle.prof_db.specs.Fields.{Read, adding, bytes_from, not_whole, number_from, times, word_from}
+use Rattle.prof_bytes.specs.Repeated.{adding, times}
+use Rattle.prof_db.specs.Fields.{Read, bytes_from, not_whole, number_from, word_from}
 use Rattle.prof_db.specs.Layout.{text_from}
 use Rattle.prof_db.specs.Spelling.{text_bytes}
 use Rattle.prof_db.specs.Stored.{IsWord}

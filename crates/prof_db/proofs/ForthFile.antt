@@ -14,7 +14,8 @@ use Rattle.prof_db.specs.declared.raw.RawEntry.{RawEntry}
 use Rattle.prof_db.specs.declared.raw.RawFile.{RawFile}
 use Rattle.prof_db.specs.declared.raw.RawNode.{RawNode}
 use Rattle.prof_db.specs.declared.raw.RawProc.{RawProc}
-use Rattle.prof_db.specs.Fields.{Read, fault, not_whole, times}
+use Rattle.prof_bytes.specs.Repeated.{times}
+use Rattle.prof_db.specs.Fields.{Read, fault, not_whole}
 use Rattle.prof_db.specs.Layout.{after_magic, body_from, file_from, head_from, layout_in, node_from, past_column, proc_from}
 use Rattle.prof_db.specs.NameRules.{file_name}
 use Rattle.prof_db.specs.Spelling.{context_entry_bytes, file_bytes, node_bytes, procedure_bytes, profile_entry_bytes, spelling, with_count}

@@ -12,11 +12,12 @@ use Rattle.tree_types.specs.declared.content.Kind.{Kind}
 use Rattle.tree_types.specs.declared.content.Kind.TheVariants.{Exclusive, Frame, Inclusive}
 use Rattle.tree_types.specs.declared.content.ProfileEntry.{ProfileEntry}
 use Rattle.prof_db.specs.declared.raw.RawEntry.{RawEntry}
-use Rattle.prof_db.specs.Fields.{Read, fault, times}
+use Rattle.prof_bytes.specs.Repeated.{times}
+use Rattle.prof_db.specs.Fields.{Read, fault}
 use Rattle.prof_db.specs.Layout.{column_from, entry_from, past_column, past_entry}
 use Rattle.prof_db.specs.Spelling.{context_entry_bytes, kind_number, long, profile_entry_bytes, with_count}
 use Rattle.prof_db.specs.Stored.{IsWord}
-use Rattle.prof_db.specs.ValueRules.{Field, column_fields, context_fields, fields_kept, plane_fields, profile_fields, stands_at}
+use Rattle.prof_db.specs.ValueRules.{ValueField, column_fields, context_fields, fields_kept, plane_fields, profile_fields, stands_at}
 use Rattle.prof_db.proofs.BackPlanes.{behind_count, behind_entry_kind, behind_entry_node, behind_hart, behind_past_count, behind_past_kind, entry_end, field_bytes, past_end}
 use Rattle.prof_db.proofs.Forth.{Comes, Reads, items_forth, number_forth, number_stands, word_forth}
 
@@ -148,10 +149,10 @@ past_plane_forth columns at rest fit left = passed_forth past_column (with_count
 
 -- ---- fields that stand there
 
-abbrev FieldFits : Field → Type 0
+abbrev FieldFits : ValueField → Type 0
 FieldFits f = f.1 < 256 ^ f.0
 
-pub fields_forth : (rule : ℕ) (fields : List Field) (at : At) (rest : List ℕ) → All FieldFits fields → left_of at ≡ flat_map field_bytes fields ++ rest
+pub fields_forth : (rule : ℕ) (fields : List ValueField) (at : At) (rest : List ℕ) → All FieldFits fields → left_of at ≡ flat_map field_bytes fields ++ rest
     → (next : At) × (fields_kept rule fields at ≡ Ok (tt, next))
 unfolding fields_kept
 fields_forth rule [] at rest fit left = (at, refl)
@@ -167,10 +168,10 @@ word_field_fits n few = omega (arith, few)
 long_field_fits : (n : ℕ) → n < 2 ^ 64 → FieldFits (8, n)
 long_field_fits n few = omega (arith, few)
 
-three : (a b c : Field) → FieldFits a → FieldFits b → FieldFits c → All FieldFits (a ∷ b ∷ c ∷ [])
+three : (a b c : ValueField) → FieldFits a → FieldFits b → FieldFits c → All FieldFits (a ∷ b ∷ c ∷ [])
 three a b c fa fb fc = All-cons FieldFits a (b ∷ c ∷ []) fa (All-cons FieldFits b (c ∷ []) fb (All-cons FieldFits c [] fc (All-nil FieldFits)))
 
-module _ {X : Type 0} (fields : X → List Field) (Fits : X → Type 0) (own : (x : X) → Fits x → All FieldFits (fields x)) where
+module _ {X : Type 0} (fields : X → List ValueField) (Fits : X → Type 0) (own : (x : X) → Fits x → All FieldFits (fields x)) where
   entries_fit : (xs : List X) → All Fits xs → All FieldFits (flat_map fields xs)
   entries_fit [] fit = All-nil FieldFits
   entries_fit (x ∷ xs) fit = All-append FieldFits (fields x) (flat_map fields xs) (own x (All-head Fits x xs fit)) (entries_fit xs (All-tail Fits x xs fit))

@@ -2,7 +2,7 @@ pub mod Writing
 pub mod Profiles
 pub mod FourSamples
 pub mod TwentySamples
-pub mod Repeated
+pub mod FirstBroken
 pub mod FieldSteps
 pub mod Marking
 pub mod Preorder

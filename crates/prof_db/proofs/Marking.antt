@@ -1,19 +1,16 @@
 -- Numbers that are marked one by one.
-use Rattle.std.proofs.Common.{◌≡◌, ℕ, zero, suc, replicate, ◌+◌, ◌<◌, ◌≤◌, ◌==◌, ◌||◌, inl, inr, Bool, true, false, List, [], ◌∷◌, length, get_or, take, refl, sym, ap, ◌∙◌, arith, get_or-set_other, get_or-set_same}
+use Rattle.std.proofs.Common.{◌≡◌, ℕ, ◌+◌, ◌<◌, ◌≤◌, ◌==◌, ◌||◌, inl, inr, Bool, true, false, List, [], ◌∷◌, length, get_or, take, refl, sym, ap, ◌∙◌, arith, get_or-set_other, get_or-set_same}
 use Rattle.std.specs.Prelude.{◌≢◌}
 use Rattle.std.proofs.Math.ListN.{set}
 use Rattle.std.proofs.lemmas.Bool.{cases_eq, eq-eqb, ne_eqb}
 use Rattle.std.proofs.lemmas.List.{take_more}
 use Rattle.std.proofs.lemmas.List.Folds.{list_any-append}
+use Rattle.prof_bytes.proofs.Tests.{or_false}
 use Rattle.prof_db.specs.NameRules.{is_among}
 
 or_true : (b : Bool) → (b || true) ≡ true
 or_true true = refl
 or_true false = refl
-
-or_false : (b : Bool) → (b || false) ≡ b
-or_false true = refl
-or_false false = refl
 
 module _ (numbers : List ℕ) (i x d : ℕ) (lt : i < length numbers) (is : x ≡ get_or numbers i d) where
   among_more : (k : ℕ) → is_among (take (i + 1) numbers) k ≡ (is_among (take i numbers) k || (x == k))
@@ -43,11 +40,3 @@ pub mark_out : (marks : List Bool) (x k : ℕ) → length marks ≤ x → k < le
 mark_out marks x k out below =
     let apart : x ≢ k = λ e. absurd (omega arith) in
     sym (ap (λ b. get_or marks k false || b) (ne_eqb x k apart) ∙ or_false (get_or marks k false))
-
-pub none_marked : (marks : List Bool) (n : ℕ) → marks ≡ replicate n false → (k : ℕ) → k < n → get_or marks k false ≡ is_among [] k
-none_marked marks n is k lt = ap (λ (l : List Bool). get_or l k false) is ∙ blank n k
-  where
-    blank : (n k : ℕ) → get_or (replicate n false) k false ≡ false
-    blank zero k = refl
-    blank (suc n) zero = refl
-    blank (suc n) (suc k) = blank n k

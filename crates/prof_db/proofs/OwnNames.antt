@@ -41,7 +41,7 @@ use Rattle.prof_db.specs.declared.raw.RawNode.{RawNode}
 use Rattle.prof_db.specs.declared.raw.RawProc.{RawProc}
 use Rattle.prof_db.specs.declared.raw.RawScope.{RawScope}
 use Rattle.prof_db.specs.declared.raw.RawScope.TheVariants as raws
-use Rattle.prof_db.proofs.Repeated.{none_broken}
+use Rattle.prof_db.proofs.FirstBroken.{none_broken}
 
 -- ---- lists
 

@@ -1,8 +1,7 @@
 -- A tree of which each node lies on a counted path has the nodes of the paths that end in it.
-use Rattle.std.proofs.Common.{◌≡◌, ℕ, zero, suc, ◌+◌, ◌-◌, ◌<◌, ◌≤◌, true, false, cond, List, [], ◌∷◌, ◌++◌, length, take, get_or, replicate, All, Contains, refl, sym, ap, subst, ◌∙◌, arith, inl, inr, append-nil, append_assoc, length-append}
+use Rattle.std.proofs.Common.{◌≡◌, ℕ, zero, suc, ◌+◌, ◌-◌, ◌<◌, ◌≤◌, true, false, cond, List, [], ◌∷◌, ◌++◌, length, get_or, replicate, All, Contains, refl, sym, ap, subst, ◌∙◌, arith, inl, inr, append-nil, append_assoc, length-append}
 use Rattle.std.specs.Prelude.{◌≢◌}
 use Rattle.std.specs.List.{flat_map}
-use Rattle.std.proofs.Math.Seq.{take-append_seam}
 use Rattle.std.proofs.lemmas.Bool.{cases_eq, ne_eqb}
 use Rattle.std.proofs.lemmas.List.{get_or_default, get_or-map, length-replicate, same_lists}
 use Rattle.std.proofs.lemmas.List.Elements.{All-nil, All-head, All-tail, All-append, All-replicate, All-contains, Contains-get_or, Contains-append_left, Contains-append_right}
@@ -20,7 +19,7 @@ use Rattle.tree_types.proofs.NodeLaws.{node_is_prefix, only_nodes, prefix_is_nod
 use Rattle.tree_types.proofs.Parents.{number_is}
 use Rattle.tree_types.proofs.PathSteps.{as_many_paths}
 use Rattle.tree_types.proofs.TreeLaws.{nodes_listed}
-use Rattle.tree_types.proofs.TreePaths.{own_scope_last}
+use Rattle.tree_types.proofs.TreePaths.{own_scope_last, parent_path_front}
 use Rattle.tree_types.proofs.TreeValues.{inner_is, parent_before, root_is, shorter_prefix, some_path}
 use Rattle.prof_db.specs.NodeRules.{is_statement}
 
@@ -59,13 +58,6 @@ module _ (t : CountedTree) where
   path_there c there some = in_lists (λ c. replicate c.count (counted_path t.nodes c)) t.counts c (counted_path t.nodes c) there.0 there.1 there.2 (again c.count (counted_path t.nodes c) some)
 
 -- ---- the paths of nodes in preorder
-
--- a path without its last scope
-pub shortened : (f : Path) (s : Scope) → parent_path (f ++ s ∷ []) ≡ f
-shortened f s =
-    let long : length (f ++ s ∷ []) ≡ length f + 1 = length-append f (s ∷ []) in
-    let k : length (f ++ s ∷ []) - 1 ≡ length f = omega (arith, long) in
-    ap (λ (n : ℕ). take n (f ++ s ∷ [])) k ∙ take-append_seam f (s ∷ [])
 
 module _ (ns : List Node) (few : length ns < no_parent) (preorder : IsPreorder ns) where
   abbrev bare : CountedTree
@@ -237,7 +229,7 @@ module _ (ns : List Node) (few : length ns < no_parent) (preorder : IsPreorder n
         let number : parent_number (nodes ps) (path i) ≡ parent i =
         ap (parent_number (nodes ps)) (inside i lt inner)
         ∙ ap (λ b. cond b no_parent (node_number (nodes ps) (parent_path (f ++ scope i ∷ [])))) (ne_eqb (length (f ++ scope i ∷ [])) 1 apart)
-        ∙ ap (node_number (nodes ps)) (shortened f (scope i)) ∙ number_of (parent i) (omega (arith, less, lt)) in
+        ∙ ap (node_number (nodes ps)) (parent_path_front f (scope i)) ∙ number_of (parent i) (omega (arith, less, lt)) in
         λ k. record { parent = number k; scope = own_is i lt k }
 
     listed_is : (i : ℕ) → i < length ns → listed (nodes ps) (path i) ≡ node_at ns i

@@ -36,7 +36,7 @@ use Rattle.prof_db.proofs.OwnNames.{among_at, contains_map, names_own}
 use Rattle.prof_db.proofs.OwnPaths.{listed_own, nodes_own, own_is, paths_all, some_scope}
 use Rattle.prof_db.proofs.Passed.{Passed, head_is, own_content, own_nodes, passed}
 use Rattle.prof_db.proofs.Preorder.{preorder_of_rule}
-use Rattle.prof_db.proofs.Repeated.{none_broken}
+use Rattle.prof_db.proofs.FirstBroken.{none_broken}
 
 module _ (layout : Layout) (c : Content) (p : Passed layout c) where
   abbrev names : Names

@@ -16,7 +16,8 @@ use Rattle.prof_db.specs.NameRules.{files_kept, head_kept, names_in, names_kept,
 use Rattle.prof_db.specs.NodeRules.{node_of, nodes_kept}
 use Rattle.prof_db.specs.Rules.{content_in, database_in, nodes_in, planes_in, values_in}
 use Rattle.prof_db.specs.ValueRules.{context_fields, entries_kept, fields_kept, plane_fields, profile_fields, sampled_nodes, statements_kept}
-use Rattle.prof_db.proofs.Outcomes.{bind_ok, guard_ok, kept_ok, ok_same}
+use Rattle.prof_bytes.proofs.Outcomes.{bind_ok, guard_ok, ok_same}
+use Rattle.prof_db.proofs.Outcomes.{kept_ok}
 
 -- ---- the rules, one behind the other
 

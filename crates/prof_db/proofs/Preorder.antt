@@ -1,9 +1,9 @@
 -- Nodes that the fifth rule passes stand in preorder.
-use Rattle.std.proofs.Common.{◌≡◌, ℕ, zero, suc, ◌<◌, ◌≤◌, ◌==◌, ◌&&◌, ◌||◌, not, nat_lt, Ok, inl, inr, Bool, true, false, cond, List, [], ◌∷◌, ◌++◌, length, get_or, Less, Equal, Greater, Ordering, refl, sym, ap, subst, ◌∙◌, arith, true≢false, append-nil, append_assoc}
+use Rattle.std.proofs.Common.{◌≡◌, ℕ, zero, suc, ◌<◌, ◌≤◌, ◌==◌, ◌&&◌, ◌||◌, nat_lt, Ok, inl, inr, Bool, true, false, cond, List, [], ◌∷◌, ◌++◌, length, get_or, Less, Equal, Greater, Ordering, refl, sym, ap, subst, ◌∙◌, arith, true≢false, append-nil, append_assoc}
 use Rattle.std.specs.Prelude.{◌≢◌}
 use Rattle.std.specs.List.{list_any}
 use Rattle.std.specs.Ordering.{is_lt, ordering_then}
-use Rattle.std.proofs.lemmas.Bool.{cases_eq, or_cases}
+use Rattle.std.proofs.lemmas.Bool.{cases_eq, or_cases, not-false}
 use Rattle.std.proofs.lemmas.Bool.Decides.{nat_tests}
 use Rattle.std.proofs.lemmas.Cmp.{tied_itself}
 use Rattle.std.proofs.lemmas.List.{get_or_default}
@@ -21,7 +21,7 @@ use Rattle.tree_types.proofs.Parents.{prefix_less}
 use Rattle.tree_types.proofs.PathSteps.{as_many_paths, root_path, inner_path}
 use Rattle.prof_db.specs.declared.raw.RawNode.{RawNode}
 use Rattle.prof_db.specs.NodeRules.{in_preorder, line_up, siblings_ascend, node_breaks, nodes_kept, raw_node_at}
-use Rattle.prof_db.proofs.Repeated.{none_broken}
+use Rattle.prof_db.proofs.FirstBroken.{none_broken}
 
 pub and_parts : (a b : Bool) → (a && b) ≡ true → (a ≡ true) × (b ≡ true)
 and_parts true true e = (refl, refl)
@@ -181,14 +181,10 @@ or_first : (a b : Bool) → (a || b) ≡ false → a ≡ false
 or_first true b e = absurd (true≢false e)
 or_first false b e = refl
 
-was_true : (b : Bool) → not b ≡ false → b ≡ true
-was_true true e = refl
-was_true false e = absurd (true≢false e)
-
 pub rule_is_kept : (procs files : ℕ) (raws : List RawNode) (nodes : List Node) → nodes_kept procs files raws nodes ≡ Ok tt → (i : ℕ) → i < length nodes → in_preorder nodes i ≡ true
 rule_is_kept procs files raws nodes kept i lt =
     let whole = none_broken 5 (node_breaks procs files raws nodes) (λ i. (raw_node_at raws i).offset) 0 (length nodes) i kept (omega arith) (omega arith) in
-    (and_parts _ _ (and_parts _ _ (was_true _ (or_first _ _ whole))).1).0
+    (and_parts _ _ (and_parts _ _ (not-false _ (or_first _ _ whole))).1).0
 
 pub preorder_of_rule : (procs files : ℕ) (raws : List RawNode) (nodes : List Node) → length nodes < no_parent → nodes_kept procs files raws nodes ≡ Ok tt → IsPreorder nodes
 preorder_of_rule procs files raws nodes few kept = stand_in_preorder nodes few (rule_is_kept procs files raws nodes kept)

@@ -25,11 +25,12 @@ use Rattle.prof_db.specs.NameRules.{is_among}
 use Rattle.prof_db.specs.NodeRules.{is_placed, is_root, is_statement, parents_of, stands_under}
 use Rattle.prof_db.specs.Stored.{IsStored, is_call_path}
 use Rattle.prof_db.proofs.CallPaths.{begins, ends_with_statement, last_is_statement, stands_behind}
-use Rattle.prof_db.proofs.OwnPaths.{bare_tree, own_is, shortened}
+use Rattle.prof_db.proofs.OwnPaths.{bare_tree, own_is}
+use Rattle.tree_types.proofs.TreePaths.{parent_path_front}
 
 -- paths of one scope more are the same without it
 front_same : (p q : Path) (x y : Scope) → p ++ x ∷ [] ≡ q ++ y ∷ [] → p ≡ q
-front_same p q x y e = sym (shortened p x) ∙ ap parent_path e ∙ shortened q y
+front_same p q x y e = sym (parent_path_front p x) ∙ ap parent_path e ∙ parent_path_front q y
 
 module _ (c : Content) (s : IsStored c) where
   abbrev ns : List Node

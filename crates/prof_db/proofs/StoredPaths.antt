@@ -35,14 +35,10 @@ use Rattle.tree_types.proofs.TreeLaws.{nodes_listed}
 use Rattle.prof_db.specs.NodeRules.{stands_under}
 use Rattle.prof_db.specs.Rules.{database_in}
 use Rattle.prof_db.specs.Spelling.{spelling}
-use Rattle.prof_db.specs.Stored.{AreStored, HasWords, IsNamed, IsShort, IsStored, IsWord, is_call_path, leads_to_statement}
+use Rattle.prof_db.specs.Stored.{AreStored, HasWordNumbers, IsNamed, IsShort, IsStored, IsWord, is_call_path, leads_to_statement}
 use Rattle.prof_db.proofs.StoredRules.{stored_read}
 
 -- ---- the paths that expansion makes
-
--- what a frame's procedure and what is inlined in it lead to
-abbrev frame_rest : (LineId → Scope) → FoundAt → List (ProcId × LineId) → Path → Path
-frame_rest last found inlines behind = map (λ i. Inline i.0 i.1) inlines ++ last found.line ∷ behind
 
 inlines_lead : (p : ProcId) (line : LineId) (inlines : List (ProcId × LineId)) (last : Scope) (behind : Path)
     → ((q : ProcId) → stands_under (Proc q) last ≡ true) → ((q : ProcId) (l : LineId) → stands_under (Inline q l) last ≡ true)
@@ -148,11 +144,11 @@ module _ (period harts : ℕ) (naming : Naming) (ps : List HartPath) (s : AreSto
   some : All (λ p. 0 < length p.path) ps
   some = All-weaker (λ (p : HartPath). is_call_path p.path ≡ true) (λ p. 0 < length p.path) (λ p e. some_path p.path e) ps s.call_paths
 
-  scopes_few : All (λ n. HasWords (own_scope n)) (nodes ps)
+  scopes_few : All (λ n. HasWordNumbers (own_scope n)) (nodes ps)
   scopes_few i d lt =
       let n : Path = get_or (nodes ps) i d in
       let p = node_is_prefix ps n (Contains-get_or (nodes ps) i d lt) in
-      last_there HasWords n p.2.rest p.2.some (subst (All HasWords) p.2.parts (All-contains (λ (p : HartPath). All HasWords p.path) ps p.0 s.scopes p.1))
+      last_there HasWordNumbers n p.2.rest p.2.some (subst (All HasWordNumbers) p.2.parts (All-contains (λ (p : HartPath). All HasWordNumbers p.path) ps p.0 s.scopes p.1))
 
   pub content_stored : IsStored (content_of period harts naming ps)
   unfolding content_of
@@ -168,7 +164,7 @@ module _ (period harts : ℕ) (naming : Naming) (ps : List HartPath) (s : AreSto
         columns = All-map (λ (column : List ProfileEntry). IsWord (length column)) (hart_column period ps) (harts_below harts)
             (λ i d lt. (let short = column_short period ps (get_or (harts_below harts) i d) in omega (arith, short, nodes_few)));
         paths = all_alike (λ (p : HartPath). is_call_path p.path) (paths_of (content_of period harts naming ps)) ps (paths_alike period harts naming ps s.some_period few some s.below) s.call_paths;
-        scopes = All-map (λ (n : Node). HasWords n.scope) _ (nodes ps) scopes_few;
+        scopes = All-map (λ (n : Node). HasWordNumbers n.scope) _ (nodes ps) scopes_few;
         procs = All-map IsNamed _ (procs_used (nodes ps)) (λ i d lt. record { short = s.procs (get_or (procs_used (nodes ps)) i d); nameless = λ e. ap naming.proc_name e ∙ s.nameless });
         files = All-map (λ (f : FileName). IsShort f.name) _ (files_used (nodes ps)) (λ i d lt. s.files (get_or (files_used (nodes ps)) i d).0 (get_or (files_used (nodes ps)) i d).1);
       }

@@ -19,7 +19,7 @@ use Rattle.tree_types.specs.declared.content.Node.{Node}
 use Rattle.tree_types.specs.declared.content.ProcName.{ProcName}
 use Rattle.tree_types.proofs.NamesAgain.{file_order_tells, file_order_total, proc_order_tells, proc_order_total}
 use Rattle.prof_db.specs.Spelling.{file_index, proc_index}
-use Rattle.prof_db.specs.Stored.{HasWords, IsStored, IsWord}
+use Rattle.prof_db.specs.Stored.{HasWordNumbers, IsStored, IsWord}
 use Rattle.prof_db.proofs.BackItems.{raw_line_numbers, raw_scope_numbers}
 use Rattle.prof_db.proofs.ForthItems.{AreWords, FileFits, ProcFits, proc_number, raw_line, raw_scope}
 use Rattle.prof_db.proofs.OwnNames.{all_lists}
@@ -78,7 +78,7 @@ number_few Nameless all = omega arith
 abbrev HasNumber : ProcId → Type 0
 HasNumber id = IsWord (proc_number id)
 
-procs_few : (scope : Scope) → HasWords scope → All HasNumber (scope_procs scope)
+procs_few : (scope : Scope) → HasWordNumbers scope → All HasNumber (scope_procs scope)
 procs_few (scopes.Root kind) all = All-nil HasNumber
 procs_few (scopes.Proc p) all = All-cons HasNumber p [] (number_few p (All-tail IsWord 1 (proc_words p) all)) (All-nil HasNumber)
 procs_few (scopes.Inline p line) all =
@@ -91,10 +91,10 @@ line_few (lines.Row table file line) all = All-cons AreFew (table, file) [] (all
 line_few (lines.Address address) all = All-nil AreFew
 
 -- the words of a scope's line
-call_words : (p : ProcId) (line : LineId) → HasWords (scopes.Inline p line) → All IsWord (line_words line)
+call_words : (p : ProcId) (line : LineId) → HasWordNumbers (scopes.Inline p line) → All IsWord (line_words line)
 call_words p line all = all_back IsWord (proc_words p) (line_words line) (All-tail IsWord 2 (proc_words p ++ line_words line) all)
 
-files_few : (scope : Scope) → HasWords scope → All AreFew (scope_files scope)
+files_few : (scope : Scope) → HasWordNumbers scope → All AreFew (scope_files scope)
 files_few (scopes.Root kind) all = All-nil AreFew
 files_few (scopes.Proc p) all = All-nil AreFew
 files_few (scopes.Inline p line) all = line_few line (call_words p line all)
@@ -165,7 +165,7 @@ module _ (c : Content) (s : IsStored c) where
       All-cons IsWord 0 (file_index c.names table file ∷ line ∷ []) (omega arith) (two (file_index c.names table file) line (omega (arith, less, few, nodes)) (all 3 0 (omega arith)))
   line_fits (lines.Address address) found all = two 1 address (omega arith) (all 1 0 (omega arith))
 
-  pub scope_fits : (scope : Scope) → IsFound c s scope → HasWords scope → AreWords (raw_scope_numbers (raw_scope c.names scope))
+  pub scope_fits : (scope : Scope) → IsFound c s scope → HasWordNumbers scope → AreWords (raw_scope_numbers (raw_scope c.names scope))
   scope_fits (scopes.Root Thread) found all = two 0 0 (omega arith) (omega arith)
   scope_fits (scopes.Root Partial) found all = two 0 1 (omega arith) (omega arith)
   scope_fits (scopes.Proc p) found all = two 1 (proc_index c.names p) (omega arith) (proc_few p found.proc)

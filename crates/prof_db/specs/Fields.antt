@@ -1,8 +1,7 @@
 -- The fields of a database, read one after another up to the first that is not whole.
-use Rattle.std.specs.Prelude.{ℕ, zero, suc, ◌+◌, List, [], ◌∷◌, ◌++◌, length, take, Result, Ok, Err, if◌then◌else◌}
+use Rattle.std.specs.Prelude.{ℕ, List, length, take, Result, Ok, Err, if◌then◌else◌}
 use Rattle.std.specs.Prelude.{nat_lt}
 use Rattle.prof_bytes.specs.Number.{number_in}
-use Rattle.prof_bytes.specs.Outcome.{◌>>=◌}
 use Rattle.prof_bytes.specs.Reading.{At, left_of, moved}
 use Rattle.prof_db.specs.declared.fault.DbFault.{DbFault}
 
@@ -29,16 +28,3 @@ word_from at = number_from 4 at
 abbrev pub bytes_from : ℕ → At → Read (List ℕ)
 bytes_from count at = if nat_lt (length (left_of at)) count then Err (not_whole at)
     else Ok (take count (left_of at), moved count at)
-
--- a step that is taken so many times, each behind the last, with its number and what was read before
-unfoldable pub times : {S : Type 0} → (ℕ → S → At → Read S) → ℕ → ℕ → S → At → Read S
-times step zero i before at = Ok (before, at)
-times step (suc n) i before at = do
-  (so_far, next) ← step i before at
-  times step n (i + 1) so_far next
-
--- one more behind those before
-abbrev pub adding : {X : Type 0} → (At → Read X) → ℕ → List X → At → Read (List X)
-adding item i before at = do
-  (x, next) ← item at
-  Ok (before ++ x ∷ [], next)

@@ -15,7 +15,8 @@ use Rattle.prof_db.specs.declared.raw.RawScope.{RawScope}
 use Rattle.prof_db.specs.declared.raw.RawScope.TheVariants.{Root, Proc, Inline, Call, Stmt}
 use Rattle.prof_db.specs.declared.raw.RawNode.{RawNode}
 use Rattle.prof_db.specs.declared.raw.RawEntry.{RawEntry}
-use Rattle.prof_db.specs.Fields.{Read, fault, not_whole, number_from, word_from, bytes_from, times, adding}
+use Rattle.prof_bytes.specs.Repeated.{times, adding}
+use Rattle.prof_db.specs.Fields.{Read, fault, not_whole, number_from, word_from, bytes_from}
 
 -- ---- the first rule: the first eight bytes
 

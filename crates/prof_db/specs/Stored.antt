@@ -34,8 +34,8 @@ abbrev pub IsWord : ℕ → Type 0
 IsWord n = n < 2 ^ 32
 
 -- a scope whose numbers have four bytes
-abbrev pub HasWords : Scope → Type 0
-HasWords scope = All IsWord (scope_words scope)
+abbrev pub HasWordNumbers : Scope → Type 0
+HasWordNumbers scope = All IsWord (scope_words scope)
 
 abbrev pub IsShort : List ℕ → Type 0
 IsShort name = length name ≤ most_name_bytes
@@ -56,7 +56,7 @@ pub record IsStored (c : Content) : Type 0 where
   pub nodes : length c.nodes < no_parent
   pub columns : All (λ column. IsWord (length column)) c.profiles
   pub paths : All (λ p. is_call_path p.path ≡ true) (paths_of c)
-  pub scopes : All (λ n. HasWords n.scope) c.nodes
+  pub scopes : All (λ n. HasWordNumbers n.scope) c.nodes
   pub procs : All IsNamed c.names.procs
   pub files : All (λ f. IsShort f.name) c.names.files
 
@@ -70,7 +70,7 @@ pub record AreStored (period harts : ℕ) (naming : Naming) (paths : List HartPa
   pub few_samples : length paths ≤ most_samples
   pub few_nodes : length (nodes paths) ≤ most_path_scopes
   pub call_paths : All (λ p. is_call_path p.path ≡ true) paths
-  pub scopes : All (λ p. All HasWords p.path) paths
+  pub scopes : All (λ p. All HasWordNumbers p.path) paths
   pub procs : (id : ProcId) → IsShort (naming.proc_name id)
   pub nameless : naming.proc_name Nameless ≡ codes "<unknown procedure>"
   pub files : (table number : ℕ) → IsShort (naming.file_name table number)

@@ -67,31 +67,31 @@ tree_of period harts nodes entries = record {
 -- ---- the sixth rule, second, and the seventh: the fields of a plane
 
 -- a field: how many bytes it has, and its number
-abbrev pub Field : Type 0
-Field = ℕ × ℕ
+abbrev pub ValueField : Type 0
+ValueField = ℕ × ℕ
 
-abbrev pub word_field : ℕ → Field
+abbrev pub word_field : ℕ → ValueField
 word_field n = (4, n)
 
-abbrev pub profile_fields : ProfileEntry → List Field
+abbrev pub profile_fields : ProfileEntry → List ValueField
 profile_fields e = word_field e.node ∷ word_field (kind_number e.kind) ∷ (8, e.value) ∷ []
 
-abbrev pub context_fields : ContextEntry → List Field
+abbrev pub context_fields : ContextEntry → List ValueField
 context_fields e = word_field (kind_number e.kind) ∷ word_field e.hart ∷ (8, e.value) ∷ []
 
 -- how many entries a column has, and each
-abbrev pub column_fields : {X : Type 0} → (X → List Field) → List X → List Field
+abbrev pub column_fields : {X : Type 0} → (X → List ValueField) → List X → List ValueField
 column_fields fields xs = word_field (length xs) ∷ flat_map fields xs
 
-abbrev pub plane_fields : {X : Type 0} → (X → List Field) → List (List X) → List Field
+abbrev pub plane_fields : {X : Type 0} → (X → List ValueField) → List (List X) → List ValueField
 plane_fields fields columns = flat_map (column_fields fields) columns
 
 -- a field stands there
-abbrev pub stands_at : Field → At → Bool
+abbrev pub stands_at : ValueField → At → Bool
 stands_at field at = not (nat_lt (length (left_of at)) field.0) && number_in field.0 (left_of at) == field.1
 
 -- the fields stand there one after another: else the first that differs
-unfoldable pub fields_kept : ℕ → List Field → At → Read (Unit {0})
+unfoldable pub fields_kept : ℕ → List ValueField → At → Read (Unit {0})
 fields_kept rule [] at = Ok (tt, at)
 fields_kept rule (field ∷ fields) at = if stands_at field at then fields_kept rule fields (moved field.0 at)
     else Err (fault rule at.offset)

@@ -1,7 +1,7 @@
 //! The whole of a database cut into fields: its first two rules.
 ghost use Rattle.std.specs.Prelude.{◌≡◌, []};
 ghost use Rattle.prof_bytes.specs.Outcome.{Gives, GivesAt, GivesFrom};
-ghost use Rattle.prof_db.specs.Fields.{adding, times};
+ghost use Rattle.prof_bytes.specs.Repeated.{adding, times};
 ghost use Rattle.prof_db.specs.Layout.{after_magic, body_from, column_from, entry_from, file_from, layout_in};
 ghost use Rattle.prof_db.specs.Layout.{node_from};
 ghost use Rattle.prof_db.specs.Layout.{past_column, past_entry, proc_from};

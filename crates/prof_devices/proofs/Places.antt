@@ -6,6 +6,7 @@ use Rattle.std.proofs.Math.ListN.{set}
 use Rattle.std.specs.Prelude.{position}
 use Rattle.std.specs.Cmp.Lexicographic.{same_text}
 use Rattle.std.proofs.lemmas.List.Quantifiers.{position-Some}
+use Rattle.std.proofs.lemmas.Bool.{false_from_ne_true}
 use Rattle.prof_devices.specs.Files.{Files, file_of, has_name, Holds}
 
 -- The file at i, where it is the first of its name.
@@ -55,15 +56,11 @@ missing (f ∷ fs) name none = no_place (has_name name f) f.1 _ (length fs) _ no
 pub itself : (name bytes : List ℕ) → has_name name (name, bytes) ≡ true
 itself name bytes = nat_list_eq_equiv.refl name
 
-is_false : (b : Bool) → (b ≡ true → ⊥) → b ≡ false
-is_false true never = absurd (never refl)
-is_false false never = refl
-
 apart : (name other bytes : List ℕ) → other ≢ name → has_name other (name, bytes) ≡ false
-apart name other bytes differ = is_false _ (λ e. differ (sym (same_text name other (sym e))))
+apart name other bytes differ = false_from_ne_true _ (λ e. differ (sym (same_text name other (sym e))))
 
 apart_at : (name other : List ℕ) (f : List ℕ × List ℕ) → has_name name f ≡ true → other ≢ name → has_name other f ≡ false
-apart_at name other f same differ = is_false _ (λ e. differ (sym (same_text f.0 other (sym e)) ∙ same_text f.0 name (sym same)))
+apart_at name other f same differ = false_from_ne_true _ (λ e. differ (sym (same_text f.0 other (sym e)) ∙ same_text f.0 name (sym same)))
 
 pub found : (fs : Files) (name : List ℕ) (i : ℕ) (d : List ℕ × List ℕ) → position (has_name name) fs ≡ Some i → file_of fs name ≡ Some (get_or fs i d).1
 found fs name i d at = let first = position-Some (has_name name) fs i d at in here fs i name d first.0 first.1 first.2
@@ -79,10 +76,6 @@ pushed fs name bytes none = record {
   file = added fs name bytes (missing fs name none) (itself name bytes);
   others = λ other differ. others_of_added fs name bytes other (apart name other bytes differ);
 }
-
--- The same for the file as it was read.
-pub found_as : (fs : Files) (name : List ℕ) (i : ℕ) (x : List ℕ × List ℕ) → x ≡ get_or fs i x → Some i ≡ position (has_name name) fs → file_of fs name ≡ Some x.1
-found_as fs name i x is at = found fs name i x (sym at) ∙ ap (λ (file : List ℕ × List ℕ). Some file.1) (sym is)
 
 pub rewritten_as : (fs : Files) (name bytes : List ℕ) (i : ℕ) (x : List ℕ × List ℕ) → x ≡ get_or fs i x → Some i ≡ position (has_name name) fs → Holds fs (set fs i (x.0, bytes)) name bytes
 rewritten_as fs name bytes i x is at = subst (λ y. Holds fs (set fs i (y.0, bytes)) name bytes) (sym is) (rewritten fs name bytes i x (sym at))

@@ -4,9 +4,9 @@ use Rattle.prof_devices.specs.declared.shelf.Fetch.{Fetch}
 use Rattle.prof_devices.specs.declared.shelf.Fetch.TheVariants as fetches
 use Rattle.prof_devices.specs.declared.shelf.Put.{Put}
 use Rattle.prof_devices.specs.declared.shelf.Put.TheVariants.{Done, Fault, Memory}
-use Rattle.prof_devices.specs.Files.{Files, file_of, bytes_of, Holds, HoldsPart}
+use Rattle.prof_devices.specs.Files.{Files, file_of, file_bytes, Holds, HoldsPart}
 use Rattle.prof_devices.specs.Outside.{Failures, last_count, Advances, Fails, Reads, Fetched, Writes, Stored, Taken}
-use Rattle.prof_devices.specs.InMemory.{MemoryShelf, MemorySink, shown_shelf, shown_sink, failed_at, counted, failed_read, MemoryFetches, MemoryStores, MemoryPuts}
+use Rattle.prof_devices.specs.InMemory.{MemoryShelf, MemorySink, shown_shelf, shown_sink, failed_at, with_call, failed_read, MemoryFetches, MemoryStores, MemoryPuts}
 
 same_advances : (f : Failures) (name : List ℕ) → Advances f f name
 same_advances f name = record { never_falls = omega arith; named = inl refl }
@@ -17,13 +17,13 @@ failed_advances f name small = record { never_falls = omega arith; named = inr (
 pub failed_fails : (f : Failures) (name : List ℕ) → Fails f (failed_at f name) name
 failed_fails f name = record { rose = omega arith; named = refl }
 
-reads_same : (old new : MemoryShelf) (name : List ℕ) → new ≡ counted old → Reads (shown_shelf old) (shown_shelf new) name
+reads_same : (old new : MemoryShelf) (name : List ℕ) → new ≡ with_call old → Reads (shown_shelf old) (shown_shelf new) name
 reads_same old new name is = subst (λ (s : MemoryShelf). Reads (shown_shelf old) (shown_shelf s) name) (sym is) (record { known = refl; files = refl; stores = refl; reads = same_advances old.reads name })
 
 reads_failed : (old new : MemoryShelf) (name : List ℕ) → old.reads.count ≤ last_count → new ≡ failed_read old name → Reads (shown_shelf old) (shown_shelf new) name × Fails old.reads new.reads name
 reads_failed old new name small is = subst (λ (s : MemoryShelf). Reads (shown_shelf old) (shown_shelf s) name × Fails old.reads s.reads name) (sym is) (record { known = refl; files = refl; stores = refl; reads = failed_advances old.reads name small }, failed_fails old.reads name)
 
-found_bytes : (files : Files) (name bytes : List ℕ) → file_of files name ≡ Some bytes → bytes_of files name ≡ bytes
+found_bytes : (files : Files) (name bytes : List ℕ) → file_of files name ≡ Some bytes → file_bytes files name ≡ bytes
 found_bytes files name bytes found = ap (λ (o : Option (List ℕ)). unwrap_or o []) found
 
 pub memory_fetched : (old new : MemoryShelf) (name : List ℕ) (limit : ℕ) (answer : Fetch) → old.reads.count ≤ last_count → MemoryFetches old new name limit answer → Fetched (shown_shelf old) (shown_shelf new) name limit answer
@@ -38,10 +38,10 @@ part_of_whole old new name bytes n h = record { file = inr (n, h.file); others =
 nothing_held : (old new : Files) (name bytes : List ℕ) → new ≡ old → HoldsPart old new name bytes
 nothing_held old new name bytes is = subst (λ (fs : Files). HoldsPart old fs name bytes) (sym is) (record { file = inl refl; others = λ other differ. refl })
 
-writes_same : (old new : MemoryShelf) (files : Files) (name : List ℕ) → new ≡ record (counted old) { files = files } → Writes (shown_shelf old) (shown_shelf new) name
+writes_same : (old new : MemoryShelf) (files : Files) (name : List ℕ) → new ≡ record (with_call old) { files = files } → Writes (shown_shelf old) (shown_shelf new) name
 writes_same old new files name is = subst (λ (s : MemoryShelf). Writes (shown_shelf old) (shown_shelf s) name) (sym is) (record { known = refl; reads = refl; stores = same_advances old.stores name })
 
-writes_failed : (old new : MemoryShelf) (files : Files) (name : List ℕ) → old.stores.count ≤ last_count → new ≡ record (counted old) { files = files; stores = failed_at old.stores name } → Writes (shown_shelf old) (shown_shelf new) name × Fails old.stores new.stores name
+writes_failed : (old new : MemoryShelf) (files : Files) (name : List ℕ) → old.stores.count ≤ last_count → new ≡ record (with_call old) { files = files; stores = failed_at old.stores name } → Writes (shown_shelf old) (shown_shelf new) name × Fails old.stores new.stores name
 writes_failed old new files name small is = subst (λ (s : MemoryShelf). Writes (shown_shelf old) (shown_shelf s) name × Fails old.stores s.stores name) (sym is) (record { known = refl; reads = refl; stores = failed_advances old.stores name small }, failed_fails old.stores name)
 
 pub memory_stored : (old new : MemoryShelf) (name bytes : List ℕ) (answer : Put) → old.stores.count ≤ last_count → MemoryStores old new name bytes answer → Stored (shown_shelf old) (shown_shelf new) name bytes answer

@@ -17,8 +17,8 @@ file_of [] name = None
 file_of (f ∷ fs) name = if has_name name f then Some f.1 else file_of fs name
 
 -- its bytes. A name that no file has stands for an empty file
-abbrev pub bytes_of : Files → List ℕ → List ℕ
-bytes_of fs name = unwrap_or (file_of fs name) []
+abbrev pub file_bytes : Files → List ℕ → List ℕ
+file_bytes fs name = unwrap_or (file_of fs name) []
 
 -- the file is these bytes, and every other file is as before
 pub record Holds (old new : Files) (name bytes : List ℕ) : Type 0 where

@@ -6,7 +6,7 @@ use Rattle.prof_devices.specs.declared.shelf.Fetch.{Fetch}
 use Rattle.prof_devices.specs.declared.shelf.Fetch.TheVariants as fetches
 use Rattle.prof_devices.specs.declared.shelf.Put.{Put}
 use Rattle.prof_devices.specs.declared.shelf.Put.TheVariants.{Done, Fault, Memory}
-use Rattle.prof_devices.specs.Files.{Files, file_of, bytes_of, Holds}
+use Rattle.prof_devices.specs.Files.{Files, file_of, file_bytes, Holds}
 use Rattle.prof_devices.specs.Outside.{Failures, ShelfState, SinkState, last_count}
 
 -- a count after one more: it stops at its type's end
@@ -40,12 +40,12 @@ abbrev pub is_failing : List ℕ → ℕ → Bool
 is_failing failing calls = list_any (λ number. number == raised calls) failing
 
 -- one more call
-abbrev pub counted : MemoryShelf → MemoryShelf
-counted s = record s { calls = raised s.calls }
+abbrev pub with_call : MemoryShelf → MemoryShelf
+with_call s = record s { calls = raised s.calls }
 
 -- one more call, which was a fetch that failed
 abbrev pub failed_read : MemoryShelf → List ℕ → MemoryShelf
-failed_read s name = record (counted s) { reads = failed_at s.reads name }
+failed_read s name = record (with_call s) { reads = failed_at s.reads name }
 
 -- a fetch fails where it is to, and where no file has the name
 abbrev pub FetchFails : MemoryShelf → List ℕ → Bool → Type 0
@@ -55,25 +55,25 @@ FetchFails s name false = file_of s.files name ≡ None
 -- a fetch from memory, answer by answer
 abbrev pub MemoryFetches : MemoryShelf → MemoryShelf → List ℕ → ℕ → Fetch → Type 0
 MemoryFetches old new name limit (fetches.Whole bytes) =
-    (is_failing old.failing old.calls ≡ false) × (new ≡ counted old) × (file_of old.files name ≡ Some bytes)
+    (is_failing old.failing old.calls ≡ false) × (new ≡ with_call old) × (file_of old.files name ≡ Some bytes)
     × (length bytes ≤ limit)
 MemoryFetches old new name limit fetches.TooLong =
-    (is_failing old.failing old.calls ≡ false) × (new ≡ counted old) × (bytes : List ℕ)
+    (is_failing old.failing old.calls ≡ false) × (new ≡ with_call old) × (bytes : List ℕ)
     × (file_of old.files name ≡ Some bytes) × (limit < length bytes)
 MemoryFetches old new name limit fetches.Fault =
     FetchFails old name (is_failing old.failing old.calls) × (new ≡ failed_read old name)
-MemoryFetches old new name limit (fetches.Memory memory) = new ≡ counted old
+MemoryFetches old new name limit (fetches.Memory memory) = new ≡ with_call old
 
 -- a store to memory: one that is to fail keeps a front
 abbrev pub MemoryStores : MemoryShelf → MemoryShelf → List ℕ → List ℕ → Put → Type 0
 MemoryStores old new name bytes Done =
-    (is_failing old.failing old.calls ≡ false) × (new ≡ record (counted old) { files = new.files })
+    (is_failing old.failing old.calls ≡ false) × (new ≡ record (with_call old) { files = new.files })
     × Holds old.files new.files name bytes
 MemoryStores old new name bytes Fault =
     (is_failing old.failing old.calls ≡ true)
-    × (new ≡ record (counted old) { files = new.files; stores = failed_at old.stores name })
+    × (new ≡ record (with_call old) { files = new.files; stores = failed_at old.stores name })
     × Holds old.files new.files name (take old.kept bytes)
-MemoryStores old new name bytes (Memory memory) = new ≡ counted old
+MemoryStores old new name bytes (Memory memory) = new ≡ with_call old
 
 -- a sink over memory, in the same way
 pub record MemorySink : Type 0 where
@@ -117,8 +117,8 @@ sure_sink s = record { known = true; taken = s.taken; faults = 0; shortages = s.
 -- a fetch leaves the files, and fails never
 abbrev pub SureFetches : Files → Files → List ℕ → ℕ → Fetch → Type 0
 SureFetches old new name limit (fetches.Whole bytes) =
-    (new ≡ old) × (bytes ≡ bytes_of old name) × (length bytes ≤ limit)
-SureFetches old new name limit fetches.TooLong = (new ≡ old) × (limit < length (bytes_of old name))
+    (new ≡ old) × (bytes ≡ file_bytes old name) × (length bytes ≤ limit)
+SureFetches old new name limit fetches.TooLong = (new ≡ old) × (limit < length (file_bytes old name))
 SureFetches old new name limit fetches.Fault = ⊥
 SureFetches old new name limit (fetches.Memory memory) = new ≡ old
 

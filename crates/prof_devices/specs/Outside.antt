@@ -4,7 +4,7 @@ use Rattle.prof_devices.specs.declared.shelf.Fetch.{Fetch}
 use Rattle.prof_devices.specs.declared.shelf.Fetch.TheVariants as fetches
 use Rattle.prof_devices.specs.declared.shelf.Put.{Put}
 use Rattle.prof_devices.specs.declared.shelf.Put.TheVariants.{Done, Fault, Memory}
-use Rattle.prof_devices.specs.Files.{Files, bytes_of, Holds, HoldsPart}
+use Rattle.prof_devices.specs.Files.{Files, file_bytes, Holds, HoldsPart}
 
 -- how often calls of a kind have failed, and the file name of the last call in which this count rose
 pub record Failures : Type 0 where
@@ -53,9 +53,9 @@ pub record Reads (old new : ShelfState) (name : List ℕ) : Type 0 where
 -- what a fetch leaves, and what its answer says of the files where they are known
 abbrev pub Fetched : ShelfState → ShelfState → List ℕ → ℕ → Fetch → Type 0
 Fetched old new name limit (fetches.Whole bytes) =
-    Reads old new name × (IsTrue old.known → (bytes ≡ bytes_of old.files name) × (length bytes ≤ limit))
+    Reads old new name × (IsTrue old.known → (bytes ≡ file_bytes old.files name) × (length bytes ≤ limit))
 Fetched old new name limit fetches.TooLong =
-    Reads old new name × (IsTrue old.known → limit < length (bytes_of old.files name))
+    Reads old new name × (IsTrue old.known → limit < length (file_bytes old.files name))
 Fetched old new name limit fetches.Fault = Reads old new name × Fails old.reads new.reads name
 Fetched old new name limit (fetches.Memory memory) = Reads old new name
 

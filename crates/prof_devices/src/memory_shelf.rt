@@ -2,7 +2,8 @@ ghost use Rattle.std.specs.Prelude.{◌≡◌, ◌≤◌, ◌+◌, None, Some, O
 ghost use Rattle.std.specs.Option.{option_copied};
 ghost use Rattle.prof_devices.specs.Files.{file_of, Holds};
 ghost use Rattle.prof_devices.specs.Outside.{Fetched, Stored, last_count};
-ghost use Rattle.prof_devices.specs.InMemory.{MemoryShelf, MemoryFetches, MemoryStores, counted, failed_at, is_failing};
+ghost use Rattle.prof_devices.specs.InMemory.{MemoryShelf, MemoryFetches, MemoryStores, with_call, failed_at};
+ghost use Rattle.prof_devices.specs.InMemory.{is_failing};
 ghost use Rattle.prof_devices.specs.InMemory.{no_failures, shown_shelf};
 ghost use Rattle.prof_devices.specs.private.Parts.{FileRead, FrontStored};
 
@@ -74,7 +75,7 @@ impl MemShelf {
 
     fn next_fails(&mut self) -> bool
         ensures fails { result ≡ is_failing self.old.failing self.old.calls }
-        ensures state { self.new ≡ counted self.old }
+        ensures state { self.new ≡ with_call self.old }
     {
         self.calls = self.calls.saturating_add(1);
         self.failing.as_slice().contains(&self.calls)

@@ -4,7 +4,7 @@
 ghost use Rattle.std.specs.Prelude.{◌<◌, ◌^◌, length};
 
 use crate::rows::digit;
-use dwarf_info::{Info, InfoFault, read_info};
+use dwarf_info::{Info, InfoEntry, InfoFault, read_info};
 use elf_image::DebugParts;
 use prof_bytes::Memory;
 use std::alloc::Global;
@@ -60,24 +60,18 @@ const CLANG: DebugParts<'static> = DebugParts {
     rnglists: &clang_program::RNGLISTS,
 };
 
-fn offset_of(info: &Info<'_>, entry: u32) -> Option<u32> {
-    info.entries().get(entry as usize).map(|e| e.offset)
-}
-
 /// The entry at the row's offset is what the row says.
-fn is_row(alloc: Global, info: &Info<'_>, row: &Row) -> bool {
-    let count = info.entries().len();
-    for i in 0..count {
-        let Ok(number) = u32::try_from(i) else {
+fn is_row(alloc: Global, info: &Info<'_>, entries: &[InfoEntry], row: &Row) -> bool {
+    for number in 0..info.entry_count() {
+        let Some(entry) = entries.get(number as usize) else {
             return false;
         };
-        let entry = info.entries()[i];
         if entry.offset == row.offset {
             let Ok(ranges) = info.ranges(alloc, number) else {
                 return false;
             };
             let link = match info.link(number) {
-                Some(target) => offset_of(info, target),
+                Some(target) => entries.get(target as usize).map(|e| e.offset),
                 None => None,
             };
             return (entry.depth, entry.tag) == (row.depth, row.tag)
@@ -91,16 +85,16 @@ fn is_row(alloc: Global, info: &Info<'_>, row: &Row) -> bool {
 }
 
 /// Whether there are just as many entries of each tag.
-fn are_counted(info: &Info<'_>, tags: &[(u64, usize)]) -> bool {
+fn are_counted(entries: &[InfoEntry], tags: &[(u64, usize)]) -> bool {
     let mut total = 0usize;
     for (tag, count) in tags {
-        let found = info.entries().iter().filter(|e| e.tag == *tag).count();
+        let found = entries.iter().filter(|e| e.tag == *tag).count();
         if found != *count {
             return false;
         }
         total = total.saturating_add(found);
     }
-    info.entries().len() == total
+    entries.len() == total
 }
 
 /// The offset of the first row whose entry is another one; 4294967295 where the entries are not read, or
@@ -114,10 +108,13 @@ fn other_entry(
     requires info { length parts.info.now < 2 ^ 31 }
     requires lists { length parts.rnglists.now < 2 ^ 31 }
 {
-    match read_info(alloc, parts) {
-        Ok(info) if are_counted(&info, tags) => {
+    let Ok(info) = read_info(alloc, parts) else {
+        return Some(u32::MAX);
+    };
+    match info.entries(alloc) {
+        Ok(entries) if are_counted(&entries, tags) => {
             for row in rows {
-                if !is_row(alloc, &info, row) {
+                if !is_row(alloc, &info, &entries, row) {
                     return Some(row.offset);
                 }
             }
@@ -196,13 +193,11 @@ fn part(alloc: Global, text: &[u8], letter: u8) -> Result<Vec<u8>, Memory> {
 
 /// The last entry is what the case says.
 fn is_case(alloc: Global, info: &Info<'_>, case: &Case) -> bool {
-    let count = info.entries().len();
+    let count = info.entry_count();
     if count == 0 {
         return false;
     }
-    let Ok(last) = u32::try_from(count - 1) else {
-        return false;
-    };
+    let last = count - 1;
     let Ok(ranges) = info.ranges(alloc, last) else {
         return false;
     };
@@ -349,7 +344,8 @@ fn read_hex(alloc: Global, bytes: &[u8]) -> Result<Vec<(u32, u32)>, prof_bytes::
     };
     let read = read_info(alloc, parts)?;
     let mut seen = Vec::new(alloc);
-    for entry in read.entries() {
+    let entries = read.entries(alloc)?;
+    for entry in entries.as_slice() {
         seen.push((entry.offset, entry.depth))?;
     }
     for unit in read.units() {

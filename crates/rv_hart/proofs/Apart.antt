@@ -10,7 +10,7 @@ use Rattle.elf_image.specs.declared.part.Segment.{Segment}
 use Rattle.elf_image.specs.Image.{ProgramImage, IsLoaded, in_segment, are_apart, stacks_begin}
 use Rattle.rv_hart.specs.declared.paged_memory.PagedMemory.{PagedMemory}
 use Rattle.rv_hart.specs.AddressSpace.{regions_of, stack_of, first_byte}
-use Rattle.rv_hart.specs.private.Pages.{Paged, nowhere, page_in}
+use Rattle.rv_hart.specs.private.Pages.{nowhere, PageStore, paged_in, bytes_from}
 use Rattle.rv_hart.specs.private.Paging.{IsHome, AreApart, IsPaged}
 
 pub lt-leb : (a b : ℕ) → b < a → nat_le a b ≡ false
@@ -121,8 +121,9 @@ nowhere-home regions at held =
     absurd cc
 
 -- what a program's memory begins as
-pub of-paged : (paged : PagedMemory) (program : ProgramImage) (harts : ℕ) → IsLoaded program → harts ≤ 64 → paged.regions ≡ regions_of program harts → paged.blocks.items ≡ [] → IsPaged paged × IsHome paged.regions nowhere
-of-paged paged program harts is few regions blocks =
+pub of-paged : (paged : PagedMemory) (program : ProgramImage) (harts : ℕ) → IsLoaded program → harts ≤ 64 → paged.regions ≡ regions_of program harts → paged.pages ≡ record { blocks = []; bytes = [] } → IsPaged paged × IsHome paged.regions nowhere
+unfolding bytes_from
+of-paged paged program harts is few regions pages =
     let stacked : IsStacked harts (regions_of program harts) = stacked-all program harts is in
     let high : (at : ℕ) → 2 ^ 32 ≤ at → (k : ℕ) (d : Segment) → k < length (regions_of program harts) → in_segment at (get_or (regions_of program harts) k d) ≡ false =
     λ at past k d within.
@@ -130,9 +131,9 @@ of-paged paged program harts is few regions blocks =
     ap₂ (λ (a b : Bool). a && b) refl (le-ltb at (get_or (regions_of program harts) k d).end (omega arith)) ∙ and-false (nat_le (get_or (regions_of program harts) k d).start at) in (
       record {
         apart = subst AreApart (sym regions) (pairs-apart (regions_of program harts) stacked.pairs);
-        homes = λ number. subst (λ (b : List (List Paged)). IsHome paged.regions (page_in b number).home) (sym blocks) (nowhere-home paged.regions);
-        short = λ number. let e : length (page_in paged.blocks.items number).bytes ≡ 0 = ap (λ (b : List (List Paged)). length (page_in b number).bytes) blocks in omega (arith, e);
-        intact = λ at fixed. ap (λ (b : List (List Paged)). get_or (page_in b (at / 2 ^ 12)).bytes (at % 2 ^ 12) (first_byte paged.file.now paged.regions at)) blocks;
+        homes = λ number. subst (λ (store : PageStore). IsHome paged.regions (paged_in store number).home) (sym pages) (nowhere-home paged.regions);
+        short = λ number. let e : length (paged_in paged.pages number).bytes ≡ 0 = ap (λ (store : PageStore). length (paged_in store number).bytes) pages in omega (arith, e);
+        intact = λ at fixed. ap (λ (store : PageStore). get_or (paged_in store (at / 2 ^ 12)).bytes (at % 2 ^ 12) (first_byte paged.file.now paged.regions at)) pages;
         low = λ at past. ap (find (in_segment at)) regions ∙ find-none (in_segment at) (regions_of program harts) (high at past);
       },
       nowhere-home paged.regions,

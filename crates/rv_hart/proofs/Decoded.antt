@@ -1,32 +1,40 @@
 -- What is kept decoded is what a fetch gives.
-use Rattle.std.proofs.Common.{◌≡◌, ◌==◌, ◌&&◌, true, false, cond, ℕ, suc, ◌+◌, ◌*◌, ◌%◌, ◌^◌, ◌<◌, ◌≤◌, inl, inr, Bool, List, [], ◌∷◌, ◌++◌, map, length, get_or, slice_get, find, Option, Some, None, IfSome, Bor, option_map, unwrap_or, refl, sym, ap, subst, ◌∙◌, arith}
+use Rattle.std.proofs.Common.{◌≡◌, ◌≢◌, true, ℕ, suc, ◌+◌, ◌*◌, ◌%◌, ◌^◌, ◌<◌, ◌≤◌, inl, inr, Bool, List, [], ◌∷◌, ◌++◌, map, length, take, drop, get_or, find, Option, Some, None, IfSome, Bor, option_map, refl, sym, ap, subst, ◌∙◌, arith}
 use Rattle.std.specs.List.{range_with_len}
 use Rattle.std.specs.Option.{option_copied}
-use Rattle.std.proofs.lemmas.Bool.{eqb-true}
-use Rattle.std.proofs.lemmas.Bool.Decides.{leb_tells}
-use Rattle.std.proofs.lemmas.List.{get_or_append_left, get_or-append-add}
+use Rattle.std.proofs.lemmas.Bool.Decides.{leb_tells, nat_tests}
+use Rattle.std.proofs.lemmas.List.{get_or_append_left, get_or-append-add, length-append}
 use Rattle.std.proofs.lemmas.List.FromFn.{get_or-map-range_with_len, length-map-range_with_len}
-use Rattle.std.proofs.lemmas.Option.{unwrap_or-slice_get, slice_get_within}
 use Rattle.std.proofs.Math.Nat.{lt_of_not-le}
 use Rattle.prof_bytes.specs.Number.{number_in}
 use Rattle.elf_image.specs.declared.part.Segment.{Segment}
 use Rattle.elf_image.specs.declared.elf.TheConstants.{PF_W}
 use Rattle.rv_table.specs.declared.inst.Inst.{Inst}
+use Rattle.rv_table.specs.declared.inst.Op.TheVariants as ops
 use Rattle.rv_table.specs.Table.{HasRegisters, decoded}
 use Rattle.rv_hart.specs.declared.decoded_code.DecodedCode.{DecodedCode}
 use Rattle.rv_hart.specs.declared.paged_memory.PagedMemory.{PagedMemory}
-use Rattle.rv_hart.specs.AddressSpace.{AddressSpace, region_at, number_at, byte_in, grants}
-use Rattle.rv_hart.specs.Step.{fetched_at, is_fetched_from}
-use Rattle.rv_hart.specs.private.Paging.{IsHome, IsPaged, value, memory_of, placed}
-use Rattle.rv_hart.specs.private.Decoding.{first_in, first_word, IsKept, AreKept, IsCode, AreCode, KeepsSpace}
+use Rattle.rv_hart.specs.AddressSpace.{AddressSpace, region_at, byte_in, grants}
+use Rattle.rv_hart.specs.Step.{fetched_at}
+use Rattle.rv_hart.specs.private.Paging.{IsHome, IsPaged, value, covers_all, memory_of, word_address}
+use Rattle.rv_hart.specs.private.Decoding.{first_in, first_word, end, IsKept, AreKept, IsCode, IsCodeOf, AreCode, IsAt, Begins, KeepsSpace}
 use Rattle.rv_hart.proofs.Apart.{find-all}
-use Rattle.rv_hart.proofs.Near.{spelled, covers-region}
+use Rattle.rv_hart.proofs.Near.{spelled, part-get, part-length, covers-region}
 use Rattle.rv_hart.proofs.Whole.{fetched-paged}
 
--- four bytes of the file
-pub file-word : (file : List ℕ) (home : Segment) (at : ℕ) (bytes : List ℕ) → length bytes ≡ 4 → ((i : ℕ) → i < 4 → get_or bytes i 0 ≡ byte_in file (at + i) (Some home)) → number_in (length bytes) bytes ≡ first_word file home at
-file-word file home at bytes long each =
-    ap (λ (n : ℕ). number_in n bytes) long ∙ ap (number_in 4) (spelled bytes (first_in file home) at 4 long each)
+-- a word of the bytes that the file has of a region
+pub part-word : (file : List ℕ) (home : Segment) (base : ℕ) (bytes : List ℕ) (k : ℕ) → ((i : ℕ) → i < length bytes → get_or bytes i 0 ≡ first_in file home (base + i)) → 4 * k + 4 ≤ length bytes → number_in 4 (take 4 (drop (4 * k) bytes)) ≡ first_word file home (base + 4 * k)
+part-word file home base bytes k each within =
+    ap (number_in 4)
+    (spelled (take 4 (drop (4 * k) bytes)) (first_in file home) (base + 4 * k) 4 (part-length bytes (4 * k) 4 within)
+    (λ i few.
+    part-get bytes (4 * k) 4 i few
+    ∙ each (4 * k + i) (omega (arith, few, within))
+    ∙ ap (first_in file home) (let e : base + (4 * k + i) ≡ base + 4 * k + i = omega arith in e)))
+
+-- a part of the addresses that a segment holds
+pub covers-part : (home : Segment) (base whole offset count : ℕ) → covers_all home base whole ≡ true → offset + count ≤ whole → covers_all home (base + offset) count ≡ true
+covers-part home base whole offset count covered within = grind (arith, nat_tests)
 
 -- one word more
 pub kept-more : (file : List ℕ) (home : Segment) (base : ℕ) (items : List Inst) (inst : Inst) → AreKept file home base items → IsKept file home (base + 4 * length items) inst → AreKept file home base (items ++ inst ∷ [])
@@ -81,47 +89,69 @@ kept-word paged home at inst is own aligned small kept =
     ∙ ap (λ (bytes : List ℕ). Some (decoded (number_in 4 bytes))) (fixed-word paged home at inst is own kept)
     ∙ ap (λ (i : Inst). Some i) (sym kept.word)
 
-kept-of : (paged : PagedMemory) (code : DecodedCode) (k : ℕ) (inst : Inst) → IsCode paged.file.now paged.regions code → slice_get code.items.items k ≡ Some inst → IsKept paged.file.now code.home (code.base + 4 * k) inst
-kept-of paged code k inst is there =
-    let same : get_or code.items.items k inst ≡ inst = sym (unwrap_or-slice_get code.items.items k inst) ∙ ap (λ (o : Option Inst). unwrap_or o inst) there in
-    subst (λ (i : Inst). IsKept paged.file.now code.home (code.base + 4 * k) i) same (is.kept k inst (slice_get_within code.items.items k inst there))
-
-low-of : (paged : PagedMemory) (code : DecodedCode) (at : ℕ) (inst : Inst) → IsPaged paged → IsHome paged.regions code.home → IsKept paged.file.now code.home at inst → at < 2 ^ 32
-low-of paged code at inst is own kept =
-    let last : at + 3 < 2 ^ 32 = held-low paged code.home (at + 3) is (covers-region paged.regions code.home at 4 3 own kept.covered (omega arith)) in
+low-of : (paged : PagedMemory) (home : Segment) (at : ℕ) (inst : Inst) → IsPaged paged → IsHome paged.regions home → IsKept paged.file.now home at inst → at < 2 ^ 32
+low-of paged home at inst is own kept =
+    let last : at + 3 < 2 ^ 32 = held-low paged home (at + 3) is (covers-region paged.regions home at 4 3 own kept.covered (omega arith)) in
     omega arith
 
--- the word that is kept at a place is the one that is fetched there
-pub kept-fetched : (paged : PagedMemory) (code : DecodedCode) (place : ℕ) (found : Option (Bor Inst)) → IsPaged paged → IsCode paged.file.now paged.regions code → option_copied found ≡ slice_get code.items.items place
-    → IfSome found (λ inst. option_map decoded (fetched_at (memory_of paged) (placed code.base place)) ≡ Some inst.now)
-kept-fetched paged code place None paged_is is there = tt
-kept-fetched paged code place (Some inst) paged_is is there =
-    let at : ℕ = code.base + 4 * place in
-    let kept : IsKept paged.file.now code.home at inst.now = kept-of paged code place inst.now is (sym there) in
-    let low : at < 2 ^ 32 = low-of paged code at inst.now paged_is is.own kept in
-    let here : placed code.base place ≡ at = omega (arith, low) in
+-- the word that is kept at an index is the one that is fetched there
+kept-at : (paged : PagedMemory) (home : Segment) (base index : ℕ) (inst : Inst) → IsPaged paged → IsHome paged.regions home → base % 4 ≡ 0 → IsKept paged.file.now home (base + 4 * index) inst → option_map decoded (fetched_at (memory_of paged) (word_address base index)) ≡ Some inst
+kept-at paged home base index inst is own aligned kept =
+    let at : ℕ = base + 4 * index in
+    let low : at < 2 ^ 32 = low-of paged home at inst is own kept in
+    let here : word_address base index ≡ at = omega (arith, low) in
     ap (λ (a : ℕ). option_map decoded (fetched_at (memory_of paged) a)) here
-    ∙ kept-word paged code.home at inst.now paged_is is.own (omega (arith, is.aligned)) low kept
+    ∙ kept-word paged home at inst is own (omega (arith, aligned)) low kept
 
-pub kept-registers : (paged : PagedMemory) (code : DecodedCode) (k : ℕ) (found : Option (Bor Inst)) → IsCode paged.file.now paged.regions code → option_copied found ≡ slice_get code.items.items k → IfSome found (λ inst. HasRegisters inst.now)
-kept-registers paged code k None is there = tt
-kept-registers paged code k (Some inst) is there = (kept-of paged code k inst.now is (sym there)).registers
+-- at each index stands a word of its region, or no instruction
+is-end : (memory : AddressSpace) (base : ℕ) (items : List Inst) (index : ℕ) → IsAt memory base items index end
+is-end memory base items index =
+    record {
+      registers = record { rd = omega arith; rs1 = omega arith; rs2 = omega arith };
+      behind = λ other. absurd (other refl);
+      word = λ other. absurd (other refl);
+    }
 
--- a change of the blocks leaves what is kept
-pub keeps-on : (old new : PagedMemory) (last : Segment) (codes : List DecodedCode) → KeepsSpace old last codes → new ≡ record old { blocks = new.blocks } → IsPaged new → KeepsSpace new last codes
+pub words-at : (paged : PagedMemory) (home : Segment) (base : ℕ) (items : List Inst) → IsPaged paged → IsCodeOf paged.file.now paged.regions home base items → (index : ℕ) → index < length items → (d : Inst) → IsAt (memory_of paged) base items index (get_or items index d)
+words-at paged home base items is code index within d =
+    subst (λ (xs : List Inst). IsAt (memory_of paged) base xs index (get_or xs index d)) (sym code.ended)
+    (elim (leb_tells (suc index) (length words)) [
+      | inl before ↦ word before.1
+      | inr last ↦ behind (let l = last.1 in let w : index < length (words ++ end ∷ []) = subst (λ (xs : List Inst). index < length xs) code.ended within in omega (arith, l, w, long))
+    ])
+  where
+    words : List Inst
+    words = code.words
+
+    long : length (words ++ end ∷ []) ≡ length words + 1
+    long = length-append words (end ∷ [])
+
+    word : index < length words → IsAt (memory_of paged) base (words ++ end ∷ []) index (get_or (words ++ end ∷ []) index d)
+    word before =
+        let kept : IsKept paged.file.now home (base + 4 * index) (get_or words index d) = code.kept index d before in
+        subst (λ (i : Inst). IsAt (memory_of paged) base (words ++ end ∷ []) index i) (sym (get_or_append_left words (end ∷ []) d index before))
+        record {
+          registers = kept.registers;
+          behind = λ _. omega (arith, long, before);
+          word = λ _. kept-at paged home base index (get_or words index d) is code.own code.aligned kept;
+        }
+
+    behind : index ≡ length words → IsAt (memory_of paged) base (words ++ end ∷ []) index (get_or (words ++ end ∷ []) index d)
+    behind same =
+        subst (λ (i : Inst). IsAt (memory_of paged) base (words ++ end ∷ []) index i)
+        (sym (ap (λ (j : ℕ). get_or (words ++ end ∷ []) j d) (let e : index ≡ length words + 0 = omega (arith, same) in e) ∙ get_or-append-add words (end ∷ []) 0 d))
+        (is-end (memory_of paged) base (words ++ end ∷ []) index)
+
+-- the one word of a run of one instruction
+pub one-word : (memory : AddressSpace) (pc : ℕ) (inst : Inst) → word_address pc 0 ≡ pc → option_map decoded (fetched_at memory pc) ≡ Some inst → HasRegisters inst → inst.op ≢ ops.Illegal → Begins memory pc (inst ∷ end ∷ []) 0
+one-word memory pc inst here fetched registers other =
+    ((omega arith, λ d. record { registers = registers; behind = λ _. omega arith; word = λ _. ap (λ (a : ℕ). option_map decoded (fetched_at memory a)) here ∙ fetched }), λ d. other)
+
+-- a change of the pages leaves what is kept
+pub keeps-on : (old new : PagedMemory) (last : Segment) (codes : List DecodedCode) → KeepsSpace old last codes → new ≡ record old { pages = new.pages } → IsPaged new → KeepsSpace new last codes
 keeps-on old new last codes keeps rest paged =
     record {
       paged = paged;
       home = subst (λ (p : PagedMemory). IsHome p.regions last) (sym rest) keeps.home;
       code = subst (λ (p : PagedMemory). AreCode p.file.now p.regions codes) (sym rest) keeps.code;
     }
-
--- an address from which a word is fetched is a multiple of 4
-pub fetched-aligned : (memory : AddressSpace) (pc : ℕ) (inst : Inst) → option_map decoded (fetched_at memory pc) ≡ Some inst → pc % 4 ≡ 0
-fetched-aligned memory pc inst is = by_case (pc % 4 == 0) refl
-  where
-    by_case : (b : Bool) → (pc % 4 == 0) ≡ b → pc % 4 ≡ 0
-    by_case true e = eqb-true (pc % 4) 0 e
-    by_case false e =
-        let none : fetched_at memory pc ≡ None = ap (λ (t : Bool). cond (t && is_fetched_from pc (region_at memory.regions pc)) (Some (number_at memory pc 4)) None) e in
-        absurd (let clash : None ≡ Some inst = sym (ap (option_map decoded) none) ∙ is in cc)

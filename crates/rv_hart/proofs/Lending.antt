@@ -1,6 +1,5 @@
 -- Words in the bytes of a page that are lent.
-use Rattle.std.proofs.Common.{◌≡◌, ℕ, ◌+◌, ◌-◌, ◌*◌, ◌/◌, ◌%◌, ◌^◌, ◌<◌, ◌≤◌, ◌&&◌, Bool, true, false, cond, List, length, take, drop, get_or, Option, Some, None, IfSome, nat_le, refl, sym, ap, ap₂, subst, ◌∙◌, arith}
-use Rattle.std.proofs.lemmas.List.{ext_get_or}
+use Rattle.std.proofs.Common.{◌≡◌, ℕ, ◌+◌, ◌-◌, ◌*◌, ◌/◌, ◌%◌, ◌^◌, ◌<◌, ◌≤◌, ◌&&◌, Bool, true, false, cond, List, length, take, drop, Option, Some, None, IfSome, nat_le, refl, sym, ap, ap₂, subst, ◌∙◌, arith}
 use Rattle.std.proofs.lemmas.Bool.{and_parts, leb-true, le-leb}
 use Rattle.elf_image.specs.declared.elf.TheConstants.{PF_R}
 use Rattle.prof_bytes.specs.Number.{number_in}
@@ -10,22 +9,8 @@ use Rattle.rv_hart.specs.declared.paged_memory.PagedMemory.{PagedMemory}
 use Rattle.rv_hart.specs.private.Pages.{Paged}
 use Rattle.rv_hart.specs.private.Paging.{page_numbered, page_of, memory_of, IsPaged}
 use Rattle.rv_hart.specs.private.Lending.{StandsIn}
-use Rattle.rv_hart.proofs.Near.{part-get, part-length}
+use Rattle.rv_hart.proofs.Near.{part-length, part-again}
 use Rattle.rv_hart.proofs.Whole.{page-loaded}
-
--- four bytes of some that are lent, as they stand in the page
-lent-bytes : (xs : List ℕ) (low count offset : ℕ) → low + count ≤ length xs → offset + 4 ≤ count → take 4 (drop offset (take count (drop low xs))) ≡ take 4 (drop (low + offset) xs)
-lent-bytes xs low count offset within inside =
-    let lent : length (take count (drop low xs)) ≡ count = part-length xs low count within in
-    ext_get_or 0 (take 4 (drop offset (take count (drop low xs)))) (take 4 (drop (low + offset) xs))
-    (part-length (take count (drop low xs)) offset 4 (omega (arith, lent, inside)) ∙ sym (part-length xs (low + offset) 4 (omega arith)))
-    (λ i few.
-    let four = part-length (take count (drop low xs)) offset 4 (omega (arith, lent, inside)) in
-    let lower : i < 4 = omega (arith, few, four) in
-    part-get (take count (drop low xs)) offset 4 i lower
-    ∙ part-get xs low count (offset + i) (omega arith)
-    ∙ ap (λ (k : ℕ). get_or xs k 0) (let e : low + (offset + i) ≡ low + offset + i = omega arith in e)
-    ∙ sym (part-get xs (low + offset) 4 i lower))
 
 -- the bytes that lie in the page's region
 pub part-words : (page : Paged) (base low high : ℕ) → has PF_R page.home ≡ true → page.home.start ≤ base + low → low < high → base + high ≤ page.home.end → high ≤ length page.bytes
@@ -55,7 +40,7 @@ part-words page base low high granted from some to within at =
           covered = ap₂ (λ (a b : Bool). a && b) (le-leb page.home.start at (omega arith)) (le-leb (at + 4) page.home.end (omega arith));
           granted = granted;
           word_is =
-              ap (number_in 4) (lent-bytes page.bytes low (high - low) (at - (base + low)) (omega arith) (omega arith)
+              ap (number_in 4) (part-again page.bytes low (high - low) (at - (base + low)) 4 (omega arith) (omega arith)
               ∙ ap (λ (k : ℕ). take 4 (drop k page.bytes)) (let e : low + (at - (base + low)) ≡ at - base = omega arith in e));
         }
 

@@ -1,18 +1,18 @@
 -- Bytes that stand together: in a page, or in the file's part of one region.
-use Rattle.std.proofs.Common.{◌≡◌, ℕ, zero, suc, ◌+◌, ◌/◌, ◌%◌, ◌^◌, ◌<◌, ◌≤◌, ◌&&◌, Bool, true, false, cond, List, [], ◌∷◌, map, length, take, drop, slice_index, get_or, slice_get, Option, Some, None, IfSome, Bor, unwrap_or, nat_le, nat_lt, refl, sym, ap, ap₂, subst, ◌∙◌, arith}
+use Rattle.std.proofs.Common.{◌≡◌, ℕ, zero, suc, ◌+◌, ◌/◌, ◌%◌, ◌^◌, ◌<◌, ◌≤◌, ◌&&◌, Bool, true, false, cond, List, [], ◌∷◌, map, length, take, drop, slice_index, get_or, Option, Some, None, IfSome, Bor, nat_le, nat_lt, refl, sym, ap, ap₂, subst, ◌∙◌, arith}
 use Rattle.std.specs.List.{range_with_len, list_all}
 use Rattle.std.proofs.lemmas.List.{ext_get_or, get_or-drop, get_or-take, length-drop, length-take}
-use Rattle.std.proofs.lemmas.Bool.{and_parts, leb-true, ltb-true}
+use Rattle.std.proofs.lemmas.Bool.{and_parts, le-leb, leb-true, ltb-true}
 use Rattle.std.proofs.lemmas.Bool.Decides.{nat_tests}
-use Rattle.std.proofs.lemmas.Option.{unwrap_or-slice_get}
 use Rattle.std.proofs.lemmas.List.FromFn.{get_or-map-range_with_len, length-map-range_with_len}
 use Rattle.std.proofs.Math.Nat.{lt_of_not-le}
 use Rattle.elf_image.specs.declared.part.Segment.{Segment}
 use Rattle.elf_image.specs.Image.{in_segment}
-use Rattle.rv_hart.specs.private.Pages.{Paged, blank, page_at}
+use Rattle.rv_hart.specs.private.Pages.{Paged}
 use Rattle.rv_hart.specs.declared.paged_memory.PagedMemory.{PagedMemory}
 use Rattle.elf_image.specs.declared.elf.TheConstants.{PF_W}
 use Rattle.rv_hart.specs.AddressSpace.{region_at, first_byte, byte_in, has, may, grants}
+use Rattle.rv_hart.specs.private.Recents.{IsNear}
 use Rattle.rv_hart.specs.private.Paging.{page_numbered, page_of, value, IsHome, IsPaged, covers_all}
 
 and_false : (a b : Bool) → b ≡ false → (a && b) ≡ false
@@ -24,10 +24,6 @@ pub get_or-any : (xs : List ℕ) (i d e : ℕ) → i < length xs → get_or xs i
 get_or-any [] i d e within = absurd (omega arith)
 get_or-any (x ∷ xs) zero d e within = refl
 get_or-any (x ∷ xs) (suc i) d e within = get_or-any xs i d e (omega arith)
-
--- an element of a list, or the default past its end
-pub or_default : (pages : List Paged) (index : ℕ) (found : Option Paged) → found ≡ slice_get pages index → unwrap_or found blank ≡ page_at pages index
-or_default pages index found are = ap (λ (f : Option Paged). unwrap_or f blank) are ∙ unwrap_or-slice_get pages index blank
 
 -- a list that has each element of a function's in its offset
 pub spelled : (xs : List ℕ) (f : ℕ → ℕ) (at count : ℕ) → length xs ≡ count → ((i : ℕ) → i < count → get_or xs i 0 ≡ f (at + i)) → xs ≡ map f (range_with_len at count)
@@ -43,6 +39,20 @@ part-get xs offset count i inside = get_or-take count (drop offset xs) i 0 insid
 
 pub part-length : (xs : List ℕ) (offset count : ℕ) → offset + count ≤ length xs → length (take count (drop offset xs)) ≡ count
 part-length xs offset count within = omega (arith, length-take count (drop offset xs), length-drop offset xs)
+
+-- a part of a part
+pub part-again : (xs : List ℕ) (low count offset few : ℕ) → low + count ≤ length xs → offset + few ≤ count → take few (drop offset (take count (drop low xs))) ≡ take few (drop (low + offset) xs)
+part-again xs low count offset few within inside =
+    let long : length (take count (drop low xs)) ≡ count = part-length xs low count within in
+    let both : length (take few (drop offset (take count (drop low xs)))) ≡ few = part-length (take count (drop low xs)) offset few (omega (arith, long, inside)) in
+    ext_get_or 0 (take few (drop offset (take count (drop low xs)))) (take few (drop (low + offset) xs))
+    (both ∙ sym (part-length xs (low + offset) few (omega arith)))
+    (λ i here.
+    let lower : i < few = omega (arith, here, both) in
+    part-get (take count (drop low xs)) offset few i lower
+    ∙ part-get xs low count (offset + i) (omega arith)
+    ∙ ap (λ (k : ℕ). get_or xs k 0) (let e : low + (offset + i) ≡ low + offset + i = omega arith in e)
+    ∙ sym (part-get xs (low + offset) few i lower))
 
 -- the segment holds each address that it covers
 pub covers-holds : (home : Segment) (at count i : ℕ) → covers_all home at count ≡ true → i < count → in_segment (at + i) home ≡ true
@@ -109,6 +119,15 @@ all-each p at (suc count) (suc i) all few =
 pub all-granted : (regions : List Segment) (home : Segment) (right at count : ℕ) → IsHome regions home → covers_all home at count ≡ true → has right home ≡ true → list_all (may right regions) (range_with_len at count) ≡ true
 all-granted regions home right at count own covered granted =
     all-range (may right regions) at count (λ i few. ap (grants right) (covers-region regions home at count i own covered few) ∙ granted)
+
+-- what stands near lies in the page's region, and may be used
+pub near-covered : (page : Paged) (right at count : ℕ) → IsNear page right at count → covers_all page.home at count ≡ true
+near-covered page right at count near = ap₂ (λ (a b : Bool). a && b) (le-leb page.home.start at near.low) (le-leb (at + count) page.home.end near.high)
+
+pub near-granted : (paged : PagedMemory) (right at count : ℕ) → IsPaged paged → IsNear (page_of paged at) right at count → list_all (may right paged.regions) (range_with_len at count) ≡ true
+near-granted paged right at count is near =
+    all-granted paged.regions (page_of paged at).home right at count (is.homes (at / 2 ^ 12))
+    (near-covered (page_of paged at) right at count near) near.granted
 
 -- addresses with a right are below 2^32
 pub granted-low : (regions : List Segment) (right at : ℕ) → ((a : ℕ) → 2 ^ 32 ≤ a → region_at regions a ≡ None) → may right regions at ≡ true → at < 2 ^ 32

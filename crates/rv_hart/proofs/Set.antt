@@ -3,13 +3,14 @@ use Rattle.std.proofs.Common.{◌≡◌, ◌≢◌, ◌==◌, ℕ, suc, ◌+◌,
 use Rattle.std.proofs.lemmas.List.{get_or_append_left, get_or-append-add, get_or-drop, get_or-take, length-take, length-drop, length-append}
 use Rattle.std.proofs.lemmas.Bool.{eqb-true, eq-eqb, le-leb, le-ltb}
 use Rattle.std.proofs.lemmas.Bool.Decides.{leb_tells}
-use Rattle.rv_hart.proofs.Near.{get_or-any}
+use Rattle.rv_hart.proofs.Near.{get_or-any, all-each, near-granted}
 use Rattle.rv_hart.specs.declared.paged_memory.PagedMemory.{PagedMemory}
 use Rattle.elf_image.specs.declared.elf.TheConstants.{PF_W}
 use Rattle.rv_hart.specs.AddressSpace.{first_byte, may}
-use Rattle.rv_hart.specs.private.Pages.{Paged, spliced, with_bytes}
+use Rattle.rv_hart.specs.private.Pages.{Paged, PageStore, IsPagedAt, spliced, with_bytes}
 use Rattle.elf_image.specs.declared.part.Segment.{Segment}
-use Rattle.rv_hart.specs.private.Paging.{IsHome, page_numbered, page_of, value, value_after}
+use Rattle.rv_hart.specs.private.Recents.{IsNear}
+use Rattle.rv_hart.specs.private.Paging.{IsHome, IsPaged, page_numbered, page_of, value, value_after}
 
 pub spliced-length : (bytes : List ℕ) (offset : ℕ) (source : List ℕ) → offset + length source ≤ length bytes → length (spliced bytes offset source) ≡ length bytes
 spliced-length bytes offset source within =
@@ -182,9 +183,9 @@ put-more old mid new at count byte source few is before after a =
         after a ∙ after-behind mid (at + count) a (byte ∷ []) (omega arith) ∙ before a ∙ part-behind old at a count source (omega arith) (omega arith)
         ∙ sym (part-behind old at a (count + 1) source (omega arith) (omega arith))
 
--- what stays over two changes of the blocks
-pub rest-again : (old mid new : PagedMemory) → mid ≡ record old { blocks = mid.blocks } → new ≡ record mid { blocks = new.blocks } → new ≡ record old { blocks = new.blocks }
-rest-again old mid new before after = after ∙ ap (λ (k : PagedMemory). record k { blocks = new.blocks }) before
+-- what stays over two changes of the pages
+pub rest-again : (old mid new : PagedMemory) → mid ≡ record old { pages = mid.pages } → new ≡ record mid { pages = new.pages } → new ≡ record old { pages = new.pages }
+rest-again old mid new before after = after ∙ ap (λ (k : PagedMemory). record k { pages = new.pages }) before
 
 -- bytes that are put where they may be written leave all others as they began
 pub put-intact : (old new : PagedMemory) (at : ℕ) (source : List ℕ) → ((a : ℕ) → may PF_W old.regions a ≡ false → value old a ≡ first_byte old.file.now old.regions a) → ((i : ℕ) → i < length source → may PF_W old.regions (at + i) ≡ true) → ((a : ℕ) → value new a ≡ value_after old at source a) → (a : ℕ) → may PF_W old.regions a ≡ false → value new a ≡ first_byte old.file.now old.regions a
@@ -211,8 +212,8 @@ put-homes regions old new number offset source pages homes n =
     by_case true = homes number
     by_case false = homes n
 
--- the right to one byte, after a change of the blocks
-pub granted-one : (old new : PagedMemory) (at i : ℕ) → new ≡ record old { blocks = new.blocks } → may PF_W old.regions at ≡ true → i < 1 → may PF_W new.regions (at + i) ≡ true
+-- the right to one byte, after a change of the pages
+pub granted-one : (old new : PagedMemory) (at i : ℕ) → new ≡ record old { pages = new.pages } → may PF_W old.regions at ≡ true → i < 1 → may PF_W new.regions (at + i) ≡ true
 granted-one old new at i rest granted few =
     ap (λ (k : PagedMemory). may PF_W k.regions (at + i)) rest ∙ ap (may PF_W old.regions) (let same : at + i ≡ at = omega arith in same) ∙ granted
 
@@ -224,3 +225,29 @@ put-short old new number offset source pages within short n =
     by_case : (b : Bool) → length (cond b (with_bytes (old number) offset source) (old n)).bytes ≤ 2 ^ 12
     by_case true = let e : length (spliced (old number).bytes offset source) ≡ length (old number).bytes = spliced-length (old number).bytes offset source within in let f = short number in omega (arith, e, f)
     by_case false = short n
+
+-- so a memory stays paged when bytes are put into a page
+pub put-paged : (old : PagedMemory) (pages : PageStore) (at : ℕ) (source : List ℕ) → IsPaged old → IsPagedAt old.pages pages (at / 2 ^ 12) (with_bytes (page_of old at) (at % 2 ^ 12) source) → at % 2 ^ 12 + length source ≤ length (page_of old at).bytes → at % 2 ^ 12 + length source ≤ 2 ^ 12 → ((i : ℕ) → i < length source → may PF_W old.regions (at + i) ≡ true) → IsPaged (record { file = old.file; regions = old.regions; pages = pages })
+put-paged old pages at source is put within inside granted =
+    let new : PagedMemory = record { file = old.file; regions = old.regions; pages = pages } in
+    record {
+      apart = is.apart;
+      homes = put-homes old.regions (page_numbered old) (page_numbered new) (at / 2 ^ 12) (at % 2 ^ 12) source put is.homes;
+      short = put-short (page_numbered old) (page_numbered new) (at / 2 ^ 12) (at % 2 ^ 12) source put within is.short;
+      low = is.low;
+      intact = put-intact old new at source is.intact granted (put-value old new at source (λ _. refl) put within inside);
+    }
+
+-- and when they are put where they may be, or not at all
+near-inside : (paged : PagedMemory) (right at count : ℕ) → IsPaged paged → IsNear (page_of paged at) right at count → at % 2 ^ 12 + count ≤ 2 ^ 12
+near-inside paged right at count is near = let short = is.short (at / 2 ^ 12) in let within = near.within in omega (arith, short, within)
+
+pub near-paged : (old : PagedMemory) (pages : PageStore) (at : ℕ) (source : List ℕ) (done : Bool) → IsPaged old → (done ≡ false → pages ≡ old.pages) → (done ≡ true → IsNear (page_of old at) PF_W at (length source)) → (done ≡ true → IsPagedAt old.pages pages (at / 2 ^ 12) (with_bytes (page_of old at) (at % 2 ^ 12) source)) → IsPaged (record { file = old.file; regions = old.regions; pages = pages })
+near-paged old pages at source false is none near put = subst (λ (p : PageStore). IsPaged (record { file = old.file; regions = old.regions; pages = p })) (sym (none refl)) is
+near-paged old pages at source true is none near put =
+    put-paged old pages at source is (put refl) (near refl).within (near-inside old PF_W at (length source) is (near refl))
+    (λ i few. all-each (may PF_W old.regions) at (length source) i (near-granted old PF_W at (length source) is (near refl)) few)
+
+pub near-value : (old : PagedMemory) (pages : PageStore) (at : ℕ) (source : List ℕ) → IsPaged old → IsNear (page_of old at) PF_W at (length source) → IsPagedAt old.pages pages (at / 2 ^ 12) (with_bytes (page_of old at) (at % 2 ^ 12) source) → (a : ℕ) → value (record { file = old.file; regions = old.regions; pages = pages }) a ≡ value_after old at source a
+near-value old pages at source is near put =
+    put-value old (record { file = old.file; regions = old.regions; pages = pages }) at source (λ _. refl) put near.within (near-inside old PF_W at (length source) is near)

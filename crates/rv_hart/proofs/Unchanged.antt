@@ -7,10 +7,11 @@ use Rattle.rv_table.specs.Fields.{sign_extended}
 use Rattle.rv_table.specs.Table.{decoded}
 use Rattle.rv_hart.specs.declared.outcome.Stepped.{Stepped}
 use Rattle.rv_hart.specs.declared.outcome.Stepped.TheVariants as stepped
+use Rattle.rv_hart.specs.declared.outcome.Cause.{Cause}
 use Rattle.rv_hart.specs.declared.outcome.Cause.TheVariants as cause
 use Rattle.rv_hart.specs.Arithmetic.{sum, signed}
 use Rattle.rv_hart.specs.AddressSpace.{AddressSpace, stored}
-use Rattle.rv_hart.specs.Step.{State, rs1_value, rs2_value, address, operand, trapped, retired, jumps, continues_at, branches, loads, finishes_store, executed, fetched, after_fetch, step_of}
+use Rattle.rv_hart.specs.Step.{State, rs1_value, rs2_value, address, operand, trapped, retired, jumps, continues_at, branches, loads, finishes_store, executed, carried_out, fetched, after_fetch, step_of}
 use Rattle.prof_bytes.specs.Number.{number_bytes}
 
 abbrev pub Changes : State → State → Stepped → Type 0
@@ -84,3 +85,7 @@ unchanged s after how is other = changes-none s after how (subst (IfChanged s) (
 -- so the next step ends so again
 pub ends-again : (s after : State) (how : Stepped) → (after, how) ≡ step_of s → (how ≡ stepped.Retired → ⊥) → (after, how) ≡ step_of after
 ends-again s after how is other = is ∙ ap step_of (sym (unchanged s after how is other))
+
+-- a word that is no instruction changes nothing
+pub unchanged-word : (inst : Inst) (s after : State) (why : Cause) → (after, stepped.Trap why) ≡ carried_out inst s → after ≡ s
+unchanged-word inst s after why is = subst (IfChanged s) (sym is) (by_operation inst.op inst s)

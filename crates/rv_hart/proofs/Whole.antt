@@ -38,9 +38,6 @@ loaded-paged paged at count is all =
     ap (λ (t : Bool). cond t (Some (number_at (memory_of paged) at count)) None) all
     ∙ ap (λ (b : List ℕ). Some (number_in count b)) (bytes-paged paged at count (granted-end paged PF_R at count is all))
 
-pub loaded-not : (paged : PagedMemory) (at count : ℕ) → may_all PF_R (memory_of paged) at count ≡ false → loaded (memory_of paged) at count ≡ None
-loaded-not paged at count all = ap (λ (t : Bool). cond t (Some (number_at (memory_of paged) at count)) None) all
-
 -- memory after bytes were written
 pub written-paged : (old new : PagedMemory) (at : ℕ) (bytes : List ℕ) → old.regions ≡ new.regions → ((a : ℕ) → value new a ≡ value_after old at bytes a) → memory_of new ≡ written (memory_of old) at bytes
 written-paged old new at bytes same values =
@@ -54,16 +51,6 @@ stored-paged old new at bytes same all values =
     ap (λ (m : AddressSpace). let q : Bool × AddressSpace = (true, m) in q) (written-paged old new at bytes same values)
     ∙ sym (ap (λ (t : Bool). cond t after (false, memory_of old)) all)
 
-pub stored-not : (old : PagedMemory) (at : ℕ) (bytes : List ℕ) → may_all PF_W (memory_of old) at (length bytes) ≡ false → (false, memory_of old) ≡ stored (memory_of old) at bytes
-stored-not old at bytes all =
-    let after : Bool × AddressSpace = (true, written (memory_of old) at bytes) in
-    sym (ap (λ (t : Bool). cond t after (false, memory_of old)) all)
-
-pub same-paged : (old new : PagedMemory) → old.regions ≡ new.regions → ((a : ℕ) → value new a ≡ value old a) → memory_of new ≡ memory_of old
-same-paged old new same values =
-    ap₂ (λ (r : List Segment) (b : List ℕ). let m : AddressSpace = record { regions = r; bytes = b } in m) (sym same)
-    (each-same (value new) (value old) (λ a low. values a))
-
 pub granted-whole : (paged : PagedMemory) (right at count : ℕ) → IsPaged paged → list_all (may right paged.regions) (range_with_len at count) ≡ true → at < 2 ^ 32 → at + count ≤ 2 ^ 32
 granted-whole paged right at zero is all small = omega arith
 granted-whole paged right at (suc count) is all small =
@@ -74,8 +61,8 @@ granted-whole paged right at (suc count) is all small =
 pub after-same : (old mid : PagedMemory) (at : ℕ) (bytes : List ℕ) → ((a : ℕ) → value mid a ≡ value old a) → (a : ℕ) → value_after mid at bytes a ≡ value_after old at bytes a
 after-same old mid at bytes values a = ap (cond (nat_le at a && nat_lt a (at + length bytes)) (slice_index bytes (a - at))) (values a)
 
--- what a change of the blocks leaves
-pub regions-same : (old new : PagedMemory) → new ≡ record old { blocks = new.blocks } → old.regions ≡ new.regions
+-- what a change of the pages leaves
+pub regions-same : (old new : PagedMemory) → new ≡ record old { pages = new.pages } → old.regions ≡ new.regions
 regions-same old new rest = sym (ap (λ (k : PagedMemory). k.regions) rest)
 
 fetch-low : (pc i : ℕ) → pc + 4 ≤ 2 ^ 32 → i < 4 → pc + i < 2 ^ 32

@@ -3,3 +3,5 @@ pub mod Decoding
 pub mod Pages
 pub mod Paging
 pub mod Lending
+pub mod Recents
+pub mod Going

@@ -51,7 +51,7 @@ pub(crate) fn load_paging(
 ) -> Option<u32>
     requires paged { IsPaged paged.old }
     requires count { is_size count ≡ true }
-    ensures rest { paged.new ≡ record paged.old { blocks = paged.new.blocks } }
+    ensures rest { paged.new ≡ record paged.old { pages = paged.new.pages } }
     ensures paged { IsPaged paged.new }
     ensures same { memory_of paged.new ≡ memory_of paged.old }
     ensures number { result ≡ loaded (memory_of paged.old) at count }
@@ -69,25 +69,32 @@ pub(crate) fn load_paging(
 fn load_first(paged: &mut PagedMemory, alloc: Global, at: u32, count: usize) -> Option<u32>
     requires paged { IsPaged paged.old }
     requires count { is_size count ≡ true }
-    ensures rest { paged.new ≡ record paged.old { blocks = paged.new.blocks } }
+    ensures rest { paged.new ≡ record paged.old { pages = paged.new.pages } }
     ensures paged { IsPaged paged.new }
     ensures same { memory_of paged.new ≡ memory_of paged.old }
     ensures number { result ≡ loaded (memory_of paged.old) at count }
     ensures fits { IfSome result (λ number. number < 2 ^ (8 * count)) }
 {
-    prepare_page(paged, alloc, at);
-    load_unpaged(paged, at, count)
+    paged.remember(at);
+    match paged.number_in_page(at, count) {
+        Some(number) => Some(number),
+        None => {
+            prepare_page(paged, alloc, at);
+            load_unpaged(paged, at, count)
+        }
+    }
 }
 
 /// Makes the page of the address, where the file has bytes of it and there is memory for it.
 fn prepare_page(paged: &mut PagedMemory, alloc: Global, at: u32)
     requires { IsPaged paged.old }
-    ensures rest { paged.new ≡ record paged.old { blocks = paged.new.blocks } }
+    ensures rest { paged.new ≡ record paged.old { pages = paged.new.pages } }
     ensures paged { IsPaged paged.new }
     ensures same { memory_of paged.new ≡ memory_of paged.old }
 {
     if paged.is_page_wanted(at) {
         let _ = paged.make(alloc, at);
+        paged.remember(at);
     }
 }
 
@@ -114,7 +121,7 @@ pub(crate) fn store(
     bytes: &[u8],
 ) -> Result<bool, Memory>
     requires { IsPaged paged.old }
-    ensures rest { paged.new ≡ record paged.old { blocks = paged.new.blocks } }
+    ensures rest { paged.new ≡ record paged.old { pages = paged.new.pages } }
     ensures paged { IsPaged paged.new }
     ensures ok { IfOk result (λ answer. (answer, memory_of paged.new) ≡ stored (memory_of paged.old) at bytes.now) }
     ensures err { OnErr result (memory_of paged.new ≡ memory_of paged.old) }
@@ -146,7 +153,7 @@ pub(crate) fn store_word(
 ) -> Result<bool, Memory>
     requires paged { IsPaged paged.old }
     requires size { size ≤ 4 }
-    ensures rest { paged.new ≡ record paged.old { blocks = paged.new.blocks } }
+    ensures rest { paged.new ≡ record paged.old { pages = paged.new.pages } }
     ensures paged { IsPaged paged.new }
     ensures ok { IfOk result (λ answer.
         (answer, memory_of paged.new) ≡ stored (memory_of paged.old) at (number_bytes size word)) }
@@ -162,7 +169,7 @@ pub(crate) fn store_word(
     store_word_apart(paged, alloc, at, word, size)
 }
 
-/// The same where pages may have to be made. It takes the word, so that the word's bytes need no place in memory above.
+/// The same where pages may have to be made. It takes the word, so that the word's bytes need no memory above.
 #[cold]
 #[inline(never)]
 fn store_word_apart(
@@ -174,7 +181,7 @@ fn store_word_apart(
 ) -> Result<bool, Memory>
     requires paged { IsPaged paged.old }
     requires size { size ≤ 4 }
-    ensures rest { paged.new ≡ record paged.old { blocks = paged.new.blocks } }
+    ensures rest { paged.new ≡ record paged.old { pages = paged.new.pages } }
     ensures paged { IsPaged paged.new }
     ensures ok { IfOk result (λ answer.
         (answer, memory_of paged.new) ≡ stored (memory_of paged.old) at (number_bytes size word)) }
@@ -186,7 +193,7 @@ fn store_word_apart(
     store_apart(paged, alloc, at, lowest_bytes(&bytes, size))
 }
 
-/// The same where pages may have to be made.
+/// The same where the page was not used last: it is from now on.
 #[cold]
 fn store_apart(
     paged: &mut PagedMemory,
@@ -195,7 +202,28 @@ fn store_apart(
     bytes: &[u8],
 ) -> Result<bool, Memory>
     requires { IsPaged paged.old }
-    ensures rest { paged.new ≡ record paged.old { blocks = paged.new.blocks } }
+    ensures rest { paged.new ≡ record paged.old { pages = paged.new.pages } }
+    ensures paged { IsPaged paged.new }
+    ensures ok { IfOk result (λ answer. (answer, memory_of paged.new) ≡ stored (memory_of paged.old) at bytes.now) }
+    ensures err { OnErr result (memory_of paged.new ≡ memory_of paged.old) }
+    ensures writable { OnErr result (may_all PF_W (memory_of paged.old) at (length bytes.now) ≡ true) }
+{
+    paged.remember(at);
+    if !bytes.is_empty() && bytes.len() <= 4 && paged.write_near(at, bytes) {
+        return Ok(true);
+    }
+    store_unpaged(paged, alloc, at, bytes)
+}
+
+/// The same where pages may have to be made.
+fn store_unpaged(
+    paged: &mut PagedMemory,
+    alloc: Global,
+    at: u32,
+    bytes: &[u8],
+) -> Result<bool, Memory>
+    requires { IsPaged paged.old }
+    ensures rest { paged.new ≡ record paged.old { pages = paged.new.pages } }
     ensures paged { IsPaged paged.new }
     ensures ok { IfOk result (λ answer. (answer, memory_of paged.new) ≡ stored (memory_of paged.old) at bytes.now) }
     ensures err { OnErr result (memory_of paged.new ≡ memory_of paged.old) }

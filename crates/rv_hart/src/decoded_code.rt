@@ -1,20 +1,22 @@
 //! Words that are decoded once: those of regions that may be executed and not written, which no store reaches.
-ghost use Rattle.std.specs.Prelude.{◌≡◌, ◌+◌, ◌<◌, ◌≤◌, ◌%◌, ◌^◌, [], true, IfOk, IfSome, Some, length, option_map};
-ghost use Rattle.std.specs.Prelude.{slice_get};
+ghost use Rattle.std.specs.Prelude.{◌≡◌, ◌≢◌, false, ◌+◌, ◌*◌, ◌<◌, ◌≤◌, ◌%◌, ℕ, true, IfOk, IfSome, Some, length, option_map};
+ghost use Rattle.std.specs.Prelude.{slice_index, take, drop};
 ghost use Rattle.std.specs.Option.{option_copied};
+ghost use Rattle.std.specs.List.{slice_index_or};
 ghost use Rattle.elf_image.specs.Image.{range_of};
+ghost use Rattle.prof_bytes.specs.Number.{number_in};
+ghost use Rattle.rv_table.specs.declared.inst.Inst.{Inst};
 ghost use Rattle.rv_table.specs.Table.{HasRegisters, decoded};
 ghost use Rattle.rv_hart.specs.Step.{fetched_at};
-ghost use Rattle.rv_hart.specs.private.Decoding.{first_word, AreKept, IsCode, AreCode};
-ghost use Rattle.rv_hart.specs.private.Pages.{nowhere};
-ghost use Rattle.rv_hart.specs.private.Paging.{IsPaged, covers_all, memory_of, placed};
+ghost use Rattle.rv_hart.specs.private.Decoding.{first_in, AreKept, IsCode, AreCode, IsInstruction, Begins};
+ghost use Rattle.rv_hart.specs.private.Paging.{IsPaged, covers_all, memory_of, word_address};
 
 use crate::paged_memory::PagedMemory;
-use crate::read::{near_in_file, number};
+use crate::read::number;
 use crate::right::{NOWHERE, Right, covers, grants};
 use elf_image::{AddressRange, HasRange, RangeTable, Segment};
 use prof_bytes::Memory;
-use rv_table::{Inst, decode};
+use rv_table::{Inst, Op, decode};
 use std::alloc::Global;
 
 /// How many words of a program are kept decoded, at most: 16 MiB, for 8 MiB of code.
@@ -36,42 +38,40 @@ impl HasRange for DecodedCode {
     }
 }
 
-impl DecodedCode {
-    /// No words.
-    pub(crate) fn none(alloc: Global) -> DecodedCode
-        ensures home { result.home ≡ nowhere }
-        ensures base { result.base ≡ 0 }
-        ensures items { result.items.items ≡ [] }
-    {
-        DecodedCode {
-            home: NOWHERE,
-            base: 0,
-            items: Vec::new(alloc),
-        }
-    }
-}
+/// What stands behind the last word: no instruction, so that no run goes past it.
+pub(crate) const END: Inst = Inst {
+    op: Op::Illegal,
+    rd: 0,
+    rs1: 0,
+    rs2: 0,
+    imm: 0,
+};
 
-/// The word that an address of the region began with, where its bytes stand together in the file.
-#[inline(always)]
-fn word_in_file(file: &[u8], home: &Segment, at: u32) -> Option<u32>
-    requires { covers_all home.now at 4 ≡ true }
-    ensures { IfSome result (λ word. word ≡ first_word file.now home.now at) }
+/// The bytes of the region that the file has, from an address on.
+fn bytes_in_file<'a>(file: &'a [u8], home: &Segment, base: u32) -> &'a [u8]
+    requires { covers_all home.now base 0 ≡ true }
+    ensures covered { covers_all home.now base (length result.now) ≡ true }
+    ensures bytes { (i : ℕ) → i < length result.now
+        → slice_index result.now i ≡ first_in file.now home.now (base + i) }
 {
-    let bytes = near_in_file(file, home, at, 4)?;
-    Some(number(bytes))
+    let filled = (home.end - home.start).min(home.filled) as usize;
+    let end = (home.offset as usize + filled).min(file.len());
+    let depth = (base - home.start) as usize;
+    let start = (home.offset as usize + depth).min(end);
+    &file[start..end]
 }
 
-/// Whether the region holds the word at the address, and the file has bytes of it.
+/// The word at an index among the words of these bytes.
 #[inline(always)]
-fn is_filled(home: &Segment, at: u32) -> bool
-    ensures covered { result ≡ true → covers_all home.now at 4 ≡ true }
-    ensures low { result ≡ true → at + 4 < 2 ^ 32 }
+fn word_in(bytes: &[u8], index: usize) -> u32
+    requires { 4 * index + 4 ≤ length bytes.now }
+    ensures { result ≡ number_in 4 (take 4 (drop (4 * index) bytes.now)) }
 {
-    let last = home.end.saturating_sub(4);
-    at <= last && covers(home, at, 4) && at - home.start < home.filled
+    number(&bytes[4 * index..4 * index + 4])
 }
 
-/// The words of a region from an address on, at most so many, decoded. There are none of a region that may be written.
+/// The words of the region that the file has from an address on, at most so many, decoded. There are none of a region
+/// that may be written. There is room for one behind them.
 fn decoded_words(
     alloc: Global,
     file: &[u8],
@@ -79,20 +79,16 @@ fn decoded_words(
     base: u32,
     most: usize,
 ) -> Result<Vec<Inst>, Memory>
-    ensures few { IfOk result (λ words. length words.items ≤ most) }
-    ensures kept { IfOk result (λ words. AreKept file.now home.now base words.items) }
+    ensures { IfOk result (λ words. AreKept file.now home.now base words.items) }
 {
-    let mut words = Vec::new(alloc);
-    if !grants(home, Right::Execute) || grants(home, Right::Write) {
-        return Ok(words);
+    if !grants(home, Right::Execute) || grants(home, Right::Write) || !covers(home, base, 0) {
+        return Ok(Vec::new(alloc));
     }
-    let mut at = base;
-    while words.len() < most && is_filled(home, at) {
-        let Some(word) = word_in_file(file, home, at) else {
-            return Ok(words);
-        };
-        words.push(decode(word))?;
-        at += 4;
+    let bytes = bytes_in_file(file, home, base);
+    let count = (bytes.len() / 4).min(most);
+    let mut words = Vec::with_capacity(alloc, count + 1)?;
+    for index in 0..count {
+        words.push(decode(word_in(bytes, index)))?;
     }
     Ok(words)
 }
@@ -105,12 +101,12 @@ fn decoded_region(
     most: usize,
 ) -> Result<DecodedCode, Memory>
     requires { IsPaged paged.now }
-    ensures few { IfOk result (λ code. length code.items.items ≤ most) }
-    ensures code { IfOk result (λ code. IsCode paged.now.file.now paged.now.regions code) }
+    ensures { IfOk result (λ code. IsCode paged.now.file.now paged.now.regions code) }
 {
     let home = paged.region(at).unwrap_or(NOWHERE);
     let base = home.start.saturating_add(3) / 4 * 4;
-    let items = decoded_words(alloc, paged.file, &home, base, most)?;
+    let mut items = decoded_words(alloc, paged.file, &home, base, most)?;
+    items.push(END)?;
     Ok(DecodedCode { home, base, items })
 }
 
@@ -126,7 +122,7 @@ pub(crate) fn decoded_regions(
     let mut room = MOST_WORDS;
     for region in paged.regions.items() {
         let code = decoded_region(alloc, paged, region.start, room)?;
-        room -= code.items.len();
+        room = room.saturating_sub(code.items.len());
         codes.push(code)?;
     }
     Ok(codes)
@@ -145,63 +141,66 @@ pub(crate) fn code_at<'c>(
     codes.first(pc)
 }
 
+/// The address of the word at an index, modulo 2^32.
 #[inline(always)]
-fn item_at(items: &[Inst], index: usize) -> Option<&Inst>
-    ensures { option_copied result ≡ slice_get items.now index }
+pub(crate) fn pc_of(base: u32, index: usize) -> u32
+    ensures { result ≡ word_address base index }
 {
-    items.get(index)
+    base.wrapping_add(((index % 0x1_0000_0000) as u32).wrapping_mul(4))
 }
 
-/// The address of the word at a place, modulo 2^32.
+/// The index of the word at an address.
 #[inline(always)]
-pub(crate) fn pc_of(base: u32, place: usize) -> u32
-    ensures { result ≡ placed base place }
-{
-    base.wrapping_add(((place % 0x1_0000_0000) as u32).wrapping_mul(4))
-}
-
-/// The place of the word at an address.
-#[inline(always)]
-pub(crate) fn place_of(base: u32, pc: u32) -> usize
+pub(crate) fn index_of(base: u32, pc: u32) -> usize
     requires base { base % 4 ≡ 0 }
     requires pc { pc % 4 ≡ 0 }
-    ensures { placed base result ≡ pc }
+    ensures { word_address base result ≡ pc }
 {
     (pc.wrapping_sub(base) / 4) as usize
 }
 
-/// The instruction at a place, where its word is kept.
+/// The word at an index.
 #[inline(always)]
-pub(crate) fn kept_at<'c>(
-    items: &'c [Inst],
-    code: &DecodedCode,
-    paged: &PagedMemory<'_>,
-    place: usize,
-) -> Option<&'c Inst>
-    requires items { items.now ≡ code.now.items.items }
-    requires paged { IsPaged paged.now }
-    requires code { IsCode paged.now.file.now paged.now.regions code.now }
-    ensures fetched { IfSome result (λ inst.
-        option_map decoded (fetched_at (memory_of paged.now) (placed code.now.base place)) ≡ Some inst.now) }
-    ensures registers { IfSome result (λ inst. HasRegisters inst.now) }
+pub(crate) fn word_at(items: &[Inst], index: usize) -> &Inst
+    requires { index < length items.now }
+    ensures { (d : Inst) → result.now ≡ slice_index_or items.now index d }
 {
-    let _ = code;
-    let _ = paged;
-    item_at(items, place)
+    &items[index]
 }
 
-/// The instruction at pc, where its word is kept.
-pub(crate) fn first_kept(code: &DecodedCode, paged: &PagedMemory<'_>, pc: u32) -> Option<Inst>
+/// Whether a word is no instruction.
+pub(crate) fn is_illegal(inst: &Inst) -> bool
+    ensures yes { result ≡ true → inst.now.op ≡ Op.Illegal }
+    ensures no { result ≡ false → inst.now.op ≢ Op.Illegal }
+{
+    matches!(inst.op, Op::Illegal)
+}
+
+/// Whether there is an instruction at an index.
+fn is_instruction(items: &[Inst], index: usize) -> bool
+    ensures within { result ≡ true → index < length items.now }
+    ensures instruction { result ≡ true → IsInstruction items.now index }
+{
+    match items.get(index) {
+        Some(inst) => !is_illegal(inst),
+        None => false,
+    }
+}
+
+/// The index of the word at pc, where it is kept and an instruction.
+pub(crate) fn first_kept(code: &DecodedCode, paged: &PagedMemory<'_>, pc: u32) -> Option<usize>
     requires paged { IsPaged paged.now }
     requires code { IsCode paged.now.file.now paged.now.regions code.now }
-    ensures fetched { IfSome result (λ inst. option_map decoded (fetched_at (memory_of paged.now) pc) ≡ Some inst) }
-    ensures registers { IfSome result (λ inst. HasRegisters inst) }
+    ensures pc { IfSome result (λ index. word_address code.now.base index ≡ pc) }
+    ensures first { IfSome result (λ index. Begins (memory_of paged.now) code.now.base code.now.items.items index) }
 {
+    let _ = paged;
     if pc % 4 != 0 {
         return None;
     }
-    match kept_at(code.items.as_slice(), code, paged, place_of(code.base, pc)) {
-        Some(inst) => Some(*inst),
-        None => None,
+    let index = index_of(code.base, pc);
+    if !is_instruction(code.items.as_slice(), index) {
+        return None;
     }
+    Some(index)
 }

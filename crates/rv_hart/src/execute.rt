@@ -5,14 +5,15 @@ ghost use Rattle.rv_table.specs.Fields.{sign_extended};
 ghost use Rattle.rv_table.specs.Table.{HasRegisters};
 ghost use Rattle.rv_hart.specs.AddressSpace.{AddressSpace, is_size, stored};
 ghost use Rattle.rv_hart.specs.Arithmetic.{computed, sum};
-ghost use Rattle.rv_hart.specs.private.Paging.{IsPaged, memory_of, placed, placed_state, state_at};
+ghost use Rattle.rv_hart.specs.private.Going.{ended, Goes, GoesBy};
+ghost use Rattle.rv_hart.specs.private.Paging.{IsPaged, memory_of, word_address, indexed_state, state_at};
 ghost use Rattle.rv_hart.specs.Step.{State, state, rs1_value, rs2_value, address, operand, computes, jumps, branches};
 ghost use Rattle.rv_hart.specs.Step.{continues_at};
 ghost use Rattle.rv_hart.specs.Step.{loads, finishes_store, stores, carried_out, is_store};
 
 use crate::access;
 use crate::compute::compute;
-use crate::decoded_code::{pc_of, place_of};
+use crate::decoded_code::{index_of, pc_of};
 use crate::hart::{Hart, read, write};
 use crate::outcome::{Cause, Stepped};
 use crate::paged_memory::PagedMemory;
@@ -20,85 +21,124 @@ use prof_bytes::Memory;
 use rv_table::{Inst, Op};
 use std::alloc::Global;
 
+/// How a hart goes on after the word at an index, among so many words.
+#[derive(Clone, Copy, Debug, PartialEq, Eq)]
+pub(crate) enum Went {
+    /// The instruction retired, and the next one's word is among them.
+    On,
+    /// The instruction retired, and the next one's word lies elsewhere.
+    Away,
+    /// The word is no instruction.
+    Illegal,
+    /// The instruction did not retire.
+    Stopped(Stepped),
+}
+
 /// The hart goes on with the word behind this one.
 #[inline(always)]
-fn go_on(place: &mut usize) -> Stepped
-    ensures { (base : ℕ) (registers : List ℕ) (m : AddressSpace) → let s = state (placed base place.old) registers m in
-        (state (placed base place.new) registers m, result) ≡ continues_at (sum s.pc 4) s }
+fn go_on(index: &mut usize) -> Went
+    ensures ends { (base : ℕ) (registers : List ℕ) (m : AddressSpace) →
+        let s = state (word_address base index.old) registers m in
+        (state (word_address base index.new) registers m, ended result) ≡ continues_at (sum s.pc 4) s }
+    ensures goes { (count : ℕ) → Goes count index.old index.new result }
 {
-    *place = place.wrapping_add(1);
-    Stepped::Retired
+    *index = index.wrapping_add(1);
+    Went::On
 }
 
 /// The value goes into the destination.
 #[inline(always)]
-fn write_back(hart: &mut Hart, place: &mut usize, inst: &Inst, value: u32) -> Stepped
+fn write_back(hart: &mut Hart, index: &mut usize, inst: &Inst, value: u32) -> Went
     requires { HasRegisters inst.now }
-    ensures { (base : ℕ) (m : AddressSpace) → (state_at base place.new hart.new m, result)
-        ≡ computes inst.now value (state_at base place.old hart.old m) }
+    ensures ends { (base : ℕ) (m : AddressSpace) → (state_at base index.new hart.new m, ended result)
+        ≡ computes inst.now value (state_at base index.old hart.old m) }
+    ensures goes { (count : ℕ) → Goes count index.old index.new result }
 {
     write(hart, inst.rd, value);
-    *place = place.wrapping_add(1);
-    Stepped::Retired
+    *index = index.wrapping_add(1);
+    Went::On
 }
 
 /// An operation on registers and the immediate goes into the destination.
 #[inline(always)]
-fn operate(hart: &mut Hart, place: &mut usize, inst: &Inst, op: Op) -> Stepped
+fn operate(hart: &mut Hart, index: &mut usize, inst: &Inst, op: Op) -> Went
     requires { HasRegisters inst.now }
-    ensures { (base : ℕ) (m : AddressSpace) → let s = state_at base place.old hart.old m in
-        (state_at base place.new hart.new m, result)
+    ensures ends { (base : ℕ) (m : AddressSpace) → let s = state_at base index.old hart.old m in
+        (state_at base index.new hart.new m, ended result)
         ≡ computes inst.now (computed op (rs1_value inst.now s) (rs2_value inst.now s) inst.now.imm) s }
+    ensures goes { (count : ℕ) → Goes count index.old index.new result }
 {
     let a = read(hart, inst.rs1);
     let b = read(hart, inst.rs2);
-    write_back(hart, place, inst, compute(op, a, b, inst.imm))
+    write_back(hart, index, inst, compute(op, a, b, inst.imm))
+}
+
+/// The hart goes on with the word at this address.
+#[inline(always)]
+fn go_to(index: &mut usize, base: u32, count: usize, target: u32) -> Went
+    requires base { base % 4 ≡ 0 }
+    requires target { target % 4 ≡ 0 }
+    ensures at { word_address base index.new ≡ target }
+    ensures retires { ended result ≡ Stepped.Retired }
+    ensures goes { Goes count index.old index.new result }
+{
+    *index = index_of(base, target);
+    if *index < count { Went::On } else { Went::Away }
 }
 
 #[inline(always)]
-fn jump(hart: &mut Hart, place: &mut usize, base: u32, inst: &Inst, target: u32) -> Stepped
+fn jump(
+    hart: &mut Hart,
+    index: &mut usize,
+    base: u32,
+    count: usize,
+    inst: &Inst,
+    target: u32,
+) -> Went
     requires registers { HasRegisters inst.now }
     requires base { base % 4 ≡ 0 }
-    ensures { (m : AddressSpace) → (state_at base place.new hart.new m, result)
-        ≡ jumps inst.now target (state_at base place.old hart.old m) }
+    ensures ends { (m : AddressSpace) → (state_at base index.new hart.new m, ended result)
+        ≡ jumps inst.now target (state_at base index.old hart.old m) }
+    ensures goes { Goes count index.old index.new result }
 {
     if target % 4 != 0 {
-        return Stepped::Trap(Cause::Target);
+        return Went::Stopped(Stepped::Trap(Cause::Target));
     }
-    let link = pc_of(base, *place).wrapping_add(4);
+    let link = pc_of(base, *index).wrapping_add(4);
     write(hart, inst.rd, link);
-    *place = place_of(base, target);
-    Stepped::Retired
+    go_to(index, base, count, target)
 }
 
 #[inline(always)]
-fn branch(place: &mut usize, base: u32, inst: &Inst, taken: bool) -> Stepped
-    requires { base % 4 ≡ 0 }
-    ensures { (registers : List ℕ) (m : AddressSpace) → (state (placed base place.new) registers m, result)
-        ≡ branches inst.now taken (state (placed base place.old) registers m) }
+fn branch(index: &mut usize, base: u32, count: usize, inst: &Inst, taken: bool) -> Went
+    requires base { base % 4 ≡ 0 }
+    ensures ends { (registers : List ℕ) (m : AddressSpace) →
+        (state (word_address base index.new) registers m, ended result)
+        ≡ branches inst.now taken (state (word_address base index.old) registers m) }
+    ensures goes { Goes count index.old index.new result }
 {
     if !taken {
-        *place = place.wrapping_add(1);
-        return Stepped::Retired;
+        *index = index.wrapping_add(1);
+        return Went::On;
     }
-    let target = pc_of(base, *place).wrapping_add(inst.imm);
+    let target = pc_of(base, *index).wrapping_add(inst.imm);
     if target % 4 != 0 {
-        return Stepped::Trap(Cause::Target);
+        return Went::Stopped(Stepped::Trap(Cause::Target));
     }
-    *place = place_of(base, target);
-    Stepped::Retired
+    go_to(index, base, count, target)
 }
 
 /// A number that was loaded goes into the destination.
 #[inline(always)]
-fn load(hart: &mut Hart, place: &mut usize, inst: &Inst, number: Option<u32>) -> Stepped
+fn load(hart: &mut Hart, index: &mut usize, inst: &Inst, number: Option<u32>) -> Went
     requires { HasRegisters inst.now }
-    ensures { (base : ℕ) (m : AddressSpace) → (state_at base place.new hart.new m, result)
-        ≡ loads inst.now number (state_at base place.old hart.old m) }
+    ensures ends { (base : ℕ) (m : AddressSpace) → (state_at base index.new hart.new m, ended result)
+        ≡ loads inst.now number (state_at base index.old hart.old m) }
+    ensures goes { (count : ℕ) → Goes count index.old index.new result }
 {
     match number {
-        Some(number) => write_back(hart, place, inst, number),
-        None => Stepped::Trap(Cause::Load),
+        Some(number) => write_back(hart, index, inst, number),
+        None => Went::Stopped(Stepped::Trap(Cause::Load)),
     }
 }
 
@@ -136,7 +176,7 @@ fn loaded(
     requires paged { IsPaged paged.old }
     requires registers { HasRegisters inst.now }
     requires size { is_size size ≡ true }
-    ensures rest { paged.new ≡ record paged.old { blocks = paged.new.blocks } }
+    ensures rest { paged.new ≡ record paged.old { pages = paged.new.pages } }
     ensures paged { IsPaged paged.new }
     ensures same { memory_of paged.new ≡ memory_of paged.old }
     ensures number { (pc : ℕ) → result ≡ operand inst.now size (state pc hart.now.regs (memory_of paged.old)) }
@@ -149,29 +189,30 @@ fn loaded(
 /// The lowest bytes of a word go into memory from this address on.
 #[inline(always)]
 fn finish_store(
-    place: &mut usize,
+    index: &mut usize,
     paged: &mut PagedMemory,
     alloc: Global,
     at: u32,
     word: u32,
     size: usize,
-) -> Result<Stepped, Memory>
+) -> Result<Went, Memory>
     requires paged { IsPaged paged.old }
     requires size { size ≤ 4 }
-    ensures rest { paged.new ≡ record paged.old { blocks = paged.new.blocks } }
+    ensures rest { paged.new ≡ record paged.old { pages = paged.new.pages } }
     ensures paged { IsPaged paged.new }
     ensures ok { (base : ℕ) (registers : List ℕ) →
-        let s = state (placed base place.old) registers (memory_of paged.old) in
-        IfOk result (λ stepped. (state (placed base place.new) registers (memory_of paged.new), stepped)
+        let s = state (word_address base index.old) registers (memory_of paged.old) in
+        IfOk result (λ went. (state (word_address base index.new) registers (memory_of paged.new), ended went)
         ≡ finishes_store (stored (memory_of paged.old) at (number_bytes size word)) s) }
-    ensures err { OnErr result (place.new ≡ place.old) }
+    ensures goes { IfOk result (λ went. (count : ℕ) → Goes count index.old index.new went) }
+    ensures err { OnErr result (index.new ≡ index.old) }
     ensures same { OnErr result (memory_of paged.new ≡ memory_of paged.old) }
     ensures retires { let after = stored (memory_of paged.old) at (number_bytes size word) in
         (s : State) → OnErr result ((finishes_store after s).1 ≡ Stepped.Retired) }
 {
     match access::store_word(paged, alloc, at, word, size) {
-        Ok(true) => Ok(go_on(place)),
-        Ok(false) => Ok(Stepped::Trap(Cause::Store)),
+        Ok(true) => Ok(go_on(index)),
+        Ok(false) => Ok(Went::Stopped(Stepped::Trap(Cause::Store))),
         Err(error) => Err(error),
     }
 }
@@ -180,157 +221,168 @@ fn finish_store(
 #[inline(always)]
 fn store(
     hart: &Hart,
-    place: &mut usize,
+    index: &mut usize,
     paged: &mut PagedMemory,
     alloc: Global,
     inst: &Inst,
     size: usize,
-) -> Result<Stepped, Memory>
+) -> Result<Went, Memory>
     requires paged { IsPaged paged.old }
     requires registers { HasRegisters inst.now }
     requires size { size ≤ 4 }
-    ensures rest { paged.new ≡ record paged.old { blocks = paged.new.blocks } }
+    ensures rest { paged.new ≡ record paged.old { pages = paged.new.pages } }
     ensures paged { IsPaged paged.new }
-    ensures ok { (base : ℕ) → IfOk result (λ stepped. (placed_state base place.new hart.now paged.new, stepped)
-        ≡ stores inst.now size (placed_state base place.old hart.now paged.old)) }
-    ensures err { OnErr result (place.new ≡ place.old) }
+    ensures ok { (base : ℕ) → IfOk result (λ went. (indexed_state base index.new hart.now paged.new, ended went)
+        ≡ stores inst.now size (indexed_state base index.old hart.now paged.old)) }
+    ensures goes { IfOk result (λ went. (count : ℕ) → Goes count index.old index.new went) }
+    ensures err { OnErr result (index.new ≡ index.old) }
     ensures same { OnErr result (memory_of paged.new ≡ memory_of paged.old) }
     ensures retires { (base : ℕ) → OnErr result
-        ((stores inst.now size (placed_state base place.old hart.now paged.old)).1 ≡ Stepped.Retired) }
+        ((stores inst.now size (indexed_state base index.old hart.now paged.old)).1 ≡ Stepped.Retired) }
 {
     let at = read(hart, inst.rs1).wrapping_add(inst.imm);
-    finish_store(place, paged, alloc, at, read(hart, inst.rs2), size)
+    finish_store(index, paged, alloc, at, read(hart, inst.rs2), size)
 }
 
-/// Carries out the instruction of the word at a place. The hart's own pc stands still.
+/// Carries out the instruction of the word at an index among so many. The hart's own pc stands still.
 #[inline(always)]
 pub(crate) fn carry_out(
     hart: &mut Hart,
-    place: &mut usize,
+    index: &mut usize,
     base: u32,
+    count: usize,
     paged: &mut PagedMemory,
     alloc: Global,
     inst: &Inst,
-) -> Result<Stepped, Memory>
+) -> Result<Went, Memory>
     requires paged { IsPaged paged.old }
     requires registers { HasRegisters inst.now }
     requires base { base % 4 ≡ 0 }
-    ensures rest { paged.new ≡ record paged.old { blocks = paged.new.blocks } }
+    ensures rest { paged.new ≡ record paged.old { pages = paged.new.pages } }
     ensures paged { IsPaged paged.new }
-    ensures ok { IfOk result (λ stepped. (placed_state base place.new hart.new paged.new, stepped)
-        ≡ carried_out inst.now (placed_state base place.old hart.old paged.old)) }
+    ensures ok { IfOk result (λ went. (indexed_state base index.new hart.new paged.new, ended went)
+        ≡ carried_out inst.now (indexed_state base index.old hart.old paged.old)) }
+    ensures goes { IfOk result (λ went. GoesBy inst.now.op count index.old index.new went) }
     ensures err { OnErr result
-        (placed_state base place.new hart.new paged.new ≡ placed_state base place.old hart.old paged.old) }
+        (indexed_state base index.new hart.new paged.new ≡ indexed_state base index.old hart.old paged.old) }
     ensures retires { OnErr result
-        ((carried_out inst.now (placed_state base place.old hart.old paged.old)).1 ≡ Stepped.Retired) }
+        ((carried_out inst.now (indexed_state base index.old hart.old paged.old)).1 ≡ Stepped.Retired) }
     ensures store { OnErr result (is_store inst.now.op ≡ true) }
 {
     Ok(match inst.op {
-        Op::Illegal => Stepped::Trap(Cause::Illegal),
-        Op::Lui => write_back(hart, place, inst, inst.imm),
+        Op::Illegal => Went::Illegal,
+        Op::Lui => write_back(hart, index, inst, inst.imm),
         Op::Auipc => write_back(
             hart,
-            place,
+            index,
             inst,
-            pc_of(base, *place).wrapping_add(inst.imm),
+            pc_of(base, *index).wrapping_add(inst.imm),
         ),
         Op::Jal => jump(
             hart,
-            place,
+            index,
             base,
+            count,
             inst,
-            pc_of(base, *place).wrapping_add(inst.imm),
+            pc_of(base, *index).wrapping_add(inst.imm),
         ),
         Op::Jalr => jump(
             hart,
-            place,
+            index,
             base,
+            count,
             inst,
             read(hart, inst.rs1).wrapping_add(inst.imm) / 2 * 2,
         ),
         Op::Beq => branch(
-            place,
+            index,
             base,
+            count,
             inst,
             read(hart, inst.rs1) == read(hart, inst.rs2),
         ),
         Op::Bne => branch(
-            place,
+            index,
             base,
+            count,
             inst,
             read(hart, inst.rs1) != read(hart, inst.rs2),
         ),
         Op::Blt => branch(
-            place,
+            index,
             base,
+            count,
             inst,
             read(hart, inst.rs1).cast_signed() < read(hart, inst.rs2).cast_signed(),
         ),
         Op::Bge => branch(
-            place,
+            index,
             base,
+            count,
             inst,
             read(hart, inst.rs1).cast_signed() >= read(hart, inst.rs2).cast_signed(),
         ),
         Op::Bltu => branch(
-            place,
+            index,
             base,
+            count,
             inst,
             read(hart, inst.rs1) < read(hart, inst.rs2),
         ),
         Op::Bgeu => branch(
-            place,
+            index,
             base,
+            count,
             inst,
             read(hart, inst.rs1) >= read(hart, inst.rs2),
         ),
         Op::Lb => load(
             hart,
-            place,
+            index,
             inst,
             signed_byte(loaded(hart, paged, alloc, inst, 1)),
         ),
         Op::Lh => load(
             hart,
-            place,
+            index,
             inst,
             signed_half(loaded(hart, paged, alloc, inst, 2)),
         ),
-        Op::Lw => load(hart, place, inst, loaded(hart, paged, alloc, inst, 4)),
-        Op::Lbu => load(hart, place, inst, loaded(hart, paged, alloc, inst, 1)),
-        Op::Lhu => load(hart, place, inst, loaded(hart, paged, alloc, inst, 2)),
-        Op::Sb => return store(hart, place, paged, alloc, inst, 1),
-        Op::Sh => return store(hart, place, paged, alloc, inst, 2),
-        Op::Sw => return store(hart, place, paged, alloc, inst, 4),
-        Op::Fence => go_on(place),
-        Op::Ecall => Stepped::Ecall,
-        Op::Ebreak => Stepped::Break,
-        Op::Addi => operate(hart, place, inst, Op::Addi),
-        Op::Slti => operate(hart, place, inst, Op::Slti),
-        Op::Sltiu => operate(hart, place, inst, Op::Sltiu),
-        Op::Xori => operate(hart, place, inst, Op::Xori),
-        Op::Ori => operate(hart, place, inst, Op::Ori),
-        Op::Andi => operate(hart, place, inst, Op::Andi),
-        Op::Slli => operate(hart, place, inst, Op::Slli),
-        Op::Srli => operate(hart, place, inst, Op::Srli),
-        Op::Srai => operate(hart, place, inst, Op::Srai),
-        Op::Add => operate(hart, place, inst, Op::Add),
-        Op::Sub => operate(hart, place, inst, Op::Sub),
-        Op::Sll => operate(hart, place, inst, Op::Sll),
-        Op::Slt => operate(hart, place, inst, Op::Slt),
-        Op::Sltu => operate(hart, place, inst, Op::Sltu),
-        Op::Xor => operate(hart, place, inst, Op::Xor),
-        Op::Srl => operate(hart, place, inst, Op::Srl),
-        Op::Sra => operate(hart, place, inst, Op::Sra),
-        Op::Or => operate(hart, place, inst, Op::Or),
-        Op::And => operate(hart, place, inst, Op::And),
-        Op::Mul => operate(hart, place, inst, Op::Mul),
-        Op::Mulh => operate(hart, place, inst, Op::Mulh),
-        Op::Mulhsu => operate(hart, place, inst, Op::Mulhsu),
-        Op::Mulhu => operate(hart, place, inst, Op::Mulhu),
-        Op::Div => operate(hart, place, inst, Op::Div),
-        Op::Divu => operate(hart, place, inst, Op::Divu),
-        Op::Rem => operate(hart, place, inst, Op::Rem),
-        Op::Remu => operate(hart, place, inst, Op::Remu),
+        Op::Lw => load(hart, index, inst, loaded(hart, paged, alloc, inst, 4)),
+        Op::Lbu => load(hart, index, inst, loaded(hart, paged, alloc, inst, 1)),
+        Op::Lhu => load(hart, index, inst, loaded(hart, paged, alloc, inst, 2)),
+        Op::Sb => return store(hart, index, paged, alloc, inst, 1),
+        Op::Sh => return store(hart, index, paged, alloc, inst, 2),
+        Op::Sw => return store(hart, index, paged, alloc, inst, 4),
+        Op::Fence => go_on(index),
+        Op::Ecall => Went::Stopped(Stepped::Ecall),
+        Op::Ebreak => Went::Stopped(Stepped::Break),
+        Op::Addi => operate(hart, index, inst, Op::Addi),
+        Op::Slti => operate(hart, index, inst, Op::Slti),
+        Op::Sltiu => operate(hart, index, inst, Op::Sltiu),
+        Op::Xori => operate(hart, index, inst, Op::Xori),
+        Op::Ori => operate(hart, index, inst, Op::Ori),
+        Op::Andi => operate(hart, index, inst, Op::Andi),
+        Op::Slli => operate(hart, index, inst, Op::Slli),
+        Op::Srli => operate(hart, index, inst, Op::Srli),
+        Op::Srai => operate(hart, index, inst, Op::Srai),
+        Op::Add => operate(hart, index, inst, Op::Add),
+        Op::Sub => operate(hart, index, inst, Op::Sub),
+        Op::Sll => operate(hart, index, inst, Op::Sll),
+        Op::Slt => operate(hart, index, inst, Op::Slt),
+        Op::Sltu => operate(hart, index, inst, Op::Sltu),
+        Op::Xor => operate(hart, index, inst, Op::Xor),
+        Op::Srl => operate(hart, index, inst, Op::Srl),
+        Op::Sra => operate(hart, index, inst, Op::Sra),
+        Op::Or => operate(hart, index, inst, Op::Or),
+        Op::And => operate(hart, index, inst, Op::And),
+        Op::Mul => operate(hart, index, inst, Op::Mul),
+        Op::Mulh => operate(hart, index, inst, Op::Mulh),
+        Op::Mulhsu => operate(hart, index, inst, Op::Mulhsu),
+        Op::Mulhu => operate(hart, index, inst, Op::Mulhu),
+        Op::Div => operate(hart, index, inst, Op::Div),
+        Op::Divu => operate(hart, index, inst, Op::Divu),
+        Op::Rem => operate(hart, index, inst, Op::Rem),
+        Op::Remu => operate(hart, index, inst, Op::Remu),
     })
 }

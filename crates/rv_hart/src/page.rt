@@ -1,146 +1,26 @@
-//! Pages of 4 KiB for what was written, in blocks of 1 MiB.
-ghost use Rattle.std.specs.Prelude.{◌≡◌, ◌++◌, ◌∷◌, [], ◌+◌, ◌<◌, ◌≤◌, ◌^◌, ℕ, true, length, slice_get, slice_set};
-ghost use Rattle.std.specs.Prelude.{OnOk, OnErr};
-ghost use Rattle.std.specs.Prelude.{unwrap_or};
-ghost use Rattle.std.specs.Option.{option_copied};
-ghost use Rattle.elf_image.specs.declared.elf.TheConstants.{PF_R, PF_W};
-ghost use Rattle.rv_hart.specs.AddressSpace.{has};
-ghost use Rattle.rv_hart.specs.private.Pages.{blank, spliced, with_bytes, page_at, places_with};
-ghost use Rattle.rv_hart.specs.private.Paging.{bit_of, covers_all};
-ghost use Rattle.rv_hart.specs.private.Lending.{AreOf};
+//! Pages of 4 KiB, and blocks of them.
+ghost use Rattle.std.specs.Prelude.{◌≡◌, ◌++◌, ◌∷◌, [], ◌<◌, length, slice_set, OnOk, OnErr};
+ghost use Rattle.rv_hart.specs.private.Pages.{unmade, page_at};
 
-use crate::right::{NOWHERE, Right, grants};
+use crate::right::NOWHERE;
 use elf_image::Segment;
 use prof_bytes::Memory;
-use scope_types::MemorySlice;
 use std::alloc::Global;
 use std::marker::Model;
 
-/// A page of 4 KiB that was written: its bytes, none where it was not made yet, and the region of
-/// the address for which it was made.
-#[derive(Drop)]
+/// A page of 4 KiB: the region of the address for which it was made, and where its bytes begin among those of all
+/// pages; `None` where it was not made yet.
+#[derive(Clone, Copy)]
 pub(crate) struct Page {
-    home: Segment,
-    /// At how many addresses, from the region's start on, four bytes may be read, and written.
-    readable: u32,
-    writable: u32,
-    bytes: Vec<u8>,
+    pub(crate) home: Segment,
+    pub(crate) start: Option<usize>,
 }
 
-impl Model for Page {
-    ghost use Rattle.rv_hart.specs.private.Pages.{Paged};
-
-    ghost Value = { Paged };
-
-    ghost view = { λ page. record { home = page.home; bytes = page.bytes.items } };
-
-    ghost use Rattle.std.specs.Prelude.{◌≡◌};
-    ghost use Rattle.elf_image.specs.declared.elf.TheConstants.{PF_R, PF_W};
-    ghost use Rattle.rv_hart.specs.private.Pages.{places_with};
-
-    ghost invariant = { λ page. (page.readable ≡ places_with PF_R page.home)
-        × (page.writable ≡ places_with PF_W page.home) };
-}
-
-/// At how many addresses, from the region's start on, the right is had for four bytes.
-fn places_with(home: &Segment, right: Right) -> u32
-    ensures { result ≡ places_with (bit_of right) home.now }
-{
-    if grants(home, right) {
-        home.end.saturating_sub(home.start).saturating_sub(3)
-    } else {
-        0
-    }
-}
-
-/// Whether four bytes from `at` on lie in a region and it has a right, by at how many addresses that is so.
-#[inline(always)]
-fn reaches(home: &Segment, places: u32, at: u32, right: Right) -> bool
-    requires { places ≡ places_with (bit_of right) home.now }
-    ensures covered { result ≡ true → (count : ℕ) → count ≤ 4 → covers_all home.now at count ≡ true }
-    ensures granted { result ≡ true → has (bit_of right) home.now ≡ true }
-{
-    let _ = (home.end, right);
-    at.wrapping_sub(home.start) < places
-}
-
-impl Page {
-    pub(crate) fn new(home: Segment, bytes: Vec<u8>) -> Page
-        ensures { result ≡ record { home = home; bytes = bytes.items } }
-    {
-        Page {
-            home,
-            readable: places_with(&home, Right::Read),
-            writable: places_with(&home, Right::Write),
-            bytes,
-        }
-    }
-
-    #[inline(always)]
-    pub(crate) fn home(&self) -> Segment
-        ensures { result ≡ self.now.home }
-    {
-        self.home
-    }
-
-    #[inline(always)]
-    pub(crate) fn bytes(&self) -> &[u8]
-        ensures { result.now ≡ self.now.bytes }
-    {
-        self.bytes.as_slice()
-    }
-
-    /// Whether the page's region holds four addresses from `at` on and may be read.
-    #[inline(always)]
-    pub(crate) fn is_readable(&self, at: u32) -> bool
-        ensures covered { result ≡ true → (count : ℕ) → count ≤ 4 → covers_all self.now.home at count ≡ true }
-        ensures granted { result ≡ true → has PF_R self.now.home ≡ true }
-    {
-        reaches(&self.home, self.readable, at, Right::Read)
-    }
-
-    /// Whether the page's region holds four addresses from `at` on and may be written.
-    #[inline(always)]
-    pub(crate) fn is_writable(&self, at: u32) -> bool
-        ensures covered { result ≡ true → (count : ℕ) → count ≤ 4 → covers_all self.now.home at count ≡ true }
-        ensures granted { result ≡ true → has PF_W self.now.home ≡ true }
-    {
-        reaches(&self.home, self.writable, at, Right::Write)
-    }
-
-    /// The bytes of the page, which begins at `base`, that lie in its region, if that may be read.
-    pub(crate) fn lent(&self, base: u32) -> MemorySlice<'_>
-        requires { base + length self.now.bytes ≤ 2 ^ 32 }
-        ensures { AreOf self.now base result }
-    {
-        if !grants(&self.home, Right::Read) {
-            return MemorySlice::empty();
-        }
-        let low = self.home.start.saturating_sub(base) as usize;
-        let high = (self.home.end.saturating_sub(base) as usize).min(self.bytes.len());
-        if low >= high {
-            return MemorySlice::empty();
-        }
-        MemorySlice::of(base + low as u32, &self.bytes[low..high])
-    }
-
-    /// Puts other bytes in, from this offset on.
-    #[inline(always)]
-    pub(crate) fn put(&mut self, offset: usize, source: &[u8])
-        requires { offset + length source.now ≤ length self.old.bytes }
-        ensures { self.new ≡ with_bytes self.old offset source.now }
-    {
-        splice(&mut self.bytes, offset, source);
-    }
-}
-
-#[inline(always)]
-fn splice(bytes: &mut Vec<u8>, offset: usize, source: &[u8])
-    requires { offset + length source.now ≤ length bytes.old.items }
-    ensures { bytes.new.items ≡ spliced bytes.old.items offset source.now }
-{
-    bytes.as_mut_slice()[offset..offset + source.len()].copy_from_slice(source);
-}
+/// A page that was not made.
+pub(crate) const UNMADE: Page = Page {
+    home: NOWHERE,
+    start: None,
+};
 
 /// Pages that follow one another.
 #[derive(Drop)]
@@ -150,9 +30,9 @@ pub(crate) struct Block {
 
 impl Model for Block {
     ghost use Rattle.std.specs.Prelude.{List};
-    ghost use Rattle.rv_hart.specs.private.Pages.{Paged};
+    ghost use Rattle.rv_hart.specs.declared.page.Page.{Page};
 
-    ghost Value = { List Paged };
+    ghost Value = { List Page };
 
     ghost view = { λ block. block.pages.items };
 }
@@ -167,11 +47,10 @@ impl Block {
         }
     }
 
-    #[inline(always)]
-    pub(crate) fn page(&self, index: usize) -> Option<&Page>
-        ensures { unwrap_or (option_copied result) blank ≡ page_at self.now index }
+    pub(crate) fn page(&self, index: usize) -> Page
+        ensures { result ≡ page_at self.now index }
     {
-        page_in(self.pages.as_slice(), index)
+        self.pages.get(index).copied().unwrap_or(UNMADE)
     }
 
     pub(crate) fn len(&self) -> usize
@@ -181,12 +60,11 @@ impl Block {
     }
 
     /// Appends a page that was not made.
-    pub(crate) fn lengthen(&mut self, alloc: Global) -> Result<(), Memory>
-        ensures ok { OnOk result (self.new ≡ self.old ++ blank ∷ []) }
+    pub(crate) fn lengthen(&mut self) -> Result<(), Memory>
+        ensures ok { OnOk result (self.new ≡ self.old ++ unmade ∷ []) }
         ensures err { OnErr result (self.new ≡ self.old) }
     {
-        let page = Page::new(NOWHERE, Vec::new(alloc));
-        self.pages.push(page)?;
+        self.pages.push(UNMADE)?;
         Ok(())
     }
 
@@ -197,23 +75,4 @@ impl Block {
     {
         self.pages[index] = page;
     }
-
-    /// Puts other bytes into a page.
-    #[inline(always)]
-    pub(crate) fn put(&mut self, index: usize, offset: usize, source: &[u8])
-        requires index { index < length self.old }
-        requires offset { offset + length source.now ≤ length (page_at self.old index).bytes }
-        ensures { self.new ≡ slice_set self.old index (with_bytes (page_at self.old index) offset source.now) }
-    {
-        let page = &mut self.pages[index];
-        page.put(offset, source);
-    }
-}
-
-#[inline(always)]
-#[tactic(auto, using(crate::proofs::Near::or_default))]
-fn page_in(pages: &[Page], index: usize) -> Option<&Page>
-    ensures { unwrap_or (option_copied result) blank ≡ page_at pages.now index }
-{
-    pages.get(index)
 }

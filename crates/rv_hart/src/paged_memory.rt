@@ -1,22 +1,21 @@
 //! How memory is kept: pages for what was written, and the file for what was not.
-ghost use Rattle.std.specs.Prelude.{◌≡◌, ◌<◌, ◌≤◌, IfSome, unwrap_or};
-ghost use Rattle.std.specs.Option.{option_copied};
+ghost use Rattle.std.specs.Prelude.{◌≡◌, ◌+◌, ◌<◌, ◌≤◌, ◌^◌, IfSome, length};
 ghost use Rattle.rv_hart.specs.AddressSpace.{region_at, first_byte, byte_in, loaded};
 ghost use Rattle.rv_hart.specs.private.Paging.{page_of, value, memory_of, IsHome, IsPaged};
 ghost use Rattle.scope_types.specs.Memory.{HasWords};
-ghost use Rattle.rv_hart.specs.private.Pages.{blank};
+ghost use Rattle.rv_hart.specs.private.Lending.{AreOf};
 
-use crate::page::{Block, Page};
-use crate::right::NOWHERE;
+use crate::pages::Pages;
+use crate::right::{NOWHERE, Right, grants};
 use elf_image::{RangeTable, Segment};
 use scope_types::MemorySlice;
 
-/// The file, the regions, and what was written, in blocks of at most 256 pages.
+/// The file, the regions, and the pages for what was written.
 #[derive(Drop)]
 pub(crate) struct PagedMemory<'a> {
     pub(crate) file: &'a [u8],
     pub(crate) regions: RangeTable<Segment>,
-    pub(crate) blocks: Vec<Block>,
+    pub(crate) pages: Pages,
 }
 
 /// The byte that an address of the region begins with.
@@ -33,6 +32,22 @@ fn first_in(file: &[u8], region: &Segment, at: u32) -> u8
     file.get(offset).copied().unwrap_or(0)
 }
 
+/// The bytes of a page, which begins at `base`, that lie in its region, if that may be read.
+fn lent(home: Segment, bytes: &[u8], base: u32) -> MemorySlice<'_>
+    requires { base + length bytes.now ≤ 2 ^ 32 }
+    ensures { AreOf (record { home = home; bytes = bytes.now }) base result }
+{
+    if !grants(&home, Right::Read) {
+        return MemorySlice::empty();
+    }
+    let low = home.start.saturating_sub(base) as usize;
+    let high = (home.end.saturating_sub(base) as usize).min(bytes.len());
+    if low >= high {
+        return MemorySlice::empty();
+    }
+    MemorySlice::of(base + low as u32, &bytes[low..high])
+}
+
 impl<'a> PagedMemory<'a> {
     pub(crate) fn region(&self, at: u32) -> Option<Segment>
         ensures found { result ≡ region_at self.now.regions at }
@@ -41,27 +56,18 @@ impl<'a> PagedMemory<'a> {
         self.regions.first(at).copied()
     }
 
-    /// The address's page, if its block is there.
-    #[inline(always)]
-    pub(crate) fn page(&self, at: u32) -> Option<&Page>
-        ensures { unwrap_or (option_copied result) blank ≡ page_of self.now at }
-    {
-        let number = (at >> 12) as usize;
-        match self.blocks.get(number / 256) {
-            Some(block) => block.page(number % 256),
-            None => None,
-        }
-    }
-
     /// The bytes of the address's page, none where it was not made.
-    #[inline(always)]
     pub(crate) fn page_bytes(&self, at: u32) -> &[u8]
         ensures { result.now ≡ (page_of self.now at).bytes }
     {
-        match self.page(at) {
-            Some(page) => page.bytes(),
-            None => &[],
-        }
+        self.pages.bytes(at)
+    }
+
+    /// The region for which the address's page was made.
+    pub(crate) fn page_home(&self, at: u32) -> Segment
+        ensures { result ≡ (page_of self.now at).home }
+    {
+        self.pages.home(at)
     }
 
     /// The bytes of the address's page that lie in its region, if the page was made and the region may be read.
@@ -69,21 +75,7 @@ impl<'a> PagedMemory<'a> {
         requires { IsPaged self.now }
         ensures { HasWords (λ at. loaded (memory_of self.now) at 4) result }
     {
-        match self.page(at) {
-            Some(page) => page.lent(at / 4096 * 4096),
-            None => MemorySlice::empty(),
-        }
-    }
-
-    /// The region for which the address's page was made.
-    #[inline(always)]
-    pub(crate) fn page_home(&self, at: u32) -> Segment
-        ensures { result ≡ (page_of self.now at).home }
-    {
-        match self.page(at) {
-            Some(page) => page.home(),
-            None => NOWHERE,
-        }
+        lent(self.page_home(at), self.page_bytes(at), at / 4096 * 4096)
     }
 
     /// The byte that the address began with. It is found at once where this region holds it.

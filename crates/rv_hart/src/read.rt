@@ -118,7 +118,8 @@ impl<'a> PagedMemory<'a> {
         }
     }
 
-    /// The number in so many bytes from `at` on, where they stand together in a page of a region that may be read.
+    /// The number in so many bytes from `at` on, where they stand together in a page
+    /// that was used last, of a region that may be read.
     #[inline(always)]
     pub(crate) fn number_in_page(&self, at: u32, count: usize) -> Option<u32>
         requires paged { IsPaged self.now }
@@ -126,16 +127,8 @@ impl<'a> PagedMemory<'a> {
         ensures number { IfSome result (λ number. loaded (memory_of self.now) at count ≡ Some number) }
         ensures fits { IfSome result (λ number. number < 2 ^ (8 * count)) }
     {
-        let page = self.page(at)?;
-        if !page.is_readable(at) {
-            return None;
-        }
-        let offset = at as usize % 4096;
-        let bytes = page.bytes();
-        if offset + count > bytes.len() {
-            return None;
-        }
-        Some(number(&bytes[offset..offset + count]))
+        let bytes = self.pages.near(at, count)?;
+        Some(number(bytes))
     }
 
     /// A region that holds so many addresses from `at` on, if there is one.
@@ -145,11 +138,9 @@ impl<'a> PagedMemory<'a> {
         requires count { count ≤ 4 }
         ensures { IsHome self.now.regions result }
     {
-        if let Some(page) = self.page(at) {
-            let home = page.home();
-            if covers(&home, at, count) {
-                return home;
-            }
+        let home = self.page_home(at);
+        if covers(&home, at, count) {
+            return home;
         }
         self.region(at).unwrap_or(NOWHERE)
     }

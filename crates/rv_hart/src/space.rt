@@ -7,10 +7,11 @@ ghost use Rattle.rv_hart.specs.Step.{fetched_at, step_of, StoresNow};
 ghost use Rattle.rv_hart.specs.Stepping.{state_of};
 
 use crate::access;
-use crate::decoded_code::{DecodedCode, code_at, decoded_regions, first_kept};
+use crate::decoded_code::{DecodedCode, END, code_at, decoded_regions, first_kept, is_illegal};
 use crate::hart::Hart;
 use crate::outcome::{Cause, Stepped};
 use crate::paged_memory::PagedMemory;
+use crate::pages::Pages;
 use crate::right::{NOWHERE, covers};
 use crate::stack::stack_of;
 use crate::window::run_kept;
@@ -68,7 +69,7 @@ impl<'a> Space<'a> {
         let paged = PagedMemory {
             file: image.bytes(),
             regions: RangeTable::of(alloc, listed(alloc, image.segments(), harts)?)?,
-            blocks: Vec::new(alloc),
+            pages: Pages::new(alloc),
         };
         let decoded = decoded_regions(alloc, &paged)?;
         Ok(Space {
@@ -117,15 +118,34 @@ impl<'a> Space<'a> {
     {
         if let Some(code) = code_at(&self.decoded, &self.paged, hart.pc) {
             if let Some(first) = first_kept(code, &self.paged, hart.pc) {
-                return run_kept(&first, code, hart, &mut self.paged, self.alloc, most);
+                let items = code.items.as_slice();
+                return run_kept(
+                    items,
+                    code.base,
+                    first,
+                    hart,
+                    &mut self.paged,
+                    self.alloc,
+                    most,
+                );
             }
         }
         let Some(word) = self.fetch(hart.pc) else {
             return (0, Ok(Stepped::Trap(Cause::Fetch)));
         };
-        let first = decode(word);
-        let code = DecodedCode::none(self.alloc);
-        run_kept(&first, &code, hart, &mut self.paged, self.alloc, most)
+        let inst = decode(word);
+        if is_illegal(&inst) {
+            return (0, Ok(Stepped::Trap(Cause::Illegal)));
+        }
+        run_kept(
+            &[inst, END],
+            hart.pc,
+            0,
+            hart,
+            &mut self.paged,
+            self.alloc,
+            1,
+        )
     }
 
     /// The word at pc, where it may be fetched.

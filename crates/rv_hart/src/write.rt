@@ -7,60 +7,11 @@ ghost use Rattle.rv_hart.specs.AddressSpace.{byte_in, may};
 ghost use Rattle.rv_hart.specs.private.Pages.{page_at, page_in, with_bytes, IsSetAt};
 ghost use Rattle.rv_hart.specs.private.Paging.{page_numbered, page_of, value, value_after, covers_all, IsHome, IsPaged};
 
-use crate::page::{Block, Page};
 use crate::paged_memory::PagedMemory;
 use crate::right::{NOWHERE, covers};
 use elf_image::Segment;
 use prof_bytes::Memory;
 use std::alloc::Global;
-
-/// Makes blocks without pages until there is one with this index.
-fn lengthen_blocks(blocks: &mut Vec<Block>, alloc: Global, index: usize) -> Result<(), Memory>
-    ensures same { (i : ℕ) → slice_index_or blocks.new.items i [] ≡ slice_index_or blocks.old.items i [] }
-    ensures long { IfOk result (λ _. index < length blocks.new.items) }
-{
-    while blocks.len() <= index {
-        blocks.push(Block::new(alloc))?;
-    }
-    Ok(())
-}
-
-/// Appends pages that were not made until there is one with this index.
-fn lengthen_block(block: &mut Block, alloc: Global, index: usize) -> Result<(), Memory>
-    ensures same { (i : ℕ) → page_at block.new i ≡ page_at block.old i }
-    ensures long { IfOk result (λ _. index < length block.new) }
-{
-    while block.len() <= index {
-        block.lengthen(alloc)?;
-    }
-    Ok(())
-}
-
-/// Sets the page of this number.
-fn set_page(blocks: &mut Vec<Block>, alloc: Global, number: usize, page: Page) -> Result<(), Memory>
-    ensures ok { OnOk result (IsSetAt blocks.old.items blocks.new.items number page) }
-    ensures err { OnErr result ((n : ℕ) → page_in blocks.new.items n ≡ page_in blocks.old.items n) }
-{
-    lengthen_blocks(blocks, alloc, number / 256)?;
-    let block = &mut blocks[number / 256];
-    lengthen_block(block, alloc, number % 256)?;
-    block.set(number % 256, page);
-    Ok(())
-}
-
-/// Puts other bytes into a page that was made.
-#[inline(always)]
-fn put_in(blocks: &mut Vec<Block>, at: u32, source: &[u8])
-    requires within { at % 2 ^ 12 + length source.now ≤ length (page_in blocks.old.items (at / 2 ^ 12)).bytes }
-    requires some { 0 < length source.now }
-    ensures { let number = at / 2 ^ 12 in
-        let page = with_bytes (page_in blocks.old.items number) (at % 2 ^ 12) source.now in
-        IsSetAt blocks.old.items blocks.new.items number page }
-{
-    let number = (at >> 12) as usize;
-    let block = &mut blocks[number / 256];
-    block.put(number % 256, at as usize % 4096, source);
-}
 
 /// The bytes from an offset of the file on, at most so many: fewer where the file ends.
 fn part_of(file: &[u8], offset: usize, count: usize) -> &[u8]
@@ -139,24 +90,20 @@ impl<'a> PagedMemory<'a> {
     /// Makes the address's page, if it was not made.
     pub(crate) fn make(&mut self, alloc: Global, at: u32) -> Result<(), Memory>
         requires { IsPaged self.old }
-        ensures rest { self.new ≡ record self.old { blocks = self.new.blocks } }
+        ensures rest { self.new ≡ record self.old { pages = self.new.pages } }
         ensures paged { IsPaged self.new }
         ensures values { (a : ℕ) → value self.new a ≡ value self.old a }
         ensures longer { (n : ℕ) → length (page_numbered self.old n).bytes ≤ length (page_numbered self.new n).bytes }
         ensures made { IfOk result (λ _. 2 ^ 12 ≤ length (page_of self.new at).bytes) }
     {
-        if self.page_bytes(at).len() >= 4096 {
+        if !self.pages.bytes(at).is_empty() {
             return Ok(());
         }
         let number = at >> 12;
         let home = self.region(at).unwrap_or(NOWHERE);
         let bytes = self.page_as_it_stands(alloc, &home, number)?;
-        set_page(
-            &mut self.blocks,
-            alloc,
-            number as usize,
-            Page::new(home, bytes),
-        )?;
+        self.pages
+            .make(alloc, number as usize, home, bytes.as_slice())?;
         Ok(())
     }
 
@@ -168,58 +115,42 @@ impl<'a> PagedMemory<'a> {
         requires page { at % 2 ^ 12 + length source.now ≤ 2 ^ 12 }
         requires some { 0 < length source.now }
         requires granted { (i : ℕ) → i < length source.now → may PF_W self.old.regions (at + i) ≡ true }
-        ensures rest { self.new ≡ record self.old { blocks = self.new.blocks } }
+        ensures rest { self.new ≡ record self.old { pages = self.new.pages } }
         ensures paged { IsPaged self.new }
         ensures values { (a : ℕ) → value self.new a ≡ value_after self.old at source.now a }
         ensures lengths { (n : ℕ) → length (page_numbered self.new n).bytes ≡ length (page_numbered self.old n).bytes }
     {
-        put_in(&mut self.blocks, at, source);
+        self.pages.put(at, source);
     }
 
-    /// Writes bytes that stand together in a page of a region that may be written. Where they do not,
-    /// nothing is done.
+    /// Writes bytes that stand together in a page that was used last, of a region that may be written. Where they do
+    /// not, nothing is done.
     #[inline(always)]
     pub(crate) fn write_near(&mut self, at: u32, source: &[u8]) -> bool
         requires paged { IsPaged self.old }
         requires count { (0 < length source.now) × (length source.now ≤ 4) }
         ensures no { result ≡ false → self.new ≡ self.old }
-        ensures rest { self.new ≡ record self.old { blocks = self.new.blocks } }
+        ensures rest { self.new ≡ record self.old { pages = self.new.pages } }
         ensures paged { IsPaged self.new }
         ensures granted { result ≡ true
             → list_all (may PF_W self.old.regions) (range_with_len at (length source.now)) ≡ true }
         ensures values { result ≡ true → (a : ℕ) → value self.new a ≡ value_after self.old at source.now a }
     {
-        if !self.is_near(at, source.len()) {
-            return false;
-        }
-        self.put(at, source);
-        true
+        self.pages.put_near(at, source)
     }
 
-    /// Whether so many bytes stand together in a page of a region that may be written.
-    #[inline(always)]
-    fn is_near(&self, at: u32, count: usize) -> bool
-        requires paged { IsPaged self.now }
-        requires count { (0 < count) × (count ≤ 4) }
-        ensures page { result ≡ true → at % 2 ^ 12 + count ≤ 2 ^ 12 }
-        ensures within { result ≡ true → at % 2 ^ 12 + count ≤ length (page_of self.now at).bytes }
-        ensures granted { result ≡ true
-            → list_all (may PF_W self.now.regions) (range_with_len at count) ≡ true }
+    /// Remembers the address's page as the one that was used last.
+    pub(crate) fn remember(&mut self, at: u32)
+        ensures { self.new ≡ self.old }
     {
-        let Some(page) = self.page(at) else {
-            return false;
-        };
-        if at as usize % 4096 + count > page.bytes().len() {
-            return false;
-        }
-        page.is_writable(at)
+        self.pages.remember(at);
     }
 
     /// Makes the pages of so many addresses.
     pub(crate) fn make_all(&mut self, alloc: Global, at: u32, count: usize) -> Result<(), Memory>
         requires paged { IsPaged self.old }
         requires low { at + count ≤ 2 ^ 32 }
-        ensures rest { self.new ≡ record self.old { blocks = self.new.blocks } }
+        ensures rest { self.new ≡ record self.old { pages = self.new.pages } }
         ensures paged { IsPaged self.new }
         ensures values { (a : ℕ) → value self.new a ≡ value self.old a }
         ensures made { IfOk result (λ _. (i : ℕ) → i < count → 2 ^ 12 ≤ length (page_of self.new (at + i)).bytes) }
@@ -236,7 +167,7 @@ impl<'a> PagedMemory<'a> {
         requires low { at + length source.now ≤ 2 ^ 32 }
         requires granted { (i : ℕ) → i < length source.now → may PF_W self.old.regions (at + i) ≡ true }
         requires made { (i : ℕ) → i < length source.now → 2 ^ 12 ≤ length (page_of self.old (at + i)).bytes }
-        ensures rest { self.new ≡ record self.old { blocks = self.new.blocks } }
+        ensures rest { self.new ≡ record self.old { pages = self.new.pages } }
         ensures paged { IsPaged self.new }
         ensures values { (a : ℕ) → value self.new a ≡ value_after self.old at source.now a }
     {

@@ -1,5 +1,5 @@
 -- The first line of a text, and the lines that tell something.
-use Rattle.std.proofs.Common.{◌≡◌, ℕ, zero, suc, ◌+◌, ◌<◌, ◌==◌, Bool, true, false, not, cond, List, [], ◌∷◌, ◌++◌, length, take, drop, get_or, Option, Some, None, Result, Ok, Err, append_assoc, append-nil, refl, sym, ap, subst, ◌∙◌, arith, inl, inr, lt-ltb}
+use Rattle.std.proofs.Common.{◌≡◌, ℕ, zero, suc, ◌+◌, ◌<◌, ◌==◌, Bool, true, false, cond, List, [], ◌∷◌, ◌++◌, length, take, drop, get_or, Option, Some, None, Result, Ok, Err, append_assoc, append-nil, refl, sym, ap, subst, ◌∙◌, arith, inl, inr, lt-ltb}
 use Rattle.std.specs.List.{All, position, position_or_len}
 use Rattle.std.proofs.lemmas.Bool.{cases_lt}
 use Rattle.std.proofs.lemmas.List.Elements.{All-push}
@@ -8,7 +8,7 @@ use Rattle.std.proofs.lemmas.List.Quantifiers.{position-Some}
 use Rattle.prof_bytes.specs.Outcome.{◌>>=◌}
 use Rattle.rv_run.specs.declared.schedule.Slice.{Slice}
 use Rattle.rv_run.specs.declared.schedule.ScheduleFault.{ScheduleFault}
-use Rattle.rv_run.specs.Schedule.{lines, with_first, NumberedLine, numbered, entries, is_ignored, slices_before, or_fault, slice_in, slices_of}
+use Rattle.rv_run.specs.Schedule.{lines, with_first, NumberedLine, numbered, slices_before, or_fault, slice_in, slices_of}
 use Rattle.rv_run.specs.private.Reading.{first_of, rest_of}
 
 abbrev is_feed : ℕ → Bool
@@ -60,12 +60,6 @@ unfolding lines
 no-lines [] none = refl
 no-lines (byte ∷ rest) none = absurd (omega arith)
 
--- a text whose next line is this one, with these after it; and one that has none
-numbered-length : (first : ℕ) (all : List (List ℕ)) → length (numbered first all) ≡ length all
-unfolding numbered
-numbered-length first [] = refl
-numbered-length first (line ∷ rest) = ap (λ (n : ℕ). suc n) (numbered-length (first + 1) rest)
-
 pub line-first : (done : ℕ) (rest : List (List ℕ)) (line : List ℕ) (more : List (List ℕ)) → rest ≡ line ∷ more → Some (record { number = done + 1; bytes = line }) ≡ first_of (numbered (done + 1) rest)
 unfolding numbered
 line-first done rest line more is = ap (λ (ls : List (List ℕ)). first_of (numbered (done + 1) ls)) (sym is)
@@ -81,12 +75,6 @@ none-first done rest is = ap (λ (ls : List (List ℕ)). first_of (numbered (don
 pub none-rest : (done : ℕ) (rest : List (List ℕ)) → rest ≡ [] → numbered (done + 1) rest ≡ rest_of (numbered (done + 1) rest)
 unfolding numbered
 none-rest done rest is = ap (numbered (done + 1)) is ∙ ap (λ (ls : List (List ℕ)). rest_of (numbered (done + 1) ls)) (sym is)
-
-pub entries-yes : (line : NumberedLine) (rest : List NumberedLine) → is_ignored line.bytes ≡ false → entries (line ∷ rest) ≡ line ∷ entries rest
-entries-yes line rest e = ap (λ (b : Bool). cond (not b) (line ∷ entries rest) (entries rest)) e
-
-pub entries-no : (line : NumberedLine) (rest : List NumberedLine) → is_ignored line.bytes ≡ true → entries (line ∷ rest) ≡ entries rest
-entries-no line rest e = ap (λ (b : Bool). cond (not b) (line ∷ entries rest) (entries rest)) e
 
 -- slices that were read, and those of the lines that are left
 pub before-before : (xs ys : List Slice) (rest : Result (List Slice) ScheduleFault) → slices_before xs (slices_before ys rest) ≡ slices_before (xs ++ ys) rest
@@ -114,10 +102,6 @@ pub read-end : (harts used : ℕ) (left : List NumberedLine) (slices : List Slic
 unfolding slices_of
 read-end harts used [] slices none = ap (λ (all : List Slice). Ok all) (append-nil slices)
 read-end harts used (x ∷ xs) slices none = absurd cc
-
-pub starts : (rest : Result (List Slice) ScheduleFault) → rest ≡ slices_before [] rest
-starts (Ok more) = refl
-starts (Err fault) = refl
 
 pub fit-more : (P : Slice → Type 0) (slices : List Slice) (slice : Slice) (more : List Slice) → more ≡ slices ++ slice ∷ [] → All P slices → P slice → All P more
 fit-more P slices slice more is all one = subst (λ (xs : List Slice). All P xs) (sym is) (All-push P slices slice all one)

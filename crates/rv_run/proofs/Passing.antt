@@ -20,7 +20,7 @@ use Rattle.rv_run.specs.private.Queue.{Passing, less, HaveRoom, IsNext, StandsAt
 use Rattle.rv_run.proofs.Counting.{acts-as, counts-of}
 use Rattle.rv_run.proofs.Slices.{IsDue, less-by}
 
-preceded-twice : (xs ys : List Instant) (run : Run) → preceded xs (preceded ys run) ≡ preceded (xs ++ ys) run
+pub preceded-twice : (xs ys : List Instant) (run : Run) → preceded xs (preceded ys run) ≡ preceded (xs ++ ys) run
 preceded-twice xs ys run = ap (λ (all : List Instant). record { instants = all; final = run.final }) (sym (append_assoc xs ys run.instants))
 
 -- one instruction that retired by itself
@@ -32,10 +32,6 @@ not-plain stepped.Retired other = absurd (other refl)
 not-plain stepped.Ecall other = refl
 not-plain stepped.Break other = refl
 not-plain (stepped.Trap why) other = refl
-
--- where a step did not retire by itself
-pub stops-here : (hart : ℕ) (s new : MachineState) (how : Stepped) → new ≡ s → how ≡ (step_of (step_state (hart_of s hart) s.memory)).1 → (how ≡ stepped.Retired → ⊥) → retires_plainly hart new ≡ false
-stops-here hart s new how same ends other = ap (retires_plainly hart) same ∙ ap is_plain (sym ends) ∙ not-plain how other
 
 none-plain : (n hart : ℕ) (s : MachineState) → retires_plainly hart s ≡ false → plain_count n hart s ≡ 0
 unfolding plain_count
@@ -148,10 +144,6 @@ some-of : (n : ℕ) → 0 < n → some_of n ≡ n
 some-of zero some = absurd (omega arith)
 some-of (suc n) some = refl
 
-at-least-one : (n : ℕ) → 0 < some_of n
-at-least-one zero = omega arith
-at-least-one (suc n) = omega arith
-
 -- how many were asked for and retire by themselves, where so many of them were done
 counted-plain : (hart many asked : ℕ) (s new : MachineState) → Passing hart many s new → many ≤ asked → plain_count asked hart s ≡ many + plain_count (asked - many) hart new
 counted-plain hart many asked s new p few = ap (λ (n : ℕ). plain_count n hart s) (let e : asked ≡ many + (asked - many) = omega arith in e) ∙ p.plain (asked - many)
@@ -180,16 +172,6 @@ short-many hart many most s new left p few plain =
     let next : 0 < plain_count (min most (count_of_first left) - many) hart new = some-plain (min most (count_of_first left) - many) hart new (omega arith) plain in
     let same : some_of (plain_count (min most (count_of_first left)) hart s) ≡ plain_count (min most (count_of_first left)) hart s = some-of (plain_count (min most (count_of_first left)) hart s) (omega (arith, parts, next)) in
     omega (arith, p.long, parts, next, same)
-
--- nothing was carried out
-carried-none : (hart most : ℕ) (p : Progress) → Carried hart most [] p p
-carried-none hart most p =
-    record { run = refl; between = λ k d few. absurd (omega arith); least = omega arith; few = omega arith; others = λ other apart. refl; harts = refl }
-
-pub broke-none : (hart most : ℕ) (old new : Progress) → new ≡ old → Broke hart most old new
-broke-none hart most old new same =
-    subst (λ (p : Progress). Broke hart most old p) (sym same)
-    (record { passed = []; short = at-least-one (plain_count (min most (count_of_first old.left)) hart old.state); carried = carried-none hart most old })
 
 -- one instruction, whatever it did
 at_least : (b : Bool) (n : ℕ) → n ≤ plus_one b n

@@ -18,17 +18,10 @@ use Rattle.rv_run.specs.Calls.{all_readable, memory_bytes}
 use Rattle.rv_run.specs.Progress.{Progress, IsFresh}
 use Rattle.rv_run.specs.private.Queue.{IsReady, StandsAt}
 
-pub one-byte : (memory : AddressSpace) (at : ℕ) → number_at memory at 1 ≡ byte_at memory at
-one-byte memory at = let e : byte_at memory at + 0 ≡ byte_at memory at = omega arith in e
-
 pub one-unreadable : (memory : AddressSpace) (at count place : ℕ) → place < count → may PF_R memory.regions (at + place) ≡ false → may_all PF_R memory at count ≡ false
 one-unreadable memory at count place within unreadable =
     list_all_at (may PF_R memory.regions) (range_with_len at count) place 0 (omega (arith, length-range_with_len at count))
     (ap (may PF_R memory.regions) (get_or-range_with_len at count place 0 within) ∙ unreadable)
-
--- a load of one byte
-loads : (memory : AddressSpace) (at : ℕ) → loaded memory at 1 ≡ cond (may PF_R memory.regions at && true) (Some (number_at memory at 1)) None
-loads memory at = refl
 
 pub loads-none : (memory : AddressSpace) (at : ℕ) → is_some (loaded memory at 1) ≡ false → may PF_R memory.regions at ≡ false
 loads-none memory at none = by_case (may PF_R memory.regions at) none
@@ -43,9 +36,6 @@ loads-some memory at some = by_case (may PF_R memory.regions at) some
     by_case : (b : Bool) → is_some (cond (b && true) (Some (number_at memory at 1)) None) ≡ true → b ≡ true
     by_case true e = refl
     by_case false e = absurd cc
-
-pub loads-readable : (memory : AddressSpace) (at : ℕ) → may PF_R memory.regions at ≡ true → loaded memory at 1 ≡ Some (byte_at memory at)
-loads-readable memory at can = ap (λ (b : Bool). cond (b && true) (Some (number_at memory at 1)) None) can ∙ ap (λ (n : ℕ). Some n) (one-byte memory at)
 
 pub each-readable : (memory : AddressSpace) (at count place : ℕ) → may_all PF_R memory at count ≡ true → place < count → may PF_R memory.regions (at + place) ≡ true
 each-readable memory at count place all less =
@@ -70,11 +60,6 @@ pub readable-each : (memory : AddressSpace) (at count place : ℕ) → all_reada
 readable-each memory at count place all less =
     let parts : (nat_le (at + count) (2 ^ 32) ≡ true) × (may_all PF_R memory at count ≡ true) = and_parts _ _ all in
     each-readable memory at count place parts.1 less
-
-pub readable-low : (memory : AddressSpace) (at count : ℕ) → all_readable memory at count ≡ true → at + count ≤ 2 ^ 32
-readable-low memory at count all =
-    let parts : (nat_le (at + count) (2 ^ 32) ≡ true) × (may_all PF_R memory at count ≡ true) = and_parts _ _ all in
-    leb-true (at + count) (2 ^ 32) parts.0
 
 -- a byte more that was copied
 pub copied-more : (memory : AddressSpace) (at place : ℕ) (bytes : List ℕ) (byte : ℕ) → bytes ≡ memory_bytes memory at place → byte ≡ byte_at memory (at + place) → bytes ++ byte ∷ [] ≡ memory_bytes memory at (place + 1)
@@ -120,10 +105,6 @@ pub grouped-one : (f : HartState → HartState) (harts : List HartState) (i : �
 grouped-one f [] i d less = absurd (omega arith)
 grouped-one f (h ∷ harts) zero d less = refl
 grouped-one f (h ∷ harts) (suc i) d less = ap (λ (hs : List HartState). f h ∷ hs) (grouped-one f harts i d (omega arith))
-
-pub grouped-all : (f : HartState → HartState) (harts : List HartState) → map f (take (length harts) harts) ++ drop (length harts) harts ≡ map f harts
-grouped-all f [] = refl
-grouped-all f (h ∷ harts) = ap (λ (hs : List HartState). f h ∷ hs) (grouped-all f harts)
 
 pub grouped-step : (f : HartState → HartState) (start harts : List HartState) (i : ℕ) (old new : HartState) → harts ≡ map f (take i start) ++ drop i start → i < length start → old ≡ get_or harts i old → new ≡ f old
     → slice_set harts i new ≡ map f (take (i + 1) start) ++ drop (i + 1) start

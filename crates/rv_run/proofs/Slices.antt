@@ -84,16 +84,6 @@ passed-over s (x ∷ rest) slice first nothing =
     let same : slice ≡ x = cc in
     sym (ap (λ (r : Run). joined r (run_slices rest)) (no_slice s x.hart x.count (subst (λ (y : Slice). (y.count ≡ 0) ⊎ (is_running (hart_of s y.hart) ≡ false)) same nothing)))
 
-pub stands-at : (s : MachineState) (left : List Slice) (slice : Slice) → first_of left ≡ Some slice → 0 < slice.count → is_running (hart_of s slice.hart) ≡ true → StandsAt s left
-stands-at s [] slice first some runs = absurd cc
-stands-at s (x ∷ rest) slice first some runs =
-    let same : slice ≡ x = cc in
-    subst (λ (y : Slice). (0 < y.count) × (is_running (hart_of s y.hart) ≡ true)) same (some, runs)
-
-pub stands-none : (s : MachineState) (left : List Slice) → first_of left ≡ None → StandsAt s left
-stands-none s [] none = tt
-stands-none s (x ∷ rest) none = absurd cc
-
 count-cons : (slice : Slice) (rest : List Slice) → instructions (slice ∷ rest) ≡ slice.count + instructions rest
 count-cons slice rest = sum-map slice_count (slice ∷ rest) ∙ sum_by-cons slice_count slice rest ∙ ap (λ (n : ℕ). slice.count + n) (sym (sum-map slice_count rest))
 
@@ -107,12 +97,6 @@ rest-are-of harts (slice ∷ rest) all = λ k d few. all (suc k) d (omega arith)
 
 pub room-rest : (s : MachineState) (left : List Slice) → HaveRoom s left → HaveRoom s (rest_of left)
 room-rest s left room hart = omega (arith, fewer left, room hart)
-
-pub first-of-hart : (harts : ℕ) (left : List Slice) (slice : Slice) → AreOf harts left → first_of left ≡ Some slice → slice.hart < harts
-first-of-hart harts [] slice all first = absurd cc
-first-of-hart harts (x ∷ rest) slice all first =
-    let same : x ≡ slice = cc in
-    subst (λ (y : Slice). y.hart < harts) same (all 0 x (omega arith))
 
 pub shorter : (left : List Slice) (slice : Slice) → first_of left ≡ Some slice → length (rest_of left) < length left
 shorter [] slice first = absurd cc

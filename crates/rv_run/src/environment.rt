@@ -195,6 +195,8 @@ impl<'a> Environment<'a> {
     }
 
     /// Does an environment call, and says whether it retired.
+    #[cold]
+    #[inline(never)]
     fn call(&mut self, hart: u32) -> Result<bool, Memory>
         requires hart { hart < length self.old.harts }
         requires room { (hart_of self.old hart).retired < 2 ^ 32 }
@@ -224,6 +226,7 @@ impl<'a> Environment<'a> {
     }
 
     /// Does a step of the hart.
+    #[inline(always)]
     fn step(&mut self, hart: u32) -> Result<Stepped, Memory>
         requires hart { hart < length self.old.harts }
         requires room { (hart_of self.old hart).retired < 2 ^ 32 }
@@ -251,6 +254,7 @@ impl<'a> Environment<'a> {
     }
 
     /// Does the next instruction of the hart, and says whether it retired.
+    #[inline(always)]
     pub(crate) fn act(&mut self, hart: u32) -> Result<bool, Memory>
         requires hart { hart < length self.old.harts }
         requires room { (hart_of self.old hart).retired < 2 ^ 32 - 1 }

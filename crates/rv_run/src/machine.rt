@@ -96,6 +96,7 @@ impl<'a> Machine<'a> {
 
     /// Carries out the next instruction; `None` exactly where the run has ended. After `Memory` the
     /// machine stands as before.
+    #[inline(always)]
     pub fn next(&mut self) -> Result<Option<Moment>, Memory>
         ensures ok { IfOk result (λ moment. Went moment self.old self.new) }
         ensures counts { IfOk result (λ moment. CountsBy moment self.old.state self.new.state) }

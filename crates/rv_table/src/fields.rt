@@ -1,6 +1,7 @@
 //! The fields of a word ("Base Instruction Formats", "Immediate Encoding Variants").
 ghost use Rattle.std.specs.Prelude.{◌≡◌, ◌+◌, ◌*◌, ◌^◌, ◌<◌};
 ghost use Rattle.rv_table.specs.Fields as fields;
+ghost use Rattle.rv_table.specs.private.Layout.{inst_of};
 ghost use Rattle.rv_table.specs.Fields.{bits, opcode, sign_extended, laid_out, R, I, S, B, U, J, shift, bare};
 
 use crate::inst::{Inst, Op};
@@ -47,43 +48,32 @@ fn rs2(word: u32) -> u8
     ((word >> 20) & 0x1f) as u8
 }
 
+// The sign of an immediate is bit 31 of its word, which a shift of a signed number repeats.
+
 #[inline(always)]
 fn i_immediate(word: u32) -> u32
     ensures { result ≡ fields.i_immediate word }
 {
-    let value = word >> 20;
-    if value < 0x800 {
-        value
-    } else {
-        value + 0xffff_f000
-    }
+    (word.cast_signed() >> 20).cast_unsigned()
 }
 
 #[inline(always)]
 fn s_immediate(word: u32) -> u32
     ensures { result ≡ fields.s_immediate word }
 {
-    let value = (word >> 25) * 32 + ((word >> 7) & 0x1f);
-    if value < 0x800 {
-        value
-    } else {
-        value + 0xffff_f000
-    }
+    (word.cast_signed() >> 25).cast_unsigned().wrapping_mul(32) + ((word >> 7) & 0x1f)
 }
 
 #[inline(always)]
 fn b_immediate(word: u32) -> u32
     ensures { result ≡ fields.b_immediate word }
 {
-    let value = (word >> 31) * 4096
+    (word.cast_signed() >> 31)
+        .cast_unsigned()
+        .wrapping_mul(4096)
         + ((word >> 7) & 1) * 2048
         + ((word >> 25) & 0x3f) * 32
-        + ((word >> 8) & 0xf) * 2;
-    if value < 0x1000 {
-        value
-    } else {
-        value + 0xffff_e000
-    }
+        + ((word >> 8) & 0xf) * 2
 }
 
 #[inline(always)]
@@ -97,117 +87,121 @@ fn u_immediate(word: u32) -> u32
 fn j_immediate(word: u32) -> u32
     ensures { result ≡ fields.j_immediate word }
 {
-    let value = (word >> 31) * 0x10_0000
+    (word.cast_signed() >> 31)
+        .cast_unsigned()
+        .wrapping_mul(0x10_0000)
         + ((word >> 12) & 0xff) * 4096
         + ((word >> 20) & 1) * 2048
-        + ((word >> 21) & 0x3ff) * 2;
-    if value < 0x10_0000 {
-        value
-    } else {
-        value + 0xffe0_0000
+        + ((word >> 21) & 0x3ff) * 2
+}
+
+/// What an instruction takes of its word.
+#[derive(Drop)]
+pub(crate) struct Layout {
+    op: Op,
+    /// The word, with 0 in the fields of registers that the format lacks.
+    registers: u32,
+    imm: u32,
+}
+
+/// The instruction.
+#[inline(always)]
+pub(crate) fn inst_of(layout: Layout) -> Inst
+    ensures { result ≡ inst_of layout }
+{
+    Inst {
+        op: layout.op,
+        rd: rd(layout.registers),
+        rs1: rs1(layout.registers),
+        rs2: rs2(layout.registers),
+        imm: layout.imm,
     }
 }
 
 #[inline(always)]
-pub(crate) fn r_type(op: Op, word: u32) -> Inst
-    ensures { result ≡ laid_out R op word }
+pub(crate) fn r_type(op: Op, word: u32) -> Layout
+    ensures { inst_of result ≡ laid_out R op word }
 {
-    Inst {
+    Layout {
         op,
-        rd: rd(word),
-        rs1: rs1(word),
-        rs2: rs2(word),
+        registers: word,
         imm: 0,
     }
 }
 
 #[inline(always)]
-pub(crate) fn i_type(op: Op, word: u32) -> Inst
-    ensures { result ≡ laid_out I op word }
+pub(crate) fn i_type(op: Op, word: u32) -> Layout
+    ensures { inst_of result ≡ laid_out I op word }
 {
-    Inst {
+    Layout {
         op,
-        rd: rd(word),
-        rs1: rs1(word),
-        rs2: 0,
+        registers: word & 0x000f_ffff,
         imm: i_immediate(word),
     }
 }
 
 #[inline(always)]
-pub(crate) fn s_type(op: Op, word: u32) -> Inst
-    ensures { result ≡ laid_out S op word }
+pub(crate) fn s_type(op: Op, word: u32) -> Layout
+    ensures { inst_of result ≡ laid_out S op word }
 {
-    Inst {
+    Layout {
         op,
-        rd: 0,
-        rs1: rs1(word),
-        rs2: rs2(word),
+        registers: word & 0xffff_f000,
         imm: s_immediate(word),
     }
 }
 
 #[inline(always)]
-pub(crate) fn b_type(op: Op, word: u32) -> Inst
-    ensures { result ≡ laid_out B op word }
+pub(crate) fn b_type(op: Op, word: u32) -> Layout
+    ensures { inst_of result ≡ laid_out B op word }
 {
-    Inst {
+    Layout {
         op,
-        rd: 0,
-        rs1: rs1(word),
-        rs2: rs2(word),
+        registers: word & 0xffff_f000,
         imm: b_immediate(word),
     }
 }
 
 #[inline(always)]
-pub(crate) fn u_type(op: Op, word: u32) -> Inst
-    ensures { result ≡ laid_out U op word }
+pub(crate) fn u_type(op: Op, word: u32) -> Layout
+    ensures { inst_of result ≡ laid_out U op word }
 {
-    Inst {
+    Layout {
         op,
-        rd: rd(word),
-        rs1: 0,
-        rs2: 0,
+        registers: word & 0x0000_0fff,
         imm: u_immediate(word),
     }
 }
 
 #[inline(always)]
-pub(crate) fn j_type(op: Op, word: u32) -> Inst
-    ensures { result ≡ laid_out J op word }
+pub(crate) fn j_type(op: Op, word: u32) -> Layout
+    ensures { inst_of result ≡ laid_out J op word }
 {
-    Inst {
+    Layout {
         op,
-        rd: rd(word),
-        rs1: 0,
-        rs2: 0,
+        registers: word & 0x0000_0fff,
         imm: j_immediate(word),
     }
 }
 
 #[inline(always)]
-pub(crate) fn shift_type(op: Op, word: u32) -> Inst
-    ensures { result ≡ laid_out shift op word }
+pub(crate) fn shift_type(op: Op, word: u32) -> Layout
+    ensures { inst_of result ≡ laid_out shift op word }
 {
-    Inst {
+    Layout {
         op,
-        rd: rd(word),
-        rs1: rs1(word),
-        rs2: 0,
+        registers: word & 0x000f_ffff,
         imm: u32::from(rs2(word)),
     }
 }
 
 #[inline(always)]
-pub(crate) fn without_fields(op: Op) -> Inst
-    ensures { result ≡ laid_out bare op 0 }
+pub(crate) fn without_fields(op: Op) -> Layout
+    ensures { inst_of result ≡ laid_out bare op 0 }
 {
-    Inst {
+    Layout {
         op,
-        rd: 0,
-        rs1: 0,
-        rs2: 0,
+        registers: 0,
         imm: 0,
     }
 }

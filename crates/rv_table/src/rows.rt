@@ -3,11 +3,12 @@
 ghost use Rattle.std.specs.Prelude.{◌≡◌};
 ghost use Rattle.rv_table.specs.Fields as fields;
 ghost use Rattle.rv_table.specs.Fields.{opcode, laid_out, bare};
+ghost use Rattle.rv_table.specs.private.Layout.{inst_of};
 ghost use Rattle.rv_table.specs.Table.{decoded, HasRegisters};
 
 use crate::fields::{
-    b_type, funct3, funct7, i_type, j_type, opcode_of, r_type, s_type, shift_type, u_type,
-    without_fields,
+    Layout, b_type, funct3, funct7, i_type, inst_of, j_type, opcode_of, r_type, s_type, shift_type,
+    u_type, without_fields,
 };
 use crate::inst::{Inst, Op};
 use crate::opcode::{
@@ -15,16 +16,16 @@ use crate::opcode::{
 };
 
 #[inline(always)]
-fn illegal() -> Inst
-    ensures { result ≡ laid_out bare Op.Illegal 0 }
+fn illegal() -> Layout
+    ensures { inst_of result ≡ laid_out bare Op.Illegal 0 }
 {
     without_fields(Op::Illegal)
 }
 
 #[inline(always)]
-fn jump_register(word: u32) -> Inst
+fn jump_register(word: u32) -> Layout
     requires { opcode word ≡ JALR }
-    ensures { result ≡ decoded word }
+    ensures { inst_of result ≡ decoded word }
 {
     match funct3(word) {
         0b000 => i_type(Op::Jalr, word),
@@ -33,9 +34,9 @@ fn jump_register(word: u32) -> Inst
 }
 
 #[inline(always)]
-fn branch(word: u32) -> Inst
+fn branch(word: u32) -> Layout
     requires { opcode word ≡ BRANCH }
-    ensures { result ≡ decoded word }
+    ensures { inst_of result ≡ decoded word }
 {
     match funct3(word) {
         0b000 => b_type(Op::Beq, word),
@@ -49,9 +50,9 @@ fn branch(word: u32) -> Inst
 }
 
 #[inline(always)]
-fn load(word: u32) -> Inst
+fn load(word: u32) -> Layout
     requires { opcode word ≡ LOAD }
-    ensures { result ≡ decoded word }
+    ensures { inst_of result ≡ decoded word }
 {
     match funct3(word) {
         0b000 => i_type(Op::Lb, word),
@@ -64,9 +65,9 @@ fn load(word: u32) -> Inst
 }
 
 #[inline(always)]
-fn store(word: u32) -> Inst
+fn store(word: u32) -> Layout
     requires { opcode word ≡ STORE }
-    ensures { result ≡ decoded word }
+    ensures { inst_of result ≡ decoded word }
 {
     match funct3(word) {
         0b000 => s_type(Op::Sb, word),
@@ -77,9 +78,9 @@ fn store(word: u32) -> Inst
 }
 
 #[inline(always)]
-fn with_immediate(word: u32) -> Inst
+fn with_immediate(word: u32) -> Layout
     requires { opcode word ≡ OP_IMM }
-    ensures { result ≡ decoded word }
+    ensures { inst_of result ≡ decoded word }
 {
     match (funct3(word), funct7(word)) {
         (0b000, _) => i_type(Op::Addi, word),
@@ -97,10 +98,10 @@ fn with_immediate(word: u32) -> Inst
 
 /// OP with funct7 0: the operations of the base but SUB and SRA.
 #[inline(always)]
-fn base_operation(word: u32) -> Inst
+fn base_operation(word: u32) -> Layout
     requires opcode { opcode word ≡ OP }
     requires funct7 { fields.funct7 word ≡ 0 }
-    ensures { result ≡ decoded word }
+    ensures { inst_of result ≡ decoded word }
 {
     match funct3(word) {
         0b000 => r_type(Op::Add, word),
@@ -117,10 +118,10 @@ fn base_operation(word: u32) -> Inst
 
 /// OP with funct7 MULDIV: the operations of the "M" extension.
 #[inline(always)]
-fn multiplication(word: u32) -> Inst
+fn multiplication(word: u32) -> Layout
     requires opcode { opcode word ≡ OP }
     requires funct7 { fields.funct7 word ≡ MULDIV }
-    ensures { result ≡ decoded word }
+    ensures { inst_of result ≡ decoded word }
 {
     match funct3(word) {
         0b000 => r_type(Op::Mul, word),
@@ -136,9 +137,9 @@ fn multiplication(word: u32) -> Inst
 }
 
 #[inline(always)]
-fn operation(word: u32) -> Inst
+fn operation(word: u32) -> Layout
     requires { opcode word ≡ OP }
-    ensures { result ≡ decoded word }
+    ensures { inst_of result ≡ decoded word }
 {
     match (funct7(word), funct3(word)) {
         (0, _) => base_operation(word),
@@ -150,9 +151,9 @@ fn operation(word: u32) -> Inst
 }
 
 #[inline(always)]
-fn fence(word: u32) -> Inst
+fn fence(word: u32) -> Layout
     requires { opcode word ≡ MISC_MEM }
-    ensures { result ≡ decoded word }
+    ensures { inst_of result ≡ decoded word }
 {
     match funct3(word) {
         0b000 => without_fields(Op::Fence),
@@ -161,9 +162,9 @@ fn fence(word: u32) -> Inst
 }
 
 #[inline(always)]
-fn system(word: u32) -> Inst
+fn system(word: u32) -> Layout
     requires { opcode word ≡ SYSTEM }
-    ensures { result ≡ decoded word }
+    ensures { inst_of result ≡ decoded word }
 {
     match word {
         ECALL => without_fields(Op::Ecall),
@@ -178,12 +179,12 @@ pub fn decode(word: u32) -> Inst
     ensures row { result ≡ decoded word }
     ensures registers { HasRegisters result }
 {
-    row_of(word)
+    inst_of(row_of(word))
 }
 
 #[inline(always)]
-fn row_of(word: u32) -> Inst
-    ensures { result ≡ decoded word }
+fn row_of(word: u32) -> Layout
+    ensures { inst_of result ≡ decoded word }
 {
     match opcode_of(word) {
         LUI => u_type(Op::Lui, word),

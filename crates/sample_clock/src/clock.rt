@@ -9,7 +9,7 @@ ghost use Rattle.sample_clock.specs.private.Advance.{Advances, CarriedOut};
 
 use prof_bytes::{Fail, Memory};
 use rv_run::{Due, Machine};
-use scope_types::{RawPath, Unwind};
+use scope_types::{Frame, RawPath, Unwind};
 use std::marker::Model;
 
 /// How many samples a run may have.
@@ -36,13 +36,14 @@ enum Advance {
     Sampled(Sample),
 }
 
-/// A machine that is sampled, and for each hart the ordinal of its next sample.
+/// A machine that is sampled, for each hart the ordinal of its next sample, and a list for the frames of the next path.
 #[derive(Drop)]
 pub struct Samples<'a> {
     machine: Machine<'a>,
     period: u32,
     met: u32,
     next: [u64; 16],
+    list: Option<Vec<Frame>>,
 }
 
 impl<'a> Model for Samples<'a> {
@@ -56,13 +57,23 @@ impl<'a> Model for Samples<'a> {
     ghost invariant = { λ s. IsClock (record { machine = s.machine; period = s.period; met = s.met }) s.next };
 }
 
-/// The call path of the instruction that is due.
-fn path_due<U: Unwind>(machine: &Machine<'_>, due: &Due, unwinder: &U) -> Result<RawPath, Memory>
+/// The call path of the instruction that is due, for whose frames there may be a list.
+#[inline(always)]
+fn path_due<U: Unwind>(
+    machine: &Machine<'_>,
+    due: &Due,
+    unwinder: &U,
+    list: Option<Vec<Frame>>,
+) -> Result<RawPath, Memory>
     requires { due.now.hart < length machine.now.state.harts }
     ensures { let registers = (hart_of machine.now.state due.now.hart).registers in
         IfOk result (λ path. path ≡ U.path_of unwinder.now due.now.pc registers (words_of machine.now.state.memory)) }
 {
-    unwinder.path(due.pc, machine.regs(due.hart), machine.space())
+    let regs = machine.regs(due.hart);
+    match list {
+        Some(list) => unwinder.path_in(due.pc, regs, machine.space(), list),
+        None => unwinder.path(due.pc, regs, machine.space()),
+    }
 }
 
 impl<'a> Samples<'a> {
@@ -77,7 +88,15 @@ impl<'a> Samples<'a> {
             period,
             met: 0,
             next: [u64::from(period); 16],
+            list: None,
         }
+    }
+
+    /// Takes a path that is no longer wanted, whose memory serves for the frames of the next one.
+    pub fn take_back(&mut self, path: RawPath)
+        ensures { self.new ≡ self.old }
+    {
+        self.list = Some(path.into_frames());
     }
 
     /// The machine as it stands.
@@ -114,7 +133,8 @@ impl<'a> Samples<'a> {
         requires multiple { due.now.ordinal % self.old.period ≡ 0 }
         ensures { Advances (U.path_of unwinder.now) result self.old self.new }
     {
-        let path = path_due(&self.machine, due, unwinder)?;
+        let list = self.list.take();
+        let path = path_due(&self.machine, due, unwinder, list)?;
         if !self.carry_out(due)? {
             return Ok(Advance::Unsampled);
         }

@@ -1,5 +1,5 @@
 -- The names of a tree's nodes are those of its paths.
-use Rattle.std.proofs.Common.{◌≡◌, List, [], ◌∷◌, ◌++◌, map, fold, refl, sym, ap, ◌∙◌, append_assoc, append-nil}
+use Rattle.std.proofs.Common.{◌≡◌, List, [], ◌∷◌, ◌++◌, map, fold, sym, ap, ◌∙◌, append_assoc, append-nil}
 use Rattle.std.specs.Prelude.{◌==◌, if◌then◌else◌, slice_index_or, Result, Ok, Err, IfOk}
 use Rattle.std.specs.List.{flat_map}
 use Rattle.std.proofs.lemmas.List.Concat.{flat_map-append}
@@ -13,15 +13,11 @@ use Rattle.tree_types.specs.Database.{names_used}
 use Rattle.tree_types.specs.Nodes.{nodes, no_parent, own_scope}
 use Rattle.tree_types.specs.Paths.{Path}
 use Rattle.tree_types.specs.PathsOf.{path_below, tree_paths}
+use Rattle.tree_types.proofs.TreePaths.{own_scope_last}
 use Rattle.scope_expand.specs.TreeNames.{named_proc, named_file, node_procs, node_files, node_names}
 
-own_last : (f : Path) (s : Scope) → own_scope (f ++ s ∷ []) ≡ s
-own_last [] s = refl
-own_last (t ∷ []) s = refl
-own_last (t ∷ u ∷ rest) s = own_last (u ∷ rest) s
-
 own_below : (paths : List Path) (n : Node) → own_scope (path_below paths n) ≡ n.scope
-own_below paths n = own_last (if n.parent == no_parent then [] else slice_index_or paths n.parent []) n.scope
+own_below paths n = own_scope_last (if n.parent == no_parent then [] else slice_index_or paths n.parent []) n.scope
 
 module _ {A : Type 0} (of : Scope → List A) where
   abbrev of_path : Path → List A

@@ -45,7 +45,7 @@ impl<'a> Model for Expander<'a> {
 
 /// Where a frame stands in its path.
 #[derive(Clone, Copy, Debug, PartialEq, Eq)]
-enum Standing {
+enum FrameKind {
     /// It calls the next frame.
     Caller,
     /// The sample was taken in it.
@@ -61,19 +61,19 @@ fn root_of(end: End) -> RootKind
     }
 }
 
-fn last_scope(standing: Standing, line: LineId) -> Scope
-    ensures { result ≡ last_scope standing line }
+fn last_scope(kind: FrameKind, line: LineId) -> Scope
+    ensures { result ≡ last_scope kind line }
 {
-    match standing {
-        Standing::Caller => Scope::Call(line),
-        Standing::Innermost => Scope::Stmt(line),
+    match kind {
+        FrameKind::Caller => Scope::Call(line),
+        FrameKind::Innermost => Scope::Stmt(line),
     }
 }
 
 /// Appends the scopes of a frame at whose address this was found.
-fn put_found(scopes: &mut Vec<Scope>, found: &Found, standing: Standing) -> Result<(), Memory>
+fn put_found(scopes: &mut Vec<Scope>, found: &Found, kind: FrameKind) -> Result<(), Memory>
     ensures { OnOk result (scopes.new.items
-        ≡ scopes.old.items ++ frame_scopes (last_scope standing) (found_view found.now)) }
+        ≡ scopes.old.items ++ frame_scopes (last_scope kind) (found_view found.now)) }
 {
     scopes.push(Scope::Proc(found.procedure))?;
     for inline in found.inlines.items() {
@@ -82,7 +82,7 @@ fn put_found(scopes: &mut Vec<Scope>, found: &Found, standing: Standing) -> Resu
             call: inline.call,
         })?;
     }
-    scopes.push(last_scope(standing, found.line))?;
+    scopes.push(last_scope(kind, found.line))?;
     Ok(())
 }
 
@@ -92,18 +92,18 @@ fn put_frame(
     memo: &mut Kept,
     scopes: &mut Vec<Scope>,
     pc: u32,
-    standing: Standing,
+    kind: FrameKind,
 ) -> Result<(), Memory>
     requires { Fits finder.now memo.old }
     ensures memo { Fits finder.now memo.new }
     ensures scopes { OnOk result (scopes.new.items
-        ≡ scopes.old.items ++ frame_scopes (last_scope standing) (found_at finder.now pc)) }
+        ≡ scopes.old.items ++ frame_scopes (last_scope kind) (found_at finder.now pc)) }
 {
     if let Some(found) = memo.get(&pc) {
-        return put_found(scopes, found, standing);
+        return put_found(scopes, found, kind);
     }
     let found = finder.scopes_at(pc)?;
-    put_found(scopes, &found, standing)?;
+    put_found(scopes, &found, kind)?;
     let _ = memo.put(pc, found);
     Ok(())
 }
@@ -121,7 +121,7 @@ fn put_callers(
         ≡ scopes.old.items ++ caller_scopes finder.now (reverse callers.now)) }
 {
     for caller in callers.iter().rev() {
-        put_frame(finder, memo, scopes, caller.pc, Standing::Caller)?;
+        put_frame(finder, memo, scopes, caller.pc, FrameKind::Caller)?;
     }
     Ok(())
 }
@@ -144,7 +144,13 @@ fn expand_with(
         return Ok(ScopePath::of(scopes));
     };
     put_callers(finder, memo, &mut scopes, callers)?;
-    put_frame(finder, memo, &mut scopes, innermost.pc, Standing::Innermost)?;
+    put_frame(
+        finder,
+        memo,
+        &mut scopes,
+        innermost.pc,
+        FrameKind::Innermost,
+    )?;
     Ok(ScopePath::of(scopes))
 }
 

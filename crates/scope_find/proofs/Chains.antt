@@ -1,11 +1,10 @@
 -- The next inlined subroutine with an open range is the next of the calls that are inlined.
-use Rattle.std.proofs.Common.{◌≡◌, ℕ, zero, suc, ◌+◌, ◌-◌, ◌<◌, ◌≤◌, Bool, true, false, ◌&&◌, leb, List, [], ◌∷◌, ◌++◌, length, drop, Some, None, refl, sym, ap, ◌∙◌, subst, inl, inr, arith, append_assoc}
+use Rattle.std.proofs.Common.{◌≡◌, ℕ, zero, suc, ◌+◌, ◌-◌, ◌<◌, ◌≤◌, Bool, true, false, ◌&&◌, List, [], ◌∷◌, ◌++◌, length, drop, Some, None, refl, sym, ap, ◌∙◌, subst, inl, inr, arith, append_assoc}
 use Rattle.std.proofs.lemmas.List.{map_push}
 use Rattle.std.specs.Prelude.{slice_get}
 use Rattle.std.specs.List.{Contains}
 use Rattle.std.proofs.Math.Seq.{drop-cons}
-use Rattle.std.proofs.lemmas.Bool.{cases_lt, le-leb}
-use Rattle.std.proofs.lemmas.Bool.Decides.{leb_tells}
+use Rattle.std.proofs.lemmas.Bool.{cases_lt, le-leb, lt-leb}
 use Rattle.std.proofs.lemmas.List.FromFn.{length-enumerate_from, get_or-enumerate_from}
 use Rattle.std.proofs.lemmas.Option.{slice_get-get_or, slice_get_within, get_or_from_slice_get}
 use Rattle.dwarf_inline.specs.declared.item.Item.{Item}
@@ -45,16 +44,13 @@ at_all : (s : ProgramStructure) (address low end : ℕ) → length s.items ≤ l
 unfolding inlined_before
 at_all s address low end ge = rw (past_drop (numbered s) low (subst (λ (m : ℕ). m ≤ low) (sym (length-enumerate_from 0 s.items)) ge)) refl
 
-not_leb : (m n : ℕ) → n < m → leb m n ≡ false
-not_leb m n lt = elim (leb_tells m n) [ inl h ↦ absurd (omega (arith, h.1)) | inr h ↦ h.0 ]
-
 skip : (s : ProgramStructure) (address low end : ℕ) → low < end → low < length s.items → called s address low ≡ false → inlined_from s address low end ≡ inlined_from s address (low + 1) end
 unfolding inlined_before
-skip s address low end lt within fails = rw (number_drop s low within, not_leb end low lt, fails) refl
+skip s address low end lt within fails = rw (number_drop s low within, lt-leb end low lt, fails) refl
 
 call : (s : ProgramStructure) (address low end : ℕ) → low < end → low < length s.items → called s address low ≡ true → inlined_from s address low end ≡ item_at s low ∷ inlined_from s address (low + 1) (item_at s low).after
 unfolding inlined_before
-call s address low end lt within is = rw (number_drop s low within, not_leb end low lt, is) refl
+call s address low end lt within is = rw (number_drop s low within, lt-leb end low lt, is) refl
 
 skip_all : (m : ℕ) (s : ProgramStructure) (address low end : ℕ) → low + m ≤ end → low + m ≤ length s.items → ((k : ℕ) → low ≤ k → k < low + m → k < length s.items → called s address k ≡ false) → inlined_from s address low end ≡ inlined_from s address (low + m) end
 skip_all zero s address low end le within quiet = ap (λ (k : ℕ). inlined_from s address k end) (let e : low ≡ low + 0 = omega arith in e)

@@ -142,9 +142,6 @@ events_are s events whole moved = record {
 
 -- ---- the loops that put them
 
-some_same : {X : Type 0} (a b : X) → Some a ≡ Some b → a ≡ b
-some_same a b e = cc
-
 pub range_put : (s : ProgramStructure) → IsWhole s → (number k : ℕ) (item : Item) (start end : ℕ) (before after more : List Event) → slice_get s.items number ≡ Some item → k < item.ranges → slice_get s.ranges (item.first + k) ≡ Some (start, end)
     → after ≡ before ++ flat_map (range_events (number, item)) (take k (item_ranges s item)) → more ≡ after ++ starting (span_of (number, item) (start, end)) ∷ ending (span_of (number, item) (start, end)) ∷ []
     → more ≡ before ++ flat_map (range_events (number, item)) (take (k + 1) (item_ranges s item))

@@ -1,23 +1,19 @@
 -- An item holds an address exactly where one of its ranges is open there.
-use Rattle.std.proofs.Common.{◌≡◌, ℕ, zero, suc, ◌<◌, ◌≤◌, Bool, true, false, ◌&&◌, ◌||◌, ltb, leb, List, [], ◌∷◌, length, get_or, Some, refl, sym, ap, ◌∙◌, subst, inl, inr, arith}
+use Rattle.std.proofs.Common.{◌≡◌, ℕ, zero, suc, ◌<◌, ◌≤◌, Bool, true, false, ◌&&◌, ◌||◌, ltb, leb, List, [], ◌∷◌, length, get_or, Some, refl, sym, ap, ◌∙◌, subst, arith}
 use Rattle.std.specs.Prelude.{slice_get}
 use Rattle.std.specs.List.{Contains, list_any}
-use Rattle.std.proofs.lemmas.Bool.Decides.{leb_tells, nat_tests}
-use Rattle.std.proofs.lemmas.Bool.{le-leb, lt-ltb}
+use Rattle.std.proofs.lemmas.Bool.Decides.{nat_tests}
+use Rattle.std.proofs.lemmas.Bool.{le-leb, lt-ltb, or_right, leb-true}
 use Rattle.dwarf_inline.specs.declared.item.Item.{Item}
 use Rattle.dwarf_inline.specs.Structure.{ProgramStructure}
 use Rattle.scope_find.specs.declared.span.Span.{Span}
 use Rattle.scope_find.specs.Found.{item_ranges, range_holds, item_holds}
 use Rattle.scope_find.specs.private.Spans.{IsOpenAt, span_of}
 
-or_later : (a b : Bool) → b ≡ true → (a || b) ≡ true
-or_later true b e = refl
-or_later false b e = e
-
 any_at : {X : Type 0} (p : X → Bool) (xs : List X) (k : ℕ) (d : X) → k < length xs → p (get_or xs k d) ≡ true → list_any p xs ≡ true
 any_at p [] k d lt is = absurd (omega arith)
 any_at p (x ∷ xs) zero d lt is = rw is refl
-any_at p (x ∷ xs) (suc k) d lt is = or_later (p x) (list_any p xs) (any_at p xs k d (omega arith) is)
+any_at p (x ∷ xs) (suc k) d lt is = or_right (p x) (list_any p xs) (any_at p xs k d (omega arith) is)
 
 pub any_here : {X : Type 0} (p : X → Bool) (xs : List X) (x : X) → Contains xs x → p x ≡ true → list_any p xs ≡ true
 any_here p xs x has is = any_at p xs has.0 x has.1 (ap p has.2 ∙ is)
@@ -46,9 +42,6 @@ both_true true true e = (refl, refl)
 both_true true false e = absurd cc
 both_true false b e = absurd cc
 
-from_leb : (m n : ℕ) → leb m n ≡ true → m ≤ n
-from_leb m n e = elim (leb_tells m n) [ inl h ↦ h.1 | inr h ↦ absurd (let f : true ≡ false = sym e ∙ h.0 in cc) ]
-
 from_ltb : (m n : ℕ) → ltb m n ≡ true → m < n
 from_ltb m n e = grind (arith, nat_tests)
 
@@ -56,7 +49,7 @@ pub holds_from : (address : ℕ) (r : ℕ × ℕ) → r.0 ≤ address → addres
 holds_from address r low high = rw (le-leb r.0 address low, lt-ltb address r.1 high) refl
 
 pub start_below : (address : ℕ) (r : ℕ × ℕ) → range_holds address r ≡ true → r.0 ≤ address
-start_below address r e = from_leb r.0 address (both_true (leb r.0 address) (ltb address r.1) e).0
+start_below address r e = leb-true r.0 address (both_true (leb r.0 address) (ltb address r.1) e).0
 
 pub below_end : (address : ℕ) (r : ℕ × ℕ) → range_holds address r ≡ true → address < r.1
 below_end address r e = from_ltb address r.1 (both_true (leb r.0 address) (ltb address r.1) e).1

@@ -1,30 +1,24 @@
 -- Parts are found by halving, and lists keep their indices.
-use Rattle.std.proofs.Common.{◌≡◌, ℕ, zero, suc, ◌+◌, ◌-◌, ◌<◌, ◌≤◌, Bool, true, false, cond, leb, List, [], ◌∷◌, ◌++◌, length, get_or, take, Some, None, sym, ap, ◌∙◌, inl, inr, arith}
+use Rattle.std.proofs.Common.{◌≡◌, ℕ, zero, suc, ◌+◌, ◌-◌, ◌<◌, ◌≤◌, Bool, true, false, cond, leb, List, [], ◌∷◌, ◌++◌, length, get_or, take, Some, None, sym, ap, ◌∙◌, arith}
 use Rattle.std.specs.Prelude.{slice_get, Vec, nat_eq}
 use Rattle.std.specs.Global.{Global}
 use Rattle.std.specs.List.Sorted.{IsPartitionPoint}
 use Rattle.std.specs.Cmp.Lexicographic.{same_text}
 use Rattle.std.proofs.Math.Seq.{take-suc, take-length}
-use Rattle.std.proofs.lemmas.Bool.Decides.{leb_tells}
 use Rattle.std.proofs.lemmas.List.{map-append}
 use Rattle.scope_find.specs.declared.parts.Part.{Part}
 use Rattle.scope_find.specs.private.Parts.{numbers_of, KeepsLists, part_at, IsSplit}
 use Rattle.scope_find.proofs.PartsMade.{part_before, part_from}
 use lib.Pointwise.{pointwise}
+use Rattle.std.proofs.lemmas.Bool.{leb-true, leb-false}
 
 -- ---- parts
-
-from_leb : (m n : ℕ) → leb m n ≡ true → m ≤ n
-from_leb m n e = elim (leb_tells m n) [ inl h ↦ h.1 | inr h ↦ absurd (let f : true ≡ false = sym e ∙ h.0 in cc) ]
-
-from_not_leb : (m n : ℕ) → leb m n ≡ false → n < m
-from_not_leb m n e = elim (leb_tells m n) [ inl h ↦ absurd (let f : true ≡ false = sym h.0 ∙ e in cc) | inr h ↦ omega (arith, h.1) ]
 
 pub split_of : (parts : List Part) (address count : ℕ) → count ≤ length parts → IsPartitionPoint (λ (p : Part). leb p.start address ≡ true) (λ p. leb p.start address ≡ false) parts count → IsSplit address parts count
 split_of parts address count le point = record {
   within = le;
-  below = λ i d lt. from_leb (get_or parts i d).start address (point.0 i d (omega arith) lt);
-  above = λ i d from lt. from_not_leb (get_or parts i d).start address (point.1 i d from lt);
+  below = λ i d lt. leb-true (get_or parts i d).start address (point.0 i d (omega arith) lt);
+  above = λ i d from lt. leb-false (get_or parts i d).start address (point.1 i d from lt);
 }
 
 abbrev no_part : Part

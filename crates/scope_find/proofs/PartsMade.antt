@@ -4,8 +4,7 @@ use Rattle.std.specs.Prelude.{slice_get, Result, Ok, Err, OnOk}
 use Rattle.std.specs.List.{Contains}
 use Rattle.std.specs.List.Sorted.{IsNonDecreasingBy}
 use Rattle.std.proofs.Math.Seq.{drop-cons}
-use Rattle.std.proofs.lemmas.Bool.{cases_lt, le-leb}
-use Rattle.std.proofs.lemmas.Bool.Decides.{leb_tells}
+use Rattle.std.proofs.lemmas.Bool.{cases_lt, le-leb, lt-leb}
 use Rattle.std.proofs.lemmas.List.{take_more, take-append-drop, get_or-take, get_or-drop, length-take, length-drop, length-append, reverse-append, get_or_append_left}
 use Rattle.std.proofs.Math.Seq.{get_or-append_seam}
 use Rattle.std.proofs.lemmas.List.Elements.{Contains-get_or, Contains-append_cases, Contains-push_cases}
@@ -24,11 +23,8 @@ use Rattle.scope_find.proofs.Sweeping.{open_more, open_at, spans_after}
 pub part_push : (parts : List Part) (p : Part) (address : ℕ) → part_at (parts ++ p ∷ []) address ≡ cond (leb p.start address) (Some p) (part_at parts address)
 part_push parts p address = rw reverse-append refl
 
-not_leb : (m n : ℕ) → n < m → leb m n ≡ false
-not_leb m n lt = elim (leb_tells m n) [ inl h ↦ absurd (omega (arith, h.1)) | inr h ↦ h.0 ]
-
 pub part_before : (parts : List Part) (p : Part) (address : ℕ) → address < p.start → part_at (parts ++ p ∷ []) address ≡ part_at parts address
-part_before parts p address lt = part_push parts p address ∙ rw (not_leb p.start address lt) refl
+part_before parts p address lt = part_push parts p address ∙ rw (lt-leb p.start address lt) refl
 
 pub part_from : (parts : List Part) (p : Part) (address : ℕ) → p.start ≤ address → part_at (parts ++ p ∷ []) address ≡ Some p
 part_from parts p address le = part_push parts p address ∙ rw (le-leb p.start address le) refl

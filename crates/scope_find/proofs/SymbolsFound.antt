@@ -1,15 +1,11 @@
 -- Function symbols that are looked for in a list.
-use Rattle.std.proofs.Common.{◌≡◌, ℕ, Bool, true, false, cond, List, [], ◌∷◌, Some, None, find, map, take, option_map, codes, ◌==◌, refl, sym, ap, ◌∙◌}
+use Rattle.std.proofs.Common.{◌≡◌, ℕ, List, Some, None, find, map, take, option_map, codes, ◌==◌, sym, ap, ◌∙◌}
 use Rattle.elf_image.specs.declared.part.Function.{Function}
 use Rattle.elf_image.specs.Image.{FunctionSymbol, ProgramImage, symbol_view, in_function}
 use Rattle.scope_types.specs.declared.scope.ProcId.TheVariants.{Sym, Nameless}
 use Rattle.dwarf_inline.specs.Links.{most_name}
-use Rattle.scope_find.specs.Symbols.{name_or_unnamed, symbol_procedure, symbol_at}
-
-find_map : {X Y : Type 0} (p : Y → Bool) (f : X → Y) (xs : List X) → find p (map f xs) ≡ option_map f (find (λ x. p (f x)) xs)
-find_map p f [] = refl
-find_map {X} {Y} p f (x ∷ xs) =
-    elim (p (f x)) as (λ b. cond b (Some (f x)) (find p (map f xs)) ≡ option_map f (cond b (Some x) (find (λ x. p (f x)) xs))) [ true ↦ refl | false ↦ find_map p f xs ]
+use Rattle.elf_image.proofs.Tables.{find_map}
+use Rattle.scope_find.specs.Symbols.{name_or_unnamed, symbol_procedure, procedure_by_symbol}
 
 pub symbol_is : (image : ProgramImage) (fs : List Function) (start : ℕ) (f : Function) → map symbol_view fs ≡ image.functions → find (λ function. function.start == start) fs ≡ Some f → take most_name f.name.now ≡ name_or_unnamed (find (λ function. function.start == start) image.functions)
 symbol_is image fs start f seen found =
@@ -25,10 +21,10 @@ symbol_none image fs start seen found =
 
 pub ruleset symbol_steps = (symbol_is, symbol_none)
 
-pub at_is : (image : ProgramImage) (pc : ℕ) (f : Function) → option_map symbol_view (Some f) ≡ find (in_function pc) image.functions → Sym f.start ≡ symbol_at image pc
+pub at_is : (image : ProgramImage) (pc : ℕ) (f : Function) → option_map symbol_view (Some f) ≡ find (in_function pc) image.functions → Sym f.start ≡ procedure_by_symbol image pc
 at_is image pc f found = ap symbol_procedure found
 
-pub at_none : (image : ProgramImage) (pc : ℕ) → None ≡ find (in_function pc) image.functions → Nameless ≡ symbol_at image pc
+pub at_none : (image : ProgramImage) (pc : ℕ) → None ≡ find (in_function pc) image.functions → Nameless ≡ procedure_by_symbol image pc
 at_none image pc found = ap symbol_procedure found
 
 pub ruleset at_steps = (at_is, at_none)

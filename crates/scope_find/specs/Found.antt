@@ -15,7 +15,7 @@ use Rattle.dwarf_line.specs.Lines.{Lines, file_name_of}
 use Rattle.dwarf_line.specs.Sequences.{line_at}
 use Rattle.dwarf_inline.specs.declared.item.Item.{Item}
 use Rattle.dwarf_inline.specs.Structure.{ProgramStructure, proc_name}
-use Rattle.scope_find.specs.Symbols.{symbol_at, symbol_name}
+use Rattle.scope_find.specs.Symbols.{procedure_by_symbol, procedure_symbol_name}
 
 -- what is known of a program's code
 pub record ProgramScopes : Type 0 where
@@ -69,7 +69,7 @@ inline_scope item = (Die item.identity, unwrap_or item.call (Address 0))
 -- the procedure by debug information, else by symbols
 abbrev pub procedure_at : ProgramScopes → ℕ → Option Numbered → ProcId
 procedure_at p address (Some i) = Die i.1.identity
-procedure_at p address None = symbol_at p.image address
+procedure_at p address None = procedure_by_symbol p.image address
 
 abbrev pub inlines_at : ProgramScopes → ℕ → Option Numbered → List (ProcId × LineId)
 inlines_at p address (Some i) = map inline_scope (inlined_into p.structure address i)
@@ -90,7 +90,7 @@ unknown_procedure = codes "<unknown procedure>"
 
 abbrev pub name_of_proc : ProgramScopes → ProcId → List ℕ
 name_of_proc p (Die offset) = proc_name p.structure offset
-name_of_proc p (Sym start) = symbol_name p.image start
+name_of_proc p (Sym start) = procedure_symbol_name p.image start
 name_of_proc p Nameless = unknown_procedure
 
 -- how procedures and files are called

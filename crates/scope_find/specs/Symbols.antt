@@ -11,8 +11,8 @@ symbol_procedure (Some function) = Sym function.start
 symbol_procedure None = Nameless
 
 -- the procedure at an address, by the first function symbol that holds it
-abbrev pub symbol_at : ProgramImage → ℕ → ProcId
-symbol_at image address = symbol_procedure (find (in_function address) image.functions)
+abbrev pub procedure_by_symbol : ProgramImage → ℕ → ProcId
+procedure_by_symbol image address = symbol_procedure (find (in_function address) image.functions)
 
 -- a function symbol's name, cut
 abbrev pub name_or_unnamed : Option FunctionSymbol → List ℕ
@@ -20,5 +20,5 @@ name_or_unnamed (Some function) = take most_name function.name
 name_or_unnamed None = unnamed
 
 -- a procedure of a symbol is called as the first function symbol that starts where it does
-abbrev pub symbol_name : ProgramImage → ℕ → List ℕ
-symbol_name image start = name_or_unnamed (find (λ function. function.start == start) image.functions)
+abbrev pub procedure_symbol_name : ProgramImage → ℕ → List ℕ
+procedure_symbol_name image start = name_or_unnamed (find (λ function. function.start == start) image.functions)

@@ -8,8 +8,8 @@ ghost use Rattle.scope_find.specs.private.Parts.{numbers_of};
 ghost use Rattle.scope_find.specs.private.Scopes.{subprogram_of, numbers_in, procedure_by, scopes_by};
 
 use crate::found::{Found, InlineAt};
-use crate::names::{symbol_at, symbol_name};
-use crate::parts::{Part, Parts, part_at, parts_of};
+use crate::names::{procedure_by_symbol, procedure_symbol_name};
+use crate::parts::{AddressParts, Part, part_at, parts_of};
 use dwarf_inline::{Item, Structure};
 use dwarf_line::LineTable;
 use elf_image::Image;
@@ -25,7 +25,7 @@ pub struct Finder<'a> {
     structure: &'a Structure<'a>,
     lines: &'a LineTable<'a>,
     image: &'a Image<'a>,
-    found: Parts,
+    found: AddressParts,
 }
 
 impl<'a> Model for Finder<'a> {
@@ -54,7 +54,7 @@ fn subprogram_of(part: Option<Part>) -> Option<u32>
 }
 
 /// The numbers of the calls that are inlined in a part, the outermost first.
-fn numbers_in(found: &Parts, part: Option<Part>) -> &[u32]
+fn numbers_in(found: &AddressParts, part: Option<Part>) -> &[u32]
     ensures { result.now ≡ numbers_in (numbers_of found.now.lists.keys) part }
 {
     let Some(part) = part else {
@@ -77,7 +77,7 @@ fn procedure_of(
 {
     match subprogram {
         Some(number) => ProcId::Die(structure.item(number).identity),
-        None => symbol_at(image, pc),
+        None => procedure_by_symbol(image, pc),
     }
 }
 
@@ -164,7 +164,7 @@ impl<'a> Finder<'a> {
     {
         match id {
             ProcId::Die(offset) => Text::of(self.alloc, self.structure.proc_name(offset)),
-            ProcId::Sym(start) => Text::of(self.alloc, symbol_name(self.image, start)),
+            ProcId::Sym(start) => Text::of(self.alloc, procedure_symbol_name(self.image, start)),
             ProcId::Nameless => Text::of(self.alloc, b"<unknown procedure>"),
         }
     }

@@ -1,7 +1,7 @@
 //! What the program's function symbols say.
 ghost use Rattle.std.specs.Prelude.{◌≡◌, ◌==◌, find, take};
 ghost use Rattle.std.specs.Option.{option_copied};
-ghost use Rattle.scope_find.specs.Symbols.{symbol_at, symbol_name};
+ghost use Rattle.scope_find.specs.Symbols.{procedure_by_symbol, procedure_symbol_name};
 
 use elf_image::{Function, Image};
 use scope_types::ProcId;
@@ -28,8 +28,8 @@ fn front(bytes: &[u8], count: usize) -> &[u8]
 
 /// What a procedure of a symbol is called. Takes time linear in the number of function symbols.
 #[tactic(auto, using(crate::proofs::SymbolsFound::symbol_steps))]
-pub(crate) fn symbol_name<'a>(image: &Image<'a>, start: u32) -> &'a [u8]
-    ensures { result.now ≡ symbol_name image.now start }
+pub(crate) fn procedure_symbol_name<'a>(image: &Image<'a>, start: u32) -> &'a [u8]
+    ensures { result.now ≡ procedure_symbol_name image.now start }
 {
     match starting(image.functions(), start) {
         Some(function) => front(function.name, MOST_NAME),
@@ -39,8 +39,8 @@ pub(crate) fn symbol_name<'a>(image: &Image<'a>, start: u32) -> &'a [u8]
 
 /// The procedure at an address, by the first function symbol that holds it.
 #[tactic(auto, using(crate::proofs::SymbolsFound::at_steps))]
-pub(crate) fn symbol_at(image: &Image<'_>, pc: u32) -> ProcId
-    ensures { result ≡ symbol_at image.now pc }
+pub(crate) fn procedure_by_symbol(image: &Image<'_>, pc: u32) -> ProcId
+    ensures { result ≡ procedure_by_symbol image.now pc }
 {
     match image.function_at(pc) {
         Some(function) => ProcId::Sym(function.start),

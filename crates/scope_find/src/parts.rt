@@ -26,7 +26,7 @@ pub(crate) struct Part {
 
 /// All parts, by their starts, and the lists of numbers of inlined subroutines that they share.
 #[derive(Drop)]
-pub(crate) struct Parts {
+pub(crate) struct AddressParts {
     pub parts: Vec<Part>,
     pub lists: IndexSet<Vec<u32>>,
 }
@@ -66,7 +66,7 @@ fn put_part(
     structure: &Structure<'_>,
     held: &BTreeSet<Span>,
     start: u32,
-    found: &mut Parts,
+    found: &mut AddressParts,
 ) -> Result<(), Memory>
     requires whole { IsWhole structure.now }
     requires spans { AreSpans structure.now held.now.keys }
@@ -103,7 +103,7 @@ fn sweep(
     events: &[Event],
     index: usize,
     held: &mut BTreeSet<Span>,
-    found: &mut Parts,
+    found: &mut AddressParts,
 ) -> Result<(), Memory>
     requires whole { IsWhole structure.now }
     requires events { AreEventsOf structure.now events.now }
@@ -124,12 +124,12 @@ fn sweep(
 
 /// The parts of all addresses. Takes time as n log n in the number of ranges, for each of the calls that are inlined at
 /// an address.
-pub(crate) fn parts_of(alloc: Global, structure: &Structure<'_>) -> Result<Parts, Memory>
+pub(crate) fn parts_of(alloc: Global, structure: &Structure<'_>) -> Result<AddressParts, Memory>
     ensures { IfOk result (λ found. IsFoundIn structure.now found.parts.items (numbers_of found.lists.keys)) }
 {
     let events = events_of(alloc, structure)?;
     let mut held = BTreeSet::new(alloc);
-    let mut found = Parts {
+    let mut found = AddressParts {
         parts: Vec::new(alloc),
         lists: IndexSet::new(alloc),
     };

@@ -133,6 +133,13 @@ impl RawPath {
     {
         self.frames.as_slice()
     }
+
+    /// The list of the frames, whose memory may serve for another path.
+    pub fn into_frames(self) -> Vec<Frame>
+        ensures { result.items ≡ self.frames }
+    {
+        self.frames
+    }
 }
 
 /// A raw path, and how many samples have it.

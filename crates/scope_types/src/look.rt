@@ -2,7 +2,7 @@ ghost use Rattle.std.specs.Prelude.{◌≡◌, ℕ, List, Option, IfOk};
 ghost use Rattle.scope_types.specs.Memory.{HasWords};
 ghost use Rattle.scope_types.specs.Raw.{Raw};
 
-use crate::frame::RawPath;
+use crate::frame::{Frame, RawPath};
 use crate::memory_slice::MemorySlice;
 use prof_bytes::Memory;
 
@@ -33,4 +33,17 @@ pub trait Unwind {
     /// The call path of the instruction at pc, with the registers x0 to x31 and the memory before it.
     fn path<L: Look>(&self, pc: u32, regs: &[u32; 32], memory: &L) -> Result<RawPath, Memory>
         ensures { IfOk result (λ path. path ≡ path_of self.now pc regs.now (L.words memory.now)) };
+
+    /// The same path, for whose frames the memory of this list serves where it is enough. What is in the list is lost.
+    fn path_in<L: Look>(
+        &self,
+        pc: u32,
+        regs: &[u32; 32],
+        memory: &L,
+        _list: Vec<Frame>,
+    ) -> Result<RawPath, Memory>
+        ensures { IfOk result (λ path. path ≡ path_of self.now pc regs.now (L.words memory.now)) }
+    {
+        self.path(pc, regs, memory)
+    }
 }

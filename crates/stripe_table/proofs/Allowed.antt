@@ -89,14 +89,14 @@ module _ (p : Chunks) where
     let q : act.rest me.1 ≡ [] = ap act.rest here in λ z. let y : M = (w, q z) in y,
   )
 
-  pub meet_allowed : (slots id t k : ℕ) (me : M) (x : Stripe) → me.0.live ≡ true → me.0.hold ≡ Holds t k → me.1 ≡ (t, x) ∷ [] → Fits me.0.plan t k x → x.place < k
+  pub meet_allowed : (slots id t k : ℕ) (me : M) (x : Stripe) → me.0.live ≡ true → me.0.hold ≡ Holds t k → me.1 ≡ (t, x) ∷ [] → Fits me.0.plan t k x → x.index < k
       → Allows (Reached p) slots id me (t + 1) (λ _. 2 * k) (λ _. rule.meets (step slots (t + 1) (2 * k) 0 none) me (2 * k))
-  meet_allowed slots id t k me x alive has here fits there s r _ at small = let v = me.0 in let w : PassView = after_present t x.place (get_or x.names x.place 0) v in (
+  meet_allowed slots id t k me x alive has here fits there s r _ at small = let v = me.0 in let w : PassView = after_present t x.index (get_or x.names x.index 0) v in (
     w,
     gives,
     tt,
-    home s t (2 * k) id me x w here (meets id v t k x.place x (at, alive) has fits there refl) r,
-    λ a n e. let i : t ≡ a = cc in let q : act.rest me.1 ≡ [] = ap act.rest here in λ z. let y : M = (after_present (i z) (carried (sym here z)).place (get_or (carried (sym here z)).names (carried (sym here z)).place 0) v, q z) in y,
+    home s t (2 * k) id me x w here (meets id v t k x.index x (at, alive) has fits there refl) r,
+    λ a n e. let i : t ≡ a = cc in let q : act.rest me.1 ≡ [] = ap act.rest here in λ z. let y : M = (after_present (i z) (carried (sym here z)).index (get_or (carried (sym here z)).names (carried (sym here z)).index 0) v, q z) in y,
   )
 
   pub split_allowed : (id : ℕ) (v : PassView) → v.live ≡ true → v.first ≡ true → Splits (Reached p) id v (after_split v) (fresh_view false v.plan)

@@ -8,7 +8,7 @@ use lib.ListN.{get_elem?}
 use Rattle.stripe_table.specs.declared.view.PassView.{PassView}
 use Rattle.stripe_table.specs.declared.view.Hold.{Hold}
 use Rattle.stripe_table.specs.declared.view.Hold.TheVariants.{Free, Holds}
-use Rattle.stripe_table.specs.Views.{total, weight, got, over, splits, joins, first, holds, held_once}
+use Rattle.stripe_table.specs.Views.{total, weight, got, over, splits, joins, first, holds_stripe, held_once}
 use Rattle.stripe_table.specs.Laws.{Always, DrawsCounted, AllDrawn, OddIsHeld, EvenIsFree, FewPieces, PutsCounted, HomeFits, OneFirst, SpentIsBlank, SamePlan, OwePieces, AloneIsNeverBusy}
 use Rattle.stripe_table.proofs.Sums.{total_has, total_one}
 use Rattle.stripe_table.proofs.Keeps.{holder, at_home, not_first, first_lives}
@@ -35,7 +35,7 @@ all_drawn p s r j v at some_over = let k = core p s r in let a = total_has over 
 
 pub odd_held : Always OddIsHeld
 odd_held p s r t k lt = let kept = core p s r in let o = kept.stripes t lt in (
-  (λ odd. let w = o.word_is in let one = o.one in let h : total (holds t) s.views ≡ 1 = omega arith in let f = total_some (holds t) s.views (omega arith) in let is = held_is t f.1.hold f.3 in
+  (λ odd. let w = o.word_is in let one = o.one in let h : total (holds_stripe t) s.views ≡ 1 = omega arith in let f = total_some (holds_stripe t) s.views (omega arith) in let is = held_is t f.1.hold f.3 in
       let k' = ((kept.seats f.0 f.1 f.2).held t is.0 is.1).1 in let same : is.0 ≡ k = omega arith in let q = holder p s.words s.homes s.views f.0 f.1 kept f.2 t is.0 is.1 in (
         f.0,
         (f.1, f.2, is.1 ∙ ap (λ (z : ℕ). Holds t z) same),
@@ -47,9 +47,9 @@ odd_held p s r t k lt = let kept = core p s r in let o = kept.stripes t lt in (
 pub even_free : Always EvenIsFree
 even_free p s r t lt = let kept = core p s r in let o = kept.stripes t lt in let w = o.word_is in let one = o.one in (
   (λ even j k has. let q = holder p s.words s.homes s.views j has.0 kept has.1 t k has.2 in let b = q.3 in absurd (omega arith)),
-  λ none. dite (dec_lt 0 (total (holds t) s.views))
-      (λ some_held. let f = total_some (holds t) s.views some_held in let is = held_is t f.1.hold f.3 in absurd (none f.0 is.0 (f.1, f.2, is.1)))
-      (λ no. let z : total (holds t) s.views ≡ 0 = omega arith in omega arith),
+  λ none. dite (dec_lt 0 (total (holds_stripe t) s.views))
+      (λ some_held. let f = total_some (holds_stripe t) s.views some_held in let is = held_is t f.1.hold f.3 in absurd (none f.0 is.0 (f.1, f.2, is.1)))
+      (λ no. let z : total (holds_stripe t) s.views ≡ 0 = omega arith in omega arith),
 )
 
 pub few_pieces : Always FewPieces

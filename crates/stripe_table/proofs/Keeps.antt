@@ -15,7 +15,7 @@ use Rattle.stripe_table.specs.declared.view.Hold.TheVariants.{Free, Holds}
 use Rattle.stripe_table.specs.declared.view.Last.{Last}
 use Rattle.stripe_table.specs.declared.view.Last.TheVariants.{Nothing, Saw, Found, Named}
 use Rattle.stripe_table.specs.declared.stripe.Stripe.{Stripe}
-use Rattle.stripe_table.specs.Views.{total, weight, times, owes, times_piece, chunk_pieces, without, held_once, got, over, splits, joins, first, live, done, holds, after_draw, after_look, after_busy, after_take, after_put}
+use Rattle.stripe_table.specs.Views.{total, weight, occurrences, owes, times_piece, chunk_pieces, without, held_once, got, over, splits, joins, first, live, done, holds_stripe, after_draw, after_look, after_busy, after_take, after_put}
 use Rattle.stripe_table.specs.Fits.{Fits}
 use Rattle.stripe_table.specs.private.Kept.{StripeOk, SeatOk, Alone, Kept}
 use Rattle.stripe_table.proofs.Sums.{total_set, total_same, total_two, total_has, total_one, times_snoc, few_below, piece_append, piece_without, pieces_are}
@@ -55,12 +55,12 @@ module _ (p : Chunks) where
 
   -- all stripes but s are as they were
   other_stripes : (ws ws' : List ℕ) (hs hs' : Homes) (vs : List PassView) (id : ℕ) (v w : PassView) (s : ℕ) → Kept p ws hs vs → get_elem? vs id ≡ some v
-      → ((t : ℕ) → t ≢ s → (done t w ≡ done t v) × (holds t w ≡ holds t v) × (get_or ws' (t + 1) 0 ≡ get_or ws (t + 1) 0) × (get_elem? hs' t ≡ get_elem? hs t))
-      → (s < 16 → StripeOk p s (get_or ws' (s + 1) 0) (get_elem? hs' s) (total (done s) (set vs id w)) (total (holds s) (set vs id w)))
-      → (t : ℕ) → t < 16 → StripeOk p t (get_or ws' (t + 1) 0) (get_elem? hs' t) (total (done t) (set vs id w)) (total (holds t) (set vs id w))
+      → ((t : ℕ) → t ≢ s → (done t w ≡ done t v) × (holds_stripe t w ≡ holds_stripe t v) × (get_or ws' (t + 1) 0 ≡ get_or ws (t + 1) 0) × (get_elem? hs' t ≡ get_elem? hs t))
+      → (s < 16 → StripeOk p s (get_or ws' (s + 1) 0) (get_elem? hs' s) (total (done s) (set vs id w)) (total (holds_stripe s) (set vs id w)))
+      → (t : ℕ) → t < 16 → StripeOk p t (get_or ws' (t + 1) 0) (get_elem? hs' t) (total (done t) (set vs id w)) (total (holds_stripe t) (set vs id w))
   other_stripes ws ws' hs hs' vs id v w s kept at same here t lt = dite (ℕ_discrete t s)
-      (λ e. subst (λ (z : ℕ). StripeOk p z (get_or ws' (z + 1) 0) (get_elem? hs' z) (total (done z) (set vs id w)) (total (holds z) (set vs id w))) (sym e) (here (subst (λ (z : ℕ). z < 16) e lt)))
-      (λ ne. let a = same t ne in let d = total_same (done t) vs id v w at a.0 in let h = total_same (holds t) vs id v w at a.1 in let o = kept.stripes t lt in record {
+      (λ e. subst (λ (z : ℕ). StripeOk p z (get_or ws' (z + 1) 0) (get_elem? hs' z) (total (done z) (set vs id w)) (total (holds_stripe z) (set vs id w))) (sym e) (here (subst (λ (z : ℕ). z < 16) e lt)))
+      (λ ne. let a = same t ne in let d = total_same (done t) vs id v w at a.0 in let h = total_same (holds_stripe t) vs id v w at a.1 in let o = kept.stripes t lt in record {
         word_is = a.2 ∙ (o.word_is ∙ λ i. 2 * (sym d i) + sym h i);
         one = let b = o.one in omega arith;
         few = let b = o.few in omega arith;
@@ -153,8 +153,8 @@ module _ (p : Chunks) where
 
   -- where the first has made no other pass and holds nothing, each word is even
   even_alone : (ws : List ℕ) (hs : Homes) (vs : List PassView) → Kept p ws hs vs → (i : ℕ) (v : PassView) → get_elem? vs i ≡ some v → v.first ≡ true → v.splits ≡ 0 → v.hold ≡ Free → (t : ℕ) → t < 16 → get_or ws (t + 1) 0 % 2 ≡ 0
-  even_alone ws hs vs kept i v at f none_made free t lt = let o = kept.stripes t lt in let mine : holds t v ≡ 0 = ap (held_once t) free in
-      let h : total (holds t) vs ≡ holds t v = total_one (holds t) vs i v at (λ k y n e. ap (holds t) ((kept.seats k y e).gone (no_weight y.live (only_first ws hs vs kept i k v y at f none_made e n)))) in
+  even_alone ws hs vs kept i v at f none_made free t lt = let o = kept.stripes t lt in let mine : holds_stripe t v ≡ 0 = ap (held_once t) free in
+      let h : total (holds_stripe t) vs ≡ holds_stripe t v = total_one (holds_stripe t) vs i v at (λ k y n e. ap (holds_stripe t) ((kept.seats k y e).gone (no_weight y.live (only_first ws hs vs kept i k v y at f none_made e n)))) in
       let w = o.word_is in omega arith
 
   pub looked_at : (ws : List ℕ) (hs : Homes) (vs : List PassView) (id t : ℕ) (v : PassView) → Kept p ws hs vs → get_elem? vs id ≡ some v → v.live ≡ true → v.hold ≡ Free → t < 16
@@ -176,8 +176,8 @@ module _ (p : Chunks) where
   -- a step at stripe s that changes its word, its home, and what the pass has after_put and holds
   module _ (ws : List ℕ) (hs : Homes) (vs : List PassView) (id : ℕ) (v : PassView) (kept : Kept p ws hs vs) (at : get_elem? vs id ≡ some v) (alive : v.live ≡ true) (s : ℕ) (lt : s < 16) where
     moves : (n : ℕ) (hs' : Homes) (xs : List ℕ) (os : List (ℕ × ℕ)) (h : Hold) (b : ℕ) (l : Last) → ((c t : ℕ) → times_piece c t os ≤ owes c t v) → length hs' ≡ length hs → ((t : ℕ) → t ≢ s → get_elem? hs' t ≡ get_elem? hs t)
-        → ((t : ℕ) → t ≢ s → (times t xs ≡ times t v.puts) × (held_once t h ≡ holds t v))
-        → StripeOk p s n (get_elem? hs' s) (total (done s) (set vs id (record v { puts = xs; owed = os; hold = h; met = b; last = l }))) (total (holds s) (set vs id (record v { puts = xs; owed = os; hold = h; met = b; last = l })))
+        → ((t : ℕ) → t ≢ s → (occurrences t xs ≡ occurrences t v.puts) × (held_once t h ≡ holds_stripe t v))
+        → StripeOk p s n (get_elem? hs' s) (total (done s) (set vs id (record v { puts = xs; owed = os; hold = h; met = b; last = l }))) (total (holds_stripe s) (set vs id (record v { puts = xs; owed = os; hold = h; met = b; last = l })))
         → ((t k : ℕ) → h ≡ Holds t k → (t < 16) × (k ≡ total (done t) (set vs id (record v { puts = xs; owed = os; hold = h; met = b; last = l }))))
         → ((j : ℕ) (u : PassView) → j ≢ id → get_elem? vs j ≡ some u → (t k : ℕ) → u.hold ≡ Holds t k → total (done t) vs ≡ total (done t) (set vs id (record v { puts = xs; owed = os; hold = h; met = b; last = l })))
         → ((t e : ℕ) → l ≢ Saw t e)
@@ -191,7 +191,7 @@ module _ (p : Chunks) where
           ones = total_same first vs id v w at refl ∙ kept.ones;
           lives = let b = kept.lives in let b1 = total_same live vs id v w at refl in let b2 = total_same joins vs id v w at refl in let b3 = total_same splits vs id v w at refl in omega arith;
           stripes = other_stripes ws ws' hs hs' vs id v w s kept at (λ t ne. let z = other t ne in (z.0, z.1, get_or-set_other ws (s + 1) (t + 1) n 0 (λ e. ne (omega arith)), apart t ne))
-              (λ _. subst (λ (z : ℕ). StripeOk p s z (get_elem? hs' s) (total (done s) (set vs id w)) (total (holds s) (set vs id w))) (sym word) here);
+              (λ _. subst (λ (z : ℕ). StripeOk p s z (get_elem? hs' s) (total (done s) (set vs id w)) (total (holds_stripe s) (set vs id w))) (sym word) here);
           seats = others_seated vs id w (λ t. total (done t) vs) (λ t. total (done t) (set vs id w)) kept.seats
               (record { knows = o.knows; quiet = o.quiet; held = mine; gone = λ e. absurd (true≢false (sym alive ∙ e)); owing = λ c t h. o.owing c t (let z = fewer c t in omega arith); placed = λ t h. dite (ℕ_discrete t s) (λ e. subst (λ (z : ℕ). z < 16) (sym e) lt) (λ ne. let z = (other t ne).0 in o.placed t (omega arith)) }) rest;
           alone = others_alone ws ws' hs vs kept id v w at alive (λ f z. (((kept.alone id v at) f z).0, λ t e q. absurd (unseen t e q)));
@@ -202,14 +202,14 @@ module _ (p : Chunks) where
 
   -- what an even word at a stripe says
   pub at_home : (ws : List ℕ) (hs : Homes) (vs : List PassView) (t e : ℕ) → Kept p ws hs vs → t < 16 → get_or ws (t + 1) 0 ≡ e → e % 2 ≡ 0 → (x : Stripe) × (get_elem? hs t ≡ some (some x)) × Fits p t (e / 2) x
-  at_home ws hs vs t e kept lt is even = let o = kept.stripes t lt in let c = half (total (done t) vs) (total (holds t) vs) e (sym is ∙ o.word_is) o.one even in let y = o.at_home c.0 in
+  at_home ws hs vs t e kept lt is even = let o = kept.stripes t lt in let c = half (total (done t) vs) (total (holds_stripe t) vs) e (sym is ∙ o.word_is) o.one even in let y = o.at_home c.0 in
       (y.0, y.1, subst (λ (z : ℕ). Fits p t z y.0) c.1 y.2)
 
   pub taken_from : (ws : List ℕ) (hs : Homes) (vs : List PassView) (id t e : ℕ) (v : PassView) → Kept p ws hs vs → get_elem? vs id ≡ some v → v.live ≡ true → v.hold ≡ Free → e % 2 ≡ 0 → t < 16 → get_or ws (t + 1) 0 ≡ e
       → Kept p (set ws (t + 1) (e + 1)) (set hs t none) (set vs id (after_take t e v))
-  taken_from ws hs vs id t e v kept at alive free even lt hit = let o = kept.stripes t lt in let w : PassView = after_take t e v in let c = half (total (done t) vs) (total (holds t) vs) e (sym hit ∙ o.word_is) o.one even in
-      let none_held : holds t v ≡ 0 = ap (held_once t) free in let me_held = weight_self t in let wi = o.word_is in
-      let d : total (done t) (set vs id w) ≡ total (done t) vs = total_same (done t) vs id v w at refl in let h = total_set (holds t) vs id v w at in
+  taken_from ws hs vs id t e v kept at alive free even lt hit = let o = kept.stripes t lt in let w : PassView = after_take t e v in let c = half (total (done t) vs) (total (holds_stripe t) vs) e (sym hit ∙ o.word_is) o.one even in
+      let none_held : holds_stripe t v ≡ 0 = ap (held_once t) free in let me_held = weight_self t in let wi = o.word_is in
+      let d : total (done t) (set vs id w) ≡ total (done t) vs = total_same (done t) vs id v w at refl in let h = total_set (holds_stripe t) vs id v w at in
       moves ws hs vs id v kept at alive t lt (e + 1) (set hs t none) v.puts v.owed (Holds t (e / 2)) v.met Nothing (λ c a. omega arith) (length-set hs t none) (λ a ne. set_else hs t a none ne)
       (λ a ne. (refl, weight_else a t ne ∙ sym (ap (held_once a) free)))
       (record { word_is = omega arith; one = omega arith; few = let z = o.few in omega arith; at_home = λ z. absurd (omega arith) })
@@ -226,21 +226,21 @@ module _ (p : Chunks) where
 
   -- what is known of the stripe that a pass holds
   pub holder : (ws : List ℕ) (hs : Homes) (vs : List PassView) (id : ℕ) (v : PassView) → Kept p ws hs vs → get_elem? vs id ≡ some v → (s k : ℕ) → v.hold ≡ Holds s k
-      → (s < 16) × (k ≡ total (done s) vs) × (holds s v ≡ 1) × (total (holds s) vs ≡ 1) × ((j : ℕ) (u : PassView) → j ≢ id → get_elem? vs j ≡ some u → (r : ℕ) → u.hold ≢ Holds s r)
-  holder ws hs vs id v kept at s k has = let h = (kept.seats id v at).held s k has in let o = kept.stripes s h.0 in let one = o.one in let mine : holds s v ≡ 1 = ap (held_once s) has ∙ weight_self s in
-      let t = total_has (holds s) vs id v at in (
+      → (s < 16) × (k ≡ total (done s) vs) × (holds_stripe s v ≡ 1) × (total (holds_stripe s) vs ≡ 1) × ((j : ℕ) (u : PassView) → j ≢ id → get_elem? vs j ≡ some u → (r : ℕ) → u.hold ≢ Holds s r)
+  holder ws hs vs id v kept at s k has = let h = (kept.seats id v at).held s k has in let o = kept.stripes s h.0 in let one = o.one in let mine : holds_stripe s v ≡ 1 = ap (held_once s) has ∙ weight_self s in
+      let t = total_has (holds_stripe s) vs id v at in (
         h.0,
         h.1,
         mine,
         omega arith,
-        λ j u ne e r is. let two = total_two (holds s) vs id j v u at e ne in let his : holds s u ≡ 1 = ap (held_once s) is ∙ weight_self s in let a : 2 ≤ 1 = omega arith in omega arith,
+        λ j u ne e r is. let two = total_two (holds_stripe s) vs id j v u at e ne in let his : holds_stripe s u ≡ 1 = ap (held_once s) is ∙ weight_self s in let a : 2 ≤ 1 = omega arith in omega arith,
       )
 
   -- the stripe s goes home as x, and the pass has after_put xs
   module _ (ws : List ℕ) (hs : Homes) (vs : List PassView) (id : ℕ) (v : PassView) (kept : Kept p ws hs vs) (at : get_elem? vs id ≡ some v) (alive : v.live ≡ true) (s k : ℕ) (has : v.hold ≡ Holds s k) where
     pub homeward : (x : Stripe) (os : List (ℕ × ℕ)) (b : ℕ) (l : Last) → ((c t : ℕ) → times_piece c t os ≤ owes c t v) → ((t e : ℕ) → l ≢ Saw t e) → Fits p s k x → Kept p (set ws (s + 1) (2 * k)) (set hs s (some x)) (set vs id (record v { owed = os; hold = Free; met = b; last = l }))
     homeward x os b l fewer unseen fits = let w : PassView = record v { owed = os; hold = Free; met = b; last = l } in let q = holder ws hs vs id v kept at s k has in let o = kept.stripes s q.0 in
-        let d : total (done s) (set vs id w) ≡ total (done s) vs = total_same (done s) vs id v w at refl in let h = total_set (holds s) vs id v w at in let few = o.few in
+        let d : total (done s) (set vs id w) ≡ total (done s) vs = total_same (done s) vs id v w at refl in let h = total_set (holds_stripe s) vs id v w at in let few = o.few in
         let is = q.1 in let one = q.2 in let all = q.3 in
         moves ws hs vs id v kept at alive s q.0 (2 * k) (set hs s (some x)) v.puts os Free b l fewer (length-set hs s (some x)) (λ t ne. set_else hs s t (some x) ne)
         (λ t ne. (refl, sym (ap (held_once t) has ∙ weight_else t s ne)))
@@ -251,7 +251,7 @@ module _ (p : Chunks) where
 
     pub laid : (x : Stripe) (c : ℕ) → Fits p s (k + 1) x → Kept p (set ws (s + 1) (2 * k + 2)) (set hs s (some x)) (set vs id (after_put s k c v))
     laid x c fits = let w : PassView = after_put s k c v in let q = holder ws hs vs id v kept at s k has in let o = kept.stripes s q.0 in
-        let d = total_set (done s) vs id v w at in let more : done s w ≡ done s v + 1 = times_snoc s v.puts s ∙ ap (λ (z : ℕ). done s v + z) (weight_self s) in let h = total_set (holds s) vs id v w at in let few = fits_few s (k + 1) x fits in
+        let d = total_set (done s) vs id v w at in let more : done s w ≡ done s v + 1 = times_snoc s v.puts s ∙ ap (λ (z : ℕ). done s v + z) (weight_self s) in let h = total_set (holds_stripe s) vs id v w at in let few = fits_few s (k + 1) x fits in
         let is = q.1 in let one = q.2 in let all = q.3 in
         let kept_else : (t : ℕ) → t ≢ s → done t w ≡ done t v = λ t ne. let a = times_snoc t v.puts s in let b = weight_else t s ne in omega arith in
         moves ws hs vs id v kept at alive s q.0 (2 * k + 2) (set hs s (some x)) (v.puts ++ s ∷ []) (without c s v.owed) Free v.met (Named s k c) (λ d t. piece_without d t c s v.owed) (length-set hs s (some x)) (λ t ne. set_else hs s t (some x) ne)

@@ -13,7 +13,7 @@ use Rattle.stripe_table.specs.declared.view.Hold.TheVariants.{Free}
 use Rattle.path_trie.specs.Trie.{trie_nodes}
 use Rattle.stripe_table.specs.declared.stripe.Stripe.{Stripe}
 use Rattle.stripe_table.specs.Stripe.{empty_stripe}
-use Rattle.stripe_table.specs.Views.{up_to, total, weight, owes, held_once, got, over, splits, joins, first, live, done, holds, spent_view, after_split, after_join, fresh_view, first_view}
+use Rattle.stripe_table.specs.Views.{sum_below, total, weight, owes, held_once, got, over, splits, joins, first, live, done, holds_stripe, spent_view, after_split, after_join, fresh_view, first_view}
 use Rattle.stripe_table.specs.Fits.{Fits}
 use Rattle.stripe_table.specs.private.Kept.{SeatOk, Alone, Ruled}
 use Rattle.stripe_table.proofs.Sums.{up_to_all, piece_append, total_set, total_two, total_one, total_snoc, times_append}
@@ -23,7 +23,7 @@ abbrev Homes : Type 0
 Homes = List (maybe.Option Stripe)
 
 abbrev pub IsLast : Chunks → PassView → List Stripe → Type 0
-IsLast p v xs = (v.plan ≡ p) × ((t : ℕ) → t < 16 → (x : Stripe) × (get_elem? xs t ≡ some x) × Fits p t (done t v) x) × (0 < v.over → length p ≤ v.got) × (v.splits ≡ 0 → v.busy ≡ 0) × (up_to 16 (λ t. done t v) ≡ length v.puts)
+IsLast p v xs = (v.plan ≡ p) × ((t : ℕ) → t < 16 → (x : Stripe) × (get_elem? xs t ≡ some x) × Fits p t (done t v) x) × (0 < v.over → length p ≤ v.got) × (v.splits ≡ 0 → v.busy ≡ 0) × (sum_below 16 (λ t. done t v) ≡ length v.puts)
 
 pub at_replicate : {A : Type 0} (n i : ℕ) (a x : A) → get_elem? (replicate n a) i ≡ some x → x ≡ a
 at_replicate zero i a x e = absurd (some-ne-none x (sym e))
@@ -36,7 +36,7 @@ module _ (p : Chunks) where
       let sum : (g : PassView → ℕ) → total g (set vs id l ++ r ∷ []) + g v ≡ (total g vs + g l) + g r = λ g. let a = total_snoc g (set vs id l) r in let b = total_set g vs id v l at in omega arith in
       let same : (g : PassView → ℕ) → g l ≡ g v → g r ≡ 0 → total g (set vs id l ++ r ∷ []) ≡ total g vs = λ g a b. let c = sum g in omega arith in
       let d : (t : ℕ) → total (done t) (set vs id l ++ r ∷ []) ≡ total (done t) vs = λ t. same (done t) refl refl in
-      let h : (t : ℕ) → total (holds t) (set vs id l ++ r ∷ []) ≡ total (holds t) vs = λ t. same (holds t) refl refl in record {
+      let h : (t : ℕ) → total (holds_stripe t) (set vs id l ++ r ∷ []) ≡ total (holds_stripe t) vs = λ t. same (holds_stripe t) refl refl in record {
         wide = kept.wide;
         deep = kept.deep;
         drawn = subst (λ (z : ℕ). (get_or s.words 0 0 ≤ z) ⊎ (length p ≤ z)) (sym (same got refl refl)) kept.drawn;
@@ -71,7 +71,7 @@ module _ (p : Chunks) where
       let sum : (g : PassView → ℕ) → (total g vs' + g w) + g v ≡ (total g vs + g b) + g spent_view = λ g. let x = total_set g vs id v b at in let y = total_set g (set vs id b) other w spent_view at' in omega arith in
       let same : (g : PassView → ℕ) → g b ≡ g v + g w → g spent_view ≡ 0 → total g vs' ≡ total g vs = λ g x y. let c = sum g in omega arith in
       let d : (t : ℕ) → total (done t) vs' ≡ total (done t) vs = λ t. same (done t) (times_append t v.puts w.puts) refl in
-      let h : (t : ℕ) → total (holds t) vs' ≡ total (holds t) vs = λ t. let none_held : holds t w ≡ 0 = ap (held_once t) free in same (holds t) (omega arith) refl in
+      let h : (t : ℕ) → total (holds_stripe t) vs' ≡ total (holds_stripe t) vs = λ t. let none_held : holds_stripe t w ≡ 0 = ap (held_once t) free in same (holds_stripe t) (omega arith) refl in
       let made : splits v ≢ 0 = λ z. let y = only_first p s.words s.homes vs kept id other v w at f z was two in let x = one_weight w.live alive' in absurd (omega arith) in
       let old : (j : ℕ) (u : PassView) → get_elem? (set vs id b) j ≡ some u → SeatOk p (λ t. total (done t) vs') u =
       others_seated p vs id b (λ t. total (done t) vs) (λ t. total (done t) vs') kept.seats
@@ -116,7 +116,7 @@ module _ (p : Chunks) where
       let away : (j : ℕ) (u : PassView) → j ≢ id → get_elem? vs j ≡ some u → u ≡ spent_view = λ j u n e. (kept.seats j u e).gone (no_weight u.live (let t = total_two live vs id j v u at e n in omega arith)) in
       let only : (g : PassView → ℕ) → g spent_view ≡ 0 → total g vs ≡ g v = λ g z. total_one g vs id v at (λ j u n e. ap g (away j u n e) ∙ z) in (
         o.knows alive,
-        (λ t lt. let k = kept.stripes t lt in let none_held : total (holds t) vs ≡ 0 = only (holds t) refl ∙ ap (held_once t) free in let x = k.at_home none_held in
+        (λ t lt. let k = kept.stripes t lt in let none_held : total (holds_stripe t) vs ≡ 0 = only (holds_stripe t) refl ∙ ap (held_once t) free in let x = k.at_home none_held in
             (x.0, homes t x.0 x.1, subst (λ (n : ℕ). Fits p t n x.0) (only (done t) refl) x.2)),
         (let a = kept.past in let b = only got refl in let c = only over refl in λ z. let y = a (omega arith) in omega arith),
         (λ z. ((kept.alone id v at) f z).0),

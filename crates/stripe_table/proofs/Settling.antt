@@ -9,9 +9,9 @@ use Rattle.stripe_table.specs.Limits.{Chunks, IsLimited, IsPieceOf}
 use Rattle.stripe_table.specs.declared.stripe.Stripe.{Stripe}
 use Rattle.stripe_table.specs.private.Adding.{HasRoom, TakesIn}
 use Rattle.stripe_table.specs.Stripe.{empty_stripe}
-use Rattle.stripe_table.specs.Views.{times}
+use Rattle.stripe_table.specs.Views.{occurrences}
 use Rattle.stripe_table.specs.Fits.{Fits}
-use Rattle.stripe_table.specs.Ends.{FitsAt, AllFit, names_of}
+use Rattle.stripe_table.specs.Ends.{FitsAt, AllFit, stripe_names}
 use Rattle.stripe_table.proofs.Laying.{longer, room}
 
 there_is : (xs : List Stripe) (t : ℕ) (x : Stripe) → get_elem? xs t ≡ some x → get_or xs t empty_stripe ≡ x
@@ -22,10 +22,10 @@ there_is (y ∷ ys) (suc t) x e = there_is ys t x e
 again : (p : Chunks) (s k : ℕ) (x : Stripe) → Fits p s k x → Fits p s (length x.names) x
 again p s k x f = subst (λ (n : ℕ). Fits p s n x) (sym f.long) f
 
-pub fits_there : (p : Chunks) (xs : List Stripe) (t k : ℕ) → FitsAt p xs t k → Fits p t (length (names_of xs t)) (get_or xs t empty_stripe)
+pub fits_there : (p : Chunks) (xs : List Stripe) (t k : ℕ) → FitsAt p xs t k → Fits p t (length (stripe_names xs t)) (get_or xs t empty_stripe)
 fits_there p xs t k (x, at, f) = let is = there_is xs t x at in subst (λ (y : Stripe). Fits p t (length y.names) y) (sym is) (again p t k x f)
 
-pub long_there : (p : Chunks) (xs : List Stripe) (t k : ℕ) → FitsAt p xs t k → length (names_of xs t) ≡ k
+pub long_there : (p : Chunks) (xs : List Stripe) (t k : ℕ) → FitsAt p xs t k → length (stripe_names xs t) ≡ k
 long_there p xs t k (x, at, f) = ap (λ (y : Stripe). length y.names) (there_is xs t x at) ∙ f.long
 
 pub all_fit_set : (p : Chunks) (xs : List Stripe) (s : ℕ) (y : Stripe) → AllFit p xs → s < 16 → Fits p s (length y.names) y → AllFit p (set xs s y)
@@ -33,7 +33,7 @@ all_fit_set p xs s y all lt f = (
   length-set xs s y ∙ all.0,
   λ t l. dite (ℕ_discrete t s)
       (λ e. let is : get_or (set xs s y) s empty_stripe ≡ y = get_or-set_same xs s y empty_stripe (let z = all.0 in omega arith) in
-      subst (λ (u : ℕ). Fits p u (length (names_of (set xs s y) u)) (get_or (set xs s y) u empty_stripe)) (sym e) (subst (λ (z : Stripe). Fits p s (length z.names) z) (sym is) f))
+      subst (λ (u : ℕ). Fits p u (length (stripe_names (set xs s y) u)) (get_or (set xs s y) u empty_stripe)) (sym e) (subst (λ (z : Stripe). Fits p s (length z.names) z) (sym is) f))
       (λ ne. let is : get_or (set xs s y) t empty_stripe ≡ get_or xs t empty_stripe = get_or-set_other xs s t y empty_stripe ne in subst (λ (z : Stripe). Fits p t (length z.names) z) (sym is) (all.1 t l)),
 )
 
@@ -43,15 +43,15 @@ any_default (x ∷ xs) zero a b h = refl
 any_default (x ∷ xs) (suc s) a b h = any_default xs s a b (omega arith)
 
 -- the stripe that a piece is for has room for it
-module _ (p : Chunks) (xs : List Stripe) (q : Piece) (x : Stripe) (all : AllFit p xs) (is : x ≡ get_or xs q.stripe x) (of : IsPieceOf p q) (missing : times q.chunk (names_of xs q.stripe) ≡ 0) where
+module _ (p : Chunks) (xs : List Stripe) (q : Piece) (x : Stripe) (all : AllFit p xs) (is : x ≡ get_or xs q.stripe x) (of : IsPieceOf p q) (missing : occurrences q.chunk (stripe_names xs q.stripe) ≡ 0) where
   here : x ≡ get_or xs q.stripe empty_stripe
   here = is ∙ any_default xs q.stripe x empty_stripe (let z = all.0 in let y = of.stripe in omega arith)
 
   fits : Fits p q.stripe (length x.names) x
   fits = subst (λ (z : Stripe). Fits p q.stripe (length z.names) z) (sym here) (all.1 q.stripe of.stripe)
 
-  not_named : times q.chunk x.names ≡ 0
-  not_named = ap (λ (z : Stripe). times q.chunk z.names) here ∙ missing
+  not_named : occurrences q.chunk x.names ≡ 0
+  not_named = ap (λ (z : Stripe). occurrences q.chunk z.names) here ∙ missing
 
   pub settle_room : IsLimited p → HasRoom x q
   settle_room limited = room p q (length x.names) x limited fits not_named of

@@ -14,14 +14,14 @@ abbrev pub Took : ℕ → PassView → PassView → Take → Type 0
 Took s v w Held = (e : ℕ) × (w ≡ after_take s e v)
 Took s v w (Busy l f) = w ≡ after_busy s l f v
 
--- the piece of chunk c was merged into stripe s, which had k pieces; or the stripe has it at place p; or it was put
+-- the piece of chunk c was merged into stripe s, which had k pieces; or the stripe has it at index p; or it was put
 -- back as it was
 abbrev pub LaidAs : ℕ → ℕ → ℕ → PassView → PassView → Laid → Type 0
 LaidAs s k c v w Merged = w ≡ after_put s k c v
 LaidAs s k c v w (Present p) = w ≡ after_present s p c v
 LaidAs s k c v w (Memory failed) = w ≡ after_put_back v
 
--- the piece of chunk c was merged into stripe s; or the stripe has it at place p; or it was busy; or it was put back as
+-- the piece of chunk c was merged into stripe s; or the stripe has it at index p; or it was busy; or it was put back as
 -- it was
 abbrev pub OfferedAs : ℕ → ℕ → PassView → PassView → Offered → Type 0
 OfferedAs s c v w offered.Merged = (k : ℕ) × (w ≡ after_put s k c v)

@@ -11,7 +11,7 @@ use Rattle.stripe_table.specs.declared.view.PassView.{PassView}
 use Rattle.stripe_table.specs.declared.stripe.Stripe.{Stripe}
 use Rattle.stripe_table.specs.Stripe.{empty_stripe}
 use Rattle.stripe_table.specs.Fits.{Fits}
-use Rattle.stripe_table.specs.Views.{times}
+use Rattle.stripe_table.specs.Views.{occurrences}
 
 -- the stripes, and what the pass did that closed them
 pub record SetValue : Type 0 where
@@ -23,8 +23,8 @@ abbrev pub FitsAt : Chunks → List Stripe → ℕ → ℕ → Type 0
 FitsAt plan all s k = (x : Stripe) × (get_elem? all s ≡ some x) × Fits plan s k x
 
 -- the names of stripe s
-abbrev pub names_of : List Stripe → ℕ → List ℕ
-names_of all s = (slice_index_or all s empty_stripe).names
+abbrev pub stripe_names : List Stripe → ℕ → List ℕ
+stripe_names all s = (slice_index_or all s empty_stripe).names
 
 -- the entries that the trie of stripe s stands for
 abbrev pub trie_of : List Stripe → ℕ → List Entry
@@ -33,11 +33,11 @@ trie_of all s = (slice_index_or all s empty_stripe).trie
 -- each of the sixteen stripes fits the plan, with as many names as it has
 abbrev pub AllFit : Chunks → List Stripe → Type 0
 AllFit plan all = (length all ≡ 16)
-    × ((s : ℕ) → s < 16 → Fits plan s (length (names_of all s)) (slice_index_or all s empty_stripe))
+    × ((s : ℕ) → s < 16 → Fits plan s (length (stripe_names all s)) (slice_index_or all s empty_stripe))
 
 -- the call paths of the pieces that a stripe names: of each chunk that it names, those that the plan deals to it
 abbrev pub paths_named_by : SetValue → ℕ → List HartPath
-paths_named_by set s = flat_map (λ c. each_path (dealt set.view.plan c s)) (names_of set.stripes s)
+paths_named_by set s = flat_map (λ c. each_path (dealt set.view.plan c s)) (stripe_names set.stripes s)
 
 -- and of all sixteen stripes, one after the other
 unfoldable pub named_paths : SetValue → List HartPath
@@ -45,4 +45,4 @@ named_paths set = flat_map (paths_named_by set) (range_with_len 0 stripes)
 
 -- each stripe names each chunk of the plan
 abbrev pub NamesAll : SetValue → Type 0
-NamesAll set = (c s : ℕ) → c < length set.view.plan → s < stripes → 0 < times c (names_of set.stripes s)
+NamesAll set = (c s : ℕ) → c < length set.view.plan → s < stripes → 0 < occurrences c (stripe_names set.stripes s)

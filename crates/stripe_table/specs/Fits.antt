@@ -2,9 +2,9 @@
 use Rattle.std.specs.Prelude.{◌≡◌, ℕ, ◌<◌, ◌≤◌, length, sum_by}
 use Rattle.std.specs.List.{flat_map, list_any}
 use Rattle.tree_types.specs.Paths.{Path}
-use Rattle.path_trie.specs.Trie.{count_of, has_node, all_prefixes, trie_nodes, samples_of, scopes_of}
+use Rattle.path_trie.specs.Trie.{count_of, has_node, all_prefixes, trie_nodes, samples_of, entry_scopes}
 use Rattle.stripe_table.specs.Limits.{Chunks, dealt}
-use Rattle.stripe_table.specs.Views.{times}
+use Rattle.stripe_table.specs.Views.{occurrences}
 use Rattle.stripe_table.specs.declared.stripe.Stripe.{Stripe}
 
 -- a stripe fits the plan: it has k names, distinct chunks of the plan, and its trie stands for the entries of the
@@ -13,12 +13,12 @@ use Rattle.stripe_table.specs.declared.stripe.Stripe.{Stripe}
 -- scopes
 pub record Fits (plan : Chunks) (s k : ℕ) (x : Stripe) : Type 0 where
   pub long : length x.names ≡ k
-  pub distinct : (c : ℕ) → times c x.names ≤ 1
-  pub below : (c : ℕ) → 0 < times c x.names → c < length plan
+  pub distinct : (c : ℕ) → occurrences c x.names ≤ 1
+  pub below : (c : ℕ) → 0 < occurrences c x.names → c < length plan
   pub merged : x.trie ≡ flat_map (λ c. dealt plan c s) x.names
   pub counts : (hart : ℕ) (path : Path)
       → count_of x.trie hart path ≡ sum_by (λ c. count_of (dealt plan c s) hart path) x.names
   pub nodes : (n : Path)
       → has_node (trie_nodes x.trie) n ≡ list_any (λ c. has_node (all_prefixes (dealt plan c s)) n) x.names
   pub samples : samples_of x.trie ≡ sum_by (λ c. samples_of (dealt plan c s)) x.names
-  pub scopes : length (trie_nodes x.trie) ≤ sum_by (λ c. scopes_of (dealt plan c s)) x.names
+  pub scopes : length (trie_nodes x.trie) ≤ sum_by (λ c. entry_scopes (dealt plan c s)) x.names

@@ -87,7 +87,7 @@ pub data Step (s s' : MergeState) : Type 0 where
   -- a pass puts back a stripe that fits the plan with as many names
   puts_back : (id : ℕ) (v : PassView) (t k : ℕ) (x : Stripe) → IsPass s id v → v.hold ≡ Holds t k
       → Fits v.plan t k x → s' ≡ with_stripe s id (after_put_back v) t (2 * k) (some x) → Step s s'
-  -- the same, where it found the name of a piece at place p
+  -- the same, where it found the name of a piece at index p
   meets : (id : ℕ) (v : PassView) (t k p : ℕ) (x : Stripe) → IsPass s id v → v.hold ≡ Holds t k
       → Fits v.plan t k x → p < k
       → s' ≡ with_stripe s id (after_present t p (slice_index x.names p) v) t (2 * k) (some x) → Step s s'

@@ -2,11 +2,11 @@
 use Rattle.std.specs.Prelude.{ℕ, List, []}
 use Rattle.scope_types.specs.declared.path.Entry.{Entry}
 
--- the chunks that a stripe has a piece of; a place among them; and the entries that its trie stands for
+-- the chunks that a stripe has a piece of; an index among them; and the entries that its trie stands for
 pub record StripeValue : Type 0 where
   pub names : List ℕ
-  pub place : ℕ
+  pub index : ℕ
   pub trie : List Entry
 
 abbrev pub empty_stripe : StripeValue
-empty_stripe = record { names = []; place = 0; trie = [] }
+empty_stripe = record { names = []; index = 0; trie = [] }

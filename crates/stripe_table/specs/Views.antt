@@ -19,14 +19,14 @@ weight true = 1
 weight false = 0
 
 -- how often x is in a list
-abbrev pub times : ℕ → List ℕ → ℕ
-times x [] = 0
-times x (y ∷ ys) = weight (x == y) + times x ys
+abbrev pub occurrences : ℕ → List ℕ → ℕ
+occurrences x [] = 0
+occurrences x (y ∷ ys) = weight (x == y) + occurrences x ys
 
 -- the sum of f below n
-abbrev pub up_to : ℕ → (ℕ → ℕ) → ℕ
-up_to zero f = 0
-up_to (suc n) f = f n + up_to n f
+abbrev pub sum_below : ℕ → (ℕ → ℕ) → ℕ
+sum_below zero f = 0
+sum_below (suc n) f = f n + sum_below n f
 
 -- ---- pieces that are owed: a chunk and a stripe each
 
@@ -72,7 +72,7 @@ live v = weight v.live
 
 -- how many pieces the pass merged into stripe s
 abbrev pub done : ℕ → PassView → ℕ
-done s v = times s v.puts
+done s v = occurrences s v.puts
 
 -- how often it owes the piece (c, s)
 abbrev pub owes : ℕ → ℕ → PassView → ℕ
@@ -83,8 +83,8 @@ held_once s Free = 0
 held_once s (Holds t k) = weight (s == t)
 
 -- 1 for a pass that holds stripe s, and else 0
-abbrev pub holds : ℕ → PassView → ℕ
-holds s v = held_once s v.hold
+abbrev pub holds_stripe : ℕ → PassView → ℕ
+holds_stripe s v = held_once s v.hold
 
 -- ---- views
 
@@ -161,7 +161,7 @@ after_put s k c v = record v {
 abbrev pub after_put_back : PassView → PassView
 after_put_back v = record v { hold = Free; last = Nothing }
 
--- it put back stripe s as it was, whose name at place p is c
+-- it put back stripe s as it was, whose name at index p is c
 abbrev pub after_present : ℕ → ℕ → ℕ → PassView → PassView
 after_present s p c v = record v {
   owed = without c s v.owed;

@@ -3,18 +3,18 @@ ghost use Rattle.std.specs.Prelude.{◌≡◌, ℕ, ◌<◌, ◌≤◌, ◌+◌,
 ghost use Rattle.std.specs.Prelude.{length};
 ghost use Rattle.std.specs.Prelude.{vec_capacity};
 ghost use Rattle.core.specs.Mem.Slots.{slots_items, slots_len, IsFull};
-ghost use Rattle.stripe_table.specs.Ends.{AllFit, FitsAt, names_of, trie_of};
+ghost use Rattle.stripe_table.specs.Ends.{AllFit, FitsAt, stripe_names, trie_of};
 ghost use Rattle.stripe_table.specs.Limits.{IsLimited, IsPieceOf};
 ghost use Rattle.stripe_table.specs.Stripe.{StripeValue, empty_stripe};
 ghost use Rattle.stripe_table.specs.private.Adding.{TakesIn};
 ghost use Rattle.stripe_table.specs.Values.{IsPassOf};
-ghost use Rattle.stripe_table.specs.Views.{done, first_view, times, up_to};
+ghost use Rattle.stripe_table.specs.Views.{done, first_view, occurrences, sum_below};
 ghost use Rattle.stripe_table.specs.declared.view.Hold.TheVariants.{Free};
 ghost use Rattle.thread_cct.specs.Plan.{FitsExpansion, expanded, stripes};
 
-use crate::plays::Rule;
+use crate::plays::StripeRule;
 use crate::stripe::Stripe;
-use crate::table::{Pass, Place, Stripes};
+use crate::table::{Pass, PassSeat, Stripes};
 use crate::view::{ExpandedPlan, PassView};
 use atomic_table::{Closed, Table};
 use ghost_value::{Determines, GhostValue};
@@ -74,8 +74,8 @@ fn open(
     plan: &GhostValue<ExpandedPlan>,
 ) -> Result<
     (
-        Table<Stripe, PassView, GhostValue<ExpandedPlan>, Rule, Global>,
-        Place,
+        Table<Stripe, PassView, GhostValue<ExpandedPlan>, StripeRule, Global>,
+        PassSeat,
     ),
     Memory,
 >
@@ -136,10 +136,10 @@ impl Stripes {
             × (pass.view.splits ≡ pass.view.joins) }
         ensures view { result.view ≡ pass.view }
         ensures fits { (s : ℕ) → s < stripes → FitsAt self.plan result.stripes s (done s pass.view) }
-        ensures names { (s : ℕ) → s < stripes → length (names_of result.stripes s) ≡ done s pass.view }
+        ensures names { (s : ℕ) → s < stripes → length (stripe_names result.stripes s) ≡ done s pass.view }
         ensures drawn { 0 < pass.view.over → length self.plan ≤ pass.view.got }
         ensures busy { pass.view.splits ≡ 0 → pass.view.busy ≡ 0 }
-        ensures sum { up_to 16 (λ s. done s pass.view) ≡ length pass.view.puts }
+        ensures sum { sum_below 16 (λ s. done s pass.view) ≡ length pass.view.puts }
     {
         let closer = Snapshot::of(&pass);
         let Stripes {
@@ -160,7 +160,7 @@ impl StripeSet {
     /// The chunks that a stripe has its pieces of, in the order in which they were merged.
     pub fn names(&self, stripe: u32) -> &[u32]
         requires { stripe < stripes }
-        ensures names { result.now ≡ names_of self.now.stripes stripe }
+        ensures names { result.now ≡ stripe_names self.now.stripes stripe }
         ensures fits { AllFit self.now.view.plan self.now.stripes }
     {
         let _kept = &self.closer;
@@ -181,12 +181,12 @@ impl StripeSet {
     /// Merges a piece that its stripe does not name. Where memory runs out the set stays as it is.
     pub fn settle(&mut self, piece: &Piece) -> Result<(), Memory>
         requires piece { IsPieceOf self.old.view.plan piece.now }
-        requires missing { times piece.now.chunk (names_of self.old.stripes piece.now.stripe) ≡ 0 }
+        requires missing { occurrences piece.now.chunk (stripe_names self.old.stripes piece.now.stripe) ≡ 0 }
         ensures view { self.new.view ≡ self.old.view }
-        ensures ok { OnOk result (names_of self.new.stripes piece.now.stripe
-            ≡ names_of self.old.stripes piece.now.stripe ++ piece.now.chunk ∷ []) }
+        ensures ok { OnOk result (stripe_names self.new.stripes piece.now.stripe
+            ≡ stripe_names self.old.stripes piece.now.stripe ++ piece.now.chunk ∷ []) }
         ensures others { (s : ℕ) → s ≢ piece.now.stripe
-            → names_of self.new.stripes s ≡ names_of self.old.stripes s }
+            → stripe_names self.new.stripes s ≡ stripe_names self.old.stripes s }
         ensures err { OnErr result (self.new ≡ self.old) }
         ensures fits { AllFit self.new.view.plan self.new.stripes }
     {

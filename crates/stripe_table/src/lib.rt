@@ -19,7 +19,7 @@ mod view;
 pub use ends::StripeSet;
 pub use laws::every_reached_table;
 pub use offer::Offered;
-pub use plays::Rule;
+pub use plays::StripeRule;
 pub use stripe::Stripe;
 pub use table::{Laid, Pass, Stripes, Take};
 pub use view::{ExpandedPlan, Hold, Last, PassView};

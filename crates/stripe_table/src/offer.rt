@@ -13,7 +13,7 @@ use scope_types::Piece;
 #[derive(Debug, PartialEq, Eq, Drop)]
 pub enum Offered {
     Merged,
-    /// The stripe has this piece: the name at this place is its chunk.
+    /// The stripe has this piece: the name at this index is its chunk.
     Present { place: u32 },
     /// Another pass held the stripe, or took it in between. `looked` and `found` are the words that showed it, both
     /// the same where the first was odd.

@@ -5,9 +5,9 @@ use atomic_table::{Join, Play, Split, TableRule};
 use ghost_value::GhostValue;
 
 /// A table is always one that the eight kinds of step reach.
-pub struct Rule;
+pub struct StripeRule;
 
-impl TableRule<Stripe, PassView, GhostValue<ExpandedPlan>> for Rule {
+impl TableRule<Stripe, PassView, GhostValue<ExpandedPlan>> for StripeRule {
     ghost use Rattle.stripe_table.specs.Machine.{Reached};
     ghost use Rattle.stripe_table.specs.Views.{first_view};
 
@@ -26,9 +26,9 @@ impl Play<Stripe, PassView> for Draw {
 }
 
 /// Reads a stripe's word.
-pub(crate) struct Look;
+pub(crate) struct ReadWord;
 
-impl Play<Stripe, PassView> for Look {
+impl Play<Stripe, PassView> for ReadWord {
     ghost use Rattle.stripe_table.specs.private.Plays.{looks};
 
     ghost then = { looks };

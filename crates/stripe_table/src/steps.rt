@@ -6,17 +6,18 @@ ghost use Rattle.stripe_table.specs.Limits.{IsLimited, IsPieceOf};
 ghost use Rattle.stripe_table.specs.Fits.{Fits};
 ghost use Rattle.stripe_table.specs.private.Seats.{Sits, SitsFree, SitsOn, IsSame};
 ghost use Rattle.stripe_table.specs.private.Adding.{HasRoom};
-ghost use Rattle.stripe_table.specs.Views.{after_draw, after_look, after_put, after_put_back, after_present, times};
+ghost use Rattle.stripe_table.specs.Views.{after_draw, after_look, after_put, after_put_back, after_present};
+ghost use Rattle.stripe_table.specs.Views.{occurrences};
 ghost use Rattle.stripe_table.specs.declared.stripe.Stripe.{Stripe};
 ghost use Rattle.stripe_table.specs.declared.view.Last.TheVariants.{Saw};
 
-use crate::plays::{Draw, Exchange, Look, Put, PutBack, PutPresent};
+use crate::plays::{Draw, Exchange, Put, PutBack, PutPresent, ReadWord};
 use crate::stripe::Addition;
-use crate::table::{Board, Laid, Place, Take};
+use crate::table::{Board, Laid, PassSeat, Take};
 use scope_types::Piece;
 
 /// Draws the next number.
-pub(crate) fn draw(board: &Board, seat: &mut Place) -> u64
+pub(crate) fn draw(board: &Board, seat: &mut PassSeat) -> u64
     requires { Sits board.now.table_id seat.old }
     ensures { IsSame seat.old seat.new × (seat.new.me ≡ (after_draw result seat.old.me.0, seat.old.me.1)) }
 {
@@ -24,15 +25,15 @@ pub(crate) fn draw(board: &Board, seat: &mut Place) -> u64
 }
 
 /// A stripe's word.
-fn look(board: &Board, seat: &mut Place, stripe: usize) -> u64
+fn look(board: &Board, seat: &mut PassSeat, stripe: usize) -> u64
     requires { SitsFree board.now.table_id seat.old × (stripe < 16) }
     ensures { IsSame seat.old seat.new × (seat.new.me ≡ (after_look stripe result seat.old.me.0, [])) }
 {
-    board.load::<Look>(seat, stripe + 1)
+    board.load::<ReadWord>(seat, stripe + 1)
 }
 
 /// Takes a stripe whose word is still the one seen.
-fn exchange(board: &Board, seat: &mut Place, stripe: usize, seen: u64) -> Take
+fn exchange(board: &Board, seat: &mut PassSeat, stripe: usize, seen: u64) -> Take
     requires { SitsFree board.now.table_id seat.old × (stripe < 16) × (seat.old.me.0.last ≡ Saw stripe seen)
         × (seen % 2 ≡ 0) × (seen + 1 < 2 ^ 64) }
     ensures { IsSame seat.old seat.new × TookSlot stripe seat.old.me.0 seat.new.me result }
@@ -49,7 +50,7 @@ fn exchange(board: &Board, seat: &mut Place, stripe: usize, seen: u64) -> Take
 }
 
 /// Puts a stripe back with one piece more than the `count` it had.
-fn put_longer(board: &Board, seat: &mut Place, stripe: usize, count: u64)
+fn put_longer(board: &Board, seat: &mut PassSeat, stripe: usize, count: u64)
     requires { (stripe < 16) × (count < 2 ^ 32) × ((x : Stripe) × SitsOn board.now.table_id stripe count x seat.old
         × Fits seat.old.me.0.plan stripe (count + 1) x) }
     ensures { IsSame seat.old seat.new × ((x : Stripe) → seat.old.me.1 ≡ (stripe, x) ∷ []
@@ -59,7 +60,7 @@ fn put_longer(board: &Board, seat: &mut Place, stripe: usize, count: u64)
 }
 
 /// Puts a stripe back with the `count` pieces that it had.
-fn put_back(board: &Board, seat: &mut Place, stripe: usize, count: u64)
+fn put_back(board: &Board, seat: &mut PassSeat, stripe: usize, count: u64)
     requires { (stripe < 16) × (count < 2 ^ 32) × ((x : Stripe) × SitsOn board.now.table_id stripe count x seat.old
         × Fits seat.old.me.0.plan stripe count x) }
     ensures { IsSame seat.old seat.new × (seat.new.me ≡ (after_put_back seat.old.me.0, [])) }
@@ -68,19 +69,19 @@ fn put_back(board: &Board, seat: &mut Place, stripe: usize, count: u64)
 }
 
 /// Puts a stripe back with the `count` pieces that it had, where it points at the name of a piece.
-fn put_present(board: &Board, seat: &mut Place, stripe: usize, count: u64)
+fn put_present(board: &Board, seat: &mut PassSeat, stripe: usize, count: u64)
     requires { (stripe < 16) × (count < 2 ^ 32) × ((x : Stripe) × SitsOn board.now.table_id stripe count x seat.old
-        × Fits seat.old.me.0.plan stripe count x × (x.place < count)) }
+        × Fits seat.old.me.0.plan stripe count x × (x.index < count)) }
     ensures { IsSame seat.old seat.new × ((x : Stripe) → seat.old.me.1 ≡ (stripe, x) ∷ []
-        → seat.new.me ≡ (after_present stripe x.place (slice_index x.names x.place) seat.old.me.0, [])) }
+        → seat.new.me ≡ (after_present stripe x.index (slice_index x.names x.index) seat.old.me.0, [])) }
 {
     board.store::<PutPresent>(seat, stripe + 1, 2 * count)
 }
 
 /// Adds a piece to the stripe that the seat holds.
-fn add_to_held(board: &Board, seat: &mut Place, piece: &Piece) -> Addition
+fn add_to_held(board: &Board, seat: &mut PassSeat, piece: &Piece) -> Addition
     requires held { (x : Stripe) × (k : ℕ) × SitsOn board.now.table_id piece.now.stripe k x seat.old
-        × (length x.names ≡ k) × (k < 2 ^ 32) × (times piece.now.chunk x.names ≡ 0 → HasRoom x piece.now) }
+        × (length x.names ≡ k) × (k < 2 ^ 32) × (occurrences piece.now.chunk x.names ≡ 0 → HasRoom x piece.now) }
     ensures same { IsSame seat.old seat.new × (seat.new.me.0 ≡ seat.old.me.0) }
     ensures slot { (x : Stripe) → seat.old.me.1 ≡ (piece.now.stripe, x) ∷ []
         → (y : Stripe) × (seat.new.me.1 ≡ (piece.now.stripe, y) ∷ []) × AddedAs piece.now x y result }
@@ -90,7 +91,7 @@ fn add_to_held(board: &Board, seat: &mut Place, piece: &Piece) -> Addition
 }
 
 /// How many pieces the stripe has that the seat holds.
-fn held_count(board: &Board, seat: &mut Place, stripe: usize) -> u64
+fn held_count(board: &Board, seat: &mut PassSeat, stripe: usize) -> u64
     requires { (x : Stripe) × (k : ℕ) × SitsOn board.now.table_id stripe k x seat.old
         × (length x.names ≡ k) }
     ensures same { IsSame seat.old seat.new × (seat.new.me ≡ seat.old.me) }
@@ -101,7 +102,7 @@ fn held_count(board: &Board, seat: &mut Place, stripe: usize) -> u64
 }
 
 /// Looks at a stripe and takes it where it is free.
-pub(crate) fn take_at(board: &Board, seat: &mut Place, stripe: usize) -> Take
+pub(crate) fn take_at(board: &Board, seat: &mut PassSeat, stripe: usize) -> Take
     requires { SitsFree board.now.table_id seat.old × (stripe < 16) }
     ensures { IsSame seat.old seat.new × TookSlot stripe seat.old.me.0 seat.new.me result }
 {
@@ -116,7 +117,7 @@ pub(crate) fn take_at(board: &Board, seat: &mut Place, stripe: usize) -> Take
 }
 
 /// Merges a piece into the stripe that the seat holds, unless it has it, and puts the stripe back.
-pub(crate) fn lay_at(board: &Board, seat: &mut Place, piece: &Piece) -> Laid
+pub(crate) fn lay_at(board: &Board, seat: &mut PassSeat, piece: &Piece) -> Laid
     requires plan { IsLimited seat.old.me.0.plan × IsPieceOf seat.old.me.0.plan piece.now }
     requires held { (x : Stripe) × SitsOn board.now.table_id piece.now.stripe (length x.names) x seat.old
         × Fits seat.old.me.0.plan piece.now.stripe (length x.names) x }
@@ -129,9 +130,9 @@ pub(crate) fn lay_at(board: &Board, seat: &mut Place, piece: &Piece) -> Laid
             put_longer(board, seat, stripe, count);
             Laid::Merged
         }
-        Addition::There(count, place) => {
+        Addition::There(count, index) => {
             put_present(board, seat, stripe, count);
-            Laid::Present { place }
+            Laid::Present { place: index }
         }
         Addition::Failed(count, memory) => {
             put_back(board, seat, stripe, count);
@@ -141,7 +142,7 @@ pub(crate) fn lay_at(board: &Board, seat: &mut Place, piece: &Piece) -> Laid
 }
 
 /// Puts back the stripe that the seat holds.
-pub(crate) fn let_go_at(board: &Board, seat: &mut Place, stripe: usize)
+pub(crate) fn let_go_at(board: &Board, seat: &mut PassSeat, stripe: usize)
     requires plan { (stripe < 16) × IsLimited seat.old.me.0.plan }
     requires held { (x : Stripe) × SitsOn board.now.table_id stripe (length x.names) x seat.old
         × Fits seat.old.me.0.plan stripe (length x.names) x }

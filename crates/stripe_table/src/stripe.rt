@@ -1,11 +1,11 @@
 //! What lies in a slot of the table.
 ghost use Rattle.std.specs.Prelude.{◌≡◌, ◌≢◌, ℕ, ◌<◌, ◌≤◌, ◌+◌, ◌^◌, ◌++◌, ◌∷◌, [], length, slice_index};
 ghost use Rattle.std.specs.Prelude.{slice_index_or, slice_set, true, false, MatchOption, OnErr, IfOk, OnOk};
-ghost use Rattle.path_trie.specs.Trie.{samples_of, scopes_of, trie_nodes};
+ghost use Rattle.path_trie.specs.Trie.{samples_of, entry_scopes, trie_nodes};
 ghost use Rattle.scope_types.specs.Limits.{most_samples, most_path_scopes};
 ghost use Rattle.stripe_table.specs.Stripe.{empty_stripe};
 ghost use Rattle.stripe_table.specs.private.Adding.{pointing_at, HasRoom, TakesIn};
-ghost use Rattle.stripe_table.specs.Views.{times};
+ghost use Rattle.stripe_table.specs.Views.{occurrences};
 ghost use Rattle.stripe_table.specs.private.Adding.{AddedAs};
 
 use path_trie::Trie;
@@ -14,14 +14,14 @@ use scope_types::Piece;
 use std::alloc::Global;
 use std::marker::Model;
 
-/// The chunks whose pieces were merged, in order; the trie of these pieces; and a place among the names, which the
+/// The chunks whose pieces were merged, in order; the trie of these pieces; and an index among the names, which the
 /// holder of the stripe points at before it puts the stripe back.
 #[derive(Drop)]
 pub struct Stripe {
     names: Vec<u32>,
     /// For each chunk, whether it may be among the names.
     marks: Vec<bool>,
-    place: u32,
+    index: u32,
     trie: Trie,
 }
 
@@ -32,7 +32,7 @@ impl Model for Stripe {
 
     ghost use Rattle.stripe_table.specs.private.Fields.{MarksNames};
 
-    ghost view = { λ s. record { names = s.names.items; place = s.place; trie = s.trie } };
+    ghost view = { λ s. record { names = s.names.items; index = s.index; trie = s.trie } };
 
     ghost invariant = { λ s. MarksNames s.marks.items s.names.items };
 }
@@ -41,7 +41,7 @@ impl Model for Stripe {
 #[derive(Drop)]
 pub(crate) enum Addition {
     Added(u64),
-    /// And the place of the name.
+    /// And the index of the name.
     There(u64, u32),
     /// And the failed allocation.
     Failed(u64, Memory),
@@ -55,7 +55,7 @@ impl Stripe {
         Ok(Stripe {
             names: Vec::new(alloc),
             marks: no_marks(alloc, chunks)?,
-            place: 0,
+            index: 0,
             trie: Trie::empty(alloc),
         })
     }
@@ -93,26 +93,26 @@ impl Stripe {
     }
 
     /// Where a chunk stands among the names. Walks over them only where the chunk may be there.
-    fn place(&self, chunk: u32) -> Option<usize>
-        ensures { MatchOption result (times chunk self.now.names ≡ 0)
-            (λ place. (place < length self.now.names) × (slice_index self.now.names place ≡ chunk)) }
+    fn index(&self, chunk: u32) -> Option<usize>
+        ensures { MatchOption result (occurrences chunk self.now.names ≡ 0)
+            (λ index. (index < length self.now.names) × (slice_index self.now.names index ≡ chunk)) }
     {
         if is_unmarked(self.marks.as_slice(), chunk) {
             return None;
         }
-        place_of(self.names.as_slice(), chunk)
+        index_of(self.names.as_slice(), chunk)
     }
 
     /// Adds a piece, or points at its chunk's name where the stripe has it.
     pub(crate) fn try_add(&mut self, piece: &Piece) -> Addition
         requires few { length self.old.names < 2 ^ 32 }
-        requires room { times piece.now.chunk self.old.names ≡ 0 → HasRoom self.old piece.now }
+        requires room { occurrences piece.now.chunk self.old.names ≡ 0 → HasRoom self.old piece.now }
         ensures { AddedAs piece.now self.old self.new result }
     {
         let len = self.names.len() as u64;
-        if let Some(place) = self.place(piece.chunk) {
-            self.place = place as u32;
-            return Addition::There(len, place as u32);
+        if let Some(index) = self.index(piece.chunk) {
+            self.index = index as u32;
+            return Addition::There(len, index as u32);
         }
         match self.add(piece) {
             Ok(()) => Addition::Added(len),
@@ -147,9 +147,9 @@ fn is_unmarked(marks: &[bool], chunk: u32) -> bool
 }
 
 /// Where a name stands.
-fn place_of(names: &[u32], name: u32) -> Option<usize>
-    ensures { MatchOption result (times name names.now ≡ 0)
-        (λ place. (place < length names.now) × (slice_index names.now place ≡ name)) }
+fn index_of(names: &[u32], name: u32) -> Option<usize>
+    ensures { MatchOption result (occurrences name names.now ≡ 0)
+        (λ index. (index < length names.now) × (slice_index names.now index ≡ name)) }
 {
     for i in 0..names.len() {
         if names[i] == name {

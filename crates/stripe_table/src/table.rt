@@ -7,7 +7,7 @@ ghost use Rattle.stripe_table.specs.Views.{after_draw, after_join, after_put_bac
 ghost use Rattle.stripe_table.specs.declared.view.Hold.TheVariants.{Free, Holds};
 ghost use Rattle.thread_cct.specs.Plan.{stripes};
 
-use crate::plays::{Fork, Rule};
+use crate::plays::{Fork, StripeRule};
 use crate::steps::{draw, lay_at, let_go_at, take_at};
 use crate::stripe::Stripe;
 use crate::view::{ExpandedPlan, PassView};
@@ -18,14 +18,14 @@ use scope_types::Piece;
 use std::alloc::Global;
 use std::marker::Model;
 
-pub(crate) type Board = Shared<Stripe, PassView, GhostValue<ExpandedPlan>, Rule>;
+pub(crate) type Board = Shared<Stripe, PassView, GhostValue<ExpandedPlan>, StripeRule>;
 
-pub(crate) type Place = Seat<Stripe, PassView>;
+pub(crate) type PassSeat = Seat<Stripe, PassView>;
 
 /// Sixteen stripes of a plan, which passes share. Contracts see the table and the expanded plan.
 #[derive(Drop)]
 pub struct Stripes {
-    pub(crate) table: Table<Stripe, PassView, GhostValue<ExpandedPlan>, Rule, Global>,
+    pub(crate) table: Table<Stripe, PassView, GhostValue<ExpandedPlan>, StripeRule, Global>,
     pub(crate) chunks: u32,
     /// Room for the stripes when the table is closed.
     pub(crate) spare: Vec<Stripe>,
@@ -74,7 +74,7 @@ pub enum Take {
 #[derive(Debug, PartialEq, Eq, Drop)]
 pub enum Laid {
     Merged,
-    /// The stripe has this piece: the name at this place is its chunk.
+    /// The stripe has this piece: the name at this index is its chunk.
     Present { place: u32 },
     Memory(Memory),
 }

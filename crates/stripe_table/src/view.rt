@@ -20,7 +20,7 @@ pub enum Last {
     Saw(u64, u64),
     /// The stripe, the word looked at, and the word found.
     Found(u64, u64, u64),
-    /// The stripe, a place among its names, and the name there.
+    /// The stripe, an index among its names, and the name there.
     Named(u64, u64, u64),
 }
 

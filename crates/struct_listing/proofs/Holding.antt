@@ -1,5 +1,5 @@
 -- The ranges of subprograms, and which of them holds an address.
-use Rattle.std.proofs.Common.{◌≡◌, ℕ, ◌+◌, ◌<◌, ◌≤◌, Bool, true, false, cond, List, [], ◌∷◌, ◌++◌, length, take, get_or, map, Some, None, refl, sym, ap, ◌∙◌, arith, append-nil, append_assoc}
+use Rattle.std.proofs.Common.{◌≡◌, ℕ, ◌+◌, ◌<◌, ◌≤◌, Bool, true, false, cond, List, [], ◌∷◌, ◌++◌, length, take, get_or, map, Some, refl, sym, ap, ◌∙◌, append-nil, append_assoc}
 use Rattle.std.specs.Prelude.{find, is_some, not, slice_get, ◌&&◌, ◌||◌}
 use Rattle.std.specs.List.{enumerate_from, flat_map, list_any}
 use Rattle.std.proofs.lemmas.List.{take_more, take_all, map-append}
@@ -11,7 +11,7 @@ use Rattle.dwarf_inline.specs.Structure.{ProgramStructure}
 use Rattle.scope_find.specs.Found.{Numbered, item_holds, item_ranges, range_holds, subprogram_at}
 use Rattle.struct_listing.specs.declared.symbols.CodeRange.{CodeRange}
 use Rattle.struct_listing.specs.private.Holders.{code_range, code_range_of, item_part, subprogram_ranges}
-use Rattle.struct_listing.proofs.RangeTexts.{more_ranges, all_ranges}
+use Rattle.struct_listing.proofs.RangeTexts.{more_ranges}
 
 -- ---- the ranges, one more at a time
 
@@ -23,8 +23,6 @@ range_pushed s item at r start now after placed lt there so_far push =
     let rs : List (ℕ × ℕ) = take at (item_ranges s item) in
     push ∙ ap (λ (l : List CodeRange). l ++ code_range r ∷ []) so_far ∙ append_assoc start (map code_range rs) (code_range r ∷ [])
     ∙ ap (λ (l : List CodeRange). start ++ l) (sym (ap (map code_range) (more_ranges s item at r placed lt there) ∙ map-append code_range rs (r ∷ [])))
-
-pub ruleset range_steps = (range_pushed, all_ranges)
 
 pub item_added : (s : ProgramStructure) (number : ℕ) (item : Item) (now after : List CodeRange) → slice_get s.items number ≡ Some item
     → now ≡ flat_map (item_part s) (take number s.items) → after ≡ now ++ item_part s item → after ≡ flat_map (item_part s) (take (number + 1) s.items)

@@ -1,9 +1,9 @@
 -- Ranges with commas between, one more at a time.
-use Rattle.std.proofs.Common.{◌≡◌, ℕ, suc, ◌+◌, ◌<◌, ◌≤◌, Bool, cond, List, [], ◌∷◌, ◌++◌, length, get_or, take, drop, Some, refl, sym, ap, ◌∙◌, arith, append-nil, append_assoc, length-drop}
+use Rattle.std.proofs.Common.{◌≡◌, ℕ, suc, ◌+◌, ◌<◌, ◌≤◌, Bool, cond, List, [], ◌∷◌, ◌++◌, length, get_or, take, drop, Some, sym, ap, ◌∙◌, arith, append-nil, append_assoc, length-drop}
 use Rattle.std.specs.Prelude.{codes, slice_get}
 use Rattle.std.specs.List.{flat_map}
 use Rattle.std.proofs.lemmas.Bool.{lt-ltb}
-use Rattle.std.proofs.lemmas.List.{take_more, get_or-take, get_or-drop, length-take-le, take_all, take-take}
+use Rattle.std.proofs.lemmas.List.{take_more, get_or-take, get_or-drop, length-take-le, take_all}
 use Rattle.std.proofs.lemmas.List.Concat.{flat_map-append}
 use Rattle.std.proofs.lemmas.Option.{get_or_from_slice_get}
 use Rattle.dwarf_inline.specs.declared.item.Item.{Item}
@@ -51,8 +51,3 @@ range_more s item at r start now middle after placed lt there so_far comma text 
 
 pub all_ranges : (s : ProgramStructure) (item : Item) (n : ℕ) → item.first + item.ranges ≤ length s.ranges → item.ranges ≤ n → take n (item_ranges s item) ≡ item_ranges s item
 all_ranges s item n placed le = take_all n (item_ranges s item) (omega (arith, ranges_long s item placed))
-
-pub no_ranges : (start : List ℕ) → start ≡ start ++ ranges_text []
-no_ranges start = sym (append-nil start)
-
-pub ruleset range_steps = (range_more, all_ranges, no_ranges)

@@ -1,13 +1,11 @@
 -- The subprograms' lines, an item at a time.
-use Rattle.std.proofs.Common.{◌≡◌, ℕ, ◌+◌, ◌<◌, ◌≤◌, List, [], ◌∷◌, ◌++◌, length, take, get_or, Some, refl, sym, ap, ◌∙◌, subst, arith, append-nil}
-use Rattle.std.specs.Prelude.{All, filter, slice_get}
+use Rattle.std.proofs.Common.{◌≡◌, ℕ, ◌+◌, ◌≤◌, List, ◌++◌, length, take, Some, sym, ap, ◌∙◌, arith}
+use Rattle.std.specs.Prelude.{filter, slice_get}
 use Rattle.std.specs.List.{flat_map}
 use Rattle.std.proofs.lemmas.List.{take_all}
 use Rattle.std.proofs.lemmas.List.FromFn.{length-enumerate_from}
-use Rattle.std.proofs.lemmas.Option.{slice_get_within, get_or_from_slice_get}
 use Rattle.prof_bytes.proofs.Appending.{append_more}
 use Rattle.dwarf_inline.specs.declared.item.Item.{Item}
-use Rattle.dwarf_inline.specs.Structure.{ProgramStructure, IsWhole}
 use Rattle.scope_find.specs.Found.{Numbered, ProgramScopes, numbered}
 use Rattle.struct_listing.specs.Listing.{is_listed_subprogram, subprogram_lines}
 use Rattle.struct_listing.specs.private.Parts.{subprogram_part}
@@ -25,5 +23,3 @@ pub all_subprograms : (p : ProgramScopes) (number : ℕ) → length p.structure.
 all_subprograms p number le =
     ap (flat_map (subprogram_part p)) (take_all number (numbered p.structure) (omega (arith, length-enumerate_from 0 p.structure.items)))
     ∙ sym (flat_filter is_listed_subprogram (subprogram_lines p) (numbered p.structure))
-
-pub ruleset subprogram_steps = (subprogram_more, all_subprograms)

@@ -11,10 +11,10 @@ ghost use Rattle.struct_listing.specs.private.Parts.{inline_part, scopes_of};
 use crate::program::Program;
 use crate::ranges::put_tail;
 use dwarf_inline::Item;
-use prof_bytes::Memory;
+use prof_bytes::{Memory, put_decimal};
 use scope_types::LineId;
 use std::alloc::Global;
-use view_tables::{put_address, put_decimal, put_printed};
+use view_tables::{put_address, put_printed};
 
 /// Closes the inlined subroutines that end up to a number.
 fn close_ended(ends: &mut Vec<u32>, number: u32)

@@ -1,5 +1,5 @@
 -- How many samples a hart has.
-use Rattle.std.proofs.Common.{◌≡◌, ℕ, ◌+◌, ◌<◌, ◌==◌, Bool, true, false, cond, Some, take, List, [], ◌∷◌, ◌++◌, length, map, filter, count_by, sum_by, refl, sym, ap, subst, ◌∙◌, arith, append-nil, append_assoc}
+use Rattle.std.proofs.Common.{◌≡◌, ℕ, ◌+◌, ◌<◌, ◌==◌, Bool, true, false, cond, Some, take, List, [], ◌∷◌, ◌++◌, length, filter, count_by, sum_by, refl, sym, ap, subst, ◌∙◌, arith, append-nil, append_assoc}
 use Rattle.std.proofs.lemmas.List.{length-append, length-map}
 use Rattle.std.proofs.lemmas.List.Sums.{sum_by-cons, sum_by_more}
 use Rattle.std.proofs.lemmas.Option.{get_or_from_slice_get}
@@ -7,7 +7,7 @@ use Rattle.std.specs.Prelude.{slice_get}
 use Rattle.scope_types.specs.declared.frame.Counted.{Counted}
 use Rattle.scope_types.specs.Raw.{Raw}
 use Rattle.scope_types.specs.Distinct.{HartRaw, counted_paths, distinct, raws_of}
-use Rattle.thread_cct.specs.Adding.{of_hart, samples_of_hart}
+use Rattle.thread_cct.specs.Adding.{samples_of_hart}
 use Rattle.thread_cct.proofs.Paths.{count_of, paths_more, samples_one}
 use Rattle.thread_cct.proofs.Tables.{table_at}
 

@@ -109,12 +109,6 @@ paths_fit tables hart paths more lt so_far is few counted =
 abbrev top : ℕ
 top = 2 ^ 64 - 1
 
-capped : (a b : ℕ) → min (min a top + min b top) top ≡ min (a + b) top
-capped a b = omega arith
-
-capped_one : (a b : ℕ) → b ≤ top → min (min a top + b) top ≡ min (a + b) top
-capped_one a b small = omega arith
-
 pub scopes_more : (call_path : Raw → List Scope) (tables : Tables) (hart scopes more : ℕ) → hart < length tables → scopes ≡ min (sum_by (sum_by (path_scopes call_path)) (take hart tables)) (2 ^ 64 - 1)
     → more ≡ min (sum_by (path_scopes call_path) (slice_index_or tables hart [])) (2 ^ 64 - 1)
     → min (scopes + more) (2 ^ 64 - 1) ≡ min (sum_by (sum_by (path_scopes call_path)) (take (hart + 1) tables)) (2 ^ 64 - 1)
@@ -242,9 +236,6 @@ numbers_rise tables numbers paths index i j d le lt =
     omega (arith, rise, a, b)
 
 -- ---- the plan itself
-
-fits_cap : (n : ℕ) → most_path_scopes < min n top → most_path_scopes < n
-fits_cap n lt = omega arith
 
 pub refused : (call_path : Raw → List Scope) (tables : Tables) (hart scopes : ℕ) → length tables ≤ hart → scopes ≡ min (sum_by (sum_by (path_scopes call_path)) (take hart tables)) (2 ^ 64 - 1) → most_path_scopes < scopes
     → few_scopes call_path tables ≡ Err too_many_scopes

@@ -1,9 +1,7 @@
 -- The entries of an expanded plan count samples.
-use Rattle.std.proofs.Common.{◌≡◌, ℕ, ◌+◌, ◌<◌, List, [], ◌∷◌, length, map, take, drop, get_or, All, subst, arith}
-use Rattle.std.specs.List.{flat_map, enumerate_from, range_with_len}
+use Rattle.std.proofs.Common.{◌≡◌, ℕ, ◌+◌, ◌<◌, List, [], ◌∷◌, length, map, get_or, All, subst}
+use Rattle.std.specs.List.{range_with_len}
 use Rattle.std.proofs.lemmas.List.Elements.{All-append, All-drop, All-head, All-map, All-nil, All-tail, All-take}
-use Rattle.scope_types.specs.declared.frame.Counted.{Counted}
-use Rattle.scope_types.specs.declared.path.Entry.{Entry}
 use Rattle.scope_types.specs.declared.scope.Scope.{Scope}
 use Rattle.scope_types.specs.Raw.{Raw}
 use Rattle.thread_cct.specs.Plan.{PlannedPath, Planned, plan_of, chunks_in, chunk_of, expanded, expanded_path, expanded_paths, CountsSamples, IsMergeable}

@@ -1,7 +1,8 @@
 //! The distinct raw paths of one hart. A table by hashing finds them.
-ghost use Rattle.std.specs.Prelude.{◌≡◌, ◌<◌, ◌-◌, ◌^◌, ◌++◌, ◌∷◌, [], false, if◌then◌else◌, length, slice_get};
-ghost use Rattle.std.specs.Prelude.{sum_by, Some, OnOk, OnErr};
+ghost use Rattle.std.specs.Prelude.{◌≡◌, ◌<◌, ◌-◌, ◌^◌, ◌++◌, ◌∷◌, [], true, false, if◌then◌else◌, length, slice_get};
+ghost use Rattle.std.specs.Prelude.{sum_by, Some, OnOk, OnErr, MatchOption};
 ghost use Rattle.thread_cct.specs.Adding.{count_one, has_path};
+ghost use Rattle.thread_cct.specs.private.Fields.{IsPathAt};
 
 use indexmap::IndexMap;
 use prof_bytes::Memory;
@@ -9,10 +10,16 @@ use scope_types::RawPath;
 use std::alloc::Global;
 use std::marker::Model;
 
-/// Distinct raw paths, each with its count, in order of first sample.
+/// For how many addresses, by their lowest bits, an index is kept.
+const RECENT: usize = 256;
+
+/// Distinct raw paths, each with its count, in order of first sample. A loop has the same paths again and again, so
+/// the index of the path that was counted last is kept for the innermost address of each: where it is the same path
+/// again, nothing is hashed.
 #[derive(Drop)]
 pub struct PathTable {
     counts: IndexMap<RawPath, u32>,
+    recent: [usize; RECENT],
 }
 
 impl Model for PathTable {
@@ -25,6 +32,14 @@ impl Model for PathTable {
     ghost view = { λ table. counted_in table.counts.entries };
 }
 
+/// Where in `recent` the index of a path is kept.
+#[inline(always)]
+fn slot_of(raw: &RawPath) -> usize
+    ensures { result < 256 }
+{
+    (raw.frames()[0].pc / 4) as usize % RECENT
+}
+
 impl PathTable {
     /// No paths.
     pub fn new(alloc: Global) -> PathTable
@@ -32,6 +47,7 @@ impl PathTable {
     {
         PathTable {
             counts: IndexMap::new(alloc),
+            recent: [0; RECENT],
         }
     }
 
@@ -42,6 +58,32 @@ impl PathTable {
         self.counts.len()
     }
 
+    /// Whether a path stands at an index.
+    #[inline(always)]
+    #[tactic(auto, using(crate::proofs::Entries::path_at_index))]
+    fn is_at(&self, index: usize, raw: &RawPath) -> bool
+        ensures { result ≡ true → IsPathAt raw.now self.now index }
+    {
+        if index >= self.counts.len() {
+            return false;
+        }
+        let (path, _) = self.counts.get_index(index).unwrap();
+        raw == path
+    }
+
+    /// The index of a path, if it is there.
+    #[inline(always)]
+    #[tactic(auto, using(crate::proofs::Entries::index_steps))]
+    fn index_of(&self, raw: &RawPath) -> Option<usize>
+        ensures { MatchOption result (has_path raw.now self.now ≡ false) (λ index. IsPathAt raw.now self.now index) }
+    {
+        let recent = self.recent[slot_of(raw)];
+        if self.is_at(recent, raw) {
+            return Some(recent);
+        }
+        self.counts.get_index_of(raw)
+    }
+
     /// Counts a path once more where it is there, and says whether it is.
     #[tactic(auto, using(crate::proofs::Entries::entry_steps))]
     pub fn count_again(&mut self, raw: &RawPath) -> bool
@@ -49,10 +91,12 @@ impl PathTable {
         ensures found { result ≡ has_path raw.now self.old }
         ensures counted { self.new ≡ (if result then count_one raw.now self.old else self.old) }
     {
-        let Some(count) = self.counts.get_mut(raw) else {
+        let Some(index) = self.index_of(raw) else {
             return false;
         };
+        let count = self.counts.get_index_mut(index).unwrap();
         *count += 1;
+        self.recent[slot_of(raw)] = index;
         true
     }
 

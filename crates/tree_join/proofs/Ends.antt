@@ -23,7 +23,7 @@ use Rattle.tree_types.specs.Tree.{IsPreorder}
 use Rattle.tree_types.proofs.PathSteps.{as_many_paths}
 use Rattle.tree_types.proofs.Sorting.{bool_same, same_ascending, ascending_of_sorted}
 use Rattle.path_trie.specs.declared.trie.PathEnd.{PathEnd}
-use Rattle.path_trie.specs.Trie.{IsPlace, StandBefore, path_at, entry_of, has_node, node_of, trie_nodes}
+use Rattle.path_trie.specs.Trie.{IsIndex, StandBefore, path_at, counted_entry, has_node, trie_node, trie_nodes}
 use Rattle.path_trie.specs.private.Linked.{node_at, no_node, Rooted}
 use Rattle.path_trie.proofs.Kept.{nodes_are}
 use Rattle.path_trie.proofs.Nodes.{each_prefix, no_other, each_once}
@@ -92,7 +92,7 @@ module _ (nodes : List Node) (are : AreNodes nodes) (kids : List ℕ) (children 
   start = record {
     long = length-replicate (length nodes) no_parent;
     numbered = λ q lt set. absurd (set (get_or-replicate (length nodes) q no_parent no_parent lt));
-    places = λ j lt. (kid_is j lt).0;
+    indices = λ j lt. (kid_is j lt).0;
     parents = λ j lt inner. absurd (inner (kid_is j lt).1);
     ahead = λ i j lt. absurd (omega arith);
     apart = λ i j below lt.
@@ -103,9 +103,9 @@ module _ (nodes : List Node) (are : AreNodes nodes) (kids : List ℕ) (children 
 
 module _ (children : Children) (nodes : List Node) (es : List Entry) (ends : List PathEnd) (numbers stack none : List ℕ) (same : children.nodes.now ≡ nodes)
     (groups : Groups nodes children.flags.items children.siblings.items) (paths_are : tree_paths nodes ≡ trie_nodes es) (before : StandBefore nodes) (few : length nodes ≤ most_path_scopes)
-    (ends_are : map (entry_of (trie_nodes es)) ends ≡ es) (ends_in : All (λ e. IsPlace e.node (length (trie_nodes es))) ends) where
-  pub entries_are : map (entry_of (tree_paths children.nodes.now)) ends ≡ es
-  entries_are = ap (λ (ns : List Node). map (entry_of (tree_paths ns)) ends) same ∙ ap (λ (ps : List Path). map (entry_of ps) ends) paths_are ∙ ends_are
+    (ends_are : map (counted_entry (trie_nodes es)) ends ≡ es) (ends_in : All (λ e. IsIndex e.node (length (trie_nodes es))) ends) where
+  pub entries_are : map (counted_entry (tree_paths children.nodes.now)) ends ≡ es
+  entries_are = ap (λ (ns : List Node). map (counted_entry (tree_paths ns)) ends) same ∙ ap (λ (ps : List Path). map (counted_entry ps) ends) paths_are ∙ ends_are
 
   pub start_at : numbers ≡ replicate (length nodes) no_parent → none ≡ [] → stack ≡ none ++ children_of children.nodes.now children.flags.items children.siblings.items no_parent → WalksTrie children ends numbers stack []
   start_at numbers_are none_is stack_is =
@@ -119,7 +119,7 @@ module _ (children : Children) (nodes : List Node) (es : List Entry) (ends : Lis
         groups = subst (λ (ns : List Node). Groups ns children.flags.items children.siblings.items) (sym same) groups;
         are = subst AreNodes (sym same) are;
         nodes_are = ap tree_paths same ∙ paths_are ∙ ap trie_nodes (sym entries_are);
-        ends_in = subst (λ (ns : List Node). All (λ e. IsPlace e.node (length ns)) ends) (sym same) (subst (λ (k : ℕ). All (λ e. IsPlace e.node k) ends) long ends_in);
+        ends_in = subst (λ (ns : List Node). All (λ e. IsIndex e.node (length ns)) ends) (sym same) (subst (λ (k : ℕ). All (λ e. IsIndex e.node k) ends) long ends_in);
         walks = subst (λ (ns : List Node). Walks ns numbers stack []) (sym same) walk;
       }
 
@@ -128,7 +128,7 @@ ready order w is = record {
   groups = is.groups;
   few = is.are.few;
   long = is.walks.long;
-  places = λ i d lt. subst (λ (p : ℕ). p < length (nodes_in w)) (get_or_default w.stack.items i 0 d lt) (is.walks.places i lt);
+  indices = λ i d lt. subst (λ (p : ℕ). p < length (nodes_in w)) (get_or_default w.stack.items i 0 d lt) (is.walks.indices i lt);
   before = is.are.rooted.before;
 }
 
@@ -197,12 +197,12 @@ module _ (parts : List (List Entry)) (walkers : List Walker) (order : List Node)
         let at = found.1 in
         let own : IsWalker order w = subst (IsWalker order) at.2 (is.each at.0 w at.1) in
         let last : head_of w ≡ None = subst (λ (v : Walker). head_of v ≡ None) at.2 (ended at.0 w at.1) in
-        let place : Contains (tree_paths (nodes_in w)) q = subst (λ (ps : List Path). Contains ps q) (sym own.nodes_are) found.2 in
-        let inside = place.1 in
-        let number = number_is order w own last place.0 (let long = as_many_paths (nodes_in w) in omega arith) in
+        let index : Contains (tree_paths (nodes_in w)) q = subst (λ (ps : List Path). Contains ps q) (sym own.nodes_are) found.2 in
+        let inside = index.1 in
+        let number = number_is order w own last index.0 (let long = as_many_paths (nodes_in w) in omega arith) in
         let below = number.0 in
-        has_at done (number_at w.numbers.items place.0) q (let long = as_many_paths order in omega arith)
-        (number.1 ∙ get_or_default (tree_paths (nodes_in w)) place.0 [] q place.1 ∙ place.2)
+        has_at done (number_at w.numbers.items index.0) q (let long = as_many_paths order in omega arith)
+        (number.1 ∙ get_or_default (tree_paths (nodes_in w)) index.0 [] q index.1 ∙ index.2)
 
     same_nodes : (q : Path) → has_node done q ≡ has_node all q
     same_nodes q =
@@ -213,7 +213,7 @@ module _ (parts : List (List Entry)) (walkers : List Walker) (order : List Node)
     pub done_is : done ≡ ascending path_order all
     done_is = sym (ascending_of_sorted path_order_total path_order_tells done done_sorted) ∙ same_ascending path_order_total path_order_tells done all same_nodes
 
-    pub order_is : order ≡ map (node_of (ascending path_order all)) (ascending path_order all)
+    pub order_is : order ≡ map (trie_node (ascending path_order all)) (ascending path_order all)
     order_is =
         nodes_are order rooted_order (let few = order_few parts walkers order is in omega arith)
-        ∙ ap (λ (ps : List Path). map (node_of ps) ps) done_is
+        ∙ ap (λ (ps : List Path). map (trie_node ps) ps) done_is

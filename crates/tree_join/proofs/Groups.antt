@@ -21,18 +21,18 @@ use Rattle.scope_types.specs.Order.{scope_order}
 use Rattle.scope_types.proofs.Orders.{scope_order_total, scope_order_tells}
 use Rattle.tree_types.specs.declared.content.Node.{Node}
 use Rattle.tree_types.specs.PathsOf.{tree_paths}
-use Rattle.path_trie.specs.Trie.{IsPlace, path_at}
+use Rattle.path_trie.specs.Trie.{IsIndex, path_at}
 use Rattle.path_trie.specs.private.Linked.{node_at, next_index}
 use Rattle.path_trie.proofs.Places.{place_cases, next_of}
 use Rattle.tree_join.specs.declared.children.Sibling.{Sibling}
-use Rattle.tree_join.specs.private.Children.{slot_at, flag_at, sibling_at, siblings_below, sibling_order, MarksBranches, Groups, AreChildren, group_at, places_down, run_child, children_of}
+use Rattle.tree_join.specs.private.Children.{slot_at, flag_at, sibling_at, siblings_below, sibling_order, MarksBranches, Groups, AreChildren, group_at, indices_down, run_child, children_of}
 use Rattle.tree_join.specs.private.Walk.{path_of, AreNodes}
 use Rattle.tree_join.proofs.Walking.{kid_path}
 
 -- ---- the order of siblings
 
 sibling_order_total : IsTotalOrder sibling_order
-sibling_order_total = then_total (on_total (λ (s : Sibling). s.slot) nat_cmp_total) (then_total (on_total (λ (s : Sibling). s.scope) scope_order_total) (on_total (λ (s : Sibling). s.place) nat_cmp_total))
+sibling_order_total = then_total (on_total (λ (s : Sibling). s.slot) nat_cmp_total) (then_total (on_total (λ (s : Sibling). s.scope) scope_order_total) (on_total (λ (s : Sibling). s.index) nat_cmp_total))
 
 pub nat_equal : (a b : ℕ) → nat_cmp a b ≡ Equal → a ≡ b
 nat_equal a b e =
@@ -52,16 +52,16 @@ second_equal Less b e = absurd cc
 second_equal Equal b e = e
 second_equal Greater b e = absurd cc
 
-tied_place : (a b : Sibling) → sibling_order a b ≡ Equal → a.place ≡ b.place
-tied_place a b e = nat_equal a.place b.place (second_equal (scope_order a.scope b.scope) (nat_cmp a.place b.place) (second_equal (nat_cmp a.slot b.slot) (ordering_then (scope_order a.scope b.scope) (nat_cmp a.place b.place)) e))
+tied_place : (a b : Sibling) → sibling_order a b ≡ Equal → a.index ≡ b.index
+tied_place a b e = nat_equal a.index b.index (second_equal (scope_order a.scope b.scope) (nat_cmp a.index b.index) (second_equal (nat_cmp a.slot b.slot) (ordering_then (scope_order a.scope b.scope) (nat_cmp a.index b.index)) e))
 
 -- ---- the siblings below an index
 
-abbrev same_place : Sibling → Sibling → Bool
-same_place a b = a.place == b.place
+abbrev same_index : Sibling → Sibling → Bool
+same_index a b = a.index == b.index
 
 abbrev IsOne : List Node → Sibling → Type 0
-IsOne nodes s = (s.place < length nodes) × (s ≡ sibling_at nodes s.place)
+IsOne nodes s = (s.index < length nodes) × (s ≡ sibling_at nodes s.index)
 
 module _ (nodes : List Node) (flags : List Bool) where
   below_has : (k i : ℕ) → i < k → flag_at flags (slot_at nodes i) ≡ true → Contains (siblings_below nodes flags k) (sibling_at nodes i)
@@ -80,7 +80,7 @@ module _ (nodes : List Node) (flags : List Bool) where
       ]
 
   abbrev IsLow : ℕ → Sibling → Type 0
-  IsLow k s = (s.place < k) × (s ≡ sibling_at nodes s.place)
+  IsLow k s = (s.index < k) × (s ≡ sibling_at nodes s.index)
 
   below_only : (k : ℕ) → All (IsLow k) (siblings_below nodes flags k)
   below_only zero = All-nil (IsLow 0)
@@ -91,29 +91,29 @@ module _ (nodes : List Node) (flags : List Bool) where
         | false ↦ rest
       ]
 
-  below_up : (k : ℕ) → AllPairs (λ a b. a.place < b.place) (siblings_below nodes flags k)
+  below_up : (k : ℕ) → AllPairs (λ a b. a.index < b.index) (siblings_below nodes flags k)
   below_up zero = λ i j d below lt. absurd (omega arith)
   below_up (suc k) =
-      elim (flag_at flags (slot_at nodes k)) as (λ b. AllPairs (λ a b. a.place < b.place) (cond b (siblings_below nodes flags k ++ sibling_at nodes k ∷ []) (siblings_below nodes flags k))) [
-        | true ↦ all_pairs_push (λ a b. a.place < b.place) (siblings_below nodes flags k) (sibling_at nodes k) (below_up k) (λ j d lt. (All-get_or (IsLow k) (siblings_below nodes flags k) j d lt (below_only k)).0)
+      elim (flag_at flags (slot_at nodes k)) as (λ b. AllPairs (λ a b. a.index < b.index) (cond b (siblings_below nodes flags k ++ sibling_at nodes k ∷ []) (siblings_below nodes flags k))) [
+        | true ↦ all_pairs_push (λ a b. a.index < b.index) (siblings_below nodes flags k) (sibling_at nodes k) (below_up k) (λ j d lt. (All-get_or (IsLow k) (siblings_below nodes flags k) j d lt (below_only k)).0)
         | false ↦ below_up k
       ]
 
-  below_distinct : (k : ℕ) → IsDistinct same_place (siblings_below nodes flags k)
-  below_distinct k = IsDistinct-from_apart same_place (siblings_below nodes flags k) (λ i j d below lt. ne_eqb (get_or (siblings_below nodes flags k) i d).place (get_or (siblings_below nodes flags k) j d).place (λ e. (let less = below_up k i j d below lt in absurd (omega arith))))
+  below_distinct : (k : ℕ) → IsDistinct same_index (siblings_below nodes flags k)
+  below_distinct k = IsDistinct-from_apart same_index (siblings_below nodes flags k) (λ i j d below lt. ne_eqb (get_or (siblings_below nodes flags k) i d).index (get_or (siblings_below nodes flags k) j d).index (λ e. (let less = below_up k i j d below lt in absurd (omega arith))))
 
-  flips : (a b : Sibling) → same_place a b ≡ same_place b a
-  flips a b = elim (cases_eq a.place b.place) [ inl is ↦ eq-eqb a.place b.place is ∙ sym (eq-eqb b.place a.place (sym is)) | inr apart ↦ ne_eqb a.place b.place apart ∙ sym (ne_eqb b.place a.place (λ e. apart (sym e))) ]
+  flips : (a b : Sibling) → same_index a b ≡ same_index b a
+  flips a b = elim (cases_eq a.index b.index) [ inl is ↦ eq-eqb a.index b.index is ∙ sym (eq-eqb b.index a.index (sym is)) | inr apart ↦ ne_eqb a.index b.index apart ∙ sym (ne_eqb b.index a.index (λ e. apart (sym e))) ]
 
-  sorted_up : (xs : List Sibling) → IsSorted sibling_order xs → IsDistinct same_place xs → AllPairs (λ a b. sibling_order a b ≡ Less) xs
+  sorted_up : (xs : List Sibling) → IsSorted sibling_order xs → IsDistinct same_index xs → AllPairs (λ a b. sibling_order a b ≡ Less) xs
   sorted_up xs up distinct i j d below lt =
       let a : Sibling = get_or xs i d in
       let b : Sibling = get_or xs j d in
       let not_less : is_lt (sibling_order b a) ≡ false = sorted_far (λ x y. is_lt (sibling_order x y)) (ranks_by sibling_order_total (λ (s : Sibling). s)) xs up i j d (omega arith) lt in
-      let apart : same_place a b ≡ false = apart_from_distinct same_place xs i j d distinct below lt in
+      let apart : same_index a b ≡ false = apart_from_distinct same_index xs i j d distinct below lt in
       elim (sibling_order a b) as (λ o. sibling_order a b ≡ o → o ≡ Less) [
         | Less ↦ λ e. refl
-        | Equal ↦ λ e. (let two : true ≡ false = sym (eq-eqb a.place b.place (tied_place a b e)) ∙ apart in absurd (true≢false two))
+        | Equal ↦ λ e. (let two : true ≡ false = sym (eq-eqb a.index b.index (tied_place a b e)) ∙ apart in absurd (true≢false two))
         | Greater ↦ λ e. (let less : sibling_order b a ≡ Less = sibling_order_total.antisymm b a ∙ ap ordering_reverse e in absurd (true≢false (sym (ap is_lt less) ∙ not_less)))
       ] refl
 
@@ -123,7 +123,7 @@ module _ (nodes : List Node) (flags : List Bool) where
       record {
         long = long;
         marks = marks;
-        ascend = sorted_up new up (IsDistinct-IsPermutation same_place flips old new moved (subst (IsDistinct same_place) (sym is) (below_distinct n)));
+        ascend = sorted_up new up (IsDistinct-IsPermutation same_index flips old new moved (subst (IsDistinct same_index) (sym is) (below_distinct n)));
         all = λ i lt on. Contains-permutation old new (sibling_at nodes i) moved (subst (λ (l : List Sibling). Contains l (sibling_at nodes i)) (sym is) (below_has n i lt on));
         only = All-permutation (IsOne nodes) old new moved (subst (All (IsOne nodes)) (sym is) (below_only n));
       }
@@ -149,15 +149,15 @@ filter_at t (y ∷ ys) x (suc k) lt is passes =
 filter_has : (t : Sibling → Bool) (xs : List Sibling) (x : Sibling) → Contains xs x → t x ≡ true → Contains (filter t xs) x
 filter_has t xs x has passes = filter_at t xs x has.0 has.1 has.2 passes
 
-abbrev place_of : Sibling → ℕ
-place_of s = s.place
+abbrev index_of : Sibling → ℕ
+index_of s = s.index
 
-map_has : (xs : List Sibling) (x : Sibling) → Contains xs x → Contains (map place_of xs) x.place
-map_has xs x has = (has.0, (let lt = has.1 in omega (arith, length-map xs place_of)), get_or-map place_of xs has.0 x x.place has.1 ∙ ap place_of has.2)
+map_has : (xs : List Sibling) (x : Sibling) → Contains xs x → Contains (map index_of xs) x.index
+map_has xs x has = (has.0, (let lt = has.1 in omega (arith, length-map xs index_of)), get_or-map index_of xs has.0 x x.index has.1 ∙ ap index_of has.2)
 
 -- ---- children
 
-next_once : (p q n : ℕ) → IsPlace p n → IsPlace q n → n ≤ most_path_scopes → next_index p ≡ next_index q → p ≡ q
+next_once : (p q n : ℕ) → IsIndex p n → IsIndex q n → n ≤ most_path_scopes → next_index p ≡ next_index q → p ≡ q
 next_once p q n p_place q_place few same =
     elim (place_cases p n p_place) [
       | inl p_none ↦ elim (place_cases q n q_place) [
@@ -170,18 +170,18 @@ next_once p q n p_place q_place few same =
       ]
     ]
 
-module _ (nodes : List Node) (flags : List Bool) (siblings : List Sibling) (g : Groups nodes flags siblings) (are : AreNodes nodes) (p : ℕ) (place : IsPlace p (length nodes)) where
+module _ (nodes : List Node) (flags : List Bool) (siblings : List Sibling) (g : Groups nodes flags siblings) (are : AreNodes nodes) (p : ℕ) (index : IsIndex p (length nodes)) where
   abbrev slot : ℕ
   slot = next_index p
 
-  wider : (i : ℕ) → i < length nodes → IsPlace (node_at nodes i).parent (length nodes)
+  wider : (i : ℕ) → i < length nodes → IsIndex (node_at nodes i).parent (length nodes)
   wider i lt inner = (let less = are.rooted.before i lt inner in omega arith)
 
   abbrev group : List Sibling
   group = group_at siblings slot
 
   abbrev IsChild : Sibling → Type 0
-  IsChild s = ((s.place < length nodes) × ((node_at nodes s.place).parent ≡ p)) × ((s ≡ sibling_at nodes s.place) × (s.slot ≡ slot))
+  IsChild s = ((s.index < length nodes) × ((node_at nodes s.index).parent ≡ p)) × ((s ≡ sibling_at nodes s.index) × (s.slot ≡ slot))
 
   in_slot : (s : Sibling) → (s.slot == slot) ≡ true → s.slot ≡ slot
   in_slot s e = elim (eqb_tells s.slot slot) as (λ _. s.slot ≡ slot) [ inl is ↦ is.1 | inr apart ↦ absurd (true≢false (sym e ∙ apart.0)) ]
@@ -191,40 +191,40 @@ module _ (nodes : List Node) (flags : List Bool) (siblings : List Sibling) (g : 
       All-weaker (λ s. IsOne nodes s × ((s.slot == slot) ≡ true)) IsChild
       (λ s h.
       let own : s.slot ≡ slot = in_slot s h.1 in
-      let at : slot_at nodes s.place ≡ slot = ap (λ (x : Sibling). x.slot) (sym h.0.1) ∙ own in
-      ((h.0.0, next_once (node_at nodes s.place).parent p (length nodes) (wider s.place h.0.0) place are.few at), (h.0.1, own)))
+      let at : slot_at nodes s.index ≡ slot = ap (λ (x : Sibling). x.slot) (sym h.0.1) ∙ own in
+      ((h.0.0, next_once (node_at nodes s.index).parent p (length nodes) (wider s.index h.0.0) index are.few at), (h.0.1, own)))
       group (filter_passes (IsOne nodes) (λ s. s.slot == slot) siblings g.only)
 
   group_up : AllPairs (λ a b. sibling_order a b ≡ Less) group
   group_up = AllPairs-filter (λ a b. sibling_order a b ≡ Less) (λ s. s.slot == slot) siblings g.ascend
 
-  scopes_up : (a b : Sibling) → IsChild a → IsChild b → sibling_order a b ≡ Less → scope_order (node_at nodes a.place).scope (node_at nodes b.place).scope ≡ Less
+  scopes_up : (a b : Sibling) → IsChild a → IsChild b → sibling_order a b ≡ Less → scope_order (node_at nodes a.index).scope (node_at nodes b.index).scope ≡ Less
   scopes_up a b a_is b_is less =
       let slots : nat_cmp a.slot b.slot ≡ Equal = ap (nat_cmp a.slot) (b_is.1.1 ∙ sym a_is.1.1) ∙ nat_same a.slot in
-      let rest : ordering_then (scope_order a.scope b.scope) (nat_cmp a.place b.place) ≡ Less = sym (ap (λ o. ordering_then o (ordering_then (scope_order a.scope b.scope) (nat_cmp a.place b.place))) slots) ∙ less in
-      let same : scope_order a.scope b.scope ≡ scope_order (node_at nodes a.place).scope (node_at nodes b.place).scope = ap₂ (λ (x y : Sibling). scope_order x.scope y.scope) a_is.1.0 b_is.1.0 in
-      sym same ∙ elim (scope_order a.scope b.scope) as (λ o. scope_order a.scope b.scope ≡ o → ordering_then o (nat_cmp a.place b.place) ≡ Less → o ≡ Less) [
+      let rest : ordering_then (scope_order a.scope b.scope) (nat_cmp a.index b.index) ≡ Less = sym (ap (λ o. ordering_then o (ordering_then (scope_order a.scope b.scope) (nat_cmp a.index b.index))) slots) ∙ less in
+      let same : scope_order a.scope b.scope ≡ scope_order (node_at nodes a.index).scope (node_at nodes b.index).scope = ap₂ (λ (x y : Sibling). scope_order x.scope y.scope) a_is.1.0 b_is.1.0 in
+      sym same ∙ elim (scope_order a.scope b.scope) as (λ o. scope_order a.scope b.scope ≡ o → ordering_then o (nat_cmp a.index b.index) ≡ Less → o ≡ Less) [
         | Less ↦ λ e f. refl
         | Equal ↦ λ e f.
-            let scopes : (node_at nodes a.place).scope ≡ (node_at nodes b.place).scope = scope_order_tells (node_at nodes a.place).scope (node_at nodes b.place).scope (sym same ∙ e) in
-            let paths : path_of (tree_paths nodes) a.place ≡ path_of (tree_paths nodes) b.place =
-            kid_path nodes are a.place p a_is.0.0 a_is.0.1 ∙ ap (λ (s : Scope). path_at (tree_paths nodes) p ++ s ∷ []) scopes ∙ sym (kid_path nodes are b.place p b_is.0.0 b_is.0.1) in
-            let one : a.place ≡ b.place = are.rooted.once a.place b.place a_is.0.0 b_is.0.0 paths in
-            let tie : Equal ≡ Less = sym (ap (nat_cmp a.place) (sym one) ∙ nat_same a.place) ∙ f in absurd cc
+            let scopes : (node_at nodes a.index).scope ≡ (node_at nodes b.index).scope = scope_order_tells (node_at nodes a.index).scope (node_at nodes b.index).scope (sym same ∙ e) in
+            let paths : path_of (tree_paths nodes) a.index ≡ path_of (tree_paths nodes) b.index =
+            kid_path nodes are a.index p a_is.0.0 a_is.0.1 ∙ ap (λ (s : Scope). path_at (tree_paths nodes) p ++ s ∷ []) scopes ∙ sym (kid_path nodes are b.index p b_is.0.0 b_is.0.1) in
+            let one : a.index ≡ b.index = are.rooted.once a.index b.index a_is.0.0 b_is.0.0 paths in
+            let tie : Equal ≡ Less = sym (ap (nat_cmp a.index) (sym one) ∙ nat_same a.index) ∙ f in absurd cc
         | Greater ↦ λ e f. absurd cc
       ] refl rest
 
   abbrev down : List ℕ
-  down = places_down group
+  down = indices_down group
 
   down_long : length down ≡ length group
-  down_long = length-map (reverse group) place_of ∙ length-reverse group
+  down_long = length-map (reverse group) index_of ∙ length-reverse group
 
-  down_at : (i d : ℕ) → i < length down → get_or down i d ≡ (get_or group (length group - 1 - i) (sibling_at nodes 0)).place
+  down_at : (i d : ℕ) → i < length down → get_or down i d ≡ (get_or group (length group - 1 - i) (sibling_at nodes 0)).index
   down_at i d lt =
       let z : Sibling = sibling_at nodes 0 in
-      get_or-map place_of (reverse group) i z d (omega (arith, length-map (reverse group) place_of))
-      ∙ ap place_of (get_or-reverse group i z (let long = down_long in omega arith))
+      get_or-map index_of (reverse group) i z d (omega (arith, length-map (reverse group) index_of))
+      ∙ ap index_of (get_or-reverse group i z (let long = down_long in omega arith))
 
   down_is : (i d : ℕ) → i < length down → (get_or down i d < length nodes) × ((node_at nodes (get_or down i d)).parent ≡ p)
   down_is i d lt =
@@ -293,8 +293,8 @@ module _ (nodes : List Node) (flags : List Bool) (siblings : List Sibling) (g : 
 
 -- ---- where a group stands
 
-slots_rise : (xs : List Sibling) → AllPairs (λ a b. sibling_order a b ≡ Less) xs → IsNonDecreasingBy (λ (s : Sibling). s.slot) xs
-slots_rise xs up i j d le lt =
+pub rises : (xs : List Sibling) → AllPairs (λ a b. sibling_order a b ≡ Less) xs → IsNonDecreasingBy (λ (s : Sibling). s.slot) xs
+rises xs up i j d le lt =
     elim (cases_lt i j) [
       | inl less ↦ first_le (get_or xs i d) (get_or xs j d) (up i j d less lt)
       | inr same ↦ (let is : i ≡ j = omega arith in subst (λ (k : ℕ). (get_or xs i d).slot ≤ (get_or xs k d).slot) is (omega arith))
@@ -305,7 +305,7 @@ slots_rise xs up i j d le lt =
         elim (cases_lt b.slot a.slot) [
           | inl above ↦
               let greater : nat_cmp a.slot b.slot ≡ Greater = ap (λ t. cond t Less (cond (a.slot == b.slot) Equal Greater)) (le-ltb a.slot b.slot (omega arith)) ∙ ap (λ t. cond t Equal Greater) (ne_eqb a.slot b.slot (λ e. absurd (omega arith))) in
-              let two : Greater ≡ Less = sym (ap (λ o. ordering_then o (ordering_then (scope_order a.scope b.scope) (nat_cmp a.place b.place))) greater) ∙ less in absurd cc
+              let two : Greater ≡ Less = sym (ap (λ o. ordering_then o (ordering_then (scope_order a.scope b.scope) (nat_cmp a.index b.index))) greater) ∙ less in absurd cc
           | inr le ↦ le
         ]
 
@@ -354,8 +354,5 @@ group_found xs slot start count up start_le count_le first second =
     (ap (filter t) (sym rest_is ∙ sym (take-append-drop count rest)) ∙ filter-append t (take count rest) (drop count rest)
     ∙ ap₂ (λ (a b : List Sibling). a ++ b) middle_all end_none ∙ append-nil (take count rest)))
 
-pub rises : (xs : List Sibling) → AllPairs (λ a b. sibling_order a b ≡ Less) xs → IsNonDecreasingBy (λ (s : Sibling). s.slot) xs
-rises xs up = slots_rise xs up
-
 pub rest_rises : (xs : List Sibling) (start : ℕ) → AllPairs (λ a b. sibling_order a b ≡ Less) xs → IsNonDecreasingBy (λ (s : Sibling). s.slot) (take (length xs - start) (drop start xs))
-rest_rises xs start up = IsNonDecreasingBy-take (λ (s : Sibling). s.slot) (length xs - start) (drop start xs) (IsNonDecreasingBy-drop (λ (s : Sibling). s.slot) start xs (slots_rise xs up))
+rest_rises xs start up = IsNonDecreasingBy-take (λ (s : Sibling). s.slot) (length xs - start) (drop start xs) (IsNonDecreasingBy-drop (λ (s : Sibling). s.slot) start xs (rises xs up))

@@ -11,7 +11,7 @@ use Rattle.tree_types.specs.Nodes.{no_parent}
 use Rattle.tree_types.specs.Paths.{Path}
 use Rattle.tree_types.specs.PathsOf.{tree_paths, path_below}
 use Rattle.tree_types.proofs.PathSteps.{as_many_paths}
-use Rattle.path_trie.specs.Trie.{IsPlace, path_at}
+use Rattle.path_trie.specs.Trie.{IsIndex, path_at}
 use Rattle.path_trie.specs.private.Linked.{next_index, node_with}
 use Rattle.path_trie.proofs.Places.{next_of, path_none, path_some, place_cases}
 use Rattle.tree_join.specs.private.Walk.{path_of, node_before}
@@ -91,7 +91,7 @@ none_earlier h n f e g =
 
 -- a node that is next, and its path
 pub record Next (order : List Node) (n : Node) (own : Path) : Type 0 where
-  pub place : IsPlace n.parent (length order)
+  pub index : IsIndex n.parent (length order)
   pub path : path_below (tree_paths order) n ≡ own
   pub ahead : (i : ℕ) → i < length order → path_order (path_of (tree_paths order) i) own ≡ Less
 
@@ -99,11 +99,11 @@ module _ (order : List Node) (ascend : AllPairs (λ a b. path_order a b ≡ Less
   abbrev done : List Path
   done = tree_paths order
 
-  place_is : (p : ℕ) → IsPlace p (length order) → ((p ≡ no_parent) × (next_index p ≡ 0)) ⊎ ((p < length order) × (next_index p ≡ p + 1))
-  place_is p place = elim (place_cases p (length order) place) [ inl e ↦ inl (e, ap next_index e) | inr lt ↦ inr (lt, next_of p (omega arith)) ]
+  place_is : (p : ℕ) → IsIndex p (length order) → ((p ≡ no_parent) × (next_index p ≡ 0)) ⊎ ((p < length order) × (next_index p ≡ p + 1))
+  place_is p index = elim (place_cases p (length order) index) [ inl e ↦ inl (e, ap next_index e) | inr lt ↦ inr (lt, next_of p (omega arith)) ]
 
-  same_place : (p q : ℕ) → IsPlace p (length order) → IsPlace q (length order) → next_index p ≡ next_index q → p ≡ q
-  same_place p q p_place q_place e =
+  same_index : (p q : ℕ) → IsIndex p (length order) → IsIndex q (length order) → next_index p ≡ next_index q → p ≡ q
+  same_index p q p_place q_place e =
       elim (place_is p p_place) [
         | inl x ↦ elim (place_is q q_place) [ inl y ↦ x.0 ∙ sym y.0 | inr y ↦ (let a = x.1 in let b = y.1 in absurd (omega arith)) ]
         | inr x ↦ elim (place_is q q_place) [ inl y ↦ (let a = x.1 in let b = y.1 in absurd (omega arith)) | inr y ↦ (let a = x.1 in let b = y.1 in omega arith) ]
@@ -112,7 +112,7 @@ module _ (order : List Node) (ascend : AllPairs (λ a b. path_order a b ≡ Less
   module _ (a b : Node) (a_path b_path : Path) (a_next : Next order a a_path) (b_next : Next order b b_path) where
     parent_up : a.parent < length order → next_index a.parent ≡ a.parent + 1 → next_index b.parent < next_index a.parent → path_order (path_at done b.parent) (path_of done a.parent) ≡ Less
     parent_up lt next less =
-        elim (place_is b.parent b_next.place) [
+        elim (place_is b.parent b_next.index) [
           | inl root ↦ ap (λ (x : Path). path_order x (path_of done a.parent)) (path_none done b.parent root.0) ∙ from_none (path_of done a.parent) (some a.parent lt)
           | inr inner ↦
               let inner_lt = inner.0 in let inner_next = inner.1 in
@@ -125,7 +125,7 @@ module _ (order : List Node) (ascend : AllPairs (λ a b. path_order a b ≡ Less
 
     deeper : next_index b.parent < next_index a.parent → path_order a_path b_path ≡ Less
     deeper less =
-        elim (place_is a.parent a_next.place) [
+        elim (place_is a.parent a_next.index) [
           | inl root ↦ (let none = root.1 in absurd (omega arith))
           | inr inner ↦
               let lt = inner.0 in
@@ -136,7 +136,7 @@ module _ (order : List Node) (ascend : AllPairs (λ a b. path_order a b ≡ Less
 
     beside : next_index b.parent ≡ next_index a.parent → scope_order a.scope b.scope ≡ Less → path_order a_path b_path ≡ Less
     beside same less =
-        let parents : b.parent ≡ a.parent = same_place b.parent a.parent b_next.place a_next.place same in
+        let parents : b.parent ≡ a.parent = same_index b.parent a.parent b_next.index a_next.index same in
         parts_less a_path b_path (parts_same a_path b_path (path_at done a.parent ++ a.scope ∷ []) (path_at done a.parent ++ b.scope ∷ [])
         (sym a_next.path) (sym b_next.path ∙ ap (λ (p : ℕ). path_at done p ++ b.scope ∷ []) parents) (siblings_part (path_at done a.parent) a.scope b.scope less))
 
@@ -155,5 +155,5 @@ module _ (order : List Node) (ascend : AllPairs (λ a b. path_order a b ≡ Less
         scopes : (o : Ordering) → scope_order a.scope b.scope ≡ o → next_index b.parent ≡ next_index a.parent → (Before b a → ⊥) → node_before a b ≡ true
         scopes Less is same not = before_from a b (inr (same, is))
         scopes Equal is same not =
-            absurd (apart (ap₂ (λ (p : ℕ) (s : Scope). node_with p s) (same_place b.parent a.parent b_next.place a_next.place same) (sym (scope_order_tells a.scope b.scope is))))
+            absurd (apart (ap₂ (λ (p : ℕ) (s : Scope). node_with p s) (same_index b.parent a.parent b_next.index a_next.index same) (sym (scope_order_tells a.scope b.scope is))))
         scopes Greater is same not = absurd (not (inr (sym same, turned a.scope b.scope Greater is)))

@@ -15,13 +15,13 @@ use Rattle.tree_types.specs.PathsOf.{tree_paths}
 use Rattle.tree_types.specs.Tree.{CountedTree, IsTree, count_at, counts_in}
 use Rattle.tree_types.proofs.PathSteps.{as_many_paths}
 use Rattle.path_trie.specs.declared.trie.PathEnd.{PathEnd}
-use Rattle.path_trie.specs.Trie.{IsPlace, path_at, same_path, entry_of, trie_nodes, node_path, count_of, samples_of, entries_of}
+use Rattle.path_trie.specs.Trie.{IsIndex, path_at, same_path, counted_entry, trie_nodes, nth_path, count_of, samples_of, entries_of}
 use Rattle.path_trie.specs.private.Linked.{node_at, Rooted}
 use Rattle.path_trie.proofs.Places.{path_none, not_empty, path_itself, path_false}
 use Rattle.tree_join.specs.Join.{nodes_of_all}
 use Rattle.tree_join.specs.declared.walker.Walker.{Walker}
 use Rattle.tree_join.specs.private.Result.{IsTreeOf}
-use Rattle.tree_join.specs.private.Sums.{counts_some, count_of_end, counts_of, all_counts, AreSums, HasPlaces}
+use Rattle.tree_join.specs.private.Sums.{counts_some, count_of_end, counts_of, all_counts, AreSums, HasIndices}
 use Rattle.tree_join.specs.private.Walk.{number_at, path_of, nodes_in, entries_in, head_of, IsWalker, Walking}
 use Rattle.tree_join.proofs.Ends.{Numbered, number_is, done_is, order_is, in_order, rooted_order}
 use Rattle.tree_join.proofs.Paths.{paths_several}
@@ -70,9 +70,9 @@ few_counts numbers (e ∷ ends) =
       | false ↦ omega arith
     ]
 
-pub samples_are : (paths : List Path) (ends : List PathEnd) → samples_of (map (entry_of paths) ends) ≡ sum_by end_count ends
+pub samples_are : (paths : List Path) (ends : List PathEnd) → samples_of (map (counted_entry paths) ends) ≡ sum_by end_count ends
 samples_are paths [] = refl
-samples_are paths (e ∷ ends) = sum_by-cons entry_count (entry_of paths e) (map (entry_of paths) ends) ∙ ap (λ (n : ℕ). e.count + n) (samples_are paths ends) ∙ sym (sum_by-cons end_count e ends)
+samples_are paths (e ∷ ends) = sum_by-cons entry_count (counted_entry paths e) (map (counted_entry paths) ends) ∙ ap (λ (n : ℕ). e.count + n) (samples_are paths ends) ∙ sym (sum_by-cons end_count e ends)
 
 -- ---- the counts of one trie's ends
 
@@ -119,8 +119,8 @@ module _ (order nodes : List Node) (numbers : List ℕ) (ends : List PathEnd) (r
     abbrev test : Entry → Bool
     test x = (x.hart == hart) && same_path q x.path
 
-    one_end : (e : PathEnd) → IsPlace e.node (length nodes) → cond (counts_some e) (cond (owns node hart (count_of_end numbers e)) e.count 0) 0 ≡ cond (test (entry_of own_paths e)) e.count 0
-    one_end e place =
+    one_end : (e : PathEnd) → IsIndex e.node (length nodes) → cond (counts_some e) (cond (owns node hart (count_of_end numbers e)) e.count 0) 0 ≡ cond (test (counted_entry own_paths e)) e.count 0
+    one_end e index =
         elim (cases_eq e.node no_parent) [
           | inl none ↦
               ap (λ b. cond (not b && nat_lt 0 e.count) (cond (owns node hart (count_of_end numbers e)) e.count 0) 0) (eq-eqb e.node no_parent none)
@@ -128,7 +128,7 @@ module _ (order nodes : List Node) (numbers : List ℕ) (ends : List PathEnd) (r
           | inr inner ↦
               ap (λ b. cond (not b && nat_lt 0 e.count) (cond (owns node hart (count_of_end numbers e)) e.count 0) 0) (ne_eqb e.node no_parent inner)
               ∙ if_some e.count (owns node hart (count_of_end numbers e))
-              ∙ ap (λ b. cond b e.count 0) (and_swap (number_at numbers e.node == node) (e.hart == hart) ∙ ap (λ b. (e.hart == hart) && b) (sym (number_same e.node (place inner))) ∙ ap (λ (p : Path). (e.hart == hart) && same_path q p) (sym (inner_at own_paths e.node inner)))
+              ∙ ap (λ b. cond b e.count 0) (and_swap (number_at numbers e.node == node) (e.hart == hart) ∙ ap (λ b. (e.hart == hart) && b) (sym (number_same e.node (index inner))) ∙ ap (λ (p : Path). (e.hart == hart) && same_path q p) (sym (inner_at own_paths e.node inner)))
         ]
 
     first_count : (e : PathEnd) (rest : List PathEnd) → count_at (counts_of numbers (e ∷ rest)) node hart ≡ cond (counts_some e) (cond (owns node hart (count_of_end numbers e)) e.count 0) 0 + count_at (counts_of numbers rest) node hart
@@ -145,18 +145,18 @@ module _ (order nodes : List Node) (numbers : List ℕ) (ends : List PathEnd) (r
           | false ↦ omega arith
         ]
 
-    counts_same : (xs : List PathEnd) → All (λ e. IsPlace e.node (length nodes)) xs → count_at (counts_of numbers xs) node hart ≡ count_of (map (entry_of own_paths) xs) hart q
+    counts_same : (xs : List PathEnd) → All (λ e. IsIndex e.node (length nodes)) xs → count_at (counts_of numbers xs) node hart ≡ count_of (map (counted_entry own_paths) xs) hart q
     counts_same [] all = refl
     counts_same (e ∷ xs) all =
-        let P : PathEnd → Type 0 = λ e. IsPlace e.node (length nodes) in
+        let P : PathEnd → Type 0 = λ e. IsIndex e.node (length nodes) in
         first_count e xs ∙ ap₂ (λ (a b : ℕ). a + b) (one_end e (All-head P e xs all)) (counts_same xs (All-tail P e xs all))
-        ∙ sym (first_entry (entry_of own_paths e) (map (entry_of own_paths) xs))
+        ∙ sym (first_entry (counted_entry own_paths e) (map (counted_entry own_paths) xs))
 
-  pub counts_all : (P : NodeCount → Type 0) → All (λ e. IsPlace e.node (length nodes)) ends → ((e : PathEnd) → IsPlace e.node (length nodes) → counts_some e ≡ true → P (count_of_end numbers e)) → All P (counts_of numbers ends)
-  counts_all P places holds =
+  pub counts_all : (P : NodeCount → Type 0) → All (λ e. IsIndex e.node (length nodes)) ends → ((e : PathEnd) → IsIndex e.node (length nodes) → counts_some e ≡ true → P (count_of_end numbers e)) → All P (counts_of numbers ends)
+  counts_all P indices holds =
       All-map P (count_of_end numbers) (filter counts_some ends)
-      (All-weaker (λ e. IsPlace e.node (length nodes) × (counts_some e ≡ true)) (λ e. P (count_of_end numbers e)) (λ e both. holds e both.0 both.1) (filter counts_some ends)
-      (filter_passes (λ e. IsPlace e.node (length nodes)) counts_some ends places))
+      (All-weaker (λ e. IsIndex e.node (length nodes) × (counts_some e ≡ true)) (λ e. P (count_of_end numbers e)) (λ e both. holds e both.0 both.1) (filter counts_some ends)
+      (filter_passes (λ e. IsIndex e.node (length nodes)) counts_some ends indices))
 
 -- ---- all tries
 
@@ -192,10 +192,10 @@ module _ (parts : List (List Entry)) (walkers : List Walker) (order : List Node)
   pub few_samples : sum_by samples_of parts ≤ most_samples → counts_in (all_counts walkers) ≤ most_samples
   few_samples few = samples_few walkers (subst (λ (ps : List (List Entry)). sum_by samples_of ps ≤ most_samples) (sym is.parts_are) few)
 
-  pub have_places : All HasPlaces walkers
+  pub have_places : All HasIndices walkers
   have_places i d lt =
       let own = is.each i d lt in
-      subst (λ (n : ℕ). All (λ e. IsPlace e.node n) (get_or walkers i d).ends.now) (sym own.walks.long) own.ends_in
+      subst (λ (n : ℕ). All (λ e. IsIndex e.node n) (get_or walkers i d).ends.now) (sym own.walks.long) own.ends_in
 
   module _ (ended : All (λ w. head_of w ≡ None) walkers) (sums : List NodeCount) (s : AreSums (all_counts walkers) sums) where
     rooted : Rooted order
@@ -223,25 +223,25 @@ module _ (parts : List (List Entry)) (walkers : List Walker) (order : List Node)
           count_append (counts_of w.numbers.items w.ends.now) (all_counts ws) node hart ∙ ap₂ (λ (a b : ℕ). a + b) (All-head Same w ws all) (all_same ws (All-tail Same w ws all))
           ∙ sym (sum_by-cons (λ es. count_of es hart q_at) (entries_in w) (map entries_in ws))
 
-      counts_are : count_at sums node hart ≡ sum_by (λ es. count_of es hart (node_path (nodes_of_all parts) node)) parts
+      counts_are : count_at sums node hart ≡ sum_by (λ es. count_of es hart (nth_path (nodes_of_all parts) node)) parts
       counts_are =
           s.same node hart ∙ all_same walkers each_same
           ∙ ap (sum_by (λ es. count_of es hart q_at)) is.parts_are
-          ∙ ap (λ (ps : List Path). sum_by (λ es. count_of es hart (node_path ps node)) parts) (done_is parts walkers order is ended)
+          ∙ ap (λ (ps : List Path). sum_by (λ es. count_of es hart (nth_path ps node)) parts) (done_is parts walkers order is ended)
 
-    counts_hold : (P : NodeCount → Type 0) → ((w : Walker) (e : PathEnd) → Numbered order (nodes_in w) w.numbers.items → IsPlace e.node (length (nodes_in w)) → counts_some e ≡ true → P (count_of_end w.numbers.items e)) → All P (all_counts walkers)
+    counts_hold : (P : NodeCount → Type 0) → ((w : Walker) (e : PathEnd) → Numbered order (nodes_in w) w.numbers.items → IsIndex e.node (length (nodes_in w)) → counts_some e ≡ true → P (count_of_end w.numbers.items e)) → All P (all_counts walkers)
     counts_hold P holds =
         flat_all P (λ w. counts_of w.numbers.items w.ends.now) walkers
         (λ i d lt. counts_all order (nodes_in (get_or walkers i d)) (get_or walkers i d).numbers.items (get_or walkers i d).ends.now rooted (one_numbered i d lt) P (is.each i d lt).ends_in
-        (λ e place on. holds (get_or walkers i d) e (one_numbered i d lt) place on))
+        (λ e index on. holds (get_or walkers i d) e (one_numbered i d lt) index on))
 
     module _ (harts : ℕ) (below : All (λ es. All (λ (e : Entry). 0 < e.count → e.hart < harts) es) parts) where
-      from_entries : (paths : List Path) (xs : List PathEnd) → All (λ (e : Entry). 0 < e.count → e.hart < harts) (map (entry_of paths) xs) → All (λ (e : PathEnd). 0 < e.count → e.hart < harts) xs
+      from_entries : (paths : List Path) (xs : List PathEnd) → All (λ (e : Entry). 0 < e.count → e.hart < harts) (map (counted_entry paths) xs) → All (λ (e : PathEnd). 0 < e.count → e.hart < harts) xs
       from_entries paths [] all = All-nil (λ e. 0 < e.count → e.hart < harts)
       from_entries paths (x ∷ xs) all =
           let P : Entry → Type 0 = λ e. 0 < e.count → e.hart < harts in
-          All-cons (λ e. 0 < e.count → e.hart < harts) x xs (All-head P (entry_of paths x) (map (entry_of paths) xs) all)
-          (from_entries paths xs (All-tail P (entry_of paths x) (map (entry_of paths) xs) all))
+          All-cons (λ e. 0 < e.count → e.hart < harts) x xs (All-head P (counted_entry paths x) (map (counted_entry paths) xs) all)
+          (from_entries paths xs (All-tail P (counted_entry paths x) (map (counted_entry paths) xs) all))
 
       of_walkers : (ws : List Walker) → All (λ es. All (λ (e : Entry). 0 < e.count → e.hart < harts) es) (map entries_in ws) → All (λ w. All (λ (c : NodeCount). c.hart < harts) (counts_of w.numbers.items w.ends.now)) ws
       of_walkers [] all = All-nil (λ w. All (λ (c : NodeCount). c.hart < harts) (counts_of w.numbers.items w.ends.now))
@@ -261,9 +261,9 @@ module _ (parts : List (List Entry)) (walkers : List Walker) (order : List Node)
       tree_is = record {
         few = (let few = order_few parts walkers order is in omega arith);
         preorder = in_order parts walkers order is;
-        nodes = s.nodes (length order) (counts_hold (λ c. c.node < length order) (λ w e numbered place on. (numbered e.node (place (some_is e on).0)).0));
+        nodes = s.nodes (length order) (counts_hold (λ c. c.node < length order) (λ w e numbered index on. (numbered e.node (index (some_is e on).0)).0));
         harts = s.harts harts (flat_all (λ c. c.hart < harts) (λ w. counts_of w.numbers.items w.ends.now) walkers (of_walkers walkers (subst (All (λ es. All (λ (e : Entry). 0 < e.count → e.hart < harts) es)) (sym is.parts_are) below)));
-        some = s.some (counts_hold (λ c. 0 < c.count) (λ w e numbered place on. (some_is e on).1));
+        some = s.some (counts_hold (λ c. 0 < c.count) (λ w e numbered index on. (some_is e on).1));
         ascend = s.ascend;
       }
 

@@ -8,11 +8,6 @@ use Rattle.scope_types.proofs.Orders.{scope_order_total, scope_order_tells}
 use Rattle.tree_types.specs.Paths.{Path}
 use Rattle.tree_join.specs.private.Walk.{Parts}
 
--- a proper prefix stands before what extends it
-pub prefix_less : (n : Path) (s : Scope) (r : Path) → path_order n (n ++ s ∷ r) ≡ Less
-prefix_less [] s r = refl
-prefix_less (t ∷ n) s r = ap (λ o. ordering_then o (path_order n (n ++ s ∷ r))) (tied_itself scope_order_total t) ∙ prefix_less n s r
-
 -- what stands before a path stands before what extends it
 pub less_longer : (a b r : Path) → path_order a b ≡ Less → path_order a (b ++ r) ≡ Less
 less_longer [] [] r e = absurd cc

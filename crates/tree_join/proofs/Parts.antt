@@ -19,7 +19,7 @@ use Rattle.tree_types.specs.Nodes.{nodes, no_parent}
 use Rattle.tree_types.specs.Tree.{CountedTree, paths_in}
 use Rattle.tree_types.proofs.TreeLaws.{nodes_listed}
 use Rattle.path_trie.specs.Trie.{samples_of, trie_nodes}
-use Rattle.stripe_table.specs.Ends.{SetValue, AllFit, named_paths, names_of, paths_named_by, trie_of}
+use Rattle.stripe_table.specs.Ends.{SetValue, AllFit, named_paths, stripe_names, paths_named_by, trie_of}
 use Rattle.stripe_table.specs.Limits.{Chunks, IsLimited, dealt}
 use Rattle.stripe_table.specs.declared.stripe.Stripe.{Stripe}
 use Rattle.tree_join.specs.Join.{stripe_parts}
@@ -70,7 +70,7 @@ module _ (set : SetValue) (harts : ℕ) (plan : IsMergeable set.view.plan harts)
   unfolding named_paths
   all_own =
       flat_all (IsOwn harts) (paths_named_by set)
-      (λ s. flat_all (IsOwn harts) (λ c. each_path (dealt set.view.plan c s)) (λ c. each_own harts (dealt set.view.plan c s) (dealt_all set.view.plan (CountsSamples harts) plan.entries s c)) (names_of set.stripes s))
+      (λ s. flat_all (IsOwn harts) (λ c. each_path (dealt set.view.plan c s)) (λ c. each_own harts (dealt set.view.plan c s) (dealt_all set.view.plan (CountsSamples harts) plan.entries s c)) (stripe_names set.stripes s))
       (range_with_len 0 16)
 
   pub named_own : All (λ p. 0 < length p.path) (named_paths set) × All (λ p. p.hart < harts) (named_paths set)
@@ -84,11 +84,11 @@ each_long es = length-flat_map (λ (e : Entry). replicate e.count (entry_path e)
 -- ---- the tries
 
 module _ (set : SetValue) (fit : AllFit set.view.plan set.stripes) where
-  merged : (s : ℕ) → s < 16 → trie_of set.stripes s ≡ flat_map (λ c. dealt set.view.plan c s) (names_of set.stripes s)
+  merged : (s : ℕ) → s < 16 → trie_of set.stripes s ≡ flat_map (λ c. dealt set.view.plan c s) (stripe_names set.stripes s)
   merged s lt = (fit.1 s lt).merged
 
   stripe_paths : (s : ℕ) → s < 16 → each_path (trie_of set.stripes s) ≡ paths_named_by set s
-  stripe_paths s lt = ap each_path (merged s lt) ∙ each_flat (λ c. dealt set.view.plan c s) (names_of set.stripes s)
+  stripe_paths s lt = ap each_path (merged s lt) ∙ each_flat (λ c. dealt set.view.plan c s) (stripe_names set.stripes s)
 
   pub parts_paths : each_path (flat_map (λ es. es) (stripe_parts set)) ≡ named_paths set
   unfolding stripe_parts named_paths
@@ -99,7 +99,7 @@ module _ (set : SetValue) (fit : AllFit set.view.plan set.stripes) where
 
   module _ (P : Entry → Type 0) (all : All (All P) set.view.plan) where
     trie_all : (s : ℕ) → s < 16 → All P (trie_of set.stripes s)
-    trie_all s lt = subst (All P) (sym (merged s lt)) (flat_all P (λ c. dealt set.view.plan c s) (dealt_all set.view.plan P all s) (names_of set.stripes s))
+    trie_all s lt = subst (All P) (sym (merged s lt)) (flat_all P (λ c. dealt set.view.plan c s) (dealt_all set.view.plan P all s) (stripe_names set.stripes s))
 
     in_range : (i d : ℕ) → i < length (range_with_len 0 16) → get_or (range_with_len 0 16) i d < 16
     in_range i d lt =
@@ -113,7 +113,7 @@ module _ (set : SetValue) (fit : AllFit set.view.plan set.stripes) where
 
   stripe_long : (s : ℕ) → length (paths_named_by set s) ≡ named_sum set fit (λ e. e.count) s
   stripe_long s =
-      length-flat_map (λ c. each_path (dealt set.view.plan c s)) (names_of set.stripes s) ∙ (λ i. sum_by (λ c. each_long (dealt set.view.plan c s) i) (names_of set.stripes s))
+      length-flat_map (λ c. each_path (dealt set.view.plan c s)) (stripe_names set.stripes s) ∙ (λ i. sum_by (λ c. each_long (dealt set.view.plan c s) i) (stripe_names set.stripes s))
 
   named_long : length (named_paths set) ≡ sum_by (named_sum set fit (λ e. e.count)) (range_with_len 0 16)
   unfolding named_paths

@@ -10,12 +10,12 @@ use Rattle.tree_types.specs.Database.{node_list}
 use Rattle.tree_types.specs.Nodes.{nodes, no_parent}
 use Rattle.tree_types.specs.Paths.{Path}
 use Rattle.tree_types.specs.PathsOf.{tree_paths}
-use Rattle.tree_types.specs.Tree.{CountedTree, IsTree, count_at, node_path as tree_path, paths_in}
+use Rattle.tree_types.specs.Tree.{CountedTree, IsTree, count_at, node_path, paths_in}
 use Rattle.tree_types.specs.Values.{ends_here, count_below}
 use Rattle.tree_types.proofs.CountedPaths.{paths_made}
 use Rattle.tree_types.proofs.TreeLaws.{nodes_listed}
 use Rattle.tree_types.proofs.TreePaths.{tree_paths_is}
-use Rattle.path_trie.specs.Trie.{node_of, node_path, count_of}
+use Rattle.path_trie.specs.Trie.{trie_node, nth_path, count_of}
 use Rattle.path_trie.proofs.Samples.{nodes_of_samples, counts_of_samples, nodes_of_parts, counts_of_parts}
 use Rattle.tree_join.specs.Join.{joined_nodes, nodes_of_all}
 
@@ -36,8 +36,8 @@ module _ (harts : ℕ) where
       All-append IsOwn (replicate e.count (entry_path e)) (each_path es) (All-replicate IsOwn e.count (entry_path e) (first.hart, first.path))
       (each_own es (All-tail (CountsSamples harts) e es all))
 
-module _ (es : List Entry) (tree : CountedTree) (is : IsTree tree) (nodes_are : tree.nodes ≡ map (node_of (joined_nodes es)) (joined_nodes es))
-    (counts_are : (node hart : ℕ) → node < length tree.nodes → count_at tree.counts node hart ≡ count_of es hart (node_path (joined_nodes es) node)) (all : All (CountsSamples tree.harts) es) where
+module _ (es : List Entry) (tree : CountedTree) (is : IsTree tree) (nodes_are : tree.nodes ≡ map (trie_node (joined_nodes es)) (joined_nodes es))
+    (counts_are : (node hart : ℕ) → node < length tree.nodes → count_at tree.counts node hart ≡ count_of es hart (nth_path (joined_nodes es) node)) (all : All (CountsSamples tree.harts) es) where
   abbrev ps : List HartPath
   ps = each_path es
 
@@ -45,7 +45,7 @@ module _ (es : List Entry) (tree : CountedTree) (is : IsTree tree) (nodes_are : 
   joined_is = nodes_of_samples es (All-weaker (CountsSamples tree.harts) (λ e. 0 < e.count) (λ e c. c.some) es all)
 
   listed : tree.nodes ≡ node_list ps
-  listed = nodes_are ∙ ap (λ (ns : List Path). map (node_of ns) ns) joined_is
+  listed = nodes_are ∙ ap (λ (ns : List Path). map (trie_node ns) ns) joined_is
 
   few : length (nodes ps) ≤ no_parent
   few = (let long = nodes_listed ps in let same = ap length listed in let small = is.few in omega arith)
@@ -56,9 +56,9 @@ module _ (es : List Entry) (tree : CountedTree) (is : IsTree tree) (nodes_are : 
   own : All (IsOwn tree.harts) ps
   own = each_own tree.harts es all
 
-  counted : (node hart : ℕ) → node < length tree.nodes → count_at tree.counts node hart ≡ count_below ends_here ps hart (tree_path tree.nodes node)
+  counted : (node hart : ℕ) → node < length tree.nodes → count_at tree.counts node hart ≡ count_below ends_here ps hart (node_path tree.nodes node)
   counted node hart lt =
-      counts_are node hart lt ∙ counts_of_samples es hart (node_path (joined_nodes es) node)
+      counts_are node hart lt ∙ counts_of_samples es hart (nth_path (joined_nodes es) node)
       ∙ ap (λ (ns : List Path). count_below ends_here ps hart (get_or ns node [])) (joined_is ∙ sym paths_are)
 
   pub paths_joined : HasPaths es tree
@@ -69,13 +69,13 @@ module _ (es : List Entry) (tree : CountedTree) (is : IsTree tree) (nodes_are : 
 abbrev pub all_in : List (List Entry) → List Entry
 all_in parts = flat_map (λ es. es) parts
 
-pub paths_several : (parts : List (List Entry)) (harts : ℕ) (tree : CountedTree) → IsTree tree → tree.harts ≡ harts → tree.nodes ≡ map (node_of (nodes_of_all parts)) (nodes_of_all parts)
-    → ((node hart : ℕ) → node < length tree.nodes → count_at tree.counts node hart ≡ sum_by (λ es. count_of es hart (node_path (nodes_of_all parts) node)) parts)
+pub paths_several : (parts : List (List Entry)) (harts : ℕ) (tree : CountedTree) → IsTree tree → tree.harts ≡ harts → tree.nodes ≡ map (trie_node (nodes_of_all parts)) (nodes_of_all parts)
+    → ((node hart : ℕ) → node < length tree.nodes → count_at tree.counts node hart ≡ sum_by (λ es. count_of es hart (nth_path (nodes_of_all parts) node)) parts)
     → All (CountsSamples harts) (all_in parts) → HasPaths (all_in parts) tree
 paths_several parts harts tree is harts_are nodes counts all =
     let same : nodes_of_all parts ≡ joined_nodes (all_in parts) = sym (nodes_of_parts parts) in
-    paths_joined (all_in parts) tree is (nodes ∙ ap (λ (ns : List Path). map (node_of ns) ns) same)
+    paths_joined (all_in parts) tree is (nodes ∙ ap (λ (ns : List Path). map (trie_node ns) ns) same)
     (λ node hart lt.
-    counts node hart lt ∙ sym (counts_of_parts parts hart (node_path (nodes_of_all parts) node))
-    ∙ ap (λ (ns : List Path). count_of (all_in parts) hart (node_path ns node)) same)
+    counts node hart lt ∙ sym (counts_of_parts parts hart (nth_path (nodes_of_all parts) node))
+    ∙ ap (λ (ns : List Path). count_of (all_in parts) hart (nth_path ns node)) same)
     (subst (λ (h : ℕ). All (CountsSamples h) (all_in parts)) (sym harts_are) all)

@@ -19,7 +19,7 @@ use Rattle.tree_types.specs.Values.{count_below, ends_here, value}
 use Rattle.tree_types.proofs.PathsAgain.{count_by-flat_map, nodes_alike, values_alike}
 use Rattle.path_trie.specs.Trie.{count_of}
 use Rattle.path_trie.proofs.Samples.{nodes_of_samples, counts_of_samples, nodes_of_parts, counts_of_parts}
-use Rattle.stripe_table.specs.Ends.{SetValue, AllFit, NamesAll, named_paths, names_of, paths_named_by}
+use Rattle.stripe_table.specs.Ends.{SetValue, AllFit, NamesAll, named_paths, stripe_names, paths_named_by}
 use Rattle.stripe_table.specs.Limits.{Chunks, dealt}
 use Rattle.tree_join.specs.Join.{nodes_of_all, sampled_paths, stripe_parts}
 use Rattle.tree_join.proofs.Named.{named_sum, named_whole}
@@ -60,8 +60,8 @@ module _ (set : SetValue) (fit : AllFit set.view.plan set.stripes) where
 
     stripe_counted : (s : ℕ) → count_by t (paths_named_by set s) ≡ named_sum set fit passing s
     stripe_counted s =
-        count_by-flat_map t (λ c. each_path (dealt set.view.plan c s)) (names_of set.stripes s)
-        ∙ (λ i. sum_by (λ c. each_counted t (dealt set.view.plan c s) i) (names_of set.stripes s))
+        count_by-flat_map t (λ c. each_path (dealt set.view.plan c s)) (stripe_names set.stripes s)
+        ∙ (λ i. sum_by (λ c. each_counted t (dealt set.view.plan c s) i) (stripe_names set.stripes s))
 
     all_counted : count_by t (named_paths set) ≡ sum_by (named_sum set fit passing) (range_with_len 0 16)
     unfolding named_paths

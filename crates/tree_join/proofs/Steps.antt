@@ -18,7 +18,7 @@ use Rattle.tree_types.specs.declared.content.Node.{Node}
 use Rattle.tree_types.specs.Paths.{Path}
 use Rattle.tree_types.specs.PathsOf.{tree_paths, path_below}
 use Rattle.tree_types.proofs.PathSteps.{as_many_paths}
-use Rattle.path_trie.specs.Trie.{IsPlace, path_at, entry_of, trie_nodes}
+use Rattle.path_trie.specs.Trie.{IsIndex, path_at, counted_entry, trie_nodes}
 use Rattle.path_trie.specs.private.Linked.{node_at, no_node}
 use Rattle.path_trie.proofs.Places.{last_cases, not_empty, tree_paths_push}
 use Rattle.tree_join.specs.declared.children.Children.{Children}
@@ -57,13 +57,13 @@ module _ (order : List Node) (w : Walker) (is : IsWalker order w) where
   abbrev paths : List Path
   paths = tree_paths nodes
 
-  -- the place on top
+  -- the index on top
   pub record Top (n : Node) : Type 0 where
-    pub place : ℕ
+    pub index : ℕ
     pub some : 0 < length stack
-    pub at : get_or stack (length stack - 1) 0 ≡ place
-    pub popped : stack ≡ take (length stack - 1) stack ++ place ∷ []
-    pub node : n ≡ renumbered nodes w.numbers.items place
+    pub at : get_or stack (length stack - 1) 0 ≡ index
+    pub popped : stack ≡ take (length stack - 1) stack ++ index ∷ []
+    pub node : n ≡ renumbered nodes w.numbers.items index
 
   pub top_of : (n : Node) → head_of w ≡ Some n → Top n
   top_of n e =
@@ -74,7 +74,7 @@ module _ (order : List Node) (w : Walker) (is : IsWalker order w) where
             let lt : k < length stack = slice_get_within stack k p at in
             let last : get_or stack k p ≡ p = get_or_from_slice_get stack k p p at in
             record {
-              place = p;
+              index = p;
               some = omega arith;
               at = get_or_from_slice_get stack k p 0 at;
               popped = sym (take_all (k + 1) stack (omega arith)) ∙ take_more stack k p lt ∙ ap (λ (x : ℕ). take k stack ++ x ∷ []) last;
@@ -96,44 +96,44 @@ module _ (order : List Node) (w : Walker) (is : IsWalker order w) where
     abbrev top : Top n
     top = top_of n head
 
-    walks_on : Walks nodes w.numbers.items (take (length stack - 1) stack ++ top.place ∷ []) order
+    walks_on : Walks nodes w.numbers.items (take (length stack - 1) stack ++ top.index ∷ []) order
     walks_on = subst (λ (x : List ℕ). Walks nodes w.numbers.items x order) top.popped is.walks
 
     abbrev pub next_path : Path
-    next_path = path_of paths top.place
+    next_path = path_of paths top.index
 
-    pub next_in : top.place < length nodes
-    next_in = top_place nodes is.are w.numbers.items (take (length stack - 1) stack) order top.place walks_on
+    pub next_in : top.index < length nodes
+    next_in = top_place nodes is.are w.numbers.items (take (length stack - 1) stack) order top.index walks_on
 
-    pub next_is : Next order n (path_of paths top.place)
+    pub next_is : Next order n (path_of paths top.index)
     next_is = record {
-      place = subst (λ (x : Node). IsPlace x.parent (length order)) (sym top.node) (parent_place nodes is.are w.numbers.items (take (length stack - 1) stack) order top.place walks_on);
-      path = ap (path_below (tree_paths order)) top.node ∙ new_path nodes is.are w.numbers.items (take (length stack - 1) stack) order top.place walks_on;
-      ahead = top_ahead nodes is.are w.numbers.items (take (length stack - 1) stack) order top.place walks_on;
+      index = subst (λ (x : Node). IsIndex x.parent (length order)) (sym top.node) (parent_place nodes is.are w.numbers.items (take (length stack - 1) stack) order top.index walks_on);
+      path = ap (path_below (tree_paths order)) top.node ∙ new_path nodes is.are w.numbers.items (take (length stack - 1) stack) order top.index walks_on;
+      ahead = top_ahead nodes is.are w.numbers.items (take (length stack - 1) stack) order top.index walks_on;
     }
 
   -- the walk goes on
   pub goes_on : (v : Walker) (n : Node) → length order ≤ most_path_scopes → head_of w ≡ Some n → Advances (length order) w v → IsWalker (order ++ n ∷ []) v
   goes_on v n few head a =
       let top = top_of n head in
-      let place_is : a.place ≡ top.place = sym (ap (λ (x : List ℕ). get_or x (length a.rest) 0) a.popped ∙ get_or-append_seam a.rest a.place [] 0)
-      ∙ ap (λ (k : ℕ). get_or stack k 0) (let long = ap (λ (x : List ℕ). length x) a.popped in let parts = length-append a.rest (a.place ∷ []) in omega arith) ∙ top.at in
-      let node : n ≡ renumbered nodes w.numbers.items a.place = top.node ∙ ap (renumbered nodes w.numbers.items) (sym place_is) in
-      let on : Walks nodes w.numbers.items (a.rest ++ a.place ∷ []) order = subst (λ (x : List ℕ). Walks nodes w.numbers.items x order) a.popped is.walks in
-      let kids : List ℕ = children_of nodes w.children.flags.items w.children.siblings.items a.place in
-      let inside : a.place < length nodes = top_place nodes is.are w.numbers.items a.rest order a.place on in
-      let more = step nodes is.are w.numbers.items a.rest order a.place on kids (children_are nodes w.children.flags.items w.children.siblings.items is.groups is.are a.place (λ inner. inside)) few in
-      let new : WalksTrie w.children w.ends.now (set w.numbers.items a.place (length order)) (a.rest ++ kids) (order ++ n ∷ []) = record {
+      let place_is : a.index ≡ top.index = sym (ap (λ (x : List ℕ). get_or x (length a.rest) 0) a.popped ∙ get_or-append_seam a.rest a.index [] 0)
+      ∙ ap (λ (k : ℕ). get_or stack k 0) (let long = ap (λ (x : List ℕ). length x) a.popped in let parts = length-append a.rest (a.index ∷ []) in omega arith) ∙ top.at in
+      let node : n ≡ renumbered nodes w.numbers.items a.index = top.node ∙ ap (renumbered nodes w.numbers.items) (sym place_is) in
+      let on : Walks nodes w.numbers.items (a.rest ++ a.index ∷ []) order = subst (λ (x : List ℕ). Walks nodes w.numbers.items x order) a.popped is.walks in
+      let kids : List ℕ = children_of nodes w.children.flags.items w.children.siblings.items a.index in
+      let inside : a.index < length nodes = top_place nodes is.are w.numbers.items a.rest order a.index on in
+      let more = step nodes is.are w.numbers.items a.rest order a.index on kids (children_are nodes w.children.flags.items w.children.siblings.items is.groups is.are a.index (λ inner. inside)) few in
+      let new : WalksTrie w.children w.ends.now (set w.numbers.items a.index (length order)) (a.rest ++ kids) (order ++ n ∷ []) = record {
         groups = is.groups;
         are = is.are;
         nodes_are = is.nodes_are;
         ends_in = is.ends_in;
-        walks = subst (λ (x : Node). Walks nodes (set w.numbers.items a.place (length order)) (a.rest ++ kids) (order ++ x ∷ [])) (sym node) more;
+        walks = subst (λ (x : Node). Walks nodes (set w.numbers.items a.index (length order)) (a.rest ++ kids) (order ++ x ∷ [])) (sym node) more;
       } in
       subst (λ (x : Children). WalksTrie x v.ends.now v.numbers.items v.stack.items (order ++ n ∷ [])) (sym a.children)
       (subst (λ x. WalksTrie w.children x v.numbers.items v.stack.items (order ++ n ∷ [])) (sym (ap (λ b. b.now) a.ends))
       (subst (λ (x : List ℕ). WalksTrie w.children w.ends.now x v.stack.items (order ++ n ∷ [])) (sym a.numbers)
-      (subst (λ (x : List ℕ). WalksTrie w.children w.ends.now (set w.numbers.items a.place (length order)) x (order ++ n ∷ [])) (sym a.stack) new)))
+      (subst (λ (x : List ℕ). WalksTrie w.children w.ends.now (set w.numbers.items a.index (length order)) x (order ++ n ∷ [])) (sym a.stack) new)))
 
   -- the walk stays, where the node stands before all that is next in it
   module _ (ascend : AllPairs (λ a b. path_order a b ≡ Less) (tree_paths order)) (some : (i : ℕ) → i < length order → path_of (tree_paths order) i ≡ [] → ⊥) (few : length order ≤ most_path_scopes)
@@ -142,10 +142,10 @@ module _ (order : List Node) (w : Walker) (is : IsWalker order w) where
     leads_head None e l j lt = (let none = none_left e in absurd (omega arith))
     leads_head (Some h) e l j lt =
         let top = top_of h e in
-        let first : path_order own (path_of paths top.place) ≡ Less = leads order ascend some few n h own (path_of paths top.place) next (next_is h e) l in
+        let first : path_order own (path_of paths top.index) ≡ Less = leads order ascend some few n h own (path_of paths top.index) next (next_is h e) l in
         elim (last_cases j (length stack - 1) (omega arith)) [
           | inl less ↦
-              path_order_total.trans own (path_of paths top.place) (path_of paths (get_or stack j 0)) first
+              path_order_total.trans own (path_of paths top.index) (path_of paths (get_or stack j 0)) first
               (ap (λ (p : ℕ). path_order (path_of paths p) (path_of paths (get_or stack j 0))) (sym top.at)
               ∙ parts_less (path_of paths (get_or stack (length stack - 1) 0)) (path_of paths (get_or stack j 0)) (is.walks.apart j (length stack - 1) less (omega arith)))
           | inr last ↦ ap (λ (p : ℕ). path_order own (path_of paths p)) (ap (λ (k : ℕ). get_or stack k 0) last ∙ top.at) ∙ first
@@ -190,7 +190,7 @@ module _ (parts : List (List Entry)) (walkers : List Walker) (order : List Node)
 
     in_parts : Contains (flat_map trie_nodes parts) own
     in_parts =
-        let here : Contains (tree_paths (nodes_in w)) own = Contains-get_or (tree_paths (nodes_in w)) (top_of order w own_is n head).place [] (let long = as_many_paths (nodes_in w) in let inside = next_in order w own_is n head in omega arith) in
+        let here : Contains (tree_paths (nodes_in w)) own = Contains-get_or (tree_paths (nodes_in w)) (top_of order w own_is n head).index [] (let long = as_many_paths (nodes_in w) in let inside = next_in order w own_is n head in omega arith) in
         let there : Contains (trie_nodes (entries_in w)) own = subst (λ (ps : List Path). Contains ps own) own_is.nodes_are here in
         let at : get_or (map entries_in walkers) k (entries_in w) ≡ entries_in w = get_or-map entries_in walkers k d (entries_in w) lt in
         subst (λ (ps : List (List Entry)). Contains (flat_map trie_nodes ps) own) is.parts_are
@@ -211,7 +211,7 @@ module _ (parts : List (List Entry)) (walkers : List Walker) (order : List Node)
     Moves u v = ((head_of u ≡ Some n) × Advances (length order) u v) ⊎ ((v ≡ u) × Leads n u)
 
     entries_same : (u v : Walker) → Moves u v → entries_in v ≡ entries_in u
-    entries_same u v (inl on) = ap (λ (c : Children). map (entry_of (tree_paths c.nodes.now)) v.ends.now) on.1.children ∙ ap (λ b. map (entry_of (tree_paths (nodes_in u))) b.now) on.1.ends
+    entries_same u v (inl on) = ap (λ (c : Children). map (counted_entry (tree_paths c.nodes.now)) v.ends.now) on.1.children ∙ ap (λ b. map (counted_entry (tree_paths (nodes_in u))) b.now) on.1.ends
     entries_same u v (inr off) = ap entries_in off.0
 
     is_new : (u v : Walker) → IsWalker order u → Moves u v → IsWalker order_new v
@@ -241,8 +241,8 @@ module _ (parts : List (List Entry)) (walkers : List Walker) (order : List Node)
         before = λ i i_lt.
             let size = new_long in
             elim (last_cases i (length order) (omega arith)) [
-              | inl less ↦ subst (λ (x : Node). IsPlace x.parent i) (sym (get_or-append order (n ∷ []) no_node i less)) (is.before i less)
-              | inr at ↦ subst (λ (x : Node). IsPlace x.parent i) (sym (ap (node_at order_new) at ∙ get_or-append_seam order n [] no_node)) (subst (IsPlace n.parent) (sym at) next.place)
+              | inl less ↦ subst (λ (x : Node). IsIndex x.parent i) (sym (get_or-append order (n ∷ []) no_node i less)) (is.before i less)
+              | inr at ↦ subst (λ (x : Node). IsIndex x.parent i) (sym (ap (node_at order_new) at ∙ get_or-append_seam order n [] no_node)) (subst (IsIndex n.parent) (sym at) next.index)
             ];
         among = λ i i_lt.
             let size = new_long in let same = as_many_paths order in

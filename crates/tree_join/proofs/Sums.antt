@@ -250,9 +250,6 @@ summed_moved old new sums moved are = record {
   some = λ all. are.some (All-permutation (λ c. 0 < c.count) old new moved all);
 }
 
-pub total_moved : (old new : List NodeCount) → IsPermutation old new → counts_in new ≡ counts_in old
-total_moved old new moved = sum_by-IsPermutation count_in old new moved
-
 -- ---- a step of the loop
 
 module _ (counts rest sums sums_new : List NodeCount) (first last last_new d : NodeCount) (k : ℕ) (split : counts ≡ first ∷ rest) (so_far : SoFar counts sums last (k + 1)) (lt : k < length rest)

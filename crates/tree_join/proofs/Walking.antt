@@ -20,12 +20,13 @@ use Rattle.tree_types.specs.Nodes.{no_parent}
 use Rattle.tree_types.specs.Paths.{Path}
 use Rattle.tree_types.specs.PathsOf.{tree_paths, path_below}
 use Rattle.tree_types.proofs.PathSteps.{as_many_paths}
-use Rattle.path_trie.specs.Trie.{IsPlace, path_at, has_node}
+use Rattle.path_trie.specs.Trie.{IsIndex, path_at, has_node}
 use Rattle.path_trie.specs.private.Linked.{node_at}
 use Rattle.path_trie.proofs.Places.{place_once, path_none, snoc_same, tree_paths_push, has_at, last_cases}
 use Rattle.tree_join.specs.private.Children.{AreChildren}
 use Rattle.tree_join.specs.private.Walk.{number_at, parent_number_at, renumbered, path_of, AreNodes, Parts, IsBelow, Walks}
-use Rattle.tree_join.proofs.Parting.{prefix_less, less_longer, parts_less, parts_longer, parts_same, siblings_part}
+use Rattle.tree_types.proofs.Parents.{prefix_less}
+use Rattle.tree_join.proofs.Parting.{less_longer, parts_less, parts_longer, parts_same, siblings_part}
 
 pub inner_at : (paths : List Path) (p : ℕ) → p ≢ no_parent → path_at paths p ≡ get_or paths p []
 inner_at paths p inner = ap (λ b. cond b [] (get_or paths p [])) (ne_eqb p no_parent inner)
@@ -61,15 +62,15 @@ module _ (nodes : List Node) (are : AreNodes nodes) where
   own_path p lt = inner_at paths p (λ e. (let few = are.few in absurd (omega arith)))
 
   -- the child through which a path goes on
-  pub through : (q p : ℕ) (s : Scope) (r : Path) → q < length nodes → IsPlace p (length nodes) → path_of paths q ≡ path_at paths p ++ s ∷ r
+  pub through : (q p : ℕ) (s : Scope) (r : Path) → q < length nodes → IsIndex p (length nodes) → path_of paths q ≡ path_at paths p ++ s ∷ r
       → (c : ℕ) × (c < length nodes) × ((node_at nodes c).parent ≡ p) × IsBelow (path_of paths c) (path_of paths q)
-  through q p s r lt place is =
+  through q p s r lt index is =
       let found = are.closed q (path_at paths p) r s lt is in
       let c : ℕ = found.0 in
       let n : Node = node_at nodes c in
       let parts = snoc_same (path_at paths n.parent) (path_at paths p) n.scope s (sym (are.rooted.below c found.1) ∙ found.2) in
-      let wider : IsPlace n.parent (length nodes) = λ inner. (let less = are.rooted.before c found.1 inner in let lt = found.1 in omega arith) in
-      let same : n.parent ≡ p = place_once nodes are.rooted are.few n.parent p wider place parts.0 in
+      let wider : IsIndex n.parent (length nodes) = λ inner. (let less = are.rooted.before c found.1 inner in let lt = found.1 in omega arith) in
+      let same : n.parent ≡ p = place_once nodes are.rooted are.few n.parent p wider index parts.0 in
       (c, found.1, same, record { rest = r; is = is ∙ sym (append_assoc (path_at paths p) (s ∷ []) r) ∙ ap (λ (x : Path). x ++ r) (sym found.2) })
 
   -- ---- the node that is next
@@ -100,7 +101,7 @@ module _ (nodes : List Node) (are : AreNodes nodes) where
     top_in = (let long = stack_long in omega arith)
 
     pub top_place : p < length nodes
-    top_place = subst (λ (q : ℕ). q < length nodes) top_at (w.places (length rest) top_in)
+    top_place = subst (λ (q : ℕ). q < length nodes) top_at (w.indices (length rest) top_in)
 
     top_parent : node.parent ≢ no_parent → number_at numbers node.parent ≢ no_parent
     top_parent = subst (λ (q : ℕ). (node_at nodes q).parent ≢ no_parent → number_at numbers (node_at nodes q).parent ≢ no_parent) top_at (w.parents (length rest) top_in)
@@ -125,7 +126,7 @@ module _ (nodes : List Node) (are : AreNodes nodes) where
     parent_in : node.parent ≢ no_parent → node.parent < length nodes
     parent_in inner = (let less = are.rooted.before p top_place inner in let lt = top_place in omega arith)
 
-    pub parent_place : IsPlace parent_new (length order)
+    pub parent_place : IsIndex parent_new (length order)
     parent_place apart =
         elim (cases_eq node.parent no_parent) [
           | inl e ↦ absurd (apart (parent_none e))
@@ -226,7 +227,7 @@ module _ (nodes : List Node) (are : AreNodes nodes) where
       places_new : (j : ℕ) → j < length after → get_or after j 0 < length nodes
       places_new j lt =
           elim (cases_lt j (length rest)) [
-            | inl less ↦ subst (λ (q : ℕ). q < length nodes) (rest_at j less ∙ sym (rest_after j less)) (w.places j (let long = stack_long in omega arith))
+            | inl less ↦ subst (λ (q : ℕ). q < length nodes) (rest_at j less ∙ sym (rest_after j less)) (w.indices j (let long = stack_long in omega arith))
             | inr le ↦ subst (λ (q : ℕ). q < length nodes) (sym (kid_at j le)) (kid_is j le lt).0
           ]
 
@@ -327,7 +328,7 @@ module _ (nodes : List Node) (are : AreNodes nodes) where
       step = record {
         long = length-set numbers p (length order) ∙ w.long;
         numbered = numbered_new;
-        places = places_new;
+        indices = places_new;
         parents = parents_new;
         ahead = ahead_new;
         apart = apart_new;
@@ -356,7 +357,7 @@ module _ (nodes : List Node) (are : AreNodes nodes) where
     stay = record {
       long = w.long;
       numbered = λ q lt set. (let old = w.numbered q lt set in ((let long = length-append order (x ∷ []) in let less = old.0 in omega arith), more_old (number_at numbers q) old.0 ∙ old.1));
-      places = w.places;
+      indices = w.indices;
       parents = w.parents;
       ahead = λ i j i_lt j_lt.
           let long = length-append order (x ∷ []) in

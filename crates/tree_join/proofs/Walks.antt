@@ -66,9 +66,6 @@ first_skip walkers left_out k first new f is same = subst (FirstBut walkers left
 
 -- ---- nodes put in order
 
-pub with_parts : (parts : List (List Entry)) (walkers new : List Walker) (order more : List Node) → Walking parts walkers order → Walking (map entries_in walkers) new more → Walking parts new more
-with_parts parts walkers new order more is on = subst (λ (ps : List (List Entry)). Walking ps new more) is.parts_are on
-
 some_head : (w : Walker) (n : Node) → head_of w ≡ Some n → head_of w ≢ None
 some_head w n e f = (let g = sym e ∙ f in absurd cc)
 
@@ -124,18 +121,6 @@ run_leads at first walkers start order limit node run but before i d i_lt apart 
     by_limit : (limit : Option (ℕ × Node)) → FirstBut first at (length first) limit → IfSome limit (λ other. node_before node other.1 ≡ true) → i < length first → Leads node (get_or first i d)
     by_limit None but before lt = subst (λ (o : Option Node). IfSome o (λ h. node_before node h ≡ true)) (sym (but i d lt apart)) tt
     by_limit (Some x) but before lt = leads_all x.1 before (head_of (get_or first i d)) (but.2 i d lt apart)
-
-pub run_more : (at : ℕ) (first walkers new : List Walker) (start order more : List Node) (node : Node) → Running at first start walkers order → Walking (map entries_in walkers) new more → length new ≡ length walkers
-    → ((i : ℕ) (d : Walker) → i ≢ at → get_or new i d ≡ get_or walkers i d) → more ≡ order ++ node ∷ [] → Running at first start new more
-run_more at first walkers new start order more node run on long others more_is = record {
-  walking = with_parts (map entries_in first) walkers new order more run.walking on;
-  long = long ∙ run.long;
-  others = λ i d apart. others i d apart ∙ run.others i d apart;
-  longer = (let size = ap (λ (x : List Node). length x) more_is ∙ length-append order (node ∷ []) in let old = run.longer in omega arith);
-}
-
-pub run_first : (at : ℕ) (walkers : List Walker) (order : List Node) → Walking (map entries_in walkers) walkers order → Running at walkers order walkers order
-run_first at walkers order is = record { walking = is; long = refl; others = λ i d apart. refl; longer = omega arith }
 
 -- fewer nodes are left
 pub fewer_left : (parts : List (List Entry)) (new : List Walker) (order more last : List Node) (node : Node) → Walking parts new last → more ≡ order ++ node ∷ [] → length more ≤ length last → most_path_scopes - length last < most_path_scopes - length order

@@ -5,7 +5,7 @@ ghost use Rattle.std.specs.Prelude.{IfOk, OnOk};
 ghost use Rattle.std.specs.declared.cmp.Ordering.TheVariants.{Less};
 ghost use Rattle.scope_types.specs.Limits.{most_path_scopes};
 ghost use Rattle.std.specs.List.Sorted.{IsPermutation, IsSorted};
-ghost use Rattle.path_trie.specs.Trie.{IsPlace, StandBefore};
+ghost use Rattle.path_trie.specs.Trie.{IsIndex, StandBefore};
 ghost use Rattle.path_trie.specs.private.Linked.{node_at};
 ghost use Rattle.tree_join.specs.private.Children.{siblings_below, sibling_order, MarksBranches, Groups, children_of};
 
@@ -20,7 +20,7 @@ use tree_types::Node;
 pub struct Sibling {
     pub slot: u32,
     pub scope: Scope,
-    pub place: u32,
+    pub index: u32,
 }
 
 /// For each index, whether a node that stands elsewhere has its parent right before that index.
@@ -31,9 +31,9 @@ fn branching_slots(alloc: Global, nodes: &[Node]) -> Result<Vec<bool>, Memory>
     ensures marks { IfOk result (λ flags. MarksBranches nodes.now flags.items) }
 {
     let mut flags = vec![in alloc; false; nodes.len() + 1]?;
-    for (place, node) in nodes.iter().enumerate() {
+    for (index, node) in nodes.iter().enumerate() {
         let slot = node.parent.wrapping_add(1) as usize;
-        if slot != place {
+        if slot != index {
             flags[slot] = true;
         }
     }
@@ -48,13 +48,13 @@ fn siblings_of(alloc: Global, nodes: &[Node], flags: &[bool]) -> Result<Vec<Sibl
     ensures { IfOk result (λ siblings. siblings.items ≡ siblings_below nodes.now flags.now (length nodes.now)) }
 {
     let mut siblings = Vec::new(alloc);
-    for (place, node) in nodes.iter().enumerate() {
+    for (index, node) in nodes.iter().enumerate() {
         let slot = node.parent.wrapping_add(1);
         if flags[slot as usize] {
             siblings.push(Sibling {
                 slot,
                 scope: node.scope,
-                place: place as u32,
+                index: index as u32,
             })?;
         }
     }
@@ -74,12 +74,12 @@ fn group(siblings: &[Sibling], slot: u32) -> &[Sibling]
 
 /// Puts siblings on a stack, the first of them on top.
 fn push_group(stack: &mut Vec<u32>, group: &[Sibling]) -> Result<(), Memory>
-    ensures { OnOk result (stack.new.items ≡ stack.old.items ++ map (λ s. s.place) (reverse group.now)) }
+    ensures { OnOk result (stack.new.items ≡ stack.old.items ++ map (λ s. s.index) (reverse group.now)) }
 {
     let mut left = group.len();
     while left > 0 {
         left -= 1;
-        stack.push(group[left].place)?;
+        stack.push(group[left].index)?;
     }
     Ok(())
 }
@@ -133,7 +133,7 @@ impl<'a> Children<'a> {
     /// Puts the children of a node on a stack, the first of them on top; those of no node are the roots.
     pub fn push(&self, parent: u32, stack: &mut Vec<u32>) -> Result<(), Memory>
         requires groups { Groups self.now.nodes.now self.now.flags.items self.now.siblings.items }
-        requires place { IsPlace parent (length self.now.nodes.now) }
+        requires index { IsIndex parent (length self.now.nodes.now) }
         requires few { length self.now.nodes.now ≤ most_path_scopes }
         ensures { OnOk result (stack.new.items ≡ stack.old.items
             ++ children_of self.now.nodes.now self.now.flags.items self.now.siblings.items parent) }
@@ -150,10 +150,10 @@ impl<'a> Children<'a> {
 }
 
 /// Whether a node has this parent.
-fn is_child(nodes: &[Node], place: u32, parent: u32) -> bool
-    ensures { result ≡ (nat_lt place (length nodes.now) && (node_at nodes.now place).parent == parent) }
+fn is_child(nodes: &[Node], index: u32, parent: u32) -> bool
+    ensures { result ≡ (nat_lt index (length nodes.now) && (node_at nodes.now index).parent == parent) }
 {
-    match nodes.get(place as usize) {
+    match nodes.get(index as usize) {
         Some(node) => node.parent == parent,
         None => false,
     }

@@ -4,8 +4,8 @@ ghost use Rattle.std.specs.List.Sorted.{IsPermutation};
 ghost use Rattle.std.specs.declared.cmp.Ordering.TheVariants.{Less};
 ghost use Rattle.scope_types.specs.Limits.{most_samples};
 ghost use Rattle.tree_types.specs.Tree.{count_order, counts_in};
-ghost use Rattle.path_trie.specs.Trie.{IsPlace};
-ghost use Rattle.tree_join.specs.private.Sums.{counts_of, all_counts, AreSums, HasPlaces};
+ghost use Rattle.path_trie.specs.Trie.{IsIndex};
+ghost use Rattle.tree_join.specs.private.Sums.{counts_of, all_counts, AreSums, HasIndices};
 
 use crate::walker::Walker;
 use path_trie::PathEnd;
@@ -15,7 +15,7 @@ use tree_types::{NO_PARENT, NodeCount};
 
 /// Puts the counts of ends at nodes, by the nodes' numbers.
 fn put_counts(counts: &mut Vec<NodeCount>, ends: &[PathEnd], numbers: &[u32]) -> Result<(), Memory>
-    requires { All (λ e. IsPlace e.node (length numbers.now)) ends.now }
+    requires { All (λ e. IsIndex e.node (length numbers.now)) ends.now }
     ensures { OnOk result (counts.new.items ≡ counts.old.items ++ counts_of numbers.now ends.now) }
 {
     for end in ends {
@@ -32,7 +32,7 @@ fn put_counts(counts: &mut Vec<NodeCount>, ends: &[PathEnd], numbers: &[u32]) ->
 
 /// The counts of the ends of all tries that were walked over, trie by trie.
 fn numbered_counts(alloc: Global, walkers: &[Walker]) -> Result<Vec<NodeCount>, Memory>
-    requires { All HasPlaces walkers.now }
+    requires { All HasIndices walkers.now }
     ensures { IfOk result (λ counts. counts.items ≡ all_counts walkers.now) }
 {
     let mut counts = Vec::new(alloc);
@@ -51,7 +51,7 @@ fn sort(counts: &mut Vec<NodeCount>)
 }
 
 /// Whether two counts are of one node and hart.
-fn is_same_place(a: &NodeCount, b: &NodeCount) -> bool
+fn is_same_pair(a: &NodeCount, b: &NodeCount) -> bool
     ensures { result ≡ (a.now.node == b.now.node && a.now.hart == b.now.hart) }
 {
     a.node == b.node && a.hart == b.hart
@@ -69,7 +69,7 @@ fn add_up(alloc: Global, counts: &[NodeCount]) -> Result<Vec<NodeCount>, Memory>
     };
     let mut last = *first;
     for count in rest {
-        if is_same_place(&last, count) {
+        if is_same_pair(&last, count) {
             last.count += count.count;
         } else {
             sums.push(last)?;
@@ -82,7 +82,7 @@ fn add_up(alloc: Global, counts: &[NodeCount]) -> Result<Vec<NodeCount>, Memory>
 
 /// The counts of the ends of all tries that were walked over, those of each node and hart added up, in order.
 pub fn summed(alloc: Global, walkers: &[Walker]) -> Result<Vec<NodeCount>, Memory>
-    requires places { All HasPlaces walkers.now }
+    requires indices { All HasIndices walkers.now }
     requires few { counts_in (all_counts walkers.now) ≤ most_samples }
     ensures { IfOk result (λ sums. AreSums (all_counts walkers.now) sums.items) }
 {

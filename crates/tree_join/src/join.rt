@@ -8,7 +8,7 @@ ghost use Rattle.scope_types.specs.Limits.{most_samples, most_path_scopes};
 ghost use Rattle.tree_types.specs.Database.{node_list};
 ghost use Rattle.tree_types.specs.Nodes.{no_parent};
 ghost use Rattle.tree_types.specs.Tree.{count_at, paths_in};
-ghost use Rattle.path_trie.specs.Trie.{trie_nodes, node_of, node_path, count_of, samples_of};
+ghost use Rattle.path_trie.specs.Trie.{trie_nodes, trie_node, nth_path, count_of, samples_of};
 ghost use Rattle.tree_join.specs.Join.{joined_nodes, nodes_of_all};
 ghost use Rattle.tree_join.specs.private.Walk.{IsWalker, entries_in};
 ghost use Rattle.tree_join.specs.private.Result.{IsTreeOf};
@@ -26,9 +26,9 @@ pub fn join_trie(alloc: Global, trie: &Trie, harts: u32) -> Result<Tree, Memory>
     requires { All (λ e. 0 < e.count → e.hart < harts) trie.now }
     ensures harts { IfOk result (λ tree. tree.harts ≡ harts) }
     ensures nodes { IfOk result (λ tree. tree.nodes
-        ≡ map (node_of (joined_nodes trie.now)) (joined_nodes trie.now)) }
+        ≡ map (trie_node (joined_nodes trie.now)) (joined_nodes trie.now)) }
     ensures counts { IfOk result (λ tree. (node hart : ℕ) → node < length tree.nodes
-        → count_at tree.counts node hart ≡ count_of trie.now hart (node_path (joined_nodes trie.now) node)) }
+        → count_at tree.counts node hart ≡ count_of trie.now hart (nth_path (joined_nodes trie.now) node)) }
     ensures few { IfOk result (λ tree. length tree.nodes < no_parent) }
     ensures paths { All (CountsSamples harts) trie.now
         → IfOk result (λ tree. Alike (paths_in tree) (each_path trie.now)
@@ -72,11 +72,11 @@ pub fn join_tries(alloc: Global, tries: &[&Trie], harts: u32) -> Result<Tree, Me
     requires harts { All (λ t. All (λ e. 0 < e.count → e.hart < harts) t.now) tries.now }
     ensures harts { IfOk result (λ tree. tree.harts ≡ harts) }
     ensures nodes { let parts = map (λ t. t.now) tries.now in
-        IfOk result (λ tree. tree.nodes ≡ map (node_of (nodes_of_all parts)) (nodes_of_all parts)) }
+        IfOk result (λ tree. tree.nodes ≡ map (trie_node (nodes_of_all parts)) (nodes_of_all parts)) }
     ensures counts { let parts = map (λ t. t.now) tries.now in
         IfOk result (λ tree. (node hart : ℕ) → node < length tree.nodes
         → count_at tree.counts node hart
-        ≡ sum_by (λ es. count_of es hart (node_path (nodes_of_all parts) node)) parts) }
+        ≡ sum_by (λ es. count_of es hart (nth_path (nodes_of_all parts) node)) parts) }
     ensures few { IfOk result (λ tree. length tree.nodes < no_parent) }
     ensures paths { let es = flat_map (λ es. es) (map (λ t. t.now) tries.now) in All (CountsSamples harts) es
         → IfOk result (λ tree. Alike (paths_in tree) (each_path es) × (tree.nodes ≡ node_list (each_path es))) }

@@ -36,13 +36,13 @@ fn parent_number(numbers: &[u32], parent: u32) -> u32
 }
 
 /// A node as it is put in order, with its parent's number.
-fn in_order(nodes: &[Node], numbers: &[u32], place: u32) -> Node
-    requires place { place < length nodes.now }
-    requires parent { (node_at nodes.now place).parent ≢ no_parent
-        → (node_at nodes.now place).parent < length numbers.now }
-    ensures { result ≡ renumbered nodes.now numbers.now place }
+fn in_order(nodes: &[Node], numbers: &[u32], index: u32) -> Node
+    requires index { index < length nodes.now }
+    requires parent { (node_at nodes.now index).parent ≢ no_parent
+        → (node_at nodes.now index).parent < length numbers.now }
+    ensures { result ≡ renumbered nodes.now numbers.now index }
 {
-    let node = nodes[place as usize];
+    let node = nodes[index as usize];
     Node {
         parent: parent_number(numbers, node.parent),
         scope: node.scope,
@@ -89,8 +89,8 @@ impl<'a> Walker<'a> {
         requires { IsReady self.now }
         ensures { result ≡ head_of self.now }
     {
-        let place = *self.stack.last()?;
-        Some(in_order(self.children.nodes, self.numbers.as_slice(), place))
+        let index = *self.stack.last()?;
+        Some(in_order(self.children.nodes, self.numbers.as_slice(), index))
     }
 
     /// Whether a node is next.
@@ -110,9 +110,9 @@ impl<'a> Walker<'a> {
         requires { IsReady self.old }
         ensures { OnOk result (head_of self.old ≢ None → Advances number self.old self.new) }
     {
-        if let Some(place) = self.stack.pop() {
-            self.numbers[place as usize] = number;
-            self.children.push(place, &mut self.stack)?;
+        if let Some(index) = self.stack.pop() {
+            self.numbers[index as usize] = number;
+            self.children.push(index, &mut self.stack)?;
         }
         Ok(())
     }

@@ -1,5 +1,5 @@
 ghost use Rattle.std.specs.Prelude.{◌<◌, ◌≤◌, length, All, IfOk};
-ghost use Rattle.path_trie.specs.Trie.{samples_of, scopes_of};
+ghost use Rattle.path_trie.specs.Trie.{samples_of, entry_scopes};
 
 use path_trie::{PathEnd, Trie, parts_add_up, trie_is_of_samples, trie_nodes_are_prefixes};
 use prof_bytes::{Listed, Memory};
@@ -162,7 +162,7 @@ fn entry(alloc: Global, row: &Row) -> Result<Entry, Memory>
 pub(crate) fn piece(alloc: Global, rows: &[Row]) -> Result<Piece, Memory>
     requires { length rows.now ≤ 100 }
     ensures samples { IfOk result (λ p. samples_of p.entries ≤ 10000) }
-    ensures scopes { IfOk result (λ p. scopes_of p.entries ≤ 1600) }
+    ensures scopes { IfOk result (λ p. entry_scopes p.entries ≤ 1600) }
     ensures harts { IfOk result (λ p. All (λ e. 0 < e.count → e.hart < 3) p.entries) }
 {
     let mut entries = Vec::new(alloc);

@@ -7,6 +7,7 @@ use Rattle.std.proofs.lemmas.List.{take_more, take-append-drop, length-append, l
 use Rattle.std.proofs.lemmas.List.Sums.{count_by-le-length, sum_by-append, sum_by-cons}
 use Rattle.std.proofs.lemmas.List.Concat.{flat_map-append}
 use Rattle.std.proofs.lemmas.List.Folds.{list_any-append}
+use Rattle.prof_bytes.proofs.Tests.{or_false}
 use Rattle.scope_types.specs.declared.path.Entry.{Entry}
 use Rattle.scope_types.specs.CallPaths.{HartPath, entry_path, each_path}
 use Rattle.scope_types.specs.Order.{path_order}
@@ -124,10 +125,6 @@ counted_all es i c hart n kind le so_far = so_far ∙ ap (λ (ps : List HartPath
 or_same : (b : Bool) → (b || b) ≡ b
 or_same true = refl
 or_same false = refl
-
-or_false : (b : Bool) → (b || false) ≡ b
-or_false true = refl
-or_false false = refl
 
 abbrev every_prefix : List HartPath → List Path
 every_prefix ps = flat_map (λ p. prefixes p.path) ps

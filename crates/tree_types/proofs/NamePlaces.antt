@@ -7,6 +7,7 @@ use Rattle.std.specs.Ordering.{nat_cmp, ordering_then, ordering_reverse}
 use Rattle.scope_types.specs.declared.scope.ProcId.{ProcId}
 use Rattle.scope_types.specs.declared.scope.ProcId.TheVariants.{Die, Sym, Nameless}
 use Rattle.scope_types.specs.contracts.scope.ProcIdOrd.TheImpl.{ghosts as derived}
+use Rattle.tree_types.proofs.Places.{then_end}
 use Rattle.tree_types.specs.declared.content.FileName.{FileName}
 use Rattle.tree_types.specs.declared.content.ProcName.{ProcName}
 use Rattle.tree_types.specs.Naming.{FileId, proc_order, file_order}
@@ -21,11 +22,6 @@ tied_turned Greater = refl
 -- two tie whichever comes first
 tied : {K : Type 0} {R : K → K → Ordering} → IsTotalOrder R → (a b : K) → is_eq (R a b) ≡ is_eq (R b a)
 tied {K} {R} total a b = ap is_eq (total.antisymm a b) ∙ tied_turned (R b a)
-
-then_end : (r : Ordering) → ordering_then r Equal ≡ r
-then_end Less = refl
-then_end Equal = refl
-then_end Greater = refl
 
 -- the derived order of procedures is that of their words
 derived_is : (p q : ProcId) → derived.cmp p q ≡ proc_order p q

@@ -9,6 +9,7 @@ use Rattle.std.proofs.lemmas.List.{append-nil}
 use Rattle.std.proofs.lemmas.List.Sums.{sum_by-cons, sum_by-append}
 use Rattle.std.proofs.lemmas.List.Sorted.{sum_by-IsPermutation}
 use Rattle.std.proofs.lemmas.List.Elements.{recursion_from_All, All-contains_itself}
+use Rattle.prof_bytes.proofs.Tests.{and_true, and_false}
 use Rattle.scope_types.specs.CallPaths.{HartPath}
 use Rattle.scope_types.specs.Order.{path_order}
 use Rattle.scope_types.proofs.Orders.{path_order_total, path_order_tells}
@@ -132,14 +133,6 @@ empty_is : (r : Path) → ends_here r ≡ true → r ≡ []
 empty_is [] e = refl
 empty_is (s ∷ r) e = absurd (true≢false (sym e))
 
-and-true : (b : Bool) → (b && true) ≡ b
-and-true true = refl
-and-true false = refl
-
-and-false : (b : Bool) → (b && false) ≡ false
-and-false true = refl
-and-false false = refl
-
 -- a path is counted at its own hart and node
 at_own : (q : HartPath → Bool) (h : ℕ) (p : HartPath) (m : Path) → (q (at_hart h m) && counts ends_here h m p) ≡ (eq_by_cmp path_order p.path m && ((p.hart == h) && q p))
 at_own q h p m =
@@ -164,8 +157,8 @@ at_own q h p m =
 
 -- each path of the list is a node, which stands in the list once
 once_in : (ns : List Path) (x : Path) (b : Bool) → IsStrictlySortedBy path_order ns → has path_order x ns ≡ true → count_by (λ m. eq_by_cmp path_order x m && b) ns ≡ one b
-once_in ns x true sorted there = (λ i. count_by (λ m. and-true (eq_by_cmp path_order x m) i) ns) ∙ count_once path_order_tells x ns sorted there
-once_in ns x false sorted there = count_never (λ m. eq_by_cmp path_order x m && false) ns (λ m. and-false (eq_by_cmp path_order x m))
+once_in ns x true sorted there = (λ i. count_by (λ m. and_true (eq_by_cmp path_order x m) i) ns) ∙ count_once path_order_tells x ns sorted there
+once_in ns x false sorted there = count_never (λ m. eq_by_cmp path_order x m && false) ns (λ m. and_false (eq_by_cmp path_order x m))
 
 of_hart : (q : HartPath → Bool) (h : ℕ) (ns : List Path) → IsStrictlySortedBy path_order ns → (qs : List HartPath) → AllByRecursion (λ p. has path_order p.path ns ≡ true) qs
     → sum_by (λ p. count_by (λ m. q (at_hart h m) && counts ends_here h m p) ns) qs ≡ count_by (λ p. (p.hart == h) && q p) qs
@@ -184,8 +177,8 @@ over_harts q harts (p ∷ qs) all =
     sum_by-cons f p qs ∙ (λ i. once (q p) i + over_harts q harts qs all.1 i) ∙ sym (count_by-cons q p qs)
   where
     once : (b : Bool) → count_by (λ h. (p.hart == h) && b) (harts_below harts) ≡ one b
-    once true = (λ i. count_by (λ h. and-true (p.hart == h) i) (harts_below harts)) ∙ one_within 0 harts p.hart (omega arith) (let k = all.0 in omega arith)
-    once false = count_never (λ h. (p.hart == h) && false) (harts_below harts) (λ h. and-false (p.hart == h))
+    once true = (λ i. count_by (λ h. and_true (p.hart == h) i) (harts_below harts)) ∙ one_within 0 harts p.hart (omega arith) (let k = all.0 in omega arith)
+    once false = count_never (λ h. (p.hart == h) && false) (harts_below harts) (λ h. and_false (p.hart == h))
 
 -- where each path is a node and each hart is below the number of harts, the counts at the nodes are all
 pub counted_at_nodes : (ns : List Path) (harts : ℕ) (q : HartPath → Bool) (qs : List HartPath) → IsStrictlySortedBy path_order ns → AllByRecursion (λ p. has path_order p.path ns ≡ true) qs → AllByRecursion (λ p. p.hart < harts) qs

@@ -1,11 +1,12 @@
 -- Counts by node and hart, and values by node, hart and kind.
-use Rattle.std.proofs.Common.{◌≡◌, ℕ, ◌==◌, ◌&&◌, Bool, true, false, List, [], ◌∷◌, length, get_or, AllPairs, Result, Ordering, Less, Equal, Greater, is_eq, refl, sym, ap, subst, ◌∙◌, arith}
+use Rattle.std.proofs.Common.{◌≡◌, ℕ, ◌==◌, ◌&&◌, List, [], ◌∷◌, length, get_or, AllPairs, Result, Ordering, Less, Equal, Greater, is_eq, refl, sym, ap, subst, ◌∙◌, arith}
 use Rattle.std.specs.Prelude.{MatchResult}
 use Rattle.std.specs.Cmp.Lexicographic.{slice_cmp}
 use Rattle.std.specs.Ordering.{nat_cmp, ordering_then}
 use Rattle.std.specs.List.Sorted.{IsSearchInRange, IsBinarySearchResult}
 use Rattle.std.proofs.lemmas.Cmp.{nat_list_cmp_total}
 use Rattle.std.proofs.lemmas.Bool.Decides.{nat_tests}
+use Rattle.prof_bytes.proofs.Tests.{and_true}
 use Rattle.tree_types.specs.declared.content.Kind.{Kind}
 use Rattle.tree_types.specs.declared.counted_tree.NodeCount.{NodeCount}
 use Rattle.tree_types.specs.declared.node_values.NodeValue.{NodeValue}
@@ -21,10 +22,6 @@ then_equal Greater b = refl
 same_number : (a b : ℕ) → is_eq (nat_cmp a b) ≡ (a == b)
 same_number a b = grind (arith, nat_tests)
 
-and_true : (b : Bool) → (b && true) ≡ b
-and_true true = refl
-and_true false = refl
-
 same_pair : (a b x y : ℕ) → (a == x && b == y) ≡ is_eq (slice_cmp nat_cmp (a ∷ b ∷ []) (x ∷ y ∷ []))
 same_pair a b x y = sym (then_equal (nat_cmp a x) (ordering_then (nat_cmp b y) Equal)
     ∙ ap (λ r. is_eq (nat_cmp a x) && r) (then_equal (nat_cmp b y) Equal ∙ and_true (is_eq (nat_cmp b y)))
@@ -34,7 +31,7 @@ same_triple : (a b c x y z : ℕ) → (a == x && (b == y && c == z)) ≡ is_eq (
 same_triple a b c x y z = ap (λ r. r && (b == y && c == z)) (sym (same_number a x)) ∙ ap (λ r. is_eq (nat_cmp a x) && r) (same_pair b c y z)
     ∙ sym (then_equal (nat_cmp a x) (slice_cmp nat_cmp (b ∷ c ∷ []) (y ∷ z ∷ [])))
 
-then_end : (r : Ordering) → ordering_then r Equal ≡ r
+pub then_end : (r : Ordering) → ordering_then r Equal ≡ r
 then_end Less = refl
 then_end Equal = refl
 then_end Greater = refl

@@ -7,7 +7,7 @@ use Rattle.std.specs.FinMap.{IsAntisymmetric, nat_cmp-IsAntisymmetric, slice_cmp
 use Rattle.std.specs.Cmp.Lexicographic.{slice_cmp}
 use Rattle.std.specs.List.Sorted.{IsSearchInRange, IsBinarySearchResult, IsNonDecreasingBy}
 use Rattle.std.specs.Ordering.{nat_cmp, ordering_index, ordering_reverse}
-use Rattle.std.proofs.lemmas.Bool.{cases_lt, cases_order}
+use Rattle.std.proofs.lemmas.Bool.{cases_lt, cases_order, lt-ltb}
 use Rattle.std.proofs.lemmas.Bool.Decides.{nat_tests}
 use Rattle.std.proofs.lemmas.List.Sums.{position_or_len_is}
 
@@ -24,9 +24,6 @@ filter_one t (x ∷ xs) (suc i) d lt e others =
     rw (others 0 (omega arith) (λ z. absurd (omega arith)))
     (filter_one t xs i d (omega arith) e (λ k below apart. others (suc k) (omega arith) (λ z. apart (omega arith))))
 
-lt_test : (i n : ℕ) → i < n → nat_lt i n ≡ true
-lt_test i n lt = grind (arith, nat_tests)
-
 not_lt_itself : (n : ℕ) → nat_lt n n ≡ false
 not_lt_itself n = grind (arith, nat_tests)
 
@@ -35,7 +32,7 @@ position_some : {X : Type 0} (t : X → Bool) (xs : List X) (i : ℕ) → i < le
 position_some t [] i lt before here = absurd (omega arith)
 position_some t (x ∷ xs) i lt before here =
     let e : position_or_len t (x ∷ xs) ≡ i = position_or_len_is t (x ∷ xs) i x (omega arith) (λ k less. before k x less) (λ inside. here x) in
-    ap (λ (j : ℕ). cond (nat_lt j (length (x ∷ xs))) (Some j) None) e ∙ ap (λ b. cond b (Some i) None) (lt_test i (length (x ∷ xs)) lt)
+    ap (λ (j : ℕ). cond (nat_lt j (length (x ∷ xs))) (Some j) None) e ∙ ap (λ b. cond b (Some i) None) (lt-ltb i (length (x ∷ xs)) lt)
 
 position_none : {X : Type 0} (t : X → Bool) (xs : List X) → ((k : ℕ) (d : X) → k < length xs → t (get_or xs k d) ≡ false) → position t xs ≡ None
 position_none t [] fails = refl

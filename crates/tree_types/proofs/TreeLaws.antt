@@ -9,6 +9,7 @@ use Rattle.std.proofs.lemmas.List.{get_or-map, length-map, length-replicate}
 use Rattle.std.proofs.lemmas.List.Elements.{All-tail, Contains-get_or}
 use Rattle.std.proofs.lemmas.List.Folds.{sum_by-replicate}
 use Rattle.std.proofs.lemmas.List.Sums.{sum_by-append, sum_by-cons}
+use Rattle.prof_bytes.proofs.Tests.{and_swap}
 use Rattle.scope_types.specs.CallPaths.{HartPath}
 use Rattle.scope_types.specs.Order.{path_order}
 use Rattle.scope_types.proofs.Orders.{path_order_total}
@@ -90,12 +91,6 @@ module _ (ns : List Path) (ascend : AllPairs (λ m n. path_order m n ≡ Less) n
       bool_same (rest_passes ends_here (after_prefix (get_or ns j []) (get_or ns i []))) (i == j)
       (λ e. eq-eqb i j (numbers_tell i j lti ltj (some_path_is (get_or ns j []) (get_or ns i []) e)))
       (λ e. let same : i ≡ j = grind (arith, nat_tests) in subst (λ (k : ℕ). rest_passes ends_here (after_prefix (get_or ns j []) (get_or ns k [])) ≡ true) (sym same) (ends_at_itself (get_or ns j [])))
-
-and_swap : (a b : Bool) → (a && b) ≡ (b && a)
-and_swap true true = refl
-and_swap true false = refl
-and_swap false true = refl
-and_swap false false = refl
 
 sum-filter-cons : (test : NodeCount → Bool) (c : NodeCount) (cs : List NodeCount) → sum_by (λ c. c.count) (filter test (c ∷ cs)) ≡ c.count * one (test c) + sum_by (λ c. c.count) (filter test cs)
 sum-filter-cons test c cs = elim (test c) as (λ b. sum_by (λ c. c.count) (cond b (c ∷ filter test cs) (filter test cs)) ≡ c.count * one b + sum_by (λ c. c.count) (filter test cs)) [

@@ -8,6 +8,7 @@ use Rattle.std.proofs.lemmas.List.{same_lists, get_or_default}
 use Rattle.std.proofs.lemmas.List.Elements.{All-nil, All-append, All-head, All-tail, All-replicate, recursion_from_All}
 use Rattle.std.proofs.lemmas.List.FromFn.{length-map-range_with_len, get_or-map-range_with_len}
 use Rattle.std.proofs.lemmas.List.Sums.{sum_by-cons, count_by-le-length}
+use Rattle.prof_bytes.proofs.Tests.{and_true}
 use Rattle.scope_types.specs.CallPaths.{HartPath}
 use Rattle.scope_types.specs.declared.scope.Scope.{Scope}
 use Rattle.scope_types.specs.Order.{path_order}
@@ -25,7 +26,7 @@ use Rattle.tree_types.proofs.Prefixes.{after_again, after_is, passes_is}
 use Rattle.tree_types.proofs.Sorting.{has, has-from_Contains, bool_same}
 use Rattle.tree_types.proofs.Totals.{inclusive_splits, frame_splits}
 use Rattle.tree_types.proofs.TreeLaws.{numbers_tell, counts_are_paths, paths_in_tree}
-use Rattle.tree_types.proofs.ValueLaws.{Splits, single_from_child, count_splits_in}
+use Rattle.tree_types.proofs.ValueLaws.{Splits, single_from_child, count_splits_in, head_same, tail_same}
 
 -- ---- sums over numbers
 
@@ -62,12 +63,6 @@ sum-filter-map q f g (x ∷ xs) =
     ] ∙ sym parts
 
 -- ---- paths with one scope more
-
-head_same : (s t : Scope) (a b : Path) → (s ∷ a) ≡ (t ∷ b) → s ≡ t
-head_same s t a b k = cc
-
-tail_same : (s t : Scope) (a b : Path) → (s ∷ a) ≡ (t ∷ b) → a ≡ b
-tail_same s t a b k = cc
 
 some_last : (a : Path) (x : Scope) → a ++ x ∷ [] ≡ [] → ⊥
 some_last [] x e = absurd cc
@@ -252,10 +247,6 @@ any_scope s = true
 
 abbrev passing : CountedTree → ℕ → ℕ → ℕ
 passing t hart j = count_below anything (paths_in t) hart (node_path t.nodes j)
-
-and_true : (b : Bool) → (b && true) ≡ b
-and_true true = refl
-and_true false = refl
 
 pub inclusive_counts : (t : CountedTree) → IsTree t → (hart i : ℕ) → i < length t.nodes
     → passing t hart i ≡ count_at t.counts i hart + sum_by (λ j. cond ((node_at t.nodes j).parent == i) (passing t hart j) 0) (nodes_behind t.nodes i)

@@ -22,10 +22,6 @@ use Rattle.tree_types.proofs.PathsAgain.{sum_by-flat_map}
 no_pairs : {Y : Type 0} (R : Y → Y → Type 0) → AllPairs R []
 no_pairs R i j d less lt = absurd (omega arith)
 
-All-flat_map : {X Y : Type 0} (P : Y → Type 0) (f : X → List Y) → ((x : X) → All P (f x)) → (xs : List X) → All P (flat_map f xs)
-All-flat_map P f each [] = All-nil P
-All-flat_map P f each (x ∷ xs) = All-append P (f x) (flat_map f xs) (each x) (All-flat_map P f each xs)
-
 module _ {Y : Type 0} (R : Y → Y → Type 0) where
   pairs_tail : (x : Y) (xs : List Y) → AllPairs R (x ∷ xs) → AllPairs R xs
   pairs_tail x xs h i j d less lt = h (suc i) (suc j) d (omega arith) (omega arith)

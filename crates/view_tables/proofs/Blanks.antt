@@ -7,13 +7,13 @@ pub spaces_more : (start out after : List ℕ) (a b c : ℕ) → out ≡ start +
 spaces_more start out after a b c eo ea ec =
     ea ∙ ap (λ (l : List ℕ). l ++ spaces b) eo ∙ append_assoc start (spaces a) (spaces b) ∙ ap (λ (l : List ℕ). start ++ l) (replicate-append-replicate a b 32 ∙ ap spaces ec)
 
-pub block_more : (start out after : List ℕ) (k : ℕ) → out ≡ start ++ spaces (64 * k) → after ≡ out ++ spaces 64 → after ≡ start ++ spaces (64 * (k + 1))
-block_more start out after k eo ea = spaces_more start out after (64 * k) 64 (64 * (k + 1)) eo ea (omega arith)
+pub block_more : (start out after : List ℕ) (k : ℕ) → out ≡ start ++ spaces (2048 * k) → after ≡ out ++ spaces 2048 → after ≡ start ++ spaces (2048 * (k + 1))
+block_more start out after k eo ea = spaces_more start out after (2048 * k) 2048 (2048 * (k + 1)) eo ea (omega arith)
 
-pub few_spaces : (n : ℕ) → n ≤ 64 → take n (spaces 64) ≡ spaces n
-few_spaces n le = take-replicate n 64 32 le
+pub few_spaces : (n : ℕ) → n ≤ 2048 → take n (spaces 2048) ≡ spaces n
+few_spaces n le = take-replicate n 2048 32 le
 
-pub all_spaces : (start out after : List ℕ) (n : ℕ) → out ≡ start ++ spaces (64 * (n / 64)) → after ≡ out ++ spaces (n % 64) → after ≡ start ++ spaces n
-all_spaces start out after n eo ea = spaces_more start out after (64 * (n / 64)) (n % 64) n eo ea (omega arith)
+pub all_spaces : (start out after : List ℕ) (n k : ℕ) → k ≡ n / 2048 → out ≡ start ++ spaces (2048 * k) → after ≡ out ++ spaces (n % 2048) → after ≡ start ++ spaces n
+all_spaces start out after n k is eo ea = spaces_more start out after (2048 * k) (n % 2048) n eo ea (omega (arith, is))
 
-pub ruleset blank_steps = (block_more, few_spaces, all_spaces)
+pub ruleset blank_steps = (few_spaces)

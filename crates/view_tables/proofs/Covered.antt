@@ -3,10 +3,9 @@ use Rattle.std.proofs.Common.{◌≡◌, ℕ, zero, suc, ◌+◌, ◌-◌, ◌<�
 use Rattle.std.specs.Prelude.{filter}
 use Rattle.std.specs.List.{range_with_len}
 use Rattle.std.proofs.Math.Seq.{drop-cons}
-use Rattle.std.proofs.lemmas.Bool.{cases_eq, cases_lt}
-use Rattle.std.proofs.lemmas.Bool.Decides.{nat_tests}
+use Rattle.std.proofs.lemmas.Bool.{cases_eq, cases_lt, lt-ltb, le-ltb}
 use Rattle.std.proofs.lemmas.List.{drop_all}
-use Rattle.view_tables.specs.declared.place.Split.{Split}
+use Rattle.view_tables.specs.declared.occurrence.Split.{Split}
 use Rattle.view_tables.specs.private.Frames.{covered, sum_below}
 
 -- ---- sums
@@ -23,11 +22,6 @@ pub sum_same : (f g : ℕ → ℕ) (n : ℕ) → ((j : ℕ) → j < n → f j �
 unfolding sum_below
 sum_same f g zero same = refl
 sum_same f g (suc n) same = λ i. sum_same f g n (λ j lt. same j (omega arith)) i + same n (omega arith) i
-
-pub sum_le : (f g : ℕ → ℕ) (n : ℕ) → ((j : ℕ) → j < n → f j ≤ g j) → sum_below f n ≤ sum_below g n
-unfolding sum_below
-sum_le f g zero le = omega arith
-sum_le f g (suc n) le = let rest = sum_le f g n (λ j lt. le j (omega arith)) in let here = le n (omega arith) in omega (arith, rest, here)
 
 -- a longer sum, by how much it is longer
 sum_rises_by : (f : ℕ → ℕ) (a k : ℕ) → sum_below f a ≤ sum_below f (a + k)
@@ -77,12 +71,6 @@ sum_alike f g a b le same =
     omega (arith, s, t, r)
 
 -- ---- frames with their descendants
-
-lt_true : (i n : ℕ) → i < n → nat_lt i n ≡ true
-lt_true i n lt = grind (arith, nat_tests)
-
-lt_false : (i n : ℕ) → n ≤ i → nat_lt i n ≡ false
-lt_false i n le = grind (arith, nat_tests)
 
 -- nodes by their parents. What passes `mark` is marked, what passes `below` is marked or lies below a marked node
 module _ (n : ℕ) (parent : ℕ → ℕ) (mark below : ℕ → Bool) (w : ℕ → ℕ) (ends sums : List ℕ)
@@ -150,7 +138,7 @@ module _ (n : ℕ) (parent : ℕ → ℕ) (mark below : ℕ → Bool) (w : ℕ �
 
   skip : (r x a : ℕ) (fs : List ℕ) (b : Bool) → a < r → IsLeft r x fs → IsLeft r x (cond b (a ∷ fs) fs)
   skip r x a fs true less left =
-      ap (λ t. sum_below weight x + cond t (covered ends sums r fs) ((get_or sums (get_or ends a 0) 0 - get_or sums a 0) + covered ends sums (get_or ends a 0) fs)) (lt_true a r less) ∙ left
+      ap (λ t. sum_below weight x + cond t (covered ends sums r fs) ((get_or sums (get_or ends a 0) 0 - get_or sums a 0) + covered ends sums (get_or ends a 0) fs)) (lt-ltb a r less) ∙ left
   skip r x a fs false less left = left
 
   take_run : (r a : ℕ) (fs : List ℕ) → a < n → r ≤ a → mark a ≡ true → IsLeft (get_or ends a 0) (get_or ends a 0) fs → IsLeft r a (a ∷ fs)
@@ -161,7 +149,7 @@ module _ (n : ℕ) (parent : ℕ → ℕ) (mark below : ℕ → Bool) (w : ℕ �
       let upto = are_sums (get_or ends a 0) far in
       let from = are_sums a (omega (arith, lt)) in
       let up = sum_rises w a (get_or ends a 0) (omega (arith, b)) in
-      ap (λ t. sum_below weight a + cond t (covered ends sums r fs) ((get_or sums (get_or ends a 0) 0 - get_or sums a 0) + covered ends sums (get_or ends a 0) fs)) (lt_false a r le)
+      ap (λ t. sum_below weight a + cond t (covered ends sums r fs) ((get_or sums (get_or ends a 0) 0 - get_or sums a 0) + covered ends sums (get_or ends a 0) fs)) (le-ltb a r le)
       ∙ omega (arith, run, left, upto, from, up)
 
   pass : (r a : ℕ) (fs : List ℕ) → a < n → below a ≡ false → IsLeft r (a + 1) fs → IsLeft r a fs
@@ -215,11 +203,11 @@ module _ (ends sums : List ℕ) (group : List Split) (i : ℕ) (s : Split) (reac
 
   pub left_counted : s.rest.frame < reach → left ends sums reach (drop i group) ≡ left ends sums reach (drop (i + 1) group)
   left_counted less =
-      left_more ∙ ap (λ b. cond b (left ends sums reach (drop (i + 1) group)) ((get_or sums (get_or ends s.rest.frame 0) 0 - get_or sums s.rest.frame 0) + left ends sums (get_or ends s.rest.frame 0) (drop (i + 1) group))) (lt_true s.rest.frame reach less)
+      left_more ∙ ap (λ b. cond b (left ends sums reach (drop (i + 1) group)) ((get_or sums (get_or ends s.rest.frame 0) 0 - get_or sums s.rest.frame 0) + left ends sums (get_or ends s.rest.frame 0) (drop (i + 1) group))) (lt-ltb s.rest.frame reach less)
 
   pub left_counts : reach ≤ s.rest.frame → left ends sums reach (drop i group) ≡ (get_or sums (get_or ends s.rest.frame 0) 0 - get_or sums s.rest.frame 0) + left ends sums (get_or ends s.rest.frame 0) (drop (i + 1) group)
   left_counts le =
-      left_more ∙ ap (λ b. cond b (left ends sums reach (drop (i + 1) group)) ((get_or sums (get_or ends s.rest.frame 0) 0 - get_or sums s.rest.frame 0) + left ends sums (get_or ends s.rest.frame 0) (drop (i + 1) group))) (lt_false s.rest.frame reach le)
+      left_more ∙ ap (λ b. cond b (left ends sums reach (drop (i + 1) group)) ((get_or sums (get_or ends s.rest.frame 0) 0 - get_or sums s.rest.frame 0) + left ends sums (get_or ends s.rest.frame 0) (drop (i + 1) group))) (le-ltb s.rest.frame reach le)
 
 pub none_left : (ends sums : List ℕ) (group : List Split) (i reach : ℕ) → length group ≤ i → left ends sums reach (drop i group) ≡ 0
 none_left ends sums group i reach le = ap (left ends sums reach) (drop_all i group le)

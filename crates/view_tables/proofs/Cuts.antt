@@ -1,4 +1,4 @@
--- The first items of places.
+-- The first items of occurrences.
 use Rattle.std.proofs.Common.{◌≡◌, ℕ, zero, suc, ◌+◌, ◌<◌, ◌≤◌, true, false, List, [], ◌∷◌, ◌++◌, length, get_or, take, drop, map, refl, sym, ap, subst, ◌∙◌, append-nil, true≢false, ◌&&◌, Option, None, Some, is_some}
 use Rattle.std.specs.Prelude.{MatchOption}
 use Rattle.std.specs.List.{flat_map}
@@ -13,13 +13,13 @@ use Rattle.tree_types.specs.declared.content.Node.{Node}
 use Rattle.tree_types.specs.OfContent.{IsProfile}
 use Rattle.tree_types.specs.Naming.{Naming}
 use Rattle.tree_types.specs.Paths.{Path, is_proc}
-use Rattle.view_tables.specs.declared.place.Place.{Place}
-use Rattle.view_tables.specs.declared.place.Split.{Split}
-use Rattle.view_tables.specs.declared.place.View.{View}
-use Rattle.view_tables.specs.declared.place.View.TheVariants.{Callers, Flat}
+use Rattle.view_tables.specs.declared.occurrence.Occurrence.{Occurrence}
+use Rattle.view_tables.specs.declared.occurrence.Split.{Split}
+use Rattle.view_tables.specs.declared.occurrence.View.{View}
+use Rattle.view_tables.specs.declared.occurrence.View.TheVariants.{Callers, Flat}
 use Rattle.view_tables.specs.Views.{Item, Procedure, Sample}
 use Rattle.view_tables.specs.Flat.{call_line, frame_at, frame_proc, frames_up, line_file, line_item}
-use Rattle.view_tables.specs.private.Places.{Held, cut_of, cut_one, cuts, first_of, has_frame, held, is_some_list, items_at, items_left, sample_of, ups}
+use Rattle.view_tables.specs.private.Occurrences.{Held, cut_of, cut_one, cuts, first_of, has_frame, held, is_some_list, items_at, items_left, sample_of, ups}
 use Rattle.tree_types.proofs.ContentParts.{own_names_ascend}
 use Rattle.view_tables.proofs.Ups.{ups_at, ups_past, ups_node}
 
@@ -157,32 +157,32 @@ module _ (view : View) (c : Content) (all : List Node) (number : ℕ) (d : Node)
       frame_here ∙ ap (λ v. has_frame v (here.scope ∷ ups c here.parent)) e ∙ ap (λ (ls : List LineId). is_some_list ls && is_some_list (frame_proc (ups c here.parent))) one
       ∙ sym (some_proc (ups c here.parent) r found)
 
--- ---- places in a row
+-- ---- occurrences in a row
 
-pub cuts_more : (view : View) (c : Content) (places : List Place) (i : ℕ) (p : Place) → i < length places → p ≡ get_or places i p
-    → cuts (map (held view c) (take (i + 1) places)) ≡ cuts (map (held view c) (take i places)) ++ cut_one p.frame (items_left view c p)
-cuts_more view c places i p lt is =
-    ap (λ (ps : List Place). cuts (map (held view c) ps)) (take_more places i p lt)
-    ∙ ap cuts (map-append (held view c) (take i places) (get_or places i p ∷ []))
-    ∙ flat_map-append (λ (h : Held). cut_one h.0 h.1) (map (held view c) (take i places)) (held view c (get_or places i p) ∷ [])
-    ∙ ap (λ (xs : List (Item × Held)). cuts (map (held view c) (take i places)) ++ xs) (append-nil (cut_one (get_or places i p).frame (items_left view c (get_or places i p))) ∙ ap (λ (q : Place). cut_one q.frame (items_left view c q)) (sym is))
+pub cuts_more : (view : View) (c : Content) (occurrences : List Occurrence) (i : ℕ) (p : Occurrence) → i < length occurrences → p ≡ get_or occurrences i p
+    → cuts (map (held view c) (take (i + 1) occurrences)) ≡ cuts (map (held view c) (take i occurrences)) ++ cut_one p.frame (items_left view c p)
+cuts_more view c occurrences i p lt is =
+    ap (λ (ps : List Occurrence). cuts (map (held view c) ps)) (take_more occurrences i p lt)
+    ∙ ap cuts (map-append (held view c) (take i occurrences) (get_or occurrences i p ∷ []))
+    ∙ flat_map-append (λ (h : Held). cut_one h.0 h.1) (map (held view c) (take i occurrences)) (held view c (get_or occurrences i p) ∷ [])
+    ∙ ap (λ (xs : List (Item × Held)). cuts (map (held view c) (take i occurrences)) ++ xs) (append-nil (cut_one (get_or occurrences i p).frame (items_left view c (get_or occurrences i p))) ∙ ap (λ (q : Occurrence). cut_one q.frame (items_left view c q)) (sym is))
 
-pub cut_more : (view : View) (c : Content) (splits : List Split) (places : List Place) (i : ℕ) (p : Place) (s : Split) → i < length places → p ≡ get_or places i p
-    → map (cut_of view c) splits ≡ cuts (map (held view c) (take i places)) → cut_one p.frame (items_left view c p) ≡ cut_of view c s ∷ []
-    → map (cut_of view c) (splits ++ s ∷ []) ≡ cuts (map (held view c) (take (i + 1) places))
-cut_more view c splits places i p s lt is so_far one =
+pub cut_more : (view : View) (c : Content) (splits : List Split) (occurrences : List Occurrence) (i : ℕ) (p : Occurrence) (s : Split) → i < length occurrences → p ≡ get_or occurrences i p
+    → map (cut_of view c) splits ≡ cuts (map (held view c) (take i occurrences)) → cut_one p.frame (items_left view c p) ≡ cut_of view c s ∷ []
+    → map (cut_of view c) (splits ++ s ∷ []) ≡ cuts (map (held view c) (take (i + 1) occurrences))
+cut_more view c splits occurrences i p s lt is so_far one =
     map-append (cut_of view c) splits (s ∷ []) ∙ ap (λ (xs : List (Item × Held)). xs ++ cut_of view c s ∷ []) so_far
-    ∙ ap (λ (xs : List (Item × Held)). cuts (map (held view c) (take i places)) ++ xs) (sym one) ∙ sym (cuts_more view c places i p lt is)
+    ∙ ap (λ (xs : List (Item × Held)). cuts (map (held view c) (take i occurrences)) ++ xs) (sym one) ∙ sym (cuts_more view c occurrences i p lt is)
 
-pub cut_same : (view : View) (c : Content) (splits : List Split) (places : List Place) (i : ℕ) (p : Place) → i < length places → p ≡ get_or places i p
-    → map (cut_of view c) splits ≡ cuts (map (held view c) (take i places)) → cut_one p.frame (items_left view c p) ≡ []
-    → map (cut_of view c) splits ≡ cuts (map (held view c) (take (i + 1) places))
-cut_same view c splits places i p lt is so_far none =
-    so_far ∙ sym (append-nil (cuts (map (held view c) (take i places))))
-    ∙ ap (λ (xs : List (Item × Held)). cuts (map (held view c) (take i places)) ++ xs) (sym none) ∙ sym (cuts_more view c places i p lt is)
+pub cut_same : (view : View) (c : Content) (splits : List Split) (occurrences : List Occurrence) (i : ℕ) (p : Occurrence) → i < length occurrences → p ≡ get_or occurrences i p
+    → map (cut_of view c) splits ≡ cuts (map (held view c) (take i occurrences)) → cut_one p.frame (items_left view c p) ≡ []
+    → map (cut_of view c) splits ≡ cuts (map (held view c) (take (i + 1) occurrences))
+cut_same view c splits occurrences i p lt is so_far none =
+    so_far ∙ sym (append-nil (cuts (map (held view c) (take i occurrences))))
+    ∙ ap (λ (xs : List (Item × Held)). cuts (map (held view c) (take i occurrences)) ++ xs) (sym none) ∙ sym (cuts_more view c occurrences i p lt is)
 
-pub cut_all : (view : View) (c : Content) (splits : List Split) (places : List Place) (i : ℕ) → length places ≤ i
-    → map (cut_of view c) splits ≡ cuts (map (held view c) (take i places)) → map (cut_of view c) splits ≡ cuts (map (held view c) places)
-cut_all view c splits places i le so_far = so_far ∙ ap (λ (ps : List Place). cuts (map (held view c) ps)) (take_all i places le)
+pub cut_all : (view : View) (c : Content) (splits : List Split) (occurrences : List Occurrence) (i : ℕ) → length occurrences ≤ i
+    → map (cut_of view c) splits ≡ cuts (map (held view c) (take i occurrences)) → map (cut_of view c) splits ≡ cuts (map (held view c) occurrences)
+cut_all view c splits occurrences i le so_far = so_far ∙ ap (λ (ps : List Occurrence). cuts (map (held view c) ps)) (take_all i occurrences le)
 
 pub ruleset cut_steps = (cut_more, cut_same, cut_all)

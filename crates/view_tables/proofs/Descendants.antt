@@ -1,7 +1,7 @@
 -- Where the descendants of a node end.
 use Rattle.std.proofs.Common.{◌≡◌, ℕ, ◌+◌, ◌<◌, ◌≤◌, ◌==◌, ◌&&◌, true, false, List, length, get_or, sym, ap, subst, ◌∙◌, arith, inl, inr, true≢false, nat_lt}
 use Rattle.std.specs.Prelude.{set}
-use Rattle.std.proofs.lemmas.Bool.{and_from, and_parts, cases_eq, cases_lt, eq-eqb, eqb-true}
+use Rattle.std.proofs.lemmas.Bool.{and_from, and_parts, cases_eq, cases_lt, eq-eqb, eqb-true, lt-ltb}
 use Rattle.std.proofs.lemmas.Bool.Decides.{nat_tests}
 use Rattle.std.proofs.lemmas.List.{get_or-set_same, get_or-set_other, length-set}
 use Rattle.tree_types.specs.declared.content.Content.{Content}
@@ -16,14 +16,11 @@ use Rattle.view_tables.proofs.Ups.{preorder}
 lt_of : (i n : ℕ) → nat_lt i n ≡ true → i < n
 lt_of i n e = grind (arith, nat_tests)
 
-lt_true : (i n : ℕ) → i < n → nat_lt i n ≡ true
-lt_true i n lt = grind (arith, nat_tests)
-
 pub child_is : (a n p q : ℕ) → (nat_lt a n && (p == q)) ≡ true → (a < n) × (p ≡ q)
 child_is a n p q e = let parts = and_parts (nat_lt a n) (p == q) e in (lt_of a n parts.0, eqb-true p q parts.1)
 
 pub no_child : (a n p q : ℕ) → (nat_lt a n && (p == q)) ≡ false → a < n → p ≡ q → ⊥
-no_child a n p q e lt same = true≢false (sym (and_from (nat_lt a n) (p == q) (lt_true a n lt) (eq-eqb p q same)) ∙ e)
+no_child a n p q e lt same = true≢false (sym (and_from (nat_lt a n) (p == q) (lt-ltb a n lt) (eq-eqb p q same)) ∙ e)
 
 -- ---- parents
 

@@ -2,7 +2,7 @@
 use Rattle.std.proofs.Common.{◌≡◌, ℕ, ◌+◌, ◌*◌, ◌<◌, ◌≤◌, ◌==◌, Bool, true, false, cond, ◌&&◌, ◌||◌, not, List, [], ◌∷◌, ◌++◌, length, get_or, take, map, filter, count_by, Contains, refl, sym, ap, ◌∙◌, arith, true≢false, append-nil}
 use Rattle.std.specs.List.{flat_map, list_any}
 use Rattle.std.specs.Ordering.{eq_by_cmp}
-use Rattle.std.proofs.lemmas.Bool.{and_parts, eq-eqb, ne_eqb}
+use Rattle.std.proofs.lemmas.Bool.{and_parts, eq-eqb, ne_eqb, or_right}
 use Rattle.std.proofs.lemmas.List.{take_more, map-append, take_all}
 use Rattle.std.proofs.lemmas.List.Elements.{filter-append}
 use Rattle.std.proofs.lemmas.List.Folds.{Any-from_list_any, list_any_at, list_any-append}
@@ -15,11 +15,11 @@ use Rattle.tree_types.proofs.Sorting.{has, bool_same, same_ascending, has_ascend
 use Rattle.view_tables.specs.declared.frames.Frames.{Frames}
 use Rattle.view_tables.specs.declared.item.ItemRef.{ItemRef}
 use Rattle.view_tables.specs.declared.item.RowRef.{RowRef}
-use Rattle.view_tables.specs.declared.place.Split.{Split}
-use Rattle.view_tables.specs.declared.place.View.{View}
+use Rattle.view_tables.specs.declared.occurrence.Split.{Split}
+use Rattle.view_tables.specs.declared.occurrence.View.{View}
 use Rattle.view_tables.specs.Views.{Item, ViewRow, Sample, all_items, begins_with, holds, item_order, row_at, row_order, rows_under, same_item}
 use Rattle.view_tables.specs.private.Frames.{AreFrames, covered}
-use Rattle.view_tables.specs.private.Places.{AreSplits, item_seen, items_seen, row_seen, content_samples}
+use Rattle.view_tables.specs.private.Occurrences.{AreSplits, item_seen, items_seen, row_seen, content_samples}
 use Rattle.view_tables.proofs.Narrowed.{group, group_covers, group_frames}
 use Rattle.view_tables.proofs.ViewOrders.{item_order_total, item_order_tells, row_order_total, row_order_tells}
 
@@ -33,10 +33,6 @@ list_any_flat p f (x ∷ xs) = list_any-append p (f x) (flat_map f xs) ∙ ap (�
 list_any_map : {X Y : Type 0} (p : Y → Bool) (f : X → Y) (xs : List X) → list_any p (map f xs) ≡ list_any (λ x. p (f x)) xs
 list_any_map p f [] = refl
 list_any_map p f (x ∷ xs) = ap (λ b. p (f x) || b) (list_any_map p f xs)
-
-or_right : (a b : Bool) → b ≡ true → (a || b) ≡ true
-or_right true b e = refl
-or_right false b e = e
 
 or_parts : (a b a' b' : Bool) → (a ≡ true → a' ≡ true) → (b ≡ true → b' ≡ true) → (a || b) ≡ true → (a' || b') ≡ true
 or_parts true b a' b' f g e = ap (λ x. x || b') (f refl)

@@ -10,11 +10,11 @@ use Rattle.std.proofs.lemmas.List.Sorted.{IsNonDecreasingBy-take, IsNonDecreasin
 use Rattle.tree_types.specs.declared.content.Content.{Content}
 use Rattle.tree_types.proofs.Sorting.{equal_from_is}
 use Rattle.view_tables.specs.declared.item.ItemRef.{ItemRef}
-use Rattle.view_tables.specs.declared.place.Place.{Place}
-use Rattle.view_tables.specs.declared.place.Split.{Split}
-use Rattle.view_tables.specs.declared.place.View.{View}
+use Rattle.view_tables.specs.declared.occurrence.Occurrence.{Occurrence}
+use Rattle.view_tables.specs.declared.occurrence.Split.{Split}
+use Rattle.view_tables.specs.declared.occurrence.View.{View}
 use Rattle.view_tables.specs.Views.{Item, item_order, same_item}
-use Rattle.view_tables.specs.private.Places.{AreByItem, ArePlaces, AreSplits, all_places, cut_of, cuts, held, item_seen, of_item}
+use Rattle.view_tables.specs.private.Occurrences.{AreByItem, AreOccurrences, AreSplits, all_occurrences, cut_of, cuts, held, item_seen, of_item}
 use Rattle.view_tables.proofs.Groups.{none_passes}
 use Rattle.view_tables.proofs.Narrowed.{group, group_held, narrowed_more}
 use Rattle.view_tables.proofs.ViewOrders.{item_order_total, item_order_tells}
@@ -47,11 +47,11 @@ module _ (item : Item) (xs ys : List Split) (moved : IsPermutation xs ys) (stabl
     | false ↦ λ e. none_passes of_this ys (sym (list_any-IsPermutation of_this xs ys moved) ∙ e) ∙ sym (none_passes of_this xs e)
   ] refl
 
-pub sorted_splits : (view : View) (c : Content) (chain : List Item) (places : List Place) (xs ys : List Split) → ArePlaces view c chain places → map (cut_of view c) xs ≡ cuts (map (held view c) places)
+pub sorted_splits : (view : View) (c : Content) (chain : List Item) (occurrences : List Occurrence) (xs ys : List Split) → AreOccurrences view c chain occurrences → map (cut_of view c) xs ≡ cuts (map (held view c) occurrences)
     → IsPermutation xs ys → IsStableByKey key item_order xs ys → AreSplits view c chain ys
-sorted_splits view c chain places xs ys are cut moved stable item =
+sorted_splits view c chain occurrences xs ys are cut moved stable item =
     sym (group_held view c item ys) ∙ ap (map (λ (s : Split). held view c s.rest)) (group_stays item xs ys moved stable) ∙ group_held view c item xs
-    ∙ ap (of_item item) (cut ∙ ap cuts are) ∙ sym (narrowed_more chain item (all_places view c))
+    ∙ ap (of_item item) (cut ∙ ap cuts are) ∙ sym (narrowed_more chain item (all_occurrences view c))
 
 -- ---- as items of the code compare
 

@@ -3,6 +3,7 @@ pub mod Blanks
 pub mod ColumnSums
 pub mod Depths
 pub mod TextLengths
+pub mod Filled
 pub mod TableRows
 pub mod Ups
 pub mod Searches

@@ -1,4 +1,4 @@
--- What a chain of items leaves of places, and what these weigh.
+-- What a chain of items leaves of occurrences, and what these weigh.
 use Rattle.std.proofs.Common.{◌≡◌, ℕ, zero, suc, ◌+◌, ◌*◌, ◌<◌, ◌≤◌, ◌^◌, Bool, true, false, cond, ◌&&◌, ◌||◌, List, [], ◌∷◌, ◌++◌, length, map, filter, count_by, sum_by, All, refl, sym, ap, subst, ◌∙◌, arith}
 use Rattle.std.specs.Prelude.{slice_index}
 use Rattle.std.specs.List.{AllByRecursion, flat_map, range_with_len}
@@ -14,11 +14,11 @@ use Rattle.tree_types.specs.PathsOf.{paths_of}
 use Rattle.tree_types.specs.Tree.{node_at}
 use Rattle.tree_types.proofs.PathsAgain.{sum_by-map}
 use Rattle.view_tables.specs.declared.frames.Frames.{Frames}
-use Rattle.view_tables.specs.declared.place.Split.{Split}
-use Rattle.view_tables.specs.declared.place.View.{View}
+use Rattle.view_tables.specs.declared.occurrence.Split.{Split}
+use Rattle.view_tables.specs.declared.occurrence.View.{View}
 use Rattle.view_tables.specs.Views.{Item, Sample, begins_with, ends, holds, same_item}
 use Rattle.view_tables.specs.private.Frames.{AreFrames, AreRanges, covered, parent_at, sum_below, weight_if}
-use Rattle.view_tables.specs.private.Places.{AreSplits, Held, cut_of, cut_one, cuts, has_frame, held, item_seen, narrowed, node_items, of_item, place_at, sample_at, content_samples, ups}
+use Rattle.view_tables.specs.private.Occurrences.{AreSplits, Held, cut_of, cut_one, cuts, has_frame, held, item_seen, narrowed, node_items, of_item, occurrence_at, sample_at, content_samples, ups}
 use Rattle.view_tables.proofs.Covered.{covered_is, sum_more, sum_none, sum_rises, sum_same}
 use Rattle.view_tables.proofs.Cuts.{a_frame_adds, no_frame_skips}
 use Rattle.view_tables.proofs.Descendants.{parent_less}
@@ -78,12 +78,12 @@ module _ (view : View) (c : Content) (chain : List Item) where
   put_front true number fs = refl
   put_front false number fs = refl
 
-  pub marks_left : (a n : ℕ) → frames_of (narrowed chain (flat_map (place_at view c) (range_with_len a n))) ≡ filter mark (range_with_len a n)
+  pub marks_left : (a n : ℕ) → frames_of (narrowed chain (flat_map (occurrence_at view c) (range_with_len a n))) ≡ filter mark (range_with_len a n)
   marks_left a zero = ap frames_of (narrowed_none chain)
   marks_left a (suc n) =
-      let rest : List Held = flat_map (place_at view c) (range_with_len (a + 1) n) in
-      ap frames_of (narrowed_append chain (place_at view c a) rest)
-      ∙ map-append (λ (h : Held). h.0) (narrowed chain (place_at view c a)) (narrowed chain rest)
+      let rest : List Held = flat_map (occurrence_at view c) (range_with_len (a + 1) n) in
+      ap frames_of (narrowed_append chain (occurrence_at view c a) rest)
+      ∙ map-append (λ (h : Held). h.0) (narrowed chain (occurrence_at view c a)) (narrowed chain rest)
       ∙ (λ i. one_mark (has_frame view (ups c a)) a i ++ marks_left (a + 1) n i)
       ∙ put_front (mark a) a (filter mark (range_with_len (a + 1) n))
 

@@ -1,9 +1,8 @@
 -- What the nodes weigh, and what is left where the nodes without a frame have passed their weights up.
-use Rattle.std.proofs.Common.{◌≡◌, ℕ, zero, suc, ◌+◌, ◌*◌, ◌<◌, ◌≤◌, ◌^◌, Bool, true, false, cond, List, [], ◌∷◌, ◌++◌, length, get_or, take, count_by, sum_by, refl, sym, ap, subst, ◌∙◌, arith, inl, inr, true≢false, mul-add, mul-zero, take_all, nat_lt, length-append}
+use Rattle.std.proofs.Common.{◌≡◌, ℕ, zero, suc, ◌+◌, ◌*◌, ◌<◌, ◌≤◌, ◌^◌, Bool, true, false, cond, List, [], ◌∷◌, ◌++◌, length, get_or, take, count_by, sum_by, refl, sym, ap, subst, ◌∙◌, arith, inl, inr, true≢false, mul-add, mul-zero, take_all, length-append}
 use Rattle.std.specs.Prelude.{reverse, set, slice_index}
 use Rattle.std.proofs.Math.ListN.{get_or-eq_default}
-use Rattle.std.proofs.lemmas.Bool.{cases_eq, cases_lt}
-use Rattle.std.proofs.lemmas.Bool.Decides.{nat_tests}
+use Rattle.std.proofs.lemmas.Bool.{cases_eq, cases_lt, lt-ltb, le-ltb}
 use Rattle.std.proofs.lemmas.List.{get_or_default, get_or_push, get_or_append_left, get_or-set_same, get_or-set_other, length-set}
 use Rattle.std.proofs.lemmas.List.Sums.{sum_by-cons, sum_by_more}
 use Rattle.scope_types.specs.CallPaths.{HartPath}
@@ -22,11 +21,11 @@ use Rattle.tree_types.proofs.ContentParts.{own_nodes}
 use Rattle.tree_types.proofs.Counting.{one, count_by-cons, sum_by-add, sum_by-zero}
 use Rattle.tree_types.proofs.PathsAgain.{from_all, sum_by-map}
 use Rattle.tree_types.proofs.TreePaths.{tree_paths_is}
-use Rattle.view_tables.specs.declared.place.View.{View}
-use Rattle.view_tables.specs.declared.place.View.TheVariants.{Callers, Flat}
+use Rattle.view_tables.specs.declared.occurrence.View.{View}
+use Rattle.view_tables.specs.declared.occurrence.View.TheVariants.{Callers, Flat}
 use Rattle.view_tables.specs.Views.{Sample}
 use Rattle.view_tables.specs.private.Frames.{AreCosts, AreSums, AreWeights, moved, parent_at, sum_below, weight_if, weighed}
-use Rattle.view_tables.specs.private.Places.{has_frame, sample_at, sample_of, ups}
+use Rattle.view_tables.specs.private.Occurrences.{has_frame, sample_at, sample_of, ups}
 use Rattle.view_tables.specs.private.Rows.{amount, path_at, total_value}
 use Rattle.view_tables.proofs.ColumnSums.{as_many_columns, as_many_nodes, value_is, value_within}
 use Rattle.view_tables.proofs.Covered.{sum_at, sum_more, sum_none, sum_same}
@@ -180,12 +179,6 @@ weigh_moved t ws number to lt inside same =
     elim (t to) as (λ b. cond b (get_or one to 0 + get_or ws number 0) 0 ≡ cond b (get_or one to 0) 0 + cond b (get_or ws number 0) 0) [ true ↦ refl | false ↦ refl ] in
     omega (arith, first, second, here, zero_here, parts)
 
-lt_true : (i n : ℕ) → i < n → nat_lt i n ≡ true
-lt_true i n lt = grind (arith, nat_tests)
-
-lt_false : (i n : ℕ) → n ≤ i → nat_lt i n ≡ false
-lt_false i n le = grind (arith, nat_tests)
-
 pub no_sample : (view : View) (c : Content) (number : ℕ) → length c.nodes ≤ number → sample_at view c number ≡ []
 no_sample view c number past = ap (λ (p : Path). sample_of view (naming_in c.names) p) (ups_past c number past) ∙ of_view view
   where
@@ -262,8 +255,8 @@ module _ (view : View) (c : Content) (ws : List ℕ) (number : ℕ) (d : Node) (
 
   pub weights_moved : AreWeights view c number (moved ws number to)
   weights_moved = elim (cases_lt to (length ws)) [
-    | inl lt_to ↦ subst (λ b. AreWeights view c number (cond b twice once)) (sym (lt_true to (length ws) lt_to)) (passed lt_to)
-    | inr past ↦ subst (λ b. AreWeights view c number (cond b twice once)) (sym (lt_false to (length ws) past)) (cleared past)
+    | inl lt_to ↦ subst (λ b. AreWeights view c number (cond b twice once)) (sym (lt-ltb to (length ws) lt_to)) (passed lt_to)
+    | inr past ↦ subst (λ b. AreWeights view c number (cond b twice once)) (sym (le-ltb to (length ws) past)) (cleared past)
   ]
 
 pub weights_stay : (view : View) (c : Content) (ws : List ℕ) (number : ℕ) → AreWeights view c (number + 1) ws → has_frame view (ups c number) ≡ true → AreWeights view c number ws

@@ -12,13 +12,13 @@ use Rattle.tree_types.specs.Nodes.{no_parent}
 use Rattle.tree_types.specs.OfContent.{IsProfile}
 use Rattle.tree_types.specs.Paths.{Path}
 use Rattle.tree_types.specs.Tree.{node_at}
-use Rattle.view_tables.specs.declared.place.View.{View}
-use Rattle.view_tables.specs.declared.place.View.TheVariants.{Callers, Flat}
+use Rattle.view_tables.specs.declared.occurrence.View.{View}
+use Rattle.view_tables.specs.declared.occurrence.View.TheVariants.{Callers, Flat}
 use Rattle.view_tables.specs.Callers.{procs_up}
 use Rattle.view_tables.specs.Flat.{frame_proc}
 use Rattle.view_tables.specs.Views.{Procedure}
 use Rattle.view_tables.specs.private.Frames.{AreHeads, IsHead, SameProcs, head_above, scope_at, stops}
-use Rattle.view_tables.specs.private.Places.{ups}
+use Rattle.view_tables.specs.private.Occurrences.{ups}
 use Rattle.view_tables.proofs.ColumnSums.{as_many_columns}
 use Rattle.view_tables.proofs.Ups.{preorder, ups_at, ups_past}
 

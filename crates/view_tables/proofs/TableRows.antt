@@ -1,23 +1,26 @@
 -- The rows of a table, a node at a time.
-use Rattle.std.proofs.Common.{◌≡◌, ℕ, ◌+◌, ◌-◌, ◌<◌, ◌≤◌, ◌^◌, List, [], ◌++◌, length, take, get_or, refl, sym, ap, ◌∙◌, arith, take_all, length-append}
+use Rattle.std.proofs.Common.{◌≡◌, ℕ, ◌+◌, ◌-◌, ◌*◌, ◌<◌, ◌≤◌, ◌^◌, List, [], ◌++◌, length, take, get_or, refl, sym, ap, ◌∙◌, arith, take_all, length-append}
 use Rattle.std.specs.Prelude.{min}
 use Rattle.std.proofs.lemmas.List.{get_or_default}
 use Rattle.std.specs.List.{flat_map}
 use Rattle.tree_types.specs.declared.content.Content.{Content}
+use Rattle.tree_types.specs.declared.content.Kind.{Kind}
+use Rattle.tree_types.specs.declared.content.Kind.TheVariants.{Frame, Inclusive}
 use Rattle.tree_types.specs.Database.{naming_in}
 use Rattle.tree_types.specs.NamesAscend.{NamesAscend}
-use Rattle.tree_types.specs.Nodes.{nodes}
+use Rattle.tree_types.specs.Nodes.{nodes, own_scope}
 use Rattle.tree_types.specs.OfContent.{IsProfile, content_table}
 use Rattle.tree_types.specs.Paths.{Path}
 use Rattle.tree_types.specs.PathsOf.{paths_of}
-use Rattle.tree_types.specs.TopDown.{header, node_row, top_down}
+use Rattle.tree_types.specs.TopDown.{header, label, node_row, over_harts, top_down}
 use Rattle.tree_types.proofs.ContentParts.{own_names_ascend}
+use Rattle.tree_types.proofs.Totals.{within_total}
 use Rattle.prof_bytes.proofs.Appending.{append_more, two_parts}
 use Rattle.view_tables.specs.private.Lengths.{capped}
-use Rattle.view_tables.specs.private.Rows.{path_at, row_of, row_text}
-use Rattle.view_tables.proofs.ColumnSums.{as_many_columns, as_many_nodes}
+use Rattle.view_tables.specs.private.Rows.{path_at, row_of, row_text, total_value}
+use Rattle.view_tables.proofs.ColumnSums.{as_many_columns, as_many_nodes, some_total}
 use Rattle.view_tables.proofs.Depths.{no_depth, number_after}
-use Rattle.view_tables.proofs.TextLengths.{capped_sum}
+use Rattle.view_tables.proofs.TextLengths.{capped_sum, row_parts, values_long}
 
 -- the row of a node, by its path
 abbrev path_row : Content → Path → List ℕ
@@ -52,6 +55,15 @@ pub nodes_few : (c : Content) → IsProfile c → length c.contexts < 2 ^ 32
 nodes_few c profile = omega (arith, profile.nodes, as_many_columns c profile)
 
 -- ---- lengths
+
+-- the length of a node's row
+pub row_long : (c : Content) (number : ℕ) → IsProfile c → number < length c.nodes → total_value c ≤ 2 ^ 52
+    → length (row_text c.names (row_of c number)) ≡ length (label (naming_in c.names) (own_scope (path_at c number))) + (43 + 2 * (length (path_at c number) - 1))
+row_long c number profile lt small =
+    let n : Path = path_at c number in
+    let within : (kind : Kind) → over_harts c.period c.harts (paths_of c) n kind ≤ total_value c = within_total c.period c.harts (paths_of c) n in
+    row_parts _ (label (naming_in c.names) (own_scope n)) (length n - 1)
+    (values_long (over_harts c.period c.harts (paths_of c) n Inclusive) (total_value c) (over_harts c.period c.harts (paths_of c) n Frame) (some_total c number profile lt) small (within Inclusive) (within Frame))
 
 pub rows_longer : (c : Content) (sum one number : ℕ) → IsProfile c → number < length c.nodes → sum ≡ capped (length (header ++ rows c number)) → one ≡ capped (length (row_text c.names (row_of c number)))
     → min (sum + one) (2 ^ 64 - 1) ≡ capped (length (header ++ rows c (number + 1)))

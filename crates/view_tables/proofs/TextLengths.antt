@@ -1,7 +1,10 @@
 -- The lengths of the parts of a row.
-use Rattle.std.proofs.Common.{◌≡◌, ℕ, ◌+◌, ◌-◌, ◌*◌, ◌/◌, ◌%◌, ◌^◌, List, [], ◌∷◌, ◌++◌, length, codes, decimal, refl, ap, ◌∙◌, arith, length-append}
+use Rattle.std.proofs.Common.{◌≡◌, ℕ, ◌+◌, ◌-◌, ◌*◌, ◌/◌, ◌%◌, ◌^◌, ◌<◌, ◌≤◌, List, [], ◌∷◌, ◌++◌, length, codes, decimal, refl, ap, ◌∙◌, arith, length-append}
 use Rattle.std.specs.Prelude.{min}
+use Rattle.std.proofs.Math.Nat.{div-le_of_le-mul}
+use Rattle.std.proofs.lemmas.Fmt.{length-decimal-le}
 use Rattle.std.proofs.lemmas.List.{length-map, length-replicate}
+use Rattle.itoa.proofs.Decimal.{length_one, length_pair, length_two}
 use Rattle.scope_types.specs.declared.scope.ProcId.{ProcId}
 use Rattle.scope_types.specs.declared.scope.LineId.{LineId}
 use Rattle.scope_types.specs.declared.scope.LineId.TheVariants.{Row, Address}
@@ -27,24 +30,45 @@ five_long : (a b c d e : List ℕ) (x y z w v : ℕ) → length a ≡ x → leng
 five_long a b c d e x y z w v ea eb ec ed ee =
     length-append (a ++ b ++ c ++ d) e ∙ ap (λ (k : ℕ). k + length e) (length-append (a ++ b ++ c) d ∙ ap (λ (k : ℕ). k + length d) (three_long a b c x y z ea eb ec)) ∙ (λ i. x + y + z + ed i + ee i)
 
-pub percent_length : (part total : ℕ) → length (percent part total) ≡ length (decimal (part * 1000 / total / 10)) + 1 + length (decimal (part * 1000 / total % 10))
-percent_length part total = three_long (decimal (part * 1000 / total / 10)) (codes ".") (decimal (part * 1000 / total % 10)) _ 1 _ refl refl refl
-
-pub right_length : (width : ℕ) (bytes : List ℕ) → length (right width bytes) ≡ width - length bytes + length bytes
+right_length : (width : ℕ) (bytes : List ℕ) → length (right width bytes) ≡ width - length bytes + length bytes
 right_length width bytes = length-append (spaces (width - length bytes)) bytes ∙ ap (λ (k : ℕ). k + length bytes) (length-replicate {A = ℕ} (width - length bytes) 32)
 
-pub values_length : (a b c : List ℕ) → length (right 16 a ++ spaces 1 ++ right 6 b ++ spaces 1 ++ right 16 c)
-    ≡ (16 - length a + length a) + 1 + (6 - length b + length b) + 1 + (16 - length c + length c)
-values_length a b c = five_long (right 16 a) (spaces 1) (right 6 b) (spaces 1) (right 16 c) _ 1 _ 1 _ (right_length 16 a) refl (right_length 6 b) refl (right_length 16 c)
+pub right_long : (width : ℕ) (bytes : List ℕ) → length bytes ≤ width → length (right width bytes) ≡ width
+right_long width bytes le = let long = right_length width bytes in omega (arith, long, le)
 
-pub row_parts : (values name : List ℕ) (level : ℕ) → length (values ++ spaces (2 + 2 * level) ++ name ++ 10 ∷ []) ≡ length name + (length values + 2 + 2 * level + 1)
-row_parts values name level =
+-- a share has at most three digits before the point
+pub short_whole : (part total : ℕ) → part ≤ total → length (decimal (part * 1000 / total / 10)) ≤ 3
+short_whole part total within =
+    let tenths : part * 1000 / total ≤ 1000 = div-le_of_le-mul total (grind (arith)) in
+    length-decimal-le 3 (part * 1000 / total / 10) (omega arith) (omega (arith, tenths)) (omega (arith, tenths))
+
+pub share_length : (part total : ℕ) → length (percent part total) ≡ length (decimal (part * 1000 / total / 10)) + 2
+share_length part total =
+    three_long (decimal (part * 1000 / total / 10)) (codes ".") (decimal (part * 1000 / total % 10)) _ 1 1 refl refl (length_one (part * 1000 / total % 10) (omega arith)) ∙ omega arith
+
+pub short_share : (part total : ℕ) → part ≤ total → length (percent part total) ≤ 6
+short_share part total within = let long = share_length part total in let whole = short_whole part total within in omega (arith, long, whole)
+
+pub short_value : (value : ℕ) → value ≤ 2 ^ 52 → length (decimal value) ≤ 16
+short_value value le = length-decimal-le 16 value (omega arith) (omega (arith, le)) (omega (arith, le))
+
+-- no value is wider than its column
+pub values_long : (first total third : ℕ) → 0 < total → total ≤ 2 ^ 52 → first ≤ total → third ≤ total
+    → length (right 16 (decimal first) ++ spaces 1 ++ right 6 (percent first total) ++ spaces 1 ++ right 16 (decimal third)) ≡ 40
+values_long first total third some small one three =
+    five_long (right 16 (decimal first)) (spaces 1) (right 6 (percent first total)) (spaces 1) (right 16 (decimal third)) 16 1 6 1 16
+    (right_long 16 (decimal first) (short_value first (omega (arith, one, small)))) refl
+    (right_long 6 (percent first total) (short_share first total one)) refl
+    (right_long 16 (decimal third) (short_value third (omega (arith, three, small))))
+
+pub row_parts : (values name : List ℕ) (level : ℕ) → length values ≡ 40 → length (values ++ spaces (2 + 2 * level) ++ name ++ 10 ∷ []) ≡ length name + (43 + 2 * level)
+row_parts values name level forty =
     length-append (values ++ spaces (2 + 2 * level) ++ name) (10 ∷ [])
-    ∙ ap (λ (k : ℕ). k + 1) (three_long values (spaces (2 + 2 * level)) name (length values) (2 + 2 * level) (length name) refl (length-replicate {A = ℕ} (2 + 2 * level) 32) refl)
-    ∙ turned (length values) (2 * level) (length name)
+    ∙ ap (λ (k : ℕ). k + 1) (three_long values (spaces (2 + 2 * level)) name 40 (2 + 2 * level) (length name) forty (length-replicate {A = ℕ} (2 + 2 * level) 32) refl)
+    ∙ turned (2 * level) (length name)
   where
-    turned : (v l n : ℕ) → v + (2 + l) + n + 1 ≡ n + (v + 2 + l + 1)
-    turned v l n = omega arith
+    turned : (l n : ℕ) → 40 + (2 + l) + n + 1 ≡ n + (43 + l)
+    turned l n = omega arith
 
 -- ---- labels
 
@@ -76,4 +100,4 @@ inline_length naming callee call =
 
 pub ruleset label_lengths = (row_line_length, address_length, proc_length, call_length, inline_length, capped_sum, capped_add)
 
-pub ruleset row_length = (row_parts, capped_add)
+pub ruleset digit_steps = (length_one, length_two, length_pair, length-decimal-le)

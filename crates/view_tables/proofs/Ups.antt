@@ -14,7 +14,7 @@ use Rattle.tree_types.specs.Tree.{IsPreorder}
 use Rattle.tree_types.proofs.ContentParts.{own_nodes, own_node_count}
 use Rattle.tree_types.proofs.PathSteps.{as_many_paths, root_path, inner_path}
 use Rattle.tree_types.proofs.TreeLaws.{listed_in_preorder}
-use Rattle.view_tables.specs.private.Places.{ups}
+use Rattle.view_tables.specs.private.Occurrences.{ups}
 
 pub preorder : (c : Content) → IsProfile c → IsPreorder c.nodes
 preorder c profile =

@@ -17,16 +17,17 @@ use Rattle.tree_types.proofs.Selecting.{flat_map_of_map, map_of_map}
 use Rattle.tree_types.proofs.ContentParts.{own_names_ascend}
 use Rattle.view_tables.specs.declared.item.ItemRef.{ItemRef}
 use Rattle.view_tables.specs.declared.item.RowRef.{RowRef}
-use Rattle.view_tables.specs.declared.place.Place.{Place}
-use Rattle.view_tables.specs.declared.place.Split.{Split}
-use Rattle.view_tables.specs.declared.place.View.{View}
+use Rattle.view_tables.specs.declared.occurrence.Occurrence.{Occurrence}
+use Rattle.view_tables.specs.declared.occurrence.Split.{Split}
+use Rattle.view_tables.specs.declared.occurrence.View.{View}
 use Rattle.view_tables.specs.Views.{Item, ViewRow, Sample, all_items, holds, row_at, row_order, rows_under, same_item, view_row, view_rows, view_table}
-use Rattle.view_tables.specs.private.Places.{ArePlaces, AreSplits, all_places, held, item_seen, items_seen, mark_of, narrowed, row_seen, sample_of, content_samples}
-use Rattle.view_tables.specs.declared.place.View.TheVariants.{Callers, Flat}
+use Rattle.view_tables.specs.private.Occurrences.{AreOccurrences, AreSplits, all_occurrences, held, item_seen, items_seen, mark_of, narrowed, row_seen, sample_of, content_samples}
+use Rattle.view_tables.specs.declared.occurrence.View.TheVariants.{Callers, Flat}
 use Rattle.view_tables.specs.Callers.{callers}
 use Rattle.view_tables.specs.Flat.{flat}
 use Rattle.view_tables.specs.private.Rows.{total_value}
 use Rattle.view_tables.proofs.Narrowed.{group, group_held}
+use Rattle.view_tables.proofs.RowSums.{exclusive_within}
 
 -- ---- what holds of each row
 
@@ -79,13 +80,13 @@ module _ (period : ℕ) (samples : List Sample) (chain : List Item) where
   unfolding rows_under
   row_within i r lt is = subst IsWithin (sym is) (all_at IsWithin (rows_under period samples chain) i r lt (all_ascending row_order IsWithin (filter (λ r. not (r.inclusive == 0)) (map (row_at period samples chain) (all_items samples))) (all_within (all_items samples))))
 
--- ---- the places of a longer chain
+-- ---- the occurrences of a longer chain
 
 module _ (view : View) (c : Content) where
-  pub group_places : (chain longer : List Item) (item : Item) (splits : List Split) (places : List Place) → AreSplits view c chain splits → places ≡ map (λ s. s.rest) (group item splits) → longer ≡ chain ++ item ∷ [] → ArePlaces view c longer places
-  group_places chain longer item splits places are is more =
+  pub group_occurrences : (chain longer : List Item) (item : Item) (splits : List Split) (occurrences : List Occurrence) → AreSplits view c chain splits → occurrences ≡ map (λ s. s.rest) (group item splits) → longer ≡ chain ++ item ∷ [] → AreOccurrences view c longer occurrences
+  group_occurrences chain longer item splits occurrences are is more =
       ap (map (held view c)) is ∙ map_of_map (held view c) (λ (s : Split). s.rest) (group item splits) ∙ group_held view c item splits ∙ are item
-      ∙ ap (λ (l : List Item). narrowed l (all_places view c)) (sym more)
+      ∙ ap (λ (l : List Item). narrowed l (all_occurrences view c)) (sym more)
 
   -- ---- text
 
@@ -139,18 +140,20 @@ module _ (view : View) (c : Content) where
 
   -- rows of the code have values within the total
   pub all_seen_within : (chain : List Item) (rows : List RowRef) → map row_seen rows ≡ rows_under c.period samples chain
-      → All (λ r. (0 < r.inclusive.0) × (r.inclusive.0 ≤ total_value c)) rows
+      → All (λ r. (0 < r.inclusive.0) × (r.inclusive.0 ≤ total_value c) × (r.exclusive ≤ total_value c)) rows
   all_seen_within chain rows are i d lt =
       let at : row_seen (get_or rows i d) ≡ get_or (rows_under c.period samples chain) i (row_seen (get_or rows i d)) =
       sym (get_or-map row_seen rows i d (row_seen (get_or rows i d)) lt) ∙ ap (λ (rs : List ViewRow). get_or rs i (row_seen (get_or rows i d))) are in
       let long : length rows ≡ length (rows_under c.period samples chain) = sym (length-map rows row_seen) ∙ ap length are in
       let within = row_within c.period samples chain i (row_seen (get_or rows i d)) (omega (arith, lt, long)) at in
-      (within.0, subst (λ (k : ℕ). (get_or rows i d).inclusive.0 ≤ c.period * k) as_many_samples within.1)
+      let most : (get_or rows i d).inclusive.0 ≤ total_value c = subst (λ (k : ℕ). (get_or rows i d).inclusive.0 ≤ c.period * k) as_many_samples within.1 in
+      let less : (get_or rows i d).exclusive ≤ (get_or rows i d).inclusive.0 = subst (λ (r : ViewRow). r.exclusive ≤ r.inclusive) (sym at) (exclusive_within c.period samples chain i (row_seen (get_or rows i d)) (omega (arith, lt, long))) in
+      (within.0, most, omega (arith, most, less))
 
-  pub narrowed_places : (chain longer : List ItemRef) (item : ItemRef) (splits : List Split) (places : List Place) → AreSplits view c (items_seen chain) splits
-      → places ≡ map (λ s. s.rest) (filter (λ s. same_item (item_seen item) (item_seen s.item)) splits) → longer ≡ chain ++ item ∷ [] → ArePlaces view c (items_seen longer) places
-  narrowed_places chain longer item splits places are is more =
-      group_places (items_seen chain) (items_seen longer) (item_seen item) splits places are is (ap items_seen more ∙ map-append item_seen chain (item ∷ []))
+  pub narrowed_occurrences : (chain longer : List ItemRef) (item : ItemRef) (splits : List Split) (occurrences : List Occurrence) → AreSplits view c (items_seen chain) splits
+      → occurrences ≡ map (λ s. s.rest) (filter (λ s. same_item (item_seen item) (item_seen s.item)) splits) → longer ≡ chain ++ item ∷ [] → AreOccurrences view c (items_seen longer) occurrences
+  narrowed_occurrences chain longer item splits occurrences are is more =
+      group_occurrences (items_seen chain) (items_seen longer) (item_seen item) splits occurrences are is (ap items_seen more ∙ map-append item_seen chain (item ∷ []))
 
 pub longer_seen : (chain longer : List ItemRef) (item : ItemRef) → longer ≡ chain ++ item ∷ [] → items_seen longer ≡ items_seen chain ++ item_seen item ∷ []
 longer_seen chain longer item more = ap items_seen more ∙ map-append item_seen chain (item ∷ [])
@@ -177,7 +180,7 @@ flat_is c = refl
 
 pub ruleset level_steps = (all_seen_within)
 
-pub ruleset narrow_steps = (narrowed_places, longer_seen)
+pub ruleset narrow_steps = (narrowed_occurrences, longer_seen)
 
 pub ruleset row_steps = (own_names, view_more, view_none, view_all)
 

@@ -1,4 +1,4 @@
 pub mod Rows
 pub mod Lengths
-pub mod Places
+pub mod Occurrences
 pub mod Frames

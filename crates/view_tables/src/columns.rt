@@ -1,32 +1,21 @@
 //! The columns of a table.
-ghost use Rattle.std.specs.Prelude.{◌≡◌, ◌<◌, ◌≤◌, ◌^◌, ◌++◌, ◌+◌, ◌*◌, codes, decimal, length, OnOk};
+ghost use Rattle.std.specs.Prelude.{◌≡◌, ◌<◌, ◌≤◌, ◌^◌, ◌++◌, decimal, OnOk};
 ghost use Rattle.tree_types.specs.NamesAscend.{NamesAscend};
 ghost use Rattle.tree_types.specs.TopDown.{header, percent, right, spaces};
 ghost use Rattle.view_tables.specs.private.Rows.{row_text};
 
 use crate::label::put_label;
 use crate::row::Row;
-use itoa::Buffer;
+use itoa::write_digits;
 use prof_bytes::Memory;
 use tree_types::Names;
 
 /// As many blanks as are appended at once.
-static BLANKS: [u8; 64] = [b' '; 64];
-
-#[tactic(auto, using(crate::proofs::Blanks::blank_steps))]
-fn put_blocks(out: &mut Vec<u8>, count: usize) -> Result<(), Memory>
-    requires { count < 2 ^ 58 }
-    ensures { OnOk result (out.new.items ≡ out.old.items ++ spaces (64 * count)) }
-{
-    for _ in 0..count {
-        out.extend_from_slice(&BLANKS)?;
-    }
-    Ok(())
-}
+static BLANKS: [u8; 2048] = [b' '; 2048];
 
 #[tactic(auto, using(crate::proofs::Blanks::blank_steps))]
 fn put_few_spaces(out: &mut Vec<u8>, count: usize) -> Result<(), Memory>
-    requires { count ≤ 64 }
+    requires { count ≤ 2048 }
     ensures { OnOk result (out.new.items ≡ out.old.items ++ spaces count) }
 {
     out.extend_from_slice(&BLANKS[..count])?;
@@ -37,54 +26,36 @@ fn put_few_spaces(out: &mut Vec<u8>, count: usize) -> Result<(), Memory>
 pub fn put_spaces(out: &mut Vec<u8>, count: usize) -> Result<(), Memory>
     ensures { OnOk result (out.new.items ≡ out.old.items ++ spaces count) }
 {
-    put_blocks(out, count / 64)?;
-    put_few_spaces(out, count % 64)
+    for _ in 0..count / 2048 {
+        put_few_spaces(out, 2048)?;
+    }
+    put_few_spaces(out, count % 2048)
 }
 
-fn put_right(out: &mut Vec<u8>, width: usize, bytes: &[u8]) -> Result<(), Memory>
-    ensures { OnOk result (out.new.items ≡ out.old.items ++ right width bytes.now) }
+/// A number of at most 16 digits at the right of its column, and a blank before.
+fn number_column(number: u64) -> [u8; 17]
+    requires { number ≤ 2 ^ 52 }
+    ensures { result ≡ spaces 1 ++ right 16 (decimal number) }
 {
-    put_spaces(out, width.saturating_sub(bytes.len()))?;
-    out.extend_from_slice(bytes)?;
-    Ok(())
+    let mut text = [b' '; 17];
+    write_digits(number, &mut text, 17);
+    text
 }
 
-/// A number at the right of its column.
-fn put_number(out: &mut Vec<u8>, width: usize, number: u64) -> Result<(), Memory>
-    ensures { OnOk result (out.new.items ≡ out.old.items ++ right width (decimal number)) }
-{
-    let mut buffer = Buffer::new();
-    put_right(out, width, buffer.format(number).as_bytes())
-}
-
-/// Two parts with a point between, at the right of their column.
-fn put_pointed(out: &mut Vec<u8>, width: usize, front: &[u8], back: &[u8]) -> Result<(), Memory>
-    requires front { length front.now ≤ 40 }
-    requires back { length back.now ≤ 40 }
-    ensures { OnOk result (out.new.items ≡ out.old.items ++ right width (front.now ++ codes "." ++ back.now)) }
-{
-    put_spaces(out, width.saturating_sub(front.len() + 1 + back.len()))?;
-    out.extend_from_slice(front)?;
-    out.extend_from_slice(b".")?;
-    out.extend_from_slice(back)?;
-    Ok(())
-}
-
-/// The share of a total that is not 0, in tenths of a percent, rounded down, at the right of its column.
-fn put_percent(out: &mut Vec<u8>, width: usize, part: u64, total: u64) -> Result<(), Memory>
+/// The share of a total that is not 0, in tenths of a percent, rounded down, at the right of its column, and a blank
+/// before.
+fn share_column(part: u64, total: u64) -> [u8; 7]
     requires some { 0 < total }
-    requires small { part ≤ 2 ^ 52 }
-    ensures { OnOk result (out.new.items ≡ out.old.items ++ right width (percent part total)) }
+    requires within { part ≤ total }
+    requires small { total ≤ 2 ^ 52 }
+    ensures { result ≡ spaces 1 ++ right 6 (percent part total) }
 {
     let tenths = part * 1000 / total;
-    let mut whole = Buffer::new();
-    let mut tenth = Buffer::new();
-    put_pointed(
-        out,
-        width,
-        whole.format(tenths / 10).as_bytes(),
-        tenth.format(tenths % 10).as_bytes(),
-    )
+    let mut text = [b' '; 7];
+    write_digits(tenths / 10, &mut text, 5);
+    text[5] = b'.';
+    text[6] = b'0' + (tenths % 10) as u8;
+    text
 }
 
 /// The heads of the columns.
@@ -95,25 +66,28 @@ pub fn put_header(out: &mut Vec<u8>) -> Result<(), Memory>
     Ok(())
 }
 
-/// The columns of values: a value, its share of a total that is not 0, another value.
+/// The columns of values: a value, its share of a total that is not 0, another value. No value is above the total.
 pub fn put_values(out: &mut Vec<u8>, first: u64, total: u64, third: u64) -> Result<(), Memory>
     requires some { 0 < total }
-    requires small { first ≤ 2 ^ 52 }
+    requires small { total ≤ 2 ^ 52 }
+    requires first { first ≤ total }
+    requires third { third ≤ total }
     ensures { OnOk result (out.new.items ≡ out.old.items ++ (right 16 (decimal first) ++ spaces 1
         ++ right 6 (percent first total) ++ spaces 1 ++ right 16 (decimal third))) }
 {
-    put_number(out, 16, first)?;
-    put_spaces(out, 1)?;
-    put_percent(out, 6, first, total)?;
-    put_spaces(out, 1)?;
-    put_number(out, 16, third)
+    out.extend_from_slice(&number_column(first)[1..])?;
+    out.extend_from_slice(&share_column(first, total))?;
+    out.extend_from_slice(&number_column(third))?;
+    Ok(())
 }
 
 /// A row with the names of its scope.
 pub fn put_row(out: &mut Vec<u8>, names: &Names, row: &Row) -> Result<(), Memory>
     requires names { NamesAscend names.now }
     requires some { 0 < row.now.total }
-    requires small { row.now.inclusive ≤ 2 ^ 52 }
+    requires small { row.now.total ≤ 2 ^ 52 }
+    requires inclusive { row.now.inclusive ≤ row.now.total }
+    requires frame { row.now.frame ≤ row.now.total }
     ensures { OnOk result (out.new.items ≡ out.old.items ++ row_text names.now row.now) }
 {
     put_values(out, row.inclusive, row.total, row.frame)?;

@@ -7,7 +7,7 @@ ghost use Rattle.view_tables.specs.private.Rows.{total_value};
 
 use crate::ends::ends_in;
 use crate::heads::heads_in;
-use crate::place::View;
+use crate::occurrence::View;
 use crate::weights::{sums_of, weights_in};
 use prof_bytes::Memory;
 use std::alloc::Global;

@@ -1,4 +1,4 @@
-//! Places grouped by their first items, and the rows of the groups.
+//! Occurrences grouped by their first items, and the rows of the groups.
 ghost use Rattle.std.specs.Prelude.{◌≡◌, ◌≤◌, ◌<◌, ◌^◌, ◌==◌, Bool, true, not, All, filter, length, map, sum_by};
 ghost use Rattle.std.specs.Prelude.{slice_index, IfOk};
 ghost use Rattle.std.specs.List.{list_any};
@@ -8,42 +8,44 @@ ghost use Rattle.tree_types.specs.Ascending.{ascending};
 ghost use Rattle.tree_types.specs.OfContent.{IsProfile};
 ghost use Rattle.view_tables.specs.Views.{item_order, row_at, row_order, rows_under, same_item};
 ghost use Rattle.view_tables.specs.private.Frames.{AreFrames, AreHeads, AreRanges, covered};
-ghost use Rattle.view_tables.specs.private.Places.{ArePlaces, AreByItem, AreSplits, cut_of, cuts, held, item_seen};
-ghost use Rattle.view_tables.specs.private.Places.{items_seen, row_seen, content_samples};
+ghost use Rattle.view_tables.specs.private.Occurrences.{AreOccurrences, AreByItem, AreSplits, cut_of, cuts, held};
+ghost use Rattle.view_tables.specs.private.Occurrences.{item_seen};
+ghost use Rattle.view_tables.specs.private.Occurrences.{items_seen, row_seen, content_samples};
 
 use crate::frames::Frames;
 use crate::item::{ItemRef, RowRef, compare_items};
-use crate::place::{Place, Split, View, split_first};
+use crate::occurrence::{Occurrence, Split, View, split_first};
 use prof_bytes::Memory;
 use std::alloc::Global;
 use std::cmp::Reverse;
 use tree_types::Content;
 
-/// Places without their first items; those that have none left out.
+/// Occurrences without their first items; those that have none left out.
 #[tactic(auto, using(crate::proofs::Cuts::cut_steps))]
 fn split_all<'a>(
     alloc: Global,
     view: View,
     content: &'a Content,
     heads: &[u32],
-    places: &[Place],
+    occurrences: &[Occurrence],
 ) -> Result<Vec<Split<'a>>, Memory>
     requires profile { IsProfile content.now }
     requires heads { AreHeads view content.now heads.now }
     requires long { length heads.now ≡ length content.now.nodes }
     ensures { IfOk result (λ splits. map (cut_of view content.now) splits.items
-        ≡ cuts (map (held view content.now) places.now)) }
+        ≡ cuts (map (held view content.now) occurrences.now)) }
 {
     let mut splits = Vec::new(alloc);
-    for place in places {
-        if let Some(cut) = split_first(view, content, heads, *place) {
+    for occurrence in occurrences {
+        if let Some(cut) = split_first(view, content, heads, *occurrence) {
             splits.push(cut)?;
         }
     }
     Ok(splits)
 }
 
-/// What the places of a chain are cut into, sorted by the items. Of one item they stand in the order of their frames.
+/// What the occurrences of a chain are cut into, sorted by the items. Of one item they stand in the order of their
+/// frames.
 #[tactic(auto, using(crate::proofs::Halved::sort_steps))]
 pub fn splits_of<'a>(
     alloc: Global,
@@ -51,16 +53,16 @@ pub fn splits_of<'a>(
     content: &'a Content,
     heads: &[u32],
     chain: &[ItemRef<'a>],
-    places: &[Place],
+    occurrences: &[Occurrence],
 ) -> Result<Vec<Split<'a>>, Memory>
     requires profile { IsProfile content.now }
     requires heads { AreHeads view content.now heads.now }
     requires long { length heads.now ≡ length content.now.nodes }
-    requires places { ArePlaces view content.now (items_seen chain.now) places.now }
+    requires occurrences { AreOccurrences view content.now (items_seen chain.now) occurrences.now }
     ensures splits { IfOk result (λ splits. AreSplits view content.now (items_seen chain.now) splits.items) }
     ensures sorted { IfOk result (λ splits. AreByItem splits.items) }
 {
-    let mut splits = split_all(alloc, view, content, heads, places)?;
+    let mut splits = split_all(alloc, view, content, heads, occurrences)?;
     splits.sort_by_key(|s| s.item)?;
     Ok(splits)
 }

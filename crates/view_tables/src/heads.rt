@@ -6,9 +6,9 @@ ghost use Rattle.view_tables.specs.Callers.{procs_up};
 ghost use Rattle.view_tables.specs.Flat.{frame_proc};
 ghost use Rattle.view_tables.specs.Views.{Procedure};
 ghost use Rattle.view_tables.specs.private.Frames.{AreHeads, IsHead, head_above, stops};
-ghost use Rattle.view_tables.specs.private.Places.{ups};
+ghost use Rattle.view_tables.specs.private.Occurrences.{ups};
 
-use crate::place::View;
+use crate::occurrence::View;
 use prof_bytes::Memory;
 use scope_types::{ProcId, Scope};
 use std::alloc::Global;

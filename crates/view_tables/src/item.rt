@@ -1,7 +1,7 @@
 //! What the rows of a view stand for, and their order.
 ghost use Rattle.std.specs.Prelude.{◌≡◌};
 ghost use Rattle.view_tables.specs.Views.{item_order, row_order};
-ghost use Rattle.view_tables.specs.private.Places.{item_seen, row_seen};
+ghost use Rattle.view_tables.specs.private.Occurrences.{item_seen, row_seen};
 
 use scope_types::ProcId;
 use std::cmp::{Ordering, Reverse};

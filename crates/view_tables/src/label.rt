@@ -4,8 +4,8 @@ ghost use Rattle.tree_types.specs.Database.{file_named, naming_in, proc_named};
 ghost use Rattle.tree_types.specs.NamesAscend.{NamesAscend};
 ghost use Rattle.tree_types.specs.TopDown.{label, line_label, printed};
 
-use crate::text::{put_address, put_decimal};
-use prof_bytes::Memory;
+use crate::text::put_address;
+use prof_bytes::{Memory, put_decimal};
 use scope_types::{LineId, ProcId, RootKind, Scope};
 use tree_types::{Names, find_file, find_proc};
 

@@ -1,66 +1,38 @@
 //! How long the top-down table of a content is, without its text.
-ghost use Rattle.std.specs.Prelude.{◌≡◌, ℕ, ◌+◌, ◌-◌, ◌*◌, ◌<◌, ◌≤◌, ◌^◌, ◌++◌, decimal, length, min};
+ghost use Rattle.std.specs.Prelude.{◌≡◌, ◌-◌, ◌<◌, ◌≤◌, ◌^◌, decimal, length, min};
 ghost use Rattle.tree_types.specs.Database.{naming_in};
 ghost use Rattle.tree_types.specs.NamesAscend.{NamesAscend};
 ghost use Rattle.tree_types.specs.OfContent.{IsProfile, content_table};
-ghost use Rattle.tree_types.specs.TopDown.{label, line_label, percent, right, spaces};
+ghost use Rattle.tree_types.specs.TopDown.{label, line_label};
 ghost use Rattle.view_tables.specs.private.Lengths.{capped};
-ghost use Rattle.view_tables.specs.private.Rows.{row_text};
+ghost use Rattle.view_tables.specs.private.Rows.{path_at, row_of, row_text, total_value};
 
 use crate::depth::depth_after;
 use crate::label::{file_name, proc_name};
-use crate::row::{Row, row_at};
-use crate::values::total_of;
-use itoa::Buffer;
+use crate::row::scope_at;
+use crate::values::period_of;
 use scope_types::{LineId, ProcId, RootKind, Scope};
 use tree_types::{Content, Names};
 
 /// The header's length.
 const HEADER: u64 = 48;
 
-fn decimal_length(number: u64) -> u64
+/// The length of a root's row without its label: the columns, of which no value is wider than its own, and a line feed.
+const COLUMNS: u64 = 43;
+
+/// How many digits a number has.
+#[tactic(auto, using(crate::proofs::TextLengths::digit_steps))]
+fn decimal_length(number: u32) -> u64
     ensures length { result ≡ length (decimal number) }
-    ensures small { result ≤ 40 }
+    ensures small { result ≤ 20 }
 {
-    let mut buffer = Buffer::new();
-    buffer.format(number).len() as u64
-}
-
-/// The length of a share of a total that is not 0.
-#[tactic(auto, using(crate::proofs::TextLengths::percent_length))]
-fn share_length(part: u64, total: u64) -> u64
-    requires some { 0 < total }
-    requires small { part ≤ 2 ^ 52 }
-    ensures length { result ≡ length (percent part total) }
-    ensures small { result ≤ 81 }
-{
-    let tenths = part * 1000 / total;
-    decimal_length(tenths / 10) + 1 + decimal_length(tenths % 10)
-}
-
-/// The length of what stands at the right of a column.
-fn column_length(width: u64, length: u64) -> u64
-    requires width { width ≤ 16 }
-    requires small { length ≤ 81 }
-    ensures length { result ≡ width - length + length }
-    ensures small { result ≤ 81 }
-{
-    if length < width { width } else { length }
-}
-
-/// The length of the three columns of values.
-#[tactic(auto, using(crate::proofs::TextLengths::values_length))]
-fn values_length(row: &Row) -> u64
-    requires some { 0 < row.now.total }
-    requires small { row.now.inclusive ≤ 2 ^ 52 }
-    ensures length { result ≡ length (right 16 (decimal row.now.inclusive) ++ spaces 1
-        ++ right 6 (percent row.now.inclusive row.now.total) ++ spaces 1 ++ right 16 (decimal row.now.frame)) }
-    ensures small { result ≤ 245 }
-{
-    let first = column_length(16, decimal_length(row.inclusive));
-    let share = column_length(6, share_length(row.inclusive, row.total));
-    let third = column_length(16, decimal_length(row.frame));
-    first + 1 + share + 1 + third
+    if number < 10 {
+        1
+    } else if number < 100 {
+        2
+    } else {
+        2 + decimal_length(number / 100)
+    }
 }
 
 #[tactic(auto, using(crate::proofs::TextLengths::label_lengths))]
@@ -71,7 +43,7 @@ fn line_length(names: &Names, line: LineId) -> u64
     match line {
         LineId::Row { table, file, line } => {
             let name = file_name(names, table, file).len() as u64;
-            name.saturating_add(1 + decimal_length(u64::from(line)))
+            name.saturating_add(1 + decimal_length(line))
         }
         LineId::Address(_) => 10,
     }
@@ -102,15 +74,17 @@ fn label_length(names: &Names, scope: Scope) -> u64
     }
 }
 
-#[tactic(auto, using(crate::proofs::TextLengths::row_length))]
-fn row_length(names: &Names, row: Row) -> u64
-    requires names { NamesAscend names.now }
-    requires some { 0 < row.total }
-    requires small { row.inclusive ≤ 2 ^ 52 }
-    ensures { result ≡ capped (length (row_text names.now row)) }
+/// The length of the row of a node whose path has `depth` scopes.
+fn row_length(content: &Content, number: u32, depth: u32) -> u64
+    requires profile { IsProfile content.now }
+    requires number { number < length content.now.nodes }
+    requires depth { depth ≡ length (path_at content.now number) }
+    requires some { 0 < depth }
+    requires small { total_value content.now ≤ 2 ^ 52 }
+    ensures { result ≡ capped (length (row_text content.now.names (row_of content.now number))) }
 {
-    let front = values_length(&row) + 2 + 2 * u64::from(row.level);
-    label_length(names, row.scope).saturating_add(front + 1)
+    let scope = scope_at(content, number);
+    label_length(&content.names, scope).saturating_add(COLUMNS + 2 * u64::from(depth - 1))
 }
 
 /// How many bytes the top-down table of a content has, or 2^64 - 1 where it has more. Takes no memory.
@@ -119,13 +93,13 @@ pub fn top_down_length(content: &Content) -> u64
     requires { IsProfile content.now }
     ensures { result ≡ min (length (content_table content.now)) (2 ^ 64 - 1) }
 {
-    let total = total_of(content);
+    // Its values are of a period of 32 bits.
+    let _ = period_of(content);
     let mut depth = 0;
     let mut sum = HEADER;
     for number in 0..content.contexts.nodes() {
         depth = depth_after(content, number, depth);
-        let row = row_at(content, number, depth, total);
-        sum = sum.saturating_add(row_length(&content.names, row));
+        sum = sum.saturating_add(row_length(content, number, depth));
     }
     sum
 }

@@ -1,5 +1,6 @@
 //! The rows of a table, by the numbers of their nodes.
 ghost use Rattle.std.specs.Prelude.{◌≡◌, ◌<◌, ◌≤◌, ◌^◌, length};
+ghost use Rattle.tree_types.specs.Nodes.{own_scope};
 ghost use Rattle.tree_types.specs.OfContent.{IsProfile};
 ghost use Rattle.view_tables.specs.private.Rows.{path_at, row_of, total_value};
 
@@ -18,6 +19,16 @@ pub struct Row {
     pub scope: Scope,
 }
 
+/// The scope of a node.
+#[tactic(auto, using(crate::proofs::Depths::scope_is))]
+pub fn scope_at(content: &Content, number: u32) -> Scope
+    requires profile { IsProfile content.now }
+    requires number { number < length content.now.nodes }
+    ensures { result ≡ own_scope (path_at content.now number) }
+{
+    content.nodes.items()[number as usize].scope
+}
+
 /// The row of a node whose path has `depth` scopes.
 #[tactic(auto, using(crate::proofs::ColumnSums::value_steps))]
 pub fn row_at(content: &Content, number: u32, depth: u32, total: u64) -> Row
@@ -28,8 +39,10 @@ pub fn row_at(content: &Content, number: u32, depth: u32, total: u64) -> Row
     requires total { total ≡ total_value content.now }
     requires small { total ≤ 2 ^ 52 }
     ensures row { result ≡ row_of content.now number }
-    ensures small { result.inclusive ≤ 2 ^ 52 }
     ensures some { 0 < result.total }
+    ensures small { result.total ≤ 2 ^ 52 }
+    ensures inclusive { result.inclusive ≤ result.total }
+    ensures frame { result.frame ≤ result.total }
 {
     let column = content.contexts.node(number);
     Row {
@@ -37,6 +50,6 @@ pub fn row_at(content: &Content, number: u32, depth: u32, total: u64) -> Row
         total,
         frame: column_sum(column, Kind::Frame),
         level: depth - 1,
-        scope: content.nodes.items()[number as usize].scope,
+        scope: scope_at(content, number),
     }
 }

@@ -1,19 +1,8 @@
-//! Numbers and addresses as text.
-ghost use Rattle.std.specs.Prelude.{◌≡◌, ◌<◌, ◌++◌, decimal, OnOk, OnErr};
+//! Addresses as text.
+ghost use Rattle.std.specs.Prelude.{◌≡◌, ◌<◌, ◌++◌, OnOk, OnErr};
 ghost use Rattle.tree_types.specs.TopDown.{address_text, hex_digit};
 
-use itoa::Buffer;
 use prof_bytes::Memory;
-
-/// Appends the number's decimal digits. Where memory runs out nothing was appended.
-pub fn put_decimal(out: &mut Vec<u8>, number: u64) -> Result<(), Memory>
-    ensures ok { OnOk result (out.new.items ≡ out.old.items ++ decimal number) }
-    ensures err { OnErr result (out.new.items ≡ out.old.items) }
-{
-    let mut buffer = Buffer::new();
-    out.extend_from_slice(buffer.format(number).as_bytes())?;
-    Ok(())
-}
 
 /// A digit of base 16, in small letters.
 fn digit_byte(digit: u32) -> u8

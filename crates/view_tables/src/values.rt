@@ -61,6 +61,16 @@ fn path_count(content: &Content) -> u64
     count
 }
 
+/// The period. The total of all paths, which is as many times this, takes no more than 16 digits.
+#[tactic(auto, using(crate::proofs::ColumnSums::total_steps))]
+pub fn period_of(content: &Content) -> u32
+    requires { IsProfile content.now }
+    ensures period { result ≡ content.now.period }
+    ensures small { total_value content.now ≤ 2 ^ 52 }
+{
+    content.period
+}
+
 /// The period times the number of paths.
 #[tactic(auto, using(crate::proofs::ColumnSums::total_steps))]
 pub fn total_of(content: &Content) -> u64
@@ -68,5 +78,5 @@ pub fn total_of(content: &Content) -> u64
     ensures total { result ≡ total_value content.now }
     ensures small { result ≤ 2 ^ 52 }
 {
-    u64::from(content.period) * path_count(content)
+    u64::from(period_of(content)) * path_count(content)
 }

@@ -9,20 +9,21 @@ ghost use Rattle.view_tables.specs.Flat.{flat};
 ghost use Rattle.view_tables.specs.Views.{item_label, mark_at, rows_under, view_header, view_row, view_rows};
 ghost use Rattle.view_tables.specs.Views.{view_table};
 ghost use Rattle.view_tables.specs.private.Frames.{AreFrames};
-ghost use Rattle.view_tables.specs.private.Places.{ArePlaces, AreByItem, AreSplits, item_seen, items_seen, mark_of};
-ghost use Rattle.view_tables.specs.private.Places.{row_seen, content_samples};
+ghost use Rattle.view_tables.specs.private.Occurrences.{AreOccurrences, AreByItem, AreSplits, item_seen};
+ghost use Rattle.view_tables.specs.private.Occurrences.{items_seen, mark_of};
+ghost use Rattle.view_tables.specs.private.Occurrences.{row_seen, content_samples};
 ghost use Rattle.view_tables.specs.private.Rows.{total_value};
 
 use crate::columns::{put_spaces, put_values};
 use crate::frames::{Frames, frames_in};
-use crate::gather::places_in;
+use crate::gather::occurrences_in;
 use crate::group::{group_of, rows_of, splits_of};
 use crate::item::{ItemRef, RowRef};
 use crate::label::{proc_name, put_printed};
-use crate::place::{Place, Split, View};
-use crate::text::{put_address, put_decimal};
+use crate::occurrence::{Occurrence, Split, View};
+use crate::text::put_address;
 use crate::values::total_of;
-use prof_bytes::{Memory, Text};
+use prof_bytes::{Memory, Text, put_decimal};
 use std::alloc::Global;
 use tree_types::{Content, Names};
 
@@ -69,7 +70,9 @@ fn put_view_row(
 ) -> Result<(), Memory>
     requires names { NamesAscend names.now }
     requires some { 0 < total }
-    requires small { row.now.inclusive.0 ≤ 2 ^ 52 }
+    requires small { total ≤ 2 ^ 52 }
+    requires inclusive { row.now.inclusive.0 ≤ total }
+    requires exclusive { row.now.exclusive ≤ total }
     requires level { level ≤ 16 }
     ensures { OnOk result (out.new.items ≡ out.old.items
         ++ view_row (naming_in names.now) (mark_of view) total level (row_seen row.now)) }
@@ -82,14 +85,14 @@ fn put_view_row(
     Ok(())
 }
 
-/// A chain, and the places that it leaves.
+/// A chain, and the occurrences that it leaves.
 #[derive(Drop)]
 struct Narrowed<'a> {
     chain: Vec<ItemRef<'a>>,
-    places: Vec<Place>,
+    occurrences: Vec<Occurrence>,
 }
 
-/// What the places of a chain are cut into, by the items, and the rows right under that of the chain.
+/// What the occurrences of a chain are cut into, by the items, and the rows right under that of the chain.
 #[derive(Drop)]
 struct Level<'a> {
     splits: Vec<Split<'a>>,
@@ -103,35 +106,43 @@ fn level_of<'a>(
     content: &'a Content,
     frames: &Frames,
     chain: &[ItemRef<'a>],
-    places: &[Place],
+    occurrences: &[Occurrence],
 ) -> Result<Level<'a>, Memory>
     requires profile { IsProfile content.now }
     requires frames { AreFrames view content.now frames.now }
-    requires places { ArePlaces view content.now (items_seen chain.now) places.now }
+    requires occurrences { AreOccurrences view content.now (items_seen chain.now) occurrences.now }
     ensures splits { IfOk result (λ level. AreSplits view content.now (items_seen chain.now) level.splits.items) }
     ensures sorted { IfOk result (λ level. AreByItem level.splits.items) }
     ensures rows { IfOk result (λ level. map row_seen level.rows.items
         ≡ rows_under content.now.period (content_samples view content.now) (items_seen chain.now)) }
     ensures within { IfOk result
-        (λ level. All (λ r. (0 < r.inclusive.0) × (r.inclusive.0 ≤ total_value content.now)) level.rows.items) }
+        (λ level. All (λ r. (0 < r.inclusive.0) × (r.inclusive.0 ≤ total_value content.now)
+        × (r.exclusive ≤ total_value content.now)) level.rows.items) }
 {
-    let splits = splits_of(alloc, view, content, frames.heads.as_slice(), chain, places)?;
+    let splits = splits_of(
+        alloc,
+        view,
+        content,
+        frames.heads.as_slice(),
+        chain,
+        occurrences,
+    )?;
     let rows = rows_of(alloc, view, content, frames, chain, splits.as_slice())?;
     Ok(Level { splits, rows })
 }
 
-/// What splits leave of their places.
-fn rests_of(alloc: Global, splits: &[Split<'_>]) -> Result<Vec<Place>, Memory>
-    ensures { IfOk result (λ places. places.items ≡ map (λ s. s.rest) splits.now) }
+/// What splits leave of their occurrences.
+fn rests_of(alloc: Global, splits: &[Split<'_>]) -> Result<Vec<Occurrence>, Memory>
+    ensures { IfOk result (λ occurrences. occurrences.items ≡ map (λ s. s.rest) splits.now) }
 {
-    let mut places = Vec::new(alloc);
+    let mut occurrences = Vec::new(alloc);
     for s in splits {
-        places.push(s.rest)?;
+        occurrences.push(s.rest)?;
     }
-    Ok(places)
+    Ok(occurrences)
 }
 
-/// A chain with one item more, and the places that it leaves.
+/// A chain with one item more, and the occurrences that it leaves.
 #[tactic(auto, using(crate::proofs::ViewTexts::narrow_steps))]
 fn narrow<'a>(
     alloc: Global,
@@ -146,20 +157,20 @@ fn narrow<'a>(
     ensures chain { IfOk result
         (λ next. items_seen next.chain.items ≡ items_seen chain.now ++ item_seen item.entry ∷ []) }
     ensures length { IfOk result (λ next. length next.chain.items ≡ length chain.now + 1) }
-    ensures places { IfOk result
-        (λ next. ArePlaces view content.now (items_seen next.chain.items) next.places.items) }
+    ensures occurrences { IfOk result
+        (λ next. AreOccurrences view content.now (items_seen next.chain.items) next.occurrences.items) }
 {
     let mut longer = Vec::new(alloc);
     longer.extend_from_slice(chain)?;
     longer.push(item)?;
-    let places = rests_of(alloc, group_of(splits, item))?;
+    let occurrences = rests_of(alloc, group_of(splits, item))?;
     Ok(Narrowed {
         chain: longer,
-        places,
+        occurrences,
     })
 }
 
-/// Appends so many levels of rows under that of a chain, by the places that the chain leaves.
+/// Appends so many levels of rows under that of a chain, by the occurrences that the chain leaves.
 #[tactic(auto, using(crate::proofs::ViewTexts::row_steps))]
 fn put_rows<'a>(
     out: &mut Vec<u8>,
@@ -169,14 +180,14 @@ fn put_rows<'a>(
     frames: &Frames,
     total: u64,
     chain: &[ItemRef<'a>],
-    places: &[Place],
+    occurrences: &[Occurrence],
     levels: usize,
 ) -> Result<(), Memory>
     requires profile { IsProfile content.now }
     requires frames { AreFrames view content.now frames.now }
     requires total { total ≡ total_value content.now }
     requires small { total ≤ 2 ^ 52 }
-    requires places { ArePlaces view content.now (items_seen chain.now) places.now }
+    requires occurrences { AreOccurrences view content.now (items_seen chain.now) occurrences.now }
     requires levels { length chain.now + levels ≤ 9 }
     ensures { OnOk result (out.new.items ≡ out.old.items ++ view_rows content.now.period
         (naming_in content.now.names) (mark_of view) (content_samples view content.now) levels (items_seen chain.now)) }
@@ -184,7 +195,7 @@ fn put_rows<'a>(
     if levels == 0 {
         return Ok(());
     }
-    let level = level_of(alloc, view, content, frames, chain, places)?;
+    let level = level_of(alloc, view, content, frames, chain, occurrences)?;
     for row in &level.rows {
         put_view_row(out, &content.names, view, total, chain.len(), row)?;
         let next = narrow(
@@ -203,7 +214,7 @@ fn put_rows<'a>(
             frames,
             total,
             next.chain.as_slice(),
-            next.places.as_slice(),
+            next.occurrences.as_slice(),
             levels - 1,
         )?;
     }
@@ -222,7 +233,7 @@ fn view_of(alloc: Global, view: View, content: &Content, levels: usize) -> Resul
     put_view_header(&mut out)?;
     let total = total_of(content);
     let frames = frames_in(alloc, view, content)?;
-    let places = places_in(alloc, view, content, frames.heads.as_slice())?;
+    let occurrences = occurrences_in(alloc, view, content, frames.heads.as_slice())?;
     put_rows(
         &mut out,
         alloc,
@@ -231,7 +242,7 @@ fn view_of(alloc: Global, view: View, content: &Content, levels: usize) -> Resul
         &frames,
         total,
         &[],
-        places.as_slice(),
+        occurrences.as_slice(),
         levels,
     )?;
     Ok(Text::from_vec(out))

@@ -4,7 +4,7 @@ ghost use Rattle.tree_types.specs.OfContent.{IsProfile};
 ghost use Rattle.view_tables.specs.private.Frames.{AreCosts, AreHeads, AreSums, AreWeights, moved, sum_below};
 ghost use Rattle.view_tables.specs.private.Rows.{total_value};
 
-use crate::place::{View, is_place};
+use crate::occurrence::{View, is_occurrence};
 use crate::values::column_sum;
 use prof_bytes::Memory;
 use std::alloc::Global;
@@ -57,7 +57,7 @@ pub fn weights_in(
     let mut number = content.contexts.nodes();
     while number > 0 {
         number -= 1;
-        if !is_place(view, content, heads, number) {
+        if !is_occurrence(view, content, heads, number) {
             pass_up(
                 &mut weights,
                 number,

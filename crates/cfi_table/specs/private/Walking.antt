@@ -1,12 +1,13 @@
 -- Rows that are made one after another.
-use Rattle.std.specs.Prelude.{◌≡◌, ℕ, ◌≤◌, ◌<◌, ◌^◌, List, length, Option, Some, IfSome}
+use Rattle.std.specs.Prelude.{◌≡◌, ℕ, ◌≤◌, ◌<◌, ◌^◌, Bool, List, length, Option, Some, None, Ok, IfSome, if◌then◌else◌}
 use Rattle.prof_bytes.specs.Fields.{Input}
 use Rattle.cfi_table.specs.declared.fault.FrameFault.{FrameFault}
 use Rattle.cfi_table.specs.declared.fde.Fde.{Fde}
 use Rattle.cfi_table.specs.declared.rules.Rule.{Rule}
+use Rattle.cfi_table.specs.declared.rules.Rules.{Rules}
 use Rattle.cfi_table.specs.Rules.{State}
 use Rattle.cfi_table.specs.Entries.{after_fde}
-use Rattle.cfi_table.specs.Frames.{range_of}
+use Rattle.cfi_table.specs.Frames.{range_of, rules_with}
 use Rattle.cfi_table.specs.private.Resuming.{resumed}
 
 -- the state at each address from `start` on is the one to which the instructions that are left lead
@@ -21,3 +22,7 @@ pub record IsAtRow (section : List ℕ) (fde : Fde) (initial : List Rule) (s : S
 
 abbrev pub AreRows : List ℕ → Fde → List Rule → State → Input FrameFault → Option ℕ → Type 0
 AreRows section fde initial s input next = IfSome next (IsAtRow section fde initial s input)
+
+-- the rules of the row that was made last, if one was and its instructions are not at fault
+abbrev pub rules_made : Bool → Fde → State → Option Rules
+rules_made has_rules fde s = if has_rules then rules_with fde.cie (Ok s) else None

@@ -43,9 +43,9 @@ pub record IsIndex (frames : Frames) (index : Index) : Type 0 where
 abbrev pub KeepsIndex : Frames → Index → Index → Type 0
 KeepsIndex frames index after = IsIndex frames index → IsIndex frames after
 
--- the rules of the row are those at its addresses
-abbrev pub IsRowIn : Frames → Row → Type 0
-IsRowIn frames row = (address : ℕ) → row.start ≤ address → address < row.end → rules_at frames address ≡ row.rules
+-- the rules are those at the row's addresses
+abbrev pub IsRowIn : Frames → Row → Option Rules → Type 0
+IsRowIn frames row found = (address : ℕ) → row.start ≤ address → address < row.end → rules_at frames address ≡ found
 
 -- the ids from one up to another are the same, and the others stay
 pub record IsFilled (before after : List ℕ) (low high id : ℕ) : Type 0 where

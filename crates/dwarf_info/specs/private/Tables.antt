@@ -5,6 +5,8 @@ use Rattle.std.specs.Ordering.{nat_cmp}
 use Rattle.std.specs.BTreeMap.{get}
 use Rattle.dwarf_forms.specs.declared.declaration.Abbrev.{Abbrev}
 use Rattle.dwarf_forms.specs.Abbreviations.{table_at}
+use Rattle.dwarf_info.specs.declared.tables.Found.{Found}
+use Rattle.dwarf_info.specs.declared.tables.Found.TheVariants as found
 use Rattle.dwarf_info.specs.declared.tables.Suffix.{Suffix}
 use Rattle.dwarf_info.specs.declared.tables.Tables.{Tables}
 use Rattle.dwarf_info.specs.declared.entry.UnitBases.{UnitBases}
@@ -33,6 +35,18 @@ pub record AreTables (section : List ℕ) (tables : Tables) : Type 0 where
 -- none is lost
 abbrev pub KeepTables : Tables → Tables → Type 0
 KeepTables old new = (offset : ℕ) → is_some (table_in old offset) ≡ true → is_some (table_in new offset) ≡ true
+
+-- the table at an offset is known, the end of one that was read, or read now
+abbrev pub IsFound : List ℕ → Tables → Found → ℕ → Type 0
+IsFound section tables found.Known offset = is_some (table_in tables offset) ≡ true
+IsFound section tables (found.End suffix) offset = IsSuffix section tables.read.items suffix offset
+IsFound section tables (found.Read table) offset = table_at section offset ≡ Ok table
+
+-- the table at an offset is known too
+pub record IsKnown (section : List ℕ) (old new : Tables) (offset : ℕ) : Type 0 where
+  pub are : AreTables section new
+  pub keep : KeepTables old new
+  pub has : is_some (table_in new offset) ≡ true
 
 -- each unit's table is among them
 abbrev pub HaveTables : Tables → List UnitBases → Type 0

@@ -3,7 +3,7 @@ use Rattle.std.specs.Prelude.{◌≡◌, ℕ, ◌+◌, ◌-◌, ◌*◌, ◌/◌
 use Rattle.std.specs.List.{position_or_len}
 use Rattle.elf_image.specs.Fields.{is_zero}
 
--- the place of the first 0 byte from a place on, or the end where there is none
+-- the index of the first 0 byte from an index on, or the end where there is none
 unfoldable pub first_zero : List ℕ → ℕ → ℕ
 first_zero bytes start = start + position_or_len is_zero (drop start bytes)
 

@@ -1,6 +1,6 @@
 -- Sizes whose sums are numbers of 32 bits.
 use Rattle.std.specs.Prelude.{ℕ, ◌+◌, ◌<◌, ◌≤◌, List, length}
-use Rattle.guest_gen.specs.declared.code.Function.{Function}
+use Rattle.guest_gen.specs.declared.code.DrawnFunction.{DrawnFunction}
 use Rattle.guest_gen.specs.declared.file.Sizes.{Sizes}
 
 pub record AreFew (sizes : Sizes) : Type 0 where
@@ -11,7 +11,7 @@ pub record AreFew (sizes : Sizes) : Type 0 where
   pub section_names : sizes.section_names ≤ 65536
 
 -- it calls functions behind it, and counts to a number that an ADDI holds
-pub record IsFurther (number : ℕ) (function : Function) : Type 0 where
+pub record IsFurther (number : ℕ) (function : DrawnFunction) : Type 0 where
   pub turns : function.turns ≤ 31
   pub first : number < function.first
   pub near_first : function.first ≤ number + 5

@@ -14,11 +14,10 @@ use Rattle.hpc_top.specs.Merged.{Merging}
 use Rattle.hpc_top.specs.Profile.{Profiled, lines_of}
 use Rattle.hpc_top.specs.private.Merging.{IsMergeOf}
 
--- its samples are merged, its database is the content's, and what else it says is that of the run
+-- its samples are merged, and what else it says is that of the run
 pub record IsProfileOf (by : Merging) (period : ℕ) (p : Profiled) (run : RunProfile) : Type 0 where
   pub merged : IsMergeOf by period p.attributed run.merged
   pub profile : IsProfile run.merged.content
-  pub database : run.database ≡ spelling run.merged.content
   pub lines : run.lines ≡ lines_of period p
   pub samples : run.samples ≡ length p.attributed.samples
   pub retired : run.retired ≡ retired_by p.final
@@ -28,9 +27,10 @@ abbrev pub Profiles : Merging → ℕ → Result RunProfile (Fail InputFault) �
 Profiles by period (Ok run) wanted = (p : Profiled) × (wanted ≡ Ok p) × IsProfileOf by period p run
 Profiles by period (Err fail) wanted = FailsBy fail wanted
 
--- database, report and crew of a run's profile: the report's table stands behind the lines
+-- database, report and crew of a run's profile: the database and the table are the content's, and the report's table
+-- stands behind the lines
 pub record IsMadeBy (run : RunProfile) (made : Made) : Type 0 where
-  pub database : made.database ≡ run.database
+  pub database : made.database ≡ spelling run.merged.content
   pub report : made.report ≡ run.lines ++ content_table run.merged.content
   pub crew : made.crew ≡ run.merged.crew
 

@@ -1,12 +1,12 @@
 -- Marks of the chunks that stripes name, and what settling does to the names.
 use Rattle.std.specs.Prelude.{◌≡◌, ℕ, ◌<◌, Bool, false, ltb, List, [], length, slice_index_or}
-use Rattle.stripe_table.specs.Ends.{names_of}
-use Rattle.stripe_table.specs.Views.{times, up_to}
+use Rattle.stripe_table.specs.Ends.{stripe_names}
+use Rattle.stripe_table.specs.Views.{occurrences, sum_below}
 use Rattle.stripe_table.specs.declared.stripe.Stripe.{Stripe}
 
 -- whether a stripe names a chunk
 abbrev pub is_named : List Stripe → ℕ → ℕ → Bool
-is_named all s c = ltb 0 (times c (names_of all s))
+is_named all s c = ltb 0 (occurrences c (stripe_names all s))
 
 -- the mark of chunk c in the marks of stripe s
 abbrev pub mark_at : List (List Bool) → ℕ → ℕ → Bool
@@ -21,17 +21,17 @@ pub record MarkIsExact (all : List Stripe) (marks : List (List Bool)) (s c : ℕ
 -- of so many chunks, those are marked that are among the names
 pub record MarksChunks (chunks : ℕ) (names : List ℕ) (marks : List Bool) : Type 0 where
   pub count : length marks ≡ chunks
-  pub exact : (c : ℕ) → c < chunks → slice_index_or marks c false ≡ ltb 0 (times c names)
+  pub exact : (c : ℕ) → c < chunks → slice_index_or marks c false ≡ ltb 0 (occurrences c names)
 
 -- the marks of each stripe
 pub record MarksAll (chunks : ℕ) (all : List Stripe) (marks : List (List Bool)) : Type 0 where
   pub count : length marks ≡ 16
-  pub each : (s : ℕ) → s < 16 → MarksChunks chunks (names_of all s) (slice_index_or marks s [])
+  pub each : (s : ℕ) → s < 16 → MarksChunks chunks (stripe_names all s) (slice_index_or marks s [])
 
 -- how many names the sixteen stripes have
 abbrev pub names_in : List Stripe → ℕ
-names_in all = up_to 16 (λ s. length (names_of all s))
+names_in all = sum_below 16 (λ s. length (stripe_names all s))
 
 -- the stripes name the chunk c as often as before
 abbrev pub SameNames : List Stripe → List Stripe → ℕ → Type 0
-SameNames old new c = (s : ℕ) → times c (names_of new s) ≡ times c (names_of old s)
+SameNames old new c = (s : ℕ) → occurrences c (stripe_names new s) ≡ occurrences c (stripe_names old s)

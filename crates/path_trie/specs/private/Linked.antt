@@ -13,7 +13,7 @@ use Rattle.tree_types.specs.Paths.{Path}
 use Rattle.tree_types.specs.Nodes.{no_parent}
 use Rattle.tree_types.specs.PathsOf.{tree_paths, path_below}
 use Rattle.path_trie.specs.declared.trie.PathEnd.{PathEnd}
-use Rattle.path_trie.specs.Trie.{IsPlace, path_at, entry_of, trie_nodes, samples_of}
+use Rattle.path_trie.specs.Trie.{IsIndex, path_at, counted_entry, trie_nodes, samples_of}
 
 -- a parent's index and a scope
 abbrev pub Key : Type 0
@@ -48,12 +48,12 @@ IsAbsent nodes parent scope = (i : ℕ) → i < length nodes → node_at nodes i
 
 -- the branch that a key has once another is put at an index, unless the index is the next one
 abbrev pub with_branch : Bool → Key → ℕ → Option ℕ → Key → Option ℕ
-with_branch is_next key place old q = if is_next then old else if same_key key q then Some place else old
+with_branch is_next key index old q = if is_next then old else if same_key key q then Some index else old
 
 -- nodes, each after its parent, each path once
 pub record Rooted (nodes : List Node) : Type 0 where
   pub long : length (tree_paths nodes) ≡ length nodes
-  pub before : (i : ℕ) → i < length nodes → IsPlace (node_at nodes i).parent i
+  pub before : (i : ℕ) → i < length nodes → IsIndex (node_at nodes i).parent i
   pub below : (i : ℕ) → i < length nodes
       → slice_index_or (tree_paths nodes) i [] ≡ path_below (tree_paths nodes) (node_at nodes i)
   pub once : (i j : ℕ) → i < length nodes → j < length nodes
@@ -67,17 +67,17 @@ pub record Linked (nodes : List Node) (branches : Branches) : Type 0 where
   pub found : (parent : ℕ) (scope : Scope) (i : ℕ) → branch_at branches (parent, scope) ≡ Some i
       → (i < length nodes) × (node_at nodes i ≡ node_with parent scope)
 
--- the places of the first paths are places of all, with the same paths
+-- the indices of the first paths are indices of all, with the same paths
 pub record Extends (old new : List Path) : Type 0 where
   pub longer : length old ≤ length new
-  pub same : (place : ℕ) → IsPlace place (length old) → path_at new place ≡ path_at old place
+  pub same : (index : ℕ) → IsIndex index (length old) → path_at new index ≡ path_at old index
 
--- 1 where the place is the last node's, which has no children, and else 0
+-- 1 where the index is the last node's, which has no children, and else 0
 abbrev pub last_one : List Node → ℕ → ℕ
-last_one nodes place = if next_index place == length nodes then 1 else 0
+last_one nodes index = if next_index index == length nodes then 1 else 0
 
 abbrev pub entries_at : List Node → List PathEnd → List Entry
-entries_at nodes ends = map (entry_of (tree_paths nodes)) ends
+entries_at nodes ends = map (counted_entry (tree_paths nodes)) ends
 
 -- an end of a hart at a node
 abbrev pub ends_at : ℕ → ℕ → PathEnd → Bool
@@ -86,7 +86,7 @@ ends_at node hart e = e.node == node && e.hart == hart
 -- what holds of the nodes and the ends
 pub record IsTrie (nodes : List Node) (branches : Branches) (ends : List PathEnd) : Type 0 where
   pub linked : Linked nodes branches
-  pub places : All (λ e. IsPlace e.node (length nodes)) ends
+  pub indices : All (λ e. IsIndex e.node (length nodes)) ends
   pub nodes_are : tree_paths nodes ≡ trie_nodes (entries_at nodes ends)
   pub few_nodes : length nodes ≤ most_path_scopes
   pub few_samples : samples_of (entries_at nodes ends) ≤ most_samples

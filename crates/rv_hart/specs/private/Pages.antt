@@ -1,8 +1,9 @@
--- Pages of memory and the blocks that they stand in.
-use Rattle.std.specs.Prelude.{◌≡◌, ◌==◌, if◌then◌else◌, ℕ, ◌+◌, ◌-◌, ◌/◌, ◌%◌, ◌^◌, List, [], ◌++◌, length, take, drop}
+-- Pages of memory, the blocks that they stand in, and their bytes.
+use Rattle.std.specs.Prelude.{◌≡◌, ◌==◌, if◌then◌else◌, ℕ, ◌+◌, ◌/◌, ◌%◌, ◌^◌, List, [], ◌++◌, length, take, drop}
+use Rattle.std.specs.Prelude.{Option, Some, None}
 use Rattle.std.specs.List.{slice_index_or}
 use Rattle.elf_image.specs.declared.part.Segment.{Segment}
-use Rattle.rv_hart.specs.AddressSpace.{has}
+use Rattle.rv_hart.specs.declared.page.Page.{Page}
 
 -- a page: its bytes, none where it was not made, and the region for which it was made
 pub record Paged : Type 0 where
@@ -13,8 +14,8 @@ pub record Paged : Type 0 where
 abbrev pub nowhere : Segment
 nowhere = record { start = 0; end = 0; flags = 0; offset = 0; filled = 0 }
 
-abbrev pub blank : Paged
-blank = record { home = nowhere; bytes = [] }
+abbrev pub unmade : Page
+unmade = record { home = nowhere; start = None }
 
 -- bytes with others in place of some of them
 abbrev pub spliced : List ℕ → ℕ → List ℕ → List ℕ
@@ -24,17 +25,33 @@ spliced bytes offset source = take offset bytes ++ source ++ drop (offset + leng
 abbrev pub with_bytes : Paged → ℕ → List ℕ → Paged
 with_bytes page offset source = record { home = page.home; bytes = spliced page.bytes offset source }
 
--- a page of a block by its index, and a page of blocks of 256 by its number; blank where there is none
-abbrev pub page_at : List Paged → ℕ → Paged
-page_at block index = slice_index_or block index blank
+-- blocks of 256 pages, and the bytes of all pages that were made, one page's behind another's
+pub record PageStore : Type 0 where
+  pub blocks : List (List Page)
+  pub bytes : List ℕ
 
-abbrev pub page_in : List (List Paged) → ℕ → Paged
+-- a page of a block by its index, and a page of blocks by its number; unmade where there is none
+abbrev pub page_at : List Page → ℕ → Page
+page_at block index = slice_index_or block index unmade
+
+abbrev pub page_in : List (List Page) → ℕ → Page
 page_in blocks number = page_at (slice_index_or blocks (number / 2 ^ 8) []) (number % 2 ^ 8)
 
 -- blocks in which the page of this number is this one, and all others are as before
-abbrev pub IsSetAt : List (List Paged) → List (List Paged) → ℕ → Paged → Type 0
+abbrev pub IsSetAt : List (List Page) → List (List Page) → ℕ → Page → Type 0
 IsSetAt old new number page = (n : ℕ) → page_in new n ≡ (if n == number then page else page_in old n)
 
--- at how many addresses, from a region's start on, it has a right for four bytes
-abbrev pub places_with : ℕ → Segment → ℕ
-places_with right home = if has right home then home.end - home.start - 3 else 0
+-- the bytes of a page that begin there
+unfoldable pub bytes_from : List ℕ → Option ℕ → List ℕ
+bytes_from bytes None = []
+bytes_from bytes (Some start) = take (2 ^ 12) (drop start bytes)
+
+abbrev pub paged_of : List ℕ → Page → Paged
+paged_of bytes page = record { home = page.home; bytes = bytes_from bytes page.start }
+
+abbrev pub paged_in : PageStore → ℕ → Paged
+paged_in store number = paged_of store.bytes (page_in store.blocks number)
+
+-- a store in which the page of this number is this one, and all others are as before
+abbrev pub IsPagedAt : PageStore → PageStore → ℕ → Paged → Type 0
+IsPagedAt old new number page = (n : ℕ) → paged_in new n ≡ (if n == number then page else paged_in old n)

@@ -9,7 +9,7 @@ use Rattle.elf_image.specs.Image.{in_segment}
 use Rattle.rv_hart.specs.declared.paged_memory.PagedMemory.{PagedMemory}
 use Rattle.rv_hart.specs.declared.right.Right.{Right}
 use Rattle.rv_hart.specs.declared.right.Right.TheVariants.{Execute, Write, Read}
-use Rattle.rv_hart.specs.private.Pages.{Paged, page_in}
+use Rattle.rv_hart.specs.private.Pages.{Paged, paged_in}
 use Rattle.elf_image.specs.declared.elf.TheConstants.{PF_R, PF_W, PF_X}
 use Rattle.rv_hart.specs.AddressSpace.{AddressSpace, first_byte, region_at, each_address, may}
 use Rattle.rv_hart.specs.declared.hart.Hart.{Hart}
@@ -18,7 +18,7 @@ use Rattle.rv_hart.specs.Stepping.{state_of}
 
 -- a page by its number, and the page of an address
 abbrev pub page_numbered : PagedMemory → ℕ → Paged
-page_numbered paged number = page_in paged.blocks.items number
+page_numbered paged number = paged_in paged.pages number
 
 abbrev pub page_of : PagedMemory → ℕ → Paged
 page_of paged at = page_numbered paged (at / 2 ^ 12)
@@ -39,16 +39,16 @@ memory_of paged = record { regions = paged.regions; bytes = each_address (value 
 abbrev pub kept_state : Hart → PagedMemory → State
 kept_state hart paged = state_of hart (memory_of paged)
 
--- the address of a word by its place among the words from an address on
-abbrev pub placed : ℕ → ℕ → ℕ
-placed base place = (base + 4 * place) % 2 ^ 32
+-- the address of a word by its index among the words from an address on
+abbrev pub word_address : ℕ → ℕ → ℕ
+word_address base index = (base + 4 * index) % 2 ^ 32
 
--- a hart that goes from place to place, and with the memory that is kept: its own pc stands still meanwhile
+-- a hart that goes from index to index, and with the memory that is kept: its own pc stands still meanwhile
 abbrev pub state_at : ℕ → ℕ → Hart → AddressSpace → State
-state_at base place hart memory = state (placed base place) hart.regs memory
+state_at base index hart memory = state (word_address base index) hart.regs memory
 
-abbrev pub placed_state : ℕ → ℕ → Hart → PagedMemory → State
-placed_state base place hart paged = state_at base place hart (memory_of paged)
+abbrev pub indexed_state : ℕ → ℕ → Hart → PagedMemory → State
+indexed_state base index hart paged = state_at base index hart (memory_of paged)
 
 -- each address that this segment holds has it as its region
 abbrev pub IsHome : List Segment → Segment → Type 0

@@ -7,11 +7,11 @@ use Rattle.scope_types.specs.declared.scope.Scope.{Scope}
 use Rattle.scope_types.specs.declared.scope.Scope.TheVariants.{Call, Stmt}
 use Rattle.scope_types.specs.Expansion.{frame_scopes}
 use Rattle.scope_find.specs.Found.{ProgramScopes, found_at}
-use Rattle.scope_expand.specs.declared.expander.Standing.{Standing}
-use Rattle.scope_expand.specs.declared.expander.Standing.TheVariants.{Caller, Innermost}
+use Rattle.scope_expand.specs.declared.expander.FrameKind.{FrameKind}
+use Rattle.scope_expand.specs.declared.expander.FrameKind.TheVariants.{Caller, Innermost}
 
 -- how a frame's line ends its scopes
-abbrev pub last_scope : Standing → LineId → Scope
+abbrev pub last_scope : FrameKind → LineId → Scope
 last_scope Caller = Call
 last_scope Innermost = Stmt
 

@@ -6,7 +6,7 @@ use Rattle.scope_types.specs.declared.scope.LineId.{LineId}
 use Rattle.elf_image.specs.Image.{ProgramImage}
 use Rattle.dwarf_inline.specs.Structure.{ProgramStructure}
 use Rattle.scope_find.specs.declared.parts.Part.{Part}
-use Rattle.scope_find.specs.Symbols.{symbol_at}
+use Rattle.scope_find.specs.Symbols.{procedure_by_symbol}
 use Rattle.scope_find.specs.Found.{inline_scope}
 use Rattle.scope_find.specs.private.Spans.{item_at}
 
@@ -21,7 +21,7 @@ numbers_in lists (Some p) = unwrap_or (slice_get lists p.inlines) []
 
 -- the procedure by its number, else by symbols
 abbrev pub procedure_by : ProgramStructure → ProgramImage → ℕ → Option ℕ → ProcId
-procedure_by s image address None = symbol_at image address
+procedure_by s image address None = procedure_by_symbol image address
 procedure_by s image address (Some number) = Die (item_at s number).identity
 
 abbrev pub scopes_by : ProgramStructure → List ℕ → List (ProcId × LineId)

@@ -4,12 +4,12 @@ use Rattle.std.specs.declared.alloc.Global.{Global}
 use Rattle.atomic_table.specs.Seated.{TableId}
 use Rattle.stripe_table.specs.Limits.{Chunks, IsLimited}
 use Rattle.stripe_table.specs.Ends.{AllFit}
-use Rattle.stripe_table.specs.Views.{times}
+use Rattle.stripe_table.specs.Views.{occurrences}
 use Rattle.stripe_table.specs.declared.stripe.Stripe.{Stripe}
 
 -- a chunk that has no mark is no name
 abbrev pub MarksNames : List Bool → List ℕ → Type 0
-MarksNames marks names = (c : ℕ) → slice_index_or marks c true ≡ false → times c names ≡ 0
+MarksNames marks names = (c : ℕ) → slice_index_or marks c true ≡ false → occurrences c names ≡ 0
 
 -- what holds of the fields of the stripes: 17 words, 16 slots, the plan's chunks, and room for 16 stripes
 pub record IsStripes (table : TableId) (plan : Chunks) (chunks : ℕ) (spare : Vec Stripe Global) : Type 0 where

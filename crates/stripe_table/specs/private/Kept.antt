@@ -9,7 +9,7 @@ use Rattle.stripe_table.specs.declared.view.Hold.TheVariants.{Holds}
 use Rattle.stripe_table.specs.declared.view.Last.TheVariants.{Saw}
 use Rattle.stripe_table.specs.declared.stripe.Stripe.{Stripe}
 use Rattle.stripe_table.specs.Fits.{Fits}
-use Rattle.stripe_table.specs.Views.{total, got, over, splits, joins, first, live, done, holds, owes, spent_view}
+use Rattle.stripe_table.specs.Views.{total, got, over, splits, joins, first, live, done, holds_stripe, owes, spent_view}
 
 -- of the word and the home of the stripe t, with d puts and h holders
 pub record StripeOk (p : Chunks) (t word : ℕ) (home : Option (Option Stripe)) (d h : ℕ) : Type 0 where
@@ -38,7 +38,7 @@ pub record Kept (p : Chunks) (ws : List ℕ) (hs : List (Option Stripe)) (vs : L
   pub ones : total first vs ≡ 1
   pub lives : total live vs + total joins vs ≡ 1 + total splits vs
   pub stripes : (t : ℕ) → t < 16
-      → StripeOk p t (slice_index ws (t + 1)) (get_elem? hs t) (total (done t) vs) (total (holds t) vs)
+      → StripeOk p t (slice_index ws (t + 1)) (get_elem? hs t) (total (done t) vs) (total (holds_stripe t) vs)
   pub seats : (j : ℕ) (v : PassView) → get_elem? vs j ≡ some v → SeatOk p (λ t. total (done t) vs) v
   pub alone : (j : ℕ) (v : PassView) → get_elem? vs j ≡ some v → Alone ws v
 

@@ -42,7 +42,7 @@ puts st m w m' = (s k : ℕ) → m.0.hold ≡ Holds s k
 abbrev pub puts_back : Step Stripe → Sat → ℕ → Sat → Type 0
 puts_back st m w m' = m' ≡ (after_put_back m.0, [])
 
--- put back, since the stripe has the piece's name at its place
+-- put back, since the stripe has the piece's name at its index
 abbrev pub meets : Step Stripe → Sat → ℕ → Sat → Type 0
 meets st m w m' = (s k : ℕ) → m.0.hold ≡ Holds s k
-    → m' ≡ (after_present s (carried m.1).place (slice_index (carried m.1).names (carried m.1).place) m.0, [])
+    → m' ≡ (after_present s (carried m.1).index (slice_index (carried m.1).names (carried m.1).index) m.0, [])

@@ -33,7 +33,7 @@ struct Turns {
     present: u32,
     out_of_memory: u32,
     /// Where its piece was present last.
-    place: u32,
+    index: u32,
     ghost each: { busy + let_go + merged + present + out_of_memory ≡ taken },
 }
 
@@ -48,7 +48,7 @@ impl Turns {
             merged: 0,
             present: 0,
             out_of_memory: 0,
-            place: 0,
+            index: 0,
         }
     }
 
@@ -61,9 +61,9 @@ impl Turns {
             Turn::Busy => self.busy += 1,
             Turn::LetGo => self.let_go += 1,
             Turn::Laid(Laid::Merged) => self.merged += 1,
-            Turn::Laid(Laid::Present { place }) => {
+            Turn::Laid(Laid::Present { place: index }) => {
                 self.present += 1;
-                self.place = place;
+                self.index = index;
             }
             Turn::Laid(Laid::Memory(_)) => self.out_of_memory += 1,
         }
@@ -154,7 +154,7 @@ fn two_threads_at_a_stripe(rt: HostRuntime) -> Result<(), Fail> {
     for (chunk, of) in [(0u32, &of_p), (1, &of_q)] {
         assert_eq!(rt; of.busy + of.let_go + of.merged + of.present, TURNS);
         assert!(rt; of.merged <= 1);
-        assert!(rt; of.present == 0 || set.names(6).get(of.place as usize) == Some(&chunk));
+        assert!(rt; of.present == 0 || set.names(6).get(of.index as usize) == Some(&chunk));
     }
     let merged = of_p.merged + of_q.merged;
     assert_eq!(rt; set.names(6).len(), merged as usize);

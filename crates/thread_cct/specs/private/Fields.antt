@@ -1,7 +1,7 @@
 -- The fields of the tables, and the counted paths that they are.
-use Rattle.std.specs.Prelude.{◌≡◌, ℕ, ◌<◌, ◌≤◌, ◌^◌, List, length, map, All}
+use Rattle.std.specs.Prelude.{◌≡◌, ℕ, ◌<◌, ◌≤◌, ◌^◌, List, [], ◌∷◌, length, map, All, true, false, zero, suc}
 use Rattle.scope_types.specs.declared.frame.Counted.{Counted}
-use Rattle.scope_types.specs.Raw.{Raw}
+use Rattle.scope_types.specs.Raw.{Raw, same_raw}
 use Rattle.scope_types.specs.Distinct.{frames_in, samples_in}
 use Rattle.scope_types.specs.Limits.{most_path_frames, most_samples}
 
@@ -11,6 +11,12 @@ counted_of e = record { path = e.0; count = e.1 }
 
 abbrev pub counted_in : List (Raw × ℕ) → List Counted
 counted_in entries = map counted_of entries
+
+-- the first of the counted paths that is the same as this one stands at this index
+abbrev pub IsPathAt : Raw → List Counted → ℕ → Type 0
+IsPathAt raw [] index = ⊥
+IsPathAt raw (c ∷ counted) zero = same_raw raw c.path ≡ true
+IsPathAt raw (c ∷ counted) (suc index) = (same_raw raw c.path ≡ false) × IsPathAt raw counted index
 
 -- what stands in counted paths of several harts: so many frames, which are few, and some in each path; few samples,
 -- and some of each path

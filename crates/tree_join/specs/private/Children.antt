@@ -18,7 +18,7 @@ flag_at flags i = slice_index_or flags i false
 
 -- a node among its siblings
 abbrev pub sibling_at : List Node → ℕ → Sibling
-sibling_at nodes i = record { slot = slot_at nodes i; scope = (node_at nodes i).scope; place = i }
+sibling_at nodes i = record { slot = slot_at nodes i; scope = (node_at nodes i).scope; index = i }
 
 -- the nodes below k at whose parents' next indices a flag stands
 abbrev pub siblings_below : List Node → List Bool → ℕ → List Sibling
@@ -29,7 +29,7 @@ siblings_below nodes flags (suc k) = if flag_at flags (slot_at nodes k)
 -- siblings together, by their scopes
 abbrev pub sibling_order : Sibling → Sibling → Ordering
 sibling_order a b = ordering_then (nat_cmp a.slot b.slot)
-    (ordering_then (scope_order a.scope b.scope) (nat_cmp a.place b.place))
+    (ordering_then (scope_order a.scope b.scope) (nat_cmp a.index b.index))
 
 -- where no flag stands, the one child is right after its parent
 abbrev pub MarksBranches : List Node → List Bool → Type 0
@@ -41,7 +41,7 @@ pub record Groups (nodes : List Node) (flags : List Bool) (siblings : List Sibli
   pub marks : MarksBranches nodes flags
   pub ascend : AllPairs (λ a b. sibling_order a b ≡ Less) siblings
   pub all : (i : ℕ) → i < length nodes → flag_at flags (slot_at nodes i) ≡ true → Contains siblings (sibling_at nodes i)
-  pub only : All (λ s. (s.place < length nodes) × (s ≡ sibling_at nodes s.place)) siblings
+  pub only : All (λ s. (s.index < length nodes) × (s ≡ sibling_at nodes s.index)) siblings
 
 -- the children of a node, the last sibling first
 pub record AreChildren (nodes : List Node) (parent : ℕ) (kids : List ℕ) : Type 0 where
@@ -54,8 +54,8 @@ abbrev pub group_at : List Sibling → ℕ → List Sibling
 group_at siblings slot = filter (λ s. s.slot == slot) siblings
 
 -- their indices, the last first
-abbrev pub places_down : List Sibling → List ℕ
-places_down group = map (λ s. s.place) (reverse group)
+abbrev pub indices_down : List Sibling → List ℕ
+indices_down group = map (λ s. s.index) (reverse group)
 
 -- the child that stands right after a node
 abbrev pub run_child : List Node → ℕ → List ℕ
@@ -66,4 +66,4 @@ run_child nodes parent =
 -- the children of a node, as they are found
 abbrev pub children_of : List Node → List Bool → List Sibling → ℕ → List ℕ
 children_of nodes flags siblings parent = if flag_at flags (next_index parent)
-    then places_down (group_at siblings (next_index parent)) else run_child nodes parent
+    then indices_down (group_at siblings (next_index parent)) else run_child nodes parent

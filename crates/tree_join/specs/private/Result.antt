@@ -8,15 +8,15 @@ use Rattle.thread_cct.specs.Plan.{CountsSamples}
 use Rattle.tree_types.specs.Database.{node_list}
 use Rattle.tree_types.specs.Nodes.{no_parent}
 use Rattle.tree_types.specs.Tree.{CountedTree, count_at, paths_in}
-use Rattle.path_trie.specs.Trie.{node_of, node_path, count_of}
+use Rattle.path_trie.specs.Trie.{trie_node, nth_path, count_of}
 use Rattle.tree_join.specs.Join.{nodes_of_all}
 
 -- the tree of these entries, for so many harts
 pub record IsTreeOf (parts : List (List Entry)) (harts : ℕ) (tree : CountedTree) : Type 0 where
   pub harts_are : tree.harts ≡ harts
-  pub nodes : tree.nodes ≡ map (node_of (nodes_of_all parts)) (nodes_of_all parts)
+  pub nodes : tree.nodes ≡ map (trie_node (nodes_of_all parts)) (nodes_of_all parts)
   pub counts : (node hart : ℕ) → node < length tree.nodes
-      → count_at tree.counts node hart ≡ sum_by (λ es. count_of es hart (node_path (nodes_of_all parts) node)) parts
+      → count_at tree.counts node hart ≡ sum_by (λ es. count_of es hart (nth_path (nodes_of_all parts) node)) parts
   pub few : length tree.nodes < no_parent
   pub paths : All (CountsSamples harts) (flat_map (λ es. es) parts)
       → Alike (paths_in tree) (each_path (flat_map (λ es. es) parts))

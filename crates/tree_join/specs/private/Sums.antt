@@ -6,7 +6,7 @@ use Rattle.tree_types.specs.declared.counted_tree.NodeCount.{NodeCount}
 use Rattle.tree_types.specs.Nodes.{no_parent}
 use Rattle.tree_types.specs.Tree.{count_order, count_at, counts_in}
 use Rattle.path_trie.specs.declared.trie.PathEnd.{PathEnd}
-use Rattle.path_trie.specs.Trie.{IsPlace}
+use Rattle.path_trie.specs.Trie.{IsIndex}
 use Rattle.tree_join.specs.declared.walker.Walker.{Walker}
 use Rattle.tree_join.specs.private.Walk.{number_at}
 
@@ -26,8 +26,8 @@ abbrev pub all_counts : List Walker → List NodeCount
 all_counts walkers = flat_map (λ w. counts_of w.numbers.items w.ends.now) walkers
 
 -- each end is at a node that may have a number
-abbrev pub HasPlaces : Walker → Type 0
-HasPlaces w = All (λ e. IsPlace e.node (length w.numbers.items)) w.ends.now
+abbrev pub HasIndices : Walker → Type 0
+HasIndices w = All (λ e. IsIndex e.node (length w.numbers.items)) w.ends.now
 
 -- a count with another added
 abbrev pub grown : NodeCount → NodeCount → NodeCount

@@ -14,15 +14,15 @@ use Rattle.tree_types.specs.Nodes.{no_parent}
 use Rattle.tree_types.specs.Paths.{Path}
 use Rattle.tree_types.specs.PathsOf.{tree_paths}
 use Rattle.path_trie.specs.declared.trie.PathEnd.{PathEnd}
-use Rattle.path_trie.specs.Trie.{IsPlace, entry_of, trie_nodes}
+use Rattle.path_trie.specs.Trie.{IsIndex, counted_entry, trie_nodes}
 use Rattle.path_trie.specs.private.Linked.{node_at, next_index, Rooted}
 use Rattle.tree_join.specs.declared.children.Children.{Children}
 use Rattle.tree_join.specs.declared.walker.Walker.{Walker}
 use Rattle.tree_join.specs.private.Children.{Groups, children_of}
 
--- the number that a place has got, or no parent's
+-- the number that an index has got, or no parent's
 abbrev pub number_at : List ℕ → ℕ → ℕ
-number_at numbers place = slice_index_or numbers place no_parent
+number_at numbers index = slice_index_or numbers index no_parent
 
 -- the number of a node's parent
 abbrev pub parent_number_at : List ℕ → ℕ → ℕ
@@ -30,8 +30,8 @@ parent_number_at numbers parent = if parent == no_parent then no_parent else num
 
 -- a node with its parent's number
 abbrev pub renumbered : List Node → List ℕ → ℕ → Node
-renumbered nodes numbers place =
-    record { parent = parent_number_at numbers (node_at nodes place).parent; scope = (node_at nodes place).scope }
+renumbered nodes numbers index =
+    record { parent = parent_number_at numbers (node_at nodes index).parent; scope = (node_at nodes index).scope }
 
 abbrev pub path_of : List Path → ℕ → Path
 path_of paths i = slice_index_or paths i []
@@ -59,14 +59,14 @@ pub record IsBelow (a b : Path) : Type 0 where
   pub rest : Path
   pub is : b ≡ a ++ rest
 
--- a walk over one trie's nodes: the numbers of those that are in order; the stack has the places that are next, the
+-- a walk over one trie's nodes: the numbers of those that are in order; the stack has the indices that are next, the
 -- first at its end, with all that is below them
 pub record Walks (nodes : List Node) (numbers stack : List ℕ) (order : List Node) : Type 0 where
   pub long : length numbers ≡ length nodes
   pub numbered : (q : ℕ) → q < length nodes → number_at numbers q ≢ no_parent
       → (number_at numbers q < length order)
       × (path_of (tree_paths order) (number_at numbers q) ≡ path_of (tree_paths nodes) q)
-  pub places : (j : ℕ) → j < length stack → slice_index_or stack j 0 < length nodes
+  pub indices : (j : ℕ) → j < length stack → slice_index_or stack j 0 < length nodes
   pub parents : (j : ℕ) → j < length stack → (node_at nodes (slice_index_or stack j 0)).parent ≢ no_parent
       → number_at numbers (node_at nodes (slice_index_or stack j 0)).parent ≢ no_parent
   pub ahead : (i j : ℕ) → i < length order → j < length stack
@@ -83,11 +83,11 @@ nodes_in w = w.children.nodes.now
 
 -- the entries of the trie that is walked over
 abbrev pub entries_in : Walker → List Entry
-entries_in w = map (entry_of (tree_paths (nodes_in w))) w.ends.now
+entries_in w = map (counted_entry (tree_paths (nodes_in w))) w.ends.now
 
 abbrev pub next_node : List Node → List ℕ → Option ℕ → Option Node
 next_node nodes numbers None = None
-next_node nodes numbers (Some place) = Some (renumbered nodes numbers place)
+next_node nodes numbers (Some index) = Some (renumbered nodes numbers index)
 
 -- the node that is next, with its parent's number
 abbrev pub head_of : Walker → Option Node
@@ -98,16 +98,16 @@ pub record IsReady (w : Walker) : Type 0 where
   pub groups : Groups (nodes_in w) w.children.flags.items w.children.siblings.items
   pub few : length (nodes_in w) ≤ most_path_scopes
   pub long : length w.numbers.items ≡ length (nodes_in w)
-  pub places : All (λ p. p < length (nodes_in w)) w.stack.items
-  pub before : (i : ℕ) → i < length (nodes_in w) → IsPlace (node_at (nodes_in w) i).parent i
+  pub indices : All (λ p. p < length (nodes_in w)) w.stack.items
+  pub before : (i : ℕ) → i < length (nodes_in w) → IsIndex (node_at (nodes_in w) i).parent i
 
 -- a walk over a trie, of whose nodes those that are numbered stand in order
 pub record WalksTrie (children : Children) (ends : List PathEnd) (numbers stack : List ℕ) (order : List Node)
     : Type 0 where
   pub groups : Groups children.nodes.now children.flags.items children.siblings.items
   pub are : AreNodes children.nodes.now
-  pub nodes_are : tree_paths children.nodes.now ≡ trie_nodes (map (entry_of (tree_paths children.nodes.now)) ends)
-  pub ends_in : All (λ e. IsPlace e.node (length children.nodes.now)) ends
+  pub nodes_are : tree_paths children.nodes.now ≡ trie_nodes (map (counted_entry (tree_paths children.nodes.now)) ends)
+  pub ends_in : All (λ e. IsIndex e.node (length children.nodes.now)) ends
   pub walks : Walks children.nodes.now numbers stack order
 
 abbrev pub IsWalker : List Node → Walker → Type 0
@@ -118,7 +118,7 @@ pub record Walking (parts : List (List Entry)) (walkers : List Walker) (order : 
   pub parts_are : map entries_in walkers ≡ parts
   pub each : All (IsWalker order) walkers
   pub ascend : AllPairs (λ a b. path_order a b ≡ Less) (tree_paths order)
-  pub before : (i : ℕ) → i < length order → IsPlace (node_at order i).parent i
+  pub before : (i : ℕ) → i < length order → IsIndex (node_at order i).parent i
   pub among : (i : ℕ) → i < length order → Contains (flat_map trie_nodes parts) (path_of (tree_paths order) i)
   pub few : length (flat_map trie_nodes parts) ≤ most_path_scopes
 
@@ -128,14 +128,14 @@ abbrev pub node_before : Node → Node → Bool
 node_before a b = nat_lt (next_index b.parent) (next_index a.parent)
     || (next_index b.parent == next_index a.parent && is_lt (scope_order a.scope b.scope))
 
--- the place that is next has got a number, and its children are next
+-- the index that is next has got a number, and its children are next
 pub record Advances (number : ℕ) (w v : Walker) : Type 0 where
   pub rest : List ℕ
-  pub place : ℕ
-  pub popped : w.stack.items ≡ rest ++ place ∷ []
-  pub numbers : v.numbers.items ≡ slice_set w.numbers.items place number
+  pub index : ℕ
+  pub popped : w.stack.items ≡ rest ++ index ∷ []
+  pub numbers : v.numbers.items ≡ slice_set w.numbers.items index number
   pub stack : v.stack.items
-      ≡ rest ++ children_of (nodes_in w) w.children.flags.items w.children.siblings.items place
+      ≡ rest ++ children_of (nodes_in w) w.children.flags.items w.children.siblings.items index
   pub children : v.children ≡ w.children
   pub ends : v.ends ≡ w.ends
 

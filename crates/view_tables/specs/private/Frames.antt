@@ -11,12 +11,12 @@ use Rattle.tree_types.specs.PathsOf.{paths_of}
 use Rattle.tree_types.specs.TopDown.{over_harts}
 use Rattle.tree_types.specs.Tree.{node_at}
 use Rattle.view_tables.specs.declared.frames.Frames.{Frames}
-use Rattle.view_tables.specs.declared.place.View.{View}
-use Rattle.view_tables.specs.declared.place.View.TheVariants.{Callers, Flat}
+use Rattle.view_tables.specs.declared.occurrence.View.{View}
+use Rattle.view_tables.specs.declared.occurrence.View.TheVariants.{Callers, Flat}
 use Rattle.view_tables.specs.Views.{Sample}
 use Rattle.view_tables.specs.Callers.{procs_up}
 use Rattle.view_tables.specs.Flat.{frame_proc}
-use Rattle.view_tables.specs.private.Places.{has_frame, sample_at, content_samples, ups}
+use Rattle.view_tables.specs.private.Occurrences.{has_frame, sample_at, content_samples, ups}
 use Rattle.view_tables.specs.private.Rows.{path_at, total_value}
 
 -- the parent's number
@@ -35,7 +35,7 @@ stops Flat (Call line) = true
 stops Flat (Stmt line) = true
 stops view s = false
 
--- it finds the same from two places up
+-- it finds the same from two occurrences up
 abbrev pub SameProcs : View → Path → Path → Type 0
 SameProcs Callers scopes others = procs_up scopes ≡ procs_up others
 SameProcs Flat scopes others = frame_proc scopes ≡ frame_proc others

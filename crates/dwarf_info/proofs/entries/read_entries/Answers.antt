@@ -1,18 +1,17 @@
-use Rattle.std.proofs.Common.{rules, ◌≡◌, ◌∙◌, sym, length, Err, arith}
+use Rattle.std.proofs.Common.{rules, ◌≡◌, ◌∙◌, sym, Err, arith}
 use Rattle.std.specs.Prelude.{option_to_list}
 use Rattle.dwarf_forms.specs.Runs.{before, run_from}
 use Rattle.dwarf_forms.proofs.Runs.{goes_on, is_done, is_spent, fails_at}
 use Rattle.dwarf_info.specs.Entries.{entry_from, entries_from}
-use Rattle.dwarf_info.proofs.Bodies.{one_more}
 use Rattle.dwarf_info.proofs.entries.read_entries.Goals as goal
 
-pub returns-then-left-eq0-clause-entries : goal.returns-then-left-eq0-clause-entries
-returns-then-left-eq0-clause-entries c =
+pub returns-then-left-eq0 : goal.returns-then-left-eq0
+returns-then-left-eq0 c =
     rw (← c.left-room.ensures) (is_done (entry_from c.args.table.now c.args.«unit») c.loop.entries.items c.left-room.result c.loop.counter c.loop.depth c.loop.reader
     (before c.args.entries.now.items (run_from (entry_from c.args.table.now c.args.«unit») c.left-room.result 0 c.args.reader.now)) c.loop-test.true (search rules) c.loop.invariant.read)
 
-pub returns-in_err-entry-clause-entries : goal.returns-in_err-entry-clause-entries
-returns-in_err-entry-clause-entries c =
+pub returns-in_err-entry : goal.returns-in_err-entry
+returns-in_err-entry c =
     let failed : before c.args.entries.now.items (entries_from c.args.table.now c.args.«unit» c.args.reader.now) ≡ Err c.in_err-entry.field-0.0 =
     rw (← c.left-room.ensures) (fails_at c.in_err-entry.field-0.0 (entry_from c.args.table.now c.args.«unit») c.loop.entries.items c.left-room.result c.loop.counter c.loop.depth c.loop.reader
     (before c.args.entries.now.items (run_from (entry_from c.args.table.now c.args.«unit») c.left-room.result 0 c.args.reader.now)) c.loop-test.true (search rules) (sym c.in_err-entry.ensures.entry) c.loop.invariant.read) in
@@ -24,10 +23,9 @@ loop-preserved c = record {
       (before c.args.entries.now.items (run_from (entry_from c.args.table.now c.args.«unit») c.left-room.result 0 c.args.reader.now)) c.loop-test.true (search rules) (sym c.in_ok-entry.ensures.entry) c.loop.invariant.read);
   whole = c.in_ok-entry.ensures.keeps ∙ c.loop.invariant.whole;
   depth = let a = c.in_ok-entry.ensures.depth in let b = c.loop.invariant.depth in omega arith;
-  few = one_more c.loop.entries.items c.push_some.new.items.items c.in_ok-entry.entry (length c.args.entries.now.items) c.loop.counter c.in_ok-push_some.ensures c.loop.invariant.few;
 }
 
-pub returns-clause-entries : goal.returns-clause-entries
-returns-clause-entries c =
+pub returns : goal.returns
+returns c =
     rw (← c.left-room.ensures) (is_spent (entry_from c.args.table.now c.args.«unit») c.loop.entries.items c.left-room.result c.loop.counter c.loop.depth c.loop.reader
     (before c.args.entries.now.items (run_from (entry_from c.args.table.now c.args.«unit») c.left-room.result 0 c.args.reader.now)) c.loop-test.false c.loop.invariant.read)

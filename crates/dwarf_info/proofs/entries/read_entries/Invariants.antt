@@ -1,4 +1,4 @@
-use Rattle.std.proofs.Common.{◌≡◌, ◌-◌, ◌+◌, ◌≤◌, length}
+use Rattle.std.proofs.Common.{◌≡◌, ◌-◌, ◌≤◌}
 use Rattle.dwarf_forms.specs.Runs.{before, run_from}
 use Rattle.dwarf_info.specs.Entries.{entry_from}
 use Rattle.dwarf_info.proofs.entries.read_entries.Given as goal
@@ -9,5 +9,4 @@ invariant-loop l = record {
       ≡ before l.initial.entries.items (run_from (entry_from l.table l.«unit») l.room 0 l.initial.reader);
   whole : l.reader.at.whole ≡ l.initial.reader.at.whole;
   depth : l.depth ≤ l.counter;
-  few : length l.entries.items ≤ length l.initial.entries.items + l.counter;
 }

@@ -1,7 +1,8 @@
-use Rattle.std.proofs.Common.{◌∙◌, ap, map, arith}
+use Rattle.std.proofs.Common.{◌∙◌, sym, ap, map, subst, length, ℕ, List, arith}
 use Rattle.dwarf_info.specs.Sections.{sections_of}
 use Rattle.dwarf_info.specs.Units.{unit_of}
-use Rattle.dwarf_info.proofs.Rising.{entries_rise}
+use Rattle.dwarf_info.specs.private.Indexed.{AreIndexed}
+use Rattle.dwarf_info.proofs.SetFlags.{set_few}
 use Rattle.dwarf_info.proofs.info.read_info.Goals as goal
 
 pub invariant_of-result : goal.invariant_of-result
@@ -9,7 +10,12 @@ invariant_of-result c = record {
   shown = c.in_ok-units.ensures ∙ ap (map unit_of) c.as_slice.ensures.value;
   are = c.in_ok-bases.ensures.are;
   have = c.in_ok-bases.ensures.have;
-  rises = entries_rise (sections_of c.args.sections) c.in_ok-bases.bases.items c.read_units.new.entries.items c.in_ok-bases.ensures.units c.in_ok-bases.ensures.entries;
-  few = let few = c.in_ok-bases.ensures.few in let small = c.requires.info in omega arith;
+  indexed = subst (λ (os : List ℕ). AreIndexed (sections_of c.args.sections) c.in_ok-bases.bases.items os c.read_units.new.firsts.items) (sym c.in_ok-offsets.ensures) c.in_ok-bases.ensures.indexed;
+  few =
+      let marked = set_few 0 c.starts.inside.flags.items in
+      let few = c.starts.invariant.few in
+      let same = ap length (c.in_ok-offsets.ensures ∙ ap (λ s. s.offsets) (sym c.starts.view_is)) in
+      omega arith;
+  info = c.requires.info;
   lists = c.requires.lists;
 }

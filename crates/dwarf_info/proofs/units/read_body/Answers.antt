@@ -1,11 +1,22 @@
-use Rattle.std.proofs.Common.{arith}
-use Rattle.std.proofs.lemmas.Grind.{common_steps}
+use Rattle.std.proofs.Common.{◌∙◌, length, ap, arith}
+use Rattle.std.proofs.lemmas.List.{length-take}
+use Rattle.prof_bytes.specs.Fields.{Input}
+use Rattle.dwarf_info.specs.declared.fault.InfoFault.{InfoFault}
 use Rattle.dwarf_info.specs.Sections.{sections_of}
-use Rattle.dwarf_info.proofs.Bodies.{body_is}
+use Rattle.dwarf_info.proofs.Marks.{body_is}
 use Rattle.dwarf_info.proofs.units.read_body.Goals as goal
 
 pub returns-clause-read : goal.returns-clause-read
 returns-clause-read c =
-    body_is (sections_of c.args.sections.now) c.args.«unit».0 c.args.«unit».1 c.args.table.now c.args.body.now c.args.entries.now.items c.read_entries.new.entries.items c.as_slice.result.now
-    c.len-from.result c.first_offset.result c.unit_bases.result
-    c.requires.stands c.requires.known c.in_ok-read_entries.ensures.entries (grind (arith, common_steps)) c.as_slice.ensures.value c.first_offset.ensures c.unit_bases.ensures
+    (body_is (sections_of c.args.sections.now) c.args.«unit».0 c.args.«unit».1 c.args.table.now c.args.body.now c.in_ok-offset.offset c.args.starts.now.offsets c.mark_entries.new.starts.offsets c.unit_bases.result
+    c.requires.stands c.requires.known c.in_ok-offset.ensures.entries c.unit_bases.ensures).0
+
+pub returns-clause-marked : goal.returns-clause-marked
+returns-clause-marked c =
+    (body_is (sections_of c.args.sections.now) c.args.«unit».0 c.args.«unit».1 c.args.table.now c.args.body.now c.in_ok-offset.offset c.args.starts.now.offsets c.mark_entries.new.starts.offsets c.unit_bases.result
+    c.requires.stands c.requires.known c.in_ok-offset.ensures.entries c.unit_bases.ensures).1
+
+pub returns-clause-end : goal.returns-clause-end
+returns-clause-end c = λ bound old new.
+    let long = ap (λ (i : Input InfoFault). length i.at.whole) c.requires.stands ∙ length-take c.args.«unit».1.end c.args.sections.now.info.now in
+    c.in_ok-offset.ensures.end bound old (omega arith)

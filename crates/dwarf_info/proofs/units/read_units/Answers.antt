@@ -1,14 +1,13 @@
-use Rattle.std.proofs.Common.{◌∙◌, ◌++◌, [], length, sym, ap, rules, arith}
-use Rattle.std.proofs.lemmas.Grind.{flat_map-append}
+use Rattle.std.proofs.Common.{◌∙◌, ◌+◌, [], length, length-append, sym, ap, rules, arith}
 use Rattle.std.specs.Prelude.{option_to_list}
-use Rattle.std.specs.List.{flat_map}
 use Rattle.prof_bytes.specs.Outcome.{FailsBy}
 use Rattle.dwarf_forms.specs.Runs.{before, run_from}
 use Rattle.dwarf_forms.proofs.Runs.{goes_on, is_done, is_spent, fails_by}
 use Rattle.dwarf_info.specs.Sections.{sections_of}
-use Rattle.dwarf_info.specs.Units.{unit_from, entries_in, info_input, units_of}
+use Rattle.dwarf_info.specs.Units.{unit_from, info_input, units_of}
 use Rattle.dwarf_info.proofs.Bodies.{before_none}
 use Rattle.dwarf_info.proofs.UnitLists.{have_more}
+use Rattle.dwarf_info.proofs.Indexed.{option_few, some_number, indexed_next}
 use Rattle.dwarf_info.proofs.units.read_units.Goals as goal
 
 pub returns-then-left-eq0-clause-units : goal.returns-then-left-eq0-clause-units
@@ -36,11 +35,14 @@ loop-preserved c =
       read = rw (c.in_ok-push_some.ensures) (goes_on step c.loop.units.items (option_to_list c.in_ok-unit.«unit») room c.loop.counter c.loop.index c.in_ok-unit.next c.loop.reader c.read_unit.new.reader (before [] all)
           c.loop-test.true (search rules) c.in_ok-unit.ensures.read c.loop.invariant.read);
       whole = c.in_ok-unit.ensures.whole ∙ c.loop.invariant.whole;
-      index = let a = c.in_ok-unit.ensures.next in let b = c.loop.invariant.index in omega arith;
-      entries = c.in_ok-unit.ensures.entries ∙ ap (λ es. es ++ flat_map (entries_in (sections_of c.args.sections.now)) (option_to_list c.in_ok-unit.«unit»)) c.loop.invariant.entries
-          ∙ sym (flat_map-append (entries_in (sections_of c.args.sections.now)) c.loop.units.items (option_to_list c.in_ok-unit.«unit»))
-          ∙ ap (flat_map (entries_in (sections_of c.args.sections.now))) (sym c.in_ok-push_some.ensures);
-      few = let a = c.in_ok-unit.ensures.few in let b = c.loop.invariant.few in omega arith;
+      index = let a = c.in_ok-unit.ensures.next in let one = option_few c.in_ok-unit.«unit» in let b = c.loop.invariant.index in omega arith;
+      number = c.in_ok-unit.ensures.next ∙ ap (λ n. n + length (option_to_list c.in_ok-unit.«unit»)) c.loop.invariant.number
+          ∙ sym (ap length c.in_ok-push_some.ensures ∙ length-append c.loop.units.items (option_to_list c.in_ok-unit.«unit»));
+      indexed = indexed_next (sections_of c.args.sections.now) c.loop.units.items c.push_some.new.items.items c.loop.starts.offsets c.read_unit.new.starts.offsets c.loop.firsts.items c.push_first.new.firsts.items
+          c.in_ok-unit.«unit» c.count-first.result c.loop.invariant.indexed c.in_ok-unit.ensures.marked
+          (some_number c.in_ok-unit.«unit» c.loop.index (length c.loop.units.items) c.loop.invariant.number c.in_ok-unit.ensures.number) c.count-first.ensures c.in_ok-push_some.ensures c.in_ok-push_first.ensures;
+      bytes = c.in_ok-unit.ensures.bytes ∙ c.loop.invariant.bytes;
+      behind = c.in_ok-unit.ensures.behind;
       are = c.in_ok-unit.ensures.are;
       have = rw (c.in_ok-push_some.ensures) (have_more c.loop.tables c.read_unit.new.tables c.loop.units.items c.in_ok-unit.«unit» c.in_ok-unit.ensures.keep c.loop.invariant.have c.in_ok-unit.ensures.has);
     }

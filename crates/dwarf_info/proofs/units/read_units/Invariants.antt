@@ -1,9 +1,8 @@
-use Rattle.std.proofs.Common.{◌≡◌, ◌-◌, ◌+◌, ◌≤◌, [], length}
-use Rattle.std.specs.List.{flat_map}
-use Rattle.prof_bytes.specs.Reading.{left_of}
+use Rattle.std.proofs.Common.{◌≡◌, ◌-◌, ◌≤◌, [], length}
 use Rattle.dwarf_forms.specs.Runs.{before, run_from}
 use Rattle.dwarf_info.specs.Sections.{sections_of}
-use Rattle.dwarf_info.specs.Units.{unit_from, entries_in, info_input}
+use Rattle.dwarf_info.specs.Units.{unit_from, info_input}
+use Rattle.dwarf_info.specs.private.Indexed.{AreIndexed}
 use Rattle.dwarf_info.specs.private.Tables.{AreTables, HaveTables}
 use Rattle.dwarf_info.proofs.units.read_units.Given as goal
 
@@ -13,8 +12,10 @@ invariant-loop l = record {
       ≡ before [] (run_from (unit_from (sections_of l.sections)) l.room 0 (info_input (sections_of l.sections)));
   whole : l.reader.at.whole ≡ l.sections.info.now;
   index : l.index ≤ l.counter;
-  entries : l.entries.items ≡ flat_map (entries_in (sections_of l.sections)) l.units.items;
-  few : length l.entries.items + length (left_of l.reader.at) ≤ length l.sections.info.now;
+  number : l.index ≡ length l.units.items;
+  indexed : AreIndexed (sections_of l.sections) l.units.items l.starts.offsets l.firsts.items;
+  bytes : l.starts.bytes ≡ length l.sections.info.now;
+  behind : l.starts.end ≤ l.reader.at.offset;
   are : AreTables l.sections.«abbrev».now l.tables;
   have : HaveTables l.tables l.units.items;
 }

@@ -1,19 +1,19 @@
 use Rattle.std.proofs.Common.{◌+◌, ◌*◌, ◌/◌, ◌&&◌, ◌∙◌, sym, refl}
 use Rattle.std.specs.Prelude.{is_none}
 use Rattle.elf_image.specs.Fields.{text_in}
-use Rattle.elf_image.specs.Headers.{symbol_at, is_function}
+use Rattle.elf_image.specs.Headers.{symbol_entry, is_function}
 use Rattle.elf_image.specs.Refusals.{nameless_function}
 use Rattle.elf_image.proofs.Tables.{found_at, none_more}
 use Rattle.elf_image.proofs.symbol.nameless_function.Goals as goal
 
 pub loop-k-preserved : goal.loop-k-preserved
 loop-k-preserved c =
-    none_more (λ s. is_function c.args.loaded.now s && is_none (text_in c.args.names.now s.st_name)) (λ k. symbol_at c.args.file.now (c.args.table.now.sh_offset + 16 * k)) c.loop-k.k c.symbol_at-symbol.result
-    c.loop-k.invariant c.symbol_at-symbol.ensures (sym c.is_nameless.ensures ∙ c.if-is_nameless.false)
+    none_more (λ s. is_function c.args.loaded.now s && is_none (text_in c.args.names.now s.st_name)) (λ k. symbol_entry c.args.file.now (c.args.table.now.sh_offset + 16 * k)) c.loop-k.k c.symbol_entry-symbol.result
+    c.loop-k.invariant c.symbol_entry-symbol.ensures (sym c.is_nameless.ensures ∙ c.if-is_nameless.false)
 
 pub returns-then-is_nameless : goal.returns-then-is_nameless
 unfolding nameless_function
 returns-then-is_nameless c =
-    let found = found_at (λ s. is_function c.args.loaded.now s && is_none (text_in c.args.names.now s.st_name)) (λ k. symbol_at c.args.file.now (c.args.table.now.sh_offset + 16 * k)) c.loop-k.k (c.args.table.now.sh_size / 16) c.symbol_at-symbol.result
-    c.loop-k.invariant c.loop-k-test.true c.symbol_at-symbol.ensures (sym c.is_nameless.ensures ∙ c.if-is_nameless.true) in
+    let found = found_at (λ s. is_function c.args.loaded.now s && is_none (text_in c.args.names.now s.st_name)) (λ k. symbol_entry c.args.file.now (c.args.table.now.sh_offset + 16 * k)) c.loop-k.k (c.args.table.now.sh_size / 16) c.symbol_entry-symbol.result
+    c.loop-k.invariant c.loop-k-test.true c.symbol_entry-symbol.ensures (sym c.is_nameless.ensures ∙ c.if-is_nameless.true) in
     rw (← c.requires.loaded, ← c.requires.names, found) refl

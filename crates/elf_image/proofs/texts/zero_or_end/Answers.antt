@@ -5,4 +5,4 @@ use Rattle.elf_image.proofs.Ends.{pol_at}
 use Rattle.elf_image.proofs.texts.zero_or_end.Goals as goal
 
 pub returns-then-byte-eq0-clause-zero : goal.returns-then-byte-eq0-clause-zero
-returns-then-byte-eq0-clause-zero c = sym (pol_at is_zero c.args.bytes.now c.loop-place.place 0 c.loop-place.invariant c.loop-place-test.true (grind (arith, nat_tests, c.if-byte-eq0.true)))
+returns-then-byte-eq0-clause-zero c = sym (pol_at is_zero c.args.bytes.now c.loop-index.index 0 c.loop-index.invariant c.loop-index-test.true (grind (arith, nat_tests, c.if-byte-eq0.true)))

@@ -12,11 +12,8 @@ returns-in_err-merged g c samples are own =
     let p = err_from_is_err_and c.from_residual.result c.from_residual.ensures.1 in
     rw (p.1, p.2) (refused_attribution c.args.merge.now.period (attributed (length c.args.ccts.now) (naming_of c.args.finder.now) (call_path (found_at c.args.finder.now)) samples) _ (c.in_err-merged.ensures.merged samples are own))
 
-pub write_db-requires : goal.write_db-requires
-write_db-requires g c = c.profiles_are_writable.ensures c.in_ok-merged.merged.content c.in_ok-merged.ensures.profile
-
 pub returns : goal.returns
 returns g c samples are own =
     let by = merging (g.C.Crews.gives c.args.merge.now.crews.now) (g.C.Crews.whole c.args.merge.now.crews.now) c.args.merge.now.workers in
     attribution_is by c.args.merge.now.period c.counts_decide.ensures.content c.counts_decide.ensures.table (attributed (length c.args.ccts.now) (naming_of c.args.finder.now) (call_path (found_at c.args.finder.now)) samples) c.in_ok-merged.merged _
-    (c.in_ok-merged.ensures.merged samples are own) c.requires.whole c.in_ok-stored.ensures c.in_ok-text.ensures
+    (c.in_ok-merged.ensures.merged samples are own) c.requires.whole c.in_ok-stored.ensures.0 c.in_ok-stored.ensures.1

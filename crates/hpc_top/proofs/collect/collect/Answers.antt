@@ -1,9 +1,9 @@
-use Rattle.std.proofs.Common.{◌≡◌, ◌++◌, ◌∷◌, [], length}
+use Rattle.std.proofs.Common.{◌≡◌, ◌++◌, ◌∷◌, [], length, sym, subst}
 use Rattle.std.proofs.lemmas.Result.{err_from_is_err_and}
-use Rattle.sample_clock.specs.Clock.{Given}
+use Rattle.sample_clock.specs.Clock.{Sampling, Given}
 use Rattle.scope_types.specs.Distinct.{distinct}
 use Rattle.hpc_top.specs.Samples.{hart_raw}
-use Rattle.hpc_top.proofs.Collecting.{so_far_first, so_far_hart, so_far_room, so_far_counts, so_far_more, so_far_refused, so_far_over, so_far_stops, given_by, over_by}
+use Rattle.hpc_top.proofs.Collecting.{SoFar, so_far_first, so_far_hart, so_far_room, so_far_counts, so_far_more, so_far_refused, so_far_over, so_far_stops, given_by, over_by}
 use Rattle.hpc_top.proofs.collect.collect.Goals as goal
 
 pub loop-sample-init : goal.loop-sample-init
@@ -33,9 +33,10 @@ loop-sample-preserved g c =
     let given : Given (g.U.Unwind.path_of c.args.unwinder.now) c.in-Ok-Some.sample c.loop-sample.samples c.next_sample.new.samples =
     given_by (g.U.Unwind.path_of c.args.unwinder.now) c.in-Ok-Some.field-0 c.in-Ok-Some.sample c.loop-sample.samples c.next_sample.new.samples c.in-Ok-Some.field-0-is c.in-Ok-Some.ensures.answer in
     let many : length (distinct c.args.harts c.loop-sample.invariant.done) ≡ c.args.harts = c.samples_are_counted.ensures.harts c.args.harts c.loop-sample.invariant.done in
-    so_far_more (g.U.Unwind.path_of c.args.unwinder.now) c.args.harts c.args.samples.now c.loop-sample.samples c.next_sample.new.samples c.loop-sample.ccts c.loop-sample.invariant c.in-Ok-Some.sample given many c.count_sample.new.ccts c.in-Ok-Some.ensures.last
+    subst (λ (s : Sampling). SoFar (g.U.Unwind.path_of c.args.unwinder.now) c.args.harts c.args.samples.now s c.count_sample.new.ccts) (sym c.take_back.ensures)
+    (so_far_more (g.U.Unwind.path_of c.args.unwinder.now) c.args.harts c.args.samples.now c.loop-sample.samples c.next_sample.new.samples c.loop-sample.ccts c.loop-sample.invariant c.in-Ok-Some.sample given many c.count_sample.new.ccts c.in-Ok-Some.ensures.last
     (c.in_ok-count_sample-in-Ok-Some.ensures.counts c.loop-sample.invariant.done (so_far_counts (g.U.Unwind.path_of c.args.unwinder.now) c.args.harts c.args.samples.now c.loop-sample.samples c.next_sample.new.samples c.loop-sample.ccts c.loop-sample.invariant c.in-Ok-Some.sample given many))
-    c.in_ok-count_sample-in-Ok-Some.ensures.samples
+    c.in_ok-count_sample-in-Ok-Some.ensures.samples)
 
 pub returns-in_err-count_sample-in-Ok-Some : goal.returns-in_err-count_sample-in-Ok-Some
 returns-in_err-count_sample-in-Ok-Some g c =

@@ -12,18 +12,14 @@ returns-in_err-merged g c samples are all own =
     let p = err_from_is_err_and c.from_residual.result c.from_residual.ensures.1 in
     rw (p.1, p.2) (refused_profile (length c.args.ccts.now) (naming_of c.args.finder.now) (call_path (found_at c.args.finder.now)) c.args.machine.now.state samples _ (c.in_err-merged.ensures.merged samples are own))
 
-pub write_db-requires : goal.write_db-requires
-write_db-requires g c = c.profiles_are_writable.ensures c.in_ok-merged.merged.content c.in_ok-merged.ensures.profile
-
 pub returns : goal.returns
 returns g c samples are all own =
     let by = merging (g.C.Crews.gives c.args.merge.now.crews.now) (g.C.Crews.whole c.args.merge.now.crews.now) c.args.merge.now.workers in
     let run : RunProfile = record {
       merged = c.in_ok-merged.merged;
-      database = c.in_ok-database.database;
       lines = c.in_ok-lines.lines;
       samples = c.all_samples.result;
       retired = c.all_retired.result;
     } in
     run_is by c.args.merge.now.period (length c.args.ccts.now) (naming_of c.args.finder.now) (call_path (found_at c.args.finder.now)) c.args.machine.now.state c.args.ccts.now samples are c.samples_are_counted.ensures.each refl all run
-    (c.in_ok-merged.ensures.merged samples are own) c.in_ok-merged.ensures.profile c.in_ok-database.ensures c.in_ok-lines.ensures c.all_samples.ensures.all c.all_retired.ensures
+    (c.in_ok-merged.ensures.merged samples are own) c.in_ok-merged.ensures.profile c.in_ok-lines.ensures c.all_samples.ensures.all c.all_retired.ensures

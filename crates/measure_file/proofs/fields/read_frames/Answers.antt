@@ -1,7 +1,8 @@
 use Rattle.std.proofs.Common.{rules, ◌≡◌, Err, []}
-use Rattle.measure_file.specs.Fields.{times}
+use Rattle.prof_bytes.specs.Repeated.{times}
 use Rattle.measure_file.specs.Reading.{frame_from}
-use Rattle.measure_file.proofs.Repeated.{goes_on, fails_at, ends, frame_read, frame_fails, one_more}
+use Rattle.prof_bytes.proofs.Repeated.{goes_on, fails_at, ends}
+use Rattle.measure_file.proofs.FrameSteps.{frame_read, frame_fails, one_more}
 use Rattle.measure_file.proofs.fields.read_frames.Goals as goal
 
 pub returns-in_err-pc-clause-read : goal.returns-in_err-pc-clause-read

@@ -1,5 +1,5 @@
 use Rattle.std.proofs.Common.{◌≡◌, ◌-◌, [], length}
-use Rattle.measure_file.specs.Fields.{times}
+use Rattle.prof_bytes.specs.Repeated.{times}
 use Rattle.measure_file.specs.Reading.{frame_from}
 use Rattle.measure_file.proofs.fields.read_frames.Given as goal
 

@@ -1,5 +1,5 @@
 use Rattle.std.proofs.Common.{◌≡◌, ◌-◌, length}
-use Rattle.measure_file.specs.Fields.{times}
+use Rattle.prof_bytes.specs.Repeated.{times}
 use Rattle.measure_file.specs.Reading.{path_from}
 use Rattle.measure_file.proofs.read.read_paths.Given as goal
 

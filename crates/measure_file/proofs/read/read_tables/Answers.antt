@@ -1,8 +1,8 @@
 use Rattle.std.proofs.Common.{rules, ◌∙◌}
 use Rattle.prof_bytes.specs.Outcome.{FailsBy}
-use Rattle.measure_file.specs.Fields.{times}
+use Rattle.prof_bytes.specs.Repeated.{times}
 use Rattle.measure_file.specs.Reading.{hart_from}
-use Rattle.measure_file.proofs.Repeated.{goes_on, fails_by, ends}
+use Rattle.prof_bytes.proofs.Repeated.{goes_on, fails_by, ends}
 use Rattle.measure_file.proofs.read.read_tables.Goals as goal
 
 pub returns-in_err-read_hart : goal.returns-in_err-read_hart

@@ -10,9 +10,9 @@ loop-entry-preserved c =
     let p = c.put_path-node.ensures in
     record {
       linked = p.linked;
-      places = places_more _ _ _ _ _ [] _ _ [] _ _ _ _ l.linked p.linked l.places p.extends c.loop-entry-test.true c.entry-item.is c.scopes.ensures all p.place;
-      entries = entries_more _ _ _ _ _ [] _ _ _ _ _ _ _ l.linked p.linked l.places p.extends c.loop-entry-test.true c.entry-item.is c.scopes.ensures all l.entries p.path;
-      paths = paths_more _ _ _ _ _ _ _ _ [] _ _ _ _ l.linked p.linked l.places p.extends c.loop-entry-test.true c.entry-item.is c.scopes.ensures all l.paths p.paths;
+      indices = places_more _ _ _ _ _ [] _ _ [] _ _ _ _ l.linked p.linked l.indices p.extends c.loop-entry-test.true c.entry-item.is c.scopes.ensures all p.index;
+      entries = entries_more _ _ _ _ _ [] _ _ _ _ _ _ _ l.linked p.linked l.indices p.extends c.loop-entry-test.true c.entry-item.is c.scopes.ensures all l.entries p.path;
+      paths = paths_more _ _ _ _ _ _ _ _ [] _ _ _ _ l.linked p.linked l.indices p.extends c.loop-entry-test.true c.entry-item.is c.scopes.ensures all l.paths p.paths;
       len = scopes_more _ _ _ _ _ _ _ c.loop-entry-test.true c.entry-item.is c.scopes.ensures l.len p.len;
       capacity = search rules;
       branch_room = search rules;
@@ -22,5 +22,5 @@ loop-entry-preserved c =
 
 pub returns-clause-fits : goal.returns-clause-fits
 returns-clause-fits c =
-    fits_all _ _ _ _ _ _ _ _ c.loop-entry-test.false c.requires.fits c.loop-entry.invariant.linked c.loop-entry.invariant.places c.loop-entry.invariant.entries c.loop-entry.invariant.paths
+    fits_all _ _ _ _ _ _ _ _ c.loop-entry-test.false c.requires.fits c.loop-entry.invariant.linked c.loop-entry.invariant.indices c.loop-entry.invariant.entries c.loop-entry.invariant.paths
     c.loop-entry.invariant.len c.requires.nodes c.requires.samples

@@ -4,7 +4,7 @@ use Rattle.prof_db.specs.Fields.{fault}
 use Rattle.prof_db.specs.ValueRules.{entry_at, entry_breaks, entry_samples}
 use Rattle.prof_db.proofs.Exclusive.{passed_sum}
 use Rattle.prof_db.proofs.Broken.{failed}
-use Rattle.prof_db.proofs.Repeated.{all_pass, breaks_at, passes_on}
+use Rattle.prof_db.proofs.FirstBroken.{all_pass, breaks_at, passes_on}
 use Rattle.prof_db.proofs.entry_rules.judge_entries.Goals as goal
 
 pub returns-then-entry_is_broken : goal.returns-then-entry_is_broken

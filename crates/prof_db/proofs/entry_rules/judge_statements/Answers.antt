@@ -5,7 +5,7 @@ use Rattle.prof_db.specs.NameRules.{is_among}
 use Rattle.tree_types.specs.Tree.{node_at}
 use Rattle.prof_db.specs.ValueRules.{statement_breaks}
 use Rattle.prof_db.proofs.Broken.{lacking_is, failed}
-use Rattle.prof_db.proofs.Repeated.{all_pass, breaks_at, passes_on}
+use Rattle.prof_db.proofs.FirstBroken.{all_pass, breaks_at, passes_on}
 use Rattle.prof_db.proofs.entry_rules.judge_statements.Goals as goal
 
 pub returns-then-lacks_samples : goal.returns-then-lacks_samples

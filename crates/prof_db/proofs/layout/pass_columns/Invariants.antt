@@ -1,5 +1,5 @@
 use Rattle.std.proofs.Common.{◌≡◌, ◌-◌}
-use Rattle.prof_db.specs.Fields.{times}
+use Rattle.prof_bytes.specs.Repeated.{times}
 use Rattle.prof_db.specs.Layout.{past_column}
 use Rattle.prof_db.proofs.layout.pass_columns.Given as goal
 

@@ -1,7 +1,7 @@
 use Rattle.std.proofs.Common.{rules, ◌≡◌, Err}
-use Rattle.prof_db.specs.Fields.{times}
+use Rattle.prof_bytes.specs.Repeated.{times}
 use Rattle.prof_db.specs.Layout.{past_entry}
-use Rattle.prof_db.proofs.Repeated.{goes_on, fails_at, ends}
+use Rattle.prof_bytes.proofs.Repeated.{goes_on, fails_at, ends}
 use Rattle.prof_db.proofs.layout.pass_entries.Goals as goal
 
 pub returns-in_err-pass_entry : goal.returns-in_err-pass_entry

@@ -1,8 +1,8 @@
 use Rattle.std.proofs.Common.{rules, []}
 use Rattle.prof_bytes.specs.Outcome.{FailsBy}
-use Rattle.prof_db.specs.Fields.{times}
+use Rattle.prof_bytes.specs.Repeated.{times}
 use Rattle.prof_db.specs.Layout.{column_from}
-use Rattle.prof_db.proofs.Repeated.{goes_on, fails_by, ends}
+use Rattle.prof_bytes.proofs.Repeated.{goes_on, fails_by, ends}
 use Rattle.prof_db.proofs.layout.read_columns.Goals as goal
 
 pub returns-in_err-read_column : goal.returns-in_err-read_column

@@ -1,5 +1,5 @@
 use Rattle.std.proofs.Common.{◌≡◌, ◌-◌, []}
-use Rattle.prof_db.specs.Fields.{times}
+use Rattle.prof_bytes.specs.Repeated.{times}
 use Rattle.prof_db.specs.Layout.{column_from}
 use Rattle.prof_db.proofs.layout.read_columns.Given as goal
 

@@ -1,7 +1,7 @@
 use Rattle.std.proofs.Common.{rules, ◌≡◌, Err}
-use Rattle.prof_db.specs.Fields.{adding, times}
+use Rattle.prof_bytes.specs.Repeated.{adding, times}
 use Rattle.prof_db.specs.Layout.{entry_from}
-use Rattle.prof_db.proofs.Repeated.{goes_on, fails_at, ends, added, not_added}
+use Rattle.prof_bytes.proofs.Repeated.{goes_on, fails_at, ends, added, not_added}
 use Rattle.prof_db.proofs.layout.read_entries.Goals as goal
 
 pub returns-in_err-e : goal.returns-in_err-e

@@ -1,8 +1,8 @@
 use Rattle.std.proofs.Common.{rules, []}
 use Rattle.prof_bytes.specs.Outcome.{FailsBy}
-use Rattle.prof_db.specs.Fields.{adding, times}
+use Rattle.prof_bytes.specs.Repeated.{adding, times}
 use Rattle.prof_db.specs.Layout.{file_from}
-use Rattle.prof_db.proofs.Repeated.{goes_on, fails_by, ends, added, not_added_by}
+use Rattle.prof_bytes.proofs.Repeated.{goes_on, fails_by, ends, added, not_added_by}
 use Rattle.prof_db.proofs.layout.read_files.Goals as goal
 
 pub returns-in_err-f : goal.returns-in_err-f

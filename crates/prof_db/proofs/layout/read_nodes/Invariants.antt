@@ -1,5 +1,5 @@
 use Rattle.std.proofs.Common.{◌≡◌, ◌-◌, []}
-use Rattle.prof_db.specs.Fields.{adding, times}
+use Rattle.prof_bytes.specs.Repeated.{adding, times}
 use Rattle.prof_db.specs.Layout.{node_from}
 use Rattle.prof_db.proofs.layout.read_nodes.Given as goal
 

@@ -2,7 +2,7 @@ use Rattle.std.proofs.Common.{◌<◌, ◌≤◌, length, sym, ap, ◌∙◌, ar
 use Rattle.prof_db.specs.Fields.{fault}
 use Rattle.prof_db.specs.NameRules.{is_among, file_at, file_breaks, file_is_wrong}
 use Rattle.prof_db.proofs.Broken.{broken_is, failed}
-use Rattle.prof_db.proofs.Repeated.{all_pass, breaks_at, passes_on}
+use Rattle.prof_db.proofs.FirstBroken.{all_pass, breaks_at, passes_on}
 use Rattle.prof_db.proofs.name_rules.judge_files.Goals as goal
 
 pub returns-then-is_broken : goal.returns-then-is_broken

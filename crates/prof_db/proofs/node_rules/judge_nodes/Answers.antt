@@ -4,7 +4,7 @@ use Rattle.prof_db.specs.Fields.{fault}
 use Rattle.prof_db.specs.NameRules.{is_among}
 use Rattle.prof_db.specs.NodeRules.{is_statement, node_breaks, node_is_wrong, parents_of, raw_node_at}
 use Rattle.prof_db.proofs.Broken.{broken_is, either_is, failed}
-use Rattle.prof_db.proofs.Repeated.{all_pass, breaks_at, passes_on}
+use Rattle.prof_db.proofs.FirstBroken.{all_pass, breaks_at, passes_on}
 use Rattle.prof_db.proofs.node_rules.judge_nodes.Goals as goal
 
 pub returns-then-is_broken : goal.returns-then-is_broken

@@ -1,28 +1,14 @@
-use Rattle.std.proofs.Common.{◌+◌, sym, ap, ◌∙◌}
-use Rattle.std.proofs.Common.{length}
-use Rattle.elf_image.specs.declared.elf.TheConstants.{PF_W}
-use Rattle.rv_hart.specs.AddressSpace.{may}
+use Rattle.std.proofs.Common.{ap, ◌∙◌}
+use Rattle.rv_hart.specs.AddressSpace.{stored}
 use Rattle.rv_hart.specs.declared.paged_memory.PagedMemory.{PagedMemory}
-use Rattle.rv_hart.proofs.Near.{all-each}
-use Rattle.rv_hart.proofs.Whole.{granted-whole, stored-paged, after-same, regions-same}
+use Rattle.rv_hart.specs.private.Paging.{memory_of}
+use Rattle.rv_hart.proofs.Whole.{stored-paged, regions-same}
 use Rattle.rv_hart.proofs.access.store_apart.Goals as goal
 
-pub make_all-requires-clause-low : goal.make_all-requires-clause-low
-make_all-requires-clause-low c =
-    granted-whole c.args.paged.now PF_W c.args.at (length c.args.bytes.now) c.requires (sym c.all_granted.ensures ∙ c.if-not-all_granted.false) c.ranges.at.fits
-
-pub put_all-requires-clause-low : goal.put_all-requires-clause-low
-put_all-requires-clause-low c =
-    granted-whole c.args.paged.now PF_W c.args.at (length c.args.bytes.now) c.requires (sym c.all_granted.ensures ∙ c.if-not-all_granted.false) c.ranges.at.fits
-
-pub returns-clause-ok : goal.returns-clause-ok
-returns-clause-ok c =
-    stored-paged c.args.paged.now c.put_all.new.self c.args.at c.args.bytes.now
-    (regions-same c.args.paged.now c.make_all.new.self c.in_ok-make_all.ensures.rest ∙ regions-same c.make_all.new.self c.put_all.new.self c.put_all.ensures.rest)
-    (sym c.all_granted.ensures ∙ c.if-not-all_granted.false)
-    (λ a. c.put_all.ensures.values a ∙ after-same c.args.paged.now c.make_all.new.self c.args.at c.args.bytes.now c.in_ok-make_all.ensures.values a)
-
-pub put_all-requires-clause-granted : goal.put_all-requires-clause-granted
-put_all-requires-clause-granted c i few =
-    ap (λ (k : PagedMemory). may PF_W k.regions (c.args.at + i)) c.in_ok-make_all.ensures.rest
-    ∙ all-each (may PF_W c.args.paged.now.regions) c.args.at (length c.args.bytes.now) i (sym c.all_granted.ensures ∙ c.if-not-all_granted.false) few
+pub returns-then-write_near-clause-ok : goal.returns-then-write_near-clause-ok
+returns-then-write_near-clause-ok c =
+    stored-paged c.remember.new.self c.write_near.new.self c.args.at c.args.bytes.now
+    (regions-same c.remember.new.self c.write_near.new.self c.write_near.ensures.rest)
+    (c.write_near.ensures.granted c.if-write_near.true)
+    (c.write_near.ensures.values c.if-write_near.true)
+    ∙ ap (λ (p : PagedMemory). stored (memory_of p) c.args.at c.args.bytes.now) c.remember.ensures

@@ -11,7 +11,7 @@ returns-in-Some-clause-memo c = rw c.get.follows.holds-at-none (fits_promoted _ 
 pub returns-in-Some-clause-scopes : goal.returns-in-Some-clause-scopes
 returns-in-Some-clause-scopes c =
     let hit = fits_hit c.args.finder.now c.args.memo.now c.args.pc c.in-Some.found.now c.requires (sym c.in-Some.ensures.value) in
-    subst (λ (found : FoundAt). OnOk c.put_found.result (c.put_found.new.scopes.items ≡ c.args.scopes.now.items ++ frame_scopes (last_scope c.args.standing) found)) hit c.put_found.ensures
+    subst (λ (found : FoundAt). OnOk c.put_found.result (c.put_found.new.scopes.items ≡ c.args.scopes.now.items ++ frame_scopes (last_scope c.args.kind) found)) hit c.put_found.ensures
 
 pub returns-in_err-found-clause-memo : goal.returns-in_err-found-clause-memo
 returns-in_err-found-clause-memo c = rw c.get.follows.holds-at-none (fits_promoted _ _ (eqb c.args.pc) c.requires)

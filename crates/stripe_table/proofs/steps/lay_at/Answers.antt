@@ -22,7 +22,7 @@ put_longer-requires c = let h = c.requires.held in let x = h.0 in let e = c.in-A
 
 pub put_present-requires : goal.put_present-requires
 put_present-requires c = let h = c.requires.held in let x = h.0 in let e = c.in-There.ensures in let q = e.slot x h.1.2 in let n = q.2 in let same = e.same in let plan = c.requires.plan in
-    let f = pointed _ _ _ _ x q.0 h.2 n.3 in let at : q.0.place ≡ c.in-There.place = ap (λ (z : Stripe). z.place) n.3 in (
+    let f = pointed _ _ _ _ x q.0 h.2 n.3 in let at : q.0.index ≡ c.in-There.index = ap (λ (z : Stripe). z.index) n.3 in (
       plan.1.stripe,
       (let a = n.0 in let few = fits_few _ _ _ _ h.2 in let l = plan.0.chunks in let z : c.in-There.count < 4294967296 = omega arith in z),
       (q.0, ready _ _ _ _ _ _ x q.0 h.1 same.0 same.1 q.1 n.0, subst (λ (z : Chunks × ℕ). Fits z.0 c.args.piece.now.stripe z.1 q.0) (λ i. ((sym same.1 i).plan, sym n.0 i)) f, (let a = n.0 in let b = n.1 in omega arith)),
@@ -45,5 +45,5 @@ returns-in-Added c = let e = c.in-Added.ensures in let same = e.same in let z = 
 pub returns-in-There : goal.returns-in-There
 returns-in-There c = let e = c.in-There.ensures in let same = e.same in let z = c.put_present.ensures in (
   (z.0.0 ∙ same.0.0, z.0.1 ∙ same.0.1),
-  λ x at. let q = e.slot x at in let n = q.2 in z.1 q.0 q.1 ∙ λ i. let m : Me Stripe PassView = (after_present c.args.piece.now.stripe (n.3 i).place ((ap (λ (y : Stripe). get_or y.names y.place 0) n.3 ∙ n.2) i) (same.1 i), []) in m,
+  λ x at. let q = e.slot x at in let n = q.2 in z.1 q.0 q.1 ∙ λ i. let m : Me Stripe PassView = (after_present c.args.piece.now.stripe (n.3 i).index ((ap (λ (y : Stripe). get_or y.names y.index 0) n.3 ∙ n.2) i) (same.1 i), []) in m,
 )

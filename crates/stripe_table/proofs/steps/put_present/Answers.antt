@@ -14,5 +14,5 @@ pub returns : goal.returns
 returns c = let e = c.store.ensures in (
   (e.0, e.1),
   λ x at. e.2 c.args.stripe c.args.count c.requires.2.1.1
-      ∙ ap (λ (cs : List (ℕ × Stripe)). let m : Me Stripe PassView = (after_present c.args.stripe (carried cs).place (slice_index (carried cs).names (carried cs).place) c.args.seat.now.me.0, []) in m) at,
+      ∙ ap (λ (cs : List (ℕ × Stripe)). let m : Me Stripe PassView = (after_present c.args.stripe (carried cs).index (slice_index (carried cs).names (carried cs).index) c.args.seat.now.me.0, []) in m) at,
 )

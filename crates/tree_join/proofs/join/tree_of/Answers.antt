@@ -4,8 +4,8 @@ use Rattle.tree_join.proofs.join.tree_of.Goals as goal
 pub walk-requires : goal.walk-requires
 walk-requires c = begin _ c.requires.each c.requires.nodes
 
-pub summed-requires-clause-places : goal.summed-requires-clause-places
-summed-requires-clause-places c = have_places _ _ _ c.in_ok-nodes.ensures.walking
+pub summed-requires-clause-indices : goal.summed-requires-clause-indices
+summed-requires-clause-indices c = have_places _ _ _ c.in_ok-nodes.ensures.walking
 
 pub summed-requires-clause-few : goal.summed-requires-clause-few
 summed-requires-clause-few c = few_samples _ _ _ c.in_ok-nodes.ensures.walking c.requires.samples

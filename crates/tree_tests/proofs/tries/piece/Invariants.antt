@@ -1,10 +1,10 @@
 use Rattle.std.proofs.Common.{◌*◌, ◌≤◌, ◌<◌, All}
-use Rattle.path_trie.specs.Trie.{samples_of, scopes_of}
+use Rattle.path_trie.specs.Trie.{samples_of, entry_scopes}
 use Rattle.tree_tests.proofs.tries.piece.Given as goal
 
 abbrev pub invariant-loop-row : goal.invariant-loop-row
 invariant-loop-row l = record {
   samples : samples_of l.entries.items ≤ 100 * l.row-index;
-  scopes : scopes_of l.entries.items ≤ 16 * l.row-index;
+  scopes : entry_scopes l.entries.items ≤ 16 * l.row-index;
   harts : All (λ e. 0 < e.count → e.hart < 3) l.entries.items;
 }

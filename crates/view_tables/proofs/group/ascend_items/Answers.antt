@@ -1,5 +1,5 @@
 use Rattle.std.proofs.Common.{rules}
-use Rattle.view_tables.specs.private.Places.{item_seen}
+use Rattle.view_tables.specs.private.Occurrences.{item_seen}
 use Rattle.view_tables.proofs.SortedSeen.{sorted_seen}
 use Rattle.view_tables.proofs.ViewOrders.{item_order_total, item_order_tells}
 use Rattle.view_tables.specs.contracts.item.ItemRefOrd.TheImpl.{ghosts}

@@ -1,5 +1,5 @@
 use Rattle.std.proofs.Common.{rules}
-use Rattle.view_tables.specs.private.Places.{row_seen}
+use Rattle.view_tables.specs.private.Occurrences.{row_seen}
 use Rattle.view_tables.proofs.SortedSeen.{sorted_seen}
 use Rattle.view_tables.proofs.ViewOrders.{row_order_total, row_order_tells}
 use Rattle.view_tables.specs.contracts.item.RowRefOrd.TheImpl.{ghosts}

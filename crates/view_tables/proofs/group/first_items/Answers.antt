@@ -2,9 +2,9 @@ use Rattle.std.proofs.Common.{◌≡◌, List, map, ap, ◌∙◌, take_all, ari
 use Rattle.tree_types.specs.Ascending.{ascending}
 use Rattle.tree_types.proofs.Selecting.{map_of_map}
 use Rattle.view_tables.specs.declared.item.ItemRef.{ItemRef}
-use Rattle.view_tables.specs.declared.place.Split.{Split}
+use Rattle.view_tables.specs.declared.occurrence.Split.{Split}
 use Rattle.view_tables.specs.Views.{item_order}
-use Rattle.view_tables.specs.private.Places.{item_seen, items_seen}
+use Rattle.view_tables.specs.private.Occurrences.{item_seen, items_seen}
 use Rattle.view_tables.proofs.group.first_items.Goals as goal
 
 pub returns : goal.returns

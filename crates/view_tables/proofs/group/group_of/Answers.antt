@@ -1,8 +1,8 @@
 use Rattle.std.proofs.Common.{rules, Bool}
 use Rattle.std.specs.Ordering.{is_le, is_lt}
 use Rattle.std.proofs.lemmas.List.Sorted.{IsPartitionPoint-from_clause}
-use Rattle.view_tables.specs.declared.place.Split.{Split}
-use Rattle.view_tables.specs.private.Places.{item_seen}
+use Rattle.view_tables.specs.declared.occurrence.Split.{Split}
+use Rattle.view_tables.specs.private.Occurrences.{item_seen}
 use Rattle.view_tables.proofs.Halved.{group_found, orders_rise, parted_below, parted_within, rest_rises, to_item}
 use Rattle.view_tables.proofs.group.group_of.Goals as goal
 

@@ -1,6 +1,6 @@
 use Rattle.std.proofs.Common.{◌≡◌, ◌∙◌}
 use Rattle.view_tables.specs.Views.{row_at}
-use Rattle.view_tables.specs.private.Places.{item_seen, items_seen, content_samples}
+use Rattle.view_tables.specs.private.Occurrences.{item_seen, items_seen, content_samples}
 use Rattle.view_tables.proofs.Narrowed.{cover_small, group_covers, group_inside, group_weighs, ranges_of, weigh_small}
 use Rattle.view_tables.proofs.group.row_of.Goals as goal
 

@@ -1,15 +1,8 @@
-use Rattle.std.proofs.Common.{◌≡◌, ℕ, ◌-◌, ◌<◌, List, get_or, sum_by, sym, ap, subst, ◌∙◌}
-use Rattle.scope_types.specs.declared.scope.RootKind.TheVariants.{Thread}
-use Rattle.scope_types.specs.declared.scope.Scope.TheVariants.{Root}
+use Rattle.std.proofs.Common.{◌≡◌, ℕ, ◌-◌, ◌<◌, sum_by, sym, ap, subst, ◌∙◌}
 use Rattle.tree_types.specs.declared.content.Kind.TheVariants.{Frame, Inclusive}
-use Rattle.tree_types.specs.declared.content.Node.{Node}
 use Rattle.view_tables.specs.private.Rows.{amount, row_of}
 use Rattle.view_tables.proofs.ColumnSums.{value_is, some_total}
-use Rattle.view_tables.proofs.Depths.{scope_is}
 use Rattle.view_tables.proofs.row.row_at.Goals as goal
-
-abbrev some_node : Node
-some_node = record { parent = 0; scope = Root Thread }
 
 pub returns-clause-row : goal.returns-clause-row
 returns-clause-row c =
@@ -19,8 +12,7 @@ returns-clause-row c =
     c.column_sum.ensures ∙ ap (sum_by (amount Inclusive)) c.node-column.ensures ∙ value_is content c.args.number Inclusive c.requires.profile c.requires.number in
     let frame : c.column_sum-2.result ≡ expected.frame = c.column_sum-2.ensures ∙ ap (sum_by (amount Frame)) c.node-column.ensures ∙ value_is content c.args.number Frame c.requires.profile c.requires.number in
     let level : c.args.depth - 1 ≡ expected.level = ap (λ (k : ℕ). k - 1) c.requires.depth in
-    let scope : (get_or c.items.result.now c.args.number some_node).scope ≡ expected.scope =
-    ap (λ (all : List Node). (get_or all c.args.number some_node).scope) c.items.ensures ∙ scope_is content c.args.number some_node c.requires.profile c.requires.number in
+    let scope = c.scope_at.ensures in
     λ i. record { inclusive = inclusive i; total = c.requires.total i; frame = frame i; level = level i; scope = scope i }
 
 pub returns-clause-some : goal.returns-clause-some

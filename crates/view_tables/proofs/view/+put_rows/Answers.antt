@@ -2,7 +2,7 @@ use Rattle.std.proofs.Common.{◌≡◌, ◌-◌, length, map, sym, ap, ◌∙�
 use Rattle.std.proofs.lemmas.List.{get_or_default, length-map}
 use Rattle.view_tables.specs.declared.item.ItemRef.TheVariants.{SourceLine}
 use Rattle.view_tables.specs.declared.item.RowRef.{RowRef}
-use Rattle.view_tables.specs.private.Places.{item_seen, items_seen, row_seen}
+use Rattle.view_tables.specs.private.Occurrences.{item_seen, items_seen, row_seen}
 use Rattle.view_tables.proofs.ViewTexts.{view_all, view_more}
 use Rattle.view_tables.proofs.view.+put_rows.Goals as goal
 

@@ -1,6 +1,6 @@
 use Rattle.std.proofs.Common.{◌≡◌, ◌-◌, ◌++◌, take}
 use Rattle.std.specs.List.{flat_map}
-use Rattle.view_tables.specs.private.Places.{items_seen}
+use Rattle.view_tables.specs.private.Occurrences.{items_seen}
 use Rattle.view_tables.proofs.ViewTexts.{seen_text}
 use Rattle.view_tables.proofs.view.+put_rows.Given as goal
 

@@ -1,4 +1,4 @@
-use Rattle.view_tables.specs.private.Places.{items_seen}
+use Rattle.view_tables.specs.private.Occurrences.{items_seen}
 use Rattle.view_tables.proofs.ViewTexts.{all_seen_within}
 use Rattle.view_tables.proofs.view.level_of.Goals as goal
 

@@ -8,16 +8,16 @@ returns-in-Some-clause-paths c =
 
 pub returns-clause-linked : goal.returns-clause-linked
 returns-clause-linked c =
-    entered_linked _ _ _ _ _ _ _ c.requires.linked c.requires.few c.requires.place c.in_default.ensures (c.len-place.ensures ∙ c.args.self.now.nodes.ok.0) (pushed _ _ _ _ _ c.push.ensures.items c.unwrap.ensures) c.put_branch.ensures.branches
+    entered_linked _ _ _ _ _ _ _ c.requires.linked c.requires.few c.requires.index c.in_default.ensures (c.len-index.ensures ∙ c.args.self.now.nodes.ok.0) (pushed _ _ _ _ _ c.push.ensures.items c.unwrap.ensures) c.put_branch.ensures.branches
 
 pub returns-clause-paths : goal.returns-clause-paths
 returns-clause-paths c =
-    entered_paths _ _ _ _ _ _ _ c.requires.linked c.requires.few c.requires.place c.in_default.ensures (c.len-place.ensures ∙ c.args.self.now.nodes.ok.0) (pushed _ _ _ _ _ c.push.ensures.items c.unwrap.ensures) c.put_branch.ensures.branches
+    entered_paths _ _ _ _ _ _ _ c.requires.linked c.requires.few c.requires.index c.in_default.ensures (c.len-index.ensures ∙ c.args.self.now.nodes.ok.0) (pushed _ _ _ _ _ c.push.ensures.items c.unwrap.ensures) c.put_branch.ensures.branches
 
 pub returns-clause-path : goal.returns-clause-path
 returns-clause-path c =
-    entered_path _ _ _ _ _ _ _ c.requires.linked c.requires.few c.requires.place c.in_default.ensures (c.len-place.ensures ∙ c.args.self.now.nodes.ok.0) (pushed _ _ _ _ _ c.push.ensures.items c.unwrap.ensures) c.put_branch.ensures.branches
+    entered_path _ _ _ _ _ _ _ c.requires.linked c.requires.few c.requires.index c.in_default.ensures (c.len-index.ensures ∙ c.args.self.now.nodes.ok.0) (pushed _ _ _ _ _ c.push.ensures.items c.unwrap.ensures) c.put_branch.ensures.branches
 
 pub returns-clause-extends : goal.returns-clause-extends
 returns-clause-extends c =
-    entered_extends _ _ _ _ _ _ _ c.requires.linked c.requires.few c.requires.place c.in_default.ensures (c.len-place.ensures ∙ c.args.self.now.nodes.ok.0) (pushed _ _ _ _ _ c.push.ensures.items c.unwrap.ensures) c.put_branch.ensures.branches
+    entered_extends _ _ _ _ _ _ _ c.requires.linked c.requires.few c.requires.index c.in_default.ensures (c.len-index.ensures ∙ c.args.self.now.nodes.ok.0) (pushed _ _ _ _ _ c.push.ensures.items c.unwrap.ensures) c.put_branch.ensures.branches

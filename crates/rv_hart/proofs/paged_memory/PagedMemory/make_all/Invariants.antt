@@ -4,7 +4,7 @@ use Rattle.rv_hart.proofs.paged_memory.PagedMemory.make_all.Given as goal
 
 abbrev pub invariant-loop-offset : goal.invariant-loop-offset
 invariant-loop-offset l = record {
-  rest : l.self ≡ record l.initial.self { blocks = l.self.blocks };
+  rest : l.self ≡ record l.initial.self { pages = l.self.pages };
   paged : IsPaged l.self;
   values : (a : ℕ) → value l.self a ≡ value l.initial.self a;
   made : (i : ℕ) → i < l.offset → 2 ^ 12 ≤ length (page_of l.self (l.at + i)).bytes;

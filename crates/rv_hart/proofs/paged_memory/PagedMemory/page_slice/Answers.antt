@@ -1,8 +1,12 @@
-use Rattle.std.proofs.Common.{◌/◌, ◌*◌, ◌^◌, refl}
+use Rattle.std.proofs.Common.{◌/◌, ◌*◌, ◌^◌, List, ℕ, ap₂, refl}
+use Rattle.elf_image.specs.declared.part.Segment.{Segment}
 use Rattle.scope_types.specs.Memory.{word_in}
+use Rattle.rv_hart.specs.private.Pages.{Paged}
 use Rattle.rv_hart.proofs.Lending.{words-loaded}
 use Rattle.rv_hart.proofs.paged_memory.PagedMemory.page_slice.Goals as goal
 
-pub returns-in-Some : goal.returns-in-Some
-returns-in-Some c at =
-    words-loaded c.args.self.now c.args.at (c.args.at / 2 ^ 12 * 2 ^ 12) at c.in-Some.page.now (word_in c.lent.result at) c.requires c.in-Some.ensures refl (c.lent.ensures at)
+pub returns : goal.returns
+returns c at =
+    let page : Segment → List ℕ → Paged = λ home bytes. record { home = home; bytes = bytes } in
+    words-loaded c.args.self.now c.args.at (c.args.at / 2 ^ 12 * 2 ^ 12) at (page c.page_home.result c.page_bytes.result.now) (word_in c.lent.result at) c.requires
+    (ap₂ page c.page_home.ensures c.page_bytes.ensures) refl (c.lent.ensures at)

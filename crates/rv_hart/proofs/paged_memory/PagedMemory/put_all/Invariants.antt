@@ -4,7 +4,7 @@ use Rattle.rv_hart.proofs.paged_memory.PagedMemory.put_all.Given as goal
 
 abbrev pub invariant-loop-offset : goal.invariant-loop-offset
 invariant-loop-offset l = record {
-  rest : l.self ≡ record l.initial.self { blocks = l.self.blocks };
+  rest : l.self ≡ record l.initial.self { pages = l.self.pages };
   paged : IsPaged l.self;
   made : (i : ℕ) → i < length l.source → 2 ^ 12 ≤ length (page_of l.self (l.at + i)).bytes;
   values : (a : ℕ) → value l.self a ≡ value_after l.initial.self l.at (take l.offset l.source) a;

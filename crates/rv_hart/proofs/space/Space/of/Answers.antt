@@ -1,33 +1,41 @@
-use Rattle.std.proofs.Common.{◌++◌, map, List, sym, ap, subst, ◌∙◌}
+use Rattle.std.proofs.Common.{◌≡◌, ℕ, ◌++◌, map, List, sym, ap, ap₂, subst, ◌∙◌}
 use Rattle.std.specs.List.{range_with_len}
 use Rattle.elf_image.specs.declared.part.Segment.{Segment}
 use Rattle.rv_hart.specs.declared.decoded_code.DecodedCode.{DecodedCode}
 use Rattle.rv_hart.specs.declared.paged_memory.PagedMemory.{PagedMemory}
-use Rattle.rv_hart.specs.AddressSpace.{stack_of}
+use Rattle.rv_hart.specs.AddressSpace.{AddressSpace, each_address, first_byte, regions_of, stack_of}
 use Rattle.rv_hart.specs.private.Decoding.{AreCode}
-use Rattle.rv_hart.specs.private.Pages.{nowhere}
-use Rattle.rv_hart.specs.private.Paging.{IsPaged, IsHome}
+use Rattle.rv_hart.specs.private.Pages.{nowhere, PageStore, bytes_from}
+use Rattle.rv_hart.specs.private.Paging.{IsPaged, IsHome, memory_of}
 use Rattle.rv_hart.proofs.Apart.{of-paged}
 use Rattle.rv_hart.proofs.space.Space.of.Goals as goal
 
 pub decoded_regions-requires : goal.decoded_regions-requires
 decoded_regions-requires c =
-    let paged : PagedMemory = record { file = c.bytes.result; regions = c.in_ok-of.field-0; blocks = c.new.result } in
+    let paged : PagedMemory = record { file = c.bytes.result; regions = c.in_ok-of.field-0; pages = c.new.result } in
     let both : IsPaged paged × IsHome paged.regions nowhere =
     of-paged paged c.args.image.now c.args.harts c.segments.ensures.loaded c.requires
     (c.in_ok-of.ensures ∙ c.in_ok-listed.ensures ∙ ap (λ (s : List Segment). s ++ map stack_of (range_with_len 0 c.args.harts)) c.segments.ensures.value)
-    c.new.ensures.items in
+    c.new.ensures in
     both.0
 
 pub invariant_of-result : goal.invariant_of-result
 invariant_of-result c =
-    let paged : PagedMemory = record { file = c.bytes.result; regions = c.in_ok-of.field-0; blocks = c.new.result } in
+    let paged : PagedMemory = record { file = c.bytes.result; regions = c.in_ok-of.field-0; pages = c.new.result } in
     let both : IsPaged paged × IsHome paged.regions nowhere =
     of-paged paged c.args.image.now c.args.harts c.segments.ensures.loaded c.requires
     (c.in_ok-of.ensures ∙ c.in_ok-listed.ensures ∙ ap (λ (s : List Segment). s ++ map stack_of (range_with_len 0 c.args.harts)) c.segments.ensures.value)
-    c.new.ensures.items in
+    c.new.ensures in
     record {
       paged = both.0;
       home = both.1;
       code = subst (λ (codes : List DecodedCode). AreCode paged.file.now paged.regions codes) (sym c.in_ok-of-2.ensures) c.in_ok-decoded.ensures;
     }
+
+pub returns : goal.returns
+unfolding bytes_from
+returns c =
+    let regions : c.in_ok-of.field-0 ≡ regions_of c.args.image.now c.args.harts =
+    c.in_ok-of.ensures ∙ c.in_ok-listed.ensures ∙ ap (λ (s : List Segment). s ++ map stack_of (range_with_len 0 c.args.harts)) c.segments.ensures.value in
+    ap (λ (store : PageStore). memory_of (record { file = c.bytes.result; regions = c.in_ok-of.field-0; pages = store })) c.new.ensures
+    ∙ ap₂ (λ (file : List ℕ) (all : List Segment). let m : AddressSpace = record { regions = all; bytes = each_address (first_byte file all) } in m) c.bytes.ensures regions

@@ -1,16 +1,16 @@
 use Rattle.std.proofs.Common.{◌≡◌, set, sym, subst}
 use Rattle.scope_types.specs.declared.path.Piece.{Piece}
 use Rattle.stripe_table.specs.Limits.{IsPieceOf}
-use Rattle.stripe_table.specs.Ends.{SetValue, AllFit, names_of}
-use Rattle.stripe_table.specs.Views.{times}
+use Rattle.stripe_table.specs.Ends.{SetValue, AllFit, stripe_names}
+use Rattle.stripe_table.specs.Views.{occurrences}
 use Rattle.stripe_table.proofs.Settling.{settle_room, either_way}
 use Rattle.stripe_table.proofs.ends.StripeSet.settle.Goals as goal
 
 of : (q : Piece) (a b : SetValue) → a ≡ b → IsPieceOf b.view.plan q → IsPieceOf a.view.plan q
 of q a b is h = subst (λ (z : SetValue). IsPieceOf z.view.plan q) (sym is) h
 
-missing : (q : Piece) (a b : SetValue) → a ≡ b → times q.chunk (names_of b.stripes q.stripe) ≡ 0 → times q.chunk (names_of a.stripes q.stripe) ≡ 0
-missing q a b is h = subst (λ (z : SetValue). times q.chunk (names_of z.stripes q.stripe) ≡ 0) (sym is) h
+missing : (q : Piece) (a b : SetValue) → a ≡ b → occurrences q.chunk (stripe_names b.stripes q.stripe) ≡ 0 → occurrences q.chunk (stripe_names a.stripes q.stripe) ≡ 0
+missing q a b is h = subst (λ (z : SetValue). occurrences q.chunk (stripe_names z.stripes q.stripe) ≡ 0) (sym is) h
 
 pub add-requires : goal.add-requires
 add-requires c = let q = c.args.piece.now in let is = c.self.view_is in record {

@@ -1,6 +1,6 @@
 use Rattle.std.proofs.Common.{◌≡◌, ◌∙◌, List, length, get_or, sym, ap, subst, arith}
 use Rattle.stripe_table.specs.Fits.{Fits}
-use Rattle.stripe_table.specs.Ends.{names_of}
+use Rattle.stripe_table.specs.Ends.{stripe_names}
 use Rattle.stripe_table.proofs.Settling.{long_there, fits_there}
 use Rattle.core.specs.Mem.Slots.{slots_counts}
 use Rattle.stripe_table.specs.Limits.{Chunks, IsLimited}
@@ -39,6 +39,6 @@ invariant_of-result c = let kept : c.of-closer.result.value ≡ c.args.pass = c.
       limited = subst IsLimited (ap (λ (o : StripesValue). o.plan) c.self.view_is ∙ same) c.self.invariant.limited;
       fit = (
         (let n = ap length c.gather.ensures in let a = (slots_counts row).0 in let b = c.close_with-closed.ensures.counts.1 in let d = c.self.invariant.slots in omega arith),
-        λ t lt. subst (λ (p : Chunks). Fits p t (length (names_of c.gather.result.items t)) (get_or c.gather.result.items t empty_stripe)) same (fits_there c.args.self.plan c.gather.result.items t _ ((last c).1 t lt)),
+        λ t lt. subst (λ (p : Chunks). Fits p t (length (stripe_names c.gather.result.items t)) (get_or c.gather.result.items t empty_stripe)) same (fits_there c.args.self.plan c.gather.result.items t _ ((last c).1 t lt)),
       );
     }

@@ -1,4 +1,4 @@
-use Rattle.std.proofs.Common.{◌<◌, ◌∙◌, length, ap, arith}
+use Rattle.std.proofs.Common.{◌<◌, length, arith}
 use Rattle.thread_cct.proofs.Counts.{samples_more}
 use Rattle.thread_cct.proofs.ccts.Ccts.samples.Goals as goal
 

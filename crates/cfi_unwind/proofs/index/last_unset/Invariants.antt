@@ -1,0 +1,8 @@
+use Rattle.std.proofs.Common.{◌≤◌, length}
+use Rattle.cfi_unwind.proofs.index.last_unset.Given as goal
+
+abbrev pub invariant-loop-low : goal.invariant-loop-low
+invariant-loop-low l = l.low ≤ length l.ids
+
+abbrev pub decreases-loop-low : goal.decreases-loop-low
+decreases-loop-low l = l.low

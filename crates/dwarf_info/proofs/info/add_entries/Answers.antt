@@ -1,0 +1,10 @@
+use Rattle.std.proofs.Common.{◌∙◌, ◌++◌, ap, sym, List}
+use Rattle.std.proofs.lemmas.List.{append-nil}
+use Rattle.dwarf_info.specs.declared.entry.InfoEntry.{InfoEntry}
+use Rattle.dwarf_info.specs.Sections.{sections_of}
+use Rattle.dwarf_info.proofs.Indexed.{none_past}
+use Rattle.dwarf_info.proofs.info.add_entries.Goals as goal
+
+pub returns-then-offset-bytes : goal.returns-then-offset-bytes
+returns-then-offset-bytes c =
+    sym (ap (λ (es : List InfoEntry). c.args.entries.now.items ++ es) (none_past (sections_of c.args.sections.now) c.args.bases.now c.front-bytes.result.now c.front-bytes.ensures c.if-offset-bytes.true) ∙ append-nil c.args.entries.now.items)

@@ -1,0 +1,76 @@
+//! Where entries begin, marked while they are read.
+ghost use Rattle.std.specs.Prelude.{◌≡◌, ◌<◌, ◌≤◌, ◌++◌, ◌∷◌, ◌+◌, ◌^◌, [], length, IfOk};
+
+use crate::offsets::Offsets;
+use prof_bytes::Memory;
+use std::alloc::Global;
+use std::marker::Model;
+
+/// The offsets in a section at which entries begin, in order: a flag for each byte.
+#[derive(Drop)]
+pub(crate) struct Starts {
+    flags: Vec<bool>,
+    /// How many flags are set.
+    count: u32,
+    /// None is set from this offset on.
+    end: u32,
+}
+
+impl Model for Starts {
+    ghost use Rattle.std.specs.Prelude.{length};
+    ghost use Rattle.dwarf_info.specs.private.Starts.{Marked, AreMarks, set_from};
+
+    ghost Value = { Marked };
+
+    ghost view = { λ s. record {
+      offsets = set_from 0 s.flags.items;
+      end = s.end;
+      bytes = length s.flags.items;
+    } };
+
+    ghost invariant = { λ s. AreMarks s.flags.items s.count s.end };
+}
+
+impl Starts {
+    /// No entry in so many bytes.
+    pub(crate) fn new(alloc: Global, bytes: usize) -> Result<Starts, Memory>
+        requires { bytes < 2 ^ 31 }
+        ensures { IfOk result (λ s. s ≡ record { offsets = []; end = 0; bytes = bytes }) }
+    {
+        let flags = vec![in alloc; false; bytes]?;
+        Ok(Starts {
+            flags,
+            count: 0,
+            end: 0,
+        })
+    }
+
+    /// How many entries begin.
+    pub(crate) fn count(&self) -> u32
+        ensures { result ≡ length self.now.offsets }
+    {
+        self.count
+    }
+
+    /// Marks an offset behind all that are marked.
+    pub(crate) fn mark(&mut self, offset: u32)
+        requires inside { offset < self.old.bytes }
+        requires behind { self.old.end ≤ offset }
+        ensures { self.new ≡ record {
+          offsets = self.old.offsets ++ offset ∷ [];
+          end = offset + 1;
+          bytes = self.old.bytes;
+        } }
+    {
+        self.flags[offset as usize] = true;
+        self.count += 1;
+        self.end = offset + 1;
+    }
+
+    /// What was marked.
+    pub(crate) fn offsets(self, alloc: Global) -> Result<Offsets, Memory>
+        ensures { IfOk result (λ offsets. offsets ≡ self.offsets) }
+    {
+        Offsets::new(alloc, self.flags, self.count)
+    }
+}

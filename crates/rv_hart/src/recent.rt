@@ -1,0 +1,72 @@
+//! Which addresses of a page may be read and written, so that one comparison tells it of an access.
+ghost use Rattle.std.specs.Prelude.{◌≡◌, ◌+◌, ◌-◌, ◌<◌, ◌≤◌, ◌^◌, IfSome, if◌then◌else◌};
+ghost use Rattle.rv_hart.specs.AddressSpace.{has};
+ghost use Rattle.rv_hart.specs.private.Paging.{bit_of};
+ghost use Rattle.rv_hart.specs.private.Recents.{IsRecentOf};
+
+use crate::page::Page;
+use crate::right::{Right, grants};
+use elf_image::Segment;
+
+/// From the lowest address on, which a page and its region share: at how many four bytes may be read, and written; and
+/// where the bytes begin among those of all pages.
+#[derive(Clone, Copy)]
+pub(crate) struct Recent {
+    pub(crate) low: u32,
+    pub(crate) readable: u32,
+    pub(crate) writable: u32,
+    pub(crate) start: u32,
+}
+
+/// No address.
+pub(crate) const NO_ADDRESS: Recent = Recent {
+    low: 0,
+    readable: 0,
+    writable: 0,
+    start: 0,
+};
+
+/// So many where the region has the right, and else none.
+fn count_with(home: &Segment, right: Right, count: u32) -> u32
+    ensures { result ≡ (if has (bit_of right) home.now then count else 0) }
+{
+    if grants(home, right) { count } else { 0 }
+}
+
+/// The addresses of a page that begins at `base`. None where its bytes begin at 2^32 or above.
+pub(crate) fn recent_of(page: &Page, base: u32) -> Recent
+    requires { base + 2 ^ 12 ≤ 2 ^ 32 }
+    ensures { IsRecentOf page.now base result }
+{
+    let Some(start) = page.start else {
+        return NO_ADDRESS;
+    };
+    let Ok(first) = u32::try_from(start) else {
+        return NO_ADDRESS;
+    };
+    let low = page.home.start.max(base);
+    let Some(start) = first.checked_add(low - base) else {
+        return NO_ADDRESS;
+    };
+    let high = u64::from(page.home.end).min(u64::from(base) + 4096);
+    let count = high.saturating_sub(u64::from(low)).saturating_sub(3) as u32;
+    Recent {
+        low,
+        readable: count_with(&page.home, Right::Read, count),
+        writable: count_with(&page.home, Right::Write, count),
+        start,
+    }
+}
+
+/// Where the byte of an address stands, if it is one of so many from the lowest on.
+#[inline(always)]
+pub(crate) fn offset_in(at: u32, low: u32, count: u32, start: u32) -> Option<usize>
+    requires { low + count ≤ 2 ^ 32 }
+    ensures { IfSome result (λ offset. (low ≤ at) × (at - low < count) × (offset ≡ start + (at - low))) }
+{
+    let depth = at.wrapping_sub(low);
+    if depth >= count {
+        return None;
+    }
+    Some(start as usize + depth as usize)
+}

@@ -1,0 +1,2 @@
+-- Definitions that only private functions and proofs rest on.
+pub mod Layout

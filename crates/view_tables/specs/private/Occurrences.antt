@@ -1,0 +1,138 @@
+-- The occurrences of a content's frames, and how a chain of items narrows them.
+use Rattle.std.specs.Prelude.{◌≡◌, ℕ, ◌&&◌, List, [], ◌∷◌, ◌++◌, length, map, filter, reverse, drop}
+use Rattle.std.specs.Prelude.{slice_index_or, codes, Bool, true, false, if◌then◌else◌}
+use Rattle.std.specs.List.{flat_map, range_with_len}
+use Rattle.std.specs.List.Sorted.{IsSortedByKey}
+use Rattle.tree_types.specs.declared.content.Content.{Content}
+use Rattle.tree_types.specs.Database.{naming_in}
+use Rattle.tree_types.specs.Naming.{Naming}
+use Rattle.tree_types.specs.Paths.{Path, is_proc}
+use Rattle.tree_types.specs.PathsOf.{paths_of, tree_paths}
+use Rattle.view_tables.specs.declared.item.ItemRef.{ItemRef}
+use Rattle.view_tables.specs.declared.item.ItemRef.TheVariants.{FileName, Procedure, SourceLine, Instruction}
+use Rattle.view_tables.specs.declared.item.RowRef.{RowRef}
+use Rattle.view_tables.specs.declared.occurrence.Occurrence.{Occurrence}
+use Rattle.view_tables.specs.declared.occurrence.Split.{Split}
+use Rattle.view_tables.specs.declared.occurrence.View.{View}
+use Rattle.view_tables.specs.declared.occurrence.View.TheVariants.{Callers, Flat}
+use Rattle.view_tables.specs.Views.{Item, Sample, ViewRow, item_order, same_item}
+use Rattle.view_tables.specs.Views as views
+use Rattle.view_tables.specs.Callers.{procs_up, tails}
+use Rattle.view_tables.specs.Flat.{call_line, frame_at, frame_proc, frames_up}
+
+-- ---- items and rows of the code
+
+abbrev pub item_seen : ItemRef → Item
+item_seen (FileName name) = views.FileName name.now
+item_seen (Procedure id) = views.Procedure id
+item_seen (SourceLine line) = views.SourceLine line
+item_seen (Instruction address) = views.Instruction address
+
+abbrev pub items_seen : List ItemRef → List Item
+items_seen items = map item_seen items
+
+abbrev pub row_seen : RowRef → ViewRow
+row_seen r = record { inclusive = r.inclusive.0; item = item_seen r.item; exclusive = r.exclusive }
+
+-- ---- what a view takes of a path
+
+-- the scopes of a node's path, from its own up; none for what is no node's number
+abbrev pub ups : Content → ℕ → Path
+ups c number = reverse (slice_index_or (tree_paths c.nodes) number [])
+
+-- the sequences of a path, given from its innermost scope up
+abbrev pub sample_of : View → Naming → Path → Sample
+sample_of Callers naming scopes = tails (procs_up scopes)
+sample_of Flat naming scopes = frames_up naming scopes
+
+-- those of a node's path
+abbrev pub sample_at : View → Content → ℕ → Sample
+sample_at view c number = sample_of view (naming_in c.names) (ups c number)
+
+abbrev pub first_of : Sample → List Item
+first_of [] = []
+first_of (items ∷ sample) = items
+
+-- the items of the first scope's frame, without so many of them
+abbrev pub items_at : View → Naming → Path → ℕ → List Item
+items_at Callers naming scopes level = procs_up scopes
+items_at Flat naming [] level = []
+items_at Flat naming (s ∷ outer) level =
+    drop level (first_of (flat_map (λ line. frame_at naming line outer) (call_line s)))
+
+-- the items of a node's frame
+abbrev pub node_items : View → Content → ℕ → List Item
+node_items view c number = items_at view (naming_in c.names) (ups c number) 0
+
+-- the items that an occurrence still has
+abbrev pub items_left : View → Content → Occurrence → List Item
+items_left view c p = items_at view (naming_in c.names) (ups c p.node) p.level
+
+abbrev pub is_some_list : {X : Type 0} → List X → Bool
+is_some_list [] = false
+is_some_list (x ∷ xs) = true
+
+-- whether the first scope has a frame of its own: in the callers table a procedure, in the flat table a call or a
+-- statement that ends a procedure's frame
+abbrev pub has_frame : View → Path → Bool
+has_frame view [] = false
+has_frame Callers (s ∷ outer) = is_proc s
+has_frame Flat (s ∷ outer) = is_some_list (call_line s) && is_some_list (frame_proc outer)
+
+-- ---- occurrences with their items
+
+-- a frame by its node's number, and items
+abbrev pub Held : Type 0
+Held = ℕ × List Item
+
+abbrev pub held : View → Content → Occurrence → Held
+held view c p = (p.frame, items_left view c p)
+
+-- what an occurrence is cut into: its first item, and itself without
+abbrev pub cut_one : ℕ → List Item → List (Item × Held)
+cut_one frame [] = []
+cut_one frame (a ∷ items) = (a, (frame, items)) ∷ []
+
+abbrev pub cuts : List Held → List (Item × Held)
+cuts hs = flat_map (λ h. cut_one h.0 h.1) hs
+
+abbrev pub cut_of : View → Content → Split → Item × Held
+cut_of view c s = (item_seen s.item, held view c s.rest)
+
+-- those with this first item, without it
+abbrev pub of_item : Item → List (Item × Held) → List Held
+of_item item cs = map (λ s. s.1) (filter (λ s. same_item item s.0) cs)
+
+abbrev pub narrowed : List Item → List Held → List Held
+narrowed [] hs = hs
+narrowed (a ∷ chain) hs = narrowed chain (of_item a (cuts hs))
+
+-- ---- all occurrences of a content
+
+abbrev pub occurrence_at : View → Content → ℕ → List Held
+occurrence_at view c number = if has_frame view (ups c number) then (number, node_items view c number) ∷ [] else []
+
+abbrev pub all_occurrences : View → Content → List Held
+all_occurrences view c = flat_map (occurrence_at view c) (range_with_len 0 (length c.nodes))
+
+-- the samples of a content
+abbrev pub content_samples : View → Content → List Sample
+content_samples view c = map (λ p. sample_of view (naming_in c.names) (reverse p.path)) (paths_of c)
+
+-- the occurrences that a chain leaves
+abbrev pub AreOccurrences : View → Content → List Item → List Occurrence → Type 0
+AreOccurrences view c chain occurrences = map (held view c) occurrences ≡ narrowed chain (all_occurrences view c)
+
+-- what they are cut into: those of each item are what the chain and that item leave, in their order
+abbrev pub AreSplits : View → Content → List Item → List Split → Type 0
+AreSplits view c chain splits = (item : Item)
+    → of_item item (map (cut_of view c) splits) ≡ narrowed (chain ++ item ∷ []) (all_occurrences view c)
+
+-- splits that ascend by their items
+abbrev pub AreByItem : List Split → Type 0
+AreByItem splits = IsSortedByKey (λ s. item_seen s.item) item_order splits
+
+-- what stands before the labels below the first level
+abbrev pub mark_of : View → List ℕ
+mark_of Callers = codes "<- "
+mark_of Flat = []
