@@ -9,7 +9,7 @@ use Rattle.std.proofs.lemmas.Iterator.Adapters.{position_from-zero}
 use Rattle.address_ranges.specs.declared.ranges.AddressRange.{AddressRange}
 use Rattle.address_ranges.specs.declared.ranges.Step.{Step}
 use Rattle.address_ranges.specs.Ranges.{holds, IsFirst, IsNotFirst}
-use Rattle.address_ranges.specs.private.Steps.{value_at, IsAscending, IsTableOf, AllHeld, SomeElse, next_start, past}
+use Rattle.address_ranges.specs.private.Steps.{holder_from, IsAscending, IsTableOf, AllHeld, SomeElse, next_start, past}
 
 pub from_lower : (a b : ℕ) (steps : List Step) → a ≤ b → IsAscending b steps → IsAscending a steps
 from_lower a b [] le up = tt
@@ -40,13 +40,13 @@ test_false : (a b : ℕ) → b ≤ a → ltb a b ≡ false
 test_false a b le = grind (arith, nat_tests)
 
 -- an address below a step is not looked for behind it
-pub front_value : (m : ℕ) (d : Step) (before : Option ℕ) (steps : List Step) (address : ℕ) → m < length steps → address < (get_or steps m d).start → value_at before (take m steps) address ≡ value_at before steps address
+pub front_value : (m : ℕ) (d : Step) (before : Option ℕ) (steps : List Step) (address : ℕ) → m < length steps → address < (get_or steps m d).start → holder_from before (take m steps) address ≡ holder_from before steps address
 front_value m d before [] address lt below = absurd (omega arith)
 front_value zero d before (s ∷ steps) address lt below = rw (test_true address s.start below) refl
 front_value (suc m) d before (s ∷ steps) address lt below = ap (λ (o : Option ℕ). cond (ltb address s.start) before o) (front_value m d s.holder steps address (omega arith) below)
 
 -- an address that is not below a step is not looked for before it
-pub back_value : (low m : ℕ) (d : Step) (before : Option ℕ) (steps : List Step) (address : ℕ) → IsAscending low steps → m < length steps → (get_or steps m d).start ≤ address → value_at (get_or steps m d).holder (drop (suc m) steps) address ≡ value_at before steps address
+pub back_value : (low m : ℕ) (d : Step) (before : Option ℕ) (steps : List Step) (address : ℕ) → IsAscending low steps → m < length steps → (get_or steps m d).start ≤ address → holder_from (get_or steps m d).holder (drop (suc m) steps) address ≡ holder_from before steps address
 back_value low m d before [] address up lt above = absurd (omega arith)
 back_value low zero d before (s ∷ steps) address up lt above = rw (test_false address s.start above) refl
 back_value low (suc m) d before (s ∷ steps) address up lt above =
@@ -75,16 +75,16 @@ is_next [] (b ∷ others) start e = (tt, let x : b.start ≡ start = cc in omega
 is_next (a ∷ rest) [] start e = (let x : a.start ≡ start = cc in omega arith, tt)
 is_next (a ∷ rest) (b ∷ others) start e = let x : min a.start b.start ≡ start = cc in (omega arith, omega arith)
 
-before_value : (start address : ℕ) (x : Option ℕ) (xs : List Step) → IsNextOf start xs → address < start → value_at x xs address ≡ x
+before_value : (start address : ℕ) (x : Option ℕ) (xs : List Step) → IsNextOf start xs → address < start → holder_from x xs address ≡ x
 unfolding IsNextOf
 before_value start address x [] is lt = refl
 before_value start address x (s ∷ steps) is lt = let le : start ≤ s.start = is in rw (test_true address s.start (omega arith)) refl
 
-past_value : (start address : ℕ) (x : Option ℕ) (xs : List Step) → start ≤ address → value_at (past start x xs).0 (past start x xs).1 address ≡ value_at x xs address
+past_value : (start address : ℕ) (x : Option ℕ) (xs : List Step) → start ≤ address → holder_from (past start x xs).0 (past start x xs).1 address ≡ holder_from x xs address
 past_value start address x [] le = refl
 past_value start address x (s ∷ steps) le = go (s.start == start) (eqb_tells s.start start)
   where
-    go : (b : Bool) → ((b ≡ true) × (s.start ≡ start)) ⊎ ((b ≡ false) × (s.start ≢ start)) → value_at (cond {A = Option ℕ × List Step} b (s.holder, steps) (x, s ∷ steps)).0 (cond {A = Option ℕ × List Step} b (s.holder, steps) (x, s ∷ steps)).1 address ≡ value_at x (s ∷ steps) address
+    go : (b : Bool) → ((b ≡ true) × (s.start ≡ start)) ⊎ ((b ≡ false) × (s.start ≢ start)) → holder_from (cond {A = Option ℕ × List Step} b (s.holder, steps) (x, s ∷ steps)).0 (cond {A = Option ℕ × List Step} b (s.holder, steps) (x, s ∷ steps)).1 address ≡ holder_from x (s ∷ steps) address
     go true (inl h) = rw (test_false address s.start (let e : s.start ≡ start = h.1 in omega arith)) refl
     go true (inr h) = absurd (let e : true ≡ false = h.0 in cc)
     go false h = refl
@@ -142,7 +142,7 @@ one_less start x y (a ∷ rest) (b ∷ others) e =
     go (inl lt) z p q = let h = past_head start y b others (omega arith) in omega arith
     go (inr le) z p q = let h = past_head start x a rest (omega arith) in omega arith
 
-pub merged_value : (n address : ℕ) (x y : Option ℕ) (xs ys : List Step) → length xs + length ys ≤ n → value_at (option_or x y) (merged n x xs y ys) address ≡ option_or (value_at x xs address) (value_at y ys address)
+pub merged_value : (n address : ℕ) (x y : Option ℕ) (xs ys : List Step) → length xs + length ys ≤ n → holder_from (option_or x y) (merged n x xs y ys) address ≡ option_or (holder_from x xs address) (holder_from y ys address)
 unfolding merged
 merged_value zero address x y [] [] le = refl
 merged_value zero address x y [] (b ∷ others) le = absurd (omega arith)
@@ -157,8 +157,8 @@ merged_value (suc n) address x y xs ys le = go (next_start xs ys) refl (λ start
 
     go : (o : Option ℕ) → next_start xs ys ≡ o
         → ((start : ℕ) → length (past start x xs).1 + length (past start y ys).1 < length xs + length ys
-        → value_at (both start) (rest_of start) address ≡ option_or (value_at (past start x xs).0 (past start x xs).1 address) (value_at (past start y ys).0 (past start y ys).1 address))
-        → value_at (option_or x y) (option_map_or (λ start. record { start = start; holder = both start } ∷ rest_of start) o []) address ≡ option_or (value_at x xs address) (value_at y ys address)
+        → holder_from (both start) (rest_of start) address ≡ option_or (holder_from (past start x xs).0 (past start x xs).1 address) (holder_from (past start y ys).0 (past start y ys).1 address))
+        → holder_from (option_or x y) (option_map_or (λ start. record { start = start; holder = both start } ∷ rest_of start) o []) address ≡ option_or (holder_from x xs address) (holder_from y ys address)
     go None e again = let nil = none_next xs ys e in rw (nil.0, nil.1) refl
     go (Some start) e again =
         elim (cases_lt address start) [
@@ -217,14 +217,14 @@ some_steps n e = grind (arith, nat_tests)
 behind_all : (m : ℕ) (steps : List Step) → take (length steps - (m + 1)) (drop (m + 1) steps) ≡ drop (suc m) steps
 behind_all m steps = take_all _ _ (omega (arith, length-drop (m + 1) steps)) ∙ rw add-one refl
 
-pub back_whole : (m : ℕ) (d : Step) (before : Option ℕ) (steps : List Step) (address : ℕ) → IsAscending 0 steps → m < length steps → (get_or steps m d).start ≤ address → value_at (get_or steps m d).holder (take (length steps - (m + 1)) (drop (m + 1) steps)) address ≡ value_at before steps address
-back_whole m d before steps address up lt le = ap (λ (zs : List Step). value_at (get_or steps m d).holder zs address) (behind_all m steps) ∙ back_value 0 m d before steps address up lt le
+pub back_whole : (m : ℕ) (d : Step) (before : Option ℕ) (steps : List Step) (address : ℕ) → IsAscending 0 steps → m < length steps → (get_or steps m d).start ≤ address → holder_from (get_or steps m d).holder (take (length steps - (m + 1)) (drop (m + 1) steps)) address ≡ holder_from before steps address
+back_whole m d before steps address up lt le = ap (λ (zs : List Step). holder_from (get_or steps m d).holder zs address) (behind_all m steps) ∙ back_value 0 m d before steps address up lt le
 
 pub back_ascends : (m : ℕ) (steps : List Step) → IsAscending 0 steps → IsAscending 0 (take (length steps - (m + 1)) (drop (m + 1) steps))
 back_ascends m steps up = take_ascends 0 _ _ (drop_ascends 0 (m + 1) steps up)
 
 -- the same values, so the same holder
-pub held_like : (r : Bool) (before after : Option ℕ) (xs ys : List Step) (low high number : ℕ) → ((a : ℕ) → low ≤ a → a < high → value_at before xs a ≡ value_at after ys a)
+pub held_like : (r : Bool) (before after : Option ℕ) (xs ys : List Step) (low high number : ℕ) → ((a : ℕ) → low ≤ a → a < high → holder_from before xs a ≡ holder_from after ys a)
     → MatchBool r (AllHeld before xs low high number) (SomeElse before xs low high number) → MatchBool r (AllHeld after ys low high number) (SomeElse after ys low high number)
 held_like true before after xs ys low high number same h = λ a p q. sym (same a p q) ∙ h a p q
 held_like false before after xs ys low high number same h = (h.0, h.1, h.2, λ e. h.3 (same h.0 h.1 h.2 ∙ e))

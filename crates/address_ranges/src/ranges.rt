@@ -4,7 +4,7 @@ ghost use Rattle.std.specs.Prelude.{slice_get, if◌then◌else◌};
 ghost use Rattle.std.specs.List.{position_from};
 ghost use Rattle.std.specs.Option.{option_and_then, option_copied, option_or};
 ghost use Rattle.address_ranges.specs.Ranges.{holds, IsFirst, IsNotFirst};
-ghost use Rattle.address_ranges.specs.private.Steps.{value_at, IsAscending, AllHeld, SomeElse, next_start, past};
+ghost use Rattle.address_ranges.specs.private.Steps.{holder_from, IsAscending, AllHeld, SomeElse, next_start, past};
 
 use std::alloc::{AllocError, Global};
 use std::marker::Model;
@@ -56,7 +56,7 @@ impl<T: HasRange + Drop> Model for RangeTable<T> {
 /// The holder at the address, where `before` holds those below the first step.
 fn holder_at(steps: &[Step], before: Option<usize>, address: u64) -> Option<usize>
     requires { IsAscending 0 steps.now }
-    ensures { result ≡ value_at before steps.now address }
+    ensures { result ≡ holder_from before steps.now address }
 {
     if steps.is_empty() {
         return before;
@@ -126,8 +126,8 @@ fn overlay(alloc: Global, upper: &[Step], lower: &[Step]) -> Result<Vec<Step>, A
     requires lower { IsAscending 0 lower.now }
     ensures ascending { IfOk result (λ steps. IsAscending 0 steps.items) }
     ensures holders { IfOk result (λ steps. (address : ℕ)
-        → value_at None steps.items address
-        ≡ option_or (value_at None upper.now address) (value_at None lower.now address)) }
+        → holder_from None steps.items address
+        ≡ option_or (holder_from None upper.now address) (holder_from None lower.now address)) }
 {
     let mut steps = Vec::new(alloc);
     let (mut upper_left, mut lower_left) = (upper, lower);
@@ -144,7 +144,7 @@ fn overlay(alloc: Global, upper: &[Step], lower: &[Step]) -> Result<Vec<Step>, A
 fn one_range(alloc: Global, range: AddressRange, holder: usize) -> Result<Vec<Step>, AllocError>
     ensures ascending { IfOk result (λ steps. IsAscending 0 steps.items) }
     ensures holders { IfOk result (λ steps. (address : ℕ)
-        → value_at None steps.items address ≡ (if holds address range then Some holder else None)) }
+        → holder_from None steps.items address ≡ (if holds address range then Some holder else None)) }
 {
     let mut steps = Vec::new(alloc);
     let start = u64::from(range.start);
@@ -165,7 +165,7 @@ fn steps_of<T: HasRange>(alloc: Global, items: &[T], number: usize) -> Result<Ve
     requires { number + length items.now < 2 ^ 64 }
     ensures ascending { IfOk result (λ steps. IsAscending 0 steps.items) }
     ensures holders { IfOk result (λ steps. (address : ℕ)
-        → value_at None steps.items address ≡ position_from (holds address) number (map T.range_of items.now)) }
+        → holder_from None steps.items address ≡ position_from (holds address) number (map T.range_of items.now)) }
 {
     match items {
         [] => Ok(Vec::new(alloc)),

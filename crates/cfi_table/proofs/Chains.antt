@@ -3,6 +3,7 @@ use Rattle.std.proofs.Common.{◌≡◌, ℕ, zero, suc, ◌+◌, ◌-◌, ◌�
 use Rattle.std.specs.Prelude.{◌==◌, ◌||◌, All, nat_lt, nat_le}
 use Rattle.std.proofs.lemmas.Bool.Decides.{nat_tests}
 use Rattle.std.proofs.lemmas.List.{append-nil}
+use Rattle.std.proofs.lemmas.List.Elements.{All-push}
 use Rattle.std.proofs.lemmas.Bool.{eq-eqb}
 use Rattle.prof_bytes.specs.Outcome.{◌>>=◌}
 use Rattle.prof_bytes.specs.Number.{number_in}
@@ -12,9 +13,11 @@ use Rattle.prof_bytes.specs.Reading.{moved, up_to}
 use Rattle.prof_bytes.proofs.Tests.{not_zero}
 use Rattle.cfi_table.specs.declared.fault.FrameFault.{FrameFault}
 use Rattle.cfi_table.specs.declared.extent.Extent.{Extent}
+use Rattle.cfi_table.specs.declared.extent.ZeroLength.{ZeroLength}
+use Rattle.cfi_table.specs.declared.extent.ZeroLength.TheVariants as zero_lengths
 use Rattle.cfi_table.specs.Instructions.{Reading}
-use Rattle.cfi_table.specs.Rules.{fault_at}
-use Rattle.cfi_table.specs.Entries.{before_others, chained, chain_from, extents_of}
+use Rattle.cfi_table.specs.Rules.{instruction_fault}
+use Rattle.cfi_table.specs.Entries.{before_others, at_zero, chained, chain_from, extents_by}
 use Rattle.cfi_table.specs.private.Placed.{AreRising, IsPlaced}
 use Rattle.cfi_table.proofs.Rising.{from_lower}
 
@@ -92,34 +95,34 @@ behind front others = (front ++ others.0, others.1)
 abbrev pub entry_between : Input FrameFault → Input FrameFault → Extent
 entry_between input rest = record { offset = input.at.offset; end = rest.at.offset }
 
-pub record KeepsChain (section : List ℕ) (input : Input FrameFault) (front : List Extent) : Type 0 where
+pub record KeepsChain (z : ZeroLength) (section : List ℕ) (input : Input FrameFault) (front : List Extent) : Type 0 where
   pub whole : input.at.whole ≡ section
   pub count : ℕ
   pub enough : length (left_of input.at) ≤ count
-  pub so_far : behind front (chain_from count input) ≡ extents_of section
+  pub so_far : behind front (chain_from z count input) ≡ extents_by z section
   pub placed : All (IsPlaced section) front
 
 -- the input with the fault at its own offset
 abbrev pub marked : Input FrameFault → Input FrameFault
-marked input = record input { missing = fault_at input }
+marked input = record input { missing = instruction_fault input }
 
-step_over : (m : ℕ) (input body rest : Input FrameFault) → 0 < length (left_of input.at) → part_from (marked input) ≡ Ok (body, rest) → length (left_of body.at) ≡ 0 → chain_from (suc m) input ≡ chain_from m rest
+step_zero : (z : ZeroLength) (m : ℕ) (input body rest : Input FrameFault) → 0 < length (left_of input.at) → part_from (marked input) ≡ Ok (body, rest) → length (left_of body.at) ≡ 0 → chain_from z (suc m) input ≡ at_zero z (chain_from z m rest)
 unfolding chain_from
-step_over m input body rest lt is none = rw (not_zero _ lt, is, eq-eqb _ 0 none) refl
+step_zero z m input body rest lt is none = rw (not_zero _ lt, is, eq-eqb _ 0 none) refl
 
-step_on : (m : ℕ) (input body rest : Input FrameFault) → 0 < length (left_of input.at) → part_from (marked input) ≡ Ok (body, rest) → 0 < length (left_of body.at)
-    → chain_from (suc m) input ≡ before_others (entry_between input rest) (chain_from m rest)
+step_on : (z : ZeroLength) (m : ℕ) (input body rest : Input FrameFault) → 0 < length (left_of input.at) → part_from (marked input) ≡ Ok (body, rest) → 0 < length (left_of body.at)
+    → chain_from z (suc m) input ≡ before_others (entry_between input rest) (chain_from z m rest)
 unfolding chain_from
-step_on m input body rest lt is some = rw (not_zero _ lt, is, not_zero _ some) refl
+step_on z m input body rest lt is some = rw (not_zero _ lt, is, not_zero _ some) refl
 
-step_fault : (m : ℕ) (input : Input FrameFault) (fault : FrameFault) → 0 < length (left_of input.at) → part_from (marked input) ≡ Err fault → chain_from (suc m) input ≡ ([], Some fault)
+step_fault : (z : ZeroLength) (m : ℕ) (input : Input FrameFault) (fault : FrameFault) → 0 < length (left_of input.at) → part_from (marked input) ≡ Err fault → chain_from z (suc m) input ≡ ([], Some fault)
 unfolding chain_from
-step_fault m input fault lt is = rw (not_zero _ lt, is) refl
+step_fault z m input fault lt is = rw (not_zero _ lt, is) refl
 
-pub step_end : (m : ℕ) (input : Input FrameFault) → length (left_of input.at) ≡ 0 → chain_from m input ≡ ([], None)
+pub step_end : (z : ZeroLength) (m : ℕ) (input : Input FrameFault) → length (left_of input.at) ≡ 0 → chain_from z m input ≡ ([], None)
 unfolding chain_from
-step_end zero input none = refl
-step_end (suc m) input none = rw (eq-eqb _ 0 none) refl
+step_end z zero input none = refl
+step_end z (suc m) input none = rw (eq-eqb _ 0 none) refl
 
 pub shorter : (input body rest : Input FrameFault) → 0 < length (left_of input.at) → part_from (marked input) ≡ Ok (body, rest) → length (left_of rest.at) < length (left_of input.at)
 shorter input body rest lt is =
@@ -128,19 +131,36 @@ shorter input body rest lt is =
     let len : length rest.at.whole ≡ length input.at.whole = ap (λ (xs : List ℕ). length xs) f.whole in
     omega (arith, length-drop input.at.offset input.at.whole, length-drop rest.at.offset rest.at.whole)
 
-pub passes_over : (section : List ℕ) (input body rest : Input FrameFault) (front : List Extent) → 0 < length (left_of input.at) → part_from (marked input) ≡ Ok (body, rest) → length (left_of body.at) ≡ 0
-    → KeepsChain section input front → KeepsChain section rest front
-passes_over section input body rest front lt is none kept =
+-- the chain from the input on, where bytes are left
+one_more : (z : ZeroLength) (section : List ℕ) (input : Input FrameFault) (front : List Extent) (k : KeepsChain z section input front) → 0 < length (left_of input.at) → behind front (chain_from z (suc (k.count - 1)) input) ≡ extents_by z section
+one_more z section input front k some =
+    let enough = k.enough in
+    let one : suc (k.count - 1) ≡ k.count = omega arith in
+    ap (λ (n : ℕ). behind front (chain_from z n input)) one ∙ k.so_far
+
+finished : (z : ZeroLength) (section : List ℕ) (front : List Extent) (broken : Option FrameFault) (found : List Extent × Option FrameFault) → found ≡ ([], broken) → behind front found ≡ extents_by z section → (front, broken) ≡ extents_by z section
+finished z section front broken found e so_far = ap (λ (es : List Extent). (es, broken)) (sym (append-nil front)) ∙ ap (behind front) (sym e) ∙ so_far
+
+pub passes_over : (z : ZeroLength) (section : List ℕ) (input body rest : Input FrameFault) (front : List Extent) → ¬ (z ≡ zero_lengths.EndsList) → 0 < length (left_of input.at) → part_from (marked input) ≡ Ok (body, rest) → length (left_of body.at) ≡ 0
+    → KeepsChain z section input front → KeepsChain z section rest front
+passes_over zero_lengths.EndsList section input body rest front over lt is none kept = absurd (over refl)
+passes_over zero_lengths.PassedOver section input body rest front over lt is none kept =
     let less = shorter input body rest lt is in
     let enough = kept.enough in
-    let one : kept.count ≡ suc (kept.count - 1) = omega arith in
     record {
       whole = (follows (marked input) body rest is).whole ∙ kept.whole;
       count = kept.count - 1;
       enough = omega arith;
-      so_far = ap (behind front) (sym (step_over (kept.count - 1) input body rest lt is none) ∙ ap (λ (n : ℕ). chain_from n input) (sym one)) ∙ kept.so_far;
+      so_far = ap (behind front) (sym (step_zero zero_lengths.PassedOver (kept.count - 1) input body rest lt is none)) ∙ one_more zero_lengths.PassedOver section input front kept lt;
       placed = kept.placed;
     }
+
+-- a length of 0 ends the list
+pub ends_zero : (z : ZeroLength) (section : List ℕ) (input body rest : Input FrameFault) (front : List Extent) → z ≡ zero_lengths.EndsList → 0 < length (left_of input.at) → part_from (marked input) ≡ Ok (body, rest) → length (left_of body.at) ≡ 0
+    → KeepsChain z section input front → (front, None) ≡ extents_by z section
+ends_zero zero_lengths.PassedOver section input body rest front over lt is none kept = absurd cc
+ends_zero zero_lengths.EndsList section input body rest front over lt is none kept =
+    finished zero_lengths.EndsList section front None _ (step_zero zero_lengths.EndsList (kept.count - 1) input body rest lt is none) (one_more zero_lengths.EndsList section input front kept lt)
 
 pub is_placed : (section : List ℕ) (input body rest : Input FrameFault) → input.at.whole ≡ section → part_from (marked input) ≡ Ok (body, rest) → IsPlaced section (entry_between input rest)
 is_placed section input body rest whole is =
@@ -150,13 +170,12 @@ is_placed section input body rest whole is =
     let len : length input.at.whole ≡ length section = ap (λ (xs : List ℕ). length xs) whole in
     record { order = omega arith; within = omega arith }
 
-pub goes_on : (section : List ℕ) (input body rest : Input FrameFault) (front next : List Extent) → 0 < length (left_of input.at) → part_from (marked input) ≡ Ok (body, rest) → 0 < length (left_of body.at)
-    → next ≡ front ++ entry_between input rest ∷ [] → All (IsPlaced section) next → KeepsChain section input front → KeepsChain section rest next
-goes_on section input body rest front next lt is some pushed placed kept =
+pub goes_on : (z : ZeroLength) (section : List ℕ) (input body rest : Input FrameFault) (front next : List Extent) → 0 < length (left_of input.at) → part_from (marked input) ≡ Ok (body, rest) → 0 < length (left_of body.at)
+    → next ≡ front ++ entry_between input rest ∷ [] → KeepsChain z section input front → KeepsChain z section rest next
+goes_on z section input body rest front next lt is some pushed kept =
     let less = shorter input body rest lt is in
     let enough = kept.enough in
-    let one : kept.count ≡ suc (kept.count - 1) = omega arith in
-    let others = chain_from (kept.count - 1) rest in
+    let others = chain_from z (kept.count - 1) rest in
     record {
       whole = (follows (marked input) body rest is).whole ∙ kept.whole;
       count = kept.count - 1;
@@ -164,22 +183,16 @@ goes_on section input body rest front next lt is some pushed placed kept =
       so_far =
           ap (λ (es : List Extent). behind es others) pushed
           ∙ ap (λ (es : List Extent). (es, others.1)) (append_assoc front (entry_between input rest ∷ []) others.0)
-          ∙ ap (behind front) (sym (step_on (kept.count - 1) input body rest lt is some) ∙ ap (λ (n : ℕ). chain_from n input) (sym one))
-          ∙ kept.so_far;
-      placed = placed;
+          ∙ ap (behind front) (sym (step_on z (kept.count - 1) input body rest lt is some))
+          ∙ one_more z section input front kept lt;
+      placed = rw pushed (All-push (IsPlaced section) front (entry_between input rest) kept.placed (is_placed section input body rest kept.whole is));
     }
 
-pub stops : (section : List ℕ) (input : Input FrameFault) (fault : FrameFault) (front : List Extent) → 0 < length (left_of input.at) → part_from (marked input) ≡ Err fault → KeepsChain section input front → (front, Some fault) ≡ extents_of section
-stops section input fault front lt is kept =
-    let enough = kept.enough in
-    let one : kept.count ≡ suc (kept.count - 1) = omega arith in
-    ap (λ (es : List Extent). (es, Some fault)) (sym (append-nil front))
-    ∙ ap (behind front) (sym (step_fault (kept.count - 1) input fault lt is) ∙ ap (λ (n : ℕ). chain_from n input) (sym one))
-    ∙ kept.so_far
+pub stops : (z : ZeroLength) (section : List ℕ) (input : Input FrameFault) (fault : FrameFault) (front : List Extent) → 0 < length (left_of input.at) → part_from (marked input) ≡ Err fault → KeepsChain z section input front → (front, Some fault) ≡ extents_by z section
+stops z section input fault front lt is kept = finished z section front (Some fault) _ (step_fault z (kept.count - 1) input fault lt is) (one_more z section input front kept lt)
 
-pub ends : (section : List ℕ) (input : Input FrameFault) (front : List Extent) → length (left_of input.at) ≡ 0 → KeepsChain section input front → (front, None) ≡ extents_of section
-ends section input front none kept =
-    ap (λ (es : List Extent). (es, None)) (sym (append-nil front)) ∙ ap (behind front) (sym (step_end kept.count input none)) ∙ kept.so_far
+pub ends : (z : ZeroLength) (section : List ℕ) (input : Input FrameFault) (front : List Extent) → length (left_of input.at) ≡ 0 → KeepsChain z section input front → (front, None) ≡ extents_by z section
+ends z section input front none kept = finished z section front None _ (step_end z kept.count input none) kept.so_far
 
 -- ---- the fault of a length is at its offset
 
@@ -206,28 +219,37 @@ fault_is input fault e = from (nat_lt (length (left_of input.at)) 4) (number_in 
 
 -- ---- entries lie one behind the other
 
-chain_rises : (n : ℕ) (input : Input FrameFault) → AreRising input.at.offset (map (λ e. e.offset) (chain_from n input).0)
+chain_rises : (z : ZeroLength) (n : ℕ) (input : Input FrameFault) → AreRising input.at.offset (map (λ e. e.offset) (chain_from z n input).0)
 unfolding chain_from
-chain_rises zero input = tt
-chain_rises (suc n) input = go (length (left_of input.at) == 0) (part_from (marked input)) refl (λ next. chain_rises n next)
+chain_rises z zero input = tt
+chain_rises z (suc n) input = go (length (left_of input.at) == 0) (part_from (marked input)) refl (λ next. chain_rises z n next)
   where
-    sized : (b : Bool) (body rest : Input FrameFault) → part_from (marked input) ≡ Ok (body, rest) → AreRising rest.at.offset (map (λ e. e.offset) (chain_from n rest).0)
-        → AreRising input.at.offset (map (λ e. e.offset) (cond b (chain_from n rest) (before_others (entry_between input rest) (chain_from n rest))).0)
-    sized true body rest is up = let order = (follows (marked input) body rest is).order in from_lower input.at.offset rest.at.offset (map (λ e. e.offset) (chain_from n rest).0) (omega arith) up
-    sized false body rest is up = let order = (follows (marked input) body rest is).order in (omega arith, from_lower (input.at.offset + 1) rest.at.offset (map (λ e. e.offset) (chain_from n rest).0) (omega arith) up)
+    Rises : ℕ → List Extent × Option FrameFault → Type 0
+    Rises low found = AreRising low (map (λ e. e.offset) found.0)
 
-    linked : (r : Reading (Input FrameFault)) → part_from (marked input) ≡ r → ((next : Input FrameFault) → AreRising next.at.offset (map (λ e. e.offset) (chain_from n next).0))
-        → AreRising input.at.offset (map (λ e. e.offset) (chained input (λ next. chain_from n next) r).0)
+    over : (y : ZeroLength) (low : ℕ) (others : List Extent × Option FrameFault) → Rises low others → Rises low (at_zero y others)
+    over zero_lengths.PassedOver low others up = up
+    over zero_lengths.EndsList low others up = tt
+
+    sized : (b : Bool) (body rest : Input FrameFault) → part_from (marked input) ≡ Ok (body, rest) → Rises rest.at.offset (chain_from z n rest)
+        → Rises input.at.offset (cond b (at_zero z (chain_from z n rest)) (before_others (entry_between input rest) (chain_from z n rest)))
+    sized true body rest is up =
+        let order = (follows (marked input) body rest is).order in
+        over z input.at.offset (chain_from z n rest) (from_lower input.at.offset rest.at.offset (map (λ e. e.offset) (chain_from z n rest).0) (omega arith) up)
+    sized false body rest is up = let order = (follows (marked input) body rest is).order in (omega arith, from_lower (input.at.offset + 1) rest.at.offset (map (λ e. e.offset) (chain_from z n rest).0) (omega arith) up)
+
+    linked : (r : Reading (Input FrameFault)) → part_from (marked input) ≡ r → ((next : Input FrameFault) → Rises next.at.offset (chain_from z n next))
+        → Rises input.at.offset (chained z input (λ next. chain_from z n next) r)
     linked (Err fault) is up = tt
     linked (Ok found) is up = sized (length (left_of found.0.at) == 0) found.0 found.1 is (up found.1)
 
-    go : (b : Bool) (r : Reading (Input FrameFault)) → part_from (marked input) ≡ r → ((next : Input FrameFault) → AreRising next.at.offset (map (λ e. e.offset) (chain_from n next).0))
-        → AreRising input.at.offset (map (λ e. e.offset) (cond b ([], None) (chained input (λ next. chain_from n next) r)).0)
+    go : (b : Bool) (r : Reading (Input FrameFault)) → part_from (marked input) ≡ r → ((next : Input FrameFault) → Rises next.at.offset (chain_from z n next))
+        → Rises input.at.offset (cond b ([], None) (chained z input (λ next. chain_from z n next) r))
     go true r is up = tt
     go false r is up = linked r is up
 
-pub in_order : (section : List ℕ) (found : List Extent × Option FrameFault) → found ≡ extents_of section → AreRising 0 (map (λ e. e.offset) found.0)
-in_order section found is = rw is (chain_rises (length section) (record { at = record { whole = section; offset = 0 }; missing = record { offset = 0 } }))
+pub in_order : (z : ZeroLength) (section : List ℕ) (found : List Extent × Option FrameFault) → found ≡ extents_by z section → AreRising 0 (map (λ e. e.offset) found.0)
+in_order z section found is = rw is (chain_rises z (length section) (record { at = record { whole = section; offset = 0 }; missing = record { offset = 0 } }))
 
 -- ---- a part as it was read
 
@@ -236,7 +258,7 @@ part_read input before body after r same e is =
     let P : Input FrameFault → Type 0 = λ b. part_from b ≡ Ok (body, after) in
     subst P same (was_read r body before after (part_from before) e is)
 
-pub part_fault : (input before after : Input FrameFault) (fault : FrameFault) (r : Result (Input FrameFault) FrameFault) → before ≡ marked input → (r, after) ≡ answered before (part_from before) → r ≡ Err fault → part_from (marked input) ≡ Err (fault_at input)
+pub part_fault : (input before after : Input FrameFault) (fault : FrameFault) (r : Result (Input FrameFault) FrameFault) → before ≡ marked input → (r, after) ≡ answered before (part_from before) → r ≡ Err fault → part_from (marked input) ≡ Err (instruction_fault input)
 part_fault input before after fault r same e is =
     let P : Input FrameFault → Type 0 = λ b. part_from b ≡ Err fault in
     let faulty : part_from (marked input) ≡ Err fault = subst P same (was_fault r fault before after (part_from before) e is) in

@@ -17,7 +17,7 @@ use Rattle.cfi_table.specs.declared.checker.CfaForm.{CfaForm}
 use Rattle.cfi_table.specs.declared.checker.CfaForm.TheVariants as forms
 use Rattle.cfi_table.specs.Instructions.{Reading, instruction_from}
 use Rattle.cfi_table.specs.Rules.{State, Remembered, rule_at, with_rule, with_cfa, with_cfa_register, with_cfa_offset, with_source}
-use Rattle.cfi_table.specs.Rules.{with_remembered, execute, or_fault, fault_at, step_by, run_by, is_past, run_all}
+use Rattle.cfi_table.specs.Rules.{with_remembered, execute, or_fault, instruction_fault, step_by, run_by, is_past, run_all}
 use Rattle.cfi_table.specs.private.Checking.{CfaForms, form_of, remembered_forms, forms_of, forms_after, to_register, to_new_register}
 use Rattle.cfi_table.specs.private.Checking.{to_new_offset, to_source, to_remembered, execute_forms, never, run_forms}
 
@@ -84,7 +84,7 @@ abbrev seen : State × Input FrameFault → CfaForms × Input FrameFault
 seen t = (forms_of t.0, t.1)
 
 step_as_forms : (initial : List Rule) (f : AlignmentFactors) (input : Input FrameFault) (s : State) → viewed seen (step_by (execute initial) f input s) ≡ step_by execute_forms f input (forms_of s)
-step_as_forms initial f input s = decoded (instruction_from f (record input { missing = fault_at input }))
+step_as_forms initial f input s = decoded (instruction_from f (record input { missing = instruction_fault input }))
   where
     behind : Input FrameFault → State → Reading State
     behind next t = Ok (t, next)
@@ -92,14 +92,14 @@ step_as_forms initial f input s = decoded (instruction_from f (record input { mi
     behind_forms : Input FrameFault → CfaForms → Reading CfaForms
     behind_forms next k = Ok (k, next)
 
-    executed : (next : Input FrameFault) (o : Option State) → viewed seen (or_fault (fault_at input) o >>= behind next) ≡ (or_fault (fault_at input) (option_map forms_of o) >>= behind_forms next)
+    executed : (next : Input FrameFault) (o : Option State) → viewed seen (or_fault (instruction_fault input) o >>= behind next) ≡ (or_fault (instruction_fault input) (option_map forms_of o) >>= behind_forms next)
     executed next None = refl
     executed next (Some t) = refl
 
     decoded : (r : Reading CallFrameInstruction)
-        → viewed seen (r >>= λ i. or_fault (fault_at input) (execute initial i.0 s) >>= behind i.1) ≡ (r >>= λ i. or_fault (fault_at input) (execute_forms i.0 (forms_of s)) >>= behind_forms i.1)
+        → viewed seen (r >>= λ i. or_fault (instruction_fault input) (execute initial i.0 s) >>= behind i.1) ≡ (r >>= λ i. or_fault (instruction_fault input) (execute_forms i.0 (forms_of s)) >>= behind_forms i.1)
     decoded (Err fault) = refl
-    decoded (Ok i) = executed i.1 (execute initial i.0 s) ∙ ap (λ (o : Option CfaForms). or_fault (fault_at input) o >>= behind_forms i.1) (execute_as_forms initial i.0 s)
+    decoded (Ok i) = executed i.1 (execute initial i.0 s) ∙ ap (λ (o : Option CfaForms). or_fault (instruction_fault input) o >>= behind_forms i.1) (execute_as_forms initial i.0 s)
 
 -- the forms at a run's end, or its fault
 run_as_forms : (n : ℕ) (initial : List Rule) (f : AlignmentFactors) (input : Input FrameFault) (s : State) → viewed forms_of (run_by (execute initial) (is_past None) n f input s) ≡ run_by execute_forms never n f input (forms_of s)

@@ -3,6 +3,8 @@ pub mod Runs
 pub mod Forms
 pub mod Rising
 pub mod Chains
+pub mod AllOk
+pub mod Seen
 pub mod Entries
 pub mod Least
 pub mod Room

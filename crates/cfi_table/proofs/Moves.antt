@@ -34,7 +34,7 @@ stays input = record { whole = refl; offset = omega arith }
 on : (a b c : Input FrameFault) → Moves a b → Moves b c → Moves a c
 on a b c p q = record { whole = q.whole ∙ p.whole; offset = let x = p.offset in let y = q.offset in omega arith }
 
-takes : {X : Type 0} (input : Input FrameFault) (o : Option (X × ℕ)) → AllMove input (taken input o)
+pub takes : {X : Type 0} (input : Input FrameFault) (o : Option (X × ℕ)) → AllMove input (taken input o)
 takes input None = tt
 takes input (Some r) = record { whole = refl; offset = omega arith }
 
@@ -46,20 +46,20 @@ binds {X} {Y} input (Ok x) next moves after = go (next x) (after x)
     go (Err fault) then = tt
     go (Ok y) then = on input x.1 y.1 moves then
 
-either : {X : Type 0} (input : Input FrameFault) (b : Bool) (x y : Reading X) → AllMove input x → AllMove input y → AllMove input (cond b x y)
+pub either : {X : Type 0} (input : Input FrameFault) (b : Bool) (x y : Reading X) → AllMove input x → AllMove input y → AllMove input (cond b x y)
 either input true x y p q = p
 either input false x y p q = q
 
 pub number_moves : (count : ℕ) (input : Input FrameFault) → AllMove input (number_from count input)
 number_moves count input = takes input (number_at count (left_of input.at))
 
-uleb_moves : (input : Input FrameFault) → AllMove input (uleb_from input)
+pub uleb_moves : (input : Input FrameFault) → AllMove input (uleb_from input)
 uleb_moves input = takes input (uleb_at (left_of input.at))
 
-sleb_moves : (input : Input FrameFault) → AllMove input (sleb_from input)
+pub sleb_moves : (input : Input FrameFault) → AllMove input (sleb_from input)
 sleb_moves input = takes input (sleb_at (left_of input.at))
 
-bytes_move : (count : ℕ) (input : Input FrameFault) → AllMove {X = List ℕ} input (bytes_from count input)
+pub bytes_move : (count : ℕ) (input : Input FrameFault) → AllMove {X = List ℕ} input (bytes_from count input)
 bytes_move count input = takes input (bytes_at count (left_of input.at))
 
 offset_moves : (input : Input FrameFault) → AllMove input (offset_from input)
@@ -74,7 +74,7 @@ factored_sf_moves : (f : AlignmentFactors) (input : Input FrameFault) → AllMov
 unfolding factored_sf_from
 factored_sf_moves f input = binds input (sleb_from input) _ (sleb_moves input) (λ n. stays n.1)
 
-block_moves : (input : Input FrameFault) → AllMove input (block_from input)
+pub block_moves : (input : Input FrameFault) → AllMove input (block_from input)
 unfolding block_from
 block_moves input = binds input (uleb_from input) _ (uleb_moves input) (λ n. binds {X = List ℕ} {Y = ℕ} n.1 (bytes_from n.0 n.1) _ (bytes_move n.0 n.1) (λ b. stays b.1))
 
@@ -126,21 +126,21 @@ opcode_moves f byte input =
     (either input (byte / 64 == DW_CFA_offset / 64) _ _ (rule_moves f DW_CFA_offset_extended (byte % 64) input)
     (either input (byte / 64 == DW_CFA_restore / 64) _ _ (stays input) (extended_moves f byte input)))
 
--- an instruction ends behind its first byte
-pub instruction_moves : (f : AlignmentFactors) (input next : Input FrameFault) (i : CallFrameInstruction) → instruction_from f input ≡ Ok (i, next) → (next.at.whole ≡ input.at.whole) × (input.at.offset < next.at.offset)
-unfolding instruction_from
-instruction_moves f input next i e = from (nat_lt (length (left_of input.at)) 1) (number_in 1 (left_of input.at)) e
+-- what is read behind a byte ends behind it
+pub behind_byte : {X : Type 0} (next : ℕ × Input FrameFault → Reading X) (input after : Input FrameFault) (x : X) → ((n : ℕ) (mid : Input FrameFault) → AllMove mid (next (n, mid))) → (number_from 1 input >>= next) ≡ Ok (x, after)
+    → (after.at.whole ≡ input.at.whole) × (input.at.offset < after.at.offset)
+behind_byte {X} next input after x moves e = from (nat_lt (length (left_of input.at)) 1) (number_in 1 (left_of input.at)) e
   where
-    ok_is : (a b : CallFrameInstruction × Input FrameFault) → (let x : Reading CallFrameInstruction = Ok a in x) ≡ Ok b → a ≡ b
-    ok_is a b e = cc
+    ends : (mid : Input FrameFault) (r : Reading X) → AllMove mid r → r ≡ Ok (x, after) → Moves mid after
+    ends mid r moves e = let P : Reading X → Type 0 = λ q. AllMove mid q in subst P e moves
 
-    ends : (mid : Input FrameFault) (r : Reading CallFrameInstruction) → r ≡ Ok (i, next) → AllMove mid r → Moves mid next
-    ends mid (Err fault) e moves = absurd cc
-    ends mid (Ok x) e moves = let P : CallFrameInstruction × Input FrameFault → Type 0 = λ y. Moves mid y.1 in subst P (ok_is x (i, next) e) moves
-
-    from : (b : Bool) (n : ℕ) → (taken input (cond b None (Some (n, 1))) >>= λ byte. opcode_then f byte.0 byte.1) ≡ Ok (i, next) → (next.at.whole ≡ input.at.whole) × (input.at.offset < next.at.offset)
+    from : (b : Bool) (n : ℕ) → (taken input (cond b None (Some (n, 1))) >>= next) ≡ Ok (x, after) → (after.at.whole ≡ input.at.whole) × (input.at.offset < after.at.offset)
     from true n e = absurd cc
     from false n e =
         let mid : Input FrameFault = record { at = record { whole = input.at.whole; offset = input.at.offset + 1 }; missing = input.missing } in
-        let m = ends mid (opcode_then f n mid) e (opcode_moves f n mid) in
+        let m = ends mid (next (n, mid)) (moves n mid) e in
         (m.whole, let le = m.offset in omega arith)
+
+pub instruction_moves : (f : AlignmentFactors) (input next : Input FrameFault) (i : CallFrameInstruction) → instruction_from f input ≡ Ok (i, next) → (next.at.whole ≡ input.at.whole) × (input.at.offset < next.at.offset)
+unfolding instruction_from
+instruction_moves f input next i e = behind_byte (λ byte. opcode_then f byte.0 byte.1) input next i (λ n mid. opcode_moves f n mid) e

@@ -1,17 +1,18 @@
 -- Runs of instructions, one more at a time.
-use Rattle.std.proofs.Common.{◌≡◌, ℕ, zero, suc, ◌-◌, ◌≤◌, ◌<◌, ◌^◌, Bool, true, false, List, length, length-drop, Option, Some, None, Ok, Err, refl, sym, ap, ◌∙◌, arith}
+use Rattle.std.proofs.Common.{◌≡◌, ℕ, zero, suc, ◌-◌, ◌≤◌, ◌<◌, ◌^◌, Bool, true, false, List, length, length-drop, Option, Ok, Err, refl, sym, ap, ◌∙◌, arith}
 use Rattle.std.proofs.lemmas.Bool.{eq-eqb}
-use Rattle.prof_bytes.specs.Outcome.{◌>>=◌, FailsBy}
+use Rattle.prof_bytes.specs.Outcome.{FailsBy}
 use Rattle.prof_bytes.specs.Reading.{left_of}
 use Rattle.prof_bytes.specs.Fields.{Input}
 use Rattle.prof_bytes.specs.declared.fail.Fail.{Fail}
 use Rattle.prof_bytes.specs.declared.fail.Fail.TheVariants as fails
+use Rattle.prof_bytes.proofs.Outcomes.{bind_ok, ok_same}
 use Rattle.prof_bytes.proofs.Tests.{not_zero}
 use Rattle.cfi_table.specs.declared.fault.FrameFault.{FrameFault}
 use Rattle.cfi_table.specs.declared.instruction.AlignmentFactors.{AlignmentFactors}
 use Rattle.cfi_table.specs.declared.instruction.CallFrameInstruction.{CallFrameInstruction}
-use Rattle.cfi_table.specs.Instructions.{Reading, instruction_from}
-use Rattle.cfi_table.specs.Rules.{or_fault, fault_at, step_by, run_by}
+use Rattle.cfi_table.specs.Instructions.{instruction_from}
+use Rattle.cfi_table.specs.Rules.{or_fault, instruction_fault, step_by, run_by}
 use Rattle.cfi_table.proofs.Moves.{instruction_moves}
 
 pub run_end : {S : Type 0} (x : CallFrameInstruction → S → Option S) (stops : S → Bool) (m : ℕ) (f : AlignmentFactors) (input : Input FrameFault) (s : S) → length (left_of input.at) ≡ 0 → run_by x stops m f input s ≡ Ok s
@@ -36,26 +37,13 @@ run_fault x stops m f input s fault some is = rw (not_zero _ some, is) refl
 
 -- a step takes bytes
 pub step_moves : {S : Type 0} (x : CallFrameInstruction → S → Option S) (f : AlignmentFactors) (input next : Input FrameFault) (s t : S) → step_by x f input s ≡ Ok (t, next) → (next.at.whole ≡ input.at.whole) × (input.at.offset < next.at.offset)
-step_moves {S} x f input next s t e = decoded (instruction_from f here) refl e
-  where
-    here : Input FrameFault
-    here = record input { missing = fault_at input }
+step_moves {S} x f input next s t e =
+    let read = bind_ok (instruction_from f (record input { missing = instruction_fault input })) _ (t, next) e in
+    let ran = bind_ok (or_fault (instruction_fault input) (x read.0.0 s)) _ (t, next) read.2 in
+    instruction_moves f (record input { missing = instruction_fault input }) next read.0.0
+    (read.1 ∙ ap (λ (p : S × Input FrameFault). Ok (read.0.0, p.1)) (ok_same {F = FrameFault} (ran.0, read.0.1) (t, next) ran.2))
 
-    behind : Input FrameFault → S → Reading S
-    behind after u = Ok (u, after)
-
-    pair_is : (a b : S × Input FrameFault) → (let r : Reading S = Ok a in r) ≡ Ok b → a.1 ≡ b.1
-    pair_is a b e = cc
-
-    executed : (i : CallFrameInstruction × Input FrameFault) (o : Option S) → (or_fault (fault_at input) o >>= behind i.1) ≡ Ok (t, next) → i.1 ≡ next
-    executed i None e = absurd cc
-    executed i (Some u) e = pair_is (u, i.1) (t, next) e
-
-    decoded : (r : Reading CallFrameInstruction) → instruction_from f here ≡ r → (r >>= λ i. or_fault (fault_at input) (x i.0 s) >>= behind i.1) ≡ Ok (t, next) → (next.at.whole ≡ input.at.whole) × (input.at.offset < next.at.offset)
-    decoded (Err fault) is e = absurd cc
-    decoded (Ok i) is e = instruction_moves f here next i.0 (is ∙ ap (λ (n : Input FrameFault). Ok (i.0, n)) (executed i (x i.0 s) e))
-
-left_shorter : (input next : Input FrameFault) → next.at.whole ≡ input.at.whole → input.at.offset < next.at.offset → 0 < length (left_of input.at) → length (left_of next.at) < length (left_of input.at)
+pub left_shorter : (input next : Input FrameFault) → next.at.whole ≡ input.at.whole → input.at.offset < next.at.offset → 0 < length (left_of input.at) → length (left_of next.at) < length (left_of input.at)
 left_shorter input next same lt some =
     let len : length next.at.whole ≡ length input.at.whole = ap (λ (xs : List ℕ). length xs) same in
     omega (arith, length-drop input.at.offset input.at.whole, length-drop next.at.offset next.at.whole)

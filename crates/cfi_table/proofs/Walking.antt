@@ -19,7 +19,7 @@ use Rattle.cfi_table.specs.declared.rules.Rule.{Rule}
 use Rattle.cfi_table.specs.declared.rules.Rules.{Rules}
 use Rattle.cfi_table.specs.Rules.{State, is_past, run_all}
 use Rattle.cfi_table.specs.Entries.{after_fde}
-use Rattle.cfi_table.specs.Frames.{Frames, range_of, rules_with, rules_of}
+use Rattle.cfi_table.specs.Frames.{Frames, fde_range, rules_with, rules_of}
 use Rattle.cfi_table.specs.Rows.{FdeRows, row_from, IsRow, IsNextRow, AreFirst}
 use Rattle.cfi_table.specs.private.Resuming.{resumed}
 use Rattle.cfi_table.specs.private.Walking.{IsAtRow, AreRows}
@@ -27,7 +27,7 @@ use Rattle.cfi_table.proofs.Resuming.{resumed_here, resumed_past, resumed_at_end
 
 -- a run by the start of a row, and what it says of later addresses
 pub record HasRun (section : List ℕ) (fde : Fde) (initial : List Rule) (start : ℕ) (t : State) (next : Input FrameFault) : Type 0 where
-  pub some : start < (range_of fde).end
+  pub some : start < (fde_range fde).end
   pub low : fde.initial_location ≤ start
   pub short : length next.at.whole < 2 ^ 32
   pub ended : is_past (Some start) t ≡ false → length (left_of next.at) ≡ 0
@@ -63,21 +63,21 @@ unfolding rules_of
 no_rules_here section fde address fault is = ap (rules_with fde.cie) is
 
 abbrev pub row_end : Fde → ℕ → ℕ → ℕ
-row_end fde start location = cond (nat_lt start location) (min location (range_of fde).end) (range_of fde).end
+row_end fde start location = cond (nat_lt start location) (min location (fde_range fde).end) (fde_range fde).end
 
-end_past : (fde : Fde) (start location : ℕ) → start < location → row_end fde start location ≡ min location (range_of fde).end
+end_past : (fde : Fde) (start location : ℕ) → start < location → row_end fde start location ≡ min location (fde_range fde).end
 end_past fde start location lt =
     let past : nat_lt start location ≡ true = grind (arith, nat_tests) in
     rw past refl
 
-end_last : (fde : Fde) (start location : ℕ) → location ≤ start → row_end fde start location ≡ (range_of fde).end
+end_last : (fde : Fde) (start location : ℕ) → location ≤ start → row_end fde start location ≡ (fde_range fde).end
 end_last fde start location le =
     let past : nat_lt start location ≡ false = grind (arith, nat_tests) in
     rw past refl
 
-from_behind : (fde : Fde) (address : ℕ) → (range_of fde).end ≤ address → row_from fde address ≡ None
+from_behind : (fde : Fde) (address : ℕ) → (fde_range fde).end ≤ address → row_from fde address ≡ None
 from_behind fde address le =
-    let inside : nat_lt address (range_of fde).end ≡ false = grind (arith, nat_tests) in
+    let inside : nat_lt address (fde_range fde).end ≡ false = grind (arith, nat_tests) in
     rw inside refl
 
 -- ---- a row that ends where the location rises above its start
@@ -85,7 +85,7 @@ from_behind fde address le =
 pub past_row : (section : List ℕ) (fde : Fde) (initial : List Rule) (start : ℕ) (t : State) (next : Input FrameFault) (row : Row) → HasRun section fde initial start t next → start < t.location
     → row ≡ record { start = start; end = row_end fde start t.location } → IsRow section fde row (Some (rules_in fde t))
 past_row section fde initial start t next row run past is =
-    let ends : row.end ≡ min t.location (range_of fde).end = ap (λ (r : Row). r.end) is ∙ end_past fde start t.location past in
+    let ends : row.end ≡ min t.location (fde_range fde).end = ap (λ (r : Row). r.end) is ∙ end_past fde start t.location past in
     let begins : row.start ≡ start = ap (λ (r : Row). r.start) is in
     let some = run.some in
     let low = run.low in
@@ -99,12 +99,12 @@ past_row section fde initial start t next row run past is =
 
 pub next_past : (section : List ℕ) (fde : Fde) (initial : List Rule) (start : ℕ) (t : State) (next : Input FrameFault) → HasRun section fde initial start t next → start < t.location
     → AreRows section fde initial t next (row_from fde t.location)
-next_past section fde initial start t next run past = go (nat_lt t.location (range_of fde).end) refl
+next_past section fde initial start t next run past = go (nat_lt t.location (fde_range fde).end) refl
   where
-    go : (b : Bool) → nat_lt t.location (range_of fde).end ≡ b → IfSome (let o : Option ℕ = cond b (Some t.location) None in o) (IsAtRow section fde initial t next)
+    go : (b : Bool) → nat_lt t.location (fde_range fde).end ≡ b → IfSome (let o : Option ℕ = cond b (Some t.location) None in o) (IsAtRow section fde initial t next)
     go false e = tt
     go true e =
-        let lt : t.location < (range_of fde).end = grind (arith, nat_tests) in
+        let lt : t.location < (fde_range fde).end = grind (arith, nat_tests) in
         let low = run.low in
         record {
           short = run.short;
@@ -115,17 +115,17 @@ next_past section fde initial start t next run past = go (nat_lt t.location (ran
         }
 
 from_end_past : (fde : Fde) (start location : ℕ) → start < location → row_from fde location ≡ row_from fde (row_end fde start location)
-from_end_past fde start location past = go (nat_lt location (range_of fde).end) refl
+from_end_past fde start location past = go (nat_lt location (fde_range fde).end) refl
   where
-    go : (b : Bool) → nat_lt location (range_of fde).end ≡ b → row_from fde location ≡ row_from fde (row_end fde start location)
+    go : (b : Bool) → nat_lt location (fde_range fde).end ≡ b → row_from fde location ≡ row_from fde (row_end fde start location)
     go true e =
-        let lt : location < (range_of fde).end = grind (arith, nat_tests) in
-        let least : location ≡ min location (range_of fde).end = omega arith in
+        let lt : location < (fde_range fde).end = grind (arith, nat_tests) in
+        let least : location ≡ min location (fde_range fde).end = omega arith in
         ap (row_from fde) (least ∙ sym (end_past fde start location past))
     go false e =
-        let le : (range_of fde).end ≤ location = grind (arith, nat_tests) in
-        let least : (range_of fde).end ≡ min location (range_of fde).end = omega arith in
-        from_behind fde location le ∙ sym (from_behind fde (range_of fde).end (omega arith)) ∙ ap (row_from fde) (least ∙ sym (end_past fde start location past))
+        let le : (fde_range fde).end ≤ location = grind (arith, nat_tests) in
+        let least : (fde_range fde).end ≡ min location (fde_range fde).end = omega arith in
+        from_behind fde location le ∙ sym (from_behind fde (fde_range fde).end (omega arith)) ∙ ap (row_from fde) (least ∙ sym (end_past fde start location past))
 
 pub from_past : (fde : Fde) (start location end : ℕ) (next : Option ℕ) → start < location → next ≡ row_from fde location → end ≡ row_end fde start location → next ≡ row_from fde end
 from_past fde start location end next past is ends = is ∙ from_end_past fde start location past ∙ sym (ap (row_from fde) ends)
@@ -135,7 +135,7 @@ from_past fde start location end next past is ends = is ∙ from_end_past fde st
 pub last_row : (section : List ℕ) (fde : Fde) (initial : List Rule) (start : ℕ) (t : State) (next : Input FrameFault) (row : Row) → HasRun section fde initial start t next → t.location ≤ start
     → row ≡ record { start = start; end = row_end fde start t.location } → IsRow section fde row (Some (rules_in fde t))
 last_row section fde initial start t next row run le is =
-    let ends : row.end ≡ (range_of fde).end = ap (λ (r : Row). r.end) is ∙ end_last fde start t.location le in
+    let ends : row.end ≡ (fde_range fde).end = ap (λ (r : Row). r.end) is ∙ end_last fde start t.location le in
     let begins : row.start ≡ start = ap (λ (r : Row). r.start) is in
     let some = run.some in
     let low = run.low in
@@ -149,15 +149,15 @@ last_row section fde initial start t next row run le is =
     }
 
 pub from_last : (fde : Fde) (start location end : ℕ) → location ≤ start → end ≡ row_end fde start location → None ≡ row_from fde end
-from_last fde start location end le ends = sym (from_behind fde (range_of fde).end (omega arith)) ∙ ap (row_from fde) (sym (ends ∙ end_last fde start location le))
+from_last fde start location end le ends = sym (from_behind fde (fde_range fde).end (omega arith)) ∙ ap (row_from fde) (sym (ends ∙ end_last fde start location le))
 
 -- ---- a row whose instructions are at fault
 
 faulty : (section : List ℕ) (fde : Fde) (initial : List Rule) (s : State) (input : Input FrameFault) (start : ℕ) (fault : FrameFault) (row : Row) → IsAtRow section fde initial s input start
     → ((address later : ℕ) → (let o : Option ℕ = Some start in o) ≡ Some address → address ≤ later → run_all (Some later) initial fde.cie.factors input s ≡ Err fault)
-    → row ≡ record { start = start; end = (range_of fde).end } → IsRow section fde row None
+    → row ≡ record { start = start; end = (fde_range fde).end } → IsRow section fde row None
 faulty section fde initial s input start fault row at later is =
-    let ends : row.end ≡ (range_of fde).end = ap (λ (r : Row). r.end) is in
+    let ends : row.end ≡ (fde_range fde).end = ap (λ (r : Row). r.end) is in
     let begins : row.start ≡ start = ap (λ (r : Row). r.start) is in
     let some = at.some in
     let low = at.low in
@@ -172,13 +172,13 @@ faulty section fde initial s input start fault row at later is =
 
 pub faulty_row : (section : List ℕ) (fde : Fde) (initial : List Rule) (s : State) (input : Input FrameFault) (start : ℕ) (fail : Fail FrameFault) (fault : FrameFault) (range : AddressRange) → IsAtRow section fde initial s input start
     → fail ≡ fails.Fault fault → ((address later : ℕ) → (let o : Option ℕ = Some start in o) ≡ Some address → address ≤ later → FailsBy fail (run_all (Some later) initial fde.cie.factors input s))
-    → range ≡ range_of fde → IsRow section fde (record { start = start; end = range.end }) None
+    → range ≡ fde_range fde → IsRow section fde (record { start = start; end = range.end }) None
 faulty_row section fde initial s input start fail fault range at is later range_is =
     let P : Fail FrameFault → Type 0 = λ f. (address later : ℕ) → (let o : Option ℕ = Some start in o) ≡ Some address → address ≤ later → FailsBy f (run_all (Some later) initial fde.cie.factors input s) in
     faulty section fde initial s input start fault (record { start = start; end = range.end }) at (subst P is later) (ap (λ (r : AddressRange). (let row : Row = record { start = start; end = r.end } in row)) range_is)
 
-pub from_fault : (fde : Fde) (range : AddressRange) → range ≡ range_of fde → None ≡ row_from fde range.end
-from_fault fde range is = sym (from_behind fde (range_of fde).end (omega arith)) ∙ ap (λ (r : AddressRange). row_from fde r.end) (sym is)
+pub from_fault : (fde : Fde) (range : AddressRange) → range ≡ fde_range fde → None ≡ row_from fde range.end
+from_fault fde range is = sym (from_behind fde (fde_range fde).end (omega arith)) ∙ ap (λ (r : AddressRange). row_from fde r.end) (sym is)
 
 -- ---- the row that was made
 
@@ -194,19 +194,19 @@ is_next section fde n found before after row view from to is = subst (λ (b : Fd
 
 -- ---- the FDE that is the first to hold all of its addresses
 
-pub first_holder : (fdes : List Fde) (number : ℕ) (fde : Fde) → slice_get fdes number ≡ Some fde → IsFirst (map range_of fdes) (range_of fde).start (range_of fde).end number
-    → (address : ℕ) → holds address (range_of fde) ≡ true → find (λ (f : Fde). holds address (range_of f)) fdes ≡ Some fde
+pub first_holder : (fdes : List Fde) (number : ℕ) (fde : Fde) → slice_get fdes number ≡ Some fde → IsFirst (map fde_range fdes) (fde_range fde).start (fde_range fde).end number
+    → (address : ℕ) → holds address (fde_range fde) ≡ true → find (λ (f : Fde). holds address (fde_range f)) fdes ≡ Some fde
 first_holder fdes number fde is first address held =
     let low : fde.initial_location ≤ address = grind (arith, nat_tests) in
-    let high : address < (range_of fde).end = grind (arith, nat_tests) in
-    find_by_table (holds address) range_of fdes ∙ ap (λ (o : Option ℕ). option_and_then (λ i. slice_get fdes i) o) (first address low high) ∙ is
+    let high : address < (fde_range fde).end = grind (arith, nat_tests) in
+    find_by_table (holds address) fde_range fdes ∙ ap (λ (o : Option ℕ). option_and_then (λ i. slice_get fdes i) o) (first address low high) ∙ is
 
 pub first_of : (frames : Frames) (section : List ℕ) (fdes : List Fde) (fde : Fde) (found : Option Fde) (range : AddressRange) (number : ℕ) (r : Result (Option FdeRows) Memory) → section ≡ frames.section → fdes ≡ frames.fdes
-    → found ≡ slice_get fdes number → found ≡ Some fde → range ≡ range_of fde → IsFirst (map range_of frames.fdes) range.start range.end number
+    → found ≡ slice_get fdes number → found ≡ Some fde → range ≡ fde_range fde → IsFirst (map fde_range frames.fdes) range.start range.end number
     → IfOk r (λ rows. IfSome rows (λ rows. rows ≡ record { section = section; fde = fde; next = row_from fde fde.initial_location; rules = None })) → IfOk r (λ rows. IfSome rows (AreFirst frames))
 first_of frames section fdes fde found range number (Err memory) same all at is range_is first made = tt
 first_of frames section fdes fde found range number (Ok None) same all at is range_is first made = tt
 first_of frames section fdes fde found range number (Ok (Some rows)) same all at is range_is first made =
-    let P : AddressRange → Type 0 = λ r. IsFirst (map range_of frames.fdes) r.start r.end number in
+    let P : AddressRange → Type 0 = λ r. IsFirst (map fde_range frames.fdes) r.start r.end number in
     let stands : slice_get frames.fdes number ≡ Some fde = sym (ap (λ (fs : List Fde). slice_get fs number) all) ∙ sym at ∙ is in
     subst (AreFirst frames) (sym made) (record { section = same; first = first_holder frames.fdes number fde stands (subst P range_is first); next = refl })

@@ -8,12 +8,14 @@ use Rattle.prof_bytes.specs.Fields.{Input, number_from, uleb_from, sleb_from, te
 use Rattle.cfi_table.specs.declared.constants.TheConstants.{DW_CIE_ID}
 use Rattle.cfi_table.specs.declared.fault.FrameFault.{FrameFault}
 use Rattle.cfi_table.specs.declared.extent.Extent.{Extent}
+use Rattle.cfi_table.specs.declared.extent.ZeroLength.{ZeroLength}
+use Rattle.cfi_table.specs.declared.extent.ZeroLength.TheVariants as zero_lengths
 use Rattle.cfi_table.specs.declared.cie.Cie.{Cie}
 use Rattle.cfi_table.specs.declared.fde.Fde.{Fde}
 use Rattle.cfi_table.specs.declared.entry.FrameEntry.{FrameEntry}
 use Rattle.cfi_table.specs.declared.entry.FrameEntry.TheVariants as entries
-use Rattle.cfi_table.specs.Instructions.{Reading, word_of, word_of_signed}
-use Rattle.cfi_table.specs.Rules.{State, no_rules, all_same_value, fault_at, run_all}
+use Rattle.cfi_table.specs.Instructions.{Reading, low_32_bits, word_of_signed}
+use Rattle.cfi_table.specs.Rules.{State, no_rules, all_same_value, instruction_fault, run_all}
 
 -- ---- where the entries lie
 
@@ -21,28 +23,36 @@ use Rattle.cfi_table.specs.Rules.{State, no_rules, all_same_value, fault_at, run
 abbrev pub before_others : Extent → List Extent × Option FrameFault → List Extent × Option FrameFault
 before_others e others = (e ∷ others.0, others.1)
 
--- the bytes that a length counts make an entry; a length of 0 is passed over, and a faulty one ends the section
-abbrev pub chained : Input FrameFault → (Input FrameFault → List Extent × Option FrameFault)
+-- what stands from a length of 0 on, where these are the entries behind it
+abbrev pub at_zero : ZeroLength → List Extent × Option FrameFault → List Extent × Option FrameFault
+at_zero zero_lengths.PassedOver others = others
+at_zero zero_lengths.EndsList others = ([], None)
+
+-- the bytes that a length counts make an entry; a faulty one ends the section
+abbrev pub chained : ZeroLength → Input FrameFault → (Input FrameFault → List Extent × Option FrameFault)
     → Reading (Input FrameFault)
     → List Extent × Option FrameFault
-chained input others (Err fault) = ([], Some fault)
-chained input others (Ok found) =
-    if length (left_of found.0.at) == 0 then others found.1
+chained z input others (Err fault) = ([], Some fault)
+chained z input others (Ok found) =
+    if length (left_of found.0.at) == 0 then at_zero z (others found.1)
     else before_others (record { offset = input.at.offset; end = found.1.at.offset }) (others found.1)
 
 -- the entries one behind the other, and the fault of the first length that has one, at its offset. At most `room`
--- lengths are read:
--- as many as there are bytes are enough
-unfoldable pub chain_from : ℕ → Input FrameFault → List Extent × Option FrameFault
-chain_from zero input = ([], None)
-chain_from (suc room) input =
+-- lengths are read: as many as there are bytes are enough
+unfoldable pub chain_from : ZeroLength → ℕ → Input FrameFault → List Extent × Option FrameFault
+chain_from z zero input = ([], None)
+chain_from z (suc room) input =
     if length (left_of input.at) == 0 then ([], None)
-    else chained input (λ rest. chain_from room rest) (part_from (record input { missing = fault_at input }))
+    else chained z input (λ rest. chain_from z room rest) (part_from (record input { missing = instruction_fault input }))
 
--- the entries of the whole section
-abbrev pub extents_of : List ℕ → List Extent × Option FrameFault
-extents_of section = chain_from (length section)
+-- the entries of a whole section
+abbrev pub extents_by : ZeroLength → List ℕ → List Extent × Option FrameFault
+extents_by z section = chain_from z (length section)
     (record { at = record { whole = section; offset = 0 }; missing = record { offset = 0 } })
+
+-- those of `.debug_frame`, in which a length of 0 is passed over
+abbrev pub extents_of : List ℕ → List Extent × Option FrameFault
+extents_of section = extents_by zero_lengths.PassedOver section
 
 -- an entry's bytes behind its length; a field that they lack is a fault at the entry
 abbrev pub body_of : List ℕ → Extent → Input FrameFault
@@ -61,7 +71,7 @@ abbrev pub cie_with : ℕ → ℕ → ℤ → ℕ → Input FrameFault → Optio
 cie_with end code_factor data_factor register input =
     if nat_lt register 32 then Some (record {
       factors = record {
-        code_alignment_factor = word_of code_factor;
+        code_alignment_factor = low_32_bits code_factor;
         data_alignment_factor = word_of_signed data_factor;
       };
       return_address_register = register;

@@ -33,27 +33,27 @@ all_ok (r ∷ others) = do
   Ok (x ∷ xs)
 
 -- an entry as an FDE whose range counts
-abbrev pub counted : List Segment → FrameEntry → Option Fde
-counted segments entries.PassedOver = None
-counted segments (entries.Cie cie) = None
-counted segments (entries.Fde fde) =
+abbrev pub counted_fde : List Segment → FrameEntry → Option Fde
+counted_fde segments entries.PassedOver = None
+counted_fde segments (entries.Cie cie) = None
+counted_fde segments (entries.Fde fde) =
     if counts segments fde.initial_location (fde.initial_location + fde.address_range) then Some fde else None
 
 -- the frames of the section, or its first fault in section order
 unfoldable pub frames_of : List ℕ → List Segment → Result Frames FrameFault
 frames_of section segments = do
   read ← all_ok (entries_of section)
-  Ok (record { section = section; fdes = filter_map (counted segments) read })
+  Ok (record { section = section; fdes = filter_map (counted_fde segments) read })
 
 -- ---- at an address
 
 -- an FDE's addresses
-abbrev pub range_of : Fde → AddressRange
-range_of fde = record { start = fde.initial_location; end = fde.initial_location + fde.address_range }
+abbrev pub fde_range : Fde → AddressRange
+fde_range fde = record { start = fde.initial_location; end = fde.initial_location + fde.address_range }
 
 -- the first FDE in section order that holds the address
 abbrev pub fde_at : Frames → ℕ → Option Fde
-fde_at frames address = find (λ fde. holds address (range_of fde)) frames.fdes
+fde_at frames address = find (λ fde. holds address (fde_range fde)) frames.fdes
 
 -- the rules of a state; a section that was read has no fault
 abbrev pub rules_with : Cie → Result State FrameFault → Option Rules

@@ -35,11 +35,11 @@ abbrev pub Reading : Type 0 → Type 0
 Reading X = Result (X × Input FrameFault) FrameFault
 
 -- the low 32 bits, of a signed number in two's complement
-abbrev pub word_of : ℕ → ℕ
-word_of number = number % 2 ^ 32
+abbrev pub low_32_bits : ℕ → ℕ
+low_32_bits number = number % 2 ^ 32
 
 abbrev pub word_of_signed : ℤ → ℕ
-word_of_signed number = word_of (cast_unsigned w64 number)
+word_of_signed number = low_32_bits (cast_unsigned w64 number)
 
 abbrev pub scaled : ℕ → ℕ → ℕ
 scaled number factor = number * factor % 2 ^ 32
@@ -50,12 +50,12 @@ scaled number factor = number * factor % 2 ^ 32
 unfoldable pub offset_from : Input FrameFault → Reading ℕ
 offset_from input = do
   (offset, input) ← uleb_from input
-  Ok (word_of offset, input)
+  Ok (low_32_bits offset, input)
 
 unfoldable pub factored_from : AlignmentFactors → Input FrameFault → Reading ℕ
 factored_from factors input = do
   (offset, input) ← uleb_from input
-  Ok (scaled (word_of offset) factors.data_alignment_factor, input)
+  Ok (scaled (low_32_bits offset) factors.data_alignment_factor, input)
 
 unfoldable pub factored_sf_from : AlignmentFactors → Input FrameFault → Reading ℕ
 factored_sf_from factors input = do

@@ -4,6 +4,7 @@ use Rattle.std.specs.Prelude.{◌≡◌, ℕ, ◌≤◌, List, length, Option}
 use Rattle.prof_bytes.specs.Reading.{left_of}
 use Rattle.prof_bytes.specs.Fields.{Input}
 use Rattle.cfi_table.specs.declared.fault.FrameFault.{FrameFault}
+use Rattle.cfi_table.specs.declared.extent.ZeroLength.{ZeroLength}
 use Rattle.cfi_table.specs.declared.instruction.AlignmentFactors.{AlignmentFactors}
 use Rattle.cfi_table.specs.declared.rules.Rule.{Rule}
 use Rattle.cfi_table.specs.Rules.{State, execute, is_past, run_by, run_all}
@@ -11,8 +12,8 @@ use Rattle.cfi_table.specs.Entries.{chain_from}
 
 -- with any larger room the entries are the same
 abbrev pub EntriesHaveRoom : Type 0
-EntriesHaveRoom = (room : ℕ) (input : Input FrameFault) → length (left_of input.at) ≤ room
-    → chain_from room input ≡ chain_from (length (left_of input.at)) input
+EntriesHaveRoom = (z : ZeroLength) (room : ℕ) (input : Input FrameFault) → length (left_of input.at) ≤ room
+    → chain_from z room input ≡ chain_from z (length (left_of input.at)) input
 
 -- and so are the rules after instructions
 abbrev pub InstructionsHaveRoom : Type 0

@@ -4,7 +4,7 @@ use Rattle.address_ranges.specs.Ranges.{holds}
 use Rattle.cfi_table.specs.declared.fde.Fde.{Fde}
 use Rattle.cfi_table.specs.declared.rows.Row.{Row}
 use Rattle.cfi_table.specs.declared.rules.Rules.{Rules}
-use Rattle.cfi_table.specs.Frames.{Frames, fde_at, range_of, rules_of}
+use Rattle.cfi_table.specs.Frames.{Frames, fde_at, fde_range, rules_of}
 
 -- an FDE of a section, where its next row begins, if there is one, and the rules of the row before that
 pub record FdeRows : Type 0 where
@@ -15,13 +15,13 @@ pub record FdeRows : Type 0 where
 
 -- where a row begins at an address, if the FDE has one there
 abbrev pub row_from : Fde → ℕ → Option ℕ
-row_from fde address = if nat_lt address (range_of fde).end then Some address else None
+row_from fde address = if nat_lt address (fde_range fde).end then Some address else None
 
 -- the row has addresses of the FDE, and at each the rules are these
 pub record IsRow (section : List ℕ) (fde : Fde) (row : Row) (found : Option Rules) : Type 0 where
   pub some : row.start < row.end
   pub low : fde.initial_location ≤ row.start
-  pub within : row.end ≤ (range_of fde).end
+  pub within : row.end ≤ (fde_range fde).end
   pub rules : (address : ℕ) → row.start ≤ address → address < row.end → rules_of section address fde ≡ found
 
 -- the row is the next one, it has these rules, and the one behind it begins where it ends
@@ -33,5 +33,5 @@ pub record IsNextRow (before after : FdeRows) (row : Row) : Type 0 where
 -- the rows, from the first on, of an FDE that is the first to hold each of its addresses
 pub record AreFirst (frames : Frames) (rows : FdeRows) : Type 0 where
   pub section : rows.section ≡ frames.section
-  pub first : (address : ℕ) → holds address (range_of rows.fde) ≡ true → fde_at frames address ≡ Some rows.fde
+  pub first : (address : ℕ) → holds address (fde_range rows.fde) ≡ true → fde_at frames address ≡ Some rows.fde
   pub next : rows.next ≡ row_from rows.fde rows.fde.initial_location

@@ -107,15 +107,15 @@ or_fault fault None = Err fault
 or_fault fault (Some x) = Ok x
 
 -- an instruction's fault is told by its offset
-abbrev pub fault_at : Input FrameFault → FrameFault
-fault_at input = record { offset = input.at.offset }
+abbrev pub instruction_fault : Input FrameFault → FrameFault
+instruction_fault input = record { offset = input.at.offset }
 
 -- one instruction, carried out in a state by `execution`
 abbrev pub step_by : {S : Type 0} → (CallFrameInstruction → S → Option S) → AlignmentFactors → Input FrameFault → S
     → Reading S
 step_by execution factors input s = do
-  (instruction, next) ← instruction_from factors (record input { missing = fault_at input })
-  t ← or_fault (fault_at input) (execution instruction s)
+  (instruction, next) ← instruction_from factors (record input { missing = instruction_fault input })
+  t ← or_fault (instruction_fault input) (execution instruction s)
   Ok (t, next)
 
 -- the state after the instructions up to the first after which it stops, or the fault of the first that has one.

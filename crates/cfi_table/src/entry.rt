@@ -7,7 +7,7 @@ ghost use Rattle.cfi_table.specs.declared.extent.Extent.{Extent};
 ghost use Rattle.cfi_table.specs.declared.entry.FrameEntry.TheVariants as entries;
 ghost use Rattle.cfi_table.specs.Entries.{is_cie, cie_of, after_cie, checked_cie, checked_fde, fde_with, fde_of};
 ghost use Rattle.cfi_table.specs.Entries.{read_entry};
-ghost use Rattle.cfi_table.specs.Frames.{all_ok, counted};
+ghost use Rattle.cfi_table.specs.Frames.{all_ok, counted_fde};
 ghost use Rattle.cfi_table.specs.private.Placed.{AreRising, IsPlaced, IsWithin, IsCieIn, IsFdeIn, IsEntryIn};
 ghost use Rattle.cfi_table.specs.private.Checking.{forms_after};
 ghost use Rattle.cfi_table.specs.private.KnownCies.{end_seen, known, seen_cie, IsKnown};
@@ -144,7 +144,7 @@ fn read_entry(
 
 /// The entry as an FDE whose range counts.
 fn counted(image: &Image<'_>, entry: FrameEntry) -> Option<Fde>
-    ensures { result ≡ counted image.now.segments entry }
+    ensures { result ≡ counted_fde image.now.segments entry }
 {
     match entry {
         FrameEntry::Fde(fde) if image.counts_from(fde.initial_location, fde.address_range) => {
@@ -155,7 +155,6 @@ fn counted(image: &Image<'_>, entry: FrameEntry) -> Option<Fde>
 }
 
 /// The FDEs that count, in the order of the entries, or the entries' first fault.
-#[tactic(auto, using(crate::proofs::Entries::reads_none))]
 pub(crate) fn counted_fdes(
     alloc: Global,
     section: &[u8],
@@ -168,7 +167,7 @@ pub(crate) fn counted_fdes(
     requires known { All (IsKnown section.now) cies.now }
     requires cies { map seen_cie cies.now ≡ map (known section.now) (filter (is_cie section.now) extents.now) }
     ensures fdes { Gives (λ fdes. fdes.items) result
-        (viewed (filter_map (counted image.now.segments))
+        (viewed (filter_map (counted_fde image.now.segments))
         (all_ok (map (read_entry section.now extents.now) extents.now))) }
     ensures within { IfOk result (λ fdes. All (IsFdeIn section.now) fdes.items) }
 {

@@ -1,8 +1,8 @@
 //! Where the entries of a section lie, and their instructions.
-ghost use Rattle.std.specs.Prelude.{◌≡◌, ◌+◌, ◌<◌, ◌≤◌, ◌^◌, Some, None, IfOk, All, length, map};
-ghost use Rattle.cfi_table.specs.Entries.{body_of, instructions_of, extents_of};
+ghost use Rattle.std.specs.Prelude.{◌≡◌, ◌+◌, ◌<◌, ◌≤◌, ◌^◌, Some, None, IfOk, All, length};
+ghost use Rattle.cfi_table.specs.Entries.{body_of, instructions_of, extents_by};
 ghost use Rattle.cfi_table.specs.Frames.{size_of};
-ghost use Rattle.cfi_table.specs.private.Placed.{AreRising, IsPlaced, IsWithin};
+ghost use Rattle.cfi_table.specs.private.Placed.{IsPlaced, IsWithin};
 
 use crate::fault::FrameFault;
 use prof_bytes::{Memory, Reader};
@@ -13,6 +13,15 @@ use std::alloc::Global;
 pub struct Extent {
     pub offset: u32,
     pub end: u32,
+}
+
+/// What a length of 0 does.
+#[derive(Clone, Copy, Debug, PartialEq, Eq)]
+pub enum ZeroLength {
+    /// It is passed over, as in `.debug_frame`.
+    PassedOver,
+    /// It ends the list of entries, as in `.eh_frame` (LSB, core specification, "Exception Frames").
+    EndsList,
 }
 
 /// An entry's bytes behind its length. A field that they lack is a fault at the entry.
@@ -49,14 +58,14 @@ pub(crate) fn size_of(extent: &Extent) -> u64
 }
 
 /// The section's entries, and the fault of the first length that has one.
-pub(crate) fn all_extents(
+pub fn all_extents(
     alloc: Global,
     section: &[u8],
+    zero_length: ZeroLength,
 ) -> Result<(Vec<Extent>, Option<FrameFault>), Memory>
     requires { length section.now < 2 ^ 31 }
-    ensures extents { IfOk result (λ found. (found.0.items, found.1) ≡ extents_of section.now) }
+    ensures extents { IfOk result (λ found. (found.0.items, found.1) ≡ extents_by zero_length section.now) }
     ensures within { IfOk result (λ found. All (IsPlaced section.now) found.0.items) }
-    ensures order { IfOk result (λ found. AreRising 0 (map (λ e. e.offset) found.0.items)) }
 {
     let mut extents = Vec::new(alloc);
     let mut reader = Reader::new(section, 0, FrameFault { offset: 0 });
@@ -73,6 +82,8 @@ pub(crate) fn all_extents(
                 offset: fault.offset,
                 end: reader.offset() as u32,
             })?;
+        } else if let ZeroLength::EndsList = zero_length {
+            return Ok((extents, None));
         }
     }
     Ok((extents, None))

@@ -2,7 +2,7 @@
 ghost use Rattle.std.specs.Prelude.{◌≡◌, ◌+◌, ◌<◌, ◌≤◌, ◌^◌, Some, None};
 ghost use Rattle.prof_bytes.specs.Outcome.{GivesAt};
 ghost use Rattle.cfi_table.specs.Entries.{fde_fields_from};
-ghost use Rattle.cfi_table.specs.Frames.{range_of};
+ghost use Rattle.cfi_table.specs.Frames.{fde_range};
 
 use crate::cie::Cie;
 use crate::extent::Extent;
@@ -21,7 +21,7 @@ pub(crate) struct Fde {
 }
 
 impl HasRange for Fde {
-    ghost range_of = { range_of };
+    ghost range_of = { fde_range };
 
     fn range(&self) -> AddressRange {
         AddressRange {

@@ -10,7 +10,7 @@ ghost use Rattle.cfi_table.specs.Rows.{AreFirst};
 ghost use Rattle.cfi_table.specs.private.Placed.{IsFdeIn};
 
 use crate::entry::counted_fdes;
-use crate::extent::{all_extents, instructions, size_of};
+use crate::extent::{ZeroLength, all_extents, instructions, size_of};
 use crate::fault::FrameFault;
 use crate::fde::Fde;
 use crate::interpreter::Interpreter;
@@ -63,7 +63,7 @@ pub fn read_frames(
     requires { length bytes.now < 2 ^ 31 }
     ensures { Gives (λ table. table) result (frames_of bytes.now image.now.segments) }
 {
-    let (extents, broken) = all_extents(alloc, bytes)?;
+    let (extents, broken) = all_extents(alloc, bytes, ZeroLength::PassedOver)?;
     let cies = known_cies(alloc, bytes, &extents)?;
     let fdes = counted_fdes(alloc, bytes, &extents, &cies, image)?;
     match broken {

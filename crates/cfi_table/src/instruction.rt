@@ -2,7 +2,7 @@
 ghost use Rattle.std.specs.Prelude.{◌≡◌, ◌*◌, ◌/◌, ◌%◌, ◌^◌};
 ghost use Rattle.std.specs.Int.{w64, cast_unsigned};
 ghost use Rattle.prof_bytes.specs.Outcome.{GivesAt};
-ghost use Rattle.cfi_table.specs.Instructions.{scaled, word_of, word_of_signed, offset_from, factored_from};
+ghost use Rattle.cfi_table.specs.Instructions.{scaled, low_32_bits, word_of_signed, offset_from, factored_from};
 ghost use Rattle.cfi_table.specs.Instructions.{factored_sf_from};
 ghost use Rattle.cfi_table.specs.Instructions.{block_from, advance_loc, cfa_from, rule_from, is_rule};
 ghost use Rattle.cfi_table.specs.Instructions.{register_rule_from};
@@ -52,7 +52,7 @@ pub struct AlignmentFactors {
 
 /// The low 32 bits.
 pub fn word_of(number: u64) -> u32
-    ensures { result ≡ word_of number }
+    ensures { result ≡ low_32_bits number }
 {
     (number % (1 << 32)) as u32
 }

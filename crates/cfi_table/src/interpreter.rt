@@ -6,7 +6,7 @@ ghost use Rattle.prof_bytes.specs.Reading.{left_of};
 ghost use Rattle.cfi_table.specs.Rules.{no_rules, all_same_value, rule_at, with_rule, with_cfa, with_cfa_register};
 ghost use Rattle.cfi_table.specs.Rules.{with_cfa_offset, with_source, with_remembered, remembering, execute, step_by};
 ghost use Rattle.cfi_table.specs.Rules.{is_past, run_all};
-ghost use Rattle.cfi_table.specs.private.Resuming.{resumed, GoesOn};
+ghost use Rattle.cfi_table.specs.private.Resuming.{resumed, Resumes};
 
 use crate::fault::FrameFault;
 use crate::instruction::{AlignmentFactors, CallFrameInstruction, next_instruction};
@@ -214,7 +214,7 @@ impl Interpreter {
         ensures ended { IfOk result (λ done. is_past limit self.new ≡ false → length (left_of reader.new.at) ≡ 0) }
         ensures short { IfOk result (λ done. length reader.new.at.whole < 2 ^ 32) }
         // and by each later limit
-        ensures later { (address later : ℕ) → limit ≡ Some address → address ≤ later → GoesOn result
+        ensures later { (address later : ℕ) → limit ≡ Some address → address ≤ later → Resumes result
             (run_all (Some later) initial.now factors.now reader.old self.old)
             (resumed (Some later) initial.now factors.now reader.new self.new) }
     {

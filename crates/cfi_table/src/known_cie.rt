@@ -6,7 +6,7 @@ ghost use Rattle.prof_bytes.specs.Outcome.{Gives, viewed};
 ghost use Rattle.cfi_table.specs.Entries.{cie_of, is_cie, after_cie};
 ghost use Rattle.cfi_table.specs.private.Placed.{AreRising, IsPlaced, IsWithin, IsCieIn};
 ghost use Rattle.cfi_table.specs.private.Checking.{forms_after};
-ghost use Rattle.cfi_table.specs.private.KnownCies.{end_of, end_seen, known, seen_cie, IsKnown};
+ghost use Rattle.cfi_table.specs.private.KnownCies.{forms_of_cie, end_seen, known, seen_cie, IsKnown};
 
 use crate::checker::{Checker, CieEnd};
 use crate::cie::{Cie, cie_of};
@@ -54,7 +54,7 @@ fn end_of(
     cie: &Result<Option<Cie>, FrameFault>,
 ) -> Result<Result<CieEnd, FrameFault>, Memory>
     requires { IsCieIn section.now cie.now }
-    ensures { IfOk result (λ end. viewed end_seen end ≡ end_of section.now cie.now) }
+    ensures { IfOk result (λ end. viewed end_seen end ≡ forms_of_cie section.now cie.now) }
 {
     let Ok(Some(cie)) = cie else {
         return Ok(Ok(Checker::none(alloc).end(alloc)?));

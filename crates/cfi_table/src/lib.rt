@@ -34,7 +34,7 @@ pub use constants::{
     DW_CFA_same_value, DW_CFA_set_loc, DW_CFA_undefined, DW_CFA_val_expression, DW_CFA_val_offset,
     DW_CFA_val_offset_sf, DW_CIE_ID,
 };
-pub use extent::{Extent, body, instructions};
+pub use extent::{Extent, ZeroLength, all_extents, body, instructions};
 pub use fault::FrameFault;
 pub use frames::{FrameTable, read_frames};
 pub use instruction::{

@@ -2,7 +2,7 @@
 ghost use Rattle.std.specs.Prelude.{◌≡◌, ◌+◌, ◌<◌, ◌≤◌, ◌^◌, None, Some, IfOk, IfSome, MatchOption, length, min};
 ghost use Rattle.std.specs.Prelude.{nat_lt, if◌then◌else◌};
 ghost use Rattle.cfi_table.specs.Entries.{after_fde};
-ghost use Rattle.cfi_table.specs.Frames.{instruction_bytes, range_of, size_of};
+ghost use Rattle.cfi_table.specs.Frames.{instruction_bytes, fde_range, size_of};
 ghost use Rattle.cfi_table.specs.Rows.{row_from, IsNextRow};
 ghost use Rattle.cfi_table.specs.private.Placed.{IsFdeIn};
 
@@ -68,7 +68,8 @@ fn row_from(fde: &Fde, address: u32) -> Option<u32>
 
 /// Where the row that begins at `start` ends: where the location rises above that, or the FDE's range ends.
 fn row_end(fde: &Fde, start: u32, location: u32) -> u64
-    ensures { result ≡ (if nat_lt start location then min location (range_of fde.now).end else (range_of fde.now).end) }
+    ensures { result
+        ≡ (if nat_lt start location then min location (fde_range fde.now).end else (fde_range fde.now).end) }
 {
     let end = fde.range().end;
     if start < location {

@@ -107,7 +107,7 @@ passes_kept regs n kept = not_kept_more regs n ∙ rw kept (append-nil (not_kept
 pub takes_rule : (regs : List Rule) (n : ℕ) → is_kept (rule_at regs n) ≡ false → not_kept_to regs (n + 1) ≡ not_kept_to regs n ++ record { register = n; rule = rule_at regs n } ∷ []
 takes_rule regs n other = not_kept_more regs n ∙ rw other refl
 
--- so many places hold those among the first registers that are not kept
+-- the first so many are those among the first registers that are not kept
 pub record Listed (regs : List Rule) (n count : ℕ) (few : List RegisterRule) : Type 0 where
   pub all : length few ≡ 32
   pub less : count ≤ n

@@ -10,7 +10,7 @@ use Rattle.prof_bytes.proofs.Tests.{some_same}
 use Rattle.cfi_table.specs.declared.fde.Fde.{Fde}
 use Rattle.cfi_table.specs.declared.rows.Row.{Row}
 use Rattle.cfi_table.specs.declared.rules.Rules.{Rules}
-use Rattle.cfi_table.specs.Frames.{Frames, fde_at, range_of, rules_of, rules_at, least_above, lesser}
+use Rattle.cfi_table.specs.Frames.{Frames, fde_at, fde_range, rules_of, rules_at, least_above, lesser}
 use Rattle.cfi_table.specs.Rows.{FdeRows, row_from, IsNextRow, AreFirst}
 use Rattle.cfi_unwind.specs.declared.index.Index.{Index}
 use Rattle.cfi_unwind.specs.declared.unwind_rule.UnwindRule.{UnwindRule}
@@ -101,11 +101,11 @@ row_is_in frames rows before after row found first section fde next is address f
     let low = next.is.low in
     let high = next.is.within in
     let own : rules_of before.section address before.fde ≡ after.rules = next.is.rules address from to in
-    let is_low : (range_of before.fde).start ≡ (range_of rows.fde).start = ap (λ (f : Fde). (range_of f).start) fde in
-    let is_high : (range_of before.fde).end ≡ (range_of rows.fde).end = ap (λ (f : Fde). (range_of f).end) fde in
-    let a : (range_of rows.fde).start ≤ address = omega arith in
-    let b : address < (range_of rows.fde).end = omega arith in
-    let held = in_range (range_of rows.fde).start (range_of rows.fde).end address a b in
+    let is_low : (fde_range before.fde).start ≡ (fde_range rows.fde).start = ap (λ (f : Fde). (fde_range f).start) fde in
+    let is_high : (fde_range before.fde).end ≡ (fde_range rows.fde).end = ap (λ (f : Fde). (fde_range f).end) fde in
+    let a : (fde_range rows.fde).start ≤ address = omega arith in
+    let b : address < (fde_range rows.fde).end = omega arith in
+    let held = in_range (fde_range rows.fde).start (fde_range rows.fde).end address a b in
     ap (λ (o : Option Fde). option_and_then (rules_of frames.section address) o) (first.first address held)
     ∙ ap (λ (s : List ℕ). rules_of s address rows.fde) (sym (section ∙ first.section))
     ∙ ap (λ (f : Fde). rules_of before.section address f) (sym fde)
@@ -121,16 +121,16 @@ found_first found rows frames is first = subst (λ (o : Option FdeRows). IfSome 
 -- how many addresses lie from the next row on
 abbrev pub room_of : Fde → Option ℕ → ℕ
 room_of fde None = 0
-room_of fde (Some address) = (range_of fde).end - address
+room_of fde (Some address) = (fde_range fde).end - address
 
 pub room_shrinks : (before after : FdeRows) (row : Row) → after.fde ≡ before.fde → IsNextRow before after row → room_of after.fde after.next < room_of before.fde before.next
 room_shrinks before after row fde next =
-    let was : room_of before.fde before.next ≡ (range_of before.fde).end - row.start = ap (room_of before.fde) next.start in
+    let was : room_of before.fde before.next ≡ (fde_range before.fde).end - row.start = ap (room_of before.fde) next.start in
     let is : room_of after.fde after.next ≡ room_of before.fde (row_from before.fde row.end) = ap (λ (f : Fde). room_of f after.next) fde ∙ ap (room_of before.fde) next.next in
-    let less = less_from (nat_lt row.end (range_of before.fde).end) in
+    let less = less_from (nat_lt row.end (fde_range before.fde).end) in
     omega (arith, was, is, less)
   where
-    less_from : (b : Bool) → room_of before.fde (let o : Option ℕ = cond b (Some row.end) None in o) < (range_of before.fde).end - row.start
+    less_from : (b : Bool) → room_of before.fde (let o : Option ℕ = cond b (Some row.end) None in o) < (fde_range before.fde).end - row.start
     less_from true = (let some = next.is.some in let within = next.is.within in omega arith)
     less_from false = (let some = next.is.some in let within = next.is.within in omega arith)
 

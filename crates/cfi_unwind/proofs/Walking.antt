@@ -19,16 +19,16 @@ use Rattle.cfi_unwind.specs.declared.unwind_rule.UnwindRule.{UnwindRule}
 use Rattle.cfi_unwind.specs.declared.unwind_rule.UnwindRule.TheVariants as rules
 use Rattle.cfi_unwind.specs.declared.unwind_rule.UnwindRule.TheVariants.{ReturnSaved}
 use Rattle.cfi_unwind.specs.private.Index.{FindsCallers}
-use Rattle.cfi_unwind.specs.private.Walks.{joined, path_over}
+use Rattle.cfi_unwind.specs.private.Walks.{with_outer, path_over}
 
 -- one frame more
 opened : (u : Unwinding) (words : Words) (here : Activation) (frames : List Frame) (unwound : Unwound) → length frames < 512 → unwound ≡ caller_of u words here
-    → path_over u words frames here ≡ joined frames (within here.pc (outside (λ caller. path_from (512 - (length frames + 1)) u words caller) unwound))
+    → path_over u words frames here ≡ with_outer frames (within here.pc (outside (λ caller. path_from (512 - (length frames + 1)) u words caller) unwound))
 unfolding path_from
 opened u words here frames unwound low is =
     let room : 512 - length frames ≡ suc (512 - (length frames + 1)) = omega arith in
-    ap (λ (r : ℕ). joined frames (path_from r u words here)) room
-    ∙ ap (λ (x : Unwound). joined frames (within here.pc (outside (λ caller. path_from (512 - (length frames + 1)) u words caller) x))) (sym is)
+    ap (λ (r : ℕ). with_outer frames (path_from r u words here)) room
+    ∙ ap (λ (x : Unwound). with_outer frames (within here.pc (outside (λ caller. path_from (512 - (length frames + 1)) u words caller) x))) (sym is)
 
 pub walks : (u : Unwinding) (words : Words) (here caller : Activation) (frames after : List Frame) → length frames < 512 → after ≡ frames ++ frame_of here ∷ [] → Caller caller ≡ caller_of u words here
     → path_over u words frames here ≡ path_over u words after caller
@@ -37,7 +37,7 @@ walks u words here caller frames after low pushed is =
     let more : length after ≡ length frames + 1 = ap (λ (fs : List Frame). length fs) pushed ∙ length-append frames (frame_of here ∷ []) in
     opened u words here frames (Caller caller) low is
     ∙ ap (λ (fs : List Frame). record { end = (outer (512 - (length frames + 1))).end; frames = fs }) (sym (append_assoc frames (frame_of here ∷ []) (outer (512 - (length frames + 1))).frames))
-    ∙ ap₂ (λ (fs : List Frame) (n : ℕ). joined fs (outer (512 - n))) (sym pushed) (sym more)
+    ∙ ap₂ (λ (fs : List Frame) (n : ℕ). with_outer fs (outer (512 - n))) (sym pushed) (sym more)
 
 pub ends_here : (u : Unwinding) (words : Words) (here : Activation) (frames after : List Frame) (end : End) (path : Raw) → path ≡ record { end = end; frames = after } → length frames < 512 → after ≡ frames ++ frame_of here ∷ []
     → Ends end ≡ caller_of u words here → path ≡ path_over u words frames here
@@ -50,7 +50,7 @@ pub is_full : (u : Unwinding) (words : Words) (here : Activation) (frames : List
 unfolding path_from
 is_full u words here frames high =
     let room : 512 - length frames ≡ 0 = omega arith in
-    sym (ap (λ (r : ℕ). joined frames (path_from r u words here)) room
+    sym (ap (λ (r : ℕ). with_outer frames (path_from r u words here)) room
     ∙ ap (λ (fs : List Frame). record { end = Partial causes.Depth; frames = fs }) (append-nil frames))
 
 -- each path from an address ends there

@@ -101,11 +101,11 @@ pub record Unwinding : Type 0 where
   pub region : ℕ × ℕ
 
 -- where no FDE holds the pc, and where no CFA is found, an earlier test holds; what stands for these then says nothing
-abbrev pub no_rules : Rules
-no_rules = record { cfa = cfas.Missing; regs = []; return_register = 0 }
+abbrev pub absent_rules : Rules
+absent_rules = record { cfa = cfas.Missing; regs = []; return_register = 0 }
 
 abbrev pub rules_or_none : Option Rules → Rules
-rules_or_none found = unwrap_or found no_rules
+rules_or_none found = unwrap_or found absent_rules
 
 abbrev pub cfa_or_zero : List ℕ → Rules → ℕ
 cfa_or_zero registers found = unwrap_or (cfa_of registers found.cfa) 0

@@ -3,7 +3,7 @@ ghost use Rattle.std.specs.Prelude.{◌≡◌, ◌==◌, ◌-◌, ◌^◌, Optio
 ghost use Rattle.std.specs.List.{list_any};
 ghost use Rattle.cfi_table.specs.Rules.{rule_at};
 ghost use Rattle.scope_types.specs.Raw.{Raw};
-ghost use Rattle.cfi_unwind.specs.private.UnwindRules.{after};
+ghost use Rattle.cfi_unwind.specs.private.UnwindRules.{unwound_to};
 ghost use Rattle.cfi_unwind.specs.Caller.{is_undefined, is_expression, has_expression, cfa_of, is_unmapped, recovered};
 ghost use Rattle.cfi_unwind.specs.Caller.{recovered_all, callers_registers, sum};
 ghost use Rattle.cfi_unwind.specs.private.Stepwise.{caller_at, caller_over, caller_from};
@@ -180,7 +180,7 @@ pub(crate) fn caller_to<L: Look>(
     registers: &mut [u32; 32],
     rules: &RulesRef<'_>,
 ) -> Result<u32, End>
-    ensures { after result registers.new ≡ caller_from (L.words memory.now) registers.old rules.now }
+    ensures { unwound_to result registers.new ≡ caller_from (L.words memory.now) registers.old rules.now }
 {
     match caller_from(memory, registers, rules) {
         Unwound::Caller(caller) => {

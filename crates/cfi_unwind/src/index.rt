@@ -1,24 +1,21 @@
 //! The unwind rules at a program's addresses, made ready before any path is looked for.
-ghost use Rattle.std.specs.Prelude.{◌≡◌, ℕ, None, ◌+◌, ◌<◌, ◌≤◌, ◌^◌, ◌*◌, IfOk, IfSome, length, replicate};
-ghost use Rattle.std.specs.Prelude.{slice_get, true};
-ghost use Rattle.std.specs.Option.{option_copied};
+ghost use Rattle.std.specs.Prelude.{◌≡◌, ℕ, None, ◌+◌, ◌≤◌, ◌^◌, ◌*◌, IfOk, IfSome, length, replicate, slice_get};
+ghost use Rattle.std.specs.Prelude.{true};
 ghost use Rattle.cfi_unwind.specs.Caller.{Unwinding};
 ghost use Rattle.cfi_table.specs.Frames.{Frames, rules_at};
 ghost use Rattle.cfi_table.specs.Rows.{AreFirst};
-ghost use Rattle.cfi_unwind.specs.private.Index.{no_id, IsAt, IsIndex, IsFilled, IsRowIn, KeepsIndex, KeepsRules};
-ghost use Rattle.cfi_unwind.specs.private.Index.{EndsWhole, FindsCallers, IsReady};
+ghost use Rattle.cfi_unwind.specs.private.Index.{no_id, IsIndex, IsFilled, IsRowIn, KeepsIndex};
+ghost use Rattle.cfi_unwind.specs.private.Index.{FindsCallers, IsReady};
 
-use crate::prepare::prepare;
-use crate::same_rules::is_same;
+use crate::code_words::{address_of, words_below, words_of};
 use crate::unwind_rule::UnwindRule;
-use cfi_table::{FrameTable, Row, Rows, Rules, RulesRef};
-use elf_image::{Image, Segment};
+use crate::unwind_rules::{
+    Latest, MOST_RULES, first_rule, id_anew, push_ending, push_rule, rule_with,
+};
+use cfi_table::{FrameTable, Row, Rows, RulesRef};
+use elf_image::Image;
 use prof_bytes::Memory;
-use scope_types::End;
 use std::alloc::Global;
-
-/// How many addresses have an unwind rule made ready at most, and how many different ones there are.
-const MOST_RULES: usize = 1 << 20;
 
 /// How many bytes of call frame instructions are carried out for them at most, those of a CIE as often as it
 /// has FDEs.
@@ -27,59 +24,13 @@ const MOST_BYTES: u64 = 1 << 27;
 /// In place of an id, where none is made ready.
 const NO_ID: u32 = u32::MAX;
 
-/// Rules, and the id of an unwind rule that follows them.
-#[derive(Drop)]
-struct Latest {
-    id: u32,
-    rules: Option<Rules>,
-}
-
-/// For each fourth address from 4 times `first` on the id of its unwind rule, which is its place among all. The first
+/// For each fourth address from 4 times `first` on the id of its unwind rule. The first
 /// of these is that of addresses that no FDE holds.
 #[derive(Debug, Drop)]
 pub(crate) struct Index {
     first: u32,
     ids: Vec<u32>,
     unwind_rules: Vec<UnwindRule>,
-}
-
-fn lent(rules: &Option<Rules>) -> Option<RulesRef<'_>>
-    ensures { result ≡ rules.now }
-{
-    match rules {
-        Some(rules) => Some(rules.lent()),
-        None => None,
-    }
-}
-
-/// The id of a new unwind rule that follows the rules.
-fn push_rule(
-    alloc: Global,
-    unwind_rules: &mut Vec<UnwindRule>,
-    rules: Option<RulesRef<'_>>,
-) -> Result<u32, Memory>
-    requires { length unwind_rules.old.items < 2 ^ 20 }
-    ensures keeps { KeepsRules unwind_rules.old.items unwind_rules.new.items }
-    ensures few { length unwind_rules.new.items ≤ length unwind_rules.old.items + 1 }
-    ensures id { IfOk result (λ id. IsAt unwind_rules.new.items id rules.entry) }
-{
-    let id = unwind_rules.len() as u32;
-    unwind_rules.push(prepare(alloc, rules)?)?;
-    Ok(id)
-}
-
-/// The place of a new unwind rule that ends the path whole. Nothing where there is no memory, or are too many.
-fn push_ending(unwind_rules: &mut Vec<UnwindRule>) -> Option<u32>
-    ensures keeps { KeepsRules unwind_rules.old.items unwind_rules.new.items }
-    ensures few { length unwind_rules.old.items ≤ 2 ^ 20 → length unwind_rules.new.items ≤ 2 ^ 20 }
-    ensures ends { IfSome result (λ id. EndsWhole unwind_rules.new.items id) }
-{
-    if unwind_rules.len() >= MOST_RULES {
-        return None;
-    }
-    let id = unwind_rules.len() as u32;
-    unwind_rules.push(UnwindRule::Ends(End::Whole)).ok()?;
-    Some(id)
 }
 
 /// Sets the ids from one up to another.
@@ -93,138 +44,10 @@ fn fill(ids: &mut Vec<u32>, low: usize, high: usize, id: u32)
     }
 }
 
-/// The addresses, from the first up to the second, of the executable segment that has most of them.
-fn code_of(segments: &[Segment]) -> (u32, u32) {
-    let mut code = (0u32, 0u32);
-    for segment in segments {
-        let size = segment.end.saturating_sub(segment.start);
-        if segment.is_executable() && size > code.1.saturating_sub(code.0) {
-            code = (segment.start, segment.end);
-        }
-    }
-    code
-}
-
-/// The words of code, from the first up to the second, whose unwind rules are made ready.
-fn words_of(image: &Image<'_>) -> (u32, u32)
-    ensures { result.1 < 2 ^ 30 }
-{
-    let (start, end) = code_of(image.segments());
-    let first = start / 4;
-    (first, (end / 4).min(first + MOST_RULES as u32))
-}
-
-/// The rules at an address, unless there are not so many bytes of instructions left to be carried out,
-/// or there is no memory.
-fn rules_within(table: &FrameTable, pc: u32, left: &mut u64) -> Option<Option<Rules>>
-    ensures { IfSome result (λ rules. rules ≡ rules_at table.now pc) }
-{
-    *left = left.checked_sub(table.instruction_bytes(pc))?;
-    table.rules_at(pc).ok()
-}
-
-/// How many words begin below the address.
-fn words_below(address: u64) -> u64
-    ensures { (address ≤ 4 * result) × (4 * result < address + 4) }
-{
-    if address % 4 == 0 {
-        address / 4
-    } else {
-        address / 4 + 1
-    }
-}
-
-/// The address of a word by its number, where the first one is this.
-fn address_of(first: u32, number: usize) -> Option<u32>
-    ensures { IfSome result (λ pc. pc ≡ 4 * (first + number)) }
-{
-    let word = first.checked_add(u32::try_from(number).ok()?)?;
-    word.checked_mul(4)
-}
-
-/// The id of an unwind rule that follows the rules: that of the latest ones, where these are the same, or that
-/// of a new one. Nothing where there is no memory, or are too many.
-fn id_of(
-    alloc: Global,
-    unwind_rules: &mut Vec<UnwindRule>,
-    latest: &mut Latest,
-    rules: &Option<Rules>,
-) -> Option<u32>
-    requires { length unwind_rules.old.items ≤ 2 ^ 20 }
-    ensures keeps { KeepsRules unwind_rules.old.items unwind_rules.new.items }
-    ensures few { length unwind_rules.new.items ≤ 2 ^ 20 }
-    ensures id { IsAt unwind_rules.old.items latest.old.id latest.old.rules
-        → IfSome result (λ id. IsAt unwind_rules.new.items id rules.now) }
-    ensures latest { IsAt unwind_rules.old.items latest.old.id latest.old.rules
-        → IsAt unwind_rules.new.items latest.new.id latest.new.rules }
-{
-    if is_same(&latest.rules, rules) {
-        return Some(latest.id);
-    }
-    if unwind_rules.len() >= MOST_RULES {
-        return None;
-    }
-    let id = push_rule(alloc, unwind_rules, lent(rules)).ok()?;
-    *latest = Latest { id, rules: *rules };
-    Some(id)
-}
-
-/// The id of the unwind rule of an address's rules. Nothing where there is no memory, are too many, or not so many
-/// bytes of instructions left to be carried out.
-#[inline(never)]
-fn id_by_rules(
-    alloc: Global,
-    table: &FrameTable,
-    unwind_rules: &mut Vec<UnwindRule>,
-    latest: &mut Latest,
-    left: &mut u64,
-    pc: u32,
-) -> Option<u32>
-    requires { length unwind_rules.old.items ≤ 2 ^ 20 }
-    ensures keeps { KeepsRules unwind_rules.old.items unwind_rules.new.items }
-    ensures few { length unwind_rules.new.items ≤ 2 ^ 20 }
-    ensures id { IsAt unwind_rules.old.items latest.old.id latest.old.rules
-        → IfSome result (λ id. IsAt unwind_rules.new.items id (rules_at table.now pc)) }
-    ensures latest { IsAt unwind_rules.old.items latest.old.id latest.old.rules
-        → IsAt unwind_rules.new.items latest.new.id latest.new.rules }
-{
-    let rules = rules_within(table, pc, left)?;
-    id_of(alloc, unwind_rules, latest, &rules)
-}
-
-/// The id of the unwind rule at an address, as `id_by_rules` finds it; that of addresses that no FDE holds is 0.
-fn id_anew(
-    alloc: Global,
-    table: &FrameTable,
-    unwind_rules: &mut Vec<UnwindRule>,
-    latest: &mut Latest,
-    left: &mut u64,
-    pc: u32,
-) -> Option<u32>
-    requires { length unwind_rules.old.items ≤ 2 ^ 20 }
-    ensures keeps { KeepsRules unwind_rules.old.items unwind_rules.new.items }
-    ensures few { length unwind_rules.new.items ≤ 2 ^ 20 }
-    ensures id { IsAt unwind_rules.old.items 0 None → IsAt unwind_rules.old.items latest.old.id latest.old.rules
-        → IfSome result (λ id. IsAt unwind_rules.new.items id (rules_at table.now pc)) }
-    ensures latest { IsAt unwind_rules.old.items latest.old.id latest.old.rules
-        → IsAt unwind_rules.new.items latest.new.id latest.new.rules }
-{
-    if table.fde_at(pc).is_none() {
-        return Some(0);
-    }
-    id_by_rules(alloc, table, unwind_rules, latest, left, pc)
-}
-
 fn id_at(ids: &[u32], number: usize) -> Option<u32>
     ensures { result ≡ slice_get ids.now number }
 {
     ids.get(number).copied()
-}
-
-fn rule_with(unwind_rules: &[UnwindRule], id: u32) -> Option<&UnwindRule>
-    ensures { option_copied result ≡ slice_get unwind_rules.now id }
-{
-    unwind_rules.get(id as usize)
 }
 
 /// So many words without an id.
@@ -232,16 +55,6 @@ fn no_ids(alloc: Global, count: usize) -> Result<Vec<u32>, Memory>
     ensures { IfOk result (λ ids. ids.items ≡ replicate count no_id) }
 {
     Ok(vec![in alloc; NO_ID; count]?)
-}
-
-/// The unwind rule of addresses that no FDE holds.
-fn first_rule(alloc: Global) -> Result<Vec<UnwindRule>, Memory>
-    ensures rule { IfOk result (λ unwind_rules. IsAt unwind_rules.items 0 None) }
-    ensures few { IfOk result (λ unwind_rules. length unwind_rules.items ≤ 1) }
-{
-    let mut unwind_rules = Vec::new(alloc);
-    push_rule(alloc, &mut unwind_rules, None)?;
-    Ok(unwind_rules)
 }
 
 /// From where on no id is set.

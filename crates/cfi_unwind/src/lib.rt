@@ -7,6 +7,7 @@
 #![tactic(auto)]
 
 mod caller;
+mod code_words;
 mod index;
 mod laws;
 mod prepare;
@@ -14,6 +15,7 @@ mod region;
 mod same_rules;
 mod saved_registers;
 mod unwind_rule;
+mod unwind_rules;
 mod unwinder;
 
 pub use laws::{paths_are_chains, paths_have_frames};

@@ -47,15 +47,15 @@ fn is_ready(alloc: Global, file: &[u8], section: &[u8], pc: u32) -> Option<bool>
     Some(Index::of(alloc, &table, &image, (0, 0)).at(pc).is_some())
 }
 
-/// The first address that is otherwise, by its place in the table.
+/// The first address that is otherwise, by its index in the table.
 fn other_address(alloc: Global) -> Option<usize> {
-    for (place, (at, byte, pc, ready)) in READY.iter().enumerate() {
+    for (index, (at, byte, pc, ready)) in READY.iter().enumerate() {
         let mut file = PROGRAM;
         if let Some(changed) = file.get_mut(*at) {
             *changed = *byte;
         }
         if is_ready(alloc, &file, frames(), *pc) != Some(*ready) {
-            return Some(place);
+            return Some(index);
         }
     }
     None

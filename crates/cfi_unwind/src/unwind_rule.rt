@@ -3,7 +3,7 @@
 ghost use Rattle.std.specs.Prelude.{◌≡◌, ◌≤◌, ℕ, List, None, IfOk, IfSome, MatchBool, get_or, length, map};
 ghost use Rattle.std.specs.Prelude.{false, true};
 ghost use Rattle.std.specs.List.{list_any, slice_set};
-ghost use Rattle.cfi_unwind.specs.private.UnwindRules.{after, recovered_each, is_unmapped_register, saved_rule};
+ghost use Rattle.cfi_unwind.specs.private.UnwindRules.{unwound_to, recovered_each, is_unmapped_register, saved_rule};
 ghost use Rattle.cfi_unwind.specs.Caller.{Words};
 ghost use Rattle.scope_types.specs.Memory.{HasWords};
 ghost use Rattle.cfi_unwind.specs.declared.caller.Unwound.TheVariants.{Caller};
@@ -161,7 +161,7 @@ impl FrameLayout {
     /// Goes to the caller whose registers these are but x0 and x2.
     #[inline(always)]
     fn leave(&self, registers: &mut [u32; 32], cfa: u32) -> Result<u32, End>
-        ensures { after result registers.new ≡ left_with registers.old cfa self.now.return_register }
+        ensures { unwound_to result registers.new ≡ left_with registers.old cfa self.now.return_register }
     {
         registers[0] = 0;
         registers[2] = cfa;
@@ -181,7 +181,7 @@ impl FrameLayout {
     ) -> Result<u32, End>
         requires { HasWords (L.words memory.now) near.old }
         ensures near { HasWords (L.words memory.now) near.new }
-        ensures caller { after result registers.new
+        ensures caller { unwound_to result registers.new
             ≡ unwound_with (L.words memory.now) registers.old self.now (map saved_rule saved.now) }
     {
         let cfa = self.cfa(registers);
@@ -199,7 +199,7 @@ impl FrameLayout {
         registers: &mut [u32; 32],
         rules: &[RegisterRule],
     ) -> Result<u32, End>
-        ensures { after result registers.new
+        ensures { unwound_to result registers.new
             ≡ unwound_with (L.words memory.now) registers.old self.now rules.now }
     {
         let cfa = self.cfa(registers);
@@ -246,7 +246,7 @@ fn go_by_return<'m, L: Look>(
 ) -> Result<u32, End>
     requires { HasWords (L.words memory.now) near.old }
     ensures near { HasWords (L.words memory.now) near.new }
-    ensures caller { after result registers.new
+    ensures caller { unwound_to result registers.new
         ≡ unwound_with (L.words memory.now) registers.old (usual cfa_offset) (returned offset) }
 {
     let layout = usual(cfa_offset);
@@ -272,7 +272,7 @@ impl UnwindRule {
     ) -> Result<u32, End>
         requires { HasWords (L.words memory.now) near.old }
         ensures near { HasWords (L.words memory.now) near.new }
-        ensures caller { after result registers.new ≡ unwound_by (L.words memory.now) registers.old self.now }
+        ensures caller { unwound_to result registers.new ≡ unwound_by (L.words memory.now) registers.old self.now }
     {
         match self {
             UnwindRule::ReturnSaved { cfa_offset, offset } => go_by_return(

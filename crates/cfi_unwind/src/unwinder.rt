@@ -2,7 +2,7 @@
 ghost use Rattle.std.specs.Prelude.{◌≡◌, ◌≤◌, [], IfOk, IfSome, length, nat_lt};
 ghost use Rattle.cfi_unwind.specs.private.Walks.{GoesOn};
 ghost use Rattle.cfi_unwind.specs.Caller.{caller_of};
-ghost use Rattle.cfi_unwind.specs.private.UnwindRules.{after};
+ghost use Rattle.cfi_unwind.specs.private.UnwindRules.{unwound_to};
 ghost use Rattle.cfi_unwind.specs.private.Index.{FindsCallers};
 ghost use Rattle.cfi_unwind.specs.declared.unwind_rule.UnwindRule.TheVariants.{Ends};
 ghost use Rattle.cfi_unwind.specs.Path.{path_of, unwinding_of};
@@ -104,7 +104,7 @@ impl<'a> Unwinder<'a> {
         pc: u32,
         registers: &mut [u32; 32],
     ) -> Result<Result<u32, End>, Memory>
-        ensures { IfOk result (λ next. after next registers.new
+        ensures { IfOk result (λ next. unwound_to next registers.new
             ≡ caller_of self.now (L.words memory.now) (record { pc = pc; registers = registers.old })) }
     {
         if is_in(self.region, pc) {
@@ -130,7 +130,7 @@ impl<'a> Unwinder<'a> {
         requires ready { IfSome ready (λ unwind_rule. FindsCallers self.now pc unwind_rule.now) }
         requires near { HasWords (L.words memory.now) near.old }
         ensures near { HasWords (L.words memory.now) near.new }
-        ensures caller { IfOk result (λ next. after next registers.new
+        ensures caller { IfOk result (λ next. unwound_to next registers.new
             ≡ caller_of self.now (L.words memory.now) (record { pc = pc; registers = registers.old })) }
     {
         match ready {

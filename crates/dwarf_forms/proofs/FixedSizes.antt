@@ -1,8 +1,8 @@
 -- Values of a fixed size are passed as so many bytes are.
 use Rattle.std.proofs.Common.{◌≡◌, ℕ, ℤ, ◌+◌, ◌-◌, ◌≤◌, ◌<◌, ◌==◌, Bool, true, false, inl, inr, List, length, take, Option, Some, None, Ok, Err, refl, sym, ap, ◌∙◌, arith}
-use Rattle.std.specs.Prelude.{option_and_then, if◌then◌else◌}
+use Rattle.std.specs.Prelude.{option_and_then, if◌then◌else◌, nat_lt}
 use Rattle.std.proofs.lemmas.Bool.{cases_lt, lt-ltb, le-ltb, eqb-true}
-use Rattle.prof_bytes.specs.Fields.{Input, number_from, bytes_from}
+use Rattle.prof_bytes.specs.Fields.{Input, taken, number_from, bytes_from}
 use Rattle.prof_bytes.specs.Reading.{At, left_of, moved}
 use Rattle.dwarf_forms.specs.declared.constants.TheConstants.{DW_FORM_indirect}
 use Rattle.dwarf_forms.specs.declared.encoding.Size.{Size}
@@ -13,8 +13,6 @@ use Rattle.dwarf_forms.specs.Forms.{encoding_of}
 use Rattle.dwarf_forms.specs.Values.{FormValue, Bytes, as_value, word_value, number_value, sized_from, encoded_from, known_from, indirect_from, direct_from, value_from}
 use Rattle.dwarf_forms.specs.Sizes.{number_size, encoding_size, form_size, passed_by}
 use Rattle.dwarf_forms.proofs.Moves.{left_moved}
-
--- ---- the size of a list
 
 -- ---- bytes
 
@@ -49,19 +47,17 @@ passed_twice {F = F} first others input le =
 
 -- ---- values
 
+-- what has so many bytes is passed as they are
+same_passed : {X Y F : Type 0} (b : Bool) (count : ℕ) (x : X) (y : Y) (value : X → FormValue) (input : Input F)
+    → passed_by (as_value value (taken input (if b then None else Some (x, count)))) ≡ passed_by (taken input (if b then None else Some (y, count)))
+same_passed true count x y value input = refl
+same_passed false count x y value input = refl
+
 number_passed : {F : Type 0} (count : ℕ) (value : ℕ → FormValue) (input : Input F) → passed_by (as_value value (number_from count input)) ≡ passed_by (bytes_from count input)
-number_passed count value input =
-    elim (cases_lt (length (left_of input.at)) count) [
-      | inl lt ↦ rw (lt-ltb (length (left_of input.at)) count lt) refl
-      | inr ge ↦ rw (le-ltb (length (left_of input.at)) count ge) refl
-    ]
+number_passed count value input = same_passed (nat_lt (length (left_of input.at)) count) count _ _ value input
 
 bytes_passed : {F : Type 0} (count : ℕ) (value : List ℕ → FormValue) (input : Input F) → passed_by (as_value value (bytes_from count input)) ≡ passed_by (bytes_from count input)
-bytes_passed count value input =
-    elim (cases_lt (length (left_of input.at)) count) [
-      | inl lt ↦ rw (lt-ltb (length (left_of input.at)) count lt) refl
-      | inr ge ↦ rw (le-ltb (length (left_of input.at)) count ge) refl
-    ]
+bytes_passed count value input = same_passed (nat_lt (length (left_of input.at)) count) count _ _ value input
 
 same_count : {F : Type 0} (a b : ℕ) (input : Input F) → Some a ≡ Some b → passed_by (bytes_from a input) ≡ passed_by (bytes_from b input)
 same_count a b input e = let same : a ≡ b = cc in ap (λ (n : ℕ). passed_by (bytes_from n input)) same

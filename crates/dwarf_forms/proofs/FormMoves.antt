@@ -12,7 +12,7 @@ use Rattle.dwarf_forms.specs.declared.encoding.Encoding.TheVariants as encodings
 use Rattle.dwarf_forms.specs.Forms.{encoding_of}
 use Rattle.dwarf_forms.specs.Values.{FormValue, form_value, as_value, word_value, number_value, Signed, Bytes, Name, Flag, sized_from, block_from, encoded_from}
 use Rattle.dwarf_forms.specs.Values.{known_from, direct_from, named_from, indirect_from, value_from}
-use Rattle.dwarf_forms.proofs.Moves.{Moves, number_moves, uleb_moves, sleb_moves, bytes_moves, text_moves, moves_then, moves_less, moves_if, stays, keeps}
+use Rattle.dwarf_forms.proofs.Moves.{Moves, number_moves, uleb_moves, sleb_moves, bytes_moves, text_moves, moves_then, moves_less, uleb_passes, moves_if, stays, keeps}
 
 sized_moves : {F : Type 0} (size : Size) (input : Input F) → Moves 1 input (sized_from size input)
 sized_moves sizes.One input = number_moves 1 input
@@ -54,7 +54,7 @@ pub value_moves : {F : Type 0} (unknown : F) (form : ℕ) (implicit : ℤ) (inpu
 unfolding value_from
 value_moves unknown form implicit input =
     moves_if 0 input (form == DW_FORM_indirect) (indirect_from unknown input) (direct_from unknown form implicit input)
-    (moves_then 0 0 input (uleb_from input) _ (moves_less 1 0 input (uleb_from input) (omega arith) (uleb_moves input)) (λ r. named_moves unknown r.0 r.1))
+    (moves_then 0 0 input (uleb_from input) _ (uleb_passes input) (λ r. named_moves unknown r.0 r.1))
     (direct_moves unknown form implicit input)
 
 pub form_keeps : {F : Type 0} (unknown : F) (form : ℕ) (implicit : ℤ) (old new : Input F) (result : Result Value F)

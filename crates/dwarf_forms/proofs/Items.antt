@@ -17,7 +17,7 @@ Items X F = Result (List X × Input F) F
 abbrev pub with_front : {X F : Type 0} → List X → Items X F → Items X F
 with_front front read = read >>= (λ x. Ok (front ++ x.0, x.1))
 
-regroup : {X F : Type 0} (front : List X) (x : X) (read : Items X F)
+pub regroup : {X F : Type 0} (front : List X) (x : X) (read : Items X F)
     → with_front front (read >>= (λ (others, end). Ok (x ∷ others, end))) ≡ with_front (front ++ x ∷ []) read
 regroup {X = X} front x (Ok r) = ap (λ (xs : List X). Ok (xs, r.1)) (simp append_assoc)
 regroup front x (Err f) = refl

@@ -1,7 +1,7 @@
 -- Each field is read from the same bytes, and takes some of those that are left.
 use Rattle.std.proofs.Common.{◌≡◌, ℕ, ◌+◌, ◌≤◌, Bool, true, false, inl, inr, List, length, take, Option, Some, None, Result, Ok, Err}
 use Rattle.std.proofs.Common.{refl, sym, ap, ◌∙◌, arith}
-use Rattle.std.specs.Prelude.{option_and_then, IfOk, if◌then◌else◌, ◌==◌}
+use Rattle.std.specs.Prelude.{option_and_then, IfOk, if◌then◌else◌, ◌==◌, nat_lt}
 use Rattle.std.specs.List.{position_or_len}
 use Rattle.std.proofs.lemmas.Bool.{cases_lt, lt-ltb, le-ltb}
 use Rattle.std.proofs.lemmas.List.{length-drop, length-take-le}
@@ -31,15 +31,8 @@ moves_taken : {X F : Type 0} (count : ℕ) (input : Input F) (found : Option (X 
 moves_taken count input None within = tt
 moves_taken count input (Some r) within = (refl, let long = left_moved input.at r.1 within.1 in let more = within.0 in omega arith)
 
-number_within : (count : ℕ) (bytes : List ℕ) → Within count (length bytes) (number_at count bytes)
-number_within count bytes =
-    elim (cases_lt (length bytes) count) [
-      | inl lt ↦ rw (lt-ltb (length bytes) count lt) tt
-      | inr ge ↦ rw (le-ltb (length bytes) count ge) (omega arith, ge)
-    ]
-
-bytes_within : (count : ℕ) (bytes : List ℕ) → Within count (length bytes) (bytes_at count bytes)
-bytes_within count bytes =
+sized_within : {X : Type 0} (count : ℕ) (bytes : List ℕ) (x : X) → Within count (length bytes) (if nat_lt (length bytes) count then None else Some (x, count))
+sized_within count bytes x =
     elim (cases_lt (length bytes) count) [
       | inl lt ↦ rw (lt-ltb (length bytes) count lt) tt
       | inr ge ↦ rw (le-ltb (length bytes) count ge) (omega arith, ge)
@@ -78,7 +71,7 @@ sleb_within : (bytes : List ℕ) → Within 1 (length bytes) (sleb_at bytes)
 sleb_within bytes = group_within signed_of bytes (λ group. when (fits_signed group) _ (length group))
 
 pub number_moves : {F : Type 0} (count : ℕ) (input : Input F) → Moves count input (number_from count input)
-number_moves count input = moves_taken count input (number_at count (left_of input.at)) (number_within count (left_of input.at))
+number_moves count input = moves_taken count input (number_at count (left_of input.at)) (sized_within count (left_of input.at) _)
 
 pub uleb_moves : {F : Type 0} (input : Input F) → Moves 1 input (uleb_from input)
 uleb_moves input = moves_taken 1 input (uleb_at (left_of input.at)) (uleb_within (left_of input.at))
@@ -87,7 +80,7 @@ pub sleb_moves : {F : Type 0} (input : Input F) → Moves 1 input (sleb_from inp
 sleb_moves input = moves_taken 1 input (sleb_at (left_of input.at)) (sleb_within (left_of input.at))
 
 pub bytes_moves : {F : Type 0} (count : ℕ) (input : Input F) → Moves count input (bytes_from count input)
-bytes_moves count input = moves_taken count input (bytes_at count (left_of input.at)) (bytes_within count (left_of input.at))
+bytes_moves count input = moves_taken count input (bytes_at count (left_of input.at)) (sized_within count (left_of input.at) _)
 
 pub text_moves : {F : Type 0} (input : Input F) → Moves 1 input (text_from input)
 text_moves input = moves_taken 1 input (text_at (left_of input.at)) (text_within (left_of input.at))
@@ -106,6 +99,9 @@ moves_then {Y = Y} {F = F} j k input (Ok r) next one others = both (next r) (oth
 pub moves_less : {X F : Type 0} (j k : ℕ) (input : Input F) (read : Result (X × Input F) F) → k ≤ j → Moves j input read → Moves k input read
 moves_less j k input (Err fault) le moves = tt
 moves_less j k input (Ok r) le moves = (moves.0, let a = moves.1 in omega arith)
+
+pub uleb_passes : {F : Type 0} (input : Input F) → Moves 0 input (uleb_from input)
+uleb_passes input = moves_less 1 0 input (uleb_from input) (omega arith) (uleb_moves input)
 
 -- one of two
 pub moves_if : {X F : Type 0} (count : ℕ) (input : Input F) (b : Bool) (one other : Result (X × Input F) F)

@@ -15,7 +15,7 @@ use Rattle.dwarf_forms.specs.Lists.{with_first, list_from}
 use Rattle.dwarf_forms.specs.Runs.{Step, is_end, before, run_from}
 use Rattle.dwarf_forms.specs.Abbreviations.{implicit_from, unless_closing, attribute_from, attributes_from, declared_from, declaration_from, table_from}
 use Rattle.dwarf_forms.proofs.Items.{Item, Items}
-use Rattle.dwarf_forms.proofs.Moves.{Moves, number_moves, uleb_moves, sleb_moves, moves_then, moves_less, moves_if, stays}
+use Rattle.dwarf_forms.proofs.Moves.{Moves, number_moves, uleb_moves, sleb_moves, moves_then, moves_less, uleb_passes, moves_if, stays}
 
 -- ---- lists
 
@@ -122,9 +122,6 @@ implicit_moves : (form : ℕ) (input : Input BadTable) → Moves 0 input (implic
 implicit_moves form input =
     moves_if 0 input (form == DW_FORM_implicit_const) (sleb_from input) (Ok (pos 0, input))
     (moves_less 1 0 input (sleb_from input) (omega arith) (sleb_moves input)) (stays input (pos 0))
-
-uleb_passes : (input : Input BadTable) → Moves 0 input (uleb_from input)
-uleb_passes input = moves_less 1 0 input (uleb_from input) (omega arith) (uleb_moves input)
 
 attribute_takes : Takes attribute_from
 unfolding attribute_from

@@ -18,7 +18,7 @@ use Rattle.dwarf_info.specs.declared.fault.InfoFault.TheVariants.{BadUnit, Unkno
 use Rattle.dwarf_info.specs.Sections.{Sections}
 use Rattle.dwarf_info.specs.Values.{passed_from, declaration_of}
 use Rattle.dwarf_info.specs.Entries.{declared_entry, entry_from, entries_from}
-use Rattle.dwarf_info.specs.Units.{declared_in, body_of, entries_in, or_none}
+use Rattle.dwarf_info.specs.Units.{declared_in, unit_body, entries_in, or_none}
 use Rattle.dwarf_info.specs.Queries.{index_at}
 use Rattle.dwarf_info.specs.private.Starts.{IsSplit}
 use Rattle.dwarf_info.specs.private.Indexed.{offsets_of, IsRead, AreMarked, AreFirsts, AreIndexed}
@@ -121,8 +121,8 @@ run_of declared index (suc room) depth input =
 
 unit_of_each : (sections : Sections) (bases : UnitBases) (read : IsRead sections bases) → OfUnit bases.index read.entries
 unit_of_each sections bases read =
-    listed (entries_from (declared_in sections bases) bases.index (body_of sections bases.header)) read.read
-    (run_of (declared_in sections bases) bases.index _ 0 (body_of sections bases.header))
+    listed (entries_from (declared_in sections bases) bases.index (unit_body sections bases.header)) read.read
+    (run_of (declared_in sections bases) bases.index _ 0 (unit_body sections bases.header))
   where
     listed : (all : Result (List InfoEntry) InfoFault) → all ≡ Ok read.entries → IfOk all (OfUnit bases.index) → OfUnit bases.index read.entries
     listed all is of = subst (λ (r : Result (List InfoEntry) InfoFault). IfOk r (OfUnit bases.index)) is of

@@ -19,7 +19,7 @@ use Rattle.dwarf_info.specs.declared.fault.InfoFault.{InfoFault}
 use Rattle.dwarf_info.specs.Sections.{Sections}
 use Rattle.dwarf_info.specs.Entries.{entry_from, entries_from}
 use Rattle.dwarf_info.specs.UnitHeaders.{header_from}
-use Rattle.dwarf_info.specs.Units.{first_offset, or_none, unit_bases, first_values, body_of, read_unit}
+use Rattle.dwarf_info.specs.Units.{first_offset, or_none, unit_bases, first_values, unit_body, read_unit}
 use Rattle.dwarf_info.specs.private.Bodies.{IsAtEntries}
 use Rattle.dwarf_info.specs.private.Indexed.{offsets_of, IsRead, AreMarked}
 use Rattle.dwarf_info.proofs.Indexed.{offsets_append}
@@ -143,19 +143,19 @@ abbrev pub one_unit : UnitBases → Result (List UnitBases) InfoFault
 one_unit u = Ok (u ∷ [])
 
 pub body_is : (sections : Sections) (number : ℕ) (header : UnitHeader) (table : List Abbrev) (body : Input InfoFault) (first : Option ℕ) (old new : List ℕ) (read : UnitBases)
-    → body ≡ body_of sections header → table_at sections.abbrev_bytes header.debug_abbrev_offset ≡ Ok table
+    → body ≡ unit_body sections header → table_at sections.abbrev_bytes header.debug_abbrev_offset ≡ Ok table
     → seen_ok (first, new) ≡ viewed (seen old) (entries_from table number body)
     → read ≡ unit_bases sections number header (first_values sections header.end table first)
     → (read_unit sections number (Some header) ≡ Ok (read ∷ [])) × AreMarked sections old new read
 unfolding read_unit
 body_is sections number header table body first old new read stands known marked read_is =
     let s = were_seen first old new (entries_from table number body) marked in
-    let here : entries_from table number (body_of sections header) ≡ Ok s.0 = ap (entries_from table number) (sym stands) ∙ s.1 in
+    let here : entries_from table number (unit_body sections header) ≡ Ok s.0 = ap (entries_from table number) (sym stands) ∙ s.1 in
     let same : unit_bases sections number header (first_values sections header.end table (first_offset s.0)) ≡ read =
     ap (λ (o : Option ℕ). unit_bases sections number header (first_values sections header.end table o)) (sym s.2) ∙ sym read_is in
     let declared : or_none (table_at sections.abbrev_bytes header.debug_abbrev_offset) ≡ table = ap (λ (r : Result (List Abbrev) _). or_none r) known in
     let is_read : IsRead sections (unit_bases sections number header (first_values sections header.end table first)) =
-    record { entries = s.0; read = ap (λ (ds : List Abbrev). entries_from ds number (body_of sections header)) declared ∙ here } in
+    record { entries = s.0; read = ap (λ (ds : List Abbrev). entries_from ds number (unit_body sections header)) declared ∙ here } in
     let are : AreMarked sections old new (unit_bases sections number header (first_values sections header.end table first)) = record { read = is_read; added = s.3 } in (
       rw (known, here) (ap one_unit same),
       subst (AreMarked sections old new) (sym read_is) are,

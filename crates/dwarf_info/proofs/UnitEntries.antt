@@ -6,7 +6,7 @@ use Rattle.dwarf_forms.specs.Abbreviations.{table_at}
 use Rattle.dwarf_forms.specs.Values.{FormValue}
 use Rattle.dwarf_info.specs.declared.entry.UnitBases.{UnitBases}
 use Rattle.dwarf_info.specs.declared.entry.InfoEntry.{InfoEntry}
-use Rattle.dwarf_info.specs.Sections.{up_to}
+use Rattle.dwarf_info.specs.Sections.{section_up_to}
 use Rattle.dwarf_info.specs.Values.{value_of, entry_values}
 use Rattle.dwarf_info.specs.Units.{DebugInfo, or_none}
 use Rattle.dwarf_info.specs.declared.tables.Tables.{Tables}
@@ -33,7 +33,7 @@ shown o = option_map (λ s. (s.bases, s.entry.offset)) o
 abbrev pub Finds : DebugInfo → Tables → ℕ → UnitBases → ℕ → Option FormValue → Type 0
 Finds info tables attribute read offset r =
     (section : List ℕ) → AreTables section tables → is_some (table_in tables read.header.debug_abbrev_offset) ≡ true
-    → r ≡ value_of attribute (entry_values (or_none (table_at section read.header.debug_abbrev_offset)) (up_to read.header.end info.sections.info offset Short))
+    → r ≡ value_of attribute (entry_values (or_none (table_at section read.header.debug_abbrev_offset)) (section_up_to read.header.end info.sections.info offset Short))
 
 abbrev read_or : UnitBases → Option Shown → UnitBases
 read_or d None = d
@@ -60,8 +60,8 @@ found_in info tables i attribute read offset r (Some s) at are have is finds =
     let second : s.entry.offset ≡ offset = same_offset s read offset is in
     let has : is_some (table_in tables read.header.debug_abbrev_offset) ≡ true = subst (λ (u : UnitBases). is_some (table_in tables u.header.debug_abbrev_offset) ≡ true) first (have k.0 s.bases k.1) in
     finds info.sections.abbrev_bytes are has
-    ∙ ap (λ (u : UnitBases). value_of attribute (entry_values (or_none (table_at info.sections.abbrev_bytes u.header.debug_abbrev_offset)) (up_to u.header.end info.sections.info offset Short))) (sym first)
-    ∙ ap (λ (n : ℕ). value_of attribute (entry_values (or_none (table_at info.sections.abbrev_bytes s.bases.header.debug_abbrev_offset)) (up_to s.bases.header.end info.sections.info n Short))) (sym second)
+    ∙ ap (λ (u : UnitBases). value_of attribute (entry_values (or_none (table_at info.sections.abbrev_bytes u.header.debug_abbrev_offset)) (section_up_to u.header.end info.sections.info offset Short))) (sym first)
+    ∙ ap (λ (n : ℕ). value_of attribute (entry_values (or_none (table_at info.sections.abbrev_bytes s.bases.header.debug_abbrev_offset)) (section_up_to s.bases.header.end info.sections.info n Short))) (sym second)
 
 abbrev pub some_shown : UnitBases × ℕ → Option (UnitBases × ℕ)
 some_shown p = Some p

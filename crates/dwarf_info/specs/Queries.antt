@@ -8,7 +8,7 @@ use Rattle.dwarf_info.specs.declared.constants.TheConstants.{DW_AT_name, DW_AT_l
 use Rattle.dwarf_info.specs.declared.constants.TheConstants.{DW_AT_specification, DW_AT_call_file, DW_AT_call_line}
 use Rattle.dwarf_info.specs.declared.entry.UnitBases.{UnitBases}
 use Rattle.dwarf_info.specs.declared.entry.InfoEntry.{InfoEntry}
-use Rattle.dwarf_info.specs.Sections.{up_to}
+use Rattle.dwarf_info.specs.Sections.{section_up_to}
 use Rattle.dwarf_info.specs.Values.{entry_values, value_of}
 use Rattle.dwarf_info.specs.Attributes.{small_value, text_value}
 use Rattle.dwarf_info.specs.Units.{DebugInfo, declared_in}
@@ -29,7 +29,7 @@ abbrev pub attribute_value : DebugInfo → ℕ → UnitEntry → Option FormValu
 attribute_value info attribute e =
     value_of attribute
     (entry_values (declared_in info.sections e.bases)
-    (up_to e.bases.header.end info.sections.info e.entry.offset Short))
+    (section_up_to e.bases.header.end info.sections.info e.entry.offset Short))
 
 abbrev pub attribute_text : DebugInfo → ℕ → UnitEntry → Option (List ℕ)
 attribute_text info attribute e =
@@ -68,5 +68,5 @@ attribute_number info attribute i =
     option_and_then (λ e. option_and_then small_value (attribute_value info attribute e)) (unit_entry info i)
 
 -- the file and the line of its call
-abbrev pub call_of : DebugInfo → ℕ → Option ℕ × Option ℕ
-call_of info i = (attribute_number info DW_AT_call_file i, attribute_number info DW_AT_call_line i)
+abbrev pub call_site_of : DebugInfo → ℕ → Option ℕ × Option ℕ
+call_site_of info i = (attribute_number info DW_AT_call_file i, attribute_number info DW_AT_call_line i)

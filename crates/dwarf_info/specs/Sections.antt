@@ -25,14 +25,14 @@ sections_of parts = record {
 }
 
 -- the number of four bytes at an offset of a section; nothing where it is not whole there
-abbrev pub word_in : List ℕ → ℕ → Option ℕ
-word_in section offset = option_map (λ r. r.0) (number_at 4 (drop offset section))
+abbrev pub section_word : List ℕ → ℕ → Option ℕ
+section_word section offset = option_map (λ r. r.0) (number_at 4 (drop offset section))
 
 -- the same of the element with an index behind a base
 abbrev pub element_in : List ℕ → Option ℕ → ℕ → Option ℕ
-element_in section base index = option_and_then (λ start. word_in section (start + 4 * index)) base
+element_in section base index = option_and_then (λ start. section_word section (start + 4 * index)) base
 
 -- the bytes of a section up to an end, from an offset on
-abbrev pub up_to : {F : Type 0} → ℕ → List ℕ → ℕ → F → Input F
-up_to end section offset missing =
+abbrev pub section_up_to : {F : Type 0} → ℕ → List ℕ → ℕ → F → Input F
+section_up_to end section offset missing =
     record { at = record { whole = take end section; offset = offset }; missing = missing }

@@ -18,7 +18,7 @@ use Rattle.dwarf_info.specs.declared.entry.UnitBases.{UnitBases}
 use Rattle.dwarf_info.specs.declared.entry.InfoEntry.{InfoEntry}
 use Rattle.dwarf_info.specs.declared.fault.InfoFault.{InfoFault}
 use Rattle.dwarf_info.specs.declared.fault.InfoFault.TheVariants.{BadUnit, BadAbbrev}
-use Rattle.dwarf_info.specs.Sections.{Sections, up_to}
+use Rattle.dwarf_info.specs.Sections.{Sections, section_up_to}
 use Rattle.dwarf_info.specs.Values.{entry_values, value_of}
 use Rattle.dwarf_info.specs.Attributes.{section_value, address_value}
 use Rattle.dwarf_info.specs.Entries.{entries_from}
@@ -29,7 +29,7 @@ use Rattle.dwarf_info.specs.UnitHeaders.{header_from}
 -- the values of the first of the entries, by its offset
 abbrev pub first_values : Sections → ℕ → List Abbrev → Option ℕ → List (ℕ × FormValue)
 first_values sections end declared None = []
-first_values sections end declared (Some offset) = entry_values declared (up_to end sections.info offset Short)
+first_values sections end declared (Some offset) = entry_values declared (section_up_to end sections.info offset Short)
 
 -- the offset in a section that an attribute gives
 abbrev pub section_offset : ℕ → List (ℕ × FormValue) → Option ℕ
@@ -54,8 +54,8 @@ first_offset entries = option_map (λ e. e.offset) (slice_get entries 0)
 -- ---- a unit
 
 -- the bytes of a unit from its first entry on
-abbrev pub body_of : Sections → UnitHeader → Input InfoFault
-body_of sections header = up_to header.end sections.info header.first_entry (BadUnit header.offset)
+abbrev pub unit_body : Sections → UnitHeader → Input InfoFault
+unit_body sections header = section_up_to header.end sections.info header.first_entry (BadUnit header.offset)
 
 -- the same with another fault
 abbrev pub failing_as : {X F G : Type 0} → G → Result X F → Result X G
@@ -72,7 +72,7 @@ unfoldable pub read_unit : Sections → ℕ → Option UnitHeader → Result (Li
 read_unit sections index None = Ok []
 read_unit sections index (Some header) = do
   declared ← unit_table sections header
-  entries ← entries_from declared index (body_of sections header)
+  entries ← entries_from declared index (unit_body sections header)
   Ok (unit_bases sections index header (first_values sections header.end declared (first_offset entries)) ∷ [])
 
 -- the unit that begins here, with its index among those that are read
@@ -104,7 +104,7 @@ declared_in sections bases = or_none (table_at sections.abbrev_bytes bases.heade
 -- its entries
 abbrev pub entries_in : Sections → UnitBases → List InfoEntry
 entries_in sections bases =
-    or_none (entries_from (declared_in sections bases) bases.index (body_of sections bases.header))
+    or_none (entries_from (declared_in sections bases) bases.index (unit_body sections bases.header))
 
 -- a unit as callers see it
 abbrev pub unit_of : UnitBases → Unit

@@ -2,7 +2,7 @@
 ghost use Rattle.std.specs.Prelude.{◌≡◌, ◌^◌, Some, None, nat_le, nat_lt, if◌then◌else◌, option_copied, take};
 ghost use Rattle.std.specs.Prelude.{option_and_then, option_map};
 ghost use Rattle.dwarf_forms.specs.Values.{form_value};
-ghost use Rattle.dwarf_info.specs.Sections.{sections_of, word_in, element_in};
+ghost use Rattle.dwarf_info.specs.Sections.{sections_of, section_word, element_in};
 ghost use Rattle.dwarf_info.specs.Attributes.{section_value, small_value, text_value, address_value};
 
 use dwarf_forms::{Value, text_in};
@@ -22,7 +22,7 @@ pub(crate) fn front(bytes: &[u8], end: u32) -> &[u8]
 
 #[tactic(auto, using(crate::proofs::Past::no_word_past))]
 fn word_in(section: &[u8], offset: usize) -> Option<u32>
-    ensures { result ≡ word_in section.now offset }
+    ensures { result ≡ section_word section.now offset }
 {
     if offset > section.len() {
         return None;

@@ -5,11 +5,11 @@ ghost use Rattle.prof_bytes.specs.Outcome.{Gives};
 ghost use Rattle.dwarf_forms.specs.declared.value.FormFault.TheVariants.{Short};
 ghost use Rattle.dwarf_forms.specs.Abbreviations.{table_at};
 ghost use Rattle.dwarf_forms.specs.Values.{form_value};
-ghost use Rattle.dwarf_info.specs.Sections.{sections_of, up_to};
+ghost use Rattle.dwarf_info.specs.Sections.{sections_of, section_up_to};
 ghost use Rattle.dwarf_info.specs.Values.{value_of, entry_values};
 ghost use Rattle.dwarf_info.specs.Units.{unit_of, or_none, entries_in, debug_info_of};
 ghost use Rattle.dwarf_info.specs.Queries.{unit_entry, attribute_value, attribute_text, attribute_entry};
-ghost use Rattle.dwarf_info.specs.Queries.{attribute_number, name_of, link_of, call_of};
+ghost use Rattle.dwarf_info.specs.Queries.{attribute_number, name_of, link_of, call_site_of};
 ghost use Rattle.dwarf_info.specs.Ranges.{attribute_ranges, low_pc_of, low_high_of, one_or_none, ranges_of};
 ghost use Rattle.dwarf_info.specs.private.Located.{IsLocated, found_unit, own_unit};
 ghost use Rattle.dwarf_info.specs.private.Indexed.{IsRead};
@@ -48,7 +48,7 @@ fn tabled_value<'a>(
         → is_some (table_in tables.now bases.header.debug_abbrev_offset) ≡ true
         → option_map form_value result ≡ value_of attribute
         (entry_values (or_none (table_at section bases.header.debug_abbrev_offset))
-        (up_to bases.header.end info.now offset Short)) }
+        (section_up_to bases.header.end info.now offset Short)) }
 {
     match tables.get(bases.header.debug_abbrev_offset) {
         Some(table) => value_at(info, &table, bases.header.end, offset, attribute),
@@ -182,7 +182,7 @@ impl<'a> Info<'a> {
     /// The file and the line of the call of an inlined subroutine.
     pub fn call(&self, i: u32) -> (Option<u32>, Option<u32>)
         requires { i < length self.now.entries }
-        ensures { result ≡ call_of self.now i }
+        ensures { result ≡ call_site_of self.now i }
     {
         match self.located(i) {
             Some(at) => (

@@ -9,10 +9,10 @@ ghost use Rattle.dwarf_forms.specs.declared.value.FormFault.TheVariants.{Short};
 ghost use Rattle.dwarf_forms.specs.Abbreviations.{table_at};
 ghost use Rattle.dwarf_forms.specs.Values.{form_value};
 ghost use Rattle.dwarf_info.specs.declared.fault.InfoFault.TheVariants.{BadUnit, BadAbbrev};
-ghost use Rattle.dwarf_info.specs.Sections.{sections_of, up_to};
+ghost use Rattle.dwarf_info.specs.Sections.{sections_of, section_up_to};
 ghost use Rattle.dwarf_info.specs.Values.{value_of, entry_values};
 ghost use Rattle.dwarf_info.specs.Attributes.{address_value};
-ghost use Rattle.dwarf_info.specs.Units.{first_values, section_offset, unit_bases, body_of, failing_as, read_unit};
+ghost use Rattle.dwarf_info.specs.Units.{first_values, section_offset, unit_bases, unit_body, failing_as, read_unit};
 ghost use Rattle.dwarf_info.specs.Units.{unit_from, units_of};
 ghost use Rattle.dwarf_info.specs.private.Indexed.{AreMarked, AreIndexed};
 ghost use Rattle.dwarf_info.specs.private.Tables.{table_in, AreTables, KeepTables, HaveTables};
@@ -43,7 +43,7 @@ pub(crate) fn value_at<'a>(
     attribute: u64,
 ) -> Option<Value<'a>>
     ensures { option_map form_value result
-        ≡ value_of attribute (entry_values table.now (up_to end info.now offset Short)) }
+        ≡ value_of attribute (entry_values table.now (section_up_to end info.now offset Short)) }
 {
     let mut reader = reader_at(front(info, end), offset as usize, FormFault::Short).ok()?;
     entry_value(&mut reader, table, attribute)
@@ -125,7 +125,7 @@ fn read_body<'a>(
     starts: &mut Starts,
 ) -> Result<UnitBases, Fail<InfoFault>>
     requires small { length sections.now.info.now < 2 ^ 31 }
-    requires stands { body.old ≡ body_of (sections_of sections.now) «unit».1 }
+    requires stands { body.old ≡ unit_body (sections_of sections.now) «unit».1 }
     requires known { table_at sections.now.«abbrev».now «unit».1.debug_abbrev_offset ≡ Ok table.now }
     requires inside { length sections.now.info.now ≤ starts.old.bytes }
     requires behind { starts.old.end ≤ «unit».1.first_entry }
@@ -157,7 +157,7 @@ fn read_headed<'a>(
     starts: &mut Starts,
 ) -> Result<UnitBases, Fail<InfoFault>>
     requires small { length sections.now.info.now < 2 ^ 31 }
-    requires stands { body.old ≡ body_of (sections_of sections.now) «unit».1 }
+    requires stands { body.old ≡ unit_body (sections_of sections.now) «unit».1 }
     requires tables { AreTables sections.now.«abbrev».now tables.old }
     requires inside { length sections.now.info.now ≤ starts.old.bytes }
     requires behind { starts.old.end ≤ «unit».1.first_entry }

@@ -11,7 +11,7 @@ use Rattle.elf_image.specs.Image.{ProgramImage, counts}
 use Rattle.scope_types.specs.declared.scope.LineId.{LineId}
 use Rattle.scope_types.specs.declared.scope.LineId.TheVariants.{Row, Address}
 use Rattle.dwarf_info.specs.Units.{DebugInfo}
-use Rattle.dwarf_info.specs.Queries.{unit_entry, call_of}
+use Rattle.dwarf_info.specs.Queries.{unit_entry, call_site_of}
 use Rattle.dwarf_info.specs.Ranges.{ranges_of}
 use Rattle.dwarf_line.specs.Lines.{Lines, table_with}
 use Rattle.dwarf_inline.specs.declared.item.Item.{Item}
@@ -28,8 +28,8 @@ abbrev pub counted_ranges : DebugInfo → ProgramImage → ℕ → List (ℕ × 
 counted_ranges info image i = filter (λ r. counts image.segments r.0 r.1) (ranges_of info i)
 
 -- the line table of an entry's unit, where it is of version 5
-abbrev pub table_of : DebugInfo → Lines → ℕ → Option ℕ
-table_of info lines i =
+abbrev pub unit_line_table : DebugInfo → Lines → ℕ → Option ℕ
+unit_line_table info lines i =
     option_and_then (λ table. if is_some (table_with lines.tables table) then Some table else None)
     (option_and_then (λ e. e.bases.stmt_list) (unit_entry info i))
 
@@ -43,7 +43,7 @@ row_of table (file, line) = None
 abbrev pub call_at : DebugInfo → Lines → ℕ → List (ℕ × ℕ) → Option LineId
 call_at info lines i [] = None
 call_at info lines i (first ∷ others) =
-    Some (unwrap_or (row_of (table_of info lines i) (call_of info i)) (Address first.0))
+    Some (unwrap_or (row_of (unit_line_table info lines i) (call_site_of info i)) (Address first.0))
 
 -- ---- items
 

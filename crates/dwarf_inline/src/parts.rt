@@ -3,7 +3,8 @@ ghost use Rattle.std.specs.Prelude.{◌≡◌, ◌<◌, ◌++◌, ◌∷◌, [],
 ghost use Rattle.std.specs.List.{flat_map};
 ghost use Rattle.dwarf_inline.specs.Links.{entry_name, identity, identity_offset, item_entries};
 ghost use Rattle.dwarf_inline.specs.Nesting.{item_after};
-ghost use Rattle.dwarf_inline.specs.Structure.{counted_ranges, table_of, row_of, call_at, ranges_before, item_of};
+ghost use Rattle.dwarf_inline.specs.Structure.{counted_ranges, unit_line_table, row_of, call_at, ranges_before};
+ghost use Rattle.dwarf_inline.specs.Structure.{item_of};
 
 use crate::item::Item;
 use crate::links::is_inlined;
@@ -63,7 +64,7 @@ fn add_ranges(
 /// The line table of an entry's unit, where it is of version 5.
 fn table_of(sources: Sources<'_, '_, '_, '_>, at: u32) -> Option<u32>
     requires { sources.entries.now ≡ sources.info.now.entries }
-    ensures { result ≡ table_of sources.entry.info.now sources.entry.lines.now at }
+    ensures { result ≡ unit_line_table sources.entry.info.now sources.entry.lines.now at }
 {
     let entry = sources.entries.get(at as usize)?;
     let unit = sources.info.units().get(entry.unit as usize)?;

@@ -9,10 +9,10 @@ use Rattle.dwarf_line.specs.declared.constants.TheConstants.{DW_LNCT_path, DW_LN
 use Rattle.dwarf_line.specs.declared.fault.LineFault.{LineFault}
 use Rattle.dwarf_line.specs.declared.names.EntryFormat.{EntryFormat}
 use Rattle.dwarf_line.specs.Names.{LineRead, Texts, NamedPath, entry_values_from, first_value_of, present, path_by_value, index_by_value, name_entry_from}
-use Rattle.dwarf_line.specs.private.ContentValues.{ContentValues, content_values_of, content_values_from, as_first, before}
+use Rattle.dwarf_line.specs.private.ContentValues.{ContentValues, content_values_of, content_values_from, as_first, earlier_first}
 
 abbrev pub after_values : ContentValues → Result (ContentValues × Input LineFault) LineFault → Result (ContentValues × Input LineFault) LineFault
-after_values a read = read >>= (λ r. Ok (before a r.0, r.1))
+after_values a read = read >>= (λ r. Ok (earlier_first a r.0, r.1))
 
 abbrev Typed : Type 0
 Typed = ℕ × FormValue
@@ -35,14 +35,14 @@ Read = Result (List Typed × Input LineFault) LineFault
 abbrev to_first : Read → Result (ContentValues × Input LineFault) LineFault
 to_first r = r >>= (λ values. Ok (content_values_of values.0, values.1))
 
-regroup : (a : ContentValues) (content_type : ℕ) (value : FormValue) (r : Read) → after_values a (to_first (r >>= λ others. Ok ((content_type, value) ∷ others.0, others.1))) ≡ after_values (before a (as_first content_type value)) (to_first r)
+regroup : (a : ContentValues) (content_type : ℕ) (value : FormValue) (r : Read) → after_values a (to_first (r >>= λ others. Ok ((content_type, value) ∷ others.0, others.1))) ≡ after_values (earlier_first a (as_first content_type value)) (to_first r)
 regroup a content_type value (Ok r) =
     ap₂ (λ (p d : Option FormValue). Ok (record { path = p; directory_index = d }, r.1)) (or_assoc a.path DW_LNCT_path (content_type, value) r.0) (or_assoc a.directory_index DW_LNCT_directory_index (content_type, value) r.0)
 regroup a content_type value (Err f) = refl
 
 pub one_more : (a : ContentValues) (format : EntryFormat) (formats : List EntryFormat) (value : FormValue) (input after : Input LineFault)
     → value_from input.missing format.form (pos 0) input ≡ Ok (value, after)
-    → after_values a (content_values_from (format ∷ formats) input) ≡ after_values (before a (as_first format.content_type value)) (content_values_from formats after)
+    → after_values a (content_values_from (format ∷ formats) input) ≡ after_values (earlier_first a (as_first format.content_type value)) (content_values_from formats after)
 unfolding entry_values_from
 one_more a format formats value input after read = rw read (regroup a format.content_type value (entry_values_from formats after))
 

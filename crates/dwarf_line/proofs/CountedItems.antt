@@ -1,18 +1,11 @@
 -- Reading a number of items one by one, as a loop does.
-use Rattle.std.proofs.Common.{◌≡◌, ℕ, suc, ◌-◌, ◌+◌, ◌≤◌, ◌<◌, List, [], ◌∷◌, ◌++◌, Ok, Err, refl, sym, ap, ◌∙◌, append_assoc, arith}
+use Rattle.std.proofs.Common.{◌≡◌, ℕ, suc, ◌-◌, ◌+◌, ◌≤◌, ◌<◌, List, [], ◌∷◌, ◌++◌, Ok, Err, refl, sym, ap, ◌∙◌, arith}
 use Rattle.std.proofs.lemmas.List.{append-nil}
 use Rattle.prof_bytes.specs.Fields.{Input}
 use Rattle.prof_bytes.specs.Outcome.{◌>>=◌}
 use Rattle.dwarf_line.specs.declared.fault.LineFault.{LineFault}
+use Rattle.dwarf_forms.proofs.Items.{with_front, regroup}
 use Rattle.dwarf_line.specs.Names.{LineRead, counted_from}
-
--- what was read before, and what is still read
-abbrev pub with_front : {X : Type 0} → List X → LineRead (List X) → LineRead (List X)
-with_front front read = read >>= (λ r. Ok (front ++ r.0, r.1))
-
-regroup : {X : Type 0} (front : List X) (x : X) (read : LineRead (List X)) → with_front front (read >>= λ r. Ok (x ∷ r.0, r.1)) ≡ with_front (front ++ x ∷ []) read
-regroup {X = X} front x (Ok r) = ap (λ (xs : List X). Ok (xs, r.1)) (simp append_assoc)
-regroup front x (Err f) = refl
 
 -- one more item was read
 pub goes_on : {X : Type 0} (item : Input LineFault → LineRead X) (front : List X) (count i : ℕ) (input after : Input LineFault) (x : X) (total : LineRead (List X))

@@ -5,7 +5,7 @@ ghost use Rattle.prof_bytes.specs.Outcome.{GivesAt, GivesFrom};
 ghost use Rattle.dwarf_forms.specs.Values.{form_value};
 ghost use Rattle.dwarf_line.specs.Names.{texts_of, counted_from, format_from, path_by_value, index_by_value};
 ghost use Rattle.dwarf_line.specs.Names.{name_entry_from, names_from};
-ghost use Rattle.dwarf_line.specs.private.ContentValues.{held_values, content_values_from, as_first, before};
+ghost use Rattle.dwarf_line.specs.private.ContentValues.{held_values, content_values_from, as_first, earlier_first};
 
 use crate::constants::{DW_LNCT_directory_index, DW_LNCT_path};
 use crate::fault::LineFault;
@@ -73,7 +73,8 @@ struct EntryValues<'a> {
 }
 
 fn noted<'a>(values: EntryValues<'a>, content_type: u64, value: Value<'a>) -> EntryValues<'a>
-    ensures { held_values result ≡ before (held_values values.entry) (as_first content_type (form_value value.entry)) }
+    ensures { held_values result
+        ≡ earlier_first (held_values values.entry) (as_first content_type (form_value value.entry)) }
 {
     let EntryValues {
         path,

@@ -1,7 +1,7 @@
 //! The rows of a sequence, and the one in force at an address.
-ghost use Rattle.std.specs.Prelude.{◌≡◌, ◌≤◌, ◌<◌, true, length};
+ghost use Rattle.std.specs.Prelude.{◌≡◌, true};
 ghost use Rattle.dwarf_line.specs.private.BestRow.{better};
-ghost use Rattle.dwarf_line.specs.private.Rising.{Rises, IsSplit, address_at};
+ghost use Rattle.dwarf_line.specs.private.Rising.{Rises};
 ghost use Rattle.dwarf_line.specs.Sequences.{last_row_at};
 
 use crate::registers::LineRow;
@@ -40,30 +40,12 @@ fn is_rising(rows: &[LineRow]) -> bool
     true
 }
 
-/// How many of the rows, which rise, are at most at an address.
-fn count_up_to(at: u32, rows: &[LineRow]) -> usize
-    requires { Rises rows.now }
-    ensures { IsSplit at rows.now result }
-{
-    let mut low = 0;
-    let mut high = rows.len();
-    while low < high {
-        let middle = low + (high - low) / 2;
-        if rows[middle].address <= at {
-            low = middle + 1;
-        } else {
-            high = middle;
-        }
-    }
-    low
-}
-
-/// The row in force among rows that rise.
+/// The row in force among rows that rise, by halving.
 fn halved(at: u32, rows: &[LineRow]) -> Option<LineRow>
     requires { Rises rows.now }
     ensures { result ≡ last_row_at at rows.now }
 {
-    let count = count_up_to(at, rows);
+    let count = rows.partition_point(|row| row.address <= at);
     if count == 0 {
         return None;
     }

@@ -1,11 +1,12 @@
 -- The blocks of a translation, one behind the other, are its entries.
-use Rattle.std.proofs.Common.{◌≡◌, ℕ, ◌+◌, ◌-◌, ◌*◌, ◌/◌, ◌%◌, ◌≤◌, ◌<◌, ◌^◌, List, [], ◌∷◌, ◌++◌, length, length-append, length-drop, take, drop, map, Result, Ok, inl, inr, refl, sym, ap, subst, ◌∙◌, append_assoc, arith}
-use Rattle.std.specs.Prelude.{◌⊎◌, replicate}
+use Rattle.std.proofs.Common.{◌≡◌, ℕ, ◌+◌, ◌-◌, ◌*◌, ◌/◌, ◌%◌, ◌≤◌, ◌<◌, ◌^◌, List, [], ◌∷◌, ◌++◌, length, length-append, length-drop, take, drop, map, Result, Ok, inl, inr, refl, sym, ap, subst, ◌∙◌, append_assoc, arith, suc, Err}
+use Rattle.prof_bytes.specs.Outcome.{◌>>=◌, viewed}
+use Rattle.std.specs.Prelude.{replicate, All}
 use Rattle.std.specs.List.{flat_map}
 use Rattle.std.proofs.lemmas.List.{length-take, length-replicate, drop-take}
 use Rattle.std.proofs.Math.Seq.{take-append_seam}
 use Rattle.byteorder.specs.Numbers.{little_from-bytes}
-use Rattle.prof_bytes.specs.Number.{number_bytes, number_in}
+use Rattle.prof_bytes.specs.Number.{number_bytes, number_in, IsBytes}
 use Rattle.prof_bytes.specs.Reading.{left_of}
 use Rattle.cfi_table.specs.declared.fault.FrameFault.{FrameFault}
 use Rattle.cfi_table.specs.declared.extent.Extent.{Extent}
@@ -13,14 +14,15 @@ use Rattle.cfi_table.specs.Entries.{body_of}
 use Rattle.cfi_table.specs.Frames.{all_ok, size_of}
 use Rattle.cfi_table.specs.private.Placed.{IsPlaced}
 use Rattle.eh_frame.specs.Entries.{EhEntry, Content, PassedOver, Common, Description, content_of, entry_with, entry_of}
-use Rattle.eh_frame.specs.Translation.{encoded, cie_head, fde_head, place_of, entry_body, aligned, with_length, block_with, block_of}
+use Rattle.eh_frame.specs.Translation.{encoded, cie_head, fde_head, translated_offset, entry_body, aligned, with_length, block_with, block_of}
 use Rattle.eh_frame.specs.private.Adjoining.{AreAdjoining}
-use Rattle.eh_frame.proofs.Bounds.{FitsIn, content_fits}
+use Rattle.eh_frame.proofs.Described.{AllFacts, FitsIn, content_facts}
 use Rattle.prof_bytes.proofs.Outcomes.{bind_ok, ok_same}
-use Rattle.eh_frame.proofs.Members.{IsIn, ok_cons, ok_of}
-use Rattle.eh_frame.proofs.Places.{Sized, Chain, chain_end, chain_over, chain_on, chain_moved, chain_zeros, drop_behind}
+use Rattle.cfi_table.proofs.AllOk.{ok_cons, given}
+use Rattle.eh_frame.proofs.Members.{IsIn, ok_of}
+use Rattle.eh_frame.proofs.Offsets.{Sized, Chain, chain_end, chain_over, chain_on, chain_moved, chain_zeros, drop_behind}
 
--- ---- a block at a place
+-- ---- a block at an offset
 
 pub record Block (section : List ℕ) (p size : ℕ) (body rest : List ℕ) : Type 0 where
   pub sized : Sized section p
@@ -134,8 +136,8 @@ block_within section p size body rest b =
 
 abbrev pub translated_extent : ℕ → EhEntry → Extent
 translated_extent base entry = record {
-  offset = place_of base entry.extent.offset;
-  end = place_of base entry.extent.offset + 4 + length (aligned (entry_body base entry.content));
+  offset = translated_offset base entry.extent.offset;
+  end = translated_offset base entry.extent.offset + 4 + length (aligned (entry_body base entry.content));
 }
 
 abbrev pub unless_passed : Content → Extent → List Extent
@@ -146,64 +148,63 @@ unless_passed (Description fde) e = e ∷ []
 abbrev pub extents_in : ℕ → EhEntry → List Extent
 extents_in base entry = unless_passed entry.content (translated_extent base entry)
 
--- an entry that was read, which fits its place
-pub record Fits (base : ℕ) (entry : EhEntry) : Type 0 where
-  pub fits : length (entry_body base entry.content) + 7 ≤ 8 * size_of entry.extent
-
 abbrev pub Stands : List ℕ → ℕ → EhEntry → List ℕ → Type 0
-Stands section base entry rest = Block section (place_of base entry.extent.offset) (size_of entry.extent) (entry_body base entry.content) rest
+Stands section base entry rest = Block section (translated_offset base entry.extent.offset) (size_of entry.extent) (entry_body base entry.content) rest
 
 some_padded : (body : List ℕ) → 0 < length body → 0 < length (aligned body)
 some_padded body some = let long = padded_length body in omega arith
 
-entry_chain : (section : List ℕ) (base : ℕ) (e : Extent) (content : Content) (rest : List ℕ) (es : List Extent) → Block section (place_of base e.offset) (size_of e) (entry_body base content) rest → Chain section (place_of base e.offset + 8 * size_of e) es
-    → Chain section (place_of base e.offset) (unless_passed content (record { offset = place_of base e.offset; end = place_of base e.offset + 4 + length (aligned (entry_body base content)) }) ++ es)
-entry_chain section base e PassedOver rest es b then = block_over section (place_of base e.offset) (size_of e) [] rest es b refl then
+entry_chain : (section : List ℕ) (base : ℕ) (e : Extent) (content : Content) (rest : List ℕ) (es : List Extent) → Block section (translated_offset base e.offset) (size_of e) (entry_body base content) rest → Chain section (translated_offset base e.offset + 8 * size_of e) es
+    → Chain section (translated_offset base e.offset) (unless_passed content (record { offset = translated_offset base e.offset; end = translated_offset base e.offset + 4 + length (aligned (entry_body base content)) }) ++ es)
+entry_chain section base e PassedOver rest es b then = block_over section (translated_offset base e.offset) (size_of e) [] rest es b refl then
 entry_chain section base e (Common cie own) rest es b then =
-    block_on section (place_of base e.offset) (size_of e) (entry_body base (Common cie own)) rest es b
+    block_on section (translated_offset base e.offset) (size_of e) (entry_body base (Common cie own)) rest es b
     (some_padded (entry_body base (Common cie own)) (let long = length-append (cie_head cie.return_address_register) (flat_map encoded own) in omega arith)) then
 entry_chain section base e (Description fde) rest es b then =
-    block_on section (place_of base e.offset) (size_of e) (entry_body base (Description fde)) rest es b
-    (some_padded (entry_body base (Description fde)) (let long = length-append (fde_head (place_of base fde.cie_offset) fde.initial_location fde.address_range) (flat_map encoded fde.instructions) in omega arith)) then
+    block_on section (translated_offset base e.offset) (size_of e) (entry_body base (Description fde)) rest es b
+    (some_padded (entry_body base (Description fde)) (let long = length-append (fde_head (translated_offset base fde.cie_offset) fde.initial_location fde.address_range) (flat_map encoded fde.instructions) in omega arith)) then
 
 -- ---- all blocks
 
-pub chain_blocks : (section : List ℕ) (base start : ℕ) (all : List EhEntry) → length section < 2 ^ 31 → AreAdjoining start (map (λ x. x.extent) all) → ((x : EhEntry) → IsIn x all → Fits base x)
-    → drop (place_of base start) section ≡ flat_map (block_of base) all → Chain section (place_of base start) (flat_map (extents_in base) all)
-chain_blocks section base start [] small adjoin fit is =
-    let none : length (drop (base + 8 * start) section) ≡ 0 = ap (λ (xs : List ℕ). length xs) is in
-    chain_end section (place_of base start) (omega (arith, length-drop (base + 8 * start) section))
-chain_blocks section base start (x ∷ all) small adjoin fit is =
-    let at : x.extent.offset ≡ start = adjoin.0 in
-    let order : start + 4 ≤ x.extent.end = adjoin.1 in
-    let same : place_of base x.extent.offset ≡ place_of base start = ap (place_of base) at in
-    let here = ap (λ (n : ℕ). drop n section) same ∙ is in
-    let b : Stands section base x (flat_map (block_of base) all) = block_at section (place_of base x.extent.offset) (size_of x.extent) (entry_body base x.content) (flat_map (block_of base) all) small (fit x (inl refl)).fits here in
-    let next : place_of base x.extent.offset + 8 * size_of x.extent ≡ place_of base x.extent.end = omega arith in
-    let behind : drop (place_of base x.extent.end) section ≡ flat_map (block_of base) all =
-    ap (λ (n : ℕ). drop n section) (sym next) ∙ block_behind section (place_of base x.extent.offset) (size_of x.extent) (entry_body base x.content) (flat_map (block_of base) all) b in
-    chain_moved section (place_of base x.extent.offset) (place_of base start) (flat_map (extents_in base) (x ∷ all)) same
-    (entry_chain section base x.extent x.content (flat_map (block_of base) all) (flat_map (extents_in base) all) b
-    (chain_moved section (place_of base x.extent.end) (place_of base x.extent.offset + 8 * size_of x.extent) (flat_map (extents_in base) all) (sym next)
-    (chain_blocks section base x.extent.end all small adjoin.2 (λ y there. fit y (inr there)) behind)))
+-- the entries in the blocks from an offset on, and where each of them stands
+pub record Laid (section : List ℕ) (base start : ℕ) (all : List EhEntry) : Type 0 where
+  pub chain : Chain section (translated_offset base start) (flat_map (extents_in base) all)
+  pub stands : (x : EhEntry) → IsIn x all → (rest : List ℕ) × Stands section base x rest
 
-pub stands : (section : List ℕ) (base start : ℕ) (all : List EhEntry) (x : EhEntry) → length section < 2 ^ 31 → AreAdjoining start (map (λ x. x.extent) all) → ((x : EhEntry) → IsIn x all → Fits base x)
-    → drop (place_of base start) section ≡ flat_map (block_of base) all → IsIn x all → (rest : List ℕ) × Stands section base x rest
-stands section base start [] x small adjoin fit is there = absurd there
-stands section base start (y ∷ all) x small adjoin fit is there =
-    let at : y.extent.offset ≡ start = adjoin.0 in
-    let order : start + 4 ≤ y.extent.end = adjoin.1 in
-    let same : place_of base y.extent.offset ≡ place_of base start = ap (place_of base) at in
-    let here = ap (λ (n : ℕ). drop n section) same ∙ is in
-    let b : Stands section base y (flat_map (block_of base) all) = block_at section (place_of base y.extent.offset) (size_of y.extent) (entry_body base y.content) (flat_map (block_of base) all) small (fit y (inl refl)).fits here in
-    let next : place_of base y.extent.offset + 8 * size_of y.extent ≡ place_of base y.extent.end = omega arith in
-    let behind : drop (place_of base y.extent.end) section ≡ flat_map (block_of base) all =
-    ap (λ (n : ℕ). drop n section) (sym next) ∙ block_behind section (place_of base y.extent.offset) (size_of y.extent) (entry_body base y.content) (flat_map (block_of base) all) b in
-    go there b (λ further. stands section base y.extent.end all x small adjoin.2 (λ z in_all. fit z (inr in_all)) behind further)
+pub blocks_laid : (section : List ℕ) (base start : ℕ) (all : List EhEntry) → length section < 2 ^ 31 → AreAdjoining start (map (λ x. x.extent) all) → ((x : EhEntry) → IsIn x all → FitsIn x.extent x.content)
+    → drop (translated_offset base start) section ≡ flat_map (block_of base) all → Laid section base start all
+blocks_laid section base start [] small adjoin fit is =
+    let none : length (drop (base + 8 * start) section) ≡ 0 = ap (λ (xs : List ℕ). length xs) is in
+    record { chain = chain_end section (translated_offset base start) (omega (arith, length-drop (base + 8 * start) section)); stands = λ x there. absurd there }
+blocks_laid section base start (x ∷ all) small adjoin fit is = with_first (blocks_laid section base x.extent.end all small adjoin.2 (λ y there. fit y (inr there)) behind)
   where
-    go : (y ≡ x) ⊎ IsIn x all → Stands section base y (flat_map (block_of base) all) → (IsIn x all → (rest : List ℕ) × Stands section base x rest) → (rest : List ℕ) × Stands section base x rest
-    go (inl e) b again = let P : EhEntry → Type 0 = λ z. (rest : List ℕ) × Stands section base z rest in subst P e (flat_map (block_of base) all, b)
-    go (inr further) b again = again further
+    same : translated_offset base x.extent.offset ≡ translated_offset base start
+    same = ap (translated_offset base) adjoin.0
+
+    b : Stands section base x (flat_map (block_of base) all)
+    b = block_at section (translated_offset base x.extent.offset) (size_of x.extent) (entry_body base x.content) (flat_map (block_of base) all) small (fit x (inl refl) base) (ap (λ (n : ℕ). drop n section) same ∙ is)
+
+    next : translated_offset base x.extent.offset + 8 * size_of x.extent ≡ translated_offset base x.extent.end
+    next =
+        let at : x.extent.offset ≡ start = adjoin.0 in
+        let order : start + 4 ≤ x.extent.end = adjoin.1 in
+        omega arith
+
+    behind : drop (translated_offset base x.extent.end) section ≡ flat_map (block_of base) all
+    behind = ap (λ (n : ℕ). drop n section) (sym next) ∙ block_behind section (translated_offset base x.extent.offset) (size_of x.extent) (entry_body base x.content) (flat_map (block_of base) all) b
+
+    there : Laid section base x.extent.end all → (y : EhEntry) → IsIn y (x ∷ all) → (rest : List ℕ) × Stands section base y rest
+    there more y (inl e) = let P : EhEntry → Type 0 = λ z. (rest : List ℕ) × Stands section base z rest in subst P e (flat_map (block_of base) all, b)
+    there more y (inr further) = more.stands y further
+
+    with_first : Laid section base x.extent.end all → Laid section base start (x ∷ all)
+    with_first more = record {
+      chain =
+          chain_moved section (translated_offset base x.extent.offset) (translated_offset base start) (flat_map (extents_in base) (x ∷ all)) same
+          (entry_chain section base x.extent x.content (flat_map (block_of base) all) (flat_map (extents_in base) all) b
+          (chain_moved section (translated_offset base x.extent.end) (translated_offset base x.extent.offset + 8 * size_of x.extent) (flat_map (extents_in base) all) (sym next) more.chain));
+      stands = there more;
+    }
 
 -- ---- the entries that were read
 
@@ -228,7 +229,58 @@ was_read section address extents all x is there =
     let P : EhEntry → Type 0 = λ y. WasRead section address extents y in
     subst P (ok_same {F = FrameFault} (entry_with from.0 content.0) x content.2) (record { there = from.1; content = content.1 })
 
-pub fits_of : (section : List ℕ) (address base : ℕ) (extents : List Extent) (x : EhEntry) → IsPlaced section x.extent → WasRead section address extents x → Fits base x
-fits_of section address base extents x placed read =
-    let P : Result Content FrameFault → Type 0 = λ r. FitsIn base x.extent r in
-    record { fits = subst P read.content (content_fits section address base extents x.extent placed) }
+-- ---- a block has eight times the entry's bytes
+
+block_size : (size : ℕ) (body : List ℕ) → length body + 7 ≤ 8 * size → length (block_with size body) ≡ 8 * size
+block_size size body fits =
+    let padded = padded_length body in
+    let framed : length (with_length (aligned body)) ≡ 4 + length (aligned body) = length-append (number_bytes 4 (length (aligned body))) (aligned body) in
+    length-append (with_length (aligned body)) (replicate (8 * size - length (with_length (aligned body))) 0)
+    ∙ ap (λ (n : ℕ). length (with_length (aligned body)) + n) (length-replicate (8 * size - length (with_length (aligned body))) 0)
+    ∙ omega arith
+
+one_of : {X F : Type 0} (x : X) (xs all : List X) → (let u : Result (List X) F = Ok (x ∷ xs) in u) ≡ Ok all → x ∷ xs ≡ all
+one_of x xs all e = cc
+
+blocks_size : (section : List ℕ) (address base : ℕ) (extents : List Extent) (start : ℕ) (es : List Extent) (entries : List EhEntry) → IsBytes section → start ≤ length section → AreAdjoining start es → All (IsPlaced section) es
+    → all_ok (map (entry_of section address extents) es) ≡ Ok entries → length (flat_map (block_of base) entries) + 8 * start ≤ 8 * length section
+blocks_size section address base extents start [] entries bytes le adjoin placed is = none entries is
+  where
+    none : (entries : List EhEntry) → (let u : Result (List EhEntry) FrameFault = Ok [] in u) ≡ Ok entries → length (flat_map (block_of base) entries) + 8 * start ≤ 8 * length section
+    none [] e = omega arith
+    none (x ∷ xs) e = absurd cc
+blocks_size section address base extents start (e ∷ es) entries bytes le adjoin placed is =
+    first (content_of section address extents e) (content_facts section address extents e bytes here) is
+    (λ xs same. blocks_size section address base extents e.end es xs bytes here.within adjoin.2 (λ k d lt. placed (suc k) d (omega arith)) same)
+  where
+    here : IsPlaced section e
+    here = placed 0 e (omega arith)
+
+    Bound : List EhEntry → Type 0
+    Bound all = length (flat_map (block_of base) all) + 8 * start ≤ 8 * length section
+
+    More : Type 0
+    More = (xs : List EhEntry) → all_ok (map (entry_of section address extents) es) ≡ Ok xs → length (flat_map (block_of base) xs) + 8 * e.end ≤ 8 * length section
+
+    rest : (content : Content) (r : Result (List EhEntry) FrameFault) → FitsIn e content → all_ok (map (entry_of section address extents) es) ≡ r → (r >>= λ xs. (let u : Result (List EhEntry) FrameFault = Ok (entry_with e content ∷ xs) in u)) ≡ Ok entries → More → Bound entries
+    rest content (Err fault) fits same is again = absurd cc
+    rest content (Ok xs) fits same is again =
+        let at : e.offset ≡ start = adjoin.0 in
+        let order : start + 4 ≤ e.end = adjoin.1 in
+        let within = here.within in
+        let more = again xs same in
+        let size = block_size (size_of e) (entry_body base content) (fits base) in
+        let both = length-append (block_of base (entry_with e content)) (flat_map (block_of base) xs) in
+        subst Bound (one_of (entry_with e content) xs entries is) (omega arith)
+
+    first : (r : Result Content FrameFault) → AllFacts section address extents e r → ((r >>= λ content. (let u : Result EhEntry FrameFault = Ok (entry_with e content) in u)) >>= λ x. all_ok (map (entry_of section address extents) es) >>= λ xs. (let u : Result (List EhEntry) FrameFault = Ok (x ∷ xs) in u)) ≡ Ok entries → More → Bound entries
+    first (Err fault) facts is again = absurd cc
+    first (Ok content) facts is again = rest content (all_ok (map (entry_of section address extents) es)) facts.1 refl is again
+
+pub few_bytes : (section : List ℕ) (address base : ℕ) (extents : List Extent) (out : List ℕ) → IsBytes section → AreAdjoining 0 extents → All (IsPlaced section) extents
+    → viewed (flat_map (block_of base)) (all_ok (map (entry_of section address extents) extents)) ≡ Ok out → length out ≤ 8 * length section
+few_bytes section address base extents out bytes adjoin placed is =
+    let g = given (flat_map (block_of base)) (all_ok (map (entry_of section address extents) extents)) out is in
+    let bound = blocks_size section address base extents 0 extents g.0 bytes (omega arith) adjoin placed g.1 in
+    let same : length (flat_map (block_of base) g.0) ≡ length out = ap (λ (bs : List ℕ). length bs) g.2 in
+    omega arith

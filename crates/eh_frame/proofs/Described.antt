@@ -1,79 +1,34 @@
 -- What is known of an entry of .eh_frame that was read.
-use Rattle.std.proofs.Common.{◌≡◌, ℕ, ◌+◌, ◌<◌, ◌^◌, Bool, true, false, cond, List, [], ◌∷◌, take, Option, Some, None, Result, Ok, Err, refl, subst, arith}
-use Rattle.std.specs.Prelude.{◌==◌, ◌&&◌, ◌||◌, All, IfOk, IfSome, nat_lt, option_map}
-use Rattle.std.proofs.lemmas.Bool.Decides.{nat_tests}
+use Rattle.std.proofs.Common.{◌≡◌, ℕ, ◌+◌, ◌<◌, ◌^◌, Bool, true, false, cond, List, take, Option, Some, None, Result, Ok, Err, refl, subst, arith, length, length-append, length-drop, ◌*◌, ◌-◌, ◌≤◌, ◌++◌}
+use Rattle.std.proofs.lemmas.List.{length-take}
+use Rattle.prof_bytes.specs.Reading.{left_of}
+use Rattle.std.specs.List.{flat_map}
+use Rattle.eh_frame.specs.Translation.{translated_offset, encoded, cie_head, fde_head, entry_body}
+use Rattle.cfi_table.specs.private.Placed.{IsPlaced}
+use Rattle.cfi_table.specs.Frames.{size_of}
+use Rattle.std.specs.Prelude.{◌==◌, ◌&&◌, All, IfOk, nat_lt}
 use Rattle.prof_bytes.specs.Outcome.{◌>>=◌}
 use Rattle.prof_bytes.specs.Number.{IsBytes}
-use Rattle.prof_bytes.specs.Fields.{Input, number_from, uleb_from, sleb_from, text_from, bytes_from}
+use Rattle.prof_bytes.specs.Fields.{Input, number_from}
 use Rattle.cfi_table.specs.declared.fault.FrameFault.{FrameFault}
 use Rattle.cfi_table.specs.declared.extent.Extent.{Extent}
-use Rattle.cfi_table.specs.declared.instruction.AlignmentFactors.{AlignmentFactors}
 use Rattle.cfi_table.specs.declared.instruction.CallFrameInstruction.{CallFrameInstruction}
 use Rattle.cfi_table.specs.Instructions.{Reading}
 use Rattle.cfi_table.specs.Rules.{State, no_rules, all_same_value}
-use Rattle.cfi_table.specs.Entries.{body_of, register_from, instructions_of}
-use Rattle.cfi_table.proofs.Moves.{AllMove, number_moves}
+use Rattle.cfi_table.specs.Entries.{body_of, instructions_of}
+use Rattle.cfi_table.proofs.Moves.{AllMove, number_moves, Moves}
 use Rattle.eh_frame.specs.declared.constants.TheConstants.{EH_CIE_ID}
-use Rattle.eh_frame.specs.declared.address.Application.{Application}
-use Rattle.eh_frame.specs.declared.address.Application.TheVariants as applications
 use Rattle.eh_frame.specs.declared.cie.EhCie.{EhCie}
 use Rattle.eh_frame.specs.Addresses.{address_from}
-use Rattle.eh_frame.specs.Cies.{is_read, starts_from, until, cie_with, factors_of, cie_from_letters, cie_from_data, cie_from_factors, cie_from_augmentation, cie_from}
+use Rattle.eh_frame.specs.Cies.{cie_from}
 use Rattle.eh_frame.specs.Runs.{addresses_of, cie_instructions, fde_instructions, rules_after}
-use Rattle.eh_frame.specs.Entries.{EhFde, Content, PassedOver, Common, Description, past_data, eh_fields_from, fde_with, content_of_cie, content_of_fde, content_by, is_eh_id, is_eh_cie, is_cie_before, cie_back, eh_cie_of, content_of}
+use Rattle.eh_frame.specs.Entries.{EhFde, Content, PassedOver, Common, Description, past_data, eh_fields_from, eh_fde_with, content_of_cie, content_of_fde, content_by, is_eh_id, is_eh_cie, is_cie_before, cie_back, eh_cie_of, content_of}
 use Rattle.eh_frame.specs.Laws.{HasWordOperands}
-use Rattle.eh_frame.proofs.Bounds.{fields_move}
+use Rattle.eh_frame.proofs.Bounds.{fields_move, less_left, IsSound, sound_of, cie_short, own_short}
 use Rattle.eh_frame.proofs.Listed.{address_moves}
 use Rattle.eh_frame.proofs.Members.{IsIn, found_in}
 use Rattle.eh_frame.proofs.Runs.{listed_rules}
 use Rattle.eh_frame.proofs.Words.{take_bytes, number_small, address_small, words_of}
-
--- ---- return address registers are below 32
-
-abbrev HasRegister : Result (Option EhCie) FrameFault → Type 0
-HasRegister r = IfOk r (λ o. IfSome o (λ c. c.return_address_register < 32))
-
-register_bind : {X : Type 0} (r : Result X FrameFault) (next : X → Result (Option EhCie) FrameFault) → ((x : X) → HasRegister (next x)) → HasRegister (r >>= next)
-register_bind (Err fault) next has = tt
-register_bind (Ok x) next has = has x
-
-register_either : (b : Bool) (x y : Result (Option EhCie) FrameFault) → (b ≡ true → HasRegister x) → HasRegister y → HasRegister (cond b x y)
-register_either true x y p q = p refl
-register_either false x y p q = q
-
-letters_register : (end : ℕ) (factors : AlignmentFactors) (register : ℕ) (letters : List ℕ) (input : Input FrameFault) → register < 32 → HasRegister (cie_from_letters end factors register letters input)
-unfolding cie_from_letters
-letters_register end factors register letters input small =
-    register_bind (uleb_from input) _ (λ size. register_bind {X = List ℕ × Input FrameFault} (bytes_from size.0 size.1) _ (λ bytes. register_bind (starts_from letters applications.Absolute (until bytes.1 size.1)) _ (λ a. with bytes.1 a)))
-  where
-    with : (behind : Input FrameFault) (a : Option Application) → HasRegister (Ok (option_map (cie_with end factors register true behind) a))
-    with behind None = tt
-    with behind (Some a) = small
-
-data_register : (end : ℕ) (factors : AlignmentFactors) (register : ℕ) (augmentation : List ℕ) (input : Input FrameFault) → register < 32 → HasRegister (cie_from_data end factors register augmentation input)
-data_register end factors register [] input small = small
-data_register end factors register (first ∷ letters) input small = letters_register end factors register letters input small
-
-low : (n : ℕ) → nat_lt n 32 ≡ true → n < 32
-low n e = grind (arith, nat_tests)
-
-factors_register : (end version : ℕ) (augmentation : List ℕ) (input : Input FrameFault) → HasRegister (cie_from_factors end version augmentation input)
-unfolding cie_from_factors
-factors_register end version augmentation input =
-    register_bind (uleb_from input) _ (λ c. register_bind (sleb_from c.1) _ (λ d. register_bind (register_from version d.1) _ (λ r.
-    register_either (nat_lt r.0 32) _ _ (λ small. data_register end (factors_of c.0 d.0) r.0 augmentation r.1 (low r.0 small)) tt)))
-
-augmentation_register : (end version : ℕ) (input : Input FrameFault) → HasRegister (cie_from_augmentation end version input)
-unfolding cie_from_augmentation
-augmentation_register end version input =
-    register_bind {X = List ℕ × Input FrameFault} (text_from input) _ (λ t. register_either (is_read t.0) _ _ (λ is. factors_register end version t.0 t.1) tt)
-
-from_register : (end : ℕ) (input : Input FrameFault) → HasRegister (cie_from end input)
-unfolding cie_from
-from_register end input = register_bind (number_from 1 input) _ (λ v. register_either (v.0 == 1 || v.0 == 3) _ _ (λ is. augmentation_register end v.0 v.1) tt)
-
-register_is : (end : ℕ) (input : Input FrameFault) (cie : EhCie) → cie_from end input ≡ Ok (Some cie) → cie.return_address_register < 32
-register_is end input cie is = let P : Result (Option EhCie) FrameFault → Type 0 = λ r. HasRegister r in subst P is (from_register end input)
 
 -- ---- an FDE's fields
 
@@ -125,92 +80,116 @@ Facts section address extents PassedOver = Unit {0}
 Facts section address extents (Common cie own) = CommonRead section address cie own
 Facts section address extents (Description fde) = DescriptionRead section address extents fde
 
-abbrev AllFacts : List ℕ → ℕ → List Extent → Result Content FrameFault → Type 0
-AllFacts section address extents r = IfOk r (Facts section address extents)
+-- what stands for it in the translation fits in its block
+abbrev pub FitsIn : Extent → Content → Type 0
+FitsIn e content = (base : ℕ) → length (entry_body base content) + 7 ≤ 8 * size_of e
 
-common_facts : (section : List ℕ) (address : ℕ) (extents : List Extent) (end : ℕ) (input : Input FrameFault) (o : Option EhCie) → cie_from end input ≡ Ok o → AllFacts section address extents (content_of_cie section address o)
-common_facts section address extents end input None is = tt
-common_facts section address extents end input (Some cie) is = go (cie_instructions section address cie) refl
+abbrev pub AllFacts : List ℕ → ℕ → List Extent → Extent → Result Content FrameFault → Type 0
+AllFacts section address extents e r = IfOk r (λ content. Facts section address extents content × FitsIn e content)
+
+common_facts : (section : List ℕ) (address : ℕ) (extents : List Extent) (e : Extent) (input : Input FrameFault) (o : Option EhCie) → length (left_of input.at) + 4 ≤ size_of e → cie_from e.end input ≡ Ok o → AllFacts section address extents e (content_of_cie section address o)
+common_facts section address extents e input None room is = (tt, λ base. omega arith)
+common_facts section address extents e input (Some cie) room is = go (cie_instructions section address cie) refl
   where
-    go : (r : Result (List CallFrameInstruction × State) FrameFault) → cie_instructions section address cie ≡ r → AllFacts section address extents (r >>= λ own. (let u : Result Content FrameFault = Ok (Common cie own.0) in u))
+    sound : IsSound e.end (length (left_of input.at)) cie
+    sound = sound_of e.end input cie is
+
+    go : (r : Result (List CallFrameInstruction × State) FrameFault) → cie_instructions section address cie ≡ r → AllFacts section address extents e (r >>= λ own. (let u : Result Content FrameFault = Ok (Common cie own.0) in u))
     go (Err fault) ran = tt
-    go (Ok own) ran = record { final = own.1; ran = ran; register = register_is end input cie is }
+    go (Ok own) ran =
+        let short = cie_short section address cie own ran in
+        let same : cie.initial_instructions.end ≡ e.end = sound.1 in
+        let few : e.end - cie.initial_instructions.offset ≤ length (left_of input.at) = sound.2 in
+        let both : length (cie_head cie.return_address_register ++ flat_map encoded own.0) ≡ 9 + length (flat_map encoded own.0) = length-append (cie_head cie.return_address_register) (flat_map encoded own.0) in
+        (record { final = own.1; ran = ran; register = sound.0 }, λ base. omega arith)
 
 both_true : (a b : Bool) → (a && b) ≡ true → (a ≡ true) × (b ≡ true)
 both_true true b e = (refl, e)
 both_true false b e = absurd cc
 
-fde_facts : (section : List ℕ) (address : ℕ) (extents : List Extent) (e c : Extent) (distance : ℕ) (input : Input FrameFault) (o : Option EhCie) → IsBytes input.at.whole → cie_back section extents e distance ≡ Some c → eh_cie_of section c ≡ Ok o
-    → AllFacts section address extents (content_of_fde section address c.offset input o)
+fde_facts : (section : List ℕ) (address : ℕ) (extents : List Extent) (e c : Extent) (distance : ℕ) (input : Input FrameFault) (o : Option EhCie) → length (left_of input.at) + 4 ≤ size_of e → IsBytes input.at.whole → cie_back section extents e distance ≡ Some c → eh_cie_of section c ≡ Ok o
+    → AllFacts section address extents e (content_of_fde section address c.offset input o)
 unfolding cie_back
-fde_facts section address extents e c distance input None are found is = tt
-fde_facts section address extents e c distance input (Some cie) are found is = fields (eh_fields_from address cie input) (fields_small address cie input are) (fields_move address cie input)
+fde_facts section address extents e c distance input None room are found is = (tt, λ base. omega arith)
+fde_facts section address extents e c distance input (Some cie) room are found is = fields (eh_fields_from address cie input) (fields_small address cie input are) (fields_move address cie input)
   where
-    place : IsIn c extents × ((c.offset + distance == e.offset + 4 && is_cie_before section e c) ≡ true)
-    place = found_in (λ (x : Extent). x.offset + distance == e.offset + 4 && is_cie_before section e x) extents c found
+    back : IsIn c extents × ((c.offset + distance == e.offset + 4 && is_cie_before section e c) ≡ true)
+    back = found_in (λ (x : Extent). x.offset + distance == e.offset + 4 && is_cie_before section e x) extents c found
 
-    own : (f : ℕ × ℕ) (next : Input FrameFault) (initial : List CallFrameInstruction × State) (r : Result (List CallFrameInstruction × State) FrameFault) → f.0 < 2 ^ 32 → f.1 < 2 ^ 32 → IsBytes next.at.whole
+    own : (f : ℕ × ℕ) (next : Input FrameFault) (initial : List CallFrameInstruction × State) (r : Result (List CallFrameInstruction × State) FrameFault) → f.0 < 2 ^ 32 → f.1 < 2 ^ 32 → Moves input next
         → cie_instructions section address cie ≡ Ok initial → fde_instructions address cie f.0 next initial.1 ≡ r
-        → AllFacts section address extents (r >>= λ own. (let u : Result Content FrameFault = Ok (Description (fde_with cie c.offset initial.0 f own.0)) in u))
-    own f next initial (Err fault) start range bytes before ran = tt
-    own f next initial (Ok o) start range bytes before ran =
+        → AllFacts section address extents e (r >>= λ own. (let u : Result Content FrameFault = Ok (Description (eh_fde_with cie c.offset initial.0 f own.0)) in u))
+    own f next initial (Err fault) start range moves before ran = tt
+    own f next initial (Ok o) start range moves before ran =
         let s : State = record initial.1 { location = f.0 } in
-        record {
-          c = c;
-          there = place.0;
-          marked = (both_true (nat_lt c.offset e.offset) (is_eh_cie section c) (both_true (c.offset + distance == e.offset + 4) (is_cie_before section e c) place.1).1).1;
-          cie = is;
-          offset = refl;
-          initial = initial.1;
-          initial_ran = before;
-          own = o.1;
-          own_rules = listed_rules initial.1.regs _ (addresses_of address cie) cie.factors next s o ran;
-          words = words_of initial.1.regs _ (addresses_of address cie) cie.factors next s o bytes ran;
-          start = start;
-          range = range;
-        }
+        let short = own_short address cie f.0 next initial.1 o ran in
+        let less = less_left input next moves in (
+          record {
+            c = c;
+            there = back.0;
+            marked = (both_true (nat_lt c.offset e.offset) (is_eh_cie section c) (both_true (c.offset + distance == e.offset + 4) (is_cie_before section e c) back.1).1).1;
+            cie = is;
+            offset = refl;
+            initial = initial.1;
+            initial_ran = before;
+            own = o.1;
+            own_rules = listed_rules initial.1.regs _ (addresses_of address cie) cie.factors next s o ran;
+            words = words_of initial.1.regs _ (addresses_of address cie) cie.factors next s o (rw moves.whole are) ran;
+            start = start;
+            range = range;
+          },
+          λ base.
+              (let both : length (fde_head (translated_offset base c.offset) f.0 f.1 ++ flat_map encoded o.0) ≡ 12 + length (flat_map encoded o.0) = length-append (fde_head (translated_offset base c.offset) f.0 f.1) (flat_map encoded o.0) in
+              omega arith),
+        )
 
-    initial : (f : ℕ × ℕ) (next : Input FrameFault) (r : Result (List CallFrameInstruction × State) FrameFault) → f.0 < 2 ^ 32 → f.1 < 2 ^ 32 → IsBytes next.at.whole → cie_instructions section address cie ≡ r
-        → AllFacts section address extents (r >>= λ initial. fde_instructions address cie f.0 next initial.1 >>= λ own. (let u : Result Content FrameFault = Ok (Description (fde_with cie c.offset initial.0 f own.0)) in u))
-    initial f next (Err fault) start range bytes before = tt
-    initial f next (Ok i) start range bytes before = own f next i (fde_instructions address cie f.0 next i.1) start range bytes before refl
+    initial : (f : ℕ × ℕ) (next : Input FrameFault) (r : Result (List CallFrameInstruction × State) FrameFault) → f.0 < 2 ^ 32 → f.1 < 2 ^ 32 → Moves input next → cie_instructions section address cie ≡ r
+        → AllFacts section address extents e (r >>= λ initial. fde_instructions address cie f.0 next initial.1 >>= λ own. (let u : Result Content FrameFault = Ok (Description (eh_fde_with cie c.offset initial.0 f own.0)) in u))
+    initial f next (Err fault) start range moves before = tt
+    initial f next (Ok i) start range moves before = own f next i (fde_instructions address cie f.0 next i.1) start range moves before refl
 
     fields : (r : Reading (ℕ × ℕ)) → AreSmall r → AllMove input r
-        → AllFacts section address extents (r >>= λ f. cie_instructions section address cie >>= λ initial. fde_instructions address cie f.0.0 f.1 initial.1 >>= λ own. (let u : Result Content FrameFault = Ok (Description (fde_with cie c.offset initial.0 f.0 own.0)) in u))
+        → AllFacts section address extents e (r >>= λ f. cie_instructions section address cie >>= λ initial. fde_instructions address cie f.0.0 f.1 initial.1 >>= λ own. (let u : Result Content FrameFault = Ok (Description (eh_fde_with cie c.offset initial.0 f.0 own.0)) in u))
     fields (Err fault) small moves = tt
-    fields (Ok f) small moves = initial f.0 f.1 (cie_instructions section address cie) small.0 small.1 (rw moves.whole are) refl
+    fields (Ok f) small moves = initial f.0 f.1 (cie_instructions section address cie) small.0 small.1 moves refl
 
-by_facts : (section : List ℕ) (address : ℕ) (extents : List Extent) (e : Extent) (distance : ℕ) (input : Input FrameFault) (o : Option Extent) → IsBytes input.at.whole → cie_back section extents e distance ≡ o → AllFacts section address extents (content_by section address e input o)
-by_facts section address extents e distance input None are found = tt
-by_facts section address extents e distance input (Some c) are found = go (eh_cie_of section c) refl
+by_facts : (section : List ℕ) (address : ℕ) (extents : List Extent) (e : Extent) (distance : ℕ) (input : Input FrameFault) (o : Option Extent) → length (left_of input.at) + 4 ≤ size_of e → IsBytes input.at.whole → cie_back section extents e distance ≡ o → AllFacts section address extents e (content_by section address e input o)
+by_facts section address extents e distance input None room are found = tt
+by_facts section address extents e distance input (Some c) room are found = go (eh_cie_of section c) refl
   where
-    go : (r : Result (Option EhCie) FrameFault) → eh_cie_of section c ≡ r → AllFacts section address extents (r >>= λ cie. content_of_fde section address c.offset input cie)
+    go : (r : Result (Option EhCie) FrameFault) → eh_cie_of section c ≡ r → AllFacts section address extents e (r >>= λ cie. content_of_fde section address c.offset input cie)
     go (Err fault) is = tt
-    go (Ok o) is = fde_facts section address extents e c distance input o are found is
+    go (Ok o) is = fde_facts section address extents e c distance input o room are found is
 
-content_facts : (section : List ℕ) (address : ℕ) (extents : List Extent) (e : Extent) → IsBytes section → AllFacts section address extents (content_of section address extents e)
+pub content_facts : (section : List ℕ) (address : ℕ) (extents : List Extent) (e : Extent) → IsBytes section → IsPlaced section e → AllFacts section address extents e (content_of section address extents e)
 unfolding content_of
-content_facts section address extents e are = go (number_from 4 (body_of section e)) (number_moves 4 (body_of section e))
+content_facts section address extents e are placed = go (number_from 4 (body_of section e)) (number_moves 4 (body_of section e))
   where
-    bytes : IsBytes (take e.end section)
-    bytes = take_bytes e.end section are
+    room : length (left_of (body_of section e).at) + 4 ≤ size_of e
+    room =
+        let order = placed.order in
+        let within = placed.within in
+        omega (arith, length-drop (e.offset + 4) (take e.end section), length-take e.end section)
 
-    read : (input : Input FrameFault) (r : Result (Option EhCie) FrameFault) → cie_from e.end input ≡ r → AllFacts section address extents (r >>= λ cie. content_of_cie section address cie)
-    read input (Err fault) is = tt
-    read input (Ok o) is = common_facts section address extents e.end input o is
+    read : (input : Input FrameFault) (r : Result (Option EhCie) FrameFault) → length (left_of input.at) + 4 ≤ size_of e → cie_from e.end input ≡ r → AllFacts section address extents e (r >>= λ cie. content_of_cie section address cie)
+    read input (Err fault) less is = tt
+    read input (Ok o) less is = common_facts section address extents e input o less is
 
-    either : (b : Bool) (id : ℕ) (input : Input FrameFault) → IsBytes input.at.whole
-        → AllFacts section address extents (cond b (cie_from e.end input >>= λ cie. content_of_cie section address cie) (content_by section address e input (cie_back section extents e id)))
-    either true id input bytes = read input (cie_from e.end input) refl
-    either false id input bytes = by_facts section address extents e id input (cie_back section extents e id) bytes refl
+    some : (b : Bool) (id : ℕ) (input : Input FrameFault) → length (left_of input.at) + 4 ≤ size_of e → IsBytes input.at.whole
+        → AllFacts section address extents e (cond b (cie_from e.end input >>= λ cie. content_of_cie section address cie) (content_by section address e input (cie_back section extents e id)))
+    some true id input less bytes = read input (cie_from e.end input) less refl
+    some false id input less bytes = by_facts section address extents e id input (cie_back section extents e id) less bytes refl
 
     go : (r : Reading ℕ) → AllMove (body_of section e) r
-        → AllFacts section address extents (r >>= λ id. cond (id.0 == EH_CIE_ID) (cie_from e.end id.1 >>= λ cie. content_of_cie section address cie) (content_by section address e id.1 (cie_back section extents e id.0)))
+        → AllFacts section address extents e (r >>= λ id. cond (id.0 == EH_CIE_ID) (cie_from e.end id.1 >>= λ cie. content_of_cie section address cie) (content_by section address e id.1 (cie_back section extents e id.0)))
     go (Err fault) moves = tt
-    go (Ok id) moves = either (id.0 == EH_CIE_ID) id.0 id.1 (rw moves.whole bytes)
+    go (Ok id) moves =
+        let less = less_left (body_of section e) id.1 moves in
+        let enough = room in
+        some (id.0 == EH_CIE_ID) id.0 id.1 (omega arith) (rw moves.whole (take_bytes e.end section are))
 
-pub facts_of : (section : List ℕ) (address : ℕ) (extents : List Extent) (e : Extent) (content : Content) → IsBytes section → content_of section address extents e ≡ Ok content → Facts section address extents content
-facts_of section address extents e content are is = let P : Result Content FrameFault → Type 0 = λ r. AllFacts section address extents r in subst P is (content_facts section address extents e are)
+pub facts_of : (section : List ℕ) (address : ℕ) (extents : List Extent) (e : Extent) (content : Content) → IsBytes section → IsPlaced section e → content_of section address extents e ≡ Ok content → Facts section address extents content × FitsIn e content
+facts_of section address extents e content are placed is = let P : Result Content FrameFault → Type 0 = λ r. AllFacts section address extents e r in subst P is (content_facts section address extents e are placed)
 
 -- ---- a CIE's instructions, and the rules after them
 

@@ -4,10 +4,8 @@ use Rattle.std.specs.Prelude.{◌==◌, ◌&&◌, nat_lt, IfOk, find, filter, op
 use Rattle.std.specs.Option.{option_copied}
 use Rattle.std.specs.List.{flat_map}
 use Rattle.std.proofs.lemmas.Bool.Decides.{nat_tests}
-use Rattle.std.proofs.lemmas.List.{take_more, append-nil, map_push}
+use Rattle.std.proofs.lemmas.List.{append-nil}
 use Rattle.std.proofs.lemmas.List.Concat.{flat_map-append}
-use Rattle.std.proofs.lemmas.List.Elements.{filter_more}
-use Rattle.std.proofs.lemmas.Simd.{map-map}
 use Rattle.prof_bytes.specs.Outcome.{◌>>=◌, FailsBy, viewed}
 use Rattle.prof_bytes.specs.Fields.{Input, number_from}
 use Rattle.prof_bytes.specs.declared.fail.Fail.{Fail}
@@ -17,41 +15,27 @@ use Rattle.cfi_table.specs.declared.extent.Extent.{Extent}
 use Rattle.cfi_table.specs.Entries.{body_of}
 use Rattle.cfi_table.specs.Frames.{all_ok, size_of}
 use Rattle.cfi_table.specs.private.Placed.{AreRising}
-use Rattle.cfi_table.proofs.Entries.{find_map, find_filter, all_ok_push, all_ok_fault, all_ok_early, fault_at_index, given, refused}
+use Rattle.cfi_table.proofs.AllOk.{Reads, reads_more, reads_fault, all_ok_fault, all_ok_early, given, refused}
+use Rattle.cfi_table.proofs.Seen.{find_known, none_known, one_known, seen_rise}
 use Rattle.cfi_table.proofs.Rising.{from_lower, filter_rises, other}
 use Rattle.eh_frame.specs.declared.constants.TheConstants.{EH_CIE_ID}
 use Rattle.eh_frame.specs.declared.cie.EhCie.{EhCie}
-use Rattle.eh_frame.specs.declared.known_cie.KnownCie.{KnownCie}
+use Rattle.eh_frame.specs.declared.known_eh_cie.KnownEhCie.{KnownEhCie}
 use Rattle.eh_frame.specs.Cies.{cie_from}
-use Rattle.eh_frame.specs.Entries.{EhEntry, Content, Description, fde_with, eh_fields_from, is_eh_cie, is_cie_before, eh_cie_of, cie_back, content_of_cie, content_of_fde, content_by, content_of, entry_with, entry_of, eh_extents, faulty_end, eh_entries}
+use Rattle.eh_frame.specs.Entries.{EhEntry, Content, Description, eh_fde_with, eh_fields_from, is_eh_cie, is_cie_before, eh_cie_of, cie_back, content_of_cie, content_of_fde, content_by, content_of, entry_with, entry_of, eh_extents, faulty_end, eh_entries}
 use Rattle.cfi_table.specs.declared.instruction.CallFrameInstruction.{CallFrameInstruction}
 use Rattle.cfi_table.specs.Rules.{State}
 use Rattle.eh_frame.specs.Runs.{cie_instructions, fde_instructions}
-use Rattle.eh_frame.specs.Translation.{place_of, fde_head, encoded, entry_body, block_with, block_of, translated}
+use Rattle.eh_frame.specs.Translation.{translated_offset, fde_head, encoded, entry_body, block_with, block_of, translated}
 use Rattle.eh_frame.specs.private.Adjoining.{AreAdjoining}
-use Rattle.eh_frame.specs.private.Checked.{Known, known, seen_cie}
+use Rattle.eh_frame.specs.private.Checked.{KnownEh, known_eh, seen_eh_cie}
 
 -- ---- a CIE among those that are kept
 
-found_cie : (section : List ℕ) (extents : List Extent) (e : Extent) (cies : List KnownCie) (distance : ℕ) → map seen_cie cies ≡ map (known section) (filter (is_cie_before section e) extents)
-    → option_map seen_cie (find (λ cie. cie.offset + distance == e.offset + 4) cies) ≡ option_map (known section) (cie_back section extents e distance)
+found_cie : (section : List ℕ) (extents : List Extent) (e : Extent) (cies : List KnownEhCie) (distance : ℕ) → map seen_eh_cie cies ≡ map (known_eh section) (filter (is_cie_before section e) extents)
+    → option_map seen_eh_cie (find (λ cie. cie.offset + distance == e.offset + 4) cies) ≡ option_map (known_eh section) (cie_back section extents e distance)
 unfolding cie_back
-found_cie section extents e cies distance each =
-    sym (find_map (λ (k : Known). k.offset + distance == e.offset + 4) seen_cie cies)
-    ∙ ap (λ (ks : List Known). find (λ k. k.offset + distance == e.offset + 4) ks) each
-    ∙ find_map (λ (k : Known). k.offset + distance == e.offset + 4) (known section) (filter (is_cie_before section e) extents)
-    ∙ ap (option_map (known section)) (find_filter (λ (c : Extent). c.offset + distance == e.offset + 4) (is_cie_before section e) extents)
-
-no_cie : (section : List ℕ) (o : Option Extent) → None ≡ option_map (known section) o → o ≡ None
-no_cie section None e = refl
-no_cie section (Some x) e = absurd cc
-
-some_is : (a b : Known) → Some a ≡ Some b → a ≡ b
-some_is a b e = cc
-
-one_cie : (section : List ℕ) (o : Option Extent) (k : Known) → Some k ≡ option_map (known section) o → (e : Extent) × (o ≡ Some e) × (k ≡ known section e)
-one_cie section None k e = absurd cc
-one_cie section (Some x) k e = (x, refl, some_is k (known section x) e)
+found_cie section extents e cies distance each = find_known (λ (k : KnownEh). k.offset + distance == e.offset + 4) (is_cie_before section e) seen_eh_cie (known_eh section) cies extents each
 
 -- ---- an entry by the word behind its length
 
@@ -69,37 +53,37 @@ pub of_cie : (section : List ℕ) (address : ℕ) (extents : List Extent) (e : E
 unfolding content_of
 of_cie section address extents e id input cie is mark read = rw (is, mark, read) refl
 
-pub of_no_cie : (section : List ℕ) (address : ℕ) (extents : List Extent) (e : Extent) (id : ℕ) (input : Input FrameFault) (cies : List KnownCie) (r : Option (Bor KnownCie)) → number_from 4 (body_of section e) ≡ Ok (id, input) → id ≢ EH_CIE_ID
+pub of_no_cie : (section : List ℕ) (address : ℕ) (extents : List Extent) (e : Extent) (id : ℕ) (input : Input FrameFault) (cies : List KnownEhCie) (r : Option (Bor KnownEhCie)) → number_from 4 (body_of section e) ≡ Ok (id, input) → id ≢ EH_CIE_ID
     → option_copied r ≡ find (λ cie. cie.offset + id == e.offset + 4) cies → r ≡ None
-    → map seen_cie cies ≡ map (known section) (filter (is_cie_before section e) extents) → content_of section address extents e ≡ Err (record { offset = e.offset })
+    → map seen_eh_cie cies ≡ map (known_eh section) (filter (is_cie_before section e) extents) → content_of section address extents e ≡ Err (record { offset = e.offset })
 unfolding content_of
 of_no_cie section address extents e id input cies r is ne found none each =
-    let absent = no_cie section (cie_back section extents e id) (ap (option_map seen_cie) (sym (ap option_copied none) ∙ found) ∙ found_cie section extents e cies id each) in
+    let absent = none_known (known_eh section) (cie_back section extents e id) (ap (option_map seen_eh_cie) (sym (ap option_copied none) ∙ found) ∙ found_cie section extents e cies id each) in
     rw (is, other id EH_CIE_ID ne, absent) refl
 
-by_known : (section : List ℕ) (address : ℕ) (e x : Extent) (input : Input FrameFault) (c : KnownCie) → seen_cie c ≡ known section x → content_by section address e input (Some x) ≡ content_of_fde section address c.offset input c.cie
+by_known : (section : List ℕ) (address : ℕ) (e x : Extent) (input : Input FrameFault) (c : KnownEhCie) → seen_eh_cie c ≡ known_eh section x → content_by section address e input (Some x) ≡ content_of_fde section address c.offset input c.cie
 by_known section address e x input c same =
-    let cie : eh_cie_of section x ≡ Ok c.cie = sym (ap (λ (k : Known). k.cie) same) in
-    let offset : x.offset ≡ c.offset = sym (ap (λ (k : Known). k.offset) same) in
+    let cie : eh_cie_of section x ≡ Ok c.cie = sym (ap (λ (k : KnownEh). k.cie) same) in
+    let offset : x.offset ≡ c.offset = sym (ap (λ (k : KnownEh). k.offset) same) in
     ap (λ (r : Result (Option EhCie) FrameFault). r >>= λ cie. content_of_fde section address x.offset input cie) cie
     ∙ ap (λ (n : ℕ). content_of_fde section address n input c.cie) offset
 
-pub of_fde : (section : List ℕ) (address : ℕ) (extents : List Extent) (e : Extent) (id : ℕ) (input : Input FrameFault) (cies : List KnownCie) (r : Option (Bor KnownCie)) (c : Bor KnownCie) → number_from 4 (body_of section e) ≡ Ok (id, input) → id ≢ EH_CIE_ID
+pub of_fde : (section : List ℕ) (address : ℕ) (extents : List Extent) (e : Extent) (id : ℕ) (input : Input FrameFault) (cies : List KnownEhCie) (r : Option (Bor KnownEhCie)) (c : Bor KnownEhCie) → number_from 4 (body_of section e) ≡ Ok (id, input) → id ≢ EH_CIE_ID
     → option_copied r ≡ find (λ cie. cie.offset + id == e.offset + 4) cies → r ≡ Some c
-    → map seen_cie cies ≡ map (known section) (filter (is_cie_before section e) extents) → content_of section address extents e ≡ content_of_fde section address c.now.offset input c.now.cie
+    → map seen_eh_cie cies ≡ map (known_eh section) (filter (is_cie_before section e) extents) → content_of section address extents e ≡ content_of_fde section address c.now.offset input c.now.cie
 unfolding content_of
 of_fde section address extents e id input cies r c is ne found some each =
-    let p = one_cie section (cie_back section extents e id) (seen_cie c.now) (ap (option_map seen_cie) (sym (ap option_copied some) ∙ found) ∙ found_cie section extents e cies id each) in
+    let p = one_known (known_eh section) (cie_back section extents e id) (seen_eh_cie c.now) (ap (option_map seen_eh_cie) (sym (ap option_copied some) ∙ found) ∙ found_cie section extents e cies id each) in
     rw (is, other id EH_CIE_ID ne, p.1) (by_known section address e p.0 input c.now p.2)
 
 -- ---- an FDE of a CIE that is read
 
 pub fde_body : (section : List ℕ) (address base offset : ℕ) (input next : Input FrameFault) (cie : EhCie) (fields : ℕ × ℕ) (initial : List CallFrameInstruction × State) → eh_fields_from address cie input ≡ Ok (fields, next) → cie_instructions section address cie ≡ Ok initial
-    → viewed (entry_body base) (content_of_fde section address offset input (Some cie)) ≡ viewed (λ (r : List CallFrameInstruction × State). fde_head (place_of base offset) fields.0 fields.1 ++ flat_map encoded r.0) (fde_instructions address cie fields.0 next initial.1)
+    → viewed (entry_body base) (content_of_fde section address offset input (Some cie)) ≡ viewed (λ (r : List CallFrameInstruction × State). fde_head (translated_offset base offset) fields.0 fields.1 ++ flat_map encoded r.0) (fde_instructions address cie fields.0 next initial.1)
 fde_body section address base offset input next cie fields initial read is = rw (read, is) (go (fde_instructions address cie fields.0 next initial.1))
   where
     go : (r : Result (List CallFrameInstruction × State) FrameFault)
-        → viewed (entry_body base) (r >>= λ own. (let u : Result Content FrameFault = Ok (Description (fde_with cie offset initial.0 fields own.0)) in u)) ≡ viewed (λ (r : List CallFrameInstruction × State). fde_head (place_of base offset) fields.0 fields.1 ++ flat_map encoded r.0) r
+        → viewed (entry_body base) (r >>= λ own. (let u : Result Content FrameFault = Ok (Description (eh_fde_with cie offset initial.0 fields own.0)) in u)) ≡ viewed (λ (r : List CallFrameInstruction × State). fde_head (translated_offset base offset) fields.0 fields.1 ++ flat_map encoded r.0) r
     go (Ok r) = refl
     go (Err fault) = refl
 
@@ -116,12 +100,12 @@ pub cie_is : (section : List ℕ) (e : Extent) (id : ℕ) (input : Input FrameFa
 unfolding eh_cie_of
 cie_is section e id input cie is read = rw (is, read) refl
 
-pub known_by : (section : List ℕ) (e : Extent) (id : ℕ) (input : Input FrameFault) (cie : Option EhCie) (o : Option KnownCie) → number_from 4 (body_of section e) ≡ Ok (id, input) → id ≡ EH_CIE_ID → cie_from e.end input ≡ Ok cie
-    → option_map seen_cie o ≡ Some (record { offset = e.offset; cie = Ok cie }) → option_map seen_cie o ≡ cond (is_eh_cie section e) (Some (known section e)) None
+pub known_by : (section : List ℕ) (e : Extent) (id : ℕ) (input : Input FrameFault) (cie : Option EhCie) (o : Option KnownEhCie) → number_from 4 (body_of section e) ≡ Ok (id, input) → id ≡ EH_CIE_ID → cie_from e.end input ≡ Ok cie
+    → option_map seen_eh_cie o ≡ Some (record { offset = e.offset; cie = Ok cie }) → option_map seen_eh_cie o ≡ cond (is_eh_cie section e) (Some (known_eh section e)) None
 known_by section e id input cie o is mark read made =
     made
     ∙ ap (λ (r : Result (Option EhCie) FrameFault). Some (record { offset = e.offset; cie = r })) (sym (cie_is section e id input cie is read))
-    ∙ sym (ap (λ (b : Bool). cond b (Some (known section e)) None) (is_cie_by section e id input is mark))
+    ∙ sym (ap (λ (b : Bool). cond b (Some (known_eh section e)) None) (is_cie_by section e id input is mark))
 
 -- ---- entries that adjoin rise
 
@@ -165,87 +149,32 @@ before_it start (e ∷ es) (suc k) d p up lt =
     rw lower (ap (λ (cs : List Extent). cond (p e) (e ∷ cs) cs) (before_it e.end es k d p up.2 (omega arith)))
 
 -- the CIEs stand as the entries do
-pub cies_rise : (section : List ℕ) (extents : List Extent) (k : ℕ) (cies : List KnownCie) → map seen_cie cies ≡ map (known section) (filter (is_eh_cie section) (take k extents)) → AreAdjoining 0 extents → AreRising 0 (map (λ cie. cie.offset) cies)
+pub cies_rise : (section : List ℕ) (extents : List Extent) (k : ℕ) (cies : List KnownEhCie) → map seen_eh_cie cies ≡ map (known_eh section) (filter (is_eh_cie section) (take k extents)) → AreAdjoining 0 extents → AreRising 0 (map (λ cie. cie.offset) cies)
 cies_rise section extents k cies each up =
-    let es = filter (is_eh_cie section) (take k extents) in
-    let offsets : map (λ (cie : KnownCie). cie.offset) cies ≡ map (λ (e : Extent). e.offset) es =
-    sym (map-map (λ (k : Known). k.offset) seen_cie cies) ∙ ap (λ (ks : List Known). map (λ (k : Known). k.offset) ks) each ∙ map-map (λ (k : Known). k.offset) (known section) es in
-    rw offsets (filter_rises (λ (e : Extent). e.offset) (is_eh_cie section) 0 (take k extents) (take_rises 0 k extents (rises 0 extents up)))
-
--- ---- one more entry that is a CIE, or is none
-
-true_of : (b : Bool) (k x : Known) → Some k ≡ cond b (Some x) None → (b ≡ true) × (k ≡ x)
-true_of true k x e = (refl, some_is k x e)
-true_of false k x e = absurd cc
-
-false_of : (b : Bool) (x : Known) → None ≡ cond b (Some x) None → b ≡ false
-false_of true x e = absurd cc
-false_of false x e = refl
-
-pub one_more : (section : List ℕ) (extents : List Extent) (k : ℕ) (d : Extent) (cies next : List KnownCie) (c : KnownCie) → k < length extents
-    → Some (seen_cie c) ≡ cond (is_eh_cie section (get_or extents k d)) (Some (known section (get_or extents k d))) None → next ≡ cies ++ c ∷ []
-    → map seen_cie cies ≡ map (known section) (filter (is_eh_cie section) (take k extents)) → map seen_cie next ≡ map (known section) (filter (is_eh_cie section) (take (k + 1) extents))
-one_more section extents k d cies next c lt is pushed so_far =
-    let e = get_or extents k d in
-    let both = true_of (is_eh_cie section e) (seen_cie c) (known section e) is in
-    ap (λ (cs : List KnownCie). map seen_cie cs) pushed ∙ map_push seen_cie cies c
-    ∙ ap (λ (ks : List Known). ks ++ seen_cie c ∷ []) so_far
-    ∙ ap (λ (x : Known). map (known section) (filter (is_eh_cie section) (take k extents)) ++ x ∷ []) both.1
-    ∙ sym (map_push (known section) (filter (is_eh_cie section) (take k extents)) e)
-    ∙ ap (λ (es : List Extent). map (known section) es) (sym (filter_more (is_eh_cie section) extents k d lt ∙ ap (λ (b : Bool). filter (is_eh_cie section) (take k extents) ++ cond b (e ∷ []) []) both.0))
-
-pub none_more : (section : List ℕ) (extents : List Extent) (k : ℕ) (d : Extent) (cies : List KnownCie) → k < length extents
-    → None ≡ cond (is_eh_cie section (get_or extents k d)) (Some (known section (get_or extents k d))) None
-    → map seen_cie cies ≡ map (known section) (filter (is_eh_cie section) (take k extents)) → map seen_cie cies ≡ map (known section) (filter (is_eh_cie section) (take (k + 1) extents))
-none_more section extents k d cies lt is so_far =
-    let e = get_or extents k d in
-    so_far
-    ∙ ap (λ (es : List Extent). map (known section) es) (sym (filter_more (is_eh_cie section) extents k d lt
-    ∙ ap (λ (b : Bool). filter (is_eh_cie section) (take k extents) ++ cond b (e ∷ []) []) (false_of (is_eh_cie section e) (known section e) is) ∙ append-nil (filter (is_eh_cie section) (take k extents))))
+    seen_rise (λ (k : KnownEh). k.offset) seen_eh_cie (known_eh section) cies (filter (is_eh_cie section) (take k extents)) each
+    (filter_rises (λ (e : Extent). e.offset) (is_eh_cie section) 0 (take k extents) (take_rises 0 k extents (rises 0 extents up)))
 
 -- ---- the entries that are read one after another
-
--- those below an index are read, and their blocks are put
-pub record Reads (section : List ℕ) (address base : ℕ) (extents : List Extent) (k : ℕ) (out : List ℕ) : Type 0 where
-  pub found : List EhEntry
-  pub read : all_ok (map (entry_of section address extents) (take k extents)) ≡ Ok found
-  pub put : out ≡ flat_map (block_of base) found
 
 read_as : (section : List ℕ) (address : ℕ) (extents : List Extent) (e : Extent) (content : Content) → content_of section address extents e ≡ Ok content → entry_of section address extents e ≡ Ok (entry_with e content)
 read_as section address extents e content is = rw is refl
 
-pub reads_more : (section : List ℕ) (address base : ℕ) (extents : List Extent) (k : ℕ) (d : Extent) (body out next : List ℕ) → k < length extents
+pub block_more : (section : List ℕ) (address base : ℕ) (extents : List Extent) (k : ℕ) (d : Extent) (body out next : List ℕ) → k < length extents
     → viewed (entry_body base) (content_of section address extents (get_or extents k d)) ≡ Ok body → next ≡ out ++ block_with (size_of (get_or extents k d)) body
-    → Reads section address base extents k out → Reads section address base extents (k + 1) next
-reads_more section address base extents k d body out next lt is made kept =
+    → Reads (entry_of section address extents) (flat_map (block_of base)) extents k out → Reads (entry_of section address extents) (flat_map (block_of base)) extents (k + 1) next
+block_more section address base extents k d body out next lt is made kept =
     let e = get_or extents k d in
-    let g = entry_of section address extents in
     let content = given (entry_body base) (content_of section address extents e) body is in
-    let entry = entry_with e content.0 in
-    record {
-      found = kept.found ++ entry ∷ [];
-      read =
-          ap (λ (es : List Extent). all_ok (map g es)) (take_more extents k d lt)
-          ∙ ap (λ (rs : List (Result EhEntry FrameFault)). all_ok rs) (map_push g (take k extents) e)
-          ∙ ap (λ (r : Result EhEntry FrameFault). all_ok (map g (take k extents) ++ r ∷ [])) (read_as section address extents e content.0 content.1)
-          ∙ all_ok_push (map g (take k extents)) kept.found entry kept.read;
-      put =
-          made
-          ∙ ap (λ (bs : List ℕ). out ++ block_with (size_of e) bs) (sym content.2)
-          ∙ ap (λ (bs : List ℕ). bs ++ block_of base entry) kept.put
-          ∙ ap (λ (bs : List ℕ). flat_map (block_of base) kept.found ++ bs) (sym (append-nil (block_of base entry)))
-          ∙ sym (flat_map-append (block_of base) kept.found (entry ∷ []));
-    }
+    reads_more (entry_of section address extents) (flat_map (block_of base)) extents k d (entry_with e content.0) out next (flat_map-append (block_of base)) lt (read_as section address extents e content.0 content.1)
+    (made ∙ ap (λ (bs : List ℕ). out ++ block_with (size_of e) bs) (sym content.2) ∙ ap (λ (bs : List ℕ). out ++ bs) (sym (append-nil (block_of base (entry_with e content.0))))) kept
 
-pub reads_fault : (section : List ℕ) (address base : ℕ) (extents : List Extent) (k : ℕ) (d : Extent) (fail : Fail FrameFault) (out : List ℕ) → k < length extents
-    → FailsBy fail (viewed (entry_body base) (content_of section address extents (get_or extents k d))) → Reads section address base extents k out
+pub block_fault : (section : List ℕ) (address base : ℕ) (extents : List Extent) (k : ℕ) (d : Extent) (fail : Fail FrameFault) (out : List ℕ) → k < length extents
+    → FailsBy fail (viewed (entry_body base) (content_of section address extents (get_or extents k d))) → Reads (entry_of section address extents) (flat_map (block_of base)) extents k out
     → FailsBy fail (viewed (flat_map (block_of base)) (all_ok (map (entry_of section address extents) extents)))
-reads_fault section address base extents k d (fails.Memory memory) out lt is kept = tt
-reads_fault section address base extents k d (fails.Fault fault) out lt is kept =
-    let e = get_or extents k d in
-    let faulty = refused (entry_body base) (content_of section address extents e) fault is in
-    let entry : entry_of section address extents e ≡ Err fault = rw faulty refl in
-    ap (λ (r : Result (List EhEntry) FrameFault). viewed (flat_map (block_of base)) r) (fault_at_index (entry_of section address extents) extents k d kept.found fault kept.read lt entry)
+block_fault section address base extents k d (fails.Memory memory) out lt is kept = tt
+block_fault section address base extents k d (fails.Fault fault) out lt is kept =
+    let faulty = refused (entry_body base) (content_of section address extents (get_or extents k d)) fault is in
+    reads_fault (entry_of section address extents) (flat_map (block_of base)) extents k d fault out lt (rw faulty refl) kept
 
 -- ---- the section, and a faulty length behind its entries
 

@@ -13,25 +13,25 @@ use Rattle.address_ranges.specs.Ranges.{holds}
 use Rattle.elf_image.specs.declared.part.Segment.{Segment}
 use Rattle.cfi_table.specs.declared.fault.FrameFault.{FrameFault}
 use Rattle.cfi_table.specs.declared.extent.Extent.{Extent}
+use Rattle.cfi_table.specs.declared.extent.ZeroLength.TheVariants.{PassedOver}
 use Rattle.cfi_table.specs.declared.fde.Fde.{Fde}
 use Rattle.cfi_table.specs.Entries.{extents_of, at_end, read_entry, entries_of}
-use Rattle.cfi_table.specs.Frames.{Frames, all_ok, counted, frames_of, range_of, rules_of, rules_at}
+use Rattle.cfi_table.specs.Frames.{Frames, all_ok, counted_fde, frames_of, fde_range, rules_of, rules_at}
 use Rattle.cfi_table.specs.private.Placed.{IsPlaced, AreRising}
 use Rattle.cfi_table.proofs.Chains.{in_order}
 use Rattle.eh_frame.specs.Entries.{EhFde, EhEntry, eh_extents, entry_of, faulty_end, eh_entries}
-use Rattle.eh_frame.specs.Translation.{place_of, block_of, translated, translation}
+use Rattle.eh_frame.specs.Translation.{translated_offset, block_of, translated, translation}
 use Rattle.eh_frame.specs.private.Adjoining.{AreAdjoining}
 use Rattle.eh_frame.specs.Both.{FrameDescription, described, eh_described, eh_range_of, eh_counted, frames_with_eh, descriptions_of_both, frame_ranges, described_ranges, rules_by}
 use Rattle.eh_frame.specs.Laws.{RangesAreBoth, RulesAreBoth}
-use Rattle.eh_frame.proofs.Bounds.{few_bytes}
-use Rattle.eh_frame.proofs.Chains.{adjoin}
 use Rattle.prof_bytes.proofs.Outcomes.{bind_ok, ok_same}
-use Rattle.eh_frame.proofs.Members.{IsIn, in_back, ok_append, ok_parts, ok_of, in_filtered}
-use Rattle.eh_frame.proofs.Places.{Chain, chain_moved, chain_joined, chain_whole, ends_within}
-use Rattle.eh_frame.proofs.EhPlaces.{eh_placed}
+use Rattle.cfi_table.proofs.AllOk.{ok_append, ok_parts}
+use Rattle.eh_frame.proofs.Members.{IsIn, in_back, ok_of, in_filtered}
+use Rattle.eh_frame.proofs.Offsets.{Chain, chain_moved, chain_joined, chain_whole, ends_within}
+use Rattle.eh_frame.proofs.Adjoining.{adjoin, eh_placed}
 use Rattle.eh_frame.proofs.Kept.{Entry, FdeIn, rules_joined, entry_kept, all_kept}
-use Rattle.eh_frame.proofs.Described.{facts_of}
-use Rattle.eh_frame.proofs.Blocks.{Fits, extents_in, chain_blocks, stands, extents_same, WasRead, was_read, fits_of}
+use Rattle.eh_frame.proofs.Described.{Facts, FitsIn, facts_of}
+use Rattle.eh_frame.proofs.Blocks.{extents_in, Laid, blocks_laid, extents_same, WasRead, was_read, few_bytes}
 use Rattle.eh_frame.proofs.JoinedReads.{Matches, Joined, Read, all_read}
 
 -- ---- each section that was read
@@ -45,14 +45,14 @@ pub record Front (section : List ℕ) (segments : List Segment) (own : Frames) :
   pub is : extents_of section ≡ (extents, None)
   pub reads : List Entry
   pub read : all_ok (map (read_entry section extents) extents) ≡ Ok reads
-  pub fdes : own.fdes ≡ filter_map (counted segments) reads
+  pub fdes : own.fdes ≡ filter_map (counted_fde segments) reads
   pub within : (x : Extent) → IsIn x extents → x.end ≤ length section
 
 front_of : (section : List ℕ) (segments : List Segment) (own : Frames) → frames_of section segments ≡ Ok own → Front section segments own
 unfolding frames_of entries_of
 front_of section segments own is =
     let X : List Extent = (extents_of section).0 in
-    let found = bind_ok (all_ok (map (read_entry section X) X ++ at_end (extents_of section).1)) (λ r. (let u : Result Frames FrameFault = Ok (record { section = section; fdes = filter_map (counted segments) r }) in u)) own is in
+    let found = bind_ok (all_ok (map (read_entry section X) X ++ at_end (extents_of section).1)) (λ r. (let u : Result Frames FrameFault = Ok (record { section = section; fdes = filter_map (counted_fde segments) r }) in u)) own is in
     let parts = ok_parts (map (read_entry section X) X) (at_end (extents_of section).1) found.0 found.1 in
     let whole = none_broken (extents_of section).1 parts.1 parts.3 in
     let all : found.0 ≡ parts.0 = parts.4 ∙ ap (λ (ys : List Entry). parts.0 ++ ys) (sym whole.1) ∙ append-nil parts.0 in
@@ -61,8 +61,8 @@ front_of section segments own is =
       is = ap (λ (b : Option FrameFault). (X, b)) whole.0;
       reads = parts.0;
       read = parts.2;
-      fdes = sym (ap (λ (f : Frames). f.fdes) (ok_same {F = FrameFault} (record { section = section; fdes = filter_map (counted segments) found.0 }) own found.2)) ∙ ap (λ (rs : List Entry). filter_map (counted segments) rs) all;
-      within = λ x there. ends_within (length section) section 0 (record { offset = 0 }) x (omega arith) there;
+      fdes = sym (ap (λ (f : Frames). f.fdes) (ok_same {F = FrameFault} (record { section = section; fdes = filter_map (counted_fde segments) found.0 }) own found.2)) ∙ ap (λ (rs : List Entry). filter_map (counted_fde segments) rs) all;
+      within = λ x there. ends_within PassedOver (length section) section 0 (record { offset = 0 }) x (omega arith) there;
     }
 
 none_faulty : (b : Option FrameFault) (ys : List EhEntry) → all_ok (faulty_end b) ≡ Ok ys → [] ≡ ys
@@ -91,29 +91,29 @@ pub record Whole (section eh : List ℕ) (base : ℕ) (segments : List Segment) 
 
 joined_reads : (joined : List ℕ) (segments : List Segment) (front back : List Extent) (reads others : List Entry) → extents_of joined ≡ (front ++ back, None) → all_ok (map (read_entry joined (front ++ back)) front) ≡ Ok reads
     → all_ok (map (read_entry joined (front ++ back)) back) ≡ Ok others
-    → frames_of joined segments ≡ Ok (record { section = joined; fdes = filter_map (counted segments) reads ++ filter_map (counted segments) others })
+    → frames_of joined segments ≡ Ok (record { section = joined; fdes = filter_map (counted_fde segments) reads ++ filter_map (counted_fde segments) others })
 unfolding frames_of entries_of
 joined_reads joined segments front back reads others is read more =
     let X : List Extent = front ++ back in
     let g = read_entry joined (front ++ back) in
     let listed : all_ok (map g (front ++ back)) ≡ Ok (reads ++ others) = ap (λ (rs : List (Result Entry FrameFault)). all_ok rs) (map-append g front back) ∙ ok_append (map g front) (map g back) reads others read more in
     let whole : all_ok (map g (front ++ back) ++ []) ≡ Ok (reads ++ others) = ap (λ (rs : List (Result Entry FrameFault)). all_ok rs) (append-nil (map g (front ++ back))) ∙ listed in
-    rw (is, whole, filter_map-append (counted segments) reads others) refl
+    rw (is, whole, filter_map-append (counted_fde segments) reads others) refl
 
-translated_few : (eh : List ℕ) (address base : ℕ) (all : List EhEntry) → eh_entries eh address ≡ Ok all → length (flat_map (block_of base) all) ≤ 8 * length eh
-translated_few eh address base all is =
+translated_few : (eh : List ℕ) (address base : ℕ) (all : List EhEntry) → IsBytes eh → eh_entries eh address ≡ Ok all → length (flat_map (block_of base) all) ≤ 8 * length eh
+translated_few eh address base all bytes is =
     let X : List Extent = (eh_extents eh).0 in
-    few_bytes eh address base (eh_extents eh).0 (flat_map (block_of base) all) (adjoin eh (eh_extents eh) refl) (all_of (IsPlaced eh) (eh_extents eh).0 (λ x there. eh_placed eh x there))
+    few_bytes eh address base (eh_extents eh).0 (flat_map (block_of base) all) bytes (adjoin eh (eh_extents eh) refl) (all_of (IsPlaced eh) (eh_extents eh).0 (λ x there. eh_placed eh x there))
     (ap (λ (r : Result (List EhEntry) FrameFault). viewed (flat_map (block_of base)) r) (eh_front_of eh address all is))
 
 whole_of : (section eh : List ℕ) (address : ℕ) (segments : List Segment) (own : Frames) (all : List EhEntry) → length section + 8 * length eh < 2 ^ 31 → IsBytes eh → frames_of section segments ≡ Ok own → eh_entries eh address ≡ Ok all
     → Whole section eh (length section) segments own all
 whole_of section eh address segments own all small bytes own_read all_are = record {
-  back = filter_map (counted segments) read.reads;
+  back = filter_map (counted_fde segments) read.reads;
   is =
       joined_reads joined segments front.extents later front.reads read.reads extents_are
       (all_kept section blocks front.extents later front.extents front.reads front.within front.within front.read) read.is
-      ∙ ap (λ (fs : List Fde). Ok (record { section = joined; fdes = fs ++ filter_map (counted segments) read.reads })) (sym front.fdes);
+      ∙ ap (λ (fs : List Fde). Ok (record { section = joined; fdes = fs ++ filter_map (counted_fde segments) read.reads })) (sym front.fdes);
   matches = read.matches;
 }
   where
@@ -141,7 +141,7 @@ whole_of section eh address segments own all small bytes own_read all_are = reco
     short : length (section ++ flat_map (block_of (length section)) all) < 2 ^ 31
     short =
         let both = length-append section (flat_map (block_of (length section)) all) in
-        let few = translated_few eh address (length section) all all_are in
+        let few = translated_few eh address (length section) all bytes all_are in
         omega arith
 
     adjoining : AreAdjoining 0 (map (λ (x : EhEntry). x.extent) all)
@@ -150,25 +150,27 @@ whole_of section eh address segments own all small bytes own_read all_are = reco
     was : (x : EhEntry) → IsIn x all → WasRead eh address (eh_extents eh).0 x
     was x there = was_read eh address (eh_extents eh).0 all x listed there
 
-    fit : (x : EhEntry) → IsIn x all → Fits (length section) x
-    fit x there = fits_of eh address (length section) (eh_extents eh).0 x (eh_placed eh x.extent (was x there).there) (was x there)
+    facts : (x : EhEntry) → IsIn x all → Facts eh address (eh_extents eh).0 x.content × FitsIn x.extent x.content
+    facts x there = facts_of eh address (eh_extents eh).0 x.extent x.content bytes (eh_placed eh x.extent (was x there).there) (was x there).content
 
-    begins : drop (place_of (length section) 0) (section ++ flat_map (block_of (length section)) all) ≡ flat_map (block_of (length section)) all
+    begins : drop (translated_offset (length section) 0) (section ++ flat_map (block_of (length section)) all) ≡ flat_map (block_of (length section)) all
     begins =
         ap (λ (n : ℕ). drop n (section ++ flat_map (block_of (length section)) all)) (let e : length section + 8 * 0 ≡ length section = omega arith in e)
         ∙ drop-append_seam section (flat_map (block_of (length section)) all)
 
+    laid : Laid (section ++ flat_map (block_of (length section)) all) (length section) 0 all
+    laid = blocks_laid (section ++ flat_map (block_of (length section)) all) (length section) 0 all short adjoining (λ x there. (facts x there).1) begins
+
     chain : Chain (section ++ flat_map (block_of (length section)) all) 0 (front.extents ++ flat_map (extents_in (length section)) all)
     chain =
         chain_joined (length section) section (flat_map (block_of (length section)) all) 0 (record { offset = 0 }) front.extents (flat_map (extents_in (length section)) all) (omega arith) (omega arith) front.is
-        (chain_moved (section ++ flat_map (block_of (length section)) all) (place_of (length section) 0) (length section) (flat_map (extents_in (length section)) all) (omega arith)
-        (chain_blocks (section ++ flat_map (block_of (length section)) all) (length section) 0 all short adjoining fit begins))
+        (chain_moved (section ++ flat_map (block_of (length section)) all) (translated_offset (length section) 0) (length section) (flat_map (extents_in (length section)) all) (omega arith) laid.chain)
 
     extents_are : extents_of (section ++ flat_map (block_of (length section)) all) ≡ (front.extents ++ flat_map (extents_in (length section)) all, None)
     extents_are = chain_whole (section ++ flat_map (block_of (length section)) all) (front.extents ++ flat_map (extents_in (length section)) all) chain
 
     rising : AreRising 0 (map (λ (e : Extent). e.offset) (front.extents ++ flat_map (extents_in (length section)) all))
-    rising = in_order (section ++ flat_map (block_of (length section)) all) (front.extents ++ flat_map (extents_in (length section)) all, None) (sym extents_are)
+    rising = in_order PassedOver (section ++ flat_map (block_of (length section)) all) (front.extents ++ flat_map (extents_in (length section)) all, None) (sym extents_are)
 
     j : Joined (section ++ flat_map (block_of (length section)) all) eh address (length section) all (eh_extents eh).0 (front.extents ++ flat_map (extents_in (length section)) all)
     j = record {
@@ -177,9 +179,9 @@ whole_of section eh address segments own all small bytes own_read all_are = reco
       rising = rising;
       there = λ e is. in_back e front.extents (flat_map (extents_in (length section)) all) is;
       read = listed;
-      facts = λ x is. facts_of eh address (eh_extents eh).0 x.extent x.content bytes (was x is).content;
+      facts = λ x is. (facts x is).0;
       within = λ x is. (let p = eh_placed eh x.extent (was x is).there in let order = p.order in let inside = p.within in omega arith);
-      stand = λ x is. stands (section ++ flat_map (block_of (length section)) all) (length section) 0 all x short adjoining fit begins is;
+      stand = laid.stands;
     }
 
     read : Read (section ++ flat_map (block_of (length section)) all) segments (front.extents ++ flat_map (extents_in (length section)) all) (flat_map (extents_in (length section)) all) all
@@ -190,46 +192,46 @@ whole_of section eh address segments own all small bytes own_read all_are = reco
 fdes_inside : (section : List ℕ) (segments : List Segment) (own : Frames) → Front section segments own → (f : Fde) → IsIn f own.fdes → FdeIn section f
 fdes_inside section segments own front f is =
     let P : List Fde → Type 0 = λ fs. IsIn f fs in
-    let there = in_filtered (counted segments) f front.reads (subst P front.fdes is) in
+    let there = in_filtered (counted_fde segments) f front.reads (subst P front.fdes is) in
     let from = ok_of (read_entry section front.extents) front.extents front.reads there.0 front.read there.1 in
     (entry_kept section [] front.extents [] from.0 there.0 front.within (front.within from.0 from.1) from.2).1 segments f there.2
 
 -- ---- the rules at an address, and the ranges
 
-rules_back : (joined : List ℕ) (place : ℕ) (fs : List Fde) (gs : List EhFde) → Matches joined fs gs
-    → option_and_then (rules_of joined place) (find (λ fde. holds place (range_of fde)) fs) ≡ rules_by (map eh_described gs) place
-rules_back joined place [] [] same = refl
-rules_back joined place [] (g ∷ gs) same = absurd same
-rules_back joined place (f ∷ fs) [] same = absurd same
-rules_back joined place (f ∷ fs) (g ∷ gs) same =
-    ap (λ (b : Bool). option_and_then (rules_of joined place) (cond b (Some f) (find (λ fde. holds place (range_of fde)) fs))) (ap (λ (r : AddressRange). holds place r) same.0.range)
-    ∙ go (holds place (eh_range_of g)) (rules_back joined place fs gs same.1)
+rules_back : (joined : List ℕ) (pc : ℕ) (fs : List Fde) (gs : List EhFde) → Matches joined fs gs
+    → option_and_then (rules_of joined pc) (find (λ fde. holds pc (fde_range fde)) fs) ≡ rules_by (map eh_described gs) pc
+rules_back joined pc [] [] same = refl
+rules_back joined pc [] (g ∷ gs) same = absurd same
+rules_back joined pc (f ∷ fs) [] same = absurd same
+rules_back joined pc (f ∷ fs) (g ∷ gs) same =
+    ap (λ (b : Bool). option_and_then (rules_of joined pc) (cond b (Some f) (find (λ fde. holds pc (fde_range fde)) fs))) (ap (λ (r : AddressRange). holds pc r) same.0.range)
+    ∙ go (holds pc (eh_range_of g)) (rules_back joined pc fs gs same.1)
   where
-    go : (b : Bool) → option_and_then (rules_of joined place) (find (λ fde. holds place (range_of fde)) fs) ≡ rules_by (map eh_described gs) place
-        → option_and_then (rules_of joined place) (cond b (Some f) (find (λ fde. holds place (range_of fde)) fs)) ≡ option_and_then (λ (d : FrameDescription). d.rules place) (cond b (Some (eh_described g)) (find (λ d. holds place d.range) (map eh_described gs)))
-    go true rest = same.0.rules place
+    go : (b : Bool) → option_and_then (rules_of joined pc) (find (λ fde. holds pc (fde_range fde)) fs) ≡ rules_by (map eh_described gs) pc
+        → option_and_then (rules_of joined pc) (cond b (Some f) (find (λ fde. holds pc (fde_range fde)) fs)) ≡ option_and_then (λ (d : FrameDescription). d.rules pc) (cond b (Some (eh_described g)) (find (λ d. holds pc d.range) (map eh_described gs)))
+    go true rest = same.0.rules pc
     go false rest = rest
 
-rules_both : (section behind : List ℕ) (place : ℕ) (own fs : List Fde) (gs : List EhFde) → ((f : Fde) → IsIn f own → FdeIn section f) → Matches (section ++ behind) fs gs
-    → option_and_then (rules_of (section ++ behind) place) (find (λ fde. holds place (range_of fde)) (own ++ fs)) ≡ rules_by (map (described section) own ++ map eh_described gs) place
-rules_both section behind place [] fs gs inside same = rules_back (section ++ behind) place fs gs same
-rules_both section behind place (f ∷ own) fs gs inside same = go (holds place (range_of f)) (rules_both section behind place own fs gs (λ g there. inside g (inr there)) same)
+rules_both : (section behind : List ℕ) (pc : ℕ) (own fs : List Fde) (gs : List EhFde) → ((f : Fde) → IsIn f own → FdeIn section f) → Matches (section ++ behind) fs gs
+    → option_and_then (rules_of (section ++ behind) pc) (find (λ fde. holds pc (fde_range fde)) (own ++ fs)) ≡ rules_by (map (described section) own ++ map eh_described gs) pc
+rules_both section behind pc [] fs gs inside same = rules_back (section ++ behind) pc fs gs same
+rules_both section behind pc (f ∷ own) fs gs inside same = go (holds pc (fde_range f)) (rules_both section behind pc own fs gs (λ g there. inside g (inr there)) same)
   where
-    go : (b : Bool) → option_and_then (rules_of (section ++ behind) place) (find (λ fde. holds place (range_of fde)) (own ++ fs)) ≡ rules_by (map (described section) own ++ map eh_described gs) place
-        → option_and_then (rules_of (section ++ behind) place) (cond b (Some f) (find (λ fde. holds place (range_of fde)) (own ++ fs)))
-        ≡ option_and_then (λ (d : FrameDescription). d.rules place) (cond b (Some (described section f)) (find (λ d. holds place d.range) (map (described section) own ++ map eh_described gs)))
-    go true rest = rules_joined section behind place f (inside f (inl refl))
+    go : (b : Bool) → option_and_then (rules_of (section ++ behind) pc) (find (λ fde. holds pc (fde_range fde)) (own ++ fs)) ≡ rules_by (map (described section) own ++ map eh_described gs) pc
+        → option_and_then (rules_of (section ++ behind) pc) (cond b (Some f) (find (λ fde. holds pc (fde_range fde)) (own ++ fs)))
+        ≡ option_and_then (λ (d : FrameDescription). d.rules pc) (cond b (Some (described section f)) (find (λ d. holds pc d.range) (map (described section) own ++ map eh_described gs)))
+    go true rest = rules_joined section behind pc f (inside f (inl refl))
     go false rest = rest
 
-ranges_back : (joined : List ℕ) (fs : List Fde) (gs : List EhFde) → Matches joined fs gs → map range_of fs ≡ described_ranges (map eh_described gs)
+ranges_back : (joined : List ℕ) (fs : List Fde) (gs : List EhFde) → Matches joined fs gs → map fde_range fs ≡ described_ranges (map eh_described gs)
 ranges_back joined [] [] same = refl
 ranges_back joined [] (g ∷ gs) same = absurd same
 ranges_back joined (f ∷ fs) [] same = absurd same
 ranges_back joined (f ∷ fs) (g ∷ gs) same = rw (same.0.range, ranges_back joined fs gs same.1) refl
 
-ranges_both : (section joined : List ℕ) (own fs : List Fde) (gs : List EhFde) → Matches joined fs gs → map range_of (own ++ fs) ≡ described_ranges (map (described section) own ++ map eh_described gs)
+ranges_both : (section joined : List ℕ) (own fs : List Fde) (gs : List EhFde) → Matches joined fs gs → map fde_range (own ++ fs) ≡ described_ranges (map (described section) own ++ map eh_described gs)
 ranges_both section joined [] fs gs same = ranges_back joined fs gs same
-ranges_both section joined (f ∷ own) fs gs same = ap (λ (rs : List AddressRange). range_of f ∷ rs) (ranges_both section joined own fs gs same)
+ranges_both section joined (f ∷ own) fs gs same = ap (λ (rs : List AddressRange). fde_range f ∷ rs) (ranges_both section joined own fs gs same)
 
 -- ---- both definitions, or their faults
 
@@ -253,6 +255,6 @@ ranges_are_both section eh address segments small bytes =
     (λ own all back front matches. ranges_both section (section ++ flat_map (block_of (length section)) all) own.fdes back (filter_map (eh_counted segments) all) matches)
 
 pub rules_are_both : RulesAreBoth
-rules_are_both section eh address segments place small bytes =
-    by_cases (λ frames. rules_at frames place) (λ descriptions. rules_by descriptions place) section eh address segments small bytes
-    (λ own all back front matches. rules_both section (flat_map (block_of (length section)) all) place own.fdes back (filter_map (eh_counted segments) all) (fdes_inside section segments own front) matches)
+rules_are_both section eh address segments pc small bytes =
+    by_cases (λ frames. rules_at frames pc) (λ descriptions. rules_by descriptions pc) section eh address segments small bytes
+    (λ own all back front matches. rules_both section (flat_map (block_of (length section)) all) pc own.fdes back (filter_map (eh_counted segments) all) (fdes_inside section segments own front) matches)

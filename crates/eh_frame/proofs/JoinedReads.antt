@@ -15,17 +15,18 @@ use Rattle.cfi_table.specs.declared.fde.Fde.{Fde}
 use Rattle.cfi_table.specs.declared.instruction.CallFrameInstruction.{CallFrameInstruction}
 use Rattle.cfi_table.specs.Rules.{State, no_rules, all_same_value}
 use Rattle.cfi_table.specs.Entries.{is_cie, cie_at, after_cie, continued, after_fde, checked_fde, read_entry}
-use Rattle.cfi_table.specs.Frames.{all_ok, counted, range_of, rules_with, rules_of, size_of}
+use Rattle.cfi_table.specs.Frames.{all_ok, counted_fde, fde_range, rules_with, rules_of, size_of}
 use Rattle.cfi_table.specs.private.Placed.{AreRising}
 use Rattle.eh_frame.specs.declared.cie.EhCie.{EhCie}
 use Rattle.eh_frame.specs.Runs.{rules_after}
 use Rattle.eh_frame.specs.Entries.{EhFde, EhEntry, Content, PassedOver, Common, Description, content_of, entry_with, entry_of}
-use Rattle.eh_frame.specs.Translation.{place_of, entry_body}
+use Rattle.eh_frame.specs.Translation.{translated_offset, entry_body}
 use Rattle.eh_frame.specs.Both.{eh_range_of, eh_rules_with, eh_rules_from, eh_rules_of, eh_content_counted, eh_counted}
 use Rattle.eh_frame.specs.Laws.{HasWordOperands}
 use Rattle.eh_frame.proofs.Kept.{Entry}
 use Rattle.prof_bytes.proofs.Outcomes.{ok_same}
-use Rattle.eh_frame.proofs.Members.{IsIn, in_flat, find_one, ok_in, cons_ok}
+use Rattle.cfi_table.proofs.AllOk.{cons_ok}
+use Rattle.eh_frame.proofs.Members.{IsIn, in_flat, find_one, ok_in}
 use Rattle.eh_frame.proofs.Described.{CommonRead, DescriptionRead, Facts, initial_rules, initial_words, cie_content}
 use Rattle.eh_frame.proofs.EntriesBack.{CieBack, cie_back, cie_ran, FdeBack, fde_back, fde_ran, rules_up_to}
 use Rattle.eh_frame.proofs.Blocks.{translated_extent, extents_in, Stands, block_body, block_within}
@@ -33,8 +34,8 @@ use Rattle.eh_frame.proofs.Blocks.{translated_extent, extents_in, Stands, block_
 -- ---- an FDE, and what it says by both definitions
 
 pub record Same (section : List ℕ) (fde : Fde) (g : EhFde) : Type 0 where
-  pub range : range_of fde ≡ eh_range_of g
-  pub rules : (place : ℕ) → rules_of section place fde ≡ eh_rules_of place g
+  pub range : fde_range fde ≡ eh_range_of g
+  pub rules : (pc : ℕ) → rules_of section pc fde ≡ eh_rules_of pc g
 
 abbrev pub Matches : List ℕ → List Fde → List EhFde → Type 0
 Matches section [] [] = Unit {0}
@@ -59,83 +60,74 @@ common_back : (section eh : List ℕ) (address base : ℕ) (all : List EhEntry) 
     → Stands section base (record { extent = e; content = Common cie own }) rest → CieBack section (translated_extent base (record { extent = e; content = Common cie own })) cie.return_address_register own
 common_back section eh address base all extents es e cie own rest read stands =
     cie_back section (translated_extent base (record { extent = e; content = Common cie own })) cie.return_address_register own read.register
-    (block_within section (place_of base e.offset) (size_of e) (entry_body base (Common cie own)) rest stands)
-    (block_body section (place_of base e.offset) (size_of e) (entry_body base (Common cie own)) rest stands)
+    (block_within section (translated_offset base e.offset) (size_of e) (entry_body base (Common cie own)) rest stands)
+    (block_body section (translated_offset base e.offset) (size_of e) (entry_body base (Common cie own)) rest stands)
 
--- an entry that is no FDE
-abbrev Uncounted : Result Entry FrameFault → Type 0
-Uncounted (Err fault) = ⊥
-Uncounted (Ok r) = (segments : List Segment) → counted segments r ≡ None
+-- an entry that is read, and the FDE that counts in it, if one does
+abbrev CountsAs : (List Segment → Option Fde) → Result Entry FrameFault → Type 0
+CountsAs f (Err fault) = ⊥
+CountsAs f (Ok r) = (segments : List Segment) → counted_fde segments r ≡ f segments
 
-abbrev pub ReadsNone : Result Entry FrameFault → Type 0
-ReadsNone q = (r : Entry) × (q ≡ Ok r) × ((segments : List Segment) → counted segments r ≡ None)
+abbrev pub ReadsAs : (List Segment → Option Fde) → Result Entry FrameFault → Type 0
+ReadsAs f q = (r : Entry) × (q ≡ Ok r) × CountsAs f (Ok r)
 
-uncounted : (q : Result Entry FrameFault) → Uncounted q → ReadsNone q
-uncounted (Err fault) is = absurd is
-uncounted (Ok r) is = (r, refl, is)
+reads_as : (f : List Segment → Option Fde) (q : Result Entry FrameFault) → CountsAs f q → ReadsAs f q
+reads_as f (Err fault) is = absurd is
+reads_as f (Ok r) is = (r, refl, is)
 
-none_behind : {X : Type 0} (q : Result X FrameFault) (k : X → Result Entry FrameFault) (x : X) → q ≡ Ok x → Uncounted (k x) → ReadsNone (q >>= k)
-none_behind {X} q k x is none = let P : Result X FrameFault → Type 0 = λ p. ReadsNone (p >>= k) in subst P (sym is) (uncounted (k x) none)
+reads_behind : {X : Type 0} (f : List Segment → Option Fde) (q : Result X FrameFault) (k : X → Result Entry FrameFault) (x : X) → q ≡ Ok x → CountsAs f (k x) → ReadsAs f (q >>= k)
+reads_behind {X} f q k x is tells = let P : Result X FrameFault → Type 0 = λ p. ReadsAs f (p >>= k) in subst P (sym is) (reads_as f (k x) tells)
+
+abbrev nothing : List Segment → Option Fde
+nothing segments = None
+
+abbrev only : Fde → List Segment → Option Fde
+only f segments = cond (counts segments f.initial_location (f.initial_location + f.address_range)) (Some f) None
 
 pub common_reads : (section eh : List ℕ) (address base : ℕ) (all : List EhEntry) (extents es : List Extent) (e : Extent) (cie : EhCie) (own : List CallFrameInstruction) → Joined section eh address base all extents es
-    → IsIn (record { extent = e; content = Common cie own }) all → ReadsNone (read_entry section es (translated_extent base (record { extent = e; content = Common cie own })))
+    → IsIn (record { extent = e; content = Common cie own }) all → ReadsAs nothing (read_entry section es (translated_extent base (record { extent = e; content = Common cie own })))
 common_reads section eh address base all extents es e cie own j is =
     let x : EhEntry = record { extent = e; content = Common cie own } in
     let read : CommonRead eh address cie own = j.facts x is in
     let s = j.stand x is in
     let back = common_back section eh address base all extents es e cie own s.0 read s.1 in
     let ran = cie_ran section (translated_extent base x) cie.return_address_register own read.final back (initial_words eh address cie own read.final j.bytes read.ran) (initial_rules eh address cie own read.final read.ran) in
-    let P : Result Entry FrameFault → Type 0 = λ q. ReadsNone q in
-    subst P (sym (back.read es)) (none_behind (after_cie section back.cie) _ read.final ran (λ segments. refl))
+    let P : Result Entry FrameFault → Type 0 = λ q. ReadsAs nothing q in
+    subst P (sym (back.read es)) (reads_behind nothing (after_cie section back.cie) _ read.final ran (λ segments. refl))
 
 -- the rules of an FDE that was written
-fde_rules : (place : ℕ) (section : List ℕ) (extents : List Extent) (e c : Extent) (g : EhFde) (initial u : State) (back : CieBack section c g.cie.return_address_register g.initial) (f : FdeBack section extents e g.initial_location g.address_range back.cie g.instructions)
-    → All HasWordOperands g.instructions → after_cie section back.cie ≡ Ok initial → rules_after (Some place) initial.regs g.instructions (record initial { location = g.initial_location }) ≡ Some u
-    → rules_of section place f.fde ≡ Some (eh_rules_with g.cie u)
+fde_rules : (pc : ℕ) (section : List ℕ) (extents : List Extent) (e c : Extent) (g : EhFde) (initial u : State) (back : CieBack section c g.cie.return_address_register g.initial) (f : FdeBack section extents e g.initial_location g.address_range back.cie g.instructions)
+    → All HasWordOperands g.instructions → after_cie section back.cie ≡ Ok initial → rules_after (Some pc) initial.regs g.instructions (record initial { location = g.initial_location }) ≡ Some u
+    → rules_of section pc f.fde ≡ Some (eh_rules_with g.cie u)
 unfolding rules_of after_fde
-fde_rules place section extents e c g initial u back f words ran rules =
-    ap (λ (d : Cie). rules_with f.fde.cie (after_cie section d >>= λ i. continued (Some place) section f.fde i)) f.cie_is
-    ∙ ap (λ (r : Result State FrameFault). rules_with f.fde.cie (r >>= λ i. continued (Some place) section f.fde i)) ran
-    ∙ ap (λ (r : Result State FrameFault). rules_with f.fde.cie r) (fde_ran (Some place) section extents e g.initial_location g.address_range back.cie g.instructions initial u f back.factors words rules)
+fde_rules pc section extents e c g initial u back f words ran rules =
+    ap (λ (d : Cie). rules_with f.fde.cie (after_cie section d >>= λ i. continued (Some pc) section f.fde i)) f.cie_is
+    ∙ ap (λ (r : Result State FrameFault). rules_with f.fde.cie (r >>= λ i. continued (Some pc) section f.fde i)) ran
+    ∙ ap (λ (r : Result State FrameFault). rules_with f.fde.cie r) (fde_ran (Some pc) section extents e g.initial_location g.address_range back.cie g.instructions initial u f back.factors words rules)
     ∙ ap (λ (d : Cie). rules_with d (Ok u)) f.cie_is
     ∙ ap (λ (n : ℕ). Some (record { cfa = u.cfa; regs = u.regs; return_register = n })) back.returns
 
-eh_rules : (place : ℕ) (g : EhFde) (initial u : State) → rules_after None all_same_value g.initial no_rules ≡ Some initial → rules_after (Some place) initial.regs g.instructions (record initial { location = g.initial_location }) ≡ Some u
-    → eh_rules_of place g ≡ Some (eh_rules_with g.cie u)
+eh_rules : (pc : ℕ) (g : EhFde) (initial u : State) → rules_after None all_same_value g.initial no_rules ≡ Some initial → rules_after (Some pc) initial.regs g.instructions (record initial { location = g.initial_location }) ≡ Some u
+    → eh_rules_of pc g ≡ Some (eh_rules_with g.cie u)
 unfolding eh_rules_of
-eh_rules place g initial u before rules = ap (λ (o : Option State). option_and_then (eh_rules_from place g) o) before ∙ ap (λ (o : Option State). option_map (eh_rules_with g.cie) o) rules
+eh_rules pc g initial u before rules = ap (λ (o : Option State). option_and_then (eh_rules_from pc g) o) before ∙ ap (λ (o : Option State). option_map (eh_rules_with g.cie) o) rules
 
--- an entry that is an FDE
-abbrev CountedAs : Fde → Result Entry FrameFault → Type 0
-CountedAs f (Err fault) = ⊥
-CountedAs f (Ok r) = (segments : List Segment) → counted segments r ≡ cond (counts segments f.initial_location (f.initial_location + f.address_range)) (Some f) None
-
-abbrev pub ReadsFde : Fde → Result Entry FrameFault → Type 0
-ReadsFde f q = (r : Entry) × (q ≡ Ok r) × CountedAs f (Ok r)
-
-counted_as : (f : Fde) (q : Result Entry FrameFault) → CountedAs f q → ReadsFde f q
-counted_as f (Err fault) is = absurd is
-counted_as f (Ok r) is = (r, refl, is)
-
-fde_behind : {X : Type 0} (f : Fde) (q : Result X FrameFault) (k : X → Result Entry FrameFault) (x : X) → q ≡ Ok x → CountedAs f (k x) → ReadsFde f (q >>= k)
-fde_behind {X} f q k x is tells = let P : Result X FrameFault → Type 0 = λ p. ReadsFde f (p >>= k) in subst P (sym is) (counted_as f (k x) tells)
-
-checked_as : (section : List ℕ) (f : Fde) (q : Result State FrameFault) (initial final : State) → q ≡ Ok initial → continued None section f initial ≡ Ok final → ReadsFde f (checked_fde section f q)
+checked_as : (section : List ℕ) (f : Fde) (q : Result State FrameFault) (initial final : State) → q ≡ Ok initial → continued None section f initial ≡ Ok final → ReadsAs (only f) (checked_fde section f q)
 checked_as section f q initial final is ran =
-    let P : Result State FrameFault → Type 0 = λ p. ReadsFde f (checked_fde section f p) in
-    subst P (sym is) (fde_behind f (continued None section f initial) _ final ran (λ segments. refl))
+    let P : Result State FrameFault → Type 0 = λ p. ReadsAs (only f) (checked_fde section f p) in
+    subst P (sym is) (reads_behind (only f) (continued None section f initial) _ final ran (λ segments. refl))
 
 -- an FDE, where its CIE's entry is among those of the section
 abbrev pub Described : List ℕ → List Extent → Extent → EhFde → Type 0
-Described section es e g = (f : Fde) × ReadsFde f (read_entry section es e) × Same section f g
+Described section es e g = (f : Fde) × ReadsAs (only f) (read_entry section es e) × Same section f g
 
-fde_by_cie : (section eh : List ℕ) (address base : ℕ) (extents es : List Extent) (e c : Extent) (g : EhFde) (rest : List ℕ) (d : DescriptionRead eh address extents g) → base + 8 * length eh < 2 ^ 31 → IsBytes eh → d.c.offset ≤ length eh → c.offset ≡ place_of base d.c.offset
+fde_by_cie : (section eh : List ℕ) (address base : ℕ) (extents es : List Extent) (e c : Extent) (g : EhFde) (rest : List ℕ) (d : DescriptionRead eh address extents g) → base + 8 * length eh < 2 ^ 31 → IsBytes eh → d.c.offset ≤ length eh → c.offset ≡ translated_offset base d.c.offset
     → AreRising 0 (map (λ e. e.offset) es) → IsIn c es → CieBack section c g.cie.return_address_register g.initial → Stands section base (record { extent = e; content = Description g }) rest
     → Described section es (translated_extent base (record { extent = e; content = Description g })) g
 unfolding cie_at
-fde_by_cie section eh address base extents es e c g rest d small bytes within place rising there back stands = (
+fde_by_cie section eh address base extents es e c g rest d small bytes within moved rising there back stands = (
   f.fde,
-  (let P : Result Entry FrameFault → Type 0 = λ q. ReadsFde f.fde q in subst P (sym f.read) (checked_as section f.fde (after_cie section back.cie) d.initial d.own ran whole)),
+  (let P : Result Entry FrameFault → Type 0 = λ q. ReadsAs (only f.fde) q in subst P (sym f.read) (checked_as section f.fde (after_cie section back.cie) d.initial d.own ran whole)),
   record {
     range = rw (f.start_is, f.range_is) refl;
     rules = λ at.
@@ -150,16 +142,16 @@ fde_by_cie section eh address base extents es e c g rest d small bytes within pl
     ran : after_cie section back.cie ≡ Ok d.initial
     ran = cie_ran section c g.cie.return_address_register g.initial d.initial back (initial_words eh address g.cie g.initial d.initial bytes d.initial_ran) (initial_rules eh address g.cie g.initial d.initial d.initial_ran)
 
-    found : cie_at section es (place_of base g.cie_offset) ≡ Some c
+    found : cie_at section es (translated_offset base g.cie_offset) ≡ Some c
     found =
-        ap (λ (n : ℕ). cie_at section es n) (ap (place_of base) d.offset ∙ sym place)
+        ap (λ (n : ℕ). cie_at section es n) (ap (translated_offset base) d.offset ∙ sym moved)
         ∙ find_one (λ (x : Extent). x.offset) (λ (x : Extent). is_cie section x) 0 es c rising there back.marked
 
     f : FdeBack section es (translated_extent base (record { extent = e; content = Description g })) g.initial_location g.address_range back.cie g.instructions
-    f = fde_back section es (translated_extent base (record { extent = e; content = Description g })) c (place_of base g.cie_offset) g.initial_location g.address_range back.cie g.instructions
+    f = fde_back section es (translated_extent base (record { extent = e; content = Description g })) c (translated_offset base g.cie_offset) g.initial_location g.address_range back.cie g.instructions
         (let same = d.offset in omega arith) d.start d.range
-        (block_within section (place_of base e.offset) (size_of e) (entry_body base (Description g)) rest stands)
-        (block_body section (place_of base e.offset) (size_of e) (entry_body base (Description g)) rest stands)
+        (block_within section (translated_offset base e.offset) (size_of e) (entry_body base (Description g)) rest stands)
+        (block_body section (translated_offset base e.offset) (size_of e) (entry_body base (Description g)) rest stands)
         found back.is
 
     whole : continued None section f.fde d.initial ≡ Ok d.own
@@ -198,10 +190,10 @@ description_reads section eh address base all extents es e g j is =
 pub record Read (section : List ℕ) (segments : List Segment) (es some : List Extent) (all : List EhEntry) : Type 0 where
   pub reads : List Entry
   pub is : all_ok (map (read_entry section es) some) ≡ Ok reads
-  pub matches : Matches section (filter_map (counted segments) reads) (filter_map (eh_counted segments) all)
+  pub matches : Matches section (filter_map (counted_fde segments) reads) (filter_map (eh_counted segments) all)
 
-matched : (section : List ℕ) (segments : List Segment) (r : Entry) (f : Fde) (g : EhFde) (fs : List Fde) (gs : List EhFde) → CountedAs f (Ok r) → Same section f g → Matches section fs gs
-    → Matches section (cons_option (counted segments r) fs) (cons_option (eh_content_counted segments (Description g)) gs)
+matched : (section : List ℕ) (segments : List Segment) (r : Entry) (f : Fde) (g : EhFde) (fs : List Fde) (gs : List EhFde) → CountsAs (only f) (Ok r) → Same section f g → Matches section fs gs
+    → Matches section (cons_option (counted_fde segments r) fs) (cons_option (eh_content_counted segments (Description g)) gs)
 matched section segments r f g fs gs tells same others = subst P (sym (tells segments ∙ ap (λ (b : Bool). cond b (Some f) None) bits)) (go (counts segments g.initial_location (g.initial_location + g.address_range)))
   where
     P : Option Fde → Type 0
@@ -230,7 +222,7 @@ one_more section segments eh address base all extents es e (Description g) other
     record {
       reads = read.1.0 ∷ more.reads;
       is = cons_ok (read_entry section es (translated_extent base (record { extent = e; content = Description g }))) (map (read_entry section es) (flat_map (extents_in base) others)) read.1.0 more.reads read.1.1 more.is;
-      matches = matched section segments read.1.0 read.0 g (filter_map (counted segments) more.reads) (filter_map (eh_counted segments) others) read.1.2 read.2 more.matches;
+      matches = matched section segments read.1.0 read.0 g (filter_map (counted_fde segments) more.reads) (filter_map (eh_counted segments) others) read.1.2 read.2 more.matches;
     }
 
 pub all_read : (section : List ℕ) (segments : List Segment) (eh : List ℕ) (address base : ℕ) (all : List EhEntry) (extents es : List Extent) (some : List EhEntry) → Joined section eh address base all extents es → ((x : EhEntry) → IsIn x some → IsIn x all)

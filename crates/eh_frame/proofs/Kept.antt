@@ -12,13 +12,14 @@ use Rattle.cfi_table.specs.declared.cie.Cie.{Cie}
 use Rattle.cfi_table.specs.declared.fde.Fde.{Fde}
 use Rattle.elf_image.specs.declared.part.Segment.{Segment}
 use Rattle.elf_image.specs.Image.{counts}
-use Rattle.cfi_table.specs.Instructions.{Reading, word_of, word_of_signed}
+use Rattle.cfi_table.specs.Instructions.{Reading, low_32_bits, word_of_signed}
 use Rattle.cfi_table.specs.Rules.{State}
 use Rattle.cfi_table.specs.Entries.{body_of, register_from, cie_with, cie_from_factors, cie_from_segment, cie_from_sizes, cie_from_augmentation, cie_from}
 use Rattle.cfi_table.specs.Entries.{after_cie, continued, after_fde, is_cie, cie_at, cie_of, checked_cie, checked_fde, fde_fields_from, fde_with, fde_of, fde_by, read_entry}
-use Rattle.cfi_table.specs.Frames.{all_ok, counted, rules_with, rules_of}
+use Rattle.cfi_table.specs.Frames.{all_ok, counted_fde, rules_with, rules_of}
 use Rattle.prof_bytes.proofs.Outcomes.{bind_ok, ok_same}
-use Rattle.eh_frame.proofs.Members.{IsIn, found_in, find_front, ok_cons}
+use Rattle.cfi_table.proofs.AllOk.{ok_cons}
+use Rattle.eh_frame.proofs.Members.{IsIn, found_in, find_front}
 
 -- ---- a CIE's instructions end where it ends
 
@@ -38,7 +39,7 @@ with_ends end code factor register input = go (nat_lt register 32)
   where
     cie : Cie
     cie = record {
-      factors = record { code_alignment_factor = word_of code; data_alignment_factor = word_of_signed factor };
+      factors = record { code_alignment_factor = low_32_bits code; data_alignment_factor = word_of_signed factor };
       return_address_register = register;
       initial_instructions = record { offset = end - length (left_of input.at); end = end };
     }
@@ -111,11 +112,11 @@ abbrev ArgumentOf : {X Y : Type 0} → (X → Y) → Type 0
 ArgumentOf {X = X} f = X
 
 abbrev pub Entry : Type 0
-Entry = ArgumentOf (counted [])
+Entry = ArgumentOf (counted_fde [])
 
 -- an FDE that counts lies in the section
 abbrev pub Inside : List ℕ → Entry → Type 0
-Inside section read = (segments : List Segment) (fde : Fde) → counted segments read ≡ Some fde → FdeIn section fde
+Inside section read = (segments : List Segment) (fde : Fde) → counted_fde segments read ≡ Some fde → FdeIn section fde
 
 pub rules_joined : (section behind : List ℕ) (address : ℕ) (fde : Fde) → FdeIn section fde → rules_of (section ++ behind) address fde ≡ rules_of section address fde
 unfolding rules_of after_fde

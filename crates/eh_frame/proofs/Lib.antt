@@ -1,4 +1,3 @@
-pub mod Chains
 pub mod Listed
 pub mod Entries
 pub mod Bounds
@@ -6,12 +5,12 @@ pub mod ReadBack
 pub mod Runs
 pub mod Words
 pub mod Members
-pub mod Places
+pub mod Offsets
+pub mod Adjoining
 pub mod Kept
 pub mod Described
 pub mod EntriesBack
 pub mod Blocks
-pub mod EhPlaces
 pub mod JoinedReads
 pub mod JoinedFrames
 pub mod Outcomes

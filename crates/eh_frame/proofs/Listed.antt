@@ -1,6 +1,6 @@
 -- Lists of instructions, one more at a time.
-use Rattle.std.proofs.Common.{◌≡◌, ℕ, zero, suc, ◌+◌, ◌*◌, ◌-◌, ◌≤◌, ◌<◌, ◌^◌, Bool, true, false, cond, List, [], ◌∷◌, ◌++◌, length, length-append, length-drop, Option, Some, None, Result, Ok, Err, refl, sym, ap, subst, ◌∙◌, append_assoc, arith}
-use Rattle.std.specs.Prelude.{◌==◌, nat_lt, option_map}
+use Rattle.std.proofs.Common.{◌≡◌, ℕ, zero, suc, ◌+◌, ◌*◌, ◌-◌, ◌≤◌, ◌<◌, ◌^◌, Bool, true, false, cond, List, [], ◌∷◌, ◌++◌, length, length-append, Option, Some, None, Result, Ok, Err, refl, sym, ap, subst, ◌∙◌, append_assoc, arith}
+use Rattle.std.specs.Prelude.{◌==◌, option_map}
 use Rattle.std.specs.List.{flat_map}
 use Rattle.std.proofs.lemmas.Bool.Decides.{nat_tests}
 use Rattle.std.proofs.lemmas.List.{append-nil}
@@ -8,8 +8,7 @@ use Rattle.std.proofs.lemmas.List.Concat.{flat_map-append}
 use Rattle.std.proofs.lemmas.Bool.{eq-eqb}
 use Rattle.prof_bytes.specs.Outcome.{◌>>=◌, FailsBy, Gives, viewed}
 use Rattle.prof_bytes.specs.Reading.{left_of}
-use Rattle.prof_bytes.specs.Number.{number_in}
-use Rattle.prof_bytes.specs.Fields.{Input, taken, number_from}
+use Rattle.prof_bytes.specs.Fields.{Input, number_from}
 use Rattle.prof_bytes.specs.declared.fail.Fail.{Fail}
 use Rattle.prof_bytes.specs.declared.fail.Fail.TheVariants as fails
 use Rattle.prof_bytes.proofs.Tests.{not_zero}
@@ -20,17 +19,21 @@ use Rattle.cfi_table.specs.declared.instruction.CallFrameInstruction.{CallFrameI
 use Rattle.cfi_table.specs.declared.instruction.CallFrameInstruction.TheVariants as instructions
 use Rattle.cfi_table.specs.declared.rules.Rule.{Rule}
 use Rattle.cfi_table.specs.Instructions.{Reading, opcode_then}
-use Rattle.cfi_table.specs.Rules.{State, execute, or_fault, fault_at, no_rules, all_same_value}
+use Rattle.cfi_table.specs.Rules.{State, execute, or_fault, instruction_fault, no_rules, all_same_value}
 use Rattle.cfi_table.specs.Entries.{instructions_of}
 use Rattle.cfi_table.specs.private.Checking.{CfaForms, no_forms, forms_of, execute_forms}
 use Rattle.cfi_table.proofs.Forms.{execute_as_forms}
-use Rattle.cfi_table.proofs.Moves.{Moves, AllMove, stays, binds, number_moves, opcode_moves}
+use Rattle.cfi_table.proofs.Moves.{AllMove, stays, binds, either, number_moves, opcode_moves, behind_byte}
+use Rattle.cfi_table.proofs.Chains.{marked}
+use Rattle.cfi_table.proofs.Runs.{left_shorter}
+use Rattle.prof_bytes.proofs.Outcomes.{bind_ok, ok_same}
 use Rattle.eh_frame.specs.declared.address.Addresses.{Addresses}
 use Rattle.eh_frame.specs.Addresses.{address_from}
 use Rattle.eh_frame.specs.Runs.{eh_instruction_from, eh_step_by, before_all, listed_by, listed_instructions, addresses_of, cie_instructions, fde_instructions}
 use Rattle.eh_frame.specs.declared.cie.EhCie.{EhCie}
 use Rattle.eh_frame.specs.Translation.{encoded}
 use Rattle.eh_frame.specs.private.Checked.{listed_forms, put_behind}
+use Rattle.eh_frame.proofs.Outcomes.{gives_viewed}
 
 -- ---- an instruction takes bytes
 
@@ -40,54 +43,26 @@ address_moves a input = binds input (number_from 4 input) _ (number_moves 4 inpu
 
 pub eh_instruction_moves : (a : Addresses) (f : AlignmentFactors) (input next : Input FrameFault) (i : CallFrameInstruction) → eh_instruction_from a f input ≡ Ok (i, next) → (next.at.whole ≡ input.at.whole) × (input.at.offset < next.at.offset)
 unfolding eh_instruction_from
-eh_instruction_moves a f input next i e = from (nat_lt (length (left_of input.at)) 1) (number_in 1 (left_of input.at)) e
+eh_instruction_moves a f input next i e =
+    behind_byte (λ byte. cond (byte.0 == DW_CFA_set_loc) (address_from a byte.1 >>= λ to. (let r : Reading CallFrameInstruction = Ok (instructions.SetLoc to.0, to.1) in r)) (opcode_then f byte.0 byte.1)) input next i
+    (λ n mid. either mid (n == DW_CFA_set_loc) _ _ (binds mid (address_from a mid) _ (address_moves a mid) (λ to. stays to.1)) (opcode_moves f n mid)) e
+
+-- what a step carried out
+pub step_ran : {S : Type 0} (x : CallFrameInstruction → S → Option S) (a : Addresses) (f : AlignmentFactors) (input next : Input FrameFault) (i : CallFrameInstruction) (s t : S) → eh_step_by x a f input s ≡ Ok ((i, t), next)
+    → (eh_instruction_from a f (marked input) ≡ Ok (i, next)) × (x i s ≡ Some t)
+unfolding eh_step_by
+step_ran {S} x a f input next i s t e = let read = bind_ok (eh_instruction_from a f (marked input)) _ ((i, t), next) e in executed read.0 (x read.0.0 s) read.1 refl read.2
   where
-    ok_is : (x y : CallFrameInstruction × Input FrameFault) → (let r : Reading CallFrameInstruction = Ok x in r) ≡ Ok y → x ≡ y
-    ok_is x y e = cc
-
-    ends : (mid : Input FrameFault) (r : Reading CallFrameInstruction) → r ≡ Ok (i, next) → AllMove mid r → Moves mid next
-    ends mid (Err fault) e moves = absurd cc
-    ends mid (Ok x) e moves = let P : CallFrameInstruction × Input FrameFault → Type 0 = λ y. Moves mid y.1 in subst P (ok_is x (i, next) e) moves
-
-    by : (b : Bool) (n : ℕ) (mid : Input FrameFault) → AllMove mid (cond b (address_from a mid >>= λ to. (let r : Reading CallFrameInstruction = Ok (instructions.SetLoc to.0, to.1) in r)) (opcode_then f n mid))
-    by true n mid = binds mid (address_from a mid) _ (address_moves a mid) (λ to. stays to.1)
-    by false n mid = opcode_moves f n mid
-
-    from : (b : Bool) (n : ℕ)
-        → (taken input (cond b None (Some (n, 1))) >>= λ byte. cond (byte.0 == DW_CFA_set_loc) (address_from a byte.1 >>= λ to. (let r : Reading CallFrameInstruction = Ok (instructions.SetLoc to.0, to.1) in r)) (opcode_then f byte.0 byte.1)) ≡ Ok (i, next)
-        → (next.at.whole ≡ input.at.whole) × (input.at.offset < next.at.offset)
-    from true n e = absurd cc
-    from false n e =
-        let mid : Input FrameFault = record { at = record { whole = input.at.whole; offset = input.at.offset + 1 }; missing = input.missing } in
-        let m = ends mid _ e (by (n == DW_CFA_set_loc) n mid) in
-        (m.whole, let le = m.offset in omega arith)
+    executed : (j : CallFrameInstruction × Input FrameFault) (o : Option S) → eh_instruction_from a f (marked input) ≡ Ok j → x j.0 s ≡ o
+        → (or_fault (instruction_fault input) o >>= λ u. (let r : Reading (CallFrameInstruction × S) = Ok ((j.0, u), j.1) in r)) ≡ Ok ((i, t), next) → (eh_instruction_from a f (marked input) ≡ Ok (i, next)) × (x i s ≡ Some t)
+    executed j None read ran e = absurd cc
+    executed j (Some u) read ran e =
+        let P : (CallFrameInstruction × S) × Input FrameFault → Type 0 = λ p. (eh_instruction_from a f (marked input) ≡ Ok (p.0.0, p.1)) × (x p.0.0 s ≡ Some p.0.1) in
+        subst P (ok_same {F = FrameFault} ((j.0, u), j.1) ((i, t), next) e) (read, ran)
 
 pub step_moves : {S : Type 0} (x : CallFrameInstruction → S → Option S) (a : Addresses) (f : AlignmentFactors) (input next : Input FrameFault) (i : CallFrameInstruction) (s t : S) → eh_step_by x a f input s ≡ Ok ((i, t), next)
     → (next.at.whole ≡ input.at.whole) × (input.at.offset < next.at.offset)
-unfolding eh_step_by
-step_moves {S} x a f input next i s t e = decoded (eh_instruction_from a f here) refl e
-  where
-    here : Input FrameFault
-    here = record input { missing = fault_at input }
-
-    behind_it : CallFrameInstruction × Input FrameFault → S → Reading (CallFrameInstruction × S)
-    behind_it j u = Ok ((j.0, u), j.1)
-
-    pair_is : (p q : (CallFrameInstruction × S) × Input FrameFault) → (let r : Reading (CallFrameInstruction × S) = Ok p in r) ≡ Ok q → p.1 ≡ q.1
-    pair_is p q e = cc
-
-    executed : (j : CallFrameInstruction × Input FrameFault) (o : Option S) → (or_fault (fault_at input) o >>= behind_it j) ≡ Ok ((i, t), next) → j.1 ≡ next
-    executed j None e = absurd cc
-    executed j (Some u) e = pair_is ((j.0, u), j.1) ((i, t), next) e
-
-    decoded : (r : Reading CallFrameInstruction) → eh_instruction_from a f here ≡ r → (r >>= λ j. or_fault (fault_at input) (x j.0 s) >>= behind_it j) ≡ Ok ((i, t), next) → (next.at.whole ≡ input.at.whole) × (input.at.offset < next.at.offset)
-    decoded (Err fault) is e = absurd cc
-    decoded (Ok j) is e = eh_instruction_moves a f here next j.0 (is ∙ ap (λ (n : Input FrameFault). Ok (j.0, n)) (executed j (x j.0 s) e))
-
-left_shorter : (input next : Input FrameFault) → next.at.whole ≡ input.at.whole → input.at.offset < next.at.offset → 0 < length (left_of input.at) → length (left_of next.at) < length (left_of input.at)
-left_shorter input next same lt some =
-    let len : length next.at.whole ≡ length input.at.whole = ap (λ (xs : List ℕ). length xs) same in
-    omega (arith, length-drop input.at.offset input.at.whole, length-drop next.at.offset next.at.whole)
+step_moves x a f input next i s t e = eh_instruction_moves a f (marked input) next i (step_ran x a f input next i s t e).0
 
 pub shortens : {S : Type 0} (x : CallFrameInstruction → S → Option S) (a : Addresses) (f : AlignmentFactors) (input next : Input FrameFault) (i : CallFrameInstruction) (s t : S) → 0 < length (left_of input.at) → eh_step_by x a f input s ≡ Ok ((i, t), next)
     → length (left_of next.at) < length (left_of input.at)
@@ -191,26 +166,26 @@ ends_here x a f first input s0 s out0 out none kept =
     ∙ ap (λ (is : List CallFrameInstruction). Ok (out0 ++ flat_map encoded is, s)) (append-nil kept.done)
     ∙ ap (λ (bs : List ℕ). Ok (bs, s)) (sym kept.put)
 
--- ---- at most seven bytes an instruction
+-- ---- from one to seven bytes an instruction
 
-seven : (i : CallFrameInstruction) → length (encoded i) ≤ 7
-seven instructions.Nop = omega arith
-seven (instructions.SetLoc address) = omega arith
-seven (instructions.AdvanceLoc delta) = omega arith
-seven (instructions.DefCfa register offset) = omega arith
-seven (instructions.DefCfaRegister register) = omega arith
-seven (instructions.DefCfaOffset offset) = omega arith
-seven instructions.DefCfaExpression = omega arith
-seven (instructions.Undefined register) = omega arith
-seven (instructions.SameValue register) = omega arith
-seven (instructions.Offset register offset) = omega arith
-seven (instructions.ValOffset register offset) = omega arith
-seven (instructions.Register register source) = omega arith
-seven (instructions.Expression register) = omega arith
-seven (instructions.ValExpression register) = omega arith
-seven (instructions.Restore register) = omega arith
-seven instructions.RememberState = omega arith
-seven instructions.RestoreState = omega arith
+pub few : (i : CallFrameInstruction) → (0 < length (encoded i)) × (length (encoded i) ≤ 7)
+few instructions.Nop = (omega arith, omega arith)
+few (instructions.SetLoc address) = (omega arith, omega arith)
+few (instructions.AdvanceLoc delta) = (omega arith, omega arith)
+few (instructions.DefCfa register offset) = (omega arith, omega arith)
+few (instructions.DefCfaRegister register) = (omega arith, omega arith)
+few (instructions.DefCfaOffset offset) = (omega arith, omega arith)
+few instructions.DefCfaExpression = (omega arith, omega arith)
+few (instructions.Undefined register) = (omega arith, omega arith)
+few (instructions.SameValue register) = (omega arith, omega arith)
+few (instructions.Offset register offset) = (omega arith, omega arith)
+few (instructions.ValOffset register offset) = (omega arith, omega arith)
+few (instructions.Register register source) = (omega arith, omega arith)
+few (instructions.Expression register) = (omega arith, omega arith)
+few (instructions.ValExpression register) = (omega arith, omega arith)
+few (instructions.Restore register) = (omega arith, omega arith)
+few instructions.RememberState = (omega arith, omega arith)
+few instructions.RestoreState = (omega arith, omega arith)
 
 abbrev pub Short : {S : Type 0} → Input FrameFault → Result (List CallFrameInstruction × S) FrameFault → Type 0
 Short input (Ok r) = length (flat_map encoded r.0) ≤ 7 * length (left_of input.at)
@@ -224,7 +199,7 @@ listed_short {S} x (suc m) a f input s = go (length (left_of input.at) == 0) ref
     one : (i : CallFrameInstruction) (next : Input FrameFault) (r : Result (List CallFrameInstruction × S) FrameFault) → length (left_of next.at) < length (left_of input.at) → Short next r → Short input (before_all i r)
     one i next (Err fault) less short = tt
     one i next (Ok r) less short =
-        let few = seven i in
+        let most = (few i).1 in
         let both : length (encoded i ++ flat_map encoded r.0) ≡ length (encoded i) + length (flat_map encoded r.0) = length-append (encoded i) (flat_map encoded r.0) in
         omega arith
 
@@ -265,7 +240,7 @@ forms_list r = (r.0, forms_of r.1)
 
 step_as_forms : (initial : List Rule) (a : Addresses) (f : AlignmentFactors) (input : Input FrameFault) (s : State) → viewed forms_step (eh_step_by (execute initial) a f input s) ≡ eh_step_by execute_forms a f input (forms_of s)
 unfolding eh_step_by
-step_as_forms initial a f input s = decoded (eh_instruction_from a f (record input { missing = fault_at input }))
+step_as_forms initial a f input s = decoded (eh_instruction_from a f (record input { missing = instruction_fault input }))
   where
     after : CallFrameInstruction × Input FrameFault → State → Reading (CallFrameInstruction × State)
     after j t = Ok ((j.0, t), j.1)
@@ -273,14 +248,14 @@ step_as_forms initial a f input s = decoded (eh_instruction_from a f (record inp
     after_forms : CallFrameInstruction × Input FrameFault → CfaForms → Reading (CallFrameInstruction × CfaForms)
     after_forms j k = Ok ((j.0, k), j.1)
 
-    executed : (j : CallFrameInstruction × Input FrameFault) (o : Option State) → viewed forms_step (or_fault (fault_at input) o >>= after j) ≡ (or_fault (fault_at input) (option_map forms_of o) >>= after_forms j)
+    executed : (j : CallFrameInstruction × Input FrameFault) (o : Option State) → viewed forms_step (or_fault (instruction_fault input) o >>= after j) ≡ (or_fault (instruction_fault input) (option_map forms_of o) >>= after_forms j)
     executed j None = refl
     executed j (Some t) = refl
 
     decoded : (r : Reading CallFrameInstruction)
-        → viewed forms_step (r >>= λ j. or_fault (fault_at input) (execute initial j.0 s) >>= after j) ≡ (r >>= λ j. or_fault (fault_at input) (execute_forms j.0 (forms_of s)) >>= after_forms j)
+        → viewed forms_step (r >>= λ j. or_fault (instruction_fault input) (execute initial j.0 s) >>= after j) ≡ (r >>= λ j. or_fault (instruction_fault input) (execute_forms j.0 (forms_of s)) >>= after_forms j)
     decoded (Err fault) = refl
-    decoded (Ok j) = executed j (execute initial j.0 s) ∙ ap (λ (o : Option CfaForms). or_fault (fault_at input) o >>= after_forms j) (execute_as_forms initial j.0 s)
+    decoded (Ok j) = executed j (execute initial j.0 s) ∙ ap (λ (o : Option CfaForms). or_fault (instruction_fault input) o >>= after_forms j) (execute_as_forms initial j.0 s)
 
 pub list_as_forms : (m : ℕ) (initial : List Rule) (a : Addresses) (f : AlignmentFactors) (input : Input FrameFault) (s : State) → viewed forms_list (listed_by (execute initial) m a f input s) ≡ listed_by execute_forms m a f input (forms_of s)
 unfolding listed_by
@@ -329,34 +304,25 @@ ends_as_forms initial a f input s out p e = from (listed_instructions initial a 
 
 -- ---- what the checker puts, as the definitions have it
 
-pub put_fails : (initial : List Rule) (a : Addresses) (f : AlignmentFactors) (input : Input FrameFault) (s : State) (out : List ℕ) (fail : Fail FrameFault) → FailsBy fail (viewed (put_behind out) (listed_forms a f input (forms_of s)))
-    → FailsBy fail (viewed (λ (r : List CallFrameInstruction × State). out ++ flat_map encoded r.0) (listed_instructions initial a f input s))
-put_fails initial a f input s out (fails.Memory memory) e = tt
-put_fails initial a f input s out (fails.Fault fault) e = put_as_forms initial a f input s out ∙ ap (λ (r : Result (List ℕ × CfaForms) FrameFault). viewed (λ (p : List ℕ × CfaForms). p.0) r) e
-
-pub put_gives : (initial : List Rule) (a : Addresses) (f : AlignmentFactors) (input : Input FrameFault) (s : State) (out : List ℕ) (p : List ℕ × CfaForms) → viewed (put_behind out) (listed_forms a f input (forms_of s)) ≡ Ok p
-    → viewed (λ (r : List CallFrameInstruction × State). out ++ flat_map encoded r.0) (listed_instructions initial a f input s) ≡ Ok p.0
-put_gives initial a f input s out p e = put_as_forms initial a f input s out ∙ ap (λ (r : Result (List ℕ × CfaForms) FrameFault). viewed (λ (p : List ℕ × CfaForms). p.0) r) e
+put_seen : (initial : List Rule) (a : Addresses) (f : AlignmentFactors) (input : Input FrameFault) (s : State) (out after : List ℕ) (k : CfaForms) (r : Result (Unit {0}) (Fail FrameFault)) → Gives (λ done. (after, k)) r (viewed (put_behind out) (listed_forms a f input (forms_of s)))
+    → Gives (λ done. after) r (viewed (λ (r : List CallFrameInstruction × State). out ++ flat_map encoded r.0) (listed_instructions initial a f input s))
+put_seen initial a f input s out after k r e =
+    let P : Result (List ℕ) FrameFault → Type 0 = λ w. Gives (λ (done : Unit {0}). after) r w in
+    subst P (sym (put_as_forms initial a f input s out))
+    (gives_viewed (λ (done : Unit {0}). (after, k)) (λ (p : List ℕ × CfaForms). p.0) r (viewed (put_behind out) (listed_forms a f input (forms_of s))) e)
 
 pub own_gives : (address : ℕ) (cie : EhCie) (start : ℕ) (input : Input FrameFault) (initial : State) (k0 k : CfaForms) (out after : List ℕ) (r : Result (Unit {0}) (Fail FrameFault)) → k0 ≡ forms_of initial
     → Gives (λ done. (after, k)) r (viewed (put_behind out) (listed_forms (addresses_of address cie) cie.factors input k0))
     → Gives (λ done. after) r (viewed (λ (r : List CallFrameInstruction × State). out ++ flat_map encoded r.0) (fde_instructions address cie start input initial))
-own_gives address cie start input initial k0 k out after (Ok done) same e =
-    let P : CfaForms → Type 0 = λ x. viewed (put_behind out) (listed_forms (addresses_of address cie) cie.factors input x) ≡ Ok (after, k) in
-    put_gives initial.regs (addresses_of address cie) cie.factors input (record initial { location = start }) out (after, k) (subst P same e)
-own_gives address cie start input initial k0 k out after (Err fail) same e =
-    let P : CfaForms → Type 0 = λ x. FailsBy fail (viewed (put_behind out) (listed_forms (addresses_of address cie) cie.factors input x)) in
-    put_fails initial.regs (addresses_of address cie) cie.factors input (record initial { location = start }) out fail (subst P same e)
+own_gives address cie start input initial k0 k out after r same e =
+    let P : CfaForms → Type 0 = λ x. Gives (λ (done : Unit {0}). (after, k)) r (viewed (put_behind out) (listed_forms (addresses_of address cie) cie.factors input x)) in
+    put_seen initial.regs (addresses_of address cie) cie.factors input (record initial { location = start }) out after k r (subst P same e)
 
-pub cie_fails : (section : List ℕ) (address : ℕ) (cie : EhCie) (out : List ℕ) (fail : Fail FrameFault) → FailsBy fail (viewed (put_behind out) (listed_forms (addresses_of address cie) cie.factors (instructions_of section cie.initial_instructions) no_forms))
-    → FailsBy fail (viewed (λ (r : List CallFrameInstruction × State). out ++ flat_map encoded r.0) (cie_instructions section address cie))
+pub cie_gives : (section : List ℕ) (address : ℕ) (cie : EhCie) (out after : List ℕ) (k : CfaForms) (r : Result (Unit {0}) (Fail FrameFault))
+    → Gives (λ done. (after, k)) r (viewed (put_behind out) (listed_forms (addresses_of address cie) cie.factors (instructions_of section cie.initial_instructions) no_forms))
+    → Gives (λ done. after) r (viewed (λ (r : List CallFrameInstruction × State). out ++ flat_map encoded r.0) (cie_instructions section address cie))
 unfolding cie_instructions
-cie_fails section address cie out fail e = put_fails all_same_value (addresses_of address cie) cie.factors (instructions_of section cie.initial_instructions) no_rules out fail e
-
-pub cie_gives : (section : List ℕ) (address : ℕ) (cie : EhCie) (out : List ℕ) (p : List ℕ × CfaForms) → viewed (put_behind out) (listed_forms (addresses_of address cie) cie.factors (instructions_of section cie.initial_instructions) no_forms) ≡ Ok p
-    → viewed (λ (r : List CallFrameInstruction × State). out ++ flat_map encoded r.0) (cie_instructions section address cie) ≡ Ok p.0
-unfolding cie_instructions
-cie_gives section address cie out p e = put_gives all_same_value (addresses_of address cie) cie.factors (instructions_of section cie.initial_instructions) no_rules out p e
+cie_gives section address cie out after k r e = put_seen all_same_value (addresses_of address cie) cie.factors (instructions_of section cie.initial_instructions) no_rules out after k r e
 
 pub cie_ends : (section : List ℕ) (address : ℕ) (cie : EhCie) (out : List ℕ) (p : List ℕ × CfaForms) → viewed (put_behind out) (listed_forms (addresses_of address cie) cie.factors (instructions_of section cie.initial_instructions) no_forms) ≡ Ok p
     → (r : List CallFrameInstruction × State) × (cie_instructions section address cie ≡ Ok r) × (p.1 ≡ forms_of r.1)

@@ -3,10 +3,10 @@ use Rattle.std.proofs.Common.{◌≡◌, ℕ, ◌+◌, ◌≤◌, ◌<◌, Bool,
 use Rattle.std.specs.Prelude.{◌⊎◌, ◌==◌, ◌&&◌, find}
 use Rattle.std.specs.List.{flat_map, filter_map, cons_option}
 use Rattle.std.proofs.lemmas.Bool.Decides.{nat_tests}
-use Rattle.prof_bytes.specs.Outcome.{◌>>=◌}
-use Rattle.prof_bytes.proofs.Outcomes.{bind_ok, ok_same}
+use Rattle.prof_bytes.proofs.Outcomes.{ok_same}
 use Rattle.cfi_table.specs.Frames.{all_ok}
 use Rattle.cfi_table.specs.private.Placed.{AreRising}
+use Rattle.cfi_table.proofs.AllOk.{ok_cons}
 
 -- ---- elements
 
@@ -71,12 +71,6 @@ find_front {X} p q (y ∷ xs) ys x same e = go (p y) refl e (λ f. find_front p 
 
 -- ---- results
 
-pub ok_cons : {X F : Type 0} (r : Result X F) (rs : List (Result X F)) (all : List X) → all_ok (r ∷ rs) ≡ Ok all → (x : X) × (xs : List X) × (r ≡ Ok x) × (all_ok rs ≡ Ok xs) × (all ≡ x ∷ xs)
-ok_cons {X} {F} r rs all e =
-    let first = bind_ok r (λ x. all_ok rs >>= λ xs. (let u : Result (List X) F = Ok (x ∷ xs) in u)) all e in
-    let others = bind_ok (all_ok rs) (λ xs. (let u : Result (List X) F = Ok (first.0 ∷ xs) in u)) all first.2 in
-    (first.0, others.0, first.1, others.1, sym (ok_same {F = F} (first.0 ∷ others.0) all others.2))
-
 pub ok_in : {X Y F : Type 0} (g : X → Result Y F) (xs : List X) (all : List Y) (x : X) → all_ok (map g xs) ≡ Ok all → IsIn x xs → (y : Y) × (g x ≡ Ok y) × IsIn y all
 ok_in g [] all x e is = absurd is
 ok_in {X} {Y} {F} g (z ∷ xs) all x e (inl same) =
@@ -101,27 +95,6 @@ ok_of {X} {Y} {F} g (z ∷ xs) all y e is =
     go : (w : Y) (ws : List Y) → g z ≡ Ok w → IsIn y (w ∷ ws) → (IsIn y ws → (x : X) × IsIn x xs × (g x ≡ Ok y)) → (x : X) × IsIn x (z ∷ xs) × (g x ≡ Ok y)
     go w ws made (inl same) again = (z, inl refl, made ∙ ap (λ (v : Y). Ok v) same)
     go w ws made (inr is) again = let more = again is in (more.0, inr more.1, more.2)
-
-pub cons_ok : {X F : Type 0} (r : Result X F) (rs : List (Result X F)) (x : X) (xs : List X) → r ≡ Ok x → all_ok rs ≡ Ok xs → all_ok (r ∷ rs) ≡ Ok (x ∷ xs)
-cons_ok {X} {F} r rs x xs e f =
-    ap (λ (q : Result X F). q >>= λ y. all_ok rs >>= λ ys. (let u : Result (List X) F = Ok (y ∷ ys) in u)) e
-    ∙ ap (λ (q : Result (List X) F). q >>= λ ys. (let u : Result (List X) F = Ok (x ∷ ys) in u)) f
-
-pub ok_append : {X F : Type 0} (rs ss : List (Result X F)) (xs ys : List X) → all_ok rs ≡ Ok xs → all_ok ss ≡ Ok ys → all_ok (rs ++ ss) ≡ Ok (xs ++ ys)
-ok_append {X} {F} [] ss xs ys e f =
-    let P : List X → Type 0 = λ zs. all_ok ss ≡ Ok (zs ++ ys) in
-    subst P (ok_same {F = F} [] xs e) f
-ok_append {X} {F} (r ∷ rs) ss xs ys e f =
-    let parts = ok_cons r rs xs e in
-    let P : List X → Type 0 = λ zs. all_ok ((r ∷ rs) ++ ss) ≡ Ok (zs ++ ys) in
-    subst P (sym parts.4) (cons_ok r (rs ++ ss) parts.0 (parts.1 ++ ys) parts.2 (ok_append rs ss parts.1 ys parts.3 f))
-
-pub ok_parts : {X F : Type 0} (rs ss : List (Result X F)) (all : List X) → all_ok (rs ++ ss) ≡ Ok all → (xs : List X) × (ys : List X) × (all_ok rs ≡ Ok xs) × (all_ok ss ≡ Ok ys) × (all ≡ xs ++ ys)
-ok_parts [] ss all e = ([], all, refl, e, refl)
-ok_parts {X} {F} (r ∷ rs) ss all e =
-    let parts = ok_cons r (rs ++ ss) all e in
-    let more = ok_parts rs ss parts.1 parts.3 in
-    (parts.0 ∷ more.0, more.1, cons_ok r rs parts.0 more.0 parts.2 more.2, more.3, parts.4 ∙ ap (λ (zs : List X). parts.0 ∷ zs) more.4)
 
 -- ---- what a filter leaves
 

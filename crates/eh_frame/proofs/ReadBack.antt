@@ -1,8 +1,9 @@
 -- Instructions that were written read back as those that were meant.
-use Rattle.std.proofs.Common.{◌≡◌, ℕ, zero, suc, ◌+◌, ◌*◌, ◌/◌, ◌%◌, ◌^◌, ◌<◌, true, false, List, [], ◌∷◌, ◌++◌, length, length-append, drop, Ok, refl, sym, ap, ◌∙◌, arith}
+use Rattle.std.proofs.Common.{◌≡◌, ℕ, zero, suc, ◌+◌, ◌*◌, ◌/◌, ◌%◌, ◌^◌, ◌<◌, true, false, List, [], ◌∷◌, ◌++◌, length, length-append, drop, Ok, refl, sym, ap, subst, ◌∙◌, arith}
 use Rattle.std.specs.Prelude.{nat_lt}
 use Rattle.std.proofs.lemmas.Bool.Decides.{nat_tests}
 use Rattle.byteorder.specs.Numbers.{little_from-bytes}
+use Rattle.prof_bytes.specs.Outcome.{◌>>=◌}
 use Rattle.prof_bytes.specs.Number.{number_bytes, number_in, number_at}
 use Rattle.prof_bytes.specs.Leb.{is_last, uleb_at}
 use Rattle.prof_bytes.specs.Reading.{left_of, moved}
@@ -10,9 +11,9 @@ use Rattle.prof_bytes.specs.Fields.{Input, taken, number_from, uleb_from}
 use Rattle.cfi_table.specs.declared.fault.FrameFault.{FrameFault}
 use Rattle.cfi_table.specs.declared.instruction.CallFrameInstruction.{CallFrameInstruction}
 use Rattle.cfi_table.specs.declared.instruction.CallFrameInstruction.TheVariants as instructions
-use Rattle.cfi_table.specs.Instructions.{word_of, scaled, offset_from, factored_from, block_from, cfa_from, rule_from, register_rule_from, extended_from, opcode_then, instruction_from}
+use Rattle.cfi_table.specs.Instructions.{Reading, low_32_bits, scaled, offset_from, factored_from, block_from, cfa_from, rule_from, register_rule_from, extended_from, opcode_then, instruction_from}
 use Rattle.eh_frame.specs.Translation.{register_byte, offset_bytes, encoded}
-use Rattle.eh_frame.specs.Laws.{HasWordOperands, kept_register, Reads, InstructionsReadBack}
+use Rattle.eh_frame.specs.Laws.{ones, HasWordOperands, kept_register, Reads, InstructionsReadBack}
 
 -- ---- an input further on
 
@@ -72,153 +73,86 @@ offset_read input n rest small is =
     let fits : nat_lt n (2 ^ 64) ≡ true = grind (arith, nat_tests) in
     ap (λ (xs : List ℕ). taken input (uleb_at xs)) is ∙ (rw (a, b, c, d, e, there, value, fits) refl)
 
--- ---- instructions
+-- ---- operands
 
-register_small : (register : ℕ) → register_byte register < 128
-register_small register = omega arith
+-- the reader gives that number, and these bytes are left
+abbrev Finds : (Input FrameFault → Reading ℕ) → Input FrameFault → ℕ → List ℕ → Type 0
+Finds reader input n rest = (next : Input FrameFault) × (reader input ≡ Ok (n, next)) × (left_of next.at ≡ rest)
+
+word_found : (input : Input FrameFault) (n : ℕ) (rest : List ℕ) → n < 2 ^ 32 → left_of input.at ≡ number_bytes 4 n ++ rest → Finds (λ i. number_from 4 i) input n rest
+word_found input n rest small is = (on 4 input, word_read input n rest small is, behind input (number_bytes 4 n) rest is)
+
+-- a register's byte
+register_found : (input : Input FrameFault) (register : ℕ) (rest : List ℕ) → left_of input.at ≡ register_byte register ∷ rest → Finds uleb_from input (register_byte register) rest
+register_found input register rest is = (on 1 input, register_read input (register_byte register) rest (omega arith) is, behind input (register_byte register ∷ []) rest is)
+
+offset_found : (input : Input FrameFault) (n : ℕ) (rest : List ℕ) → n < 2 ^ 32 → left_of input.at ≡ offset_bytes n ++ rest → Finds offset_from input n rest
+unfolding offset_from
+offset_found input n rest small is =
+    let same : low_32_bits n ≡ n = omega arith in
+    (on 5 input, rw (offset_read input n rest small is, same) refl, behind input (offset_bytes n) rest is)
+
+factored_found : (input : Input FrameFault) (n : ℕ) (rest : List ℕ) → n < 2 ^ 32 → left_of input.at ≡ offset_bytes n ++ rest → Finds (factored_from ones) input n rest
+unfolding factored_from
+factored_found input n rest small is =
+    let same : scaled (low_32_bits n) 1 ≡ n = omega arith in
+    (on 5 input, rw (offset_read input n rest small is, same) refl, behind input (offset_bytes n) rest is)
+
+-- an empty block
+block_found : (input : Input FrameFault) (rest : List ℕ) → left_of input.at ≡ 0 ∷ rest → Finds block_from input 0 rest
+unfolding block_from
+block_found input rest is =
+    let none : nat_lt (length (left_of (on 1 input).at)) 0 ≡ false = grind (arith, nat_tests) in
+    (on 0 (on 1 input), rw (register_read input 0 rest (omega arith) is, none) refl, behind (on 1 input) [] rest (behind input (0 ∷ []) rest is))
+
+-- ---- instructions, by their operands
 
 abbrev second : Input FrameFault → Input FrameFault
 second input = on 1 input
 
--- an opcode alone
-nop_read : (input : Input FrameFault) (rest : List ℕ) → left_of input.at ≡ 0 ∷ rest → Reads instructions.Nop input rest
-unfolding instruction_from opcode_then extended_from
-nop_read input rest is = (on 1 input, rw (byte_read input 0 rest is) refl, behind input (0 ∷ []) rest is)
+alone : (op : ℕ) (i : CallFrameInstruction) (input : Input FrameFault) (rest : List ℕ) → left_of input.at ≡ op ∷ rest → opcode_then ones op (second input) ≡ Ok (i, second input) → Reads i input rest
+unfolding instruction_from
+alone op i input rest is then = (second input, rw (byte_read input op rest is, then) refl, behind input (op ∷ []) rest is)
 
-remember_read : (input : Input FrameFault) (rest : List ℕ) → left_of input.at ≡ 10 ∷ rest → Reads instructions.RememberState input rest
-unfolding instruction_from opcode_then extended_from
-remember_read input rest is = (on 1 input, rw (byte_read input 10 rest is) refl, behind input (10 ∷ []) rest is)
+with_one : (op n : ℕ) (make : ℕ → CallFrameInstruction) (reader : Input FrameFault → Reading ℕ) (input : Input FrameFault) (tail rest : List ℕ) → left_of input.at ≡ op ∷ tail
+    → opcode_then ones op (second input) ≡ (reader (second input) >>= λ o. (let u : Reading CallFrameInstruction = Ok (make o.0, o.1) in u))
+    → (left_of (second input).at ≡ tail → Finds reader (second input) n rest) → Reads (make n) input rest
+unfolding instruction_from
+with_one op n make reader input tail rest is then finds =
+    let found = finds (behind input (op ∷ []) tail is) in
+    (found.0, rw (byte_read input op tail is, then, found.1) refl, found.2)
 
-restore_state_read : (input : Input FrameFault) (rest : List ℕ) → left_of input.at ≡ 11 ∷ rest → Reads instructions.RestoreState input rest
-unfolding instruction_from opcode_then extended_from
-restore_state_read input rest is = (on 1 input, rw (byte_read input 11 rest is) refl, behind input (11 ∷ []) rest is)
-
--- a word behind it
-set_loc_read : (address : ℕ) (input : Input FrameFault) (rest : List ℕ) → address < 2 ^ 32 → left_of input.at ≡ 1 ∷ number_bytes 4 address ++ rest → Reads (instructions.SetLoc address) input rest
-unfolding instruction_from opcode_then extended_from
-set_loc_read address input rest small is =
-    let then = behind input (1 ∷ []) (number_bytes 4 address ++ rest) is in
-    (on 4 (second input), rw (byte_read input 1 (number_bytes 4 address ++ rest) is, word_read (second input) address rest small then) refl, behind (second input) (number_bytes 4 address) rest then)
-
-advance_read : (delta : ℕ) (input : Input FrameFault) (rest : List ℕ) → delta < 2 ^ 32 → left_of input.at ≡ 4 ∷ number_bytes 4 delta ++ rest → Reads (instructions.AdvanceLoc delta) input rest
-unfolding instruction_from opcode_then extended_from
-advance_read delta input rest small is =
-    let then = behind input (4 ∷ []) (number_bytes 4 delta ++ rest) is in
-    let same : delta * 1 % 2 ^ 32 ≡ delta = omega arith in
-    (on 4 (second input), rw (byte_read input 4 (number_bytes 4 delta ++ rest) is, word_read (second input) delta rest small then, same) refl, behind (second input) (number_bytes 4 delta) rest then)
-
--- a register behind it
-def_cfa_register_read : (b : ℕ) (input : Input FrameFault) (rest : List ℕ) → b < 128 → left_of input.at ≡ 13 ∷ b ∷ rest → Reads (instructions.DefCfaRegister b) input rest
-unfolding instruction_from opcode_then extended_from cfa_from
-def_cfa_register_read b input rest small is =
-    let then = behind input (13 ∷ []) (b ∷ rest) is in
-    (on 1 (second input), rw (byte_read input 13 (b ∷ rest) is, register_read (second input) b rest small then) refl, behind (second input) (b ∷ []) rest then)
-
-undefined_read : (b : ℕ) (input : Input FrameFault) (rest : List ℕ) → b < 128 → left_of input.at ≡ 7 ∷ b ∷ rest → Reads (instructions.Undefined b) input rest
-unfolding instruction_from opcode_then extended_from register_rule_from rule_from
-undefined_read b input rest small is =
-    let then = behind input (7 ∷ []) (b ∷ rest) is in
-    (on 1 (second input), rw (byte_read input 7 (b ∷ rest) is, register_read (second input) b rest small then) refl, behind (second input) (b ∷ []) rest then)
-
-same_value_read : (b : ℕ) (input : Input FrameFault) (rest : List ℕ) → b < 128 → left_of input.at ≡ 8 ∷ b ∷ rest → Reads (instructions.SameValue b) input rest
-unfolding instruction_from opcode_then extended_from register_rule_from rule_from
-same_value_read b input rest small is =
-    let then = behind input (8 ∷ []) (b ∷ rest) is in
-    (on 1 (second input), rw (byte_read input 8 (b ∷ rest) is, register_read (second input) b rest small then) refl, behind (second input) (b ∷ []) rest then)
-
-restore_read : (b : ℕ) (input : Input FrameFault) (rest : List ℕ) → b < 128 → left_of input.at ≡ 6 ∷ b ∷ rest → Reads (instructions.Restore b) input rest
-unfolding instruction_from opcode_then extended_from
-restore_read b input rest small is =
-    let then = behind input (6 ∷ []) (b ∷ rest) is in
-    (on 1 (second input), rw (byte_read input 6 (b ∷ rest) is, register_read (second input) b rest small then) refl, behind (second input) (b ∷ []) rest then)
-
--- two registers
-register_copy_read : (b c : ℕ) (input : Input FrameFault) (rest : List ℕ) → b < 128 → c < 128 → left_of input.at ≡ 9 ∷ b ∷ c ∷ rest → Reads (instructions.Register b c) input rest
-unfolding instruction_from opcode_then extended_from register_rule_from rule_from
-register_copy_read b c input rest small low is =
-    let then = behind input (9 ∷ []) (b ∷ c ∷ rest) is in
-    let last = behind (second input) (b ∷ []) (c ∷ rest) then in
-    (on 1 (on 1 (second input)), rw (byte_read input 9 (b ∷ c ∷ rest) is, register_read (second input) b (c ∷ rest) small then, register_read (on 1 (second input)) c rest low last) refl, behind (on 1 (second input)) (c ∷ []) rest last)
-
--- a register and an offset
-word_is : (n : ℕ) → n < 2 ^ 32 → word_of n ≡ n
-word_is n small = omega arith
-
-scaled_is : (n : ℕ) → n < 2 ^ 32 → scaled (word_of n) 1 ≡ n
-scaled_is n small = omega arith
-
-def_cfa_read : (b n : ℕ) (input : Input FrameFault) (rest : List ℕ) → b < 128 → n < 2 ^ 32 → left_of input.at ≡ 12 ∷ b ∷ offset_bytes n ++ rest → Reads (instructions.DefCfa b n) input rest
-unfolding instruction_from opcode_then extended_from cfa_from offset_from
-def_cfa_read b n input rest small word is =
-    let then = behind input (12 ∷ []) (b ∷ offset_bytes n ++ rest) is in
-    let last = behind (second input) (b ∷ []) (offset_bytes n ++ rest) then in
-    (on 5 (on 1 (second input)), rw (byte_read input 12 (b ∷ offset_bytes n ++ rest) is, register_read (second input) b (offset_bytes n ++ rest) small then, offset_read (on 1 (second input)) n rest word last, word_is n word) refl, behind (on 1 (second input)) (offset_bytes n) rest last)
-
-offset_rule_read : (b n : ℕ) (input : Input FrameFault) (rest : List ℕ) → b < 128 → n < 2 ^ 32 → left_of input.at ≡ 5 ∷ b ∷ offset_bytes n ++ rest → Reads (instructions.Offset b n) input rest
-unfolding instruction_from opcode_then extended_from register_rule_from rule_from factored_from
-offset_rule_read b n input rest small word is =
-    let then = behind input (5 ∷ []) (b ∷ offset_bytes n ++ rest) is in
-    let last = behind (second input) (b ∷ []) (offset_bytes n ++ rest) then in
-    (on 5 (on 1 (second input)), rw (byte_read input 5 (b ∷ offset_bytes n ++ rest) is, register_read (second input) b (offset_bytes n ++ rest) small then, offset_read (on 1 (second input)) n rest word last, scaled_is n word) refl, behind (on 1 (second input)) (offset_bytes n) rest last)
-
-val_offset_read : (b n : ℕ) (input : Input FrameFault) (rest : List ℕ) → b < 128 → n < 2 ^ 32 → left_of input.at ≡ 20 ∷ b ∷ offset_bytes n ++ rest → Reads (instructions.ValOffset b n) input rest
-unfolding instruction_from opcode_then extended_from register_rule_from rule_from factored_from
-val_offset_read b n input rest small word is =
-    let then = behind input (20 ∷ []) (b ∷ offset_bytes n ++ rest) is in
-    let last = behind (second input) (b ∷ []) (offset_bytes n ++ rest) then in
-    (on 5 (on 1 (second input)), rw (byte_read input 20 (b ∷ offset_bytes n ++ rest) is, register_read (second input) b (offset_bytes n ++ rest) small then, offset_read (on 1 (second input)) n rest word last, scaled_is n word) refl, behind (on 1 (second input)) (offset_bytes n) rest last)
-
-def_cfa_offset_read : (n : ℕ) (input : Input FrameFault) (rest : List ℕ) → n < 2 ^ 32 → left_of input.at ≡ 14 ∷ offset_bytes n ++ rest → Reads (instructions.DefCfaOffset n) input rest
-unfolding instruction_from opcode_then extended_from cfa_from offset_from
-def_cfa_offset_read n input rest word is =
-    let last = behind input (14 ∷ []) (offset_bytes n ++ rest) is in
-    (on 5 (second input), rw (byte_read input 14 (offset_bytes n ++ rest) is, offset_read (second input) n rest word last, word_is n word) refl, behind (second input) (offset_bytes n) rest last)
-
--- an empty block
-block_read : (input : Input FrameFault) (rest : List ℕ) → left_of input.at ≡ 0 ∷ rest → block_from input ≡ Ok (0, on 0 (on 1 input))
-unfolding block_from
-block_read input rest is =
-    let none : nat_lt (length (left_of (on 1 input).at)) 0 ≡ false = grind (arith, nat_tests) in
-    rw (register_read input 0 rest (omega arith) is, none) refl
-
-expression_read : (b : ℕ) (input : Input FrameFault) (rest : List ℕ) → b < 128 → left_of input.at ≡ 16 ∷ b ∷ 0 ∷ rest → Reads (instructions.Expression b) input rest
-unfolding instruction_from opcode_then extended_from register_rule_from rule_from
-expression_read b input rest small is =
-    let then = behind input (16 ∷ []) (b ∷ 0 ∷ rest) is in
-    let last = behind (second input) (b ∷ []) (0 ∷ rest) then in
-    (on 0 (on 1 (on 1 (second input))), rw (byte_read input 16 (b ∷ 0 ∷ rest) is, register_read (second input) b (0 ∷ rest) small then, block_read (on 1 (second input)) rest last) refl, behind (on 1 (on 1 (second input))) [] rest (behind (on 1 (second input)) (0 ∷ []) rest last))
-
-val_expression_read : (b : ℕ) (input : Input FrameFault) (rest : List ℕ) → b < 128 → left_of input.at ≡ 22 ∷ b ∷ 0 ∷ rest → Reads (instructions.ValExpression b) input rest
-unfolding instruction_from opcode_then extended_from register_rule_from rule_from
-val_expression_read b input rest small is =
-    let then = behind input (22 ∷ []) (b ∷ 0 ∷ rest) is in
-    let last = behind (second input) (b ∷ []) (0 ∷ rest) then in
-    (on 0 (on 1 (on 1 (second input))), rw (byte_read input 22 (b ∷ 0 ∷ rest) is, register_read (second input) b (0 ∷ rest) small then, block_read (on 1 (second input)) rest last) refl, behind (on 1 (on 1 (second input))) [] rest (behind (on 1 (second input)) (0 ∷ []) rest last))
-
-cfa_expression_read : (input : Input FrameFault) (rest : List ℕ) → left_of input.at ≡ 15 ∷ 0 ∷ rest → Reads instructions.DefCfaExpression input rest
-unfolding instruction_from opcode_then extended_from cfa_from
-cfa_expression_read input rest is =
-    let last = behind input (15 ∷ []) (0 ∷ rest) is in
-    (on 0 (on 1 (second input)), rw (byte_read input 15 (0 ∷ rest) is, block_read (second input) rest last) refl, behind (on 1 (second input)) [] rest (behind (second input) (0 ∷ []) rest last))
+-- a register, and another operand
+with_two : (op register n : ℕ) (make : ℕ → ℕ → CallFrameInstruction) (reader : Input FrameFault → Reading ℕ) (input : Input FrameFault) (tail rest : List ℕ) → left_of input.at ≡ op ∷ register_byte register ∷ tail
+    → opcode_then ones op (second input) ≡ (uleb_from (second input) >>= λ r. reader r.1 >>= λ o. (let u : Reading CallFrameInstruction = Ok (make r.0 o.0, o.1) in u))
+    → ((input : Input FrameFault) → left_of input.at ≡ tail → Finds reader input n rest) → Reads (make (register_byte register) n) input rest
+unfolding instruction_from
+with_two op register n make reader input tail rest is then finds =
+    let first = register_found (second input) register tail (behind input (op ∷ []) (register_byte register ∷ tail) is) in
+    let found = finds first.0 first.2 in
+    (found.0, rw (byte_read input op (register_byte register ∷ tail) is, then, first.1, found.1) refl, found.2)
 
 pub instruction_read : (i : CallFrameInstruction) (input : Input FrameFault) (rest : List ℕ) → HasWordOperands i → left_of input.at ≡ encoded i ++ rest → Reads (kept_register i) input rest
-instruction_read instructions.Nop input rest words is = nop_read input rest is
-instruction_read (instructions.SetLoc address) input rest words is = set_loc_read address input rest words is
-instruction_read (instructions.AdvanceLoc delta) input rest words is = advance_read delta input rest words is
-instruction_read (instructions.DefCfa register offset) input rest words is = def_cfa_read (register_byte register) offset input rest (register_small register) words is
-instruction_read (instructions.DefCfaRegister register) input rest words is = def_cfa_register_read (register_byte register) input rest (register_small register) is
-instruction_read (instructions.DefCfaOffset offset) input rest words is = def_cfa_offset_read offset input rest words is
-instruction_read instructions.DefCfaExpression input rest words is = cfa_expression_read input rest is
-instruction_read (instructions.Undefined register) input rest words is = undefined_read (register_byte register) input rest (register_small register) is
-instruction_read (instructions.SameValue register) input rest words is = same_value_read (register_byte register) input rest (register_small register) is
-instruction_read (instructions.Offset register offset) input rest words is = offset_rule_read (register_byte register) offset input rest (register_small register) words is
-instruction_read (instructions.ValOffset register offset) input rest words is = val_offset_read (register_byte register) offset input rest (register_small register) words is
-instruction_read (instructions.Register register source) input rest words is = register_copy_read (register_byte register) (register_byte source) input rest (register_small register) (register_small source) is
-instruction_read (instructions.Expression register) input rest words is = expression_read (register_byte register) input rest (register_small register) is
-instruction_read (instructions.ValExpression register) input rest words is = val_expression_read (register_byte register) input rest (register_small register) is
-instruction_read (instructions.Restore register) input rest words is = restore_read (register_byte register) input rest (register_small register) is
-instruction_read instructions.RememberState input rest words is = remember_read input rest is
-instruction_read instructions.RestoreState input rest words is = restore_state_read input rest is
+unfolding opcode_then extended_from cfa_from register_rule_from rule_from
+instruction_read instructions.Nop input rest words is = alone 0 instructions.Nop input rest is refl
+instruction_read (instructions.SetLoc address) input rest words is = with_one 1 address instructions.SetLoc (λ i. number_from 4 i) input _ rest is refl (word_found (second input) address rest words)
+instruction_read (instructions.AdvanceLoc delta) input rest words is =
+    let same : scaled delta 1 ≡ delta = omega arith in
+    subst (λ (n : ℕ). Reads (instructions.AdvanceLoc n) input rest) same (with_one 4 delta (λ n. instructions.AdvanceLoc (scaled n 1)) (λ i. number_from 4 i) input _ rest is refl (word_found (second input) delta rest words))
+instruction_read (instructions.DefCfa register offset) input rest words is = with_two 12 register offset instructions.DefCfa offset_from input _ rest is refl (λ i. offset_found i offset rest words)
+instruction_read (instructions.DefCfaRegister register) input rest words is = with_one 13 (register_byte register) instructions.DefCfaRegister uleb_from input _ rest is refl (register_found (second input) register rest)
+instruction_read (instructions.DefCfaOffset offset) input rest words is = with_one 14 offset instructions.DefCfaOffset offset_from input _ rest is refl (offset_found (second input) offset rest words)
+instruction_read instructions.DefCfaExpression input rest words is = with_one 15 0 (λ n. instructions.DefCfaExpression) block_from input _ rest is refl (block_found (second input) rest)
+instruction_read (instructions.Undefined register) input rest words is = with_one 7 (register_byte register) instructions.Undefined uleb_from input _ rest is refl (register_found (second input) register rest)
+instruction_read (instructions.SameValue register) input rest words is = with_one 8 (register_byte register) instructions.SameValue uleb_from input _ rest is refl (register_found (second input) register rest)
+instruction_read (instructions.Offset register offset) input rest words is = with_two 5 register offset instructions.Offset (factored_from ones) input _ rest is refl (λ i. factored_found i offset rest words)
+instruction_read (instructions.ValOffset register offset) input rest words is = with_two 20 register offset instructions.ValOffset (factored_from ones) input _ rest is refl (λ i. factored_found i offset rest words)
+instruction_read (instructions.Register register source) input rest words is = with_two 9 register (register_byte source) instructions.Register uleb_from input _ rest is refl (λ i. register_found i source rest)
+instruction_read (instructions.Expression register) input rest words is = with_two 16 register 0 (λ r n. instructions.Expression r) block_from input _ rest is refl (λ i. block_found i rest)
+instruction_read (instructions.ValExpression register) input rest words is = with_two 22 register 0 (λ r n. instructions.ValExpression r) block_from input _ rest is refl (λ i. block_found i rest)
+instruction_read (instructions.Restore register) input rest words is = with_one 6 (register_byte register) instructions.Restore uleb_from input _ rest is refl (register_found (second input) register rest)
+instruction_read instructions.RememberState input rest words is = alone 10 instructions.RememberState input rest is refl
+instruction_read instructions.RestoreState input rest words is = alone 11 instructions.RestoreState input rest is refl
 
 pub instructions_read_back : InstructionsReadBack
 instructions_read_back i input rest words is = instruction_read i input rest words is

@@ -1,5 +1,5 @@
 -- Runs of instructions that were written read back as those that were meant.
-use Rattle.std.proofs.Common.{◌≡◌, ℕ, zero, suc, ◌+◌, ◌≤◌, ◌<◌, Bool, true, false, cond, List, [], ◌∷◌, ◌++◌, length, length-append, Option, Some, None, Result, Ok, Err, refl, sym, ap, subst, ◌∙◌, append_assoc, arith}
+use Rattle.std.proofs.Common.{◌≡◌, ℕ, zero, suc, ◌+◌, ◌≤◌, ◌<◌, Bool, true, false, cond, List, [], ◌∷◌, ◌++◌, length, length-append, Option, Some, None, Result, Ok, Err, refl, ap, subst, ◌∙◌, append_assoc, arith}
 use Rattle.std.specs.Prelude.{◌==◌, All, nat_lt, replicate}
 use Rattle.std.specs.List.{flat_map}
 use Rattle.std.specs.Option.{option_and_then}
@@ -18,13 +18,14 @@ use Rattle.cfi_table.specs.declared.rules.Cfa.TheVariants as cfas
 use Rattle.cfi_table.specs.declared.rules.Rule.{Rule}
 use Rattle.cfi_table.specs.declared.rules.Rule.TheVariants as rules
 use Rattle.cfi_table.specs.Instructions.{Reading}
-use Rattle.cfi_table.specs.Rules.{State, execute, with_rule, rule_at, with_cfa, with_cfa_register, with_source, or_fault, fault_at, step_by, run_by, is_past}
+use Rattle.cfi_table.specs.Rules.{State, execute, with_rule, rule_at, with_cfa, with_cfa_register, with_source, step_by, run_by, is_past}
 use Rattle.cfi_table.proofs.Chains.{marked}
 use Rattle.cfi_table.proofs.Runs.{run_end}
 use Rattle.eh_frame.specs.declared.address.Addresses.{Addresses}
-use Rattle.eh_frame.specs.Runs.{eh_instruction_from, eh_step_by, before_all, listed_by, rules_after}
+use Rattle.eh_frame.specs.Runs.{eh_step_by, before_all, listed_by, rules_after}
 use Rattle.eh_frame.specs.Translation.{register_byte, encoded}
 use Rattle.eh_frame.specs.Laws.{ones, HasWordOperands, kept_register, Reads, RunsReadBack}
+use Rattle.eh_frame.proofs.Listed.{few, step_ran}
 use Rattle.eh_frame.proofs.ReadBack.{instruction_read}
 
 -- ---- registers from 32 on are alike
@@ -82,25 +83,6 @@ kept_alike initial instructions.RestoreState s = refl
 
 -- ---- one step
 
-one_byte : (i : CallFrameInstruction) → 0 < length (encoded i)
-one_byte instructions.Nop = omega arith
-one_byte (instructions.SetLoc address) = omega arith
-one_byte (instructions.AdvanceLoc delta) = omega arith
-one_byte (instructions.DefCfa register offset) = omega arith
-one_byte (instructions.DefCfaRegister register) = omega arith
-one_byte (instructions.DefCfaOffset offset) = omega arith
-one_byte instructions.DefCfaExpression = omega arith
-one_byte (instructions.Undefined register) = omega arith
-one_byte (instructions.SameValue register) = omega arith
-one_byte (instructions.Offset register offset) = omega arith
-one_byte (instructions.ValOffset register offset) = omega arith
-one_byte (instructions.Register register source) = omega arith
-one_byte (instructions.Expression register) = omega arith
-one_byte (instructions.ValExpression register) = omega arith
-one_byte (instructions.Restore register) = omega arith
-one_byte instructions.RememberState = omega arith
-one_byte instructions.RestoreState = omega arith
-
 -- the instruction at the front is carried out, and these bytes are left
 abbrev Steps : List Rule → Input FrameFault → State → State → List ℕ → Type 0
 Steps initial input s t rest = (next : Input FrameFault) × (step_by (execute initial) ones input s ≡ Ok (t, next)) × (left_of next.at ≡ rest)
@@ -153,7 +135,7 @@ pub run_back : (limit : Option ℕ) (initial : List Rule) (all : List CallFrameI
 unfolding rules_after
 run_back limit initial [] zeros room input s t words is enough done = zeros_back limit initial zeros room input s is enough ∙ ok_of s t done
 run_back limit initial (i ∷ all) zeros zero input s t words is enough done =
-    let some = one_byte i in
+    let some = (few i).0 in
     let size : length (left_of input.at) ≡ length (encoded i) + length (flat_map encoded all ++ replicate zeros 0) =
     ap (λ (xs : List ℕ). length xs) (is ∙ append_assoc (encoded i) (flat_map encoded all) (replicate zeros 0)) ∙ length-append (encoded i) (flat_map encoded all ++ replicate zeros 0) in
     absurd (omega arith)
@@ -176,11 +158,11 @@ run_back limit initial (i ∷ all) zeros (suc room) input s t words is enough do
     stepped : (b : Bool) (u : State) → is_past limit u ≡ b → Steps initial input s u (flat_map encoded all ++ replicate zeros 0) → cond b (Some u) (rules_after limit initial all u) ≡ Some t → Again
         → run_by (execute initial) (is_past limit) (suc room) ones input s ≡ Ok t
     stepped true u past step e again =
-        let some = one_byte i in
+        let some = (few i).0 in
         let long = size in
         run_stop limit initial room input step.0 s u (omega arith) step.1 past ∙ ok_of u t e
     stepped false u past step e again =
-        let some = one_byte i in
+        let some = (few i).0 in
         let long = size in
         let less : length (left_of step.0.at) ≡ length (flat_map encoded all ++ replicate zeros 0) = ap (λ (xs : List ℕ). length xs) step.2 in
         run_more limit initial room input step.0 s u (omega arith) step.1 past ∙ again step.0 u step.2 (omega arith) e
@@ -204,32 +186,6 @@ none_listed initial s r e =
     let P : List CallFrameInstruction × State → Type 0 = λ p. rules_after None initial p.0 s ≡ Some p.1 in
     subst P (same_list ([], s) r e) refl
 
-pub step_ran : (initial : List Rule) (a : Addresses) (f : AlignmentFactors) (input next : Input FrameFault) (i : CallFrameInstruction) (s t : State) → eh_step_by (execute initial) a f input s ≡ Ok ((i, t), next)
-    → (eh_instruction_from a f (marked input) ≡ Ok (i, next)) × (execute initial i s ≡ Some t)
-unfolding eh_step_by
-step_ran initial a f input next i s t e = decoded (eh_instruction_from a f (marked input)) refl e
-  where
-    same_step : (p q : (CallFrameInstruction × State) × Input FrameFault) → (let u : Reading (CallFrameInstruction × State) = Ok p in u) ≡ Ok q → p ≡ q
-    same_step p q e = cc
-
-    behind_it : CallFrameInstruction × Input FrameFault → State → Reading (CallFrameInstruction × State)
-    behind_it j u = Ok ((j.0, u), j.1)
-
-    executed : (j : CallFrameInstruction × Input FrameFault) (o : Option State) → eh_instruction_from a f (marked input) ≡ Ok j → execute initial j.0 s ≡ o → (or_fault (fault_at input) o >>= behind_it j) ≡ Ok ((i, t), next)
-        → (eh_instruction_from a f (marked input) ≡ Ok (i, next)) × (execute initial i s ≡ Some t)
-    executed j None is ran e = absurd cc
-    executed j (Some u) is ran e =
-        let same = same_step ((j.0, u), j.1) ((i, t), next) e in
-        let first : j.0 ≡ i = ap (λ (p : (CallFrameInstruction × State) × Input FrameFault). p.0.0) same in (
-          is ∙ ap (λ (p : (CallFrameInstruction × State) × Input FrameFault). Ok (p.0.0, p.1)) same,
-          sym (ap (λ (k : CallFrameInstruction). execute initial k s) first) ∙ ran ∙ ap (λ (p : (CallFrameInstruction × State) × Input FrameFault). Some p.0.1) same,
-        )
-
-    decoded : (r : Reading CallFrameInstruction) → eh_instruction_from a f (marked input) ≡ r → (r >>= λ j. or_fault (fault_at input) (execute initial j.0 s) >>= behind_it j) ≡ Ok ((i, t), next)
-        → (eh_instruction_from a f (marked input) ≡ Ok (i, next)) × (execute initial i s ≡ Some t)
-    decoded (Err fault) is e = absurd cc
-    decoded (Ok j) is e = executed j (execute initial j.0 s) is refl e
-
 pub listed_rules : (initial : List Rule) (room : ℕ) (a : Addresses) (f : AlignmentFactors) (input : Input FrameFault) (s : State) (r : List CallFrameInstruction × State) → listed_by (execute initial) room a f input s ≡ Ok r
     → rules_after None initial r.0 s ≡ Some r.1
 unfolding listed_by rules_after
@@ -248,7 +204,7 @@ listed_rules initial (suc room) a f input s r e = go (length (left_of input.at) 
 
     stepped : (d : Reading (CallFrameInstruction × State)) → eh_step_by (execute initial) a f input s ≡ d → (d >>= λ done. before_all done.0.0 (listed_by (execute initial) room a f done.1 done.0.1)) ≡ Ok r → Again → rules_after None initial r.0 s ≡ Some r.1
     stepped (Err fault) is e again = absurd cc
-    stepped (Ok done) is e again = one done.0.0 done.0.1 (listed_by (execute initial) room a f done.1 done.0.1) (step_ran initial a f input done.1 done.0.0 s done.0.1 is).1 (λ p is. again done.1 done.0.1 p is) e
+    stepped (Ok done) is e again = one done.0.0 done.0.1 (listed_by (execute initial) room a f done.1 done.0.1) (step_ran (execute initial) a f input done.1 done.0.0 s done.0.1 is).1 (λ p is. again done.1 done.0.1 p is) e
 
     go : (b : Bool) (d : Reading (CallFrameInstruction × State)) → eh_step_by (execute initial) a f input s ≡ d → cond b (Ok ([], s)) (d >>= λ done. before_all done.0.0 (listed_by (execute initial) room a f done.1 done.0.1)) ≡ Ok r → Again → rules_after None initial r.0 s ≡ Some r.1
     go true d is e again = none_listed initial s r e

@@ -22,7 +22,7 @@ use Rattle.cfi_table.specs.declared.instruction.CallFrameInstruction.{CallFrameI
 use Rattle.cfi_table.specs.declared.instruction.CallFrameInstruction.TheVariants as instructions
 use Rattle.cfi_table.specs.declared.instruction.AlignmentFactors.{AlignmentFactors}
 use Rattle.cfi_table.specs.declared.rules.Rule.{Rule}
-use Rattle.cfi_table.specs.Instructions.{Reading, scaled, word_of, word_of_signed, offset_from, factored_from, factored_sf_from, block_from, cfa_from, rule_from, is_rule}
+use Rattle.cfi_table.specs.Instructions.{Reading, scaled, low_32_bits, word_of_signed, offset_from, factored_from, factored_sf_from, block_from, cfa_from, rule_from, is_rule}
 use Rattle.cfi_table.specs.Instructions.{register_rule_from, extended_from, opcode_then}
 use Rattle.cfi_table.specs.Rules.{State, execute}
 use Rattle.cfi_table.proofs.Chains.{marked}
@@ -32,8 +32,7 @@ use Rattle.eh_frame.specs.declared.address.Application.TheVariants as applicatio
 use Rattle.eh_frame.specs.Addresses.{applied, address_from}
 use Rattle.eh_frame.specs.Runs.{eh_instruction_from, eh_step_by, before_all, listed_by}
 use Rattle.eh_frame.specs.Laws.{HasWordOperands}
-use Rattle.eh_frame.proofs.Listed.{step_moves}
-use Rattle.eh_frame.proofs.Runs.{step_ran}
+use Rattle.eh_frame.proofs.Listed.{step_ran, step_moves}
 
 -- ---- numbers of four bytes
 
@@ -68,7 +67,7 @@ address_small a input are = go (number_from 4 input) (number_small input are)
     go (Err fault) small = tt
     go (Ok n) small = applied_small a a.application input.at.offset n.0 small
 
-word_small : (n : ℕ) → word_of n < 2 ^ 32
+word_small : (n : ℕ) → low_32_bits n < 2 ^ 32
 word_small n = omega arith
 
 scaled_small : (n f : ℕ) → scaled n f < 2 ^ 32
@@ -95,7 +94,7 @@ offset_small : (input : Input FrameFault) → AllSmall (offset_from input)
 unfolding offset_from
 offset_small input = go (uleb_from input)
   where
-    go : (r : Reading ℕ) → AllSmall (r >>= λ n. (let u : Reading ℕ = Ok (word_of n.0, n.1) in u))
+    go : (r : Reading ℕ) → AllSmall (r >>= λ n. (let u : Reading ℕ = Ok (low_32_bits n.0, n.1) in u))
     go (Err fault) = tt
     go (Ok n) = word_small n.0
 
@@ -103,9 +102,9 @@ factored_small : (f : AlignmentFactors) (input : Input FrameFault) → AllSmall 
 unfolding factored_from
 factored_small f input = go (uleb_from input)
   where
-    go : (r : Reading ℕ) → AllSmall (r >>= λ n. (let u : Reading ℕ = Ok (scaled (word_of n.0) f.data_alignment_factor, n.1) in u))
+    go : (r : Reading ℕ) → AllSmall (r >>= λ n. (let u : Reading ℕ = Ok (scaled (low_32_bits n.0) f.data_alignment_factor, n.1) in u))
     go (Err fault) = tt
-    go (Ok n) = scaled_small (word_of n.0) f.data_alignment_factor
+    go (Ok n) = scaled_small (low_32_bits n.0) f.data_alignment_factor
 
 factored_sf_small : (f : AlignmentFactors) (input : Input FrameFault) → AllSmall (factored_sf_from f input)
 unfolding factored_sf_from
@@ -212,7 +211,7 @@ listed_words initial (suc room) a f input s are = go (length (left_of input.at) 
     stepped (Err fault) is again = tt
     stepped (Ok done) is again =
         let moves = step_moves (execute initial) a f input done.1 done.0.0 s done.0.1 is in
-        let ran = step_ran initial a f input done.1 done.0.0 s done.0.1 is in
+        let ran = step_ran (execute initial) a f input done.1 done.0.0 s done.0.1 is in
         one done.0.0 (listed_by (execute initial) room a f done.1 done.0.1) (has done.0.0 done.1 (eh_instruction_from a f (marked input)) ran.0 (instruction_words a f (marked input) are)) (again done.1 done.0.1 (rw moves.0 are))
 
     go : (b : Bool) (d : Reading (CallFrameInstruction × State)) → eh_step_by (execute initial) a f input s ≡ d → Again → ListWords (cond b (Ok ([], s)) (d >>= λ done. before_all done.0.0 (listed_by (execute initial) room a f done.1 done.0.1)))

@@ -13,7 +13,7 @@ use Rattle.cfi_table.specs.declared.fault.FrameFault.{FrameFault}
 use Rattle.cfi_table.specs.declared.fde.Fde.{Fde}
 use Rattle.cfi_table.specs.declared.rules.Rules.{Rules}
 use Rattle.cfi_table.specs.Rules.{State, no_rules, all_same_value}
-use Rattle.cfi_table.specs.Frames.{Frames, frames_of, range_of, rules_of}
+use Rattle.cfi_table.specs.Frames.{Frames, frames_of, fde_range, rules_of}
 use Rattle.eh_frame.specs.declared.fault.EhFault.{EhFault}
 use Rattle.eh_frame.specs.declared.cie.EhCie.{EhCie}
 use Rattle.eh_frame.specs.declared.both.SectionFault.{SectionFault}
@@ -48,7 +48,7 @@ pub record FrameDescription : Type 0 where
 
 -- an FDE of `.debug_frame`
 abbrev pub described : List ℕ → Fde → FrameDescription
-described section fde = record { range = range_of fde; rules = λ address. rules_of section address fde }
+described section fde = record { range = fde_range fde; rules = λ address. rules_of section address fde }
 
 abbrev pub eh_rules_with : EhCie → State → Rules
 eh_rules_with cie s = record { cfa = s.cfa; regs = s.regs; return_register = cie.return_address_register }
@@ -97,7 +97,7 @@ descriptions_of_both debug_frame eh_frame address segments = do
 
 -- the ranges of a table's frames, and those of frame descriptions
 abbrev pub frame_ranges : Frames → List AddressRange
-frame_ranges frames = map range_of frames.fdes
+frame_ranges frames = map fde_range frames.fdes
 
 abbrev pub described_ranges : List FrameDescription → List AddressRange
 described_ranges descriptions = map (λ d. d.range) descriptions

@@ -7,7 +7,7 @@ use Rattle.prof_bytes.specs.Outcome.{◌>>=◌}
 use Rattle.prof_bytes.specs.Fields.{Input, number_from, uleb_from, sleb_from, text_from, bytes_from}
 use Rattle.cfi_table.specs.declared.fault.FrameFault.{FrameFault}
 use Rattle.cfi_table.specs.declared.instruction.AlignmentFactors.{AlignmentFactors}
-use Rattle.cfi_table.specs.Instructions.{Reading, word_of, word_of_signed}
+use Rattle.cfi_table.specs.Instructions.{Reading, low_32_bits, word_of_signed}
 use Rattle.cfi_table.specs.Entries.{register_from}
 use Rattle.eh_frame.specs.declared.constants.TheConstants.{LETTER_DATA, LETTER_ADDRESSES, LETTER_LANGUAGE_DATA}
 use Rattle.eh_frame.specs.declared.constants.TheConstants.{LETTER_PERSONALITY, LETTER_SIGNAL_FRAME}
@@ -25,9 +25,9 @@ is_letter letter =
     || letter == LETTER_SIGNAL_FRAME
 
 -- it is empty, or z and then such letters
-abbrev pub is_read : List ℕ → Bool
-is_read [] = true
-is_read (first ∷ letters) = first == LETTER_DATA && list_all is_letter letters
+abbrev pub is_read_augmentation : List ℕ → Bool
+is_read_augmentation [] = true
+is_read_augmentation (first ∷ letters) = first == LETTER_DATA && list_all is_letter letters
 
 -- the application unless there is none of that encoding
 abbrev pub kept : Application → Bool → Option Application
@@ -66,8 +66,8 @@ starts_from (letter ∷ others) application input = do
 -- ---- a CIE's fields. Nothing where it is passed over: the fields behind the one that shows it are not read
 
 -- the initial instructions are the bytes that are left, up to the entry's end
-abbrev pub cie_with : ℕ → AlignmentFactors → ℕ → Bool → Input FrameFault → Application → EhCie
-cie_with end factors register has_data input application = record {
+abbrev pub eh_cie_with : ℕ → AlignmentFactors → ℕ → Bool → Input FrameFault → Application → EhCie
+eh_cie_with end factors register has_data input application = record {
   factors = factors;
   return_address_register = register;
   application = application;
@@ -86,16 +86,16 @@ cie_from_letters end factors register letters input = do
   (size, within) ← uleb_from input
   (bytes, behind) ← bytes_from size within
   application ← starts_from letters applications.Absolute (until behind within)
-  Ok (option_map (cie_with end factors register true behind) application)
+  Ok (option_map (eh_cie_with end factors register true behind) application)
 
 abbrev pub cie_from_data : ℕ → AlignmentFactors → ℕ → List ℕ → Input FrameFault → Result (Option EhCie) FrameFault
 cie_from_data end factors register [] input =
-    Ok (Some (cie_with end factors register false input applications.Absolute))
+    Ok (Some (eh_cie_with end factors register false input applications.Absolute))
 cie_from_data end factors register (first ∷ letters) input = cie_from_letters end factors register letters input
 
 abbrev pub factors_of : ℕ → ℤ → AlignmentFactors
 factors_of code_factor data_factor = record {
-  code_alignment_factor = word_of code_factor;
+  code_alignment_factor = low_32_bits code_factor;
   data_alignment_factor = word_of_signed data_factor;
 }
 
@@ -111,7 +111,7 @@ cie_from_factors end version augmentation input = do
 unfoldable pub cie_from_augmentation : ℕ → ℕ → Input FrameFault → Result (Option EhCie) FrameFault
 cie_from_augmentation end version input = do
   (augmentation, input) ← text_from input
-  if is_read augmentation then cie_from_factors end version augmentation input else Ok None
+  if is_read_augmentation augmentation then cie_from_factors end version augmentation input else Ok None
 
 -- versions 1 and 3
 unfoldable pub cie_from : ℕ → Input FrameFault → Result (Option EhCie) FrameFault

@@ -1,15 +1,14 @@
 -- The entries of .eh_frame (LSB, core specification, "Exception Frames"; DWARF 5, section 6.4.1).
-use Rattle.std.specs.Prelude.{ℕ, zero, suc, ◌+◌, ◌==◌, ◌&&◌, ◌++◌, Bool, false, nat_lt, List, [], ◌∷◌, length, map}
+use Rattle.std.specs.Prelude.{ℕ, ◌+◌, ◌==◌, ◌&&◌, ◌++◌, Bool, false, nat_lt, List, [], ◌∷◌, map}
 use Rattle.std.specs.Prelude.{find, Option, Some, None, Result, Ok, Err, if◌then◌else◌}
-use Rattle.prof_bytes.specs.Reading.{left_of}
 use Rattle.prof_bytes.specs.Outcome.{◌>>=◌}
-use Rattle.prof_bytes.specs.Fields.{Input, number_from, part_from}
+use Rattle.prof_bytes.specs.Fields.{Input, number_from}
 use Rattle.cfi_table.specs.declared.fault.FrameFault.{FrameFault}
 use Rattle.cfi_table.specs.declared.extent.Extent.{Extent}
+use Rattle.cfi_table.specs.declared.extent.ZeroLength.TheVariants.{EndsList}
 use Rattle.cfi_table.specs.declared.instruction.CallFrameInstruction.{CallFrameInstruction}
 use Rattle.cfi_table.specs.Instructions.{Reading, block_from}
-use Rattle.cfi_table.specs.Rules.{fault_at}
-use Rattle.cfi_table.specs.Entries.{before_others, body_of}
+use Rattle.cfi_table.specs.Entries.{body_of, extents_by}
 use Rattle.cfi_table.specs.Frames.{all_ok}
 use Rattle.eh_frame.specs.declared.constants.TheConstants.{EH_CIE_ID}
 use Rattle.eh_frame.specs.declared.cie.EhCie.{EhCie}
@@ -19,27 +18,9 @@ use Rattle.eh_frame.specs.Runs.{addresses_of, cie_instructions, fde_instructions
 
 -- ---- where the entries lie
 
--- the bytes that a length counts make an entry; a length of 0 ends the list, and so does a faulty one
-abbrev pub eh_chained : Input FrameFault → (Input FrameFault → List Extent × Option FrameFault)
-    → Reading (Input FrameFault)
-    → List Extent × Option FrameFault
-eh_chained input others (Err fault) = ([], Some fault)
-eh_chained input others (Ok found) =
-    if length (left_of found.0.at) == 0 then ([], None)
-    else before_others (record { offset = input.at.offset; end = found.1.at.offset }) (others found.1)
-
--- the entries one behind the other, and the fault of the first length that has one, at its offset. At most `room`
--- lengths are read: as many as there are bytes are enough
-unfoldable pub eh_chain_from : ℕ → Input FrameFault → List Extent × Option FrameFault
-eh_chain_from zero input = ([], None)
-eh_chain_from (suc room) input =
-    if length (left_of input.at) == 0 then ([], None)
-    else eh_chained input (λ rest. eh_chain_from room rest) (part_from (record input { missing = fault_at input }))
-
--- the entries of the whole section
+-- the entries of the whole section, which a length of 0 ends
 abbrev pub eh_extents : List ℕ → List Extent × Option FrameFault
-eh_extents section = eh_chain_from (length section)
-    (record { at = record { whole = section; offset = 0 }; missing = record { offset = 0 } })
+eh_extents section = extents_by EndsList section
 
 -- ---- what an entry is, or its fault
 
@@ -108,8 +89,8 @@ eh_fields_from address cie input = do
   input ← past_data cie.has_data input
   Ok ((initial_location, address_range), input)
 
-abbrev pub fde_with : EhCie → ℕ → List CallFrameInstruction → ℕ × ℕ → List CallFrameInstruction → EhFde
-fde_with cie offset initial fields instructions = record {
+abbrev pub eh_fde_with : EhCie → ℕ → List CallFrameInstruction → ℕ × ℕ → List CallFrameInstruction → EhFde
+eh_fde_with cie offset initial fields instructions = record {
   cie = cie;
   cie_offset = offset;
   initial = initial;
@@ -125,7 +106,7 @@ content_of_fde section address offset input (Some cie) = do
   (fields, input) ← eh_fields_from address cie input
   initial ← cie_instructions section address cie
   own ← fde_instructions address cie fields.0 input initial.1
-  Ok (Description (fde_with cie offset initial.0 fields own.0))
+  Ok (Description (eh_fde_with cie offset initial.0 fields own.0))
 
 -- the distance leads to a CIE before the FDE
 abbrev pub content_by : List ℕ → ℕ → Extent → Input FrameFault → Option Extent → Result Content FrameFault

@@ -93,7 +93,7 @@ RangesAreBoth = (debug_frame eh_frame : List ℕ) (address : ℕ) (segments : Li
 
 -- and at each address they have the rules of the first of both sections' frame descriptions that holds it
 abbrev pub RulesAreBoth : Type 0
-RulesAreBoth = (debug_frame eh_frame : List ℕ) (address : ℕ) (segments : List Segment) (place : ℕ)
+RulesAreBoth = (debug_frame eh_frame : List ℕ) (address : ℕ) (segments : List Segment) (pc : ℕ)
     → length debug_frame + 8 * length eh_frame < 2 ^ 31 → IsBytes eh_frame
-    → viewed (λ frames. rules_at frames place) (frames_with_eh debug_frame eh_frame address segments)
-    ≡ viewed (λ descriptions. rules_by descriptions place) (descriptions_of_both debug_frame eh_frame address segments)
+    → viewed (λ frames. rules_at frames pc) (frames_with_eh debug_frame eh_frame address segments)
+    ≡ viewed (λ descriptions. rules_by descriptions pc) (descriptions_of_both debug_frame eh_frame address segments)

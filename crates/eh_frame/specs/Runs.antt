@@ -12,7 +12,7 @@ use Rattle.cfi_table.specs.declared.instruction.CallFrameInstruction.{CallFrameI
 use Rattle.cfi_table.specs.declared.instruction.CallFrameInstruction.TheVariants.{SetLoc}
 use Rattle.cfi_table.specs.declared.rules.Rule.{Rule}
 use Rattle.cfi_table.specs.Instructions.{Reading, opcode_then}
-use Rattle.cfi_table.specs.Rules.{State, execute, is_past, or_fault, fault_at, no_rules, all_same_value}
+use Rattle.cfi_table.specs.Rules.{State, execute, is_past, or_fault, instruction_fault, no_rules, all_same_value}
 use Rattle.cfi_table.specs.Entries.{instructions_of}
 use Rattle.eh_frame.specs.declared.address.Addresses.{Addresses}
 use Rattle.eh_frame.specs.declared.cie.EhCie.{EhCie}
@@ -31,8 +31,8 @@ eh_instruction_from addresses factors input = do
 unfoldable pub eh_step_by : {S : Type 0} → (CallFrameInstruction → S → Option S) → Addresses → AlignmentFactors
     → Input FrameFault → S → Reading (CallFrameInstruction × S)
 eh_step_by execution addresses factors input s = do
-  (instruction, next) ← eh_instruction_from addresses factors (record input { missing = fault_at input })
-  t ← or_fault (fault_at input) (execution instruction s)
+  (instruction, next) ← eh_instruction_from addresses factors (record input { missing = instruction_fault input })
+  t ← or_fault (instruction_fault input) (execution instruction s)
   Ok ((instruction, t), next)
 
 -- an instruction before others, and the state after them

@@ -68,15 +68,15 @@ abbrev pub fde_head : ℕ → ℕ → ℕ → List ℕ
 fde_head cie_pointer start range = (number_bytes 4 cie_pointer ++ number_bytes 4 start) ++ number_bytes 4 range
 
 -- where the entry at that offset stands, where the translation begins at `base`
-abbrev pub place_of : ℕ → ℕ → ℕ
-place_of base offset = base + 8 * offset
+abbrev pub translated_offset : ℕ → ℕ → ℕ
+translated_offset base offset = base + 8 * offset
 
 -- what stands behind an entry's length; nothing where it is passed over
 abbrev pub entry_body : ℕ → Content → List ℕ
 entry_body base PassedOver = []
 entry_body base (Common cie own) = cie_head cie.return_address_register ++ flat_map encoded own
 entry_body base (Description fde) =
-    fde_head (place_of base fde.cie_offset) fde.initial_location fde.address_range ++ flat_map encoded fde.instructions
+    fde_head (translated_offset base fde.cie_offset) fde.initial_location fde.address_range ++ flat_map encoded fde.instructions
 
 -- zeros up to the next multiple of four, which are instructions that do nothing
 abbrev pub aligned : List ℕ → List ℕ
@@ -88,7 +88,7 @@ with_length bytes = number_bytes 4 (length bytes) ++ bytes
 abbrev pub up_to_size : ℕ → List ℕ → List ℕ
 up_to_size size bytes = bytes ++ replicate (size - length bytes) 0
 
--- bytes that stand in an entry's place
+-- bytes that stand for an entry
 abbrev pub block_with : ℕ → List ℕ → List ℕ
 block_with size body = up_to_size (8 * size) (with_length (aligned body))
 

@@ -56,11 +56,11 @@ pub(crate) fn address(
     ensures address { GivesAt (λ a. a) result reader.new (address_from addresses.now reader.old) }
     ensures whole { reader.new.at.whole ≡ reader.old.at.whole }
 {
-    let place = reader.offset() as u32;
+    let offset = reader.offset() as u32;
     let value = reader.u32()?;
     match addresses.application {
         Application::Absolute => Ok(value),
-        Application::PcRelative => Ok(addresses.section.wrapping_add(place).wrapping_add(value)),
+        Application::PcRelative => Ok(addresses.section.wrapping_add(offset).wrapping_add(value)),
     }
 }
 

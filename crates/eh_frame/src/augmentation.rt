@@ -2,7 +2,7 @@
 ghost use Rattle.std.specs.Prelude.{◌≡◌, ◌==◌};
 ghost use Rattle.std.specs.List.{list_any, list_all};
 ghost use Rattle.prof_bytes.specs.Outcome.{GivesAt};
-ghost use Rattle.eh_frame.specs.Cies.{is_letter, is_read, letter_from, starts_from};
+ghost use Rattle.eh_frame.specs.Cies.{is_letter, is_read_augmentation, letter_from, starts_from};
 ghost use Rattle.eh_frame.specs.declared.address.Application.TheVariants as applications;
 ghost use Rattle.eh_frame.specs.declared.constants.TheConstants.{LETTER_ADDRESSES};
 
@@ -30,7 +30,7 @@ fn are_letters(letters: &[u8]) -> bool
 
 /// Whether CIEs of the augmentation are read: it is empty, or `z` and then letters that are known.
 pub(crate) fn is_read(augmentation: &[u8]) -> bool
-    ensures { result ≡ is_read augmentation.now }
+    ensures { result ≡ is_read_augmentation augmentation.now }
 {
     match augmentation {
         [] => true,

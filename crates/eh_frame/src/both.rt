@@ -96,8 +96,8 @@ pub fn read_both_frames(
         (frames_with_eh debug_frame.now eh_frame.now address image.now.segments) }
     ensures ranges { Gives (λ table. frame_ranges table) result (viewed described_ranges
         (descriptions_of_both debug_frame.now eh_frame.now address image.now.segments)) }
-    ensures rules { (place : ℕ) → Gives (λ table. rules_at table place) result
-        (viewed (λ descriptions. rules_by descriptions place)
+    ensures rules { (pc : ℕ) → Gives (λ table. rules_at table pc) result
+        (viewed (λ descriptions. rules_by descriptions pc)
         (descriptions_of_both debug_frame.now eh_frame.now address image.now.segments)) }
 {
     translated_frames(alloc, debug_frame, eh_frame, address, image)

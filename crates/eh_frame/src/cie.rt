@@ -6,7 +6,7 @@ ghost use Rattle.prof_bytes.specs.Outcome.{GivesAt};
 ghost use Rattle.cfi_table.specs.declared.fault.FrameFault.{FrameFault};
 ghost use Rattle.cfi_table.specs.Entries.{register_from};
 ghost use Rattle.cfi_table.specs.private.Placed.{IsPlaced};
-ghost use Rattle.eh_frame.specs.Cies.{cie_with, cie_from_letters, cie_from_data, cie_from_factors};
+ghost use Rattle.eh_frame.specs.Cies.{eh_cie_with, cie_from_letters, cie_from_data, cie_from_factors};
 ghost use Rattle.eh_frame.specs.Cies.{cie_from_augmentation, cie_from};
 
 use crate::address::Application;
@@ -45,7 +45,7 @@ fn cie_with(
     application: Application,
 ) -> EhCie
     ensures cie { (input : Input FrameFault) → left ≡ length (left_of input.at)
-        → result ≡ cie_with end factors register has_data input application }
+        → result ≡ eh_cie_with end factors register has_data input application }
     ensures order { result.initial_instructions.offset ≤ result.initial_instructions.end }
     ensures end { result.initial_instructions.end ≡ end }
 {

@@ -11,13 +11,13 @@ ghost use Rattle.cfi_table.specs.Rules.{State};
 ghost use Rattle.eh_frame.specs.Entries.{is_eh_cie, is_cie_before, content_of_cie, content_of_fde, content_of};
 ghost use Rattle.eh_frame.specs.Runs.{cie_instructions, fde_instructions};
 ghost use Rattle.eh_frame.specs.Translation.{cie_head, fde_head, encoded, entry_body};
-ghost use Rattle.eh_frame.specs.private.Checked.{known, seen_cie, IsCieIn, IsEnd, IsKnown};
+ghost use Rattle.eh_frame.specs.private.Checked.{known_eh, seen_eh_cie, IsEhCieIn, IsEnd, IsKnownEh};
 
 use crate::cie::{EhCie, cie_from};
 use crate::constants::EH_CIE_ID;
 use crate::fde::{addresses_of, fde_fields};
 use crate::instructions::translate_instructions;
-use crate::known_cie::{KnownCie, cie_back};
+use crate::known_eh_cie::{KnownEhCie, cie_back};
 use cfi_table::{Checker, CieEnd, DW_CIE_ID, Extent, FrameFault, body, instructions};
 use prof_bytes::{Fail, Memory, Reader, put_u32};
 use std::alloc::Global;
@@ -26,7 +26,7 @@ use std::alloc::Global;
 #[derive(Drop)]
 pub(crate) struct ReadEntry {
     pub(crate) body: Vec<u8>,
-    pub(crate) cie: Option<KnownCie>,
+    pub(crate) cie: Option<KnownEhCie>,
 }
 
 fn put_cie_head(out: &mut Vec<u8>, register: u8) -> Result<(), Memory>
@@ -75,12 +75,12 @@ fn read_cie(
     cie: Option<EhCie>,
 ) -> Result<ReadEntry, Fail<FrameFault>>
     requires offset { offset ≤ length section.now }
-    requires cie { IsCieIn section.now cie }
+    requires cie { IsEhCieIn section.now cie }
     ensures content { (base : ℕ) → Gives (λ read. read.body.items) result
         (viewed (entry_body base) (content_of_cie section.now address cie)) }
-    ensures cie { IfOk result (λ read. option_map seen_cie read.cie
+    ensures cie { IfOk result (λ read. option_map seen_eh_cie read.cie
         ≡ Some (record { offset = offset; cie = Ok cie })) }
-    ensures is { IfOk result (λ read. IfSome read.cie (IsKnown section.now address)) }
+    ensures is { IfOk result (λ read. IfSome read.cie (IsKnownEh section.now address)) }
     ensures short { IfOk result (λ read. length read.body.items ≤ 12 + 7 * length section.now) }
 {
     let mut body = Vec::new(alloc);
@@ -91,7 +91,7 @@ fn read_cie(
             put_initial(alloc, section, address, read, &mut body)?
         }
     };
-    let cie = Some(KnownCie { offset, cie, end });
+    let cie = Some(KnownEhCie { offset, cie, end });
     Ok(ReadEntry { body, cie })
 }
 
@@ -123,11 +123,11 @@ fn read_fde(
     address: u32,
     base: u32,
     reader: &mut Reader<'_, FrameFault>,
-    known: &KnownCie,
+    known: &KnownEhCie,
 ) -> Result<Vec<u8>, Fail<FrameFault>>
     requires small { length reader.old.at.whole < 2 ^ 32 }
-    requires place { base + 8 * known.now.offset < 2 ^ 32 }
-    requires known { IsKnown section.now address known.now }
+    requires offset { base + 8 * known.now.offset < 2 ^ 32 }
+    requires known { IsKnownEh section.now address known.now }
     ensures content { Gives (λ body. body.items) result (viewed (entry_body base)
         (content_of_fde section.now address known.now.offset reader.old known.now.cie)) }
     ensures short { IfOk result (λ body. length body.items ≤ 12 + 7 * length reader.old.at.whole) }
@@ -147,20 +147,20 @@ pub(crate) fn read_entry(
     section: &[u8],
     address: u32,
     base: u32,
-    cies: &[KnownCie],
+    cies: &[KnownEhCie],
     extent: &Extent,
 ) -> Result<ReadEntry, Fail<FrameFault>>
     requires small { base + 8 * length section.now < 2 ^ 31 }
     requires placed { IsPlaced section.now extent.now }
     requires rising { AreRising 0 (map (λ cie. cie.offset) cies.now) }
-    requires known { All (IsKnown section.now address) cies.now }
-    ensures content { (extents : List Extent) → map seen_cie cies.now
-        ≡ map (known section.now) (filter (is_cie_before section.now extent.now) extents)
+    requires known { All (IsKnownEh section.now address) cies.now }
+    ensures content { (extents : List Extent) → map seen_eh_cie cies.now
+        ≡ map (known_eh section.now) (filter (is_cie_before section.now extent.now) extents)
         → Gives (λ read. read.body.items) result
         (viewed (entry_body base) (content_of section.now address extents extent.now)) }
-    ensures cie { IfOk result (λ read. option_map seen_cie read.cie
-        ≡ (if is_eh_cie section.now extent.now then Some (known section.now extent.now) else None)) }
-    ensures is { IfOk result (λ read. IfSome read.cie (IsKnown section.now address)) }
+    ensures cie { IfOk result (λ read. option_map seen_eh_cie read.cie
+        ≡ (if is_eh_cie section.now extent.now then Some (known_eh section.now extent.now) else None)) }
+    ensures is { IfOk result (λ read. IfSome read.cie (IsKnownEh section.now address)) }
     ensures short { IfOk result (λ read. length read.body.items ≤ 12 + 7 * length section.now) }
 {
     let mut reader = body(section, extent);

@@ -11,11 +11,10 @@ mod both;
 mod cie;
 mod constants;
 mod entry;
-mod extents;
 mod fault;
 mod fde;
 mod instructions;
-mod known_cie;
+mod known_eh_cie;
 mod laws;
 mod section;
 

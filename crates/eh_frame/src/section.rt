@@ -9,9 +9,8 @@ ghost use Rattle.eh_frame.specs.Translation.{block_with, block_of, translated, t
 ghost use Rattle.eh_frame.specs.private.Adjoining.{AreAdjoining};
 
 use crate::entry::{ReadEntry, read_entry};
-use crate::extents::all_extents;
 use crate::fault::{EhFault, told};
-use cfi_table::{Extent, FrameFault};
+use cfi_table::{Extent, FrameFault, ZeroLength, all_extents};
 use prof_bytes::{Fail, Memory, Text, put_u32};
 use std::alloc::Global;
 
@@ -82,7 +81,7 @@ fn translated(
     ensures bytes { Gives (λ bytes. bytes.items) result (translated section.now address base) }
     ensures few { IfOk result (λ bytes. length bytes.items ≤ 8 * length section.now) }
 {
-    let (extents, broken) = all_extents(alloc, section)?;
+    let (extents, broken) = all_extents(alloc, section, ZeroLength::EndsList)?;
     let bytes = put_entries(alloc, section, address, base, &extents)?;
     match broken {
         Some(fault) => Err(Fail::Fault(fault)),

@@ -9,8 +9,8 @@ use Rattle.prof_bytes.specs.Number.{number_in}
 unfoldable pub number_of : ℕ → List ℕ → ℕ → ℕ
 number_of count file offset = if nat_le (offset + count) (length file) then number_in count (drop offset file) else 0
 
-abbrev pub byte_at : List ℕ → ℕ → ℕ
-byte_at file offset = slice_index file offset
+abbrev pub file_byte : List ℕ → ℕ → ℕ
+file_byte file offset = slice_index file offset
 
 abbrev pub half_at : List ℕ → ℕ → ℕ
 half_at file offset = number_of 2 file offset

@@ -8,7 +8,7 @@ use Rattle.elf_image.specs.declared.elf.TheConstants.{SHN_UNDEF, SHT_NOBITS, SHT
 use Rattle.elf_image.specs.declared.header.ProgramHeader.{ProgramHeader}
 use Rattle.elf_image.specs.declared.header.SectionHeader.{SectionHeader}
 use Rattle.elf_image.specs.declared.header.Symbol.{Symbol}
-use Rattle.elf_image.specs.Fields.{byte_at, half_at, word_at, table_entries, text_in}
+use Rattle.elf_image.specs.Fields.{file_byte, half_at, word_at, table_entries, text_in}
 use Rattle.elf_image.specs.Image.{Named, FunctionSymbol, counts}
 
 -- a program header of 32 bytes
@@ -44,7 +44,7 @@ symbol_entry file offset = record {
   st_name = word_at file offset;
   st_value = word_at file (offset + 4);
   st_size = word_at file (offset + 8);
-  st_type = byte_at file (offset + 12) % 16;
+  st_type = file_byte file (offset + 12) % 16;
   st_shndx = half_at file (offset + 14);
 }
 

@@ -10,7 +10,7 @@ use Rattle.elf_image.specs.declared.elf.TheConstants.{ELFMAG2, ELFMAG3, EM_RISCV
 use Rattle.elf_image.specs.declared.elf.TheConstants.{SHT_STRTAB}
 use Rattle.elf_image.specs.declared.header.ProgramHeader.{ProgramHeader}
 use Rattle.elf_image.specs.declared.header.SectionHeader.{SectionHeader}
-use Rattle.elf_image.specs.Fields.{byte_at, half_at, word_at, lies_within, same_bytes}
+use Rattle.elf_image.specs.Fields.{file_byte, half_at, word_at, lies_within, same_bytes}
 use Rattle.elf_image.specs.Image.{has_flag, stacks_begin}
 use Rattle.elf_image.specs.Headers.{e_phoff, e_phnum, e_shoff, e_shnum, e_shstrndx, section_headers, segments}
 use Rattle.elf_image.specs.Headers.{is_section, has_bytes, name_of, symbols_of, is_function, symbol_name}
@@ -26,19 +26,19 @@ differs m n = not (m == n)
 -- it does not begin as every ELF file does, or has no room for the header
 unfoldable pub not_elf : List ℕ → Option ℕ
 not_elf file = first_of (
-    (differs (byte_at file 0) ELFMAG0, 0)
-    ∷ (differs (byte_at file 1) ELFMAG1, 1)
-    ∷ (differs (byte_at file 2) ELFMAG2, 2)
-    ∷ (differs (byte_at file 3) ELFMAG3, 3)
+    (differs (file_byte file 0) ELFMAG0, 0)
+    ∷ (differs (file_byte file 1) ELFMAG1, 1)
+    ∷ (differs (file_byte file 2) ELFMAG2, 2)
+    ∷ (differs (file_byte file 3) ELFMAG3, 3)
     ∷ (nat_lt (length file) ELF32_EHDR_SIZE, length file)
     ∷ [])
 
 -- class, data and version, type, machine, and version again
 unfoldable pub not_riscv32_exec : List ℕ → Option ℕ
 not_riscv32_exec file = first_of (
-    (differs (byte_at file 4) ELFCLASS32, 4)
-    ∷ (differs (byte_at file 5) ELFDATA2LSB, 5)
-    ∷ (differs (byte_at file 6) EV_CURRENT, 6)
+    (differs (file_byte file 4) ELFCLASS32, 4)
+    ∷ (differs (file_byte file 5) ELFDATA2LSB, 5)
+    ∷ (differs (file_byte file 6) EV_CURRENT, 6)
     ∷ (differs (half_at file 16) ET_EXEC, 16)
     ∷ (differs (half_at file 18) EM_RISCV, 18)
     ∷ (differs (word_at file 20) EV_CURRENT, 20)

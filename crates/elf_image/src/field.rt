@@ -1,12 +1,12 @@
 //! Fields of a file by their offsets, and 0 where the file has no such field.
 ghost use Rattle.std.specs.Prelude.{◌≡◌, ◌+◌, ◌<◌, ◌≤◌, length, position, option_map, IfSome};
 ghost use Rattle.std.specs.Option.{option_copied};
-ghost use Rattle.elf_image.specs.Fields.{byte_at, half_at, word_at, lies_within, is_zero, text_in};
+ghost use Rattle.elf_image.specs.Fields.{file_byte, half_at, word_at, lies_within, is_zero, text_in};
 
 use byteorder::{ByteOrder, LittleEndian};
 
 pub(crate) fn byte_at(file: &[u8], offset: usize) -> u8
-    ensures { result ≡ byte_at file.now offset }
+    ensures { result ≡ file_byte file.now offset }
 {
     match file.get(offset) {
         Some(byte) => *byte,

@@ -52,13 +52,13 @@ shstrtab = string_table section_names
 abbrev pub symbol_bytes : ℕ → ℕ → ℕ → List ℕ
 symbol_bytes name value size = words (name ∷ value ∷ size ∷ []) ++ (16 * STB_GLOBAL + STT_FUNC) ∷ 0 ∷ half SHN_ABS
 
-abbrev pub function_symbol : ℕ → List ℕ
-function_symbol i = symbol_bytes (name_offset symbol_names (i + 1)) (function_start i) function_size
+abbrev pub drawn_symbol : ℕ → List ℕ
+drawn_symbol i = symbol_bytes (name_offset symbol_names (i + 1)) (function_start i) function_size
 
 -- a symbol of zeros, the start, and the functions
 unfoldable pub symtab : List ℕ
 symtab = replicate ELF32_SYM_SIZE 0 ++ symbol_bytes (name_offset symbol_names 0) entry 16
-    ++ flat_map function_symbol (range_with_len 0 functions)
+    ++ flat_map drawn_symbol (range_with_len 0 functions)
 
 -- ---- where the parts stand: the file's header, the program header, the code, the sections and their headers
 

@@ -18,7 +18,7 @@ use Rattle.rv_run.specs.declared.schedule.Slice.{Slice}
 use Rattle.rv_run.specs.declared.hart.HartEnd.{HartEnd}
 use Rattle.rv_run.specs.declared.hart.HartEnd.TheVariants as ends
 use Rattle.rv_run.specs.State.{HartState, MachineState, first_hart, hart_in, hart_of, no_hart, is_running, step_state, stepped_hart}
-use Rattle.rv_run.specs.Calls.{Acted, Answered, holds_in, negative, reads, writes, call_numbered, completes, ends_by, ends_all, grouped, with_answer, with_end, only_answers, all_readable, writes_out, taken, read_into}
+use Rattle.rv_run.specs.Calls.{Acted, Answered, holds_in, negative, reads, writes, call_numbered, completes, ends_by, ends_all, grouped, with_answer, with_end, only_answers, all_readable, writes_out, room_for, read_into}
 use Rattle.rv_run.specs.Run.{Instant, Run, acts, acts_by, acts_after, finished, preceded, next_instant, state_after, stepped_machine, run_slice, run_slices}
 use Rattle.scope_types.specs.Distinct.{HartRaw}
 use Rattle.scope_types.specs.Raw.{HasFrames}
@@ -142,7 +142,7 @@ reads_low a b c s all =
 
 writes_low : (a b c : ℕ) (s : MachineState) → AllLow s.harts → AllLow (writes a b c s).state.harts
 writes_low a b c s all =
-    either_answered ((a == 1) || (a == 2)) _ _ (either_answered (all_readable s.memory b c) (writes_out b (taken c s.output) s) _ all all) all
+    either_answered ((a == 1) || (a == 2)) _ _ (either_answered (all_readable s.memory b c) (writes_out b (room_for c s.output) s) _ all all) all
 
 completes_low : (hart : ℕ) (answered : Answered) → AllLow answered.state.harts → AllLow (completes hart answered).state.harts
 completes_low hart answered all =

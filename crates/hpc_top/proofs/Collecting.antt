@@ -22,7 +22,7 @@ use Rattle.thread_cct.specs.Adding.{few_frames, too_many}
 use Rattle.hpc_top.specs.declared.status.InputFault.{InputFault}
 use Rattle.hpc_top.specs.declared.status.InputFault.TheVariants.{TooManySamples, TooManyFrames as TooMany}
 use Rattle.hpc_top.specs.Samples.{hart_raw, within_frames, within_samples, few_samples}
-use Rattle.hpc_top.specs.private.Collecting.{AllCounted, Exceeds, Goes, Stops, raws_to_come}
+use Rattle.hpc_top.specs.private.Collecting.{AllCounted, Exceeds, GivesNext, Stops, raws_to_come}
 
 -- ---- the limits
 
@@ -230,8 +230,8 @@ module _ (path_of : Paths) (harts : ℕ) (start old new : Sampling) (ccts : List
   so_far_stops (fails.Memory memory) stops = tt
 
 -- what the answer says
-pub given_by : (path_of : Paths) (answer : Option Sample) (sample : Sample) (old new : Sampling) → answer ≡ Some sample → Goes path_of (Ok answer) old new → Given path_of sample old new
-given_by path_of answer sample old new is goes = subst (λ (o : Option Sample). Goes path_of (Ok o) old new) is goes
+pub given_by : (path_of : Paths) (answer : Option Sample) (sample : Sample) (old new : Sampling) → answer ≡ Some sample → GivesNext path_of (Ok answer) old new → Given path_of sample old new
+given_by path_of answer sample old new is goes = subst (λ (o : Option Sample). GivesNext path_of (Ok o) old new) is goes
 
-pub over_by : (path_of : Paths) (answer : Option Sample) (old new : Sampling) → answer ≡ None → Goes path_of (Ok answer) old new → IsOver path_of old new
-over_by path_of answer old new is goes = subst (λ (o : Option Sample). Goes path_of (Ok o) old new) is goes
+pub over_by : (path_of : Paths) (answer : Option Sample) (old new : Sampling) → answer ≡ None → GivesNext path_of (Ok answer) old new → IsOver path_of old new
+over_by path_of answer old new is goes = subst (λ (o : Option Sample). GivesNext path_of (Ok o) old new) is goes

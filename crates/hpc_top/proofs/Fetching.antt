@@ -12,7 +12,7 @@ use Rattle.hpc_top.specs.declared.status.Stop.TheVariants.{Input, Device, Memory
 use Rattle.hpc_top.specs.declared.status.Place.TheVariants.{Read, Store, Print}
 use Rattle.hpc_top.specs.declared.steps.Want.{Want}
 use Rattle.hpc_top.specs.private.Views.{view_want}
-use Rattle.hpc_top.specs.Task.{Wanted, within, contents}
+use Rattle.hpc_top.specs.Task.{Wanted, limited_bytes, contents}
 use Rattle.hpc_top.specs.Outcome.{ReadFailed}
 use Rattle.hpc_top.specs.private.Steps.{Looked, FetchStops, AreWithin}
 
@@ -26,12 +26,12 @@ pub told_on : (s t : ShelfState) → Looked s t → IsTrue s.known → IsTrue t.
 told_on s t looked told = looked.known ∙ told
 
 -- a file more
-contents_more : (files : Files) (ws : List Wanted) (w : Wanted) (texts : List (List ℕ)) (text : List ℕ) → contents files ws ≡ Ok texts → within files w ≡ Ok text → contents files (ws ++ w ∷ []) ≡ Ok (texts ++ text ∷ [])
+contents_more : (files : Files) (ws : List Wanted) (w : Wanted) (texts : List (List ℕ)) (text : List ℕ) → contents files ws ≡ Ok texts → limited_bytes files w ≡ Ok text → contents files (ws ++ w ∷ []) ≡ Ok (texts ++ text ∷ [])
 contents_more files [] w texts text so_far one =
     let none : [] ≡ texts = cc in
     ap (λ (r : Result (List ℕ) InputFault). r >>= λ bytes. Ok (bytes ∷ [])) one ∙ ap (λ (ts : List (List ℕ)). Ok (ts ++ text ∷ [])) none
 contents_more files (v ∷ ws) w texts text so_far one =
-    let first = bind_ok (within files v) (λ bytes. contents files ws >>= λ rest. Ok (bytes ∷ rest)) texts so_far in
+    let first = bind_ok (limited_bytes files v) (λ bytes. contents files ws >>= λ rest. Ok (bytes ∷ rest)) texts so_far in
     let later = bind_ok (contents files ws) (λ rest. Ok (first.0 ∷ rest)) texts first.2 in
     let whole : first.0 ∷ later.0 ≡ texts = (let e = later.2 in cc) in
     ap (λ (r : Result (List ℕ) InputFault). r >>= λ bytes. contents files (ws ++ w ∷ []) >>= λ rest. Ok (bytes ∷ rest)) first.1
@@ -39,10 +39,10 @@ contents_more files (v ∷ ws) w texts text so_far one =
     ∙ ap (λ (ts : List (List ℕ)). Ok (ts ++ text ∷ [])) whole
 
 -- the first that is too long
-contents_stops : (files : Files) (ws : List Wanted) (w : Wanted) (vs : List Wanted) (texts : List (List ℕ)) (fault : InputFault) → contents files ws ≡ Ok texts → within files w ≡ Err fault → contents files (ws ++ w ∷ vs) ≡ Err fault
+contents_stops : (files : Files) (ws : List Wanted) (w : Wanted) (vs : List Wanted) (texts : List (List ℕ)) (fault : InputFault) → contents files ws ≡ Ok texts → limited_bytes files w ≡ Err fault → contents files (ws ++ w ∷ vs) ≡ Err fault
 contents_stops files [] w vs texts fault so_far one = ap (λ (r : Result (List ℕ) InputFault). r >>= λ bytes. contents files vs >>= λ rest. Ok (bytes ∷ rest)) one
 contents_stops files (v ∷ ws) w vs texts fault so_far one =
-    let first = bind_ok (within files v) (λ bytes. contents files ws >>= λ rest. Ok (bytes ∷ rest)) texts so_far in
+    let first = bind_ok (limited_bytes files v) (λ bytes. contents files ws >>= λ rest. Ok (bytes ∷ rest)) texts so_far in
     let later = bind_ok (contents files ws) (λ rest. Ok (first.0 ∷ rest)) texts first.2 in
     ap (λ (r : Result (List ℕ) InputFault). r >>= λ bytes. contents files (ws ++ w ∷ vs) >>= λ rest. Ok (bytes ∷ rest)) first.1
     ∙ ap (λ (r : Result (List (List ℕ)) InputFault). r >>= λ rest. Ok (first.0 ∷ rest)) (contents_stops files ws w vs later.0 fault later.1 one)
@@ -62,26 +62,26 @@ wanted_at ws i w less is = ap view_want is ∙ sym (get_or-map view_want ws i w 
 -- so far, and one more
 pub fetched_more : (s t u : ShelfState) (ws : List Want) (i : ℕ) (w : Want) (texts texts' : List (List ℕ)) (text : List ℕ) → i < length ws → w ≡ get_or ws i w
     → Looked s t → (IsTrue s.known → contents s.files (take i (map view_want ws)) ≡ Ok texts)
-    → Looked t u → (IsTrue t.known → within t.files (view_want w) ≡ Ok text) → texts' ≡ texts ++ text ∷ []
+    → Looked t u → (IsTrue t.known → limited_bytes t.files (view_want w) ≡ Ok text) → texts' ≡ texts ++ text ∷ []
     → IsTrue s.known → contents s.files (take (i + 1) (map view_want ws)) ≡ Ok texts'
 fetched_more s t u ws i w texts texts' text less is looked so_far later one texts_are told =
     let all : List Wanted = map view_want ws in
     let inside : i < length all = (let e = length-map ws view_want in omega arith) in
-    let here : within s.files (view_want w) ≡ Ok text = subst (λ (files : Files). within files (view_want w) ≡ Ok text) looked.files (one (told_on s t looked told)) in
+    let here : limited_bytes s.files (view_want w) ≡ Ok text = subst (λ (files : Files). limited_bytes files (view_want w) ≡ Ok text) looked.files (one (told_on s t looked told)) in
     ap (contents s.files) (take_more all i (view_want w) inside ∙ ap (λ (v : Wanted). take i all ++ v ∷ []) (sym (wanted_at ws i w less is)))
     ∙ contents_more s.files (take i all) (view_want w) texts text (so_far told) here ∙ ap (λ (ts : List (List ℕ)). Ok ts) (sym texts_are)
 
 -- so far, and one that stops
 pub fetch_all_stops : (s t u : ShelfState) (ws : List Want) (i : ℕ) (w : Want) (texts : List (List ℕ)) (stop : Stop) → i < length ws → w ≡ get_or ws i w
     → Looked s t → (IsTrue s.known → contents s.files (take i (map view_want ws)) ≡ Ok texts)
-    → FetchStops (Fails t.reads u.reads (view_want w).name) t u (within t.files (view_want w)) stop
+    → FetchStops (Fails t.reads u.reads (view_want w).name) t u (limited_bytes t.files (view_want w)) stop
     → FetchStops (ReadFailed (map view_want ws) s u) s u (contents s.files (map view_want ws)) stop
 fetch_all_stops s t u ws i w texts stop less is looked so_far stops =
     let all : List Wanted = map view_want ws in
     let inside : i < length all = (let e = length-map ws view_want in omega arith) in
     let parts : all ≡ take i all ++ view_want w ∷ drop (suc i) all =
     sym (take-append-drop i all) ∙ ap (λ (rest : List Wanted). take i all ++ rest) (drop-cons all i (view_want w) inside ∙ ap (λ (v : Wanted). v ∷ drop (suc i) all) (sym (wanted_at ws i w less is))) in
-    stops_on (Fails t.reads u.reads (view_want w).name) (ReadFailed all s u) s t u (within t.files (view_want w)) (contents s.files all) looked
+    stops_on (Fails t.reads u.reads (view_want w).name) (ReadFailed all s u) s t u (limited_bytes t.files (view_want w)) (contents s.files all) looked
     (λ failed. record {
       rose = (let more = looked.reads in let rose = failed.rose in omega arith);
       earlier = take i all;
@@ -91,7 +91,7 @@ fetch_all_stops s t u ws i w texts stop less is looked so_far stops =
       named = failed.named;
       within_limits = λ told. ap is_ok (so_far told);
     })
-    (λ fault told refused. ap (contents s.files) parts ∙ contents_stops s.files (take i all) (view_want w) (drop (suc i) all) texts fault (so_far told) (subst (λ (files : Files). within files (view_want w) ≡ Err fault) looked.files refused))
+    (λ fault told refused. ap (contents s.files) parts ∙ contents_stops s.files (take i all) (view_want w) (drop (suc i) all) texts fault (so_far told) (subst (λ (files : Files). limited_bytes files (view_want w) ≡ Err fault) looked.files refused))
     stop stops
 
 -- a text more

@@ -22,7 +22,7 @@ use Rattle.hpc_top.specs.declared.status.InputFault.{InputFault}
 use Rattle.hpc_top.specs.Attribution.{Attributed, attribution_of, call_paths_of}
 use Rattle.hpc_top.specs.Listed.{only_text}
 use Rattle.hpc_top.specs.Product.{Product}
-use Rattle.hpc_top.specs.Shown.{database_from, most_callers, table_from, table_of, view_product}
+use Rattle.hpc_top.specs.Shown.{database_from, most_callers, table_of_paths, table_of, view_product}
 use Rattle.hpc_top.specs.Words.{ViewTable, Top, Callers, Flat}
 
 -- what is so of the content of call paths, of which each has a node, and whose harts are below the number of harts
@@ -42,7 +42,7 @@ CallersLaw = (period harts depth : ℕ) (naming : Naming) (ps : List HartPath) �
 abbrev pub FlatLaw : Type 0
 FlatLaw = OfCallPaths (λ period harts naming ps. flat (content_of period harts naming ps).period (naming_in (content_of period harts naming ps).names) (paths_of (content_of period harts naming ps)) ≡ flat period naming ps)
 
-pub table_of_content : TopLaw → CallersLaw → FlatLaw → (table : ViewTable) → OfCallPaths (λ period harts naming ps. table_of table (content_of period harts naming ps) ≡ table_from table period harts naming ps)
+pub table_of_content : TopLaw → CallersLaw → FlatLaw → (table : ViewTable) → OfCallPaths (λ period harts naming ps. table_of table (content_of period harts naming ps) ≡ table_of_paths table period harts naming ps)
 table_of_content top by_callers by_flat Top period harts naming ps positive few some below = top period harts naming ps positive few some below
 table_of_content top by_callers by_flat Callers period harts naming ps positive few some below = by_callers period harts most_callers naming ps positive few some below
 table_of_content top by_callers by_flat Flat period harts naming ps positive few some below = by_flat period harts naming ps positive few some below
@@ -63,7 +63,7 @@ abbrev pub ReadLaw : Type 0
 ReadLaw = (period harts : ℕ) (naming : Naming) (ps : List HartPath) → AreStored period harts naming ps → database_in (spelling (content_of period harts naming ps)) ≡ Ok (content_of period harts naming ps)
 
 pub shown_of_stored : TopLaw → CallersLaw → FlatLaw → ReadLaw → (table : ViewTable) (period : ℕ) (a : Attributed) → AreStored period a.harts a.naming (call_paths_of a)
-    → view_product table (attribution_of period a).stored ≡ Ok (only_text (table_from table period a.harts a.naming (call_paths_of a)))
+    → view_product table (attribution_of period a).stored ≡ Ok (only_text (table_of_paths table period a.harts a.naming (call_paths_of a)))
 shown_of_stored top by_callers by_flat read table period a stored =
     let ps : List HartPath = call_paths_of a in
     let few : length (nodes ps) ≤ no_parent = (let limit = stored.few_nodes in omega arith) in

@@ -35,12 +35,12 @@ debug_texts image =
     record { str_bytes = (debug_sections image).str_bytes; line_str = (debug_sections image).line_str }
 
 -- the units and entries
-abbrev pub entries_from : Result DebugInfo InfoFault → Result DebugInfo InputFault
-entries_from (Ok info) = Ok info
-entries_from (Err fault) = Err (Entries fault)
+abbrev pub entries_or_fault : Result DebugInfo InfoFault → Result DebugInfo InputFault
+entries_or_fault (Ok info) = Ok info
+entries_or_fault (Err fault) = Err (Entries fault)
 
 abbrev pub debug_entries : ProgramImage → Result DebugInfo InputFault
-debug_entries image = entries_from (debug_info_of (debug_sections image))
+debug_entries image = entries_or_fault (debug_info_of (debug_sections image))
 
 -- the offsets of the line tables that units name, ascending, each once
 abbrev pub table_offsets : List Unit → List ℕ

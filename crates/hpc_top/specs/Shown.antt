@@ -24,14 +24,14 @@ abbrev pub most_callers : ℕ
 most_callers = 8
 
 -- a table of call paths, by the period, the number of harts and the names
-abbrev pub table_from : ViewTable → ℕ → ℕ → Naming → List HartPath → List ℕ
-table_from Top period harts naming paths = top_down period harts naming paths
-table_from Callers period harts naming paths = callers period naming most_callers paths
-table_from Flat period harts naming paths = flat period naming paths
+abbrev pub table_of_paths : ViewTable → ℕ → ℕ → Naming → List HartPath → List ℕ
+table_of_paths Top period harts naming paths = top_down period harts naming paths
+table_of_paths Callers period harts naming paths = callers period naming most_callers paths
+table_of_paths Flat period harts naming paths = flat period naming paths
 
 -- a table of the call paths that a content holds
 abbrev pub table_of : ViewTable → Content → List ℕ
-table_of table c = table_from table c.period c.harts (naming_in c.names) (paths_of c)
+table_of table c = table_of_paths table c.period c.harts (naming_in c.names) (paths_of c)
 
 -- ---- the database
 

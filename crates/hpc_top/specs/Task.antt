@@ -28,8 +28,8 @@ pub record Task : Type 0 where
   pub makes : List (List ℕ) → Result Product InputFault
 
 -- the bytes of a file, unless it is too long
-abbrev pub within : Files → Wanted → Result (List ℕ) InputFault
-within files w =
+abbrev pub limited_bytes : Files → Wanted → Result (List ℕ) InputFault
+limited_bytes files w =
     if nat_lt w.limit (length (file_bytes files w.name)) then Err (TooLong w.file w.limit)
     else Ok (file_bytes files w.name)
 
@@ -37,7 +37,7 @@ within files w =
 abbrev pub contents : Files → List Wanted → Result (List (List ℕ)) InputFault
 contents files [] = Ok []
 contents files (w ∷ ws) = do
-  bytes ← within files w
+  bytes ← limited_bytes files w
   rest ← contents files ws
   Ok (bytes ∷ rest)
 

@@ -1,5 +1,5 @@
 //! The database and the table of a content at once: each needs the content alone, so a thread of its own makes each,
-//! and touches its pages first.
+//! and touches its pages first. Before that both find the length of the table, which takes longer than the database.
 ghost use Rattle.std.specs.Prelude.{◌≡◌, ◌++◌, IfOk};
 ghost use Rattle.prof_db.specs.Spelling.{spelling};
 ghost use Rattle.prof_db.specs.Writable.{IsWritable};
@@ -12,6 +12,7 @@ use rayon::join;
 use std::alloc::Global;
 use std::thread::Threads;
 use tree_types::Content;
+use view_tables::{top_down_length, top_down_length_by_two};
 
 /// With fewer nodes than these one thread makes both: another takes longer to start.
 const WORTH_A_THREAD: usize = 8_192;
@@ -29,8 +30,9 @@ pub fn database_and_report<R: Threads + Sync>(
     profiles_are_writable();
     if content.nodes.items().len() < WORTH_A_THREAD {
         let database = write_db(alloc, content)?;
-        return Ok((database, report(lines, content)?));
+        return Ok((database, report(lines, top_down_length(content), content)?));
     }
+    let length = top_down_length_by_two(rt, content);
     let (database, report) = join(
         rt,
         || -> Result<Text, Memory>
@@ -40,7 +42,7 @@ pub fn database_and_report<R: Threads + Sync>(
         || -> Result<Text, Memory>
             requires { IsProfile content.now }
             ensures { IfOk result (λ text. text ≡ lines ++ content_table content.entry.now) }
-        { report(lines, content) },
+        { report(lines, length, content) },
     );
     Ok((database?, report?))
 }

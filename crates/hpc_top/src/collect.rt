@@ -6,7 +6,7 @@ ghost use Rattle.rv_run.specs.State.{first_state};
 ghost use Rattle.scope_types.specs.Distinct.{HartRaw, distinct, samples_in};
 ghost use Rattle.scope_types.specs.Limits.{most_samples};
 ghost use Rattle.hpc_top.specs.Samples.{hart_raw, within_frames};
-ghost use Rattle.hpc_top.specs.private.Collecting.{Collects, Goes};
+ghost use Rattle.hpc_top.specs.private.Collecting.{Collects, GivesNext};
 
 use crate::status::InputFault;
 use elf_image::Image;
@@ -59,7 +59,7 @@ fn next_sample<U: Unwind>(
     samples: &mut Samples<'_>,
     unwinder: &U,
 ) -> Result<Option<Sample>, Fail<InputFault>>
-    ensures answer { Goes (U.path_of unwinder.now) result samples.old samples.new }
+    ensures answer { GivesNext (U.path_of unwinder.now) result samples.old samples.new }
     ensures last { (to_come samples.new.machine).final ≡ (to_come samples.old.machine).final }
 {
     match samples.next(unwinder) {

@@ -13,7 +13,7 @@ use rv_run::{HartEnd, Machine};
 use std::alloc::Global;
 use thread_cct::Ccts;
 use tree_types::Content;
-use view_tables::{put_address, put_top_down, top_down_length};
+use view_tables::{put_address, put_top_down};
 
 fn cause_name(cause: Cause) -> &'static str
     ensures { result.now ≡ cause_text cause }
@@ -160,22 +160,14 @@ pub fn run_report(
     Ok(Text::from_vec(lines))
 }
 
-/// The content's table.
-pub fn table(alloc: Global, content: &Content) -> Result<Text, Memory>
-    requires { IsProfile content.now }
-    ensures { IfOk result (λ text. text ≡ content_table content.now) }
-{
-    report(Text::from_vec(Vec::new(alloc)), content)
-}
-
-/// The report of a profile: the lines on its run, and the content's table.
-pub fn report(lines: Text, content: &Content) -> Result<Text, Memory>
+/// The report of a profile: the lines on its run, and the content's table, which has so many bytes.
+pub fn report(lines: Text, length: u64, content: &Content) -> Result<Text, Memory>
     requires { IsProfile content.now }
     ensures { IfOk result (λ text. text ≡ lines ++ content_table content.now) }
 {
     let mut bytes = lines.into_vec();
     // A table may have gigabytes: where there is no room for it, memory runs out here, and not in the middle.
-    bytes.reserve(top_down_length(content) as usize)?;
+    bytes.reserve(length as usize)?;
     put_top_down(&mut bytes, content)?;
     Ok(Text::from_vec(bytes))
 }

@@ -7,7 +7,7 @@ ghost use Rattle.tree_types.specs.Naming.{Naming};
 ghost use Rattle.tree_types.specs.Nodes.{nodes, no_parent};
 ghost use Rattle.hpc_top.specs.Attribution.{Attributed, attribution_of, call_paths_of};
 ghost use Rattle.hpc_top.specs.Listed.{only_text};
-ghost use Rattle.hpc_top.specs.Shown.{table_from, table_of, view_product};
+ghost use Rattle.hpc_top.specs.Shown.{table_of_paths, table_of, view_product};
 ghost use Rattle.hpc_top.specs.Words.{ViewTable};
 
 use prof_db::call_paths_are_stored;
@@ -21,11 +21,11 @@ pub fn views_are_of_call_paths()
     ensures content { (table : ViewTable) (period harts : ℕ) (naming : Naming) (paths : List HartPath)
         → 0 < period → length (nodes paths) ≤ no_parent
         → All (λ p. 0 < length p.path) paths → All (λ p. p.hart < harts) paths
-        → table_of table (content_of period harts naming paths) ≡ table_from table period harts naming paths }
+        → table_of table (content_of period harts naming paths) ≡ table_of_paths table period harts naming paths }
     ensures stored { (table : ViewTable) (period : ℕ) (a : Attributed)
         → AreStored period a.harts a.naming (call_paths_of a)
         → view_product table (attribution_of period a).stored
-        ≡ Ok (only_text (table_from table period a.harts a.naming (call_paths_of a))) }
+        ≡ Ok (only_text (table_of_paths table period a.harts a.naming (call_paths_of a))) }
 {
     content_holds_its_paths();
     tables_are_of_call_paths();

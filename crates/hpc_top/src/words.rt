@@ -1,11 +1,11 @@
 //! What the words of a command line ask for.
-ghost use Rattle.std.specs.Prelude.{◌≡◌, ◌∷◌, []};
+ghost use Rattle.std.specs.Prelude.{◌≡◌, ◌∷◌, [], option_map};
 ghost use Rattle.std.specs.List.{list_all};
 ghost use Rattle.std.specs.Option.{option_copied};
 ghost use Rattle.hpc_top.specs.Words.{drill_words, is_file_name, prof_words, profile_words, request_of, run_words};
 ghost use Rattle.hpc_top.specs.Words.{struct_words, table_named, view_words};
-ghost use Rattle.hpc_top.specs.private.Views.{view_drills, view_profiles, view_profs, view_requests, view_runs};
-ghost use Rattle.hpc_top.specs.private.Views.{view_tables, view_views};
+ghost use Rattle.hpc_top.specs.private.Views.{asked_table, view_drill, view_prof, view_profile, view_request, view_run};
+ghost use Rattle.hpc_top.specs.private.Views.{view_view};
 
 use crate::request::{
     DrillWords, ProfWords, ProfileWords, Request, RunWords, ViewTable, ViewWords,
@@ -38,7 +38,7 @@ fn profile_named<'a>(
     workers: &Text,
     database: &'a Text,
 ) -> Option<ProfileWords<'a>>
-    ensures { view_profiles result ≡ profile_words
+    ensures { option_map view_profile result ≡ profile_words
         (elf.now ∷ input.now ∷ schedule.now ∷ period.now ∷ workers.now ∷ database.now ∷ []) }
 {
     if !are_file_names(&[elf, input, schedule, database]) {
@@ -57,7 +57,7 @@ fn profile_named<'a>(
 }
 
 fn read_profile(words: &[Text]) -> Option<ProfileWords<'_>>
-    ensures { view_profiles result ≡ profile_words words.now }
+    ensures { option_map view_profile result ≡ profile_words words.now }
 {
     match words {
         [elf, input, schedule, period, workers, database] => {
@@ -68,68 +68,40 @@ fn read_profile(words: &[Text]) -> Option<ProfileWords<'_>>
 }
 
 /// The names and the number of a run, each from its word; `None` where one is invalid.
-fn run_named<'a>(
-    elf: &'a Text,
-    input: &'a Text,
-    schedule: &'a Text,
-    period: &Text,
-    measurement: &'a Text,
-) -> Option<RunWords<'a>>
-    ensures { view_runs result
-        ≡ run_words (elf.now ∷ input.now ∷ schedule.now ∷ period.now ∷ measurement.now ∷ []) }
+fn read_run(words: &[Text]) -> Option<RunWords<'_>>
+    ensures { option_map view_run result ≡ run_words words.now }
 {
+    let [elf, input, schedule, period, measurement] = words else {
+        return None;
+    };
     if !are_file_names(&[elf, input, schedule, measurement]) {
         return None;
     }
-    let period = decimal(period.bytes(), 1, MOST_PERIOD)?;
     Some(RunWords {
         elf: elf.bytes(),
         input: input.bytes(),
         schedule: schedule.bytes(),
-        period,
+        period: decimal(period.bytes(), 1, MOST_PERIOD)?,
         measurement: measurement.bytes(),
     })
-}
-
-fn read_run(words: &[Text]) -> Option<RunWords<'_>>
-    ensures { view_runs result ≡ run_words words.now }
-{
-    match words {
-        [elf, input, schedule, period, measurement] => {
-            run_named(elf, input, schedule, period, measurement)
-        }
-        _ => None,
-    }
 }
 
 /// The names and the number of an attribution, each from its word; `None` where one is invalid.
-fn prof_named<'a>(
-    elf: &'a Text,
-    measurement: &'a Text,
-    workers: &Text,
-    database: &'a Text,
-) -> Option<ProfWords<'a>>
-    ensures { view_profs result ≡ prof_words (elf.now ∷ measurement.now ∷ workers.now ∷ database.now ∷ []) }
+fn read_prof(words: &[Text]) -> Option<ProfWords<'_>>
+    ensures { option_map view_prof result ≡ prof_words words.now }
 {
+    let [elf, measurement, workers, database] = words else {
+        return None;
+    };
     if !are_file_names(&[elf, measurement, database]) {
         return None;
     }
-    let workers = decimal(workers.bytes(), 1, MOST_WORKERS)?;
     Some(ProfWords {
         elf: elf.bytes(),
         measurement: measurement.bytes(),
-        workers,
+        workers: decimal(workers.bytes(), 1, MOST_WORKERS)?,
         database: database.bytes(),
     })
-}
-
-fn read_prof(words: &[Text]) -> Option<ProfWords<'_>>
-    ensures { view_profs result ≡ prof_words words.now }
-{
-    match words {
-        [elf, measurement, workers, database] => prof_named(elf, measurement, workers, database),
-        _ => None,
-    }
 }
 
 fn read_struct(words: &[Text]) -> Option<&[u8]>
@@ -143,7 +115,7 @@ fn read_struct(words: &[Text]) -> Option<&[u8]>
 
 /// The table of this name.
 fn table_of(name: &[u8]) -> Option<ViewTable>
-    ensures { view_tables result ≡ table_named name.now }
+    ensures { option_map asked_table result ≡ table_named name.now }
 {
     if name == b"top".as_slice() {
         return Some(ViewTable::Top);
@@ -158,7 +130,7 @@ fn table_of(name: &[u8]) -> Option<ViewTable>
 }
 
 fn read_view(words: &[Text]) -> Option<ViewWords<'_>>
-    ensures { view_views result ≡ view_words words.now }
+    ensures { option_map view_view result ≡ view_words words.now }
 {
     match words {
         [database, table] if !database.bytes().is_empty() => Some(ViewWords {
@@ -170,26 +142,21 @@ fn read_view(words: &[Text]) -> Option<ViewWords<'_>>
 }
 
 /// The two numbers of a drill, each from its word; `None` where one is invalid.
-fn drill_named(number: &Text, workers: &Text) -> Option<DrillWords>
-    ensures { view_drills result ≡ drill_words (number.now ∷ workers.now ∷ []) }
-{
-    let number = decimal(number.bytes(), 0, MOST_NUMBER)?;
-    let workers = decimal(workers.bytes(), 1, MOST_WORKERS)?;
-    Some(DrillWords { number, workers })
-}
-
 fn read_drill(words: &[Text]) -> Option<DrillWords>
-    ensures { view_drills result ≡ drill_words words.now }
+    ensures { option_map view_drill result ≡ drill_words words.now }
 {
-    match words {
-        [number, workers] => drill_named(number, workers),
-        _ => None,
-    }
+    let [number, workers] = words else {
+        return None;
+    };
+    Some(DrillWords {
+        number: decimal(number.bytes(), 0, MOST_NUMBER)?,
+        workers: decimal(workers.bytes(), 1, MOST_WORKERS)?,
+    })
 }
 
 /// What the words ask for; `None` where the command line is invalid.
 pub fn read_words(words: &[Text]) -> Option<Request<'_>>
-    ensures { view_requests result ≡ request_of words.now }
+    ensures { option_map view_request result ≡ request_of words.now }
 {
     match words {
         [word, rest @ ..] if word.bytes() == b"profile".as_slice() => {

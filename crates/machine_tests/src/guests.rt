@@ -15,6 +15,31 @@ pub(crate) struct Refused;
 /// Why a test found out nothing.
 pub(crate) type Trouble = Fail<Refused>;
 
+/// Adds 1 to x10 nineteen times, and exits.
+pub(crate) static ADDER: [u32; 21] = [
+    0x0015_0513, // addi x10, x10, 1
+    0x0015_0513, // addi x10, x10, 1
+    0x0015_0513, // addi x10, x10, 1
+    0x0015_0513, // addi x10, x10, 1
+    0x0015_0513, // addi x10, x10, 1
+    0x0015_0513, // addi x10, x10, 1
+    0x0015_0513, // addi x10, x10, 1
+    0x0015_0513, // addi x10, x10, 1
+    0x0015_0513, // addi x10, x10, 1
+    0x0015_0513, // addi x10, x10, 1
+    0x0015_0513, // addi x10, x10, 1
+    0x0015_0513, // addi x10, x10, 1
+    0x0015_0513, // addi x10, x10, 1
+    0x0015_0513, // addi x10, x10, 1
+    0x0015_0513, // addi x10, x10, 1
+    0x0015_0513, // addi x10, x10, 1
+    0x0015_0513, // addi x10, x10, 1
+    0x0015_0513, // addi x10, x10, 1
+    0x0015_0513, // addi x10, x10, 1
+    0x05d0_0893, // addi x17, x0, 93
+    0x0000_0073, // ecall
+];
+
 /// An ELF header and the first words of one program header, by the System V ABI: a program whose
 /// code is loaded from offset 84 at 0x10000.
 static HEAD: [u8; 68] = [
@@ -24,7 +49,7 @@ static HEAD: [u8; 68] = [
 ];
 
 /// The file of a program of so many bytes of code, up to where the code begins.
-pub(crate) fn before_code(alloc: Global, code: u32) -> Result<Vec<u8>, Trouble> {
+fn before_code(alloc: Global, code: u32) -> Result<Vec<u8>, Trouble> {
     let mut file = Vec::new(alloc);
     file.extend_from_slice(&HEAD)?;
     for word in [code, code, 5, 4] {

@@ -1,6 +1,5 @@
 //! Steps of one hart, instruction by instruction.
-use crate::guests::{Trouble, before_code, hart_at, space_of};
-use prof_bytes::put_u32;
+use crate::guests::{Trouble, guest, hart_at, space_of};
 use rv_hart::{Cause, Space, Stepped, step};
 use scope_types::Look;
 use std::alloc::Global;
@@ -14,105 +13,66 @@ const CODE: u32 = 0x1_0000;
 
 const STACK: u32 = 0xf008_0000;
 
-/// What is tried in the memory of a program.
-#[derive(Clone, Copy)]
-enum Trial {
-    Computed,
-    Branches,
-    LoadsAndStores,
-    Jumps,
-    Unchanged,
-}
-
-/// The first row of a trial that is not met in the memory of this program, by its name.
-fn unmet(alloc: Global, file: &[u8], trial: Trial) -> Result<Option<&'static str>, Trouble> {
-    let mut space = space_of(alloc, file, 1)?;
-    unmet_in(&mut space, trial)
-}
-
-fn unmet_in(space: &mut Space, trial: Trial) -> Result<Option<&'static str>, Trouble> {
-    match trial {
-        Trial::Computed => other_result(space),
-        Trial::Branches => other_branch(space),
-        Trial::LoadsAndStores => other_load_or_store(space),
-        Trial::Jumps => other_jump(space),
-        Trial::Unchanged => other_change(space),
-    }
+/// The file of a program of the words of these tables.
+macro_rules! program {
+    ($alloc:expr; $($table:expr),+) => {{
+        let mut words = Vec::new($alloc);
+        $(for row in $table {
+            words.push(row.1)?;
+        })+
+        guest($alloc, words.as_slice())
+    }};
 }
 
 fn computed_program(alloc: Global) -> Result<Vec<u8>, Trouble> {
-    let mut file = before_code(alloc, 640)?;
-    for (_, word, _, _, _) in &COMPUTED {
-        put_u32(&mut file, *word)?;
-    }
-    Ok(file)
-}
-
-fn other_result(space: &mut Space) -> Result<Option<&'static str>, Trouble> {
-    let mut pc = CODE;
-    for (name, _, x5, x6, x7) in &COMPUTED {
-        let mut hart = hart_at(pc, *x5, *x6);
-        let stepped = step(&mut hart, space)?;
-        pc = pc.wrapping_add(4);
-        if stepped != Stepped::Retired || hart.pc != pc || hart.regs[7] != *x7 {
-            return Ok(Some(name));
-        }
-    }
-    Ok(None)
+    program!(alloc; &COMPUTED)
 }
 
 #[test]
 fn computed_results(rt: HostRuntime) -> Result<(), Fail> {
     let file = computed_program(rt.alloc())?;
-    assert_eq!(rt; unmet(rt.alloc(), file.as_slice(), Trial::Computed)?, None);
+    let mut space = space_of(rt.alloc(), file.as_slice(), 1)?;
+    let mut pc = CODE;
+    for (name, _, x5, x6, x7) in &COMPUTED {
+        let mut hart = hart_at(pc, *x5, *x6);
+        assert_eq!(rt; step(&mut hart, &mut space)?, Stepped::Retired, "{name}");
+        pc = pc.wrapping_add(4);
+        assert_eq!(rt; (hart.pc, hart.regs[7]), (pc, *x7), "{name}");
+    }
     Ok(())
 }
 
 fn branches_program(alloc: Global) -> Result<Vec<u8>, Trouble> {
-    let mut file = before_code(alloc, 120)?;
-    for (_, word, _, _, _) in &BRANCHES {
-        put_u32(&mut file, *word)?;
-    }
-    Ok(file)
+    program!(alloc; &BRANCHES)
 }
 
-/// Every other branch is one by 8 bytes back, and those between are by 8 bytes on.
-fn other_branch(space: &mut Space) -> Result<Option<&'static str>, Trouble> {
-    let mut pc = CODE;
-    let mut back = true;
-    for (name, _, x5, x6, taken) in &BRANCHES {
-        let mut hart = hart_at(pc, *x5, *x6);
-        let stepped = step(&mut hart, space)?;
-        let target = match (*taken, back) {
-            (true, true) => pc.wrapping_sub(8),
-            (true, false) => pc.wrapping_add(8),
-            (false, _) => pc.wrapping_add(4),
-        };
-        if stepped != Stepped::Retired || hart.pc != target {
-            return Ok(Some(name));
-        }
-        pc = pc.wrapping_add(4);
-        back = !back;
+/// Where the branch at an address leads; every other one is by 8 bytes back, and those between are by 8 bytes on.
+fn target(pc: u32, taken: bool, back: bool) -> u32 {
+    match (taken, back) {
+        (true, true) => pc.wrapping_sub(8),
+        (true, false) => pc.wrapping_add(8),
+        (false, _) => pc.wrapping_add(4),
     }
-    Ok(None)
 }
 
 #[test]
 fn branches_both_ways(rt: HostRuntime) -> Result<(), Fail> {
     let file = branches_program(rt.alloc())?;
-    assert_eq!(rt; unmet(rt.alloc(), file.as_slice(), Trial::Branches)?, None);
+    let mut space = space_of(rt.alloc(), file.as_slice(), 1)?;
+    let mut pc = CODE;
+    let mut back = true;
+    for (name, _, x5, x6, taken) in &BRANCHES {
+        let mut hart = hart_at(pc, *x5, *x6);
+        assert_eq!(rt; step(&mut hart, &mut space)?, Stepped::Retired, "{name}");
+        assert_eq!(rt; hart.pc, target(pc, *taken, back), "{name}");
+        pc = pc.wrapping_add(4);
+        back = !back;
+    }
     Ok(())
 }
 
 fn loads_and_stores_program(alloc: Global) -> Result<Vec<u8>, Trouble> {
-    let mut file = before_code(alloc, 164)?;
-    for (_, word, _) in &LOADS {
-        put_u32(&mut file, *word)?;
-    }
-    for (_, word, _) in &STORES {
-        put_u32(&mut file, *word)?;
-    }
-    Ok(file)
+    program!(alloc; &LOADS, &STORES)
 }
 
 /// Each load finds the pattern's bytes.
@@ -158,25 +118,14 @@ fn other_store(space: &mut Space, data: u32) -> Result<Option<&'static str>, Tro
 /// In the midst of a page, and over the end of one.
 const PLACES: [u32; 2] = [STACK, STACK + 0xff9];
 
-fn other_load_or_store(space: &mut Space) -> Result<Option<&'static str>, Trouble> {
-    for data in &PLACES {
-        if let Some(name) = other_load(space, *data)? {
-            return Ok(Some(name));
-        }
-        if let Some(name) = other_store(space, *data)? {
-            return Ok(Some(name));
-        }
-    }
-    Ok(None)
-}
-
 #[test]
 fn loads_and_stores(rt: HostRuntime) -> Result<(), Fail> {
     let file = loads_and_stores_program(rt.alloc())?;
-    assert_eq!(rt;
-        unmet(rt.alloc(), file.as_slice(), Trial::LoadsAndStores)?,
-        None
-    );
+    let mut space = space_of(rt.alloc(), file.as_slice(), 1)?;
+    for data in PLACES {
+        assert_eq!(rt; other_load(&mut space, data)?, None, "at {data:#010x}");
+        assert_eq!(rt; other_store(&mut space, data)?, None, "at {data:#010x}");
+    }
     Ok(())
 }
 
@@ -260,14 +209,7 @@ const INTO_X0: [(&str, u32); 4] = [
 ];
 
 fn jumps_program(alloc: Global) -> Result<Vec<u8>, Trouble> {
-    let mut file = before_code(alloc, 40)?;
-    for (_, word, _, _) in &JUMPS {
-        put_u32(&mut file, *word)?;
-    }
-    for (_, word, _, _) in &JUMPS_BY_REGISTER {
-        put_u32(&mut file, *word)?;
-    }
-    Ok(file)
+    program!(alloc; &JUMPS, &JUMPS_BY_REGISTER)
 }
 
 fn other_jump_by_place(space: &mut Space) -> Result<Option<&'static str>, Trouble> {
@@ -296,29 +238,17 @@ fn other_jump_by_register(space: &mut Space) -> Result<Option<&'static str>, Tro
     Ok(None)
 }
 
-fn other_jump(space: &mut Space) -> Result<Option<&'static str>, Trouble> {
-    match other_jump_by_place(space)? {
-        Some(name) => Ok(Some(name)),
-        None => other_jump_by_register(space),
-    }
-}
-
 #[test]
 fn jumps(rt: HostRuntime) -> Result<(), Fail> {
     let file = jumps_program(rt.alloc())?;
-    assert_eq!(rt; unmet(rt.alloc(), file.as_slice(), Trial::Jumps)?, None);
+    let mut space = space_of(rt.alloc(), file.as_slice(), 1)?;
+    assert_eq!(rt; other_jump_by_place(&mut space)?, None);
+    assert_eq!(rt; other_jump_by_register(&mut space)?, None);
     Ok(())
 }
 
 fn unchanged_program(alloc: Global) -> Result<Vec<u8>, Trouble> {
-    let mut file = before_code(alloc, 68)?;
-    for (_, word, _, _) in &UNCHANGED {
-        put_u32(&mut file, *word)?;
-    }
-    for (_, word) in &INTO_X0 {
-        put_u32(&mut file, *word)?;
-    }
-    Ok(file)
+    program!(alloc; &UNCHANGED, &INTO_X0)
 }
 
 /// Steps that change no register and no pc.
@@ -370,19 +300,12 @@ fn other_fetch(space: &mut Space) -> Result<Option<&'static str>, Trouble> {
     Ok(None)
 }
 
-fn other_change(space: &mut Space) -> Result<Option<&'static str>, Trouble> {
-    if let Some(name) = other_end(space)? {
-        return Ok(Some(name));
-    }
-    match other_x0(space)? {
-        Some(name) => Ok(Some(name)),
-        None => other_fetch(space),
-    }
-}
-
 #[test]
 fn nothing_changes(rt: HostRuntime) -> Result<(), Fail> {
     let file = unchanged_program(rt.alloc())?;
-    assert_eq!(rt; unmet(rt.alloc(), file.as_slice(), Trial::Unchanged)?, None);
+    let mut space = space_of(rt.alloc(), file.as_slice(), 1)?;
+    assert_eq!(rt; other_end(&mut space)?, None);
+    assert_eq!(rt; other_x0(&mut space)?, None);
+    assert_eq!(rt; other_fetch(&mut space)?, None);
     Ok(())
 }

@@ -2,14 +2,14 @@
 use Rattle.std.proofs.Common.{◌≡◌, ℕ, ◌+◌, ◌^◌, ◌<◌, ◌≤◌, Bool, true, false, cond, nat_lt, List, [], ◌∷◌, ◌++◌, length, drop, replicate, sum_by, All, Result, Ok, Err, if◌then◌else◌, refl, sym, ap, subst, ◌∙◌, append_assoc, append-nil, arith}
 use Rattle.std.specs.List.{flat_map}
 use Rattle.std.proofs.lemmas.Bool.{and_from, le-leb, le-ltb, or_from, or_parts}
-use Rattle.std.proofs.lemmas.List.{drop-drop, length-append}
+use Rattle.std.proofs.lemmas.List.{length-append, map-id}
 use Rattle.std.proofs.lemmas.List.Elements.{All-head, All-tail}
 use Rattle.std.proofs.lemmas.List.Folds.{list_any-append}
 use Rattle.std.proofs.lemmas.List.Sums.{sum_by-cons}
-use Rattle.byteorder.specs.Numbers.{little_number-reads_back}
-use Rattle.prof_bytes.specs.Number.{number_in, word}
-use Rattle.prof_bytes.specs.Outcome.{◌>>=◌}
-use Rattle.prof_bytes.specs.Reading.{At, left_of, moved}
+use Rattle.prof_bytes.specs.Number.{word}
+use Rattle.prof_bytes.proofs.Lists.{Reads, items_come}
+use Rattle.prof_bytes.proofs.Written.{Comes, word_comes}
+use Rattle.prof_bytes.specs.Reading.{At, left_of}
 use Rattle.scope_types.specs.declared.frame.Counted.{Counted}
 use Rattle.scope_types.specs.declared.frame.Frame.{Frame}
 use Rattle.scope_types.specs.declared.frame.End.{End}
@@ -22,58 +22,34 @@ use Rattle.scope_types.specs.private.SameRaw.{raw_equiv}
 use Rattle.thread_cct.specs.Adding.{has_path, of_hart, with_path}
 use Rattle.thread_cct.proofs.Paths.{paths_below}
 use Rattle.measure_file.specs.declared.fault.MeasureFault.{MeasureFault}
-use Rattle.prof_bytes.specs.Repeated.{times}
-use Rattle.measure_file.specs.Fields.{Read, fault_at, word_from, word_by}
+use Rattle.prof_bytes.specs.Repeated.{adding, times}
+use Rattle.measure_file.specs.Fields.{fault_at, starting_at, word_from, word_by}
 use Rattle.measure_file.specs.Measurable.{AreDistinct, HasWord, IsCounted}
 use Rattle.measure_file.specs.Reading.{frame_from, hart_from, is_count, is_end_number, is_length, path_end, new_path, path_from}
 use Rattle.measure_file.specs.Spelling.{end_number, frame_bytes, path_bytes, hart_bytes}
-use Rattle.measure_file.proofs.Behind.{behind_count, behind_end, behind_frames, behind_length, counted_of, path_is}
 use Rattle.measure_file.proofs.Seams.{Tables, count_of, frames_of, own_of, own_put, own_sum, sum_more}
 use Rattle.measure_file.proofs.Sums.{no_sums}
-
--- a read gives a value, and leaves these bytes
-abbrev pub Comes : {S : Type 0} → Read S → S → List ℕ → Type 0
-Comes read value rest = (next : At) × (read ≡ Ok (value, next)) × (left_of next ≡ rest)
 
 -- ---- words
 
 pub word_forth : (at : At) (n : ℕ) (rest : List ℕ) → n < 2 ^ 32 → left_of at ≡ word n ++ rest → Comes (word_from at) n rest
-word_forth at n rest few left =
-    let parts = length-append (word n) rest in
-    let all = ap (λ (l : List ℕ). length l) left in
-    let four : length (word n) ≡ 4 = refl in
-    let long : nat_lt (length (left_of at)) 4 ≡ false = le-ltb (length (left_of at)) 4 (omega (arith, parts, all, four)) in
-    let number : number_in 4 (left_of at) ≡ n = ap (number_in 4) left ∙ little_number-reads_back 4 n rest (omega (arith, few)) in (
-      moved 4 at,
-      ap (λ (b : Bool). cond b (Err (fault_at at.offset)) (Ok (number_in 4 (left_of at), moved 4 at))) long ∙ ap (λ (m : ℕ). Ok (m, moved 4 at)) number,
-      sym (drop-drop 4 at.offset at.whole) ∙ ap (drop 4) left,
-    )
+word_forth at n rest few left = word_comes starting_at at n rest few left
 
 pub ruled_forth : (rule : ℕ → Bool) (at : At) (n : ℕ) (rest : List ℕ) → rule n ≡ true → n < 2 ^ 32 → left_of at ≡ word n ++ rest → Comes (word_by rule at) n rest
-ruled_forth rule at n rest passes few left =
-    let read = word_forth at n rest few left in
-    let next : At = read.0 in (
-      next,
-      ap (λ (r : Read ℕ). r >>= (λ (n, next). if rule n then Ok (n, next) else Err (fault_at at.offset))) read.1 ∙ ap (λ (b : Bool). cond b (Ok (n, next)) (Err (fault_at at.offset))) passes,
-      read.2,
-    )
+ruled_forth rule at n rest passes few left = (let read = word_forth at n rest few left in (read.0, rw (read.1, passes) refl, read.2))
 
 -- ---- frames
 
-frames_forth : (frames : List Frame) (i : ℕ) (before : List Frame) (at : At) (rest : List ℕ) → All HasWord frames → left_of at ≡ flat_map frame_bytes frames ++ rest
-    → Comes (times (λ i. frame_from) (length frames) i before at) (before ++ frames) rest
-unfolding times
-frames_forth [] i before at rest words left = (at, ap (λ (fs : List Frame). Ok (fs, at)) (sym (append-nil before)), left)
-frames_forth (f ∷ fs) i before at rest words left =
-    let text : List ℕ = flat_map frame_bytes fs ++ rest in
-    let read = word_forth at f.pc text (All-head HasWord f fs words) (left ∙ append_assoc (frame_bytes f) (flat_map frame_bytes fs) rest) in
-    let mid : At = read.0 in
-    let one : frame_from before at ≡ Ok (before ++ f ∷ [], mid) = ap (λ (r : Read ℕ). r >>= (λ (pc, next). Ok (before ++ record { pc = pc } ∷ [], next))) read.1 in
-    let more = frames_forth fs (i + 1) (before ++ f ∷ []) mid rest (All-tail HasWord f fs words) read.2 in (
-      more.0,
-      ap (λ (r : Read (List Frame)). r >>= (λ (so_far, next). times (λ i. frame_from) (length fs) (i + 1) so_far next)) one ∙ more.1 ∙ ap (λ (l : List Frame). Ok (l, more.0)) (append_assoc before (f ∷ []) fs),
-      more.2,
-    )
+frame_forth : (at : At) (frame : Frame) (rest : List ℕ) → HasWord frame → left_of at ≡ frame_bytes frame ++ rest → Reads (λ (f : Frame). f) (frame_from at) frame rest
+unfolding frame_from
+frame_forth at frame rest few left =
+    let a = word_forth at frame.pc rest few left in
+    record { value = frame; next = a.0; is = rw a.1 refl; same = refl; left = a.2 }
+
+frames_forth : (frames : List Frame) (at : At) (rest : List ℕ) → All HasWord frames → left_of at ≡ flat_map frame_bytes frames ++ rest → Comes (times (adding frame_from) (length frames) 0 [] at) frames rest
+frames_forth frames at rest words left =
+    let a = items_come frame_from (λ f. f) (λ f. f) frame_bytes HasWord frame_forth frames 0 [] at rest words left in
+    (a.next, a.is ∙ ap (λ (fs : List Frame). Ok (fs, a.next)) (sym (map-id a.xs) ∙ a.same ∙ map-id frames), a.left)
 
 -- ---- paths
 
@@ -94,7 +70,7 @@ end_few (Partial Unmapped) = omega arith
 end_few (Partial Depth) = omega arith
 
 put_forth : (done rest : Tables) (own : List Counted) (c : Counted) (offset : ℕ) → has_path c.path own ≡ false
-    → new_path (length done) offset (counted_of c.count (end_number c.path.end) c.path.frames) (done ++ own ∷ rest) ≡ Ok (done ++ (own ++ c ∷ []) ∷ rest)
+    → new_path (length done) offset (record { path = record { end = path_end (end_number c.path.end); frames = c.path.frames }; count = c.count }) (done ++ own ∷ rest) ≡ Ok (done ++ (own ++ c ∷ []) ∷ rest)
 put_forth done rest own c offset new =
     let tables : Tables = done ++ own ∷ rest in
     let hart : ℕ = length done in
@@ -105,35 +81,23 @@ put_forth done rest own c offset new =
 path_forth : (done rest : Tables) (own : List Counted) (c : Counted) (at : At) (text : List ℕ) → IsCounted c → has_path c.path own ≡ false
     → samples_in (done ++ own ∷ rest) + c.count ≤ most_samples → frames_in (done ++ own ∷ rest) + length c.path.frames ≤ most_path_frames
     → left_of at ≡ path_bytes c ++ text → Comes (path_from (length done) (done ++ own ∷ rest) at) (done ++ (own ++ c ∷ []) ∷ rest) text
+unfolding path_from
 path_forth done rest own c at text is new few short left =
     let tables : Tables = done ++ own ∷ rest in
-    let hart : ℕ = length done in
     let frames : List Frame = c.path.frames in
     let many : ℕ = length frames in
     let end : ℕ = end_number c.path.end in
-    let some = is.count in
     let most = is.frames.few in
     let five = end_few c.path.end in
-    let text3 : List ℕ = flat_map frame_bytes frames ++ text in
-    let text2 : List ℕ = word many ++ text3 in
-    let text1 : List ℕ = word end ++ text2 in
-    let parted : left_of at ≡ word c.count ++ text1 = left in
-    let counts : is_count (samples_in tables) c.count ≡ true = and_from _ _ (le-leb 1 c.count some) (le-leb (samples_in tables + c.count) most_samples few) in
+    let counts : is_count (samples_in tables) c.count ≡ true = and_from _ _ (le-leb 1 c.count is.count) (le-leb (samples_in tables + c.count) most_samples few) in
     let lengths : is_length (frames_in tables) many ≡ true =
     and_from _ _ (and_from _ _ (le-leb 1 many is.frames.some) (le-leb many most_frames most)) (le-leb (frames_in tables + many) most_path_frames short) in
-    let a = ruled_forth (is_count (samples_in tables)) at c.count text1 counts (omega (arith, few)) parted in
-    let b = ruled_forth is_end_number a.0 end text2 (le-leb end 5 five) (omega (arith, five)) a.2 in
+    let text3 : List ℕ = flat_map frame_bytes frames ++ text in
+    let a = ruled_forth (is_count (samples_in tables)) at c.count (word end ++ (word many ++ text3)) counts (omega (arith, few)) left in
+    let b = ruled_forth is_end_number a.0 end (word many ++ text3) (le-leb end 5 five) (omega (arith, five)) a.2 in
     let d = ruled_forth (is_length (frames_in tables)) b.0 many text3 lengths (omega (arith, most)) b.2 in
-    let f = frames_forth frames 0 [] d.0 text is.addresses d.2 in (
-      f.0,
-      path_is hart tables at
-          ∙ ap (λ (r : Read ℕ). r >>= behind_count hart tables) a.1
-          ∙ ap (λ (r : Read ℕ). r >>= behind_end hart tables c.count) b.1
-          ∙ ap (λ (r : Read ℕ). r >>= behind_length hart tables c.count end) d.1
-          ∙ ap (λ (r : Read (List Frame)). r >>= behind_frames hart tables c.count end d.0) f.1
-          ∙ ap (λ (r : Result Tables MeasureFault). r >>= (λ paths. Ok (paths, f.0))) (put_forth done rest own c d.0.offset new),
-      f.2,
-    )
+    let f = frames_forth frames d.0 text is.addresses d.2 in
+    (f.0, rw (a.1, b.1, d.1, f.1, put_forth done rest own c d.0.offset new) refl, f.2)
 
 -- a path is none of those before it
 new_behind : (own cs : List Counted) (c : Counted) → AreDistinct (own ++ c ∷ cs) → has_path c.path own ≡ false
@@ -160,7 +124,7 @@ paths_forth (c ∷ cs) i done rest own at text are apart few short left =
     let more = paths_forth cs (i + 1) done rest (own ++ c ∷ []) mid text (All-tail IsCounted c cs are) (subst AreDistinct (sym joined) apart) (omega (arith, counts, few, counts_more))
     (omega (arith, frames, short, frames_more)) first.2 in (
       more.0,
-      ap (λ (r : Read Tables). r >>= (λ (so_far, next). times (λ i. path_from (length done)) (length cs) (i + 1) so_far next)) first.1 ∙ more.1 ∙ ap (λ (l : List Counted). Ok (done ++ l ∷ rest, more.0)) joined,
+      rw first.1 (more.1 ∙ ap (λ (l : List Counted). Ok (done ++ l ∷ rest, more.0)) joined),
       more.2,
     )
 
@@ -174,7 +138,7 @@ hart_forth cs done rest at text are apart few short left =
     let below = paths_below cs (λ k d lt. (are k d lt).count) in
     let read = word_forth at (length cs) (flat_map path_bytes cs ++ text) (omega (arith, below, few)) left in
     let paths = paths_forth cs 0 done rest [] read.0 text are apart few short read.2 in
-    (paths.0, ap (λ (r : Read ℕ). r >>= (λ (paths, next). times (λ i. path_from (length done)) paths 0 (done ++ [] ∷ rest) next)) read.1 ∙ paths.1, paths.2)
+    (paths.0, rw read.1 paths.1, paths.2)
 
 pub harts_forth : (more done : Tables) (at : At) (text : List ℕ) → All (All IsCounted) more → All AreDistinct more → samples_in done + samples_in more ≤ most_samples
     → frames_in done + frames_in more ≤ most_path_frames → left_of at ≡ flat_map hart_bytes more ++ text
@@ -200,8 +164,7 @@ harts_forth (cs ∷ more) done at text are apart few short left =
     let others = harts_forth more (done ++ cs ∷ []) mid text (All-tail (All IsCounted) cs more are) (All-tail AreDistinct cs more apart) (omega (arith, counts, new_counts, few))
     (omega (arith, frames, new_frames, short)) first.2 in (
       others.0,
-      ap (λ (r : Read Tables). r >>= (λ (so_far, next). times hart_from (length more) (length done + 1) so_far next)) first.1
-          ∙ ap (λ (t : Tables). times hart_from (length more) (length done + 1) t mid) seam ∙ ap (λ (k : ℕ). times hart_from (length more) k ((done ++ cs ∷ []) ++ rest) mid) later
-          ∙ others.1 ∙ ap (λ (t : Tables). Ok (t, others.0)) (append_assoc done (cs ∷ []) more),
+      rw first.1 (ap (λ (t : Tables). times hart_from (length more) (length done + 1) t mid) seam ∙ ap (λ (k : ℕ). times hart_from (length more) k ((done ++ cs ∷ []) ++ rest) mid) later
+          ∙ others.1 ∙ ap (λ (t : Tables). Ok (t, others.0)) (append_assoc done (cs ∷ []) more)),
       others.2,
     )

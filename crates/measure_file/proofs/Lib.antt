@@ -1,12 +1,9 @@
 mod Sums
-mod FrameSteps
 mod Writing
 mod Lengths
 mod Back
 mod Seams
-mod Behind
 mod BackPaths
-mod BehindMagic
 mod BackFile
 mod Forth
 mod ForthFile

@@ -1,9 +1,8 @@
 -- What the bytes of a measurement file say, or their first fault.
-use Rattle.std.specs.Prelude.{ℕ, ◌+◌, ◌==◌, ◌&&◌, ◌||◌, not, Bool, nat_eq, nat_le, nat_lt, List, [], ◌∷◌, ◌++◌, length}
-use Rattle.std.specs.Prelude.{take, replicate, Result, Ok, Err, if◌then◌else◌}
-use Rattle.std.specs.Cmp.Lexicographic.{pointwise}
+use Rattle.std.specs.Prelude.{ℕ, ◌+◌, ◌==◌, ◌&&◌, Bool, nat_le, List, [], replicate, Result, Ok, Err, if◌then◌else◌}
+use Rattle.prof_bytes.specs.Format.{ended_or, magic_or}
 use Rattle.prof_bytes.specs.Outcome.{◌>>=◌}
-use Rattle.prof_bytes.specs.Reading.{At, left_of}
+use Rattle.prof_bytes.specs.Reading.{At}
 use Rattle.scope_types.specs.declared.frame.Counted.{Counted}
 use Rattle.scope_types.specs.declared.frame.Frame.{Frame}
 use Rattle.scope_types.specs.declared.frame.End.{End}
@@ -15,8 +14,8 @@ use Rattle.scope_types.specs.Limits.{most_path_frames, most_samples}
 use Rattle.thread_cct.specs.Adding.{has_path, of_hart, with_path}
 use Rattle.measure_file.specs.declared.fault.MeasureFault.{MeasureFault}
 use Rattle.measure_file.specs.declared.head.MeasureHead.{MeasureHead}
-use Rattle.prof_bytes.specs.Repeated.{times}
-use Rattle.measure_file.specs.Fields.{Read, fault_at, word_from, word_by}
+use Rattle.prof_bytes.specs.Repeated.{adding, times}
+use Rattle.measure_file.specs.Fields.{Read, fault_at, starting_at, word_from, word_by}
 use Rattle.measure_file.specs.Spelling.{magic}
 
 -- ---- the rules of single words
@@ -45,11 +44,10 @@ path_end n = if n == 0 then Whole else if n == 1 then Partial NoFde else if n ==
 
 -- ---- paths
 
--- one frame behind those before
-abbrev pub frame_from : List Frame → At → Read (List Frame)
-frame_from before at = do
+unfoldable pub frame_from : At → Read Frame
+frame_from at = do
   (pc, next) ← word_from at
-  Ok (before ++ record { pc = pc } ∷ [], next)
+  Ok (record { pc = pc }, next)
 
 -- a path among those of its hart, unless it is there already
 abbrev pub new_path : ℕ → ℕ → Counted → List (List Counted) → Result (List (List Counted)) MeasureFault
@@ -62,7 +60,7 @@ path_from hart tables at = do
   (count, next) ← word_by (is_count (samples_in tables)) at
   (end, next) ← word_by is_end_number next
   (length, first_pc) ← word_by (is_length (frames_in tables)) next
-  (frames, next) ← times (λ i. frame_from) length 0 [] first_pc
+  (frames, next) ← times (adding frame_from) length 0 [] first_pc
   paths ← new_path hart first_pc.offset
       (record { path = record { end = path_end end; frames = frames }; count = count })
       tables
@@ -76,24 +74,15 @@ hart_from hart tables at = do
 
 -- ---- the whole file
 
--- nothing follows
-abbrev pub ended : {X : Type 0} → X → At → Result X MeasureFault
-ended value end = if nat_lt 0 (length (left_of end)) then Err (fault_at end.offset) else Ok value
-
 -- the paths of so many harts, and nothing behind them
 unfoldable pub tables_from : ℕ → At → Result (List (List Counted)) MeasureFault
 tables_from harts at = do
   (tables, end) ← times hart_from harts 0 (replicate harts []) at
-  ended tables end
-
--- what stands before the words
-abbrev pub after_magic : List ℕ → Result At MeasureFault
-after_magic bytes = if nat_lt (length bytes) 8 || not (pointwise nat_eq (take 8 bytes) magic) then Err (fault_at 0)
-    else Ok (record { whole = bytes; offset = 8 })
+  ended_or starting_at tables end
 
 unfoldable pub measurement_in : List ℕ → Result (MeasureHead × List (List Counted)) MeasureFault
 measurement_in bytes = do
-  next ← after_magic bytes
+  next ← magic_or (fault_at 0) magic bytes
   (length, next) ← word_from next
   (entry, next) ← word_from next
   (period, next) ← word_by is_period next

@@ -2,7 +2,7 @@
 ghost use Rattle.std.specs.Prelude.{◌≡◌, ◌+◌, ◌≤◌, length, IfOk, []};
 ghost use Rattle.prof_bytes.specs.Outcome.{GivesAt, GivesFrom};
 ghost use Rattle.scope_types.specs.Limits.{most_path_frames, most_samples};
-ghost use Rattle.prof_bytes.specs.Repeated.{times};
+ghost use Rattle.prof_bytes.specs.Repeated.{adding, times};
 ghost use Rattle.measure_file.specs.Fields.{word_from, word_by};
 ghost use Rattle.measure_file.specs.Reading.{is_count, is_end_number, is_length, is_period, is_harts, path_end};
 ghost use Rattle.measure_file.specs.Reading.{frame_from};
@@ -115,19 +115,27 @@ pub(crate) fn read_length(cursor: &mut Cursor<'_>, frames: u32) -> Result<u32, M
     Ok(length)
 }
 
+#[tactic(auto, unfolding(crate::specs::Reading::frame_from))]
+fn read_frame(cursor: &mut Cursor<'_>) -> Result<Frame, MeasureFault>
+    ensures { GivesAt (λ frame. frame) result cursor.new (frame_from cursor.old) }
+{
+    let pc = read_word(cursor)?;
+    Ok(Frame { pc })
+}
+
 /// So many frames. The list grows as they are read.
 pub(crate) fn read_frames(
     alloc: Global,
     cursor: &mut Cursor<'_>,
     count: u32,
 ) -> Result<Vec<Frame>, Fail<MeasureFault>>
-    ensures read { GivesFrom (λ v. v.items) result cursor.new (times (λ i. frame_from) count 0 [] cursor.old) }
+    ensures read { GivesFrom (λ v. v.items) result cursor.new (times (adding frame_from) count 0 [] cursor.old) }
     ensures many { IfOk result (λ v. length v.items ≡ count) }
 {
     let mut frames = Vec::new(alloc);
     for _ in 0..count {
-        let pc = read_word(cursor)?;
-        frames.push(Frame { pc })?;
+        let frame = read_frame(cursor)?;
+        frames.push(frame)?;
     }
     Ok(frames)
 }

@@ -1,9 +1,12 @@
 //! A measurement of its bytes.
 ghost use Rattle.std.specs.Prelude.{◌≡◌, ◌<◌, length, IfOk, OnOk};
+ghost use Rattle.prof_bytes.specs.Format.{magic_or};
 ghost use Rattle.prof_bytes.specs.Outcome.{Gives, GivesAt, GivesFrom};
 ghost use Rattle.prof_bytes.specs.Repeated.{times};
 ghost use Rattle.measure_file.specs.Measurable.{IsMeasurable};
-ghost use Rattle.measure_file.specs.Reading.{path_from, hart_from, measurement_in, after_magic, tables_from};
+ghost use Rattle.measure_file.specs.Fields.{fault_at};
+ghost use Rattle.measure_file.specs.Reading.{path_from, hart_from, measurement_in, tables_from};
+ghost use Rattle.measure_file.specs.Spelling.{magic};
 
 use crate::fault::MeasureFault;
 use crate::fields::{
@@ -103,7 +106,7 @@ fn read_rest(alloc: Global, cursor: &mut Cursor<'_>, harts: u32) -> Result<Ccts,
 
 /// A cursor behind the eight bytes that a file begins with.
 fn behind_magic(bytes: &[u8]) -> Result<Cursor<'_>, MeasureFault>
-    ensures { after_magic bytes.now ≡ result }
+    ensures { magic_or (fault_at 0) magic bytes.now ≡ result }
 {
     if bytes.len() < 8 || &bytes[..8] != b"HPCRUNM1".as_slice() {
         return Err(fault_at(0));

@@ -7,7 +7,7 @@ use Rattle.stripe_table.specs.Views.{occurrences, weight, sum_below}
 use Rattle.stripe_table.specs.Ends.{AllFit, stripe_names}
 use Rattle.stripe_table.specs.declared.stripe.Stripe.{Stripe}
 use Rattle.stripe_table.proofs.Sums.{times_snoc, up_to_all, few_below}
-use Rattle.merge_crew.specs.private.Settling.{names_in}
+use Rattle.merge_crew.specs.private.Settling.{name_count}
 
 pub up_to_same : (n : ℕ) (f g : ℕ → ℕ) → ((t : ℕ) → t < n → g t ≡ f t) → sum_below n g ≡ sum_below n f
 up_to_same zero f g h = refl
@@ -30,7 +30,7 @@ module _ (a b : List Stripe) (s c : ℕ) (ok : stripe_names b s ≡ stripe_names
       subst (λ (z : ℕ). occurrences d (stripe_names b z) ≡ occurrences d (stripe_names a z)) (sym is) (omega arith))
       (λ no. ap (occurrences d) (rest t no))
 
-  pub counted : s < 16 → names_in b ≡ names_in a + 1
+  pub counted : s < 16 → name_count b ≡ name_count a + 1
   counted lt = up_to_more 16 s (λ t. length (stripe_names a t)) (λ t. length (stripe_names b t)) lt (ap length ok ∙ length-append (stripe_names a s) (c ∷ [])) (λ t ne. ap length (rest t ne))
 
 ones : (n m : ℕ) (f : ℕ → ℕ) → ((c : ℕ) → c < m → 0 < f c) → ((c : ℕ) → c < n → c < m) → n ≤ sum_below n f
@@ -45,7 +45,7 @@ sixteen n = omega arith
 
 -- where each stripe fits and names every chunk, it does so once, and all names are sixteen times the chunks
 module _ (plan : Chunks) (all : List Stripe) (fit : AllFit plan all) (each : (c s : ℕ) → c < length plan → s < 16 → 0 < occurrences c (stripe_names all s)) where
-  pub all_named : names_in all ≡ 16 * length plan
+  pub all_named : name_count all ≡ 16 * length plan
   all_named = let n : ℕ = length plan in up_to_same 16 (λ t. n) (λ t. length (stripe_names all t)) (λ t lt. let f = fit.1 t lt in let a = few_below n (stripe_names all t) f.distinct f.below in
       let b = full n (stripe_names all t) f.below (λ c l. each c t l lt) in omega arith) ∙ sixteen n
 
@@ -53,7 +53,7 @@ module _ (plan : Chunks) (all : List Stripe) (fit : AllFit plan all) (each : (c 
   named_once s c ls lc = let a = (fit.1 s ls).distinct c in let b = each c s lc ls in omega arith
 
 pub rest_counted : {B : Type 0} (plan : Chunks) (a b : List Stripe) (r : Result ℕ B) → AllFit plan b → IfOk r (λ _. (c s : ℕ) → c < length plan → s < 16 → 0 < occurrences c (stripe_names b s))
-    → IfOk r (λ k. names_in b ≡ names_in a + k) → IfOk r (λ k. names_in a + k ≡ 16 * length plan)
+    → IfOk r (λ k. name_count b ≡ name_count a + k) → IfOk r (λ k. name_count a + k ≡ 16 * length plan)
 rest_counted plan a b (Ok k) fit each sum = sym sum ∙ all_named plan b fit each
 rest_counted plan a b (Err e) fit each sum = search Rattle.std.proofs.Common.rules
 

@@ -5,7 +5,8 @@ ghost use Rattle.stripe_table.specs.Ends.{AllFit, stripe_names};
 ghost use Rattle.stripe_table.specs.Limits.{IsPieceOf};
 ghost use Rattle.stripe_table.specs.Views.{occurrences};
 ghost use Rattle.thread_cct.specs.Plan.{expanded, piece_of};
-ghost use Rattle.merge_crew.specs.private.Settling.{MarkIsExact, MarksAll, MarksChunks, SameNames, mark_at, names_in};
+ghost use Rattle.merge_crew.specs.private.Settling.{MarkIsExact, MarksAll, MarksChunks, SameNames, chunk_mark};
+ghost use Rattle.merge_crew.specs.private.Settling.{name_count};
 
 use prof_bytes::Memory;
 use scope_types::{Expand, Piece};
@@ -76,7 +77,7 @@ fn marks_of(alloc: Global, set: &StripeSet, chunks: u32) -> Result<Vec<Marks>, M
 fn is_marked(marks: &[Marks], stripe: u32, chunk: u32) -> bool
     requires stripe { stripe < length marks.now }
     requires chunk { chunk < length (slice_index_or marks.now stripe []) }
-    ensures { result ≡ mark_at marks.now stripe chunk }
+    ensures { result ≡ chunk_mark marks.now stripe chunk }
 {
     marks[stripe as usize].has(chunk)
 }
@@ -84,7 +85,7 @@ fn is_marked(marks: &[Marks], stripe: u32, chunk: u32) -> bool
 /// Whether each stripe has a mark of the chunk.
 fn all_have(marks: &[Marks], chunk: u32) -> bool
     requires { (s : ℕ) → s < length marks.now → chunk < length (slice_index_or marks.now s []) }
-    ensures { result ≡ true → (s : ℕ) → s < length marks.now → mark_at marks.now s chunk ≡ true }
+    ensures { result ≡ true → (s : ℕ) → s < length marks.now → chunk_mark marks.now s chunk ≡ true }
 {
     for i in 0..marks.len() {
         if !marks[i].has(chunk) {
@@ -104,7 +105,7 @@ fn settle_piece(set: &mut StripeSet, marks: &[Marks], piece: &Piece) -> Result<u
     ensures named { IfOk result (λ _. 0 < occurrences piece.now.chunk (stripe_names set.new.stripes piece.now.stripe)) }
     ensures others { (c s : ℕ) → (c ≡ piece.now.chunk → s ≡ piece.now.stripe → ⊥)
         → occurrences c (stripe_names set.new.stripes s) ≡ occurrences c (stripe_names set.old.stripes s) }
-    ensures count { IfOk result (λ k. (names_in set.new.stripes ≡ names_in set.old.stripes + k) × (k ≤ 1)) }
+    ensures count { IfOk result (λ k. (name_count set.new.stripes ≡ name_count set.old.stripes + k) × (k ≤ 1)) }
 {
     if is_marked(marks, piece.stripe, piece.chunk) {
         return Ok(0);
@@ -128,7 +129,7 @@ fn settle_pieces(
     ensures fits { AllFit set.new.view.plan set.new.stripes }
     ensures named { IfOk result (λ _. (s : ℕ) → s < 16 → 0 < occurrences _chunk (stripe_names set.new.stripes s)) }
     ensures others { (c : ℕ) → (c ≡ _chunk → ⊥) → SameNames set.old.stripes set.new.stripes c }
-    ensures count { IfOk result (λ k. (names_in set.new.stripes ≡ names_in set.old.stripes + k) × (k ≤ 16)) }
+    ensures count { IfOk result (λ k. (name_count set.new.stripes ≡ name_count set.old.stripes + k) × (k ≤ 16)) }
 {
     let mut settled = 0;
     for stripe in 0..STRIPES {
@@ -158,7 +159,7 @@ fn settle_chunk<E: Expand>(
     ensures fits { AllFit set.new.view.plan set.new.stripes }
     ensures named { IfOk result (λ _. (s : ℕ) → s < 16 → 0 < occurrences chunk (stripe_names set.new.stripes s)) }
     ensures others { (c : ℕ) → (c ≡ chunk → ⊥) → SameNames set.old.stripes set.new.stripes c }
-    ensures count { IfOk result (λ k. (names_in set.new.stripes ≡ names_in set.old.stripes + k) × (k ≤ 16)) }
+    ensures count { IfOk result (λ k. (name_count set.new.stripes ≡ name_count set.old.stripes + k) × (k ≤ 16)) }
 {
     if all_have(marks, chunk) {
         return Ok(0);
@@ -183,7 +184,7 @@ fn settle_all<E: Expand>(
     ensures fits { AllFit set.new.view.plan set.new.stripes }
     ensures named { IfOk result (λ _. (c s : ℕ) → c < length set.old.view.plan → s < 16
         → 0 < occurrences c (stripe_names set.new.stripes s)) }
-    ensures count { IfOk result (λ k. names_in set.new.stripes ≡ names_in set.old.stripes + k) }
+    ensures count { IfOk result (λ k. name_count set.new.stripes ≡ name_count set.old.stripes + k) }
 {
     pieces_make_the_plan();
     let mut memo = expand.fresh()?;
@@ -207,7 +208,7 @@ pub(crate) fn settle_rest<E: Expand>(
     ensures fits { IfOk result (λ _. AllFit set.new.view.plan set.new.stripes) }
     ensures named { IfOk result (λ _. (s c : ℕ) → s < 16 → c < length set.old.view.plan
         → occurrences c (stripe_names set.new.stripes s) ≡ 1) }
-    ensures count { IfOk result (λ k. names_in set.old.stripes + k ≡ 16 * length set.old.view.plan) }
+    ensures count { IfOk result (λ k. name_count set.old.stripes + k ≡ 16 * length set.old.view.plan) }
 {
     pieces_make_the_plan();
     let marks = marks_of(alloc, set, plan.chunks())?;

@@ -11,14 +11,14 @@ use Rattle.tree_types.specs.Values.{anything, ends_here, within_frame}
 use Rattle.tree_types.proofs.TreeLaws.{counts_are_paths}
 use Rattle.tree_types.proofs.TreeValues.{inclusive_counts, frame_counts, count_few}
 use Rattle.metric_sums.specs.declared.row.Sum.{Sum}
-use Rattle.metric_sums.specs.private.Rows.{IsSmall, handed_up, joined, no_paths, with_own}
+use Rattle.metric_sums.specs.private.Rows.{IsSmall, handed_up, sum_of_both, no_paths, with_own}
 use Rattle.metric_sums.specs.private.Walking.{passing, in_frame, whole_sum, frame_share, inclusive_share, pending}
 
 same_sum : (a b : Sum) → a.exclusive ≡ b.exclusive → a.frame ≡ b.frame → a.inclusive ≡ b.inclusive → a ≡ b
 same_sum a b e f g = λ i. record { exclusive = e i; frame = f i; inclusive = g i }
 
-pub joined_to_none : (s : Sum) → joined no_paths s ≡ s
-joined_to_none s = same_sum (joined no_paths s) s (omega arith) (omega arith) (omega arith)
+pub joined_to_none : (s : Sum) → sum_of_both no_paths s ≡ s
+joined_to_none s = same_sum (sum_of_both no_paths s) s (omega arith) (omega arith) (omega arith)
 
 -- ---- sums over nodes
 
@@ -76,7 +76,7 @@ module _ (t : CountedTree) (tree : IsTree t) where
       let gg = first_of (inclusive_share t node h) i size lt in
       same_sum (pending t i node h) (pending t (i + 1) node h) refl (omega (arith, f, ff)) (omega (arith, g, gg))
 
-  pub pending_own : (i node h : ℕ) → i < size → parent i ≡ node → pending t i node h ≡ joined (pending t (i + 1) node h) (handed_up (node_at t.nodes i).scope (whole_sum t i h))
+  pub pending_own : (i node h : ℕ) → i < size → parent i ≡ node → pending t i node h ≡ sum_of_both (pending t (i + 1) node h) (handed_up (node_at t.nodes i).scope (whole_sum t i h))
   unfolding pending
   pending_own i node h lt own =
       let yes : (parent i == node) ≡ true = eq-eqb (parent i) node own in
@@ -85,7 +85,7 @@ module _ (t : CountedTree) (tree : IsTree t) where
       let g : inclusive_share t node h i ≡ passing t h i = ap (λ b. cond b (passing t h i) 0) yes in
       let ff = first_of (frame_share t node h) i size lt in
       let gg = first_of (inclusive_share t node h) i size lt in
-      same_sum (pending t i node h) (joined (pending t (i + 1) node h) (handed_up (node_at t.nodes i).scope (whole_sum t i h))) refl (omega (arith, f, ff)) (omega (arith, g, gg))
+      same_sum (pending t i node h) (sum_of_both (pending t (i + 1) node h) (handed_up (node_at t.nodes i).scope (whole_sum t i h))) refl (omega (arith, f, ff)) (omega (arith, g, gg))
     where
       turned : (b : Bool) (n : ℕ) → cond (not b) n 0 ≡ cond b 0 n
       turned true n = refl

@@ -20,7 +20,7 @@ use Rattle.tree_types.proofs.Enclosed.{enclosed}
 use Rattle.tree_types.proofs.TreeLaws.{counts_are_paths}
 use Rattle.metric_sums.specs.declared.row.Sum.{Sum}
 use Rattle.metric_sums.specs.declared.line.Open.{Open}
-use Rattle.metric_sums.specs.private.Rows.{IsSmall, handed_up, joined, no_paths, paths_of_hart, with_own}
+use Rattle.metric_sums.specs.private.Rows.{IsSmall, handed_up, sum_of_both, no_paths, count_of_hart, with_own}
 use Rattle.metric_sums.specs.private.Lines.{RowOf, HandsUp, row_values, sum_values}
 use Rattle.metric_sums.specs.private.Walking.{whole_sum, pending, IsOpen, At}
 use Rattle.metric_sums.proofs.Lasts.{fronts, all_last, all_more, pairs_last, pairs_front, pairs_more, all_before}
@@ -31,7 +31,7 @@ Rising line = AllPairs (λ a b. a.node < b.node) line
 
 -- ---- counts
 
-pub same_counts : (cs : List NodeCount) (i h : ℕ) → All (λ c. c.node ≡ i) cs → count_at cs i h ≡ paths_of_hart cs h
+pub same_counts : (cs : List NodeCount) (i h : ℕ) → All (λ c. c.node ≡ i) cs → count_at cs i h ≡ count_of_hart cs h
 same_counts [] i h own = refl
 same_counts (c ∷ cs) i h own =
     let here : c.node ≡ i = All-head (λ (c : NodeCount). c.node ≡ i) c cs own in
@@ -95,7 +95,7 @@ module _ (period : ℕ) (t : CountedTree) (tree : IsTree t) (few : counts_in t.c
 
   own_counts : (i h left first : ℕ) → Found i left first → left ≤ length t.counts → ((k : ℕ) (d : NodeCount) → k < left → (get_or t.counts k d).node < i + 1)
       → ((k : ℕ) (d : NodeCount) → left ≤ k → k < length t.counts → i + 1 ≤ (get_or t.counts k d).node)
-      → paths_of_hart (take (left - first) (drop first t.counts)) h ≡ count_at t.counts i h
+      → count_of_hart (take (left - first) (drop first t.counts)) h ≡ count_at t.counts i h
   own_counts i h left first f inside low high =
       let within = f.within in
       let front : List NodeCount = take first t.counts in
@@ -110,7 +110,7 @@ module _ (period : ℕ) (t : CountedTree) (tree : IsTree t) (few : counts_in t.c
       let long = length-take first t.counts in
       let n = earlier i left first f inside low k d (omega (arith, lt, long)) in
       λ e. let here = ap (λ (c : NodeCount). c.node) (get_or-take first t.counts k d (omega (arith, lt, long))) in absurd (omega (arith, here, n, e))) in
-      let b : count_at mine i h ≡ paths_of_hart mine h = same_counts mine i h (λ k d lt.
+      let b : count_at mine i h ≡ count_of_hart mine h = same_counts mine i h (λ k d lt.
       let long = length-take (left - first) rest in
       let here = ap (λ (c : NodeCount). c.node) (get_or-take (left - first) rest k d (omega (arith, lt, long)) ∙ get_or-drop first t.counts k d) in
       here ∙ f.own (first + k) d (omega arith) (omega (arith, lt, long))) in
@@ -194,7 +194,7 @@ module _ (period : ℕ) (t : CountedTree) (tree : IsTree t) (few : counts_in t.c
     pub sums : (h : ℕ) (d : Sum) → h < t.harts → get_or row h d ≡ whole_sum t i h
 
   pub summed : (i left first : ℕ) (old line : List Open) (row new : List Sum) (out : List NodeValue) → i < size → At period t (i + 1) old left out → Opened i line row → Found i left first
-      → length new ≡ length row → ((h : ℕ) (d : Sum) → h < length new → get_or new h d ≡ with_own (paths_of_hart (take (left - first) (drop first t.counts)) h) (get_or row h d))
+      → length new ≡ length row → ((h : ℕ) (d : Sum) → h < length new → get_or new h d ≡ with_own (count_of_hart (take (left - first) (drop first t.counts)) h) (get_or row h d))
       → Summed i line new
   summed i left first old line row new out lt at o f same counted = record {
     parents = o.parents;
@@ -315,7 +315,7 @@ module _ (period : ℕ) (t : CountedTree) (tree : IsTree t) (few : counts_in t.c
         (λ h d inside.
         let long = own.0.long in let same = j.0 in
         j.1 h d (omega (arith, same, long, inside))
-        ∙ (λ k. joined (own.0.sums h d inside k) (handed_up (node_at t.nodes i).scope (s.sums h d inside k)))
+        ∙ (λ k. sum_of_both (own.0.sums h d inside k) (handed_up (node_at t.nodes i).scope (s.sums h d inside k)))
         ∙ sym (pending_own t tree i p h lt refl)))
     passed_up line new s (inr (turned, fails, f, j)) =
         let up : All (λ o. o.node < p + 1) line = All-weaker (IsFar i) (λ o. o.node < p + 1) (λ o far.
@@ -330,7 +330,7 @@ module _ (period : ℕ) (t : CountedTree) (tree : IsTree t) (few : counts_in t.c
         let long = s.long in let same = j.0 in
         j.1 h d (omega (arith, same, long, inside))
         ∙ ap (handed_up (node_at t.nodes i).scope) (s.sums h d inside)
-        ∙ sym (pending_own t tree i p h lt refl ∙ ap (λ (x : Sum). joined x (handed_up (node_at t.nodes i).scope (whole_sum t i h))) (nothing h) ∙ joined_to_none (handed_up (node_at t.nodes i).scope (whole_sum t i h)))))
+        ∙ sym (pending_own t tree i p h lt refl ∙ ap (λ (x : Sum). sum_of_both x (handed_up (node_at t.nodes i).scope (whole_sum t i h))) (nothing h) ∙ joined_to_none (handed_up (node_at t.nodes i).scope (whole_sum t i h)))))
 
   pub stepped : (i left first : ℕ) (old line : List Open) (row : List Sum) (out_old out_new : List NodeValue) (old_line : List Open) → i < size → At period t (i + 1) old left out_old → Found i left first
       → Summed i old_line row → Passed i line → reverse out_new ≡ row_values period i row 0 (length row) ++ reverse out_old → At period t i line first out_new
@@ -357,7 +357,7 @@ module _ (period : ℕ) (t : CountedTree) (tree : IsTree t) (few : counts_in t.c
     pub own : (k : ℕ) (d : NodeCount) → first ≤ k → k < left → (get_or shown k d).node ≡ i
     pub before : (d : NodeCount) → 0 < first → (get_or shown (first - 1) d).node ≢ i
     pub same : length new ≡ length row
-    pub counted : (h : ℕ) (d : Sum) → h < length new → get_or new h d ≡ with_own (paths_of_hart (take (left - first) (drop first shown)) h) (get_or row h d)
+    pub counted : (h : ℕ) (d : Sum) → h < length new → get_or new h d ≡ with_own (count_of_hart (take (left - first) (drop first shown)) h) (get_or row h d)
 
   pub row_opened : (i left harts : ℕ) (old line : List Open) (row : List Sum) (out : List NodeValue) → i < size → At period t (i + 1) old left out → harts ≡ t.harts → RowOf harts i old line row → Opened i line row
   row_opened i left harts old line row out lt at is r = opened i left old line row out lt at (subst (λ (n : ℕ). RowOf n i old line row) is r)

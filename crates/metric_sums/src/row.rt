@@ -3,7 +3,7 @@ ghost use Rattle.std.specs.Prelude.{◌≡◌, ℕ, ◌+◌, ◌<◌, ◌≤◌,
 ghost use Rattle.scope_types.specs.Limits.{most_samples};
 ghost use Rattle.tree_types.specs.Tree.{counts_in};
 ghost use Rattle.metric_sums.specs.declared.row.Sum.{Sum};
-ghost use Rattle.metric_sums.specs.private.Rows.{IsSmall, handed_up, joined, no_paths, paths_of_hart, with_own};
+ghost use Rattle.metric_sums.specs.private.Rows.{IsSmall, handed_up, sum_of_both, no_paths, count_of_hart, with_own};
 
 use prof_bytes::Memory;
 use scope_types::Scope;
@@ -58,7 +58,7 @@ fn to_parent(sum: Sum, scope: Scope) -> Sum
 fn both(a: Sum, b: Sum) -> Sum
     requires a { IsSmall a }
     requires b { IsSmall b }
-    ensures { result ≡ joined a b }
+    ensures { result ≡ sum_of_both a b }
 {
     Sum {
         exclusive: a.exclusive + b.exclusive,
@@ -96,7 +96,7 @@ fn join_all(sums: &mut [Sum], others: &[Sum], scope: Scope)
     requires others { All IsSmall others.now }
     ensures { (h : ℕ) (d : Sum) → h < length sums.new
         → slice_index_or sums.new h d
-        ≡ joined (slice_index_or sums.old h d) (handed_up scope (slice_index_or others.now h d)) }
+        ≡ sum_of_both (slice_index_or sums.old h d) (handed_up scope (slice_index_or others.now h d)) }
 {
     for h in 0..sums.len() {
         sums[h] = both(sums[h], to_parent(others[h], scope));
@@ -109,7 +109,7 @@ fn count_all(sums: &mut [Sum], counts: &[NodeCount])
     requires small { All IsSmall sums.old }
     requires few { counts_in counts.now ≤ most_samples }
     ensures { (h : ℕ) (d : Sum) → h < length sums.new
-        → slice_index_or sums.new h d ≡ with_own (paths_of_hart counts.now h) (slice_index_or sums.old h d) }
+        → slice_index_or sums.new h d ≡ with_own (count_of_hart counts.now h) (slice_index_or sums.old h d) }
 {
     for c in counts {
         let hart = c.hart as usize;
@@ -162,7 +162,7 @@ impl Row {
         ensures long { length self.new ≡ length self.old }
         ensures sums { (h : ℕ) (d : Sum) → h < length self.new
             → slice_index_or self.new h d
-            ≡ joined (slice_index_or self.old h d) (handed_up scope (slice_index_or other.now h d)) }
+            ≡ sum_of_both (slice_index_or self.old h d) (handed_up scope (slice_index_or other.now h d)) }
     {
         join_all(self.sums.as_mut_slice(), other.sums.as_slice(), scope);
     }
@@ -174,7 +174,7 @@ impl Row {
         requires few { counts_in counts.now ≤ most_samples }
         ensures long { length self.new ≡ length self.old }
         ensures sums { (h : ℕ) (d : Sum) → h < length self.new
-            → slice_index_or self.new h d ≡ with_own (paths_of_hart counts.now h) (slice_index_or self.old h d) }
+            → slice_index_or self.new h d ≡ with_own (count_of_hart counts.now h) (slice_index_or self.old h d) }
     {
         count_all(self.sums.as_mut_slice(), counts);
     }

@@ -13,7 +13,7 @@ use Rattle.tree_types.specs.Nodes.{no_parent, node_number, parent_number, parent
 use Rattle.tree_types.specs.PathsOf.{tree_paths}
 use Rattle.tree_types.proofs.TreePaths.{own_scope_last, parent_path_front}
 use Rattle.path_trie.specs.Trie.{path_at, nth_path, trie_node}
-use Rattle.path_trie.specs.private.Linked.{node_at, node_with, no_node, Rooted}
+use Rattle.path_trie.specs.private.Linked.{linked_node, node_with, no_node, Rooted}
 use Rattle.path_trie.proofs.Places.{place_cases, path_none, path_some, path_false}
 
 -- the number of a path in a list that has it once
@@ -28,9 +28,9 @@ module _ (nodes : List Node) (l : Rooted nodes) (few : length nodes ≤ most_pat
   abbrev paths : List Path
   paths = tree_paths nodes
 
-  parent_is : (i : ℕ) → i < length nodes → parent_number paths (get_or paths i []) ≡ (node_at nodes i).parent
+  parent_is : (i : ℕ) → i < length nodes → parent_number paths (get_or paths i []) ≡ (linked_node nodes i).parent
   parent_is i lt =
-      let n : Node = node_at nodes i in
+      let n : Node = linked_node nodes i in
       let f : Path = path_at paths n.parent in
       let q : Path = f ++ n.scope ∷ [] in
       let long : length q ≡ length f + 1 = length-append f (n.scope ∷ []) in
@@ -42,15 +42,15 @@ module _ (nodes : List Node) (l : Rooted nodes) (few : length nodes ≤ most_pat
         | inr less ↦
             let within : n.parent < length nodes = omega arith in
             let at : f ≡ get_or paths n.parent [] = path_some paths n.parent (omega arith) in
-            let above : length f ≡ length (path_at paths (node_at nodes n.parent).parent) + 1 = ap (λ (p : Path). length p) (at ∙ l.below n.parent within) ∙ length-append (path_at paths (node_at nodes n.parent).parent) ((node_at nodes n.parent).scope ∷ []) in
+            let above : length f ≡ length (path_at paths (linked_node nodes n.parent).parent) + 1 = ap (λ (p : Path). length p) (at ∙ l.below n.parent within) ∙ length-append (path_at paths (linked_node nodes n.parent).parent) ((linked_node nodes n.parent).scope ∷ []) in
             ap (λ (b : Bool). cond b no_parent (node_number paths (parent_path q))) (ne_eqb (length q) 1 (λ e. absurd (omega arith)))
             ∙ ap (node_number paths) (parent_path_front f n.scope ∙ at)
             ∙ number_at paths n.parent (let same = l.long in omega arith) (λ k k_lt e. l.once k n.parent (let same = l.long in omega arith) within e)
       ]
 
-  pub node_is : (i : ℕ) → i < length nodes → node_at nodes i ≡ trie_node paths (nth_path paths i)
+  pub node_is : (i : ℕ) → i < length nodes → linked_node nodes i ≡ trie_node paths (nth_path paths i)
   node_is i lt =
-      ap₂ node_with (sym (parent_is i lt)) (sym (ap own_scope (l.below i lt) ∙ own_scope_last (path_at paths (node_at nodes i).parent) (node_at nodes i).scope))
+      ap₂ node_with (sym (parent_is i lt)) (sym (ap own_scope (l.below i lt) ∙ own_scope_last (path_at paths (linked_node nodes i).parent) (linked_node nodes i).scope))
 
   pub nodes_are : nodes ≡ map (trie_node paths) paths
   nodes_are =

@@ -22,7 +22,7 @@ use Rattle.tree_types.proofs.Sorting.{equal_from_is}
 use Rattle.scope_types.specs.contracts.scope.ScopePartialEq.TheImpl.{ghosts as scopes}
 use Rattle.tree_types.specs.contracts.content.NodePartialEq.TheImpl.{ghosts as node_test}
 use Rattle.path_trie.specs.Trie.{IsIndex, path_at, same_path, has_node, with_node}
-use Rattle.path_trie.specs.private.Linked.{Key, Branches, same_key, branch_at, node_at, node_with, no_node, next_index, IsAbsent, with_branch, Rooted, Linked, Extends}
+use Rattle.path_trie.specs.private.Linked.{Key, Branches, same_key, branch_at, linked_node, node_with, no_node, next_index, IsAbsent, with_branch, Rooted, Linked, Extends}
 
 -- ---- keys
 
@@ -52,13 +52,13 @@ place_cases p n is = elim (cases_eq p no_parent) [ inl e ↦ inl e | inr apart �
 pub next_of : (p : ℕ) → p < most_path_scopes → next_index p ≡ p + 1
 next_of p lt = mod-eq_of_lt (omega arith)
 
-pub none_listed : (nodes : List Node) (bs : Branches) (parent : ℕ) (scope : Scope) → Linked nodes bs → (node_at nodes (next_index parent) ≡ node_with parent scope → ⊥) → branch_at bs (parent, scope) ≡ None → IsAbsent nodes parent scope
+pub none_listed : (nodes : List Node) (bs : Branches) (parent : ℕ) (scope : Scope) → Linked nodes bs → (linked_node nodes (next_index parent) ≡ node_with parent scope → ⊥) → branch_at bs (parent, scope) ≡ None → IsAbsent nodes parent scope
 none_listed nodes bs parent scope l apart none i lt is =
     elim (cases_eq i (next_index parent)) [
-      | inl e ↦ apart (ap (node_at nodes) (sym e) ∙ is)
+      | inl e ↦ apart (ap (linked_node nodes) (sym e) ∙ is)
       | inr other ↦
-          let there : branch_at bs ((node_at nodes i).parent, (node_at nodes i).scope) ≡ Some i = l.listed i lt (λ e. other (e ∙ ap (λ (n : Node). next_index n.parent) is)) in
-          let same : branch_at bs ((node_at nodes i).parent, (node_at nodes i).scope) ≡ branch_at bs (parent, scope) = ap (λ (n : Node). branch_at bs (n.parent, n.scope)) is in
+          let there : branch_at bs ((linked_node nodes i).parent, (linked_node nodes i).scope) ≡ Some i = l.listed i lt (λ e. other (e ∙ ap (λ (n : Node). next_index n.parent) is)) in
+          let same : branch_at bs ((linked_node nodes i).parent, (linked_node nodes i).scope) ≡ branch_at bs (parent, scope) = ap (λ (n : Node). branch_at bs (n.parent, n.scope)) is in
           let some_none : Some i ≡ None = sym there ∙ same ∙ none in
           absurd cc
     ]
@@ -91,11 +91,11 @@ module _ (nodes : List Node) (l : Rooted nodes) (few : length nodes ≤ most_pat
       elim (place_cases p (length nodes) p_place) [
         | inl p_none ↦ elim (place_cases q (length nodes) q_place) [
           | inl q_none ↦ p_none ∙ sym q_none
-          | inr q_less ↦ absurd (not_empty (path_at paths (node_at nodes q).parent) (node_at nodes q).scope
+          | inr q_less ↦ absurd (not_empty (path_at paths (linked_node nodes q).parent) (linked_node nodes q).scope
               (sym (l.below q q_less) ∙ sym (path_some paths q (omega arith)) ∙ sym e ∙ path_none paths p p_none))
         ]
         | inr p_less ↦ elim (place_cases q (length nodes) q_place) [
-          | inl q_none ↦ absurd (not_empty (path_at paths (node_at nodes p).parent) (node_at nodes p).scope
+          | inl q_none ↦ absurd (not_empty (path_at paths (linked_node nodes p).parent) (linked_node nodes p).scope
               (sym (l.below p p_less) ∙ sym (path_some paths p (omega arith)) ∙ e ∙ path_none paths q q_none))
           | inr q_less ↦ l.once p q p_less q_less (sym (path_some paths p (omega arith)) ∙ e ∙ path_some paths q (omega arith))
         ]
@@ -132,16 +132,16 @@ node_decides : (a b : Node) → Decides (node_test.eq a b) (a ≡ b)
 node_decides a b = (λ e. (let k = key_is (a.parent, a.scope) (b.parent, b.scope) e in ap (λ (q : Key). node_with q.0 q.1) k), λ e. subst (λ (n : Node). node_test.eq a n ≡ true) e (key_itself (a.parent, a.scope)))
 
 -- the node right after its parent is another
-pub node_apart : (nodes : List Node) (i : ℕ) (node other : Node) (test : Bool) (xs : List Node) → xs ≡ nodes → i < length xs → node ≡ get_or xs i node → test ≡ node_test.eq node other → test ≡ false → node_at nodes i ≡ other → ⊥
+pub node_apart : (nodes : List Node) (i : ℕ) (node other : Node) (test : Bool) (xs : List Node) → xs ≡ nodes → i < length xs → node ≡ get_or xs i node → test ≡ node_test.eq node other → test ≡ false → linked_node nodes i ≡ other → ⊥
 node_apart nodes i node other test xs same lt there told apart is =
     let found : slice_get xs i ≡ Some node = slice_get_read xs (length xs) i node refl lt there in
-    let at : node_at nodes i ≡ node = ap (λ (l : List Node). get_or l i no_node) (sym same) ∙ get_or_from_slice_get xs i node no_node found in
+    let at : linked_node nodes i ≡ node = ap (λ (l : List Node). get_or l i no_node) (sym same) ∙ get_or_from_slice_get xs i node no_node found in
     true≢false (sym ((node_decides node other).1 (sym at ∙ is)) ∙ sym told ∙ apart)
 
 -- what stands right after its parent, or is listed
 pub branch_given : (nodes : List Node) (bs : Branches) (parent : ℕ) (scope : Scope) (o : Option ℕ) → Linked nodes bs → branch_at bs (parent, scope) ≡ o
-    → (node_at nodes (next_index parent) ≡ node_with parent scope → ⊥)
-    → MatchOption o (IsAbsent nodes parent scope) (λ i. (i < length nodes) × (node_at nodes i ≡ node_with parent scope))
+    → (linked_node nodes (next_index parent) ≡ node_with parent scope → ⊥)
+    → MatchOption o (IsAbsent nodes parent scope) (λ i. (i < length nodes) × (linked_node nodes i ≡ node_with parent scope))
 branch_given nodes bs parent scope None l is apart = none_listed nodes bs parent scope l apart is
 branch_given nodes bs parent scope (Some i) l is apart = l.found parent scope i is
 
@@ -183,11 +183,11 @@ module _ (nodes : List Node) (bs more : Branches) (parent : ℕ) (scope : Scope)
   new_at : (i : ℕ) → i ≡ length nodes → get_or all_paths i [] ≡ new_path
   new_at i is = ap (λ (k : ℕ). get_or all_paths k []) (is ∙ sym l.rooted.long) ∙ get_or-append_seam old_paths new_path [] []
 
-  old_node : (i : ℕ) → i < length nodes → node_at all i ≡ node_at nodes i
+  old_node : (i : ℕ) → i < length nodes → linked_node all i ≡ linked_node nodes i
   old_node i lt = get_or-append nodes (node_new ∷ []) no_node i lt
 
-  last_node : (i : ℕ) → i ≡ length nodes → node_at all i ≡ node_new
-  last_node i is = ap (node_at all) is ∙ get_or-append_seam nodes node_new [] no_node
+  last_node : (i : ℕ) → i ≡ length nodes → linked_node all i ≡ node_new
+  last_node i is = ap (linked_node all) is ∙ get_or-append_seam nodes node_new [] no_node
 
   path_stays : (p : ℕ) → IsIndex p (length nodes) → path_at all_paths p ≡ path_at old_paths p
   path_stays p p_place =
@@ -201,24 +201,24 @@ module _ (nodes : List Node) (bs more : Branches) (parent : ℕ) (scope : Scope)
 
   new_apart : (i : ℕ) → i < length nodes → get_or old_paths i [] ≡ new_path → ⊥
   new_apart i lt e =
-      let n : Node = node_at nodes i in
+      let n : Node = linked_node nodes i in
       let parts = snoc_same (path_at old_paths n.parent) (path_at old_paths parent) n.scope scope (sym (l.rooted.below i lt) ∙ e) in
       let same : n.parent ≡ parent = place_once nodes l.rooted (omega arith) n.parent parent (wider n.parent i lt (l.rooted.before i lt)) index parts.0 in
       absent i lt (ap₂ node_with same parts.1)
 
-  before_all : (i : ℕ) → i < length all → IsIndex (node_at all i).parent i
+  before_all : (i : ℕ) → i < length all → IsIndex (linked_node all i).parent i
   before_all i lt =
       elim (last_cases i (length nodes) (let c = count in omega arith)) [
         | inl less ↦ subst (λ (n : Node). IsIndex n.parent i) (sym (old_node i less)) (l.rooted.before i less)
         | inr is ↦ subst (λ (n : Node). IsIndex n.parent i) (sym (last_node i is)) (subst (λ (k : ℕ). IsIndex parent k) (sym is) index)
       ]
 
-  below_all : (i : ℕ) → i < length all → get_or all_paths i [] ≡ path_below all_paths (node_at all i)
+  below_all : (i : ℕ) → i < length all → get_or all_paths i [] ≡ path_below all_paths (linked_node all i)
   below_all i lt =
       elim (last_cases i (length nodes) (let c = count in omega arith)) [
         | inl less ↦
             old_at i less ∙ l.rooted.below i less
-            ∙ ap (λ (x : Path). x ++ (node_at nodes i).scope ∷ []) (sym (path_stays (node_at nodes i).parent (wider (node_at nodes i).parent i less (l.rooted.before i less))))
+            ∙ ap (λ (x : Path). x ++ (linked_node nodes i).scope ∷ []) (sym (path_stays (linked_node nodes i).parent (wider (linked_node nodes i).parent i less (l.rooted.before i less))))
             ∙ ap (path_below all_paths) (sym (old_node i less))
         | inr is ↦ new_at i is ∙ ap (λ (x : Path). x ++ scope ∷ []) (sym (path_stays parent index)) ∙ ap (path_below all_paths) (sym (last_node i is))
       ]
@@ -247,35 +247,35 @@ module _ (nodes : List Node) (bs more : Branches) (parent : ℕ) (scope : Scope)
         | false ↦ λ e. refl
       ] refl
 
-  listed_all : (i : ℕ) → i < length all → i ≢ next_index (node_at all i).parent → branch_at more ((node_at all i).parent, (node_at all i).scope) ≡ Some i
+  listed_all : (i : ℕ) → i < length all → i ≢ next_index (linked_node all i).parent → branch_at more ((linked_node all i).parent, (linked_node all i).scope) ≡ Some i
   listed_all i lt apart =
       elim (last_cases i (length nodes) (let c = count in omega arith)) [
         | inl less ↦
-            let n : Node = node_at nodes i in
-            let is : node_at all i ≡ n = old_node i less in
+            let n : Node = linked_node nodes i in
+            let is : linked_node all i ≡ n = old_node i less in
             let q : Key = (n.parent, n.scope) in
             let old : branch_at bs q ≡ Some i = l.listed i less (λ e. apart (e ∙ ap (λ (m : Node). next_index m.parent) (sym is))) in
             ap (λ (m : Node). branch_at more (m.parent, m.scope)) is ∙ lookups q
             ∙ ap (λ (o : Option ℕ). with_branch (next_index parent == length nodes) own_key (length nodes) o q) old
             ∙ stays_listed (next_index parent == length nodes) q i (λ e. absent i less (ap (λ (k : Key). node_with k.0 k.1) (sym e)))
         | inr is ↦
-            let last : node_at all i ≡ node_new = last_node i is in
+            let last : linked_node all i ≡ node_new = last_node i is in
             let far : (next_index parent == length nodes) ≡ false = ne_eqb (next_index parent) (length nodes) (λ e. apart (is ∙ sym e ∙ ap (λ (m : Node). next_index m.parent) (sym last))) in
             ap (λ (m : Node). branch_at more (m.parent, m.scope)) last ∙ lookups own_key
             ∙ ap (λ (b : Bool). with_branch b own_key (length nodes) (branch_at bs own_key) own_key) far
             ∙ ap (λ (b : Bool). cond b (Some (length nodes)) (branch_at bs own_key)) (key_itself own_key) ∙ ap Some (sym is)
       ]
 
-  known : (p : ℕ) (s : Scope) (i : ℕ) → branch_at bs (p, s) ≡ Some i → (i < length all) × (node_at all i ≡ node_with p s)
+  known : (p : ℕ) (s : Scope) (i : ℕ) → branch_at bs (p, s) ≡ Some i → (i < length all) × (linked_node all i ≡ node_with p s)
   known p s i there =
       let old = l.found p s i there in
       let c = count in
       (omega (arith, old.0), old_node i old.0 ∙ old.1)
 
-  found_in : (b : Bool) (p : ℕ) (s : Scope) (i : ℕ) → with_branch b own_key (length nodes) (branch_at bs (p, s)) (p, s) ≡ Some i → (i < length all) × (node_at all i ≡ node_with p s)
+  found_in : (b : Bool) (p : ℕ) (s : Scope) (i : ℕ) → with_branch b own_key (length nodes) (branch_at bs (p, s)) (p, s) ≡ Some i → (i < length all) × (linked_node all i ≡ node_with p s)
   found_in true p s i is = known p s i is
   found_in false p s i is =
-      elim (same_key own_key (p, s)) as (λ t. same_key own_key (p, s) ≡ t → cond t (Some (length nodes)) (branch_at bs (p, s)) ≡ Some i → (i < length all) × (node_at all i ≡ node_with p s)) [
+      elim (same_key own_key (p, s)) as (λ t. same_key own_key (p, s) ≡ t → cond t (Some (length nodes)) (branch_at bs (p, s)) ≡ Some i → (i < length all) × (linked_node all i ≡ node_with p s)) [
         | true ↦ λ same there.
             let at : length nodes ≡ i = cc in
             let c = count in
@@ -283,7 +283,7 @@ module _ (nodes : List Node) (bs more : Branches) (parent : ℕ) (scope : Scope)
         | false ↦ λ same there. known p s i there
       ] refl is
 
-  found_all : (p : ℕ) (s : Scope) (i : ℕ) → branch_at more (p, s) ≡ Some i → (i < length all) × (node_at all i ≡ node_with p s)
+  found_all : (p : ℕ) (s : Scope) (i : ℕ) → branch_at more (p, s) ≡ Some i → (i < length all) × (linked_node all i ≡ node_with p s)
   found_all p s i is = found_in (next_index parent == length nodes) p s i (sym (lookups (p, s)) ∙ is)
 
   long_all : length all_paths ≡ length all
@@ -293,7 +293,7 @@ module _ (nodes : List Node) (bs more : Branches) (parent : ℕ) (scope : Scope)
   rooted_push = record {
     long = ap (λ (ps : List Path). length ps) paths_are ∙ long_all;
     before = before_all;
-    below = λ i lt. subst (λ (ps : List Path). get_or ps i [] ≡ path_below ps (node_at all i)) (sym paths_are) (below_all i lt);
+    below = λ i lt. subst (λ (ps : List Path). get_or ps i [] ≡ path_below ps (linked_node all i)) (sym paths_are) (below_all i lt);
     once = λ i j i_lt j_lt. subst (λ (ps : List Path). get_or ps i [] ≡ get_or ps j [] → i ≡ j) (sym paths_are) (once_all i j i_lt j_lt);
   }
 
@@ -312,7 +312,7 @@ module _ (nodes : List Node) (bs more : Branches) (parent : ℕ) (scope : Scope)
     same = λ p p_place. ap (λ (ps : List Path). path_at ps p) paths_are ∙ path_stays p (subst (IsIndex p) l.rooted.long p_place);
   }
 
-pub there_paths : (nodes : List Node) (bs : Branches) (parent : ℕ) (scope : Scope) (i : ℕ) → Linked nodes bs → length nodes < most_path_scopes → i < length nodes → node_at nodes i ≡ node_with parent scope
+pub there_paths : (nodes : List Node) (bs : Branches) (parent : ℕ) (scope : Scope) (i : ℕ) → Linked nodes bs → length nodes < most_path_scopes → i < length nodes → linked_node nodes i ≡ node_with parent scope
     → tree_paths nodes ≡ with_node (tree_paths nodes) (path_at (tree_paths nodes) parent ++ scope ∷ [])
 there_paths nodes bs parent scope i l few lt is =
     let paths : List Path = tree_paths nodes in

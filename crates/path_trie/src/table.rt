@@ -6,7 +6,7 @@ ghost use Rattle.scope_types.specs.Limits.{most_path_scopes};
 ghost use Rattle.tree_types.specs.Paths.{prefixes};
 ghost use Rattle.tree_types.specs.PathsOf.{tree_paths};
 ghost use Rattle.path_trie.specs.Trie.{IsIndex, path_at, with_node};
-ghost use Rattle.path_trie.specs.private.Linked.{Linked, Extends, IsAbsent, Key, node_at, node_with};
+ghost use Rattle.path_trie.specs.private.Linked.{Linked, Extends, IsAbsent, Key, linked_node, node_with};
 ghost use Rattle.path_trie.specs.private.Linked.{next_index, last_one, branch_at, with_branch};
 
 use indexmap::IndexMap;
@@ -52,7 +52,7 @@ impl NodeTable {
         requires linked { Linked self.now.nodes.items self.now.branches.entries }
         requires few { length self.now.nodes.items ≤ most_path_scopes }
         ensures { MatchOption result (IsAbsent self.now.nodes.items parent scope)
-            (λ i. (i < length self.now.nodes.items) × (node_at self.now.nodes.items i ≡ node_with parent scope)) }
+            (λ i. (i < length self.now.nodes.items) × (linked_node self.now.nodes.items i ≡ node_with parent scope)) }
     {
         let next = parent.wrapping_add(1);
         let node = self.nodes.get(next as usize)?;

@@ -4,5 +4,7 @@ pub mod Appending
 pub mod Groups
 pub mod Outcomes
 pub mod Took
+pub mod Written
+pub mod Lists
 pub mod Repeated
 pub mod Tests

@@ -4,3 +4,4 @@ pub mod Reading
 pub mod Outcome
 pub mod Fields
 pub mod Repeated
+pub mod Format

@@ -22,27 +22,27 @@ use Rattle.prof_db.specs.declared.raw.RawNode.{RawNode}
 use Rattle.prof_db.specs.declared.raw.RawProc.{RawProc}
 use Rattle.prof_db.specs.declared.raw.RawScope.{RawScope}
 use Rattle.prof_db.specs.declared.raw.RawScope.TheVariants as raws
-use Rattle.prof_db.specs.NameRules.{file_name, is_proc, proc_name, procs_kept}
+use Rattle.prof_db.specs.NameRules.{file_name, is_valid_proc, raw_proc_name, procs_kept}
 use Rattle.prof_db.specs.NodeRules.{file_numbered, in_range, line_in_range, line_id, node_of, proc_numbered, scope_of}
-use Rattle.prof_db.specs.Spelling.{file_bytes, file_index, line_numbers, node_bytes, proc_index, procedure_bytes, scope_numbers, text_bytes}
+use Rattle.prof_db.specs.Spelling.{file_name_bytes, file_index, line_numbers, node_bytes, proc_index, procedure_bytes, scope_numbers, text_bytes}
 use Rattle.prof_bytes.specs.Number.{word, words}
 use Rattle.prof_db.proofs.BackItems.{raw_file_bytes, raw_line_numbers, raw_node_bytes, raw_proc_bytes, raw_scope_numbers}
 use Rattle.prof_db.proofs.OwnNames.{is_proc_at, lists_same, turned, words_are}
 
 -- ---- procedures and files
 
-pub procs_spelled : (procs : List RawProc) (used : List ℕ) → procs_kept procs used ≡ Ok tt → flat_map procedure_bytes (map proc_name procs) ≡ flat_map raw_proc_bytes procs
+pub procs_spelled : (procs : List RawProc) (used : List ℕ) → procs_kept procs used ≡ Ok tt → flat_map procedure_bytes (map raw_proc_name procs) ≡ flat_map raw_proc_bytes procs
 procs_spelled procs used kept =
-    let long = length-map procs proc_name in
-    lists_same procedure_bytes raw_proc_bytes (map proc_name procs) procs long (λ i d e lt.
+    let long = length-map procs raw_proc_name in
+    lists_same procedure_bytes raw_proc_bytes (map raw_proc_name procs) procs long (λ i d e lt.
     let inside : i < length procs = omega (arith, lt, long) in
-    let ok : is_proc (get_or procs i e) ≡ true =
-    subst (λ (p : RawProc). is_proc p ≡ true) (get_or_default procs i (record { offset = 0; kind = 0; number = 0; name = [] }) e inside) (is_proc_at procs used kept i inside) in
-    ap procedure_bytes (get_or-map proc_name procs i e d inside)
+    let ok : is_valid_proc (get_or procs i e) ≡ true =
+    subst (λ (p : RawProc). is_valid_proc p ≡ true) (get_or_default procs i (record { offset = 0; kind = 0; number = 0; name = [] }) e inside) (is_proc_at procs used kept i inside) in
+    ap procedure_bytes (get_or-map raw_proc_name procs i e d inside)
     ∙ ap (λ (w : List ℕ). words w ++ text_bytes (get_or procs i e).name) (words_are (get_or procs i e) ok))
 
-pub files_spelled : (files : List RawFile) → flat_map file_bytes (map file_name files) ≡ flat_map raw_file_bytes files
-files_spelled files = flat_map-map file_bytes file_name files
+pub files_spelled : (files : List RawFile) → flat_map file_name_bytes (map file_name files) ≡ flat_map raw_file_bytes files
+files_spelled files = flat_map-map file_name_bytes file_name files
 
 -- ---- indices
 

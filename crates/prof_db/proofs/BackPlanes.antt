@@ -4,20 +4,18 @@ use Rattle.std.specs.List.{flat_map}
 use Rattle.std.proofs.lemmas.Bool.{and_parts, eqb-true, ltb-false, not-true}
 use Rattle.std.proofs.lemmas.List.Concat.{flat_map-append}
 use Rattle.prof_bytes.specs.Number.{IsBytes, number_bytes, number_in, word}
-use Rattle.prof_bytes.specs.Outcome.{◌>>=◌}
 use Rattle.prof_bytes.specs.Reading.{At, left_of, moved}
 use Rattle.tree_types.specs.declared.content.ContextEntry.{ContextEntry}
 use Rattle.tree_types.specs.declared.content.ProfileEntry.{ProfileEntry}
 use Rattle.prof_db.specs.declared.raw.RawEntry.{RawEntry}
 use Rattle.prof_bytes.specs.Repeated.{adding, times}
-use Rattle.prof_db.specs.Fields.{Read, fault, number_from, word_from}
+use Rattle.prof_db.specs.Fields.{Read, fault, not_whole, number_from, word_from}
 use Rattle.prof_db.specs.Layout.{column_from, entry_from, past_column, past_entry}
 use Rattle.prof_db.specs.Spelling.{context_entry_bytes, kind_number, long, profile_entry_bytes, with_count}
 use Rattle.prof_db.specs.ValueRules.{ValueField, column_fields, context_fields, fields_kept, plane_fields, profile_fields, stands_at}
-use Rattle.prof_bytes.proofs.Took.{Took, stands_took, took_both, took_none}
-use Rattle.prof_db.proofs.Back.{number_moved}
+use Rattle.prof_bytes.proofs.Took.{Took, given, number_moved, stands_took, took_both, took_none}
 use Rattle.prof_db.proofs.FieldSteps.{fields_append}
-use Rattle.prof_bytes.proofs.Outcomes.{bind_ok, ok_same, pass_ok}
+use Rattle.prof_bytes.proofs.Outcomes.{bind_ok, pass_ok}
 
 abbrev Stood : Type 0
 Stood = Unit {0} × At
@@ -41,14 +39,13 @@ first_stands rule field fields at end is =
 
 no_fields : (rule : ℕ) (at next : At) → fields_kept rule [] at ≡ Ok (tt, next) → at ≡ next
 unfolding fields_kept
-no_fields rule at next is = let same : ◌≡◌ {A = Stood} (tt, at) (tt, next) = ok_same (tt, at) (tt, next) is in ap (λ (p : Stood). p.1) same
+no_fields rule at next is = given (λ done next. at ≡ next) tt tt at next is refl
 
 pub fields_took : (rule : ℕ) (fields : List ValueField) (at next : At) → IsBytes at.whole → fields_kept rule fields at ≡ Ok (tt, next) → Took at next (flat_map field_bytes fields)
 fields_took rule [] at next bytes is = subst (λ (a : At). Took at a []) (no_fields rule at next is) (took_none at)
 fields_took rule (field ∷ fields) at next bytes is =
     let a = first_stands rule field fields at (tt, next) is in
-    took_both at (moved field.0 at) next (field_bytes field) (flat_map field_bytes fields) (stands_took field.0 at field.1 bytes a.0 a.1)
-    (fields_took rule fields (moved field.0 at) next bytes a.2)
+    took_both (stands_took field.0 at field.1 bytes a.0 a.1) (fields_took rule fields (moved field.0 at) next bytes a.2)
 
 -- ---- how far they reach
 
@@ -81,65 +78,39 @@ width_entries fields wide (x ∷ xs) =
 entries_moved : {S : Type 0} (step : ℕ → S → At → Read S) → ((i : ℕ) (b a : S) (at next : At) → step i b at ≡ Ok (a, next) → moved 16 at ≡ next)
     → (n i : ℕ) (before after : S) (at next : At) → times step n i before at ≡ Ok (after, next) → moved (16 * n) at ≡ next
 unfolding times
-entries_moved {S} step one zero i before after at next is =
-    let same : ◌≡◌ {A = S × At} (before, at) (after, next) = ok_same (before, at) (after, next) is in
-    not_moved at ∙ ap (λ (p : S × At). p.1) same
+entries_moved step one zero i before after at next is = given (λ after next. moved 0 at ≡ next) before after at next is (not_moved at)
 entries_moved step one (suc n) i before after at next is =
-    let a = bind_ok (step i before at) (λ read. times step n (i + 1) read.0 read.1) (after, next) is in
+    let a = bind_ok (step i before at) _ _ is in
     let far : 16 + 16 * n ≡ 16 * suc n = omega arith in
     sym (moved_twice 16 (16 * n) (16 * suc n) at far) ∙ ap (moved (16 * n)) (one i before a.0.0 at a.0.1 a.1) ∙ entries_moved step one n (i + 1) a.0.0 after a.0.1 next a.2
 
-three_moved : (at a b c : At) → moved 4 at ≡ a → moved 4 a ≡ b → moved 8 b ≡ c → moved 16 at ≡ c
-three_moved at a b c first second third =
-    sym (moved_twice 8 8 16 at refl) ∙ ap (moved 8) (sym (moved_twice 4 4 8 at refl) ∙ ap (moved 4) first ∙ second) ∙ third
-
-abbrev pub entry_end : ℕ → ℕ → ℕ → ℕ → ℕ × At → Read RawEntry
-entry_end offset hart node kind read = Ok (record { offset = offset; hart = hart; node = node; kind = kind; value = read.0 }, read.1)
-
-abbrev pub behind_entry_kind : ℕ → ℕ → ℕ → ℕ × At → Read RawEntry
-behind_entry_kind offset hart node read = number_from 8 read.1 >>= entry_end offset hart node read.0
-
-abbrev pub behind_entry_node : ℕ → ℕ → ℕ × At → Read RawEntry
-behind_entry_node offset hart read = word_from read.1 >>= behind_entry_kind offset hart read.0
+-- two words and eight bytes
+three_moved : (at a b c : At) (k m n : ℕ) → word_from at ≡ Ok (k, a) → word_from a ≡ Ok (m, b) → number_from 8 b ≡ Ok (n, c) → moved 16 at ≡ c
+three_moved at a b c k m n first second third =
+    sym (moved_twice 8 8 16 at refl)
+    ∙ ap (moved 8) (sym (moved_twice 4 4 8 at refl) ∙ ap (moved 4) (number_moved not_whole 4 at a k first).2 ∙ (number_moved not_whole 4 a b m second).2)
+    ∙ (number_moved not_whole 8 b c n third).2
 
 entry_moved : (hart : ℕ) (at next : At) (e : RawEntry) → entry_from hart at ≡ Ok (e, next) → moved 16 at ≡ next
 unfolding entry_from
 entry_moved hart at next e is =
-    let a = bind_ok (word_from at) (behind_entry_node at.offset hart) (e, next) is in
-    let b = bind_ok (word_from a.0.1) (behind_entry_kind at.offset hart a.0.0) (e, next) a.2 in
-    let c = bind_ok (number_from 8 b.0.1) (entry_end at.offset hart a.0.0 b.0.0) (e, next) b.2 in
-    let made : RawEntry = record { offset = at.offset; hart = hart; node = a.0.0; kind = b.0.0; value = c.0.0 } in
-    let same : ◌≡◌ {A = RawEntry × At} (made, c.0.1) (e, next) = ok_same (made, c.0.1) (e, next) c.2 in
-    three_moved at a.0.1 b.0.1 c.0.1 (number_moved 4 at a.0.1 a.0.0 a.1).2 (number_moved 4 a.0.1 b.0.1 b.0.0 b.1).2 (number_moved 8 b.0.1 c.0.1 c.0.0 c.1).2
-    ∙ ap (λ (p : RawEntry × At). p.1) same
-
-abbrev behind_one : List RawEntry → RawEntry × At → Read (List RawEntry)
-behind_one before read = Ok (before ++ read.0 ∷ [], read.1)
+    let a = bind_ok (word_from at) _ _ is in
+    let b = bind_ok (word_from a.0.1) _ _ a.2 in
+    let c = bind_ok (number_from 8 b.0.1) _ _ b.2 in
+    given (λ e next. moved 16 at ≡ next) _ e c.0.1 next c.2 (three_moved at a.0.1 b.0.1 c.0.1 a.0.0 b.0.0 c.0.0 a.1 b.1 c.1)
 
 added_moved : (hart i : ℕ) (before after : List RawEntry) (at next : At) → adding (entry_from hart) i before at ≡ Ok (after, next) → moved 16 at ≡ next
 added_moved hart i before after at next is =
-    let a = bind_ok (entry_from hart at) (behind_one before) (after, next) is in
-    let same : ◌≡◌ {A = List RawEntry × At} (before ++ a.0.0 ∷ [], a.0.1) (after, next) = ok_same (before ++ a.0.0 ∷ [], a.0.1) (after, next) a.2 in
-    entry_moved hart at a.0.1 a.0.0 a.1 ∙ ap (λ (p : List RawEntry × At). p.1) same
-
-abbrev pub past_end : ℕ × At → Read (Unit {0})
-past_end read = Ok (tt, read.1)
-
-abbrev pub behind_hart : ℕ × At → Read (Unit {0})
-behind_hart read = number_from 8 read.1 >>= past_end
-
-abbrev pub behind_past_kind : ℕ × At → Read (Unit {0})
-behind_past_kind read = word_from read.1 >>= behind_hart
+    let a = bind_ok (entry_from hart at) _ _ is in
+    given (λ after next. moved 16 at ≡ next) _ after a.0.1 next a.2 (entry_moved hart at a.0.1 a.0.0 a.1)
 
 past_moved : (i : ℕ) (before after : Unit {0}) (at next : At) → past_entry i before at ≡ Ok (after, next) → moved 16 at ≡ next
 unfolding past_entry
 past_moved i before after at next is =
-    let a = bind_ok (word_from at) behind_past_kind (after, next) is in
-    let b = bind_ok (word_from a.0.1) behind_hart (after, next) a.2 in
-    let c = bind_ok (number_from 8 b.0.1) past_end (after, next) b.2 in
-    let same : ◌≡◌ {A = Stood} (tt, c.0.1) (after, next) = ok_same (tt, c.0.1) (after, next) c.2 in
-    three_moved at a.0.1 b.0.1 c.0.1 (number_moved 4 at a.0.1 a.0.0 a.1).2 (number_moved 4 a.0.1 b.0.1 b.0.0 b.1).2 (number_moved 8 b.0.1 c.0.1 c.0.0 c.1).2
-    ∙ ap (λ (p : Stood). p.1) same
+    let a = bind_ok (word_from at) _ _ is in
+    let b = bind_ok (word_from a.0.1) _ _ a.2 in
+    let c = bind_ok (number_from 8 b.0.1) _ _ b.2 in
+    given (λ done next. moved 16 at ≡ next) tt after c.0.1 next c.2 (three_moved at a.0.1 b.0.1 c.0.1 a.0.0 b.0.0 c.0.0 a.1 b.1 c.1)
 
 -- how far a column reaches: its count, and each entry
 abbrev column_end : At → At
@@ -149,36 +120,24 @@ counted_moved : (at mid next : At) (count : ℕ) → number_in 4 (left_of at) �
 counted_moved at mid next count is first rest =
     ap (λ (n : ℕ). moved (4 + 16 * n) at) is ∙ sym (moved_twice 4 (16 * count) (4 + 16 * count) at refl) ∙ ap (moved (16 * count)) first ∙ rest
 
-abbrev pub behind_count : ℕ → List RawEntry → ℕ × At → Read (List RawEntry)
-behind_count hart before read = times (adding (entry_from hart)) read.0 0 before read.1
-
 pub column_moved : (hart : ℕ) (before after : List RawEntry) (at next : At) → column_from hart before at ≡ Ok (after, next) → column_end at ≡ next
 unfolding column_from
 column_moved hart before after at next is =
-    let a = bind_ok (word_from at) (behind_count hart before) (after, next) is in
-    let m = number_moved 4 at a.0.1 a.0.0 a.1 in
+    let a = bind_ok (word_from at) _ _ is in
+    let m = number_moved not_whole 4 at a.0.1 a.0.0 a.1 in
     counted_moved at a.0.1 next a.0.0 m.1 m.2 (entries_moved (adding (entry_from hart)) (λ i b f at next read. added_moved hart i b f at next read) a.0.0 0 before after a.0.1 next a.2)
-
-abbrev pub behind_past_count : ℕ × At → Read (Unit {0})
-behind_past_count read = times past_entry read.0 0 tt read.1
 
 pub past_column_moved : (i : ℕ) (before after : Unit {0}) (at next : At) → past_column i before at ≡ Ok (after, next) → column_end at ≡ next
 unfolding past_column
 past_column_moved i before after at next is =
-    let a = bind_ok (word_from at) behind_past_count (after, next) is in
-    let m = number_moved 4 at a.0.1 a.0.0 a.1 in
+    let a = bind_ok (word_from at) _ _ is in
+    let m = number_moved not_whole 4 at a.0.1 a.0.0 a.1 in
     counted_moved at a.0.1 next a.0.0 m.1 m.2 (entries_moved past_entry past_moved a.0.0 0 tt after a.0.1 next a.2)
 
 -- ---- columns end where their fields do
 
 module _ {X S : Type 0} (rule : ℕ) (fields : X → List ValueField) (wide : (x : X) → width (fields x) ≡ 16) (step : ℕ → S → At → Read S)
     (sized : (i : ℕ) (b a : S) (at next : At) → step i b at ≡ Ok (a, next) → column_end at ≡ next) where
-  abbrev behind_column : ℕ → ℕ → S × At → Read S
-  behind_column n i read = times step n (i + 1) read.0 read.1
-
-  abbrev behind_fields : List (List X) → Stood → Read (Unit {0})
-  behind_fields columns read = fields_kept rule (plane_fields fields columns) read.1
-
   column_same : (xs : List X) (at mid : At) → fields_kept rule (column_fields fields xs) at ≡ Ok (tt, mid) → mid ≡ column_end at
   column_same xs at mid is =
       let count = (first_stands rule (4, length xs) (flat_map fields xs) at (tt, mid) is).1 in
@@ -190,13 +149,12 @@ module _ {X S : Type 0} (rule : ℕ) (fields : X → List ValueField) (wide : (x
       → times step n i before at ≡ Ok (after, next) → fields_kept rule (plane_fields fields columns) at ≡ Ok (tt, end) → end ≡ next
   unfolding times
   columns_end [] zero i before after at next end long read kept =
-      let same : ◌≡◌ {A = S × At} (before, at) (after, next) = ok_same (before, at) (after, next) read in
-      sym (no_fields rule at end kept) ∙ ap (λ (p : S × At). p.1) same
+      given (λ after next. end ≡ next) before after at next read (sym (no_fields rule at end kept))
   columns_end [] (suc n) i before after at next end long read kept = absurd (omega arith)
   columns_end (xs ∷ columns) zero i before after at next end long read kept = absurd (omega arith)
   columns_end (xs ∷ columns) (suc n) i before after at next end long read kept =
-      let a = bind_ok (step i before at) (behind_column n i) (after, next) read in
-      let b = bind_ok (fields_kept rule (column_fields fields xs) at) (behind_fields columns) (tt, end)
+      let a = bind_ok (step i before at) _ _ read in
+      let b = bind_ok (fields_kept rule (column_fields fields xs) at) (λ r. fields_kept rule (plane_fields fields columns) r.1) (tt, end)
       (sym (fields_append rule (column_fields fields xs) (plane_fields fields columns) at) ∙ kept) in
       let same : b.0.1 ≡ a.0.1 = column_same xs at b.0.1 b.1 ∙ sized i before a.0.0 at a.0.1 a.1 in
       columns_end columns n (i + 1) a.0.0 after a.0.1 next end (omega (arith, long)) a.2

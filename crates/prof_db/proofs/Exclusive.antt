@@ -6,12 +6,11 @@ use Rattle.std.specs.FinMap.{nat_cmp-IsAntisymmetric, slice_cmp-IsAntisymmetric}
 use Rattle.std.specs.List.{IsDistinct, flat_map, range_with_len}
 use Rattle.std.specs.List.Sorted.{IsPermutation, IsSortedBy}
 use Rattle.std.specs.Ordering.{nat_cmp, is_lt, ordering_then, ordering_reverse}
-use Rattle.std.proofs.lemmas.Bool.{cases_eq, or_cases, eq-eqb, ne_eqb, lt-ltb, or_right, not-false}
-use Rattle.std.proofs.lemmas.Bool.Decides.{nat_tests}
+use Rattle.std.proofs.lemmas.Bool.{cases_eq, eq-eqb, eqb-true, leb-true, lt-ltb, ltb-true, ne_eqb, not-false, or_cases, or_right}
 use Rattle.std.proofs.lemmas.Cmp.{nat_list_cmp_total}
 use Rattle.std.proofs.Math.Nat.{div-add-mod}
 use Rattle.std.proofs.lemmas.List.{get_or_default, get_or-map, length-map, take_all}
-use Rattle.std.proofs.lemmas.List.Elements.{All-filter, All-get_or, All-from_get_or, filter_passes}
+use Rattle.std.proofs.lemmas.List.Elements.{All-filter, All-get_or, All-map, All-from_get_or, filter_passes}
 use Rattle.std.proofs.lemmas.List.Folds.{sum_by-replicate}
 use Rattle.std.proofs.lemmas.List.Kept.{AllPairs-filter}
 use Rattle.std.proofs.lemmas.List.MinMax.{ranks_by}
@@ -32,18 +31,9 @@ use Rattle.tree_types.proofs.Counting.{one}
 use Rattle.prof_db.specs.declared.raw.RawEntry.{RawEntry}
 use Rattle.prof_db.specs.NameRules.{pair_less}
 use Rattle.prof_db.specs.NodeRules.{is_statement}
-use Rattle.prof_db.specs.ValueRules.{entry_count, entries_ascend, entries_kept, entry_at, entry_breaks, is_exclusive, is_value, entry_samples}
+use Rattle.prof_db.specs.ValueRules.{entry_count, entries_ascend, entries_kept, entry_at, entry_breaks, is_exclusive_entry, is_value, entry_samples}
 use Rattle.prof_db.proofs.Preorder.{and_parts}
 use Rattle.prof_db.proofs.FirstBroken.{none_broken}
-
-fits : (m n : ℕ) → nat_le m n ≡ true → m ≤ n
-fits m n e = grind (arith, nat_tests)
-
-less : (m n : ℕ) → nat_lt m n ≡ true → m < n
-less m n e = grind (arith, nat_tests)
-
-is_equal : (m n : ℕ) → (m == n) ≡ true → m ≡ n
-is_equal m n e = grind (arith, nat_tests)
 
 -- ---- sorting
 
@@ -107,12 +97,12 @@ Up a b c x y z = (a < x) ⊎ ((a ≡ x) × ((b < y) ⊎ ((b ≡ y) × (c < z))))
 up_parts : (a b c x y z : ℕ) → threes_up a b c x y z ≡ true → Up a b c x y z
 up_parts a b c x y z e =
     elim (or_cases (nat_lt a x) (a == x && pair_less b c y z) e) [
-      | inl first ↦ inl (less a x first)
+      | inl first ↦ inl (ltb-true a x first)
       | inr rest ↦
           let both = and_parts (a == x) (pair_less b c y z) rest in
           elim (or_cases (nat_lt b y) (b == y && nat_lt c z) both.1) [
-            | inl second ↦ inr (is_equal a x both.0, inl (less b y second))
-            | inr third ↦ let last = and_parts (b == y) (nat_lt c z) third in inr (is_equal a x both.0, inr (is_equal b y last.0, less c z last.1))
+            | inl second ↦ inr (eqb-true a x both.0, inl (ltb-true b y second))
+            | inr third ↦ let last = and_parts (b == y) (nat_lt c z) third in inr (eqb-true a x both.0, inr (eqb-true b y last.0, ltb-true c z last.1))
           ]
     ]
 
@@ -160,11 +150,11 @@ differ a b c x y z up zero_c zero_z =
     and_last false u e = refl
 
 -- the samples of exclusive values are those of their counts
-pub samples_are : (period : ℕ) (es : List RawEntry) → counts_in (map (entry_count period) (filter is_exclusive es)) ≡ sum_by (entry_samples period) es
+pub samples_are : (period : ℕ) (es : List RawEntry) → counts_in (map (entry_count period) (filter is_exclusive_entry es)) ≡ sum_by (entry_samples period) es
 samples_are period [] = refl
 samples_are period (e ∷ es) =
-    elim (is_exclusive e) as (λ b. counts_in (map (entry_count period) (cond b (e ∷ filter is_exclusive es) (filter is_exclusive es))) ≡ cond b (e.value / period) 0 + sum_by (entry_samples period) es) [
-      | true ↦ sum_by-cons (λ (c : NodeCount). c.count) (entry_count period e) (map (entry_count period) (filter is_exclusive es)) ∙ ap (λ (n : ℕ). e.value / period + n) (samples_are period es)
+    elim (is_exclusive_entry e) as (λ b. counts_in (map (entry_count period) (cond b (e ∷ filter is_exclusive_entry es) (filter is_exclusive_entry es))) ≡ cond b (e.value / period) 0 + sum_by (entry_samples period) es) [
+      | true ↦ sum_by-cons (λ (c : NodeCount). c.count) (entry_count period e) (map (entry_count period) (filter is_exclusive_entry es)) ∙ ap (λ (n : ℕ). e.value / period + n) (samples_are period es)
       | false ↦ samples_are period es ∙ (omega arith)
     ] ∙ sym (sum_by-cons (entry_samples period) e es)
 
@@ -179,7 +169,7 @@ module _ (period harts : ℕ) (nodes : List Node) (entries : List RawEntry) (kep
   whole_samples e = is_statement (node_at nodes e.node).scope && e.value % period == 0
 
   abbrev may_stand : RawEntry → Bool
-  may_stand e = not (is_exclusive e) || whole_samples e
+  may_stand e = not (is_exclusive_entry e) || whole_samples e
 
   abbrev is_some : RawEntry → Bool
   is_some e = not (e.value == 0) && may_stand e
@@ -206,13 +196,13 @@ module _ (period harts : ℕ) (nodes : List Node) (entries : List RawEntry) (kep
   order_ok i lt = and_parts (is_next i) (has_room i) (and_parts (is_value period harts nodes (at i)) (is_next i && has_room i) (whole i lt)).1
 
   total_ok : (i : ℕ) → i < length entries → sum_by (entry_samples period) (take (i + 1) entries) ≤ most_samples
-  total_ok i lt = fits (sum_by (entry_samples period) (take (i + 1) entries)) most_samples (order_ok i lt).1
+  total_ok i lt = leb-true (sum_by (entry_samples period) (take (i + 1) entries)) most_samples (order_ok i lt).1
 
   next_up : (i : ℕ) → suc i < length entries → entries_ascend (at i) (at (suc i)) ≡ true
   next_up i lt =
       let k : suc i - 1 ≡ i = omega arith in
       elim (or_cases (suc i == 0) (entries_ascend (entry_at entries (suc i - 1)) (at (suc i))) (order_ok (suc i) lt).0) [
-        | inl e ↦ absurd (never i (is_equal (suc i) 0 e))
+        | inl e ↦ absurd (never i (eqb-true (suc i) 0 e))
         | inr e ↦ subst (λ (j : ℕ). entries_ascend (at j) (at (suc i)) ≡ true) k e
       ]
     where
@@ -238,13 +228,13 @@ module _ (period harts : ℕ) (nodes : List Node) (entries : List RawEntry) (kep
       (subst (λ (e : RawEntry). entries_ascend e (at j) ≡ true) (sym (get_or_default entries i d none (omega arith))) (all_up i j below lt))
 
   abbrev exclusive : List RawEntry
-  exclusive = filter is_exclusive entries
+  exclusive = filter is_exclusive_entry entries
 
   abbrev counts : List NodeCount
   counts = map (entry_count period) exclusive
 
-  apart : (e f : RawEntry) → entries_ascend e f ≡ true → is_exclusive e ≡ true → is_exclusive f ≡ true → same_pair (entry_count period e) (entry_count period f) ≡ false
-  apart e f up first second = differ e.hart e.node e.kind f.hart f.node f.kind up (is_equal e.kind 0 first) (is_equal f.kind 0 second)
+  apart : (e f : RawEntry) → entries_ascend e f ≡ true → is_exclusive_entry e ≡ true → is_exclusive_entry f ≡ true → same_pair (entry_count period e) (entry_count period f) ≡ false
+  apart e f up first second = differ e.hart e.node e.kind f.hart f.node f.kind up (eqb-true e.kind 0 first) (eqb-true f.kind 0 second)
 
   distinct : IsDistinct same_pair counts
   distinct = IsDistinct-from_apart same_pair counts (λ i j d below lt.
@@ -253,9 +243,9 @@ module _ (period harts : ℕ) (nodes : List Node) (entries : List RawEntry) (kep
       let f : RawEntry = get_or exclusive j none in
       let second : j < length exclusive = omega arith in
       let first : i < length exclusive = omega arith in
-      let up : entries_ascend e f ≡ true = AllPairs-filter (λ e f. entries_ascend e f ≡ true) is_exclusive entries ascend i j none below second in
-      let e_is : is_exclusive e ≡ true = All-get_or (λ (x : RawEntry). is_exclusive x ≡ true) exclusive i none first (filter_passes is_exclusive entries) in
-      let f_is : is_exclusive f ≡ true = All-get_or (λ (x : RawEntry). is_exclusive x ≡ true) exclusive j none second (filter_passes is_exclusive entries) in
+      let up : entries_ascend e f ≡ true = AllPairs-filter (λ e f. entries_ascend e f ≡ true) is_exclusive_entry entries ascend i j none below second in
+      let e_is : is_exclusive_entry e ≡ true = All-get_or (λ (x : RawEntry). is_exclusive_entry x ≡ true) exclusive i none first (filter_passes is_exclusive_entry entries) in
+      let f_is : is_exclusive_entry f ≡ true = All-get_or (λ (x : RawEntry). is_exclusive_entry x ≡ true) exclusive j none second (filter_passes is_exclusive_entry entries) in
       subst (λ (b : NodeCount). same_pair (get_or counts i d) b ≡ false) (sym (get_or-map (entry_count period) exclusive j none d second))
       (subst (λ (a : NodeCount). same_pair a (entry_count period f) ≡ false) (sym (get_or-map (entry_count period) exclusive i none d first)) (apart e f up e_is f_is)))
 
@@ -268,10 +258,10 @@ module _ (period harts : ℕ) (nodes : List Node) (entries : List RawEntry) (kep
 
   module _ (some : 0 < period) where
     good_node : (e : RawEntry) → IsGood e → e.node < length nodes
-    good_node e ok = less (e.node) (length nodes) (and_parts (nat_lt e.node (length nodes)) (has_hart e) ok).0
+    good_node e ok = ltb-true (e.node) (length nodes) (and_parts (nat_lt e.node (length nodes)) (has_hart e) ok).0
 
     good_hart : (e : RawEntry) → IsGood e → e.hart < harts
-    good_hart e ok = less e.hart harts (and_parts (nat_lt e.hart harts) (has_kind e) (and_parts (nat_lt e.node (length nodes)) (has_hart e) ok).1).0
+    good_hart e ok = ltb-true e.hart harts (and_parts (nat_lt e.hart harts) (has_kind e) (and_parts (nat_lt e.node (length nodes)) (has_hart e) ok).1).0
 
     -- a value of whole samples, other than 0, has some
     has_some : (v : ℕ) → v ≢ 0 → v % period ≡ 0 → 0 < v / period
@@ -284,38 +274,32 @@ module _ (period harts : ℕ) (nodes : List Node) (entries : List RawEntry) (kep
             nothing n = omega arith
         pos (suc q) is = subst (λ (n : ℕ). 0 < n) (sym is) (omega arith)
 
-    good_count : (e : RawEntry) → IsGood e → is_exclusive e ≡ true → 0 < e.value / period
+    good_count : (e : RawEntry) → IsGood e → is_exclusive_entry e ≡ true → 0 < e.value / period
     good_count e ok excl =
         let kind = (and_parts (nat_lt e.hart harts) (has_kind e) (and_parts (nat_lt e.node (length nodes)) (has_hart e) ok).1).1 in
         let rest = (and_parts (nat_lt e.kind 3) (is_some e) kind).1 in
         let both = and_parts (not (e.value == 0)) (may_stand e) rest in
         let other : e.value ≢ 0 = λ z. true≢false (sym both.0 ∙ ap not (eq-eqb e.value 0 z)) in
-        elim (or_cases (not (is_exclusive e)) (whole_samples e) both.1) [
+        elim (or_cases (not (is_exclusive_entry e)) (whole_samples e) both.1) [
           | inl unlike ↦ absurd (true≢false (sym unlike ∙ ap not excl))
-          | inr stands ↦ has_some e.value other (is_equal (e.value % period) 0 (and_parts (is_statement (node_at nodes e.node).scope) (e.value % period == 0) stands).1)
+          | inr stands ↦ has_some e.value other (eqb-true (e.value % period) 0 (and_parts (is_statement (node_at nodes e.node).scope) (e.value % period == 0) stands).1)
         ]
 
-    all_map : {X Y : Type 0} (P : Y → Type 0) (f : X → Y) (xs : List X) (x : X) → All (λ x. P (f x)) xs → All P (map f xs)
-    all_map P f xs x all i d lt =
-        let long = length-map xs f in
-        let inside : i < length xs = omega arith in
-        subst P (sym (get_or-map f xs i x d inside)) (all i x inside)
-
     good : All IsGood exclusive
-    good = All-filter is_exclusive IsGood entries all_good
+    good = All-filter is_exclusive_entry IsGood entries all_good
 
     some_counts : All (λ e. 0 < e.value / period) exclusive
-    some_counts = λ i d lt. good_count (get_or exclusive i d) (good i d lt) (filter_passes is_exclusive entries i d lt)
+    some_counts = λ i d lt. good_count (get_or exclusive i d) (good i d lt) (filter_passes is_exclusive_entry entries i d lt)
 
     -- each count is that of a node and a hart that there are, and counts some samples
     pub counts_inside : All (λ c. c.node < length nodes) counts
-    counts_inside = all_map (λ (c : NodeCount). c.node < length nodes) (entry_count period) exclusive none (λ i d lt. good_node (get_or exclusive i d) (good i d lt))
+    counts_inside = All-map (λ (c : NodeCount). c.node < length nodes) (entry_count period) exclusive (λ i d lt. good_node (get_or exclusive i d) (good i d lt))
 
     pub counts_harts : All (λ c. c.hart < harts) counts
-    counts_harts = all_map (λ (c : NodeCount). c.hart < harts) (entry_count period) exclusive none (λ i d lt. good_hart (get_or exclusive i d) (good i d lt))
+    counts_harts = All-map (λ (c : NodeCount). c.hart < harts) (entry_count period) exclusive (λ i d lt. good_hart (get_or exclusive i d) (good i d lt))
 
     pub counts_some : All (λ c. 0 < c.count) counts
-    counts_some = all_map (λ (c : NodeCount). 0 < c.count) (entry_count period) exclusive none some_counts
+    counts_some = All-map (λ (c : NodeCount). 0 < c.count) (entry_count period) exclusive some_counts
 
     -- the tree of the sorted counts
     module _ (sorted : List NodeCount) (moved : IsPermutation counts sorted) (up : AllPairs (λ a b. count_order b a ≢ Less) sorted) (few : length nodes < no_parent) (preorder : IsPreorder nodes) where
@@ -386,4 +370,4 @@ passed_sum period harts nodes entries i whole =
     let value : Bool = is_value period harts nodes (entry_at entries i) in
     let next : Bool = i == 0 || entries_ascend (entry_at entries (i - 1)) (entry_at entries i) in
     let room : Bool = nat_le (sum_by (entry_samples period) (take (i + 1) entries)) most_samples in
-    fits (sum_by (entry_samples period) (take (i + 1) entries)) most_samples (and_parts next room (and_parts value (next && room) (not-false (value && (next && room)) whole)).1).1
+    leb-true (sum_by (entry_samples period) (take (i + 1) entries)) most_samples (and_parts next room (and_parts value (next && room) (not-false (value && (next && room)) whole)).1).1

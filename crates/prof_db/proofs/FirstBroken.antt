@@ -1,7 +1,7 @@
 -- The first of many things that is broken.
-use Rattle.std.proofs.Common.{◌≡◌, ℕ, zero, suc, cond, ap, inl, inr, ◌-◌, ◌+◌, ◌≤◌, ◌<◌, Bool, true, false, Ok, Err, sym, ◌∙◌, refl, arith}
+use Rattle.std.proofs.Common.{◌≡◌, ℕ, zero, suc, ap, inl, inr, ◌-◌, ◌+◌, ◌≤◌, ◌<◌, Bool, true, false, Ok, Err, sym, ◌∙◌, refl, arith}
 use Rattle.std.proofs.lemmas.Bool.{cases_eq}
-use Rattle.prof_bytes.specs.declared.fail.Fail.TheVariants as fails
+use Rattle.prof_bytes.proofs.Outcomes.{guard_ok}
 use Rattle.prof_db.specs.Broken.{Kept, first_broken}
 use Rattle.prof_db.specs.Fields.{fault}
 
@@ -38,13 +38,8 @@ pub none_broken : (rule : ℕ) (is_broken : ℕ → Bool) (offset : ℕ → ℕ)
 unfolding first_broken
 none_broken rule is_broken offset i zero k kept le lt = absurd (omega arith)
 none_broken rule is_broken offset i (suc n) k kept le lt =
-    let first = first_passes rule is_broken offset i n (is_broken i) refl kept in
+    let first = guard_ok (is_broken i) (fault rule (offset i)) (first_broken rule is_broken offset (i + 1) n) tt kept in
     elim (cases_eq k i) [
       | inl same ↦ ap is_broken same ∙ first.0
       | inr apart ↦ none_broken rule is_broken offset (i + 1) n k first.1 (omega arith) (omega arith)
     ]
-  where
-    first_passes : (rule : ℕ) (is_broken : ℕ → Bool) (offset : ℕ → ℕ) (i n : ℕ) (b : Bool) → is_broken i ≡ b
-        → cond b (Err (fault rule (offset i))) (first_broken rule is_broken offset (i + 1) n) ≡ Ok tt → (is_broken i ≡ false) × (first_broken rule is_broken offset (i + 1) n ≡ Ok tt)
-    first_passes rule is_broken offset i n true is kept = absurd cc
-    first_passes rule is_broken offset i n false is kept = (is, kept)

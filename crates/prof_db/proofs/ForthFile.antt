@@ -1,13 +1,8 @@
 -- What was written is read as the same: how the whole file is cut into fields.
-use Rattle.std.proofs.Common.{◌≡◌, ℕ, ◌||◌, not, nat_eq, nat_lt, Bool, true, false, cond, List, [], ◌∷◌, ◌++◌, length, map, take, drop, All, Result, Ok, Err, refl, sym, ap, subst, ◌∙◌, append_assoc, append-nil, arith}
-use Rattle.std.specs.Cmp.Lexicographic.{pointwise}
+use Rattle.std.proofs.Common.{◌≡◌, ℕ, List, [], ◌∷◌, ◌++◌, length, map, drop, All, Ok, refl, sym, ap, subst, ◌∙◌, append_assoc, append-nil}
 use Rattle.std.specs.List.{enumerate_from, flat_map}
-use Rattle.std.proofs.lemmas.Bool.{le-ltb, or_from}
-use Rattle.std.proofs.lemmas.List.{length-append}
-use Rattle.prof_bytes.specs.Outcome.{◌>>=◌}
 use Rattle.prof_bytes.specs.Reading.{At, left_of}
 use Rattle.tree_types.specs.declared.content.Content.{Content}
-use Rattle.prof_db.specs.declared.fault.DbFault.{DbFault}
 use Rattle.prof_db.specs.declared.raw.Head.{Head}
 use Rattle.prof_db.specs.declared.raw.Layout.{Layout}
 use Rattle.prof_db.specs.declared.raw.RawEntry.{RawEntry}
@@ -15,15 +10,17 @@ use Rattle.prof_db.specs.declared.raw.RawFile.{RawFile}
 use Rattle.prof_db.specs.declared.raw.RawNode.{RawNode}
 use Rattle.prof_db.specs.declared.raw.RawProc.{RawProc}
 use Rattle.prof_bytes.specs.Repeated.{times}
-use Rattle.prof_db.specs.Fields.{Read, fault, not_whole}
-use Rattle.prof_db.specs.Layout.{after_magic, body_from, file_from, head_from, layout_in, node_from, past_column, proc_from}
+use Rattle.prof_db.specs.Fields.{fault}
+use Rattle.prof_db.specs.Layout.{body_from, file_from, head_from, layout_in, node_from, past_column, proc_from}
 use Rattle.prof_db.specs.NameRules.{file_name}
-use Rattle.prof_db.specs.Spelling.{context_entry_bytes, file_bytes, node_bytes, procedure_bytes, profile_entry_bytes, spelling, with_count}
-use Rattle.prof_bytes.specs.Number.{word, words}
+use Rattle.prof_db.specs.Spelling.{database_magic, context_entry_bytes, file_name_bytes, node_bytes, procedure_bytes, profile_entry_bytes, spelling, with_count}
+use Rattle.prof_bytes.specs.Number.{words}
 use Rattle.prof_db.specs.Stored.{IsWord}
-use Rattle.prof_db.proofs.BackFile.{behind_columns, behind_file_list, behind_files, behind_harts, behind_head, behind_magic, behind_node_list, behind_past, behind_period, behind_proc_list, behind_procs, body_is, head_end, layout_is, made_of, magic}
-use Rattle.prof_db.proofs.Forth.{Comes, items_forth, word_forth}
-use Rattle.prof_db.proofs.ForthItems.{FileFits, NodeFits, ProcFits, bare_node, bare_proc, file_forth, node_forth, proc_forth, raw_node, raw_proc}
+use Rattle.prof_db.proofs.BackFile.{made_of}
+use Rattle.prof_bytes.specs.Format.{magic_or}
+use Rattle.prof_bytes.proofs.Lists.{items_come}
+use Rattle.prof_bytes.proofs.Written.{Comes, magic_comes}
+use Rattle.prof_db.proofs.ForthItems.{word_forth, FileFits, NodeFits, ProcFits, bare_node, bare_proc, file_forth, node_forth, proc_forth, raw_node, raw_proc}
 use Rattle.prof_db.proofs.ForthPlanes.{ColumnFits, PastColumnFits, PlaneRead, bare_entry, past_plane_forth, plane_forth, raw_column}
 
 abbrev pub profile_plane : Content → List ℕ
@@ -68,16 +65,6 @@ pub record IsLaid (c : Content) : Type 0 where
 abbrev pub layout_of : (c : Content) → IsLaid c → Layout
 layout_of c laid = made_of (head_of c) laid.procs laid.files laid.nodes laid.entries laid.profiles laid.contexts
 
-magic_forth : (bytes rest : List ℕ) → bytes ≡ magic ++ rest → after_magic bytes ≡ Ok (record { whole = bytes; offset = 8 })
-magic_forth bytes rest is =
-    let parts = length-append magic rest in
-    let all = ap (λ (l : List ℕ). length l) is in
-    let eight : length magic ≡ 8 = refl in
-    let long : nat_lt (length bytes) 8 ≡ false = le-ltb (length bytes) 8 (omega (arith, parts, all, eight)) in
-    let test : pointwise nat_eq (take 8 bytes) magic ≡ true = ap (λ (l : List ℕ). pointwise nat_eq (take 8 l) magic) is in
-    let passes : (nat_lt (length bytes) 8 || not (pointwise nat_eq (take 8 bytes) magic)) ≡ false = or_from _ _ long (ap not test) in
-    ap (λ (b : Bool). cond b (Err (fault 1 0)) (Ok (record { whole = bytes; offset = 8 }))) passes
-
 seams : (m w p f n a b : List ℕ) → m ++ w ++ p ++ f ++ n ++ a ++ b ≡ m ++ (w ++ (p ++ (f ++ (n ++ (a ++ b)))))
 seams m w p f n a b = simp append_assoc
 
@@ -98,7 +85,7 @@ module _ (c : Content) (fits : ContentFits c) where
   node_part = flat_map (node_bytes c.names) c.nodes ++ (profile_plane c ++ context_plane c)
 
   abbrev file_part : List ℕ
-  file_part = flat_map file_bytes c.names.files ++ node_part
+  file_part = flat_map file_name_bytes c.names.files ++ node_part
 
   abbrev proc_part : List ℕ
   proc_part = flat_map procedure_bytes c.names.procs ++ file_part
@@ -106,29 +93,24 @@ module _ (c : Content) (fits : ContentFits c) where
   head_forth : (at : At) (rest : List ℕ) → left_of at ≡ words (c.period ∷ c.harts ∷ procs ∷ files ∷ many ∷ []) ++ rest → Comes (head_from at) head rest
   unfolding head_from
   head_forth at rest left =
-      let a = word_forth at c.period (word c.harts ++ (word procs ++ (word files ++ (word many ++ rest)))) fits.period left in
-      let b = word_forth a.0 c.harts (word procs ++ (word files ++ (word many ++ rest))) fits.many_harts a.2 in
-      let d = word_forth b.0 procs (word files ++ (word many ++ rest)) fits.many_procs b.2 in
-      let e = word_forth d.0 files (word many ++ rest) fits.many_files d.2 in
-      let f = word_forth e.0 many rest fits.many_nodes e.2 in (
-        f.0,
-        ap (λ (r : Read ℕ). r >>= behind_period) a.1 ∙ ap (λ (r : Read ℕ). r >>= behind_harts c.period) b.1
-            ∙ ap (λ (r : Read ℕ). r >>= behind_procs c.period c.harts) d.1 ∙ ap (λ (r : Read ℕ). r >>= behind_files c.period c.harts procs) e.1
-            ∙ ap (λ (r : Read ℕ). r >>= head_end c.period c.harts procs files) f.1,
-        f.2,
-      )
+      let a = word_forth at c.period _ fits.period left in
+      let b = word_forth a.0 c.harts _ fits.many_harts a.2 in
+      let d = word_forth b.0 procs _ fits.many_procs b.2 in
+      let e = word_forth d.0 files _ fits.many_files d.2 in
+      let f = word_forth e.0 many rest fits.many_nodes e.2 in
+      (f.0, rw (a.1, b.1, d.1, e.1, f.1) refl, f.2)
 
   body_forth : (at : At) → left_of at ≡ proc_part → (laid : IsLaid c) × (body_from head at ≡ Ok (layout_of c laid))
+  unfolding body_from
   body_forth at left =
-      let a = items_forth proc_from bare_proc raw_proc procedure_bytes ProcFits proc_forth c.names.procs 0 [] at file_part fits.procs left in
-      let b = items_forth file_from file_name (λ f. f) file_bytes FileFits file_forth c.names.files 0 [] a.next node_part fits.files a.left in
-      let n = items_forth node_from bare_node (raw_node c.names) (node_bytes c.names) (NodeFits c.names) (node_forth c.names) c.nodes 0 [] b.next (profile_plane c ++ context_plane c) fits.nodes b.left in
+      let a = items_come proc_from bare_proc raw_proc procedure_bytes ProcFits proc_forth c.names.procs 0 [] at file_part fits.procs left in
+      let b = items_come file_from file_name (λ f. f) file_name_bytes FileFits file_forth c.names.files 0 [] a.next node_part fits.files a.left in
+      let n = items_come node_from bare_node (raw_node c.names) (node_bytes c.names) (NodeFits c.names) (node_forth c.names) c.nodes 0 [] b.next (profile_plane c ++ context_plane c) fits.nodes b.left in
       let e : PlaneRead c.harts 0 [] n.next c.profiles (context_plane c) =
       subst (λ (k : ℕ). PlaneRead k 0 [] n.next c.profiles (context_plane c)) fits.harts (plane_forth c.profiles 0 [] n.next (context_plane c) fits.profiles n.left) in
       let left_all : left_of e.next ≡ context_plane c ++ [] = e.left ∙ sym (append-nil (context_plane c)) in
       let p : Comes (times past_column many 0 tt e.next) tt [] =
-      subst (λ (k : ℕ). Comes (times past_column k 0 tt e.next) tt []) fits.columns (past_plane_forth c.contexts e.next [] fits.contexts left_all) in
-      let made : Layout = made_of head a.xs b.xs n.xs e.xs n.next e.next in (
+      subst (λ (k : ℕ). Comes (times past_column k 0 tt e.next) tt []) fits.columns (past_plane_forth c.contexts e.next [] fits.contexts left_all) in (
         record {
           procs = a.xs;
           files = b.xs;
@@ -143,26 +125,17 @@ module _ (c : Content) (fits : ContentFits c) where
           profiles_left = n.left;
           contexts_left = left_all;
         },
-        body_is head at
-            ∙ ap (λ (r : Read (List RawProc)). r >>= behind_proc_list head) a.is
-            ∙ ap (λ (r : Read (List RawFile)). r >>= behind_file_list head a.xs) b.is
-            ∙ ap (λ (r : Read (List RawNode)). r >>= behind_node_list head a.xs b.xs) n.is
-            ∙ ap (λ (r : Read (List RawEntry)). r >>= behind_columns head a.xs b.xs n.xs n.next) e.is
-            ∙ ap (λ (r : Read (Unit {0})). r >>= behind_past made) p.1
-            ∙ ap (λ (l : List ℕ). cond (nat_lt 0 (length l)) (Err (not_whole p.0)) (Ok made)) p.2,
+        rw (a.is, b.is, n.is, e.is, p.1, p.2) refl,
       )
 
   pub layout_forth : (laid : IsLaid c) × (layout_in (spelling c) ≡ Ok (layout_of c laid))
-  unfolding spelling
+  unfolding spelling layout_in
   layout_forth =
-      let bytes : List ℕ = spelling c in
       let numbers : List ℕ = words (c.period ∷ c.harts ∷ procs ∷ files ∷ many ∷ []) in
-      let parted : bytes ≡ magic ++ (numbers ++ proc_part) =
-      seams magic numbers (flat_map procedure_bytes c.names.procs) (flat_map file_bytes c.names.files) (flat_map (node_bytes c.names) c.nodes) (profile_plane c) (context_plane c) in
-      let at : At = record { whole = bytes; offset = 8 } in
-      let h = head_forth at proc_part (ap (drop 8) parted) in
-      let b = body_forth h.0 h.2 in (
-        b.0,
-        layout_is bytes ∙ ap (λ (r : Result At DbFault). r >>= behind_magic) (magic_forth bytes (numbers ++ proc_part) parted)
-            ∙ ap (λ (r : Read Head). r >>= behind_head) h.1 ∙ b.1,
-      )
+      let parted : spelling c ≡ database_magic ++ (numbers ++ proc_part) =
+      seams database_magic numbers (flat_map procedure_bytes c.names.procs) (flat_map file_name_bytes c.names.files) (flat_map (node_bytes c.names) c.nodes) (profile_plane c) (context_plane c) in
+      let magic : magic_or (fault 1 0) database_magic (spelling c) ≡ Ok (record { whole = spelling c; offset = 8 }) =
+      subst (λ (bytes : List ℕ). magic_or (fault 1 0) database_magic bytes ≡ Ok (record { whole = bytes; offset = 8 })) (sym parted) (magic_comes (fault 1 0) database_magic (numbers ++ proc_part) refl refl) in
+      let h = head_forth (record { whole = spelling c; offset = 8 }) proc_part (ap (drop 8) parted) in
+      let b = body_forth h.0 h.2 in
+      (b.0, rw (magic, h.1, b.1) refl)

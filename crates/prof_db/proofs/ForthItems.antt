@@ -1,7 +1,6 @@
--- What was written is read as the same: procedures, files and nodes.
-use Rattle.std.proofs.Common.{◌≡◌, ℕ, ◌^◌, ◌<◌, List, [], ◌∷◌, ◌++◌, length, All, refl, ap, ◌∙◌, arith}
+-- What was written is read as the same: words, texts, procedures, files and nodes.
+use Rattle.std.proofs.Common.{◌≡◌, ℕ, ◌^◌, ◌<◌, List, [], ◌∷◌, ◌++◌, length, All, refl, ap, ◌∙◌, append_assoc, arith}
 use Rattle.std.proofs.lemmas.List.Elements.{All-tail}
-use Rattle.prof_bytes.specs.Outcome.{◌>>=◌}
 use Rattle.prof_bytes.specs.Reading.{At, left_of}
 use Rattle.scope_types.specs.declared.scope.LineId.{LineId}
 use Rattle.scope_types.specs.declared.scope.LineId.TheVariants as lines
@@ -22,14 +21,27 @@ use Rattle.prof_db.specs.declared.raw.RawNode.{RawNode}
 use Rattle.prof_db.specs.declared.raw.RawProc.{RawProc}
 use Rattle.prof_db.specs.declared.raw.RawScope.{RawScope}
 use Rattle.prof_db.specs.declared.raw.RawScope.TheVariants.{Root, Proc, Inline, Call, Stmt}
-use Rattle.prof_db.specs.Fields.{Read}
-use Rattle.prof_db.specs.Layout.{address_from, call_from, file_from, frame_from, inline_from, line_from, node_from, proc_from, root_from, row_from, scope_from, stmt_from}
+use Rattle.prof_db.specs.Fields.{not_whole, word_from}
+use Rattle.prof_db.specs.Layout.{address_from, call_from, file_from, frame_from, inline_from, line_from, node_from, proc_from, root_from, row_from, scope_from, stmt_from, text_from}
 use Rattle.prof_db.specs.NameRules.{file_name}
-use Rattle.prof_db.specs.Spelling.{file_bytes, file_index, line_numbers, node_bytes, proc_index, procedure_bytes, scope_numbers, text_bytes}
+use Rattle.prof_db.specs.Spelling.{file_name_bytes, file_index, line_numbers, node_bytes, proc_index, procedure_bytes, scope_numbers, text_bytes}
 use Rattle.prof_bytes.specs.Number.{word, words}
 use Rattle.prof_db.specs.Stored.{IsWord}
-use Rattle.prof_db.proofs.BackItems.{address_end, behind_callee, behind_file, behind_kind, behind_number, behind_parent, behind_row_file, behind_table, by_line_kind, by_tag, call_end, file_end, frame_end, inline_end, node_end, proc_end, raw_line_numbers, raw_scope_numbers, root_end, row_end, stmt_end}
-use Rattle.prof_db.proofs.Forth.{Comes, Reads, text_forth, word_forth}
+use Rattle.prof_db.proofs.BackItems.{raw_line_numbers, raw_scope_numbers}
+use Rattle.prof_bytes.proofs.Lists.{Reads}
+use Rattle.prof_bytes.proofs.Written.{Comes, bytes_come, word_comes}
+
+-- ---- words and texts
+
+pub word_forth : (at : At) (n : ℕ) (rest : List ℕ) → IsWord n → left_of at ≡ word n ++ rest → Comes (word_from at) n rest
+word_forth at n rest few left = word_comes not_whole at n rest few left
+
+text_forth : (at : At) (name rest : List ℕ) → length name < 2 ^ 32 → left_of at ≡ text_bytes name ++ rest → Comes (text_from at) name rest
+unfolding text_from
+text_forth at name rest short left =
+    let a = word_forth at (length name) (name ++ rest) short (left ∙ append_assoc (word (length name)) name rest) in
+    let b = bytes_come not_whole a.0 name rest a.2 in
+    (b.0, rw (a.1, b.1) refl, b.2)
 
 -- ---- procedures and files
 
@@ -67,18 +79,13 @@ kind_fits Nameless = omega arith
 pub proc_forth : (at : At) (p : ProcName) (rest : List ℕ) → ProcFits p → left_of at ≡ procedure_bytes p ++ rest → Reads bare_proc (proc_from at) (raw_proc p) rest
 unfolding proc_from
 proc_forth at p rest fits left =
-    let kind : ℕ = proc_kind p.id in
-    let number : ℕ = proc_number p.id in
-    let behind : List ℕ = text_bytes p.name ++ rest in
-    let parted : left_of at ≡ word kind ++ (word number ++ behind) = left ∙ ap (λ (ws : List ℕ). (words ws ++ text_bytes p.name) ++ rest) (proc_words_are p.id) in
-    let a = word_forth at kind (word number ++ behind) (kind_fits p.id) parted in
-    let b = word_forth a.0 number behind fits.number a.2 in
+    let a = word_forth at (proc_kind p.id) _ (kind_fits p.id) (left ∙ ap (λ (ws : List ℕ). (words ws ++ text_bytes p.name) ++ rest) (proc_words_are p.id)) in
+    let b = word_forth a.0 (proc_number p.id) _ fits.number a.2 in
     let c = text_forth b.0 p.name rest fits.short b.2 in
     record {
-      value = record { offset = at.offset; kind = kind; number = number; name = p.name };
+      value = record { offset = at.offset; kind = proc_kind p.id; number = proc_number p.id; name = p.name };
       next = c.0;
-      is = ap (λ (r : Read ℕ). r >>= behind_kind at.offset) a.1 ∙ ap (λ (r : Read ℕ). r >>= behind_number at.offset kind) b.1
-          ∙ ap (λ (r : Read (List ℕ)). r >>= proc_end at.offset kind number) c.1;
+      is = rw (a.1, b.1, c.1) refl;
       same = refl;
       left = c.2;
     }
@@ -88,18 +95,16 @@ pub record FileFits (f : FileName) : Type 0 where
   pub file : IsWord f.file
   pub short : length f.name < 2 ^ 32
 
-pub file_forth : (at : At) (f : FileName) (rest : List ℕ) → FileFits f → left_of at ≡ file_bytes f ++ rest → Reads file_name (file_from at) f rest
+pub file_forth : (at : At) (f : FileName) (rest : List ℕ) → FileFits f → left_of at ≡ file_name_bytes f ++ rest → Reads file_name (file_from at) f rest
 unfolding file_from
 file_forth at f rest fits left =
-    let behind : List ℕ = text_bytes f.name ++ rest in
-    let a = word_forth at f.table (word f.file ++ behind) fits.table left in
-    let b = word_forth a.0 f.file behind fits.file a.2 in
+    let a = word_forth at f.table _ fits.table left in
+    let b = word_forth a.0 f.file _ fits.file a.2 in
     let c = text_forth b.0 f.name rest fits.short b.2 in
     record {
       value = record { offset = at.offset; table = f.table; file = f.file; name = f.name };
       next = c.0;
-      is = ap (λ (r : Read ℕ). r >>= behind_table at.offset) a.1 ∙ ap (λ (r : Read ℕ). r >>= behind_file at.offset f.table) b.1
-          ∙ ap (λ (r : Read (List ℕ)). r >>= file_end at.offset f.table f.file) c.1;
+      is = rw (a.1, b.1, c.1) refl;
       same = refl;
       left = c.2;
     }
@@ -112,50 +117,41 @@ AreWords ns = All IsWord ns
 line_forth : (at : At) (line : RawLine) (rest : List ℕ) → AreWords (raw_line_numbers line) → left_of at ≡ words (raw_line_numbers line) ++ rest → Comes (line_from at) line rest
 unfolding line_from row_from address_from
 line_forth at (Row file line) rest fits left =
-    let a = word_forth at 0 (word file ++ (word line ++ rest)) (omega arith) left in
-    let b = word_forth a.0 file (word line ++ rest) (fits 1 0 (omega arith)) a.2 in
-    let c = word_forth b.0 line rest (fits 2 0 (omega arith)) b.2 in (
-      c.0,
-      ap (λ (r : Read ℕ). r >>= by_line_kind at) a.1 ∙ ap (λ (r : Read ℕ). r >>= behind_row_file) b.1 ∙ ap (λ (r : Read ℕ). r >>= row_end file) c.1,
-      c.2,
-    )
+    let a = word_forth at 0 _ (omega arith) left in
+    let b = word_forth a.0 file _ (fits 1 0 (omega arith)) a.2 in
+    let c = word_forth b.0 line rest (fits 2 0 (omega arith)) b.2 in
+    (c.0, rw (a.1, b.1, c.1) refl, c.2)
 line_forth at (Address address) rest fits left =
-    let a = word_forth at 1 (word address ++ rest) (omega arith) left in
+    let a = word_forth at 1 _ (omega arith) left in
     let b = word_forth a.0 address rest (fits 1 0 (omega arith)) a.2 in
-    (b.0, ap (λ (r : Read ℕ). r >>= by_line_kind at) a.1 ∙ ap (λ (r : Read ℕ). r >>= address_end) b.1, b.2)
+    (b.0, rw (a.1, b.1) refl, b.2)
 
 -- ---- scopes
 
 scope_forth : (at : At) (s : RawScope) (rest : List ℕ) → AreWords (raw_scope_numbers s) → left_of at ≡ words (raw_scope_numbers s) ++ rest → Comes (scope_from at) s rest
 unfolding scope_from root_from frame_from inline_from call_from stmt_from
 scope_forth at (Root kind) rest fits left =
-    let a = word_forth at 0 (word kind ++ rest) (omega arith) left in
+    let a = word_forth at 0 _ (omega arith) left in
     let b = word_forth a.0 kind rest (fits 1 0 (omega arith)) a.2 in
-    (b.0, ap (λ (r : Read ℕ). r >>= by_tag at) a.1 ∙ ap (λ (r : Read ℕ). r >>= root_end) b.1, b.2)
+    (b.0, rw (a.1, b.1) refl, b.2)
 scope_forth at (Proc p) rest fits left =
-    let a = word_forth at 1 (word p ++ rest) (omega arith) left in
+    let a = word_forth at 1 _ (omega arith) left in
     let b = word_forth a.0 p rest (fits 1 0 (omega arith)) a.2 in
-    (b.0, ap (λ (r : Read ℕ). r >>= by_tag at) a.1 ∙ ap (λ (r : Read ℕ). r >>= frame_end) b.1, b.2)
+    (b.0, rw (a.1, b.1) refl, b.2)
 scope_forth at (Inline p line) rest fits left =
     let numbers : List ℕ = raw_line_numbers line in
-    let behind : List ℕ = words numbers ++ rest in
-    let a = word_forth at 2 (word p ++ behind) (omega arith) left in
-    let b = word_forth a.0 p behind (fits 1 0 (omega arith)) a.2 in
-    let c = line_forth b.0 line rest (All-tail IsWord p numbers (All-tail IsWord 2 (p ∷ numbers) fits)) b.2 in (
-      c.0,
-      ap (λ (r : Read ℕ). r >>= by_tag at) a.1 ∙ ap (λ (r : Read ℕ). r >>= behind_callee) b.1 ∙ ap (λ (r : Read RawLine). r >>= inline_end p) c.1,
-      c.2,
-    )
+    let a = word_forth at 2 _ (omega arith) left in
+    let b = word_forth a.0 p (words numbers ++ rest) (fits 1 0 (omega arith)) a.2 in
+    let c = line_forth b.0 line rest (All-tail IsWord p numbers (All-tail IsWord 2 (p ∷ numbers) fits)) b.2 in
+    (c.0, rw (a.1, b.1, c.1) refl, c.2)
 scope_forth at (Call line) rest fits left =
-    let numbers : List ℕ = raw_line_numbers line in
-    let a = word_forth at 3 (words numbers ++ rest) (omega arith) left in
-    let b = line_forth a.0 line rest (All-tail IsWord 3 numbers fits) a.2 in
-    (b.0, ap (λ (r : Read ℕ). r >>= by_tag at) a.1 ∙ ap (λ (r : Read RawLine). r >>= call_end) b.1, b.2)
+    let a = word_forth at 3 (words (raw_line_numbers line) ++ rest) (omega arith) left in
+    let b = line_forth a.0 line rest (All-tail IsWord 3 (raw_line_numbers line) fits) a.2 in
+    (b.0, rw (a.1, b.1) refl, b.2)
 scope_forth at (Stmt line) rest fits left =
-    let numbers : List ℕ = raw_line_numbers line in
-    let a = word_forth at 4 (words numbers ++ rest) (omega arith) left in
-    let b = line_forth a.0 line rest (All-tail IsWord 4 numbers fits) a.2 in
-    (b.0, ap (λ (r : Read ℕ). r >>= by_tag at) a.1 ∙ ap (λ (r : Read RawLine). r >>= stmt_end) b.1, b.2)
+    let a = word_forth at 4 (words (raw_line_numbers line) ++ rest) (omega arith) left in
+    let b = line_forth a.0 line rest (All-tail IsWord 4 (raw_line_numbers line) fits) a.2 in
+    (b.0, rw (a.1, b.1) refl, b.2)
 
 -- ---- nodes
 
@@ -201,13 +197,6 @@ pub node_forth : (names : Names) (at : At) (n : Node) (rest : List ℕ) → Node
 unfolding node_from
 node_forth names at n rest fits left =
     let s : RawScope = raw_scope names n.scope in
-    let parted : left_of at ≡ word n.parent ++ (words (raw_scope_numbers s) ++ rest) = left ∙ ap (λ (ws : List ℕ). (word n.parent ++ words ws) ++ rest) (scope_numbers_are names n.scope) in
-    let a = word_forth at n.parent (words (raw_scope_numbers s) ++ rest) fits.parent parted in
+    let a = word_forth at n.parent (words (raw_scope_numbers s) ++ rest) fits.parent (left ∙ ap (λ (ws : List ℕ). (word n.parent ++ words ws) ++ rest) (scope_numbers_are names n.scope)) in
     let b = scope_forth a.0 s rest fits.scope a.2 in
-    record {
-      value = record { offset = at.offset; parent = n.parent; scope = s };
-      next = b.0;
-      is = ap (λ (r : Read ℕ). r >>= behind_parent at.offset) a.1 ∙ ap (λ (r : Read RawScope). r >>= node_end at.offset n.parent) b.1;
-      same = refl;
-      left = b.2;
-    }
+    record { value = record { offset = at.offset; parent = n.parent; scope = s }; next = b.0; is = rw (a.1, b.1) refl; same = refl; left = b.2 }

@@ -5,7 +5,6 @@ use Rattle.std.specs.List.{enumerate_from, flat_map}
 use Rattle.std.proofs.lemmas.Bool.{and_from, eq-eqb}
 use Rattle.std.proofs.lemmas.List.Elements.{All-append, All-cons, All-head, All-nil, All-tail}
 use Rattle.prof_bytes.specs.Number.{number_in, word}
-use Rattle.prof_bytes.specs.Outcome.{◌>>=◌}
 use Rattle.prof_bytes.specs.Reading.{At, left_of, moved}
 use Rattle.tree_types.specs.declared.content.ContextEntry.{ContextEntry}
 use Rattle.tree_types.specs.declared.content.Kind.{Kind}
@@ -13,13 +12,15 @@ use Rattle.tree_types.specs.declared.content.Kind.TheVariants.{Exclusive, Frame,
 use Rattle.tree_types.specs.declared.content.ProfileEntry.{ProfileEntry}
 use Rattle.prof_db.specs.declared.raw.RawEntry.{RawEntry}
 use Rattle.prof_bytes.specs.Repeated.{times}
-use Rattle.prof_db.specs.Fields.{Read, fault}
+use Rattle.prof_db.specs.Fields.{Read, fault, not_whole}
 use Rattle.prof_db.specs.Layout.{column_from, entry_from, past_column, past_entry}
-use Rattle.prof_db.specs.Spelling.{context_entry_bytes, kind_number, long, profile_entry_bytes, with_count}
+use Rattle.prof_db.specs.Spelling.{context_entry_bytes, kind_number, profile_entry_bytes, with_count}
 use Rattle.prof_db.specs.Stored.{IsWord}
 use Rattle.prof_db.specs.ValueRules.{ValueField, column_fields, context_fields, fields_kept, plane_fields, profile_fields, stands_at}
-use Rattle.prof_db.proofs.BackPlanes.{behind_count, behind_entry_kind, behind_entry_node, behind_hart, behind_past_count, behind_past_kind, entry_end, field_bytes, past_end}
-use Rattle.prof_db.proofs.Forth.{Comes, Reads, items_forth, number_forth, number_stands, word_forth}
+use Rattle.prof_db.proofs.BackPlanes.{field_bytes}
+use Rattle.prof_db.proofs.ForthItems.{word_forth}
+use Rattle.prof_bytes.proofs.Lists.{Reads, items_come}
+use Rattle.prof_bytes.proofs.Written.{Comes, number_comes, number_stands}
 
 kind_fits : (kind : Kind) → IsWord (kind_number kind)
 kind_fits Exclusive = omega arith
@@ -45,17 +46,14 @@ pub record EntryFits (e : ProfileEntry) : Type 0 where
 entry_forth : (hart : ℕ) (at : At) (e : ProfileEntry) (rest : List ℕ) → EntryFits e → left_of at ≡ profile_entry_bytes e ++ rest → Reads bare_entry (entry_from hart at) (raw_entry hart e) rest
 unfolding entry_from
 entry_forth hart at e rest fits left =
-    let kind : ℕ = kind_number e.kind in
-    let behind : List ℕ = long e.value ++ rest in
     let few = fits.value in
-    let a = word_forth at e.node (word kind ++ behind) fits.node left in
-    let b = word_forth a.0 kind behind (kind_fits e.kind) a.2 in
-    let c = number_forth 8 b.0 e.value rest (omega (arith, few)) b.2 in
+    let a = word_forth at e.node _ fits.node left in
+    let b = word_forth a.0 (kind_number e.kind) _ (kind_fits e.kind) a.2 in
+    let c = number_comes not_whole 8 b.0 e.value rest (omega (arith, few)) b.2 in
     record {
-      value = record { offset = at.offset; hart = hart; node = e.node; kind = kind; value = e.value };
+      value = record { offset = at.offset; hart = hart; node = e.node; kind = kind_number e.kind; value = e.value };
       next = c.0;
-      is = ap (λ (r : Read ℕ). r >>= behind_entry_node at.offset hart) a.1 ∙ ap (λ (r : Read ℕ). r >>= behind_entry_kind at.offset hart e.node) b.1
-          ∙ ap (λ (r : Read ℕ). r >>= entry_end at.offset hart e.node kind) c.1;
+      is = rw (a.1, b.1, c.1) refl;
       same = refl;
       left = c.2;
     }
@@ -75,8 +73,8 @@ column_forth : (hart : ℕ) (before : List RawEntry) (at : At) (column : List Pr
 unfolding column_from
 column_forth hart before at column rest fits left =
     let a = word_forth at (length column) (flat_map profile_entry_bytes column ++ rest) fits.short (left ∙ append_assoc (word (length column)) (flat_map profile_entry_bytes column) rest) in
-    let b = items_forth (entry_from hart) bare_entry (raw_entry hart) profile_entry_bytes EntryFits (entry_forth hart) column 0 before a.0 rest fits.entries a.2 in
-    record { xs = b.xs; next = b.next; is = ap (λ (r : Read ℕ). r >>= behind_count hart before) a.1 ∙ b.is; same = b.same; left = b.left }
+    let b = items_come (entry_from hart) bare_entry (raw_entry hart) profile_entry_bytes EntryFits (entry_forth hart) column 0 before a.0 rest fits.entries a.2 in
+    record { xs = b.xs; next = b.next; is = rw a.1 b.is; same = b.same; left = b.left }
 
 pub record PlaneRead (n hart : ℕ) (before : List RawEntry) (at : At) (columns : List (List ProfileEntry)) (rest : List ℕ) : Type 0 where
   pub xs : List RawEntry
@@ -96,8 +94,7 @@ plane_forth (column ∷ columns) hart before at rest fit left =
     record {
       xs = a.xs ++ b.xs;
       next = b.next;
-      is = ap (λ (r : Read (List RawEntry)). r >>= (λ (so_far, next). times column_from (length columns) (hart + 1) so_far next)) a.is ∙ b.is
-          ∙ ap (λ (l : List RawEntry). Ok (l, b.next)) (append_assoc before a.xs b.xs);
+      is = rw a.is (b.is ∙ ap (λ (l : List RawEntry). Ok (l, b.next)) (append_assoc before a.xs b.xs));
       same = map-append bare_entry a.xs b.xs ∙ ap₂ (λ (k l : List RawEntry). k ++ l) a.same b.same;
       left = b.left;
     }
@@ -111,15 +108,11 @@ pub record PastFits (e : ContextEntry) : Type 0 where
 past_forth : (i : ℕ) (at : At) (e : ContextEntry) (rest : List ℕ) → PastFits e → left_of at ≡ context_entry_bytes e ++ rest → Comes (past_entry i tt at) tt rest
 unfolding past_entry
 past_forth i at e rest fits left =
-    let behind : List ℕ = long e.value ++ rest in
     let few = fits.value in
-    let a = word_forth at (kind_number e.kind) (word e.hart ++ behind) (kind_fits e.kind) left in
-    let b = word_forth a.0 e.hart behind fits.hart a.2 in
-    let c = number_forth 8 b.0 e.value rest (omega (arith, few)) b.2 in (
-      c.0,
-      ap (λ (r : Read ℕ). r >>= behind_past_kind) a.1 ∙ ap (λ (r : Read ℕ). r >>= behind_hart) b.1 ∙ ap (λ (r : Read ℕ). r >>= past_end) c.1,
-      c.2,
-    )
+    let a = word_forth at (kind_number e.kind) _ (kind_fits e.kind) left in
+    let b = word_forth a.0 e.hart _ fits.hart a.2 in
+    let c = number_comes not_whole 8 b.0 e.value rest (omega (arith, few)) b.2 in
+    (c.0, rw (a.1, b.1, c.1) refl, c.2)
 
 -- steps that leave nothing but the place
 module _ {X : Type 0} (step : ℕ → Unit {0} → At → Read (Unit {0})) (spelled : X → List ℕ) (Fits : X → Type 0)
@@ -130,7 +123,7 @@ module _ {X : Type 0} (step : ℕ → Unit {0} → At → Read (Unit {0})) (spel
   passed_forth (x ∷ xs) i at rest fit left =
       let a = one i at x (flat_map spelled xs ++ rest) (All-head Fits x xs fit) (left ∙ append_assoc (spelled x) (flat_map spelled xs) rest) in
       let b = passed_forth xs (i + 1) a.0 rest (All-tail Fits x xs fit) a.2 in
-      (b.0, ap (λ (r : Read (Unit {0})). r >>= (λ (so_far, next). times step (length xs) (i + 1) so_far next)) a.1 ∙ b.1, b.2)
+      (b.0, rw a.1 b.1, b.2)
 
 pub record PastColumnFits (column : List ContextEntry) : Type 0 where
   pub short : IsWord (length column)
@@ -141,7 +134,7 @@ unfolding past_column
 past_column_forth i at column rest fits left =
     let a = word_forth at (length column) (flat_map context_entry_bytes column ++ rest) fits.short (left ∙ append_assoc (word (length column)) (flat_map context_entry_bytes column) rest) in
     let b = passed_forth past_entry context_entry_bytes PastFits past_forth column 0 a.0 rest fits.entries a.2 in
-    (b.0, ap (λ (r : Read ℕ). r >>= behind_past_count) a.1 ∙ b.1, b.2)
+    (b.0, rw a.1 b.1, b.2)
 
 pub past_plane_forth : (columns : List (List ContextEntry)) (at : At) (rest : List ℕ) → All PastColumnFits columns → left_of at ≡ flat_map (with_count context_entry_bytes) columns ++ rest
     → Comes (times past_column (length columns) 0 tt at) tt rest

@@ -12,15 +12,12 @@ pub mod Broken
 pub mod LineUp
 pub mod OwnPaths
 pub mod OwnNames
-pub mod Outcomes
 pub mod Passed
 pub mod Owned
-pub mod Back
 pub mod BackItems
 pub mod BackPlanes
 pub mod BackNames
 pub mod BackFile
-pub mod Forth
 pub mod ForthItems
 pub mod ForthPlanes
 pub mod ForthFile

@@ -31,7 +31,7 @@ use Rattle.tree_types.proofs.NodeLaws.{sorted_from_pairs}
 use Rattle.tree_types.proofs.PathSteps.{as_many_paths}
 use Rattle.tree_types.proofs.Selecting.{map_of_flat_map}
 use Rattle.tree_types.proofs.Sorting.{bool_same, has, has_ascending, has-from_Contains, Contains-from_has, same_sorted, sorted_ascending}
-use Rattle.prof_db.specs.NameRules.{file_at, file_breaks, file_is_wrong, file_name, files_ascend, files_kept, is_among, is_proc, line_file, most_name_bytes, names_in, pair_less, proc_at, proc_breaks, proc_id, proc_is_wrong, proc_name, procs_ascend, procs_kept, scope_file, scope_proc, used_files, used_procs}
+use Rattle.prof_db.specs.NameRules.{file_at, file_breaks, file_is_wrong, file_name, files_ascend, files_kept, is_among, is_valid_proc, line_file, most_name_bytes, names_in, pair_less, proc_at, proc_breaks, proc_id, proc_is_wrong, raw_proc_name, procs_ascend, procs_kept, scope_file, scope_proc, used_files, used_procs}
 use Rattle.prof_db.specs.NodeRules.{in_range, line_in_range, line_id, node_of, scope_of}
 use Rattle.prof_db.specs.declared.raw.Layout.{Layout}
 use Rattle.prof_db.specs.declared.raw.RawFile.{RawFile}
@@ -186,7 +186,7 @@ less_by_pair a b c d e = elim (or_cases (nat_lt a c) (a == c && nat_lt b d) e) [
     is_less m n lt = ap (λ t. cond t Less (cond (m == n) Equal Greater)) lt
 
 -- a procedure's words are its kind and its number
-pub words_are : (p : RawProc) → is_proc p ≡ true → proc_words (proc_id p.kind p.number) ≡ p.kind ∷ p.number ∷ []
+pub words_are : (p : RawProc) → is_valid_proc p ≡ true → proc_words (proc_id p.kind p.number) ≡ p.kind ∷ p.number ∷ []
 words_are p ok = elim (or_cases (nat_lt p.kind 2) (p.kind == 2 && (p.number == 0 && pointwise nat_eq p.name (codes "<unknown procedure>"))) ok) [
   | inl low ↦ two p.kind p.number (ltb-true p.kind 2 low)
   | inr none ↦
@@ -225,11 +225,11 @@ module _ (procs : List RawProc) (used : List ℕ) (kept : procs_kept procs used 
   pub procs_used_all : (i : ℕ) → i < length procs → is_among used i ≡ true
   procs_used_all i lt = not-false (is_among used i) (proc_passes i lt).1
 
-  proc_parts : (i : ℕ) → i < length procs → ((nat_lt 0 i && not (procs_ascend (proc_at procs (i - 1)) (proc_at procs i))) ≡ false) × ((not (is_proc (proc_at procs i)) || nat_lt most_name_bytes (length (proc_at procs i).name)) ≡ false)
-  proc_parts i lt = or_parts (nat_lt 0 i && not (procs_ascend (proc_at procs (i - 1)) (proc_at procs i))) (not (is_proc (proc_at procs i)) || nat_lt most_name_bytes (length (proc_at procs i).name)) (proc_passes i lt).0
+  proc_parts : (i : ℕ) → i < length procs → ((nat_lt 0 i && not (procs_ascend (proc_at procs (i - 1)) (proc_at procs i))) ≡ false) × ((not (is_valid_proc (proc_at procs i)) || nat_lt most_name_bytes (length (proc_at procs i).name)) ≡ false)
+  proc_parts i lt = or_parts (nat_lt 0 i && not (procs_ascend (proc_at procs (i - 1)) (proc_at procs i))) (not (is_valid_proc (proc_at procs i)) || nat_lt most_name_bytes (length (proc_at procs i).name)) (proc_passes i lt).0
 
-  pub is_proc_at : (i : ℕ) → i < length procs → is_proc (proc_at procs i) ≡ true
-  is_proc_at i lt = not-false (is_proc (proc_at procs i)) (or_parts (not (is_proc (proc_at procs i))) (nat_lt most_name_bytes (length (proc_at procs i).name)) (proc_parts i lt).1).0
+  pub is_proc_at : (i : ℕ) → i < length procs → is_valid_proc (proc_at procs i) ≡ true
+  is_proc_at i lt = not-false (is_valid_proc (proc_at procs i)) (or_parts (not (is_valid_proc (proc_at procs i))) (nat_lt most_name_bytes (length (proc_at procs i).name)) (proc_parts i lt).1).0
 
   proc_next : (i : ℕ) → suc i < length procs → procs_ascend (proc_at procs i) (proc_at procs (suc i)) ≡ true
   proc_next i lt = next_test i (λ k. procs_ascend (proc_at procs k) (proc_at procs (suc i))) (proc_parts (suc i) lt).0
@@ -239,8 +239,8 @@ module _ (procs : List RawProc) (used : List ℕ) (kept : procs_kept procs used 
       (λ t. slice_cmp nat_cmp (words_are (proc_at procs i) (is_proc_at i (omega arith)) t) (words_are (proc_at procs (suc i)) (is_proc_at (suc i) lt) t))
       ∙ less_by_pair (proc_at procs i).kind (proc_at procs i).number (proc_at procs (suc i)).kind (proc_at procs (suc i)).number (proc_next i lt)
 
-  pub procs_up : AllPairs (λ p q. proc_order p.id q.id ≡ Less) (map proc_name procs)
-  procs_up = pairs_map (λ p q. proc_order p.id q.id ≡ Less) proc_name procs no_proc (all_ascend proc_order_total (λ (p : RawProc). proc_id p.kind p.number) procs no_proc proc_less)
+  pub procs_up : AllPairs (λ p q. proc_order p.id q.id ≡ Less) (map raw_proc_name procs)
+  procs_up = pairs_map (λ p q. proc_order p.id q.id ≡ Less) raw_proc_name procs no_proc (all_ascend proc_order_total (λ (p : RawProc). proc_id p.kind p.number) procs no_proc proc_less)
 
 module _ (files : List RawFile) (used : List ℕ) (kept : files_kept files used ≡ Ok tt) where
   abbrev no_file : RawFile
@@ -345,7 +345,7 @@ module _ (layout : Layout) (procs_ok : procs_kept layout.procs (used_procs layou
   procs_are : procs_used (nodes ps) ≡ map (λ p. p.id) names.procs
   unfolding procs_used
   procs_are =
-      let long = length-map layout.procs proc_name in
+      let long = length-map layout.procs raw_proc_name in
       ap (ascending proc_order) (own_scopes scope_procs ∙ node_procs names layout.nodes)
       ∙ keys_ascending proc_order_total (λ (p : ProcName). p.id) proc_order_tells names.procs (record { id = Nameless; name = [] }) (procs_up layout.procs (used_procs layout.nodes) procs_ok) (used_procs layout.nodes)
       (subst (λ (n : ℕ). All (Under n) (used_procs layout.nodes)) (sym long) (all_lists (Under (length layout.procs)) (λ (r : RawNode). scope_proc r.scope) layout.nodes (λ i d lt. proc_inside (length layout.procs) (length layout.files) (get_or layout.nodes i d).scope (ranged i d lt))))

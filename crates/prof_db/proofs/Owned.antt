@@ -30,7 +30,7 @@ use Rattle.prof_db.specs.declared.raw.RawScope.TheVariants as raws
 use Rattle.prof_db.specs.NameRules.{is_among, names_in}
 use Rattle.prof_db.specs.NodeRules.{in_preorder, in_range, is_placed, is_statement, node_breaks, node_is_wrong, node_of, parents_of, raw_node_at}
 use Rattle.prof_db.specs.Rules.{database_in}
-use Rattle.prof_db.specs.ValueRules.{entry_count, is_exclusive, sampled_nodes, statement_breaks, tree_of}
+use Rattle.prof_db.specs.ValueRules.{entry_count, is_exclusive_entry, sampled_nodes, statement_breaks, tree_of}
 use Rattle.prof_db.proofs.Exclusive.{counts_harts, counts_inside, counts_some, few_samples}
 use Rattle.prof_db.proofs.OwnNames.{among_at, contains_map, names_own}
 use Rattle.prof_db.proofs.OwnPaths.{listed_own, nodes_own, own_is, paths_all, some_scope}
@@ -96,7 +96,7 @@ module _ (layout : Layout) (c : Content) (p : Passed layout c) where
   -- ---- each statement
 
   abbrev exclusive : List RawEntry
-  exclusive = filter is_exclusive layout.entries
+  exclusive = filter is_exclusive_entry layout.entries
 
   abbrev counts : List NodeCount
   counts = map (entry_count layout.period) exclusive

@@ -43,7 +43,7 @@ use Rattle.prof_db.specs.declared.raw.RawEntry.{RawEntry}
 use Rattle.prof_db.specs.NodeRules.{is_statement}
 use Rattle.prof_db.specs.Spelling.{kind_number}
 use Rattle.prof_db.specs.Stored.{IsStored}
-use Rattle.prof_db.specs.ValueRules.{entry_count, entries_ascend, entry_at, entry_breaks, is_exclusive, is_value, entry_samples, tree_of}
+use Rattle.prof_db.specs.ValueRules.{entry_count, entries_ascend, entry_at, entry_breaks, is_exclusive_entry, is_value, entry_samples, tree_of}
 use Rattle.prof_db.proofs.Exclusive.{first_up, samples_are, second_up, third_up}
 use Rattle.prof_db.proofs.ForthPlanes.{raw_column, raw_entry}
 use Rattle.prof_db.proofs.OwnNames.{all_lists, pairs_map}
@@ -56,13 +56,13 @@ module _ (period : ℕ) (ns : List Node) where
   copies c = replicate c.count (counted_path ns c)
 
   abbrev of_entries : List RawEntry → List HartPath
-  of_entries es = flat_map copies (map (entry_count period) (filter is_exclusive es))
+  of_entries es = flat_map copies (map (entry_count period) (filter is_exclusive_entry es))
 
   entries_append : (a b : List RawEntry) → of_entries (a ++ b) ≡ of_entries a ++ of_entries b
   entries_append a b =
-      ap (λ (es : List RawEntry). flat_map copies (map (entry_count period) es)) (filter-append is_exclusive a b)
-      ∙ ap (flat_map copies) (map-append (entry_count period) (filter is_exclusive a) (filter is_exclusive b))
-      ∙ flat_map-append copies (map (entry_count period) (filter is_exclusive a)) (map (entry_count period) (filter is_exclusive b))
+      ap (λ (es : List RawEntry). flat_map copies (map (entry_count period) es)) (filter-append is_exclusive_entry a b)
+      ∙ ap (flat_map copies) (map-append (entry_count period) (filter is_exclusive_entry a) (filter is_exclusive_entry b))
+      ∙ flat_map-append copies (map (entry_count period) (filter is_exclusive_entry a)) (map (entry_count period) (filter is_exclusive_entry b))
 
   column_paths : (hart : ℕ) (es : List ProfileEntry) → of_entries (map (raw_entry hart) es) ≡ flat_map (entry_paths period (tree_paths ns) hart) es
   column_paths hart [] = refl
@@ -107,8 +107,19 @@ module _ {Y : Type 0} (R : Y → Y → Type 0) (key : Y → ℕ) (f : ℕ → Li
 
 -- ---- the order of values and of entries
 
-less_is : (m n : ℕ) → nat_cmp m n ≡ Less → m < n
+pub less_is : (m n : ℕ) → nat_cmp m n ≡ Less → m < n
 less_is m n e = grind (arith, nat_tests)
+
+pub is_greater : (m n : ℕ) → n < m → nat_cmp m n ≡ Greater
+is_greater m n more = grind (arith, nat_tests)
+
+pub only_less : (o : Ordering) → ordering_then o Equal ≡ Less → o ≡ Less
+only_less Less e = refl
+only_less Equal e = absurd cc
+only_less Greater e = absurd cc
+
+pub never_less : Greater ≡ Less → ⊥
+never_less e = absurd cc
 
 -- what ascends in three numbers, of which the first is the same to both
 last_two_up : (a b c x y z : ℕ) → ordering_then (nat_cmp a x) (ordering_then (nat_cmp b y) (ordering_then (nat_cmp c z) Equal)) ≡ Less → b ≡ y → (a < x) ⊎ ((a ≡ x) × (c < z))
@@ -116,21 +127,10 @@ last_two_up a b c x y z e same = elim (cases_order a x) [
   | inl is ↦
       let first : nat_cmp a x ≡ Equal = ap (λ (n : ℕ). nat_cmp n x) is ∙ tied_itself nat_cmp_total x in
       let second : nat_cmp b y ≡ Equal = ap (λ (n : ℕ). nat_cmp n y) same ∙ tied_itself nat_cmp_total y in
-      inr (is, less_is c z (only (nat_cmp c z) (sym (λ i. ordering_then (first i) (ordering_then (second i) (ordering_then (nat_cmp c z) Equal))) ∙ e)))
+      inr (is, less_is c z (only_less (nat_cmp c z) (sym (λ i. ordering_then (first i) (ordering_then (second i) (ordering_then (nat_cmp c z) Equal))) ∙ e)))
   | inr (inl less) ↦ inl less
-  | inr (inr more) ↦ absurd (never (sym (ap (λ o. ordering_then o (ordering_then (nat_cmp b y) (ordering_then (nat_cmp c z) Equal))) (greater a x more)) ∙ e))
+  | inr (inr more) ↦ absurd (never_less (sym (ap (λ o. ordering_then o (ordering_then (nat_cmp b y) (ordering_then (nat_cmp c z) Equal))) (is_greater a x more)) ∙ e))
 ]
-  where
-    only : (o : Ordering) → ordering_then o Equal ≡ Less → o ≡ Less
-    only Less e = refl
-    only Equal e = absurd cc
-    only Greater e = absurd cc
-
-    greater : (m n : ℕ) → n < m → nat_cmp m n ≡ Greater
-    greater m n more = grind (arith, nat_tests)
-
-    never : Greater ≡ Less → ⊥
-    never e = absurd cc
 
 kinds_same : (kind : Kind) → kind_number kind ≡ kind_rank kind
 kinds_same Exclusive = refl
@@ -275,7 +275,7 @@ module _ (c : Content) (s : IsStored c) where
     pub hart : e.hart < c.harts
     pub kind : e.kind < 3
     pub some : 0 < e.value
-    pub exclusive : is_exclusive e ≡ true → (is_statement (node_at ns e.node).scope ≡ true) × (e.value % c.period ≡ 0)
+    pub exclusive : is_exclusive_entry e ≡ true → (is_statement (node_at ns e.node).scope ≡ true) × (e.value % c.period ≡ 0)
 
   abbrev mine : ℕ → List NodeValue
   mine hart = filter (λ (v : NodeValue). v.hart == hart) values
@@ -328,7 +328,7 @@ module _ (c : Content) (s : IsStored c) where
   none_breaks i lt =
       let e : RawEntry = entry_at entries i in
       let g : IsGood e = All-get_or IsGood entries i _ lt good in
-      let excl : (not (is_exclusive e) || (is_statement (node_at ns e.node).scope && e.value % c.period == 0)) ≡ true = elim (is_exclusive e) as (λ b. is_exclusive e ≡ b → (not b || (is_statement (node_at ns e.node).scope && e.value % c.period == 0)) ≡ true) [
+      let excl : (not (is_exclusive_entry e) || (is_statement (node_at ns e.node).scope && e.value % c.period == 0)) ≡ true = elim (is_exclusive_entry e) as (λ b. is_exclusive_entry e ≡ b → (not b || (is_statement (node_at ns e.node).scope && e.value % c.period == 0)) ≡ true) [
         | true ↦ λ is. (let p = g.exclusive is in and_from (is_statement (node_at ns e.node).scope) (e.value % c.period == 0) p.0 (eq-eqb (e.value % c.period) 0 p.1))
         | false ↦ λ is. refl
       ] refl in

@@ -1,15 +1,14 @@
 -- The spelling of a stored content breaks no rule, and says just that content.
-use Rattle.std.proofs.Common.{◌≡◌, ℕ, zero, suc, ◌+◌, ◌-◌, ◌<◌, ◌==◌, ◌&&◌, ◌||◌, not, nat_eq, nat_le, nat_lt, Bool, true, false, cond, List, [], ◌∷◌, ◌++◌, length, get_or, map, take, filter, sum_by, codes, All, Less, Equal, Greater, Ordering, Result, Ok, Err, inl, inr, refl, sym, ap, ap₂, subst, ◌∙◌, arith}
+use Rattle.std.proofs.Common.{◌≡◌, ℕ, zero, suc, ◌+◌, ◌-◌, ◌<◌, ◌==◌, ◌&&◌, ◌||◌, not, nat_eq, nat_le, nat_lt, Bool, true, false, cond, List, [], ◌∷◌, ◌++◌, length, get_or, map, take, filter, sum_by, codes, All, Less, Equal, Ok, Err, inl, inr, refl, sym, ap, ap₂, subst, ◌∙◌, arith}
 use Rattle.std.specs.Cmp.Lexicographic.{pointwise, slice_cmp}
 use Rattle.std.specs.List.{flat_map}
 use Rattle.std.specs.Ordering.{nat_cmp, ordering_then}
 use Rattle.std.proofs.lemmas.Bool.{and_from, cases_order, eq-eqb, le-ltb, lt-leb, lt-ltb, ne_eqb, or_from, or_left, or_right}
-use Rattle.std.proofs.lemmas.Bool.Decides.{nat_tests}
 use Rattle.std.proofs.lemmas.Cmp.{nat_cmp_total, nat_list_eq_equiv, tied_itself}
 use Rattle.std.proofs.lemmas.List.{get_or-map, length-map, take-map}
 use Rattle.std.proofs.lemmas.List.Elements.{All-contains, All-filter, All-head, All-map, All-tail}
 use Rattle.std.proofs.lemmas.List.Folds.{flat_map-map, list_any_at}
-use Rattle.prof_bytes.specs.Outcome.{◌>>=◌}
+use Rattle.prof_bytes.proofs.Tests.{and_false}
 use Rattle.prof_bytes.specs.Reading.{At}
 use Rattle.scope_types.specs.CallPaths.{HartPath}
 use Rattle.scope_types.specs.Limits.{most_samples}
@@ -31,27 +30,25 @@ use Rattle.tree_types.proofs.PathsAgain.{sum_by-map}
 use Rattle.tree_types.proofs.PathSteps.{as_many_paths}
 use Rattle.tree_types.proofs.Selecting.{filter_of_map, map_of_map}
 use Rattle.tree_types.proofs.TreeLaws.{numbers_tell}
-use Rattle.prof_db.specs.declared.fault.DbFault.{DbFault}
 use Rattle.prof_db.specs.declared.raw.Layout.{Layout}
 use Rattle.prof_db.specs.declared.raw.RawEntry.{RawEntry}
 use Rattle.prof_db.specs.declared.raw.RawNode.{RawNode}
 use Rattle.prof_db.specs.declared.raw.RawProc.{RawProc}
-use Rattle.prof_db.specs.Broken.{Kept, first_broken}
-use Rattle.prof_db.specs.Fields.{Read, fault}
-use Rattle.prof_db.specs.NameRules.{file_at, file_breaks, file_name, files_ascend, files_kept, head_kept, is_among, is_proc, most_name_bytes, names_in, names_kept, pair_less, proc_at, proc_breaks, proc_id, proc_name, procs_ascend, procs_kept, scope_file, scope_proc, used_files, used_procs}
+use Rattle.prof_db.specs.Broken.{first_broken}
+use Rattle.prof_db.specs.Fields.{fault}
+use Rattle.prof_db.specs.NameRules.{file_at, file_breaks, file_name, files_ascend, files_kept, head_kept, is_among, is_valid_proc, most_name_bytes, names_in, names_kept, pair_less, proc_at, proc_breaks, proc_id, raw_proc_name, procs_ascend, procs_kept, scope_file, scope_proc, used_files, used_procs}
 use Rattle.prof_db.specs.NodeRules.{in_preorder, in_range, is_placed, is_statement, node_breaks, node_of, nodes_kept, parents_of, raw_node_at}
 use Rattle.prof_db.specs.Rules.{content_in, database_in, nodes_in, planes_in, values_in}
 use Rattle.prof_db.specs.Spelling.{file_index, proc_index, spelling}
 use Rattle.prof_db.specs.Stored.{IsNamed, IsStored}
-use Rattle.prof_db.specs.ValueRules.{context_fields, entry_count, entries_ascend, entries_kept, entry_at, entry_breaks, fields_kept, is_exclusive, is_value, plane_fields, profile_fields, sampled_nodes, entry_samples, statement_breaks, statements_kept, tree_of}
+use Rattle.prof_db.specs.ValueRules.{context_fields, entry_count, entries_ascend, entries_kept, entry_at, entry_breaks, fields_kept, is_exclusive_entry, is_value, plane_fields, profile_fields, sampled_nodes, entry_samples, statement_breaks, statements_kept, tree_of}
 use Rattle.prof_db.proofs.BackPlanes.{context_bytes, profile_bytes}
 use Rattle.prof_db.proofs.ForthFile.{IsLaid, context_plane, layout_forth, layout_of}
 use Rattle.prof_db.proofs.ForthItems.{bare_node, bare_proc, proc_kind, proc_number, proc_words_are, raw_node, raw_proc}
 use Rattle.prof_db.proofs.ForthPlanes.{bare_entry, context_fields_fit, fields_forth, profile_fields_fit}
 use Rattle.prof_db.proofs.InPreorder.{in_order}
 use Rattle.prof_db.proofs.OwnPaths.{paths_all}
-use Rattle.prof_db.proofs.Passed.{behind_contexts, behind_entries, behind_head, behind_layout, behind_names, behind_nodes, behind_procs, behind_profiles, behind_statements, database_is, nodes_are, planes_are, values_are}
-use Rattle.prof_db.proofs.StoredEntries.{by_hart, by_node, entries, good, none_breaks, paths_are, tree}
+use Rattle.prof_db.proofs.StoredEntries.{is_greater, less_is, never_less, only_less, by_hart, by_node, entries, good, none_breaks, paths_are, tree}
 use Rattle.prof_db.proofs.StoredNames.{file_used, files_of_nodes, files_up, found, no_file, no_proc, node_again, proc_used, procs_of_nodes, procs_up, scope_ranged, used_file_numbers, used_proc_numbers}
 use Rattle.prof_db.proofs.StoredNodes.{has_child, placed, preorder, statement_ends}
 use Rattle.prof_db.proofs.StoredPlanes.{content_fits}
@@ -77,9 +74,7 @@ all_same f (x ∷ xs) all = ap₂ (λ (y : _) (ys : List _). y ∷ ys) (All-head
 none_fails : (rule : ℕ) (is_broken : ℕ → Bool) (offset : ℕ → ℕ) (i n : ℕ) → ((k : ℕ) → k < i + n → is_broken k ≡ false) → first_broken rule is_broken offset i n ≡ Ok tt
 unfolding first_broken
 none_fails rule is_broken offset i zero whole = refl
-none_fails rule is_broken offset i (suc n) whole =
-    ap (λ b. cond b (Err (fault rule (offset i))) (first_broken rule is_broken offset (i + 1) n)) (whole i (omega arith))
-    ∙ none_fails rule is_broken offset (i + 1) n (λ k lt. whole k (omega (arith, lt)))
+none_fails rule is_broken offset i (suc n) whole = rw (whole i (omega arith)) (none_fails rule is_broken offset (i + 1) n (λ k lt. whole k (omega (arith, lt))))
 
 -- ---- names in order
 
@@ -88,27 +83,13 @@ pair_by_less : (a b c d : ℕ) → slice_cmp nat_cmp (a ∷ b ∷ []) (c ∷ d �
 pair_by_less a b c d e = elim (cases_order a c) [
   | inl is ↦
       let first : nat_cmp a c ≡ Equal = ap (λ (n : ℕ). nat_cmp n c) is ∙ tied_itself nat_cmp_total c in
-      let last : nat_cmp b d ≡ Less = only (nat_cmp b d) (sym (ap (λ o. ordering_then o (ordering_then (nat_cmp b d) Equal)) first) ∙ e) in
-      or_right (nat_lt a c) (a == c && nat_lt b d) (and_from (a == c) (nat_lt b d) (eq-eqb a c is) (less_test b d last))
+      let last : nat_cmp b d ≡ Less = only_less (nat_cmp b d) (sym (ap (λ o. ordering_then o (ordering_then (nat_cmp b d) Equal)) first) ∙ e) in
+      or_right (nat_lt a c) (a == c && nat_lt b d) (and_from (a == c) (nat_lt b d) (eq-eqb a c is) (lt-ltb b d (less_is b d last)))
   | inr (inl less) ↦ or_left (nat_lt a c) (a == c && nat_lt b d) (lt-ltb a c less)
-  | inr (inr more) ↦ absurd (never (sym (ap (λ o. ordering_then o (ordering_then (nat_cmp b d) Equal)) (greater a c more)) ∙ e))
+  | inr (inr more) ↦ absurd (never_less (sym (ap (λ o. ordering_then o (ordering_then (nat_cmp b d) Equal)) (is_greater a c more)) ∙ e))
 ]
-  where
-    only : (o : Ordering) → ordering_then o Equal ≡ Less → o ≡ Less
-    only Less e = refl
-    only Equal e = absurd cc
-    only Greater e = absurd cc
 
-    less_test : (m n : ℕ) → nat_cmp m n ≡ Less → nat_lt m n ≡ true
-    less_test m n e = grind (arith, nat_tests)
-
-    greater : (m n : ℕ) → n < m → nat_cmp m n ≡ Greater
-    greater m n more = grind (arith, nat_tests)
-
-    never : Greater ≡ Less → ⊥
-    never e = absurd cc
-
-proc_again : (p : ProcName) → proc_name (raw_proc p) ≡ p
+proc_again : (p : ProcName) → raw_proc_name (raw_proc p) ≡ p
 proc_again p = (let is = id_again p.id in λ i. record { id = is i; name = p.name })
   where
     id_again : (id : ProcId) → proc_id (proc_kind id) (proc_number id) ≡ id
@@ -117,7 +98,7 @@ proc_again p = (let is = id_again p.id in λ i. record { id = is i; name = p.nam
     id_again Nameless = refl
 
 -- a procedure that has its name passes
-named_passes : (id : ProcId) (name : List ℕ) → (id ≡ Nameless → name ≡ codes "<unknown procedure>") → is_proc (record { offset = 0; kind = proc_kind id; number = proc_number id; name = name }) ≡ true
+named_passes : (id : ProcId) (name : List ℕ) → (id ≡ Nameless → name ≡ codes "<unknown procedure>") → is_valid_proc (record { offset = 0; kind = proc_kind id; number = proc_number id; name = name }) ≡ true
 named_passes (Die offset) name is = refl
 named_passes (Sym address) name is = refl
 named_passes Nameless name is = ap (λ (n : List ℕ). pointwise nat_eq n (codes "<unknown procedure>")) (is refl) ∙ nat_list_eq_equiv.refl (codes "<unknown procedure>")
@@ -127,11 +108,7 @@ one_before : (i : ℕ) (t : ℕ → Bool) → ((k : ℕ) → suc k ≡ i → t k
 one_before zero t next = refl
 one_before (suc i) t next =
     let k : suc i - 1 ≡ i = omega arith in
-    ap (λ b. nat_lt 0 (suc i) && not b) (ap t k ∙ next i refl) ∙ never (nat_lt 0 (suc i))
-  where
-    never : (b : Bool) → (b && false) ≡ false
-    never true = refl
-    never false = refl
+    ap (λ b. nat_lt 0 (suc i) && not b) (ap t k ∙ next i refl) ∙ and_false (nat_lt 0 (suc i))
 
 -- ---- entries, but where they stand
 
@@ -146,12 +123,12 @@ bare_breaks period harts nodes es i =
     ap (sum_by (entry_samples period)) (take-map bare_entry (i + 1) es) ∙ sum_by-map (entry_samples period) bare_entry (take (i + 1) es) in
     λ t. not (is_value period harts nodes (bare_at es i t) && ((i == 0 || entries_ascend (bare_at es (i - 1) t) (bare_at es i t)) && nat_le (sums t) most_samples))
 
-bare_counts : (period : ℕ) (es : List RawEntry) → map (entry_count period) (filter is_exclusive (map bare_entry es)) ≡ map (entry_count period) (filter is_exclusive es)
+bare_counts : (period : ℕ) (es : List RawEntry) → map (entry_count period) (filter is_exclusive_entry (map bare_entry es)) ≡ map (entry_count period) (filter is_exclusive_entry es)
 bare_counts period es =
-    ap (map (entry_count period)) (filter_of_map is_exclusive bare_entry es) ∙ map_of_map (entry_count period) bare_entry (filter is_exclusive es)
+    ap (map (entry_count period)) (filter_of_map is_exclusive_entry bare_entry es) ∙ map_of_map (entry_count period) bare_entry (filter is_exclusive_entry es)
 
 bare_sampled : (es : List RawEntry) → sampled_nodes (map bare_entry es) ≡ sampled_nodes es
-bare_sampled es = ap (map (λ (e : RawEntry). e.node)) (filter_of_map is_exclusive bare_entry es) ∙ map_of_map (λ (e : RawEntry). e.node) bare_entry (filter is_exclusive es)
+bare_sampled es = ap (map (λ (e : RawEntry). e.node)) (filter_of_map is_exclusive_entry bare_entry es) ∙ map_of_map (λ (e : RawEntry). e.node) bare_entry (filter is_exclusive_entry es)
 
 module _ (c : Content) (s : IsStored c) (laid : IsLaid c) where
   abbrev layout : Layout
@@ -177,10 +154,10 @@ module _ (c : Content) (s : IsStored c) (laid : IsLaid c) where
 
   -- ---- the names
 
-  procs_are : map proc_name laid.procs ≡ names.procs
+  procs_are : map raw_proc_name laid.procs ≡ names.procs
   procs_are =
-      sym (map_of_map proc_name bare_proc laid.procs) ∙ ap (map proc_name) laid.same_procs ∙ map_of_map proc_name raw_proc names.procs
-      ∙ all_same (λ p. proc_name (raw_proc p)) names.procs (λ i d lt. proc_again (get_or names.procs i d))
+      sym (map_of_map raw_proc_name bare_proc laid.procs) ∙ ap (map raw_proc_name) laid.same_procs ∙ map_of_map raw_proc_name raw_proc names.procs
+      ∙ all_same (λ p. raw_proc_name (raw_proc p)) names.procs (λ i d lt. proc_again (get_or names.procs i d))
 
   files_are : map file_name laid.files ≡ names.files
   files_are = laid.same_files ∙ all_same (λ f. f) names.files (λ i d lt. refl)
@@ -222,7 +199,7 @@ module _ (c : Content) (s : IsStored c) (laid : IsLaid c) where
       let p : ProcName = proc_of i in
       let ok : IsNamed p = s.procs i (no_proc c s) lt in
       let used : is_among (used_procs laid.nodes) i ≡ true = ap (λ (l : List ℕ). is_among l i) used_procs_are ∙ proc_used c s i lt in
-      let named : is_proc (proc_at laid.procs i) ≡ true = ap is_proc (proc_is i lt) ∙ named_passes p.id p.name ok.nameless in
+      let named : is_valid_proc (proc_at laid.procs i) ≡ true = ap is_valid_proc (proc_is i lt) ∙ named_passes p.id p.name ok.nameless in
       let short : nat_lt most_name_bytes (length (proc_at laid.procs i).name) ≡ false =
       ap (λ (r : RawProc). nat_lt most_name_bytes (length r.name)) (proc_is i lt) ∙ le-ltb most_name_bytes (length p.name) ok.short in
       or_from _ _ (or_from _ _ (one_before i (λ k. procs_ascend (proc_at laid.procs k) (proc_at laid.procs i)) (λ k next. proc_less k i next lt)) (or_from _ _ (ap not named) short)) (ap not used)
@@ -293,7 +270,7 @@ module _ (c : Content) (s : IsStored c) (laid : IsLaid c) where
 
   tree_is : tree_of c.period c.harts c.nodes laid.entries ≡ tree c s
   tree_is =
-      let same = sym (bare_counts c.period laid.entries) ∙ ap (λ (es : List RawEntry). map (entry_count c.period) (filter is_exclusive es)) laid.same_entries in
+      let same = sym (bare_counts c.period laid.entries) ∙ ap (λ (es : List RawEntry). map (entry_count c.period) (filter is_exclusive_entry es)) laid.same_entries in
       λ i. record { harts = c.harts; nodes = c.nodes; counts = same i }
 
   content_is : content_in layout names c.nodes ≡ c
@@ -318,7 +295,7 @@ module _ (c : Content) (s : IsStored c) (laid : IsLaid c) where
   IsSampled i p = p.path ≡ node_path c.nodes i → is_among (sampled_nodes (entries c s)) i ≡ true
 
   abbrev exclusive : List RawEntry
-  exclusive = filter is_exclusive (entries c s)
+  exclusive = filter is_exclusive_entry (entries c s)
 
   abbrev no_entry : RawEntry
   no_entry = record { offset = 0; hart = 0; node = 0; kind = 0; value = 0 }
@@ -334,7 +311,7 @@ module _ (c : Content) (s : IsStored c) (laid : IsLaid c) where
           let e : RawEntry = get_or exclusive j d in
           let long = as_many_paths c.nodes in
           let many = length-map exclusive (λ (x : RawEntry). x.node) in
-          let node : e.node < length c.nodes = (All-filter is_exclusive (λ (x : RawEntry). x.node < length c.nodes) (entries c s) (λ k f within. (good c s k f within).node)) j d less in
+          let node : e.node < length c.nodes = (All-filter is_exclusive_entry (λ (x : RawEntry). x.node < length c.nodes) (entries c s) (λ k f within. (good c s k f within).node)) j d less in
           let same : e.node ≡ i = numbers_tell (tree_paths c.nodes) (preorder c s).ascend e.node i (omega (arith, node, long)) (omega (arith, lt, long)) path_is in
           let at : get_or (sampled_nodes (entries c s)) j 0 ≡ i = get_or-map (λ (x : RawEntry). x.node) exclusive j d 0 less ∙ same in
           list_any_at (λ (k : ℕ). k == i) (sampled_nodes (entries c s)) j 0 (omega (arith, less, many)) (eq-eqb (get_or (sampled_nodes (entries c s)) j 0) i at))
@@ -354,31 +331,22 @@ module _ (c : Content) (s : IsStored c) (laid : IsLaid c) where
   -- ---- all rules
 
   planes_ok : planes_in layout c ≡ Ok c
-  planes_ok =
-      planes_are layout c
-      ∙ ap (λ (r : Read (Unit {0})). r >>= behind_profiles layout c) profiles_ok.1
-      ∙ ap (λ (r : Kept). r >>= behind_statements layout c) statements_ok
-      ∙ ap (λ (r : Read (Unit {0})). r >>= behind_contexts c) contexts_ok.1
+  unfolding planes_in
+  planes_ok = rw (profiles_ok.1, statements_ok, contexts_ok.1) refl
 
   nodes_pass : nodes_in layout names c.nodes ≡ Ok c
-  nodes_pass =
-      nodes_are layout names c.nodes
-      ∙ ap (λ (r : Kept). r >>= behind_nodes layout names c.nodes) nodes_ok
-      ∙ ap (values_in layout) content_is ∙ values_are layout c
-      ∙ ap (λ (r : Kept). r >>= behind_entries layout c) entries_ok ∙ planes_ok
+  unfolding nodes_in values_in
+  nodes_pass = rw (nodes_ok, content_is, entries_ok) planes_ok
 
   names_ok : names_kept layout ≡ Ok tt
-  names_ok = ap (λ (r : Kept). r >>= behind_procs layout) procs_ok ∙ files_ok
+  names_ok = rw procs_ok files_ok
 
-  layout_ok : behind_layout layout ≡ Ok c
-  layout_ok =
-      ap (λ (r : Kept). r >>= behind_head layout) head_ok
-      ∙ ap (λ (r : Kept). r >>= behind_names layout) names_ok
-      ∙ (λ i. nodes_in layout (names_are i) (map (node_of (names_are i)) laid.nodes))
-      ∙ ap (nodes_in layout names) nodes_same ∙ nodes_pass
+  own_nodes_ok : nodes_in layout (names_in layout) (map (node_of (names_in layout)) laid.nodes) ≡ Ok c
+  own_nodes_ok = (λ i. nodes_in layout (names_are i) (map (node_of (names_are i)) laid.nodes)) ∙ ap (nodes_in layout names) nodes_same ∙ nodes_pass
 
 -- what is written of a stored content is read as that content
 pub stored_read : (c : Content) → IsStored c → database_in (spelling c) ≡ Ok c
+unfolding database_in
 stored_read c s =
     let laid = layout_forth c (content_fits c s) in
-    database_is (spelling c) ∙ ap (λ (r : Result Layout DbFault). r >>= behind_layout) laid.1 ∙ layout_ok c s laid.0
+    rw (laid.1, head_ok c s laid.0, names_ok c s laid.0) (own_nodes_ok c s laid.0)

@@ -1,8 +1,7 @@
 -- The fields of a database, read one after another up to the first that is not whole.
-use Rattle.std.specs.Prelude.{ℕ, List, length, take, Result, Ok, Err, if◌then◌else◌}
-use Rattle.std.specs.Prelude.{nat_lt}
-use Rattle.prof_bytes.specs.Number.{number_in}
-use Rattle.prof_bytes.specs.Reading.{At, left_of, moved}
+use Rattle.std.specs.Prelude.{ℕ, List, Result}
+use Rattle.prof_bytes.specs.Format.{bytes_or, number_or}
+use Rattle.prof_bytes.specs.Reading.{At}
 use Rattle.prof_db.specs.declared.fault.DbFault.{DbFault}
 
 -- a value, and where the next field begins; or the first fault
@@ -18,13 +17,11 @@ not_whole at = fault 2 at.offset
 
 -- a number of so many bytes
 abbrev pub number_from : ℕ → At → Read ℕ
-number_from width at = if nat_lt (length (left_of at)) width then Err (not_whole at)
-    else Ok (number_in width (left_of at), moved width at)
+number_from width at = number_or not_whole width at
 
 abbrev pub word_from : At → Read ℕ
 word_from at = number_from 4 at
 
 -- so many bytes as they stand
 abbrev pub bytes_from : ℕ → At → Read (List ℕ)
-bytes_from count at = if nat_lt (length (left_of at)) count then Err (not_whole at)
-    else Ok (take count (left_of at), moved count at)
+bytes_from count at = bytes_or not_whole count at

@@ -1,9 +1,8 @@
 -- How the bytes of a database, version 1, are cut into fields: its first two rules.
-use Rattle.std.specs.Prelude.{ℕ, ◌==◌, ◌||◌, not, nat_eq, nat_lt, List, [], length, take, codes}
-use Rattle.std.specs.Prelude.{Result, Ok, Err, if◌then◌else◌}
-use Rattle.std.specs.Cmp.Lexicographic.{pointwise}
+use Rattle.std.specs.Prelude.{ℕ, ◌==◌, List, [], Result, Ok, Err, if◌then◌else◌}
+use Rattle.prof_bytes.specs.Format.{ended_or, magic_or}
 use Rattle.prof_bytes.specs.Outcome.{◌>>=◌}
-use Rattle.prof_bytes.specs.Reading.{At, left_of}
+use Rattle.prof_bytes.specs.Reading.{At}
 use Rattle.prof_db.specs.declared.fault.DbFault.{DbFault}
 use Rattle.prof_db.specs.declared.raw.Head.{Head}
 use Rattle.prof_db.specs.declared.raw.Layout.{Layout}
@@ -17,12 +16,7 @@ use Rattle.prof_db.specs.declared.raw.RawNode.{RawNode}
 use Rattle.prof_db.specs.declared.raw.RawEntry.{RawEntry}
 use Rattle.prof_bytes.specs.Repeated.{times, adding}
 use Rattle.prof_db.specs.Fields.{Read, fault, not_whole, number_from, word_from, bytes_from}
-
--- ---- the first rule: the first eight bytes
-
-abbrev pub after_magic : List ℕ → Result At DbFault
-after_magic bytes = if nat_lt (length bytes) 8 || not (pointwise nat_eq (take 8 bytes) (codes "HPCPROF1"))
-    then Err (fault 1 0) else Ok (record { whole = bytes; offset = 8 })
+use Rattle.prof_db.specs.Spelling.{database_magic}
 
 -- ---- the second rule: each field is whole, each scope and each line is of a form that there is, and nothing follows
 
@@ -139,10 +133,6 @@ past_column i before at = do
   (count, next) ← word_from at
   times past_entry count 0 tt next
 
--- nothing follows
-abbrev pub ended : Layout → At → Result Layout DbFault
-ended layout end = if nat_lt 0 (length (left_of end)) then Err (not_whole end) else Ok layout
-
 -- the lists that a head counts, the planes, and nothing behind them
 unfoldable pub body_from : Head → At → Result Layout DbFault
 body_from head at = do
@@ -151,7 +141,7 @@ body_from head at = do
   (nodes, profiles) ← times (adding node_from) head.nodes 0 [] next
   (entries, contexts) ← times column_from head.harts 0 [] profiles
   (done, end) ← times past_column head.nodes 0 tt contexts
-  ended (record {
+  ended_or not_whole (record {
     period = head.period;
     harts = head.harts;
     procs = procs;
@@ -162,8 +152,9 @@ body_from head at = do
     contexts = contexts;
   }) end
 
+-- the first rule is that of the first eight bytes
 unfoldable pub layout_in : List ℕ → Result Layout DbFault
 layout_in bytes = do
-  next ← after_magic bytes
+  next ← magic_or (fault 1 0) database_magic bytes
   (head, next) ← head_from next
   body_from head next

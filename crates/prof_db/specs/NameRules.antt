@@ -76,8 +76,8 @@ abbrev pub file_at : List RawFile → ℕ → RawFile
 file_at files i = slice_index_or files i (record { offset = 0; table = 0; file = 0; name = [] })
 
 -- a kind that there is; the procedure without a name has no number, and its name is the one that reports show
-abbrev pub is_proc : RawProc → Bool
-is_proc p = nat_lt p.kind 2
+abbrev pub is_valid_proc : RawProc → Bool
+is_valid_proc p = nat_lt p.kind 2
     || (p.kind == 2 && (p.number == 0 && pointwise nat_eq p.name (codes "<unknown procedure>")))
 
 abbrev pub procs_ascend : RawProc → RawProc → Bool
@@ -90,7 +90,7 @@ files_ascend f g = pair_less f.table f.file g.table g.file
 abbrev pub proc_is_wrong : List RawProc → ℕ → Bool
 proc_is_wrong procs i =
     (nat_lt 0 i && not (procs_ascend (proc_at procs (i - 1)) (proc_at procs i)))
-    || (not (is_proc (proc_at procs i)) || nat_lt most_name_bytes (length (proc_at procs i).name))
+    || (not (is_valid_proc (proc_at procs i)) || nat_lt most_name_bytes (length (proc_at procs i).name))
 
 abbrev pub file_is_wrong : List RawFile → ℕ → Bool
 file_is_wrong files i =
@@ -119,11 +119,11 @@ names_kept layout = do
 abbrev pub proc_id : ℕ → ℕ → ProcId
 proc_id kind number = if kind == 0 then Die number else if kind == 1 then Sym number else Nameless
 
-abbrev pub proc_name : RawProc → ProcName
-proc_name p = record { id = proc_id p.kind p.number; name = p.name }
+abbrev pub raw_proc_name : RawProc → ProcName
+raw_proc_name p = record { id = proc_id p.kind p.number; name = p.name }
 
 abbrev pub file_name : RawFile → FileName
 file_name f = record { table = f.table; file = f.file; name = f.name }
 
 abbrev pub names_in : Layout → Names
-names_in layout = record { procs = map proc_name layout.procs; files = map file_name layout.files }
+names_in layout = record { procs = map raw_proc_name layout.procs; files = map file_name layout.files }

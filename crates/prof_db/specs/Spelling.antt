@@ -30,8 +30,8 @@ text_bytes bytes = word (length bytes) ++ bytes
 abbrev pub procedure_bytes : ProcName → List ℕ
 procedure_bytes p = words (proc_words p.id) ++ text_bytes p.name
 
-abbrev pub file_bytes : FileName → List ℕ
-file_bytes f = word f.table ++ word f.file ++ text_bytes f.name
+abbrev pub file_name_bytes : FileName → List ℕ
+file_name_bytes f = word f.table ++ word f.file ++ text_bytes f.name
 
 -- the indices of a procedure and of a file in the lists of names
 abbrev pub proc_index : Names → ProcId → ℕ
@@ -69,15 +69,19 @@ context_entry_bytes e = word (kind_number e.kind) ++ word e.hart ++ long e.value
 abbrev pub with_count : {X : Type 0} → (X → List ℕ) → List X → List ℕ
 with_count spelled xs = word (length xs) ++ flat_map spelled xs
 
-abbrev pub head_bytes : Content → List ℕ
-head_bytes c = codes "HPCPROF1"
+-- what a file begins with
+abbrev pub database_magic : List ℕ
+database_magic = codes "HPCPROF1"
+
+abbrev pub database_head : Content → List ℕ
+database_head c = database_magic
     ++ words (c.period ∷ c.harts ∷ length c.names.procs ∷ length c.names.files ∷ length c.nodes ∷ [])
 
 unfoldable pub spelling : Content → List ℕ
 spelling c =
-    head_bytes c
+    database_head c
     ++ flat_map procedure_bytes c.names.procs
-    ++ flat_map file_bytes c.names.files
+    ++ flat_map file_name_bytes c.names.files
     ++ flat_map (node_bytes c.names) c.nodes
     ++ flat_map (with_count profile_entry_bytes) c.profiles
     ++ flat_map (with_count context_entry_bytes) c.contexts

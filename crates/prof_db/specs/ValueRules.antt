@@ -24,17 +24,17 @@ abbrev pub entry_at : List RawEntry → ℕ → RawEntry
 entry_at entries i = slice_index_or entries i (record { offset = 0; hart = 0; node = 0; kind = 0; value = 0 })
 
 -- an entry of kind 0 is an exclusive value: so many samples end at its node
-abbrev pub is_exclusive : RawEntry → Bool
-is_exclusive e = e.kind == 0
+abbrev pub is_exclusive_entry : RawEntry → Bool
+is_exclusive_entry e = e.kind == 0
 
 abbrev pub entry_samples : ℕ → RawEntry → ℕ
-entry_samples period e = if is_exclusive e then e.value / period else 0
+entry_samples period e = if is_exclusive_entry e then e.value / period else 0
 
 -- a value of a node and of a hart. An exclusive one is that of a statement, and of whole samples
 abbrev pub is_value : ℕ → ℕ → List Node → RawEntry → Bool
 is_value period harts nodes e =
     nat_lt e.node (length nodes) && (nat_lt e.hart harts && (nat_lt e.kind 3 && (not (e.value == 0)
-    && (not (is_exclusive e) || (is_statement (node_at nodes e.node).scope && e.value % period == 0)))))
+    && (not (is_exclusive_entry e) || (is_statement (node_at nodes e.node).scope && e.value % period == 0)))))
 
 -- the entries ascend by hart, then node, then kind: hart by hart they stand anyway
 abbrev pub entries_ascend : RawEntry → RawEntry → Bool
@@ -61,7 +61,7 @@ abbrev pub tree_of : ℕ → ℕ → List Node → List RawEntry → CountedTree
 tree_of period harts nodes entries = record {
   harts = harts;
   nodes = nodes;
-  counts = map (entry_count period) (filter is_exclusive entries);
+  counts = map (entry_count period) (filter is_exclusive_entry entries);
 }
 
 -- ---- the sixth rule, second, and the seventh: the fields of a plane
@@ -99,7 +99,7 @@ fields_kept rule (field ∷ fields) at = if stands_at field at then fields_kept 
 -- ---- the sixth rule, third: each statement has samples
 
 abbrev pub sampled_nodes : List RawEntry → List ℕ
-sampled_nodes entries = map (λ e. e.node) (filter is_exclusive entries)
+sampled_nodes entries = map (λ e. e.node) (filter is_exclusive_entry entries)
 
 abbrev pub statement_breaks : List Node → List ℕ → ℕ → Bool
 statement_breaks nodes numbers i = is_statement (node_at nodes i).scope && not (is_among numbers i)

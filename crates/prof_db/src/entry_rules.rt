@@ -5,7 +5,7 @@ ghost use Rattle.std.specs.Prelude.{sum_by, take, All, IfOk, OnOk};
 ghost use Rattle.prof_bytes.specs.Outcome.{Gives};
 ghost use Rattle.scope_types.specs.Limits.{most_samples};
 ghost use Rattle.tree_types.specs.Tree.{node_at};
-ghost use Rattle.prof_db.specs.ValueRules.{entry_count, entries_ascend, entries_kept, entry_breaks, is_exclusive};
+ghost use Rattle.prof_db.specs.ValueRules.{entry_count, entries_ascend, entries_kept, entry_breaks, is_exclusive_entry};
 ghost use Rattle.prof_db.specs.NodeRules.{is_statement};
 ghost use Rattle.prof_db.specs.ValueRules.{entry_at};
 ghost use Rattle.prof_db.specs.ValueRules.{is_value, sampled_nodes, entry_samples, statements_kept};
@@ -24,7 +24,7 @@ use tree_types::{Node, NodeCount};
 const MOST_SAMPLES: u64 = 1_048_576;
 
 fn is_exclusive(e: RawEntry) -> bool
-    ensures { result ≡ is_exclusive e }
+    ensures { result ≡ is_exclusive_entry e }
 {
     e.kind == 0
 }
@@ -44,7 +44,7 @@ fn entry_samples(period: u32, e: RawEntry) -> u64
 fn is_whole(period: u32, nodes: &[Node], e: RawEntry) -> bool
     requires period { 0 < period }
     requires node { e.node < length nodes.now }
-    ensures { result ≡ (not (is_exclusive e)
+    ensures { result ≡ (not (is_exclusive_entry e)
         || (is_statement (node_at nodes.now e.node).scope && e.value % period == 0)) }
 {
     !is_exclusive(e)
@@ -110,7 +110,7 @@ fn put_count(counts: &mut Vec<NodeCount>, period: u32, e: RawEntry) -> Result<()
     requires period { 0 < period }
     requires few { entry_samples period e ≤ most_samples }
     ensures { OnOk result (counts.new.items
-        ≡ counts.old.items ++ map (entry_count period) (filter is_exclusive (e ∷ []))) }
+        ≡ counts.old.items ++ map (entry_count period) (filter is_exclusive_entry (e ∷ []))) }
 {
     if is_exclusive(e) {
         counts.push(NodeCount {
@@ -130,7 +130,7 @@ pub(crate) fn counts_in(
 ) -> Result<Vec<NodeCount>, Memory>
     requires period { 0 < period }
     requires few { All (λ e. entry_samples period e ≤ most_samples) entries.now }
-    ensures { IfOk result (λ counts. counts.items ≡ map (entry_count period) (filter is_exclusive entries.now)) }
+    ensures { IfOk result (λ counts. counts.items ≡ map (entry_count period) (filter is_exclusive_entry entries.now)) }
 {
     let mut counts = Vec::new(alloc);
     for e in entries {

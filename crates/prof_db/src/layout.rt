@@ -1,10 +1,13 @@
 //! The whole of a database cut into fields: its first two rules.
 ghost use Rattle.std.specs.Prelude.{◌≡◌, []};
+ghost use Rattle.prof_bytes.specs.Format.{magic_or};
 ghost use Rattle.prof_bytes.specs.Outcome.{Gives, GivesAt, GivesFrom};
 ghost use Rattle.prof_bytes.specs.Repeated.{adding, times};
-ghost use Rattle.prof_db.specs.Layout.{after_magic, body_from, column_from, entry_from, file_from, layout_in};
+ghost use Rattle.prof_db.specs.Fields.{fault};
+ghost use Rattle.prof_db.specs.Layout.{body_from, column_from, entry_from, file_from, layout_in};
 ghost use Rattle.prof_db.specs.Layout.{node_from};
 ghost use Rattle.prof_db.specs.Layout.{past_column, past_entry, proc_from};
+ghost use Rattle.prof_db.specs.Spelling.{database_magic};
 
 use crate::fault::DbFault;
 use crate::fields::{fault_at, not_whole, read_word};
@@ -169,7 +172,7 @@ fn read_body<'a>(
 
 /// A cursor behind the eight bytes that a database begins with.
 fn behind_magic(bytes: &[u8]) -> Result<Cursor<'_>, DbFault>
-    ensures { after_magic bytes.now ≡ result }
+    ensures { magic_or (fault 1 0) database_magic bytes.now ≡ result }
 {
     if bytes.len() < 8 || &bytes[..8] != b"HPCPROF1".as_slice() {
         return Err(fault_at(1, 0));

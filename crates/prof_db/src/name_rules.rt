@@ -3,9 +3,9 @@ ghost use Rattle.std.specs.Prelude.{◌≡◌, ◌<◌, ◌++◌, ◌||◌, not,
 ghost use Rattle.prof_bytes.specs.Outcome.{Gives};
 ghost use Rattle.tree_types.specs.Nodes.{no_parent};
 ghost use Rattle.prof_db.specs.NameRules.{file_at, proc_at};
-ghost use Rattle.prof_db.specs.NameRules.{file_is_wrong, file_name, files_ascend, files_kept, head_kept, is_proc};
+ghost use Rattle.prof_db.specs.NameRules.{file_is_wrong, file_name, files_ascend, files_kept, head_kept, is_valid_proc};
 ghost use Rattle.prof_db.specs.NameRules.{line_file, names_in, names_kept, pair_less, proc_id, proc_is_wrong};
-ghost use Rattle.prof_db.specs.NameRules.{proc_name};
+ghost use Rattle.prof_db.specs.NameRules.{raw_proc_name};
 ghost use Rattle.prof_db.specs.NameRules.{procs_ascend, procs_kept, scope_file, scope_proc, used_files, used_procs};
 
 use crate::fault::DbFault;
@@ -116,7 +116,7 @@ fn files_ascend(f: &RawFile, g: &RawFile) -> bool
 }
 
 fn is_proc(p: &RawProc) -> bool
-    ensures { result ≡ is_proc p.now }
+    ensures { result ≡ is_valid_proc p.now }
 {
     p.kind < 2
         || (p.kind == 2 && (p.number == 0 && p.name.bytes() == b"<unknown procedure>".as_slice()))
@@ -204,7 +204,7 @@ fn proc_id(kind: u32, number: u32) -> ProcId
 }
 
 fn proc_names(alloc: Global, procs: &[RawProc]) -> Result<Vec<ProcName>, Memory>
-    ensures { IfOk result (λ names. names.items ≡ map proc_name procs.now) }
+    ensures { IfOk result (λ names. names.items ≡ map raw_proc_name procs.now) }
 {
     let mut names = Vec::new(alloc);
     for p in procs {

@@ -5,10 +5,10 @@ ghost use Rattle.std.specs.Ordering.{is_eq};
 ghost use Rattle.scope_types.specs.Words.{root_words, proc_words};
 ghost use Rattle.tree_types.specs.NamesAscend.{NamesAscend};
 ghost use Rattle.prof_db.specs.Writable.{IsWritable};
-ghost use Rattle.prof_db.specs.Spelling.{text_bytes, procedure_bytes, file_bytes, node_bytes};
+ghost use Rattle.prof_db.specs.Spelling.{text_bytes, procedure_bytes, file_name_bytes, node_bytes};
 ghost use Rattle.prof_bytes.specs.Number.{word, words};
 ghost use Rattle.prof_db.specs.Spelling.{kind_number, line_numbers, scope_numbers, proc_index, file_index};
-ghost use Rattle.prof_db.specs.Spelling.{profile_entry_bytes, context_entry_bytes, with_count, head_bytes, spelling};
+ghost use Rattle.prof_db.specs.Spelling.{profile_entry_bytes, context_entry_bytes, with_count, database_head, spelling};
 
 use prof_bytes::{Memory, Text, put_u32, put_u64, put_words};
 use scope_types::{LineId, ProcId, RootKind, Scope};
@@ -63,7 +63,7 @@ fn put_procs(out: &mut Vec<u8>, procs: &[ProcName]) -> Result<(), Memory>
 }
 
 fn put_file(out: &mut Vec<u8>, f: &FileName) -> Result<(), Memory>
-    ensures { OnOk result (out.new.items ≡ out.old.items ++ file_bytes f.now) }
+    ensures { OnOk result (out.new.items ≡ out.old.items ++ file_name_bytes f.now) }
 {
     put_u32(out, f.table)?;
     put_u32(out, f.file)?;
@@ -72,7 +72,7 @@ fn put_file(out: &mut Vec<u8>, f: &FileName) -> Result<(), Memory>
 }
 
 fn put_files(out: &mut Vec<u8>, files: &[FileName]) -> Result<(), Memory>
-    ensures { OnOk result (out.new.items ≡ out.old.items ++ flat_map file_bytes files.now) }
+    ensures { OnOk result (out.new.items ≡ out.old.items ++ flat_map file_name_bytes files.now) }
 {
     for f in files {
         put_file(out, f)?;
@@ -261,7 +261,7 @@ fn put_contexts(out: &mut Vec<u8>, plane: &ContextPlane) -> Result<(), Memory>
 }
 
 fn put_head(out: &mut Vec<u8>, content: &Content) -> Result<(), Memory>
-    ensures { OnOk result (out.new.items ≡ out.old.items ++ head_bytes content.now) }
+    ensures { OnOk result (out.new.items ≡ out.old.items ++ database_head content.now) }
 {
     let procs = count(content.names.procs.items().len());
     let files = count(content.names.files.items().len());

@@ -1,11 +1,9 @@
 //! Reports of programs with debug information: inlined procedures, source lines, and what has neither. The reports are
 //! written by hand from the entries and the rows of the line tables.
 use crate::debug_programs::{WITH_ENTRIES, WITH_INLINES, WITH_OLDER_UNITS};
-use crate::programs::{answer, files};
-use hpc_top::Status;
-use prof_devices::{SureShelf, SureSink};
+use crate::programs::{files, put_by};
+use prof_devices::SureShelf;
 use std::test::Fail;
-use std::thread::Threads;
 
 /// Inlined code in two pieces and of two levels; the entries have calls, and the line table three rows.
 const INLINED: &str = "\
@@ -29,7 +27,7 @@ hart 0 retired 20 samples 10 end exit 19
 ";
 
 /// Two rows at one address, and the end of a sequence right at a sample.
-const LINES: &str = "\
+pub(crate) const LINES: &str = "\
 harts 1 period 1 samples 7 total 7
 hart 0 retired 7 samples 7 end stopped
        inclusive      %            frame  scope
@@ -63,6 +61,7 @@ hart 0 retired 49 samples 1 end exit 0
 ";
 
 /// A program, the words and the schedule of its run, and the report.
+#[derive(Clone, Copy)]
 struct Run {
     name: &'static str,
     file: &'static [u8],
@@ -71,27 +70,25 @@ struct Run {
     report: &'static str,
 }
 
+const INLINED_RUN: Run = Run {
+    name: "inlined procedures",
+    file: WITH_INLINES,
+    words: "profile p i s 2 1 d",
+    schedule: b"harts 1\n0 100000\n",
+    report: INLINED,
+};
+
 static RUNS: [Run; 5] = [
-    Run {
-        name: "inlined procedures",
-        file: WITH_INLINES,
-        words: "profile p i s 2 1 d",
-        schedule: b"harts 1\n0 100000\n",
-        report: INLINED,
-    },
+    INLINED_RUN,
     Run {
         name: "inlined procedures, merged by two workers",
-        file: WITH_INLINES,
         words: "profile p i s 2 2 d",
-        schedule: b"harts 1\n0 100000\n",
-        report: INLINED,
+        ..INLINED_RUN
     },
     Run {
         name: "inlined procedures, merged by sixteen workers",
-        file: WITH_INLINES,
         words: "profile p i s 2 16 d",
-        schedule: b"harts 1\n0 100000\n",
-        report: INLINED,
+        ..INLINED_RUN
     },
     Run {
         name: "rows of a line table",
@@ -104,33 +101,17 @@ static RUNS: [Run; 5] = [
         name: "units of older versions",
         file: WITH_OLDER_UNITS,
         words: "profile p i s 31 1 d",
-        schedule: b"harts 1\n0 100000\n",
         report: OLDER,
+        ..INLINED_RUN
     },
 ];
 
-/// Whether a run is done, with just its report and nothing on standard error.
-fn is_reported(rt: &(impl Threads + Sync + AllocGlobal), run: &Run) -> Result<bool, Fail> {
-    let alloc = rt.alloc();
-    let mut shelf = SureShelf::of(alloc, files(alloc, run.file, b"", run.schedule)?);
-    let mut out = SureSink::new(alloc);
-    let mut err = SureSink::new(alloc);
-    let status = answer(rt, run.words, &mut shelf, &mut out, &mut err)?;
-    Ok(status == Status::Done && err.taken().is_empty() && out.taken() == run.report.as_bytes())
-}
-
-/// The name of the first run that has another report.
-fn other_report(rt: &(impl Threads + Sync + AllocGlobal)) -> Result<Option<&'static str>, Fail> {
-    for run in &RUNS {
-        if !is_reported(rt, run)? {
-            return Ok(Some(run.name));
-        }
-    }
-    Ok(None)
-}
-
 #[test]
 fn reports_of_programs_with_debug_information(rt: HostRuntime) -> Result<(), Fail> {
-    assert_eq!(rt; other_report(&rt)?, None);
+    for run in &RUNS {
+        let files = files(rt.alloc(), run.file, b"", run.schedule)?;
+        let report = put_by(&rt, run.words, &mut SureShelf::of(rt.alloc(), files))?;
+        assert!(rt; report.bytes() == run.report.as_bytes(), "{}", run.name);
+    }
     Ok(())
 }

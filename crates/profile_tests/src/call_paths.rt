@@ -4,8 +4,8 @@
 use crate::databases::EMPTY_DATABASE;
 use crate::programs::{ADDING, program};
 use crate::reports::NO_SAMPLES;
-use hpc_top::{Job, profile};
-use merge_crew::WorkCrew;
+use hpc_top::{Job, Made, profile};
+use merge_crew::{Crews, WorkCrew};
 use prof_devices::OpenGate;
 use std::alloc::Global;
 use std::test::Fail;
@@ -190,15 +190,14 @@ pub(crate) fn changed(
     Ok(file)
 }
 
-/// Whether this database, where one is given, and this report are made of a program.
-fn is_made(
+/// What a crew makes of a program, with no input and one worker.
+pub(crate) fn made<C: Crews>(
     rt: &(impl Threads + Sync + AllocGlobal),
     elf: &[u8],
     schedule: &[u8],
     period: u32,
-    database: Option<&[u8]>,
-    report: &[u8],
-) -> Result<bool, Fail> {
+    crews: &C,
+) -> Result<Made, Fail> {
     if elf.len() > 1000 || schedule.len() > 1000 || period == 0 {
         return Err("not a job".into());
     }
@@ -209,50 +208,30 @@ fn is_made(
         period,
         workers: 1,
     };
-    let made = profile(rt, &job, &WorkCrew::of(&OpenGate))
-        .ok()
-        .ok_or("refused")?;
-    let is_stored = match database {
-        Some(bytes) => made.database.bytes() == bytes,
-        None => true,
-    };
-    Ok(is_stored && made.report.bytes() == report)
-}
-
-/// The name of the first program that has another report.
-fn other_call_paths(
-    rt: &(impl Threads + Sync + AllocGlobal),
-) -> Result<Option<&'static str>, Fail> {
-    for row in &ALL_UNWOUND {
-        let elf = changed(rt.alloc(), row.file, row.changes)?;
-        let report = row.report.as_bytes();
-        if !is_made(rt, elf.as_slice(), row.schedule, row.period, None, report)? {
-            return Ok(Some(row.name));
-        }
-    }
-    Ok(None)
+    Ok(profile(rt, &job, crews).ok().ok_or("refused")?)
 }
 
 #[test]
 fn call_paths_of_programs(rt: HostRuntime) -> Result<(), Fail> {
-    assert_eq!(rt; other_call_paths(&rt)?, None);
+    let crews = WorkCrew::of(&OpenGate);
+    for row in &ALL_UNWOUND {
+        let elf = changed(rt.alloc(), row.file, row.changes)?;
+        let made = made(&rt, elf.as_slice(), row.schedule, row.period, &crews)?;
+        assert!(rt;
+            made.report.bytes() == row.report.as_bytes(),
+            "{}",
+            row.name
+        );
+    }
     Ok(())
-}
-
-fn is_empty_database(rt: &(impl Threads + Sync + AllocGlobal)) -> Result<bool, Fail> {
-    let elf = program(rt.alloc(), &ADDING)?;
-    is_made(
-        rt,
-        elf.as_slice(),
-        b"harts 1\n0 100000\n",
-        21,
-        Some(EMPTY_DATABASE),
-        NO_SAMPLES.as_bytes(),
-    )
 }
 
 #[test]
 fn no_sample_gives_the_empty_database(rt: HostRuntime) -> Result<(), Fail> {
-    assert!(rt; is_empty_database(&rt)?);
+    let elf = program(rt.alloc(), &ADDING)?;
+    let crews = WorkCrew::of(&OpenGate);
+    let made = made(&rt, elf.as_slice(), b"harts 1\n0 100000\n", 21, &crews)?;
+    assert!(rt; made.database.bytes() == EMPTY_DATABASE);
+    assert!(rt; made.report.bytes() == NO_SAMPLES.as_bytes());
     Ok(())
 }

@@ -30,11 +30,11 @@ fn answers<F: Shelf>(shelf: &mut F, call: Call<'_>) -> bool {
     }
 }
 
-/// The place of the first of the calls, made in this order, that answers otherwise.
+/// The index of the first of the calls, made in this order, that answers otherwise.
 pub(crate) fn other_answer<F: Shelf>(shelf: &mut F, calls: &[Call<'_>]) -> Option<usize> {
-    for (place, call) in calls.iter().enumerate() {
+    for (index, call) in calls.iter().enumerate() {
         if !answers(shelf, *call) {
-            return Some(place);
+            return Some(index);
         }
     }
     None

@@ -1,11 +1,10 @@
 //! `profile` by a crew that hands out stripes that nobody filled: its database and table are of no samples.
+use crate::call_paths::made;
 use crate::programs::{ADDING, program};
-use hpc_top::{Job, Made, profile};
 use merge_crew::{Crew, Crews};
 use prof_bytes::Memory;
 use prof_devices::OpenGate;
 use std::test::Fail;
-use std::thread::Threads;
 
 /// A crew that hands out stripes that no worker filled.
 #[derive(Drop)]
@@ -44,25 +43,11 @@ hart 0 retired 20 samples 4 end exit 19
        inclusive      %            frame  scope
 ";
 
-/// What is made of the adding program with a period of 5.
-fn made_by<C: Crews>(rt: &(impl Threads + Sync + AllocGlobal), crews: &C) -> Result<Made, Fail> {
-    let elf = program(rt.alloc(), &ADDING)?;
-    if elf.len() > 1000 {
-        return Err("not a job".into());
-    }
-    let job = Job {
-        elf: elf.as_slice(),
-        input: b"",
-        schedule: b"harts 1\n0 100000\n",
-        period: 5,
-        workers: 1,
-    };
-    Ok(profile(rt, &job, crews).ok().ok_or("refused")?)
-}
-
 #[test]
 fn only_what_the_crew_merged_is_stored(rt: HostRuntime) -> Result<(), Fail> {
-    let made = made_by(&rt, &EmptyCrew { gate: OpenGate })?;
+    let elf = program(rt.alloc(), &ADDING)?;
+    let crews = EmptyCrew { gate: OpenGate };
+    let made = made(&rt, elf.as_slice(), b"harts 1\n0 100000\n", 5, &crews)?;
     assert!(rt; made.database.bytes() == NO_NODES);
     assert!(rt; made.report.bytes() == NO_ROWS.as_bytes());
     assert_eq!(rt; made.crew.merged, 0);

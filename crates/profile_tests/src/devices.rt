@@ -14,13 +14,6 @@ fn owned(alloc: Global, files: &[(&[u8], &[u8])]) -> Result<Vec<(Text, Text)>, M
     Ok(all)
 }
 
-fn is(found: Option<&[u8]>, wanted: &[u8]) -> bool {
-    match found {
-        Some(bytes) => bytes == wanted,
-        None => false,
-    }
-}
-
 /// A shelf of two files whose calls 2 and 4 fail, and which keeps so many bytes of a store that fails.
 fn failing_shelf(alloc: Global, kept: usize) -> Result<MemShelf, Memory> {
     let files = owned(alloc, &[(b"elf", b"\x7fELF"), (b"input", b"")])?;
@@ -43,33 +36,22 @@ fn calls_of(front: &[u8]) -> [Call<'_>; 8] {
     ]
 }
 
-/// The place of the first call that answers otherwise; behind them all where the files are others then.
-fn other_call(shelf: &mut MemShelf, front: &[u8]) -> Option<usize> {
-    let calls = calls_of(front);
-    let other = other_answer(shelf, &calls);
-    let holds = is(shelf.file(b"db"), front)
-        && is(shelf.file(b"elf"), b"\x7fELF")
-        && shelf.file(b"nobody").is_none();
-    if holds { other } else { Some(calls.len()) }
-}
-
-/// Fronts of a text, as long as their place is.
+/// Fronts of a text, as long as their index is.
 const FRONTS: [&[u8]; 4] = [b"", b"N", b"NE", b"NEW"];
-
-/// How many bytes are kept, and the place of the first call that answers otherwise then.
-fn other_failing_call(alloc: Global) -> Result<Option<(usize, usize)>, Memory> {
-    for (kept, front) in FRONTS.iter().enumerate() {
-        let mut shelf = failing_shelf(alloc, kept)?;
-        if let Some(place) = other_call(&mut shelf, front) {
-            return Ok(Some((kept, place)));
-        }
-    }
-    Ok(None)
-}
 
 #[test]
 fn calls_that_fail_in_memory(rt: HostRuntime) -> Result<(), Fail> {
-    assert_eq!(rt; other_failing_call(rt.alloc())?, None);
+    for (kept, front) in FRONTS.iter().enumerate() {
+        let mut shelf = failing_shelf(rt.alloc(), kept)?;
+        assert_eq!(rt;
+            other_answer(&mut shelf, &calls_of(front)),
+            None,
+            "{kept} bytes are kept"
+        );
+        assert!(rt; shelf.file(b"db") == Some(*front), "{kept} bytes are kept");
+        assert!(rt; shelf.file(b"elf") == Some(b"\x7fELF".as_slice()));
+        assert!(rt; shelf.file(b"nobody").is_none());
+    }
     Ok(())
 }
 
@@ -84,20 +66,12 @@ fn second_put_fails(sink: &mut MemSink, taken: &[u8]) -> bool {
         && sink.taken() == taken
 }
 
-/// How many bytes are kept where other bytes are taken than these.
-fn other_taken(alloc: Global) -> Result<Option<usize>, Memory> {
-    for (kept, taken) in TAKEN.iter().enumerate() {
-        let mut sink = MemSink::of(alloc, Vec::from_slice(alloc, &[2])?, kept);
-        if !second_put_fails(&mut sink, taken) {
-            return Ok(Some(kept));
-        }
-    }
-    Ok(None)
-}
-
 #[test]
 fn puts_that_fail_in_memory(rt: HostRuntime) -> Result<(), Fail> {
-    assert_eq!(rt; other_taken(rt.alloc())?, None);
+    for (kept, taken) in TAKEN.iter().enumerate() {
+        let mut sink = MemSink::of(rt.alloc(), Vec::from_slice(rt.alloc(), &[2])?, kept);
+        assert!(rt; second_put_fails(&mut sink, taken), "{kept} bytes are kept");
+    }
     Ok(())
 }
 
@@ -111,19 +85,14 @@ static SURE_CALLS: [Call<'static>; 6] = [
     Call::Fetched(b"db", 6, b"second"),
 ];
 
-/// The place of the first of them that answers otherwise; behind them all where the files are others then.
-fn other_sure_call(alloc: Global) -> Result<Option<usize>, Memory> {
-    let mut shelf = SureShelf::of(alloc, owned(alloc, &[(b"elf", b"\x7fELF")])?);
-    let other = other_answer(&mut shelf, &SURE_CALLS);
-    let holds = is(shelf.file(b"db"), b"second")
-        && is(shelf.file(b"elf"), b"\x7fELF")
-        && shelf.file(b"nobody").is_none();
-    Ok(if holds { other } else { Some(SURE_CALLS.len()) })
-}
-
 #[test]
 fn devices_that_never_fail(rt: HostRuntime) -> Result<(), Fail> {
-    assert_eq!(rt; other_sure_call(rt.alloc())?, None);
+    let files = owned(rt.alloc(), &[(b"elf", b"\x7fELF")])?;
+    let mut shelf = SureShelf::of(rt.alloc(), files);
+    assert_eq!(rt; other_answer(&mut shelf, &SURE_CALLS), None);
+    assert!(rt; shelf.file(b"db") == Some(b"second".as_slice()));
+    assert!(rt; shelf.file(b"elf") == Some(b"\x7fELF".as_slice()));
+    assert!(rt; shelf.file(b"nobody").is_none());
     let mut sink = SureSink::new(rt.alloc());
     assert_eq!(rt; sink.put(b"one "), Put::Done);
     assert_eq!(rt; sink.put(b"two"), Put::Done);

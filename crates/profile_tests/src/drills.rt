@@ -1,7 +1,6 @@
 //! What `drill` puts of a number's guest, by any number of workers. The lines are those of `checks/drill`, which makes,
 //! runs and samples the guest in plain Python.
-use crate::measurements::put_by;
-use crate::programs::words_of;
+use crate::programs::{put_by, words_of};
 use hpc_top::{Status, hpc_main};
 use prof_devices::{Gate, SureShelf, SureSink};
 use std::sync::atomic::{AtomicBool, AtomicU32, Ordering};

@@ -1,10 +1,11 @@
 //! A call of a device that fails: the answer, and what stands then in the file and on the output.
 use crate::databases::database_of_four;
-use crate::programs::{ADDING, answer, files, program};
+use crate::measurements::TABLE;
+use crate::programs::{ADDING, answer, database_alone, files, program};
 use crate::reports::FOUR_SAMPLES;
 use hpc_top::{Place, Status};
+use prof_bytes::Text;
 use prof_devices::{MemShelf, MemSink};
-use std::alloc::Global;
 use std::test::Fail;
 use std::thread::Threads;
 
@@ -93,18 +94,33 @@ fn is_front(found: Option<&[u8]>, whole: &[u8], length: usize) -> bool {
     }
 }
 
-/// The adding program's files on a shelf of which one call fails.
-fn failing_shelf(alloc: Global, failure: &Failure) -> Result<MemShelf, Fail> {
-    let elf = program(alloc, &ADDING)?;
-    let files = files(alloc, elf.as_slice(), b"", b"harts 1\n0 100000\n")?;
-    let failing = Vec::from_slice(alloc, &[failure.shelf_call])?;
-    Ok(MemShelf::of(alloc, files, failing, failure.kept))
-}
-
-fn failing_sink(alloc: Global, failure: &Failure) -> Result<MemSink, Fail> {
-    let failing = Vec::from_slice(alloc, &[failure.print_call])?;
-    Ok(MemSink::of(alloc, failing, failure.kept))
-}
+/// A view of the database of four samples in which one call fails.
+static VIEW_FAILURES: [Failure; 3] = [
+    Failure {
+        name: "the database is not read",
+        shelf_call: 1,
+        kept: 3,
+        status: Status::Device(Place::Read),
+        printed: 0,
+        ..NO_FAILURE
+    },
+    Failure {
+        name: "a front of the table is put",
+        print_call: 1,
+        kept: 7,
+        status: Status::Device(Place::Print),
+        printed: 7,
+        ..NO_FAILURE
+    },
+    Failure {
+        name: "nothing is stored, nor put twice",
+        shelf_call: 2,
+        print_call: 2,
+        kept: 3,
+        printed: 396,
+        ..NO_FAILURE
+    },
+];
 
 /// Whether so many bytes of the database stand in its file; 6 are those that stood there before.
 fn is_stored(shelf: &MemShelf, database: &[u8], length: usize) -> bool {
@@ -112,40 +128,55 @@ fn is_stored(shelf: &MemShelf, database: &[u8], length: usize) -> bool {
     is_front(shelf.file(b"d"), expected, length)
 }
 
-fn is_printed(out: &MemSink, length: usize) -> bool {
-    is_front(Some(out.taken()), FOUR_SAMPLES.as_bytes(), length)
-}
-
-/// Whether the answer and what is stored and printed are those of this failure.
+/// Whether a command over these files, with one call that fails, has the row's answer, and stores and puts as much of
+/// the database and of this text. A file `d` of 6 bytes is what stood there before.
 fn is_failure(
     rt: &(impl Threads + Sync + AllocGlobal),
+    line: &str,
+    files: Vec<(Text, Text)>,
     failure: &Failure,
-    database: &[u8],
+    text: &str,
 ) -> Result<bool, Fail> {
-    let mut shelf = failing_shelf(rt.alloc(), failure)?;
-    let mut out = failing_sink(rt.alloc(), failure)?;
-    let mut err = MemSink::of(rt.alloc(), Vec::new(rt.alloc()), 0);
-    let status = answer(rt, "profile p i s 5 1 d", &mut shelf, &mut out, &mut err)?;
+    let alloc = rt.alloc();
+    let failing = Vec::from_slice(alloc, &[failure.shelf_call])?;
+    let mut shelf = MemShelf::of(alloc, files, failing, failure.kept);
+    let failing = Vec::from_slice(alloc, &[failure.print_call])?;
+    let mut out = MemSink::of(alloc, failing, failure.kept);
+    let mut err = MemSink::of(alloc, Vec::new(alloc), 0);
+    let status = answer(rt, line, &mut shelf, &mut out, &mut err)?;
+    let database = database_of_four(alloc)?;
     Ok(
         status == failure.status
-            && is_stored(&shelf, database, failure.stored)
-            && is_printed(&out, failure.printed),
+            && is_stored(&shelf, &database, failure.stored)
+            && is_front(Some(out.taken()), text.as_bytes(), failure.printed),
     )
-}
-
-/// The name of the first failure that is answered otherwise.
-fn other_failure(rt: &(impl Threads + Sync + AllocGlobal)) -> Result<Option<&'static str>, Fail> {
-    let database = database_of_four(rt.alloc())?;
-    for failure in &FAILURES {
-        if !is_failure(rt, failure, database.as_slice())? {
-            return Ok(Some(failure.name));
-        }
-    }
-    Ok(None)
 }
 
 #[test]
 fn one_failing_call(rt: HostRuntime) -> Result<(), Fail> {
-    assert_eq!(rt; other_failure(&rt)?, None);
+    for failure in &FAILURES {
+        let elf = program(rt.alloc(), &ADDING)?;
+        let files = files(rt.alloc(), elf.as_slice(), b"", b"harts 1\n0 100000\n")?;
+        let line = "profile p i s 5 1 d";
+        assert!(rt;
+            is_failure(&rt, line, files, failure, FOUR_SAMPLES)?,
+            "{}",
+            failure.name
+        );
+    }
+    Ok(())
+}
+
+#[test]
+fn one_failing_call_of_a_view(rt: HostRuntime) -> Result<(), Fail> {
+    for failure in &VIEW_FAILURES {
+        let database = database_of_four(rt.alloc())?;
+        let files = database_alone(rt.alloc(), database.as_slice())?;
+        assert!(rt;
+            is_failure(&rt, "view d top", files, failure, TABLE)?,
+            "{}",
+            failure.name
+        );
+    }
     Ok(())
 }

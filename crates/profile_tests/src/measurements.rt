@@ -2,10 +2,10 @@
 //! `profile` makes. The measurement is written by hand from the layout of the file.
 use crate::databases::database_of_four;
 use crate::debug_programs::WITH_INLINES;
-use crate::programs::{ADDING, BRANCHING, answer, files, program};
+use crate::programs::{ADDING, BRANCHING, file, files, is_refused, program, put_by};
 use hpc_top::{InputFault, Status};
 use prof_bytes::Text;
-use prof_devices::{SureShelf, SureSink};
+use prof_devices::SureShelf;
 use std::alloc::Global;
 use std::test::Fail;
 use std::thread::Threads;
@@ -34,46 +34,22 @@ pub(crate) const TABLE: &str = "       inclusive      %            frame  scope
                5   25.0                5      0x0001004c
 ";
 
-/// What a command puts, where it is done and says nothing on standard error.
-pub(crate) fn put_by(
-    rt: &(impl Threads + Sync + AllocGlobal),
-    words: &str,
-    shelf: &mut SureShelf,
-) -> Result<Text, Fail> {
-    let alloc = rt.alloc();
-    let mut out = SureSink::new(alloc);
-    let mut err = SureSink::new(alloc);
-    let status = answer(rt, words, shelf, &mut out, &mut err)?;
-    if status != Status::Done || !err.taken().is_empty() {
-        return Err("not done".into());
-    }
-    Ok(Text::of(alloc, out.taken()).ok().ok_or("memory")?)
-}
-
-fn is(found: Option<&[u8]>, wanted: &[u8]) -> bool {
-    match found {
-        Some(bytes) => bytes == wanted,
-        None => false,
-    }
-}
-
-/// The files of the adding program, with a measurement `m`.
-fn shelf_with(alloc: Global, elf: &[u8], measurement: &[u8]) -> Result<SureShelf, Fail> {
+/// The files of a program's run, with a measurement `m`.
+fn files_with(alloc: Global, elf: &[u8], measurement: &[u8]) -> Result<Vec<(Text, Text)>, Fail> {
     let mut files = files(alloc, elf, b"", b"harts 1\n0 100000\n")?;
-    let name = Text::of(alloc, b"m").ok().ok_or("memory")?;
-    let bytes = Text::of(alloc, measurement).ok().ok_or("memory")?;
-    files.push((name, bytes))?;
-    Ok(SureShelf::of(alloc, files))
+    files.push(file(alloc, b"m", measurement)?)?;
+    Ok(files)
 }
 
 #[test]
 fn a_run_keeps_its_paths(rt: HostRuntime) -> Result<(), Fail> {
     let elf = program(rt.alloc(), &ADDING)?;
-    let mut shelf = shelf_with(rt.alloc(), elf.as_slice(), b"before")?;
+    let files = files_with(rt.alloc(), elf.as_slice(), b"before")?;
+    let mut shelf = SureShelf::of(rt.alloc(), files);
     let text = put_by(&rt, "run p i s 5 m", &mut shelf)?;
     assert!(rt; text.bytes() == LINES.as_bytes());
-    assert!(rt; is(shelf.file(b"m"), FOUR_PATHS));
-    assert!(rt; is(shelf.file(b"d"), b"before"));
+    assert!(rt; shelf.file(b"m") == Some(FOUR_PATHS));
+    assert!(rt; shelf.file(b"d") == Some(b"before"));
     Ok(())
 }
 
@@ -81,11 +57,12 @@ fn a_run_keeps_its_paths(rt: HostRuntime) -> Result<(), Fail> {
 fn a_measurement_is_attributed(rt: HostRuntime) -> Result<(), Fail> {
     let elf = program(rt.alloc(), &ADDING)?;
     let database = database_of_four(rt.alloc())?;
-    let mut shelf = shelf_with(rt.alloc(), elf.as_slice(), FOUR_PATHS)?;
+    let files = files_with(rt.alloc(), elf.as_slice(), FOUR_PATHS)?;
+    let mut shelf = SureShelf::of(rt.alloc(), files);
     let text = put_by(&rt, "prof p m 2 d", &mut shelf)?;
     assert!(rt; text.bytes() == TABLE.as_bytes());
-    assert!(rt; is(shelf.file(b"d"), database.as_slice()));
-    assert!(rt; is(shelf.file(b"m"), FOUR_PATHS));
+    assert!(rt; shelf.file(b"d") == Some(database.as_slice()));
+    assert!(rt; shelf.file(b"m") == Some(FOUR_PATHS));
     Ok(())
 }
 
@@ -127,37 +104,21 @@ static REFUSED: [Refused; 3] = [
     },
 ];
 
-/// Whether the answer and the line are the row's, and nothing is stored or printed.
-fn is_refused(rt: &(impl Threads + Sync + AllocGlobal), row: &Refused) -> Result<bool, Fail> {
-    let alloc = rt.alloc();
-    let elf = program(alloc, row.code)?;
-    let mut measurement = Vec::from_slice(alloc, FOUR_PATHS)?;
+/// Whether a measurement is refused, and nothing is stored or put.
+fn is_faulty(rt: &(impl Threads + Sync + AllocGlobal), row: &Refused) -> Result<bool, Fail> {
+    let elf = program(rt.alloc(), row.code)?;
+    let mut measurement = Vec::from_slice(rt.alloc(), FOUR_PATHS)?;
     measurement.truncate(row.kept);
-    let mut shelf = shelf_with(alloc, elf.as_slice(), measurement.as_slice())?;
-    let mut out = SureSink::new(alloc);
-    let mut err = SureSink::new(alloc);
-    let status = answer(rt, "prof p m 1 d", &mut shelf, &mut out, &mut err)?;
-    Ok(
-        status == Status::Input(row.fault)
-            && is(shelf.file(b"d"), b"before")
-            && out.taken().is_empty()
-            && err.taken() == row.line.as_bytes(),
-    )
-}
-
-/// The name of the first row that has another answer.
-fn other_refusal(rt: &(impl Threads + Sync + AllocGlobal)) -> Result<Option<&'static str>, Fail> {
-    for row in &REFUSED {
-        if !is_refused(rt, row)? {
-            return Ok(Some(row.name));
-        }
-    }
-    Ok(None)
+    let files = files_with(rt.alloc(), elf.as_slice(), measurement.as_slice())?;
+    let status = Status::Input(row.fault);
+    is_refused(rt, "prof p m 1 d", files, b"before", status, row.line)
 }
 
 #[test]
 fn measurements_that_are_refused(rt: HostRuntime) -> Result<(), Fail> {
-    assert_eq!(rt; other_refusal(&rt)?, None);
+    for row in &REFUSED {
+        assert!(rt; is_faulty(&rt, row)?, "{}", row.name);
+    }
     Ok(())
 }
 
@@ -167,17 +128,14 @@ fn is_the_profile(
     attribution: &'static str,
 ) -> Result<bool, Fail> {
     let alloc = rt.alloc();
-    let mut whole = shelf_with(alloc, WITH_INLINES, b"before")?;
+    let mut whole = SureShelf::of(rt.alloc(), files_with(alloc, WITH_INLINES, b"before")?);
     let profile = put_by(rt, "profile p i s 2 1 d", &mut whole)?;
-    let mut apart = shelf_with(alloc, WITH_INLINES, b"before")?;
+    let mut apart = SureShelf::of(rt.alloc(), files_with(alloc, WITH_INLINES, b"before")?);
     let lines = put_by(rt, "run p i s 2 m", &mut apart)?;
     let table = put_by(rt, attribution, &mut apart)?;
     let mut text = Vec::from_slice(alloc, lines.bytes())?;
     text.extend_from_slice(table.bytes())?;
-    let is_stored = match whole.file(b"d") {
-        Some(database) => is(apart.file(b"d"), database),
-        None => false,
-    };
+    let is_stored = whole.file(b"d").is_some() && apart.file(b"d") == whole.file(b"d");
     Ok(is_stored && profile.bytes() == text.as_slice())
 }
 

@@ -2,7 +2,7 @@
 //! and from the layout of files.
 use hpc_top::{Status, hpc_main};
 use prof_bytes::Text;
-use prof_devices::{OpenGate, Shelf, Sink};
+use prof_devices::{OpenGate, Shelf, Sink, SureShelf, SureSink};
 use std::alloc::Global;
 use std::test::Fail;
 use std::thread::Threads;
@@ -67,21 +67,33 @@ pub(crate) fn put_word(out: &mut Vec<u8>, word: u32) -> Result<(), Fail> {
 
 /// The file of a straight program with this code.
 pub(crate) fn program(alloc: Global, code: &[u32]) -> Result<Vec<u8>, Fail> {
-    let mut file = Vec::new(alloc);
-    file.extend_from_slice(FILE_HEADER)?;
-    file.extend_from_slice(PROGRAM_HEADER)?;
+    let mut elf = Vec::new(alloc);
+    elf.extend_from_slice(FILE_HEADER)?;
+    elf.extend_from_slice(PROGRAM_HEADER)?;
     let length = (code.len().min(1000) * 4) as u32;
     for word in [length, length, 5, 4] {
-        put_word(&mut file, word)?;
+        put_word(&mut elf, word)?;
     }
     for word in code {
-        put_word(&mut file, *word)?;
+        put_word(&mut elf, *word)?;
     }
-    Ok(file)
+    Ok(elf)
 }
 
 fn text(alloc: Global, bytes: &[u8]) -> Result<Text, Fail> {
     Ok(Text::of(alloc, bytes).ok().ok_or("memory")?)
+}
+
+/// A file with its name.
+pub(crate) fn file(alloc: Global, name: &[u8], bytes: &[u8]) -> Result<(Text, Text), Fail> {
+    Ok((text(alloc, name)?, text(alloc, bytes)?))
+}
+
+/// The files of a view: `d` the database.
+pub(crate) fn database_alone(alloc: Global, database: &[u8]) -> Result<Vec<(Text, Text)>, Fail> {
+    let mut files = Vec::new(alloc);
+    files.push(file(alloc, b"d", database)?)?;
+    Ok(files)
 }
 
 pub(crate) fn words_of(alloc: Global, line: &str) -> Result<Vec<Text>, Fail> {
@@ -100,10 +112,10 @@ pub(crate) fn files(
     schedule: &[u8],
 ) -> Result<Vec<(Text, Text)>, Fail> {
     let mut files = Vec::new(alloc);
-    files.push((text(alloc, b"p")?, text(alloc, program)?))?;
-    files.push((text(alloc, b"i")?, text(alloc, input)?))?;
-    files.push((text(alloc, b"s")?, text(alloc, schedule)?))?;
-    files.push((text(alloc, b"d")?, text(alloc, b"before")?))?;
+    files.push(file(alloc, b"p", program)?)?;
+    files.push(file(alloc, b"i", input)?)?;
+    files.push(file(alloc, b"s", schedule)?)?;
+    files.push(file(alloc, b"d", b"before")?)?;
     Ok(files)
 }
 
@@ -117,4 +129,41 @@ pub(crate) fn answer<F: Shelf, O: Sink, E: Sink>(
 ) -> Result<Status, Fail> {
     let words = words_of(rt.alloc(), line)?;
     Ok(hpc_main(rt, words.as_slice(), shelf, out, err, &OpenGate))
+}
+
+/// What a command puts, where it is done and says nothing on standard error.
+pub(crate) fn put_by(
+    rt: &(impl Threads + Sync + AllocGlobal),
+    line: &str,
+    shelf: &mut SureShelf,
+) -> Result<Text, Fail> {
+    let mut out = SureSink::new(rt.alloc());
+    let mut err = SureSink::new(rt.alloc());
+    let status = answer(rt, line, shelf, &mut out, &mut err)?;
+    if status != Status::Done || !err.taken().is_empty() {
+        return Err("not done".into());
+    }
+    text(rt.alloc(), out.taken())
+}
+
+/// Whether a command over these files has this answer and this line on standard error, puts nothing, and leaves
+/// these bytes in `d`.
+pub(crate) fn is_refused(
+    rt: &(impl Threads + Sync + AllocGlobal),
+    line: &str,
+    files: Vec<(Text, Text)>,
+    kept: &[u8],
+    status: Status,
+    message: &str,
+) -> Result<bool, Fail> {
+    let mut shelf = SureShelf::of(rt.alloc(), files);
+    let mut out = SureSink::new(rt.alloc());
+    let mut err = SureSink::new(rt.alloc());
+    let found = answer(rt, line, &mut shelf, &mut out, &mut err)?;
+    Ok(
+        found == status
+            && shelf.file(b"d") == Some(kept)
+            && out.taken().is_empty()
+            && err.taken() == message.as_bytes(),
+    )
 }

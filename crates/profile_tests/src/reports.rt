@@ -2,9 +2,9 @@
 //! way in which a hart ends. The reports are written by hand from their layout. That 1,048,576 samples are
 //! taken and one more is refused is tried with the built program alone (`.ci/checks`): before they are proved
 //! tests are interpreted, and a run of so many samples then takes minutes.
-use crate::programs::{ADDING, BRANCHING, ECHO, GROUP, answer, files, program};
-use hpc_top::Status;
-use prof_devices::{SureShelf, SureSink};
+use crate::programs::{ADDING, BRANCHING, ECHO, GROUP, files, program, put_by};
+use prof_bytes::Text;
+use prof_devices::SureShelf;
 use std::alloc::Global;
 use std::test::Fail;
 use std::thread::Threads;
@@ -181,42 +181,21 @@ static RUNS: [Run; 8] = [
     },
 ];
 
-/// The files of a run on a shelf that never fails.
-fn sure_shelf(alloc: Global, run: &Run) -> Result<SureShelf, Fail> {
+/// What a run puts.
+fn put_by_run(rt: &(impl Threads + Sync + AllocGlobal), run: &Run) -> Result<Text, Fail> {
+    let alloc = rt.alloc();
     let elf = program(alloc, run.code)?;
     let files = files(alloc, elf.as_slice(), run.input, run.schedule)?;
-    Ok(SureShelf::of(alloc, files))
-}
-
-/// Whether a run is done, with just this report and nothing on standard error.
-fn is_reported(
-    rt: &(impl Threads + Sync + AllocGlobal),
-    run: &Run,
-    period: &'static str,
-    report: &[u8],
-) -> Result<bool, Fail> {
-    let alloc = rt.alloc();
-    let mut shelf = sure_shelf(alloc, run)?;
-    let mut out = SureSink::new(alloc);
-    let mut err = SureSink::new(alloc);
-    let line = format!(in alloc; "profile p i s {period} 1 d")?;
-    let status = answer(rt, line.as_str(), &mut shelf, &mut out, &mut err)?;
-    Ok(status == Status::Done && err.taken().is_empty() && out.taken() == report)
-}
-
-/// The name of the first run that has another report.
-fn other_report(rt: &(impl Threads + Sync + AllocGlobal)) -> Result<Option<&'static str>, Fail> {
-    for run in &RUNS {
-        if !is_reported(rt, run, run.period, run.report.as_bytes())? {
-            return Ok(Some(run.name));
-        }
-    }
-    Ok(None)
+    let line = format!(in alloc; "profile p i s {} 1 d", run.period)?;
+    put_by(rt, line.as_str(), &mut SureShelf::of(alloc, files))
 }
 
 #[test]
 fn reports_of_runs(rt: HostRuntime) -> Result<(), Fail> {
-    assert_eq!(rt; other_report(&rt)?, None);
+    for run in &RUNS {
+        let report = put_by_run(&rt, run)?;
+        assert!(rt; report.bytes() == run.report.as_bytes(), "{}", run.name);
+    }
     Ok(())
 }
 
@@ -256,24 +235,20 @@ fn report_of_end(alloc: Global, line: &str) -> Result<Vec<u8>, Fail> {
     Ok(report)
 }
 
-/// The first line that is another one.
-fn other_end(rt: &(impl Threads + Sync + AllocGlobal)) -> Result<Option<&'static str>, Fail> {
+#[test]
+fn other_ends_of_a_hart(rt: HostRuntime) -> Result<(), Fail> {
     for (code, line) in ENDS {
         let run = Run {
             code,
             schedule: b"harts 1\n0 9\n",
+            period: "4294967295",
             ..RUN
         };
-        let report = report_of_end(rt.alloc(), line)?;
-        if !is_reported(rt, &run, "4294967295", report.as_slice())? {
-            return Ok(Some(line));
-        }
+        let report = put_by_run(&rt, &run)?;
+        assert!(rt;
+            report.bytes() == report_of_end(rt.alloc(), line)?.as_slice(),
+            "{line}"
+        );
     }
-    Ok(None)
-}
-
-#[test]
-fn other_ends_of_a_hart(rt: HostRuntime) -> Result<(), Fail> {
-    assert_eq!(rt; other_end(&rt)?, None);
     Ok(())
 }

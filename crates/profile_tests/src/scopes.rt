@@ -8,77 +8,43 @@ fn row(table: u32, file: u32, line: u32) -> LineId {
 }
 
 /// Each scope stands before the next: by variant as written, then by field from left to right.
-static ASCENDING: [Scope; 21] = [
-    Scope::Root(RootKind::Thread),
-    Scope::Root(RootKind::Partial),
-    Scope::Proc(ProcId::Die(0)),
-    Scope::Proc(ProcId::Die(4_294_967_295)),
-    Scope::Proc(ProcId::Sym(0)),
-    Scope::Proc(ProcId::Sym(65_652)),
-    Scope::Proc(ProcId::Nameless),
-    Scope::Inline {
-        callee: ProcId::Die(1),
-        call: LineId::Row {
-            table: 0,
-            file: 1,
-            line: 9,
+fn ascending() -> [Scope; 21] {
+    [
+        Scope::Root(RootKind::Thread),
+        Scope::Root(RootKind::Partial),
+        Scope::Proc(ProcId::Die(0)),
+        Scope::Proc(ProcId::Die(4_294_967_295)),
+        Scope::Proc(ProcId::Sym(0)),
+        Scope::Proc(ProcId::Sym(65_652)),
+        Scope::Proc(ProcId::Nameless),
+        Scope::Inline {
+            callee: ProcId::Die(1),
+            call: row(0, 1, 9),
         },
-    },
-    Scope::Inline {
-        callee: ProcId::Die(1),
-        call: LineId::Address(0),
-    },
-    Scope::Inline {
-        callee: ProcId::Die(2),
-        call: LineId::Row {
-            table: 0,
-            file: 1,
-            line: 8,
+        Scope::Inline {
+            callee: ProcId::Die(1),
+            call: LineId::Address(0),
         },
-    },
-    Scope::Inline {
-        callee: ProcId::Nameless,
-        call: LineId::Row {
-            table: 0,
-            file: 0,
-            line: 0,
+        Scope::Inline {
+            callee: ProcId::Die(2),
+            call: row(0, 1, 8),
         },
-    },
-    Scope::Call(LineId::Row {
-        table: 0,
-        file: 1,
-        line: 9,
-    }),
-    Scope::Call(LineId::Row {
-        table: 0,
-        file: 2,
-        line: 1,
-    }),
-    Scope::Call(LineId::Row {
-        table: 1,
-        file: 0,
-        line: 0,
-    }),
-    Scope::Call(LineId::Row {
-        table: 1,
-        file: 0,
-        line: 1,
-    }),
-    Scope::Call(LineId::Address(4)),
-    Scope::Call(LineId::Address(5)),
-    Scope::Stmt(LineId::Row {
-        table: 0,
-        file: 0,
-        line: 0,
-    }),
-    Scope::Stmt(LineId::Row {
-        table: 0,
-        file: 0,
-        line: 1,
-    }),
-    Scope::Stmt(LineId::Address(0)),
-    Scope::Stmt(LineId::Address(4_294_967_295)),
-];
+        Scope::Inline {
+            callee: ProcId::Nameless,
+            call: row(0, 0, 0),
+        },
+        Scope::Call(row(0, 1, 9)),
+        Scope::Call(row(0, 2, 1)),
+        Scope::Call(row(1, 0, 0)),
+        Scope::Call(row(1, 0, 1)),
+        Scope::Call(LineId::Address(4)),
+        Scope::Call(LineId::Address(5)),
+        Scope::Stmt(row(0, 0, 0)),
+        Scope::Stmt(row(0, 0, 1)),
+        Scope::Stmt(LineId::Address(0)),
+        Scope::Stmt(LineId::Address(4_294_967_295)),
+    ]
+}
 
 /// Whether the first scope is less than the second, the second greater, and the first equal to itself.
 fn stands_before(a: &Scope, b: &Scope) -> bool {
@@ -87,11 +53,11 @@ fn stands_before(a: &Scope, b: &Scope) -> bool {
         && compare(a, a) == Ordering::Equal
 }
 
-/// The place of the first scope that the one before it does not stand before.
+/// The index of the first scope that the one before it does not stand before.
 fn other_scope(scopes: &[Scope]) -> Option<usize> {
-    for place in 1..scopes.len() {
-        if !stands_before(&scopes[place - 1], &scopes[place]) {
-            return Some(place);
+    for index in 1..scopes.len() {
+        if !stands_before(&scopes[index - 1], &scopes[index]) {
+            return Some(index);
         }
     }
     None
@@ -99,7 +65,7 @@ fn other_scope(scopes: &[Scope]) -> Option<usize> {
 
 #[test]
 fn each_scope_stands_before_the_next(rt: HostRuntime) {
-    assert_eq!(rt; other_scope(&ASCENDING), None);
+    assert_eq!(rt; other_scope(&ascending()), None);
 }
 
 /// Whether the first path is less than the second, the second greater and equal to itself.
@@ -109,11 +75,11 @@ fn path_stands_before(a: &[Scope], b: &[Scope]) -> bool {
         && compare_paths(b, b) == Ordering::Equal
 }
 
-/// The place of the first path that the one before it does not stand before.
+/// The index of the first path that the one before it does not stand before.
 fn other_path(paths: &[&[Scope]]) -> Option<usize> {
-    for place in 1..paths.len() {
-        if !path_stands_before(paths[place - 1], paths[place]) {
-            return Some(place);
+    for index in 1..paths.len() {
+        if !path_stands_before(paths[index - 1], paths[index]) {
+            return Some(index);
         }
     }
     None
@@ -162,9 +128,9 @@ fn keys_of_paths(rt: HostRuntime) {
 
 #[test]
 fn a_path_keeps_its_scopes(rt: HostRuntime) -> Result<(), std::test::Fail> {
-    let scopes = Vec::from_slice(rt.alloc(), &ASCENDING)?;
+    let scopes = Vec::from_slice(rt.alloc(), &ascending())?;
     let path = ScopePath::of(scopes);
-    assert!(rt; path.scopes() == ASCENDING.as_slice());
+    assert!(rt; path.scopes() == ascending().as_slice());
     order_laws();
     Ok(())
 }

@@ -1,7 +1,6 @@
 //! What `struct` puts: the structure of a program. The text is written by hand from its layout.
 use crate::debug_programs::WITH_INLINES;
-use crate::measurements::put_by;
-use crate::programs::files;
+use crate::programs::{files, put_by};
 use prof_devices::SureShelf;
 use std::test::Fail;
 

@@ -1,13 +1,13 @@
 //! What `view` puts: the three tables of a database that is written by hand, and of databases that `profile` stored.
 //! The tables are written by hand from their layout.
+use crate::attribution::LINES;
 use crate::call_paths::{RECURSION, SEVEN_FRAMES};
 use crate::databases::database_of_four;
 use crate::debug_programs::WITH_ENTRIES;
-use crate::measurements::{TABLE, put_by};
-use crate::programs::files;
+use crate::measurements::TABLE;
+use crate::programs::{database_alone, files, put_by};
 use prof_bytes::Text;
 use prof_devices::SureShelf;
-use std::alloc::Global;
 use std::test::Fail;
 use std::thread::Threads;
 
@@ -54,14 +54,6 @@ const RECURSION_FLAT: &str = "       inclusive      %        exclusive  scope
 ";
 
 /// Lines of a file, and an address without one.
-const LINES_TOP: &str = "       inclusive      %            frame  scope
-               7  100.0                0  <thread root>
-               7  100.0                7    <unknown procedure>
-               2   28.5                2      /s/a.c:7
-               4   57.1                4      /s/a.c:8
-               1   14.2                1      0x00010018
-";
-
 const LINES_FLAT: &str = "       inclusive      %        exclusive  scope
                6   85.7                6  /s/a.c
                6   85.7                6    <unknown procedure>
@@ -72,44 +64,27 @@ const LINES_FLAT: &str = "       inclusive      %        exclusive  scope
                1   14.2                1      0x00010018
 ";
 
-/// A shelf with a database `d`.
-pub(crate) fn database_alone(alloc: Global, database: &[u8]) -> Result<Vec<(Text, Text)>, Fail> {
-    let mut files = Vec::new(alloc);
-    let name = Text::of(alloc, b"d").ok().ok_or("memory")?;
-    let bytes = Text::of(alloc, database).ok().ok_or("memory")?;
-    files.push((name, bytes))?;
-    Ok(files)
-}
-
 static VIEWS_OF_FOUR: [(&str, &str); 3] = [
     ("view d top", TABLE),
     ("view d callers", FOUR_CALLERS),
     ("view d flat", FOUR_FLAT),
 ];
 
-/// The first command that puts another table, or changes the database.
-fn other_view_of_four(
-    rt: &(impl Threads + Sync + AllocGlobal),
-) -> Result<Option<&'static str>, Fail> {
+#[test]
+fn tables_of_a_database(rt: HostRuntime) -> Result<(), Fail> {
     let database = database_of_four(rt.alloc())?;
     let files = database_alone(rt.alloc(), database.as_slice())?;
     let mut shelf = SureShelf::of(rt.alloc(), files);
     for (words, table) in &VIEWS_OF_FOUR {
-        let text = put_by(rt, words, &mut shelf)?;
-        if text.bytes() != table.as_bytes() || shelf.file(b"d") != Some(database.as_slice()) {
-            return Ok(Some(words));
-        }
+        let text = put_by(&rt, words, &mut shelf)?;
+        assert!(rt; text.bytes() == table.as_bytes(), "{words}");
+        assert!(rt; shelf.file(b"d") == Some(database.as_slice()), "{words}");
     }
-    Ok(None)
-}
-
-#[test]
-fn tables_of_a_database(rt: HostRuntime) -> Result<(), Fail> {
-    assert_eq!(rt; other_view_of_four(&rt)?, None);
     Ok(())
 }
 
 /// A program that is profiled, and a table of its database.
+#[derive(Clone, Copy)]
 struct Shown {
     name: &'static str,
     file: &'static [u8],
@@ -119,39 +94,33 @@ struct Shown {
     table: &'static str,
 }
 
-static SHOWN: [Shown; 4] = [
-    Shown {
-        name: "callers of a recursion",
-        file: RECURSION,
-        schedule: b"harts 1\n0 1000\n",
-        profile: "profile p i s 31 1 d",
-        view: "view d callers",
-        table: RECURSION_CALLERS,
-    },
+const RECURSED: Shown = Shown {
+    name: "callers of a recursion",
+    file: RECURSION,
+    schedule: b"harts 1\n0 1000\n",
+    profile: "profile p i s 31 1 d",
+    view: "view d callers",
+    table: RECURSION_CALLERS,
+};
+
+const LINED: Shown = Shown {
+    name: "the flat table of lines",
+    file: WITH_ENTRIES,
+    schedule: b"harts 1\n0 7\n",
+    profile: "profile p i s 1 1 d",
+    view: "view d flat",
+    table: LINES_FLAT,
+};
+
+static SHOWN: [Shown; 3] = [
+    RECURSED,
     Shown {
         name: "the flat table of a recursion",
-        file: RECURSION,
-        schedule: b"harts 1\n0 1000\n",
-        profile: "profile p i s 31 1 d",
         view: "view d flat",
         table: RECURSION_FLAT,
+        ..RECURSED
     },
-    Shown {
-        name: "the flat table of lines",
-        file: WITH_ENTRIES,
-        schedule: b"harts 1\n0 7\n",
-        profile: "profile p i s 1 1 d",
-        view: "view d flat",
-        table: LINES_FLAT,
-    },
-    Shown {
-        name: "the top-down table of lines",
-        file: WITH_ENTRIES,
-        schedule: b"harts 1\n0 7\n",
-        profile: "profile p i s 1 1 d",
-        view: "view d top",
-        table: LINES_TOP,
-    },
+    LINED,
 ];
 
 /// What a profile and then a view of its database put.
@@ -166,42 +135,39 @@ fn put_by_both(
     Ok((report, table))
 }
 
-/// The name of the first row with another table.
-fn other_table(rt: &(impl Threads + Sync + AllocGlobal)) -> Result<Option<&'static str>, Fail> {
-    for row in &SHOWN {
-        let (_, table) = put_by_both(rt, row)?;
-        if table.bytes() != row.table.as_bytes() {
-            return Ok(Some(row.name));
-        }
-    }
-    Ok(None)
-}
-
 #[test]
 fn tables_of_profiles(rt: HostRuntime) -> Result<(), Fail> {
-    assert_eq!(rt; other_table(&rt)?, None);
+    for row in &SHOWN {
+        let (_, table) = put_by_both(&rt, row)?;
+        assert!(rt; table.bytes() == row.table.as_bytes(), "{}", row.name);
+    }
     Ok(())
 }
 
 /// A report ends with the table that its database has.
-static REPORTED: Shown = Shown {
-    name: "the report's table",
-    file: RECURSION,
-    schedule: b"harts 1\n0 1000\n",
-    profile: "profile p i s 31 1 d",
-    view: "view d top",
-    table: SEVEN_FRAMES,
-};
+static REPORTED: [Shown; 2] = [
+    Shown {
+        name: "the top-down table of a recursion",
+        view: "view d top",
+        table: SEVEN_FRAMES,
+        ..RECURSED
+    },
+    Shown {
+        name: "the top-down table of lines",
+        view: "view d top",
+        table: LINES,
+        ..LINED
+    },
+];
 
 #[test]
 fn the_table_of_a_report(rt: HostRuntime) -> Result<(), Fail> {
-    let (report, table) = put_by_both(&rt, &REPORTED)?;
-    assert!(rt; report.bytes() == SEVEN_FRAMES.as_bytes());
-    assert!(rt;
-        table
-            .bytes()
-            .starts_with(b"       inclusive      %            frame  scope\n")
-    );
-    assert!(rt; report.bytes().ends_with(table.bytes()));
+    let header = b"       inclusive      %            frame  scope\n";
+    for row in &REPORTED {
+        let (report, table) = put_by_both(&rt, row)?;
+        assert!(rt; report.bytes() == row.table.as_bytes(), "{}", row.name);
+        assert!(rt; table.bytes().starts_with(header), "{}", row.name);
+        assert!(rt; report.bytes().ends_with(table.bytes()), "{}", row.name);
+    }
     Ok(())
 }

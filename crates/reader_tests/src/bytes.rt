@@ -49,22 +49,22 @@ static SIGNED: [(&[u8], Option<i64>, usize); 9] = [
     ),
 ];
 
-/// The place of the first row whose number is read otherwise.
+/// The index of the first row whose number is read otherwise.
 fn other_unsigned() -> Option<usize> {
-    for (place, (bytes, value, count)) in UNSIGNED.iter().enumerate() {
+    for (index, (bytes, value, count)) in UNSIGNED.iter().enumerate() {
         let mut cursor = Cursor::at(bytes, 0);
         if cursor.uleb() != *value || cursor.place() != *count {
-            return Some(place);
+            return Some(index);
         }
     }
     None
 }
 
 fn other_signed() -> Option<usize> {
-    for (place, (bytes, value, count)) in SIGNED.iter().enumerate() {
+    for (index, (bytes, value, count)) in SIGNED.iter().enumerate() {
         let mut cursor = Cursor::at(bytes, 0);
         if cursor.sleb() != *value || cursor.place() != *count {
-            return Some(place);
+            return Some(index);
         }
     }
     None

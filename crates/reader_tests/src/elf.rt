@@ -105,7 +105,7 @@ fn other_short_file(alloc: Global) -> Result<Option<usize>, Memory> {
     other_front(alloc, &file)
 }
 
-/// Whether a file that ends within its section headers is refused by their place.
+/// Whether a file that ends within its section headers is refused by their offset.
 fn cut_sections_are_refused(alloc: Global) -> Result<bool, Memory> {
     let file = bytes_of(alloc, files::recursive())?;
     answer_is(alloc, file.get(..473).unwrap_or(&[]), b"HeaderPlace 32")

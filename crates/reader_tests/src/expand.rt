@@ -1,52 +1,17 @@
 //! Call paths of a worked program with inlined code in two pieces, two levels deep, by its debug information; and that
 //! a path is the same whatever an expander's memo keeps.
+use crate::program::{Sections, UNREADABLE, Unread, image_of, info_of, lines_of, structure_of};
 use crate::rows::bytes_of;
-use dwarf_info::{Info, read_info};
-use dwarf_inline::{Structure, read_structure};
-use dwarf_line::{LineTable, read_lines};
-use elf_image::{DebugParts, Image, read_image};
+use crate::worked::{FILE, LINE, SECTIONS};
+use dwarf_inline::Structure;
+use dwarf_line::LineTable;
+use elf_image::Image;
 use prof_bytes::Memory;
 use scope_expand::Expander;
 use scope_find::Finder;
 use scope_types::{End, Expand, Frame, LineId, PartialCause, ProcId, RawPath, RootKind, Scope};
 use std::alloc::Global;
 use std::test::Fail;
-
-/// The most bytes of a file or a section here.
-const SIZE_LIMIT: usize = 4_096;
-
-/// 21 instructions from 0x10000 on.
-const FILE: &[u8] = b"\
-    7f454c460101010000000000000000000200f300010000000000010034000000000000000000000034002000\
-    0100280000000000010000005400000000000100000001005400000054000000050000000400000013051500\
-    1305150013051500130515001305150013051500130515001305150013051500130515001305150013051500\
-    130515001305150013051500130515001305150013051500130515009308d00573000000";
-
-/// `.debug_line`: line 7 from 0x10000 on, line 8 from 0x10008 to 0x10018, and no line behind.
-const LINE: &[u8] = b"\
-    450000000500040024000000010101fb0e0d000101010100000001000001010108012f7300020108020b0161\
-    2e63000004000005020000010003020103040102080301010210000101";
-
-/// `.debug_info`: `inner` at 0x11, `outer` at 0x19, and `main` at 0x21, into which both are inlined.
-const INFO: &[u8] = b"\
-    480000000500010400000000010000000002696e6e65720001026f757465720001036d61696e000000010054\
-    00000004190000000c000000000305110000002400010008000000000b000000";
-
-const ABBREV: &[u8] = b"\
-    01110110170000022e000308200b0000032e010308110112060000041d0131135517580b590b0000051d0031\
-    1311011206580b590b000000";
-
-const RNGLISTS: &[u8] = b"\
-    15000000050004000000000007080001000807200001001000";
-
-/// A case whose program can't be read, or whose path has too many frames.
-#[derive(Clone, Copy, Debug)]
-struct Unreadable;
-
-/// Why a case gives no answer.
-type Unread = prof_bytes::Fail<Unreadable>;
-
-const UNREADABLE: Unread = prof_bytes::Fail::Fault(Unreadable);
 
 /// A raw path whose frames stand at these addresses, the innermost first.
 fn raw_of(alloc: Global, end: End, pcs: &[u32]) -> Result<RawPath, Unread> {
@@ -60,53 +25,39 @@ fn raw_of(alloc: Global, end: End, pcs: &[u32]) -> Result<RawPath, Unread> {
     Ok(RawPath::of(end, frames))
 }
 
-/// The file of each line is the table's first.
-const LINE_3: LineId = LineId::Row {
-    table: 0,
-    file: 0,
-    line: 3,
-};
-
-const LINE_7: LineId = LineId::Row {
-    table: 0,
-    file: 0,
-    line: 7,
-};
-
-const LINE_8: LineId = LineId::Row {
-    table: 0,
-    file: 0,
-    line: 8,
-};
-
-const LINE_11: LineId = LineId::Row {
-    table: 0,
-    file: 0,
-    line: 11,
-};
+/// A line of the table's first file.
+fn line(line: u32) -> LineId {
+    LineId::Row {
+        table: 0,
+        file: 0,
+        line,
+    }
+}
 
 /// Three frames: at line 7; at line 8 within `outer`; and, where no line is known, within `inner` within `outer`.
-static NESTED: [Scope; 10] = [
-    Scope::Root(RootKind::Partial),
-    Scope::Proc(ProcId::Die(0x21)),
-    Scope::Call(LINE_7),
-    Scope::Proc(ProcId::Die(0x21)),
-    Scope::Inline {
-        callee: ProcId::Die(0x19),
-        call: LINE_3,
-    },
-    Scope::Call(LINE_8),
-    Scope::Proc(ProcId::Die(0x21)),
-    Scope::Inline {
-        callee: ProcId::Die(0x19),
-        call: LINE_3,
-    },
-    Scope::Inline {
-        callee: ProcId::Die(0x11),
-        call: LINE_11,
-    },
-    Scope::Stmt(LineId::Address(0x1_0024)),
-];
+fn nested() -> [Scope; 10] {
+    [
+        Scope::Root(RootKind::Partial),
+        Scope::Proc(ProcId::Die(0x21)),
+        Scope::Call(line(7)),
+        Scope::Proc(ProcId::Die(0x21)),
+        Scope::Inline {
+            callee: ProcId::Die(0x19),
+            call: line(3),
+        },
+        Scope::Call(line(8)),
+        Scope::Proc(ProcId::Die(0x21)),
+        Scope::Inline {
+            callee: ProcId::Die(0x19),
+            call: line(3),
+        },
+        Scope::Inline {
+            callee: ProcId::Die(0x11),
+            call: line(11),
+        },
+        Scope::Stmt(LineId::Address(0x1_0024)),
+    ]
+}
 
 /// No procedure and no line.
 static OUTSIDE: [Scope; 3] = [
@@ -157,8 +108,8 @@ fn other_in_turn(alloc: Global, expander: &Expander<'_>) -> Result<Option<u32>, 
 /// The name of the first case that fails.
 fn failing(alloc: Global, expander: &Expander<'_>) -> Result<Option<&'static str>, Unread> {
     let end = End::Partial(PartialCause::NoFde);
-    let nested = raw_of(alloc, end, &[0x1_0024, 0x1_000c, 0x1_0004])?;
-    if !is_path(expander, &nested, &NESTED)? {
+    let raw = raw_of(alloc, end, &[0x1_0024, 0x1_000c, 0x1_0004])?;
+    if !is_path(expander, &raw, &nested())? {
         return Ok(Some("inlined calls of a caller and of the innermost frame"));
     }
     let outside = raw_of(alloc, End::Whole, &[0x2_0000])?;
@@ -171,38 +122,7 @@ fn failing(alloc: Global, expander: &Expander<'_>) -> Result<Option<&'static str
     Ok(other_in_turn(alloc, expander)?.map(|_| "5,000 addresses in turn"))
 }
 
-fn image_of(alloc: Global, file: &[u8]) -> Result<Image<'_>, Unread> {
-    if file.len() > SIZE_LIMIT {
-        return Err(UNREADABLE);
-    }
-    read_image(alloc, file).map_err(|_| UNREADABLE)
-}
-
-fn info_of<'a>(alloc: Global, sections: DebugParts<'a>) -> Result<Info<'a>, Unread> {
-    if sections.info.len() > SIZE_LIMIT || sections.rnglists.len() > SIZE_LIMIT {
-        return Err(UNREADABLE);
-    }
-    read_info(alloc, sections).map_err(|_| UNREADABLE)
-}
-
-/// The lines, whose names stand in the table itself.
-fn lines_of<'a>(alloc: Global, line: &'a [u8], image: &Image<'_>) -> Result<LineTable<'a>, Unread> {
-    if line.len() > SIZE_LIMIT {
-        return Err(UNREADABLE);
-    }
-    let texts = DebugParts {
-        info: &[],
-        abbrev: &[],
-        str_bytes: &[],
-        line_str: &[],
-        str_offsets: &[],
-        addr: &[],
-        rnglists: &[],
-    };
-    read_lines(alloc, line, texts, image, &[0]).map_err(|_| UNREADABLE)
-}
-
-/// The name of the first case that fails in the program of these parts.
+/// The name of the first case that fails in a program.
 fn failing_of(
     alloc: Global,
     structure: &Structure<'_>,
@@ -213,37 +133,23 @@ fn failing_of(
     failing(alloc, &Expander::of(alloc, &finder))
 }
 
-/// The name of the first case that fails in the program of these bytes.
-fn failing_in(
-    alloc: Global,
-    file: &[u8],
-    line: &[u8],
-    sections: DebugParts<'_>,
-) -> Result<Option<&'static str>, Unread> {
-    let image = image_of(alloc, file)?;
+/// The name of the first case that fails in the worked program.
+fn failing_in_worked(alloc: Global) -> Result<Option<&'static str>, Unread> {
+    failing_by(alloc, &Sections::of(alloc, LINE, SECTIONS)?)
+}
+
+/// The same with the sections of its debug information.
+fn failing_by(alloc: Global, sections: &Sections) -> Result<Option<&'static str>, Unread> {
+    let file = bytes_of(alloc, FILE)?;
+    let image = image_of(alloc, &file)?;
     let info = info_of(alloc, sections)?;
-    let lines = lines_of(alloc, line, &image)?;
-    let structure = read_structure(alloc, &info, &lines, &image).map_err(|_| UNREADABLE)?;
+    let lines = lines_of(alloc, sections, &image, &[0])?;
+    let structure = structure_of(alloc, &info, &lines, &image)?;
     failing_of(alloc, &structure, &lines, &image)
 }
 
 #[test]
 fn paths_of_inlined_code_with_any_memo(rt: HostRuntime) -> Result<(), Fail> {
-    let alloc = rt.alloc();
-    let file = bytes_of(alloc, FILE)?;
-    let line = bytes_of(alloc, LINE)?;
-    let info = bytes_of(alloc, INFO)?;
-    let abbrev = bytes_of(alloc, ABBREV)?;
-    let rnglists = bytes_of(alloc, RNGLISTS)?;
-    let sections = DebugParts {
-        info: &info,
-        abbrev: &abbrev,
-        str_bytes: &[],
-        line_str: &[],
-        str_offsets: &[],
-        addr: &[],
-        rnglists: &rnglists,
-    };
-    assert_eq!(rt; failing_in(alloc, &file, &line, sections)?, None);
+    assert_eq!(rt; failing_in_worked(rt.alloc())?, None);
     Ok(())
 }

@@ -1,10 +1,10 @@
-use crate::rows::{bytes_of, cut, number};
+use crate::program::{UNREADABLE, Unread, image_of, table_of};
+use crate::rows::{bytes_of, cut, number, replaced};
 use cfi_table::{
     Cfa, DW_CFA_GNU_args_size, DW_CFA_def_cfa_expression, DW_CFA_def_cfa_offset,
     DW_CFA_def_cfa_register, DW_CFA_expression, DW_CFA_nop, DW_CFA_offset, DW_CFA_register,
-    DW_CFA_remember_state, DW_CFA_restore_state, FrameFault, FrameTable, Rule, read_frames,
+    DW_CFA_remember_state, DW_CFA_restore_state, FrameTable, Rule, read_frames,
 };
-use elf_image::{Image, read_image};
 use prof_bytes::Memory;
 use std::alloc::Global;
 use std::fmt::Write;
@@ -13,22 +13,9 @@ use std::test::Fail;
 mod sections;
 
 /// A program of one segment, executable, from 0x10000 up to 0x11000, and nothing in it.
-fn program() -> &'static [u8] {
-    b"\
+const PROGRAM: &[u8] = b"\
     7f454c460101010000000000000000000200f300010000000000010034000000000000000000000034002000\
-    01002800000000000100000054000000000001000000010000000000001000000500000004000000"
-}
-
-fn frames(
-    alloc: Global,
-    section: &[u8],
-    image: &Image<'_>,
-) -> Result<FrameTable, prof_bytes::Fail<FrameFault>> {
-    if section.len() >= 1 << 31 {
-        return Err(prof_bytes::Fail::Fault(FrameFault { offset: u32::MAX }));
-    }
-    read_frames(alloc, section, image)
-}
+    01002800000000000100000054000000000001000000010000000000001000000500000004000000";
 
 fn with_offset(out: &mut String, letter: &str, offset: u32) -> Result<(), Memory> {
     if offset < 1 << 31 {
@@ -113,20 +100,37 @@ fn failing(alloc: Global, table: &FrameTable, rows: &[u8]) -> Result<Option<u32>
     Ok(Some(999))
 }
 
-/// The number of the first row that does not hold of a section of the program; 0 where the section is at
-/// fault.
-fn failing_rules(
-    alloc: Global,
-    image: &Image<'_>,
-    hex: &[u8],
-    rows: &[u8],
-) -> Result<Option<u32>, Memory> {
+/// The number of the first row that does not hold of a section of the program.
+fn failing_rules(alloc: Global, hex: &[u8], rows: &[u8]) -> Result<Option<u32>, Unread> {
+    let file = bytes_of(alloc, PROGRAM)?;
+    let image = image_of(alloc, &file)?;
     let section = bytes_of(alloc, hex)?;
-    match frames(alloc, &section, image) {
-        Ok(table) => failing(alloc, &table, rows),
-        Err(prof_bytes::Fail::Fault(_)) => Ok(Some(0)),
-        Err(prof_bytes::Fail::Memory(memory)) => Err(memory),
-    }
+    let table = table_of(alloc, &section, &image)?;
+    Ok(failing(alloc, &table, rows)?)
+}
+
+#[test]
+fn rules_of_gcc(rt: HostRuntime) -> Result<(), Fail> {
+    let other = failing_rules(rt.alloc(), sections::gcc(), sections::gcc_rules())?;
+    assert_eq!(rt; other, None);
+    Ok(())
+}
+
+#[test]
+fn rules_of_clang(rt: HostRuntime) -> Result<(), Fail> {
+    let other = failing_rules(rt.alloc(), sections::clang(), sections::clang_rules())?;
+    assert_eq!(rt; other, None);
+    Ok(())
+}
+
+#[test]
+fn rules_of_every_directive(rt: HostRuntime) -> Result<(), Fail> {
+    let rules = sections::directives_rules();
+    assert_eq!(rt;
+        failing_rules(rt.alloc(), sections::directives(), rules)?,
+        None
+    );
+    Ok(())
 }
 
 /// A row's name, bytes of the section that are others, and what is answered: the first fault's offset, or
@@ -281,46 +285,40 @@ fn answer_of(alloc: Global, table: &FrameTable) -> Result<String, Memory> {
     }
 }
 
-fn answer(alloc: Global, section: &[u8], image: &Image<'_>) -> Result<String, Memory> {
-    match frames(alloc, section, image) {
-        Ok(table) => answer_of(alloc, &table),
-        Err(prof_bytes::Fail::Memory(memory)) => Err(memory),
+/// The same in a section, or its fault.
+fn answer(alloc: Global, section: &[u8]) -> Result<String, Unread> {
+    let file = bytes_of(alloc, PROGRAM)?;
+    let image = image_of(alloc, &file)?;
+    if section.len() > 4096 {
+        return Err(UNREADABLE);
+    }
+    match read_frames(alloc, section, &image) {
+        Ok(table) => Ok(answer_of(alloc, &table)?),
+        Err(prof_bytes::Fail::Memory(memory)) => Err(prof_bytes::Fail::Memory(memory)),
         Err(prof_bytes::Fail::Fault(fault)) => Ok(format!(in alloc; "fault {}", fault.offset)?),
     }
 }
 
-/// The section with some bytes that are others.
-fn section_with(alloc: Global, changes: &[(usize, u8)]) -> Result<Vec<u8>, Memory> {
-    let mut section = bytes_of(alloc, sections::recursive())?;
-    for (offset, value) in changes {
-        if let Some(byte) = section.get_mut(*offset) {
-            *byte = *value;
-        }
-    }
-    Ok(section)
+/// Whether the section with these changes is answered so.
+fn is_answered(alloc: Global, changes: &[(usize, u8)], wanted: &str) -> Result<bool, Unread> {
+    let section = replaced(alloc, sections::recursive(), changes)?;
+    Ok(answer(alloc, &section)?.as_str() == wanted)
 }
 
-fn change_holds(
-    alloc: Global,
-    image: &Image<'_>,
-    changes: &[(usize, u8)],
-    wanted: &str,
-) -> Result<bool, Memory> {
-    let section = section_with(alloc, changes)?;
-    let found = answer(alloc, &section, image)?;
-    Ok(found.as_str() == wanted)
-}
-
-/// The number, from 1, of the first change that is answered in another way.
-fn failing_change(alloc: Global, image: &Image<'_>) -> Result<Option<u32>, Memory> {
-    let mut number = 1u32;
-    for (_, changes, wanted) in &CHANGES {
-        if !change_holds(alloc, image, changes, wanted)? {
-            return Ok(Some(number));
+/// The first change that is answered in another way.
+fn other_change(alloc: Global) -> Result<Option<&'static str>, Unread> {
+    for (name, changes, wanted) in &CHANGES {
+        if !is_answered(alloc, changes, wanted)? {
+            return Ok(Some(name));
         }
-        number = number.wrapping_add(1);
     }
     Ok(None)
+}
+
+#[test]
+fn faults_by_their_places(rt: HostRuntime) -> Result<(), Fail> {
+    assert_eq!(rt; other_change(rt.alloc())?, None);
+    Ok(())
 }
 
 /// Addresses, and how many bytes the rules there are made from: 3 of the CIE and 12 of the FDE.
@@ -342,86 +340,12 @@ fn other_bytes(table: &FrameTable) -> Option<u32> {
     None
 }
 
-/// The first address of the recursive program whose rules are made from another number of bytes.
-fn failing_bytes(alloc: Global, image: &Image<'_>) -> Result<Option<u32>, Memory> {
-    let section = bytes_of(alloc, sections::recursive())?;
-    match frames(alloc, &section, image) {
-        Ok(table) => Ok(other_bytes(&table)),
-        Err(prof_bytes::Fail::Fault(_)) => Ok(Some(0)),
-        Err(prof_bytes::Fail::Memory(memory)) => Err(memory),
-    }
-}
-
-/// The rows that are asked of the program.
-#[derive(Clone, Copy)]
-enum Rows {
-    Gcc,
-    Clang,
-    Directives,
-    Faults,
-    Bytes,
-}
-
-/// The number or the address of the first row that does not hold of the program.
-fn failing_of(alloc: Global, image: &Image<'_>, rows: Rows) -> Result<Option<u32>, Memory> {
-    match rows {
-        Rows::Gcc => failing_rules(alloc, image, sections::gcc(), sections::gcc_rules()),
-        Rows::Clang => failing_rules(alloc, image, sections::clang(), sections::clang_rules()),
-        Rows::Directives => failing_rules(
-            alloc,
-            image,
-            sections::directives(),
-            sections::directives_rules(),
-        ),
-        Rows::Faults => failing_change(alloc, image),
-        Rows::Bytes => failing_bytes(alloc, image),
-    }
-}
-
-/// The number or the address of the first row that does not hold of the program in this file.
-fn failing_in(alloc: Global, file: &[u8], rows: Rows) -> Result<Option<u32>, Memory> {
-    if file.len() > 1 << 26 {
-        return Ok(Some(0));
-    }
-    match read_image(alloc, file) {
-        Ok(image) => failing_of(alloc, &image, rows),
-        Err(prof_bytes::Fail::Fault(_)) => Ok(Some(0)),
-        Err(prof_bytes::Fail::Memory(memory)) => Err(memory),
-    }
-}
-
-/// The number or the address of the first row that does not hold.
-fn first_failing(alloc: Global, rows: Rows) -> Result<Option<u32>, Memory> {
-    let file = bytes_of(alloc, program())?;
-    failing_in(alloc, &file, rows)
-}
-
-#[test]
-fn rules_of_gcc(rt: HostRuntime) -> Result<(), Fail> {
-    assert_eq!(rt; first_failing(rt.alloc(), Rows::Gcc)?, None);
-    Ok(())
-}
-
-#[test]
-fn rules_of_clang(rt: HostRuntime) -> Result<(), Fail> {
-    assert_eq!(rt; first_failing(rt.alloc(), Rows::Clang)?, None);
-    Ok(())
-}
-
-#[test]
-fn rules_of_every_directive(rt: HostRuntime) -> Result<(), Fail> {
-    assert_eq!(rt; first_failing(rt.alloc(), Rows::Directives)?, None);
-    Ok(())
-}
-
-#[test]
-fn faults_by_their_places(rt: HostRuntime) -> Result<(), Fail> {
-    assert_eq!(rt; first_failing(rt.alloc(), Rows::Faults)?, None);
-    Ok(())
-}
-
 #[test]
 fn bytes_of_instructions(rt: HostRuntime) -> Result<(), Fail> {
-    assert_eq!(rt; first_failing(rt.alloc(), Rows::Bytes)?, None);
+    let file = bytes_of(rt.alloc(), PROGRAM)?;
+    let section = bytes_of(rt.alloc(), sections::recursive())?;
+    let image = image_of(rt.alloc(), &file)?;
+    let table = table_of(rt.alloc(), &section, &image)?;
+    assert_eq!(rt; other_bytes(&table), None);
     Ok(())
 }

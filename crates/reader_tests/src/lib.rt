@@ -22,6 +22,8 @@ mod lines;
 #[cfg(test)]
 mod listing;
 #[cfg(test)]
+mod program;
+#[cfg(test)]
 mod ranges;
 #[cfg(test)]
 mod rows;
@@ -31,3 +33,5 @@ mod scopes;
 mod structure;
 #[cfg(test)]
 mod unwinding;
+#[cfg(test)]
+mod worked;

@@ -56,16 +56,36 @@ fn change(bytes: &mut Vec<u8>, word: &[u8]) {
     }
 }
 
-/// The bytes of these digits with up to nine changes, as `0=0 3=102` says.
-pub(crate) fn changed(alloc: Global, hex: &[u8], words: &[u8]) -> Result<Vec<u8>, Memory> {
-    let mut bytes = bytes_of(alloc, hex)?;
+/// Makes up to nine changes, as `0=0 3=102` says.
+pub(crate) fn change_each(bytes: &mut Vec<u8>, words: &[u8]) {
     let mut words = words;
     for _ in 0..9 {
         let (word, rest) = cut(words, b' ');
         if !word.is_empty() {
-            change(&mut bytes, word);
+            change(bytes, word);
         }
         words = rest;
+    }
+}
+
+/// The bytes of these digits with such changes.
+pub(crate) fn changed(alloc: Global, hex: &[u8], words: &[u8]) -> Result<Vec<u8>, Memory> {
+    let mut bytes = bytes_of(alloc, hex)?;
+    change_each(&mut bytes, words);
+    Ok(bytes)
+}
+
+/// The bytes of these digits, of which some are others.
+pub(crate) fn replaced(
+    alloc: Global,
+    hex: &[u8],
+    others: &[(usize, u8)],
+) -> Result<Vec<u8>, Memory> {
+    let mut bytes = bytes_of(alloc, hex)?;
+    for (offset, value) in others {
+        if let Some(byte) = bytes.get_mut(*offset) {
+            *byte = *value;
+        }
     }
     Ok(bytes)
 }

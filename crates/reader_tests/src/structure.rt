@@ -2,36 +2,29 @@
 //! and 7.
 ghost use Rattle.std.specs.Prelude.{◌<◌, length};
 
-use crate::rows::{bytes_of, changed};
-use dwarf_info::read_info;
+use crate::program::{Sections, Unread, image_of, info_of, lines_of};
+use crate::rows::{bytes_of, change_each};
+use crate::worked::{FILE, LINE, SECTIONS};
+use Wanted::{Count, Fault, Rows};
+use dwarf_inline::StructureFault::{LinkCycle, TooDeep};
 use dwarf_inline::{Item, Structure, StructureFault, read_structure};
-use dwarf_line::read_lines;
-use elf_image::{DebugParts, Image, read_image};
 use prof_bytes::Memory;
 use scope_types::LineId;
 use std::alloc::Global;
 use std::test::Fail;
 
-mod worked;
-
-/// The most bytes of a section.
-const SIZE_LIMIT: usize = 4096;
-
-/// What an item is to be.
-struct Row {
-    item: Item,
-    name: &'static [u8],
-    ranges: &'static [(u32, u32)],
-}
-
-/// The sections of a program.
-#[derive(Drop)]
-struct Sections {
-    info: Vec<u8>,
-    abbrev: Vec<u8>,
-    rnglists: Vec<u8>,
-    line: Vec<u8>,
-}
+/// What an item is to be: its offset, where its last descendant's number ends, its identity, the line of its call if it is
+/// an inlined subroutine, the number of its first range, its name, and its ranges. A call's line is of the file 0 of the
+/// table at 0.
+type Row = (
+    u32,
+    u32,
+    u32,
+    Option<u32>,
+    u64,
+    &'static [u8],
+    &'static [(u32, u32)],
+);
 
 /// What is asked of a structure.
 #[derive(Drop)]
@@ -39,6 +32,28 @@ enum Wanted {
     Rows(&'static [Row]),
     Count(u32),
     Fault(StructureFault),
+}
+
+/// The item of a row.
+fn item_of(row: &Row) -> Item {
+    let (offset, after, identity, line, first, _, ranges) = *row;
+    let call = match line {
+        Some(line) => Some(LineId::Row {
+            table: 0,
+            file: 0,
+            line,
+        }),
+        None => None,
+    };
+    Item {
+        offset,
+        inlined: call.is_some(),
+        after,
+        identity,
+        call,
+        first,
+        ranges: u32::try_from(ranges.len()).unwrap_or(0),
+    }
 }
 
 fn ranges_are(structure: &Structure<'_>, at: u32, wanted: &[(u32, u32)]) -> bool
@@ -65,9 +80,9 @@ fn rows_are(structure: &Structure<'_>, rows: &[Row]) -> bool {
     for at in 0..count {
         let row = &rows[at as usize];
         let item = structure.item(at);
-        if item != row.item
-            || structure.proc_name(item.identity) != row.name
-            || !ranges_are(structure, at, row.ranges)
+        if item != item_of(row)
+            || structure.proc_name(item.identity) != row.5
+            || !ranges_are(structure, at, row.6)
         {
             return false;
         }
@@ -83,83 +98,51 @@ fn is_wanted(structure: &Structure<'_>, wanted: &Wanted) -> bool {
     }
 }
 
-fn holds_in(
-    alloc: Global,
-    image: &Image<'_>,
-    sections: &Sections,
-    wanted: &Wanted,
-) -> Result<bool, Memory> {
-    if sections.info.len() > SIZE_LIMIT
-        || sections.rnglists.len() > SIZE_LIMIT
-        || sections.line.len() > SIZE_LIMIT
-    {
-        return Ok(false);
-    }
-    let parts = DebugParts {
-        info: &sections.info,
-        abbrev: &sections.abbrev,
-        str_bytes: &[],
-        line_str: &[],
-        str_offsets: &[],
-        addr: &[],
-        rnglists: &sections.rnglists,
-    };
-    let Ok(info) = read_info(alloc, parts) else {
-        return Ok(false);
-    };
-    let Ok(lines) = read_lines(alloc, &sections.line, parts, image, &[0]) else {
-        return Ok(false);
-    };
-    match read_structure(alloc, &info, &lines, image) {
+/// Whether the structure of a program with these sections is the wanted one. Its code is that of the worked program.
+fn holds(alloc: Global, sections: &Sections, wanted: &Wanted) -> Result<bool, Unread> {
+    let file = bytes_of(alloc, FILE)?;
+    let image = image_of(alloc, &file)?;
+    let info = info_of(alloc, sections)?;
+    let lines = lines_of(alloc, sections, &image, &[0])?;
+    match read_structure(alloc, &info, &lines, &image) {
         Ok(structure) => Ok(is_wanted(&structure, wanted)),
-        Err(prof_bytes::Fail::Memory(memory)) => Err(memory),
+        Err(prof_bytes::Fail::Memory(memory)) => Err(prof_bytes::Fail::Memory(memory)),
         Err(prof_bytes::Fail::Fault(fault)) => match wanted {
-            Wanted::Fault(other) => Ok(fault == *other),
+            Fault(other) => Ok(fault == *other),
             _ => Ok(false),
         },
     }
 }
 
-/// Whether the structure of a program with these sections is the wanted one. Its code is that of the worked program.
-fn holds(alloc: Global, sections: &Sections, wanted: &Wanted) -> Result<bool, Memory> {
-    let file = bytes_of(alloc, worked::program())?;
-    if file.len() > SIZE_LIMIT {
-        return Ok(false);
-    }
-    match read_image(alloc, &file) {
-        Ok(image) => holds_in(alloc, &image, sections, wanted),
-        Err(_) => Ok(false),
-    }
-}
-
-/// The worked program's sections, with changes of single bytes of `.debug_info`.
-fn worked_sections(alloc: Global, changes: &[u8]) -> Result<Sections, Memory> {
-    Ok(Sections {
-        info: changed(alloc, worked::info(), changes)?,
-        abbrev: bytes_of(alloc, worked::abbrev())?,
-        rnglists: bytes_of(alloc, worked::rnglists())?,
-        line: bytes_of(alloc, worked::line())?,
-    })
-}
+/// Two inlined subprograms, one that holds all code, and two inlined calls.
+static ROWS: [Row; 5] = [
+    (17, 1, 17, None, 0, b"inner", &[]),
+    (25, 2, 25, None, 0, b"outer", &[]),
+    (33, 5, 33, None, 0, b"main", &[(0x10000, 0x10054)]),
+    (
+        47,
+        5,
+        25,
+        Some(3),
+        1,
+        b"outer",
+        &[(0x10008, 0x10010), (0x10020, 0x10030)],
+    ),
+    (58, 5, 17, Some(11), 3, b"inner", &[(0x10024, 0x1002c)]),
+];
 
 #[test]
 fn a_worked_program(rt: HostRuntime) -> Result<(), Fail> {
-    let plain = worked_sections(rt.alloc(), b"")?;
-    assert!(rt; holds(rt.alloc(), &plain, &Wanted::Rows(&worked::ROWS))?);
-    let cycle = worked_sections(rt.alloc(), b"48=47")?;
-    let fault = StructureFault::LinkCycle { offset: 47 };
-    assert!(rt; holds(rt.alloc(), &cycle, &Wanted::Fault(fault))?);
+    let mut sections = Sections::of(rt.alloc(), LINE, SECTIONS)?;
+    assert!(rt; holds(rt.alloc(), &sections, &Rows(&ROWS))?);
+    change_each(&mut sections.info, b"48=47");
+    assert!(rt; holds(rt.alloc(), &sections, &Fault(LinkCycle { offset: 47 }))?);
     Ok(())
 }
 
-/// The entries of a unit put together by hand: levels of inlined subroutines within a subprogram, and then a chain of
-/// subprograms that link each to the next one.
-struct Shape {
-    what: &'static str,
-    levels: u8,
-    links: u8,
-    wanted: Wanted,
-}
+/// A name, levels of inlined subroutines within a subprogram, and then the links of a chain of subprograms each of which
+/// refers to the next one: all entries of a unit; and what is read of it.
+type Shape = (&'static str, u8, u8, Wanted);
 
 /// A unit: its entry, a subprogram with nested inlined subroutines, and the chain.
 fn unit_of(alloc: Global, levels: u8, links: u8) -> Result<Vec<u8>, Memory> {
@@ -187,64 +170,47 @@ fn unit_of(alloc: Global, levels: u8, links: u8) -> Result<Vec<u8>, Memory> {
     Ok(unit)
 }
 
-fn shape_holds(alloc: Global, shape: &Shape) -> Result<bool, Memory> {
-    let sections = Sections {
-        info: unit_of(alloc, shape.levels, shape.links)?,
-        abbrev: bytes_of(
-            alloc,
-            b"0111010000022e010000031d010000042e00311300\
-            00052e00000000",
-        )?,
-        rnglists: Vec::new(alloc),
-        line: bytes_of(alloc, worked::line())?,
-    };
-    holds(alloc, &sections, &shape.wanted)
+fn shape_holds(alloc: Global, shape: &Shape) -> Result<bool, Unread> {
+    let abbrev = b"A0111010000022e010000031d010000042e0031130000052e00000000";
+    let mut sections = Sections::of(alloc, LINE, abbrev)?;
+    sections.info = unit_of(alloc, shape.1, shape.2)?;
+    holds(alloc, &sections, &shape.3)
 }
 
 static SHAPES: [Shape; 6] = [
-    Shape {
-        what: "62 levels",
-        levels: 62,
-        links: 0,
-        wanted: Wanted::Count(64),
-    },
-    Shape {
-        what: "63 levels: the innermost entry is too deep",
-        levels: 63,
-        links: 0,
-        wanted: Wanted::Fault(StructureFault::TooDeep { offset: 76 }),
-    },
-    Shape {
-        what: "100 levels: the first entry that is too deep",
-        levels: 100,
-        links: 9,
-        wanted: Wanted::Fault(StructureFault::TooDeep { offset: 76 }),
-    },
-    Shape {
-        what: "eight links",
-        levels: 0,
-        links: 8,
-        wanted: Wanted::Count(10),
-    },
-    Shape {
-        what: "nine links: too many from the first entry",
-        levels: 0,
-        links: 9,
-        wanted: Wanted::Fault(StructureFault::LinkCycle { offset: 15 }),
-    },
-    Shape {
-        what: "ten links behind one level",
-        levels: 1,
-        links: 10,
-        wanted: Wanted::Fault(StructureFault::LinkCycle { offset: 17 }),
-    },
+    ("62 levels", 62, 0, Count(64)),
+    (
+        "63 levels: the innermost entry is too deep",
+        63,
+        0,
+        Fault(TooDeep { offset: 76 }),
+    ),
+    (
+        "100 levels: the first entry that is too deep",
+        100,
+        9,
+        Fault(TooDeep { offset: 76 }),
+    ),
+    ("eight links", 0, 8, Count(10)),
+    (
+        "nine links: too many from the first entry",
+        0,
+        9,
+        Fault(LinkCycle { offset: 15 }),
+    ),
+    (
+        "ten links behind one level",
+        1,
+        10,
+        Fault(LinkCycle { offset: 17 }),
+    ),
 ];
 
 /// The first shape that does not hold.
-fn failing(alloc: Global, shapes: &[Shape]) -> Result<Option<&'static str>, Memory> {
-    for shape in shapes {
+fn failing(alloc: Global) -> Result<Option<&'static str>, Unread> {
+    for shape in &SHAPES {
         if !shape_holds(alloc, shape)? {
-            return Ok(Some(shape.what));
+            return Ok(Some(shape.0));
         }
     }
     Ok(None)
@@ -252,6 +218,6 @@ fn failing(alloc: Global, shapes: &[Shape]) -> Result<Option<&'static str>, Memo
 
 #[test]
 fn levels_and_links(rt: HostRuntime) -> Result<(), Fail> {
-    assert_eq!(rt; failing(rt.alloc(), &SHAPES)?, None);
+    assert_eq!(rt; failing(rt.alloc())?, None);
     Ok(())
 }

@@ -1,9 +1,8 @@
 ghost use Rattle.std.specs.Prelude.{◌==◌, ◌||◌, if◌then◌else◌, nat_lt, find, option_map, Some, None};
 
-use crate::rows::bytes_of;
-use cfi_table::{FrameTable, read_frames};
+use crate::program::{Unread, image_of, table_of};
+use crate::rows::{bytes_of, replaced};
 use cfi_unwind::Unwinder;
-use elf_image::{Image, read_image};
 use prof_bytes::{Memory, put_u32};
 use scope_types::{End, Look, PartialCause, RawPath, Unwind};
 use std::alloc::Global;
@@ -14,48 +13,6 @@ mod programs;
 mod regions;
 
 use programs::{LAST_CALL, RECURSION};
-
-/// A program's bytes, of which some are others.
-fn program(alloc: Global, hex: &[u8], changes: &[(usize, u8)]) -> Result<Vec<u8>, Memory> {
-    let mut file = bytes_of(alloc, hex)?;
-    for (place, value) in changes {
-        if let Some(byte) = file.get_mut(*place) {
-            *byte = *value;
-        }
-    }
-    Ok(file)
-}
-
-/// A program or a section that can't be read.
-#[derive(Clone, Copy, Debug)]
-struct Unreadable;
-
-/// Why a test can't be made.
-type Unread = prof_bytes::Fail<Unreadable>;
-
-/// The image of a program that can be read.
-fn image_of(alloc: Global, file: &[u8]) -> Result<Image<'_>, Unread> {
-    if file.len() > 1 << 26 {
-        return Err(prof_bytes::Fail::Fault(Unreadable));
-    }
-    match read_image(alloc, file) {
-        Ok(image) => Ok(image),
-        Err(prof_bytes::Fail::Memory(memory)) => Err(prof_bytes::Fail::Memory(memory)),
-        Err(prof_bytes::Fail::Fault(_)) => Err(prof_bytes::Fail::Fault(Unreadable)),
-    }
-}
-
-/// The frames of a section that can be read.
-fn table_of(alloc: Global, section: &[u8], image: &Image<'_>) -> Result<FrameTable, Unread> {
-    if section.len() >= 1 << 31 {
-        return Err(prof_bytes::Fail::Fault(Unreadable));
-    }
-    match read_frames(alloc, section, image) {
-        Ok(table) => Ok(table),
-        Err(prof_bytes::Fail::Memory(memory)) => Err(prof_bytes::Fail::Memory(memory)),
-        Err(prof_bytes::Fail::Fault(_)) => Err(prof_bytes::Fail::Fault(Unreadable)),
-    }
-}
 
 /// Memory in which some words can be loaded.
 #[derive(Clone, Copy)]
@@ -117,87 +74,19 @@ fn is_path(path: &RawPath, end: End, pcs: &[u32]) -> bool {
     true
 }
 
-/// What is asked of the unwinder of a program.
-#[derive(Clone, Copy)]
-enum Unwinding {
-    RecursionPaths,
-    Depths,
-    LastCall,
-    OutsideFrames,
-    Region(u32, u32),
-}
-
-/// What is asked of a program.
-#[derive(Clone, Copy)]
-enum Question {
-    OfUnwinder(Unwinding),
-    Ends,
-    Callers,
-}
-
-/// The place of the first row that is otherwise than a table says.
-fn other_in_unwinder(
-    unwinder: &Unwinder<'_>,
-    unwinding: Unwinding,
-) -> Result<Option<usize>, Memory> {
-    match unwinding {
-        Unwinding::RecursionPaths => other_recursion_path(unwinder),
-        Unwinding::Depths => other_depth(unwinder),
-        Unwinding::LastCall => other_last_call(unwinder),
-        Unwinding::OutsideFrames => causes::other_outside_frames(unwinder),
-        Unwinding::Region(start, end) => Ok(first_unless(unwinder.entry_region() == (start, end))),
-    }
-}
-
-/// The place of the first row that is otherwise than a table says, by the unwinder of a program.
-fn other_by_unwinder(
-    alloc: Global,
-    image: &Image<'_>,
-    unwinding: Unwinding,
-) -> Result<Option<usize>, Unread> {
-    let table = table_of(alloc, image.section(b".debug_frame"), image)?;
-    let unwinder = Unwinder::of(alloc, &table, image);
-    Ok(other_in_unwinder(&unwinder, unwinding)?)
-}
-
-/// The place of the first row that is otherwise than a table says, in a program's image.
-fn other_in_image(
-    alloc: Global,
-    image: &Image<'_>,
-    question: Question,
-) -> Result<Option<usize>, Unread> {
-    match question {
-        Question::OfUnwinder(unwinding) => other_by_unwinder(alloc, image, unwinding),
-        Question::Ends => causes::other_end(alloc, image),
-        Question::Callers => causes::other_caller(alloc, image),
-    }
-}
-
-/// The place of the first row that is otherwise than a table says, in a program of which some bytes are
-/// others.
-fn other_row(
+/// The path of an instruction of a program.
+fn path_in<M: Look>(
     alloc: Global,
     hex: &[u8],
-    changes: &[(usize, u8)],
-    question: Question,
-) -> Result<Option<usize>, Unread> {
-    let file = program(alloc, hex, changes)?;
+    pc: u32,
+    values: &[(usize, u32)],
+    memory: &M,
+) -> Result<RawPath, Unread> {
+    let file = bytes_of(alloc, hex)?;
     let image = image_of(alloc, &file)?;
-    other_in_image(alloc, &image, question)
-}
-
-/// The same in a program as it is, of its unwinder.
-fn other_unwinding(
-    alloc: Global,
-    hex: &[u8],
-    unwinding: Unwinding,
-) -> Result<Option<usize>, Unread> {
-    other_row(alloc, hex, &[], Question::OfUnwinder(unwinding))
-}
-
-/// The first place, unless it holds.
-fn first_unless(holds: bool) -> Option<usize> {
-    if holds { None } else { Some(0) }
+    let table = table_of(alloc, image.section(b".debug_frame"), &image)?;
+    let unwinder = Unwinder::of(alloc, &table, &image);
+    Ok(unwinder.path(pc, &registers(values), memory)?)
 }
 
 /// Instructions of the recursion: their addresses, x1 and x2 before them, and their paths. The stack
@@ -221,12 +110,12 @@ static RECURSION_PATHS: [(u32, u32, u32, &[u32]); 7] = [
     (0x1_002c, 0x1_0008, 0xf00f_fff0, &[0x1_002c, 0x1_0004]),
 ];
 
-/// The place of the first of these instructions that has another path.
-fn other_recursion_path(unwinder: &Unwinder<'_>) -> Result<Option<usize>, Memory> {
-    for (place, (pc, x1, x2, wanted)) in RECURSION_PATHS.iter().enumerate() {
-        let path = unwinder.path(*pc, &registers(&[(1, *x1), (2, *x2)]), &Recursion)?;
+/// The index of the first of these instructions that has another path.
+fn other_recursion_path(alloc: Global) -> Result<Option<usize>, Unread> {
+    for (index, (pc, x1, x2, wanted)) in RECURSION_PATHS.iter().enumerate() {
+        let path = path_in(alloc, RECURSION, *pc, &[(1, *x1), (2, *x2)], &Recursion)?;
         if !is_path(&path, End::Whole, wanted) {
-            return Ok(Some(place));
+            return Ok(Some(index));
         }
     }
     Ok(None)
@@ -234,8 +123,7 @@ fn other_recursion_path(unwinder: &Unwinder<'_>) -> Result<Option<usize>, Memory
 
 #[test]
 fn recursion_is_unwound_at_each_of_its_instructions(rt: HostRuntime) -> Result<(), Fail> {
-    let other = other_unwinding(rt.alloc(), RECURSION, Unwinding::RecursionPaths)?;
-    assert_eq!(rt; other, None);
+    assert_eq!(rt; other_recursion_path(rt.alloc())?, None);
     Ok(())
 }
 
@@ -248,13 +136,14 @@ static DEPTHS: [(u32, usize, End); 5] = [
     (600, 512, End::Partial(PartialCause::Depth)),
 ];
 
-/// The place of the first of these numbers of calls that has another path.
-fn other_depth(unwinder: &Unwinder<'_>) -> Result<Option<usize>, Memory> {
-    for (place, (calls, frames, end)) in DEPTHS.iter().enumerate() {
+/// The index of the first of these numbers of calls that has another path.
+fn other_depth(alloc: Global) -> Result<Option<usize>, Unread> {
+    for (index, (calls, frames, end)) in DEPTHS.iter().enumerate() {
         let x2 = 0xf00f_fff0u32.wrapping_sub(calls.wrapping_mul(16));
-        let path = unwinder.path(0x1_0024, &registers(&[(1, 0x1_0024), (2, x2)]), &Recursion)?;
+        let values = [(1, 0x1_0024), (2, x2)];
+        let path = path_in(alloc, RECURSION, 0x1_0024, &values, &Recursion)?;
         if path.end() != *end || path.frames().len() != *frames {
-            return Ok(Some(place));
+            return Ok(Some(index));
         }
     }
     Ok(None)
@@ -262,30 +151,20 @@ fn other_depth(unwinder: &Unwinder<'_>) -> Result<Option<usize>, Memory> {
 
 #[test]
 fn a_path_has_512_frames_at_most(rt: HostRuntime) -> Result<(), Fail> {
-    let other = other_unwinding(rt.alloc(), RECURSION, Unwinding::Depths)?;
-    assert_eq!(rt; other, None);
+    assert_eq!(rt; other_depth(rt.alloc())?, None);
     Ok(())
 }
 
-/// The first place, unless the path of `h` goes through the last instruction of `g`.
-fn other_last_call(unwinder: &Unwinder<'_>) -> Result<Option<usize>, Memory> {
-    let memory = Words {
-        words: &[(0xf00f_ffec, 0x1_0004)],
-    };
-    let path = unwinder.path(
-        0x1_0018,
-        &registers(&[(1, 0x1_0018), (2, 0xf00f_ffe0)]),
-        &memory,
-    )?;
-    let wanted = [0x1_0018, 0x1_0014, 0x1_0000];
-    Ok(first_unless(is_path(&path, End::Whole, &wanted)))
-}
-
+/// The path of `h` goes through the last instruction of `g`.
 #[test]
 fn a_call_that_is_a_procedures_last_instruction_is_looked_up_there(
     rt: HostRuntime,
 ) -> Result<(), Fail> {
-    let other = other_unwinding(rt.alloc(), LAST_CALL, Unwinding::LastCall)?;
-    assert_eq!(rt; other, None);
+    let memory = Words {
+        words: &[(0xf00f_ffec, 0x1_0004)],
+    };
+    let values = [(1, 0x1_0018), (2, 0xf00f_ffe0)];
+    let path = path_in(rt.alloc(), LAST_CALL, 0x1_0018, &values, &memory)?;
+    assert!(rt; is_path(&path, End::Whole, &[0x1_0018, 0x1_0014, 0x1_0000]));
     Ok(())
 }

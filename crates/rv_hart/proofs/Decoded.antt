@@ -16,7 +16,7 @@ use Rattle.rv_hart.specs.declared.decoded_code.DecodedCode.{DecodedCode}
 use Rattle.rv_hart.specs.declared.paged_memory.PagedMemory.{PagedMemory}
 use Rattle.rv_hart.specs.AddressSpace.{AddressSpace, region_at, byte_in, grants}
 use Rattle.rv_hart.specs.Step.{fetched_at}
-use Rattle.rv_hart.specs.private.Paging.{IsHome, IsPaged, value, covers_all, memory_of, word_address}
+use Rattle.rv_hart.specs.private.Paging.{IsHome, IsPaged, paged_byte, covers_all, memory_of, word_address}
 use Rattle.rv_hart.specs.private.Decoding.{first_in, first_word, end, IsKept, AreKept, IsCode, IsCodeOf, AreCode, IsAt, Begins, KeepsSpace}
 use Rattle.rv_hart.proofs.Apart.{find-all}
 use Rattle.rv_hart.proofs.Near.{spelled, part-get, part-length, covers-region}
@@ -68,15 +68,15 @@ held-low paged home at is found =
     cc)
 
 -- a byte of a region that may not be written is the one that it began with
-fixed-byte : (paged : PagedMemory) (home : Segment) (at i : ℕ) (inst : Inst) → IsPaged paged → IsHome paged.regions home → IsKept paged.file.now home at inst → i < 4 → value paged (at + i) ≡ first_in paged.file.now home (at + i)
+fixed-byte : (paged : PagedMemory) (home : Segment) (at i : ℕ) (inst : Inst) → IsPaged paged → IsHome paged.regions home → IsKept paged.file.now home at inst → i < 4 → paged_byte paged (at + i) ≡ first_in paged.file.now home (at + i)
 fixed-byte paged home at i inst is own kept few =
     let found : region_at paged.regions (at + i) ≡ Some home = covers-region paged.regions home at 4 i own kept.covered few in
     is.intact (at + i) (ap (grants PF_W) found ∙ kept.fixed) ∙ ap (byte_in paged.file.now (at + i)) found
 
-fixed-word : (paged : PagedMemory) (home : Segment) (at : ℕ) (inst : Inst) → IsPaged paged → IsHome paged.regions home → IsKept paged.file.now home at inst → map (value paged) (range_with_len at 4) ≡ map (first_in paged.file.now home) (range_with_len at 4)
+fixed-word : (paged : PagedMemory) (home : Segment) (at : ℕ) (inst : Inst) → IsPaged paged → IsHome paged.regions home → IsKept paged.file.now home at inst → map (paged_byte paged) (range_with_len at 4) ≡ map (first_in paged.file.now home) (range_with_len at 4)
 fixed-word paged home at inst is own kept =
     sym
-    (spelled (map (first_in paged.file.now home) (range_with_len at 4)) (value paged) at 4 (length-map-range_with_len (first_in paged.file.now home) at 4)
+    (spelled (map (first_in paged.file.now home) (range_with_len at 4)) (paged_byte paged) at 4 (length-map-range_with_len (first_in paged.file.now home) at 4)
     (λ i few.
     get_or-map-range_with_len (first_in paged.file.now home) at 4 i (at + i) 0 few refl
     ∙ sym (fixed-byte paged home at i inst is own kept few)))

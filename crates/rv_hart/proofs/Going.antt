@@ -7,7 +7,7 @@ use Rattle.rv_hart.specs.declared.execute.Went.{Went}
 use Rattle.rv_hart.specs.declared.execute.Went.TheVariants as went
 use Rattle.rv_hart.specs.declared.outcome.Stepped.{Stepped}
 use Rattle.rv_hart.specs.Step.{State}
-use Rattle.rv_hart.specs.private.Going.{ended, Goes, GoesBy}
+use Rattle.rv_hart.specs.private.Going.{step_ended, Goes, GoesBy}
 
 -- an operation other than that
 pub going : {op other : Op} (count old new : ℕ) (how : Went) → op ≡ other → other ≢ ops.Illegal → Goes count old new how → GoesBy op count old new how
@@ -21,8 +21,8 @@ going-store count old new (Ok how) same differs goes = (λ e. absurd (differs (s
 going-store count old new (Err e) same differs goes = tt
 
 -- the same way to go on
-pub ended-as : {t : State} {how other : Went} {r : State × Stepped} → how ≡ other → ◌≡◌ {A = State × Stepped} (t, ended how) r → ◌≡◌ {A = State × Stepped} (t, ended other) r
-ended-as {t} {how} {other} {r} same is = subst (λ (w : Went). ◌≡◌ {A = State × Stepped} (t, ended w) r) same is
+pub ended-as : {t : State} {how other : Went} {r : State × Stepped} → how ≡ other → ◌≡◌ {A = State × Stepped} (t, step_ended how) r → ◌≡◌ {A = State × Stepped} (t, step_ended other) r
+ended-as {t} {how} {other} {r} same is = subst (λ (w : Went). ◌≡◌ {A = State × Stepped} (t, step_ended w) r) same is
 
 -- what went otherwise is an instruction
 pub other-than : {op : Op} (count old new : ℕ) (how : Went) → GoesBy op count old new how → how ≢ went.Illegal → op ≢ ops.Illegal

@@ -13,7 +13,7 @@ use Rattle.rv_hart.specs.declared.paged_memory.PagedMemory.{PagedMemory}
 use Rattle.elf_image.specs.declared.elf.TheConstants.{PF_W}
 use Rattle.rv_hart.specs.AddressSpace.{region_at, first_byte, byte_in, has, may, grants}
 use Rattle.rv_hart.specs.private.Recents.{IsNear}
-use Rattle.rv_hart.specs.private.Paging.{page_numbered, page_of, value, IsHome, IsPaged, covers_all}
+use Rattle.rv_hart.specs.private.Paging.{page_numbered, page_of, paged_byte, IsHome, IsPaged, covers_all}
 
 and_false : (a b : Bool) → b ≡ false → (a && b) ≡ false
 and_false true b fails = fails
@@ -69,9 +69,9 @@ pub offset-same : (at i : ℕ) → at % 2 ^ 12 + i < 2 ^ 12 → (at + i) % 2 ^ 1
 offset-same at i inside = omega arith
 
 -- the bytes of a page, from an address on
-pub near-page : (paged : PagedMemory) (at count : ℕ) (bytes : List ℕ) → bytes ≡ (page_of paged at).bytes → at % 2 ^ 12 + count ≤ 2 ^ 12 → at % 2 ^ 12 + count ≤ length bytes → take count (drop (at % 2 ^ 12) bytes) ≡ map (value paged) (range_with_len at count)
+pub near-page : (paged : PagedMemory) (at count : ℕ) (bytes : List ℕ) → bytes ≡ (page_of paged at).bytes → at % 2 ^ 12 + count ≤ 2 ^ 12 → at % 2 ^ 12 + count ≤ length bytes → take count (drop (at % 2 ^ 12) bytes) ≡ map (paged_byte paged) (range_with_len at count)
 near-page paged at count bytes are inside within =
-    spelled (take count (drop (at % 2 ^ 12) bytes)) (value paged) at count (part-length bytes (at % 2 ^ 12) count within)
+    spelled (take count (drop (at % 2 ^ 12) bytes)) (paged_byte paged) at count (part-length bytes (at % 2 ^ 12) count within)
     (λ i few.
     let first : ℕ = first_byte paged.file.now paged.regions (at + i) in
     let here : (page_of paged (at + i)).bytes ≡ bytes = ap (λ (p : Paged). p.bytes) (page-same paged at i (omega arith)) ∙ sym are in
@@ -80,15 +80,15 @@ near-page paged at count bytes are inside within =
     ∙ sym (ap₂ (λ (b : List ℕ) (p : ℕ). get_or b p first) here (offset-same at i (omega arith))))
 
 -- where a page was not made, the bytes are those that the region began with
-pub value-first : (paged : PagedMemory) (home : Segment) (at count i : ℕ) → [] ≡ (page_of paged at).bytes → at % 2 ^ 12 + count ≤ 2 ^ 12 → IsHome paged.regions home → covers_all home at count ≡ true → i < count → value paged (at + i) ≡ byte_in paged.file.now (at + i) (Some home)
+pub value-first : (paged : PagedMemory) (home : Segment) (at count i : ℕ) → [] ≡ (page_of paged at).bytes → at % 2 ^ 12 + count ≤ 2 ^ 12 → IsHome paged.regions home → covers_all home at count ≡ true → i < count → paged_byte paged (at + i) ≡ byte_in paged.file.now (at + i) (Some home)
 value-first paged home at count i none inside own covered few =
     let here : (page_of paged (at + i)).bytes ≡ [] = ap (λ (p : Paged). p.bytes) (page-same paged at i (omega arith)) ∙ sym none in
     ap (λ (b : List ℕ). get_or b ((at + i) % 2 ^ 12) (first_byte paged.file.now paged.regions (at + i))) here
     ∙ ap (byte_in paged.file.now (at + i)) (covers-region paged.regions home at count i own covered few)
 
-pub near-first : (paged : PagedMemory) (home : Segment) (at count : ℕ) (bytes : List ℕ) → [] ≡ (page_of paged at).bytes → at % 2 ^ 12 + count ≤ 2 ^ 12 → IsHome paged.regions home → covers_all home at count ≡ true → length bytes ≡ count → ((i : ℕ) → i < count → get_or bytes i 0 ≡ byte_in paged.file.now (at + i) (Some home)) → bytes ≡ map (value paged) (range_with_len at count)
+pub near-first : (paged : PagedMemory) (home : Segment) (at count : ℕ) (bytes : List ℕ) → [] ≡ (page_of paged at).bytes → at % 2 ^ 12 + count ≤ 2 ^ 12 → IsHome paged.regions home → covers_all home at count ≡ true → length bytes ≡ count → ((i : ℕ) → i < count → get_or bytes i 0 ≡ byte_in paged.file.now (at + i) (Some home)) → bytes ≡ map (paged_byte paged) (range_with_len at count)
 near-first paged home at count bytes none inside own covered long each =
-    spelled bytes (value paged) at count long (λ i few. each i few ∙ sym (value-first paged home at count i none inside own covered few))
+    spelled bytes (paged_byte paged) at count long (λ i few. each i few ∙ sym (value-first paged home at count i none inside own covered few))
 
 -- a test that holds of each address of a range
 pub all-range : (p : ℕ → Bool) (at count : ℕ) → ((i : ℕ) → i < count → p (at + i) ≡ true) → list_all p (range_with_len at count) ≡ true
@@ -138,7 +138,7 @@ granted-low regions right at low granted =
     cc)
 
 -- what the file's part gives, as what is kept gives it
-pub near-none : (paged : PagedMemory) (home : Segment) (at count : ℕ) → [] ≡ (page_of paged at).bytes → at % 2 ^ 12 + count ≤ 2 ^ 12 → IsHome paged.regions home → covers_all home at count ≡ true → (found : Option (Bor (List ℕ))) → IfSome found (λ bytes. length bytes.now ≡ count) → IfSome found (λ bytes. (i : ℕ) → i < count → slice_index bytes.now i ≡ byte_in paged.file.now (at + i) (Some home)) → IfSome found (λ bytes. bytes.now ≡ map (value paged) (range_with_len at count))
+pub near-none : (paged : PagedMemory) (home : Segment) (at count : ℕ) → [] ≡ (page_of paged at).bytes → at % 2 ^ 12 + count ≤ 2 ^ 12 → IsHome paged.regions home → covers_all home at count ≡ true → (found : Option (Bor (List ℕ))) → IfSome found (λ bytes. length bytes.now ≡ count) → IfSome found (λ bytes. (i : ℕ) → i < count → slice_index bytes.now i ≡ byte_in paged.file.now (at + i) (Some home)) → IfSome found (λ bytes. bytes.now ≡ map (paged_byte paged) (range_with_len at count))
 near-none paged home at count none inside own covered None long each = tt
 near-none paged home at count none inside own covered (Some bytes) long each =
     near-first paged home at count bytes.now none inside own covered long each
@@ -173,10 +173,10 @@ found-within at regions (Some r) is =
     (leb-true r.start at tests.0, ltb-true at r.end tests.1)
 
 -- where a region can't be written, its bytes are those that it began with
-pub near-intact : (paged : PagedMemory) (home : Segment) (at count : ℕ) → IsPaged paged → IsHome paged.regions home → covers_all home at count ≡ true → has PF_W home ≡ false → (found : Option (Bor (List ℕ))) → IfSome found (λ bytes. length bytes.now ≡ count) → IfSome found (λ bytes. (i : ℕ) → i < count → slice_index bytes.now i ≡ byte_in paged.file.now (at + i) (Some home)) → IfSome found (λ bytes. bytes.now ≡ map (value paged) (range_with_len at count))
+pub near-intact : (paged : PagedMemory) (home : Segment) (at count : ℕ) → IsPaged paged → IsHome paged.regions home → covers_all home at count ≡ true → has PF_W home ≡ false → (found : Option (Bor (List ℕ))) → IfSome found (λ bytes. length bytes.now ≡ count) → IfSome found (λ bytes. (i : ℕ) → i < count → slice_index bytes.now i ≡ byte_in paged.file.now (at + i) (Some home)) → IfSome found (λ bytes. bytes.now ≡ map (paged_byte paged) (range_with_len at count))
 near-intact paged home at count is own covered fixed None long each = tt
 near-intact paged home at count is own covered fixed (Some bytes) long each =
-    spelled bytes.now (value paged) at count long
+    spelled bytes.now (paged_byte paged) at count long
     (λ i few.
     let found : region_at paged.regions (at + i) ≡ Some home = covers-region paged.regions home at count i own covered few in
     each i few ∙ sym (is.intact (at + i) (ap (grants PF_W) found ∙ fixed) ∙ ap (byte_in paged.file.now (at + i)) found))

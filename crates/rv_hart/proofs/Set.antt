@@ -10,7 +10,7 @@ use Rattle.rv_hart.specs.AddressSpace.{first_byte, may}
 use Rattle.rv_hart.specs.private.Pages.{Paged, PageStore, IsPagedAt, spliced, with_bytes}
 use Rattle.elf_image.specs.declared.part.Segment.{Segment}
 use Rattle.rv_hart.specs.private.Recents.{IsNear}
-use Rattle.rv_hart.specs.private.Paging.{IsHome, IsPaged, page_numbered, page_of, value, value_after}
+use Rattle.rv_hart.specs.private.Paging.{IsHome, IsPaged, page_numbered, page_of, paged_byte, value_after}
 
 pub spliced-length : (bytes : List ℕ) (offset : ℕ) (source : List ℕ) → offset + length source ≤ length bytes → length (spliced bytes offset source) ≡ length bytes
 spliced-length bytes offset source within =
@@ -55,25 +55,25 @@ test-behind : (at a count : ℕ) → at + count ≤ a → (nat_le at a && nat_lt
 test-behind at a count behind = ap₂ (λ (x y : Bool). x && y) (le-leb at a (omega arith)) (le-ltb a (at + count) behind)
 
 pub after-in : (paged : PagedMemory) (at a : ℕ) (source : List ℕ) → at ≤ a → a < at + length source → value_after paged at source a ≡ get_or source (a - at) 0
-after-in paged at a source low high = ap (λ (t : Bool). cond t (get_or source (a - at) 0) (value paged a)) (test-in at a (length source) low high)
+after-in paged at a source low high = ap (λ (t : Bool). cond t (get_or source (a - at) 0) (paged_byte paged a)) (test-in at a (length source) low high)
 
-pub after-before : (paged : PagedMemory) (at a : ℕ) (source : List ℕ) → a < at → value_after paged at source a ≡ value paged a
-after-before paged at a source before = ap (λ (t : Bool). cond t (get_or source (a - at) 0) (value paged a)) (test-before at a (length source) before)
+pub after-before : (paged : PagedMemory) (at a : ℕ) (source : List ℕ) → a < at → value_after paged at source a ≡ paged_byte paged a
+after-before paged at a source before = ap (λ (t : Bool). cond t (get_or source (a - at) 0) (paged_byte paged a)) (test-before at a (length source) before)
 
-pub after-behind : (paged : PagedMemory) (at a : ℕ) (source : List ℕ) → at + length source ≤ a → value_after paged at source a ≡ value paged a
-after-behind paged at a source behind = ap (λ (t : Bool). cond t (get_or source (a - at) 0) (value paged a)) (test-behind at a (length source) behind)
+pub after-behind : (paged : PagedMemory) (at a : ℕ) (source : List ℕ) → at + length source ≤ a → value_after paged at source a ≡ paged_byte paged a
+after-behind paged at a source behind = ap (λ (t : Bool). cond t (get_or source (a - at) 0) (paged_byte paged a)) (test-behind at a (length source) behind)
 
 -- what a kept memory gives after bytes were put into one page
-pub put-value : (old new : PagedMemory) (at : ℕ) (source : List ℕ) → ((a : ℕ) → first_byte new.file.now new.regions a ≡ first_byte old.file.now old.regions a) → ((n : ℕ) → page_numbered new n ≡ cond (n == at / 2 ^ 12) (with_bytes (page_of old at) (at % 2 ^ 12) source) (page_numbered old n)) → at % 2 ^ 12 + length source ≤ length (page_of old at).bytes → at % 2 ^ 12 + length source ≤ 2 ^ 12 → (a : ℕ) → value new a ≡ value_after old at source a
+pub put-value : (old new : PagedMemory) (at : ℕ) (source : List ℕ) → ((a : ℕ) → first_byte new.file.now new.regions a ≡ first_byte old.file.now old.regions a) → ((n : ℕ) → page_numbered new n ≡ cond (n == at / 2 ^ 12) (with_bytes (page_of old at) (at % 2 ^ 12) source) (page_numbered old n)) → at % 2 ^ 12 + length source ≤ length (page_of old at).bytes → at % 2 ^ 12 + length source ≤ 2 ^ 12 → (a : ℕ) → paged_byte new a ≡ value_after old at source a
 put-value old new at source firsts pages within page a = by_page (a / 2 ^ 12 == at / 2 ^ 12) refl
   where
-    given : value new a ≡ get_or (page_of new a).bytes (a % 2 ^ 12) (first_byte old.file.now old.regions a)
+    given : paged_byte new a ≡ get_or (page_of new a).bytes (a % 2 ^ 12) (first_byte old.file.now old.regions a)
     given = ap (get_or (page_of new a).bytes (a % 2 ^ 12)) (firsts a)
 
     here : (b : Bool) → (a / 2 ^ 12 == at / 2 ^ 12) ≡ b → page_of new a ≡ cond b (with_bytes (page_of old at) (at % 2 ^ 12) source) (page_of old a)
     here b e = pages (a / 2 ^ 12) ∙ ap (λ (t : Bool). cond t (with_bytes (page_of old at) (at % 2 ^ 12) source) (page_of old a)) e
 
-    same_old : a / 2 ^ 12 ≡ at / 2 ^ 12 → get_or (page_of old at).bytes (a % 2 ^ 12) (first_byte old.file.now old.regions a) ≡ value old a
+    same_old : a / 2 ^ 12 ≡ at / 2 ^ 12 → get_or (page_of old at).bytes (a % 2 ^ 12) (first_byte old.file.now old.regions a) ≡ paged_byte old a
     same_old same = ap (λ (n : ℕ). get_or (page_numbered old n).bytes (a % 2 ^ 12) (first_byte old.file.now old.regions a)) (sym same)
 
     inside : a / 2 ^ 12 ≡ at / 2 ^ 12 → at ≤ a → a < at + length source → get_or (spliced (page_of old at).bytes (at % 2 ^ 12) source) (a % 2 ^ 12) (first_byte old.file.now old.regions a) ≡ value_after old at source a
@@ -107,7 +107,7 @@ put-value old new at source firsts pages within page a = by_page (a / 2 ^ 12 == 
           | inr low ↦ before same low.1
         ]
 
-    elsewhere : (a / 2 ^ 12 == at / 2 ^ 12) ≡ false → value old a ≡ value_after old at source a
+    elsewhere : (a / 2 ^ 12 == at / 2 ^ 12) ≡ false → paged_byte old a ≡ value_after old at source a
     elsewhere e =
         let other : a / 2 ^ 12 ≢ at / 2 ^ 12 = unequal (a / 2 ^ 12) (at / 2 ^ 12) e in
         elim (leb_tells at a) [
@@ -115,26 +115,26 @@ put-value old new at source firsts pages within page a = by_page (a / 2 ^ 12 == 
           | inr low ↦ sym (after-before old at a source low.1)
         ]
 
-    by_page : (b : Bool) → (a / 2 ^ 12 == at / 2 ^ 12) ≡ b → value new a ≡ value_after old at source a
+    by_page : (b : Bool) → (a / 2 ^ 12 == at / 2 ^ 12) ≡ b → paged_byte new a ≡ value_after old at source a
     by_page true e = given ∙ ap (λ (p : Paged). get_or p.bytes (a % 2 ^ 12) (first_byte old.file.now old.regions a)) (here true e) ∙ in_page (eqb-true (a / 2 ^ 12) (at / 2 ^ 12) e)
     by_page false e = given ∙ ap (λ (p : Paged). get_or p.bytes (a % 2 ^ 12) (first_byte old.file.now old.regions a)) (here false e) ∙ elsewhere e
 
 -- what a kept memory gives after a page was made that holds what its addresses had
-pub make-value : (old new : PagedMemory) (number : ℕ) (page : Paged) → ((a : ℕ) → first_byte new.file.now new.regions a ≡ first_byte old.file.now old.regions a) → ((n : ℕ) → page_numbered new n ≡ cond (n == number) page (page_numbered old n)) → length page.bytes ≡ 2 ^ 12 → ((i : ℕ) → i < 2 ^ 12 → get_or page.bytes i 0 ≡ value old (number * 2 ^ 12 + i)) → (a : ℕ) → value new a ≡ value old a
+pub make-value : (old new : PagedMemory) (number : ℕ) (page : Paged) → ((a : ℕ) → first_byte new.file.now new.regions a ≡ first_byte old.file.now old.regions a) → ((n : ℕ) → page_numbered new n ≡ cond (n == number) page (page_numbered old n)) → length page.bytes ≡ 2 ^ 12 → ((i : ℕ) → i < 2 ^ 12 → get_or page.bytes i 0 ≡ paged_byte old (number * 2 ^ 12 + i)) → (a : ℕ) → paged_byte new a ≡ paged_byte old a
 make-value old new number page firsts pages long each a = by_page (a / 2 ^ 12 == number) refl
   where
-    here : (b : Bool) → (a / 2 ^ 12 == number) ≡ b → value new a ≡ get_or (cond b page (page_of old a)).bytes (a % 2 ^ 12) (first_byte old.file.now old.regions a)
+    here : (b : Bool) → (a / 2 ^ 12 == number) ≡ b → paged_byte new a ≡ get_or (cond b page (page_of old a)).bytes (a % 2 ^ 12) (first_byte old.file.now old.regions a)
     here b e =
         ap (get_or (page_of new a).bytes (a % 2 ^ 12)) (firsts a)
         ∙ ap (λ (p : Paged). get_or p.bytes (a % 2 ^ 12) (first_byte old.file.now old.regions a)) (pages (a / 2 ^ 12) ∙ ap (λ (t : Bool). cond t page (page_of old a)) e)
 
-    by_page : (b : Bool) → (a / 2 ^ 12 == number) ≡ b → value new a ≡ value old a
+    by_page : (b : Bool) → (a / 2 ^ 12 == number) ≡ b → paged_byte new a ≡ paged_byte old a
     by_page true e =
         let same : a / 2 ^ 12 ≡ number = eqb-true (a / 2 ^ 12) number e in
         here true e
         ∙ get_or-any page.bytes (a % 2 ^ 12) (first_byte old.file.now old.regions a) 0 (omega arith)
         ∙ each (a % 2 ^ 12) (omega arith)
-        ∙ ap (value old) (let e : number * 2 ^ 12 + a % 2 ^ 12 ≡ a = omega arith in e)
+        ∙ ap (paged_byte old) (let e : number * 2 ^ 12 + a % 2 ^ 12 ≡ a = omega arith in e)
     by_page false e = here false e
 
 -- as many of the bytes as were put
@@ -142,11 +142,11 @@ part-in : (paged : PagedMemory) (at a count : ℕ) (source : List ℕ) → at �
 part-in paged at a count source low high few =
     after-in paged at a (take count source) low (omega (arith, length-take count source)) ∙ get_or-take count source (a - at) 0 (omega arith)
 
-part-behind : (paged : PagedMemory) (at a count : ℕ) (source : List ℕ) → at + count ≤ a → count ≤ length source → value_after paged at (take count source) a ≡ value paged a
+part-behind : (paged : PagedMemory) (at a count : ℕ) (source : List ℕ) → at + count ≤ a → count ≤ length source → value_after paged at (take count source) a ≡ paged_byte paged a
 part-behind paged at a count source high few = after-behind paged at a (take count source) (omega (arith, length-take count source))
 
 -- one more byte
-pub put-more : (old mid new : PagedMemory) (at count byte : ℕ) (source : List ℕ) → count < length source → byte ≡ get_or source count 0 → ((a : ℕ) → value mid a ≡ value_after old at (take count source) a) → ((a : ℕ) → value new a ≡ value_after mid (at + count) (byte ∷ []) a) → (a : ℕ) → value new a ≡ value_after old at (take (count + 1) source) a
+pub put-more : (old mid new : PagedMemory) (at count byte : ℕ) (source : List ℕ) → count < length source → byte ≡ get_or source count 0 → ((a : ℕ) → paged_byte mid a ≡ value_after old at (take count source) a) → ((a : ℕ) → paged_byte new a ≡ value_after mid (at + count) (byte ∷ []) a) → (a : ℕ) → paged_byte new a ≡ value_after old at (take (count + 1) source) a
 put-more old mid new at count byte source few is before after a =
     elim (leb_tells at a) [
       | inl low ↦ (elim (leb_tells (suc a) (at + count)) [
@@ -159,17 +159,17 @@ put-more old mid new at count byte source few is before after a =
       | inr low ↦ below low.1
     ]
   where
-    below : a < at → value new a ≡ value_after old at (take (count + 1) source) a
+    below : a < at → paged_byte new a ≡ value_after old at (take (count + 1) source) a
     below low =
         after a ∙ after-before mid (at + count) a (byte ∷ []) (omega arith) ∙ before a ∙ after-before old at a (take count source) low
         ∙ sym (after-before old at a (take (count + 1) source) low)
 
-    inside : at ≤ a → a < at + count → value new a ≡ value_after old at (take (count + 1) source) a
+    inside : at ≤ a → a < at + count → paged_byte new a ≡ value_after old at (take (count + 1) source) a
     inside low high =
         after a ∙ after-before mid (at + count) a (byte ∷ []) high ∙ before a ∙ part-in old at a count source low high (omega arith)
         ∙ sym (part-in old at a (count + 1) source low (omega arith) (omega arith))
 
-    here : at + count < suc a → a < at + count + 1 → value new a ≡ value_after old at (take (count + 1) source) a
+    here : at + count < suc a → a < at + count + 1 → paged_byte new a ≡ value_after old at (take (count + 1) source) a
     here low high =
         after a
         ∙ after-in mid (at + count) a (byte ∷ []) (omega arith) (omega arith)
@@ -178,7 +178,7 @@ put-more old mid new at count byte source few is before after a =
         ∙ ap (λ (k : ℕ). get_or source k 0) (let e : count ≡ a - at = omega arith in e)
         ∙ sym (part-in old at a (count + 1) source (omega arith) (omega arith) (omega arith))
 
-    behind : at + count + 1 ≤ a → value new a ≡ value_after old at (take (count + 1) source) a
+    behind : at + count + 1 ≤ a → paged_byte new a ≡ value_after old at (take (count + 1) source) a
     behind high =
         after a ∙ after-behind mid (at + count) a (byte ∷ []) (omega arith) ∙ before a ∙ part-behind old at a count source (omega arith) (omega arith)
         ∙ sym (part-behind old at a (count + 1) source (omega arith) (omega arith))
@@ -188,7 +188,7 @@ pub rest-again : (old mid new : PagedMemory) → mid ≡ record old { pages = mi
 rest-again old mid new before after = after ∙ ap (λ (k : PagedMemory). record k { pages = new.pages }) before
 
 -- bytes that are put where they may be written leave all others as they began
-pub put-intact : (old new : PagedMemory) (at : ℕ) (source : List ℕ) → ((a : ℕ) → may PF_W old.regions a ≡ false → value old a ≡ first_byte old.file.now old.regions a) → ((i : ℕ) → i < length source → may PF_W old.regions (at + i) ≡ true) → ((a : ℕ) → value new a ≡ value_after old at source a) → (a : ℕ) → may PF_W old.regions a ≡ false → value new a ≡ first_byte old.file.now old.regions a
+pub put-intact : (old new : PagedMemory) (at : ℕ) (source : List ℕ) → ((a : ℕ) → may PF_W old.regions a ≡ false → paged_byte old a ≡ first_byte old.file.now old.regions a) → ((i : ℕ) → i < length source → may PF_W old.regions (at + i) ≡ true) → ((a : ℕ) → paged_byte new a ≡ value_after old at source a) → (a : ℕ) → may PF_W old.regions a ≡ false → paged_byte new a ≡ first_byte old.file.now old.regions a
 put-intact old new at source intact granted values a fixed =
     values a
     ∙ (elim (leb_tells at a) [
@@ -248,6 +248,6 @@ near-paged old pages at source true is none near put =
     put-paged old pages at source is (put refl) (near refl).within (near-inside old PF_W at (length source) is (near refl))
     (λ i few. all-each (may PF_W old.regions) at (length source) i (near-granted old PF_W at (length source) is (near refl)) few)
 
-pub near-value : (old : PagedMemory) (pages : PageStore) (at : ℕ) (source : List ℕ) → IsPaged old → IsNear (page_of old at) PF_W at (length source) → IsPagedAt old.pages pages (at / 2 ^ 12) (with_bytes (page_of old at) (at % 2 ^ 12) source) → (a : ℕ) → value (record { file = old.file; regions = old.regions; pages = pages }) a ≡ value_after old at source a
+pub near-value : (old : PagedMemory) (pages : PageStore) (at : ℕ) (source : List ℕ) → IsPaged old → IsNear (page_of old at) PF_W at (length source) → IsPagedAt old.pages pages (at / 2 ^ 12) (with_bytes (page_of old at) (at % 2 ^ 12) source) → (a : ℕ) → paged_byte (record { file = old.file; regions = old.regions; pages = pages }) a ≡ value_after old at source a
 near-value old pages at source is near put =
     put-value old (record { file = old.file; regions = old.regions; pages = pages }) at source (λ _. refl) put near.within (near-inside old PF_W at (length source) is near)

@@ -3,7 +3,7 @@ use Rattle.std.proofs.Common.{◌≡◌, ℕ, zero, suc, ◌≤◌, Bool, true, 
 use Rattle.prof_bytes.specs.Number.{number_bytes}
 use Rattle.rv_table.specs.declared.inst.Inst.{Inst}
 use Rattle.rv_hart.specs.declared.execute.Went.{Went}
-use Rattle.rv_hart.specs.private.Going.{ended}
+use Rattle.rv_hart.specs.private.Going.{step_ended}
 use Rattle.rv_hart.specs.declared.outcome.Stepped.{Stepped}
 use Rattle.rv_hart.specs.declared.outcome.Stepped.TheVariants as stepped
 use Rattle.rv_hart.specs.declared.outcome.Cause.TheVariants as cause
@@ -24,7 +24,7 @@ pub put-yes : (s : State) (after : AddressSpace) (at : ℕ) (bytes : List ℕ) �
 put-yes s after at bytes done = ap (λ (q : Bool × AddressSpace). finishes_store q s) done
 
 -- the same store, whose address and bytes are those of the instruction
-pub store-ok : {E : Type 0} (s after : State) (inst : Inst) (size at : ℕ) (bytes : List ℕ) (r : Result Went E) → at ≡ address inst s → bytes ≡ number_bytes size (rs2_value inst s) → IfOk r (λ q. ◌≡◌ {A = State × Stepped} (after, ended q) (finishes_store (stored s.memory at bytes) s)) → IfOk r (λ q. ◌≡◌ {A = State × Stepped} (after, ended q) (stores inst size s))
+pub store-ok : {E : Type 0} (s after : State) (inst : Inst) (size at : ℕ) (bytes : List ℕ) (r : Result Went E) → at ≡ address inst s → bytes ≡ number_bytes size (rs2_value inst s) → IfOk r (λ q. ◌≡◌ {A = State × Stepped} (after, step_ended q) (finishes_store (stored s.memory at bytes) s)) → IfOk r (λ q. ◌≡◌ {A = State × Stepped} (after, step_ended q) (stores inst size s))
 store-ok s after inst size at bytes (Ok q) there what done = done ∙ ap₂ (λ (a : ℕ) (b : List ℕ). finishes_store (stored s.memory a b) s) there what
 store-ok s after inst size at bytes (Err e) there what done = tt
 

@@ -6,8 +6,8 @@ use Rattle.elf_image.specs.declared.part.Segment.{Segment}
 use Rattle.prof_bytes.specs.Number.{number_in}
 use Rattle.rv_hart.specs.declared.paged_memory.PagedMemory.{PagedMemory}
 use Rattle.elf_image.specs.declared.elf.TheConstants.{PF_R, PF_W, PF_X}
-use Rattle.rv_hart.specs.AddressSpace.{AddressSpace, byte_at, region_at, may, may_all, number_at, loaded, byte_after, written, stored}
-use Rattle.rv_hart.specs.private.Paging.{value, value_after, memory_of, IsPaged}
+use Rattle.rv_hart.specs.AddressSpace.{AddressSpace, byte_at, region_at, may, may_all, memory_number, loaded, byte_after, written, stored}
+use Rattle.rv_hart.specs.private.Paging.{paged_byte, value_after, memory_of, IsPaged}
 use Rattle.rv_hart.proofs.Bytes.{byte-each, each-same}
 use Rattle.rv_hart.specs.AddressSpace.{has}
 use Rattle.rv_hart.specs.Step.{is_fetched_from, fetched_at}
@@ -18,13 +18,13 @@ use Rattle.rv_hart.specs.private.Paging.{page_of}
 use Rattle.rv_hart.proofs.Near.{spelled, all-each, granted-low, covers-low, all-granted, near-page, part-length}
 
 -- the byte at an address
-pub byte-paged : (paged : PagedMemory) (at : ℕ) → at < 2 ^ 32 → byte_at (memory_of paged) at ≡ value paged at
-byte-paged paged at low = byte-each (value paged) at low
+pub byte-paged : (paged : PagedMemory) (at : ℕ) → at < 2 ^ 32 → byte_at (memory_of paged) at ≡ paged_byte paged at
+byte-paged paged at low = byte-each (paged_byte paged) at low
 
 -- so many bytes, from an address on
-pub bytes-paged : (paged : PagedMemory) (at count : ℕ) → ((i : ℕ) → i < count → at + i < 2 ^ 32) → map (byte_at (memory_of paged)) (range_with_len at count) ≡ map (value paged) (range_with_len at count)
+pub bytes-paged : (paged : PagedMemory) (at count : ℕ) → ((i : ℕ) → i < count → at + i < 2 ^ 32) → map (byte_at (memory_of paged)) (range_with_len at count) ≡ map (paged_byte paged) (range_with_len at count)
 bytes-paged paged at count low =
-    spelled (map (byte_at (memory_of paged)) (range_with_len at count)) (value paged) at count (length-map-range_with_len (byte_at (memory_of paged)) at count)
+    spelled (map (byte_at (memory_of paged)) (range_with_len at count)) (paged_byte paged) at count (length-map-range_with_len (byte_at (memory_of paged)) at count)
     (λ i few. get_or-map-range_with_len (byte_at (memory_of paged)) at count i (at + i) 0 few refl ∙ byte-paged paged (at + i) (low i few))
 
 -- bytes that may be used end at 2^32 or below
@@ -33,19 +33,19 @@ granted-end paged right at count is all i few =
     granted-low paged.regions right (at + i) is.low (all-each (may right paged.regions) at count i all few)
 
 -- a load that may be made
-pub loaded-paged : (paged : PagedMemory) (at count : ℕ) → IsPaged paged → may_all PF_R (memory_of paged) at count ≡ true → loaded (memory_of paged) at count ≡ Some (number_in count (map (value paged) (range_with_len at count)))
+pub loaded-paged : (paged : PagedMemory) (at count : ℕ) → IsPaged paged → may_all PF_R (memory_of paged) at count ≡ true → loaded (memory_of paged) at count ≡ Some (number_in count (map (paged_byte paged) (range_with_len at count)))
 loaded-paged paged at count is all =
-    ap (λ (t : Bool). cond t (Some (number_at (memory_of paged) at count)) None) all
+    ap (λ (t : Bool). cond t (Some (memory_number (memory_of paged) at count)) None) all
     ∙ ap (λ (b : List ℕ). Some (number_in count b)) (bytes-paged paged at count (granted-end paged PF_R at count is all))
 
 -- memory after bytes were written
-pub written-paged : (old new : PagedMemory) (at : ℕ) (bytes : List ℕ) → old.regions ≡ new.regions → ((a : ℕ) → value new a ≡ value_after old at bytes a) → memory_of new ≡ written (memory_of old) at bytes
+pub written-paged : (old new : PagedMemory) (at : ℕ) (bytes : List ℕ) → old.regions ≡ new.regions → ((a : ℕ) → paged_byte new a ≡ value_after old at bytes a) → memory_of new ≡ written (memory_of old) at bytes
 written-paged old new at bytes same values =
     ap₂ (λ (r : List Segment) (b : List ℕ). let m : AddressSpace = record { regions = r; bytes = b } in m) (sym same)
-    (each-same (value new) (byte_after (memory_of old) at bytes)
+    (each-same (paged_byte new) (byte_after (memory_of old) at bytes)
     (λ a low. values a ∙ ap (cond (nat_le at a && nat_lt a (at + length bytes)) (slice_index bytes (a - at))) (sym (byte-paged old a low))))
 
-pub stored-paged : (old new : PagedMemory) (at : ℕ) (bytes : List ℕ) → old.regions ≡ new.regions → may_all PF_W (memory_of old) at (length bytes) ≡ true → ((a : ℕ) → value new a ≡ value_after old at bytes a) → (true, memory_of new) ≡ stored (memory_of old) at bytes
+pub stored-paged : (old new : PagedMemory) (at : ℕ) (bytes : List ℕ) → old.regions ≡ new.regions → may_all PF_W (memory_of old) at (length bytes) ≡ true → ((a : ℕ) → paged_byte new a ≡ value_after old at bytes a) → (true, memory_of new) ≡ stored (memory_of old) at bytes
 stored-paged old new at bytes same all values =
     let after : Bool × AddressSpace = (true, written (memory_of old) at bytes) in
     ap (λ (m : AddressSpace). let q : Bool × AddressSpace = (true, m) in q) (written-paged old new at bytes same values)
@@ -58,7 +58,7 @@ granted-whole paged right at (suc count) is all small =
     omega arith
 
 -- bytes put into what has the same values
-pub after-same : (old mid : PagedMemory) (at : ℕ) (bytes : List ℕ) → ((a : ℕ) → value mid a ≡ value old a) → (a : ℕ) → value_after mid at bytes a ≡ value_after old at bytes a
+pub after-same : (old mid : PagedMemory) (at : ℕ) (bytes : List ℕ) → ((a : ℕ) → paged_byte mid a ≡ paged_byte old a) → (a : ℕ) → value_after mid at bytes a ≡ value_after old at bytes a
 after-same old mid at bytes values a = ap (cond (nat_le at a && nat_lt a (at + length bytes)) (slice_index bytes (a - at))) (values a)
 
 -- what a change of the pages leaves
@@ -69,12 +69,12 @@ fetch-low : (pc i : ℕ) → pc + 4 ≤ 2 ^ 32 → i < 4 → pc + i < 2 ^ 32
 fetch-low pc i end few = omega arith
 
 -- a fetch that may be made
-pub fetched-paged : (paged : PagedMemory) (home : Segment) (pc : ℕ) → IsPaged paged → IsHome paged.regions home → region_at paged.regions pc ≡ Some home → pc % 4 ≡ 0 → pc < 2 ^ 32 → has PF_X home ≡ true → covers_all home pc 4 ≡ true → fetched_at (memory_of paged) pc ≡ Some (number_in 4 (map (value paged) (range_with_len pc 4)))
+pub fetched-paged : (paged : PagedMemory) (home : Segment) (pc : ℕ) → IsPaged paged → IsHome paged.regions home → region_at paged.regions pc ≡ Some home → pc % 4 ≡ 0 → pc < 2 ^ 32 → has PF_X home ≡ true → covers_all home pc 4 ≡ true → fetched_at (memory_of paged) pc ≡ Some (number_in 4 (map (paged_byte paged) (range_with_len pc 4)))
 fetched-paged paged home pc is own found aligned small granted covered =
     let end : pc + 4 ≤ 2 ^ 32 = covers-low paged.regions home pc 4 is.low own covered small in
     let fetched : is_fetched_from pc (region_at paged.regions pc) ≡ true =
     ap (is_fetched_from pc) found ∙ ap₂ (λ (a b : Bool). a && b) granted (and_parts _ _ covered).1 in
-    ap (λ (t : Bool). cond t (Some (number_at (memory_of paged) pc 4)) None) (ap₂ (λ (a b : Bool). a && b) (eq-eqb (pc % 4) 0 aligned) fetched)
+    ap (λ (t : Bool). cond t (Some (memory_number (memory_of paged) pc 4)) None) (ap₂ (λ (a b : Bool). a && b) (eq-eqb (pc % 4) 0 aligned) fetched)
     ∙ ap (λ (b : List ℕ). Some (number_in 4 b)) (bytes-paged paged pc 4 (λ i few. fetch-low pc i end few))
 
 -- a load from a page

@@ -45,12 +45,12 @@ abbrev pub may_all : ℕ → AddressSpace → ℕ → ℕ → Bool
 may_all right memory at count = list_all (may right memory.regions) (range_with_len at count)
 
 -- the number in so many bytes from this address on, the lowest first
-abbrev pub number_at : AddressSpace → ℕ → ℕ → ℕ
-number_at memory at size = number_in size (map (byte_at memory) (range_with_len at size))
+abbrev pub memory_number : AddressSpace → ℕ → ℕ → ℕ
+memory_number memory at size = number_in size (map (byte_at memory) (range_with_len at size))
 
 -- what a load gives: nothing where it traps
 abbrev pub loaded : AddressSpace → ℕ → ℕ → Option ℕ
-loaded memory at size = if may_all PF_R memory at size then Some (number_at memory at size) else None
+loaded memory at size = if may_all PF_R memory at size then Some (memory_number memory at size) else None
 
 -- loads and stores are of 1, 2 or 4 bytes
 abbrev pub is_size : ℕ → Bool

@@ -14,7 +14,7 @@ use Rattle.rv_hart.specs.declared.outcome.Stepped.TheVariants as stepped
 use Rattle.rv_hart.specs.declared.outcome.Cause.{Cause}
 use Rattle.rv_hart.specs.declared.outcome.Cause.TheVariants as cause
 use Rattle.elf_image.specs.declared.elf.TheConstants.{PF_X}
-use Rattle.rv_hart.specs.AddressSpace.{AddressSpace, has, region_at, number_at, loaded, stored}
+use Rattle.rv_hart.specs.AddressSpace.{AddressSpace, has, region_at, memory_number, loaded, stored}
 use Rattle.rv_hart.specs.Arithmetic.{signed, sum, computed}
 
 pub record State : Type 0 where
@@ -118,7 +118,7 @@ is_fetched_from pc (Some region) = has PF_X region && nat_le (pc + 4) region.end
 -- the word at pc, where it may be fetched
 abbrev pub fetched_at : AddressSpace → ℕ → Option ℕ
 fetched_at memory pc =
-    if pc % 4 == 0 && is_fetched_from pc (region_at memory.regions pc) then Some (number_at memory pc 4) else None
+    if pc % 4 == 0 && is_fetched_from pc (region_at memory.regions pc) then Some (memory_number memory pc 4) else None
 
 abbrev pub fetched : State → Option ℕ
 fetched s = fetched_at s.memory s.pc

@@ -8,7 +8,7 @@ ghost use Rattle.prof_bytes.specs.Number.{number_in};
 ghost use Rattle.rv_table.specs.declared.inst.Inst.{Inst};
 ghost use Rattle.rv_table.specs.Table.{HasRegisters, decoded};
 ghost use Rattle.rv_hart.specs.Step.{fetched_at};
-ghost use Rattle.rv_hart.specs.private.Decoding.{first_in, AreKept, IsCode, AreCode, IsInstruction, Begins};
+ghost use Rattle.rv_hart.specs.private.Decoding.{first_in, AreKept, IsCode, AreCode, IsInstruction, IsKeptAt, Begins};
 ghost use Rattle.rv_hart.specs.private.Paging.{IsPaged, covers_all, memory_of, word_address};
 
 use crate::paged_memory::PagedMemory;
@@ -129,7 +129,7 @@ pub(crate) fn decoded_regions(
 }
 
 /// What is kept of the region that holds the address.
-pub(crate) fn code_at<'c>(
+fn code_at<'c>(
     codes: &'c RangeTable<DecodedCode>,
     paged: &PagedMemory<'_>,
     pc: u32,
@@ -139,6 +139,19 @@ pub(crate) fn code_at<'c>(
 {
     let _ = paged;
     codes.first(pc)
+}
+
+/// The index of the region of which most words are kept.
+pub(crate) fn longest(codes: &[DecodedCode]) -> usize {
+    let mut most = 0;
+    let mut longest = 0;
+    for (index, code) in codes.iter().enumerate() {
+        if code.items.len() > most {
+            most = code.items.len();
+            longest = index;
+        }
+    }
+    longest
 }
 
 /// The address of the word at an index, modulo 2^32.
@@ -177,6 +190,7 @@ pub(crate) fn is_illegal(inst: &Inst) -> bool
 }
 
 /// Whether there is an instruction at an index.
+#[inline(always)]
 fn is_instruction(items: &[Inst], index: usize) -> bool
     ensures within { result ≡ true → index < length items.now }
     ensures instruction { result ≡ true → IsInstruction items.now index }
@@ -188,7 +202,8 @@ fn is_instruction(items: &[Inst], index: usize) -> bool
 }
 
 /// The index of the word at pc, where it is kept and an instruction.
-pub(crate) fn first_kept(code: &DecodedCode, paged: &PagedMemory<'_>, pc: u32) -> Option<usize>
+#[inline(always)]
+fn first_kept(code: &DecodedCode, paged: &PagedMemory<'_>, pc: u32) -> Option<usize>
     requires paged { IsPaged paged.now }
     requires code { IsCode paged.now.file.now paged.now.regions code.now }
     ensures pc { IfSome result (λ index. word_address code.now.base index ≡ pc) }
@@ -203,4 +218,40 @@ pub(crate) fn first_kept(code: &DecodedCode, paged: &PagedMemory<'_>, pc: u32) -
         return None;
     }
     Some(index)
+}
+
+/// What is kept of the region that holds the address, and the index of its word, where that is an instruction.
+#[inline(never)]
+fn kept_elsewhere<'c>(
+    codes: &'c RangeTable<DecodedCode>,
+    paged: &PagedMemory<'_>,
+    pc: u32,
+) -> Option<(&'c DecodedCode, usize)>
+    requires paged { IsPaged paged.now }
+    requires codes { AreCode paged.now.file.now paged.now.regions codes.now }
+    ensures { IfSome result (λ kept. IsKeptAt paged.now kept.0.now kept.1 pc) }
+{
+    let code = code_at(codes, paged, pc)?;
+    let first = first_kept(code, paged, pc)?;
+    Some((code, first))
+}
+
+/// The same. The region with this index is asked first.
+#[inline(always)]
+pub(crate) fn kept_at<'c>(
+    codes: &'c RangeTable<DecodedCode>,
+    likely: usize,
+    paged: &PagedMemory<'_>,
+    pc: u32,
+) -> Option<(&'c DecodedCode, usize)>
+    requires paged { IsPaged paged.now }
+    requires codes { AreCode paged.now.file.now paged.now.regions codes.now }
+    ensures { IfSome result (λ kept. IsKeptAt paged.now kept.0.now kept.1 pc) }
+{
+    if let Some(code) = codes.items().get(likely) {
+        if let Some(first) = first_kept(code, paged, pc) {
+            return Some((code, first));
+        }
+    }
+    kept_elsewhere(codes, paged, pc)
 }

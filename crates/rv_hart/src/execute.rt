@@ -5,7 +5,7 @@ ghost use Rattle.rv_table.specs.Fields.{sign_extended};
 ghost use Rattle.rv_table.specs.Table.{HasRegisters};
 ghost use Rattle.rv_hart.specs.AddressSpace.{AddressSpace, is_size, stored};
 ghost use Rattle.rv_hart.specs.Arithmetic.{computed, sum};
-ghost use Rattle.rv_hart.specs.private.Going.{ended, Goes, GoesBy};
+ghost use Rattle.rv_hart.specs.private.Going.{step_ended, Goes, GoesBy};
 ghost use Rattle.rv_hart.specs.private.Paging.{IsPaged, memory_of, word_address, indexed_state, state_at};
 ghost use Rattle.rv_hart.specs.Step.{State, state, rs1_value, rs2_value, address, operand, computes, jumps, branches};
 ghost use Rattle.rv_hart.specs.Step.{continues_at};
@@ -39,7 +39,7 @@ pub(crate) enum Went {
 fn go_on(index: &mut usize) -> Went
     ensures ends { (base : ℕ) (registers : List ℕ) (m : AddressSpace) →
         let s = state (word_address base index.old) registers m in
-        (state (word_address base index.new) registers m, ended result) ≡ continues_at (sum s.pc 4) s }
+        (state (word_address base index.new) registers m, step_ended result) ≡ continues_at (sum s.pc 4) s }
     ensures goes { (count : ℕ) → Goes count index.old index.new result }
 {
     *index = index.wrapping_add(1);
@@ -50,7 +50,7 @@ fn go_on(index: &mut usize) -> Went
 #[inline(always)]
 fn write_back(hart: &mut Hart, index: &mut usize, inst: &Inst, value: u32) -> Went
     requires { HasRegisters inst.now }
-    ensures ends { (base : ℕ) (m : AddressSpace) → (state_at base index.new hart.new m, ended result)
+    ensures ends { (base : ℕ) (m : AddressSpace) → (state_at base index.new hart.new m, step_ended result)
         ≡ computes inst.now value (state_at base index.old hart.old m) }
     ensures goes { (count : ℕ) → Goes count index.old index.new result }
 {
@@ -64,7 +64,7 @@ fn write_back(hart: &mut Hart, index: &mut usize, inst: &Inst, value: u32) -> We
 fn operate(hart: &mut Hart, index: &mut usize, inst: &Inst, op: Op) -> Went
     requires { HasRegisters inst.now }
     ensures ends { (base : ℕ) (m : AddressSpace) → let s = state_at base index.old hart.old m in
-        (state_at base index.new hart.new m, ended result)
+        (state_at base index.new hart.new m, step_ended result)
         ≡ computes inst.now (computed op (rs1_value inst.now s) (rs2_value inst.now s) inst.now.imm) s }
     ensures goes { (count : ℕ) → Goes count index.old index.new result }
 {
@@ -79,7 +79,7 @@ fn go_to(index: &mut usize, base: u32, count: usize, target: u32) -> Went
     requires base { base % 4 ≡ 0 }
     requires target { target % 4 ≡ 0 }
     ensures at { word_address base index.new ≡ target }
-    ensures retires { ended result ≡ Stepped.Retired }
+    ensures retires { step_ended result ≡ Stepped.Retired }
     ensures goes { Goes count index.old index.new result }
 {
     *index = index_of(base, target);
@@ -97,7 +97,7 @@ fn jump(
 ) -> Went
     requires registers { HasRegisters inst.now }
     requires base { base % 4 ≡ 0 }
-    ensures ends { (m : AddressSpace) → (state_at base index.new hart.new m, ended result)
+    ensures ends { (m : AddressSpace) → (state_at base index.new hart.new m, step_ended result)
         ≡ jumps inst.now target (state_at base index.old hart.old m) }
     ensures goes { Goes count index.old index.new result }
 {
@@ -113,7 +113,7 @@ fn jump(
 fn branch(index: &mut usize, base: u32, count: usize, inst: &Inst, taken: bool) -> Went
     requires base { base % 4 ≡ 0 }
     ensures ends { (registers : List ℕ) (m : AddressSpace) →
-        (state (word_address base index.new) registers m, ended result)
+        (state (word_address base index.new) registers m, step_ended result)
         ≡ branches inst.now taken (state (word_address base index.old) registers m) }
     ensures goes { Goes count index.old index.new result }
 {
@@ -132,7 +132,7 @@ fn branch(index: &mut usize, base: u32, count: usize, inst: &Inst, taken: bool) 
 #[inline(always)]
 fn load(hart: &mut Hart, index: &mut usize, inst: &Inst, number: Option<u32>) -> Went
     requires { HasRegisters inst.now }
-    ensures ends { (base : ℕ) (m : AddressSpace) → (state_at base index.new hart.new m, ended result)
+    ensures ends { (base : ℕ) (m : AddressSpace) → (state_at base index.new hart.new m, step_ended result)
         ≡ loads inst.now number (state_at base index.old hart.old m) }
     ensures goes { (count : ℕ) → Goes count index.old index.new result }
 {
@@ -202,7 +202,7 @@ fn finish_store(
     ensures paged { IsPaged paged.new }
     ensures ok { (base : ℕ) (registers : List ℕ) →
         let s = state (word_address base index.old) registers (memory_of paged.old) in
-        IfOk result (λ went. (state (word_address base index.new) registers (memory_of paged.new), ended went)
+        IfOk result (λ went. (state (word_address base index.new) registers (memory_of paged.new), step_ended went)
         ≡ finishes_store (stored (memory_of paged.old) at (number_bytes size word)) s) }
     ensures goes { IfOk result (λ went. (count : ℕ) → Goes count index.old index.new went) }
     ensures err { OnErr result (index.new ≡ index.old) }
@@ -232,7 +232,7 @@ fn store(
     requires size { size ≤ 4 }
     ensures rest { paged.new ≡ record paged.old { pages = paged.new.pages } }
     ensures paged { IsPaged paged.new }
-    ensures ok { (base : ℕ) → IfOk result (λ went. (indexed_state base index.new hart.now paged.new, ended went)
+    ensures ok { (base : ℕ) → IfOk result (λ went. (indexed_state base index.new hart.now paged.new, step_ended went)
         ≡ stores inst.now size (indexed_state base index.old hart.now paged.old)) }
     ensures goes { IfOk result (λ went. (count : ℕ) → Goes count index.old index.new went) }
     ensures err { OnErr result (index.new ≡ index.old) }
@@ -260,7 +260,7 @@ pub(crate) fn carry_out(
     requires base { base % 4 ≡ 0 }
     ensures rest { paged.new ≡ record paged.old { pages = paged.new.pages } }
     ensures paged { IsPaged paged.new }
-    ensures ok { IfOk result (λ went. (indexed_state base index.new hart.new paged.new, ended went)
+    ensures ok { IfOk result (λ went. (indexed_state base index.new hart.new paged.new, step_ended went)
         ≡ carried_out inst.now (indexed_state base index.old hart.old paged.old)) }
     ensures goes { IfOk result (λ went. GoesBy inst.now.op count index.old index.new went) }
     ensures err { OnErr result

@@ -1,9 +1,9 @@
 //! How memory is kept: pages for what was written, and the file for what was not.
 ghost use Rattle.std.specs.Prelude.{◌≡◌, ◌+◌, ◌<◌, ◌≤◌, ◌^◌, IfSome, length};
 ghost use Rattle.rv_hart.specs.AddressSpace.{region_at, first_byte, byte_in, loaded};
-ghost use Rattle.rv_hart.specs.private.Paging.{page_of, value, memory_of, IsHome, IsPaged};
+ghost use Rattle.rv_hart.specs.private.Paging.{page_of, paged_byte, memory_of, IsHome, IsPaged};
 ghost use Rattle.scope_types.specs.Memory.{HasWords};
-ghost use Rattle.rv_hart.specs.private.Lending.{AreOf};
+ghost use Rattle.rv_hart.specs.private.Lending.{AreWordsOf};
 
 use crate::pages::Pages;
 use crate::right::{NOWHERE, Right, grants};
@@ -35,7 +35,7 @@ fn first_in(file: &[u8], region: &Segment, at: u32) -> u8
 /// The bytes of a page, which begins at `base`, that lie in its region, if that may be read.
 fn lent(home: Segment, bytes: &[u8], base: u32) -> MemorySlice<'_>
     requires { base + length bytes.now ≤ 2 ^ 32 }
-    ensures { AreOf (record { home = home; bytes = bytes.now }) base result }
+    ensures { AreWordsOf (record { home = home; bytes = bytes.now }) base result }
 {
     if !grants(&home, Right::Read) {
         return MemorySlice::empty();
@@ -97,7 +97,7 @@ impl<'a> PagedMemory<'a> {
     #[inline(always)]
     pub(crate) fn byte_near(&self, home: &Segment, at: u32) -> u8
         requires { IsHome self.now.regions home.now }
-        ensures { result ≡ value self.now at }
+        ensures { result ≡ paged_byte self.now at }
     {
         match self.page_bytes(at).get(at as usize % 4096) {
             Some(byte) => *byte,
@@ -107,7 +107,7 @@ impl<'a> PagedMemory<'a> {
 
     /// The byte at the address.
     pub(crate) fn byte(&self, at: u32) -> u8
-        ensures { result ≡ value self.now at }
+        ensures { result ≡ paged_byte self.now at }
     {
         self.byte_near(&NOWHERE, at)
     }

@@ -3,7 +3,7 @@ ghost use Rattle.std.specs.Prelude.{◌≡◌, ◌+◌, ◌<◌, ◌≤◌, ◌^
 ghost use Rattle.std.specs.List.{range_with_len, list_all};
 ghost use Rattle.prof_bytes.specs.Number.{number_in};
 ghost use Rattle.rv_hart.specs.AddressSpace.{region_at, may, byte_in, is_size, loaded};
-ghost use Rattle.rv_hart.specs.private.Paging.{value, covers_all, IsHome, IsPaged, bit_of, memory_of};
+ghost use Rattle.rv_hart.specs.private.Paging.{paged_byte, covers_all, IsHome, IsPaged, bit_of, memory_of};
 
 use crate::paged_memory::PagedMemory;
 use crate::right::{NOWHERE, Right, covers, grants};
@@ -60,7 +60,7 @@ impl<'a> PagedMemory<'a> {
         requires home { IsHome self.now.regions home.now }
         requires covered { covers_all home.now at count ≡ true }
         requires count { count ≤ 4 }
-        ensures { IfSome result (λ bytes. bytes.now ≡ map (value self.now) (range_with_len at count)) }
+        ensures { IfSome result (λ bytes. bytes.now ≡ map (paged_byte self.now) (range_with_len at count)) }
     {
         if !grants(home, Right::Write) {
             return near_in_file(self.file, home, at, count);
@@ -82,7 +82,7 @@ impl<'a> PagedMemory<'a> {
     /// The bytes from `at` on, one by one.
     fn copy(&self, at: u32, out: &mut [u8])
         requires { at + length out.old ≤ 2 ^ 32 }
-        ensures { out.new ≡ map (value self.now) (range_with_len at (length out.old)) }
+        ensures { out.new ≡ map (paged_byte self.now) (range_with_len at (length out.old)) }
     {
         for (offset, byte) in out.iter_mut().enumerate() {
             *byte = self.byte(at + offset as u32);
@@ -94,7 +94,7 @@ impl<'a> PagedMemory<'a> {
     pub(crate) fn number_apart(&self, at: u32, count: usize) -> u32
         requires count { is_size count ≡ true }
         requires low { at + count ≤ 2 ^ 32 }
-        ensures value { result ≡ number_in count (map (value self.now) (range_with_len at count)) }
+        ensures value { result ≡ number_in count (map (paged_byte self.now) (range_with_len at count)) }
         ensures fits { result < 2 ^ (8 * count) }
     {
         let mut bytes = [0; 4];
@@ -109,7 +109,7 @@ impl<'a> PagedMemory<'a> {
         requires home { IsHome self.now.regions home.now }
         requires covered { covers_all home.now at count ≡ true }
         requires count { is_size count ≡ true }
-        ensures value { result ≡ number_in count (map (value self.now) (range_with_len at count)) }
+        ensures value { result ≡ number_in count (map (paged_byte self.now) (range_with_len at count)) }
         ensures fits { result < 2 ^ (8 * count) }
     {
         match self.near(home, at, count) {

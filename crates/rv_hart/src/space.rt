@@ -7,7 +7,7 @@ ghost use Rattle.rv_hart.specs.Step.{fetched_at, step_of, StoresNow};
 ghost use Rattle.rv_hart.specs.Stepping.{state_of};
 
 use crate::access;
-use crate::decoded_code::{DecodedCode, END, code_at, decoded_regions, first_kept, is_illegal};
+use crate::decoded_code::{DecodedCode, END, decoded_regions, is_illegal, kept_at, longest};
 use crate::hart::Hart;
 use crate::outcome::{Cause, Stepped};
 use crate::paged_memory::PagedMemory;
@@ -32,6 +32,8 @@ pub struct Space<'a> {
     paged: PagedMemory<'a>,
     code: Segment,
     decoded: RangeTable<DecodedCode>,
+    /// The index of the region of which most words are decoded. It is asked first for an instruction.
+    likely: usize,
 }
 
 impl<'a> Model for Space<'a> {
@@ -72,11 +74,13 @@ impl<'a> Space<'a> {
             pages: Pages::new(alloc),
         };
         let decoded = decoded_regions(alloc, &paged)?;
+        let likely = longest(&decoded);
         Ok(Space {
             alloc,
             paged,
             code: NOWHERE,
             decoded: RangeTable::of(alloc, decoded)?,
+            likely,
         })
     }
 
@@ -105,6 +109,7 @@ impl<'a> Space<'a> {
 
     /// Does instructions of the hart as long as they retire, up to so many, and one at least: the one at pc, and those
     /// that follow it as long as their words are kept decoded.
+    #[inline(always)]
     pub(crate) fn run_some(&mut self, hart: &mut Hart, most: u32) -> (u32, Result<Stepped, Memory>)
         requires { 0 < most }
         ensures few { result.0 ≤ most }
@@ -116,20 +121,32 @@ impl<'a> Space<'a> {
         ensures memory { OnErr result.1 (StoresNow (state_of hart.new self.new)) }
         ensures short { OnErr result.1 (result.0 < most) }
     {
-        if let Some(code) = code_at(&self.decoded, &self.paged, hart.pc) {
-            if let Some(first) = first_kept(code, &self.paged, hart.pc) {
-                let items = code.items.as_slice();
-                return run_kept(
-                    items,
-                    code.base,
-                    first,
-                    hart,
-                    &mut self.paged,
-                    self.alloc,
-                    most,
-                );
-            }
-        }
+        let Some((code, first)) = kept_at(&self.decoded, self.likely, &self.paged, hart.pc) else {
+            return self.run_fetched(hart);
+        };
+        run_kept(
+            code.items.as_slice(),
+            code.base,
+            first,
+            hart,
+            &mut self.paged,
+            self.alloc,
+            most,
+        )
+    }
+
+    /// Does the instruction at pc, whose word is not kept.
+    #[inline(never)]
+    fn run_fetched(&mut self, hart: &mut Hart) -> (u32, Result<Stepped, Memory>)
+        ensures few { result.0 ≤ 1 }
+        ensures ran { Ran result.0 (state_of hart.old self.old) (state_of hart.new self.new) }
+        ensures some { result.1 ≡ Ok Stepped.Retired → 0 < result.0 }
+        ensures ends { IfOk result.1 (λ how. ¬ (how ≡ Stepped.Retired)
+            → (state_of hart.new self.new, how) ≡ step_of (state_of hart.new self.new)) }
+        ensures early { IfOk result.1 (λ how. ¬ (how ≡ Stepped.Retired) → result.0 < 1) }
+        ensures memory { OnErr result.1 (StoresNow (state_of hart.new self.new)) }
+        ensures short { OnErr result.1 (result.0 < 1) }
+    {
         let Some(word) = self.fetch(hart.pc) else {
             return (0, Ok(Stepped::Trap(Cause::Fetch)));
         };

@@ -5,7 +5,8 @@ ghost use Rattle.std.specs.List.{slice_index_or, range_with_len, list_all};
 ghost use Rattle.elf_image.specs.declared.elf.TheConstants.{PF_W};
 ghost use Rattle.rv_hart.specs.AddressSpace.{byte_in, may};
 ghost use Rattle.rv_hart.specs.private.Pages.{page_at, page_in, with_bytes, IsSetAt};
-ghost use Rattle.rv_hart.specs.private.Paging.{page_numbered, page_of, value, value_after, covers_all, IsHome, IsPaged};
+ghost use Rattle.rv_hart.specs.private.Paging.{page_numbered, page_of, paged_byte, value_after, covers_all, IsHome};
+ghost use Rattle.rv_hart.specs.private.Paging.{IsPaged};
 
 use crate::paged_memory::PagedMemory;
 use crate::right::{NOWHERE, covers};
@@ -51,7 +52,7 @@ impl<'a> PagedMemory<'a> {
         requires number { number < 2 ^ 20 }
         ensures long { IfOk result (λ bytes. length bytes.items ≡ 2 ^ 12) }
         ensures bytes { IfOk result (λ bytes. (i : ℕ) → i < 2 ^ 12
-            → slice_index bytes.items i ≡ value self.now (number * 2 ^ 12 + i)) }
+            → slice_index bytes.items i ≡ paged_byte self.now (number * 2 ^ 12 + i)) }
     {
         let low = number * 4096;
         if covers(home, low, 4096) && self.page_bytes(low).is_empty() {
@@ -67,7 +68,7 @@ impl<'a> PagedMemory<'a> {
         requires number { number < 2 ^ 20 }
         ensures long { IfOk result (λ bytes. length bytes.items ≡ 2 ^ 12) }
         ensures bytes { IfOk result (λ bytes. (i : ℕ) → i < 2 ^ 12
-            → slice_index bytes.items i ≡ value self.now (number * 2 ^ 12 + i)) }
+            → slice_index bytes.items i ≡ paged_byte self.now (number * 2 ^ 12 + i)) }
     {
         let mut bytes = Vec::new(alloc);
         for offset in 0..4096u32 {
@@ -92,7 +93,7 @@ impl<'a> PagedMemory<'a> {
         requires { IsPaged self.old }
         ensures rest { self.new ≡ record self.old { pages = self.new.pages } }
         ensures paged { IsPaged self.new }
-        ensures values { (a : ℕ) → value self.new a ≡ value self.old a }
+        ensures values { (a : ℕ) → paged_byte self.new a ≡ paged_byte self.old a }
         ensures longer { (n : ℕ) → length (page_numbered self.old n).bytes ≤ length (page_numbered self.new n).bytes }
         ensures made { IfOk result (λ _. 2 ^ 12 ≤ length (page_of self.new at).bytes) }
     {
@@ -117,7 +118,7 @@ impl<'a> PagedMemory<'a> {
         requires granted { (i : ℕ) → i < length source.now → may PF_W self.old.regions (at + i) ≡ true }
         ensures rest { self.new ≡ record self.old { pages = self.new.pages } }
         ensures paged { IsPaged self.new }
-        ensures values { (a : ℕ) → value self.new a ≡ value_after self.old at source.now a }
+        ensures values { (a : ℕ) → paged_byte self.new a ≡ value_after self.old at source.now a }
         ensures lengths { (n : ℕ) → length (page_numbered self.new n).bytes ≡ length (page_numbered self.old n).bytes }
     {
         self.pages.put(at, source);
@@ -134,7 +135,7 @@ impl<'a> PagedMemory<'a> {
         ensures paged { IsPaged self.new }
         ensures granted { result ≡ true
             → list_all (may PF_W self.old.regions) (range_with_len at (length source.now)) ≡ true }
-        ensures values { result ≡ true → (a : ℕ) → value self.new a ≡ value_after self.old at source.now a }
+        ensures values { result ≡ true → (a : ℕ) → paged_byte self.new a ≡ value_after self.old at source.now a }
     {
         self.pages.put_near(at, source)
     }
@@ -152,7 +153,7 @@ impl<'a> PagedMemory<'a> {
         requires low { at + count ≤ 2 ^ 32 }
         ensures rest { self.new ≡ record self.old { pages = self.new.pages } }
         ensures paged { IsPaged self.new }
-        ensures values { (a : ℕ) → value self.new a ≡ value self.old a }
+        ensures values { (a : ℕ) → paged_byte self.new a ≡ paged_byte self.old a }
         ensures made { IfOk result (λ _. (i : ℕ) → i < count → 2 ^ 12 ≤ length (page_of self.new (at + i)).bytes) }
     {
         for offset in 0..count {
@@ -169,7 +170,7 @@ impl<'a> PagedMemory<'a> {
         requires made { (i : ℕ) → i < length source.now → 2 ^ 12 ≤ length (page_of self.old (at + i)).bytes }
         ensures rest { self.new ≡ record self.old { pages = self.new.pages } }
         ensures paged { IsPaged self.new }
-        ensures values { (a : ℕ) → value self.new a ≡ value_after self.old at source.now a }
+        ensures values { (a : ℕ) → paged_byte self.new a ≡ value_after self.old at source.now a }
     {
         for (offset, byte) in source.iter().enumerate() {
             self.put(at + offset as u32, &[*byte]);

@@ -10,7 +10,7 @@ use Rattle.rv_run.specs.declared.hart.HartEnd.{HartEnd}
 use Rattle.rv_run.specs.declared.linux.TheConstants.{SYS_READ, SYS_WRITE, SYS_EXIT, SYS_EXIT_GROUP, EBADF, EFAULT, ENOSYS, A0, A1, A2, A7}
 use Rattle.rv_run.specs.declared.hart.HartEnd.TheVariants as ends
 use Rattle.rv_run.specs.State.{HartState, MachineState, hart_in, hart_of, no_hart, is_running, step_state, stepped_hart}
-use Rattle.rv_run.specs.Calls.{Acted, Answered, reads, writes, call_numbered, completes, ends_by, ends_all, grouped, with_answer, with_end, only_answers, all_readable, writes_out, taken, read_into, negative, holds_in}
+use Rattle.rv_run.specs.Calls.{Acted, Answered, reads, writes, call_numbered, completes, ends_by, ends_all, grouped, with_answer, with_end, only_answers, all_readable, writes_out, room_for, read_into, negative, holds_in}
 use Rattle.rv_run.specs.Run.{acts, acts_by, acts_after, stepped_machine}
 use Rattle.rv_run.specs.Progress.{Counts, plus_one}
 use Rattle.rv_run.proofs.Unchanged.{not-retired}
@@ -65,13 +65,13 @@ reads-harts a b c s =
     elim (a == 0) as (λ t. (cond t (read_into (min c (length s.input)) (stored s.memory b (take c s.input)) s) (only_answers (negative EBADF) s)).state.harts ≡ s.harts)
     [ true ↦ read-harts (min c (length s.input)) (stored s.memory b (take c s.input)) s | false ↦ refl ]
 
-write-harts : (b c : ℕ) (s : MachineState) → (cond (all_readable s.memory b c) (writes_out b (taken c s.output) s) (only_answers (negative EFAULT) s)).state.harts ≡ s.harts
+write-harts : (b c : ℕ) (s : MachineState) → (cond (all_readable s.memory b c) (writes_out b (room_for c s.output) s) (only_answers (negative EFAULT) s)).state.harts ≡ s.harts
 write-harts b c s =
-    elim (all_readable s.memory b c) as (λ t. (cond t (writes_out b (taken c s.output) s) (only_answers (negative EFAULT) s)).state.harts ≡ s.harts) [ true ↦ refl | false ↦ refl ]
+    elim (all_readable s.memory b c) as (λ t. (cond t (writes_out b (room_for c s.output) s) (only_answers (negative EFAULT) s)).state.harts ≡ s.harts) [ true ↦ refl | false ↦ refl ]
 
 writes-harts : (a b c : ℕ) (s : MachineState) → (writes a b c s).state.harts ≡ s.harts
 writes-harts a b c s =
-    elim ((a == 1) || (a == 2)) as (λ t. (cond t (cond (all_readable s.memory b c) (writes_out b (taken c s.output) s) (only_answers (negative EFAULT) s)) (only_answers (negative EBADF) s)).state.harts ≡ s.harts)
+    elim ((a == 1) || (a == 2)) as (λ t. (cond t (cond (all_readable s.memory b c) (writes_out b (room_for c s.output) s) (only_answers (negative EFAULT) s)) (only_answers (negative EBADF) s)).state.harts ≡ s.harts)
     [ true ↦ write-harts b c s | false ↦ refl ]
 
 call_numbered-counts : (hart number a b c : ℕ) (s : MachineState) → hart < length s.harts → CountsBy hart s (call_numbered hart number a b c s)

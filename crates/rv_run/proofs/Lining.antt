@@ -8,8 +8,8 @@ use Rattle.std.proofs.lemmas.List.Quantifiers.{position-Some}
 use Rattle.prof_bytes.specs.Outcome.{◌>>=◌}
 use Rattle.rv_run.specs.declared.schedule.Slice.{Slice}
 use Rattle.rv_run.specs.declared.schedule.ScheduleFault.{ScheduleFault}
-use Rattle.rv_run.specs.Schedule.{lines, with_first, NumberedLine, numbered, slices_before, or_fault, slice_in, slices_of}
-use Rattle.rv_run.specs.private.Reading.{first_of, rest_of}
+use Rattle.rv_run.specs.Schedule.{lines, with_first_byte, NumberedLine, numbered, slices_before, or_fault, slice_in, slices_of}
+use Rattle.rv_run.specs.private.Reading.{first_or_none, rest_of}
 
 abbrev is_feed : ℕ → Bool
 is_feed byte = byte == 10
@@ -19,19 +19,19 @@ cut : (bytes : List ℕ) (end : ℕ) → end < length bytes → is_feed (get_or 
     → lines bytes ≡ take end bytes ∷ lines (drop (suc end) bytes)
 unfolding lines
 cut [] end within feed others = absurd (omega arith)
-cut (byte ∷ rest) zero within feed others = ap (λ (b : Bool). cond b ([] ∷ lines rest) (with_first byte (lines rest))) feed
+cut (byte ∷ rest) zero within feed others = ap (λ (b : Bool). cond b ([] ∷ lines rest) (with_first_byte byte (lines rest))) feed
 cut (byte ∷ rest) (suc end) within feed others =
-    ap (λ (b : Bool). cond b ([] ∷ lines rest) (with_first byte (lines rest))) (others 0 (omega arith))
-    ∙ ap (with_first byte) (cut rest end (omega arith) feed (λ k less. others (suc k) (omega arith)))
+    ap (λ (b : Bool). cond b ([] ∷ lines rest) (with_first_byte byte (lines rest))) (others 0 (omega arith))
+    ∙ ap (with_first_byte byte) (cut rest end (omega arith) feed (λ k less. others (suc k) (omega arith)))
 
 -- the last line, where nothing ends it
 last : (bytes : List ℕ) → ((k : ℕ) → k < length bytes → is_feed (get_or bytes k 0) ≡ false) → 0 < length bytes → lines bytes ≡ bytes ∷ []
 unfolding lines
 last [] others some = absurd (omega arith)
-last (byte ∷ []) others some = ap (λ (b : Bool). cond b ([] ∷ []) (with_first byte [])) (others 0 (omega arith))
+last (byte ∷ []) others some = ap (λ (b : Bool). cond b ([] ∷ []) (with_first_byte byte [])) (others 0 (omega arith))
 last (byte ∷ next ∷ rest) others some =
-    ap (λ (b : Bool). cond b ([] ∷ lines (next ∷ rest)) (with_first byte (lines (next ∷ rest)))) (others 0 (omega arith))
-    ∙ ap (with_first byte) (last (next ∷ rest) (λ k less. others (suc k) (omega arith)) (omega arith))
+    ap (λ (b : Bool). cond b ([] ∷ lines (next ∷ rest)) (with_first_byte byte (lines (next ∷ rest)))) (others 0 (omega arith))
+    ∙ ap (with_first_byte byte) (last (next ∷ rest) (λ k less. others (suc k) (omega arith)) (omega arith))
 
 none-passes : (p : ℕ → Bool) (xs : List ℕ) → position p xs ≡ None → (k : ℕ) → k < length xs → p (get_or xs k 0) ≡ false
 none-passes p xs none k less =
@@ -60,17 +60,17 @@ unfolding lines
 no-lines [] none = refl
 no-lines (byte ∷ rest) none = absurd (omega arith)
 
-pub line-first : (done : ℕ) (rest : List (List ℕ)) (line : List ℕ) (more : List (List ℕ)) → rest ≡ line ∷ more → Some (record { number = done + 1; bytes = line }) ≡ first_of (numbered (done + 1) rest)
+pub line-first : (done : ℕ) (rest : List (List ℕ)) (line : List ℕ) (more : List (List ℕ)) → rest ≡ line ∷ more → Some (record { number = done + 1; bytes = line }) ≡ first_or_none (numbered (done + 1) rest)
 unfolding numbered
-line-first done rest line more is = ap (λ (ls : List (List ℕ)). first_of (numbered (done + 1) ls)) (sym is)
+line-first done rest line more is = ap (λ (ls : List (List ℕ)). first_or_none (numbered (done + 1) ls)) (sym is)
 
 pub line-rest : (done : ℕ) (rest : List (List ℕ)) (line : List ℕ) (more : List (List ℕ)) → rest ≡ line ∷ more → numbered (done + 1 + 1) more ≡ rest_of (numbered (done + 1) rest)
 unfolding numbered
 line-rest done rest line more is = ap (λ (ls : List (List ℕ)). rest_of (numbered (done + 1) ls)) (sym is)
 
-pub none-first : (done : ℕ) (rest : List (List ℕ)) → rest ≡ [] → None ≡ first_of (numbered (done + 1) rest)
+pub none-first : (done : ℕ) (rest : List (List ℕ)) → rest ≡ [] → None ≡ first_or_none (numbered (done + 1) rest)
 unfolding numbered
-none-first done rest is = ap (λ (ls : List (List ℕ)). first_of (numbered (done + 1) ls)) (sym is)
+none-first done rest is = ap (λ (ls : List (List ℕ)). first_or_none (numbered (done + 1) ls)) (sym is)
 
 pub none-rest : (done : ℕ) (rest : List (List ℕ)) → rest ≡ [] → numbered (done + 1) rest ≡ rest_of (numbered (done + 1) rest)
 unfolding numbered
@@ -81,7 +81,7 @@ pub before-before : (xs ys : List Slice) (rest : Result (List Slice) ScheduleFau
 before-before xs ys (Ok more) = ap (λ (all : List Slice). Ok all) (sym (append_assoc xs ys more))
 before-before xs ys (Err fault) = refl
 
-pub read-one : (harts used : ℕ) (left rest : List NumberedLine) (line : NumberedLine) (slice : Slice) → Some line ≡ first_of left → rest ≡ rest_of left → slice_in harts used line.bytes ≡ Some slice
+pub read-one : (harts used : ℕ) (left rest : List NumberedLine) (line : NumberedLine) (slice : Slice) → Some line ≡ first_or_none left → rest ≡ rest_of left → slice_in harts used line.bytes ≡ Some slice
     → slices_of harts used left ≡ slices_before (slice ∷ []) (slices_of harts (used + slice.count) rest)
 unfolding slices_of
 read-one harts used [] rest line slice first more is = absurd cc
@@ -90,7 +90,7 @@ read-one harts used (x ∷ xs) rest line slice first more is =
     ap (λ (found : Option Slice). or_fault x.number found >>= (λ (s : Slice). slices_before (s ∷ []) (slices_of harts (used + s.count) xs))) (ap (λ (l : NumberedLine). slice_in harts used l.bytes) (sym same) ∙ is)
     ∙ ap (λ (ls : List NumberedLine). slices_before (slice ∷ []) (slices_of harts (used + slice.count) ls)) (sym more)
 
-pub read-bad : (harts used : ℕ) (left : List NumberedLine) (line : NumberedLine) → Some line ≡ first_of left → slice_in harts used line.bytes ≡ None → slices_of harts used left ≡ Err (record { line = line.number })
+pub read-bad : (harts used : ℕ) (left : List NumberedLine) (line : NumberedLine) → Some line ≡ first_or_none left → slice_in harts used line.bytes ≡ None → slices_of harts used left ≡ Err (record { line = line.number })
 unfolding slices_of
 read-bad harts used [] line first bad = absurd cc
 read-bad harts used (x ∷ xs) line first bad =
@@ -98,7 +98,7 @@ read-bad harts used (x ∷ xs) line first bad =
     ap (λ (found : Option Slice). or_fault x.number found >>= (λ (s : Slice). slices_before (s ∷ []) (slices_of harts (used + s.count) xs))) (ap (λ (l : NumberedLine). slice_in harts used l.bytes) (sym same) ∙ bad)
     ∙ ap (λ (l : NumberedLine). Err (record { line = l.number })) (sym same)
 
-pub read-end : (harts used : ℕ) (left : List NumberedLine) (slices : List Slice) → None ≡ first_of left → slices_before slices (slices_of harts used left) ≡ Ok slices
+pub read-end : (harts used : ℕ) (left : List NumberedLine) (slices : List Slice) → None ≡ first_or_none left → slices_before slices (slices_of harts used left) ≡ Ok slices
 unfolding slices_of
 read-end harts used [] slices none = ap (λ (all : List Slice). Ok all) (append-nil slices)
 read-end harts used (x ∷ xs) slices none = absurd cc

@@ -10,7 +10,7 @@ use Rattle.rv_hart.specs.declared.outcome.Stepped.TheVariants as stepped
 use Rattle.rv_run.specs.declared.schedule.Slice.{Slice}
 use Rattle.rv_run.specs.declared.machine.Due.{Due}
 use Rattle.rv_run.specs.declared.machine.Moment.{Moment}
-use Rattle.rv_run.specs.private.Reading.{first_of}
+use Rattle.rv_run.specs.private.Reading.{first_or_none}
 use Rattle.rv_run.specs.Schedule.{instructions, most_instructions}
 use Rattle.rv_run.specs.State.{HartState, MachineState, hart_of, no_hart, runs, is_running, step_state, stepped_hart}
 use Rattle.rv_run.specs.Calls.{Acted}
@@ -115,7 +115,7 @@ joined-preceded : (xs : List Instant) (run : Run) (rest : MachineState → Run) 
 joined-preceded xs run rest = ap (λ (all : List Instant). record { instants = all; final = (rest run.final).final }) (append_assoc xs run.instants (rest run.final).instants)
 
 -- what was done of the first slice, and what is left of all
-passed-slices : (hart many : ℕ) (s new : MachineState) (left : List Slice) (p : Passing hart many s new) → first_of left ≡ Some (record { hart = hart; count = count_of_first left }) → many ≤ count_of_first left
+passed-slices : (hart many : ℕ) (s new : MachineState) (left : List Slice) (p : Passing hart many s new) → first_or_none left ≡ Some (record { hart = hart; count = count_of_first left }) → many ≤ count_of_first left
     → run_slices left s ≡ preceded p.passed (run_slices (less many left) new)
 unfolding run_slices
 passed-slices hart many s new [] p first few = absurd (let e : None ≡ Some (record { hart = hart; count = count_of_first [] }) = first in cc)
@@ -128,7 +128,7 @@ passed-slices hart many s new (slice ∷ rest) p first few =
     ∙ joined-preceded p.passed (run_slice (slice.count - many) hart new) (run_slices rest)
     ∙ ap (λ (h : ℕ). preceded p.passed (joined (run_slice (slice.count - many) h new) (run_slices rest))) (sym of_hart)
 
-carried-many : (hart many most : ℕ) (s new : MachineState) (left less_left skipped : List Slice) (p : Passing hart many s new) → first_of left ≡ Some (record { hart = hart; count = count_of_first left }) → many ≤ most → many ≤ count_of_first left
+carried-many : (hart many most : ℕ) (s new : MachineState) (left less_left skipped : List Slice) (p : Passing hart many s new) → first_or_none left ≡ Some (record { hart = hart; count = count_of_first left }) → many ≤ most → many ≤ count_of_first left
     → less_left ≡ less many left → run_slices skipped new ≡ run_slices less_left new → Carried hart most p.passed (record { state = s; left = left }) (record { state = new; left = skipped })
 carried-many hart many most s new left less_left skipped p first few within taken run =
     record {
@@ -218,13 +218,13 @@ room-passed s new left hart many few room p other =
     apart : other ≢ hart → (hart_of new other).retired + instructions (less many left) ≤ most_instructions
     apart ne = omega (arith, p.others other ne, less-by many left few, room other)
 
-pub first-count : (left : List Slice) (slice : Slice) → first_of left ≡ Some slice → count_of_first left ≡ slice.count
+pub first-count : (left : List Slice) (slice : Slice) → first_or_none left ≡ Some slice → count_of_first left ≡ slice.count
 first-count [] slice first = absurd cc
 first-count (x ∷ rest) slice first =
     let same : x ≡ slice = cc in
     ap (λ (y : Slice). y.count) same
 
-pub first-whole : (left : List Slice) (slice : Slice) → first_of left ≡ Some slice → first_of left ≡ Some (record { hart = slice.hart; count = count_of_first left })
+pub first-whole : (left : List Slice) (slice : Slice) → first_or_none left ≡ Some slice → first_or_none left ≡ Some (record { hart = slice.hart; count = count_of_first left })
 first-whole left slice first = first ∙ ap (λ (n : ℕ). Some (record { hart = slice.hart; count = n })) (sym (first-count left slice first))
 
 pub went-hart : (due : Due) (moment : Moment) (old new : Progress) → Some due ≡ first_due (to_come old).instants → WentOn moment old new → moment.hart ≡ due.hart
@@ -233,14 +233,14 @@ went-hart due moment old new told went =
     let same : due ≡ due_of (next_instant moment.hart old.state) = cc in
     sym (ap (λ (d : Due). d.hart) same)
 
-pub slice-hart : (s : MachineState) (left : List Slice) (due : Due) (slice : Slice) → IsDue s left due → first_of left ≡ Some slice → slice.hart ≡ due.hart
+pub slice-hart : (s : MachineState) (left : List Slice) (due : Due) (slice : Slice) → IsDue s left due → first_or_none left ≡ Some slice → slice.hart ≡ due.hart
 slice-hart s left due slice is first =
     let here : Some slice ≡ Some (record { hart = due.hart; count = count_of_first left }) = sym first ∙ is.first_is in
     let same : slice ≡ record { hart = due.hart; count = count_of_first left } = cc in
     ap (λ (x : Slice). x.hart) same
 
 -- a pass of the first slice, where it ended as it was to
-pub passed-many : (hart many asked most : ℕ) (s new : MachineState) (left less_left skipped : List Slice) (slice : Slice) → Passing slice.hart many s new → first_of left ≡ Some slice → slice.hart ≡ hart → asked ≡ min most slice.count → many ≤ asked → 0 < many
+pub passed-many : (hart many asked most : ℕ) (s new : MachineState) (left less_left skipped : List Slice) (slice : Slice) → Passing slice.hart many s new → first_or_none left ≡ Some slice → slice.hart ≡ hart → asked ≡ min most slice.count → many ≤ asked → 0 < many
     → (many ≡ asked) ⊎ (retires_plainly slice.hart new ≡ false) → less_left ≡ less many left → run_slices skipped new ≡ run_slices less_left new
     → Passed hart most (record { state = s; left = left }) (record { state = new; left = skipped })
 passed-many hart many asked most s new left less_left skipped slice p first of_hart is few some stops taken run =
@@ -254,7 +254,7 @@ passed-many hart many asked most s new left less_left skipped slice p first of_h
     })
 
 -- and where no memory was found
-pub broke-many : (hart many asked most : ℕ) (s new : MachineState) (left less_left skipped : List Slice) (slice : Slice) → Passing slice.hart many s new → first_of left ≡ Some slice → slice.hart ≡ hart → asked ≡ min most slice.count
+pub broke-many : (hart many asked most : ℕ) (s new : MachineState) (left less_left skipped : List Slice) (slice : Slice) → Passing slice.hart many s new → first_or_none left ≡ Some slice → slice.hart ≡ hart → asked ≡ min most slice.count
     → (many < asked) × (retires_plainly slice.hart new ≡ true) → less_left ≡ less many left → run_slices skipped new ≡ run_slices less_left new
     → Broke hart most (record { state = s; left = left }) (record { state = new; left = skipped })
 broke-many hart many asked most s new left less_left skipped slice p first of_hart is stops taken run =
@@ -268,7 +268,7 @@ broke-many hart many asked most s new left less_left skipped slice p first of_ha
       carried = carried-many slice.hart many most s new left less_left skipped p (first-whole left slice first) (omega arith) (omega arith) taken run;
     })
 
-pub stands-first : (s : MachineState) (left : List Slice) (slice : Slice) → StandsAt s left → first_of left ≡ Some slice → IsNext s slice
+pub stands-first : (s : MachineState) (left : List Slice) (slice : Slice) → StandsAt s left → first_or_none left ≡ Some slice → IsNext s slice
 stands-first s [] slice stands first = absurd cc
 stands-first s (x ∷ rest) slice stands first = let same : x ≡ slice = cc in subst (IsNext s) same stands
 

@@ -9,7 +9,7 @@ use Rattle.std.proofs.lemmas.List.FromFn.{get_or-range_with_len, length-range_wi
 use Rattle.rv_hart.proofs.Near.{all-range}
 use Rattle.std.proofs.lemmas.List.Sums.{AllPass-from_list_all}
 use Rattle.elf_image.specs.declared.elf.TheConstants.{PF_R}
-use Rattle.rv_hart.specs.AddressSpace.{AddressSpace, may, may_all, loaded, byte_at, number_at}
+use Rattle.rv_hart.specs.AddressSpace.{AddressSpace, may, may_all, loaded, byte_at, memory_number}
 use Rattle.elf_image.specs.Image.{ProgramImage}
 use Rattle.rv_run.specs.declared.schedule.Slice.{Slice}
 use Rattle.rv_run.specs.Schedule.{Scheduled, IsSchedule, IsSlice}
@@ -26,14 +26,14 @@ one-unreadable memory at count place within unreadable =
 pub loads-none : (memory : AddressSpace) (at : ℕ) → is_some (loaded memory at 1) ≡ false → may PF_R memory.regions at ≡ false
 loads-none memory at none = by_case (may PF_R memory.regions at) none
   where
-    by_case : (b : Bool) → is_some (cond (b && true) (Some (number_at memory at 1)) None) ≡ false → b ≡ false
+    by_case : (b : Bool) → is_some (cond (b && true) (Some (memory_number memory at 1)) None) ≡ false → b ≡ false
     by_case true e = absurd cc
     by_case false e = refl
 
 pub loads-some : (memory : AddressSpace) (at : ℕ) → is_some (loaded memory at 1) ≡ true → may PF_R memory.regions at ≡ true
 loads-some memory at some = by_case (may PF_R memory.regions at) some
   where
-    by_case : (b : Bool) → is_some (cond (b && true) (Some (number_at memory at 1)) None) ≡ true → b ≡ true
+    by_case : (b : Bool) → is_some (cond (b && true) (Some (memory_number memory at 1)) None) ≡ true → b ≡ true
     by_case true e = refl
     by_case false e = absurd cc
 

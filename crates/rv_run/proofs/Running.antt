@@ -7,7 +7,7 @@ use Rattle.rv_hart.specs.Running.{after_steps, Ran}
 use Rattle.rv_hart.specs.Step.{State, step_of, StoresNow}
 use Rattle.rv_hart.specs.declared.outcome.Stepped.{Stepped}
 use Rattle.rv_hart.specs.declared.outcome.Stepped.TheVariants as stepped
-use Rattle.rv_run.specs.State.{HartState, MachineState, hart_of, no_hart, with_hart, is_running, step_state, counted, stepped_hart}
+use Rattle.rv_run.specs.State.{HartState, MachineState, hart_of, no_hart, with_hart, is_running, step_state, count_after, stepped_hart}
 use Rattle.rv_run.specs.declared.hart.HartEnd.{HartEnd}
 use Rattle.rv_run.specs.Run.{stepped_machine}
 use Rattle.rv_run.specs.Progress.{is_plain, retires_plainly}
@@ -41,8 +41,8 @@ moved-step : (hart count : ℕ) (t u : State) (s : MachineState) → u ≡ (step
 moved-step hart count t u s is retired =
     let h : HartState = hart_of s hart in
     let shape : State → ℕ → HartState = λ v n. record { pc = v.pc; registers = v.registers; retired = n; end = h.end } in
-    let many : h.retired + (count + 1) ≡ counted (step_of t).1 (h.retired + count) =
-    (let e : h.retired + (count + 1) ≡ h.retired + count + 1 = omega arith in e) ∙ sym (ap (λ (how : Stepped). counted how (h.retired + count)) retired) in
+    let many : h.retired + (count + 1) ≡ count_after (step_of t).1 (h.retired + count) =
+    (let e : h.retired + (count + 1) ≡ h.retired + count + 1 = omega arith in e) ∙ sym (ap (λ (how : Stepped). count_after how (h.retired + count)) retired) in
     let same : moved_hart hart (count + 1) u s ≡ stepped_hart (moved_hart hart count t s) (step_of t) = ap₂ shape is many in
     ap₂ (with_memory s) (ap (λ (v : State). v.memory) is)
     (ap (set s.harts hart) same ∙ sym (set-set s.harts hart (moved_hart hart count t s) (stepped_hart (moved_hart hart count t s) (step_of t))))

@@ -4,7 +4,7 @@ use Rattle.std.proofs.lemmas.List.Sums.{sum_by-cons, sum_by-append, sum-map}
 use Rattle.std.proofs.lemmas.Bool.Decides.{eqb_tells}
 use Rattle.rv_run.specs.declared.schedule.Slice.{Slice}
 use Rattle.rv_run.specs.declared.machine.Due.{Due}
-use Rattle.rv_run.specs.private.Reading.{first_of, rest_of}
+use Rattle.rv_run.specs.private.Reading.{first_or_none, rest_of}
 use Rattle.rv_run.specs.Schedule.{instructions, slice_count, most_instructions}
 use Rattle.rv_run.specs.State.{MachineState, hart_of, is_running}
 use Rattle.rv_run.specs.Calls.{Acted}
@@ -24,7 +24,7 @@ drop_suc (slice ∷ rest) (suc place) left within = drop_suc rest place left (om
 pub dropped : (slices : List Slice) (place left : ℕ) → place < length slices → with_left (count_of_first (drop (place + 1) slices)) (drop (place + 1) slices) ≡ rest_of (with_left left (drop place slices))
 dropped slices place left within = rw add-one (drop_suc slices place left within)
 
-pub ended : (s : MachineState) (left : List Slice) → first_of left ≡ None → run_slices left s ≡ finished s
+pub ended : (s : MachineState) (left : List Slice) → first_or_none left ≡ None → run_slices left s ≡ finished s
 unfolding run_slices
 ended s [] none = refl
 ended s (slice ∷ rest) none = absurd cc
@@ -43,13 +43,13 @@ pub record IsDue (s : MachineState) (left : List Slice) (due : Due) : Type 0 whe
   pub some : 0 < count_of_first left
   pub first_due_is : due ≡ due_of (next_instant due.hart s)
   pub run : run_slices left s ≡ preceded (next_instant due.hart s ∷ []) (run_slices (less 1 left) (state_after due.hart s))
-  pub first_is : first_of left ≡ Some (record { hart = due.hart; count = count_of_first left })
+  pub first_is : first_or_none left ≡ Some (record { hart = due.hart; count = count_of_first left })
 
 first-run : (s : MachineState) (slice : Slice) (rest : List Slice) → IsNext s slice → run_slices (slice ∷ rest) s ≡ preceded (next_instant slice.hart s ∷ []) (run_slices (less 1 (slice ∷ rest)) (state_after slice.hart s))
 unfolding run_slices
 first-run s slice rest next = one s slice.hart slice.count rest next.0 next.1
 
-pub due-first : (s : MachineState) (left : List Slice) (slice : Slice) → StandsAt s left → first_of left ≡ Some slice → Some (due_of (next_instant slice.hart s)) ≡ first_due (run_slices left s).instants
+pub due-first : (s : MachineState) (left : List Slice) (slice : Slice) → StandsAt s left → first_or_none left ≡ Some slice → Some (due_of (next_instant slice.hart s)) ≡ first_due (run_slices left s).instants
 due-first s [] slice stands first = absurd cc
 due-first s (x ∷ rest) slice stands first =
     let same : x ≡ slice = cc in
@@ -77,7 +77,7 @@ no_slice s hart zero nothing = refl
 no_slice s hart (suc count) (inl none) = absurd (omega arith)
 no_slice s hart (suc count) (inr ended) = ap (λ (b : Bool). cond b (preceded (next_instant hart s ∷ []) (run_slice count hart (state_after hart s))) (finished s)) ended
 
-pub passed-over : (s : MachineState) (left : List Slice) (slice : Slice) → first_of left ≡ Some slice → (slice.count ≡ 0) ⊎ (is_running (hart_of s slice.hart) ≡ false) → run_slices (rest_of left) s ≡ run_slices left s
+pub passed-over : (s : MachineState) (left : List Slice) (slice : Slice) → first_or_none left ≡ Some slice → (slice.count ≡ 0) ⊎ (is_running (hart_of s slice.hart) ≡ false) → run_slices (rest_of left) s ≡ run_slices left s
 unfolding run_slices
 passed-over s [] slice first nothing = absurd cc
 passed-over s (x ∷ rest) slice first nothing =
@@ -98,7 +98,7 @@ rest-are-of harts (slice ∷ rest) all = λ k d few. all (suc k) d (omega arith)
 pub room-rest : (s : MachineState) (left : List Slice) → HaveRoom s left → HaveRoom s (rest_of left)
 room-rest s left room hart = omega (arith, fewer left, room hart)
 
-pub shorter : (left : List Slice) (slice : Slice) → first_of left ≡ Some slice → length (rest_of left) < length left
+pub shorter : (left : List Slice) (slice : Slice) → first_or_none left ≡ Some slice → length (rest_of left) < length left
 shorter [] slice first = absurd cc
 shorter (x ∷ rest) slice first = omega arith
 

@@ -54,8 +54,8 @@ abbrev pub memory_bytes : AddressSpace → ℕ → ℕ → List ℕ
 memory_bytes memory at count = map (byte_at memory) (range_with_len at count)
 
 -- how many of so many bytes the output has room for
-abbrev pub taken : ℕ → List ℕ → ℕ
-taken count output = min count (most_output - length output)
+abbrev pub room_for : ℕ → List ℕ → ℕ
+room_for count output = min count (most_output - length output)
 
 abbrev pub writes_out : ℕ → ℕ → MachineState → Answered
 writes_out at count s =
@@ -68,7 +68,7 @@ all_readable memory at count = nat_le (at + count) (2 ^ 32) && may_all PF_R memo
 -- the bytes go to the output as far as it has room. All must be readable, also where not all are taken
 abbrev pub written_from : ℕ → ℕ → MachineState → Answered
 written_from at count s =
-    if all_readable s.memory at count then writes_out at (taken count s.output) s
+    if all_readable s.memory at count then writes_out at (room_for count s.output) s
     else only_answers (negative EFAULT) s
 
 -- write: descriptors 1 and 2 are the output

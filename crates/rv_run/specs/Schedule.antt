@@ -21,14 +21,14 @@ most_harts = 16
 abbrev pub most_instructions : ℕ
 most_instructions = 4294967295
 
-abbrev pub with_first : ℕ → List (List ℕ) → List (List ℕ)
-with_first byte [] = (byte ∷ []) ∷ []
-with_first byte (line ∷ rest) = (byte ∷ line) ∷ rest
+abbrev pub with_first_byte : ℕ → List (List ℕ) → List (List ℕ)
+with_first_byte byte [] = (byte ∷ []) ∷ []
+with_first_byte byte (line ∷ rest) = (byte ∷ line) ∷ rest
 
 -- the bytes cut at line feeds; a last empty piece is no line
 unfoldable pub lines : List ℕ → List (List ℕ)
 lines [] = []
-lines (byte ∷ rest) = if byte == 10 then [] ∷ lines rest else with_first byte (lines rest)
+lines (byte ∷ rest) = if byte == 10 then [] ∷ lines rest else with_first_byte byte (lines rest)
 
 -- a line and its number
 pub record NumberedLine : Type 0 where

@@ -52,14 +52,14 @@ step_state hart memory = state hart.pc hart.registers memory
 abbrev pub hart_step : ℕ → MachineState → State × Stepped
 hart_step hart s = step_of (step_state (hart_of s hart) s.memory)
 
-abbrev pub counted : Stepped → ℕ → ℕ
-counted stepped.Retired retired = retired + 1
-counted _ retired = retired
+abbrev pub count_after : Stepped → ℕ → ℕ
+count_after stepped.Retired retired = retired + 1
+count_after _ retired = retired
 
 -- the hart after a step, which is counted if the instruction retired
 abbrev pub stepped_hart : HartState → State × Stepped → HartState
 stepped_hart hart step =
-    record { pc = step.0.pc; registers = step.0.registers; retired = counted step.1 hart.retired; end = hart.end }
+    record { pc = step.0.pc; registers = step.0.registers; retired = count_after step.1 hart.retired; end = hart.end }
 
 -- sp is 16 below the end of the hart's stack, a0 is the number of the hart, and a1 how many there are; all
 -- other registers are 0

@@ -1,7 +1,7 @@
 //! The lines of a text, one after another.
 ghost use Rattle.std.specs.Prelude.{◌≡◌, ◌==◌, ◌<◌, ◌≤◌, ◌^◌, [], ◌∷◌, IfSome, None, length, position};
 ghost use Rattle.rv_run.specs.Schedule.{is_ignored, lines, entries};
-ghost use Rattle.rv_run.specs.private.Reading.{all_lines, to_read, first_of, rest_of, line_told};
+ghost use Rattle.rv_run.specs.private.Reading.{all_lines, to_read, first_or_none, rest_of, line_told};
 
 use std::marker::Model;
 
@@ -81,7 +81,7 @@ impl<'a> Lines<'a> {
 
     /// The next line, if there is one.
     fn next_line(&mut self) -> Option<Line<'a>>
-        ensures line { line_told result ≡ first_of (to_read self.old) }
+        ensures line { line_told result ≡ first_or_none (to_read self.old) }
         ensures rest { to_read self.new ≡ rest_of (to_read self.old) }
         ensures all { all_lines self.new ≡ all_lines self.old }
         ensures less { IfSome result (λ _. length self.new.rest < length self.old.rest) }
@@ -101,7 +101,7 @@ impl<'a> Lines<'a> {
 
     /// The next line that is not ignored, if there is one.
     pub(crate) fn next_entry(&mut self) -> Option<Line<'a>>
-        ensures line { line_told result ≡ first_of (entries (to_read self.old)) }
+        ensures line { line_told result ≡ first_or_none (entries (to_read self.old)) }
         ensures rest { entries (to_read self.new) ≡ rest_of (entries (to_read self.old)) }
         ensures all { all_lines self.new ≡ all_lines self.old }
         ensures less { IfSome result (λ _. length (entries (to_read self.new)) < length (entries (to_read self.old))) }

@@ -1,6 +1,6 @@
 //! The slices of a schedule that are left.
 ghost use Rattle.std.specs.Prelude.{◌≡◌, ◌&&◌, ◌<◌, ◌≤◌, drop, length, nat_lt};
-ghost use Rattle.rv_run.specs.private.Reading.{first_of, rest_of};
+ghost use Rattle.rv_run.specs.private.Reading.{first_or_none, rest_of};
 ghost use Rattle.rv_run.specs.State.{hart_of, is_running};
 ghost use Rattle.rv_run.specs.Run.{run_slices};
 ghost use Rattle.rv_run.specs.Progress.{count_of_first};
@@ -64,7 +64,7 @@ impl SliceQueue {
     /// The first slice that is left.
     #[inline(always)]
     pub(crate) fn first(&self) -> Option<Slice>
-        ensures { result ≡ first_of self.now }
+        ensures { result ≡ first_or_none self.now }
     {
         let slice = self.slices.as_slice().get(self.index)?;
         Some(Slice {

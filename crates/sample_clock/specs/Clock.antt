@@ -54,10 +54,10 @@ Fails path_of (fails.Fault fault) old new = AreTooMany path_of old new
 Fails path_of (fails.Memory memory) old new = NoneLost path_of old new
 
 -- what is answered where the next sample is asked for
-abbrev pub Answers : Paths → Result (Option Sample) (Fail TooManySamples) → Sampling → Sampling → Type 0
-Answers path_of (Ok (Some sample)) old new = Given path_of sample old new
-Answers path_of (Ok None) old new = IsOver path_of old new
-Answers path_of (Err fail) old new = Fails path_of fail old new
+abbrev pub AnswersNext : Paths → Result (Option Sample) (Fail TooManySamples) → Sampling → Sampling → Type 0
+AnswersNext path_of (Ok (Some sample)) old new = Given path_of sample old new
+AnswersNext path_of (Ok None) old new = IsOver path_of old new
+AnswersNext path_of (Err fail) old new = Fails path_of fail old new
 
 -- ---- where the machine stands then
 
@@ -87,7 +87,7 @@ FailsAt (fails.Fault fault) old new = Met old new ⊎ WasMet old new
 FailsAt (fails.Memory memory) old new = Unsampled old new
 
 -- right after the sampled instruction; at the end of the run; or before the instruction that found no memory
-abbrev pub StandsAt : Result (Option Sample) (Fail TooManySamples) → Sampling → Sampling → Type 0
-StandsAt (Ok (Some sample)) old new = Met old new
-StandsAt (Ok None) old new = Unsampled old new
-StandsAt (Err fail) old new = FailsAt fail old new
+abbrev pub StandsAfter : Result (Option Sample) (Fail TooManySamples) → Sampling → Sampling → Type 0
+StandsAfter (Ok (Some sample)) old new = Met old new
+StandsAfter (Ok None) old new = Unsampled old new
+StandsAfter (Err fail) old new = FailsAt fail old new

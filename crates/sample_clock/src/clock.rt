@@ -4,7 +4,7 @@ ghost use Rattle.rv_run.specs.Schedule.{most_instructions};
 ghost use Rattle.rv_run.specs.State.{hart_of};
 ghost use Rattle.rv_run.specs.Progress.{IsFresh, first_due, to_come};
 ghost use Rattle.sample_clock.specs.Samples.{words_of};
-ghost use Rattle.sample_clock.specs.Clock.{Answers, StandsAt};
+ghost use Rattle.sample_clock.specs.Clock.{AnswersNext, StandsAfter};
 ghost use Rattle.sample_clock.specs.private.Advance.{Advances, CarriedOut};
 
 use prof_bytes::{Fail, Memory};
@@ -165,8 +165,8 @@ impl<'a> Samples<'a> {
     /// sample's instruction. After `Memory` it stands before the instruction for which none was found,
     /// and no sample is lost.
     pub fn next<U: Unwind>(&mut self, unwinder: &U) -> Result<Option<Sample>, Fail<TooManySamples>>
-        ensures answer { Answers (U.path_of unwinder.now) result self.old self.new }
-        ensures stands { StandsAt result self.old self.new }
+        ensures answer { AnswersNext (U.path_of unwinder.now) result self.old self.new }
+        ensures stands { StandsAfter result self.old self.new }
         ensures last { (to_come self.new.machine).final ≡ (to_come self.old.machine).final }
     {
         if self.met > MOST_SAMPLES {

@@ -1,6 +1,6 @@
 ghost use Rattle.std.specs.Prelude.{◌≡◌, fold};
 ghost use Rattle.scope_types.specs.Raw.{HasFrames};
-ghost use Rattle.scope_types.specs.private.SameRaw.{joined, frame_writes};
+ghost use Rattle.scope_types.specs.private.SameRaw.{packed, frame_writes};
 
 use std::hash::{Hash, Hasher};
 use std::marker::Model;
@@ -76,7 +76,7 @@ impl Eq for RawPath {
 /// Four addresses as one number, the first the lowest.
 #[inline(always)]
 fn joined(a: u32, b: u32, c: u32, d: u32) -> u128
-    ensures { result ≡ joined a b c d }
+    ensures { result ≡ packed a b c d }
 {
     let low = u128::from(a) + u128::from(b) * (1 << 32);
     let high = u128::from(c) + u128::from(d) * (1 << 32);

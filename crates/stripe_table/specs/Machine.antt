@@ -27,8 +27,8 @@ at_start plan = record {
 }
 
 -- the word of stripe t
-abbrev pub word_of : MergeState → ℕ → ℕ
-word_of s t = slice_index s.words (t + 1)
+abbrev pub stripe_word : MergeState → ℕ → ℕ
+stripe_word s t = slice_index s.words (t + 1)
 
 -- an unspent pass, by its number, shows v
 abbrev pub IsPass : MergeState → ℕ → PassView → Type 0
@@ -72,14 +72,14 @@ pub data Step (s s' : MergeState) : Type 0 where
       → s' ≡ with_draw s id (after_draw (slice_index s.words 0) v) → Step s s'
   -- a pass that holds nothing reads a stripe's word
   look : (id : ℕ) (v : PassView) (t : ℕ) → IsPass s id v → v.hold ≡ Free → t < 16
-      → s' ≡ with_view s id (after_look t (word_of s t) v) → Step s s'
+      → s' ≡ with_view s id (after_look t (stripe_word s t) v) → Step s s'
   -- a pass takes a stripe whose word is still the even number that it saw
   take : (id : ℕ) (v : PassView) (t e : ℕ) (x : Stripe) → IsPass s id v → v.hold ≡ Free → v.last ≡ Saw t e
-      → e % 2 ≡ 0 → t < 16 → word_of s t ≡ e → get_elem? s.homes t ≡ some (some x)
+      → e % 2 ≡ 0 → t < 16 → stripe_word s t ≡ e → get_elem? s.homes t ≡ some (some x)
       → s' ≡ with_stripe s id (after_take t e v) t (e + 1) none → Step s s'
   -- a pass finds another number than it saw
-  miss : (id : ℕ) (v : PassView) (t e : ℕ) → IsPass s id v → v.last ≡ Saw t e → word_of s t ≢ e
-      → s' ≡ with_view s id (after_busy t e (word_of s t) v) → Step s s'
+  miss : (id : ℕ) (v : PassView) (t e : ℕ) → IsPass s id v → v.last ≡ Saw t e → stripe_word s t ≢ e
+      → s' ≡ with_view s id (after_busy t e (stripe_word s t) v) → Step s s'
   -- a pass puts back a stripe that fits the plan with one name more
   puts : (id : ℕ) (v : PassView) (t k : ℕ) (x : Stripe) → IsPass s id v → v.hold ≡ Holds t k
       → Fits v.plan t (k + 1) x

@@ -9,7 +9,7 @@ ghost use Rattle.stripe_table.specs.declared.offer.Offered.TheVariants.{Busy};
 ghost use Rattle.stripe_table.specs.declared.table.Take.TheVariants.{Held};
 ghost use Rattle.stripe_table.specs.declared.table.Take.TheVariants as takes;
 ghost use Rattle.stripe_table.specs.declared.view.Hold.TheVariants.{Free, Holds};
-ghost use Rattle.stripe_table.specs.private.Tested.{Keeps};
+ghost use Rattle.stripe_table.specs.private.Tested.{KeepsDistance};
 ghost use Rattle.thread_cct.specs.Plan.{piece_of};
 
 use crate::{Laid, Offered, Pass, Stripes, Take};
@@ -92,7 +92,7 @@ fn claim_next(stripes: &Stripes, pass: &mut Pass) -> Option<u32>
     requires of { IsPassOf stripes.now pass.old }
     ensures of { IsPassOf stripes.now pass.new }
     ensures hold { pass.new.view.hold ≡ pass.old.view.hold }
-    ensures same { Keeps pass.old.view pass.new.view }
+    ensures same { KeepsDistance pass.old.view pass.new.view }
     ensures chunk { (c : ℕ) → result ≡ Some c → c < length stripes.now.plan }
     ensures owed { (c : ℕ) → result ≡ Some c → 0 < owes c 6 pass.new.view }
 {
@@ -105,7 +105,7 @@ fn take_sixth(stripes: &Stripes, pass: &mut Pass) -> Take
     ensures of { IsPassOf stripes.now pass.new }
     ensures held { result ≡ Held → (k : ℕ) × (pass.new.view.hold ≡ Holds 6 k) }
     ensures busy { (l f : ℕ) → result ≡ takes.Busy l f → pass.new.view.hold ≡ Free }
-    ensures same { Keeps pass.old.view pass.new.view }
+    ensures same { KeepsDistance pass.old.view pass.new.view }
 {
     stripes.take(pass, 6)
 }
@@ -116,7 +116,7 @@ fn lay_sixth(stripes: &Stripes, pass: &mut Pass, piece: &Piece) -> Laid
     requires piece { IsPieceOf stripes.now.plan piece.now × (piece.now.stripe ≡ 6) }
     ensures of { IsPassOf stripes.now pass.new }
     ensures free { pass.new.view.hold ≡ Free }
-    ensures same { Keeps pass.old.view pass.new.view }
+    ensures same { KeepsDistance pass.old.view pass.new.view }
 {
     stripes.lay(pass, piece)
 }
@@ -126,7 +126,7 @@ fn let_go_sixth(stripes: &Stripes, pass: &mut Pass)
     requires held { (k : ℕ) × (pass.old.view.hold ≡ Holds 6 k) }
     ensures of { IsPassOf stripes.now pass.new }
     ensures free { pass.new.view.hold ≡ Free }
-    ensures same { Keeps pass.old.view pass.new.view }
+    ensures same { KeepsDistance pass.old.view pass.new.view }
 {
     stripes.let_go(pass)
 }
@@ -139,7 +139,7 @@ fn offer_sixth(stripes: &Stripes, pass: &mut Pass, piece: &Piece) -> Offered
     ensures of { IsPassOf stripes.now pass.new }
     ensures free { pass.new.view.hold ≡ Free }
     ensures owed { (l f : ℕ) → result ≡ Busy l f → 0 < owes piece.now.chunk 6 pass.new.view }
-    ensures same { Keeps pass.old.view pass.new.view }
+    ensures same { KeepsDistance pass.old.view pass.new.view }
 {
     stripes.offer(pass, piece)
 }

@@ -11,8 +11,8 @@ use Rattle.dwarf_inline.specs.declared.item.Item.{Item}
 use Rattle.dwarf_inline.specs.Structure.{ProgramStructure, IsWhole}
 use Rattle.dwarf_inline.proofs.Lists.{count_filter}
 use Rattle.scope_find.specs.Found.{Numbered, ProgramScopes, numbered}
-use Rattle.struct_listing.specs.Listing.{inline_line, inline_lines, inlined_level, is_inlined_beyond, is_listed_inline, descendants}
-use Rattle.struct_listing.specs.private.Parts.{AreOpen, inline_part, opened}
+use Rattle.struct_listing.specs.Listing.{inline_line, inline_lines, inlined_level, is_inlined_beyond, is_listed_inline, items_below}
+use Rattle.struct_listing.specs.private.Parts.{AreOpenFrom, inline_part, opened_after}
 use Rattle.struct_listing.proofs.Lists.{flat_filter, numbered_at, numbered_within}
 
 abbrev one_if : Bool → ℕ
@@ -50,21 +50,21 @@ count_one n item true is = rw is (sum_by_push (λ end. one_if (nat_lt n end)) []
 count_one n item false is = rw is refl
 
 count_opened : (number n : ℕ) (item : Item) (ends : List ℕ) → number ≤ n
-    → count_by (λ end. nat_lt n end) (opened number item ends) ≡ count_by (λ end. nat_lt n end) ends + one_if (is_inlined_beyond n item)
+    → count_by (λ end. nat_lt n end) (opened_after number item ends) ≡ count_by (λ end. nat_lt n end) ends + one_if (is_inlined_beyond n item)
 count_opened number n item ends le =
     sum_by-append (λ end. one_if (nat_lt n end)) (filter (λ end. nat_lt number end) ends) (cond item.inlined (item.after ∷ []) [])
     ∙ (λ i.
     count_filter (λ end. nat_lt number end) (λ end. nat_lt n end) ends (λ end far. let lt : n < end = ltb-true n end far in lt-ltb number end (omega arith)) i
     + count_one n item item.inlined refl i)
 
-pub none_open : (s : ProgramStructure) (subprogram number : ℕ) (ends : List ℕ) → number ≡ subprogram + 1 → ends ≡ [] → AreOpen s subprogram number ends
+pub none_open : (s : ProgramStructure) (subprogram number : ℕ) (ends : List ℕ) → number ≡ subprogram + 1 → ends ≡ [] → AreOpenFrom s subprogram number ends
 none_open s subprogram number ends is empty = λ n le.
     let none : number - (subprogram + 1) ≡ 0 = omega arith in
     ap (λ (es : List ℕ). count_by (λ end. nat_lt n end) es) empty
     ∙ sym (ap (λ (k : ℕ). count_by (is_inlined_beyond n) (take k (drop (subprogram + 1) s.items))) none)
 
 pub open_more : (s : ProgramStructure) (subprogram number : ℕ) (item : Item) (ends after : List ℕ) → subprogram + 1 ≤ number → slice_get s.items number ≡ Some item
-    → AreOpen s subprogram number ends → after ≡ opened number item ends → AreOpen s subprogram (number + 1) after
+    → AreOpenFrom s subprogram number ends → after ≡ opened_after number item ends → AreOpenFrom s subprogram (number + 1) after
 open_more s subprogram number item ends after le there are is = λ n more.
     let far : number ≤ n = omega arith in
     ap (count_by (λ end. nat_lt n end)) is ∙ count_opened number n item ends far
@@ -72,7 +72,7 @@ open_more s subprogram number item ends after le there are is = λ n more.
     ∙ sym (count_more s subprogram number n (number + 1 - (subprogram + 1)) item le there (omega arith))
 
 pub level_is : (s : ProgramStructure) (subprogram number : ℕ) (item : Item) (ends after : List ℕ) → IsWhole s → subprogram + 1 ≤ number → slice_get s.items number ≡ Some item
-    → AreOpen s subprogram number ends → after ≡ opened number item ends → item.inlined ≡ true → length after ≡ inlined_level s subprogram number
+    → AreOpenFrom s subprogram number ends → after ≡ opened_after number item ends → item.inlined ≡ true → length after ≡ inlined_level s subprogram number
 level_is s subprogram number item ends after whole le there are is inlined =
     let last : number < item.after = (whole.after number item there).0 in
     let one : is_inlined_beyond number item ≡ true = rw inlined (lt-ltb number item.after last) in
@@ -112,4 +112,4 @@ lines_more p subprogram number item start now after le there so_far one =
 pub all_lines : (p : ProgramScopes) (subprogram : ℕ) (item : Item) (number : ℕ) → number ≡ item.after → lines_before p subprogram number ≡ inline_lines p (subprogram, item)
 all_lines p subprogram item number is =
     ap (λ (n : ℕ). lines_before p subprogram n) is
-    ∙ sym (flat_filter is_listed_inline (λ j. inline_line p (inlined_level p.structure subprogram j.0) j.1) (descendants p.structure (subprogram, item)))
+    ∙ sym (flat_filter is_listed_inline (λ j. inline_line p (inlined_level p.structure subprogram j.0) j.1) (items_below p.structure (subprogram, item)))

@@ -39,8 +39,8 @@ abbrev pub is_listed_inline : Numbered → Bool
 is_listed_inline i = i.1.inlined && has_ranges i.1
 
 -- the items below an item, those below nested subprograms too
-abbrev pub descendants : ProgramStructure → Numbered → List Numbered
-descendants s i = take (i.1.after - (i.0 + 1)) (drop (i.0 + 1) (numbered s))
+abbrev pub items_below : ProgramStructure → Numbered → List Numbered
+items_below s i = take (i.1.after - (i.0 + 1)) (drop (i.0 + 1) (numbered s))
 
 -- the items behind a subprogram, up to the one with a number
 abbrev pub items_up_to : ProgramStructure → ℕ → ℕ → List Item
@@ -67,7 +67,7 @@ inline_line p level item = spaces (2 * level) ++ codes "inline " ++ printed (pro
 abbrev pub inline_lines : ProgramScopes → Numbered → List ℕ
 inline_lines p i =
     flat_map (λ j. inline_line p (inlined_level p.structure i.0 j.0) j.1)
-    (filter is_listed_inline (descendants p.structure i))
+    (filter is_listed_inline (items_below p.structure i))
 
 abbrev pub subprogram_lines : ProgramScopes → Numbered → List ℕ
 subprogram_lines p i = subprogram_line p i.1 ++ inline_lines p i

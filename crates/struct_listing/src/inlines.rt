@@ -45,15 +45,15 @@ fn put_indent(out: &mut Vec<u8>, level: usize) -> Result<(), Memory>
 }
 
 /// Where a call is, as file and line, else its address.
-fn put_place(
+fn put_call(
     out: &mut Vec<u8>,
     alloc: Global,
     program: Program<'_>,
-    place: LineId,
+    call: LineId,
 ) -> Result<(), Memory>
-    ensures { OnOk result (out.new.items ≡ out.old.items ++ line_label (naming_of (scopes_of program.entry)) place) }
+    ensures { OnOk result (out.new.items ≡ out.old.items ++ line_label (naming_of (scopes_of program.entry)) call) }
 {
-    match place {
+    match call {
         LineId::Row { table, file, line } => {
             let name = program.lines.file_name(alloc, table, file)?;
             put_printed(out, name.bytes())?;
@@ -80,8 +80,8 @@ fn put_inline(
     out.extend_from_slice(b"inline ")?;
     put_printed(out, program.structure.proc_name(item.identity))?;
     out.extend_from_slice(b" called at ")?;
-    let place = item.call.unwrap_or(LineId::Address(0));
-    put_place(out, alloc, program, place)?;
+    let call = item.call.unwrap_or(LineId::Address(0));
+    put_call(out, alloc, program, call)?;
     put_tail(out, program.structure, item)
 }
 

@@ -364,9 +364,9 @@ few_chunks tables now numbers paths index view =
 -- ---- the paths of a chunk
 
 -- a place in a chunk is one in the plan
-pub place_in : (tables : Tables) (now : Planned) (numbers : List ℕ) (paths chunk place end : ℕ) → IsIndexed tables numbers paths → plan_of tables ≡ now → chunk < (length now.paths + 63) / 64
+pub index_in : (tables : Tables) (now : Planned) (numbers : List ℕ) (paths chunk place end : ℕ) → IsIndexed tables numbers paths → plan_of tables ≡ now → chunk < (length now.paths + 63) / 64
     → end ≡ min 64 (paths - chunk * 64) → place < end → chunk * 64 + place < length now.paths
-place_in tables now numbers paths chunk place end index view own is lt =
+index_in tables now numbers paths chunk place end index view own is lt =
     let few = few_chunks tables now numbers paths index view in
     omega (arith, few.0, few.1, own, is, lt)
 

@@ -172,8 +172,8 @@ impl<'a> Plan<'a> {
         let paths = self.paths;
         let mut hands = empty_hands(alloc)?;
         let first = chunk * CHUNK_PATHS;
-        for place in 0..CHUNK_PATHS.min(paths - first) {
-            let entry = self.entry(expand, memo, first + place)?;
+        for index in 0..CHUNK_PATHS.min(paths - first) {
+            let entry = self.entry(expand, memo, first + index)?;
             deal(&mut hands, entry)?;
         }
         Pieces::of(alloc, chunk, hands)

@@ -2,6 +2,7 @@
 ghost use Rattle.std.specs.Prelude.{◌≡◌, ◌<◌, ◌-◌, ◌^◌, ◌++◌, ◌∷◌, [], true, false, if◌then◌else◌, length, slice_get};
 ghost use Rattle.std.specs.Prelude.{sum_by, Some, OnOk, OnErr, MatchOption};
 ghost use Rattle.thread_cct.specs.Adding.{count_one, has_path};
+ghost use Rattle.scope_types.specs.Raw.{same_raw};
 ghost use Rattle.thread_cct.specs.private.Fields.{IsPathAt};
 
 use indexmap::IndexMap;
@@ -40,6 +41,18 @@ fn slot_of(raw: &RawPath) -> usize
     (raw.frames()[0].pc / 4) as usize % RECENT
 }
 
+/// Whether two paths are the same. Those of one frame take no call.
+#[inline(always)]
+#[tactic(auto, using(scope_types::specs::private::SameRaw::compared))]
+fn is_same(raw: &RawPath, other: &RawPath) -> bool
+    ensures { result ≡ same_raw raw.now other.now }
+{
+    match (raw.frames(), other.frames()) {
+        ([frame], [only]) => raw.end() == other.end() && frame == only,
+        _ => raw == other,
+    }
+}
+
 impl PathTable {
     /// No paths.
     pub fn new(alloc: Global) -> PathTable
@@ -68,7 +81,7 @@ impl PathTable {
             return false;
         }
         let (path, _) = self.counts.get_index(index).unwrap();
-        raw == path
+        is_same(raw, path)
     }
 
     /// The index of a path, if it is there.

@@ -24,14 +24,14 @@ use Rattle.tree_types.proofs.PathSteps.{as_many_paths}
 use Rattle.tree_types.proofs.Sorting.{bool_same, same_ascending, ascending_of_sorted}
 use Rattle.path_trie.specs.declared.trie.PathEnd.{PathEnd}
 use Rattle.path_trie.specs.Trie.{IsIndex, StandBefore, path_at, counted_entry, has_node, trie_node, trie_nodes}
-use Rattle.path_trie.specs.private.Linked.{node_at, no_node, Rooted}
+use Rattle.path_trie.specs.private.Linked.{linked_node, no_node, Rooted}
 use Rattle.path_trie.proofs.Kept.{nodes_are}
 use Rattle.path_trie.proofs.Nodes.{each_prefix, no_other, each_once}
 use Rattle.path_trie.proofs.Places.{path_none, not_empty, has_at}
 use Rattle.tree_join.specs.declared.children.Children.{Children}
 use Rattle.tree_join.specs.declared.walker.Walker.{Walker}
 use Rattle.tree_join.specs.private.Children.{Groups, AreChildren, children_of}
-use Rattle.tree_join.specs.private.Walk.{number_at, path_of, nodes_in, entries_in, head_of, AreNodes, IsBelow, IsReady, IsWalker, Walking, Walks, WalksTrie}
+use Rattle.tree_join.specs.private.Walk.{number_given, path_or_none, nodes_in, walked_entries, head_node, AreNodes, IsBelow, IsReady, IsWalker, Walking, Walks, WalksTrie}
 use Rattle.tree_join.proofs.Groups.{children_are}
 use Rattle.tree_join.proofs.Parting.{parts_same, siblings_part}
 use Rattle.tree_join.proofs.Rooted.{rooted_from}
@@ -43,7 +43,7 @@ use Rattle.tree_join.proofs.Walking.{kid_path, through, at_index, has_from}
 pub nodes_of_trie : (nodes : List Node) (es : List Entry) → tree_paths nodes ≡ trie_nodes es → StandBefore nodes → length nodes ≤ most_path_scopes → AreNodes nodes
 nodes_of_trie nodes es is stand few = record {
   few = few;
-  rooted = rooted_from nodes (λ i lt. stand i (node_at nodes i) (slice_get-get_or nodes i no_node lt)) (λ i j i_lt j_lt e.
+  rooted = rooted_from nodes (λ i lt. stand i (linked_node nodes i) (slice_get-get_or nodes i no_node lt)) (λ i j i_lt j_lt e.
       let long = as_many_paths nodes in
       elim (cases_order i j) [
         | inl same ↦ same
@@ -52,8 +52,8 @@ nodes_of_trie nodes es is stand few = record {
       ]);
   closed = λ i f r s lt at.
       let long = as_many_paths nodes in
-      let there : Contains (trie_nodes es) (path_of (tree_paths nodes) i) = subst (λ (ps : List Path). Contains ps (path_of (tree_paths nodes) i)) is (Contains-get_or (tree_paths nodes) i [] (omega arith)) in
-      let found = no_other es (path_of (tree_paths nodes) i) there in
+      let there : Contains (trie_nodes es) (path_or_none (tree_paths nodes) i) = subst (λ (ps : List Path). Contains ps (path_or_none (tree_paths nodes) i)) is (Contains-get_or (tree_paths nodes) i [] (omega arith)) in
+      let found = no_other es (path_or_none (tree_paths nodes) i) there in
       let prefix : IsNonemptyPrefix (f ++ s ∷ []) found.0.path = record {
         some = omega (arith, length-append f (s ∷ []));
         rest = r ++ found.2.rest;
@@ -75,18 +75,18 @@ module _ (nodes : List Node) (are : AreNodes nodes) (kids : List ℕ) (children 
   abbrev kid : ℕ → ℕ
   kid j = get_or kids j 0
 
-  kid_is : (j : ℕ) → j < length kids → (kid j < length nodes) × ((node_at nodes (kid j)).parent ≡ no_parent)
-  kid_is j lt = All-get_or (λ k. (k < length nodes) × ((node_at nodes k).parent ≡ no_parent)) kids j 0 lt children.only
+  kid_is : (j : ℕ) → j < length kids → (kid j < length nodes) × ((linked_node nodes (kid j)).parent ≡ no_parent)
+  kid_is j lt = All-get_or (λ k. (k < length nodes) × ((linked_node nodes k).parent ≡ no_parent)) kids j 0 lt children.only
 
-  kid_has : (j : ℕ) → j < length kids → path_of paths (kid j) ≡ path_at paths no_parent ++ (node_at nodes (kid j)).scope ∷ []
+  kid_has : (j : ℕ) → j < length kids → path_or_none paths (kid j) ≡ path_at paths no_parent ++ (linked_node nodes (kid j)).scope ∷ []
   kid_has j lt = kid_path nodes are (kid j) no_parent (kid_is j lt).0 (kid_is j lt).1
 
-  covered_by : (q : ℕ) → q < length nodes → (x : Path) → path_of paths q ≡ x → (j : ℕ) × (j < length kids) × IsBelow (path_of paths (kid j)) (path_of paths q)
-  covered_by q lt [] is = absurd (not_empty (path_at paths (node_at nodes q).parent) (node_at nodes q).scope (sym (are.rooted.below q lt) ∙ is))
+  covered_by : (q : ℕ) → q < length nodes → (x : Path) → path_or_none paths q ≡ x → (j : ℕ) × (j < length kids) × IsBelow (path_or_none paths (kid j)) (path_or_none paths q)
+  covered_by q lt [] is = absurd (not_empty (path_at paths (linked_node nodes q).parent) (linked_node nodes q).scope (sym (are.rooted.below q lt) ∙ is))
   covered_by q lt (s ∷ r) is =
       let c = through nodes are q no_parent s r lt (λ inner. absurd (inner refl)) (is ∙ ap (λ (x : Path). x ++ s ∷ r) (sym (path_none paths no_parent refl))) in
       let found = children.all c.0 c.1 c.2 in
-      (found.0, found.1, subst (λ (k : ℕ). IsBelow (path_of paths k) (path_of paths q)) (sym (get_or_default kids found.0 0 c.0 found.1 ∙ found.2)) c.3)
+      (found.0, found.1, subst (λ (k : ℕ). IsBelow (path_or_none paths k) (path_or_none paths q)) (sym (get_or_default kids found.0 0 c.0 found.1 ∙ found.2)) c.3)
 
   pub start : Walks nodes (replicate (length nodes) no_parent) kids []
   start = record {
@@ -96,9 +96,9 @@ module _ (nodes : List Node) (are : AreNodes nodes) (kids : List ℕ) (children 
     parents = λ j lt inner. absurd (inner (kid_is j lt).1);
     ahead = λ i j lt. absurd (omega arith);
     apart = λ i j below lt.
-        parts_same (path_of paths (kid j)) (path_of paths (kid i)) (path_at paths no_parent ++ (node_at nodes (kid j)).scope ∷ []) (path_at paths no_parent ++ (node_at nodes (kid i)).scope ∷ [])
-        (kid_has j lt) (kid_has i (omega arith)) (siblings_part (path_at paths no_parent) (node_at nodes (kid j)).scope (node_at nodes (kid i)).scope (children.fall i j 0 below lt));
-    covered = λ q lt none. covered_by q lt (path_of paths q) refl;
+        parts_same (path_or_none paths (kid j)) (path_or_none paths (kid i)) (path_at paths no_parent ++ (linked_node nodes (kid j)).scope ∷ []) (path_at paths no_parent ++ (linked_node nodes (kid i)).scope ∷ [])
+        (kid_has j lt) (kid_has i (omega arith)) (siblings_part (path_at paths no_parent) (linked_node nodes (kid j)).scope (linked_node nodes (kid i)).scope (children.fall i j 0 below lt));
+    covered = λ q lt none. covered_by q lt (path_or_none paths q) refl;
   }
 
 module _ (children : Children) (nodes : List Node) (es : List Entry) (ends : List PathEnd) (numbers stack none : List ℕ) (same : children.nodes.now ≡ nodes)
@@ -139,24 +139,24 @@ all_ready parts walkers order is = λ i d lt. ready order (get_or walkers i d) (
 
 -- the numbers of nodes lead to nodes of the same paths
 abbrev pub Numbered : List Node → List Node → List ℕ → Type 0
-Numbered order nodes numbers = (q : ℕ) → q < length nodes → (number_at numbers q < length order) × (path_of (tree_paths order) (number_at numbers q) ≡ path_of (tree_paths nodes) q)
+Numbered order nodes numbers = (q : ℕ) → q < length nodes → (number_given numbers q < length order) × (path_or_none (tree_paths order) (number_given numbers q) ≡ path_or_none (tree_paths nodes) q)
 
-pub number_is : (order : List Node) (w : Walker) → IsWalker order w → head_of w ≡ None → Numbered order (nodes_in w) w.numbers.items
+pub number_is : (order : List Node) (w : Walker) → IsWalker order w → head_node w ≡ None → Numbered order (nodes_in w) w.numbers.items
 number_is order w is ended q lt =
     is.walks.numbered q lt (λ none. (let found = is.walks.covered q lt none in let in_stack = found.1 in let empty = none_left order w is ended in absurd (omega arith)))
 
-from_walks : (ws : List Walker) (q : Path) → Contains (flat_map trie_nodes (map entries_in ws)) q → (w : Walker) × Contains ws w × Contains (trie_nodes (entries_in w)) q
+from_walks : (ws : List Walker) (q : Path) → Contains (flat_map trie_nodes (map walked_entries ws)) q → (w : Walker) × Contains ws w × Contains (trie_nodes (walked_entries w)) q
 from_walks [] q c = (let lt = c.1 in absurd (omega arith))
 from_walks (w ∷ ws) q c =
-    let own : List Path = trie_nodes (entries_in w) in
-    let rest : List Path = flat_map trie_nodes (map entries_in ws) in
+    let own : List Path = trie_nodes (walked_entries w) in
+    let rest : List Path = flat_map trie_nodes (map walked_entries ws) in
     let lt = c.1 in let long = length-append own rest in
     elim (cases_lt c.0 (length own)) [
       | inl less ↦ (w, (0, omega arith, refl), (c.0, less, sym (get_or-append own rest q c.0 less) ∙ c.2))
       | inr le ↦ later (from_walks ws q (c.0 - length own, omega arith, sym (get_or-append_right own rest (length own) c.0 q refl le) ∙ c.2))
     ]
   where
-    later : (v : Walker) × Contains ws v × Contains (trie_nodes (entries_in v)) q → (v : Walker) × Contains (w ∷ ws) v × Contains (trie_nodes (entries_in v)) q
+    later : (v : Walker) × Contains ws v × Contains (trie_nodes (walked_entries v)) q → (v : Walker) × Contains (w ∷ ws) v × Contains (trie_nodes (walked_entries v)) q
     later (v, at, has) = (let lt = at.1 in (v, (suc at.0, omega arith, at.2), has))
 
 module _ (parts : List (List Entry)) (walkers : List Walker) (order : List Node) (is : Walking parts walkers order) where
@@ -171,14 +171,14 @@ module _ (parts : List (List Entry)) (walkers : List Walker) (order : List Node)
       let long = as_many_paths order in
       elim (cases_order i j) [
         | inl same ↦ same
-        | inr (inl less) ↦ absurd (less_self (path_of done i) (ap (path_order (path_of done i)) e ∙ is.ascend i j [] less (omega arith)))
-        | inr (inr more) ↦ absurd (less_self (path_of done j) (ap (path_order (path_of done j)) (sym e) ∙ is.ascend j i [] more (omega arith)))
+        | inr (inl less) ↦ absurd (less_self (path_or_none done i) (ap (path_order (path_or_none done i)) e ∙ is.ascend i j [] less (omega arith)))
+        | inr (inr more) ↦ absurd (less_self (path_or_none done j) (ap (path_order (path_or_none done j)) (sym e) ∙ is.ascend j i [] more (omega arith)))
       ])
 
   pub in_order : IsPreorder order
   in_order = record {
     parents = λ i d lt inner.
-        let at : get_or order i d ≡ node_at order i = get_or_default order i d no_node lt in
+        let at : get_or order i d ≡ linked_node order i = get_or_default order i d no_node lt in
         subst (λ (n : Node). n.parent < i) (sym at) (is.before i lt (subst (λ (n : Node). n.parent ≢ no_parent) at inner));
     ascend = is.ascend;
   }
@@ -186,7 +186,7 @@ module _ (parts : List (List Entry)) (walkers : List Walker) (order : List Node)
   done_sorted : IsStrictlySortedBy path_order done
   done_sorted = sorted_from_all_adjacent path_order_total done [] (λ k lt. is.ascend k (k + 1) [] (omega arith) lt)
 
-  module _ (ended : All (λ w. head_of w ≡ None) walkers) where
+  module _ (ended : All (λ w. head_node w ≡ None) walkers) where
     abbrev all : List Path
     all = flat_map trie_nodes parts
 
@@ -196,12 +196,12 @@ module _ (parts : List (List Entry)) (walkers : List Walker) (order : List Node)
         let w : Walker = found.0 in
         let at = found.1 in
         let own : IsWalker order w = subst (IsWalker order) at.2 (is.each at.0 w at.1) in
-        let last : head_of w ≡ None = subst (λ (v : Walker). head_of v ≡ None) at.2 (ended at.0 w at.1) in
+        let last : head_node w ≡ None = subst (λ (v : Walker). head_node v ≡ None) at.2 (ended at.0 w at.1) in
         let index : Contains (tree_paths (nodes_in w)) q = subst (λ (ps : List Path). Contains ps q) (sym own.nodes_are) found.2 in
         let inside = index.1 in
         let number = number_is order w own last index.0 (let long = as_many_paths (nodes_in w) in omega arith) in
         let below = number.0 in
-        has_at done (number_at w.numbers.items index.0) q (let long = as_many_paths order in omega arith)
+        has_at done (number_given w.numbers.items index.0) q (let long = as_many_paths order in omega arith)
         (number.1 ∙ get_or_default (tree_paths (nodes_in w)) index.0 [] q index.1 ∙ index.2)
 
     same_nodes : (q : Path) → has_node done q ≡ has_node all q

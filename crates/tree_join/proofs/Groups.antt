@@ -22,11 +22,11 @@ use Rattle.scope_types.proofs.Orders.{scope_order_total, scope_order_tells}
 use Rattle.tree_types.specs.declared.content.Node.{Node}
 use Rattle.tree_types.specs.PathsOf.{tree_paths}
 use Rattle.path_trie.specs.Trie.{IsIndex, path_at}
-use Rattle.path_trie.specs.private.Linked.{node_at, next_index}
+use Rattle.path_trie.specs.private.Linked.{linked_node, next_index}
 use Rattle.path_trie.proofs.Places.{place_cases, next_of}
 use Rattle.tree_join.specs.declared.children.Sibling.{Sibling}
 use Rattle.tree_join.specs.private.Children.{slot_at, flag_at, sibling_at, siblings_below, sibling_order, MarksBranches, Groups, AreChildren, group_at, indices_down, run_child, children_of}
-use Rattle.tree_join.specs.private.Walk.{path_of, AreNodes}
+use Rattle.tree_join.specs.private.Walk.{path_or_none, AreNodes}
 use Rattle.tree_join.proofs.Walking.{kid_path}
 
 -- ---- the order of siblings
@@ -174,14 +174,14 @@ module _ (nodes : List Node) (flags : List Bool) (siblings : List Sibling) (g : 
   abbrev slot : ℕ
   slot = next_index p
 
-  wider : (i : ℕ) → i < length nodes → IsIndex (node_at nodes i).parent (length nodes)
+  wider : (i : ℕ) → i < length nodes → IsIndex (linked_node nodes i).parent (length nodes)
   wider i lt inner = (let less = are.rooted.before i lt inner in omega arith)
 
   abbrev group : List Sibling
   group = group_at siblings slot
 
   abbrev IsChild : Sibling → Type 0
-  IsChild s = ((s.index < length nodes) × ((node_at nodes s.index).parent ≡ p)) × ((s ≡ sibling_at nodes s.index) × (s.slot ≡ slot))
+  IsChild s = ((s.index < length nodes) × ((linked_node nodes s.index).parent ≡ p)) × ((s ≡ sibling_at nodes s.index) × (s.slot ≡ slot))
 
   in_slot : (s : Sibling) → (s.slot == slot) ≡ true → s.slot ≡ slot
   in_slot s e = elim (eqb_tells s.slot slot) as (λ _. s.slot ≡ slot) [ inl is ↦ is.1 | inr apart ↦ absurd (true≢false (sym e ∙ apart.0)) ]
@@ -192,22 +192,22 @@ module _ (nodes : List Node) (flags : List Bool) (siblings : List Sibling) (g : 
       (λ s h.
       let own : s.slot ≡ slot = in_slot s h.1 in
       let at : slot_at nodes s.index ≡ slot = ap (λ (x : Sibling). x.slot) (sym h.0.1) ∙ own in
-      ((h.0.0, next_once (node_at nodes s.index).parent p (length nodes) (wider s.index h.0.0) index are.few at), (h.0.1, own)))
+      ((h.0.0, next_once (linked_node nodes s.index).parent p (length nodes) (wider s.index h.0.0) index are.few at), (h.0.1, own)))
       group (filter_passes (IsOne nodes) (λ s. s.slot == slot) siblings g.only)
 
   group_up : AllPairs (λ a b. sibling_order a b ≡ Less) group
   group_up = AllPairs-filter (λ a b. sibling_order a b ≡ Less) (λ s. s.slot == slot) siblings g.ascend
 
-  scopes_up : (a b : Sibling) → IsChild a → IsChild b → sibling_order a b ≡ Less → scope_order (node_at nodes a.index).scope (node_at nodes b.index).scope ≡ Less
+  scopes_up : (a b : Sibling) → IsChild a → IsChild b → sibling_order a b ≡ Less → scope_order (linked_node nodes a.index).scope (linked_node nodes b.index).scope ≡ Less
   scopes_up a b a_is b_is less =
       let slots : nat_cmp a.slot b.slot ≡ Equal = ap (nat_cmp a.slot) (b_is.1.1 ∙ sym a_is.1.1) ∙ nat_same a.slot in
       let rest : ordering_then (scope_order a.scope b.scope) (nat_cmp a.index b.index) ≡ Less = sym (ap (λ o. ordering_then o (ordering_then (scope_order a.scope b.scope) (nat_cmp a.index b.index))) slots) ∙ less in
-      let same : scope_order a.scope b.scope ≡ scope_order (node_at nodes a.index).scope (node_at nodes b.index).scope = ap₂ (λ (x y : Sibling). scope_order x.scope y.scope) a_is.1.0 b_is.1.0 in
+      let same : scope_order a.scope b.scope ≡ scope_order (linked_node nodes a.index).scope (linked_node nodes b.index).scope = ap₂ (λ (x y : Sibling). scope_order x.scope y.scope) a_is.1.0 b_is.1.0 in
       sym same ∙ elim (scope_order a.scope b.scope) as (λ o. scope_order a.scope b.scope ≡ o → ordering_then o (nat_cmp a.index b.index) ≡ Less → o ≡ Less) [
         | Less ↦ λ e f. refl
         | Equal ↦ λ e f.
-            let scopes : (node_at nodes a.index).scope ≡ (node_at nodes b.index).scope = scope_order_tells (node_at nodes a.index).scope (node_at nodes b.index).scope (sym same ∙ e) in
-            let paths : path_of (tree_paths nodes) a.index ≡ path_of (tree_paths nodes) b.index =
+            let scopes : (linked_node nodes a.index).scope ≡ (linked_node nodes b.index).scope = scope_order_tells (linked_node nodes a.index).scope (linked_node nodes b.index).scope (sym same ∙ e) in
+            let paths : path_or_none (tree_paths nodes) a.index ≡ path_or_none (tree_paths nodes) b.index =
             kid_path nodes are a.index p a_is.0.0 a_is.0.1 ∙ ap (λ (s : Scope). path_at (tree_paths nodes) p ++ s ∷ []) scopes ∙ sym (kid_path nodes are b.index p b_is.0.0 b_is.0.1) in
             let one : a.index ≡ b.index = are.rooted.once a.index b.index a_is.0.0 b_is.0.0 paths in
             let tie : Equal ≡ Less = sym (ap (nat_cmp a.index) (sym one) ∙ nat_same a.index) ∙ f in absurd cc
@@ -226,10 +226,10 @@ module _ (nodes : List Node) (flags : List Bool) (siblings : List Sibling) (g : 
       get_or-map index_of (reverse group) i z d (omega (arith, length-map (reverse group) index_of))
       ∙ ap index_of (get_or-reverse group i z (let long = down_long in omega arith))
 
-  down_is : (i d : ℕ) → i < length down → (get_or down i d < length nodes) × ((node_at nodes (get_or down i d)).parent ≡ p)
+  down_is : (i d : ℕ) → i < length down → (get_or down i d < length nodes) × ((linked_node nodes (get_or down i d)).parent ≡ p)
   down_is i d lt =
       let z : Sibling = sibling_at nodes 0 in
-      subst (λ (k : ℕ). (k < length nodes) × ((node_at nodes k).parent ≡ p)) (sym (down_at i d lt))
+      subst (λ (k : ℕ). (k < length nodes) × ((linked_node nodes k).parent ≡ p)) (sym (down_at i d lt))
       (All-get_or IsChild group (length group - 1 - i) z (let long = down_long in omega arith) group_is).0
 
   branch_children : flag_at flags slot ≡ true → AreChildren nodes p down
@@ -246,39 +246,39 @@ module _ (nodes : List Node) (flags : List Bool) (siblings : List Sibling) (g : 
         let a : ℕ = length group - 1 - j in
         let b : ℕ = length group - 1 - i in
         let up = group_up a b z (omega arith) (omega arith) in
-        ap₂ (λ (x y : ℕ). scope_order (node_at nodes x).scope (node_at nodes y).scope) (down_at j d lt) (down_at i d (omega arith))
+        ap₂ (λ (x y : ℕ). scope_order (linked_node nodes x).scope (linked_node nodes y).scope) (down_at j d lt) (down_at i d (omega arith))
         ∙ scopes_up (get_or group a z) (get_or group b z) (All-get_or IsChild group a z (omega arith) group_is) (All-get_or IsChild group b z (omega arith) group_is) up;
   }
 
   abbrev is_run : Bool
-  is_run = nat_lt slot (length nodes) && (node_at nodes slot).parent == p
+  is_run = nat_lt slot (length nodes) && (linked_node nodes slot).parent == p
 
-  run_is : is_run ≡ true → (slot < length nodes) × ((node_at nodes slot).parent ≡ p)
+  run_is : is_run ≡ true → (slot < length nodes) × ((linked_node nodes slot).parent ≡ p)
   run_is e =
       elim (cases_lt slot (length nodes)) [
-        | inl less ↦ elim (cases_eq (node_at nodes slot).parent p) [
+        | inl less ↦ elim (cases_eq (linked_node nodes slot).parent p) [
           | inl is ↦ (less, is)
-          | inr apart ↦ absurd (true≢false (sym e ∙ ap₂ (λ (s t : Bool). s && t) (lt-ltb slot (length nodes) less) (ne_eqb (node_at nodes slot).parent p apart)))
+          | inr apart ↦ absurd (true≢false (sym e ∙ ap₂ (λ (s t : Bool). s && t) (lt-ltb slot (length nodes) less) (ne_eqb (linked_node nodes slot).parent p apart)))
         ]
-        | inr past ↦ absurd (true≢false (sym e ∙ ap (λ t. t && (node_at nodes slot).parent == p) (le-ltb slot (length nodes) past)))
+        | inr past ↦ absurd (true≢false (sym e ∙ ap (λ t. t && (linked_node nodes slot).parent == p) (le-ltb slot (length nodes) past)))
       ]
 
-  run_has : (i : ℕ) → i < length nodes → (node_at nodes i).parent ≡ p → flag_at flags slot ≡ false → (i ≡ slot) × (is_run ≡ true)
+  run_has : (i : ℕ) → i < length nodes → (linked_node nodes i).parent ≡ p → flag_at flags slot ≡ false → (i ≡ slot) × (is_run ≡ true)
   run_has i lt is off =
       let own : slot_at nodes i ≡ slot = ap next_index is in
       let at : i ≡ slot = sym (g.marks i lt (ap (flag_at flags) own ∙ off)) ∙ own in
-      (at, ap₂ (λ (s t : Bool). s && t) (lt-ltb slot (length nodes) (omega arith)) (eq-eqb (node_at nodes slot).parent p (ap (λ (k : ℕ). (node_at nodes k).parent) (sym at) ∙ is)))
+      (at, ap₂ (λ (s t : Bool). s && t) (lt-ltb slot (length nodes) (omega arith)) (eq-eqb (linked_node nodes slot).parent p (ap (λ (k : ℕ). (linked_node nodes k).parent) (sym at) ∙ is)))
 
   run_children : flag_at flags slot ≡ false → AreChildren nodes p (run_child nodes p)
   run_children off =
       elim is_run as (λ b. is_run ≡ b → AreChildren nodes p (cond b (slot ∷ []) [])) [
         | true ↦ λ e. record {
-          only = All-cons (λ k. (k < length nodes) × ((node_at nodes k).parent ≡ p)) slot [] (run_is e) (All-nil (λ k. (k < length nodes) × ((node_at nodes k).parent ≡ p)));
+          only = All-cons (λ k. (k < length nodes) × ((linked_node nodes k).parent ≡ p)) slot [] (run_is e) (All-nil (λ k. (k < length nodes) × ((linked_node nodes k).parent ≡ p)));
           all = λ i lt is. (zero, omega arith, sym (run_has i lt is off).0);
           fall = λ i j d below lt. absurd (omega arith);
         }
         | false ↦ λ e. record {
-          only = All-nil (λ k. (k < length nodes) × ((node_at nodes k).parent ≡ p));
+          only = All-nil (λ k. (k < length nodes) × ((linked_node nodes k).parent ≡ p));
           all = λ i lt is. absurd (true≢false (sym (run_has i lt is off).1 ∙ e));
           fall = λ i j d below lt. absurd (omega arith);
         }

@@ -14,7 +14,7 @@ use Rattle.tree_types.proofs.PathSteps.{as_many_paths}
 use Rattle.path_trie.specs.Trie.{IsIndex, path_at}
 use Rattle.path_trie.specs.private.Linked.{next_index, node_with}
 use Rattle.path_trie.proofs.Places.{next_of, path_none, path_some, place_cases}
-use Rattle.tree_join.specs.private.Walk.{path_of, node_before}
+use Rattle.tree_join.specs.private.Walk.{path_or_none, node_before}
 use Rattle.tree_join.proofs.Parting.{between, parts_less, siblings_part, parts_same}
 
 -- ---- the order of nodes that are next
@@ -93,9 +93,9 @@ none_earlier h n f e g =
 pub record Next (order : List Node) (n : Node) (own : Path) : Type 0 where
   pub index : IsIndex n.parent (length order)
   pub path : path_below (tree_paths order) n ≡ own
-  pub ahead : (i : ℕ) → i < length order → path_order (path_of (tree_paths order) i) own ≡ Less
+  pub ahead : (i : ℕ) → i < length order → path_order (path_or_none (tree_paths order) i) own ≡ Less
 
-module _ (order : List Node) (ascend : AllPairs (λ a b. path_order a b ≡ Less) (tree_paths order)) (some : (i : ℕ) → i < length order → path_of (tree_paths order) i ≡ [] → ⊥) (few : length order ≤ most_path_scopes) where
+module _ (order : List Node) (ascend : AllPairs (λ a b. path_order a b ≡ Less) (tree_paths order)) (some : (i : ℕ) → i < length order → path_or_none (tree_paths order) i ≡ [] → ⊥) (few : length order ≤ most_path_scopes) where
   abbrev done : List Path
   done = tree_paths order
 
@@ -110,13 +110,13 @@ module _ (order : List Node) (ascend : AllPairs (λ a b. path_order a b ≡ Less
       ]
 
   module _ (a b : Node) (a_path b_path : Path) (a_next : Next order a a_path) (b_next : Next order b b_path) where
-    parent_up : a.parent < length order → next_index a.parent ≡ a.parent + 1 → next_index b.parent < next_index a.parent → path_order (path_at done b.parent) (path_of done a.parent) ≡ Less
+    parent_up : a.parent < length order → next_index a.parent ≡ a.parent + 1 → next_index b.parent < next_index a.parent → path_order (path_at done b.parent) (path_or_none done a.parent) ≡ Less
     parent_up lt next less =
         elim (place_is b.parent b_next.index) [
-          | inl root ↦ ap (λ (x : Path). path_order x (path_of done a.parent)) (path_none done b.parent root.0) ∙ from_none (path_of done a.parent) (some a.parent lt)
+          | inl root ↦ ap (λ (x : Path). path_order x (path_or_none done a.parent)) (path_none done b.parent root.0) ∙ from_none (path_or_none done a.parent) (some a.parent lt)
           | inr inner ↦
               let inner_lt = inner.0 in let inner_next = inner.1 in
-              ap (λ (x : Path). path_order x (path_of done a.parent)) (path_some done b.parent (omega arith)) ∙ ascend b.parent a.parent [] (omega arith) (let long = as_many_paths order in omega arith)
+              ap (λ (x : Path). path_order x (path_or_none done a.parent)) (path_some done b.parent (omega arith)) ∙ ascend b.parent a.parent [] (omega arith) (let long = as_many_paths order in omega arith)
         ]
       where
         from_none : (x : Path) → (x ≡ [] → ⊥) → path_order [] x ≡ Less
@@ -129,9 +129,9 @@ module _ (order : List Node) (ascend : AllPairs (λ a b. path_order a b ≡ Less
           | inl root ↦ (let none = root.1 in absurd (omega arith))
           | inr inner ↦
               let lt = inner.0 in
-              parts_less a_path b_path (parts_same a_path b_path (path_of done a.parent ++ a.scope ∷ []) (path_at done b.parent ++ b.scope ∷ [])
+              parts_less a_path b_path (parts_same a_path b_path (path_or_none done a.parent ++ a.scope ∷ []) (path_at done b.parent ++ b.scope ∷ [])
               (sym a_next.path ∙ ap (λ (x : Path). x ++ a.scope ∷ []) (path_some done a.parent (omega arith))) (sym b_next.path)
-              (between (path_at done b.parent) (path_of done a.parent) b.scope (a.scope ∷ []) (parent_up lt inner.1 less) (ap (path_order (path_of done a.parent)) b_next.path ∙ b_next.ahead a.parent lt)))
+              (between (path_at done b.parent) (path_or_none done a.parent) b.scope (a.scope ∷ []) (parent_up lt inner.1 less) (ap (path_order (path_or_none done a.parent)) b_next.path ∙ b_next.ahead a.parent lt)))
         ]
 
     beside : next_index b.parent ≡ next_index a.parent → scope_order a.scope b.scope ≡ Less → path_order a_path b_path ≡ Less

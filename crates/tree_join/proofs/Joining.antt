@@ -16,13 +16,13 @@ use Rattle.tree_types.specs.Tree.{CountedTree, IsTree, count_at, counts_in}
 use Rattle.tree_types.proofs.PathSteps.{as_many_paths}
 use Rattle.path_trie.specs.declared.trie.PathEnd.{PathEnd}
 use Rattle.path_trie.specs.Trie.{IsIndex, path_at, same_path, counted_entry, trie_nodes, nth_path, count_of, samples_of, entries_of}
-use Rattle.path_trie.specs.private.Linked.{node_at, Rooted}
+use Rattle.path_trie.specs.private.Linked.{linked_node, Rooted}
 use Rattle.path_trie.proofs.Places.{path_none, not_empty, path_itself, path_false}
 use Rattle.tree_join.specs.Join.{nodes_of_all}
 use Rattle.tree_join.specs.declared.walker.Walker.{Walker}
 use Rattle.tree_join.specs.private.Result.{IsTreeOf}
 use Rattle.tree_join.specs.private.Sums.{counts_some, count_of_end, counts_of, all_counts, AreSums, HasIndices}
-use Rattle.tree_join.specs.private.Walk.{number_at, path_of, nodes_in, entries_in, head_of, IsWalker, Walking}
+use Rattle.tree_join.specs.private.Walk.{number_given, path_or_none, nodes_in, walked_entries, head_node, IsWalker, Walking}
 use Rattle.tree_join.proofs.Ends.{Numbered, number_is, done_is, order_is, in_order, rooted_order}
 use Rattle.tree_join.proofs.Paths.{paths_several}
 use Rattle.tree_join.proofs.Steps.{order_few}
@@ -85,19 +85,19 @@ module _ (order nodes : List Node) (numbers : List ℕ) (ends : List PathEnd) (r
 
   module _ (node hart : ℕ) (lt : node < length order) where
     abbrev q : Path
-    q = path_of done node
+    q = path_or_none done node
 
     q_some : q ≡ [] → ⊥
-    q_some e = (let r = rooted in not_empty (path_at done (node_at order node).parent) (node_at order node).scope (sym (r.below node lt) ∙ e))
+    q_some e = (let r = rooted in not_empty (path_at done (linked_node order node).parent) (linked_node order node).scope (sym (r.below node lt) ∙ e))
 
-    number_same : (m : ℕ) → m < length nodes → same_path q (path_of own_paths m) ≡ (number_at numbers m == node)
+    number_same : (m : ℕ) → m < length nodes → same_path q (path_or_none own_paths m) ≡ (number_given numbers m == node)
     number_same m m_lt =
-        let k : ℕ = number_at numbers m in
+        let k : ℕ = number_given numbers m in
         let is = numbered m m_lt in
         elim (cases_eq k node) [
-          | inl same ↦ ap (same_path q) (sym is.1 ∙ ap (path_of done) same) ∙ path_itself q ∙ sym (eq-eqb k node same)
+          | inl same ↦ ap (same_path q) (sym is.1 ∙ ap (path_or_none done) same) ∙ path_itself q ∙ sym (eq-eqb k node same)
           | inr apart ↦
-              path_false q (path_of own_paths m) (λ e. (let r = rooted in apart (sym (r.once node k lt is.0 (e ∙ sym is.1)))))
+              path_false q (path_or_none own_paths m) (λ e. (let r = rooted in apart (sym (r.once node k lt is.0 (e ∙ sym is.1)))))
               ∙ sym (ne_eqb k node apart)
         ]
 
@@ -128,7 +128,7 @@ module _ (order nodes : List Node) (numbers : List ℕ) (ends : List PathEnd) (r
           | inr inner ↦
               ap (λ b. cond (not b && nat_lt 0 e.count) (cond (owns node hart (count_of_end numbers e)) e.count 0) 0) (ne_eqb e.node no_parent inner)
               ∙ if_some e.count (owns node hart (count_of_end numbers e))
-              ∙ ap (λ b. cond b e.count 0) (and_swap (number_at numbers e.node == node) (e.hart == hart) ∙ ap (λ b. (e.hart == hart) && b) (sym (number_same e.node (index inner))) ∙ ap (λ (p : Path). (e.hart == hart) && same_path q p) (sym (inner_at own_paths e.node inner)))
+              ∙ ap (λ b. cond b e.count 0) (and_swap (number_given numbers e.node == node) (e.hart == hart) ∙ ap (λ b. (e.hart == hart) && b) (sym (number_same e.node (index inner))) ∙ ap (λ (p : Path). (e.hart == hart) && same_path q p) (sym (inner_at own_paths e.node inner)))
         ]
 
     first_count : (e : PathEnd) (rest : List PathEnd) → count_at (counts_of numbers (e ∷ rest)) node hart ≡ cond (counts_some e) (cond (owns node hart (count_of_end numbers e)) e.count 0) 0 + count_at (counts_of numbers rest) node hart
@@ -164,10 +164,10 @@ flat_all : {X Y : Type 0} (P : Y → Type 0) (f : X → List Y) (xs : List X) �
 flat_all P f [] each = All-nil P
 flat_all P f (x ∷ xs) each = All-append P (f x) (flat_map f xs) (All-head (λ y. All P (f y)) x xs each) (flat_all P f xs (All-tail (λ y. All P (f y)) x xs each))
 
-samples_few : (walkers : List Walker) → sum_by samples_of (map entries_in walkers) ≤ most_samples → counts_in (all_counts walkers) ≤ most_samples
+samples_few : (walkers : List Walker) → sum_by samples_of (map walked_entries walkers) ≤ most_samples → counts_in (all_counts walkers) ≤ most_samples
 samples_few walkers few = (let le = less walkers in omega arith)
   where
-    less : (ws : List Walker) → counts_in (all_counts ws) ≤ sum_by samples_of (map entries_in ws)
+    less : (ws : List Walker) → counts_in (all_counts ws) ≤ sum_by samples_of (map walked_entries ws)
     less [] = omega arith
     less (w ∷ ws) =
         let own : List NodeCount = counts_of w.numbers.items w.ends.now in
@@ -175,17 +175,17 @@ samples_few walkers few = (let le = less walkers in omega arith)
         let parts = sum_by-append node_count own (all_counts ws) in
         let first = few_counts w.numbers.items w.ends.now in
         let samples = samples_are (tree_paths (nodes_in w)) w.ends.now in
-        let all = sum_by-cons samples_of (entries_in w) (map entries_in ws) in
+        let all = sum_by-cons samples_of (walked_entries w) (map walked_entries ws) in
         omega arith
 
-pub begin : (walkers : List Walker) → All (IsWalker []) walkers → sum_by (λ es. length (trie_nodes es)) (map entries_in walkers) ≤ most_path_scopes → Walking (map entries_in walkers) walkers []
+pub begin : (walkers : List Walker) → All (IsWalker []) walkers → sum_by (λ es. length (trie_nodes es)) (map walked_entries walkers) ≤ most_path_scopes → Walking (map walked_entries walkers) walkers []
 begin walkers each few = record {
   parts_are = refl;
   each = each;
   ascend = λ i j d below lt. (let none = as_many_paths [] in absurd (omega arith));
   before = λ i lt. absurd (omega arith);
   among = λ i lt. absurd (omega arith);
-  few = subst (λ (n : ℕ). n ≤ most_path_scopes) (sym (length-flat_map trie_nodes (map entries_in walkers))) few;
+  few = subst (λ (n : ℕ). n ≤ most_path_scopes) (sym (length-flat_map trie_nodes (map walked_entries walkers))) few;
 }
 
 module _ (parts : List (List Entry)) (walkers : List Walker) (order : List Node) (is : Walking parts walkers order) where
@@ -197,7 +197,7 @@ module _ (parts : List (List Entry)) (walkers : List Walker) (order : List Node)
       let own = is.each i d lt in
       subst (λ (n : ℕ). All (λ e. IsIndex e.node n) (get_or walkers i d).ends.now) (sym own.walks.long) own.ends_in
 
-  module _ (ended : All (λ w. head_of w ≡ None) walkers) (sums : List NodeCount) (s : AreSums (all_counts walkers) sums) where
+  module _ (ended : All (λ w. head_node w ≡ None) walkers) (sums : List NodeCount) (s : AreSums (all_counts walkers) sums) where
     rooted : Rooted order
     rooted = rooted_order parts walkers order is
 
@@ -206,10 +206,10 @@ module _ (parts : List (List Entry)) (walkers : List Walker) (order : List Node)
 
     module _ (node hart : ℕ) (lt : node < length order) where
       abbrev q_at : Path
-      q_at = path_of (tree_paths order) node
+      q_at = path_or_none (tree_paths order) node
 
       abbrev Same : Walker → Type 0
-      Same w = count_at (counts_of w.numbers.items w.ends.now) node hart ≡ count_of (entries_in w) hart q_at
+      Same w = count_at (counts_of w.numbers.items w.ends.now) node hart ≡ count_of (walked_entries w) hart q_at
 
       each_same : All Same walkers
       each_same i d i_lt =
@@ -217,11 +217,11 @@ module _ (parts : List (List Entry)) (walkers : List Walker) (order : List Node)
           let own = is.each i d i_lt in
           counts_same order (nodes_in w) w.numbers.items w.ends.now rooted (one_numbered i d i_lt) node hart lt w.ends.now own.ends_in
 
-      all_same : (ws : List Walker) → All Same ws → count_at (all_counts ws) node hart ≡ sum_by (λ es. count_of es hart q_at) (map entries_in ws)
+      all_same : (ws : List Walker) → All Same ws → count_at (all_counts ws) node hart ≡ sum_by (λ es. count_of es hart q_at) (map walked_entries ws)
       all_same [] all = refl
       all_same (w ∷ ws) all =
           count_append (counts_of w.numbers.items w.ends.now) (all_counts ws) node hart ∙ ap₂ (λ (a b : ℕ). a + b) (All-head Same w ws all) (all_same ws (All-tail Same w ws all))
-          ∙ sym (sum_by-cons (λ es. count_of es hart q_at) (entries_in w) (map entries_in ws))
+          ∙ sym (sum_by-cons (λ es. count_of es hart q_at) (walked_entries w) (map walked_entries ws))
 
       counts_are : count_at sums node hart ≡ sum_by (λ es. count_of es hart (nth_path (nodes_of_all parts) node)) parts
       counts_are =
@@ -243,16 +243,16 @@ module _ (parts : List (List Entry)) (walkers : List Walker) (order : List Node)
           All-cons (λ e. 0 < e.count → e.hart < harts) x xs (All-head P (counted_entry paths x) (map (counted_entry paths) xs) all)
           (from_entries paths xs (All-tail P (counted_entry paths x) (map (counted_entry paths) xs) all))
 
-      of_walkers : (ws : List Walker) → All (λ es. All (λ (e : Entry). 0 < e.count → e.hart < harts) es) (map entries_in ws) → All (λ w. All (λ (c : NodeCount). c.hart < harts) (counts_of w.numbers.items w.ends.now)) ws
+      of_walkers : (ws : List Walker) → All (λ es. All (λ (e : Entry). 0 < e.count → e.hart < harts) es) (map walked_entries ws) → All (λ w. All (λ (c : NodeCount). c.hart < harts) (counts_of w.numbers.items w.ends.now)) ws
       of_walkers [] all = All-nil (λ w. All (λ (c : NodeCount). c.hart < harts) (counts_of w.numbers.items w.ends.now))
       of_walkers (w ∷ ws) all =
           let P : List Entry → Type 0 = λ es. All (λ (e : Entry). 0 < e.count → e.hart < harts) es in
-          let own = from_entries (tree_paths (nodes_in w)) w.ends.now (All-head P (entries_in w) (map entries_in ws) all) in
+          let own = from_entries (tree_paths (nodes_in w)) w.ends.now (All-head P (walked_entries w) (map walked_entries ws) all) in
           All-cons (λ w. All (λ (c : NodeCount). c.hart < harts) (counts_of w.numbers.items w.ends.now)) w ws
           (All-map (λ c. c.hart < harts) (count_of_end w.numbers.items) (filter counts_some w.ends.now)
           (All-weaker (λ e. (0 < e.count → e.hart < harts) × (counts_some e ≡ true)) (λ e. e.hart < harts) (λ e both. both.0 (some_is e both.1).1) (filter counts_some w.ends.now)
           (filter_passes (λ e. 0 < e.count → e.hart < harts) counts_some w.ends.now own)))
-          (of_walkers ws (All-tail P (entries_in w) (map entries_in ws) all))
+          (of_walkers ws (All-tail P (walked_entries w) (map walked_entries ws) all))
 
       abbrev pub joined_tree : CountedTree
       joined_tree = record { harts = harts; nodes = order; counts = sums }

@@ -19,12 +19,12 @@ use Rattle.tree_types.specs.Paths.{Path}
 use Rattle.tree_types.specs.PathsOf.{tree_paths, path_below}
 use Rattle.tree_types.proofs.PathSteps.{as_many_paths}
 use Rattle.path_trie.specs.Trie.{IsIndex, path_at, counted_entry, trie_nodes}
-use Rattle.path_trie.specs.private.Linked.{node_at, no_node}
+use Rattle.path_trie.specs.private.Linked.{linked_node, no_node}
 use Rattle.path_trie.proofs.Places.{last_cases, not_empty, tree_paths_push}
 use Rattle.tree_join.specs.declared.children.Children.{Children}
 use Rattle.tree_join.specs.declared.walker.Walker.{Walker}
 use Rattle.tree_join.specs.private.Children.{children_of}
-use Rattle.tree_join.specs.private.Walk.{path_of, renumbered, next_node, nodes_in, entries_in, head_of, node_before, Advances, IsWalker, Leads, NotAfter, Walks, WalksTrie, Walking}
+use Rattle.tree_join.specs.private.Walk.{path_or_none, renumbered, next_node, nodes_in, walked_entries, head_node, node_before, Advances, IsWalker, Leads, NotAfter, Walks, WalksTrie, Walking}
 use Rattle.tree_join.proofs.Groups.{children_are}
 use Rattle.tree_join.proofs.Heads.{Next, leads, first_of_two}
 use Rattle.tree_join.proofs.Parting.{parts_less}
@@ -65,7 +65,7 @@ module _ (order : List Node) (w : Walker) (is : IsWalker order w) where
     pub popped : stack ≡ take (length stack - 1) stack ++ index ∷ []
     pub node : n ≡ renumbered nodes w.numbers.items index
 
-  pub top_of : (n : Node) → head_of w ≡ Some n → Top n
+  pub top_of : (n : Node) → head_node w ≡ Some n → Top n
   top_of n e =
       elim (slice_get stack (length stack - 1)) as (λ o. slice_get stack (length stack - 1) ≡ o → next_node nodes w.numbers.items o ≡ Some n → Top n) [
         | None ↦ λ at h. absurd cc
@@ -82,7 +82,7 @@ module _ (order : List Node) (w : Walker) (is : IsWalker order w) where
             }
       ] refl e
 
-  pub none_left : head_of w ≡ None → length stack ≡ 0
+  pub none_left : head_node w ≡ None → length stack ≡ 0
   none_left e =
       elim (cases_lt 0 (length stack)) [
         | inl some ↦ absurd (never (slice_get-get_or stack (length stack - 1) 0 (omega arith)))
@@ -92,7 +92,7 @@ module _ (order : List Node) (w : Walker) (is : IsWalker order w) where
       never : slice_get stack (length stack - 1) ≡ Some (get_or stack (length stack - 1) 0) → ⊥
       never at = (let both : next_node nodes w.numbers.items (Some (get_or stack (length stack - 1) 0)) ≡ None = ap (next_node nodes w.numbers.items) (sym at) ∙ e in cc)
 
-  module _ (n : Node) (head : head_of w ≡ Some n) where
+  module _ (n : Node) (head : head_node w ≡ Some n) where
     abbrev top : Top n
     top = top_of n head
 
@@ -100,12 +100,12 @@ module _ (order : List Node) (w : Walker) (is : IsWalker order w) where
     walks_on = subst (λ (x : List ℕ). Walks nodes w.numbers.items x order) top.popped is.walks
 
     abbrev pub next_path : Path
-    next_path = path_of paths top.index
+    next_path = path_or_none paths top.index
 
     pub next_in : top.index < length nodes
     next_in = top_place nodes is.are w.numbers.items (take (length stack - 1) stack) order top.index walks_on
 
-    pub next_is : Next order n (path_of paths top.index)
+    pub next_is : Next order n (path_or_none paths top.index)
     next_is = record {
       index = subst (λ (x : Node). IsIndex x.parent (length order)) (sym top.node) (parent_place nodes is.are w.numbers.items (take (length stack - 1) stack) order top.index walks_on);
       path = ap (path_below (tree_paths order)) top.node ∙ new_path nodes is.are w.numbers.items (take (length stack - 1) stack) order top.index walks_on;
@@ -113,7 +113,7 @@ module _ (order : List Node) (w : Walker) (is : IsWalker order w) where
     }
 
   -- the walk goes on
-  pub goes_on : (v : Walker) (n : Node) → length order ≤ most_path_scopes → head_of w ≡ Some n → Advances (length order) w v → IsWalker (order ++ n ∷ []) v
+  pub goes_on : (v : Walker) (n : Node) → length order ≤ most_path_scopes → head_node w ≡ Some n → Advances (length order) w v → IsWalker (order ++ n ∷ []) v
   goes_on v n few head a =
       let top = top_of n head in
       let place_is : a.index ≡ top.index = sym (ap (λ (x : List ℕ). get_or x (length a.rest) 0) a.popped ∙ get_or-append_seam a.rest a.index [] 0)
@@ -136,19 +136,19 @@ module _ (order : List Node) (w : Walker) (is : IsWalker order w) where
       (subst (λ (x : List ℕ). WalksTrie w.children w.ends.now (set w.numbers.items a.index (length order)) x (order ++ n ∷ [])) (sym a.stack) new)))
 
   -- the walk stays, where the node stands before all that is next in it
-  module _ (ascend : AllPairs (λ a b. path_order a b ≡ Less) (tree_paths order)) (some : (i : ℕ) → i < length order → path_of (tree_paths order) i ≡ [] → ⊥) (few : length order ≤ most_path_scopes)
+  module _ (ascend : AllPairs (λ a b. path_order a b ≡ Less) (tree_paths order)) (some : (i : ℕ) → i < length order → path_or_none (tree_paths order) i ≡ [] → ⊥) (few : length order ≤ most_path_scopes)
       (n : Node) (own : Path) (next : Next order n own) (before : Leads n w) where
-    leads_head : (o : Option Node) → head_of w ≡ o → IfSome o (λ h. node_before n h ≡ true) → (j : ℕ) → j < length stack → path_order own (path_of paths (get_or stack j 0)) ≡ Less
+    leads_head : (o : Option Node) → head_node w ≡ o → IfSome o (λ h. node_before n h ≡ true) → (j : ℕ) → j < length stack → path_order own (path_or_none paths (get_or stack j 0)) ≡ Less
     leads_head None e l j lt = (let none = none_left e in absurd (omega arith))
     leads_head (Some h) e l j lt =
         let top = top_of h e in
-        let first : path_order own (path_of paths top.index) ≡ Less = leads order ascend some few n h own (path_of paths top.index) next (next_is h e) l in
+        let first : path_order own (path_or_none paths top.index) ≡ Less = leads order ascend some few n h own (path_or_none paths top.index) next (next_is h e) l in
         elim (last_cases j (length stack - 1) (omega arith)) [
           | inl less ↦
-              path_order_total.trans own (path_of paths top.index) (path_of paths (get_or stack j 0)) first
-              (ap (λ (p : ℕ). path_order (path_of paths p) (path_of paths (get_or stack j 0))) (sym top.at)
-              ∙ parts_less (path_of paths (get_or stack (length stack - 1) 0)) (path_of paths (get_or stack j 0)) (is.walks.apart j (length stack - 1) less (omega arith)))
-          | inr last ↦ ap (λ (p : ℕ). path_order own (path_of paths p)) (ap (λ (k : ℕ). get_or stack k 0) last ∙ top.at) ∙ first
+              path_order_total.trans own (path_or_none paths top.index) (path_or_none paths (get_or stack j 0)) first
+              (ap (λ (p : ℕ). path_order (path_or_none paths p) (path_or_none paths (get_or stack j 0))) (sym top.at)
+              ∙ parts_less (path_or_none paths (get_or stack (length stack - 1) 0)) (path_or_none paths (get_or stack j 0)) (is.walks.apart j (length stack - 1) less (omega arith)))
+          | inr last ↦ ap (λ (p : ℕ). path_order own (path_or_none paths p)) (ap (λ (k : ℕ). get_or stack k 0) last ∙ top.at) ∙ first
         ]
 
     pub stays : IsWalker (order ++ n ∷ []) w
@@ -157,7 +157,7 @@ module _ (order : List Node) (w : Walker) (is : IsWalker order w) where
       are = is.are;
       nodes_are = is.nodes_are;
       ends_in = is.ends_in;
-      walks = stay nodes is.are w.numbers.items stack order n own is.walks next.path (leads_head (head_of w) refl before);
+      walks = stay nodes is.are w.numbers.items stack order n own is.walks next.path (leads_head (head_node w) refl before);
     }
 
 -- ---- all walks
@@ -172,10 +172,10 @@ module _ (parts : List (List Entry)) (walkers : List Walker) (order : List Node)
       let le = count_among (flat_map trie_nodes parts) done is.ascend (λ i lt. is.among i (omega arith)) in
       let few = is.few in omega arith
 
-  pub some_path : (i : ℕ) → i < length order → path_of done i ≡ [] → ⊥
-  some_path i lt e = not_empty (path_at done (node_at order i).parent) (node_at order i).scope (sym (below_from order is.before i lt) ∙ e)
+  pub some_path : (i : ℕ) → i < length order → path_or_none done i ≡ [] → ⊥
+  some_path i lt e = not_empty (path_at done (linked_node order i).parent) (linked_node order i).scope (sym (below_from order is.before i lt) ∙ e)
 
-  module _ (k : ℕ) (d : Walker) (lt : k < length walkers) (n : Node) (head : head_of (get_or walkers k d) ≡ Some n) where
+  module _ (k : ℕ) (d : Walker) (lt : k < length walkers) (n : Node) (head : head_node (get_or walkers k d) ≡ Some n) where
     abbrev w : Walker
     w = get_or walkers k d
 
@@ -191,10 +191,10 @@ module _ (parts : List (List Entry)) (walkers : List Walker) (order : List Node)
     in_parts : Contains (flat_map trie_nodes parts) own
     in_parts =
         let here : Contains (tree_paths (nodes_in w)) own = Contains-get_or (tree_paths (nodes_in w)) (top_of order w own_is n head).index [] (let long = as_many_paths (nodes_in w) in let inside = next_in order w own_is n head in omega arith) in
-        let there : Contains (trie_nodes (entries_in w)) own = subst (λ (ps : List Path). Contains ps own) own_is.nodes_are here in
-        let at : get_or (map entries_in walkers) k (entries_in w) ≡ entries_in w = get_or-map entries_in walkers k d (entries_in w) lt in
+        let there : Contains (trie_nodes (walked_entries w)) own = subst (λ (ps : List Path). Contains ps own) own_is.nodes_are here in
+        let at : get_or (map walked_entries walkers) k (walked_entries w) ≡ walked_entries w = get_or-map walked_entries walkers k d (walked_entries w) lt in
         subst (λ (ps : List (List Entry)). Contains (flat_map trie_nodes ps) own) is.parts_are
-        (in_flat trie_nodes (map entries_in walkers) k (entries_in w) own (let long = length-map walkers entries_in in omega arith)
+        (in_flat trie_nodes (map walked_entries walkers) k (walked_entries w) own (let long = length-map walkers walked_entries in omega arith)
         (subst (λ (es : List Entry). Contains (trie_nodes es) own) (sym at) there))
 
     abbrev order_new : List Node
@@ -208,24 +208,24 @@ module _ (parts : List (List Entry)) (walkers : List Walker) (order : List Node)
 
     -- a walk whose next node this is has gone on, and another stays, before whose next node this one stands
     abbrev Moves : Walker → Walker → Type 0
-    Moves u v = ((head_of u ≡ Some n) × Advances (length order) u v) ⊎ ((v ≡ u) × Leads n u)
+    Moves u v = ((head_node u ≡ Some n) × Advances (length order) u v) ⊎ ((v ≡ u) × Leads n u)
 
-    entries_same : (u v : Walker) → Moves u v → entries_in v ≡ entries_in u
+    entries_same : (u v : Walker) → Moves u v → walked_entries v ≡ walked_entries u
     entries_same u v (inl on) = ap (λ (c : Children). map (counted_entry (tree_paths c.nodes.now)) v.ends.now) on.1.children ∙ ap (λ b. map (counted_entry (tree_paths (nodes_in u))) b.now) on.1.ends
-    entries_same u v (inr off) = ap entries_in off.0
+    entries_same u v (inr off) = ap walked_entries off.0
 
     is_new : (u v : Walker) → IsWalker order u → Moves u v → IsWalker order_new v
     is_new u v u_is (inl on) = goes_on order u u_is v n order_few on.0 on.1
     is_new u v u_is (inr off) = subst (IsWalker order_new) (sym off.0) (stays order u u_is is.ascend some_path order_few n own next off.1)
 
     -- where the node doesn't stand after what is next in a walk, and is another one, it stands before it
-    pub leads_other : (i : ℕ) (e : Walker) → i < length walkers → (head_of (get_or walkers i e) ≢ Some n) → NotAfter n (get_or walkers i e) → Leads n (get_or walkers i e)
-    leads_other i e i_lt apart last = by_head (head_of u) refl last
+    pub leads_other : (i : ℕ) (e : Walker) → i < length walkers → (head_node (get_or walkers i e) ≢ Some n) → NotAfter n (get_or walkers i e) → Leads n (get_or walkers i e)
+    leads_other i e i_lt apart last = by_head (head_node u) refl last
       where
         u : Walker
         u = get_or walkers i e
 
-        by_head : (o : Option Node) → head_of u ≡ o → IfSome o (λ h. node_before h n ≡ false) → IfSome o (λ h. node_before n h ≡ true)
+        by_head : (o : Option Node) → head_node u ≡ o → IfSome o (λ h. node_before h n ≡ false) → IfSome o (λ h. node_before n h ≡ true)
         by_head None at l = tt
         by_head (Some h) at l =
             first_of_two order is.ascend some_path order_few n h own (next_path order u (is.each i e i_lt) h at) next (next_is order u (is.each i e i_lt) h at) l (λ same. apart (at ∙ ap Some same))
@@ -233,7 +233,7 @@ module _ (parts : List (List Entry)) (walkers : List Walker) (order : List Node)
     module _ (new : List Walker) (long : length new ≡ length walkers) (each : (i : ℕ) (e : Walker) → i < length walkers → Moves (get_or walkers i e) (get_or new i e)) where
       pub moved : Walking parts new order_new
       moved = record {
-        parts_are = map_same entries_in walkers new long (λ i e i_lt. entries_same (get_or walkers i e) (get_or new i e) (each i e i_lt)) ∙ is.parts_are;
+        parts_are = map_same walked_entries walkers new long (λ i e i_lt. entries_same (get_or walkers i e) (get_or new i e) (each i e i_lt)) ∙ is.parts_are;
         each = λ i e i_lt. is_new (get_or walkers i e) (get_or new i e) (is.each i e (omega arith)) (each i e (omega arith));
         ascend = subst (AllPairs (λ a b. path_order a b ≡ Less)) (sym done_new)
             (all_pairs_push (λ a b. path_order a b ≡ Less) done own is.ascend
@@ -242,7 +242,7 @@ module _ (parts : List (List Entry)) (walkers : List Walker) (order : List Node)
             let size = new_long in
             elim (last_cases i (length order) (omega arith)) [
               | inl less ↦ subst (λ (x : Node). IsIndex x.parent i) (sym (get_or-append order (n ∷ []) no_node i less)) (is.before i less)
-              | inr at ↦ subst (λ (x : Node). IsIndex x.parent i) (sym (ap (node_at order_new) at ∙ get_or-append_seam order n [] no_node)) (subst (IsIndex n.parent) (sym at) next.index)
+              | inr at ↦ subst (λ (x : Node). IsIndex x.parent i) (sym (ap (linked_node order_new) at ∙ get_or-append_seam order n [] no_node)) (subst (IsIndex n.parent) (sym at) next.index)
             ];
         among = λ i i_lt.
             let size = new_long in let same = as_many_paths order in

@@ -6,7 +6,7 @@ ghost use Rattle.std.specs.declared.cmp.Ordering.TheVariants.{Less};
 ghost use Rattle.scope_types.specs.Limits.{most_path_scopes};
 ghost use Rattle.std.specs.List.Sorted.{IsPermutation, IsSorted};
 ghost use Rattle.path_trie.specs.Trie.{IsIndex, StandBefore};
-ghost use Rattle.path_trie.specs.private.Linked.{node_at};
+ghost use Rattle.path_trie.specs.private.Linked.{linked_node};
 ghost use Rattle.tree_join.specs.private.Children.{siblings_below, sibling_order, MarksBranches, Groups, children_of};
 
 use prof_bytes::Memory;
@@ -151,7 +151,7 @@ impl<'a> Children<'a> {
 
 /// Whether a node has this parent.
 fn is_child(nodes: &[Node], index: u32, parent: u32) -> bool
-    ensures { result ≡ (nat_lt index (length nodes.now) && (node_at nodes.now index).parent == parent) }
+    ensures { result ≡ (nat_lt index (length nodes.now) && (linked_node nodes.now index).parent == parent) }
 {
     match nodes.get(index as usize) {
         Some(node) => node.parent == parent,

@@ -10,7 +10,7 @@ ghost use Rattle.tree_types.specs.Nodes.{no_parent};
 ghost use Rattle.tree_types.specs.Tree.{count_at, paths_in};
 ghost use Rattle.path_trie.specs.Trie.{trie_nodes, trie_node, nth_path, count_of, samples_of};
 ghost use Rattle.tree_join.specs.Join.{joined_nodes, nodes_of_all};
-ghost use Rattle.tree_join.specs.private.Walk.{IsWalker, entries_in};
+ghost use Rattle.tree_join.specs.private.Walk.{IsWalker, walked_entries};
 ghost use Rattle.tree_join.specs.private.Result.{IsTreeOf};
 
 use crate::counts::summed;
@@ -42,10 +42,10 @@ pub fn join_trie(alloc: Global, trie: &Trie, harts: u32) -> Result<Tree, Memory>
 /// The tree of what is walked over, for so many harts.
 fn tree_of(alloc: Global, walkers: &mut [Walker], harts: u32) -> Result<Tree, Memory>
     requires each { All (IsWalker []) walkers.old }
-    requires samples { sum_by samples_of (map entries_in walkers.old) ≤ most_samples }
-    requires nodes { sum_by (λ es. length (trie_nodes es)) (map entries_in walkers.old) ≤ most_path_scopes }
-    requires harts { All (λ es. All (λ e. 0 < e.count → e.hart < harts) es) (map entries_in walkers.old) }
-    ensures { IfOk result (IsTreeOf (map entries_in walkers.old) harts) }
+    requires samples { sum_by samples_of (map walked_entries walkers.old) ≤ most_samples }
+    requires nodes { sum_by (λ es. length (trie_nodes es)) (map walked_entries walkers.old) ≤ most_path_scopes }
+    requires harts { All (λ es. All (λ e. 0 < e.count → e.hart < harts) es) (map walked_entries walkers.old) }
+    ensures { IfOk result (IsTreeOf (map walked_entries walkers.old) harts) }
 {
     let nodes = walk(alloc, walkers)?;
     let counts = summed(alloc, walkers)?;
@@ -55,7 +55,7 @@ fn tree_of(alloc: Global, walkers: &mut [Walker], harts: u32) -> Result<Tree, Me
 /// The walks over tries, in their order.
 fn walkers_of<'a>(alloc: Global, tries: &[&'a Trie]) -> Result<Vec<Walker<'a>>, Memory>
     ensures each { IfOk result (λ walkers. All (IsWalker []) walkers.items) }
-    ensures entries { IfOk result (λ walkers. map entries_in walkers.items ≡ map (λ t. t.now) tries.now) }
+    ensures entries { IfOk result (λ walkers. map walked_entries walkers.items ≡ map (λ t. t.now) tries.now) }
 {
     let mut walkers = Vec::new(alloc);
     for trie in tries {

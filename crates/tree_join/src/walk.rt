@@ -3,7 +3,7 @@ ghost use Rattle.std.specs.Prelude.{◌≡◌, ◌≢◌, ℕ, ◌<◌, ◌≤�
 ghost use Rattle.std.specs.Prelude.{IfOk, IfSome, OnOk, None, Some, true};
 ghost use Rattle.tree_join.specs.declared.walker.Walker.{Walker};
 ghost use Rattle.tree_join.specs.private.Walk.{IsReady, FirstBut, Leads, NotAfter, PassUpTo, Walking, earlier_of};
-ghost use Rattle.tree_join.specs.private.Walk.{entries_in, head_of, node_before};
+ghost use Rattle.tree_join.specs.private.Walk.{walked_entries, head_node, node_before};
 
 use crate::walker::{Walker, is_before};
 use prof_bytes::Memory;
@@ -53,11 +53,11 @@ fn advance_each(walkers: &mut [Walker], node: &Node, number: u32) -> Result<(), 
 
 /// Puts the first of the nodes that are next in order.
 fn put_first(walkers: &mut [Walker], node: Node, order: &mut Vec<Node>) -> Result<(), Memory>
-    requires walking { Walking (map entries_in walkers.old) walkers.old order.old.items }
+    requires walking { Walking (map walked_entries walkers.old) walkers.old order.old.items }
     requires next { (k : ℕ) × (k < length walkers.old)
-        × ((d : Walker) → head_of (slice_index_or walkers.old k d) ≡ Some node) }
+        × ((d : Walker) → head_node (slice_index_or walkers.old k d) ≡ Some node) }
     requires first { All (NotAfter node) walkers.old }
-    ensures walking { OnOk result (Walking (map entries_in walkers.old) walkers.new order.new.items) }
+    ensures walking { OnOk result (Walking (map walked_entries walkers.old) walkers.new order.new.items) }
     ensures order { OnOk result (order.new.items ≡ order.old.items ++ node ∷ []) }
     ensures len { OnOk result (length walkers.new ≡ length walkers.old) }
 {
@@ -73,12 +73,12 @@ fn put_own(
     node: Node,
     order: &mut Vec<Node>,
 ) -> Result<(), Memory>
-    requires walking { Walking (map entries_in walkers.old) walkers.old order.old.items }
+    requires walking { Walking (map walked_entries walkers.old) walkers.old order.old.items }
     requires at { at < length walkers.old }
-    requires next { (d : Walker) → head_of (slice_index_or walkers.old at d) ≡ Some node }
+    requires next { (d : Walker) → head_node (slice_index_or walkers.old at d) ≡ Some node }
     requires leads { (i : ℕ) (d : Walker) → i < length walkers.old → i ≢ at
         → Leads node (slice_index_or walkers.old i d) }
-    ensures walking { OnOk result (Walking (map entries_in walkers.old) walkers.new order.new.items) }
+    ensures walking { OnOk result (Walking (map walked_entries walkers.old) walkers.new order.new.items) }
     ensures order { OnOk result (order.new.items ≡ order.old.items ++ node ∷ []) }
     ensures len { OnOk result (length walkers.new ≡ length walkers.old) }
     ensures others { OnOk result ((i : ℕ) (d : Walker) → i ≢ at
@@ -93,7 +93,7 @@ fn put_own(
 /// The node that is next in a walk, if it stands before another one.
 fn leading(walker: &Walker, limit: Option<(usize, Node)>) -> Option<Node>
     requires { IsReady walker.now }
-    ensures { IfSome result (λ node. (head_of walker.now ≡ Some node)
+    ensures { IfSome result (λ node. (head_node walker.now ≡ Some node)
         × IfSome limit (λ other. node_before node other.1 ≡ true)) }
 {
     let node = walker.head()?;
@@ -105,9 +105,9 @@ fn leading(walker: &Walker, limit: Option<(usize, Node)>) -> Option<Node>
 
 /// Puts nodes of one walk in order, as long as they stand before what is next in the others.
 fn put_run(walkers: &mut [Walker], at: usize, order: &mut Vec<Node>) -> Result<(), Memory>
-    requires walking { Walking (map entries_in walkers.old) walkers.old order.old.items }
+    requires walking { Walking (map walked_entries walkers.old) walkers.old order.old.items }
     requires at { at < length walkers.old }
-    ensures walking { OnOk result (Walking (map entries_in walkers.old) walkers.new order.new.items) }
+    ensures walking { OnOk result (Walking (map walked_entries walkers.old) walkers.new order.new.items) }
     ensures longer { OnOk result (length order.old.items ≤ length order.new.items) }
 {
     let limit = first_but(walkers, at);
@@ -119,9 +119,9 @@ fn put_run(walkers: &mut [Walker], at: usize, order: &mut Vec<Node>) -> Result<(
 
 /// Puts all nodes in preorder, siblings by their scopes, those of one path once.
 pub fn walk(alloc: Global, walkers: &mut [Walker]) -> Result<Vec<Node>, Memory>
-    requires { Walking (map entries_in walkers.old) walkers.old [] }
-    ensures walking { IfOk result (λ order. Walking (map entries_in walkers.old) walkers.new order.items) }
-    ensures ended { OnOk result (All (λ w. head_of w ≡ None) walkers.new) }
+    requires { Walking (map walked_entries walkers.old) walkers.old [] }
+    ensures walking { IfOk result (λ order. Walking (map walked_entries walkers.old) walkers.new order.items) }
+    ensures ended { OnOk result (All (λ w. head_node w ≡ None) walkers.new) }
 {
     let mut order = Vec::new(alloc);
     while let Some((at, node)) = first_but(walkers, walkers.len()) {

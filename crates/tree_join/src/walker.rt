@@ -3,9 +3,9 @@ ghost use Rattle.std.specs.Prelude.{◌≡◌, ◌<◌, ◌≤◌, ◌≢◌, []
 ghost use Rattle.scope_types.specs.Limits.{most_samples};
 ghost use Rattle.tree_types.specs.Nodes.{no_parent};
 ghost use Rattle.path_trie.specs.Trie.{samples_of};
-ghost use Rattle.path_trie.specs.private.Linked.{node_at};
+ghost use Rattle.path_trie.specs.private.Linked.{linked_node};
 ghost use Rattle.tree_join.specs.private.Walk.{parent_number_at, renumbered, node_before, IsReady, IsWalker, Advances};
-ghost use Rattle.tree_join.specs.private.Walk.{entries_in, head_of};
+ghost use Rattle.tree_join.specs.private.Walk.{walked_entries, head_node};
 
 use crate::children::Children;
 use path_trie::{PathEnd, Trie};
@@ -38,8 +38,8 @@ fn parent_number(numbers: &[u32], parent: u32) -> u32
 /// A node as it is put in order, with its parent's number.
 fn in_order(nodes: &[Node], numbers: &[u32], index: u32) -> Node
     requires index { index < length nodes.now }
-    requires parent { (node_at nodes.now index).parent ≢ no_parent
-        → (node_at nodes.now index).parent < length numbers.now }
+    requires parent { (linked_node nodes.now index).parent ≢ no_parent
+        → (linked_node nodes.now index).parent < length numbers.now }
     ensures { result ≡ renumbered nodes.now numbers.now index }
 {
     let node = nodes[index as usize];
@@ -68,8 +68,8 @@ impl<'a> Walker<'a> {
     /// A walk that begins with the roots.
     pub fn of(alloc: Global, trie: &'a Trie) -> Result<Walker<'a>, Memory>
         ensures walks { IfOk result (IsWalker []) }
-        ensures entries { IfOk result (λ walker. entries_in walker ≡ trie.now) }
-        ensures samples { IfOk result (λ walker. samples_of (entries_in walker) ≤ most_samples) }
+        ensures entries { IfOk result (λ walker. walked_entries walker ≡ trie.now) }
+        ensures samples { IfOk result (λ walker. samples_of (walked_entries walker) ≤ most_samples) }
     {
         let nodes = trie.nodes();
         let children = Children::of(alloc, nodes)?;
@@ -87,7 +87,7 @@ impl<'a> Walker<'a> {
     /// The node that is next, as it is put in order.
     pub fn head(&self) -> Option<Node>
         requires { IsReady self.now }
-        ensures { result ≡ head_of self.now }
+        ensures { result ≡ head_node self.now }
     {
         let index = *self.stack.last()?;
         Some(in_order(self.children.nodes, self.numbers.as_slice(), index))
@@ -96,8 +96,8 @@ impl<'a> Walker<'a> {
     /// Whether a node is next.
     pub fn is_next(&self, node: &Node) -> bool
         requires { IsReady self.now }
-        ensures yes { result ≡ true → head_of self.now ≡ Some node.now }
-        ensures no { result ≡ false → head_of self.now ≢ Some node.now }
+        ensures yes { result ≡ true → head_node self.now ≡ Some node.now }
+        ensures no { result ≡ false → head_node self.now ≢ Some node.now }
     {
         match self.head() {
             Some(head) => head == *node,
@@ -108,7 +108,7 @@ impl<'a> Walker<'a> {
     /// Gives the node that is next a number. Its children are next.
     pub fn advance(&mut self, number: u32) -> Result<(), Memory>
         requires { IsReady self.old }
-        ensures { OnOk result (head_of self.old ≢ None → Advances number self.old self.new) }
+        ensures { OnOk result (head_node self.old ≢ None → Advances number self.old self.new) }
     {
         if let Some(index) = self.stack.pop() {
             self.numbers[index as usize] = number;

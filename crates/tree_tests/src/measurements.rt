@@ -93,13 +93,13 @@ fn fault(alloc: Global, bytes: &[u8]) -> Result<Option<u64>, Memory> {
 /// The file's first bytes, and zeros behind its end, with changes.
 fn changed(alloc: Global, changes: &[(usize, u8)], size: usize) -> Result<Vec<u8>, Memory> {
     let mut bytes = Vec::new(alloc);
-    for place in 0..size {
-        let mut byte = match MEASUREMENT.get(place) {
+    for offset in 0..size {
+        let mut byte = match MEASUREMENT.get(offset) {
             Some(byte) => *byte,
             None => 0,
         };
         for (other, new) in changes {
-            if *other == place {
+            if *other == offset {
                 byte = *new;
             }
         }

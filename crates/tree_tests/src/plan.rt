@@ -111,8 +111,8 @@ fn add(alloc: Global, ccts: &mut Ccts, hart: u32, pc: u32) -> Result<(), Fail<To
 /// Samples of hart 0 at 1000 to 1064, and of hart 1 at 2000, 2001 and 2000.
 pub(crate) fn samples(alloc: Global) -> Result<Ccts, Fail<TooManyFrames>> {
     let mut ccts = started(alloc, 2)?;
-    for place in 0..65u32 {
-        add(alloc, &mut ccts, 0, 1000 + place)?;
+    for offset in 0..65u32 {
+        add(alloc, &mut ccts, 0, 1000 + offset)?;
     }
     add(alloc, &mut ccts, 1, 2000)?;
     add(alloc, &mut ccts, 1, 2001)?;

@@ -117,8 +117,8 @@ fn expected(alloc: Global) -> Result<(Vec<Node>, Vec<NodeCount>), Memory> {
         parent: NO_PARENT,
         scope: Scope::Root(RootKind::Thread),
     })?;
-    for place in 0..65u32 {
-        put(&mut nodes, &mut counts, place, (0, 1, 1000 + place))?;
+    for index in 0..65u32 {
+        put(&mut nodes, &mut counts, index, (0, 1, 1000 + index))?;
     }
     put(&mut nodes, &mut counts, 65, (1, 2, 2000))?;
     put(&mut nodes, &mut counts, 66, (1, 1, 2001))?;

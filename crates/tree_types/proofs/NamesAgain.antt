@@ -107,15 +107,15 @@ module _ (a b : Naming) where
   label_same (Call line) p f = ap (λ (x : List ℕ). codes "call at " ++ x) (place_same line f)
   label_same (Stmt line) p f = place_same line f
 
-map_same : {X Y : Type 0} (f g : X → Y) (xs : List X) → AllByRecursion (λ x. f x ≡ g x) xs → map f xs ≡ map g xs
+pub map_same : {X Y : Type 0} (f g : X → Y) (xs : List X) → AllByRecursion (λ x. f x ≡ g x) xs → map f xs ≡ map g xs
 map_same f g [] all = refl
 map_same f g (x ∷ xs) all = λ i. all.0 i ∷ map_same f g xs all.1 i
 
-flat_map_same : {X Y : Type 0} (f g : X → List Y) (xs : List X) → AllByRecursion (λ x. f x ≡ g x) xs → flat_map f xs ≡ flat_map g xs
+pub flat_map_same : {X Y : Type 0} (f g : X → List Y) (xs : List X) → AllByRecursion (λ x. f x ≡ g x) xs → flat_map f xs ≡ flat_map g xs
 flat_map_same f g [] all = refl
 flat_map_same f g (x ∷ xs) all = λ i. all.0 i ++ flat_map_same f g xs all.1 i
 
-each : {X : Type 0} (P : X → Type 0) (xs : List X) → ((x : X) → Contains xs x → P x) → AllByRecursion P xs
+pub each : {X : Type 0} (P : X → Type 0) (xs : List X) → ((x : X) → Contains xs x → P x) → AllByRecursion P xs
 each P xs h = all_weaker (Contains xs) P h xs (recursion_from_All (Contains xs) xs (All-contains_itself xs))
 
 abbrev named_proc : ProcId → List ℕ → ProcName

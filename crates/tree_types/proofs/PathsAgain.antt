@@ -209,7 +209,7 @@ counts_again period harts naming ps q positive few some below =
 
 -- ---- and so the content is that of its paths
 
-count_some : {X : Type 0} (t : X → Bool) (xs : List X) → list_any t xs ≡ true → 0 < count_by t xs
+pub count_some : {X : Type 0} (t : X → Bool) (xs : List X) → list_any t xs ≡ true → 0 < count_by t xs
 count_some t [] e = absurd (true≢false (sym e))
 count_some t (x ∷ xs) e =
     let c = count_by-cons t x xs in
@@ -233,7 +233,7 @@ pub values_alike : (period : ℕ) (ps qs : List HartPath) → Alike ps qs → (h
 unfolding count_below
 values_alike period ps qs alike hart n kind = ap (λ (k : ℕ). period * k) (alike.same (counts (counts_for kind) hart n))
 
-all_count : (ps : List HartPath) → count_by (λ (p : HartPath). true) ps ≡ length ps
+pub all_count : (ps : List HartPath) → count_by (λ (p : HartPath). true) ps ≡ length ps
 all_count [] = refl
 all_count (p ∷ ps) = let a = count_by-cons (λ (p : HartPath). true) p ps in let b = all_count ps in omega arith
 

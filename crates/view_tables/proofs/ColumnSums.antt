@@ -26,7 +26,7 @@ use Rattle.tree_types.proofs.Bounds.{small_product}
 use Rattle.tree_types.proofs.ContentParts.{own_contexts, own_node_count, own_column_count, own_hart_count}
 use Rattle.tree_types.proofs.PathsAgain.{sum_by-filter, sum_by-flat_map, sum_by-map}
 use Rattle.tree_types.proofs.Totals.{within_total}
-use Rattle.view_tables.specs.private.Rows.{amount, path_at, samples, total_value}
+use Rattle.view_tables.specs.private.Rows.{amount, path_of_node, counted_by, total_value}
 
 -- ---- a node's column
 
@@ -78,18 +78,18 @@ as_many_nodes c profile = own_node_count c profile.own
 pub as_many_columns : (c : Content) → IsProfile c → length c.contexts ≡ length c.nodes
 as_many_columns c profile = own_column_count c profile.own
 
-pub column_at : (c : Content) (number : ℕ) → IsProfile c → number < length c.nodes → get_or c.contexts number [] ≡ node_column c.period c.harts (paths_of c) (path_at c number)
+pub column_at : (c : Content) (number : ℕ) → IsProfile c → number < length c.nodes → get_or c.contexts number [] ≡ node_column c.period c.harts (paths_of c) (path_of_node c number)
 column_at c number profile lt =
     ap (λ (columns : List (List ContextEntry)). get_or columns number []) (own_contexts c profile.own)
     ∙ get_or-map (node_column c.period c.harts (paths_of c)) (nodes (paths_of c)) number [] [] (omega (arith, lt, as_many_nodes c profile))
 
 pub value_is : (c : Content) (number : ℕ) (kind : Kind) → IsProfile c → number < length c.nodes
-    → sum_by (amount kind) (get_or c.contexts number []) ≡ over_harts c.period c.harts (paths_of c) (path_at c number) kind
-value_is c number kind profile lt = ap (sum_by (amount kind)) (column_at c number profile lt) ∙ column_is c.period c.harts (paths_of c) (path_at c number) kind
+    → sum_by (amount kind) (get_or c.contexts number []) ≡ over_harts c.period c.harts (paths_of c) (path_of_node c number) kind
+value_is c number kind profile lt = ap (sum_by (amount kind)) (column_at c number profile lt) ∙ column_is c.period c.harts (paths_of c) (path_of_node c number) kind
 
 pub value_within : (c : Content) (number : ℕ) (kind : Kind) → IsProfile c → number < length c.nodes → sum_by (amount kind) (get_or c.contexts number []) ≤ total_value c
 value_within c number kind profile lt =
-    let most = within_total c.period c.harts (paths_of c) (path_at c number) kind in
+    let most = within_total c.period c.harts (paths_of c) (path_of_node c number) kind in
     let is = value_is c number kind profile lt in
     omega (arith, most, is)
 
@@ -111,7 +111,7 @@ pub ruleset value_steps = (value_is, value_within, as_many_columns, some_total)
 
 -- ---- the number of paths
 
-entry_count : (period hart : ℕ) (paths : List Path) (e : ProfileEntry) → length (entry_paths period paths hart e) ≡ samples period e
+entry_count : (period hart : ℕ) (paths : List Path) (e : ProfileEntry) → length (entry_paths period paths hart e) ≡ counted_by period e
 entry_count period hart paths e =
     elim (is_exclusive e.kind) as (λ b. length (cond b (replicate (e.value / period) (copy hart paths e)) []) ≡ cond b (e.value / period) 0) [
       | true ↦ length-replicate (e.value / period) (copy hart paths e)
@@ -121,44 +121,44 @@ entry_count period hart paths e =
     copy : ℕ → List Path → ProfileEntry → HartPath
     copy hart paths e = record { hart = hart; path = get_or paths e.node [] }
 
-column_count : (period hart : ℕ) (paths : List Path) (es : List ProfileEntry) → length (flat_map (entry_paths period paths hart) es) ≡ sum_by (samples period) es
+column_count : (period hart : ℕ) (paths : List Path) (es : List ProfileEntry) → length (flat_map (entry_paths period paths hart) es) ≡ sum_by (counted_by period) es
 column_count period hart paths es = length-flat_map (entry_paths period paths hart) es ∙ (λ i. sum_by (λ e. entry_count period hart paths e i) es)
 
 all_counts : (period first : ℕ) (paths : List Path) (columns : List (List ProfileEntry))
-    → length (flat_map (λ column. flat_map (entry_paths period paths column.0) column.1) (enumerate_from first columns)) ≡ sum_by (λ column. sum_by (samples period) column) columns
+    → length (flat_map (λ column. flat_map (entry_paths period paths column.0) column.1) (enumerate_from first columns)) ≡ sum_by (λ column. sum_by (counted_by period) column) columns
 all_counts period first paths [] = refl
 all_counts period first paths (column ∷ columns) =
     length-append (flat_map (entry_paths period paths first) column) (flat_map (λ column. flat_map (entry_paths period paths column.0) column.1) (enumerate_from (first + 1) columns))
     ∙ (λ i. column_count period first paths column i + all_counts period (first + 1) paths columns i)
-    ∙ sym (sum_by-cons (λ (column : List ProfileEntry). sum_by (samples period) column) column columns)
+    ∙ sym (sum_by-cons (λ (column : List ProfileEntry). sum_by (counted_by period) column) column columns)
 
-pub count_is : (c : Content) → length (paths_of c) ≡ sum_by (λ column. sum_by (samples c.period) column) c.profiles
+pub count_is : (c : Content) → length (paths_of c) ≡ sum_by (λ column. sum_by (counted_by c.period) column) c.profiles
 unfolding paths_of
 count_is c = all_counts c.period 0 (tree_paths c.nodes) c.profiles
 
 pub as_many_harts : (c : Content) → IsProfile c → length c.profiles ≡ c.harts
 as_many_harts c profile = own_hart_count c profile.own
 
-pub hart_few : (c : Content) (hart : ℕ) → IsProfile c → hart < c.harts → sum_by (samples c.period) (get_or c.profiles hart []) ≤ most_samples
+pub hart_few : (c : Content) (hart : ℕ) → IsProfile c → hart < c.harts → sum_by (counted_by c.period) (get_or c.profiles hart []) ≤ most_samples
 hart_few c hart profile lt =
-    let one = get_or-le-sum_by (λ column. sum_by (samples c.period) column) c.profiles hart [] (omega (arith, as_many_harts c profile)) in
+    let one = get_or-le-sum_by (λ column. sum_by (counted_by c.period) column) c.profiles hart [] (omega (arith, as_many_harts c profile)) in
     omega (arith, one, count_is c, profile.samples)
 
-pub hart_more : (c : Content) (hart count : ℕ) → IsProfile c → hart < c.harts → count ≡ sum_by (λ column. sum_by (samples c.period) column) (take hart c.profiles)
-    → count + sum_by (samples c.period) (get_or c.profiles hart []) ≡ sum_by (λ column. sum_by (samples c.period) column) (take (hart + 1) c.profiles)
+pub hart_more : (c : Content) (hart count : ℕ) → IsProfile c → hart < c.harts → count ≡ sum_by (λ column. sum_by (counted_by c.period) column) (take hart c.profiles)
+    → count + sum_by (counted_by c.period) (get_or c.profiles hart []) ≡ sum_by (λ column. sum_by (counted_by c.period) column) (take (hart + 1) c.profiles)
 hart_more c hart count profile lt so_far =
-    let more = sum_by_more (λ column. sum_by (samples c.period) column) c.profiles hart [] (omega (arith, as_many_harts c profile)) in
+    let more = sum_by_more (λ column. sum_by (counted_by c.period) column) c.profiles hart [] (omega (arith, as_many_harts c profile)) in
     omega (arith, more, so_far)
 
-pub count_few : (c : Content) (hart count : ℕ) → IsProfile c → hart < c.harts → count ≡ sum_by (λ column. sum_by (samples c.period) column) (take hart c.profiles)
-    → count + sum_by (samples c.period) (get_or c.profiles hart []) ≤ most_samples
+pub count_few : (c : Content) (hart count : ℕ) → IsProfile c → hart < c.harts → count ≡ sum_by (λ column. sum_by (counted_by c.period) column) (take hart c.profiles)
+    → count + sum_by (counted_by c.period) (get_or c.profiles hart []) ≤ most_samples
 count_few c hart count profile lt so_far =
-    let more = sum_by_more_le (λ column. sum_by (samples c.period) column) c.profiles hart [] (omega (arith, as_many_harts c profile)) in
+    let more = sum_by_more_le (λ column. sum_by (counted_by c.period) column) c.profiles hart [] (omega (arith, as_many_harts c profile)) in
     omega (arith, more, so_far, count_is c, profile.samples)
 
-pub all_harts : (c : Content) (hart count : ℕ) → IsProfile c → c.harts ≤ hart → count ≡ sum_by (λ column. sum_by (samples c.period) column) (take hart c.profiles) → count ≡ length (paths_of c)
+pub all_harts : (c : Content) (hart count : ℕ) → IsProfile c → c.harts ≤ hart → count ≡ sum_by (λ column. sum_by (counted_by c.period) column) (take hart c.profiles) → count ≡ length (paths_of c)
 all_harts c hart count profile le so_far =
-    so_far ∙ ap (sum_by (λ column. sum_by (samples c.period) column)) (take_all hart c.profiles (omega (arith, as_many_harts c profile))) ∙ sym (count_is c)
+    so_far ∙ ap (sum_by (λ column. sum_by (counted_by c.period) column)) (take_all hart c.profiles (omega (arith, as_many_harts c profile))) ∙ sym (count_is c)
 
 pub ruleset sample_steps = (as_many_harts, hart_few, hart_more, count_few, all_harts)
 

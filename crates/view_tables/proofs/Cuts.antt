@@ -18,8 +18,8 @@ use Rattle.view_tables.specs.declared.occurrence.Split.{Split}
 use Rattle.view_tables.specs.declared.occurrence.View.{View}
 use Rattle.view_tables.specs.declared.occurrence.View.TheVariants.{Callers, Flat}
 use Rattle.view_tables.specs.Views.{Item, Procedure, Sample}
-use Rattle.view_tables.specs.Flat.{call_line, frame_at, frame_proc, frames_up, line_file, line_item}
-use Rattle.view_tables.specs.private.Occurrences.{Held, cut_of, cut_one, cuts, first_of, has_frame, held, is_some_list, items_at, items_left, sample_of, ups}
+use Rattle.view_tables.specs.Flat.{call_line, frame_at, frame_proc, frames_up, line_file_item, line_item}
+use Rattle.view_tables.specs.private.Occurrences.{Held, cut_of, cut_one, cuts, first_sequence, has_frame, held, is_some_list, frame_items, items_left, view_sample, ups}
 use Rattle.tree_types.proofs.ContentParts.{own_names_ascend}
 use Rattle.view_tables.proofs.Ups.{ups_at, ups_past, ups_node}
 
@@ -37,7 +37,7 @@ drop_none (suc n) = refl
 
 -- the frame's items, by its line and the procedures found
 abbrev pub frame_of : Naming → LineId → List ProcId → Sample
-frame_of naming line ids = map (λ id. line_file naming line ∷ Procedure id ∷ line_item line ∷ []) ids
+frame_of naming line ids = map (λ id. line_file_item naming line ∷ Procedure id ∷ line_item line ∷ []) ids
 
 abbrev pub frames_of : Naming → List LineId → Path → Sample
 frames_of naming lines outer = flat_map (λ line. frame_at naming line outer) lines
@@ -50,25 +50,25 @@ frames_no_proc naming lines line outer e f =
     ap (λ (ls : List LineId). frames_of naming ls outer) e ∙ ap (λ (ids : List ProcId). frame_of naming line ids ++ []) f
 
 frames_one : (naming : Naming) (lines : List LineId) (line : LineId) (id : ProcId) (outer : Path) → lines ≡ line ∷ [] → frame_proc outer ≡ id ∷ []
-    → frames_of naming lines outer ≡ (line_file naming line ∷ Procedure id ∷ line_item line ∷ []) ∷ []
+    → frames_of naming lines outer ≡ (line_file_item naming line ∷ Procedure id ∷ line_item line ∷ []) ∷ []
 frames_one naming lines line id outer e f =
     ap (λ (ls : List LineId). frames_of naming ls outer) e ∙ ap (λ (ids : List ProcId). frame_of naming line ids ++ []) f
 
-pub frame_past : (naming : Naming) (scopes : Path) (level : ℕ) → scopes ≡ [] → items_at Flat naming scopes level ≡ []
-frame_past naming scopes level e = ap (λ (p : Path). items_at Flat naming p level) e
+pub frame_past : (naming : Naming) (scopes : Path) (level : ℕ) → scopes ≡ [] → frame_items Flat naming scopes level ≡ []
+frame_past naming scopes level e = ap (λ (p : Path). frame_items Flat naming p level) e
 
-pub frame_no_line : (naming : Naming) (scopes : Path) (s : Scope) (outer : Path) (level : ℕ) → scopes ≡ s ∷ outer → call_line s ≡ [] → items_at Flat naming scopes level ≡ []
+pub frame_no_line : (naming : Naming) (scopes : Path) (s : Scope) (outer : Path) (level : ℕ) → scopes ≡ s ∷ outer → call_line s ≡ [] → frame_items Flat naming scopes level ≡ []
 frame_no_line naming scopes s outer level e f =
-    ap (λ (p : Path). items_at Flat naming p level) e ∙ ap (λ (fs : Sample). drop level (first_of fs)) (frames_none naming (call_line s) outer f) ∙ drop_none level
+    ap (λ (p : Path). frame_items Flat naming p level) e ∙ ap (λ (fs : Sample). drop level (first_sequence fs)) (frames_none naming (call_line s) outer f) ∙ drop_none level
 
-pub frame_no_proc : (naming : Naming) (scopes : Path) (s : Scope) (outer : Path) (level : ℕ) (line : LineId) → scopes ≡ s ∷ outer → call_line s ≡ line ∷ [] → frame_proc outer ≡ [] → items_at Flat naming scopes level ≡ []
+pub frame_no_proc : (naming : Naming) (scopes : Path) (s : Scope) (outer : Path) (level : ℕ) (line : LineId) → scopes ≡ s ∷ outer → call_line s ≡ line ∷ [] → frame_proc outer ≡ [] → frame_items Flat naming scopes level ≡ []
 frame_no_proc naming scopes s outer level line e f g =
-    ap (λ (p : Path). items_at Flat naming p level) e ∙ ap (λ (fs : Sample). drop level (first_of fs)) (frames_no_proc naming (call_line s) line outer f g) ∙ drop_none level
+    ap (λ (p : Path). frame_items Flat naming p level) e ∙ ap (λ (fs : Sample). drop level (first_sequence fs)) (frames_no_proc naming (call_line s) line outer f g) ∙ drop_none level
 
 pub frame_is : (naming : Naming) (scopes : Path) (s : Scope) (outer : Path) (level : ℕ) (line : LineId) (id : ProcId) → scopes ≡ s ∷ outer → call_line s ≡ line ∷ [] → frame_proc outer ≡ id ∷ []
-    → items_at Flat naming scopes level ≡ drop level (line_file naming line ∷ Procedure id ∷ line_item line ∷ [])
+    → frame_items Flat naming scopes level ≡ drop level (line_file_item naming line ∷ Procedure id ∷ line_item line ∷ [])
 frame_is naming scopes s outer level line id e f g =
-    ap (λ (p : Path). items_at Flat naming p level) e ∙ ap (λ (fs : Sample). drop level (first_of fs)) (frames_one naming (call_line s) line id outer f g)
+    ap (λ (p : Path). frame_items Flat naming p level) e ∙ ap (λ (fs : Sample). drop level (first_sequence fs)) (frames_one naming (call_line s) line id outer f g)
 
 pub ruleset split_steps = (own_names_ascend, ups_past, ups_node, cut_none, cut_some, frame_past, frame_no_line, frame_no_proc, frame_is)
 
@@ -86,7 +86,7 @@ one_proc (Inline callee call ∷ outer) e = one_proc outer e
 one_proc (Call line ∷ outer) e = absurd (true≢false (sym e))
 one_proc (Stmt line ∷ outer) e = absurd (true≢false (sym e))
 
-pub frame_skipped : (view : View) (naming : Naming) (s : Scope) (outer : Path) → has_frame view (s ∷ outer) ≡ false → sample_of view naming (s ∷ outer) ≡ sample_of view naming outer
+pub frame_skipped : (view : View) (naming : Naming) (s : Scope) (outer : Path) → has_frame view (s ∷ outer) ≡ false → view_sample view naming (s ∷ outer) ≡ view_sample view naming outer
 frame_skipped Callers naming (Root kind) outer e = refl
 frame_skipped Callers naming (Proc id) outer e = absurd (true≢false e)
 frame_skipped Callers naming (Inline callee call) outer e = refl
@@ -98,12 +98,12 @@ frame_skipped Flat naming (Inline callee call) outer e = refl
 frame_skipped Flat naming (Call line) outer e = ap (λ (fs : Sample). fs ++ frames_up naming outer) (frames_no_proc naming (line ∷ []) line outer refl (no_list (frame_proc outer) e))
 frame_skipped Flat naming (Stmt line) outer e = ap (λ (fs : Sample). fs ++ frames_up naming outer) (frames_no_proc naming (line ∷ []) line outer refl (no_list (frame_proc outer) e))
 
-frame_ends : (naming : Naming) (line : LineId) (outer : Path) → is_some_list (frame_proc outer) ≡ true → frames_of naming (line ∷ []) outer ++ frames_up naming outer ≡ drop 0 (first_of (frames_of naming (line ∷ []) outer)) ∷ frames_up naming outer
+frame_ends : (naming : Naming) (line : LineId) (outer : Path) → is_some_list (frame_proc outer) ≡ true → frames_of naming (line ∷ []) outer ++ frames_up naming outer ≡ drop 0 (first_sequence (frames_of naming (line ∷ []) outer)) ∷ frames_up naming outer
 frame_ends naming line outer e =
     let one = one_proc outer e in
-    subst (λ (fs : Sample). fs ++ frames_up naming outer ≡ drop 0 (first_of fs) ∷ frames_up naming outer) (sym (frames_one naming (line ∷ []) line one.0 outer refl one.1)) refl
+    subst (λ (fs : Sample). fs ++ frames_up naming outer ≡ drop 0 (first_sequence fs) ∷ frames_up naming outer) (sym (frames_one naming (line ∷ []) line one.0 outer refl one.1)) refl
 
-pub frame_taken : (view : View) (naming : Naming) (s : Scope) (outer : Path) → has_frame view (s ∷ outer) ≡ true → sample_of view naming (s ∷ outer) ≡ items_at view naming (s ∷ outer) 0 ∷ sample_of view naming outer
+pub frame_taken : (view : View) (naming : Naming) (s : Scope) (outer : Path) → has_frame view (s ∷ outer) ≡ true → view_sample view naming (s ∷ outer) ≡ frame_items view naming (s ∷ outer) 0 ∷ view_sample view naming outer
 frame_taken Callers naming (Root kind) outer e = absurd (true≢false (sym e))
 frame_taken Callers naming (Proc id) outer e = refl
 frame_taken Callers naming (Inline callee call) outer e = absurd (true≢false (sym e))
@@ -115,12 +115,12 @@ frame_taken Flat naming (Inline callee call) outer e = absurd (true≢false (sym
 frame_taken Flat naming (Call line) outer e = frame_ends naming line outer e
 frame_taken Flat naming (Stmt line) outer e = frame_ends naming line outer e
 
-pub no_frame_skips : (view : View) (naming : Naming) (scopes : Path) (s : Scope) (outer : Path) → scopes ≡ s ∷ outer → has_frame view scopes ≡ false → sample_of view naming scopes ≡ sample_of view naming outer
-no_frame_skips view naming scopes s outer is none = ap (λ (p : Path). sample_of view naming p) is ∙ frame_skipped view naming s outer (ap (has_frame view) (sym is) ∙ none)
+pub no_frame_skips : (view : View) (naming : Naming) (scopes : Path) (s : Scope) (outer : Path) → scopes ≡ s ∷ outer → has_frame view scopes ≡ false → view_sample view naming scopes ≡ view_sample view naming outer
+no_frame_skips view naming scopes s outer is none = ap (λ (p : Path). view_sample view naming p) is ∙ frame_skipped view naming s outer (ap (has_frame view) (sym is) ∙ none)
 
-pub a_frame_adds : (view : View) (naming : Naming) (scopes : Path) (s : Scope) (outer : Path) → scopes ≡ s ∷ outer → has_frame view scopes ≡ true → sample_of view naming scopes ≡ items_at view naming scopes 0 ∷ sample_of view naming outer
+pub a_frame_adds : (view : View) (naming : Naming) (scopes : Path) (s : Scope) (outer : Path) → scopes ≡ s ∷ outer → has_frame view scopes ≡ true → view_sample view naming scopes ≡ frame_items view naming scopes 0 ∷ view_sample view naming outer
 a_frame_adds view naming scopes s outer is some =
-    ap (λ (p : Path). sample_of view naming p) is ∙ frame_taken view naming s outer (ap (has_frame view) (sym is) ∙ some) ∙ ap (λ (p : Path). items_at view naming p 0 ∷ sample_of view naming outer) (sym is)
+    ap (λ (p : Path). view_sample view naming p) is ∙ frame_taken view naming s outer (ap (has_frame view) (sym is) ∙ some) ∙ ap (λ (p : Path). frame_items view naming p 0 ∷ view_sample view naming outer) (sym is)
 
 pub frame_at_node : (view : View) (c : Content) (number : ℕ) (d : Node) → IsProfile c → number < length c.nodes → has_frame view (ups c number) ≡ has_frame view ((get_or c.nodes number d).scope ∷ ups c (get_or c.nodes number d).parent)
 frame_at_node view c number d profile lt = ap (has_frame view) (ups_at c number d profile lt)

@@ -25,7 +25,7 @@ use Rattle.tree_types.proofs.Parents.{has_parent, prefix_less, less_is_not_equal
 use Rattle.tree_types.proofs.TreeLaws.{numbers_tell}
 use Rattle.tree_types.proofs.TreePaths.{own_scope_only}
 use Rattle.tree_types.proofs.TreeValues.{shorter_prefix}
-use Rattle.view_tables.specs.private.Rows.{IsNumber, LiesBelow, number_before, path_at}
+use Rattle.view_tables.specs.private.Rows.{IsNumber, LiesBelow, number_before, path_of_node}
 use Rattle.view_tables.proofs.ColumnSums.{as_many_nodes}
 
 module _ (ps : List HartPath) (few : length (nodes ps) ≤ no_parent) where
@@ -61,6 +61,17 @@ module _ (ps : List HartPath) (few : length (nodes ps) ≤ no_parent) where
       elim (cases_eq (length (path i)) 1) [
         | inl e ↦ inl (h.root e)
         | inr apart ↦ inr (h.before (longer (length (path i)) (some_path i lt) apart))
+      ]
+
+  -- a path has no more scopes than there are nodes up to its own
+  few_scopes : (n i : ℕ) → i < n → i < length (nodes ps) → length (path i) ≤ i + 1
+  few_scopes zero i below lt = absurd (omega arith)
+  few_scopes (suc n) i below lt =
+      let s = step i lt in
+      let long : length (path i) ≡ length (path (up i)) + 1 = ap length s.1 ∙ length-append (path (up i)) (s.0 ∷ []) in
+      elim (parent_before i lt) [
+        | inl root ↦ (let none : length (path (up i)) ≡ 0 = ap (λ (k : ℕ). length (path k)) root ∙ ap length no_path in omega (arith, long, none))
+        | inr less ↦ (let above = few_scopes n (up i) (omega arith) (omega arith) in omega (arith, long, above, less))
       ]
 
   abbrev IsAny : ℕ → Type 0
@@ -156,13 +167,13 @@ module _ (ps : List HartPath) (few : length (nodes ps) ≤ no_parent) where
 
 -- ---- of a content
 
-pub parent_is : (c : Content) (i : ℕ) (d : Node) → IsProfile c → i < length c.nodes → (get_or c.nodes i d).parent ≡ parent_number (nodes (paths_of c)) (path_at c i)
+pub parent_is : (c : Content) (i : ℕ) (d : Node) → IsProfile c → i < length c.nodes → (get_or c.nodes i d).parent ≡ parent_number (nodes (paths_of c)) (path_of_node c i)
 parent_is c i d profile lt =
     let ns : List Path = nodes (paths_of c) in
     ap (λ (all : List Node). (get_or all i d).parent) (own_nodes c profile.own)
     ∙ ap (λ (n : Node). n.parent) (get_or-map (λ n. record { parent = parent_number ns n; scope = own_scope n }) ns i [] d (omega (arith, lt, as_many_nodes c profile)))
 
-pub scope_is : (c : Content) (i : ℕ) (d : Node) → IsProfile c → i < length c.nodes → (get_or c.nodes i d).scope ≡ own_scope (path_at c i)
+pub scope_is : (c : Content) (i : ℕ) (d : Node) → IsProfile c → i < length c.nodes → (get_or c.nodes i d).scope ≡ own_scope (path_of_node c i)
 scope_is c i d profile lt =
     let ns : List Path = nodes (paths_of c) in
     ap (λ (all : List Node). (get_or all i d).scope) (own_nodes c profile.own)
@@ -189,25 +200,46 @@ parent_lies_below c at to d profile lies apart =
     let lt = below_is_node c at to profile lies apart in
     let inside : at < length (nodes ps) = omega (arith, lt, as_many_nodes c profile) in
     let still = up_still ps few at to lies.rest inside (as_any c to profile lies.above) lies.parts apart in
-    let is : parent_number (nodes ps) (path_at c at) ≡ (get_or c.nodes at d).parent = sym (parent_is c at d profile lt) in
+    let is : parent_number (nodes ps) (path_of_node c at) ≡ (get_or c.nodes at d).parent = sym (parent_is c at d profile lt) in
     record {
-      below = subst (λ (k : ℕ). IsNumber c k) is (as_number c (parent_number (nodes ps) (path_at c at)) profile (any_parent ps few at inside));
+      below = subst (λ (k : ℕ). IsNumber c k) is (as_number c (parent_number (nodes ps) (path_of_node c at)) profile (any_parent ps few at inside));
       above = lies.above;
       rest = still.0;
-      parts = ap (path_at c) (sym is) ∙ still.1;
+      parts = ap (path_of_node c) (sym is) ∙ still.1;
     }
 
-pub one_shorter : (c : Content) (at : ℕ) (d : Node) → IsProfile c → at < length c.nodes → length (path_at c at) ≡ length (path_at c (get_or c.nodes at d).parent) + 1
+pub one_shorter : (c : Content) (at : ℕ) (d : Node) → IsProfile c → at < length c.nodes → length (path_of_node c at) ≡ length (path_of_node c (get_or c.nodes at d).parent) + 1
 one_shorter c at d profile lt =
     let ps : List HartPath = paths_of c in
     let inside : at < length (nodes ps) = omega (arith, lt, as_many_nodes c profile) in
     let s = step ps (few_nodes c profile) at inside in
-    ap length s.1 ∙ length-append (path_at c (parent_number (nodes ps) (path_at c at))) (s.0 ∷ [])
-    ∙ ap (λ (k : ℕ). length (path_at c k) + 1) (sym (parent_is c at d profile lt))
+    ap length s.1 ∙ length-append (path_of_node c (parent_number (nodes ps) (path_of_node c at))) (s.0 ∷ [])
+    ∙ ap (λ (k : ℕ). length (path_of_node c k) + 1) (sym (parent_is c at d profile lt))
 
 -- what stands in place of a root's parent has no scope
-pub no_depth : (c : Content) → IsProfile c → 0 ≡ length (path_at c no_parent)
+pub no_depth : (c : Content) → IsProfile c → 0 ≡ length (path_of_node c no_parent)
 no_depth c profile = sym (ap length (no_path (paths_of c) (few_nodes c profile)))
+
+pub few_depth : (c : Content) (i : ℕ) → IsProfile c → IsNumber c i → length (path_of_node c i) ≤ no_parent
+few_depth c i profile is =
+    let few = few_nodes c profile in
+    elim (as_any c i profile is) [
+      | inl root ↦ (let none : length (path_of_node c i) ≡ 0 = ap (λ (k : ℕ). length (path_of_node c k)) root ∙ sym (no_depth c profile) in omega (arith, none))
+      | inr lt ↦ (let scopes = few_scopes (paths_of c) few (i + 1) i (omega arith) lt in omega (arith, scopes, lt, few))
+    ]
+
+-- each path begins with that of no node
+pub below_none : (c : Content) (i : ℕ) → IsProfile c → IsNumber c i → LiesBelow c i no_parent
+below_none c i profile is = record {
+  below = is;
+  above = inl refl;
+  rest = path_of_node c i;
+  parts = ap (λ (x : Path). x ++ path_of_node c i) (sym (no_path (paths_of c) (few_nodes c profile)));
+}
+
+pub before_number : (c : Content) (i : ℕ) → i ≤ length c.nodes → IsNumber c (number_before i)
+before_number c zero le = inl refl
+before_number c (suc m) le = inr (omega arith)
 
 pub before_lies_below : (c : Content) (i : ℕ) (d : Node) → IsProfile c → i < length c.nodes → LiesBelow c (number_before i) (get_or c.nodes i d).parent
 before_lies_below c i d profile lt =
@@ -215,17 +247,13 @@ before_lies_below c i d profile lt =
     let few = few_nodes c profile in
     let inside : i < length (nodes ps) = omega (arith, lt, as_many_nodes c profile) in
     let still = before_lies ps few i inside in
-    let is : parent_number (nodes ps) (path_at c i) ≡ (get_or c.nodes i d).parent = sym (parent_is c i d profile lt) in
+    let is : parent_number (nodes ps) (path_of_node c i) ≡ (get_or c.nodes i d).parent = sym (parent_is c i d profile lt) in
     record {
-      below = before_number i lt;
-      above = subst (λ (k : ℕ). IsNumber c k) is (as_number c (parent_number (nodes ps) (path_at c i)) profile (any_parent ps few i inside));
+      below = before_number c i (omega (arith, lt));
+      above = subst (λ (k : ℕ). IsNumber c k) is (as_number c (parent_number (nodes ps) (path_of_node c i)) profile (any_parent ps few i inside));
       rest = still.0;
-      parts = still.1 ∙ ap (λ (k : ℕ). path_at c k ++ still.0) is;
+      parts = still.1 ∙ ap (λ (k : ℕ). path_of_node c k ++ still.0) is;
     }
-  where
-    before_number : (i : ℕ) → i < length c.nodes → IsNumber c (number_before i)
-    before_number zero lt = inl refl
-    before_number (suc m) lt = inr (omega arith)
 
 pub enclosed_at : (c : Content) (a i j : ℕ) (d : Node) → IsProfile c → a < i → i < j → j < length c.nodes → (get_or c.nodes j d).parent ≡ a
     → (a ≤ (get_or c.nodes i d).parent) × ((get_or c.nodes i d).parent < i)
@@ -242,5 +270,7 @@ number_after zero = refl
 number_after (suc i) = ap number_before (let e : suc i + 1 ≡ suc (suc i) = omega arith in e)
 
 pub ruleset climb_steps = (below_is_node, parent_lies_below, one_shorter)
+
+pub ruleset whole_steps = (below_none, no_depth)
 
 pub ruleset depth_steps = (before_lies_below, one_shorter)

@@ -17,7 +17,7 @@ use Rattle.view_tables.specs.declared.item.ItemRef.{ItemRef}
 use Rattle.view_tables.specs.declared.item.RowRef.{RowRef}
 use Rattle.view_tables.specs.declared.occurrence.Split.{Split}
 use Rattle.view_tables.specs.declared.occurrence.View.{View}
-use Rattle.view_tables.specs.Views.{Item, ViewRow, Sample, all_items, begins_with, holds, item_order, row_at, row_order, rows_under, same_item}
+use Rattle.view_tables.specs.Views.{Item, ViewRow, Sample, all_items, begins_with, holds_chain, item_order, row_at, row_order, rows_under, same_item}
 use Rattle.view_tables.specs.private.Frames.{AreFrames, covered}
 use Rattle.view_tables.specs.private.Occurrences.{AreSplits, item_seen, items_seen, row_seen, content_samples}
 use Rattle.view_tables.proofs.Narrowed.{group, group_covers, group_frames}
@@ -85,9 +85,9 @@ module _ (view : View) (c : Content) (chain : List Item) (splits : List Split) (
 
   in_samples : (item : Item) → some (row item) ≡ true → Contains (all_items samples) item
   in_samples item h =
-      let counts : list_any (holds (chain ++ item ∷ [])) samples ≡ true = any_if_counted (holds (chain ++ item ∷ [])) samples (nonzero_count c.period (count_by (holds (chain ++ item ∷ [])) samples) h) in
+      let counts : list_any (holds_chain (chain ++ item ∷ [])) samples ≡ true = any_if_counted (holds_chain (chain ++ item ∷ [])) samples (nonzero_count c.period (count_by (holds_chain (chain ++ item ∷ [])) samples) h) in
       let deep : list_any (λ sample. list_any (λ items. list_any (same_item item) items) sample) samples ≡ true =
-      list_any_weaker (holds (chain ++ item ∷ [])) (λ sample. list_any (λ items. list_any (same_item item) items) sample)
+      list_any_weaker (holds_chain (chain ++ item ∷ [])) (λ sample. list_any (λ items. list_any (same_item item) items) sample)
       (λ sample. list_any_weaker (begins_with (chain ++ item ∷ [])) (λ items. list_any (same_item item) items) (inside chain item) sample) samples counts in
       let flat_one : (sample : Sample) → list_any (same_item item) (flat_map (λ items. items) sample) ≡ list_any (λ items. list_any (same_item item) items) sample = λ sample. list_any_flat (same_item item) (λ (items : List Item). items) sample in
       Contains-from_has item_order_total item_order_tells item (all_items samples)
@@ -99,7 +99,7 @@ module _ (view : View) (c : Content) (chain : List Item) (splits : List Split) (
       let there : list_any (λ (s : Split). same_item item (item_seen s.item)) splits ≡ true =
       elim (list_any (λ (s : Split). same_item item (item_seen s.item)) splits) as (λ b. list_any (λ (s : Split). same_item item (item_seen s.item)) splits ≡ b → b ≡ true) [
         | true ↦ λ e. refl
-        | false ↦ λ e. absurd (nonzero (c.period * count_by (holds (chain ++ item ∷ [])) samples) h
+        | false ↦ λ e. absurd (nonzero (c.period * count_by (holds_chain (chain ++ item ∷ [])) samples) h
             (sym value ∙ ap (λ (ss : List Split). covered frames.ends.items frames.sums.items 0 (group_frames ss)) (none_passes (λ (s : Split). same_item item (item_seen s.item)) splits e)))
       ] refl in
       Contains-from_has item_order_total item_order_tells item found

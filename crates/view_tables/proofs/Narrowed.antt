@@ -16,7 +16,7 @@ use Rattle.tree_types.proofs.PathsAgain.{sum_by-map}
 use Rattle.view_tables.specs.declared.frames.Frames.{Frames}
 use Rattle.view_tables.specs.declared.occurrence.Split.{Split}
 use Rattle.view_tables.specs.declared.occurrence.View.{View}
-use Rattle.view_tables.specs.Views.{Item, Sample, begins_with, ends, holds, same_item}
+use Rattle.view_tables.specs.Views.{Item, Sample, begins_with, ends, holds_chain, same_item}
 use Rattle.view_tables.specs.private.Frames.{AreFrames, AreRanges, covered, parent_at, sum_below, weight_if}
 use Rattle.view_tables.specs.private.Occurrences.{AreSplits, Held, cut_of, cut_one, cuts, has_frame, held, item_seen, narrowed, node_items, of_item, occurrence_at, sample_at, content_samples, ups}
 use Rattle.view_tables.proofs.Covered.{covered_is, sum_more, sum_none, sum_rises, sum_same}
@@ -94,7 +94,7 @@ module _ (view : View) (c : Content) (chain : List Item) (profile : IsProfile c)
   is_mark number = mark view c chain number
 
   abbrev below : ℕ → Bool
-  below number = holds chain (sample_at view c number)
+  below number = holds_chain chain (sample_at view c number)
 
   own_sample : (number : ℕ) → number < length c.nodes → has_frame view (ups c number) ≡ true → sample_at view c number ≡ node_items view c number ∷ sample_at view c (parent_at c number)
   own_sample number lt there = a_frame_adds view (naming_in c.names) (ups c number) (node_at c.nodes number).scope (ups c (parent_at c number)) (ups_at c number _ profile lt) there
@@ -106,12 +106,12 @@ module _ (view : View) (c : Content) (chain : List Item) (profile : IsProfile c)
   below_is number lt =
       let begins : Bool = begins_with chain (node_items view c number) in
       elim (has_frame view (ups c number)) as (λ b. has_frame view (ups c number) ≡ b → below number ≡ ((b && begins) || below (parent_at c number))) [
-        | true ↦ λ e. ap (holds chain) (own_sample number lt e)
-        | false ↦ λ e. ap (holds chain) (upper_sample number lt e)
+        | true ↦ λ e. ap (holds_chain chain) (own_sample number lt e)
+        | false ↦ λ e. ap (holds_chain chain) (upper_sample number lt e)
       ] refl
 
   none_past : (number : ℕ) → length c.nodes ≤ number → below number ≡ false
-  none_past number past = ap (holds chain) (no_sample view c number past)
+  none_past number past = ap (holds_chain chain) (no_sample view c number past)
 
   ends_is : (number : ℕ) → number < length c.nodes → has_frame view (ups c number) ≡ true → ends chain (sample_at view c number) ≡ begins_with chain (node_items view c number)
   ends_is number lt there = ap (ends chain) (own_sample number lt there) ∙ or_false (begins_with chain (node_items view c number))
@@ -131,12 +131,12 @@ module _ (view : View) (c : Content) (chain : List Item) (profile : IsProfile c)
     marks = filter is_mark (range_with_len 0 (length c.nodes))
 
     -- the inclusive value of a chain
-    pub marks_cover : covered frames.ends.items frames.sums.items 0 marks ≡ c.period * count_by (holds chain) (content_samples view c)
+    pub marks_cover : covered frames.ends.items frames.sums.items 0 marks ≡ c.period * count_by (holds_chain chain) (content_samples view c)
     marks_cover =
         covered_is (length c.nodes) (parent_at c) is_mark below w frames.ends.items frames.sums.items below_is none_past (λ j lt up. parent_less c j profile lt up)
         (λ i lt. (are.ends.each i (omega arith) lt).behind) (λ i lt. (are.ends.each i (omega arith) lt).within)
         (λ i lt. (are.ends.each i (omega arith) lt).inside) (λ i lt. (are.ends.each i (omega arith) lt).outside) sums_are
-        ∙ sym (are.weights.samples (holds chain) refl)
+        ∙ sym (are.weights.samples (holds_chain chain) refl)
 
     filter_sum : (a n : ℕ) → sum_by w (filter is_mark (range_with_len a n)) ≡ sum_by (λ j. cond (is_mark j) (w j) 0) (range_with_len a n)
     filter_sum a zero = refl
@@ -188,7 +188,7 @@ module _ (view : View) (c : Content) (chain : List Item) (profile : IsProfile c)
         omega (arith, most, small)
 
     pub cover_few : covered frames.ends.items frames.sums.items 0 marks ≤ 2 ^ 52
-    cover_few = let few = value_few (holds chain) in let is = marks_cover in omega (arith, few, is)
+    cover_few = let few = value_few (holds_chain chain) in let is = marks_cover in omega (arith, few, is)
 
     pub weigh_few : sum_by w marks ≤ 2 ^ 52
     weigh_few = let few = value_few (ends chain) in let is = marks_weigh in omega (arith, few, is)
@@ -243,7 +243,7 @@ module _ (view : View) (c : Content) (chain : List Item) (item : Item) (splits f
       (all_inside (mark view c longer) 0 (length c.nodes) m (let z : 0 + length c.nodes ≡ m = omega (arith, long) in z))))
 
   module _ (profile : IsProfile c) (frames : Frames) (all : AreFrames view c frames) where
-    pub group_covers : covered frames.ends.items frames.sums.items 0 (group_frames found) ≡ c.period * count_by (holds longer) (content_samples view c)
+    pub group_covers : covered frames.ends.items frames.sums.items 0 (group_frames found) ≡ c.period * count_by (holds_chain longer) (content_samples view c)
     group_covers = ap (covered frames.ends.items frames.sums.items 0) group_marks ∙ marks_cover view c longer profile frames all
 
     pub group_weighs : sum_by (λ s. slice_index frames.weights.items s.rest.frame) found ≡ c.period * count_by (ends longer) (content_samples view c)

@@ -18,15 +18,16 @@ use Rattle.tree_types.specs.PathsOf.{paths_of, tree_paths}
 use Rattle.tree_types.specs.TopDown.{over_harts}
 use Rattle.tree_types.specs.Values.{count_below, ends_here, harts_below}
 use Rattle.tree_types.proofs.ContentParts.{own_nodes}
-use Rattle.tree_types.proofs.Counting.{one, count_by-cons, sum_by-add, sum_by-zero}
-use Rattle.tree_types.proofs.PathsAgain.{from_all, sum_by-map}
+use Rattle.tree_types.proofs.Counting.{one, sum_by-add, sum_by-zero}
+use Rattle.tree_types.proofs.PathsAgain.{all_count, from_all, sum_by-map}
+use Rattle.tree_types.proofs.Totals.{times}
 use Rattle.tree_types.proofs.TreePaths.{tree_paths_is}
 use Rattle.view_tables.specs.declared.occurrence.View.{View}
 use Rattle.view_tables.specs.declared.occurrence.View.TheVariants.{Callers, Flat}
 use Rattle.view_tables.specs.Views.{Sample}
-use Rattle.view_tables.specs.private.Frames.{AreCosts, AreSums, AreWeights, moved, parent_at, sum_below, weight_if, weighed}
-use Rattle.view_tables.specs.private.Occurrences.{has_frame, sample_at, sample_of, ups}
-use Rattle.view_tables.specs.private.Rows.{amount, path_at, total_value}
+use Rattle.view_tables.specs.private.Frames.{AreCosts, AreSums, AreWeights, weight_moved, parent_at, sum_below, weight_if, weighed}
+use Rattle.view_tables.specs.private.Occurrences.{has_frame, sample_at, view_sample, ups}
+use Rattle.view_tables.specs.private.Rows.{amount, path_of_node, total_value}
 use Rattle.view_tables.proofs.ColumnSums.{as_many_columns, as_many_nodes, value_is, value_within}
 use Rattle.view_tables.proofs.Covered.{sum_at, sum_more, sum_none, sum_same}
 use Rattle.view_tables.proofs.Cuts.{no_frame_skips}
@@ -43,14 +44,9 @@ sum_list g xs d (suc k) le =
     ∙ ap (λ (n : ℕ). n + g (get_or xs k d)) (sum_list g xs d k (omega arith))
     ∙ sym (sum_more (λ j. g (get_or xs j d)) k) ∙ ap (sum_below (λ j. g (get_or xs j d))) (sym e)
 
-times_sum : {X : Type 0} (a : ℕ) (f : X → ℕ) (xs : List X) → a * sum_by f xs ≡ sum_by (λ x. a * f x) xs
-times_sum a f [] = mul-zero a
-times_sum a f (x ∷ xs) =
-    ap (λ n. a * n) (sum_by-cons f x xs) ∙ mul-add a (f x) (sum_by f xs) ∙ ap (λ n. a * f x + n) (times_sum a f xs) ∙ sym (sum_by-cons (λ x. a * f x) x xs)
-
 module _ {X Y : Type 0} (p : ℕ) (b : Y → Bool) (k : X → Y → ℕ) (xs : List X) where
   one_part : (t : Bool) (y : Y) → p * sum_by (λ x. one t * k x y) xs ≡ cond t (sum_by (λ x. p * k x y) xs) 0
-  one_part true y = (λ i. p * sum_by (λ x. once (k x y) i) xs) ∙ times_sum p (λ x. k x y) xs
+  one_part true y = (λ i. p * sum_by (λ x. once (k x y) i) xs) ∙ times p (λ x. k x y) xs
     where
       once : (n : ℕ) → 1 * n ≡ n
       once n = omega arith
@@ -72,7 +68,7 @@ module _ {X Y : Type 0} (p : ℕ) (b : Y → Bool) (k : X → Y → ℕ) (xs : L
 
 -- ---- the exclusive values
 
-pub ups_is : (c : Content) (number : ℕ) → IsProfile c → ups c number ≡ reverse (path_at c number)
+pub ups_is : (c : Content) (number : ℕ) → IsProfile c → ups c number ≡ reverse (path_of_node c number)
 ups_is c number profile =
     let many = as_many_nodes c profile in
     let few = profile.nodes in
@@ -109,13 +105,13 @@ pub costs_more : (c : Content) (costs : List ℕ) (number cost : ℕ) (column : 
     → column ≡ get_or c.contexts number [] → cost ≡ sum_by (amount Exclusive) column → AreCosts c (costs ++ cost ∷ [])
 costs_more c costs number cost column profile are next lt at is =
     let more : length (costs ++ cost ∷ []) ≡ length costs + 1 = length-append costs (cost ∷ []) in
-    let own : cost ≡ over_harts c.period c.harts (paths_of c) (path_at c number) Exclusive = is ∙ ap (sum_by (amount Exclusive)) at ∙ value_is c number Exclusive profile lt in
+    let own : cost ≡ over_harts c.period c.harts (paths_of c) (path_of_node c number) Exclusive = is ∙ ap (sum_by (amount Exclusive)) at ∙ value_is c number Exclusive profile lt in
     record {
       each = λ k inside. elim (cases_lt k (length costs)) [
         | inl old ↦ get_or_append_left costs (cost ∷ []) 0 k old ∙ are.each k old
         | inr ge ↦
             let same : k ≡ length costs = omega (arith, more, inside, ge) in
-            get_or_push costs cost 0 k (sym same) ∙ own ∙ ap (λ (j : ℕ). over_harts c.period c.harts (paths_of c) (path_at c j) Exclusive) (next ∙ sym same)
+            get_or_push costs cost 0 k (sym same) ∙ own ∙ ap (λ (j : ℕ). over_harts c.period c.harts (paths_of c) (path_of_node c j) Exclusive) (next ∙ sym same)
       ];
     }
 
@@ -129,16 +125,12 @@ pub ruleset cost_steps = (no_costs, costs_more, cost_few, as_many_columns)
 
 -- ---- weights that move
 
-all_count : (ps : List HartPath) → count_by (λ (p : HartPath). true) ps ≡ length ps
-all_count [] = refl
-all_count (p ∷ ps) = let a = count_by-cons (λ (p : HartPath). true) p ps in let b = all_count ps in omega (arith, a, b)
-
 pub weights_first : (view : View) (c : Content) (costs : List ℕ) (from : ℕ) → IsProfile c → AreCosts c costs → length costs ≡ length c.nodes → from ≡ length c.nodes → AreWeights view c from costs
 weights_first view c costs from profile are long end = record {
   long = long;
   samples = λ test none.
-      ap (λ n. c.period * n) (sum_by-map (λ (s : Sample). one (test s)) (λ (p : HartPath). sample_of view (naming_in c.names) (reverse p.path)) (paths_of c))
-      ∙ costs_weigh c costs (λ p. test (sample_of view (naming_in c.names) p)) profile are long;
+      ap (λ n. c.period * n) (sum_by-map (λ (s : Sample). one (test s)) (λ (p : HartPath). view_sample view (naming_in c.names) (reverse p.path)) (paths_of c))
+      ∙ costs_weigh c costs (λ p. test (view_sample view (naming_in c.names) p)) profile are long;
   none = λ number low plain. get_or-eq_default costs 0 (omega (arith, long, low, end));
   few = (
       let all = costs_weigh c costs (λ p. true) profile are long in
@@ -180,9 +172,9 @@ weigh_moved t ws number to lt inside same =
     omega (arith, first, second, here, zero_here, parts)
 
 pub no_sample : (view : View) (c : Content) (number : ℕ) → length c.nodes ≤ number → sample_at view c number ≡ []
-no_sample view c number past = ap (λ (p : Path). sample_of view (naming_in c.names) p) (ups_past c number past) ∙ of_view view
+no_sample view c number past = ap (λ (p : Path). view_sample view (naming_in c.names) p) (ups_past c number past) ∙ of_view view
   where
-    of_view : (v : View) → sample_of v (naming_in c.names) [] ≡ []
+    of_view : (v : View) → view_sample v (naming_in c.names) [] ≡ []
     of_view Callers = refl
     of_view Flat = refl
 
@@ -253,7 +245,7 @@ module _ (view : View) (c : Content) (ws : List ℕ) (number : ℕ) (d : Node) (
           omega (arith, at, less)
           )
 
-  pub weights_moved : AreWeights view c number (moved ws number to)
+  pub weights_moved : AreWeights view c number (weight_moved ws number to)
   weights_moved = elim (cases_lt to (length ws)) [
     | inl lt_to ↦ subst (λ b. AreWeights view c number (cond b twice once)) (sym (lt-ltb to (length ws) lt_to)) (passed lt_to)
     | inr past ↦ subst (λ b. AreWeights view c number (cond b twice once)) (sym (le-ltb to (length ws) past)) (cleared past)

@@ -7,7 +7,6 @@ use Rattle.std.specs.declared.cmp.Ordering.{Ordering}
 use Rattle.std.specs.FinMap.{IsAntisymmetric}
 use Rattle.std.proofs.lemmas.Bool.{true_from_ne_false, and_parts}
 use Rattle.std.proofs.lemmas.List.{take_more, take-append-drop}
-use Rattle.std.proofs.lemmas.List.Elements.{recursion_from_All, All-contains_itself}
 use Rattle.std.proofs.lemmas.List.Folds.{Any-from_list_any, list_any_at}
 use Rattle.std.proofs.lemmas.List.Sorted.{Contains-permutation, IsPermutation-reverse, IsPermutation-sym}
 use Rattle.scope_types.specs.Alike.{Alike}
@@ -29,15 +28,15 @@ use Rattle.tree_types.specs.Paths.{Path}
 use Rattle.tree_types.specs.PathsOf.{paths_of}
 use Rattle.tree_types.specs.TopDown.{percent, printed, table_row}
 use Rattle.tree_types.proofs.Counting.{one, count_by-cons, count_none}
-use Rattle.tree_types.proofs.NamesAgain.{proc_order_total, proc_order_tells, file_order_total, file_order_tells, of_paths}
+use Rattle.tree_types.proofs.NamesAgain.{each, flat_map_same, map_same, proc_order_total, proc_order_tells, file_order_total, file_order_tells, of_paths}
 use Rattle.tree_types.proofs.NodeLaws.{prefix_is_node}
 use Rattle.tree_types.proofs.PathsAgain.{nodes_alike, paths_alike}
 use Rattle.tree_types.proofs.Prefixes.{list_any-flat_map}
 use Rattle.tree_types.proofs.Sorting.{has, has_ascending, has-from_Contains, same_ascending, bool_same, equal_from_is, all_weaker}
 use Rattle.tree_types.proofs.TreePaths.{own_scope_last}
 use Rattle.view_tables.specs.Callers.{scope_item, procs_up, tails, call_chains, callers}
-use Rattle.view_tables.specs.Flat.{line_file, line_item, frame_proc, frame_at, frames_up, frames, flat}
-use Rattle.view_tables.specs.Views.{Item, FileName, Procedure, Sample, ViewRow, holds, ends, row_at, row_order, all_items, rows_under, item_label, mark_at, view_row, view_rows, view_header, view_table}
+use Rattle.view_tables.specs.Flat.{line_file_item, line_item, frame_proc, frame_at, frames_up, frames, flat}
+use Rattle.view_tables.specs.Views.{Item, FileName, Procedure, Sample, ViewRow, holds_chain, ends, row_at, row_order, all_items, rows_under, item_label, mark_at, view_row, view_rows, view_header, view_table}
 use Rattle.view_tables.proofs.ViewOrders.{row_order_total, row_order_tells}
 
 -- ---- lists
@@ -53,17 +52,6 @@ all_joined P f (x ∷ xs) all = all_both P (f x) (flat_map f xs) all.0 (all_join
 all_mapped : {X Y : Type 0} (P : Y → Type 0) (f : X → Y) (xs : List X) → AllByRecursion (λ x. P (f x)) xs → AllByRecursion P (map f xs)
 all_mapped P f [] all = tt
 all_mapped P f (x ∷ xs) all = (all.0, all_mapped P f xs all.1)
-
-each : {X : Type 0} (P : X → Type 0) (xs : List X) → ((x : X) → Contains xs x → P x) → AllByRecursion P xs
-each P xs h = all_weaker (Contains xs) P h xs (recursion_from_All (Contains xs) xs (All-contains_itself xs))
-
-joined_same : {X Y : Type 0} (f g : X → List Y) (xs : List X) → AllByRecursion (λ x. f x ≡ g x) xs → flat_map f xs ≡ flat_map g xs
-joined_same f g [] all = refl
-joined_same f g (x ∷ xs) all = λ i. all.0 i ++ joined_same f g xs all.1 i
-
-mapped_same : {X Y : Type 0} (f g : X → Y) (xs : List X) → AllByRecursion (λ x. f x ≡ g x) xs → map f xs ≡ map g xs
-mapped_same f g [] all = refl
-mapped_same f g (x ∷ xs) all = λ i. all.0 i ∷ mapped_same f g xs all.1 i
 
 -- what any element of a selection passes
 any_selected : {X Y : Type 0} (q t : Y → Bool) (g : X → Y) (xs : List X) → list_any q (filter t (map g xs)) ≡ list_any (λ x. t (g x) && q (g x)) xs
@@ -120,7 +108,7 @@ module _ (period : ℕ) where
   unfolding rows_under
   rows_alike ss ts chain alike =
       let row : row_at period ss chain ≡ row_at period ts chain =
-      λ i item. record { inclusive = period * alike.same (holds (chain ++ item ∷ [])) i; item = item; exclusive = period * alike.same (ends (chain ++ item ∷ [])) i } in
+      λ i item. record { inclusive = period * alike.same (holds_chain (chain ++ item ∷ [])) i; item = item; exclusive = period * alike.same (ends (chain ++ item ∷ [])) i } in
       let g : Item → ViewRow = row_at period ts chain in
       ap (λ (f : Item → ViewRow). ascending row_order (filter is_some (map f (all_items ss)))) row
       ∙ same_ascending row_order_total row_order_tells (filter is_some (map g (all_items ss))) (filter is_some (map g (all_items ts))) (λ q.
@@ -158,7 +146,7 @@ module _ (period : ℕ) where
   rows_text_named a b mark ss same (suc levels) chain =
       let total : ℕ = period * length ss in
       let text = λ (naming : Naming) (r : ViewRow). view_row naming mark total (length chain) r ++ view_rows period naming mark ss levels (chain ++ r.item ∷ []) in
-      joined_same (text a) (text b) (rows_under period ss chain) (each (λ r. text a r ≡ text b r) (rows_under period ss chain) (λ r c.
+      flat_map_same (text a) (text b) (rows_under period ss chain) (each (λ r. text a r ≡ text b r) (rows_under period ss chain) (λ r c.
       λ i. table_row (decimal r.inclusive) (percent r.inclusive total) (decimal r.exclusive) (length chain) (mark_at mark (length chain) ++ same r.item (item_of_row ss chain r c) i)
       ++ rows_text_named a b mark ss same levels (chain ++ r.item ∷ []) i))
 
@@ -197,7 +185,7 @@ module _ (a b : Naming) where
   proc_names (Call line ∷ outer) all = tt
   proc_names (Stmt line ∷ outer) all = tt
 
-  file_labels : (naming : Naming) (line : LineId) → SameLabel (line_file naming line)
+  file_labels : (naming : Naming) (line : LineId) → SameLabel (line_file_item naming line)
   file_labels naming (Row table file line) = refl
   file_labels naming (Address address) = refl
 
@@ -207,8 +195,8 @@ module _ (a b : Naming) where
 
   frame_labels : (naming : Naming) (line : LineId) (outer : Path) → AllByRecursion SameNames outer → AllByRecursion SameLabels (frame_at naming line outer)
   frame_labels naming line outer all =
-      all_mapped SameLabels (λ id. line_file naming line ∷ Procedure id ∷ line_item line ∷ []) (frame_proc outer)
-      (all_weaker (λ id. a.proc_name id ≡ b.proc_name id) (λ id. SameLabels (line_file naming line ∷ Procedure id ∷ line_item line ∷ []))
+      all_mapped SameLabels (λ id. line_file_item naming line ∷ Procedure id ∷ line_item line ∷ []) (frame_proc outer)
+      (all_weaker (λ id. a.proc_name id ≡ b.proc_name id) (λ id. SameLabels (line_file_item naming line ∷ Procedure id ∷ line_item line ∷ []))
       (λ id same. (file_labels naming line, (ap printed same, (line_labels line, tt)))) (frame_proc outer) (proc_names outer all))
 
   frames_labels : (naming : Naming) (scopes : Path) → AllByRecursion SameNames scopes → AllByRecursion SameLabels (frames_up naming scopes)
@@ -221,7 +209,7 @@ module _ (a b : Naming) where
   frames_labels naming (Stmt line ∷ outer) all =
       all_both SameLabels (frame_at naming line outer ++ []) (frames_up naming outer) (all_both SameLabels (frame_at naming line outer) [] (frame_labels naming line outer all.1) tt) (frames_labels naming outer all.1)
 
-  file_same : (line : LineId) → AllByRecursion (λ f. a.file_name f.0 f.1 ≡ b.file_name f.0 f.1) (line_files line) → line_file a line ≡ line_file b line
+  file_same : (line : LineId) → AllByRecursion (λ f. a.file_name f.0 f.1 ≡ b.file_name f.0 f.1) (line_files line) → line_file_item a line ≡ line_file_item b line
   file_same (Row table file line) all = ap FileName all.0
   file_same (Address address) all = refl
 
@@ -259,7 +247,7 @@ module _ (a b : Naming) where
   unfolding flat
   flat_named period ps all =
       let same : map (frames a) ps ≡ map (frames b) ps =
-      mapped_same (frames a) (frames b) ps (all_weaker (λ p. AllByRecursion SameNames (reverse p.path)) (λ p. frames a p ≡ frames b p) (λ p h. frames_same (reverse p.path) h) ps all) in
+      map_same (frames a) (frames b) ps (all_weaker (λ p. AllByRecursion SameNames (reverse p.path)) (λ p. frames a p ≡ frames b p) (λ p h. frames_same (reverse p.path) h) ps all) in
       ap (λ (samples : List Sample). view_table period a [] samples 3) same
       ∙ ap (λ (text : List ℕ). view_header ++ text) (rows_text_named period a b [] (map (frames b) ps)
       (items_labels (frames b) ps (all_weaker (λ p. AllByRecursion SameNames (reverse p.path)) (λ p. AllByRecursion SameLabels (frames b p)) (λ p h. frames_labels b (reverse p.path) h) ps all))

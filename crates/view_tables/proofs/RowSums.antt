@@ -3,19 +3,21 @@ use Rattle.std.proofs.Common.{◌≡◌, ℕ, zero, suc, ◌+◌, ◌*◌, ◌<�
 use Rattle.std.specs.List.{flat_map, list_any}
 use Rattle.std.specs.List.Sorted.{IsStrictlySortedBy}
 use Rattle.std.specs.Ordering.{eq_by_cmp}
-use Rattle.std.proofs.Math.Nat.{mul-add, mul-le-mul_left, mul-zero}
+use Rattle.std.proofs.Math.Nat.{mul-le-mul_left}
 use Rattle.std.proofs.lemmas.Bool.{and_from, and_parts, cases_lt, le-ltb, lt-ltb, ne_eqb, or_left, or_right}
 use Rattle.std.proofs.lemmas.Cmp.{tied_itself}
 use Rattle.std.proofs.lemmas.List.{get_or_default}
-use Rattle.std.proofs.lemmas.List.Elements.{All-cons, All-filter, All-head, All-map, All-nil, All-tail, All-weaker}
+use Rattle.std.proofs.lemmas.List.Elements.{All-cons, All-filter, All-head, All-map, All-nil, All-tail, All-weaker, filter_passes}
 use Rattle.std.proofs.lemmas.List.Folds.{list_any-append, list_any_at}
 use Rattle.std.proofs.lemmas.List.Sums.{count_by-le-length, sum_by-cons}
 use Rattle.tree_types.specs.Ascending.{ascending, by_order, put}
 use Rattle.tree_types.proofs.Counting.{count_by-cons, count_never, count_once, one, sums_swap}
 use Rattle.tree_types.proofs.Prefixes.{list_any-flat_map}
 use Rattle.tree_types.proofs.Sorting.{bool_same, equal_from_is, has, has_ascending, sorted_ascending}
+use Rattle.tree_types.proofs.PathsAgain.{count_some}
+use Rattle.tree_types.proofs.Totals.{times}
 use Rattle.view_tables.specs.Sums.{goes_on}
-use Rattle.view_tables.specs.Views.{Item, Sample, ViewRow, all_items, begins_with, ends, holds, item_order, row_at, row_order, rows_under, same_item}
+use Rattle.view_tables.specs.Views.{Item, Sample, ViewRow, all_items, begins_with, ends, holds_chain, item_order, row_at, row_order, rows_under, same_item}
 use Rattle.view_tables.proofs.ViewOrders.{item_order_tells, item_order_total, row_order_tells, row_order_total}
 
 -- ---- lists
@@ -71,25 +73,10 @@ count_more p q more (x ∷ xs) =
     less true b more = (let is : one b ≡ 1 = ap one (more refl) in omega (arith, is))
     less false b more = omega arith
 
--- what a test finds counts
-some_counted : {X : Type 0} (t : X → Bool) (xs : List X) → list_any t xs ≡ true → 0 < count_by t xs
-some_counted t [] e = absurd (true≢false (sym e))
-some_counted t (x ∷ xs) e =
-    let all = count_by-cons t x xs in
-    elim (t x) as (λ b. (b || list_any t xs) ≡ true → one (t x) ≡ one b → 0 < count_by t (x ∷ xs)) [
-      | true ↦ λ k o. omega (arith, all, o)
-      | false ↦ λ k o. (let rest = some_counted t xs k in omega (arith, all, rest))
-    ] e refl
-
 pub sum_same : {X : Type 0} (f g : X → ℕ) (xs : List X) → All (λ x. f x ≡ g x) xs → sum_by f xs ≡ sum_by g xs
 sum_same f g [] all = refl
 sum_same f g (x ∷ xs) all =
     sum_by-cons f x xs ∙ (λ i. All-head (λ x. f x ≡ g x) x xs all i + sum_same f g xs (All-tail (λ x. f x ≡ g x) x xs all) i) ∙ sym (sum_by-cons g x xs)
-
-sum_times : {X : Type 0} (k : ℕ) (f : X → ℕ) (xs : List X) → sum_by (λ x. k * f x) xs ≡ k * sum_by f xs
-sum_times k f [] = sym (mul-zero k)
-sum_times {X} k f (x ∷ xs) =
-    sum_by-cons (λ (y : X). k * f y) x xs ∙ ap (λ (n : ℕ). k * f x + n) (sum_times k f xs) ∙ sym (mul-add k (f x) (sum_by f xs)) ∙ ap (λ (n : ℕ). k * n) (sym (sum_by-cons f x xs))
 
 -- ---- what follows a chain
 
@@ -231,14 +218,14 @@ module _ (period : ℕ) (samples : List Sample) (chain : List Item) where
   first_counts items rest i lt at positive None next = count_never (λ (r : ViewRow). false || false) rows (λ r. refl)
   first_counts items rest i lt at positive (Some y) next = one_row y (row_there y inclusive there)
     where
-      found : holds (chain ++ y ∷ []) (items ∷ rest) ≡ true
+      found : holds_chain (chain ++ y ∷ []) (items ∷ rest) ≡ true
       found = or_left (begins_with (chain ++ y ∷ []) items) (list_any (begins_with (chain ++ y ∷ [])) rest) (begins_next chain items y ∙ ap (is_next y) next ∙ same_itself y)
 
-      counted : 0 < count_by (holds (chain ++ y ∷ [])) samples
-      counted = some_counted (holds (chain ++ y ∷ [])) samples (list_any_at (holds (chain ++ y ∷ [])) samples i [] lt (ap (holds (chain ++ y ∷ [])) at ∙ found))
+      counted : 0 < count_by (holds_chain (chain ++ y ∷ [])) samples
+      counted = count_some (holds_chain (chain ++ y ∷ [])) samples (list_any_at (holds_chain (chain ++ y ∷ [])) samples i [] lt (ap (holds_chain (chain ++ y ∷ [])) at ∙ found))
 
       inclusive : 0 < (row y).inclusive
-      inclusive = above period (count_by (holds (chain ++ y ∷ [])) samples) positive counted
+      inclusive = above period (count_by (holds_chain (chain ++ y ∷ [])) samples) positive counted
         where
           above : (m n : ℕ) → 0 < m → 0 < n → 0 < m * n
           above m n some more = (let least : m * 1 ≤ m * n = mul-le-mul_left m more in omega (arith, least, some))
@@ -260,7 +247,7 @@ module _ (period : ℕ) (samples : List Sample) (chain : List Item) where
   pub add_up : sum_by (λ r. r.exclusive) rows ≡ period * count_by (goes_on chain) samples
   add_up =
       sum_same (λ r. r.exclusive) (λ r. period * count_by (λ s. counts s r) samples) rows (All-weaker IsRow _ (λ r is. ap (λ (x : ViewRow). x.exclusive) is) rows are_rows)
-      ∙ sum_times period (λ r. count_by (λ s. counts s r) samples) rows
+      ∙ sym (times period (λ r. count_by (λ s. counts s r) samples) rows)
       ∙ by_period period refl
     where
       by_period : (n : ℕ) → period ≡ n → n * sum_by (λ r. count_by (λ s. counts s r) samples) rows ≡ n * count_by (goes_on chain) samples
@@ -272,7 +259,7 @@ module _ (period : ℕ) (samples : List Sample) (chain : List Item) where
 
   -- ---- inclusive values
 
-  holds_front : (x : Item) (sample : Sample) → holds (chain ++ x ∷ []) sample ≡ true → holds chain sample ≡ true
+  holds_front : (x : Item) (sample : Sample) → holds_chain (chain ++ x ∷ []) sample ≡ true → holds_chain chain sample ≡ true
   holds_front x [] e = e
   holds_front x (items ∷ rest) e = either (begins_with (chain ++ x ∷ []) items) refl e (holds_front x rest)
     where
@@ -283,11 +270,11 @@ module _ (period : ℕ) (samples : List Sample) (chain : List Item) where
           let both = and_parts (same_item a b) (begins_with (c ++ x ∷ []) items) e in
           and_from (same_item a b) (begins_with c items) both.0 (front c items both.1)
 
-      either : (b : Bool) → begins_with (chain ++ x ∷ []) items ≡ b → (b || list_any (begins_with (chain ++ x ∷ [])) rest) ≡ true → (holds (chain ++ x ∷ []) rest ≡ true → holds chain rest ≡ true) → (begins_with chain items || list_any (begins_with chain) rest) ≡ true
+      either : (b : Bool) → begins_with (chain ++ x ∷ []) items ≡ b → (b || list_any (begins_with (chain ++ x ∷ [])) rest) ≡ true → (holds_chain (chain ++ x ∷ []) rest ≡ true → holds_chain chain rest ≡ true) → (begins_with chain items || list_any (begins_with chain) rest) ≡ true
       either true is e later = or_left (begins_with chain items) (list_any (begins_with chain) rest) (front chain items is)
       either false is e later = or_right (begins_with chain items) (list_any (begins_with chain) rest) (later e)
 
-  ends_held : (c : List Item) (sample : Sample) → ends c sample ≡ true → holds c sample ≡ true
+  ends_held : (c : List Item) (sample : Sample) → ends c sample ≡ true → holds_chain c sample ≡ true
   ends_held c [] e = e
   ends_held c (items ∷ rest) e = or_left (begins_with c items) (list_any (begins_with c) rest) (only (begins_with c items) e)
     where
@@ -297,13 +284,24 @@ module _ (period : ℕ) (samples : List Sample) (chain : List Item) where
 
   pub exclusive_within : All (λ r. r.exclusive ≤ r.inclusive) rows
   exclusive_within = All-weaker IsRow (λ r. r.exclusive ≤ r.inclusive) (λ r is. subst (λ (x : ViewRow). x.exclusive ≤ x.inclusive) (sym is)
-      (mul-le-mul_left period (count_more (ends (chain ++ r.item ∷ [])) (holds (chain ++ r.item ∷ [])) (ends_held (chain ++ r.item ∷ [])) samples))) rows are_rows
+      (mul-le-mul_left period (count_more (ends (chain ++ r.item ∷ [])) (holds_chain (chain ++ r.item ∷ [])) (ends_held (chain ++ r.item ∷ [])) samples))) rows are_rows
 
-  pub inclusive_within : All (λ r. r.inclusive ≤ period * count_by (holds chain) samples) rows
-  inclusive_within = All-weaker IsRow (λ r. r.inclusive ≤ period * count_by (holds chain) samples) (λ r is. subst (λ (x : ViewRow). x.inclusive ≤ period * count_by (holds chain) samples) (sym is)
-      (mul-le-mul_left period (count_more (holds (chain ++ r.item ∷ [])) (holds chain) (holds_front r.item) samples))) rows are_rows
+  pub inclusive_some : All (λ r. 0 < r.inclusive) rows
+  unfolding rows_under
+  inclusive_some =
+      all_ascending row_order (λ r. 0 < r.inclusive) (filter (λ r. not (r.inclusive == 0)) (map row (all_items samples)))
+      (All-weaker (λ (r : ViewRow). not (r.inclusive == 0) ≡ true) (λ r. 0 < r.inclusive) (λ r. above r.inclusive) (filter (λ r. not (r.inclusive == 0)) (map row (all_items samples)))
+      (filter_passes (λ (r : ViewRow). not (r.inclusive == 0)) (map row (all_items samples))))
+    where
+      above : (n : ℕ) → not (n == 0) ≡ true → 0 < n
+      above zero h = absurd (true≢false (sym h))
+      above (suc n) h = omega arith
+
+  pub inclusive_within : All (λ r. r.inclusive ≤ period * count_by (holds_chain chain) samples) rows
+  inclusive_within = All-weaker IsRow (λ r. r.inclusive ≤ period * count_by (holds_chain chain) samples) (λ r is. subst (λ (x : ViewRow). x.inclusive ≤ period * count_by (holds_chain chain) samples) (sym is)
+      (mul-le-mul_left period (count_more (holds_chain (chain ++ r.item ∷ [])) (holds_chain chain) (holds_front r.item) samples))) rows are_rows
 
   pub inclusive_most : All (λ r. r.inclusive ≤ period * length samples) rows
   inclusive_most =
-      let most : period * count_by (holds chain) samples ≤ period * length samples = mul-le-mul_left period (count_by-le-length (holds chain) samples) in
-      All-weaker (λ (r : ViewRow). r.inclusive ≤ period * count_by (holds chain) samples) (λ r. r.inclusive ≤ period * length samples) (λ r le. omega (arith, le, most)) rows inclusive_within
+      let most : period * count_by (holds_chain chain) samples ≤ period * length samples = mul-le-mul_left period (count_by-le-length (holds_chain chain) samples) in
+      All-weaker (λ (r : ViewRow). r.inclusive ≤ period * count_by (holds_chain chain) samples) (λ r. r.inclusive ≤ period * length samples) (λ r le. omega (arith, le, most)) rows inclusive_within

@@ -1,6 +1,5 @@
 -- The rows of a table, a node at a time.
-use Rattle.std.proofs.Common.{◌≡◌, ℕ, ◌+◌, ◌-◌, ◌*◌, ◌<◌, ◌≤◌, ◌^◌, List, [], ◌++◌, length, take, get_or, refl, sym, ap, ◌∙◌, arith, take_all, length-append}
-use Rattle.std.specs.Prelude.{min}
+use Rattle.std.proofs.Common.{◌≡◌, ℕ, ◌+◌, ◌-◌, ◌*◌, ◌<◌, ◌≤◌, ◌^◌, List, [], ◌++◌, length, get_or, refl, sym, ap, ◌∙◌, arith, take_all, length-append}
 use Rattle.std.proofs.lemmas.List.{get_or_default}
 use Rattle.std.specs.List.{flat_map}
 use Rattle.tree_types.specs.declared.content.Content.{Content}
@@ -16,35 +15,30 @@ use Rattle.tree_types.specs.TopDown.{header, label, node_row, over_harts, top_do
 use Rattle.tree_types.proofs.ContentParts.{own_names_ascend}
 use Rattle.tree_types.proofs.Totals.{within_total}
 use Rattle.prof_bytes.proofs.Appending.{append_more, two_parts}
-use Rattle.view_tables.specs.private.Lengths.{capped}
-use Rattle.view_tables.specs.private.Rows.{path_at, row_of, row_text, total_value}
+use Rattle.view_tables.specs.private.Rows.{path_of_node, shown_row, row_text, rows_below, total_value}
 use Rattle.view_tables.proofs.ColumnSums.{as_many_columns, as_many_nodes, some_total}
-use Rattle.view_tables.proofs.Depths.{no_depth, number_after}
-use Rattle.view_tables.proofs.TextLengths.{capped_sum, row_parts, values_long}
+use Rattle.view_tables.proofs.Depths.{before_number, no_depth, number_after}
+use Rattle.view_tables.proofs.TextLengths.{row_parts, values_long}
 
 -- the row of a node, by its path
 abbrev path_row : Content → Path → List ℕ
 path_row c n = node_row c.period c.harts (naming_in c.names) (paths_of c) n
 
--- the rows of so many nodes
-abbrev pub rows : Content → ℕ → List ℕ
-rows c count = flat_map (path_row c) (take count (nodes (paths_of c)))
-
 pub names_ascend : (c : Content) → IsProfile c → NamesAscend c.names
 names_ascend c profile = own_names_ascend c profile.own
 
 pub row_more : (c : Content) (start out after : List ℕ) (number : ℕ) → IsProfile c → number < length c.nodes
-    → out ≡ start ++ rows c number → after ≡ out ++ row_text c.names (row_of c number) → after ≡ start ++ rows c (number + 1)
+    → out ≡ start ++ rows_below c number → after ≡ out ++ row_text c.names (shown_row c number) → after ≡ start ++ rows_below c (number + 1)
 row_more c start out after number profile lt so_far one =
     let ns : List Path = nodes (paths_of c) in
     let inside : number < length ns = omega (arith, lt, as_many_nodes c profile) in
-    append_more (path_row c) start out after ns number (path_at c number) inside (default number inside) so_far one
+    append_more (path_row c) start out after ns number (path_of_node c number) inside (default number inside) so_far one
   where
-    default : (number : ℕ) → number < length (nodes (paths_of c)) → path_at c number ≡ get_or (nodes (paths_of c)) number (path_at c number)
-    default number lt = get_or_default (nodes (paths_of c)) number [] (path_at c number) lt
+    default : (number : ℕ) → number < length (nodes (paths_of c)) → path_of_node c number ≡ get_or (nodes (paths_of c)) number (path_of_node c number)
+    default number lt = get_or_default (nodes (paths_of c)) number [] (path_of_node c number) lt
 
 pub all_rows : (c : Content) (start middle out : List ℕ) (number : ℕ) → IsProfile c → length c.contexts ≤ number
-    → middle ≡ start ++ header → out ≡ middle ++ rows c number → out ≡ start ++ content_table c
+    → middle ≡ start ++ header → out ≡ middle ++ rows_below c number → out ≡ start ++ content_table c
 unfolding top_down
 all_rows c start middle out number profile le first rest =
     let past : length (nodes (paths_of c)) ≤ number = omega (arith, le, as_many_nodes c profile, as_many_columns c profile) in
@@ -58,27 +52,26 @@ nodes_few c profile = omega (arith, profile.nodes, as_many_columns c profile)
 
 -- the length of a node's row
 pub row_long : (c : Content) (number : ℕ) → IsProfile c → number < length c.nodes → total_value c ≤ 2 ^ 52
-    → length (row_text c.names (row_of c number)) ≡ length (label (naming_in c.names) (own_scope (path_at c number))) + (43 + 2 * (length (path_at c number) - 1))
+    → length (row_text c.names (shown_row c number)) ≡ length (label (naming_in c.names) (own_scope (path_of_node c number))) + (43 + 2 * (length (path_of_node c number) - 1))
 row_long c number profile lt small =
-    let n : Path = path_at c number in
+    let n : Path = path_of_node c number in
     let within : (kind : Kind) → over_harts c.period c.harts (paths_of c) n kind ≤ total_value c = within_total c.period c.harts (paths_of c) n in
     row_parts _ (label (naming_in c.names) (own_scope n)) (length n - 1)
     (values_long (over_harts c.period c.harts (paths_of c) n Inclusive) (total_value c) (over_harts c.period c.harts (paths_of c) n Frame) (some_total c number profile lt) small (within Inclusive) (within Frame))
 
-pub rows_longer : (c : Content) (sum one number : ℕ) → IsProfile c → number < length c.nodes → sum ≡ capped (length (header ++ rows c number)) → one ≡ capped (length (row_text c.names (row_of c number)))
-    → min (sum + one) (2 ^ 64 - 1) ≡ capped (length (header ++ rows c (number + 1)))
-rows_longer c sum one number profile lt so_far last =
-    let more : header ++ rows c (number + 1) ≡ (header ++ rows c number) ++ row_text c.names (row_of c number) = sym (row_more c header (header ++ rows c number) ((header ++ rows c number) ++ row_text c.names (row_of c number)) number profile lt refl refl) in
-    (λ i. min (so_far i + last i) (2 ^ 64 - 1)) ∙ capped_sum (length (header ++ rows c number)) (length (row_text c.names (row_of c number)))
-    ∙ ap capped (sym (ap length more ∙ length-append (header ++ rows c number) (row_text c.names (row_of c number))))
+pub rows_grow : (c : Content) (number : ℕ) → IsProfile c → number < length c.nodes
+    → length (rows_below c (number + 1)) ≡ length (rows_below c number) + length (row_text c.names (shown_row c number))
+rows_grow c number profile lt =
+    ap length (sym (row_more c [] (rows_below c number) (rows_below c number ++ row_text c.names (shown_row c number)) number profile lt refl refl))
+    ∙ length-append (rows_below c number) (row_text c.names (shown_row c number))
 
-pub all_longer : (c : Content) (sum number : ℕ) → IsProfile c → length c.contexts ≤ number → sum ≡ capped (length (header ++ rows c number)) → sum ≡ capped (length (content_table c))
-all_longer c sum number profile le so_far = so_far ∙ ap (λ (l : List ℕ). capped (length l)) (all_rows c [] header (header ++ rows c number) number profile le refl refl)
+pub whole_long : (c : Content) (number : ℕ) → IsProfile c → length c.contexts ≤ number → length (content_table c) ≡ 48 + length (rows_below c number)
+whole_long c number profile le =
+    ap length (sym (all_rows c [] header (header ++ rows_below c number) number profile le refl refl)) ∙ length-append header (rows_below c number)
 
-pub header_long : (c : Content) → 48 ≡ capped (length (header ++ rows c 0))
-header_long c = refl
+pub ruleset length_steps = (before_number, number_after)
 
-pub ruleset length_steps = (rows_longer, all_longer, header_long, nodes_few, as_many_columns, no_depth, number_after, names_ascend)
+pub ruleset whole_length = (nodes_few, as_many_columns)
 
 pub ruleset row_steps = (names_ascend, own_names_ascend)
 

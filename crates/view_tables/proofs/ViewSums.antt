@@ -16,7 +16,7 @@ use Rattle.tree_types.specs.Naming.{Naming}
 use Rattle.tree_types.specs.Paths.{Path}
 use Rattle.tree_types.proofs.Counting.{count_by-cons, one}
 use Rattle.view_tables.specs.Callers.{call_chains, procs_up, tails}
-use Rattle.view_tables.specs.Flat.{call_line, frame_at, frame_proc, frames, frames_up, line_file, line_item}
+use Rattle.view_tables.specs.Flat.{call_line, frame_at, frame_proc, frames, frames_up, line_file_item, line_item}
 use Rattle.view_tables.specs.Sums.{HasFrame, ends_frame, exclusive_at, goes_on}
 use Rattle.view_tables.specs.Views.{Item, Sample, Procedure, ViewRow, begins_with, ends, rows_under}
 use Rattle.view_tables.proofs.RowSums.{IsRow, add_up, are_rows, count_same, sum_same}
@@ -67,7 +67,7 @@ IsTriple items = length items ≡ 3
 
 module _ (naming : Naming) where
   frame_triples : (line : LineId) (outer : Path) → All IsTriple (frame_at naming line outer)
-  frame_triples line outer = All-map IsTriple (λ id. line_file naming line ∷ Procedure id ∷ line_item line ∷ []) (frame_proc outer) (λ i d lt. refl)
+  frame_triples line outer = All-map IsTriple (λ id. line_file_item naming line ∷ Procedure id ∷ line_item line ∷ []) (frame_proc outer) (λ i d lt. refl)
 
   scope_triples : (s : Scope) (outer : Path) → All IsTriple (flat_map (λ line. frame_at naming line outer) (call_line s))
   scope_triples (Root kind) outer = All-nil IsTriple
@@ -115,7 +115,7 @@ module _ (naming : Naming) where
     has_first [] e = absurd (true≢false (sym e))
     has_first (s ∷ outer) e = by_scope s (and_parts (nat_lt 0 (length (call_line s))) (nat_lt 0 (length (frame_proc outer))) e).0 (frame_below s outer e)
       where
-        first : (line : LineId) (ids : List ProcId) (rest : Sample) → 0 < length ids → ends [] ((map (λ id. line_file naming line ∷ Procedure id ∷ line_item line ∷ []) ids ++ []) ++ rest) ≡ true
+        first : (line : LineId) (ids : List ProcId) (rest : Sample) → 0 < length ids → ends [] ((map (λ id. line_file_item naming line ∷ Procedure id ∷ line_item line ∷ []) ids ++ []) ++ rest) ≡ true
         first line [] rest some = absurd (omega arith)
         first line (id ∷ ids) rest some = refl
 

@@ -1,84 +1,27 @@
 -- The rows of a view, one after another.
-use Rattle.std.proofs.Common.{◌≡◌, ℕ, zero, suc, ◌+◌, ◌-◌, ◌*◌, ◌<◌, ◌≤◌, ◌==◌, true, false, cond, not, List, [], ◌∷◌, ◌++◌, length, get_or, take, map, filter, count_by, All, Ordering, refl, sym, ap, subst, ◌∙◌, arith, true≢false, take_all, append-nil, append_assoc}
+use Rattle.std.proofs.Common.{◌≡◌, ℕ, zero, suc, ◌+◌, ◌-◌, ◌*◌, ◌<◌, ◌≤◌, List, [], ◌∷◌, ◌++◌, length, get_or, take, map, filter, All, refl, sym, ap, subst, ◌∙◌, arith, take_all, append-nil, append_assoc}
 use Rattle.std.specs.Prelude.{reverse}
-use Rattle.std.specs.List.{flat_map, AllByRecursion}
-use Rattle.std.specs.declared.cmp.Ordering.TheVariants.{Less, Equal, Greater}
-use Rattle.std.proofs.Math.Nat.{mul-le-mul_left}
+use Rattle.std.specs.List.{flat_map}
 use Rattle.std.proofs.lemmas.List.{length-map, get_or-map, map-append}
-use Rattle.std.proofs.lemmas.List.Sums.{count_by-le-length}
 use Rattle.prof_bytes.proofs.Appending.{append_more, two_parts}
-use Rattle.tree_types.specs.Ascending.{by_order, put, ascending}
 use Rattle.tree_types.specs.declared.content.Content.{Content}
 use Rattle.tree_types.specs.Database.{naming_in}
-use Rattle.tree_types.specs.NamesAscend.{NamesAscend}
-use Rattle.tree_types.specs.OfContent.{IsProfile}
 use Rattle.tree_types.specs.PathsOf.{paths_of}
 use Rattle.tree_types.proofs.Selecting.{flat_map_of_map, map_of_map}
-use Rattle.tree_types.proofs.ContentParts.{own_names_ascend}
 use Rattle.view_tables.specs.declared.item.ItemRef.{ItemRef}
 use Rattle.view_tables.specs.declared.item.RowRef.{RowRef}
 use Rattle.view_tables.specs.declared.occurrence.Occurrence.{Occurrence}
 use Rattle.view_tables.specs.declared.occurrence.Split.{Split}
 use Rattle.view_tables.specs.declared.occurrence.View.{View}
-use Rattle.view_tables.specs.Views.{Item, ViewRow, Sample, all_items, holds, row_at, row_order, rows_under, same_item, view_row, view_rows, view_table}
-use Rattle.view_tables.specs.private.Occurrences.{AreOccurrences, AreSplits, all_occurrences, held, item_seen, items_seen, mark_of, narrowed, row_seen, sample_of, content_samples}
+use Rattle.view_tables.specs.Views.{Item, ViewRow, Sample, rows_under, same_item, view_row, view_rows, view_table}
+use Rattle.view_tables.specs.private.Occurrences.{AreOccurrences, AreSplits, all_occurrences, held, item_seen, items_seen, mark_of, narrowed, row_seen, view_sample, content_samples}
 use Rattle.view_tables.specs.declared.occurrence.View.TheVariants.{Callers, Flat}
 use Rattle.view_tables.specs.Callers.{callers}
 use Rattle.view_tables.specs.Flat.{flat}
 use Rattle.view_tables.specs.private.Rows.{total_value}
 use Rattle.view_tables.proofs.Narrowed.{group, group_held}
-use Rattle.view_tables.proofs.RowSums.{exclusive_within}
-
--- ---- what holds of each row
-
-module _ {K : Type 0} (R : K → K → Ordering) (P : K → Type 0) where
-  all_put : (x : K) (ys : List K) → P x → AllByRecursion P ys → AllByRecursion P (put R x ys)
-  all_put x [] px all = (px, tt)
-  all_put x (y ∷ ys) px all =
-      elim (R x y) as (λ r. AllByRecursion P (by_order r (x ∷ y ∷ ys) (y ∷ ys) (y ∷ put R x ys))) [
-        | Less ↦ (px, all)
-        | Equal ↦ all
-        | Greater ↦ (all.0, all_put x ys px all.1)
-      ]
-
-  all_ascending : (xs : List K) → AllByRecursion P xs → AllByRecursion P (ascending R xs)
-  unfolding ascending
-  all_ascending [] all = tt
-  all_ascending (x ∷ xs) all = all_put x (ascending R xs) all.0 (all_ascending xs all.1)
-
-all_at : {K : Type 0} (P : K → Type 0) (xs : List K) (i : ℕ) (d : K) → i < length xs → AllByRecursion P xs → P (get_or xs i d)
-all_at P [] i d lt all = absurd (omega arith)
-all_at P (x ∷ xs) zero d lt all = all.0
-all_at P (x ∷ xs) (suc i) d lt all = all_at P xs i d (omega arith) all.1
-
-module _ (period : ℕ) (samples : List Sample) (chain : List Item) where
-  abbrev IsWithin : ViewRow → Type 0
-  IsWithin r = (0 < r.inclusive) × (r.inclusive ≤ period * length samples)
-
-  one_within : (item : Item) → not ((row_at period samples chain item).inclusive == 0) ≡ true → IsWithin (row_at period samples chain item)
-  one_within item h =
-      let few = count_by-le-length (holds (chain ++ item ∷ [])) samples in
-      (above (period * count_by (holds (chain ++ item ∷ [])) samples) h, bigger period (count_by (holds (chain ++ item ∷ [])) samples) (length samples) few)
-    where
-      above : (n : ℕ) → not (n == 0) ≡ true → 0 < n
-      above zero h = absurd (true≢false (sym h))
-      above (suc n) h = omega arith
-
-      bigger : (p a b : ℕ) → a ≤ b → p * a ≤ p * b
-      bigger p a b le = mul-le-mul_left p le
-
-  all_within : (items : List Item) → AllByRecursion IsWithin (filter (λ r. not (r.inclusive == 0)) (map (row_at period samples chain) items))
-  all_within [] = tt
-  all_within (item ∷ items) =
-      elim (not ((row_at period samples chain item).inclusive == 0)) as (λ b. not ((row_at period samples chain item).inclusive == 0) ≡ b
-      → AllByRecursion IsWithin (cond b (row_at period samples chain item ∷ filter (λ r. not (r.inclusive == 0)) (map (row_at period samples chain) items)) (filter (λ r. not (r.inclusive == 0)) (map (row_at period samples chain) items)))) [
-        | true ↦ λ e. (one_within item e, all_within items)
-        | false ↦ λ e. all_within items
-      ] refl
-
-  pub row_within : (i : ℕ) (r : ViewRow) → i < length (rows_under period samples chain) → r ≡ get_or (rows_under period samples chain) i r → (0 < r.inclusive) × (r.inclusive ≤ period * length samples)
-  unfolding rows_under
-  row_within i r lt is = subst IsWithin (sym is) (all_at IsWithin (rows_under period samples chain) i r lt (all_ascending row_order IsWithin (filter (λ r. not (r.inclusive == 0)) (map (row_at period samples chain) (all_items samples))) (all_within (all_items samples))))
+use Rattle.view_tables.proofs.TableRows.{names_ascend}
+use Rattle.view_tables.proofs.RowSums.{exclusive_within, inclusive_most, inclusive_some}
 
 -- ---- the occurrences of a longer chain
 
@@ -94,7 +37,7 @@ module _ (view : View) (c : Content) where
   samples = content_samples view c
 
   pub as_many_samples : length samples ≡ length (paths_of c)
-  as_many_samples = length-map (paths_of c) (λ p. sample_of view (naming_in c.names) (reverse p.path))
+  as_many_samples = length-map (paths_of c) (λ p. view_sample view (naming_in c.names) (reverse p.path))
 
   pub total_is : (total : ℕ) → total ≡ total_value c → total ≡ c.period * length samples
   total_is total is = is ∙ ap (λ (k : ℕ). c.period * k) (sym as_many_samples)
@@ -145,10 +88,12 @@ module _ (view : View) (c : Content) where
       let at : row_seen (get_or rows i d) ≡ get_or (rows_under c.period samples chain) i (row_seen (get_or rows i d)) =
       sym (get_or-map row_seen rows i d (row_seen (get_or rows i d)) lt) ∙ ap (λ (rs : List ViewRow). get_or rs i (row_seen (get_or rows i d))) are in
       let long : length rows ≡ length (rows_under c.period samples chain) = sym (length-map rows row_seen) ∙ ap length are in
-      let within = row_within c.period samples chain i (row_seen (get_or rows i d)) (omega (arith, lt, long)) at in
-      let most : (get_or rows i d).inclusive.0 ≤ total_value c = subst (λ (k : ℕ). (get_or rows i d).inclusive.0 ≤ c.period * k) as_many_samples within.1 in
-      let less : (get_or rows i d).exclusive ≤ (get_or rows i d).inclusive.0 = subst (λ (r : ViewRow). r.exclusive ≤ r.inclusive) (sym at) (exclusive_within c.period samples chain i (row_seen (get_or rows i d)) (omega (arith, lt, long))) in
-      (within.0, most, omega (arith, most, less))
+      let inside : i < length (rows_under c.period samples chain) = omega (arith, lt, long) in
+      let some : 0 < (get_or rows i d).inclusive.0 = subst (λ (r : ViewRow). 0 < r.inclusive) (sym at) (inclusive_some c.period samples chain i (row_seen (get_or rows i d)) inside) in
+      let whole : (get_or rows i d).inclusive.0 ≤ c.period * length samples = subst (λ (r : ViewRow). r.inclusive ≤ c.period * length samples) (sym at) (inclusive_most c.period samples chain i (row_seen (get_or rows i d)) inside) in
+      let most : (get_or rows i d).inclusive.0 ≤ total_value c = subst (λ (k : ℕ). (get_or rows i d).inclusive.0 ≤ c.period * k) as_many_samples whole in
+      let less : (get_or rows i d).exclusive ≤ (get_or rows i d).inclusive.0 = subst (λ (r : ViewRow). r.exclusive ≤ r.inclusive) (sym at) (exclusive_within c.period samples chain i (row_seen (get_or rows i d)) inside) in
+      (some, most, omega (arith, most, less))
 
   pub narrowed_occurrences : (chain longer : List ItemRef) (item : ItemRef) (splits : List Split) (occurrences : List Occurrence) → AreSplits view c (items_seen chain) splits
       → occurrences ≡ map (λ s. s.rest) (filter (λ s. same_item (item_seen item) (item_seen s.item)) splits) → longer ≡ chain ++ item ∷ [] → AreOccurrences view c (items_seen longer) occurrences
@@ -157,9 +102,6 @@ module _ (view : View) (c : Content) where
 
 pub longer_seen : (chain longer : List ItemRef) (item : ItemRef) → longer ≡ chain ++ item ∷ [] → items_seen longer ≡ items_seen chain ++ item_seen item ∷ []
 longer_seen chain longer item more = ap items_seen more ∙ map-append item_seen chain (item ∷ [])
-
-pub own_names : (c : Content) → IsProfile c → NamesAscend c.names
-own_names c profile = own_names_ascend c profile.own
 
 regroup : (out v s m l n : List ℕ) → ((((out ++ v) ++ s) ++ m) ++ l) ++ n ≡ out ++ (((v ++ s) ++ (m ++ l)) ++ n)
 regroup out v s m l n = simp append_assoc
@@ -182,6 +124,6 @@ pub ruleset level_steps = (all_seen_within)
 
 pub ruleset narrow_steps = (narrowed_occurrences, longer_seen)
 
-pub ruleset row_steps = (own_names, view_more, view_none, view_all)
+pub ruleset row_steps = (names_ascend, view_more, view_none, view_all)
 
-pub ruleset table_steps = (own_names, two_parts)
+pub ruleset table_steps = (names_ascend, two_parts)

@@ -13,9 +13,9 @@ use Rattle.tree_types.specs.Paths.{Path}
 use Rattle.view_tables.specs.Views.{Item, Sample, FileName, Procedure, SourceLine, Instruction, view_table}
 
 -- the file of a line; addresses have one of their own
-abbrev pub line_file : Naming → LineId → Item
-line_file naming (Row table file line) = FileName (naming.file_name table file)
-line_file naming (Address address) = FileName (codes "<unknown file>")
+abbrev pub line_file_item : Naming → LineId → Item
+line_file_item naming (Row table file line) = FileName (naming.file_name table file)
+line_file_item naming (Address address) = FileName (codes "<unknown file>")
 
 -- the line in its file
 abbrev pub line_item : LineId → Item
@@ -32,7 +32,8 @@ frame_proc (s ∷ outer) = frame_proc outer
 
 -- the file, the procedure and the line of the frame that ends at a line, if one does
 abbrev pub frame_at : Naming → LineId → Path → Sample
-frame_at naming line outer = map (λ id. line_file naming line ∷ Procedure id ∷ line_item line ∷ []) (frame_proc outer)
+frame_at naming line outer =
+    map (λ id. line_file_item naming line ∷ Procedure id ∷ line_item line ∷ []) (frame_proc outer)
 
 -- the line of a call or a statement
 abbrev pub call_line : Scope → List LineId

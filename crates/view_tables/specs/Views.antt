@@ -49,8 +49,8 @@ begins_with (a ∷ chain) [] = false
 begins_with (a ∷ chain) (b ∷ items) = same_item a b && begins_with chain items
 
 -- whether a sequence of the sample begins with the chain
-abbrev pub holds : List Item → Sample → Bool
-holds chain sample = list_any (begins_with chain) sample
+abbrev pub holds_chain : List Item → Sample → Bool
+holds_chain chain sample = list_any (begins_with chain) sample
 
 -- whether that of its innermost frame does
 abbrev pub ends : List Item → Sample → Bool
@@ -67,7 +67,7 @@ pub record ViewRow : Type 0 where
 -- the row of the chain and one item more, by the period times the numbers of samples; each counts once
 abbrev pub row_at : ℕ → List Sample → List Item → Item → ViewRow
 row_at period samples chain item = record {
-  inclusive = period * count_by (holds (chain ++ item ∷ [])) samples;
+  inclusive = period * count_by (holds_chain (chain ++ item ∷ [])) samples;
   item = item;
   exclusive = period * count_by (ends (chain ++ item ∷ [])) samples;
 }

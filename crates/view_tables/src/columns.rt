@@ -32,32 +32,6 @@ pub fn put_spaces(out: &mut Vec<u8>, count: usize) -> Result<(), Memory>
     put_few_spaces(out, count % 2048)
 }
 
-/// A number of at most 16 digits at the right of its column, and a blank before.
-fn number_column(number: u64) -> [u8; 17]
-    requires { number ≤ 2 ^ 52 }
-    ensures { result ≡ spaces 1 ++ right 16 (decimal number) }
-{
-    let mut text = [b' '; 17];
-    write_digits(number, &mut text, 17);
-    text
-}
-
-/// The share of a total that is not 0, in tenths of a percent, rounded down, at the right of its column, and a blank
-/// before.
-fn share_column(part: u64, total: u64) -> [u8; 7]
-    requires some { 0 < total }
-    requires within { part ≤ total }
-    requires small { total ≤ 2 ^ 52 }
-    ensures { result ≡ spaces 1 ++ right 6 (percent part total) }
-{
-    let tenths = part * 1000 / total;
-    let mut text = [b' '; 7];
-    write_digits(tenths / 10, &mut text, 5);
-    text[5] = b'.';
-    text[6] = b'0' + (tenths % 10) as u8;
-    text
-}
-
 /// The heads of the columns.
 pub fn put_header(out: &mut Vec<u8>) -> Result<(), Memory>
     ensures { OnOk result (out.new.items ≡ out.old.items ++ header) }
@@ -66,7 +40,8 @@ pub fn put_header(out: &mut Vec<u8>) -> Result<(), Memory>
     Ok(())
 }
 
-/// The columns of values: a value, its share of a total that is not 0, another value. No value is above the total.
+/// The columns of values: a value, its share of a total that is not 0, in tenths of a percent and rounded down, another
+/// value. No value is above the total.
 pub fn put_values(out: &mut Vec<u8>, first: u64, total: u64, third: u64) -> Result<(), Memory>
     requires some { 0 < total }
     requires small { total ≤ 2 ^ 52 }
@@ -75,9 +50,14 @@ pub fn put_values(out: &mut Vec<u8>, first: u64, total: u64, third: u64) -> Resu
     ensures { OnOk result (out.new.items ≡ out.old.items ++ (right 16 (decimal first) ++ spaces 1
         ++ right 6 (percent first total) ++ spaces 1 ++ right 16 (decimal third))) }
 {
-    out.extend_from_slice(&number_column(first)[1..])?;
-    out.extend_from_slice(&share_column(first, total))?;
-    out.extend_from_slice(&number_column(third))?;
+    let tenths = first * 1000 / total;
+    let mut text = [b' '; 40];
+    write_digits(first, &mut text, 16);
+    write_digits(tenths / 10, &mut text, 21);
+    text[21] = b'.';
+    text[22] = b'0' + (tenths % 10) as u8;
+    write_digits(third, &mut text, 40);
+    out.extend_from_slice(&text)?;
     Ok(())
 }
 

@@ -1,5 +1,5 @@
 //! How scopes are called in their rows.
-ghost use Rattle.std.specs.Prelude.{◌≡◌, ◌++◌, OnOk};
+ghost use Rattle.std.specs.Prelude.{◌≡◌, ◌∷◌, ◌++◌, [], OnOk};
 ghost use Rattle.tree_types.specs.Database.{file_named, naming_in, proc_named};
 ghost use Rattle.tree_types.specs.NamesAscend.{NamesAscend};
 ghost use Rattle.tree_types.specs.TopDown.{label, line_label, printed};
@@ -9,14 +9,27 @@ use prof_bytes::{Memory, put_decimal};
 use scope_types::{LineId, ProcId, RootKind, Scope};
 use tree_types::{Names, find_file, find_proc};
 
+fn printed_byte(byte: u8) -> u8
+    ensures { printed (byte ∷ []) ≡ result ∷ [] }
+{
+    if byte < 32 || byte == 127 { b'?' } else { byte }
+}
+
+fn make_printed(name: &mut [u8])
+    ensures { name.new ≡ printed name.old }
+{
+    for byte in name.iter_mut() {
+        *byte = printed_byte(*byte);
+    }
+}
+
 /// A name as it is printed: bytes below 32 and 127 as a question mark.
 pub fn put_printed(out: &mut Vec<u8>, name: &[u8]) -> Result<(), Memory>
     ensures { OnOk result (out.new.items ≡ out.old.items ++ printed name.now) }
 {
-    for byte in name {
-        let is_plain = *byte >= 32 && *byte != 127;
-        out.push(if is_plain { *byte } else { b'?' })?;
-    }
+    let start = out.len();
+    out.extend_from_slice(name)?;
+    make_printed(&mut out.as_mut_slice()[start..]);
     Ok(())
 }
 

@@ -9,7 +9,7 @@ ghost use Rattle.tree_types.specs.PathsOf.{paths_of};
 ghost use Rattle.view_tables.specs.Callers.{call_chains, callers};
 ghost use Rattle.view_tables.specs.Flat.{flat, frames};
 ghost use Rattle.view_tables.specs.Sums.{HasFrame, exclusive_at, goes_on};
-ghost use Rattle.view_tables.specs.Views.{Item, Sample, ends, holds, rows_under};
+ghost use Rattle.view_tables.specs.Views.{Item, Sample, ends, holds_chain, rows_under};
 
 /// The callers table and the flat table of a content are those of the call paths that it was made of.
 #[tactic(auto, using(crate::proofs::OwnTables::own_tables))]
@@ -51,7 +51,7 @@ pub fn inclusive_values_are_within()
     ensures exclusive { (period : ℕ) (samples : List Sample) (chain : List Item)
         → All (λ r. r.exclusive ≤ r.inclusive) (rows_under period samples chain) }
     ensures chain { (period : ℕ) (samples : List Sample) (chain : List Item)
-        → All (λ r. r.inclusive ≤ period * count_by (holds chain) samples) (rows_under period samples chain) }
+        → All (λ r. r.inclusive ≤ period * count_by (holds_chain chain) samples) (rows_under period samples chain) }
     ensures total { (period : ℕ) (samples : List Sample) (chain : List Item)
         → All (λ r. r.inclusive ≤ period * length samples) (rows_under period samples chain) }
 {}

@@ -1,17 +1,19 @@
-//! How long the top-down table of a content is, without its text.
+//! How long the top-down table of a content is, without its text: by one thread, or by two.
 ghost use Rattle.std.specs.Prelude.{◌≡◌, ◌-◌, ◌<◌, ◌≤◌, ◌^◌, decimal, length, min};
 ghost use Rattle.tree_types.specs.Database.{naming_in};
 ghost use Rattle.tree_types.specs.NamesAscend.{NamesAscend};
 ghost use Rattle.tree_types.specs.OfContent.{IsProfile, content_table};
 ghost use Rattle.tree_types.specs.TopDown.{label, line_label};
 ghost use Rattle.view_tables.specs.private.Lengths.{capped};
-ghost use Rattle.view_tables.specs.private.Rows.{path_at, row_of, row_text, total_value};
+ghost use Rattle.view_tables.specs.private.Rows.{path_of_node, shown_row, row_text, rows_below, total_value};
 
-use crate::depth::depth_after;
+use crate::depth::{before, depth_after, depth_of};
 use crate::label::{file_name, proc_name};
 use crate::row::scope_at;
 use crate::values::period_of;
+use rayon::join;
 use scope_types::{LineId, ProcId, RootKind, Scope};
+use std::thread::Threads;
 use tree_types::{Content, Names};
 
 /// The header's length.
@@ -78,28 +80,65 @@ fn label_length(names: &Names, scope: Scope) -> u64
 fn row_length(content: &Content, number: u32, depth: u32) -> u64
     requires profile { IsProfile content.now }
     requires number { number < length content.now.nodes }
-    requires depth { depth ≡ length (path_at content.now number) }
+    requires depth { depth ≡ length (path_of_node content.now number) }
     requires some { 0 < depth }
     requires small { total_value content.now ≤ 2 ^ 52 }
-    ensures { result ≡ capped (length (row_text content.now.names (row_of content.now number))) }
+    ensures { result ≡ capped (length (row_text content.now.names (shown_row content.now number))) }
 {
     let scope = scope_at(content, number);
     label_length(&content.names, scope).saturating_add(COLUMNS + 2 * u64::from(depth - 1))
 }
 
-/// How many bytes the top-down table of a content has, or 2^64 - 1 where it has more. Takes no memory.
+/// How long the rows of the nodes are, from one number to another, or 2^64 - 1 where they are longer.
 #[tactic(auto, using(crate::proofs::TableRows::length_steps))]
-pub fn top_down_length(content: &Content) -> u64
-    requires { IsProfile content.now }
-    ensures { result ≡ min (length (content_table content.now)) (2 ^ 64 - 1) }
+fn rows_length(content: &Content, from: u32, upto: u32) -> u64
+    requires profile { IsProfile content.now }
+    requires from { from ≤ upto }
+    requires upto { upto ≤ length content.now.nodes }
+    ensures long { result ≡ capped (length (rows_below content.now upto) - length (rows_below content.now from)) }
+    ensures more { length (rows_below content.now from) ≤ length (rows_below content.now upto) }
 {
     // Its values are of a period of 32 bits.
     let _ = period_of(content);
-    let mut depth = 0;
-    let mut sum = HEADER;
-    for number in 0..content.contexts.nodes() {
+    let mut depth = depth_of(content, before(from));
+    let mut sum: u64 = 0;
+    for number in from..upto {
         depth = depth_after(content, number, depth);
         sum = sum.saturating_add(row_length(content, number, depth));
     }
     sum
+}
+
+/// How many bytes the top-down table of a content has, or 2^64 - 1 where it has more. Takes no memory.
+#[tactic(auto, using(crate::proofs::TableRows::whole_length))]
+pub fn top_down_length(content: &Content) -> u64
+    requires { IsProfile content.now }
+    ensures { result ≡ min (length (content_table content.now)) (2 ^ 64 - 1) }
+{
+    HEADER.saturating_add(rows_length(content, 0, content.contexts.nodes()))
+}
+
+/// The same, found by two threads at once, of which each takes half of the nodes.
+#[tactic(auto, using(crate::proofs::TableRows::whole_length))]
+pub fn top_down_length_by_two<R: Threads + Sync>(rt: &R, content: &Content) -> u64
+    requires { IsProfile content.now }
+    ensures { result ≡ min (length (content_table content.now)) (2 ^ 64 - 1) }
+{
+    let nodes = content.contexts.nodes();
+    let middle = nodes / 2;
+    let (first, second) = join(
+        rt,
+        || -> u64
+            requires { (IsProfile content.now) × (middle ≤ length content.now.nodes) }
+            ensures { result ≡ capped (length (rows_below content.entry.now middle)
+                - length (rows_below content.entry.now 0)) }
+        { rows_length(content, 0, middle) },
+        || -> u64
+            requires { (IsProfile content.now) × (middle ≤ nodes) × (nodes ≤ length content.now.nodes) }
+            ensures { (result ≡ capped (length (rows_below content.entry.now nodes)
+                - length (rows_below content.entry.now middle)))
+                × (length (rows_below content.entry.now middle) ≤ length (rows_below content.entry.now nodes)) }
+        { rows_length(content, middle, nodes) },
+    );
+    HEADER.saturating_add(first).saturating_add(second)
 }

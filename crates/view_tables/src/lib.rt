@@ -28,7 +28,7 @@ mod weights;
 
 pub use label::put_printed;
 pub use laws::{exclusive_values_add_up, inclusive_values_are_within, tables_are_of_call_paths};
-pub use length::top_down_length;
+pub use length::{top_down_length, top_down_length_by_two};
 pub use table::{put_top_down, top_down};
 pub use text::put_address;
 pub use view::{callers, flat};

@@ -4,7 +4,7 @@ ghost use Rattle.tree_types.specs.Database.{naming_in};
 ghost use Rattle.tree_types.specs.NamesAscend.{NamesAscend};
 ghost use Rattle.tree_types.specs.OfContent.{IsProfile};
 ghost use Rattle.view_tables.specs.Views.{Procedure};
-ghost use Rattle.view_tables.specs.Flat.{call_line, line_file, line_item};
+ghost use Rattle.view_tables.specs.Flat.{call_line, line_file_item, line_item};
 ghost use Rattle.view_tables.specs.private.Frames.{AreHeads};
 ghost use Rattle.view_tables.specs.private.Occurrences.{cut_of, cut_one, has_frame, item_seen, items_left, ups};
 
@@ -50,7 +50,7 @@ fn line_of(scope: Scope) -> Option<LineId>
 /// The file of a line.
 fn file_of(names: &Names, line: LineId) -> ItemRef<'_>
     requires { NamesAscend names.now }
-    ensures { item_seen result ≡ line_file (naming_in names.now) line }
+    ensures { item_seen result ≡ line_file_item (naming_in names.now) line }
 {
     match line {
         LineId::Row {
@@ -79,7 +79,7 @@ fn item_of<'a>(line: LineId) -> ItemRef<'a>
 /// The first item that a frame still has where `level` of its items were passed.
 fn frame_item(names: &Names, line: LineId, id: ProcId, level: u32) -> Option<ItemRef<'_>>
     requires { NamesAscend names.now }
-    ensures { let items = line_file (naming_in names.now) line ∷ Procedure id ∷ line_item line ∷ [] in
+    ensures { let items = line_file_item (naming_in names.now) line ∷ Procedure id ∷ line_item line ∷ [] in
         MatchOption result (drop level items ≡ [])
         (λ a. (level < 3) × (drop level items ≡ item_seen a ∷ drop (level + 1) items)) }
 {

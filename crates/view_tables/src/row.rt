@@ -2,7 +2,7 @@
 ghost use Rattle.std.specs.Prelude.{◌≡◌, ◌<◌, ◌≤◌, ◌^◌, length};
 ghost use Rattle.tree_types.specs.Nodes.{own_scope};
 ghost use Rattle.tree_types.specs.OfContent.{IsProfile};
-ghost use Rattle.view_tables.specs.private.Rows.{path_at, row_of, total_value};
+ghost use Rattle.view_tables.specs.private.Rows.{path_of_node, shown_row, total_value};
 
 use crate::values::column_sum;
 use scope_types::Scope;
@@ -24,7 +24,7 @@ pub struct Row {
 pub fn scope_at(content: &Content, number: u32) -> Scope
     requires profile { IsProfile content.now }
     requires number { number < length content.now.nodes }
-    ensures { result ≡ own_scope (path_at content.now number) }
+    ensures { result ≡ own_scope (path_of_node content.now number) }
 {
     content.nodes.items()[number as usize].scope
 }
@@ -34,11 +34,11 @@ pub fn scope_at(content: &Content, number: u32) -> Scope
 pub fn row_at(content: &Content, number: u32, depth: u32, total: u64) -> Row
     requires profile { IsProfile content.now }
     requires number { number < length content.now.nodes }
-    requires depth { depth ≡ length (path_at content.now number) }
+    requires depth { depth ≡ length (path_of_node content.now number) }
     requires some { 0 < depth }
     requires total { total ≡ total_value content.now }
     requires small { total ≤ 2 ^ 52 }
-    ensures row { result ≡ row_of content.now number }
+    ensures row { result ≡ shown_row content.now number }
     ensures some { 0 < result.total }
     ensures small { result.total ≤ 2 ^ 52 }
     ensures inclusive { result.inclusive ≤ result.total }

@@ -1,7 +1,7 @@
 //! The top-down table of a content.
 ghost use Rattle.std.specs.Prelude.{◌≡◌, ◌<◌, ◌≤◌, ◌^◌, ◌++◌, length, OnOk, IfOk};
 ghost use Rattle.tree_types.specs.OfContent.{IsProfile, content_table};
-ghost use Rattle.view_tables.specs.private.Rows.{path_at, row_of, row_text, total_value};
+ghost use Rattle.view_tables.specs.private.Rows.{path_of_node, shown_row, row_text, total_value};
 
 use crate::columns::{put_header, put_row};
 use crate::depth::depth_after;
@@ -22,11 +22,11 @@ fn put_node_row(
 ) -> Result<(), Memory>
     requires profile { IsProfile content.now }
     requires number { number < length content.now.nodes }
-    requires depth { depth ≡ length (path_at content.now number) }
+    requires depth { depth ≡ length (path_of_node content.now number) }
     requires some { 0 < depth }
     requires total { total ≡ total_value content.now }
     requires small { total ≤ 2 ^ 52 }
-    ensures { OnOk result (out.new.items ≡ out.old.items ++ row_text content.now.names (row_of content.now number)) }
+    ensures { OnOk result (out.new.items ≡ out.old.items ++ row_text content.now.names (shown_row content.now number)) }
 {
     let row = row_at(content, number, depth, total);
     put_row(out, &content.names, &row)

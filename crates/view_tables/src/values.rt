@@ -3,7 +3,7 @@ ghost use Rattle.std.specs.Prelude.{◌≡◌, ◌<◌, ◌≤◌, ◌^◌, leng
 ghost use Rattle.scope_types.specs.Limits.{most_samples};
 ghost use Rattle.tree_types.specs.OfContent.{IsProfile};
 ghost use Rattle.tree_types.specs.PathsOf.{paths_of};
-ghost use Rattle.view_tables.specs.private.Rows.{amount, samples, total_value};
+ghost use Rattle.view_tables.specs.private.Rows.{amount, counted_by, total_value};
 
 use tree_types::{Content, ContextEntry, Kind, ProfileEntry};
 
@@ -28,7 +28,7 @@ pub fn column_sum(column: &[ContextEntry], kind: Kind) -> u64
 /// How many paths an entry counts as ending at its node.
 fn samples_of(period: u32, e: &ProfileEntry) -> u64
     requires { 0 < period }
-    ensures { result ≡ samples period e.now }
+    ensures { result ≡ counted_by period e.now }
 {
     match e.kind {
         Kind::Exclusive => e.value / u64::from(period),
@@ -38,8 +38,8 @@ fn samples_of(period: u32, e: &ProfileEntry) -> u64
 
 fn hart_samples(period: u32, column: &[ProfileEntry]) -> u64
     requires period { 0 < period }
-    requires few { sum_by (samples period) column.now ≤ most_samples }
-    ensures { result ≡ sum_by (samples period) column.now }
+    requires few { sum_by (counted_by period) column.now ≤ most_samples }
+    ensures { result ≡ sum_by (counted_by period) column.now }
 {
     let mut count: u64 = 0;
     for e in column {

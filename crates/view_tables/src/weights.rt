@@ -1,7 +1,7 @@
 //! What each frame weighs: the value of the samples whose innermost frame it is.
 ghost use Rattle.std.specs.Prelude.{◌≡◌, ◌<◌, ◌≤◌, ◌^◌, length, IfOk, slice_index};
 ghost use Rattle.tree_types.specs.OfContent.{IsProfile};
-ghost use Rattle.view_tables.specs.private.Frames.{AreCosts, AreHeads, AreSums, AreWeights, moved, sum_below};
+ghost use Rattle.view_tables.specs.private.Frames.{AreCosts, AreHeads, AreSums, AreWeights, weight_moved, sum_below};
 ghost use Rattle.view_tables.specs.private.Rows.{total_value};
 
 use crate::occurrence::{View, is_occurrence};
@@ -29,7 +29,7 @@ fn costs_in(alloc: Global, content: &Content) -> Result<Vec<u64>, Memory>
 fn pass_up(weights: &mut Vec<u64>, number: u32, parent: u32)
     requires number { number < length weights.old.items }
     requires small { sum_below (slice_index weights.old.items) (length weights.old.items) ≤ 2 ^ 52 }
-    ensures { weights.new.items ≡ moved weights.old.items number parent }
+    ensures { weights.new.items ≡ weight_moved weights.old.items number parent }
 {
     let weight = weights[number as usize];
     weights[number as usize] = 0;

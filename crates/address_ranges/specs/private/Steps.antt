@@ -7,9 +7,9 @@ use Rattle.address_ranges.specs.declared.ranges.Step.{Step}
 use Rattle.address_ranges.specs.Ranges.{holds}
 
 -- the holder from the last step on that does not begin above the address
-abbrev pub value_at : Option ℕ → List Step → ℕ → Option ℕ
-value_at before [] address = before
-value_at before (s ∷ steps) address = if nat_lt address s.start then before else value_at s.holder steps address
+abbrev pub holder_from : Option ℕ → List Step → ℕ → Option ℕ
+holder_from before [] address = before
+holder_from before (s ∷ steps) address = if nat_lt address s.start then before else holder_from s.holder steps address
 
 -- each step begins above the one before it
 abbrev pub IsAscending : ℕ → List Step → Type 0
@@ -19,17 +19,17 @@ IsAscending low (s ∷ steps) = (low ≤ s.start) × IsAscending (s.start + 1) s
 -- the steps say for each address which of the ranges is the first that holds it
 pub record IsTableOf (ranges : List AddressRange) (steps : List Step) : Type 0 where
   pub ascending : IsAscending 0 steps
-  pub holders : (address : ℕ) → value_at None steps address ≡ position_from (holds address) 0 ranges
+  pub holders : (address : ℕ) → holder_from None steps address ≡ position_from (holds address) 0 ranges
 
 -- all addresses from low up to high have this holder
 abbrev pub AllHeld : Option ℕ → List Step → ℕ → ℕ → ℕ → Type 0
 AllHeld before steps low high holder =
-    (address : ℕ) → low ≤ address → address < high → value_at before steps address ≡ Some holder
+    (address : ℕ) → low ≤ address → address < high → holder_from before steps address ≡ Some holder
 
 -- one of them has not
 abbrev pub SomeElse : Option ℕ → List Step → ℕ → ℕ → ℕ → Type 0
 SomeElse before steps low high holder =
-    (address : ℕ) × (low ≤ address) × (address < high) × (value_at before steps address ≢ Some holder)
+    (address : ℕ) × (low ≤ address) × (address < high) × (holder_from before steps address ≢ Some holder)
 
 -- where the next step of two tables begins
 abbrev pub next_start : List Step → List Step → Option ℕ

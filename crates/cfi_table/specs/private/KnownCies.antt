@@ -19,10 +19,10 @@ abbrev pub known : List ℕ → Extent → Known
 known section e = record { offset = e.offset; cie = cie_of section e }
 
 -- the forms after a CIE's instructions, or their fault
-abbrev pub end_of : List ℕ → Result (Option Cie) FrameFault → Result CfaForms FrameFault
-end_of section (Err fault) = Ok no_forms
-end_of section (Ok None) = Ok no_forms
-end_of section (Ok (Some cie)) = forms_after (after_cie section cie)
+abbrev pub forms_of_cie : List ℕ → Result (Option Cie) FrameFault → Result CfaForms FrameFault
+forms_of_cie section (Err fault) = Ok no_forms
+forms_of_cie section (Ok None) = Ok no_forms
+forms_of_cie section (Ok (Some cie)) = forms_after (after_cie section cie)
 
 -- what the code's values show of these
 abbrev pub end_seen : CieEnd → CfaForms
@@ -34,4 +34,4 @@ seen_cie c = record { offset = c.offset; cie = c.cie }
 -- its instructions lie in the section, and its end is theirs
 pub record IsKnown (section : List ℕ) (c : KnownCie) : Type 0 where
   pub placed : IsCieIn section c.cie
-  pub ends : viewed end_seen c.end ≡ end_of section c.cie
+  pub ends : viewed end_seen c.end ≡ forms_of_cie section c.cie

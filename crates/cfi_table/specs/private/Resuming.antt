@@ -13,7 +13,7 @@ abbrev pub resumed : Option ℕ → List Rule → AlignmentFactors → Input Fra
 resumed limit initial factors input s = if is_past limit s then Ok s else run_all limit initial factors input s
 
 -- a run by an earlier limit ended where the run that was wanted goes on, or by the fault of that one
-abbrev pub GoesOn : {X : Type 0} → Result X (Fail FrameFault) → Result State FrameFault → Result State FrameFault
+abbrev pub Resumes : {X : Type 0} → Result X (Fail FrameFault) → Result State FrameFault → Result State FrameFault
     → Type 0
-GoesOn (Ok done) wanted rest = wanted ≡ rest
-GoesOn (Err fail) wanted rest = FailsBy fail wanted
+Resumes (Ok done) wanted rest = wanted ≡ rest
+Resumes (Err fail) wanted rest = FailsBy fail wanted

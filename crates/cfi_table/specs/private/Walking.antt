@@ -7,14 +7,14 @@ use Rattle.cfi_table.specs.declared.rules.Rule.{Rule}
 use Rattle.cfi_table.specs.declared.rules.Rules.{Rules}
 use Rattle.cfi_table.specs.Rules.{State}
 use Rattle.cfi_table.specs.Entries.{after_fde}
-use Rattle.cfi_table.specs.Frames.{range_of, rules_with}
+use Rattle.cfi_table.specs.Frames.{fde_range, rules_with}
 use Rattle.cfi_table.specs.private.Resuming.{resumed}
 
 -- the state at each address from `start` on is the one to which the instructions that are left lead
 pub record IsAtRow (section : List ℕ) (fde : Fde) (initial : List Rule) (s : State) (input : Input FrameFault)
     (start : ℕ) : Type 0 where
   pub short : length input.at.whole < 2 ^ 32
-  pub some : start < (range_of fde).end
+  pub some : start < (fde_range fde).end
   pub low : fde.initial_location ≤ start
   pub here : s.location ≤ start
   pub states : (address : ℕ) → start ≤ address → after_fde (Some address) section fde

@@ -91,9 +91,9 @@ unwound_by words registers (unwind_rules.Saved layout saved) =
 unwound_by words registers (unwind_rules.Mixed layout few) = unwound_with words registers layout few.items
 
 -- the caller's pc with the registers there, or how the path ends
-abbrev pub after : Result ℕ End → List ℕ → Unwound
-after (Ok pc) registers = Caller (record { pc = pc; registers = registers })
-after (Err end) registers = Ends end
+abbrev pub unwound_to : Result ℕ End → List ℕ → Unwound
+unwound_to (Ok pc) registers = Caller (record { pc = pc; registers = registers })
+unwound_to (Err end) registers = Ends end
 
 -- the unwind rule finds of every activation what the rules say
 abbrev pub FollowsSome : UnwindRule → Rules → Type 0

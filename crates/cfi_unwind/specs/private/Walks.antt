@@ -8,12 +8,12 @@ use Rattle.cfi_unwind.specs.Caller.{Words, Unwinding}
 use Rattle.cfi_unwind.specs.Path.{path_from}
 
 -- frames, and the path outside of them
-abbrev pub joined : List Frame → Raw → Raw
-joined frames outer = record { end = outer.end; frames = frames ++ outer.frames }
+abbrev pub with_outer : List Frame → Raw → Raw
+with_outer frames outer = record { end = outer.end; frames = frames ++ outer.frames }
 
 -- the path that has these frames and goes on from here
 abbrev pub path_over : Unwinding → Words → List Frame → Activation → Raw
-path_over u words frames here = joined frames (path_from (most_frames - length frames) u words here)
+path_over u words frames here = with_outer frames (path_from (most_frames - length frames) u words here)
 
 -- it is the same path from the one activation as from the other, over each memory that has the words that are near
 abbrev pub GoesOn : Unwinding → BytesAt → List Frame → Activation → List Frame → Activation → Type 0

@@ -6,7 +6,7 @@ use Rattle.dwarf_info.specs.declared.entry.UnitBases.{UnitBases}
 use Rattle.dwarf_info.specs.declared.entry.InfoEntry.{InfoEntry}
 use Rattle.dwarf_info.specs.Sections.{Sections}
 use Rattle.dwarf_info.specs.Entries.{entries_from}
-use Rattle.dwarf_info.specs.Units.{declared_in, body_of, entries_in}
+use Rattle.dwarf_info.specs.Units.{declared_in, unit_body, entries_in}
 use Rattle.dwarf_info.specs.private.Starts.{IsSplit}
 
 abbrev pub offsets_of : List InfoEntry → List ℕ
@@ -15,7 +15,7 @@ offsets_of entries = map (λ e. e.offset) entries
 -- the entries of a unit without a fault
 pub record IsRead (sections : Sections) (bases : UnitBases) : Type 0 where
   pub entries : List InfoEntry
-  pub read : entries_from (declared_in sections bases) bases.index (body_of sections bases.header) ≡ Ok entries
+  pub read : entries_from (declared_in sections bases) bases.index (unit_body sections bases.header) ≡ Ok entries
 
 -- the offsets of these were added to others
 pub record AreMarked (sections : Sections) (old new : List ℕ) (bases : UnitBases) : Type 0 where

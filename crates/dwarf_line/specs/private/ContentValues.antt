@@ -39,5 +39,8 @@ as_first content_type value = record {
 }
 
 -- values that were read before come first
-abbrev pub before : ContentValues → ContentValues → ContentValues
-before a b = record { path = option_or a.path b.path; directory_index = option_or a.directory_index b.directory_index }
+abbrev pub earlier_first : ContentValues → ContentValues → ContentValues
+earlier_first a b = record {
+  path = option_or a.path b.path;
+  directory_index = option_or a.directory_index b.directory_index;
+}

@@ -10,9 +10,3 @@ address_at rows i = (get_or rows i zero_row).address
 
 abbrev pub Rises : List LineRow → Type 0
 Rises rows = (i j : ℕ) → i ≤ j → j < length rows → address_at rows i ≤ address_at rows j
-
--- the first `count` rows are at most at an address, and the others are above it
-pub record IsSplit (at : ℕ) (rows : List LineRow) (count : ℕ) : Type 0 where
-  pub within : count ≤ length rows
-  pub below : (i : ℕ) → i < count → address_at rows i ≤ at
-  pub above : (i : ℕ) → count ≤ i → i < length rows → at < address_at rows i

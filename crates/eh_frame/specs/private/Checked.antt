@@ -14,7 +14,7 @@ use Rattle.cfi_table.specs.private.KnownCies.{end_seen}
 use Rattle.cfi_table.specs.private.Placed.{IsWithin}
 use Rattle.eh_frame.specs.declared.address.Addresses.{Addresses}
 use Rattle.eh_frame.specs.declared.cie.EhCie.{EhCie}
-use Rattle.eh_frame.specs.declared.known_cie.KnownCie.{KnownCie}
+use Rattle.eh_frame.specs.declared.known_eh_cie.KnownEhCie.{KnownEhCie}
 use Rattle.eh_frame.specs.Runs.{listed_by, cie_instructions}
 use Rattle.eh_frame.specs.Entries.{eh_cie_of}
 use Rattle.eh_frame.specs.Translation.{encoded}
@@ -31,20 +31,20 @@ put_behind out r = (out ++ flat_map encoded r.0, r.1)
 -- ---- what is kept of each CIE
 
 -- the instructions of a CIE that is read lie in the section
-abbrev pub IsCieIn : List ℕ → Option EhCie → Type 0
-IsCieIn section None = Unit {0}
-IsCieIn section (Some cie) = IsWithin section cie.initial_instructions
+abbrev pub IsEhCieIn : List ℕ → Option EhCie → Type 0
+IsEhCieIn section None = Unit {0}
+IsEhCieIn section (Some cie) = IsWithin section cie.initial_instructions
 
 -- a CIE: its offset, and what it says
-pub record Known : Type 0 where
+pub record KnownEh : Type 0 where
   pub offset : ℕ
   pub cie : Result (Option EhCie) FrameFault
 
-abbrev pub known : List ℕ → Extent → Known
-known section e = record { offset = e.offset; cie = eh_cie_of section e }
+abbrev pub known_eh : List ℕ → Extent → KnownEh
+known_eh section e = record { offset = e.offset; cie = eh_cie_of section e }
 
-abbrev pub seen_cie : KnownCie → Known
-seen_cie c = record { offset = c.offset; cie = Ok c.cie }
+abbrev pub seen_eh_cie : KnownEhCie → KnownEh
+seen_eh_cie c = record { offset = c.offset; cie = Ok c.cie }
 
 -- the forms are those after the CIE's instructions, which have no fault
 abbrev pub IsEnd : List ℕ → ℕ → Option EhCie → CieEnd → Type 0
@@ -52,6 +52,6 @@ IsEnd section address None end = Unit {0}
 IsEnd section address (Some cie) end = (initial : List CallFrameInstruction × State)
     × (cie_instructions section address cie ≡ Ok initial) × (end_seen end ≡ forms_of initial.1)
 
-pub record IsKnown (section : List ℕ) (address : ℕ) (c : KnownCie) : Type 0 where
+pub record IsKnownEh (section : List ℕ) (address : ℕ) (c : KnownEhCie) : Type 0 where
   pub within : c.offset ≤ length section
   pub ends : IsEnd section address c.cie c.end

@@ -30,10 +30,10 @@ Stops path_of (fails.Fault fault) old new = Exceeds path_of fault old new
 Stops path_of (fails.Memory memory) old new = Unit {0}
 
 -- the next sample, or none
-abbrev pub Goes : Paths → Result (Option Sample) (Fail InputFault) → Sampling → Sampling → Type 0
-Goes path_of (Ok (Some sample)) old new = Given path_of sample old new
-Goes path_of (Ok None) old new = IsOver path_of old new
-Goes path_of (Err fail) old new = Stops path_of fail old new
+abbrev pub GivesNext : Paths → Result (Option Sample) (Fail InputFault) → Sampling → Sampling → Type 0
+GivesNext path_of (Ok (Some sample)) old new = Given path_of sample old new
+GivesNext path_of (Ok None) old new = IsOver path_of old new
+GivesNext path_of (Err fail) old new = Stops path_of fail old new
 
 -- all samples were counted, which are of so many harts, and the machine stands at the end of its run
 pub record AllCounted (path_of : Paths) (harts : ℕ) (ccts : List (List Counted)) (old new : Sampling) : Type 0 where

@@ -8,7 +8,7 @@ use Rattle.hpc_top.specs.declared.status.Stop.TheVariants.{Input, Device, Memory
 use Rattle.hpc_top.specs.declared.status.Place.TheVariants.{Read, Store, Print}
 use Rattle.hpc_top.specs.declared.status.Prepared.{Prepared}
 use Rattle.hpc_top.specs.Product.{Product}
-use Rattle.hpc_top.specs.Task.{Task, Wanted, within, contents, verdict}
+use Rattle.hpc_top.specs.Task.{Task, Wanted, limited_bytes, contents, verdict}
 use Rattle.hpc_top.specs.Outcome.{Call, Storing, Printing, Finished, ReadFailed, StoreFailed}
 
 -- ---- fetches
@@ -31,8 +31,8 @@ FetchStops Failed old new wanted (Memory memory) = Looked old new
 -- one file is fetched
 abbrev pub Fetches : ShelfState → ShelfState → Wanted → Result Text Stop → Type 0
 Fetches old new w (Ok text) =
-    Looked old new × (length text ≤ w.limit) × (IsTrue old.known → within old.files w ≡ Ok text)
-Fetches old new w (Err stop) = FetchStops (Fails old.reads new.reads w.name) old new (within old.files w) stop
+    Looked old new × (length text ≤ w.limit) × (IsTrue old.known → limited_bytes old.files w ≡ Ok text)
+Fetches old new w (Err stop) = FetchStops (Fails old.reads new.reads w.name) old new (limited_bytes old.files w) stop
 
 -- one text for each file, and within its limit
 abbrev pub AreWithin : List (List ℕ) → List Wanted → Type 0

@@ -1,5 +1,4 @@
 -- Words and files as the code holds them.
-use Rattle.std.specs.Prelude.{Option, option_map}
 use Rattle.hpc_top.specs.declared.request.ProfileWords as held
 use Rattle.hpc_top.specs.declared.request.RunWords as held_run
 use Rattle.hpc_top.specs.declared.request.ProfWords as held_prof
@@ -28,9 +27,6 @@ view_profile w = record {
   database = w.database.now;
 }
 
-abbrev pub view_profiles : Option held.ProfileWords → Option ProfileWords
-view_profiles o = option_map view_profile o
-
 abbrev pub view_run : held_run.RunWords → RunWords
 view_run w = record {
   elf = w.elf.now;
@@ -40,9 +36,6 @@ view_run w = record {
   measurement = w.measurement.now;
 }
 
-abbrev pub view_runs : Option held_run.RunWords → Option RunWords
-view_runs o = option_map view_run o
-
 abbrev pub view_prof : held_prof.ProfWords → ProfWords
 view_prof w = record {
   elf = w.elf.now;
@@ -51,28 +44,16 @@ view_prof w = record {
   database = w.database.now;
 }
 
-abbrev pub view_profs : Option held_prof.ProfWords → Option ProfWords
-view_profs o = option_map view_prof o
-
-abbrev pub view_table : held_table.ViewTable → ViewTable
-view_table tables.Top = Top
-view_table tables.Callers = Callers
-view_table tables.Flat = Flat
-
-abbrev pub view_tables : Option held_table.ViewTable → Option ViewTable
-view_tables o = option_map view_table o
+abbrev pub asked_table : held_table.ViewTable → ViewTable
+asked_table tables.Top = Top
+asked_table tables.Callers = Callers
+asked_table tables.Flat = Flat
 
 abbrev pub view_view : held_view.ViewWords → ViewWords
-view_view w = record { database = w.database.now; table = view_table w.table }
-
-abbrev pub view_views : Option held_view.ViewWords → Option ViewWords
-view_views o = option_map view_view o
+view_view w = record { database = w.database.now; table = asked_table w.table }
 
 abbrev pub view_drill : held_drill.DrillWords → DrillWords
 view_drill w = record { number = w.number; workers = w.workers }
-
-abbrev pub view_drills : Option held_drill.DrillWords → Option DrillWords
-view_drills o = option_map view_drill o
 
 abbrev pub view_request : held_request.Request → Request
 view_request (requests.Profile w) = Profile (view_profile w)
@@ -81,6 +62,3 @@ view_request (requests.Prof w) = Prof (view_prof w)
 view_request (requests.Struct elf) = Struct elf.now
 view_request (requests.View w) = View (view_view w)
 view_request (requests.Drill w) = Drill (view_drill w)
-
-abbrev pub view_requests : Option held_request.Request → Option Request
-view_requests o = option_map view_request o

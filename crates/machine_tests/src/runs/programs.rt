@@ -63,28 +63,3 @@ pub(super) static SHARED: [u32; 7] = [
     0x0073_2023, // sw x7, 0(x6)
     0xfedf_f06f, // jal x0, .-20
 ];
-
-/// Adds 1 to x10 nineteen times, and exits.
-pub(super) static ADDER: [u32; 21] = [
-    0x0015_0513, // addi x10, x10, 1
-    0x0015_0513, // addi x10, x10, 1
-    0x0015_0513, // addi x10, x10, 1
-    0x0015_0513, // addi x10, x10, 1
-    0x0015_0513, // addi x10, x10, 1
-    0x0015_0513, // addi x10, x10, 1
-    0x0015_0513, // addi x10, x10, 1
-    0x0015_0513, // addi x10, x10, 1
-    0x0015_0513, // addi x10, x10, 1
-    0x0015_0513, // addi x10, x10, 1
-    0x0015_0513, // addi x10, x10, 1
-    0x0015_0513, // addi x10, x10, 1
-    0x0015_0513, // addi x10, x10, 1
-    0x0015_0513, // addi x10, x10, 1
-    0x0015_0513, // addi x10, x10, 1
-    0x0015_0513, // addi x10, x10, 1
-    0x0015_0513, // addi x10, x10, 1
-    0x0015_0513, // addi x10, x10, 1
-    0x0015_0513, // addi x10, x10, 1
-    0x05d0_0893, // addi x17, x0, 93
-    0x0000_0073, // ecall
-];

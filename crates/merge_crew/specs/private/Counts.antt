@@ -5,8 +5,8 @@ use Rattle.stripe_table.specs.declared.view.Hold.TheVariants.{Free}
 use Rattle.merge_crew.specs.declared.work.Worker.{Worker}
 
 -- how many pieces the worker merged, left busy or found there
-abbrev pub counted : Worker → ℕ
-counted w = w.merged + w.busy_left + w.present
+abbrev pub pieces_counted : Worker → ℕ
+pieces_counted w = w.merged + w.busy_left + w.present
 
 -- a worker that has still to offer so many of the pieces of the chunks that it drew
 pub record Counts (stripes : StripesValue) (left : ℕ) (w : Worker) : Type 0 where
@@ -15,8 +15,8 @@ pub record Counts (stripes : StripesValue) (left : ℕ) (w : Worker) : Type 0 wh
   pub merged : w.merged ≡ length w.pass.view.puts
   pub busy : 64 * w.busy_left ≤ w.pass.view.busy
   pub present : w.present ≡ w.pass.view.met
-  pub few : counted w + left ≤ 16 * w.pass.view.got
-  pub all : w.failed ≡ None → counted w + left ≡ 16 * w.pass.view.got
+  pub few : pieces_counted w + left ≤ 16 * w.pass.view.got
+  pub all : w.failed ≡ None → pieces_counted w + left ≡ 16 * w.pass.view.got
 
 -- it has made and taken in no pass since
 pub record KeepsPasses (w w' : Worker) : Type 0 where

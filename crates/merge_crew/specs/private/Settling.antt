@@ -9,14 +9,14 @@ abbrev pub is_named : List Stripe → ℕ → ℕ → Bool
 is_named all s c = ltb 0 (occurrences c (stripe_names all s))
 
 -- the mark of chunk c in the marks of stripe s
-abbrev pub mark_at : List (List Bool) → ℕ → ℕ → Bool
-mark_at marks s c = slice_index_or (slice_index_or marks s []) c false
+abbrev pub chunk_mark : List (List Bool) → ℕ → ℕ → Bool
+chunk_mark marks s c = slice_index_or (slice_index_or marks s []) c false
 
 -- stripe s has a mark of chunk c, and it says whether the stripe names the chunk
 pub record MarkIsExact (all : List Stripe) (marks : List (List Bool)) (s c : ℕ) : Type 0 where
   pub stripe : s < length marks
   pub chunk : c < length (slice_index_or marks s [])
-  pub exact : mark_at marks s c ≡ is_named all s c
+  pub exact : chunk_mark marks s c ≡ is_named all s c
 
 -- of so many chunks, those are marked that are among the names
 pub record MarksChunks (chunks : ℕ) (names : List ℕ) (marks : List Bool) : Type 0 where
@@ -29,8 +29,8 @@ pub record MarksAll (chunks : ℕ) (all : List Stripe) (marks : List (List Bool)
   pub each : (s : ℕ) → s < 16 → MarksChunks chunks (stripe_names all s) (slice_index_or marks s [])
 
 -- how many names the sixteen stripes have
-abbrev pub names_in : List Stripe → ℕ
-names_in all = sum_below 16 (λ s. length (stripe_names all s))
+abbrev pub name_count : List Stripe → ℕ
+name_count all = sum_below 16 (λ s. length (stripe_names all s))
 
 -- the stripes name the chunk c as often as before
 abbrev pub SameNames : List Stripe → List Stripe → ℕ → Type 0

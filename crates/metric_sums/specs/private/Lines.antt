@@ -9,7 +9,7 @@ use Rattle.tree_types.specs.declared.node_values.NodeValue.{NodeValue}
 use Rattle.tree_types.specs.NodeValues.{nonzero}
 use Rattle.metric_sums.specs.declared.row.Sum.{Sum}
 use Rattle.metric_sums.specs.declared.line.Open.{Open}
-use Rattle.metric_sums.specs.private.Rows.{handed_up, joined, no_paths}
+use Rattle.metric_sums.specs.private.Rows.{handed_up, sum_of_both, no_paths}
 
 -- whether a list of nodes ends with one
 abbrev pub is_node : ℕ → Option Open → Bool
@@ -32,7 +32,7 @@ RowOf harts node old new row = (old ≡ new ++ record { node = node; row = row }
 -- a row that is joined to another's
 abbrev pub IsJoined : Scope → List Sum → List Sum → List Sum → Type 0
 IsJoined scope up row new = (length new ≡ length up) × ((h : ℕ) (d : Sum) → h < length new
-    → slice_index_or new h d ≡ joined (slice_index_or up h d) (handed_up scope (slice_index_or row h d)))
+    → slice_index_or new h d ≡ sum_of_both (slice_index_or up h d) (handed_up scope (slice_index_or row h d)))
 
 -- a row that is turned into its parent's
 abbrev pub IsTurned : Scope → List Sum → List Sum → Type 0

@@ -16,16 +16,16 @@ with_own paths s = record { exclusive = s.exclusive + paths; frame = s.frame + p
 abbrev pub handed_up : Scope → Sum → Sum
 handed_up scope s = record { exclusive = 0; frame = if is_proc scope then 0 else s.frame; inclusive = s.inclusive }
 
-abbrev pub joined : Sum → Sum → Sum
-joined a b = record {
+abbrev pub sum_of_both : Sum → Sum → Sum
+sum_of_both a b = record {
   exclusive = a.exclusive + b.exclusive;
   frame = a.frame + b.frame;
   inclusive = a.inclusive + b.inclusive;
 }
 
 -- how many paths of a hart are counted
-abbrev pub paths_of_hart : List NodeCount → ℕ → ℕ
-paths_of_hart counts hart = sum_by (λ c. c.count) (filter (λ c. c.hart == hart) counts)
+abbrev pub count_of_hart : List NodeCount → ℕ → ℕ
+count_of_hart counts hart = sum_by (λ c. c.count) (filter (λ c. c.hart == hart) counts)
 
 -- a sum that stays below 2^32 with another one
 pub record IsSmall (s : Sum) : Type 0 where

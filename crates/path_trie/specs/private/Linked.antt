@@ -32,8 +32,8 @@ branch_at branches key = lookup (same_key key) branches
 abbrev pub no_node : Node
 no_node = record { parent = no_parent; scope = Root Thread }
 
-abbrev pub node_at : List Node → ℕ → Node
-node_at nodes i = slice_index_or nodes i no_node
+abbrev pub linked_node : List Node → ℕ → Node
+linked_node nodes i = slice_index_or nodes i no_node
 
 abbrev pub node_with : ℕ → Scope → Node
 node_with parent scope = record { parent = parent; scope = scope }
@@ -44,7 +44,7 @@ next_index parent = (parent + 1) % 2 ^ 32
 
 -- no node has this parent and scope
 abbrev pub IsAbsent : List Node → ℕ → Scope → Type 0
-IsAbsent nodes parent scope = (i : ℕ) → i < length nodes → node_at nodes i ≡ node_with parent scope → ⊥
+IsAbsent nodes parent scope = (i : ℕ) → i < length nodes → linked_node nodes i ≡ node_with parent scope → ⊥
 
 -- the branch that a key has once another is put at an index, unless the index is the next one
 abbrev pub with_branch : Bool → Key → ℕ → Option ℕ → Key → Option ℕ
@@ -53,19 +53,19 @@ with_branch is_next key index old q = if is_next then old else if same_key key q
 -- nodes, each after its parent, each path once
 pub record Rooted (nodes : List Node) : Type 0 where
   pub long : length (tree_paths nodes) ≡ length nodes
-  pub before : (i : ℕ) → i < length nodes → IsIndex (node_at nodes i).parent i
+  pub before : (i : ℕ) → i < length nodes → IsIndex (linked_node nodes i).parent i
   pub below : (i : ℕ) → i < length nodes
-      → slice_index_or (tree_paths nodes) i [] ≡ path_below (tree_paths nodes) (node_at nodes i)
+      → slice_index_or (tree_paths nodes) i [] ≡ path_below (tree_paths nodes) (linked_node nodes i)
   pub once : (i j : ℕ) → i < length nodes → j < length nodes
       → slice_index_or (tree_paths nodes) i [] ≡ slice_index_or (tree_paths nodes) j [] → i ≡ j
 
 -- and those of them that do not stand right after their parents, by key
 pub record Linked (nodes : List Node) (branches : Branches) : Type 0 where
   pub rooted : Rooted nodes
-  pub listed : (i : ℕ) → i < length nodes → i ≢ next_index (node_at nodes i).parent
-      → branch_at branches ((node_at nodes i).parent, (node_at nodes i).scope) ≡ Some i
+  pub listed : (i : ℕ) → i < length nodes → i ≢ next_index (linked_node nodes i).parent
+      → branch_at branches ((linked_node nodes i).parent, (linked_node nodes i).scope) ≡ Some i
   pub found : (parent : ℕ) (scope : Scope) (i : ℕ) → branch_at branches (parent, scope) ≡ Some i
-      → (i < length nodes) × (node_at nodes i ≡ node_with parent scope)
+      → (i < length nodes) × (linked_node nodes i ≡ node_with parent scope)
 
 -- the indices of the first paths are indices of all, with the same paths
 pub record Extends (old new : List Path) : Type 0 where

@@ -8,12 +8,10 @@ use dwarf_line::constants::{
 };
 
 /// A program of 640 bytes at 0x10000, of which the file has four.
-pub(super) fn program() -> &'static [u8] {
-    b"\
+pub(super) const FILE: &[u8] = b"\
     7f454c460101010000000000000000000200f300010000000000010034000000000000000000000034002000\
     01002800000000000100000054000000000001000000010004000000800200000500000004000000\
-    13000000"
-}
+    13000000";
 
 /// Version 5, addresses of 4 bytes, a header_length of 36; a minimum_instruction_length of 1, a line_base of -5, a
 /// line_range of 14, an opcode_base of 13; the directory `/s`, and the file `a.c` in it.

@@ -1,9 +1,25 @@
 //! Lines of a program by clang 14 (-O2 with a section for each function, and -O0). Bytes stand as two
 //! hexadecimal digits each.
+use super::Program;
+
+pub(super) const PROGRAM: Program = Program {
+    what: "clang",
+    file: super::by_hand::FILE,
+    line: LINE,
+    texts: TEXTS,
+    offsets: &[0, 692],
+    runs: RUNS,
+    end: 0x1027c,
+    tables: &[(0, true), (692, true), (1, false)],
+    names: &[
+        (0, 0, b"/tmp/vec/one.c"),
+        (692, 0, b"/tmp/vec/two4.c"),
+        (692, 9, b"<unknown file>"),
+    ],
+};
 
 /// `.debug_line`.
-pub(super) fn line() -> &'static [u8] {
-    b"\
+const LINE: &[u8] = b"\
     b00200000500040037000000010101fb0e0d00010101010000000100000101011f010000000003011f020f05\
     1e010900000000aa0fbed44809a308f42be94eb283be6f040000050200000100030d0105070a030109000001\
     0503037b0904000106037609040001030a09080001037609040001050906030b090800010503037f09040001\
@@ -22,27 +38,18 @@ pub(super) fn line() -> &'static [u8] {
     0105320300090400010521030009040001050306030109080001090400000101690000000500040037000000\
     010101fb0e0d00010101010000000100000101011f010000000003011f020f051e010f000000004cfbbdfff6\
     a8ee1c7814cae9d0fff4dd04000005025002010001051b0a030009140001051d060300090400010514030009\
-    040001091000000101"
-}
+    040001091000000101";
 
-/// `.debug_str`.
-pub(super) fn str_bytes() -> &'static [u8] {
-    b"\
-    44656269616e20636c616e672076657273696f6e2031342e302e36006f6e652e63002f746d702f7665630074\
-    6f74616c006c6f7700696e740068696768007061697200776569676800780073756d00690073746570007900\
-    7477696365006f74686572006d656173757265005f73746172740061006200730074776f342e6300"
-}
-
-/// `.debug_line_str`.
-pub(super) fn line_str() -> &'static [u8] {
-    b"\
-    2f746d702f766563006f6e652e630074776f342e6300"
-}
+/// `.debug_str` behind S, and `.debug_line_str` behind L.
+const TEXTS: &[u8] = b"\
+    S44656269616e20636c616e672076657273696f6e2031342e302e36006f6e652e63002f746d702f766563007\
+    46f74616c006c6f7700696e740068696768007061697200776569676800780073756d0069007374657000790\
+    07477696365006f74686572006d656173757265005f73746172740061006200730074776f342e6300\
+    L2f746d702f766563006f6e652e630074776f342e6300";
 
 /// From an address up to another the row of each instruction, as `llvm-dwarfdump --debug-line` and
 /// `addr2line` have it: the offset of the table, the file and the line.
-pub(super) fn runs() -> &'static [u8] {
-    b"\
+const RUNS: &[u8] = b"\
     10000 10004 0 0 15\n\
     10004 10008 0 0 10\n\
     10008 10010 0 0 0\n\
@@ -94,5 +101,4 @@ pub(super) fn runs() -> &'static [u8] {
     10180 1018c 0 0 20\n\
     1018c 1024c 0 0 21\n\
     1024c 10250 0 0 22\n\
-    10250 1027c 692 0 1\n"
-}
+    10250 1027c 692 0 1\n";

@@ -6,101 +6,81 @@ use dwarf_line::constants::{
 
 /// A name, and a section whose first table is at fault.
 pub(super) static LENGTH_FAULTS: [(&str, &str); 4] = [
-    ("length not whole", "010203"),
+    ("unit_length not whole", "010203"),
     (
-        "length of 64-bit DWARF",
+        "unit_length of 64-bit DWARF",
         "f0ffffff0500040024000000010101fb0e0d000101010100000001000001010108012f7300020108020b01612e\
          63000000050200000100010204000101",
     ),
     (
-        "length past the section",
+        "unit_length past the section",
         "390000000500040024000000010101fb0e0d000101010100000001000001010108012f7300020108020b01612e\
          630000000502000001000102040001",
     ),
     ("version not whole", "0100000005"),
 ];
 
-/// A name, a header that is at fault, and `.debug_str`.
-pub(super) static HEADER_FAULTS: [(&str, &str, &str); 16] = [
+/// A name, and the change of a byte of the header that is at fault.
+pub(super) static HEADER_CHANGES: [(&str, &str); 6] = [
+    ("version 6", "0=6"),
+    ("version 1", "0=1"),
+    ("address_size 8", "2=8"),
+    ("segment_selector_size 1", "3=1"),
+    ("line_range 0", "12=0"),
+    ("the program past the end", "4=200"),
+];
+
+/// A name, a header that is at fault, and `.debug_str` behind S.
+pub(super) static HEADER_FAULTS: [(&str, &str, &[u8]); 10] = [
     (
-        "version 6",
-        "0600040024000000010101fb0e0d000101010100000001000001010108012f7300020108020b01612e630000",
-        "",
-    ),
-    (
-        "version 1",
-        "0100040024000000010101fb0e0d000101010100000001000001010108012f7300020108020b01612e630000",
-        "",
-    ),
-    (
-        "address size",
-        "0500080024000000010101fb0e0d000101010100000001000001010108012f7300020108020b01612e630000",
-        "",
-    ),
-    (
-        "segment size",
-        "0500040124000000010101fb0e0d000101010100000001000001010108012f7300020108020b01612e630000",
-        "",
-    ),
-    (
-        "line range",
-        "0500040024000000010101fb000d000101010100000001000001010108012f7300020108020b01612e630000",
-        "",
-    ),
-    (
-        "opcode base",
+        "opcode_base 0",
         "0500040018000000010101fb0e00010108012f7300020108020b01612e630000",
-        "",
+        b"",
     ),
     (
         "lengths past the table",
         "0500040019000000010101fb0eff00010108012f7300020108020b01612e630000",
-        "",
+        b"",
     ),
     (
         "a form that is none",
         "0500040021000000010101fb0e0d00010101010000000100000101010200020108020b01612e630000",
-        "",
+        b"",
     ),
     (
-        "indirect",
+        "DW_FORM_indirect",
         "0500040021000000010101fb0e0d00010101010000000100000101011600020108020b01612e630000",
-        "",
+        b"",
     ),
     (
-        "implicit_const",
+        "DW_FORM_implicit_const",
         "050004001d000000010101fb0e0d000101010100000001000001010108012f730001012100",
-        "",
+        b"",
     ),
     (
-        "a path by a number",
+        "DW_LNCT_path by a number",
         "0500040022000000010101fb0e0d00010101010000000100000101010b0105020108020b01612e630000",
-        "",
+        b"",
     ),
     (
-        "a path outside its section",
+        "DW_LNCT_path outside its section",
         "0500040025000000010101fb0e0d00010101010000000100000101010e0109000000020108020b01612e630000",
-        "6100",
+        b"S6100",
     ),
     (
-        "a path without end in its section",
+        "DW_LNCT_path without end in its section",
         "0500040025000000010101fb0e0d00010101010000000100000101011f0100000000020108020b01612e630000",
-        "",
+        b"",
     ),
     (
-        "a directory index by a text",
+        "DW_LNCT_directory_index by a text",
         "0500040023000000010101fb0e0d000101010100000001000001010108012f730002010802080161006200",
-        "",
+        b"",
     ),
     (
         "more directories than bytes",
         "050004001f000000010101fb0e0d000101010100000001000001007f020108020b01612e630000",
-        "",
-    ),
-    (
-        "the program past the end",
-        "05000400c8000000010101fb0e0d000101010100000001000001010108012f7300020108020b01612e630000",
-        "",
+        b"",
     ),
 ];
 
@@ -139,7 +119,7 @@ pub(super) static PROGRAM_FAULTS: [(&str, &[&[u8]], u32); 7] = [
         0,
     ),
     (
-        "set_address of four bytes",
+        "DW_LNE_set_address of four bytes",
         &[&[0, 4, DW_LNE_set_address, 0, 0, 1]],
         0,
     ),

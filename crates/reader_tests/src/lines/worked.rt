@@ -1,40 +1,44 @@
-//! Worked programs: their code, the lines of that, and what these say.
+//! Worked programs, and what their lines are.
+use super::Program;
+use crate::worked::{FILE, LINE};
 
-/// A program of 21 instructions.
-pub(super) fn program() -> &'static [u8] {
-    b"\
-    7f454c460101010000000000000000000200f300010000000000010034000000000000000000000034002000\
-    0100280000000000010000005400000000000100000001005400000054000000050000000400000013051500\
-    1305150013051500130515001305150013051500130515001305150013051500130515001305150013051500\
-    130515001305150013051500130515001305150013051500130515009308d00573000000"
-}
+/// The worked program.
+pub(super) const WORKED: Program = Program {
+    what: "the worked program",
+    file: FILE,
+    line: LINE,
+    texts: b"",
+    offsets: &[0],
+    runs: b"10000 10008 0 0 7\n10008 10018 0 0 8\n10018 10054 -\n",
+    end: 0x10054,
+    tables: &[],
+    names: &[(0, 0, b"/s/a.c")],
+};
 
-/// A program of 12 instructions, with a function that calls itself.
-pub(super) fn recursive() -> &'static [u8] {
-    b"\
+pub(super) const WITHOUT_TABLES: Program = Program {
+    what: "no offset of a table",
+    file: FILE,
+    line: LINE,
+    texts: b"",
+    offsets: &[],
+    runs: b"10000 10004 -\n",
+    end: 0x10004,
+    tables: &[(0, false)],
+    names: &[],
+};
+
+/// A program of 12 instructions, with a function that calls itself, at line 7.
+pub(super) const RECURSIVE: Program = Program {
+    what: "the recursive program",
+    file: b"\
     7f454c460101010000000000000000000200f300010000000000010034000000000000000000000034002000\
     0100280000000000010000005400000000000100000001003000000030000000050000000400000013055000\
-    ef00c0009308d00573000000130101ff23261100630605001305f5ffeff01fff8320c1001301010167800000"
-}
-
-/// `.debug_line` of both: two rows at the first address, and an end at 0x10018.
-pub(super) fn line() -> &'static [u8] {
-    b"\
-    450000000500040024000000010101fb0e0d000101010100000001000001010108012f7300020108020b0161\
-    2e63000004000005020000010003020103040102080301010210000101"
-}
-
-/// The same with 2 as the greatest number of operations of an instruction.
-pub(super) fn line_of_two_operations() -> &'static [u8] {
-    b"\
-    450000000500040024000000010201fb0e0d000101010100000001000001010108012f7300020108020b0161\
-    2e63000004000005020000010003020103040102080301010210000101"
-}
-
-/// The row of each instruction of the first program.
-pub(super) fn runs() -> &'static [u8] {
-    b"\
-    10000 10008 0 0 7\n\
-    10008 10018 0 0 8\n\
-    10018 10054 -\n"
-}
+    ef00c0009308d00573000000130101ff23261100630605001305f5ffeff01fff8320c1001301010167800000",
+    line: LINE,
+    texts: b"",
+    offsets: &[0],
+    runs: b"10000 10008 0 0 7\n",
+    end: 0x10008,
+    tables: &[],
+    names: &[],
+};

@@ -27,17 +27,18 @@ fn section_of(alloc: Global, instructions: &[u8]) -> Result<Vec<u8>, Memory> {
     Ok(bytes)
 }
 
-/// The path of the instruction at 0x10010 in a program of these call frame instructions.
-fn path_in(
+/// The path of the instruction at 0x10010 in the recursion with these call frame instructions.
+fn path_by(
     alloc: Global,
-    image: &Image<'_>,
     instructions: &[u8],
     values: &[(usize, u32)],
     words: &[(u32, u32)],
 ) -> Result<RawPath, Unread> {
+    let file = bytes_of(alloc, RECURSION)?;
+    let image = image_of(alloc, &file)?;
     let section = section_of(alloc, instructions)?;
-    let table = table_of(alloc, &section, image)?;
-    let unwinder = Unwinder::of(alloc, &table, image);
+    let table = table_of(alloc, &section, &image)?;
+    let unwinder = Unwinder::of(alloc, &table, &image);
     Ok(unwinder.path(0x1_0010, &registers(values), &Words { words })?)
 }
 
@@ -140,13 +141,13 @@ static ENDS: [(&str, &[u8], End); 17] = [
     ),
 ];
 
-/// The place of the first of these instructions whose path ends otherwise, or has other frames.
-pub(super) fn other_end(alloc: Global, image: &Image<'_>) -> Result<Option<usize>, Unread> {
+/// The first row whose path ends otherwise, or has other frames.
+fn other_end(alloc: Global) -> Result<Option<&'static str>, Unread> {
     let values = [(1, 0x1_0008), (2, 0xf00f_fff0)];
-    for (place, (_, instructions, end)) in ENDS.iter().enumerate() {
-        let path = path_in(alloc, image, instructions, &values, &[])?;
+    for (name, instructions, end) in &ENDS {
+        let path = path_by(alloc, instructions, &values, &[])?;
         if !is_path(&path, *end, &[0x1_0010]) {
-            return Ok(Some(place));
+            return Ok(Some(name));
         }
     }
     Ok(None)
@@ -154,8 +155,7 @@ pub(super) fn other_end(alloc: Global, image: &Image<'_>) -> Result<Option<usize
 
 #[test]
 fn a_path_ends_by_the_first_test_that_holds(rt: HostRuntime) -> Result<(), Fail> {
-    let other = other_row(rt.alloc(), RECURSION, &[], Question::Ends)?;
-    assert_eq!(rt; other, None);
+    assert_eq!(rt; other_end(rt.alloc())?, None);
     Ok(())
 }
 
@@ -299,12 +299,12 @@ static CALLERS: [(&str, &[u8], &[(usize, u32)], &[(u32, u32)], End, &[u32]); 13]
     ),
 ];
 
-/// The place of the first of these instructions whose path ends otherwise, or has other frames.
-pub(super) fn other_caller(alloc: Global, image: &Image<'_>) -> Result<Option<usize>, Unread> {
-    for (place, (_, instructions, values, words, end, frames)) in CALLERS.iter().enumerate() {
-        let path = path_in(alloc, image, instructions, values, words)?;
+/// The first row whose path ends otherwise, or has other frames.
+fn other_caller(alloc: Global) -> Result<Option<&'static str>, Unread> {
+    for (name, instructions, values, words, end, frames) in &CALLERS {
+        let path = path_by(alloc, instructions, values, words)?;
         if !is_path(&path, *end, frames) {
-            return Ok(Some(place));
+            return Ok(Some(name));
         }
     }
     Ok(None)
@@ -312,20 +312,14 @@ pub(super) fn other_caller(alloc: Global, image: &Image<'_>) -> Result<Option<us
 
 #[test]
 fn a_caller_has_its_registers_by_the_rules(rt: HostRuntime) -> Result<(), Fail> {
-    let other = other_row(rt.alloc(), RECURSION, &[], Question::Callers)?;
-    assert_eq!(rt; other, None);
+    assert_eq!(rt; other_caller(rt.alloc())?, None);
     Ok(())
 }
 
-/// The first place, unless the path of the address after the last procedure ends there.
-pub(super) fn other_outside_frames(unwinder: &Unwinder<'_>) -> Result<Option<usize>, Memory> {
-    let path = unwinder.path(0x1_0030, &registers(&[]), &Recursion)?;
-    Ok(first_unless(is_path(&path, Partial(NoFde), &[0x1_0030])))
-}
-
+/// The path of the address after the last procedure ends there.
 #[test]
 fn an_instruction_that_no_frame_description_holds(rt: HostRuntime) -> Result<(), Fail> {
-    let other = other_unwinding(rt.alloc(), RECURSION, Unwinding::OutsideFrames)?;
-    assert_eq!(rt; other, None);
+    let path = path_in(rt.alloc(), RECURSION, 0x1_0030, &[], &Recursion)?;
+    assert!(rt; is_path(&path, Partial(NoFde), &[0x1_0030]));
     Ok(())
 }

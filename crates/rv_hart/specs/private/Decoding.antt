@@ -12,7 +12,7 @@ use Rattle.rv_hart.specs.declared.decoded_code.DecodedCode.{DecodedCode}
 use Rattle.rv_hart.specs.AddressSpace.{AddressSpace, has, byte_in}
 use Rattle.rv_hart.specs.Step.{fetched_at}
 use Rattle.rv_hart.specs.declared.paged_memory.PagedMemory.{PagedMemory}
-use Rattle.rv_hart.specs.private.Paging.{IsHome, IsPaged, covers_all, word_address}
+use Rattle.rv_hart.specs.private.Paging.{IsHome, IsPaged, covers_all, memory_of, word_address}
 
 -- the byte that an address of this region began with, and the word
 abbrev pub first_in : List ℕ → Segment → ℕ → ℕ
@@ -70,6 +70,12 @@ Stays memory base items index =
 -- an instruction with which a run begins
 abbrev pub Begins : AddressSpace → ℕ → List Inst → ℕ → Type 0
 Begins memory base items index = Stays memory base items index × IsInstruction items index
+
+-- where a run begins that is at this address
+pub record IsKeptAt (memory : PagedMemory) (code : DecodedCode) (index at : ℕ) : Type 0 where
+  pub is : IsCode memory.file.now memory.regions code
+  pub address : word_address code.base index ≡ at
+  pub first : Begins (memory_of memory) code.base code.items.items index
 
 abbrev pub AreCode : List ℕ → List Segment → List DecodedCode → Type 0
 AreCode file regions codes = All (IsCode file regions) codes

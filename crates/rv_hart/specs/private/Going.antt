@@ -9,11 +9,11 @@ use Rattle.rv_table.specs.declared.inst.Op.{Op}
 use Rattle.rv_table.specs.declared.inst.Op.TheVariants as ops
 
 -- how the step ended
-abbrev pub ended : Went → Stepped
-ended went.On = stepped.Retired
-ended went.Away = stepped.Retired
-ended went.Illegal = stepped.Trap cause.Illegal
-ended (went.Stopped how) = how
+abbrev pub step_ended : Went → Stepped
+step_ended went.On = stepped.Retired
+step_ended went.Away = stepped.Retired
+step_ended went.Illegal = stepped.Trap cause.Illegal
+step_ended (went.Stopped how) = how
 
 -- where there is a word behind this one, a hart that goes on among so many has its next word among them; and it stops
 -- for no other cause than that the instruction did not retire

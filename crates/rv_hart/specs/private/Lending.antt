@@ -16,5 +16,5 @@ pub record StandsIn (page : Paged) (base at word : ℕ) : Type 0 where
   pub word_is : word ≡ number_in 4 (take 4 (drop (at - base) page.bytes))
 
 -- each word that has all four of its bytes among these does
-abbrev pub AreOf : Paged → ℕ → BytesAt → Type 0
-AreOf page base slice = (at : ℕ) → IfSome (word_in slice at) (StandsIn page base at)
+abbrev pub AreWordsOf : Paged → ℕ → BytesAt → Type 0
+AreWordsOf page base slice = (at : ℕ) → IfSome (word_in slice at) (StandsIn page base at)

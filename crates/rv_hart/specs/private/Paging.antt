@@ -24,16 +24,16 @@ abbrev pub page_of : PagedMemory → ℕ → Paged
 page_of paged at = page_numbered paged (at / 2 ^ 12)
 
 -- the byte at an address: what its page holds, and else what it began with
-abbrev pub value : PagedMemory → ℕ → ℕ
-value paged at = slice_index_or (page_of paged at).bytes (at % 2 ^ 12) (first_byte paged.file.now paged.regions at)
+abbrev pub paged_byte : PagedMemory → ℕ → ℕ
+paged_byte paged at = slice_index_or (page_of paged at).bytes (at % 2 ^ 12) (first_byte paged.file.now paged.regions at)
 
 -- the same after these bytes were put in from another address on
 abbrev pub value_after : PagedMemory → ℕ → List ℕ → ℕ → ℕ
 value_after paged start bytes at =
-    if nat_le start at && nat_lt at (start + length bytes) then slice_index bytes (at - start) else value paged at
+    if nat_le start at && nat_lt at (start + length bytes) then slice_index bytes (at - start) else paged_byte paged at
 
 abbrev pub memory_of : PagedMemory → AddressSpace
-memory_of paged = record { regions = paged.regions; bytes = each_address (value paged) }
+memory_of paged = record { regions = paged.regions; bytes = each_address (paged_byte paged) }
 
 -- a hart with the memory that is kept
 abbrev pub kept_state : Hart → PagedMemory → State
@@ -66,7 +66,7 @@ pub record IsPaged (paged : PagedMemory) : Type 0 where
   pub short : (number : ℕ) → length (page_numbered paged number).bytes ≤ 2 ^ 12
   pub low : (at : ℕ) → 2 ^ 32 ≤ at → region_at paged.regions at ≡ None
   pub intact : (at : ℕ) → may PF_W paged.regions at ≡ false
-      → value paged at ≡ first_byte paged.file.now paged.regions at
+      → paged_byte paged at ≡ first_byte paged.file.now paged.regions at
 
 -- the segment holds so many addresses from this one on
 abbrev pub covers_all : Segment → ℕ → ℕ → Bool

@@ -16,9 +16,9 @@ to_read unread = numbered (unread.done + 1) unread.rest
 abbrev pub all_lines : Unread → ℕ
 all_lines unread = unread.done + length unread.rest
 
-abbrev pub first_of : {X : Type 0} → List X → Option X
-first_of [] = None
-first_of (x ∷ rest) = Some x
+abbrev pub first_or_none : {X : Type 0} → List X → Option X
+first_or_none [] = None
+first_or_none (x ∷ rest) = Some x
 
 abbrev pub rest_of : {X : Type 0} → List X → List X
 rest_of [] = []

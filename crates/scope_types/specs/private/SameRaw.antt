@@ -64,12 +64,12 @@ raw_per = partial_equiv_from_equiv raw_equiv
 -- ---- hashing
 
 -- four addresses as one number, the first the lowest
-abbrev pub joined : ℕ → ℕ → ℕ → ℕ → ℕ
-joined a b c d = a + b * 2 ^ 32 + (c + d * 2 ^ 32) * 2 ^ 64
+abbrev pub packed : ℕ → ℕ → ℕ → ℕ → ℕ
+packed a b c d = a + b * 2 ^ 32 + (c + d * 2 ^ 32) * 2 ^ 64
 
 -- four frames at a time, and then those that are left one by one
 abbrev pub frame_writes : List Frame → List (List ℕ)
-frame_writes (a ∷ b ∷ c ∷ d ∷ frames) = fed.u128 (joined a.pc b.pc c.pc d.pc) ++ frame_writes frames
+frame_writes (a ∷ b ∷ c ∷ d ∷ frames) = fed.u128 (packed a.pc b.pc c.pc d.pc) ++ frame_writes frames
 frame_writes frames = flat_map frame_hash.hash_input frames
 
 abbrev pub raw_writes : Raw → List (List ℕ)

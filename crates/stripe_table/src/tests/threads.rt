@@ -3,7 +3,7 @@ ghost use Rattle.std.specs.Prelude.{◌≡◌, ◌+◌, ◌<◌, ◌^◌};
 ghost use Rattle.stripe_table.specs.Limits.{IsPieceOf};
 ghost use Rattle.stripe_table.specs.Values.{IsPassOf};
 ghost use Rattle.stripe_table.specs.declared.view.Hold.TheVariants.{Free};
-ghost use Rattle.stripe_table.specs.private.Tested.{Keeps};
+ghost use Rattle.stripe_table.specs.private.Tested.{KeepsDistance};
 
 use super::{Nameless, claim_next, lay_sixth, let_go_sixth, paths, sixth, take_sixth};
 use crate::{Laid, Pass, Stripes, Take};
@@ -77,7 +77,7 @@ fn take_turn(stripes: &Stripes, piece: &Piece, number: u32, pass: &mut Pass) -> 
     requires piece { IsPieceOf stripes.now.plan piece.now × (piece.now.stripe ≡ 6) }
     ensures of { IsPassOf stripes.now pass.new }
     ensures free { pass.new.view.hold ≡ Free }
-    ensures same { Keeps pass.old.view pass.new.view }
+    ensures same { KeepsDistance pass.old.view pass.new.view }
 {
     match take_sixth(stripes, pass) {
         Take::Busy { .. } => Turn::Busy,
@@ -98,7 +98,7 @@ fn all_turns(stripes: &Stripes, piece: &Piece, pass: &mut Pass) -> Turns
     requires piece { IsPieceOf stripes.now.plan piece.now × (piece.now.stripe ≡ 6) }
     ensures of { IsPassOf stripes.now pass.new }
     ensures free { pass.new.view.hold ≡ Free }
-    ensures same { Keeps pass.old.view pass.new.view }
+    ensures same { KeepsDistance pass.old.view pass.new.view }
     ensures turns { result.taken ≡ 500000 }
 {
     let mut done = Turns::none();
@@ -122,7 +122,7 @@ fn side_by_side<R: Threads>(
     requires high { IsPieceOf stripes.now.plan high.now × (high.now.stripe ≡ 6) }
     ensures of { IsPassOf stripes.now p.new × IsPassOf stripes.now q.new }
     ensures free { (p.new.view.hold ≡ Free) × (q.new.view.hold ≡ Free) }
-    ensures same { Keeps p.old.view p.new.view × Keeps q.old.view q.new.view }
+    ensures same { KeepsDistance p.old.view p.new.view × KeepsDistance q.old.view q.new.view }
     ensures turns { (result.0.taken ≡ 500000) × (result.1.taken ≡ 500000) }
 {
     join_mut(

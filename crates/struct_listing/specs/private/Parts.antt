@@ -33,13 +33,13 @@ symbol_part s function = if is_listed_symbol s function then symbol_line functio
 -- ---- the inlined subroutines that are open at an item, by the numbers at which they end
 
 -- those that are open behind the item with a number
-abbrev pub opened : ℕ → Item → List ℕ → List ℕ
-opened number item ends =
+abbrev pub opened_after : ℕ → Item → List ℕ → List ℕ
+opened_after number item ends =
     filter (λ end. nat_lt number end) ends ++ (if item.inlined then item.after ∷ [] else [])
 
 -- from an item on, as many are open at each as of the items before
-abbrev pub AreOpen : ProgramStructure → ℕ → ℕ → List ℕ → Type 0
-AreOpen s subprogram number ends =
+abbrev pub AreOpenFrom : ProgramStructure → ℕ → ℕ → List ℕ → Type 0
+AreOpenFrom s subprogram number ends =
     (n : ℕ) → number ≤ n
     → count_by (λ end. nat_lt n end) ends
     ≡ count_by (is_inlined_beyond n) (take (number - (subprogram + 1)) (drop (subprogram + 1) s.items))

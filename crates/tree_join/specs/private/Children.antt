@@ -7,18 +7,18 @@ use Rattle.std.specs.declared.cmp.Ordering.{Ordering}
 use Rattle.std.specs.declared.cmp.Ordering.TheVariants.{Less}
 use Rattle.scope_types.specs.Order.{scope_order}
 use Rattle.tree_types.specs.declared.content.Node.{Node}
-use Rattle.path_trie.specs.private.Linked.{node_at, next_index}
+use Rattle.path_trie.specs.private.Linked.{linked_node, next_index}
 use Rattle.tree_join.specs.declared.children.Sibling.{Sibling}
 
 abbrev pub slot_at : List Node → ℕ → ℕ
-slot_at nodes i = next_index (node_at nodes i).parent
+slot_at nodes i = next_index (linked_node nodes i).parent
 
 abbrev pub flag_at : List Bool → ℕ → Bool
 flag_at flags i = slice_index_or flags i false
 
 -- a node among its siblings
 abbrev pub sibling_at : List Node → ℕ → Sibling
-sibling_at nodes i = record { slot = slot_at nodes i; scope = (node_at nodes i).scope; index = i }
+sibling_at nodes i = record { slot = slot_at nodes i; scope = (linked_node nodes i).scope; index = i }
 
 -- the nodes below k at whose parents' next indices a flag stands
 abbrev pub siblings_below : List Node → List Bool → ℕ → List Sibling
@@ -45,9 +45,9 @@ pub record Groups (nodes : List Node) (flags : List Bool) (siblings : List Sibli
 
 -- the children of a node, the last sibling first
 pub record AreChildren (nodes : List Node) (parent : ℕ) (kids : List ℕ) : Type 0 where
-  pub only : All (λ k. (k < length nodes) × ((node_at nodes k).parent ≡ parent)) kids
-  pub all : (i : ℕ) → i < length nodes → (node_at nodes i).parent ≡ parent → Contains kids i
-  pub fall : AllPairs (λ a b. scope_order (node_at nodes b).scope (node_at nodes a).scope ≡ Less) kids
+  pub only : All (λ k. (k < length nodes) × ((linked_node nodes k).parent ≡ parent)) kids
+  pub all : (i : ℕ) → i < length nodes → (linked_node nodes i).parent ≡ parent → Contains kids i
+  pub fall : AllPairs (λ a b. scope_order (linked_node nodes b).scope (linked_node nodes a).scope ≡ Less) kids
 
 -- the siblings of one slot
 abbrev pub group_at : List Sibling → ℕ → List Sibling
@@ -61,7 +61,7 @@ indices_down group = map (λ s. s.index) (reverse group)
 abbrev pub run_child : List Node → ℕ → List ℕ
 run_child nodes parent =
     let next = next_index parent in
-    if nat_lt next (length nodes) && (node_at nodes next).parent == parent then next ∷ [] else []
+    if nat_lt next (length nodes) && (linked_node nodes next).parent == parent then next ∷ [] else []
 
 -- the children of a node, as they are found
 abbrev pub children_of : List Node → List Bool → List Sibling → ℕ → List ℕ

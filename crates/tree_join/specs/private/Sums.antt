@@ -8,7 +8,7 @@ use Rattle.tree_types.specs.Tree.{count_order, count_at, counts_in}
 use Rattle.path_trie.specs.declared.trie.PathEnd.{PathEnd}
 use Rattle.path_trie.specs.Trie.{IsIndex}
 use Rattle.tree_join.specs.declared.walker.Walker.{Walker}
-use Rattle.tree_join.specs.private.Walk.{number_at}
+use Rattle.tree_join.specs.private.Walk.{number_given}
 
 -- an end at a node, of some samples
 abbrev pub counts_some : PathEnd → Bool
@@ -16,7 +16,7 @@ counts_some e = not (e.node == no_parent) && nat_lt 0 e.count
 
 -- its count, by the node's number
 abbrev pub count_of_end : List ℕ → PathEnd → NodeCount
-count_of_end numbers e = record { node = number_at numbers e.node; hart = e.hart; count = e.count }
+count_of_end numbers e = record { node = number_given numbers e.node; hart = e.hart; count = e.count }
 
 abbrev pub counts_of : List ℕ → List PathEnd → List NodeCount
 counts_of numbers ends = map (count_of_end numbers) (filter counts_some ends)

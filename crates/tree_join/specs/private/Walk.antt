@@ -15,33 +15,36 @@ use Rattle.tree_types.specs.Paths.{Path}
 use Rattle.tree_types.specs.PathsOf.{tree_paths}
 use Rattle.path_trie.specs.declared.trie.PathEnd.{PathEnd}
 use Rattle.path_trie.specs.Trie.{IsIndex, counted_entry, trie_nodes}
-use Rattle.path_trie.specs.private.Linked.{node_at, next_index, Rooted}
+use Rattle.path_trie.specs.private.Linked.{linked_node, next_index, Rooted}
 use Rattle.tree_join.specs.declared.children.Children.{Children}
 use Rattle.tree_join.specs.declared.walker.Walker.{Walker}
 use Rattle.tree_join.specs.private.Children.{Groups, children_of}
 
 -- the number that an index has got, or no parent's
-abbrev pub number_at : List ℕ → ℕ → ℕ
-number_at numbers index = slice_index_or numbers index no_parent
+abbrev pub number_given : List ℕ → ℕ → ℕ
+number_given numbers index = slice_index_or numbers index no_parent
 
 -- the number of a node's parent
 abbrev pub parent_number_at : List ℕ → ℕ → ℕ
-parent_number_at numbers parent = if parent == no_parent then no_parent else number_at numbers parent
+parent_number_at numbers parent = if parent == no_parent then no_parent else number_given numbers parent
 
 -- a node with its parent's number
 abbrev pub renumbered : List Node → List ℕ → ℕ → Node
 renumbered nodes numbers index =
-    record { parent = parent_number_at numbers (node_at nodes index).parent; scope = (node_at nodes index).scope }
+    record {
+      parent = parent_number_at numbers (linked_node nodes index).parent;
+      scope = (linked_node nodes index).scope;
+    }
 
-abbrev pub path_of : List Path → ℕ → Path
-path_of paths i = slice_index_or paths i []
+abbrev pub path_or_none : List Path → ℕ → Path
+path_or_none paths i = slice_index_or paths i []
 
 -- nodes of a trie: with each path there is what comes before its end
 pub record AreNodes (nodes : List Node) : Type 0 where
   pub few : length nodes ≤ most_path_scopes
   pub rooted : Rooted nodes
-  pub closed : (i : ℕ) (f r : Path) (s : Scope) → i < length nodes → path_of (tree_paths nodes) i ≡ f ++ s ∷ r
-      → (c : ℕ) × (c < length nodes) × (path_of (tree_paths nodes) c ≡ f ++ s ∷ [])
+  pub closed : (i : ℕ) (f r : Path) (s : Scope) → i < length nodes → path_or_none (tree_paths nodes) i ≡ f ++ s ∷ r
+      → (c : ℕ) × (c < length nodes) × (path_or_none (tree_paths nodes) c ≡ f ++ s ∷ [])
 
 -- where two paths part, a has the smaller scope
 pub record Parts (a b : Path) : Type 0 where
@@ -63,35 +66,36 @@ pub record IsBelow (a b : Path) : Type 0 where
 -- first at its end, with all that is below them
 pub record Walks (nodes : List Node) (numbers stack : List ℕ) (order : List Node) : Type 0 where
   pub long : length numbers ≡ length nodes
-  pub numbered : (q : ℕ) → q < length nodes → number_at numbers q ≢ no_parent
-      → (number_at numbers q < length order)
-      × (path_of (tree_paths order) (number_at numbers q) ≡ path_of (tree_paths nodes) q)
+  pub numbered : (q : ℕ) → q < length nodes → number_given numbers q ≢ no_parent
+      → (number_given numbers q < length order)
+      × (path_or_none (tree_paths order) (number_given numbers q) ≡ path_or_none (tree_paths nodes) q)
   pub indices : (j : ℕ) → j < length stack → slice_index_or stack j 0 < length nodes
-  pub parents : (j : ℕ) → j < length stack → (node_at nodes (slice_index_or stack j 0)).parent ≢ no_parent
-      → number_at numbers (node_at nodes (slice_index_or stack j 0)).parent ≢ no_parent
+  pub parents : (j : ℕ) → j < length stack → (linked_node nodes (slice_index_or stack j 0)).parent ≢ no_parent
+      → number_given numbers (linked_node nodes (slice_index_or stack j 0)).parent ≢ no_parent
   pub ahead : (i j : ℕ) → i < length order → j < length stack
-      → path_order (path_of (tree_paths order) i) (path_of (tree_paths nodes) (slice_index_or stack j 0)) ≡ Less
+      → path_order (path_or_none (tree_paths order) i)
+      (path_or_none (tree_paths nodes) (slice_index_or stack j 0)) ≡ Less
   pub apart : (i j : ℕ) → i < j → j < length stack
-      → Parts (path_of (tree_paths nodes) (slice_index_or stack j 0))
-      (path_of (tree_paths nodes) (slice_index_or stack i 0))
-  pub covered : (q : ℕ) → q < length nodes → number_at numbers q ≡ no_parent
+      → Parts (path_or_none (tree_paths nodes) (slice_index_or stack j 0))
+      (path_or_none (tree_paths nodes) (slice_index_or stack i 0))
+  pub covered : (q : ℕ) → q < length nodes → number_given numbers q ≡ no_parent
       → (j : ℕ) × (j < length stack)
-      × IsBelow (path_of (tree_paths nodes) (slice_index_or stack j 0)) (path_of (tree_paths nodes) q)
+      × IsBelow (path_or_none (tree_paths nodes) (slice_index_or stack j 0)) (path_or_none (tree_paths nodes) q)
 
 abbrev pub nodes_in : Walker → List Node
 nodes_in w = w.children.nodes.now
 
 -- the entries of the trie that is walked over
-abbrev pub entries_in : Walker → List Entry
-entries_in w = map (counted_entry (tree_paths (nodes_in w))) w.ends.now
+abbrev pub walked_entries : Walker → List Entry
+walked_entries w = map (counted_entry (tree_paths (nodes_in w))) w.ends.now
 
 abbrev pub next_node : List Node → List ℕ → Option ℕ → Option Node
 next_node nodes numbers None = None
 next_node nodes numbers (Some index) = Some (renumbered nodes numbers index)
 
 -- the node that is next, with its parent's number
-abbrev pub head_of : Walker → Option Node
-head_of w = next_node (nodes_in w) w.numbers.items (slice_get w.stack.items (length w.stack.items - 1))
+abbrev pub head_node : Walker → Option Node
+head_node w = next_node (nodes_in w) w.numbers.items (slice_get w.stack.items (length w.stack.items - 1))
 
 -- what a walker is read by
 pub record IsReady (w : Walker) : Type 0 where
@@ -99,7 +103,7 @@ pub record IsReady (w : Walker) : Type 0 where
   pub few : length (nodes_in w) ≤ most_path_scopes
   pub long : length w.numbers.items ≡ length (nodes_in w)
   pub indices : All (λ p. p < length (nodes_in w)) w.stack.items
-  pub before : (i : ℕ) → i < length (nodes_in w) → IsIndex (node_at (nodes_in w) i).parent i
+  pub before : (i : ℕ) → i < length (nodes_in w) → IsIndex (linked_node (nodes_in w) i).parent i
 
 -- a walk over a trie, of whose nodes those that are numbered stand in order
 pub record WalksTrie (children : Children) (ends : List PathEnd) (numbers stack : List ℕ) (order : List Node)
@@ -115,11 +119,11 @@ IsWalker order w = WalksTrie w.children w.ends.now w.numbers.items w.stack.items
 
 -- walks over tries of these entries, and what they have put in order
 pub record Walking (parts : List (List Entry)) (walkers : List Walker) (order : List Node) : Type 0 where
-  pub parts_are : map entries_in walkers ≡ parts
+  pub parts_are : map walked_entries walkers ≡ parts
   pub each : All (IsWalker order) walkers
   pub ascend : AllPairs (λ a b. path_order a b ≡ Less) (tree_paths order)
-  pub before : (i : ℕ) → i < length order → IsIndex (node_at order i).parent i
-  pub among : (i : ℕ) → i < length order → Contains (flat_map trie_nodes parts) (path_of (tree_paths order) i)
+  pub before : (i : ℕ) → i < length order → IsIndex (linked_node order i).parent i
+  pub among : (i : ℕ) → i < length order → Contains (flat_map trie_nodes parts) (path_or_none (tree_paths order) i)
   pub few : length (flat_map trie_nodes parts) ≤ most_path_scopes
 
 -- whether a node stands before another, where both are next: the one whose parent is deeper, and below one parent
@@ -141,8 +145,8 @@ pub record Advances (number : ℕ) (w v : Walker) : Type 0 where
 
 -- a walk whose next node is this one advances, and another one stays
 abbrev pub Passes : Node → ℕ → Walker → Walker → Type 0
-Passes node number w v = ((head_of w ≡ Some node) × Advances number w v)
-    ⊎ ((head_of w ≢ Some node) × (v ≡ w))
+Passes node number w v = ((head_node w ≡ Some node) × Advances number w v)
+    ⊎ ((head_node w ≢ Some node) × (v ≡ w))
 
 -- each of the first walks passes a node, and the others are as they were
 pub record PassUpTo (k : ℕ) (node : Node) (number : ℕ) (old new : List Walker) : Type 0 where
@@ -153,11 +157,11 @@ pub record PassUpTo (k : ℕ) (node : Node) (number : ℕ) (old new : List Walke
 
 -- a node that stands before what is next in a walk, if anything is
 abbrev pub Leads : Node → Walker → Type 0
-Leads node w = IfSome (head_of w) (λ h. node_before node h ≡ true)
+Leads node w = IfSome (head_node w) (λ h. node_before node h ≡ true)
 
 -- a node before which nothing stands that is next in a walk
 abbrev pub NotAfter : Node → Walker → Type 0
-NotAfter node w = IfSome (head_of w) (λ h. node_before h node ≡ false)
+NotAfter node w = IfSome (head_node w) (λ h. node_before h node ≡ false)
 
 -- the first of two nodes that are next
 abbrev pub earlier_of : Option (ℕ × Node) → ℕ → Option Node → Option (ℕ × Node)
@@ -168,7 +172,7 @@ earlier_of (Some first) at (Some node) = if node_before node first.1 then Some (
 -- of the first k walks but one, the first of the nodes that are next, with the index of its walk
 abbrev pub FirstBut : List Walker → ℕ → ℕ → Option (ℕ × Node) → Type 0
 FirstBut walkers left_out k None = (i : ℕ) (d : Walker) → i < k → i ≢ left_out
-    → head_of (slice_index_or walkers i d) ≡ None
+    → head_node (slice_index_or walkers i d) ≡ None
 FirstBut walkers left_out k (Some first) = (first.0 < length walkers)
-    × ((d : Walker) → head_of (slice_index_or walkers first.0 d) ≡ Some first.1)
+    × ((d : Walker) → head_node (slice_index_or walkers first.0 d) ≡ Some first.1)
     × ((i : ℕ) (d : Walker) → i < k → i ≢ left_out → NotAfter first.1 (slice_index_or walkers i d))

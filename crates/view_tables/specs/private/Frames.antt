@@ -17,7 +17,7 @@ use Rattle.view_tables.specs.Views.{Sample}
 use Rattle.view_tables.specs.Callers.{procs_up}
 use Rattle.view_tables.specs.Flat.{frame_proc}
 use Rattle.view_tables.specs.private.Occurrences.{has_frame, sample_at, content_samples, ups}
-use Rattle.view_tables.specs.private.Rows.{path_at, total_value}
+use Rattle.view_tables.specs.private.Rows.{path_of_node, total_value}
 
 -- the parent's number
 abbrev pub parent_at : Content → ℕ → ℕ
@@ -85,7 +85,7 @@ weighed test weights n = sum_below (weight_if test weights) n
 -- the exclusive value of each node, over all harts
 pub record AreCosts (c : Content) (costs : List ℕ) : Type 0 where
   pub each : (number : ℕ) → number < length costs
-      → slice_index costs number ≡ over_harts c.period c.harts (paths_of c) (path_at c number) Exclusive
+      → slice_index costs number ≡ over_harts c.period c.harts (paths_of c) (path_of_node c number) Exclusive
 
 -- weights that stand for the samples, where from a number on only frames have some
 pub record AreWeights (view : View) (c : Content) (from : ℕ) (weights : List ℕ) : Type 0 where
@@ -96,8 +96,8 @@ pub record AreWeights (view : View) (c : Content) (from : ℕ) (weights : List �
   pub few : sum_below (slice_index weights) (length c.nodes) ≤ total_value c
 
 -- a weight that is moved to another number, or away where that is none
-abbrev pub moved : List ℕ → ℕ → ℕ → List ℕ
-moved weights number to = if nat_lt to (length weights)
+abbrev pub weight_moved : List ℕ → ℕ → ℕ → List ℕ
+weight_moved weights number to = if nat_lt to (length weights)
     then set (set weights number 0) to (slice_index (set weights number 0) to + slice_index weights number)
     else set weights number 0
 

@@ -41,32 +41,32 @@ abbrev pub ups : Content → ℕ → Path
 ups c number = reverse (slice_index_or (tree_paths c.nodes) number [])
 
 -- the sequences of a path, given from its innermost scope up
-abbrev pub sample_of : View → Naming → Path → Sample
-sample_of Callers naming scopes = tails (procs_up scopes)
-sample_of Flat naming scopes = frames_up naming scopes
+abbrev pub view_sample : View → Naming → Path → Sample
+view_sample Callers naming scopes = tails (procs_up scopes)
+view_sample Flat naming scopes = frames_up naming scopes
 
 -- those of a node's path
 abbrev pub sample_at : View → Content → ℕ → Sample
-sample_at view c number = sample_of view (naming_in c.names) (ups c number)
+sample_at view c number = view_sample view (naming_in c.names) (ups c number)
 
-abbrev pub first_of : Sample → List Item
-first_of [] = []
-first_of (items ∷ sample) = items
+abbrev pub first_sequence : Sample → List Item
+first_sequence [] = []
+first_sequence (items ∷ sample) = items
 
 -- the items of the first scope's frame, without so many of them
-abbrev pub items_at : View → Naming → Path → ℕ → List Item
-items_at Callers naming scopes level = procs_up scopes
-items_at Flat naming [] level = []
-items_at Flat naming (s ∷ outer) level =
-    drop level (first_of (flat_map (λ line. frame_at naming line outer) (call_line s)))
+abbrev pub frame_items : View → Naming → Path → ℕ → List Item
+frame_items Callers naming scopes level = procs_up scopes
+frame_items Flat naming [] level = []
+frame_items Flat naming (s ∷ outer) level =
+    drop level (first_sequence (flat_map (λ line. frame_at naming line outer) (call_line s)))
 
 -- the items of a node's frame
 abbrev pub node_items : View → Content → ℕ → List Item
-node_items view c number = items_at view (naming_in c.names) (ups c number) 0
+node_items view c number = frame_items view (naming_in c.names) (ups c number) 0
 
 -- the items that an occurrence still has
 abbrev pub items_left : View → Content → Occurrence → List Item
-items_left view c p = items_at view (naming_in c.names) (ups c p.node) p.level
+items_left view c p = frame_items view (naming_in c.names) (ups c p.node) p.level
 
 abbrev pub is_some_list : {X : Type 0} → List X → Bool
 is_some_list [] = false
@@ -117,7 +117,7 @@ all_occurrences view c = flat_map (occurrence_at view c) (range_with_len 0 (leng
 
 -- the samples of a content
 abbrev pub content_samples : View → Content → List Sample
-content_samples view c = map (λ p. sample_of view (naming_in c.names) (reverse p.path)) (paths_of c)
+content_samples view c = map (λ p. view_sample view (naming_in c.names) (reverse p.path)) (paths_of c)
 
 -- the occurrences that a chain leaves
 abbrev pub AreOccurrences : View → Content → List Item → List Occurrence → Type 0

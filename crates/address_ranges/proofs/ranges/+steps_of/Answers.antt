@@ -7,20 +7,20 @@ use Rattle.std.specs.List.{position_from}
 use Rattle.address_ranges.specs.declared.ranges.AddressRange.{AddressRange}
 use Rattle.address_ranges.specs.declared.ranges.Step.{Step}
 use Rattle.address_ranges.specs.Ranges.{holds}
-use Rattle.address_ranges.specs.private.Steps.{value_at}
+use Rattle.address_ranges.specs.private.Steps.{holder_from}
 use Rattle.address_ranges.proofs.Steps.{position_append}
 use Rattle.address_ranges.proofs.ranges.+steps_of.Goals as goal
 
 -- two halves of a list of ranges, laid over one another
 halves : {E : Type 0} (r : Result (Vec Step) E) (upper lower : List Step) (number : ℕ) (front back whole : List AddressRange)
-    → ((address : ℕ) → value_at None upper address ≡ position_from (holds address) number front)
-    → ((address : ℕ) → value_at None lower address ≡ position_from (holds address) (number + length front) back)
+    → ((address : ℕ) → holder_from None upper address ≡ position_from (holds address) number front)
+    → ((address : ℕ) → holder_from None lower address ≡ position_from (holds address) (number + length front) back)
     → front ++ back ≡ whole
-    → IfOk r (λ steps. (address : ℕ) → value_at None steps.items address ≡ option_or (value_at None upper address) (value_at None lower address))
-    → IfOk r (λ steps. (address : ℕ) → value_at None steps.items address ≡ position_from (holds address) number whole)
+    → IfOk r (λ steps. (address : ℕ) → holder_from None steps.items address ≡ option_or (holder_from None upper address) (holder_from None lower address))
+    → IfOk r (λ steps. (address : ℕ) → holder_from None steps.items address ≡ position_from (holds address) number whole)
 halves (Ok steps) upper lower number front back whole u l parts laid = λ address.
     laid address
-    ∙ ap (λ (o : Option ℕ). option_or o (value_at None lower address)) (u address)
+    ∙ ap (λ (o : Option ℕ). option_or o (holder_from None lower address)) (u address)
     ∙ ap (λ (o : Option ℕ). option_or (position_from (holds address) number front) o) (l address)
     ∙ sym (position_append (holds address) number front back)
     ∙ ap (λ (rs : List AddressRange). position_from (holds address) number rs) parts

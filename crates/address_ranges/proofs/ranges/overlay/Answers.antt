@@ -2,7 +2,7 @@ use Rattle.std.proofs.Common.{◌≡◌, ℕ, ◌+◌, ◌-◌, ◌≤◌, ◌++
 use Rattle.std.proofs.lemmas.List.{append-nil, length-append}
 use Rattle.std.specs.Option.{option_or}
 use Rattle.address_ranges.specs.declared.ranges.Step.{Step}
-use Rattle.address_ranges.specs.private.Steps.{past, value_at, next_start, IsAscending}
+use Rattle.address_ranges.specs.private.Steps.{past, holder_from, next_start, IsAscending}
 use Rattle.address_ranges.proofs.Steps.{merged, merged_value, merged_ascends, merged_more, merged_end, one_less}
 use Rattle.address_ranges.proofs.ranges.overlay.Goals as goal
 
@@ -49,4 +49,4 @@ returns-clause-ascending c =
 pub returns-clause-holders : goal.returns-clause-holders
 returns-clause-holders c address =
     let all = done c.loop-start.upper_holder c.loop-start.lower_holder c.loop-start.upper_left.now c.loop-start.lower_left.now c.args.upper.now c.args.lower.now c.loop-start.steps.items c.in_default.ensures c.loop-start.invariant.so_far in
-    ap (λ (zs : List Step). value_at None zs address) all ∙ merged_value _ address None None c.args.upper.now c.args.lower.now (omega arith)
+    ap (λ (zs : List Step). holder_from None zs address) all ∙ merged_value _ address None None c.args.upper.now c.args.lower.now (omega arith)

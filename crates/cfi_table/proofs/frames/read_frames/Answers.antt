@@ -1,8 +1,13 @@
 use Rattle.std.proofs.Common.{rules, Ok, sym, ap, ◌∙◌}
 use Rattle.prof_bytes.specs.Outcome.{FailsBy}
 use Rattle.cfi_table.specs.Frames.{Frames, frames_of}
+use Rattle.cfi_table.specs.declared.extent.ZeroLength.TheVariants.{PassedOver}
+use Rattle.cfi_table.proofs.Chains.{in_order}
 use Rattle.cfi_table.proofs.Entries.{frames_read, frames_broken, frames_fail}
 use Rattle.cfi_table.proofs.frames.read_frames.Goals as goal
+
+pub known_cies-requires-clause-order : goal.known_cies-requires-clause-order
+known_cies-requires-clause-order c = rw c.deref.ensures.value (in_order PassedOver c.args.bytes.now (c.in_ok-extents.extents.items, c.in_ok-extents.broken) c.in_ok-extents.ensures.extents)
 
 pub returns-in_err-fdes : goal.returns-in_err-fdes
 returns-in_err-fdes c =

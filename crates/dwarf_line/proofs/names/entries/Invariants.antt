@@ -1,6 +1,6 @@
 use Rattle.std.proofs.Common.{◌≡◌, ◌-◌}
 use Rattle.dwarf_line.specs.Names.{texts_of, counted_from, name_entry_from}
-use Rattle.dwarf_line.proofs.CountedItems.{with_front}
+use Rattle.dwarf_forms.proofs.Items.{with_front}
 use Rattle.dwarf_line.proofs.names.entries.Given as goal
 
 abbrev pub invariant-loop : goal.invariant-loop

@@ -1,6 +1,6 @@
 use Rattle.std.proofs.Common.{◌≡◌, ◌-◌}
 use Rattle.dwarf_line.specs.Names.{counted_from, format_from}
-use Rattle.dwarf_line.proofs.CountedItems.{with_front}
+use Rattle.dwarf_forms.proofs.Items.{with_front}
 use Rattle.dwarf_line.proofs.names.formats.Given as goal
 
 abbrev pub invariant-loop : goal.invariant-loop

@@ -18,8 +18,8 @@ returns-clause-ranges c =
     (gives_viewed (λ (table : Frames). table) frame_ranges c.translated_frames.result (frames_with_eh c.args.debug_frame.now c.args.eh_frame.now c.args.address c.args.image.now.segments) c.translated_frames.ensures)
 
 pub returns-clause-rules : goal.returns-clause-rules
-returns-clause-rules c place =
+returns-clause-rules c pc =
     let bytes : IsBytes c.args.eh_frame.now = λ i. (let fits = c.type_inv.eh_frame i in omega arith) in
-    let P : Result (Option Rules) SectionFault → Type 0 = λ w. Gives (λ (table : Frames). rules_at table place) c.translated_frames.result w in
-    subst P (rules_are_both c.args.debug_frame.now c.args.eh_frame.now c.args.address c.args.image.now.segments place c.requires bytes)
-    (gives_viewed (λ (table : Frames). table) (λ (table : Frames). rules_at table place) c.translated_frames.result (frames_with_eh c.args.debug_frame.now c.args.eh_frame.now c.args.address c.args.image.now.segments) c.translated_frames.ensures)
+    let P : Result (Option Rules) SectionFault → Type 0 = λ w. Gives (λ (table : Frames). rules_at table pc) c.translated_frames.result w in
+    subst P (rules_are_both c.args.debug_frame.now c.args.eh_frame.now c.args.address c.args.image.now.segments pc c.requires bytes)
+    (gives_viewed (λ (table : Frames). table) (λ (table : Frames). rules_at table pc) c.translated_frames.result (frames_with_eh c.args.debug_frame.now c.args.eh_frame.now c.args.address c.args.image.now.segments) c.translated_frames.ensures)

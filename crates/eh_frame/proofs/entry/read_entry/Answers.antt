@@ -8,7 +8,7 @@ use Rattle.cfi_table.proofs.Entries.{copied_holds}
 use Rattle.eh_frame.specs.declared.entry.ReadEntry.{ReadEntry}
 use Rattle.eh_frame.specs.Entries.{Content, is_eh_cie, content_of}
 use Rattle.eh_frame.specs.Translation.{entry_body}
-use Rattle.eh_frame.specs.private.Checked.{known, seen_cie, IsKnown}
+use Rattle.eh_frame.specs.private.Checked.{known_eh, seen_eh_cie, IsKnownEh}
 use Rattle.eh_frame.proofs.Entries.{without_id, of_cie_fault, of_cie, of_no_cie, of_fde, known_by, ok_more}
 use Rattle.eh_frame.proofs.entry.read_entry.Goals as goal
 
@@ -35,18 +35,18 @@ returns-then-id-eq-EH_CIE_ID-clause-content c extents each =
 pub returns-then-id-eq-EH_CIE_ID-clause-cie : goal.returns-then-id-eq-EH_CIE_ID-clause-cie
 returns-then-id-eq-EH_CIE_ID-clause-cie c =
     let is = number_read c.body-reader.result (body_of c.args.section.now c.args.extent.now) c.u32.new.self c.u32.result c.in_ok-id.id c.body-reader.ensures c.u32.ensures c.in_ok-id.was in
-    ok_more (λ (read : ReadEntry). option_map seen_cie read.cie ≡ Some (record { offset = c.args.extent.now.offset; cie = Ok c.in_ok-cie.cie }))
-    (λ (read : ReadEntry). option_map seen_cie read.cie ≡ cond (is_eh_cie c.args.section.now c.args.extent.now) (Some (known c.args.section.now c.args.extent.now)) None)
+    ok_more (λ (read : ReadEntry). option_map seen_eh_cie read.cie ≡ Some (record { offset = c.args.extent.now.offset; cie = Ok c.in_ok-cie.cie }))
+    (λ (read : ReadEntry). option_map seen_eh_cie read.cie ≡ cond (is_eh_cie c.args.section.now c.args.extent.now) (Some (known_eh c.args.section.now c.args.extent.now)) None)
     c.read_cie.result
     (λ read made. known_by c.args.section.now c.args.extent.now c.in_ok-id.id c.u32.new.self c.in_ok-cie.cie read.cie is c.if-id-eq-EH_CIE_ID.true (sym c.cie_from.ensures.cie ∙ c.in_ok-cie.was) made)
     c.read_cie.ensures.cie
 
 pub read_fde-requires-clause-known : goal.read_fde-requires-clause-known
-read_fde-requires-clause-known c = copied_holds (IsKnown c.args.section.now c.args.address) (λ cie. cie.offset + c.in_ok-id.id == c.args.extent.now.offset + 4) c.args.cies.now c.cie_back.result c.in-Some.known c.cie_back.ensures c.in-Some.is c.requires.known
+read_fde-requires-clause-known c = copied_holds (IsKnownEh c.args.section.now c.args.address) (λ cie. cie.offset + c.in_ok-id.id == c.args.extent.now.offset + 4) c.args.cies.now c.cie_back.result c.in-Some.known c.cie_back.ensures c.in-Some.is c.requires.known
 
-pub read_fde-requires-clause-place : goal.read_fde-requires-clause-place
-read_fde-requires-clause-place c =
-    let is : IsKnown c.args.section.now c.args.address c.in-Some.known.now = copied_holds (IsKnown c.args.section.now c.args.address) (λ cie. cie.offset + c.in_ok-id.id == c.args.extent.now.offset + 4) c.args.cies.now c.cie_back.result c.in-Some.known c.cie_back.ensures c.in-Some.is c.requires.known in
+pub read_fde-requires-clause-offset : goal.read_fde-requires-clause-offset
+read_fde-requires-clause-offset c =
+    let is : IsKnownEh c.args.section.now c.args.address c.in-Some.known.now = copied_holds (IsKnownEh c.args.section.now c.args.address) (λ cie. cie.offset + c.in_ok-id.id == c.args.extent.now.offset + 4) c.args.cies.now c.cie_back.result c.in-Some.known c.cie_back.ensures c.in-Some.is c.requires.known in
     let within = is.within in
     let small = c.requires.small in
     omega arith

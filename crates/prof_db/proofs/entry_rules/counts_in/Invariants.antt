@@ -1,6 +1,6 @@
 use Rattle.std.proofs.Common.{◌≡◌, take, map, filter}
-use Rattle.prof_db.specs.ValueRules.{entry_count, is_exclusive}
+use Rattle.prof_db.specs.ValueRules.{entry_count, is_exclusive_entry}
 use Rattle.prof_db.proofs.entry_rules.counts_in.Given as goal
 
 abbrev pub invariant-loop-e : goal.invariant-loop-e
-invariant-loop-e l = l.counts.items ≡ map (entry_count l.period) (filter is_exclusive (take l.e-index l.entries))
+invariant-loop-e l = l.counts.items ≡ map (entry_count l.period) (filter is_exclusive_entry (take l.e-index l.entries))

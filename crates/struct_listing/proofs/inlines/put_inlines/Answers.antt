@@ -1,5 +1,5 @@
 use Rattle.std.proofs.Common.{◌≡◌, ◌+◌, ◌<◌, ◌≤◌, ◌++◌, ◌∷◌, [], ℕ, List, cond, length, ap, ◌∙◌, arith, rules}
-use Rattle.struct_listing.specs.private.Parts.{opened, scopes_of}
+use Rattle.struct_listing.specs.private.Parts.{opened_after, scopes_of}
 use Rattle.struct_listing.proofs.InlineLines.{none_open, open_more, level_is, no_lines, lines_more, all_lines}
 use Rattle.struct_listing.proofs.inlines.put_inlines.Goals as goal
 
@@ -11,7 +11,7 @@ loop-number-init c = record {
 
 pub put_below-requires-clause-level : goal.put_below-requires-clause-level
 put_below-requires-clause-level c = λ inlined.
-    let is : c.open_item.new.ends.items ≡ opened c.loop-number.number c.item-below.result c.loop-number.ends.items =
+    let is : c.open_item.new.ends.items ≡ opened_after c.loop-number.number c.item-below.result c.loop-number.ends.items =
     c.in_ok-open_item.ensures ∙ ap (λ (es : List ℕ). es ++ cond c.item-below.result.inlined (c.item-below.result.after ∷ []) []) c.close_ended.ensures in
     c.len-level.ensures ∙ c.open_item.new.ends.ok.0
     ∙ level_is c.args.program.structure.now c.args.subprogram c.loop-number.number c.item-below.result c.loop-number.ends.items c.open_item.new.ends.items
@@ -19,7 +19,7 @@ put_below-requires-clause-level c = λ inlined.
 
 pub loop-number-preserved : goal.loop-number-preserved
 loop-number-preserved c =
-    let is : c.open_item.new.ends.items ≡ opened c.loop-number.number c.item-below.result c.loop-number.ends.items =
+    let is : c.open_item.new.ends.items ≡ opened_after c.loop-number.number c.item-below.result c.loop-number.ends.items =
     c.in_ok-open_item.ensures ∙ ap (λ (es : List ℕ). es ++ cond c.item-below.result.inlined (c.item-below.result.after ∷ []) []) c.close_ended.ensures in
     record {
       open_ends = open_more c.args.program.structure.now c.args.subprogram c.loop-number.number c.item-below.result c.loop-number.ends.items c.open_item.new.ends.items

@@ -1,13 +1,32 @@
-use Rattle.std.proofs.Common.{List, ℕ, ◌++◌, take, drop, ap, arith, ◌∙◌, decimal}
-use Rattle.tree_types.specs.TopDown.{percent, right}
-use Rattle.view_tables.proofs.Filled.{columns_put, without_blank}
+use Rattle.std.proofs.Common.{◌≡◌, List, ℕ, ◌+◌, ◌*◌, ◌/◌, ◌%◌, ◌++◌, length, set, ap, arith, ◌∙◌}
+use Rattle.std.proofs.lemmas.List.{length-set}
+use Rattle.view_tables.proofs.Filled.{values_filled}
+use Rattle.view_tables.proofs.TextLengths.{short_value, short_whole}
 use Rattle.view_tables.proofs.columns.put_values.Goals as goal
+
+pub write_digits-requires : goal.write_digits-requires
+write_digits-requires c =
+    let first = c.requires.first in
+    let small = c.requires.small in
+    let short = short_value c.args.first (omega (arith, first, small)) in
+    (omega (arith, short), omega arith)
+
+pub write_digits-requires-2 : goal.write_digits-requires-2
+write_digits-requires-2 c = let short = short_whole c.args.first c.args.total c.requires.first in (omega (arith, short), omega arith)
+
+pub write_digits-requires-3 : goal.write_digits-requires-3
+write_digits-requires-3 c =
+    let third = c.requires.third in
+    let small = c.requires.small in
+    let short = short_value c.args.third (omega (arith, third, small)) in
+    let text : List ℕ = c.write_digits-2.new.buf in
+    let long : length (set (set text 21 46) 22 (48 + c.args.first * 1000 / c.args.total % 10)) ≡ length text = length-set (set text 21 46) 22 _ ∙ length-set text 21 46 in
+    (omega (arith, short), omega (arith, long))
 
 pub returns : goal.returns
 returns c =
-    columns_put c.args.out.now.items c.extend_from_slice.new.self.items c.extend_from_slice-2.new.self.items c.extend_from_slice-3.new.self.items
-    (right 16 (decimal c.args.first)) (right 6 (percent c.args.first c.args.total)) (right 16 (decimal c.args.third))
-    (c.in_ok-extend_from_slice.ensures.items ∙ ap (λ (l : List ℕ). c.args.out.now.items ++ take 16 (drop 1 l)) c.number_column.ensures
-    ∙ ap (λ (l : List ℕ). c.args.out.now.items ++ l) (without_blank c.args.first (let small = c.requires.small in let first = c.requires.first in omega (arith, small, first))))
-    (c.in_ok-extend_from_slice-2.ensures.items ∙ ap (λ (l : List ℕ). c.extend_from_slice.new.self.items ++ l) c.share_column.ensures)
-    (c.in_ok-extend_from_slice-3.ensures.items ∙ ap (λ (l : List ℕ). c.extend_from_slice-2.new.self.items ++ l) c.number_column-2.ensures)
+    c.in_ok-extend_from_slice.ensures.items ∙ ap (λ (l : List ℕ). c.args.out.now.items ++ l)
+    (values_filled c.write_digits.new.buf c.write_digits-2.new.buf c.write_digits-3.new.buf c.write_digits.result c.write_digits-2.result c.write_digits-3.result c.args.first c.args.total c.args.third c.requires.small c.requires.first c.requires.third
+    c.write_digits.ensures.start c.write_digits.ensures.written c.write_digits.ensures.before
+    c.write_digits-2.ensures.start c.write_digits-2.ensures.written c.write_digits-2.ensures.before
+    c.write_digits-3.ensures.start c.write_digits-3.ensures.written c.write_digits-3.ensures.before)

@@ -4,7 +4,7 @@ use Rattle.tree_types.specs.Database.{naming_in}
 use Rattle.tree_types.specs.Nodes.{own_scope}
 use Rattle.tree_types.specs.TopDown.{label}
 use Rattle.view_tables.specs.private.Lengths.{capped}
-use Rattle.view_tables.specs.private.Rows.{path_at}
+use Rattle.view_tables.specs.private.Rows.{path_of_node}
 use Rattle.view_tables.proofs.TableRows.{names_ascend, row_long}
 use Rattle.view_tables.proofs.length.row_length.Goals as goal
 
@@ -13,7 +13,7 @@ label_length-requires c = names_ascend c.args.content.now c.requires.profile
 
 pub returns : goal.returns
 returns c =
-    let name : c.label_length.result ≡ capped (length (label (naming_in c.args.content.now.names) (own_scope (path_at c.args.content.now c.args.number)))) =
+    let name : c.label_length.result ≡ capped (length (label (naming_in c.args.content.now.names) (own_scope (path_of_node c.args.content.now c.args.number)))) =
     c.label_length.ensures ∙ ap (λ (s : Scope). capped (length (label (naming_in c.args.content.now.names) s))) c.scope_at-scope.ensures in
     let long = row_long c.args.content.now c.args.number c.requires.profile c.requires.number c.requires.small in
     let level = c.from.ensures in

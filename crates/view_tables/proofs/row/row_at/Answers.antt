@@ -1,13 +1,13 @@
 use Rattle.std.proofs.Common.{◌≡◌, ℕ, ◌-◌, ◌<◌, sum_by, sym, ap, subst, ◌∙◌}
 use Rattle.tree_types.specs.declared.content.Kind.TheVariants.{Frame, Inclusive}
-use Rattle.view_tables.specs.private.Rows.{amount, row_of}
+use Rattle.view_tables.specs.private.Rows.{amount, shown_row}
 use Rattle.view_tables.proofs.ColumnSums.{value_is, some_total}
 use Rattle.view_tables.proofs.row.row_at.Goals as goal
 
 pub returns-clause-row : goal.returns-clause-row
 returns-clause-row c =
     let content = c.args.content.now in
-    let expected = row_of content c.args.number in
+    let expected = shown_row content c.args.number in
     let inclusive : c.column_sum.result ≡ expected.inclusive =
     c.column_sum.ensures ∙ ap (sum_by (amount Inclusive)) c.node-column.ensures ∙ value_is content c.args.number Inclusive c.requires.profile c.requires.number in
     let frame : c.column_sum-2.result ≡ expected.frame = c.column_sum-2.ensures ∙ ap (sum_by (amount Frame)) c.node-column.ensures ∙ value_is content c.args.number Frame c.requires.profile c.requires.number in

@@ -4,7 +4,7 @@ use Rattle.view_tables.proofs.TableRows.{all_rows}
 use Rattle.view_tables.proofs.table.put_top_down.Goals as goal
 
 pub loop-number-init : goal.loop-number-init
-loop-number-init c = record { depth = no_depth c.args.content.now c.requires; few = omega arith; rows = sym (append-nil c.put_header.new.out.items) }
+loop-number-init c = record { depth = no_depth c.args.content.now c.requires; rows = sym (append-nil c.put_header.new.out.items) }
 
 pub returns : goal.returns
 returns c =

@@ -1,5 +1,5 @@
 use Rattle.std.proofs.Common.{sym, ap, ◌∙◌}
-use Rattle.cfi_unwind.specs.private.UnwindRules.{after}
+use Rattle.cfi_unwind.specs.private.UnwindRules.{unwound_to}
 use Rattle.cfi_unwind.proofs.Walking.{walks, ends_here, is_full, has_room, has_none}
 use Rattle.cfi_unwind.proofs.unwinder.Unwinder.walk.Goals as goal
 
@@ -11,7 +11,7 @@ loop-near-preserved g c =
       so_far =
           c.loop-near.invariant.so_far
           ∙ walks c.args.self.now (g.L.Look.words c.args.memory.now) (record { pc = c.loop-near.here; registers = c.loop-near.registers }) (record { pc = c.in-Ok.caller; registers = c.next.new.registers }) c.loop-near.frames.items c.push.new.self.items low c.in_ok-push.ensures.items
-          (ap (λ r. after r c.next.new.registers) (sym c.in-Ok.is) ∙ c.in_ok-caller.ensures.caller)
+          (ap (λ r. unwound_to r c.next.new.registers) (sym c.in-Ok.is) ∙ c.in_ok-caller.ensures.caller)
           ∙ c.in_ok-to-in-Ok.ensures.walks (g.L.Look.words c.args.memory.now) c.in_ok-caller.ensures.near;
       near = c.in_ok-caller.ensures.near;
       ready = c.in_ok-to-in-Ok.ensures.ready;
@@ -21,7 +21,7 @@ pub returns-in-Err : goal.returns-in-Err
 returns-in-Err g c =
     let low = has_room c.loop-near.frames.items c.has_room.result c.has_room.ensures c.loop-near-test.true in
     ends_here c.args.self.now (g.L.Look.words c.args.memory.now) (record { pc = c.loop-near.here; registers = c.loop-near.registers }) c.loop-near.frames.items c.push.new.self.items c.in-Err.end c.of.result c.of.ensures low c.in_ok-push.ensures.items
-    (ap (λ r. after r c.next.new.registers) (sym c.in-Err.is) ∙ c.in_ok-caller.ensures.caller)
+    (ap (λ r. unwound_to r c.next.new.registers) (sym c.in-Err.is) ∙ c.in_ok-caller.ensures.caller)
     ∙ sym c.loop-near.invariant.so_far
 
 pub returns : goal.returns

@@ -1,35 +1,5 @@
-use Rattle.std.proofs.Common.{◌≡◌, Some, option_map, sym, ap, subst, ◌∙◌, arith}
-use Rattle.rv_hart.specs.AddressSpace.{AddressSpace}
-use Rattle.rv_table.specs.declared.inst.Inst.{Inst}
-use Rattle.rv_table.specs.Table.{decoded}
-use Rattle.rv_hart.specs.Running.{Ran}
-use Rattle.rv_hart.specs.Step.{fetched_at}
-use Rattle.rv_hart.specs.private.Paging.{memory_of}
-use Rattle.rv_hart.specs.Stepping.{state_of}
-use Rattle.rv_hart.proofs.Decoded.{keeps-on, one-word}
-use Rattle.rv_hart.proofs.Runs.{ran-none}
+use Rattle.rv_hart.proofs.Decoded.{keeps-on}
 use Rattle.rv_hart.proofs.space.Space.run_some.Goals as goal
-
-pub returns-in_default-fetch-clause-ran : goal.returns-in_default-fetch-clause-ran
-returns-in_default-fetch-clause-ran c =
-    subst (λ (memory : AddressSpace). Ran 0 (state_of c.args.hart.now c.args.self.now) (state_of c.args.hart.now memory)) (sym c.in_default-fetch.ensures.same)
-    (ran-none (state_of c.args.hart.now c.args.self.now))
 
 pub invariant_of-self : goal.invariant_of-self
 invariant_of-self c = keeps-on c.self.inside.paged c.run_kept.new.paged c.self.inside.code c.self.inside.decoded c.self.invariant c.run_kept.ensures.rest c.run_kept.ensures.paged
-
-pub invariant_of-self-2 : goal.invariant_of-self-2
-invariant_of-self-2 c =
-    keeps-on c.self-2.inside.paged c.run_kept-2.new.paged c.self-2.inside.code c.self-2.inside.decoded c.self-2.invariant c.run_kept-2.ensures.rest c.run_kept-2.ensures.paged
-
-pub returns-then-is_illegal-clause-ran : goal.returns-then-is_illegal-clause-ran
-returns-then-is_illegal-clause-ran c =
-    subst (λ (memory : AddressSpace). Ran 0 (state_of c.args.hart.now c.args.self.now) (state_of c.args.hart.now memory)) (sym c.in-Some-fetch.ensures.same)
-    (ran-none (state_of c.args.hart.now c.args.self.now))
-
-pub run_kept-requires-2-clause-first : goal.run_kept-requires-2-clause-first
-run_kept-requires-2-clause-first c =
-    let memory : AddressSpace = memory_of c.self-2.inside.paged in
-    let word : fetched_at memory c.args.hart.now.pc ≡ Some c.in-Some-fetch.word =
-    ap (λ (m : AddressSpace). fetched_at m c.args.hart.now.pc) (c.self-2.view_is ∙ c.in-Some-fetch.ensures.same) ∙ sym c.in-Some-fetch.ensures.word in
-    one-word memory c.args.hart.now.pc c.decode-inst.result (omega arith) (ap (option_map decoded) word ∙ ap (λ (i : Inst). Some i) (sym c.decode-inst.ensures.row)) c.decode-inst.ensures.registers (c.is_illegal.ensures.no c.if-is_illegal.false)

@@ -4,7 +4,7 @@ use Rattle.rv_hart.specs.declared.outcome.Stepped.{Stepped}
 use Rattle.rv_run.specs.declared.schedule.Slice.{Slice}
 use Rattle.rv_run.specs.declared.machine.Moment.{Moment}
 use Rattle.rv_run.specs.State.{MachineState}
-use Rattle.rv_run.specs.private.Reading.{first_of}
+use Rattle.rv_run.specs.private.Reading.{first_or_none}
 use Rattle.rv_run.specs.Progress.{Progress, Went, CountsBy, Passed, Broke, count_of_first, first_due, to_come, retires_plainly}
 use Rattle.rv_run.specs.private.Queue.{AreOf, HaveRoom, IsNext, Passing, StopsBy, less}
 use Rattle.rv_run.proofs.Slices.{IsDue, due-is, less-are-of}
@@ -20,7 +20,7 @@ returns-in_default-clause-ok c =
 pub returns-then-count-eq0-clause-ok : goal.returns-then-count-eq0-clause-ok
 returns-then-count-eq0-clause-ok c =
     let environment : MachineState = c.self.inside.environment in
-    let first : first_of c.self.inside.queue ≡ Some c.in-Some.slice = sym c.first.ensures ∙ c.in-Some.is in
+    let first : first_or_none c.self.inside.queue ≡ Some c.in-Some.slice = sym c.first.ensures ∙ c.in-Some.is in
     let next : IsNext c.self.inside.environment c.in-Some.slice = stands-first c.self.inside.environment c.self.inside.queue c.in-Some.slice c.self.invariant.stands first in
     let due : IsDue c.self.inside.environment c.self.inside.queue c.args.due.now =
     due-is c.self.inside.environment c.self.inside.queue c.args.due.now c.self.invariant.stands (c.requires.due ∙ ap (λ (p : Progress). first_due (to_come p).instants) (sym c.self.view_is)) in
@@ -41,19 +41,19 @@ returns-then-count-eq0-clause-ok c =
 
 pub skip_idle-requires : goal.skip_idle-requires
 skip_idle-requires c =
-    let first : first_of c.self.inside.queue ≡ Some c.in-Some.slice = sym c.first.ensures ∙ c.in-Some.is in
+    let first : first_or_none c.self.inside.queue ≡ Some c.in-Some.slice = sym c.first.ensures ∙ c.in-Some.is in
     let next : IsNext c.self.inside.environment c.in-Some.slice = stands-first c.self.inside.environment c.self.inside.queue c.in-Some.slice c.self.invariant.stands first in
     subst (λ (l : List Slice). AreOf (length c.steps-count.new.self.harts) l) (sym c.take_off.ensures)
     (subst (λ (n : ℕ). AreOf n (less c.steps-count.result.0 c.self.inside.queue)) (sym (c.steps-count.ensures.passed next.1).harts) (less-are-of (length c.self.inside.environment.harts) c.steps-count.result.0 c.self.inside.queue c.self.invariant.harts))
 
-room_left : (s new : MachineState) (left less_left : List Slice) (slice : Slice) (hart many asked most : ℕ) → first_of left ≡ Some slice → asked ≡ min most slice.count → many ≤ asked → HaveRoom s left → Passing slice.hart many s new → less_left ≡ less many left → HaveRoom new less_left
+room_left : (s new : MachineState) (left less_left : List Slice) (slice : Slice) (hart many asked most : ℕ) → first_or_none left ≡ Some slice → asked ≡ min most slice.count → many ≤ asked → HaveRoom s left → Passing slice.hart many s new → less_left ≡ less many left → HaveRoom new less_left
 room_left s new left less_left slice hart many asked most first is few had p taken =
     let whole : count_of_first left ≡ slice.count = first-count left slice first in
     subst (HaveRoom new) (sym taken) (room-passed s new left slice.hart many (omega arith) had p)
 
 pub invariant_of-self-2 : goal.invariant_of-self-2
 invariant_of-self-2 c =
-    let first : first_of c.self.inside.queue ≡ Some c.in-Some.slice = sym c.first.ensures ∙ c.in-Some.is in
+    let first : first_or_none c.self.inside.queue ≡ Some c.in-Some.slice = sym c.first.ensures ∙ c.in-Some.is in
     let next : IsNext c.self.inside.environment c.in-Some.slice = stands-first c.self.inside.environment c.self.inside.queue c.in-Some.slice c.self.invariant.stands first in
     record {
       harts = c.skip_idle.ensures.harts;
@@ -65,7 +65,7 @@ invariant_of-self-2 c =
 
 pub invariant_of-self-in_err-last-2 : goal.invariant_of-self-in_err-last-2
 invariant_of-self-in_err-last-2 c =
-    let first : first_of c.self.inside.queue ≡ Some c.in-Some.slice = sym c.first.ensures ∙ c.in-Some.is in
+    let first : first_or_none c.self.inside.queue ≡ Some c.in-Some.slice = sym c.first.ensures ∙ c.in-Some.is in
     let next : IsNext c.self.inside.environment c.in-Some.slice = stands-first c.self.inside.environment c.self.inside.queue c.in-Some.slice c.self.invariant.stands first in
     record {
       harts = c.skip_idle.ensures.harts;
@@ -79,7 +79,7 @@ pub returns-clause-ok : goal.returns-clause-ok
 returns-clause-ok c =
     let due : IsDue c.self.inside.environment c.self.inside.queue c.args.due.now =
     due-is c.self.inside.environment c.self.inside.queue c.args.due.now c.self.invariant.stands (c.requires.due ∙ ap (λ (p : Progress). first_due (to_come p).instants) (sym c.self.view_is)) in
-    let first : first_of c.self.inside.queue ≡ Some c.in-Some.slice = sym c.first.ensures ∙ c.in-Some.is in
+    let first : first_or_none c.self.inside.queue ≡ Some c.in-Some.slice = sym c.first.ensures ∙ c.in-Some.is in
     let next : IsNext c.self.inside.environment c.in-Some.slice = stands-first c.self.inside.environment c.self.inside.queue c.in-Some.slice c.self.invariant.stands first in
     subst (λ (p : Progress). Passed c.args.due.now.hart c.args.most p (record { state = c.steps-count.new.self; left = c.skip_idle.new.self })) c.self.view_is
     (passed-many c.args.due.now.hart c.steps-count.result.0 c.min.result c.args.most c.self.inside.environment c.steps-count.new.self c.self.inside.queue c.take_off.new.self c.skip_idle.new.self c.in-Some.slice
@@ -94,7 +94,7 @@ pub returns-in_err-last-2-clause-err : goal.returns-in_err-last-2-clause-err
 returns-in_err-last-2-clause-err c =
     let due : IsDue c.self.inside.environment c.self.inside.queue c.args.due.now =
     due-is c.self.inside.environment c.self.inside.queue c.args.due.now c.self.invariant.stands (c.requires.due ∙ ap (λ (p : Progress). first_due (to_come p).instants) (sym c.self.view_is)) in
-    let first : first_of c.self.inside.queue ≡ Some c.in-Some.slice = sym c.first.ensures ∙ c.in-Some.is in
+    let first : first_or_none c.self.inside.queue ≡ Some c.in-Some.slice = sym c.first.ensures ∙ c.in-Some.is in
     let next : IsNext c.self.inside.environment c.in-Some.slice = stands-first c.self.inside.environment c.self.inside.queue c.in-Some.slice c.self.invariant.stands first in
     where_err c.from_residual-in_err-last-2.result
     (subst (λ (p : Progress). Broke c.args.due.now.hart c.args.most p (record { state = c.steps-count.new.self; left = c.skip_idle.new.self })) c.self.view_is

@@ -1,6 +1,6 @@
 use Rattle.std.proofs.Common.{◌≡◌, Option, Result, Ok, Err, IsErrAnd, subst}
 use Rattle.sample_clock.specs.declared.clock.Advance.{Advance}
-use Rattle.sample_clock.specs.Clock.{Sampling, StandsAt, Unsampled}
+use Rattle.sample_clock.specs.Clock.{Sampling, StandsAfter, Unsampled}
 use Rattle.sample_clock.specs.declared.clock.Sample.{Sample}
 use Rattle.sample_clock.specs.declared.clock.TooManySamples.{TooManySamples}
 use Rattle.prof_bytes.specs.declared.fail.Memory.{Memory}
@@ -15,7 +15,7 @@ loop-sample-preserved g c =
     none-met-more c.args.self.now c.loop-sample.self c.go_on.new.self c.loop-sample.invariant
     (subst (λ (x : Advance). Advances (g.U.Unwind.path_of c.args.unwinder.now) (Ok x) c.loop-sample.self c.go_on.new.self) c.in-Unsampled.is c.in_ok-go_on.ensures)
 
-by_memory : (answer : Result (Option Sample) (Fail TooManySamples)) (memory : Memory) (old new : Sampling) → IsErrAnd answer (λ fail. fail ≡ fails.Memory memory) → Unsampled old new → StandsAt answer old new
+by_memory : (answer : Result (Option Sample) (Fail TooManySamples)) (memory : Memory) (old new : Sampling) → IsErrAnd answer (λ fail. fail ≡ fails.Memory memory) → Unsampled old new → StandsAfter answer old new
 by_memory (Ok sample) memory old new is stands = absurd is
 by_memory (Err (fails.Fault fault)) memory old new is stands = absurd cc
 by_memory (Err (fails.Memory other)) memory old new is stands = stands

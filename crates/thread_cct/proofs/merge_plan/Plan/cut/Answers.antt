@@ -2,38 +2,38 @@ use Rattle.std.proofs.Common.{◌+◌, ◌*◌, ◌<◌, length, ap, ◌∙◌, 
 use Rattle.std.proofs.lemmas.List.{length-map}
 use Rattle.thread_cct.specs.Plan.{expanded, expanded_path}
 use Rattle.thread_cct.proofs.Hands.{dealt_none, dealt_length, next_dealt, all_pieces, each_piece}
-use Rattle.thread_cct.proofs.Located.{chunk_in, place_in, chunk_whole}
+use Rattle.thread_cct.proofs.Located.{chunk_in, index_in, chunk_whole}
 use Rattle.thread_cct.proofs.merge_plan.Plan.cut.Goals as goal
 
 pub overflow_mul-first : goal.overflow_mul-first
 overflow_mul-first g c = (let few = chunk_in _ _ _ c.self.inside.paths c.args.chunk c.self.invariant c.self.view_is c.requires.chunk in omega (arith, few.0))
 
-pub loop-place-init : goal.loop-place-init
-loop-place-init g c = record {
+pub loop-index-init : goal.loop-index-init
+loop-index-init g c = record {
   hands = c.in_ok-hands.ensures ∙ dealt_none;
   memo = c.requires.memo;
 }
 
 pub deal-requires : goal.deal-requires
-deal-requires g c = ap length c.loop-place.invariant.hands ∙ dealt_length _
+deal-requires g c = ap length c.loop-index.invariant.hands ∙ dealt_length _
 
-pub loop-place-preserved : goal.loop-place-preserved
-loop-place-preserved g c =
-    let inside : c.args.chunk * 64 + c.loop-place.place < length c.args.self.now.paths =
-    place_in _ _ _ c.self.inside.paths c.args.chunk c.loop-place.place _ c.self.invariant c.self.view_is c.requires.chunk c.min-place-end.ensures c.loop-place-test.true in
+pub loop-index-preserved : goal.loop-index-preserved
+loop-index-preserved g c =
+    let inside : c.args.chunk * 64 + c.loop-index.index < length c.args.self.now.paths =
+    index_in _ _ _ c.self.inside.paths c.args.chunk c.loop-index.index _ c.self.invariant c.self.view_is c.requires.chunk c.min-index-end.ensures c.loop-index-test.true in
     let size = length-map c.args.self.now.paths (expanded_path (g.E.Expand.call_path c.args.expand.now)) in
     record {
-      hands = next_dealt _ (c.args.chunk * 64) c.loop-place.place _ _ _ _ refl (omega (arith, inside, size)) c.in_ok-entry.ensures.entry c.loop-place.invariant.hands c.in_ok-deal.ensures;
+      hands = next_dealt _ (c.args.chunk * 64) c.loop-index.index _ _ _ _ refl (omega (arith, inside, size)) c.in_ok-entry.ensures.entry c.loop-index.invariant.hands c.in_ok-deal.ensures;
       memo = c.in_ok-entry.ensures.memo;
     }
 
 pub of-requires : goal.of-requires
-of-requires g c = ap length c.loop-place.invariant.hands ∙ dealt_length _
+of-requires g c = ap length c.loop-index.invariant.hands ∙ dealt_length _
 
 pub returns-clause-pieces : goal.returns-clause-pieces
 returns-clause-pieces g c =
-    all_pieces c.of.result (expanded c.args.self.now (g.E.Expand.call_path c.args.expand.now)) c.args.chunk _ _ c.loop-place.invariant.hands
-    (chunk_whole (g.E.Expand.call_path c.args.expand.now) _ _ _ c.self.inside.paths c.args.chunk c.loop-place.place _ c.self.invariant c.self.view_is c.requires.chunk c.min-place-end.ensures (omega arith) (omega arith))
+    all_pieces c.of.result (expanded c.args.self.now (g.E.Expand.call_path c.args.expand.now)) c.args.chunk _ _ c.loop-index.invariant.hands
+    (chunk_whole (g.E.Expand.call_path c.args.expand.now) _ _ _ c.self.inside.paths c.args.chunk c.loop-index.index _ c.self.invariant c.self.view_is c.requires.chunk c.min-index-end.ensures (omega arith) (omega arith))
     c.of.ensures
 
 pub returns-clause-each : goal.returns-clause-each

@@ -1,0 +1,221 @@
+//! Abbreviation tables. The first is that of a program of two functions by `clang -g`, with the declarations that
+//! `llvm-dwarfdump --debug-abbrev` prints; the others are put together by hand after DWARF 5, section 7.5.3.
+use crate::program::{Unread, readable};
+use crate::rows::bytes_of;
+use dwarf_forms::constants::{
+    DW_FORM_data1, DW_FORM_data4, DW_FORM_flag_present, DW_FORM_implicit_const, DW_FORM_ref4,
+    DW_FORM_sec_offset,
+};
+use dwarf_forms::{Abbrevs, BadTable, Spec, read_abbrevs};
+use dwarf_info::constants::{
+    DW_AT_byte_size, DW_AT_call_column, DW_AT_external, DW_AT_high_pc, DW_AT_inline,
+    DW_AT_loclists_base, DW_AT_type, DW_TAG_base_type, DW_TAG_compile_unit,
+    DW_TAG_inlined_subroutine, DW_TAG_lexical_block, DW_TAG_subprogram, DW_TAG_volatile_type,
+};
+use prof_bytes::Memory;
+use std::alloc::Global;
+use std::test::Fail;
+
+/// The bytes of `.debug_abbrev` by clang 14.
+const ABBREV: &[u8] = b"\
+    011101252513050325721710171b25111b120673178c01170000022e0103253a0b3b0b271949132021010000\
+    03050003253a0b3b0b4913000004240003253e0b0b0b0000052e01111b120640187a1903253a0b3b0b271949\
+    133f190000060500022203253a0b3b0b49130000071d013113111b1206580b590b570b000008050002183113\
+    0000092e01111b120640187a1903253a0b3b0b27193f1900000a3400021803253a0b3b0b491300000b0b0111\
+    1b120600000c3400022203253a0b3b0b491300000d35004913000000";
+
+/// Of some codes the tag, whether children follow, and how many attributes.
+static DECLARED: [(u64, u64, bool, usize); 7] = [
+    (1, DW_TAG_compile_unit, true, 10),
+    (2, DW_TAG_subprogram, true, 6),
+    (4, DW_TAG_base_type, false, 3),
+    (7, DW_TAG_inlined_subroutine, true, 6),
+    (9, DW_TAG_subprogram, true, 9),
+    (11, DW_TAG_lexical_block, true, 2),
+    (13, DW_TAG_volatile_type, false, 1),
+];
+
+/// Of the same codes the last attribute.
+static LAST: [(u64, u64, i64); 7] = [
+    (DW_AT_loclists_base, DW_FORM_sec_offset, 0),
+    (DW_AT_inline, DW_FORM_implicit_const, 1),
+    (DW_AT_byte_size, DW_FORM_data1, 0),
+    (DW_AT_call_column, DW_FORM_data1, 0),
+    (DW_AT_external, DW_FORM_flag_present, 0),
+    (DW_AT_high_pc, DW_FORM_data4, 0),
+    (DW_AT_type, DW_FORM_ref4, 0),
+];
+
+fn last_of(specs: &[Spec]) -> (u64, u64, i64) {
+    match specs {
+        [.., last] => (last.attribute, last.form, last.implicit),
+        [] => (0, 0, 0),
+    }
+}
+
+/// The first code that is declared in another way, or that is declared and should not be.
+fn other_declaration(table: &Abbrevs) -> Option<u64> {
+    for ((code, tag, children, count), last) in DECLARED.iter().zip(&LAST) {
+        match table.find(*code) {
+            Some(declared)
+                if (declared.code, declared.tag, declared.children) == (*code, *tag, *children)
+                    && declared.specs.as_slice().len() == *count
+                    && last_of(declared.specs.as_slice()) == *last => {}
+            _ => return Some(*code),
+        }
+    }
+    [14, 0]
+        .iter()
+        .find(|code| table.find(**code).is_some())
+        .copied()
+}
+
+#[test]
+fn declarations_of_a_program(rt: HostRuntime) -> Result<(), Fail> {
+    let bytes = bytes_of(rt.alloc(), ABBREV)?;
+    let table = readable(read_abbrevs(rt.alloc(), &bytes, 0))?;
+    assert_eq!(rt; other_declaration(&table), None);
+    Ok(())
+}
+
+/// A name, a table, and an offset in it where code 1 is a compilation unit.
+static UNITS: [(&str, &[u8], u32); 6] = [
+    ("one declaration", &[1, 0x11, 0, 0x10, 0x17, 0, 0, 0], 0),
+    (
+        "the first of two with a code",
+        &[1, 0x11, 0, 0, 0, 1, 0x2e, 0, 0, 0, 0],
+        0,
+    ),
+    (
+        "behind another code",
+        &[2, 0x2e, 0, 0, 0, 1, 0x11, 0, 0, 0, 1, 0x2e, 0, 0, 0, 0],
+        0,
+    ),
+    ("at an offset", &[9, 9, 1, 0x11, 7, 0, 0, 0], 2),
+    ("implicit_const", &[1, 0x11, 0, 3, 0x21, 0, 0, 0, 0], 0),
+    (
+        "an attribute with form 0 ends the list",
+        &[1, 0x11, 0, 0, 5, 0, 0, 0],
+        0,
+    ),
+];
+
+/// A name, a table, and an offset where none is whole that declares code 1.
+static ABSENT: [(&str, &[u8], u32); 5] = [
+    (
+        "at the section's end",
+        &[1, 0x11, 0, 0x10, 0x17, 0, 0, 0],
+        8,
+    ),
+    (
+        "behind the section's end",
+        &[1, 0x11, 0, 0x10, 0x17, 0, 0, 0],
+        9,
+    ),
+    ("without the closing 0", &[1, 0x11, 0, 0x10, 0x17, 0, 0], 0),
+    (
+        "another code alone",
+        &[2, 0x2e, 0, 0, 0, 3, 0x11, 0, 0, 0, 0],
+        0,
+    ),
+    (
+        "implicit_const without its end",
+        &[1, 0x11, 0, 3, 0x21, 0x80, 0, 0, 0],
+        0,
+    ),
+];
+
+fn tag_of(table: &Abbrevs) -> Option<u64> {
+    table.find(1).map(|declared| declared.tag)
+}
+
+/// The tag that code 1 has in the table at the offset, where that is whole.
+fn tag_at(alloc: Global, bytes: &[u8], offset: u32) -> Result<Option<u64>, Memory> {
+    match read_abbrevs(alloc, bytes, offset) {
+        Ok(table) => Ok(tag_of(&table)),
+        Err(prof_bytes::Fail::Fault(BadTable)) => Ok(None),
+        Err(prof_bytes::Fail::Memory(memory)) => Err(memory),
+    }
+}
+
+/// The first table in which code 1 has another tag.
+fn other_tag(
+    alloc: Global,
+    rows: &[(&'static str, &[u8], u32)],
+    wanted: Option<u64>,
+) -> Result<Option<&'static str>, Memory> {
+    for (name, bytes, offset) in rows {
+        if tag_at(alloc, bytes, *offset)? != wanted {
+            return Ok(Some(name));
+        }
+    }
+    Ok(None)
+}
+
+#[test]
+fn tables_by_their_offset(rt: HostRuntime) -> Result<(), Fail> {
+    assert_eq!(rt;
+        other_tag(rt.alloc(), &UNITS, Some(DW_TAG_compile_unit))?,
+        None
+    );
+    assert_eq!(rt; other_tag(rt.alloc(), &ABSENT, None)?, None);
+    Ok(())
+}
+
+/// The index of a declaration, and the tags that codes 1 and 3 have from it on.
+type End = (usize, Option<u64>, Option<u64>);
+
+/// Three declarations of five bytes each.
+static THREE: [u8; 16] = [1, 0x11, 0, 0, 0, 2, 0x2e, 0, 0, 0, 3, 0x24, 0, 0, 0, 0];
+
+/// Three whose codes fall.
+static FALLING: [u8; 16] = [7, 0x11, 0, 0, 0, 3, 0x24, 0, 0, 0, 1, 0x2e, 0, 0, 0, 0];
+
+/// Two of one code.
+static TWICE: [u8; 11] = [1, 0x11, 0, 0, 0, 1, 0x2e, 0, 0, 0, 0];
+
+/// Offsets in the first, and what stands there.
+static ENDS: [(u32, Option<End>); 5] = [
+    (
+        0,
+        Some((0, Some(DW_TAG_compile_unit), Some(DW_TAG_base_type))),
+    ),
+    (5, Some((1, None, Some(DW_TAG_base_type)))),
+    (10, Some((2, None, Some(DW_TAG_base_type)))),
+    (6, None),
+    (15, None),
+];
+
+fn end_at(table: &Abbrevs, offset: u32) -> Option<End> {
+    let index = table.from_index(0).index_at(offset)?;
+    let end = table.from_index(index);
+    let first = end.find(1).map(|declared| declared.tag);
+    let third = end.find(3).map(|declared| declared.tag);
+    Some((index, first, third))
+}
+
+/// What stands at an offset of a table that begins the bytes.
+fn end_in(alloc: Global, bytes: &[u8], offset: u32) -> Result<Option<End>, Unread> {
+    let table = readable(read_abbrevs(alloc, bytes, 0))?;
+    Ok(end_at(&table, offset))
+}
+
+/// The first offset at which another end stands.
+fn other_end(alloc: Global) -> Result<Option<u32>, Unread> {
+    for (offset, wanted) in &ENDS {
+        if end_in(alloc, &THREE, *offset)? != *wanted {
+            return Ok(Some(*offset));
+        }
+    }
+    Ok(None)
+}
+
+#[test]
+fn ends_of_tables(rt: HostRuntime) -> Result<(), Fail> {
+    let alloc = rt.alloc();
+    assert_eq!(rt; other_end(alloc)?, None);
+    let falling = Some((1, Some(DW_TAG_subprogram), Some(DW_TAG_base_type)));
+    assert_eq!(rt; end_in(alloc, &FALLING, 5)?, falling);
+    assert_eq!(rt; end_in(alloc, &TWICE, 5)?, None);
+    Ok(())
+}
