@@ -80,7 +80,7 @@ pub(super) static CASES: [Case; 27] = [
     ("a reference from the unit", b"E3111 W0c", Link(0x0c)),
     ("a reference into an entry", b"E3111 W0e", Nothing),
     ("a reference to a null entry", b"E3111 W0f", Nothing),
-    ("a reference behind the unit", b"E3111 W10", Nothing),
+    ("a reference behind the unit", b"E3111 W 10", Nothing),
     ("a reference by udata", b"E3115 W0d", Link(0x0d)),
     (
         "a reference from the section",
