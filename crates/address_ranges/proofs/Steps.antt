@@ -39,7 +39,7 @@ test_true a b lt = grind (arith, nat_tests)
 test_false : (a b : ℕ) → b ≤ a → ltb a b ≡ false
 test_false a b le = grind (arith, nat_tests)
 
--- an address below a step is not looked for behind it
+-- an address below a step is not looked for after it
 pub front_value : (m : ℕ) (d : Step) (before : Option ℕ) (steps : List Step) (address : ℕ) → m < length steps → address < (get_or steps m d).start → holder_from before (take m steps) address ≡ holder_from before steps address
 front_value m d before [] address lt below = absurd (omega arith)
 front_value zero d before (s ∷ steps) address lt below = rw (test_true address s.start below) refl
@@ -63,7 +63,7 @@ merged (suc n) x xs y ys =
     record { start = start; holder = option_or (past start x xs).0 (past start y ys).0 }
     ∷ merged n (past start x xs).0 (past start x xs).1 (past start y ys).0 (past start y ys).1) (next_start xs ys) []
 
--- the head of a table stands at the next start, or behind it
+-- the head of a table stands at the next start, or after it
 IsNextOf : ℕ → List Step → Type 0
 IsNextOf start [] = Unit {0}
 IsNextOf start (s ∷ steps) = start ≤ s.start
@@ -198,7 +198,7 @@ unfolding merged
 merged_end zero x y xs ys e = refl
 merged_end (suc n) x y xs ys e = rw e refl
 
--- ---- one list of ranges behind another
+-- ---- one list of ranges after another
 
 pub position_append : {X : Type 0} (p : X → Bool) (i : ℕ) (xs ys : List X) → position_from p i (xs ++ ys) ≡ option_or (position_from p i xs) (position_from p (i + length xs) ys)
 position_append p i [] ys = ap (λ (n : ℕ). position_from p n ys) (omega arith)

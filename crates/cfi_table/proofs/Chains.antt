@@ -16,7 +16,7 @@ use Rattle.cfi_table.specs.declared.extent.Extent.{Extent}
 use Rattle.cfi_table.specs.declared.extent.ZeroLength.{ZeroLength}
 use Rattle.cfi_table.specs.declared.extent.ZeroLength.TheVariants as zero_lengths
 use Rattle.cfi_table.specs.Instructions.{Reading}
-use Rattle.cfi_table.specs.Rules.{instruction_fault}
+use Rattle.cfi_table.specs.Rules.{fault_here}
 use Rattle.cfi_table.specs.Entries.{before_others, at_zero, chained, chain_from, extents_by}
 use Rattle.cfi_table.specs.private.Placed.{AreRising, IsPlaced}
 use Rattle.cfi_table.proofs.Rising.{from_lower}
@@ -46,7 +46,7 @@ was_fault {X} {F} r fault before after (Err other) e is = ap (λ (f : F). Err f)
     same : (a b : F) → (let u : Result X F = Err a in u) ≡ Err b → a ≡ b
     same a b e = cc
 
--- ---- a part lies behind its length
+-- ---- a part lies after its length
 
 pub record Follows (input rest : Input FrameFault) : Type 0 where
   pub whole : rest.at.whole ≡ input.at.whole
@@ -104,7 +104,7 @@ pub record KeepsChain (z : ZeroLength) (section : List ℕ) (input : Input Frame
 
 -- the input with the fault at its own offset
 abbrev pub marked : Input FrameFault → Input FrameFault
-marked input = record input { missing = instruction_fault input }
+marked input = record input { missing = fault_here input }
 
 step_zero : (z : ZeroLength) (m : ℕ) (input body rest : Input FrameFault) → 0 < length (left_of input.at) → part_from (marked input) ≡ Ok (body, rest) → length (left_of body.at) ≡ 0 → chain_from z (suc m) input ≡ at_zero z (chain_from z m rest)
 unfolding chain_from
@@ -217,7 +217,7 @@ fault_is input fault e = from (nat_lt (length (left_of input.at)) 4) (number_in 
     from true n e = err_is _ _ e
     from false n e = sized (nat_le first_reserved_length n || nat_lt (length (left_of (moved 4 input.at))) n) n (record input { at = moved 4 input.at }) e
 
--- ---- entries lie one behind the other
+-- ---- entries lie one after the other
 
 chain_rises : (z : ZeroLength) (n : ℕ) (input : Input FrameFault) → AreRising input.at.offset (map (λ e. e.offset) (chain_from z n input).0)
 unfolding chain_from
@@ -258,7 +258,7 @@ part_read input before body after r same e is =
     let P : Input FrameFault → Type 0 = λ b. part_from b ≡ Ok (body, after) in
     subst P same (was_read r body before after (part_from before) e is)
 
-pub part_fault : (input before after : Input FrameFault) (fault : FrameFault) (r : Result (Input FrameFault) FrameFault) → before ≡ marked input → (r, after) ≡ answered before (part_from before) → r ≡ Err fault → part_from (marked input) ≡ Err (instruction_fault input)
+pub part_fault : (input before after : Input FrameFault) (fault : FrameFault) (r : Result (Input FrameFault) FrameFault) → before ≡ marked input → (r, after) ≡ answered before (part_from before) → r ≡ Err fault → part_from (marked input) ≡ Err (fault_here input)
 part_fault input before after fault r same e is =
     let P : Input FrameFault → Type 0 = λ b. part_from b ≡ Err fault in
     let faulty : part_from (marked input) ≡ Err fault = subst P same (was_fault r fault before after (part_from before) e is) in

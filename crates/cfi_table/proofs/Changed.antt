@@ -92,7 +92,7 @@ changes_back changed regs register low are =
 shifted : (changed from i : ℕ) → bit_at (changed / 2 ^ from) i ≡ bit_at changed (from + i)
 shifted changed from i = ap (λ (n : ℕ). n % 2) (div-div-eq-div-mul changed (2 ^ from) (2 ^ i) ∙ ap (λ (n : ℕ). changed / n) (sym (pow-add 2 from i)))
 
--- the bit of a register behind another one, among those that are left
+-- the bit of a register after another one, among those that are left
 bit_from : (changed from register : ℕ) → from ≤ register → bit_at (changed / 2 ^ from) (register - from) ≡ bit_at changed register
 bit_from changed from register le = shifted changed from (register - from) ∙ ap (bit_at changed) (let n : from + (register - from) ≡ register = omega arith in n)
 

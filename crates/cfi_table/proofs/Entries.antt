@@ -16,7 +16,7 @@ use Rattle.cfi_table.specs.declared.fde.Fde.{Fde}
 use Rattle.cfi_table.specs.declared.known_cie.KnownCie.{KnownCie}
 use Rattle.cfi_table.specs.declared.entry.FrameEntry.{FrameEntry}
 use Rattle.cfi_table.specs.declared.entry.FrameEntry.TheVariants as entries
-use Rattle.cfi_table.specs.Rules.{State, no_rules, all_same_value}
+use Rattle.cfi_table.specs.Rules.{FrameState, no_rules, all_same_value}
 use Rattle.cfi_table.specs.Entries.{body_of, after_cie, cie_from, cie_at, is_cie, checked_cie, checked_fde, continued, fde_of, read_entry, instructions_of}
 use Rattle.cfi_table.specs.Entries.{extents_of, at_end, entries_of}
 use Rattle.elf_image.specs.declared.part.Segment.{Segment}
@@ -60,7 +60,7 @@ copied_holds {X} P p xs r c found is all =
     let Q : Option X → Type 0 = λ o. IfSome o P in
     subst Q (sym found ∙ ap option_copied is) (found_holds P p xs all)
 
--- ---- an entry by the word behind its length
+-- ---- an entry by the word after its length
 
 pub without_id : (section : List ℕ) (extents : List Extent) (e : Extent) (fault : FrameFault) → number_from 4 (body_of section e) ≡ Err fault → read_entry section extents e ≡ Err fault
 unfolding read_entry
@@ -96,7 +96,7 @@ pub cie_forms : (section : List ℕ) (cie : Cie) → forms_after (after_cie sect
 unfolding after_cie
 cie_forms section cie = all_as_forms all_same_value cie.factors (instructions_of section cie.initial_instructions) no_rules
 
-done_as : (entry : FrameEntry) (r : Result State FrameFault) (k : CfaForms) → forms_after r ≡ Ok k → (r >>= λ after. (let u : Result FrameEntry FrameFault = Ok entry in u)) ≡ Ok entry
+done_as : (entry : FrameEntry) (r : Result FrameState FrameFault) (k : CfaForms) → forms_after r ≡ Ok k → (r >>= λ after. (let u : Result FrameEntry FrameFault = Ok entry in u)) ≡ Ok entry
 done_as entry (Err fault) k e = absurd cc
 done_as entry (Ok s) k e = refl
 
@@ -106,7 +106,7 @@ cie_runs section cie k e = done_as (entries.Cie cie) (after_cie section cie) k e
 err_is : (a b : FrameFault) → (let u : Result CfaForms FrameFault = Err a in u) ≡ Err b → a ≡ b
 err_is a b e = cc
 
-fails_as : (entry : FrameEntry) (fail : Fail FrameFault) (r : Result State FrameFault) → FailsBy fail (forms_after r) → FailsBy fail (r >>= λ after. (let u : Result FrameEntry FrameFault = Ok entry in u))
+fails_as : (entry : FrameEntry) (fail : Fail FrameFault) (r : Result FrameState FrameFault) → FailsBy fail (forms_after r) → FailsBy fail (r >>= λ after. (let u : Result FrameEntry FrameFault = Ok entry in u))
 fails_as entry (fails.Memory memory) r e = tt
 fails_as entry (fails.Fault fault) (Err f) e = ap (λ (g : FrameFault). Err g) (err_is f fault e)
 fails_as entry (fails.Fault fault) (Ok s) e = absurd cc
@@ -118,25 +118,25 @@ ok_is : (a b : CfaForms) → (let u : Result CfaForms FrameFault = Ok a in u) �
 ok_is a b e = cc
 
 -- an FDE's instructions, carried out on the forms
-own_forms : (section : List ℕ) (fde : Fde) (end : CfaForms) (s : State) → (let u : Result CfaForms FrameFault = Ok end in u) ≡ forms_after (Ok s)
+own_forms : (section : List ℕ) (fde : Fde) (end : CfaForms) (s : FrameState) → (let u : Result CfaForms FrameFault = Ok end in u) ≡ forms_after (Ok s)
     → forms_after (continued None section fde s) ≡ run_forms fde.cie.factors (instructions_of section fde.instructions) end
 own_forms section fde end s known =
     all_as_forms s.regs fde.cie.factors (instructions_of section fde.instructions) (record s { location = fde.initial_location })
     ∙ ap (run_forms fde.cie.factors (instructions_of section fde.instructions)) (sym (ok_is end (forms_of s) known))
 
-pub fde_runs : (section : List ℕ) (fde : Fde) (end k : CfaForms) (r : Result State FrameFault) → (let u : Result CfaForms FrameFault = Ok end in u) ≡ forms_after r
+pub fde_runs : (section : List ℕ) (fde : Fde) (end k : CfaForms) (r : Result FrameState FrameFault) → (let u : Result CfaForms FrameFault = Ok end in u) ≡ forms_after r
     → run_forms fde.cie.factors (instructions_of section fde.instructions) end ≡ Ok k → checked_fde section fde r ≡ Ok (entries.Fde fde)
 fde_runs section fde end k (Err fault) known runs = refl
 fde_runs section fde end k (Ok s) known runs = done_as (entries.Fde fde) (continued None section fde s) k (own_forms section fde end s known ∙ runs)
 
-pub fde_fails : (section : List ℕ) (fde : Fde) (end : CfaForms) (fail : Fail FrameFault) (r : Result State FrameFault) → (let u : Result CfaForms FrameFault = Ok end in u) ≡ forms_after r
+pub fde_fails : (section : List ℕ) (fde : Fde) (end : CfaForms) (fail : Fail FrameFault) (r : Result FrameState FrameFault) → (let u : Result CfaForms FrameFault = Ok end in u) ≡ forms_after r
     → FailsBy fail (run_forms fde.cie.factors (instructions_of section fde.instructions) end) → FailsBy fail (checked_fde section fde r)
 fde_fails section fde end fail (Err fault) known runs = absurd cc
 fde_fails section fde end fail (Ok s) known runs =
     let P : Result CfaForms FrameFault → Type 0 = λ q. FailsBy fail q in
     fails_as (entries.Fde fde) fail (continued None section fde s) (subst P (sym (own_forms section fde end s known)) runs)
 
-pub fde_unchecked : (section : List ℕ) (fde : Fde) (fault : FrameFault) (r : Result State FrameFault) → (let u : Result CfaForms FrameFault = Err fault in u) ≡ forms_after r → checked_fde section fde r ≡ Ok (entries.Fde fde)
+pub fde_unchecked : (section : List ℕ) (fde : Fde) (fault : FrameFault) (r : Result FrameState FrameFault) → (let u : Result CfaForms FrameFault = Err fault in u) ≡ forms_after r → checked_fde section fde r ≡ Ok (entries.Fde fde)
 fde_unchecked section fde fault (Err f) known = refl
 fde_unchecked section fde fault (Ok s) known = absurd cc
 
@@ -154,7 +154,7 @@ counted_in section segments (entries.Fde own) fde e within = go (counts segments
     go true e = let P : Fde → Type 0 = λ f. IsFdeIn section f in subst P (same fde own e) within
     go false e = absurd cc
 
--- ---- the frames of the entries, and of a faulty length behind them
+-- ---- the frames of the entries, and of a faulty length after them
 
 pub frames_read : (section : List ℕ) (extents : List Extent) (broken : Option FrameFault) (segments : List Segment) (fdes : List Fde) → (extents, broken) ≡ extents_of section → broken ≡ None
     → viewed (filter_map (counted_fde segments)) (all_ok (map (read_entry section extents) extents)) ≡ Ok fdes → frames_of section segments ≡ Ok (record { section = section; fdes = fdes })

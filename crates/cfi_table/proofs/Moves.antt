@@ -1,5 +1,5 @@
 -- Each instruction takes at least one byte, and leaves the bytes as they are.
-use Rattle.std.proofs.Common.{◌≡◌, ℕ, ◌+◌, ◌/◌, ◌%◌, ◌≤◌, ◌<◌, Bool, true, false, cond, List, length, Option, Some, None, Ok, Err, refl, subst, ◌∙◌, arith}
+use Rattle.std.proofs.Common.{◌≡◌, ℕ, ◌+◌, ◌≤◌, ◌<◌, Bool, true, false, cond, List, length, Option, Some, None, Ok, Err, refl, subst, ◌∙◌, arith}
 use Rattle.std.specs.Prelude.{IfOk, ◌==◌, nat_lt}
 use Rattle.prof_bytes.specs.Outcome.{◌>>=◌}
 use Rattle.prof_bytes.specs.Reading.{left_of, bytes_at}
@@ -19,7 +19,7 @@ use Rattle.cfi_table.specs.declared.constants.TheConstants.{DW_CFA_GNU_args_size
 use Rattle.cfi_table.specs.declared.instruction.CallFrameInstruction.{CallFrameInstruction}
 use Rattle.cfi_table.specs.declared.instruction.AlignmentFactors.{AlignmentFactors}
 use Rattle.cfi_table.specs.Instructions.{Reading, offset_from, factored_from, factored_sf_from, block_from, cfa_from, rule_from, is_rule}
-use Rattle.cfi_table.specs.Instructions.{register_rule_from, extended_from, opcode_then, instruction_from}
+use Rattle.cfi_table.specs.Instructions.{register_rule_from, extended_from, primary_opcode, primary_operand, instruction_after_opcode, instruction_from}
 
 pub record Moves (before after : Input FrameFault) : Type 0 where
   pub whole : after.at.whole ≡ before.at.whole
@@ -119,14 +119,14 @@ extended_moves f opcode input =
     (either input (opcode == DW_CFA_GNU_args_size) _ _ (binds input (uleb_from input) _ (uleb_moves input) (λ n. stays n.1))
     (either input (is_rule opcode) _ _ (register_rule_moves f opcode input) (cfa_moves f opcode input))))))))))
 
-pub opcode_moves : (f : AlignmentFactors) (byte : ℕ) (input : Input FrameFault) → AllMove input (opcode_then f byte input)
-unfolding opcode_then
+pub opcode_moves : (f : AlignmentFactors) (byte : ℕ) (input : Input FrameFault) → AllMove input (instruction_after_opcode f byte input)
+unfolding instruction_after_opcode
 opcode_moves f byte input =
-    either input (byte / 64 == DW_CFA_advance_loc / 64) _ _ (stays input)
-    (either input (byte / 64 == DW_CFA_offset / 64) _ _ (rule_moves f DW_CFA_offset_extended (byte % 64) input)
-    (either input (byte / 64 == DW_CFA_restore / 64) _ _ (stays input) (extended_moves f byte input)))
+    either input (primary_opcode byte == DW_CFA_advance_loc) _ _ (stays input)
+    (either input (primary_opcode byte == DW_CFA_offset) _ _ (rule_moves f DW_CFA_offset_extended (primary_operand byte) input)
+    (either input (primary_opcode byte == DW_CFA_restore) _ _ (stays input) (extended_moves f byte input)))
 
--- what is read behind a byte ends behind it
+-- what is read after a byte ends after it
 pub behind_byte : {X : Type 0} (next : ℕ × Input FrameFault → Reading X) (input after : Input FrameFault) (x : X) → ((n : ℕ) (mid : Input FrameFault) → AllMove mid (next (n, mid))) → (number_from 1 input >>= next) ≡ Ok (x, after)
     → (after.at.whole ≡ input.at.whole) × (input.at.offset < after.at.offset)
 behind_byte {X} next input after x moves e = from (nat_lt (length (left_of input.at)) 1) (number_in 1 (left_of input.at)) e
@@ -143,4 +143,4 @@ behind_byte {X} next input after x moves e = from (nat_lt (length (left_of input
 
 pub instruction_moves : (f : AlignmentFactors) (input next : Input FrameFault) (i : CallFrameInstruction) → instruction_from f input ≡ Ok (i, next) → (next.at.whole ≡ input.at.whole) × (input.at.offset < next.at.offset)
 unfolding instruction_from
-instruction_moves f input next i e = behind_byte (λ byte. opcode_then f byte.0 byte.1) input next i (λ n mid. opcode_moves f n mid) e
+instruction_moves f input next i e = behind_byte (λ byte. instruction_after_opcode f byte.0 byte.1) input next i (λ n mid. opcode_moves f n mid) e

@@ -1,6 +1,7 @@
 -- Runs of instructions, one more at a time.
 use Rattle.std.proofs.Common.{◌≡◌, ℕ, zero, suc, ◌-◌, ◌≤◌, ◌<◌, ◌^◌, Bool, true, false, List, length, length-drop, Option, Ok, Err, refl, sym, ap, ◌∙◌, arith}
 use Rattle.std.proofs.lemmas.Bool.{eq-eqb}
+use Rattle.std.specs.Option.{ok_or}
 use Rattle.prof_bytes.specs.Outcome.{FailsBy}
 use Rattle.prof_bytes.specs.Reading.{left_of}
 use Rattle.prof_bytes.specs.Fields.{Input}
@@ -12,7 +13,7 @@ use Rattle.cfi_table.specs.declared.fault.FrameFault.{FrameFault}
 use Rattle.cfi_table.specs.declared.instruction.AlignmentFactors.{AlignmentFactors}
 use Rattle.cfi_table.specs.declared.instruction.CallFrameInstruction.{CallFrameInstruction}
 use Rattle.cfi_table.specs.Instructions.{instruction_from}
-use Rattle.cfi_table.specs.Rules.{or_fault, instruction_fault, step_by, run_by}
+use Rattle.cfi_table.specs.Rules.{fault_here, step_by, run_by}
 use Rattle.cfi_table.proofs.Moves.{instruction_moves}
 
 pub run_end : {S : Type 0} (x : CallFrameInstruction → S → Option S) (stops : S → Bool) (m : ℕ) (f : AlignmentFactors) (input : Input FrameFault) (s : S) → length (left_of input.at) ≡ 0 → run_by x stops m f input s ≡ Ok s
@@ -38,9 +39,9 @@ run_fault x stops m f input s fault some is = rw (not_zero _ some, is) refl
 -- a step takes bytes
 pub step_moves : {S : Type 0} (x : CallFrameInstruction → S → Option S) (f : AlignmentFactors) (input next : Input FrameFault) (s t : S) → step_by x f input s ≡ Ok (t, next) → (next.at.whole ≡ input.at.whole) × (input.at.offset < next.at.offset)
 step_moves {S} x f input next s t e =
-    let read = bind_ok (instruction_from f (record input { missing = instruction_fault input })) _ (t, next) e in
-    let ran = bind_ok (or_fault (instruction_fault input) (x read.0.0 s)) _ (t, next) read.2 in
-    instruction_moves f (record input { missing = instruction_fault input }) next read.0.0
+    let read = bind_ok (instruction_from f (record input { missing = fault_here input })) _ (t, next) e in
+    let ran = bind_ok (ok_or (x read.0.0 s) (fault_here input)) _ (t, next) read.2 in
+    instruction_moves f (record input { missing = fault_here input }) next read.0.0
     (read.1 ∙ ap (λ (p : S × Input FrameFault). Ok (read.0.0, p.1)) (ok_same {F = FrameFault} (ran.0, read.0.1) (t, next) ran.2))
 
 pub left_shorter : (input next : Input FrameFault) → next.at.whole ≡ input.at.whole → input.at.offset < next.at.offset → 0 < length (left_of input.at) → length (left_of next.at) < length (left_of input.at)

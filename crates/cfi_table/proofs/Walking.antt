@@ -1,6 +1,6 @@
 -- The rows of an FDE, made one after another.
-use Rattle.std.proofs.Common.{◌≡◌, ℕ, ◌≤◌, ◌<◌, ◌^◌, Bool, true, false, cond, List, length, map, Option, Some, None, Result, Ok, Err, refl, sym, subst, ap, ◌∙◌, arith}
-use Rattle.std.specs.Prelude.{IfOk, IfSome, min, nat_lt, find, slice_get}
+use Rattle.std.proofs.Common.{◌≡◌, ℕ, ◌≤◌, ◌<◌, ◌^◌, inr, Bool, true, false, cond, List, length, map, Option, Some, None, Result, Ok, Err, refl, sym, subst, ap, ◌∙◌, arith}
+use Rattle.std.specs.Prelude.{IfOk, IfSome, MatchOption, IsErr, min, nat_lt, find, slice_get}
 use Rattle.std.specs.Option.{option_and_then}
 use Rattle.std.proofs.lemmas.Bool.Decides.{nat_tests}
 use Rattle.prof_bytes.specs.Outcome.{FailsBy}
@@ -17,26 +17,26 @@ use Rattle.cfi_table.specs.declared.fde.Fde.{Fde}
 use Rattle.cfi_table.specs.declared.rows.Row.{Row}
 use Rattle.cfi_table.specs.declared.rules.Rule.{Rule}
 use Rattle.cfi_table.specs.declared.rules.Rules.{Rules}
-use Rattle.cfi_table.specs.Rules.{State, is_past, run_all}
-use Rattle.cfi_table.specs.Entries.{after_fde}
+use Rattle.cfi_table.specs.Rules.{FrameState, is_past, run_all}
+use Rattle.cfi_table.specs.Entries.{after_cie, after_fde}
 use Rattle.cfi_table.specs.Frames.{Frames, fde_range, rules_with, rules_of}
-use Rattle.cfi_table.specs.Rows.{FdeRows, row_from, IsRow, IsNextRow, AreFirst}
+use Rattle.cfi_table.specs.Rows.{FdeRows, row_from, IsRow, IsNextRow, AreFirst, AreOf, AreNone}
 use Rattle.cfi_table.specs.private.Resuming.{resumed}
 use Rattle.cfi_table.specs.private.Walking.{IsAtRow, AreRows}
 use Rattle.cfi_table.proofs.Resuming.{resumed_here, resumed_past, resumed_at_end}
 
 -- a run by the start of a row, and what it says of later addresses
-pub record HasRun (section : List ℕ) (fde : Fde) (initial : List Rule) (start : ℕ) (t : State) (next : Input FrameFault) : Type 0 where
+pub record HasRun (section : List ℕ) (fde : Fde) (initial : List Rule) (start : ℕ) (t : FrameState) (next : Input FrameFault) : Type 0 where
   pub some : start < (fde_range fde).end
   pub low : fde.initial_location ≤ start
   pub short : length next.at.whole < 2 ^ 32
   pub ended : is_past (Some start) t ≡ false → length (left_of next.at) ≡ 0
   pub states : (address : ℕ) → start ≤ address → after_fde (Some address) section fde ≡ resumed (Some address) initial fde.cie.factors next t
 
-pub at_row : (section : List ℕ) (fde : Fde) (initial : List Rule) (s : State) (input : Input FrameFault) (next : Option ℕ) (start : ℕ) → next ≡ Some start → AreRows section fde initial s input next → IsAtRow section fde initial s input start
+pub at_row : (section : List ℕ) (fde : Fde) (initial : List Rule) (s : FrameState) (input : Input FrameFault) (next : Option ℕ) (start : ℕ) → next ≡ Some start → AreRows section fde initial s input next → IsAtRow section fde initial s input start
 at_row section fde initial s input next start is rows = subst (λ (o : Option ℕ). IfSome o (IsAtRow section fde initial s input)) is rows
 
-pub has_run : (section : List ℕ) (fde : Fde) (initial : List Rule) (s t : State) (input next : Input FrameFault) (start : ℕ) → IsAtRow section fde initial s input start
+pub has_run : (section : List ℕ) (fde : Fde) (initial : List Rule) (s t : FrameState) (input next : Input FrameFault) (start : ℕ) → IsAtRow section fde initial s input start
     → length next.at.whole < 2 ^ 32 → (is_past (Some start) t ≡ false → length (left_of next.at) ≡ 0)
     → ((address later : ℕ) → (let o : Option ℕ = Some start in o) ≡ Some address → address ≤ later → run_all (Some later) initial fde.cie.factors input s ≡ resumed (Some later) initial fde.cie.factors next t)
     → HasRun section fde initial start t next
@@ -51,10 +51,10 @@ has_run section fde initial s t input next start at short ended later =
     }
 
 -- the rules of a state
-abbrev pub rules_in : Fde → State → Rules
+abbrev pub rules_in : Fde → FrameState → Rules
 rules_in fde t = record { cfa = t.cfa; regs = t.regs; return_register = fde.cie.return_address_register }
 
-rules_here : (section : List ℕ) (fde : Fde) (address : ℕ) (t : State) → after_fde (Some address) section fde ≡ Ok t → rules_of section address fde ≡ Some (rules_in fde t)
+rules_here : (section : List ℕ) (fde : Fde) (address : ℕ) (t : FrameState) → after_fde (Some address) section fde ≡ Ok t → rules_of section address fde ≡ Some (rules_in fde t)
 unfolding rules_of
 rules_here section fde address t is = ap (rules_with fde.cie) is
 
@@ -82,7 +82,7 @@ from_behind fde address le =
 
 -- ---- a row that ends where the location rises above its start
 
-pub past_row : (section : List ℕ) (fde : Fde) (initial : List Rule) (start : ℕ) (t : State) (next : Input FrameFault) (row : Row) → HasRun section fde initial start t next → start < t.location
+pub past_row : (section : List ℕ) (fde : Fde) (initial : List Rule) (start : ℕ) (t : FrameState) (next : Input FrameFault) (row : Row) → HasRun section fde initial start t next → start < t.location
     → row ≡ record { start = start; end = row_end fde start t.location } → IsRow section fde row (Some (rules_in fde t))
 past_row section fde initial start t next row run past is =
     let ends : row.end ≡ min t.location (fde_range fde).end = ap (λ (r : Row). r.end) is ∙ end_past fde start t.location past in
@@ -97,7 +97,7 @@ past_row section fde initial start t next row run past is =
           rules_here section fde address t (run.states address (omega arith) ∙ resumed_past address initial fde.cie.factors next t (omega arith));
     }
 
-pub next_past : (section : List ℕ) (fde : Fde) (initial : List Rule) (start : ℕ) (t : State) (next : Input FrameFault) → HasRun section fde initial start t next → start < t.location
+pub next_past : (section : List ℕ) (fde : Fde) (initial : List Rule) (start : ℕ) (t : FrameState) (next : Input FrameFault) → HasRun section fde initial start t next → start < t.location
     → AreRows section fde initial t next (row_from fde t.location)
 next_past section fde initial start t next run past = go (nat_lt t.location (fde_range fde).end) refl
   where
@@ -132,7 +132,7 @@ from_past fde start location end next past is ends = is ∙ from_end_past fde st
 
 -- ---- the last row
 
-pub last_row : (section : List ℕ) (fde : Fde) (initial : List Rule) (start : ℕ) (t : State) (next : Input FrameFault) (row : Row) → HasRun section fde initial start t next → t.location ≤ start
+pub last_row : (section : List ℕ) (fde : Fde) (initial : List Rule) (start : ℕ) (t : FrameState) (next : Input FrameFault) (row : Row) → HasRun section fde initial start t next → t.location ≤ start
     → row ≡ record { start = start; end = row_end fde start t.location } → IsRow section fde row (Some (rules_in fde t))
 last_row section fde initial start t next row run le is =
     let ends : row.end ≡ (fde_range fde).end = ap (λ (r : Row). r.end) is ∙ end_last fde start t.location le in
@@ -153,7 +153,7 @@ from_last fde start location end le ends = sym (from_behind fde (fde_range fde).
 
 -- ---- a row whose instructions are at fault
 
-faulty : (section : List ℕ) (fde : Fde) (initial : List Rule) (s : State) (input : Input FrameFault) (start : ℕ) (fault : FrameFault) (row : Row) → IsAtRow section fde initial s input start
+faulty : (section : List ℕ) (fde : Fde) (initial : List Rule) (s : FrameState) (input : Input FrameFault) (start : ℕ) (fault : FrameFault) (row : Row) → IsAtRow section fde initial s input start
     → ((address later : ℕ) → (let o : Option ℕ = Some start in o) ≡ Some address → address ≤ later → run_all (Some later) initial fde.cie.factors input s ≡ Err fault)
     → row ≡ record { start = start; end = (fde_range fde).end } → IsRow section fde row None
 faulty section fde initial s input start fault row at later is =
@@ -170,7 +170,7 @@ faulty section fde initial s input start fault row at later is =
           no_rules_here section fde address fault (at.states address (omega arith) ∙ resumed_here address initial fde.cie.factors input s (omega arith) ∙ later start address refl (omega arith));
     }
 
-pub faulty_row : (section : List ℕ) (fde : Fde) (initial : List Rule) (s : State) (input : Input FrameFault) (start : ℕ) (fail : Fail FrameFault) (fault : FrameFault) (range : AddressRange) → IsAtRow section fde initial s input start
+pub faulty_row : (section : List ℕ) (fde : Fde) (initial : List Rule) (s : FrameState) (input : Input FrameFault) (start : ℕ) (fail : Fail FrameFault) (fault : FrameFault) (range : AddressRange) → IsAtRow section fde initial s input start
     → fail ≡ fails.Fault fault → ((address later : ℕ) → (let o : Option ℕ = Some start in o) ≡ Some address → address ≤ later → FailsBy fail (run_all (Some later) initial fde.cie.factors input s))
     → range ≡ fde_range fde → IsRow section fde (record { start = start; end = range.end }) None
 faulty_row section fde initial s input start fail fault range at is later range_is =
@@ -182,15 +182,13 @@ from_fault fde range is = sym (from_behind fde (fde_range fde).end (omega arith)
 
 -- ---- the row that was made
 
-pub row_is : (fde : Fde) (start end location : ℕ) (t : State) → end ≡ row_end fde start location → location ≡ t.location
+pub row_is : (fde : Fde) (start end location : ℕ) (t : FrameState) → end ≡ row_end fde start location → location ≡ t.location
     → (let row : Row = record { start = start; end = end } in row) ≡ record { start = start; end = row_end fde start t.location }
 row_is fde start end location t ends at = ap (λ (n : ℕ). (let row : Row = record { start = start; end = n } in row)) (ends ∙ ap (row_end fde start) at)
 
 pub is_next : (section : List ℕ) (fde : Fde) (n : Option ℕ) (found : Option Rules) (before after : FdeRows) (row : Row) → record { section = section; fde = fde; next = n; rules = found } ≡ before → n ≡ Some row.start → after.next ≡ row_from fde row.end → IsRow section fde row after.rules
     → IsNextRow before after row
 is_next section fde n found before after row view from to is = subst (λ (b : FdeRows). IsNextRow b after row) view (record { is = is; start = from; next = to })
-
--- ---- the first row
 
 -- ---- the FDE that is the first to hold all of its addresses
 
@@ -201,12 +199,29 @@ first_holder fdes number fde is first address held =
     let high : address < (fde_range fde).end = grind (arith, nat_tests) in
     find_by_table (holds address) fde_range fdes ∙ ap (λ (o : Option ℕ). option_and_then (λ i. slice_get fdes i) o) (first address low high) ∙ is
 
+-- what `Rows::of` makes of an FDE
+abbrev pub Made : List ℕ → Fde → Result (Option FdeRows) Memory → Type 0
+Made section fde r = IfOk r (λ rows. MatchOption rows (IsErr (after_cie section fde.cie)) (λ rows. rows ≡ record { section = section; fde = fde; next = row_from fde fde.initial_location; rules = None }))
+
+stands_at : (frames : Frames) (fdes : List Fde) (fde : Fde) (found : Option Fde) (number : ℕ) → fdes ≡ frames.fdes → found ≡ slice_get fdes number → found ≡ Some fde → slice_get frames.fdes number ≡ Some fde
+stands_at frames fdes fde found number all at is = sym (ap (λ (fs : List Fde). slice_get fs number) all) ∙ sym at ∙ is
+
 pub first_of : (frames : Frames) (section : List ℕ) (fdes : List Fde) (fde : Fde) (found : Option Fde) (range : AddressRange) (number : ℕ) (r : Result (Option FdeRows) Memory) → section ≡ frames.section → fdes ≡ frames.fdes
     → found ≡ slice_get fdes number → found ≡ Some fde → range ≡ fde_range fde → IsFirst (map fde_range frames.fdes) range.start range.end number
-    → IfOk r (λ rows. IfSome rows (λ rows. rows ≡ record { section = section; fde = fde; next = row_from fde fde.initial_location; rules = None })) → IfOk r (λ rows. IfSome rows (AreFirst frames))
+    → Made section fde r → IfOk r (λ rows. IfSome rows (AreFirst frames))
 first_of frames section fdes fde found range number (Err memory) same all at is range_is first made = tt
 first_of frames section fdes fde found range number (Ok None) same all at is range_is first made = tt
 first_of frames section fdes fde found range number (Ok (Some rows)) same all at is range_is first made =
     let P : AddressRange → Type 0 = λ r. IsFirst (map fde_range frames.fdes) r.start r.end number in
-    let stands : slice_get frames.fdes number ≡ Some fde = sym (ap (λ (fs : List Fde). slice_get fs number) all) ∙ sym at ∙ is in
-    subst (AreFirst frames) (sym made) (record { section = same; first = first_holder frames.fdes number fde stands (subst P range_is first); next = refl })
+    subst (AreFirst frames) (sym made) (record { section = same; first = first_holder frames.fdes number fde (stands_at frames fdes fde found number all at is) (subst P range_is first); next = refl })
+
+-- ---- whose rows are given
+
+pub given_of : (frames : Frames) (section : List ℕ) (fdes : List Fde) (fde : Fde) (found : Option Fde) (number : ℕ) (r : Result (Option FdeRows) Memory) → section ≡ frames.section → fdes ≡ frames.fdes
+    → found ≡ slice_get fdes number → found ≡ Some fde → Made section fde r → IfOk r (λ rows. MatchOption rows (AreNone frames number) (AreOf frames number))
+given_of frames section fdes fde found number (Err memory) same all at is made = tt
+given_of frames section fdes fde found number (Ok None) same all at is made =
+    let P : List ℕ → Type 0 = λ bs. IsErr (after_cie bs fde.cie) in
+    inr (record { fde = fde; stands = stands_at frames fdes fde found number all at is; why = inr (subst P same made) })
+given_of frames section fdes fde found number (Ok (Some rows)) same all at is made =
+    stands_at frames fdes fde found number all at is ∙ sym (ap (λ (w : FdeRows). Some w.fde) made)

@@ -1,4 +1,4 @@
--- The entries of `.debug_frame`: each is read once, to what it is or its fault (DWARF 5, section 6.4.1).
+-- The entries of `.debug_frame`, each as what it is or its fault (DWARF 5, section 6.4.1).
 use Rattle.std.specs.Prelude.{ℕ, ℤ, zero, suc, ◌+◌, ◌-◌, ◌==◌, ◌||◌, ◌&&◌, Bool, false, nat_lt, List, [], ◌∷◌, ◌++◌}
 use Rattle.std.specs.Prelude.{length, take, map, find}
 use Rattle.std.specs.Prelude.{Option, Some, None, Result, Ok, Err, if◌then◌else◌}
@@ -15,15 +15,15 @@ use Rattle.cfi_table.specs.declared.fde.Fde.{Fde}
 use Rattle.cfi_table.specs.declared.entry.FrameEntry.{FrameEntry}
 use Rattle.cfi_table.specs.declared.entry.FrameEntry.TheVariants as entries
 use Rattle.cfi_table.specs.Instructions.{Reading, low_32_bits, word_of_signed}
-use Rattle.cfi_table.specs.Rules.{State, no_rules, all_same_value, instruction_fault, run_all}
+use Rattle.cfi_table.specs.Rules.{FrameState, no_rules, all_same_value, fault_here, run_all}
 
 -- ---- where the entries lie
 
--- an entry before those behind it
+-- an entry before those after it
 abbrev pub before_others : Extent → List Extent × Option FrameFault → List Extent × Option FrameFault
 before_others e others = (e ∷ others.0, others.1)
 
--- what stands from a length of 0 on, where these are the entries behind it
+-- what stands from a length of 0 on, where these are the entries after it
 abbrev pub at_zero : ZeroLength → List Extent × Option FrameFault → List Extent × Option FrameFault
 at_zero zero_lengths.PassedOver others = others
 at_zero zero_lengths.EndsList others = ([], None)
@@ -37,13 +37,14 @@ chained z input others (Ok found) =
     if length (left_of found.0.at) == 0 then at_zero z (others found.1)
     else before_others (record { offset = input.at.offset; end = found.1.at.offset }) (others found.1)
 
--- the entries one behind the other, and the fault of the first length that has one, at its offset. At most `room`
+-- the entries one after the other, and the fault of the first length that has one, at its offset. At most `room`
 -- lengths are read: as many as there are bytes are enough
 unfoldable pub chain_from : ZeroLength → ℕ → Input FrameFault → List Extent × Option FrameFault
 chain_from z zero input = ([], None)
 chain_from z (suc room) input =
     if length (left_of input.at) == 0 then ([], None)
-    else chained z input (λ rest. chain_from z room rest) (part_from (record input { missing = instruction_fault input }))
+    else chained z input (λ rest. chain_from z room rest)
+    (part_from (record input { missing = fault_here input }))
 
 -- the entries of a whole section
 abbrev pub extents_by : ZeroLength → List ℕ → List Extent × Option FrameFault
@@ -54,7 +55,7 @@ extents_by z section = chain_from z (length section)
 abbrev pub extents_of : List ℕ → List Extent × Option FrameFault
 extents_of section = extents_by zero_lengths.PassedOver section
 
--- an entry's bytes behind its length; a field that they lack is a fault at the entry
+-- an entry's bytes after its length; a truncated field is a fault at the entry's offset
 abbrev pub body_of : List ℕ → Extent → Input FrameFault
 body_of section e = record {
   at = record { whole = take e.end section; offset = e.offset + 4 };
@@ -121,17 +122,17 @@ instructions_of section e = record {
 }
 
 -- the rules after a CIE's initial instructions
-unfoldable pub after_cie : List ℕ → Cie → Result State FrameFault
+unfoldable pub after_cie : List ℕ → Cie → Result FrameState FrameFault
 after_cie section cie = run_all None all_same_value cie.factors
     (instructions_of section cie.initial_instructions) no_rules
 
 -- the rules after an FDE's instructions, up to the first that moves the location past the limit
-abbrev pub continued : Option ℕ → List ℕ → Fde → State → Result State FrameFault
+abbrev pub continued : Option ℕ → List ℕ → Fde → FrameState → Result FrameState FrameFault
 continued limit section fde initial =
     run_all limit initial.regs fde.cie.factors (instructions_of section fde.instructions)
     (record initial { location = fde.initial_location })
 
-unfoldable pub after_fde : Option ℕ → List ℕ → Fde → Result State FrameFault
+unfoldable pub after_fde : Option ℕ → List ℕ → Fde → Result FrameState FrameFault
 after_fde limit section fde = do
   initial ← after_cie section fde.cie
   continued limit section fde initial
@@ -142,7 +143,7 @@ abbrev pub is_id : Reading ℕ → Bool
 is_id (Err fault) = false
 is_id (Ok found) = found.0 == DW_CIE_ID
 
--- the word behind its length says that an entry is a CIE
+-- the word after its length, CIE_id, says that an entry is a CIE
 abbrev pub is_cie : List ℕ → Extent → Bool
 is_cie section e = is_id (number_from 4 (body_of section e))
 
@@ -163,13 +164,13 @@ checked_cie section (Some cie) = do
   Ok (entries.Cie cie)
 
 -- an FDE's instructions are carried out, unless its CIE's are at fault
-abbrev pub checked_fde : List ℕ → Fde → Result State FrameFault → Result FrameEntry FrameFault
+abbrev pub checked_fde : List ℕ → Fde → Result FrameState FrameFault → Result FrameEntry FrameFault
 checked_fde section fde (Err fault) = Ok (entries.Fde fde)
 checked_fde section fde (Ok initial) = do
   after ← continued None section fde initial
   Ok (entries.Fde fde)
 
--- an FDE's fields behind CIE_pointer: initial_location and address_range
+-- an FDE's fields after CIE_pointer: initial_location and address_range
 unfoldable pub fde_fields_from : Input FrameFault → Reading (ℕ × ℕ)
 fde_fields_from input = do
   (initial_location, input) ← number_from 4 input
@@ -210,8 +211,8 @@ read_entry section extents e = do
     checked_cie section cie)
       else fde_by section e input (cie_at section extents id)
 
--- behind the entries may stand a faulty length
-abbrev pub at_end : Option FrameFault → List (Result FrameEntry FrameFault)
+-- a faulty length may stand after the entries
+abbrev pub at_end : {X : Type 0} → Option FrameFault → List (Result X FrameFault)
 at_end None = []
 at_end (Some fault) = Err fault ∷ []
 

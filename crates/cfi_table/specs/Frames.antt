@@ -16,7 +16,7 @@ use Rattle.cfi_table.specs.declared.entry.FrameEntry.{FrameEntry}
 use Rattle.cfi_table.specs.declared.entry.FrameEntry.TheVariants as entries
 use Rattle.cfi_table.specs.declared.fault.FrameFault.{FrameFault}
 use Rattle.cfi_table.specs.declared.rules.Rules.{Rules}
-use Rattle.cfi_table.specs.Rules.{State}
+use Rattle.cfi_table.specs.Rules.{FrameState}
 use Rattle.cfi_table.specs.Entries.{after_fde, entries_of}
 
 -- the section's bytes, and its FDEs that count, in section order
@@ -56,7 +56,7 @@ abbrev pub fde_at : Frames → ℕ → Option Fde
 fde_at frames address = find (λ fde. holds address (fde_range fde)) frames.fdes
 
 -- the rules of a state; a section that was read has no fault
-abbrev pub rules_with : Cie → Result State FrameFault → Option Rules
+abbrev pub rules_with : Cie → Result FrameState FrameFault → Option Rules
 rules_with cie (Err fault) = None
 rules_with cie (Ok s) = Some (record { cfa = s.cfa; regs = s.regs; return_register = cie.return_address_register })
 

@@ -1,5 +1,5 @@
 -- Call frame instructions: their opcodes and operands (DWARF 5, sections 6.4.2 and 7.24).
-use Rattle.std.specs.Prelude.{ℕ, ℤ, ◌*◌, ◌/◌, ◌%◌, ◌^◌, ◌==◌, ◌||◌, Bool, Result, Ok, Err, if◌then◌else◌}
+use Rattle.std.specs.Prelude.{ℕ, ℤ, ◌-◌, ◌*◌, ◌%◌, ◌^◌, ◌==◌, ◌||◌, Bool, Result, Ok, Err, if◌then◌else◌}
 use Rattle.std.specs.Int.{w64, cast_unsigned}
 use Rattle.prof_bytes.specs.Outcome.{◌>>=◌}
 use Rattle.prof_bytes.specs.Fields.{Input, number_from, uleb_from, sleb_from, bytes_from}
@@ -30,7 +30,7 @@ use Rattle.cfi_table.specs.declared.constants.TheConstants.{DW_CFA_val_offset, D
 use Rattle.cfi_table.specs.declared.constants.TheConstants.{DW_CFA_val_expression}
 use Rattle.cfi_table.specs.declared.constants.TheConstants.{DW_CFA_GNU_args_size}
 
--- a value and the input behind it, or a fault
+-- a value and the input after it, or a fault
 abbrev pub Reading : Type 0 → Type 0
 Reading X = Result (X × Input FrameFault) FrameFault
 
@@ -166,17 +166,24 @@ extended_from factors opcode input =
     else if is_rule opcode then register_rule_from factors opcode input
     else cfa_from factors opcode input
 
--- the high two bits of a byte say advance_loc, offset or restore, with an operand in the low six; or that the byte is
--- the opcode
-unfoldable pub opcode_then : AlignmentFactors → ℕ → Input FrameFault → Reading CallFrameInstruction
-opcode_then factors byte input =
-    if byte / 64 == DW_CFA_advance_loc / 64 then Ok (advance_loc factors (byte % 64), input)
-    else if byte / 64 == DW_CFA_offset / 64 then rule_from factors DW_CFA_offset_extended (byte % 64) input
-    else if byte / 64 == DW_CFA_restore / 64 then Ok (Restore (byte % 64), input)
+-- the primary opcode is in the high two bits of a byte, and its operand in the low six (section 7.24)
+abbrev pub primary_opcode : ℕ → ℕ
+primary_opcode byte = byte - byte % 64
+
+abbrev pub primary_operand : ℕ → ℕ
+primary_operand byte = byte % 64
+
+-- the primary opcodes are advance_loc, offset and restore; without one the byte is an extended opcode
+unfoldable pub instruction_after_opcode : AlignmentFactors → ℕ → Input FrameFault → Reading CallFrameInstruction
+instruction_after_opcode factors byte input =
+    if primary_opcode byte == DW_CFA_advance_loc then Ok (advance_loc factors (primary_operand byte), input)
+    else if primary_opcode byte == DW_CFA_offset then
+    rule_from factors DW_CFA_offset_extended (primary_operand byte) input
+    else if primary_opcode byte == DW_CFA_restore then Ok (Restore (primary_operand byte), input)
     else extended_from factors byte input
 
--- an instruction, and the input behind it
+-- an instruction, and the input after it
 unfoldable pub instruction_from : AlignmentFactors → Input FrameFault → Reading CallFrameInstruction
 instruction_from factors input = do
   (byte, input) ← number_from 1 input
-  opcode_then factors byte input
+  instruction_after_opcode factors byte input

@@ -7,7 +7,7 @@ use Rattle.cfi_table.specs.declared.fault.FrameFault.{FrameFault}
 use Rattle.cfi_table.specs.declared.extent.ZeroLength.{ZeroLength}
 use Rattle.cfi_table.specs.declared.instruction.AlignmentFactors.{AlignmentFactors}
 use Rattle.cfi_table.specs.declared.rules.Rule.{Rule}
-use Rattle.cfi_table.specs.Rules.{State, execute, is_past, run_by, run_all}
+use Rattle.cfi_table.specs.Rules.{FrameState, execute, is_past, run_by, run_all}
 use Rattle.cfi_table.specs.Entries.{chain_from}
 
 -- with any larger room the entries are the same
@@ -18,6 +18,6 @@ EntriesHaveRoom = (z : ZeroLength) (room : ℕ) (input : Input FrameFault) → l
 -- and so are the rules after instructions
 abbrev pub InstructionsHaveRoom : Type 0
 InstructionsHaveRoom = (room : ℕ) (limit : Option ℕ) (initial : List Rule) (factors : AlignmentFactors)
-    (input : Input FrameFault) (s : State)
+    (input : Input FrameFault) (s : FrameState)
     → length (left_of input.at) ≤ room → run_by (execute initial) (is_past limit) room factors input s
     ≡ run_all limit initial factors input s

@@ -1,9 +1,9 @@
 -- The rules that call frame instructions make (DWARF 5, sections 6.4.2 and 6.4.3).
 use Rattle.std.specs.Prelude.{◌≡◌, ℕ, ◌≤◌, ◌<◌, ◌+◌, ◌%◌, ◌^◌, ◌==◌, Bool, false, nat_lt, List, [], ◌∷◌}
 use Rattle.std.specs.Prelude.{length, zero, suc, replicate, slice_get}
-use Rattle.std.specs.Prelude.{Option, Some, None, Result, Ok, Err, if◌then◌else◌, unwrap_or}
+use Rattle.std.specs.Prelude.{Option, Some, None, Result, Ok, if◌then◌else◌, unwrap_or}
 use Rattle.std.specs.List.{slice_set}
-use Rattle.std.specs.Option.{option_map_or}
+use Rattle.std.specs.Option.{option_map_or, ok_or}
 use Rattle.prof_bytes.specs.Reading.{left_of}
 use Rattle.prof_bytes.specs.Outcome.{◌>>=◌}
 use Rattle.prof_bytes.specs.Fields.{Input}
@@ -23,7 +23,7 @@ pub record Remembered : Type 0 where
   pub regs : List Rule
 
 -- the location, the rules there, and the rules that were remembered, the latest first
-pub record State : Type 0 where
+pub record FrameState : Type 0 where
   pub location : ℕ
   pub cfa : Cfa
   pub regs : List Rule
@@ -33,13 +33,13 @@ pub record State : Type 0 where
 abbrev pub all_same_value : List Rule
 all_same_value = replicate 32 rules.Kept
 
-abbrev pub no_rules : State
+abbrev pub no_rules : FrameState
 no_rules = record { location = 0; cfa = cfas.Missing; regs = all_same_value; remembered = [] }
 
 -- ---- what an instruction makes of the rules; nothing where it is at fault
 
 -- a rule for a register; those of registers from 32 on are passed over
-abbrev pub with_rule : ℕ → Rule → State → State
+abbrev pub with_rule : ℕ → Rule → FrameState → FrameState
 with_rule register rule s = if nat_lt register 32 then record s { regs = slice_set s.regs register rule } else s
 
 abbrev pub rule_at : List Rule → ℕ → Rule
@@ -50,37 +50,37 @@ abbrev pub AreSameValue : List Rule → ℕ → ℕ → Type 0
 AreSameValue regs from to = (register : ℕ) → from ≤ register → register < to → rule_at regs register ≡ rules.Kept
 
 -- def_cfa: no register above 31
-abbrev pub with_cfa : ℕ → ℕ → State → Option State
+abbrev pub with_cfa : ℕ → ℕ → FrameState → Option FrameState
 with_cfa register offset s = if nat_lt register 32 then Some (record s { cfa = cfas.Register register offset })
     else None
 
 -- def_cfa_register keeps the offset, which is 0 where no rule has been given yet
-abbrev pub with_cfa_register : ℕ → Cfa → State → Option State
+abbrev pub with_cfa_register : ℕ → Cfa → FrameState → Option FrameState
 with_cfa_register register cfas.Missing s = with_cfa register 0 s
 with_cfa_register register (cfas.Register old offset) s = with_cfa register offset s
 with_cfa_register register cfas.Expression s = None
 
 -- def_cfa_offset keeps the register, of which there must be one
-abbrev pub with_cfa_offset : ℕ → Cfa → State → Option State
+abbrev pub with_cfa_offset : ℕ → Cfa → FrameState → Option FrameState
 with_cfa_offset offset cfas.Missing s = None
 with_cfa_offset offset (cfas.Register register old) s = Some (record s { cfa = cfas.Register register offset })
 with_cfa_offset offset cfas.Expression s = None
 
 -- register(R): no source above 31
-abbrev pub with_source : ℕ → ℕ → State → Option State
+abbrev pub with_source : ℕ → ℕ → FrameState → Option FrameState
 with_source register source s =
     if nat_lt register 32 then (if nat_lt source 32 then Some (with_rule register (rules.Copy source) s) else None)
     else Some s
 
-abbrev pub with_remembered : List Remembered → State → Option State
+abbrev pub with_remembered : List Remembered → FrameState → Option FrameState
 with_remembered [] s = None
 with_remembered (r ∷ older) s = Some (record s { cfa = r.cfa; regs = r.regs; remembered = older })
 
-abbrev pub remembering : State → State
+abbrev pub remembering : FrameState → FrameState
 remembering s = record s { remembered = record { cfa = s.cfa; regs = s.regs } ∷ s.remembered }
 
 -- `initial` are the rules after the CIE's instructions, to which restore goes back
-abbrev pub execute : List Rule → CallFrameInstruction → State → Option State
+abbrev pub execute : List Rule → CallFrameInstruction → FrameState → Option FrameState
 execute initial instructions.Nop s = Some s
 execute initial (instructions.SetLoc address) s = Some (record s { location = address })
 execute initial (instructions.AdvanceLoc delta) s = Some (record s { location = (s.location + delta) % 2 ^ 32 })
@@ -101,21 +101,16 @@ execute initial instructions.RestoreState s = with_remembered s.remembered s
 
 -- ---- instructions one after another
 
--- a value, or the fault where there is none
-abbrev pub or_fault : {X : Type 0} → FrameFault → Option X → Result X FrameFault
-or_fault fault None = Err fault
-or_fault fault (Some x) = Ok x
-
--- an instruction's fault is told by its offset
-abbrev pub instruction_fault : Input FrameFault → FrameFault
-instruction_fault input = record { offset = input.at.offset }
+-- an instruction's fault is its offset
+abbrev pub fault_here : Input FrameFault → FrameFault
+fault_here input = record { offset = input.at.offset }
 
 -- one instruction, carried out in a state by `execution`
 abbrev pub step_by : {S : Type 0} → (CallFrameInstruction → S → Option S) → AlignmentFactors → Input FrameFault → S
     → Reading S
 step_by execution factors input s = do
-  (instruction, next) ← instruction_from factors (record input { missing = instruction_fault input })
-  t ← or_fault (instruction_fault input) (execution instruction s)
+  (instruction, next) ← instruction_from factors (record input { missing = fault_here input })
+  t ← ok_or (execution instruction s) (fault_here input)
   Ok (t, next)
 
 -- the state after the instructions up to the first after which it stops, or the fault of the first that has one.
@@ -130,10 +125,11 @@ run_by execution stops (suc room) factors input s =
     >>= λ done. if stops done.0 then Ok done.0 else run_by execution stops room factors done.1 done.0
 
 -- the location is above the limit, if there is one
-abbrev pub is_past : Option ℕ → State → Bool
+abbrev pub is_past : Option ℕ → FrameState → Bool
 is_past limit s = option_map_or (λ address. nat_lt address s.location) limit false
 
 -- the rules after the instructions, up to the first that moves the location past the limit
-abbrev pub run_all : Option ℕ → List Rule → AlignmentFactors → Input FrameFault → State → Result State FrameFault
+abbrev pub run_all
+    : Option ℕ → List Rule → AlignmentFactors → Input FrameFault → FrameState → Result FrameState FrameFault
 run_all limit initial factors input s = run_by (execute initial) (is_past limit)
     (length (left_of input.at)) factors input s

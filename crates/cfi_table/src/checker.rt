@@ -2,7 +2,7 @@
 ghost use Rattle.std.specs.Prelude.{◌≡◌, ◌<◌, ◌^◌, [], ◌∷◌, None, Some, IfOk, MatchBool, length, reverse};
 ghost use Rattle.prof_bytes.specs.Outcome.{Gives, GivesFrom};
 ghost use Rattle.cfi_table.specs.Rules.{step_by};
-ghost use Rattle.cfi_table.specs.private.KnownCies.{end_seen};
+ghost use Rattle.cfi_table.specs.private.KnownCies.{forms_seen};
 ghost use Rattle.cfi_table.specs.private.Checking.{no_forms, to_register, to_remembered, execute_forms, run_forms};
 
 use crate::fault::FrameFault;
@@ -20,17 +20,17 @@ pub enum CfaForm {
     Expression,
 }
 
-/// The form in force after instructions, and those that they remembered, the latest last.
+/// The form in force after a CIE's instructions, and those that they remembered, the latest last.
 #[derive(Drop)]
-pub struct CieEnd {
-    pub now: CfaForm,
+pub struct InitialCfaForms {
+    pub current: CfaForm,
     pub remembered: Vec<CfaForm>,
 }
 
 /// The form in force, and those that were remembered.
 #[derive(Drop)]
 pub struct Checker<'a> {
-    now: CfaForm,
+    current: CfaForm,
     remembered: CfaFormStack<'a>,
 }
 
@@ -39,7 +39,7 @@ impl<'a> Model for Checker<'a> {
 
     ghost Value = { CfaForms };
 
-    ghost view = { λ checker. record { now = checker.now; remembered = checker.remembered } };
+    ghost view = { λ checker. record { current = checker.current; remembered = checker.remembered } };
 }
 
 impl<'a> Checker<'a> {
@@ -48,32 +48,33 @@ impl<'a> Checker<'a> {
         ensures { result ≡ no_forms }
     {
         Checker {
-            now: CfaForm::Missing,
+            current: CfaForm::Missing,
             remembered: CfaFormStack::over(alloc, &[]),
         }
     }
 
     /// The forms are those after a CIE's instructions.
-    pub fn after(alloc: Global, end: &'a CieEnd) -> Checker<'a>
-        ensures { result ≡ end_seen end.entry.now }
+    pub fn after(alloc: Global, forms: &'a InitialCfaForms) -> Checker<'a>
+        ensures { result ≡ forms_seen forms.entry.now }
     {
         Checker {
-            now: end.now,
-            remembered: CfaFormStack::over(alloc, &end.remembered),
+            current: forms.current,
+            remembered: CfaFormStack::over(alloc, &forms.remembered),
         }
     }
 
-    pub fn end(&self, alloc: Global) -> Result<CieEnd, Memory>
-        ensures { IfOk result (λ end. end_seen end ≡ self.entry.now) }
+    /// The form in force and those that were remembered, for other checkers to begin with.
+    pub fn forms(&self, alloc: Global) -> Result<InitialCfaForms, Memory>
+        ensures { IfOk result (λ forms. forms_seen forms ≡ self.entry.now) }
     {
         let remembered = self.remembered.all(alloc)?;
-        Ok(CieEnd {
-            now: self.now,
+        Ok(InitialCfaForms {
+            current: self.current,
             remembered,
         })
     }
 
-    /// The CFA is a register and an offset from now on. False where there is no such register.
+    /// Sets the form to a register and an offset. False if there is no such register.
     fn to_register(&mut self, register: u64) -> bool
         ensures { MatchBool result (to_register register self.old ≡ Some self.new)
             ((to_register register self.old ≡ None) × (self.new ≡ self.old)) }
@@ -81,7 +82,7 @@ impl<'a> Checker<'a> {
         if register >= 32 {
             return false;
         }
-        self.now = CfaForm::Register;
+        self.current = CfaForm::Register;
         true
     }
 
@@ -91,35 +92,35 @@ impl<'a> Checker<'a> {
     {
         match self.remembered.pop() {
             Some(form) => {
-                self.now = form;
+                self.current = form;
                 true
             }
             None => false,
         }
     }
 
-    /// Carries out an instruction. False where it is at fault.
+    /// Carries out an instruction. False if it is at fault.
     pub fn execute(&mut self, instruction: CallFrameInstruction) -> Result<bool, Memory>
         ensures { IfOk result (λ done. MatchBool done (execute_forms instruction self.old ≡ Some self.new)
             ((execute_forms instruction self.old ≡ None) × (self.new ≡ self.old))) }
     {
         match instruction {
             CallFrameInstruction::RememberState => {
-                self.remembered.push(self.now)?;
+                self.remembered.push(self.current)?;
                 Ok(true)
             }
             CallFrameInstruction::RestoreState => Ok(self.restore()),
             CallFrameInstruction::DefCfa { register, .. } => Ok(self.to_register(register)),
-            CallFrameInstruction::DefCfaRegister(register) => match self.now {
+            CallFrameInstruction::DefCfaRegister(register) => match self.current {
                 CfaForm::Expression => Ok(false),
                 _ => Ok(self.to_register(register)),
             },
-            CallFrameInstruction::DefCfaOffset(_) => match self.now {
+            CallFrameInstruction::DefCfaOffset(_) => match self.current {
                 CfaForm::Register => Ok(true),
                 _ => Ok(false),
             },
             CallFrameInstruction::DefCfaExpression => {
-                self.now = CfaForm::Expression;
+                self.current = CfaForm::Expression;
                 Ok(true)
             }
             CallFrameInstruction::Register { register, source } => {

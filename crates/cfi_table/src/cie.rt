@@ -1,12 +1,12 @@
 //! Common information entries (DWARF 5, section 6.4.1).
-ghost use Rattle.std.specs.Prelude.{◌≡◌, ◌+◌, ◌<◌, ◌≤◌, ◌^◌, Some, None, IfOk, IfSome, length};
+ghost use Rattle.std.specs.Prelude.{◌≡◌, ◌<◌, ◌^◌, Some, None, IfOk, IfSome, length};
 ghost use Rattle.prof_bytes.specs.Reading.{left_of};
 ghost use Rattle.prof_bytes.specs.Fields.{Input};
 ghost use Rattle.prof_bytes.specs.Outcome.{GivesAt};
 ghost use Rattle.cfi_table.specs.declared.fault.FrameFault.{FrameFault};
 ghost use Rattle.cfi_table.specs.Entries.{register_from, cie_with, cie_from_factors, cie_from_segment, cie_from_sizes};
 ghost use Rattle.cfi_table.specs.Entries.{cie_from_augmentation, cie_from, cie_of};
-ghost use Rattle.cfi_table.specs.private.Placed.{IsPlaced, IsCieIn};
+ghost use Rattle.cfi_table.specs.private.Placed.{IsUpTo, IsPlaced, IsCieIn};
 
 use crate::extent::{Extent, body};
 use crate::fault::FrameFault;
@@ -22,7 +22,10 @@ pub(crate) struct Cie {
 }
 
 /// The return address register. In version 1 it has one byte.
-fn register(version: u8, reader: &mut Reader<'_, FrameFault>) -> Result<u64, FrameFault>
+pub fn return_address_register(
+    version: u8,
+    reader: &mut Reader<'_, FrameFault>,
+) -> Result<u64, FrameFault>
     ensures { GivesAt (λ n. n) result reader.new (register_from version reader.old) }
 {
     if version == 1 {
@@ -35,8 +38,7 @@ fn register(version: u8, reader: &mut Reader<'_, FrameFault>) -> Result<u64, Fra
 fn cie_with(end: u32, code_factor: u64, data_factor: i64, register: u64, left: usize) -> Option<Cie>
     ensures cie { (input : Input FrameFault) → left ≡ length (left_of input.at) → result
         ≡ cie_with end code_factor data_factor register input }
-    ensures placed { IfSome result (λ c. (c.initial_instructions.offset ≤ c.initial_instructions.end)
-        × (c.initial_instructions.end ≡ end)) }
+    ensures placed { IfSome result (λ c. IsUpTo end c.initial_instructions) }
 {
     if register >= 32 {
         return None;
@@ -61,12 +63,11 @@ fn from_factors(
     reader: &mut Reader<'_, FrameFault>,
 ) -> Result<Option<Cie>, FrameFault>
     ensures cie { result ≡ cie_from_factors end version reader.old }
-    ensures placed { IfOk result (λ cie. IfSome cie
-        (λ c. (c.initial_instructions.offset ≤ c.initial_instructions.end) × (c.initial_instructions.end ≡ end))) }
+    ensures placed { IfOk result (λ cie. IfSome cie (λ c. IsUpTo end c.initial_instructions)) }
 {
     let code_factor = reader.uleb()?;
     let data_factor = reader.sleb()?;
-    let register = register(version, reader)?;
+    let register = return_address_register(version, reader)?;
     Ok(cie_with(end, code_factor, data_factor, register, reader.left()))
 }
 
@@ -77,8 +78,7 @@ fn from_segment(
     reader: &mut Reader<'_, FrameFault>,
 ) -> Result<Option<Cie>, FrameFault>
     ensures cie { result ≡ cie_from_segment end version reader.old }
-    ensures placed { IfOk result (λ cie. IfSome cie
-        (λ c. (c.initial_instructions.offset ≤ c.initial_instructions.end) × (c.initial_instructions.end ≡ end))) }
+    ensures placed { IfOk result (λ cie. IfSome cie (λ c. IsUpTo end c.initial_instructions)) }
 {
     let segment_selector_size = reader.u8()?;
     if segment_selector_size == 0 {
@@ -95,8 +95,7 @@ fn from_sizes(
     reader: &mut Reader<'_, FrameFault>,
 ) -> Result<Option<Cie>, FrameFault>
     ensures cie { result ≡ cie_from_sizes end version reader.old }
-    ensures placed { IfOk result (λ cie. IfSome cie
-        (λ c. (c.initial_instructions.offset ≤ c.initial_instructions.end) × (c.initial_instructions.end ≡ end))) }
+    ensures placed { IfOk result (λ cie. IfSome cie (λ c. IsUpTo end c.initial_instructions)) }
 {
     if version != 4 {
         return from_factors(end, version, reader);
@@ -116,8 +115,7 @@ fn from_augmentation(
     reader: &mut Reader<'_, FrameFault>,
 ) -> Result<Option<Cie>, FrameFault>
     ensures cie { result ≡ cie_from_augmentation end version reader.old }
-    ensures placed { IfOk result (λ cie. IfSome cie
-        (λ c. (c.initial_instructions.offset ≤ c.initial_instructions.end) × (c.initial_instructions.end ≡ end))) }
+    ensures placed { IfOk result (λ cie. IfSome cie (λ c. IsUpTo end c.initial_instructions)) }
 {
     let augmentation = reader.cstr()?;
     if augmentation.is_empty() {
@@ -127,15 +125,14 @@ fn from_augmentation(
     }
 }
 
-/// The fields behind a CIE's id, in an entry that ends there. `None` where it is passed over.
+/// The CIE's fields after `CIE_id`, up to `end`. `None` if the CIE is skipped.
 #[tactic(auto, unfolding(crate::specs::Entries::cie_from))]
 pub(crate) fn cie_from(
     end: u32,
     reader: &mut Reader<'_, FrameFault>,
 ) -> Result<Option<Cie>, FrameFault>
     ensures cie { result ≡ cie_from end reader.old }
-    ensures placed { IfOk result (λ cie. IfSome cie
-        (λ c. (c.initial_instructions.offset ≤ c.initial_instructions.end) × (c.initial_instructions.end ≡ end))) }
+    ensures placed { IfOk result (λ cie. IfSome cie (λ c. IsUpTo end c.initial_instructions)) }
 {
     let version = reader.u8()?;
     if version == 1 || version == 3 || version == 4 {

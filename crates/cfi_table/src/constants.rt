@@ -1,6 +1,6 @@
-//! Call frame instructions by their opcodes (DWARF 5, section 7.24), and what a CIE is told by.
+//! Call frame instructions by their opcodes (DWARF 5, section 7.24), and the ids of CIEs.
 
-/// The word behind its length says that an entry of `.debug_frame` is a CIE (DWARF 5, section 7.24).
+/// The CIE_id, which follows an entry's length if it is a CIE of `.debug_frame` (DWARF 5, section 7.24).
 pub const DW_CIE_ID: u32 = 0xffff_ffff;
 
 pub const DW_CFA_advance_loc: u8 = 0x40;

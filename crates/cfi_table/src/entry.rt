@@ -1,4 +1,5 @@
-//! Entries, each of which is read once: to what it is or its fault.
+//! Entries, each as what it is or its fault. CIEs are read first, so that an FDE finds its own; then all entries in
+//! their order.
 ghost use Rattle.std.specs.Prelude.{◌≡◌, ◌+◌, ◌<◌, ◌≤◌, ◌^◌, List, Some, None, Ok, IfOk, All, map, filter};
 ghost use Rattle.std.specs.List.{filter_map};
 ghost use Rattle.prof_bytes.specs.Outcome.{Gives, viewed};
@@ -10,9 +11,9 @@ ghost use Rattle.cfi_table.specs.Entries.{read_entry};
 ghost use Rattle.cfi_table.specs.Frames.{all_ok, counted_fde};
 ghost use Rattle.cfi_table.specs.private.Placed.{AreRising, IsPlaced, IsWithin, IsCieIn, IsFdeIn, IsEntryIn};
 ghost use Rattle.cfi_table.specs.private.Checking.{forms_after};
-ghost use Rattle.cfi_table.specs.private.KnownCies.{end_seen, known, seen_cie, IsKnown};
+ghost use Rattle.cfi_table.specs.private.KnownCies.{forms_seen, known, seen_cie, IsKnown};
 
-use crate::checker::{Checker, CieEnd};
+use crate::checker::{Checker, InitialCfaForms};
 use crate::cie::{Cie, cie_from};
 use crate::constants::DW_CIE_ID;
 use crate::extent::{Extent, body, instructions};
@@ -49,21 +50,21 @@ fn checked_cie(
     Ok(FrameEntry::Cie(cie))
 }
 
-/// An FDE, whose instructions are carried out from the end of its CIE's on, unless these are at fault.
+/// An FDE, whose instructions are carried out after its CIE's, unless these are at fault.
 #[tactic(auto, using(crate::proofs::Entries::fde_unchecked))]
 fn checked_fde(
     alloc: Global,
     section: &[u8],
     fde: Fde,
-    end: &Result<CieEnd, FrameFault>,
+    initial: &Result<InitialCfaForms, FrameFault>,
 ) -> Result<FrameEntry, Fail<FrameFault>>
     requires placed { IsFdeIn section.now fde }
-    requires known { viewed end_seen end.now ≡ forms_after (after_cie section.now fde.cie) }
+    requires known { viewed forms_seen initial.now ≡ forms_after (after_cie section.now fde.cie) }
     ensures entry { Gives (λ entry. entry) result (checked_fde section.now fde (after_cie section.now fde.cie)) }
     ensures placed { IfOk result (IsEntryIn section.now) }
 {
-    if let Ok(end) = end {
-        let mut checker = Checker::after(alloc, end);
+    if let Ok(forms) = initial {
+        let mut checker = Checker::after(alloc, forms);
         let mut reader = instructions(section, &fde.instructions);
         checker.run(&fde.cie.factors, &mut reader)?;
     }
@@ -104,7 +105,7 @@ fn read_fde(
         Ok(Some(cie)) => {
             let fields = fde_fields(reader)?;
             let fde = fde_with(extent, cie, fields, reader);
-            checked_fde(alloc, section, fde, &known.end)
+            checked_fde(alloc, section, fde, &known.initial_forms)
         }
         Err(_) => {
             fde_fields(reader)?;

@@ -24,7 +24,7 @@ pub enum ZeroLength {
     EndsList,
 }
 
-/// An entry's bytes behind its length. A field that they lack is a fault at the entry.
+/// The bytes of an entry after its length. A truncated field is a fault at the entry's offset.
 pub fn body<'a>(section: &'a [u8], extent: &Extent) -> Reader<'a, FrameFault>
     requires { IsPlaced section.now extent.now }
     ensures { result ≡ body_of section.now extent.now }
@@ -36,7 +36,7 @@ pub fn body<'a>(section: &'a [u8], extent: &Extent) -> Reader<'a, FrameFault>
     Reader::new(bytes, extent.offset as usize + 4, missing)
 }
 
-/// Instructions as they are read.
+/// A reader of an extent's instructions.
 pub fn instructions<'a>(section: &'a [u8], extent: &Extent) -> Reader<'a, FrameFault>
     requires { IsWithin section.now extent.now }
     ensures reader { result ≡ instructions_of section.now extent.now }

@@ -31,7 +31,7 @@ impl HasRange for Fde {
     }
 }
 
-/// The fields behind CIE_pointer: initial_location and address_range.
+/// The fields after CIE_pointer: initial_location and address_range.
 #[tactic(auto, unfolding(crate::specs::Entries::fde_fields_from))]
 pub(crate) fn fde_fields(reader: &mut Reader<'_, FrameFault>) -> Result<(u32, u32), FrameFault>
     ensures { GivesAt (λ fields. (fields.0, fields.1)) result reader.new (fde_fields_from reader.old) }

@@ -1,12 +1,12 @@
 //! A section's call frames, and the rules at an address.
 ghost use Rattle.std.specs.Prelude.{◌≡◌, ◌+◌, ◌<◌, ◌≤◌, ◌^◌, Some, None, IfOk, IfSome, All, length, map, option_map};
-ghost use Rattle.std.specs.Prelude.{slice_get};
+ghost use Rattle.std.specs.Prelude.{slice_get, MatchOption};
 ghost use Rattle.std.specs.Option.{option_map_or};
 ghost use Rattle.prof_bytes.specs.Outcome.{Gives};
 ghost use Rattle.cfi_table.specs.Entries.{after_fde};
 ghost use Rattle.cfi_table.specs.Frames.{frames_of, fde_at, rules_of, rules_at, instruction_bytes};
 ghost use Rattle.cfi_table.specs.Frames.{least_above, lesser};
-ghost use Rattle.cfi_table.specs.Rows.{AreFirst};
+ghost use Rattle.cfi_table.specs.Rows.{AreFirst, AreNone, AreOf};
 ghost use Rattle.cfi_table.specs.private.Placed.{IsFdeIn};
 
 use crate::entry::counted_fdes;
@@ -52,8 +52,8 @@ fn table_of(alloc: Global, section: &[u8], fdes: Vec<Fde>) -> Result<FrameTable,
     Ok(FrameTable { section, fdes })
 }
 
-/// The frames of `.debug_frame`, or its first fault in section order. The section has fewer than
-/// 2^31 bytes. Of the image the segments are looked at, by which ranges count.
+/// The frames of `.debug_frame` (DWARF 5, section 6.4.1), or its first fault in section order. The section has fewer
+/// than 2^31 bytes. Of the image the segments are looked at, by which ranges count.
 #[tactic(auto, unfolding(crate::specs::Frames::frames_of))]
 pub fn read_frames(
     alloc: Global,
@@ -131,7 +131,8 @@ fn least_start_above(fdes: &[Fde], low: u32) -> Option<u32>
     least
 }
 
-fn fde_with(fdes: &[Fde], number: usize) -> Option<Fde>
+/// The FDE with that number in section order.
+fn fde_at_index(fdes: &[Fde], number: usize) -> Option<Fde>
     ensures { result ≡ slice_get fdes.now number }
 {
     fdes.get(number).copied()
@@ -179,11 +180,13 @@ impl FrameTable {
     }
 
     /// The rows of the FDE with that number, in section order, where it is the first to hold each of its
-    /// addresses; nothing where another one is.
+    /// addresses; nothing where another one is, where no FDE has the number, or where its CIE's instructions are at
+    /// fault.
     pub fn rows_of(&self, number: usize) -> Result<Option<Rows<'_>>, Memory>
-        ensures { IfOk result (λ rows. IfSome rows (AreFirst self.now)) }
+        ensures first { IfOk result (λ rows. IfSome rows (AreFirst self.now)) }
+        ensures number { IfOk result (λ rows. MatchOption rows (AreNone self.now number) (AreOf self.now number)) }
     {
-        let Some(fde) = fde_with(self.fdes.items(), number) else {
+        let Some(fde) = fde_at_index(self.fdes.items(), number) else {
             return Ok(None);
         };
         if !self.fdes.is_first(fde.range(), number) {

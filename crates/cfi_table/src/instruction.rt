@@ -1,12 +1,13 @@
 //! Call frame instructions (DWARF 5, section 6.4.2).
-ghost use Rattle.std.specs.Prelude.{◌≡◌, ◌*◌, ◌/◌, ◌%◌, ◌^◌};
+ghost use Rattle.std.specs.Prelude.{◌≡◌, ◌*◌, ◌%◌, ◌^◌};
 ghost use Rattle.std.specs.Int.{w64, cast_unsigned};
 ghost use Rattle.prof_bytes.specs.Outcome.{GivesAt};
 ghost use Rattle.cfi_table.specs.Instructions.{scaled, low_32_bits, word_of_signed, offset_from, factored_from};
 ghost use Rattle.cfi_table.specs.Instructions.{factored_sf_from};
 ghost use Rattle.cfi_table.specs.Instructions.{block_from, advance_loc, cfa_from, rule_from, is_rule};
 ghost use Rattle.cfi_table.specs.Instructions.{register_rule_from};
-ghost use Rattle.cfi_table.specs.Instructions.{extended_from, opcode_then, instruction_from};
+ghost use Rattle.cfi_table.specs.Instructions.{extended_from, primary_opcode, primary_operand};
+ghost use Rattle.cfi_table.specs.Instructions.{instruction_after_opcode, instruction_from};
 
 use crate::constants::{
     DW_CFA_GNU_args_size, DW_CFA_advance_loc, DW_CFA_advance_loc1, DW_CFA_advance_loc2,
@@ -20,8 +21,8 @@ use crate::constants::{
 use crate::fault::FrameFault;
 use prof_bytes::Reader;
 
-/// What an instruction does. Offsets and steps are multiplied already and modulo 2^32; registers are as the
-/// instruction names them.
+/// What an instruction does (DWARF 5, section 6.4.2). Offsets and steps are multiplied already and modulo 2^32;
+/// registers are as the instruction names them.
 #[derive(Clone, Copy)]
 pub enum CallFrameInstruction {
     Nop,
@@ -43,7 +44,7 @@ pub enum CallFrameInstruction {
     RestoreState,
 }
 
-/// A CIE's factors, by which steps of the location and offsets are multiplied, modulo 2^32.
+/// A CIE's factors (DWARF 5, section 6.4.1), by which steps of the location and offsets are multiplied, modulo 2^32.
 #[derive(Clone, Copy, Debug, PartialEq, Eq)]
 pub struct AlignmentFactors {
     pub code_alignment_factor: u32,
@@ -102,8 +103,9 @@ fn factored_sf(
 
 /// Passes over a block: its length, and that many bytes.
 #[tactic(auto, unfolding(crate::specs::Instructions::block_from))]
-fn block(reader: &mut Reader<'_, FrameFault>) -> Result<u64, FrameFault>
-    ensures { GivesAt (λ n. n) result reader.new (block_from reader.old) }
+pub fn pass_block(reader: &mut Reader<'_, FrameFault>) -> Result<u64, FrameFault>
+    ensures block { GivesAt (λ n. n) result reader.new (block_from reader.old) }
+    ensures whole { reader.new.at.whole ≡ reader.old.at.whole }
 {
     let size = reader.uleb()?;
     reader.take(size as usize)?;
@@ -142,7 +144,7 @@ fn cfa_instruction(
             Ok(CallFrameInstruction::DefCfaOffset(factored_sf(factors, reader)?))
         }
         DW_CFA_def_cfa_expression => {
-            block(reader)?;
+            pass_block(reader)?;
             Ok(CallFrameInstruction::DefCfaExpression)
         }
         _ => Err(reader.missing()),
@@ -183,11 +185,11 @@ fn rule_instruction(
             Ok(CallFrameInstruction::Register { register, source })
         }
         DW_CFA_expression => {
-            block(reader)?;
+            pass_block(reader)?;
             Ok(CallFrameInstruction::Expression(register))
         }
         _ => {
-            block(reader)?;
+            pass_block(reader)?;
             Ok(CallFrameInstruction::ValExpression(register))
         }
     }
@@ -205,10 +207,10 @@ fn register_rule(
     rule_instruction(factors, opcode, register, reader)
 }
 
-/// The instruction of an opcode that has the whole byte.
+/// The instruction of an extended opcode, which has the whole byte.
 #[inline(always)]
 #[tactic(auto, unfolding(crate::specs::Instructions::extended_from))]
-fn extended(
+fn extended_instruction(
     factors: &AlignmentFactors,
     opcode: u8,
     reader: &mut Reader<'_, FrameFault>,
@@ -241,31 +243,43 @@ fn extended(
     }
 }
 
+/// The primary opcode, in the high two bits of a byte (DWARF 5, section 7.24).
+fn primary_opcode(byte: u8) -> u8
+    ensures { result ≡ primary_opcode byte }
+{
+    byte - byte % 64
+}
+
+/// The operand of a primary opcode, in the low six bits of its byte.
+fn primary_operand(byte: u8) -> u8
+    ensures { result ≡ primary_operand byte }
+{
+    byte % 64
+}
+
+/// The instruction whose first byte, with its opcode, was read already.
 #[inline(always)]
-#[tactic(auto, unfolding(crate::specs::Instructions::opcode_then))]
-pub fn opcode_then(
+#[tactic(auto, unfolding(crate::specs::Instructions::instruction_after_opcode))]
+pub fn instruction_after_opcode(
     factors: &AlignmentFactors,
     byte: u8,
     reader: &mut Reader<'_, FrameFault>,
 ) -> Result<CallFrameInstruction, FrameFault>
-    ensures { GivesAt (λ i. i) result reader.new (opcode_then factors.now byte reader.old) }
+    ensures { GivesAt (λ i. i) result reader.new (instruction_after_opcode factors.now byte reader.old) }
 {
-    let high = byte / 64;
-    let operand = byte % 64;
-    if high == DW_CFA_advance_loc / 64 {
-        return Ok(advance_loc(factors, u32::from(operand)));
+    let operand = primary_operand(byte);
+    match primary_opcode(byte) {
+        DW_CFA_advance_loc => Ok(advance_loc(factors, u32::from(operand))),
+        DW_CFA_offset => {
+            rule_instruction(factors, DW_CFA_offset_extended, u64::from(operand), reader)
+        }
+        DW_CFA_restore => Ok(CallFrameInstruction::Restore(u64::from(operand))),
+        _ => extended_instruction(factors, byte, reader),
     }
-    if high == DW_CFA_offset / 64 {
-        return rule_instruction(factors, DW_CFA_offset_extended, u64::from(operand), reader);
-    }
-    if high == DW_CFA_restore / 64 {
-        return Ok(CallFrameInstruction::Restore(u64::from(operand)));
-    }
-    extended(factors, byte, reader)
 }
 
-/// The instruction that is next. It is at fault where its opcode is none of those that are read, or an
-/// operand runs past the end or is too wide.
+/// The instruction that is next. It is at fault if its opcode is not supported, or an operand runs past the end or is
+/// too wide.
 #[inline(always)]
 #[tactic(auto, unfolding(crate::specs::Instructions::instruction_from))]
 pub fn next_instruction(
@@ -275,5 +289,5 @@ pub fn next_instruction(
     ensures { GivesAt (λ i. i) result reader.new (instruction_from factors.now reader.old) }
 {
     let byte = reader.u8()?;
-    opcode_then(factors, byte, reader)
+    instruction_after_opcode(factors, byte, reader)
 }

@@ -25,9 +25,9 @@ pub(crate) struct Interpreter {
 }
 
 impl Model for Interpreter {
-    ghost use Rattle.cfi_table.specs.Rules.{State};
+    ghost use Rattle.cfi_table.specs.Rules.{FrameState};
 
-    ghost Value = { State };
+    ghost Value = { FrameState };
 
     ghost view = { λ interpreter. record {
       location = interpreter.location;

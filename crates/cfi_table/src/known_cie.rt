@@ -6,9 +6,9 @@ ghost use Rattle.prof_bytes.specs.Outcome.{Gives, viewed};
 ghost use Rattle.cfi_table.specs.Entries.{cie_of, is_cie, after_cie};
 ghost use Rattle.cfi_table.specs.private.Placed.{AreRising, IsPlaced, IsWithin, IsCieIn};
 ghost use Rattle.cfi_table.specs.private.Checking.{forms_after};
-ghost use Rattle.cfi_table.specs.private.KnownCies.{forms_of_cie, end_seen, known, seen_cie, IsKnown};
+ghost use Rattle.cfi_table.specs.private.KnownCies.{forms_of_cie, forms_seen, known, seen_cie, IsKnown};
 
-use crate::checker::{Checker, CieEnd};
+use crate::checker::{Checker, InitialCfaForms};
 use crate::cie::{Cie, cie_of};
 use crate::constants::DW_CIE_ID;
 use crate::extent::{Extent, body, instructions};
@@ -22,7 +22,7 @@ use std::alloc::Global;
 pub(crate) struct KnownCie {
     pub(crate) offset: u32,
     pub(crate) cie: Result<Option<Cie>, FrameFault>,
-    pub(crate) end: Result<CieEnd, FrameFault>,
+    pub(crate) initial_forms: Result<InitialCfaForms, FrameFault>,
 }
 
 fn is_cie(section: &[u8], extent: &Extent) -> bool
@@ -48,19 +48,20 @@ pub(crate) fn run_cie(
     Ok(checker)
 }
 
-fn end_of(
+/// The forms after the CIE's instructions or their first fault; no form where it isn't read.
+fn initial_forms_of(
     alloc: Global,
     section: &[u8],
     cie: &Result<Option<Cie>, FrameFault>,
-) -> Result<Result<CieEnd, FrameFault>, Memory>
+) -> Result<Result<InitialCfaForms, FrameFault>, Memory>
     requires { IsCieIn section.now cie.now }
-    ensures { IfOk result (λ end. viewed end_seen end ≡ forms_of_cie section.now cie.now) }
+    ensures { IfOk result (λ forms. viewed forms_seen forms ≡ forms_of_cie section.now cie.now) }
 {
     let Ok(Some(cie)) = cie else {
-        return Ok(Ok(Checker::none(alloc).end(alloc)?));
+        return Ok(Ok(Checker::none(alloc).forms(alloc)?));
     };
     match run_cie(alloc, section, cie) {
-        Ok(checker) => Ok(Ok(checker.end(alloc)?)),
+        Ok(checker) => Ok(Ok(checker.forms(alloc)?)),
         Err(Fail::Fault(fault)) => Ok(Err(fault)),
         Err(Fail::Memory(memory)) => Err(memory),
     }
@@ -72,11 +73,11 @@ fn known(alloc: Global, section: &[u8], extent: &Extent) -> Result<KnownCie, Mem
     ensures is { IfOk result (IsKnown section.now) }
 {
     let cie = cie_of(section, extent);
-    let end = end_of(alloc, section, &cie)?;
+    let initial_forms = initial_forms_of(alloc, section, &cie)?;
     Ok(KnownCie {
         offset: extent.offset,
         cie,
-        end,
+        initial_forms,
     })
 }
 

@@ -24,7 +24,8 @@ mod rows;
 mod rule_map;
 mod rules;
 
-pub use checker::{CfaForm, Checker, CieEnd};
+pub use checker::{CfaForm, Checker, InitialCfaForms};
+pub use cie::return_address_register;
 pub use constants::{
     DW_CFA_GNU_args_size, DW_CFA_advance_loc, DW_CFA_advance_loc1, DW_CFA_advance_loc2,
     DW_CFA_advance_loc4, DW_CFA_def_cfa, DW_CFA_def_cfa_expression, DW_CFA_def_cfa_offset,
@@ -38,8 +39,9 @@ pub use extent::{Extent, ZeroLength, all_extents, body, instructions};
 pub use fault::FrameFault;
 pub use frames::{FrameTable, read_frames};
 pub use instruction::{
-    AlignmentFactors, CallFrameInstruction, opcode_then, word_of, word_of_signed,
+    AlignmentFactors, CallFrameInstruction, instruction_after_opcode, pass_block, word_of,
+    word_of_signed,
 };
-pub use laws::bytes_are_room_enough;
+pub use laws::counts_are_at_most_bytes;
 pub use rows::{Row, Rows};
 pub use rules::{Cfa, Rule, Rules, RulesRef};

@@ -1,7 +1,7 @@
 //! The rows of an FDE (DWARF 5, section 6.4.1).
-ghost use Rattle.std.specs.Prelude.{◌≡◌, ◌+◌, ◌<◌, ◌≤◌, ◌^◌, None, Some, IfOk, IfSome, MatchOption, length, min};
-ghost use Rattle.std.specs.Prelude.{nat_lt, if◌then◌else◌};
-ghost use Rattle.cfi_table.specs.Entries.{after_fde};
+ghost use Rattle.std.specs.Prelude.{◌≡◌, ◌+◌, ◌<◌, ◌≤◌, ◌^◌, None, Some, IfOk, MatchOption, length, min};
+ghost use Rattle.std.specs.Prelude.{nat_lt, if◌then◌else◌, IsErr};
+ghost use Rattle.cfi_table.specs.Entries.{after_cie, after_fde};
 ghost use Rattle.cfi_table.specs.Frames.{instruction_bytes, fde_range, size_of};
 ghost use Rattle.cfi_table.specs.Rows.{row_from, IsNextRow};
 ghost use Rattle.cfi_table.specs.private.Placed.{IsFdeIn};
@@ -21,7 +21,7 @@ use std::marker::Model;
 pub struct Row {
     /// The first of them.
     pub start: u32,
-    /// The address behind the last, 2^32 at most.
+    /// The address after the last, 2^32 at most.
     pub end: u64,
 }
 
@@ -88,12 +88,13 @@ impl<'a> Rows<'a> {
         fde: &Fde,
     ) -> Result<Option<Rows<'a>>, Memory>
         requires { IsFdeIn section.now fde.now }
-        ensures { IfOk result (λ rows. IfSome rows (λ rows. rows ≡ record {
-          section = section.now;
-          fde = fde.now;
-          next = row_from fde.now fde.now.initial_location;
-          rules = None;
-        })) }
+        ensures { IfOk result (λ rows. MatchOption rows (IsErr (after_cie section.now fde.now.cie)) (λ rows. rows
+            ≡ record {
+              section = section.now;
+              fde = fde.now;
+              next = row_from fde.now fde.now.initial_location;
+              rules = None;
+            })) }
     {
         let mut state = Interpreter::none(alloc);
         let mut reader = instructions(section, &fde.cie.initial_instructions);
@@ -122,7 +123,7 @@ impl<'a> Rows<'a> {
         size_of(&self.fde.instructions) + size_of(&self.fde.cie.initial_instructions)
     }
 
-    /// The next row; nothing behind the last one. It ends at the first instruction that moves the location
+    /// The next row; nothing after the last one. It ends at the first instruction that moves the location
     /// past its start.
     pub fn next_row(&mut self) -> Result<Option<Row>, Memory>
         ensures section { self.new.section ≡ self.old.section }

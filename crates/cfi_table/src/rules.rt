@@ -5,7 +5,7 @@ ghost use Rattle.cfi_table.specs.private.Changed.{AreChanged};
 
 use std::marker::Model;
 
-/// Where the canonical frame address (CFA) is.
+/// Where the canonical frame address (CFA) is (DWARF 5, section 6.4.1).
 #[derive(Clone, Copy, Debug, PartialEq, Eq)]
 pub enum Cfa {
     /// No rule is in force.
@@ -16,8 +16,8 @@ pub enum Cfa {
     Expression,
 }
 
-/// How a register's value in the caller is found. Offsets are in bytes from the canonical frame address,
-/// modulo 2^32.
+/// How a register's value in the caller is found (DWARF 5, section 6.4.1). Offsets are in bytes from the canonical
+/// frame address, modulo 2^32.
 #[derive(Clone, Copy, Debug, PartialEq, Eq)]
 pub enum Rule {
     /// Same value: it is the same as here.
@@ -85,12 +85,14 @@ impl<'a> RulesRef<'a> {
         }
     }
 
+    /// Where the canonical frame address is.
     pub fn cfa(&self) -> Cfa
         ensures { result ≡ self.now.cfa }
     {
         self.cfa
     }
 
+    /// The number of the register that has the return address.
     pub fn return_register(&self) -> u8
         ensures { result ≡ self.now.return_register }
     {

@@ -12,7 +12,8 @@ use Rattle.cfi_unwind.specs.declared.caller.Activation.{Activation}
 use Rattle.cfi_unwind.specs.declared.caller.Unwound.{Unwound}
 use Rattle.cfi_unwind.specs.declared.caller.Unwound.TheVariants.{Ends}
 use Rattle.cfi_unwind.specs.Region.{is_in}
-use Rattle.cfi_unwind.specs.Caller.{Words, Unwinding, sum, is_undefined, has_expression, cfa_of, is_unmapped, callers_registers}
+use Rattle.prof_bytes.specs.Number.{word_sum}
+use Rattle.cfi_unwind.specs.Caller.{Words, Unwinding, is_undefined, has_expression, cfa_of, is_unmapped, callers_registers}
 use Rattle.cfi_unwind.specs.Caller.{first_end, rules_or_none, cfa_or_zero, caller_by, unwound_as, caller_of}
 use Rattle.cfi_unwind.specs.private.Stepwise.{caller_with, caller_if}
 
@@ -29,7 +30,7 @@ memory_tests words registers found cfa =
 
 abbrev pub caller_over_cfa : Words → List ℕ → Rules → ℕ → Activation
 caller_over_cfa words registers found cfa = record {
-  pc = sum (get_or (callers_registers words registers cfa found.regs) found.return_register 0) (2 ^ 32 - 4);
+  pc = word_sum (get_or (callers_registers words registers cfa found.regs) found.return_register 0) (2 ^ 32 - 4);
   registers = callers_registers words registers cfa found.regs;
 }
 
@@ -43,7 +44,7 @@ by_cfa words registers found (Some cfa) =
     one_test unmapped (Partial causes.Unmapped) ((outermost, Whole) ∷ []) caller
     ∙ ap (λ (x : Unwound). cond unmapped (Ends (Partial causes.Unmapped)) x) (one_test outermost Whole [] caller)
 
--- the tests behind the first
+-- the tests after the first
 abbrev pub later_tests : Words → Activation → Option Rules → List (Bool × End)
 later_tests words here found =
     let rules = rules_or_none found in

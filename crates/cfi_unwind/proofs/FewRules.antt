@@ -12,7 +12,8 @@ use Rattle.cfi_table.specs.declared.rules.Rule.TheVariants as rules
 use Rattle.cfi_table.specs.Rules.{rule_at, AreSameValue}
 use Rattle.cfi_unwind.specs.declared.unwind_rule.RegisterRule.{RegisterRule}
 use Rattle.cfi_unwind.specs.declared.saved_registers.SavedRegister.{SavedRegister}
-use Rattle.cfi_unwind.specs.Caller.{Words, sum, is_expression, is_unmapped, recovered, recovered_all}
+use Rattle.prof_bytes.specs.Number.{word_sum}
+use Rattle.cfi_unwind.specs.Caller.{Words, is_expression, is_unmapped, recovered, recovered_all}
 use Rattle.cfi_unwind.specs.private.UnwindRules.{is_kept, is_unmapped_register, recovered_each, saved_rule, AreSaved, Recovers}
 use Rattle.cfi_unwind.proofs.Recovering.{value_at, given_by, rule_here}
 
@@ -59,22 +60,22 @@ rule_of saved count d low = get_or-map saved_rule saved count d (saved_rule d) l
 as_many : (saved : List SavedRegister) → length (map saved_rule saved) ≡ length saved
 as_many saved = length-map saved saved_rule
 
-pub loads_next : (words : Words) (registers : List ℕ) (cfa : ℕ) (saved : List SavedRegister) (count : ℕ) (values : List ℕ) (value : ℕ) (d : SavedRegister) → count < length saved → Some value ≡ words (sum cfa (get_or saved count d).offset)
+pub loads_next : (words : Words) (registers : List ℕ) (cfa : ℕ) (saved : List SavedRegister) (count : ℕ) (values : List ℕ) (value : ℕ) (d : SavedRegister) → count < length saved → Some value ≡ words (word_sum cfa (get_or saved count d).offset)
     → RecoveringEach words registers cfa (map saved_rule saved) count values → RecoveringEach words registers cfa (map saved_rule saved) (count + 1) (set values (get_or saved count d).register value)
 loads_next words registers cfa saved count values value d low found before =
     let each : SavedRegister = get_or saved count d in
     let here = rule_of saved count d low in
     let many = as_many saved in
     let Made : RegisterRule → Type 0 = λ r. Some value ≡ cond (is_unmapped words cfa r.rule) None (Some (recovered words registers cfa (get_or registers r.register 0) r.rule)) in
-    let made : Made (get_or (map saved_rule saved) count (saved_rule d)) = subst Made (sym here) (loaded (words (sum cfa each.offset)) value found) in
+    let made : Made (get_or (map saved_rule saved) count (saved_rule d)) = subst Made (sym here) (loaded (words (word_sum cfa each.offset)) value found) in
     let Next : RegisterRule → Type 0 = λ r. RecoveringEach words registers cfa (map saved_rule saved) (count + 1) (set values r.register value) in
     subst Next here (goes_on words registers cfa (map saved_rule saved) count values (get_or registers (get_or (map saved_rule saved) count (saved_rule d)).register 0) value (saved_rule d) (omega arith) refl made before)
 
-pub fails_loading : (words : Words) (cfa : ℕ) (saved : List SavedRegister) (count : ℕ) (d : SavedRegister) → count < length saved → None ≡ words (sum cfa (get_or saved count d).offset) → list_any (is_unmapped_register words cfa) (map saved_rule saved) ≡ true
+pub fails_loading : (words : Words) (cfa : ℕ) (saved : List SavedRegister) (count : ℕ) (d : SavedRegister) → count < length saved → None ≡ words (word_sum cfa (get_or saved count d).offset) → list_any (is_unmapped_register words cfa) (map saved_rule saved) ≡ true
 fails_loading words cfa saved count d low none =
     let many = as_many saved in
     list_any_at (is_unmapped_register words cfa) (map saved_rule saved) count (saved_rule d) (omega arith)
-    (ap (is_unmapped_register words cfa) (rule_of saved count d low) ∙ missing (words (sum cfa (get_or saved count d).offset)) none)
+    (ap (is_unmapped_register words cfa) (rule_of saved count d low) ∙ missing (words (word_sum cfa (get_or saved count d).offset)) none)
 
 pub all_loaded : (words : Words) (registers : List ℕ) (cfa : ℕ) (saved : List SavedRegister) (count : ℕ) (values : List ℕ) → length saved ≤ count → RecoveringEach words registers cfa (map saved_rule saved) count values
     → (list_any (is_unmapped_register words cfa) (map saved_rule saved) ≡ false) × (values ≡ recovered_each words registers cfa (map saved_rule saved) registers)

@@ -179,7 +179,7 @@ none_if None b e is = refl
 none_if (Some x) true e is = absurd cc
 none_if (Some x) false e is = absurd cc
 
--- words behind all FDEs get the first unwind rule
+-- words after all FDEs get the first unwind rule
 pub keeps_last : (frames : Frames) (index after : Index) (low count : ℕ) → after.first ≡ index.first → after.unwind_rules.items ≡ index.unwind_rules.items → IsFilled index.ids.items after.ids.items low count 0 → low < length index.ids.items → count ≤ length index.ids.items
     → ((address : ℕ) → 4 * (index.first + low) ≤ address → rules_at frames address ≡ None) → KeepsIndex frames index after
 keeps_last frames index after low count first items filled some within none is =

@@ -1,5 +1,6 @@
 -- The caller of an activation by the rules of call frame information (DWARF 5, section 6.4.4; RISC-V psABI, "DWARF
 -- register numbers").
+use Rattle.prof_bytes.specs.Number.{word_sum}
 use Rattle.std.specs.Prelude.{ℕ, ◌+◌, ◌-◌, ◌%◌, ◌^◌, ◌==◌, ◌||◌, Bool, true, false, List, [], ◌∷◌, map, get_or}
 use Rattle.std.specs.Prelude.{slice_set, find, Option, Some, None}
 use Rattle.std.specs.Prelude.{is_none, unwrap_or, option_map}
@@ -22,10 +23,6 @@ use Rattle.cfi_unwind.specs.Region.{is_in}
 -- the word of four bytes at each address, nothing where it can't be loaded
 abbrev pub Words : Type 0
 Words = ℕ → Option ℕ
-
--- of 32 bits
-abbrev pub sum : ℕ → ℕ → ℕ
-sum a b = (a + b) % 2 ^ 32
 
 -- ---- what the rules say
 
@@ -57,14 +54,14 @@ has_expression found = is_cfa_expression found.cfa || list_any is_expression fou
 -- the canonical frame address; nothing where no register and offset give it
 abbrev pub cfa_of : List ℕ → Cfa → Option ℕ
 cfa_of registers cfas.Missing = None
-cfa_of registers (cfas.Register register offset) = Some (sum (get_or registers register 0) offset)
+cfa_of registers (cfas.Register register offset) = Some (word_sum (get_or registers register 0) offset)
 cfa_of registers cfas.Expression = None
 
 -- the register is saved where no word can be loaded
 abbrev pub is_unmapped : Words → ℕ → Rule → Bool
 is_unmapped words cfa rules.Kept = false
 is_unmapped words cfa rules.Undefined = false
-is_unmapped words cfa (rules.Saved offset) = is_none (words (sum cfa offset))
+is_unmapped words cfa (rules.Saved offset) = is_none (words (word_sum cfa offset))
 is_unmapped words cfa (rules.Sum offset) = false
 is_unmapped words cfa (rules.Copy source) = false
 is_unmapped words cfa rules.Expression = false
@@ -75,8 +72,8 @@ is_unmapped words cfa rules.Expression = false
 abbrev pub recovered : Words → List ℕ → ℕ → ℕ → Rule → ℕ
 recovered words registers cfa own rules.Kept = own
 recovered words registers cfa own rules.Undefined = 0
-recovered words registers cfa own (rules.Saved offset) = unwrap_or (words (sum cfa offset)) 0
-recovered words registers cfa own (rules.Sum offset) = sum cfa offset
+recovered words registers cfa own (rules.Saved offset) = unwrap_or (words (word_sum cfa offset)) 0
+recovered words registers cfa own (rules.Sum offset) = word_sum cfa offset
 recovered words registers cfa own (rules.Copy source) = get_or registers source 0
 recovered words registers cfa own rules.Expression = 0
 
@@ -132,7 +129,7 @@ end_tests u words here found =
 -- the caller stands at its call, which is 4 below the return address
 abbrev pub caller_by : Words → Activation → Rules → Activation
 caller_by words here found = record {
-  pc = sum (return_address words here.registers found) (2 ^ 32 - 4);
+  pc = word_sum (return_address words here.registers found) (2 ^ 32 - 4);
   registers = callers_registers words here.registers (cfa_or_zero here.registers found) found.regs;
 }
 

@@ -29,7 +29,7 @@ pub record IsCut (most : ℕ) (u : Unwinding) (words : Words) (last : Activation
   pub depth : path.end ≡ Partial causes.Depth
 
 -- the frames are those of an activation and its callers, up to the first that has none, which says how the path ends;
--- or so many of them
+-- or the first `most` of them
 pub record IsPath (most : ℕ) (u : Unwinding) (words : Words) (here : Activation) (path : Raw) : Type 0 where
   pub outer : List Activation
   pub callers : AreCallers u words here outer

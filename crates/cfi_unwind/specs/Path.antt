@@ -20,7 +20,7 @@ abbrev pub outside : (Activation → Raw) → Unwound → Raw
 outside again (Caller caller) = again caller
 outside again (Ends end) = record { end = end; frames = [] }
 
--- the path from an activation outwards, where it may have so many frames: where another one has no room, it is partial
+-- the path from an activation outwards, of at most that many frames: where another one has no room, it is partial
 unfoldable pub path_from : ℕ → Unwinding → Words → Activation → Raw
 path_from zero u words here = record { end = Partial causes.Depth; frames = [] }
 path_from (suc n) u words here = within here.pc (outside (λ caller. path_from n u words caller)

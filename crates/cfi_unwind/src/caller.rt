@@ -1,11 +1,12 @@
 //! From one frame to its caller's.
+ghost use Rattle.prof_bytes.specs.Number.{word_sum};
 ghost use Rattle.std.specs.Prelude.{◌≡◌, ◌==◌, ◌-◌, ◌^◌, Option, Some, None, if◌then◌else◌, get_or};
 ghost use Rattle.std.specs.List.{list_any};
 ghost use Rattle.cfi_table.specs.Rules.{rule_at};
 ghost use Rattle.scope_types.specs.Raw.{Raw};
 ghost use Rattle.cfi_unwind.specs.private.UnwindRules.{unwound_to};
 ghost use Rattle.cfi_unwind.specs.Caller.{is_undefined, is_expression, has_expression, cfa_of, is_unmapped, recovered};
-ghost use Rattle.cfi_unwind.specs.Caller.{recovered_all, callers_registers, sum};
+ghost use Rattle.cfi_unwind.specs.Caller.{recovered_all, callers_registers};
 ghost use Rattle.cfi_unwind.specs.private.Stepwise.{caller_at, caller_over, caller_from};
 
 use cfi_table::{Cfa, Rule, RulesRef};
@@ -115,7 +116,7 @@ fn recovered_all<L: Look>(
 #[inline(always)]
 pub(crate) fn call_of(registers: &[u32; 32], return_register: u8) -> Option<u32>
     ensures { result ≡ (if get_or registers.now return_register 0 == 0 then None
-        else Some (sum (get_or registers.now return_register 0) (2 ^ 32 - 4))) }
+        else Some (word_sum (get_or registers.now return_register 0) (2 ^ 32 - 4))) }
 {
     let address = value_of(registers, return_register);
     if address == 0 {

@@ -50,7 +50,7 @@ fn id_at(ids: &[u32], number: usize) -> Option<u32>
     ids.get(number).copied()
 }
 
-/// So many words without an id.
+/// Ids of `count` words, none of which is set.
 fn no_ids(alloc: Global, count: usize) -> Result<Vec<u32>, Memory>
     ensures { IfOk result (λ ids. ids.items ≡ replicate count no_id) }
 {
@@ -68,7 +68,7 @@ fn last_unset(ids: &[u32]) -> usize
     low
 }
 
-/// Whether no FDE holds the word of that number or an address behind it.
+/// Whether no FDE holds the word of that number or an address after it.
 fn is_behind(table: &FrameTable, first: u32, number: usize) -> bool
     ensures { result ≡ true → (address : ℕ) → 4 * (first + number) ≤ address → rules_at table.now address ≡ None }
 {
@@ -91,7 +91,7 @@ impl Index {
         }
     }
 
-    /// The index of so many words of code from the first on, for none of which an unwind rule is made ready.
+    /// The index of `count` words of code from the first on, for none of which an unwind rule is made ready.
     fn unset(alloc: Global, first: u32, count: usize) -> Index
         ensures { (frames : Frames) → IsIndex frames result }
     {
@@ -153,7 +153,7 @@ impl Index {
         Ok(())
     }
 
-    /// Sets the ids behind the last FDE, which none holds.
+    /// Sets the ids after the last FDE, which none holds.
     fn add_last(&mut self, table: &FrameTable)
         ensures { KeepsIndex table.now self.old self.new }
     {
@@ -180,8 +180,7 @@ impl Index {
         Some(())
     }
 
-    /// Ends each path whole at the addresses of a region. False where there is no memory for that, or are too many
-    /// unwind rules.
+    /// Ends each path whole at the addresses of a region. False if memory runs out or there are too many unwind rules.
     fn end_whole_in(&mut self, region: (u32, u32)) -> bool
         ensures { result ≡ true → (frames : Frames) → IsIndex frames self.old
             → IsReady (record { frames = frames; region = region }) self.new }
@@ -200,7 +199,7 @@ impl Index {
         }
     }
 
-    /// The index of a program by its rules alone. It lacks unwind rules where there is no memory for them. Each
+    /// The index of a program by its rules alone. It lacks unwind rules if memory runs out. Each
     /// instruction of an FDE that is the first to hold its addresses is carried out once; the others anew for each
     /// address, within the bounds above. Takes time as the program has frame descriptions and words of code.
     fn by_rules(alloc: Global, table: &FrameTable, image: &Image<'_>) -> Index
@@ -216,7 +215,7 @@ impl Index {
         index
     }
 
-    /// The index of a program whose paths end whole in a region. Nothing is in it where there is no memory to say so.
+    /// The index of a program whose paths end whole in a region. It is empty if memory runs out.
     pub(crate) fn of(
         alloc: Global,
         table: &FrameTable,

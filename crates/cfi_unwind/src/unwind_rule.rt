@@ -49,8 +49,8 @@ pub(crate) enum UnwindRule {
     Mixed(FrameLayout, Vec<RegisterRule>),
 }
 
-/// The usual layout, in which the canonical frame address is so many bytes above the stack pointer x2 and x1 has the
-/// return address.
+/// The usual layout, in which the canonical frame address is `cfa_offset` bytes above the stack pointer x2 and x1
+/// has the return address.
 #[inline(always)]
 fn usual(cfa_offset: u32) -> FrameLayout
     ensures { result ≡ usual cfa_offset }

@@ -47,7 +47,7 @@ pub(crate) fn push_rule(
     Ok(id)
 }
 
-/// The id of a new unwind rule that ends the path whole. Nothing where there is no memory, or are too many.
+/// The id of a new unwind rule that ends the path whole. `None` if memory runs out or there are too many.
 pub(crate) fn push_ending(unwind_rules: &mut Vec<UnwindRule>) -> Option<u32>
     ensures keeps { KeepsRules unwind_rules.old.items unwind_rules.new.items }
     ensures few { length unwind_rules.old.items ≤ 2 ^ 20 → length unwind_rules.new.items ≤ 2 ^ 20 }
@@ -77,8 +77,8 @@ pub(crate) fn rule_with(unwind_rules: &[UnwindRule], id: u32) -> Option<&UnwindR
     unwind_rules.get(id as usize)
 }
 
-/// The rules at an address, unless there are not so many bytes of instructions left to be carried out,
-/// or there is no memory.
+/// The rules at an address; `None` if its instructions have more bytes than are left to be carried out, or memory
+/// runs out.
 fn rules_within(table: &FrameTable, pc: u32, left: &mut u64) -> Option<Option<Rules>>
     ensures { IfSome result (λ rules. rules ≡ rules_at table.now pc) }
 {
@@ -87,7 +87,7 @@ fn rules_within(table: &FrameTable, pc: u32, left: &mut u64) -> Option<Option<Ru
 }
 
 /// The id of an unwind rule that follows the rules: that of the latest ones, where these are the same, or that
-/// of a new one. Nothing where there is no memory, or are too many.
+/// of a new one. `None` if memory runs out or there are too many.
 fn id_of(
     alloc: Global,
     unwind_rules: &mut Vec<UnwindRule>,
@@ -113,8 +113,8 @@ fn id_of(
     Some(id)
 }
 
-/// The id of the unwind rule of an address's rules. Nothing where there is no memory, are too many, or not so many
-/// bytes of instructions left to be carried out.
+/// The id of the unwind rule of an address's rules. `None` if memory runs out, there are too many, or its
+/// instructions have more bytes than are left to be carried out.
 #[inline(never)]
 fn id_by_rules(
     alloc: Global,

@@ -32,7 +32,7 @@ none_passed {F = F} input =
 twice_moved : (first others : ℕ) (at : At) → moved others (moved first at) ≡ moved (first + others) at
 twice_moved first others at = ap (λ (n : ℕ). record { whole = at.whole; offset = n }) (let e : at.offset + first + others ≡ at.offset + (first + others) = omega arith in e)
 
--- bytes behind others
+-- bytes after others
 pub passed_twice : {F : Type 0} (first others : ℕ) (input : Input F) → first ≤ length (left_of input.at)
     → passed_by (bytes_from others (record input { at = moved first input.at })) ≡ passed_by (bytes_from (first + others) input)
 passed_twice {F = F} first others input le =

@@ -10,7 +10,7 @@ use Rattle.dwarf_forms.specs.declared.encoding.Size.TheVariants as sizes
 use Rattle.dwarf_forms.specs.declared.encoding.Encoding.{Encoding}
 use Rattle.dwarf_forms.specs.declared.encoding.Encoding.TheVariants as encodings
 use Rattle.dwarf_forms.specs.Forms.{encoding_of}
-use Rattle.dwarf_forms.specs.Values.{FormValue, form_value, as_value, word_value, number_value, Signed, Bytes, Name, Flag, sized_from, block_from, encoded_from}
+use Rattle.dwarf_forms.specs.Values.{FormValue, form_value, as_value, word_value, number_value, Signed, Bytes, Name, Flag, sized_from, sized_block_from, encoded_from}
 use Rattle.dwarf_forms.specs.Values.{known_from, direct_from, named_from, indirect_from, value_from}
 use Rattle.dwarf_forms.proofs.Moves.{Moves, number_moves, uleb_moves, sleb_moves, bytes_moves, text_moves, moves_then, moves_less, uleb_passes, moves_if, stays, keeps}
 
@@ -27,14 +27,14 @@ as_value_moves : {X F : Type 0} (count : ℕ) (value : X → FormValue) (input :
 as_value_moves count value input field moves =
     moves_then 0 0 input field _ (moves_less count 0 input field (omega arith) moves) (λ r. stays r.1 (value r.0))
 
-block_moves : {F : Type 0} (size : Size) (input : Input F) → Moves 1 input (block_from size input)
+block_moves : {F : Type 0} (size : Size) (input : Input F) → Moves 1 input (sized_block_from size input)
 block_moves size input = moves_then 1 0 input (sized_from size input) _ (sized_moves size input) (λ r. moves_less r.0 0 r.1 (bytes_from r.0 r.1) (omega arith) (bytes_moves r.0 r.1))
 
 encoded_moves : {F : Type 0} (encoding : Encoding) (implicit : ℤ) (input : Input F) → Moves 0 input (encoded_from encoding implicit input)
 encoded_moves (encodings.Word class) implicit input = as_value_moves 4 (word_value class) input (number_from 4 input) (number_moves 4 input)
 encoded_moves (encodings.Number size class) implicit input = as_value_moves 1 (number_value class) input (sized_from size input) (sized_moves size input)
 encoded_moves encodings.Sleb implicit input = as_value_moves 1 Signed input (sleb_from input) (sleb_moves input)
-encoded_moves (encodings.Block size) implicit input = as_value_moves 1 Bytes input (block_from size input) (block_moves size input)
+encoded_moves (encodings.Block size) implicit input = as_value_moves 1 Bytes input (sized_block_from size input) (block_moves size input)
 encoded_moves encodings.Data16 implicit input = as_value_moves 16 Bytes input (bytes_from 16 input) (bytes_moves 16 input)
 encoded_moves encodings.String implicit input = as_value_moves 1 Name input (text_from input) (text_moves input)
 encoded_moves encodings.FlagPresent implicit input = stays input (Flag true)

@@ -12,7 +12,7 @@ use Rattle.dwarf_forms.specs.declared.declaration.Spec.{Spec}
 use Rattle.dwarf_forms.specs.declared.declaration.Abbrev.{Abbrev}
 use Rattle.dwarf_forms.specs.declared.declaration.BadTable.{BadTable}
 use Rattle.dwarf_forms.specs.Lists.{with_first, list_from}
-use Rattle.dwarf_forms.specs.Runs.{Step, is_end, before, run_from}
+use Rattle.dwarf_forms.specs.Runs.{RunStep, is_end, before, run_from}
 use Rattle.dwarf_forms.specs.Abbreviations.{implicit_from, unless_closing, attribute_from, attributes_from, declared_from, declaration_from, table_from}
 use Rattle.dwarf_forms.proofs.Items.{Item, Items}
 use Rattle.dwarf_forms.proofs.Moves.{Moves, number_moves, uleb_moves, sleb_moves, moves_then, moves_less, uleb_passes, moves_if, stays}
@@ -60,25 +60,25 @@ list_moves {X = X} {F = F} item takes (suc room) input =
 -- ---- runs
 
 -- a step takes so many bytes or more
-abbrev pub StepMoves : {S X F : Type 0} → ℕ → Input F → Step S X F → Type 0
+abbrev pub StepMoves : {S X F : Type 0} → ℕ → Input F → RunStep S X F → Type 0
 StepMoves count input (Ok t) = length (left_of t.2.at) + count ≤ length (left_of input.at)
 StepMoves count input (Err fault) = Unit {0}
 
-pub step_then : {Y S X F : Type 0} (j k : ℕ) (input : Input F) (first : Result (Y × Input F) F) (next : Y × Input F → Step S X F)
+pub step_then : {Y S X F : Type 0} (j k : ℕ) (input : Input F) (first : Result (Y × Input F) F) (next : Y × Input F → RunStep S X F)
     → Moves j input first → ((r : Y × Input F) → StepMoves k r.1 (next r)) → StepMoves (j + k) input (first >>= next)
 step_then j k input (Err fault) next one others = tt
 step_then {S = S} {X = X} {F = F} j k input (Ok r) next one others = both (next r) (others r)
   where
-    both : (last : Step S X F) → StepMoves k r.1 last → StepMoves (j + k) input last
+    both : (last : RunStep S X F) → StepMoves k r.1 last → StepMoves (j + k) input last
     both (Err fault) two = tt
     both (Ok t) two = let a = one.1 in omega arith
 
-pub step_if : {S X F : Type 0} (count : ℕ) (input : Input F) (b : Bool) (one other : Step S X F)
+pub step_if : {S X F : Type 0} (count : ℕ) (input : Input F) (b : Bool) (one other : RunStep S X F)
     → StepMoves count input one → StepMoves count input other → StepMoves count input (if b then one else other)
 step_if count input true one other a b = a
 step_if count input false one other a b = b
 
-pub same_run : {S X F : Type 0} (step : S → Input F → Step S X F) → ((state : S) (input : Input F) → StepMoves 1 input (step state input))
+pub same_run : {S X F : Type 0} (step : S → Input F → RunStep S X F) → ((state : S) (input : Input F) → StepMoves 1 input (step state input))
     → (m n : ℕ) (state : S) (input : Input F) → length (left_of input.at) ≤ m → length (left_of input.at) ≤ n
     → run_from step m state input ≡ run_from step n state input
 unfolding run_from
@@ -94,7 +94,7 @@ same_run step takes (suc m) zero state input a b =
 same_run {S = S} {X = X} {F = F} step takes (suc m) (suc n) state input a b =
     one (is_end input) (step state input) (takes state input) (λ s after c d. same_run step takes m n s after c d)
   where
-    one : (end : Bool) (read : Step S X F) → StepMoves 1 input read
+    one : (end : Bool) (read : RunStep S X F) → StepMoves 1 input read
         → ((s : S) (after : Input F) → length (left_of after.at) ≤ m → length (left_of after.at) ≤ n → run_from step m s after ≡ run_from step n s after)
         → (if end then Ok [] else read >>= (λ taken. before taken.0 (run_from step m taken.1 taken.2)))
         ≡ (if end then Ok [] else read >>= (λ taken. before taken.0 (run_from step n taken.1 taken.2)))

@@ -10,7 +10,7 @@ use Rattle.dwarf_forms.specs.declared.declaration.BadTable.{BadTable}
 use Rattle.dwarf_forms.specs.Lists.{list_from}
 use Rattle.dwarf_forms.specs.Sections.{input_at}
 
--- the one fault of a table
+-- the fault of a table
 abbrev pub bad : BadTable
 bad = record {}
 
@@ -53,8 +53,8 @@ declared_from offset code input = do
 -- a declaration, or the code 0 that closes the table
 unfoldable pub declaration_from : Input BadTable → Result (Option Abbrev × Input BadTable) BadTable
 declaration_from input = do
-  (code, behind) ← uleb_from input
-  if code == 0 then Ok (None, behind) else declared_from input.at.offset code behind
+  (code, after) ← uleb_from input
+  if code == 0 then Ok (None, after) else declared_from input.at.offset code after
 
 -- the table that begins at an offset
 abbrev pub table_from : Input BadTable → Result (List Abbrev × Input BadTable) BadTable

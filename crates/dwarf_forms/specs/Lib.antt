@@ -5,4 +5,5 @@ pub mod Lists
 pub mod Abbreviations
 pub mod Runs
 pub mod Sections
+pub mod Words
 pub mod private

@@ -4,9 +4,9 @@ use Rattle.prof_bytes.specs.Fields.{Input}
 use Rattle.prof_bytes.specs.Reading.{left_of}
 use Rattle.prof_bytes.specs.Outcome.{◌>>=◌}
 
--- what a step gives: items, the next state, and the input behind it
-abbrev pub Step : Type 0 → Type 0 → Type 0 → Type 0
-Step S X F = Result (List X × S × Input F) F
+-- what a step gives: items, the next state, and the input after it
+abbrev pub RunStep : Type 0 → Type 0 → Type 0 → Type 0
+RunStep S X F = Result (List X × S × Input F) F
 
 -- no bytes are left
 abbrev pub is_end : {F : Type 0} → Input F → Bool
@@ -17,12 +17,12 @@ abbrev pub before : {X F : Type 0} → List X → Result (List X) F → Result (
 before front read = read >>= (λ items. Ok (front ++ items))
 
 -- the items up to the end of the bytes, in at most `room` steps
-unfoldable pub run_from : {S X F : Type 0} → (S → Input F → Step S X F) → ℕ → S → Input F → Result (List X) F
+unfoldable pub run_from : {S X F : Type 0} → (S → Input F → RunStep S X F) → ℕ → S → Input F → Result (List X) F
 run_from step zero state input = Ok []
 run_from step (suc room) state input =
     if is_end input then Ok []
     else step state input >>= (λ taken. before taken.0 (run_from step room taken.1 taken.2))
 
--- the same in as many steps as there are bytes: each step takes one byte or more
-abbrev pub run_to_end : {S X F : Type 0} → (S → Input F → Step S X F) → S → Input F → Result (List X) F
+-- the items up to the end of the bytes, in at most one step for each byte: each step takes one byte or more
+abbrev pub run_to_end : {S X F : Type 0} → (S → Input F → RunStep S X F) → S → Input F → Result (List X) F
 run_to_end step state input = run_from step (length (left_of input.at)) state input

@@ -1,6 +1,5 @@
--- What stands at an offset of a section, and sums of 32 bits.
-use Rattle.std.specs.Prelude.{ℕ, ◌-◌, ◌%◌, ◌^◌, ℤ, pos, negsuc, nat_le, List, length, drop, Option, option_map, Result}
-use Rattle.std.specs.Prelude.{Ok, Err, if◌then◌else◌}
+-- What stands at an offset of a section.
+use Rattle.std.specs.Prelude.{ℕ, nat_le, List, length, drop, Option, option_map, Result, Ok, Err, if◌then◌else◌}
 use Rattle.prof_bytes.specs.Fields.{Input}
 use Rattle.prof_bytes.specs.Reading.{text_at}
 
@@ -15,8 +14,3 @@ input_at section offset missing =
 -- the text at an offset of a section, up to its 0 byte
 abbrev pub text_in : List ℕ → ℕ → Option (List ℕ)
 text_in section offset = option_map (λ r. r.0) (text_at (drop offset section))
-
--- a signed number modulo 2^32
-abbrev pub wrapped : ℤ → ℕ
-wrapped (pos n) = n % 2 ^ 32
-wrapped (negsuc n) = 2 ^ 32 - 1 - n % 2 ^ 32

@@ -1,4 +1,4 @@
--- How many bytes values take whose forms say it. DWARF 5, sections 7.5.5 and 7.5.6.
+-- The number of bytes of values whose forms fix it. DWARF 5, sections 7.5.5 and 7.5.6.
 use Rattle.std.specs.Prelude.{ℕ, ◌+◌, List, [], ◌∷◌, Option, Some, None, option_map, option_and_then, Result, Ok, Err}
 use Rattle.prof_bytes.specs.Fields.{Input}
 use Rattle.dwarf_forms.specs.declared.encoding.Size.{Size}
@@ -16,7 +16,7 @@ number_size Four = Some 4
 number_size Eight = Some 8
 number_size Uleb = None
 
--- the bytes of each value of an encoding, where they are as many for all
+-- the number of bytes of a value of an encoding, where it is the same for all
 abbrev pub encoding_size : Encoding → Option ℕ
 encoding_size (encodings.Word class) = Some 4
 encoding_size (encodings.Number size class) = number_size size
@@ -27,17 +27,17 @@ encoding_size encodings.String = None
 encoding_size encodings.FlagPresent = Some 0
 encoding_size encodings.ImplicitConst = Some 0
 
--- the bytes of each value of a form
+-- the number of bytes of a value of a form, where it is the same for all
 abbrev pub form_size : ℕ → Option ℕ
 form_size form = option_and_then encoding_size (encoding_of form)
 
--- the bytes of all values of these attributes, where each form says how many
+-- the number of bytes of all values of these attributes, where each form fixes it
 abbrev pub fixed_size : List Spec → Option ℕ
 fixed_size [] = Some 0
 fixed_size (spec ∷ specs) =
     option_and_then (λ first. option_map (λ others. first + others) (fixed_size specs)) (form_size spec.form)
 
--- the input behind a value
+-- the input after a value
 abbrev pub passed_by : {X F : Type 0} → Result (X × Input F) F → Result (Unit {0} × Input F) F
 passed_by (Ok r) = Ok (tt, r.1)
 passed_by (Err fault) = Err fault

@@ -87,9 +87,9 @@ as_value value field = do
   (x, input) ← field
   Ok (value x, input)
 
--- bytes behind their length
-abbrev pub block_from : {F : Type 0} → Size → Input F → Result (List ℕ × Input F) F
-block_from size input = do
+-- bytes after their length
+abbrev pub sized_block_from : {F : Type 0} → Size → Input F → Result (List ℕ × Input F) F
+sized_block_from size input = do
   (length, input) ← sized_from size input
   bytes_from length input
 
@@ -98,13 +98,13 @@ abbrev pub encoded_from : {F : Type 0} → Encoding → ℤ → Input F → Resu
 encoded_from (encodings.Word class) implicit input = as_value (word_value class) (number_from 4 input)
 encoded_from (encodings.Number size class) implicit input = as_value (number_value class) (sized_from size input)
 encoded_from encodings.Sleb implicit input = as_value Signed (sleb_from input)
-encoded_from (encodings.Block size) implicit input = as_value Bytes (block_from size input)
+encoded_from (encodings.Block size) implicit input = as_value Bytes (sized_block_from size input)
 encoded_from encodings.Data16 implicit input = as_value Bytes (bytes_from 16 input)
 encoded_from encodings.String implicit input = as_value Name (text_from input)
 encoded_from encodings.FlagPresent implicit input = Ok (Flag true, input)
 encoded_from encodings.ImplicitConst implicit input = Ok (Signed implicit, input)
 
--- the same of an encoding that may be unknown
+-- the value of an encoding; the fault `unknown` where there is none
 abbrev pub known_from : {F : Type 0} → F → Option Encoding → ℤ → Input F → Result (FormValue × Input F) F
 known_from unknown None implicit input = Err unknown
 known_from unknown (Some encoding) implicit input = encoded_from encoding implicit input
@@ -119,18 +119,18 @@ abbrev pub named_from : {F : Type 0} → F → ℕ → Input F → Result (FormV
 named_from unknown form input =
     if form == DW_FORM_implicit_const then Err unknown else direct_from unknown form (pos 0) input
 
--- the value of the form that stands before it
+-- the value of DW_FORM_indirect: the number of a form, and a value of that form
 abbrev pub indirect_from : {F : Type 0} → F → Input F → Result (FormValue × Input F) F
 indirect_from unknown input = do
   (form, input) ← uleb_from input
   named_from unknown form input
 
--- the value of a form, and the input behind it; `unknown` is the fault of a form that is not one of DWARF 5
+-- the value of a form, and the input after it; `unknown` is the fault of a form that is not one of DWARF 5
 unfoldable pub value_from : {F : Type 0} → F → ℕ → ℤ → Input F → Result (FormValue × Input F) F
 value_from unknown form implicit input =
     if form == DW_FORM_indirect then indirect_from unknown input else direct_from unknown form implicit input
 
--- the value of a form at an offset of bytes, and the offset behind it
+-- the value of a form at an offset of bytes, and the offset after it
 abbrev pub form_value_at : ℕ → ℤ → At → Result (FormValue × At) FormFault
 form_value_at form implicit at = do
   (value, input) ← value_from Unknown form implicit (record { at = at; missing = Short })

@@ -12,8 +12,8 @@ use prof_bytes::Fail;
 use std::collections::BTreeMap;
 use std::marker::Model;
 
-/// The bytes of an abbreviation table run out before its closing 0, or a number in it is wider than
-/// 64 bits.
+/// The bytes of an abbreviation table run out before the code 0 that ends it, or a number in it is wider than
+/// 64 bits (DWARF 5, section 7.5.3).
 #[derive(Clone, Copy, Debug, PartialEq, Eq)]
 pub struct BadTable;
 
@@ -25,14 +25,14 @@ impl From<BadTable> for Fail<BadTable> {
     }
 }
 
-/// One attribute of a declaration.
+/// One attribute specification of a declaration (DWARF 5, section 7.5.3).
 #[derive(Clone, Copy, Debug, PartialEq, Eq)]
 pub struct Spec {
     /// The attribute's code.
     pub attribute: u64,
     /// The form of its value.
     pub form: u64,
-    /// The constant that `DW_FORM_implicit_const` keeps here; 0 for every other form.
+    /// The constant of the form `DW_FORM_implicit_const`; 0 for every other form.
     pub implicit: i64,
 }
 
@@ -40,7 +40,7 @@ pub struct Spec {
 #[derive(Debug, Drop)]
 pub struct Specs {
     items: Vec<Spec>,
-    /// The bytes of their values, where their forms say them.
+    /// The number of bytes of their values, where their forms fix it.
     size: Option<u32>,
 }
 
@@ -65,8 +65,8 @@ impl Specs {
         Specs { items, size }
     }
 
-    /// The bytes of the values of an entry with these attributes, where all such entries have as many. `None` also
-    /// where they are 2^32 or more.
+    /// The number of bytes of the values of an entry with these attributes, where it is the same for all such entries.
+    /// `None` also where it is 2^32 or more.
     pub fn size(&self) -> Option<u32>
         ensures { IfSome result (λ n. fixed_size self.now ≡ Some n) }
     {
@@ -81,7 +81,7 @@ impl Specs {
     }
 }
 
-/// What an abbreviation table declares under one code.
+/// An abbreviation declaration: what an abbreviation table says of one code (DWARF 5, section 7.5.3).
 #[derive(Debug, Drop)]
 pub struct Abbrev {
     /// Its offset in `.debug_abbrev`.
@@ -90,19 +90,19 @@ pub struct Abbrev {
     pub code: u64,
     /// The tag of such an entry.
     pub tag: u64,
-    /// Whether entries of the next level follow it.
+    /// Whether an entry with this declaration has children.
     pub children: bool,
     /// Its attributes.
     pub specs: Specs,
 }
 
-/// An abbreviation table: its declarations in order. Contracts see them as a list.
+/// An abbreviation table (DWARF 5, section 7.5.3): its declarations in order. Contracts see them as a list.
 #[derive(Drop)]
 pub struct Abbrevs {
     items: Vec<Abbrev>,
     /// How many declarations at the front have the codes 1, 2, 3 and so on.
     numbered: usize,
-    /// The index of the first declaration of each code, where the codes aren't all numbered so.
+    /// The index of the first declaration of each code, where not all codes are 1, 2, 3 and so on.
     indices: BTreeMap<u64, usize>,
 }
 
@@ -125,7 +125,7 @@ fn element(items: &[Abbrev], index: usize) -> Option<&Abbrev>
 }
 
 /// The declarations from an index on.
-pub(crate) fn behind(items: &[Abbrev], count: usize) -> &[Abbrev]
+pub(crate) fn items_from(items: &[Abbrev], count: usize) -> &[Abbrev]
     requires { count ≤ length items.now }
     ensures { result.now ≡ drop count items.now }
 {
@@ -186,15 +186,15 @@ impl Abbrevs {
         }
     }
 
-    /// The same among the declarations from an index on. Where a code is declared before it, too, these are gone
-    /// through.
+    /// The first declaration of a code among those from an index on. Where the code is also declared before that index,
+    /// this looks at each of them.
     fn find_from(&self, from: usize, code: u64) -> Option<&Abbrev>
         requires { from ≤ length self.now }
         ensures { option_copied result ≡ find (λ declared. declared.code == code) (drop from self.now) }
     {
         match self.index_of(code) {
             Some(index) if from <= index => element(self.items.as_slice(), index),
-            Some(_) => first_of(behind(self.items.as_slice(), from), code),
+            Some(_) => first_of(items_from(self.items.as_slice(), from), code),
             None => None,
         }
     }
@@ -205,13 +205,13 @@ impl Abbrevs {
     }
 
     /// The index of the declaration at an offset, counted from another one; `None` also where a code is declared twice.
-    fn index_behind(&self, from: usize, offset: usize) -> Option<usize>
+    fn index_after(&self, from: usize, offset: usize) -> Option<usize>
         requires { from ≤ length self.now }
         ensures { IfSome result (λ index.
             option_map (λ d. d.offset) (slice_get (drop from self.now) index) ≡ Some offset) }
     {
         if self.are_distinct() {
-            return index_at(behind(self.items.as_slice(), from), offset);
+            return index_at(items_from(self.items.as_slice(), from), offset);
         }
         None
     }
@@ -261,6 +261,6 @@ impl<'a> Declarations<'a> {
         ensures table { (section : List ℕ) (start : ℕ) → table_at section start ≡ Ok self.now
             → IfSome result (λ index. table_at section offset ≡ Ok (drop index self.now)) }
     {
-        self.table.index_behind(self.from, offset as usize)
+        self.table.index_after(self.from, offset as usize)
     }
 }

@@ -21,7 +21,7 @@ pub(crate) enum Size {
     Three,
     Four,
     Eight,
-    /// As many as its LEB128 number has.
+    /// That of an unsigned LEB128 number.
     Uleb,
 }
 
@@ -60,7 +60,7 @@ pub(crate) enum Encoding {
     Block(Size),
     /// Sixteen bytes.
     Data16,
-    /// A text and its 0 byte.
+    /// A text and the 0 byte that ends it.
     String,
     /// No bytes: a flag that is set.
     FlagPresent,
@@ -68,7 +68,7 @@ pub(crate) enum Encoding {
     ImplicitConst,
 }
 
-/// The encoding of a form; `None` where it has none of its own.
+/// The encoding of a form; `None` for `DW_FORM_indirect`, and for a form that is not one of DWARF 5.
 pub(crate) fn encoding_of(form: u64) -> Option<Encoding>
     ensures { result ≡ encoding_of form }
 {
@@ -122,8 +122,8 @@ pub(crate) fn encoding_of(form: u64) -> Option<Encoding>
     }
 }
 
-/// Whether values of this form stand in place by themselves: it is one of DWARF 5, neither
-/// `DW_FORM_indirect` nor `DW_FORM_implicit_const`.
+/// Whether a value of this form can be read without a declaration: it is a form of DWARF 5 other than
+/// `DW_FORM_indirect` and `DW_FORM_implicit_const` (DWARF 5, section 7.5.6).
 pub fn is_value_form(form: u64) -> bool
     ensures { result ≡ is_value_form form }
 {

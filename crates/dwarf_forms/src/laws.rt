@@ -1,4 +1,4 @@
-//! What holds of the definitions.
+//! Laws of the definitions.
 ghost use Rattle.std.specs.Prelude.{◌≡◌, ◌≤◌, ℕ, length};
 ghost use Rattle.prof_bytes.specs.Fields.{Input};
 ghost use Rattle.prof_bytes.specs.Reading.{left_of};
@@ -9,7 +9,7 @@ ghost use Rattle.dwarf_forms.specs.Abbreviations.{attribute_from, attributes_fro
 /// Each attribute and each declaration takes a byte or more, so room for as many as there are bytes is
 /// enough: with more room the lists are the same.
 #[tactic(auto, using(crate::proofs::Rooms::attributes_room, crate::proofs::Rooms::declarations_room))]
-pub fn a_byte_an_item()
+pub fn declaration_count_is_at_most_bytes()
     ensures attributes { (room : ℕ) (input : Input BadTable) → length (left_of input.at) ≤ room
         → list_from attribute_from room input ≡ attributes_from input }
     ensures declarations { (room : ℕ) (input : Input BadTable) → length (left_of input.at) ≤ room

@@ -1,7 +1,7 @@
 //! One value by its form (DWARF 5, sections 7.5.4 to 7.5.6).
 ghost use Rattle.std.specs.Prelude.{◌≡◌, IfErr, IfOk};
 ghost use Rattle.prof_bytes.specs.Outcome.{GivesAt};
-ghost use Rattle.dwarf_forms.specs.Values.{form_value, word_value, number_value, sized_from, block_from, encoded_from};
+ghost use Rattle.dwarf_forms.specs.Values.{form_value, word_value, number_value, sized_from, sized_block_from, encoded_from};
 ghost use Rattle.dwarf_forms.specs.Values.{direct_from, named_from, value_from, form_value_at};
 
 use crate::constants::{DW_FORM_implicit_const, DW_FORM_indirect};
@@ -49,7 +49,7 @@ fn number_value<'a>(number: u64, class: NumberClass) -> Value<'a>
 }
 
 fn block<'a, F: Copy>(reader: &mut Reader<'a, F>, size: Size) -> Result<&'a [u8], F>
-    ensures { GivesAt (λ bytes. bytes.now) result reader.new (block_from size reader.old) }
+    ensures { GivesAt (λ bytes. bytes.now) result reader.new (sized_block_from size reader.old) }
 {
     let length = sized(reader, size)?;
     reader.take(length as usize)
@@ -113,8 +113,8 @@ fn value<'a, F: Copy>(
     direct(reader, form, implicit, unknown)
 }
 
-/// The value of this form, behind which the reader then stands; `unknown` is the fault of a form that is
-/// not one of DWARF 5. `implicit` is the constant that the attribute's declaration holds for the form
+/// The value of this form (DWARF 5, section 7.5.6); the reader then stands after it. `unknown` is the fault of a form
+/// that is not one of DWARF 5. `implicit` is the constant that the attribute's declaration has for the form
 /// `DW_FORM_implicit_const`.
 pub fn read_form<'a, F: Copy>(
     reader: &mut Reader<'a, F>,
@@ -128,8 +128,8 @@ pub fn read_form<'a, F: Copy>(
     value(reader, form, implicit, unknown)
 }
 
-/// The value of this form at the cursor, which then stands after it. `implicit` is the constant that
-/// the attribute's declaration holds for the form `DW_FORM_implicit_const`. After a fault the cursor is
+/// The value of this form at the cursor, which then stands after it (DWARF 5, section 7.5.6). `implicit` is the
+/// constant that the attribute's declaration has for the form `DW_FORM_implicit_const`. After a fault the cursor is
 /// where it was.
 pub fn read_value<'a>(
     cursor: &mut Cursor<'a>,

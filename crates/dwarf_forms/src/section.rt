@@ -1,10 +1,10 @@
 //! What stands at an offset of a section.
 ghost use Rattle.std.specs.Prelude.{◌≡◌, option_copied};
-ghost use Rattle.dwarf_forms.specs.Sections.{input_at, text_in, wrapped};
+ghost use Rattle.dwarf_forms.specs.Sections.{input_at, text_in};
 
 use prof_bytes::{Cursor, Reader};
 
-/// A reader of a section's bytes from an offset on; the fault where the offset lies past the end.
+/// A reader of a section's bytes from an offset on; `missing` where the offset lies past the end.
 pub fn reader_at<F: Copy>(section: &[u8], offset: usize, missing: F) -> Result<Reader<'_, F>, F>
     ensures { result ≡ input_at section.now offset missing }
 {
@@ -24,15 +24,4 @@ pub fn text_in(section: &[u8], offset: u32) -> Option<&[u8]>
         return None;
     }
     Cursor::at(section, offset).cstr()
-}
-
-/// A signed number modulo 2^32.
-pub fn wrapped(number: i64) -> u32
-    ensures { result ≡ wrapped number }
-{
-    if number < 0 {
-        let below = -(number + 1);
-        return u32::MAX - (below as u64 % (1 << 32)) as u32;
-    }
-    (number as u64 % (1 << 32)) as u32
 }

@@ -1,4 +1,4 @@
-//! How many bytes values take whose forms say it.
+//! The number of bytes of values whose forms fix it.
 ghost use Rattle.std.specs.Prelude.{◌≡◌, ◌-◌, ◌≤◌, Some, IfSome};
 ghost use Rattle.dwarf_forms.specs.Sizes.{number_size, encoding_size, form_size, fixed_size};
 
@@ -36,7 +36,8 @@ fn form_size(form: u64) -> Option<u32>
     encoding_size(encoding_of(form)?)
 }
 
-/// So many bytes and those of a value more; `None` where its form doesn't say them, or they are too many.
+/// `total` and the number of bytes of a value of this form; `None` where the form doesn't fix it, or the sum is 2^32 or
+/// more.
 fn with_form(total: u32, form: u64) -> Option<u32>
     ensures more { IfSome result (λ n. total ≤ n) }
     ensures form { IfSome result (λ n. form_size form ≡ Some (n - total)) }
@@ -45,7 +46,7 @@ fn with_form(total: u32, form: u64) -> Option<u32>
     total.checked_add(size)
 }
 
-/// The bytes of all values of these attributes; `None` where a form doesn't say them, or they are 2^32 or more.
+/// The number of bytes of all values of these attributes; `None` where a form doesn't fix it, or it is 2^32 or more.
 pub(crate) fn fixed_size(specs: &[Spec]) -> Option<u32>
     ensures { IfSome result (λ n. fixed_size specs.now ≡ Some n) }
 {

@@ -35,7 +35,7 @@ fn unless_closing(spec: Spec) -> Option<Spec>
     Some(spec)
 }
 
-/// An attribute of a declaration; `None` for the pair that closes the list.
+/// An attribute specification; `None` for the pair 0, 0 that ends the list.
 #[tactic(auto, unfolding(crate::specs::Abbreviations::attribute_from))]
 fn attribute(reader: &mut Reader<'_, BadTable>) -> Result<Option<Spec>, BadTable>
     ensures { GivesAt (λ s. s) result reader.new (attribute_from reader.old) }
@@ -85,7 +85,7 @@ fn declared(
     }))
 }
 
-/// A declaration; `None` for the code 0 that closes the table.
+/// A declaration; `None` for the code 0 that ends the table.
 #[tactic(auto, unfolding(crate::specs::Abbreviations::declaration_from))]
 fn declaration(
     alloc: Global,
@@ -152,7 +152,8 @@ fn first_indices(alloc: Global, items: &[Abbrev]) -> Result<BTreeMap<u64, usize>
     Ok(indices)
 }
 
-/// The same, where not all codes are those of the first `count` declarations.
+/// The index of the first declaration of each code, where there are more than the first `count` declarations; else an
+/// empty map.
 fn other_indices(
     alloc: Global,
     items: &[Abbrev],
@@ -166,8 +167,8 @@ fn other_indices(
     Ok(BTreeMap::new(alloc))
 }
 
-/// The abbreviation table at an offset of the bytes of `.debug_abbrev`. Linear in the table's bytes where its codes are
-/// 1, 2, 3 and so on; else n log n in the number of its declarations.
+/// The abbreviation table at an offset of the bytes of `.debug_abbrev` (DWARF 5, section 7.5.3). Takes time linear in
+/// the table's bytes where its codes are 1, 2, 3 and so on; else n log n in the number of its declarations.
 pub fn read_abbrevs(alloc: Global, bytes: &[u8], offset: u32) -> Result<Abbrevs, Fail<BadTable>>
     ensures { Gives (λ table. table) result (table_at bytes.now offset) }
 {

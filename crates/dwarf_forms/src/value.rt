@@ -7,7 +7,7 @@ pub enum FormFault {
     Short,
 }
 
-/// An attribute's value, as its form gives it. Indices and offsets are not followed.
+/// An attribute's value by the class of its form (DWARF 5, section 7.5.5). Indices and offsets are not followed.
 #[derive(Clone, Copy, Debug)]
 pub enum Value<'a> {
     /// An address of the program.
@@ -18,7 +18,7 @@ pub enum Value<'a> {
     Signed(i64),
     /// A block, an expression, or a constant of sixteen bytes.
     Bytes(&'a [u8]),
-    /// A text that stands in place, without its closing 0.
+    /// A string that stands in the entry itself, without the 0 byte that ends it.
     Name(&'a [u8]),
     /// A flag.
     Flag(bool),
@@ -38,6 +38,6 @@ pub enum Value<'a> {
     Section(u32),
     /// An index into the unit's part of `.debug_rnglists`.
     ListIndex(u64),
-    /// A value of which only the length counts: it leads to another file, a type unit, or a location list.
+    /// A value that is skipped: a reference to a supplementary file or a type unit, or an index of a location list.
     Passed,
 }

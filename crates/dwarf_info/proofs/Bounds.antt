@@ -15,7 +15,7 @@ use Rattle.dwarf_info.specs.declared.ranges.Absent.{Absent}
 use Rattle.dwarf_info.specs.Sections.{Sections}
 use Rattle.dwarf_info.specs.Units.{DebugInfo}
 use Rattle.dwarf_info.specs.Queries.{UnitEntry, unit_entry, index_at, reference_value, attribute_value, attribute_entry, link_of}
-use Rattle.dwarf_info.specs.Ranges.{ranges_by, base_by, ranges_from, range_entry_from, range_list_from, listed, list_value, ranges_at, entry_ranges, ranges_of, one_or_none, attribute_ranges, low_high_of, absent}
+use Rattle.dwarf_info.specs.Ranges.{ranges_by, base_by, ranges_from, range_entry_from, range_list_from, list_ranges, rnglist_offset, ranges_at, entry_ranges, ranges_of, one_or_none, attribute_ranges, low_high_of, absent}
 
 -- ---- links
 
@@ -36,7 +36,7 @@ or_within n (Some a) b one other = one
 
 attribute_within : (info : DebugInfo) (attribute : ℕ) (e : UnitEntry) → IfSome (attribute_entry info attribute e) (λ j. j < length info.entries)
 attribute_within info attribute e =
-    then_within (length info.entries) (index_at info.entries) (option_and_then (reference_value e.bases.header.offset) (attribute_value info attribute e))
+    then_within (length info.entries) (index_at info.entries) (option_and_then (reference_value e.context.header.offset) (attribute_value info attribute e))
     (λ offset. position_within (λ d. d.offset == offset) info.entries)
 
 -- a link leads to an entry
@@ -85,7 +85,7 @@ one_each base [] = lit≤ tt
 one_each base (entry ∷ entries) =
     omega (arith, length-append (ranges_by base entry) (ranges_from (base_by base entry) entries), one_at_most base entry, one_each (base_by base entry) entries)
 
-listed_few : (n base : ℕ) (read : Result (List RangeListEntry × Input Absent) Absent) → Few n read → IfSome (listed base read) (λ v. length v ≤ n)
+listed_few : (n base : ℕ) (read : Result (List RangeListEntry × Input Absent) Absent) → Few n read → IfSome (list_ranges base read) (λ v. length v ≤ n)
 listed_few n base (Ok r) le = omega (arith, one_each base r.0)
 listed_few n base (Err f) le = tt
 
@@ -123,10 +123,10 @@ entry_below : (n : ℕ) (info : DebugInfo) (o : Option UnitEntry) → length inf
 entry_below n info None lists some = omega arith
 entry_below n info (Some e) lists some =
     or_below n (attribute_ranges info e) (one_or_none (low_high_of info e))
-    (then_below n (ranges_at info.sections e.bases.addr_base (unwrap_or e.bases.low_pc 0))
-    (option_and_then (list_value info.sections e.bases.rnglists_base) (attribute_value info DW_AT_ranges e))
-    (λ offset. below (length info.sections.rnglists) n (ranges_at info.sections e.bases.addr_base (unwrap_or e.bases.low_pc 0) offset) lists
-    (listed_few (length info.sections.rnglists) (unwrap_or e.bases.low_pc 0) _ (placed_few info.sections e.bases.addr_base offset (nat_le offset (length info.sections.rnglists))))))
+    (then_below n (ranges_at info.sections e.context.addr_base (unwrap_or e.context.low_pc 0))
+    (option_and_then (rnglist_offset info.sections e.context.rnglists_base) (attribute_value info DW_AT_ranges e))
+    (λ offset. below (length info.sections.rnglists) n (ranges_at info.sections e.context.addr_base (unwrap_or e.context.low_pc 0) offset) lists
+    (listed_few (length info.sections.rnglists) (unwrap_or e.context.low_pc 0) _ (placed_few info.sections e.context.addr_base offset (nat_le offset (length info.sections.rnglists))))))
     (one_below n (low_high_of info e) some)
 
 -- an entry has fewer ranges than the section of range lists has bytes, or one

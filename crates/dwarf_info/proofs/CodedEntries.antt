@@ -5,14 +5,14 @@ use Rattle.prof_bytes.specs.Outcome.{◌>>=◌}
 use Rattle.prof_bytes.specs.Fields.{Input, answered, uleb_from}
 use Rattle.dwarf_forms.specs.declared.declaration.Abbrev.{Abbrev}
 use Rattle.dwarf_forms.specs.declared.value.FormFault.{FormFault}
-use Rattle.dwarf_forms.specs.Runs.{Step}
+use Rattle.dwarf_forms.specs.Runs.{RunStep}
 use Rattle.dwarf_info.specs.declared.entry.InfoEntry.{InfoEntry}
 use Rattle.dwarf_info.specs.declared.fault.InfoFault.{InfoFault}
 use Rattle.dwarf_info.specs.declared.fault.InfoFault.TheVariants.{BadUnit}
 use Rattle.dwarf_info.specs.Values.{value_of, values_from, entry_values, declaration_of}
 use Rattle.dwarf_info.specs.Entries.{entry_from, declared_entry}
 
--- a value and the input behind it, as a call answers them
+-- a value and the input after it, as a call answers them
 abbrev pub answer : {X F : Type 0} → Result X F → Input F → Result X F × Input F
 answer result input = (result, input)
 
@@ -38,7 +38,7 @@ pub coded_value : (attribute : ℕ) (table : List Abbrev) (input after : Input F
     → value_of attribute (entry_values table input) ≡ value_of attribute (values_from d.specs after)
 coded_value attribute table input after code d read found = rw (read, found) refl
 
-pub coded_entry : (table : List Abbrev) (index depth offset code : ℕ) (input set after : Input InfoFault) (d : Abbrev) (step : Step ℕ InfoEntry InfoFault)
+pub coded_entry : (table : List Abbrev) (index depth offset code : ℕ) (input set after : Input InfoFault) (d : Abbrev) (step : RunStep ℕ InfoEntry InfoFault)
     → offset ≡ input.at.offset → set ≡ record input { missing = BadUnit offset } → uleb_from set ≡ Ok (code, after) → (code == 0) ≡ false
     → declaration_of table code ≡ Some d → step ≡ declared_entry index depth offset (Some d) after → step ≡ entry_from table index depth input
 unfolding entry_from
@@ -48,5 +48,5 @@ coded_entry table index depth offset code input set after d step offset_is set_i
     ap (λ (r : Result (ℕ × Input InfoFault) InfoFault). r >>= coded) (ap uleb_from same ∙ read) ∙ rw (more, found) refl in
     step_is ∙ ap (λ (o : ℕ). declared_entry index depth o (Some d) after) offset_is ∙ sym whole
   where
-    coded : ℕ × Input InfoFault → Step ℕ InfoEntry InfoFault
+    coded : ℕ × Input InfoFault → RunStep ℕ InfoEntry InfoFault
     coded r = if r.0 == 0 then Ok ([], depth - 1, r.1) else declared_entry index depth input.at.offset (declaration_of table r.0) r.1

@@ -10,8 +10,8 @@ use Rattle.std.proofs.Math.Seq.{get_or-append_seam}
 use Rattle.prof_bytes.specs.Fields.{Input, uleb_from}
 use Rattle.prof_bytes.specs.Outcome.{◌>>=◌}
 use Rattle.dwarf_forms.specs.declared.declaration.Abbrev.{Abbrev}
-use Rattle.dwarf_forms.specs.Runs.{Step, is_end, before, run_from}
-use Rattle.dwarf_info.specs.declared.entry.UnitBases.{UnitBases}
+use Rattle.dwarf_forms.specs.Runs.{RunStep, is_end, before, run_from}
+use Rattle.dwarf_info.specs.declared.entry.UnitContext.{UnitContext}
 use Rattle.dwarf_info.specs.declared.entry.InfoEntry.{InfoEntry}
 use Rattle.dwarf_info.specs.declared.fault.InfoFault.{InfoFault}
 use Rattle.dwarf_info.specs.declared.fault.InfoFault.TheVariants.{BadUnit, UnknownForm}
@@ -63,7 +63,7 @@ both_of index [] ys one other i e at = other i e at
 both_of index (x ∷ xs) ys one other zero e at = one 0 e at
 both_of index (x ∷ xs) ys one other (suc i) e at = both_of index xs ys (λ j. one (suc j)) other i e at
 
-abbrev StepOf : ℕ → Step ℕ InfoEntry InfoFault → Type 0
+abbrev StepOf : ℕ → RunStep ℕ InfoEntry InfoFault → Type 0
 StepOf index (Ok t) = OfUnit index t.0
 StepOf index (Err fault) = Unit {0}
 
@@ -94,7 +94,7 @@ entry_of : (declared : List Abbrev) (index depth : ℕ) (input : Input InfoFault
 unfolding entry_from
 entry_of declared index depth input = coded (uleb_from (record input { missing = BadUnit input.at.offset }))
   where
-    one_of : (null : Bool) (after : Input InfoFault) (other : Step ℕ InfoEntry InfoFault) → StepOf index other → StepOf index (if null then Ok ([], depth - 1, after) else other)
+    one_of : (null : Bool) (after : Input InfoFault) (other : RunStep ℕ InfoEntry InfoFault) → StepOf index other → StepOf index (if null then Ok ([], depth - 1, after) else other)
     one_of true after other of = none_of index
     one_of false after other of = of
 
@@ -113,22 +113,22 @@ run_of declared index (suc room) depth input =
     joined front (Err fault) a b = tt
     joined front (Ok es) a b = both_of index front es a b
 
-    one : (end : Bool) (read : Step ℕ InfoEntry InfoFault) → StepOf index read → ((state : ℕ) (after : Input InfoFault) → IfOk (run_from (entry_from declared index) room state after) (OfUnit index))
+    one : (end : Bool) (read : RunStep ℕ InfoEntry InfoFault) → StepOf index read → ((state : ℕ) (after : Input InfoFault) → IfOk (run_from (entry_from declared index) room state after) (OfUnit index))
         → IfOk (if end then Ok [] else read >>= (λ t. before t.0 (run_from (entry_from declared index) room t.1 t.2))) (OfUnit index)
     one true read of again = none_of index
     one false (Err fault) of again = tt
     one false (Ok t) of again = joined t.0 (run_from (entry_from declared index) room t.1 t.2) of (again t.1 t.2)
 
-unit_of_each : (sections : Sections) (bases : UnitBases) (read : IsRead sections bases) → OfUnit bases.index read.entries
-unit_of_each sections bases read =
-    listed (entries_from (declared_in sections bases) bases.index (unit_body sections bases.header)) read.read
-    (run_of (declared_in sections bases) bases.index _ 0 (unit_body sections bases.header))
+unit_of_each : (sections : Sections) (context : UnitContext) (read : IsRead sections context) → OfUnit context.index read.entries
+unit_of_each sections context read =
+    listed (entries_from (declared_in sections context) context.index (unit_body sections context.header)) read.read
+    (run_of (declared_in sections context) context.index _ 0 (unit_body sections context.header))
   where
-    listed : (all : Result (List InfoEntry) InfoFault) → all ≡ Ok read.entries → IfOk all (OfUnit bases.index) → OfUnit bases.index read.entries
-    listed all is of = subst (λ (r : Result (List InfoEntry) InfoFault). IfOk r (OfUnit bases.index)) is of
+    listed : (all : Result (List InfoEntry) InfoFault) → all ≡ Ok read.entries → IfOk all (OfUnit context.index) → OfUnit context.index read.entries
+    listed all is of = subst (λ (r : Result (List InfoEntry) InfoFault). IfOk r (OfUnit context.index)) is of
 
-pub entries_are : (sections : Sections) (bases : UnitBases) (read : IsRead sections bases) → entries_in sections bases ≡ read.entries
-entries_are sections bases read = ap (λ (r : Result (List InfoEntry) InfoFault). or_none r) read.read
+pub entries_are : (sections : Sections) (context : UnitContext) (read : IsRead sections context) → entries_in sections context ≡ read.entries
+entries_are sections context read = ap (λ (r : Result (List InfoEntry) InfoFault). or_none r) read.read
 
 -- ---- one unit more
 
@@ -196,20 +196,20 @@ firsts_more known more firsts are of = record {
   ];
 }
 
-pub indexed_more : (sections : Sections) (units : List UnitBases) (offsets new firsts : List ℕ) (bases : UnitBases) (first : ℕ) → AreIndexed sections units offsets firsts → AreMarked sections offsets new bases
-    → bases.index ≡ length units → first ≡ length offsets → AreIndexed sections (units ++ bases ∷ []) new (firsts ++ first ∷ [])
-indexed_more sections units offsets new firsts bases first old marked number first_is =
+pub indexed_more : (sections : Sections) (units : List UnitContext) (offsets new firsts : List ℕ) (context : UnitContext) (first : ℕ) → AreIndexed sections units offsets firsts → AreMarked sections offsets new context
+    → context.index ≡ length units → first ≡ length offsets → AreIndexed sections (units ++ context ∷ []) new (firsts ++ first ∷ [])
+indexed_more sections units offsets new firsts context first old marked number first_is =
     let known : List InfoEntry = flat_map (entries_in sections) units in
     let more : List InfoEntry = marked.read.entries in
-    let all : flat_map (entries_in sections) (units ++ bases ∷ []) ≡ known ++ more =
-    flat_map-append (entries_in sections) units (bases ∷ []) ∙ ap (λ (es : List InfoEntry). known ++ es) (append-nil (entries_in sections bases) ∙ entries_are sections bases marked.read) in
+    let all : flat_map (entries_in sections) (units ++ context ∷ []) ≡ known ++ more =
+    flat_map-append (entries_in sections) units (context ∷ []) ∙ ap (λ (es : List InfoEntry). known ++ es) (append-nil (entries_in sections context) ∙ entries_are sections context marked.read) in
     let count : first ≡ length known = first_is ∙ ap length old.are ∙ offsets_count known in
-    let of : OfUnit (length firsts) more = subst (λ (n : ℕ). OfUnit n more) (number ∙ sym old.each) (unit_of_each sections bases marked.read) in
+    let of : OfUnit (length firsts) more = subst (λ (n : ℕ). OfUnit n more) (number ∙ sym old.each) (unit_of_each sections context marked.read) in
     record {
       are = marked.added ∙ ap (λ (os : List ℕ). os ++ offsets_of more) old.are ∙ sym (offsets_append known more) ∙ ap offsets_of (sym all);
       begin = rw (all, count) (firsts_more known more firsts old.begin of);
-      each = length-append firsts (first ∷ []) ∙ ap (λ (n : ℕ). n + 1) old.each ∙ sym (length-append units (bases ∷ []));
-      read = all_pushed (λ _ b. IsRead sections b) units bases old.read marked.read;
+      each = length-append firsts (first ∷ []) ∙ ap (λ (n : ℕ). n + 1) old.each ∙ sym (length-append units (context ∷ []));
+      read = all_pushed (λ _ b. IsRead sections b) units context old.read marked.read;
     }
 
 pub option_few : {X : Type 0} (o : Option X) → length (option_to_list o) ≤ 1
@@ -217,21 +217,21 @@ option_few None = omega arith
 option_few (Some x) = omega arith
 
 -- a unit more, unless it was passed over
-pub indexed_next : (sections : Sections) (units units' : List UnitBases) (offsets new firsts firsts' : List ℕ) (found : Option UnitBases) (first : ℕ) → AreIndexed sections units offsets firsts
+pub indexed_next : (sections : Sections) (units units' : List UnitContext) (offsets new firsts firsts' : List ℕ) (found : Option UnitContext) (first : ℕ) → AreIndexed sections units offsets firsts
     → MatchOption found (new ≡ offsets) (AreMarked sections offsets new) → IfSome found (λ u. u.index ≡ length units) → first ≡ length offsets
     → units' ≡ units ++ option_to_list found → firsts' ≡ firsts ++ option_to_list (option_map (λ _. first) found) → AreIndexed sections units' new firsts'
 indexed_next sections units units' offsets new firsts firsts' None first old marked number first_is units_are firsts_are = rw (units_are, firsts_are, append-nil units, append-nil firsts, marked) old
 indexed_next sections units units' offsets new firsts firsts' (Some u) first old marked number first_is units_are firsts_are =
     rw (units_are, firsts_are) (indexed_more sections units offsets new firsts u first old marked number first_is)
 
-pub some_number : (found : Option UnitBases) (index number : ℕ) → index ≡ number → IfSome found (λ u. u.index ≡ index) → IfSome found (λ u. u.index ≡ number)
+pub some_number : (found : Option UnitContext) (index number : ℕ) → index ≡ number → IfSome found (λ u. u.index ≡ index) → IfSome found (λ u. u.index ≡ number)
 some_number None index number same is = tt
 some_number (Some u) index number same is = is ∙ same
 
--- a unit whose first entry would stand behind its bytes has none
-pub none_past : (sections : Sections) (bases : UnitBases) (bytes : List ℕ) → bytes ≡ take bases.header.end sections.info → length bytes < bases.header.first_entry → entries_in sections bases ≡ []
+-- a unit whose first entry would stand after its bytes has none
+pub none_past : (sections : Sections) (context : UnitContext) (bytes : List ℕ) → bytes ≡ take context.header.end sections.info → length bytes < context.header.first_entry → entries_in sections context ≡ []
 unfolding run_from
-none_past sections bases bytes front past =
+none_past sections context bytes front past =
     let long = ap length front in
-    let left : length (drop bases.header.first_entry (take bases.header.end sections.info)) ≡ 0 = (let l = length-drop bases.header.first_entry (take bases.header.end sections.info) in omega arith) in
+    let left : length (drop context.header.first_entry (take context.header.end sections.info)) ≡ 0 = (let l = length-drop context.header.first_entry (take context.header.end sections.info) in omega arith) in
     rw left refl

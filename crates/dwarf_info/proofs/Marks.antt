@@ -13,13 +13,13 @@ use Rattle.dwarf_forms.specs.Runs.{before}
 use Rattle.dwarf_forms.proofs.Moves.{Moves}
 use Rattle.dwarf_forms.proofs.Rooms.{StepMoves}
 use Rattle.dwarf_info.specs.declared.unit_header.UnitHeader.{UnitHeader}
-use Rattle.dwarf_info.specs.declared.entry.UnitBases.{UnitBases}
+use Rattle.dwarf_info.specs.declared.entry.UnitContext.{UnitContext}
 use Rattle.dwarf_info.specs.declared.entry.InfoEntry.{InfoEntry}
 use Rattle.dwarf_info.specs.declared.fault.InfoFault.{InfoFault}
 use Rattle.dwarf_info.specs.Sections.{Sections}
 use Rattle.dwarf_info.specs.Entries.{entry_from, entries_from}
-use Rattle.dwarf_info.specs.UnitHeaders.{header_from}
-use Rattle.dwarf_info.specs.Units.{first_offset, or_none, unit_bases, first_values, unit_body, read_unit}
+use Rattle.dwarf_info.specs.UnitHeaders.{unit_header_from}
+use Rattle.dwarf_info.specs.Units.{first_offset, or_none, unit_context, unit_values, unit_body, read_unit}
 use Rattle.dwarf_info.specs.private.Bodies.{IsAtEntries}
 use Rattle.dwarf_info.specs.private.Indexed.{offsets_of, IsRead, AreMarked}
 use Rattle.dwarf_info.proofs.Indexed.{offsets_append}
@@ -65,7 +65,7 @@ pub all_passed : (rest total : Result (List InfoEntry) InfoFault) (old new : Lis
 all_passed rest total old new first p all =
     ap (λ (f : Option ℕ). seen_ok (f, new)) p.first_is ∙ ap (λ (os : List ℕ). seen_ok (first_offset p.entries, os)) p.added ∙ sym (ap (viewed (seen old)) all)
 
--- an entry takes a byte or more, so the next one begins behind it
+-- an entry takes a byte or more, so the next one begins after it
 pub begins_behind : (declared : List Abbrev) (index depth : ℕ) (input after : Input InfoFault) (es : List InfoEntry) (next : ℕ) → entry_from declared index depth input ≡ Ok (es, next, after)
     → after.at.whole ≡ input.at.whole → input.at.offset < after.at.offset
 begins_behind declared index depth input after es next read whole =
@@ -94,7 +94,7 @@ were_seen first old new (Ok es) same =
 
 -- ---- where the bytes of a unit lie
 
--- the part and what is behind it stand at an offset or behind it, and the part ends where the other begins
+-- the part and what is after it stand at an offset or after it, and the part ends where the other begins
 abbrev PartsOn : {F : Type 0} → ℕ → Result (Input F × Input F) F → Type 0
 PartsOn from (Ok r) = (from ≤ r.0.at.offset) × (length r.0.at.whole ≤ r.1.at.offset) × (from ≤ r.1.at.offset)
 PartsOn from (Err fault) = Unit {0}
@@ -125,8 +125,8 @@ part_on {F = F} from input le = sized (number_from 4 input) (taken_on from input
 pub part_lies : {F : Type 0} (input part next : Input F) → part_from input ≡ Ok (part, next) → (input.at.offset ≤ part.at.offset) × (length part.at.whole ≤ next.at.offset) × (input.at.offset ≤ next.at.offset)
 part_lies {F = F} input part next read = subst (λ (r : Result (Input F × Input F) F). PartsOn input.at.offset r) read (part_on input.at.offset input (omega arith))
 
--- the first entry of a unit stands behind its header
-pub first_lies : (offset end : ℕ) (part after : Input InfoFault) (header : UnitHeader) → header_from offset end part ≡ Ok (Some header, after) → IsAtEntries offset end part after header
+-- the first entry of a unit stands after its header
+pub first_lies : (offset end : ℕ) (part after : Input InfoFault) (header : UnitHeader) → unit_header_from offset end part ≡ Ok (Some header, after) → IsAtEntries offset end part after header
     → part.at.offset ≤ header.first_entry
 first_lies offset end part after header read stands =
     let m : Moves 2 part (Ok (Some header, after)) = subst (λ (r : Result (Option UnitHeader × Input InfoFault) InfoFault). Moves 2 part r) read (header_moves offset end part) in
@@ -139,24 +139,24 @@ first_lies offset end part after header read stands =
 
 -- ---- a unit that was read
 
-abbrev pub one_unit : UnitBases → Result (List UnitBases) InfoFault
+abbrev pub one_unit : UnitContext → Result (List UnitContext) InfoFault
 one_unit u = Ok (u ∷ [])
 
-pub body_is : (sections : Sections) (number : ℕ) (header : UnitHeader) (table : List Abbrev) (body : Input InfoFault) (first : Option ℕ) (old new : List ℕ) (read : UnitBases)
+pub body_is : (sections : Sections) (number : ℕ) (header : UnitHeader) (table : List Abbrev) (body : Input InfoFault) (first : Option ℕ) (old new : List ℕ) (read : UnitContext)
     → body ≡ unit_body sections header → table_at sections.abbrev_bytes header.debug_abbrev_offset ≡ Ok table
     → seen_ok (first, new) ≡ viewed (seen old) (entries_from table number body)
-    → read ≡ unit_bases sections number header (first_values sections header.end table first)
+    → read ≡ unit_context sections number header (unit_values sections header.end table first)
     → (read_unit sections number (Some header) ≡ Ok (read ∷ [])) × AreMarked sections old new read
 unfolding read_unit
 body_is sections number header table body first old new read stands known marked read_is =
     let s = were_seen first old new (entries_from table number body) marked in
     let here : entries_from table number (unit_body sections header) ≡ Ok s.0 = ap (entries_from table number) (sym stands) ∙ s.1 in
-    let same : unit_bases sections number header (first_values sections header.end table (first_offset s.0)) ≡ read =
-    ap (λ (o : Option ℕ). unit_bases sections number header (first_values sections header.end table o)) (sym s.2) ∙ sym read_is in
+    let same : unit_context sections number header (unit_values sections header.end table (first_offset s.0)) ≡ read =
+    ap (λ (o : Option ℕ). unit_context sections number header (unit_values sections header.end table o)) (sym s.2) ∙ sym read_is in
     let declared : or_none (table_at sections.abbrev_bytes header.debug_abbrev_offset) ≡ table = ap (λ (r : Result (List Abbrev) _). or_none r) known in
-    let is_read : IsRead sections (unit_bases sections number header (first_values sections header.end table first)) =
+    let is_read : IsRead sections (unit_context sections number header (unit_values sections header.end table first)) =
     record { entries = s.0; read = ap (λ (ds : List Abbrev). entries_from ds number (unit_body sections header)) declared ∙ here } in
-    let are : AreMarked sections old new (unit_bases sections number header (first_values sections header.end table first)) = record { read = is_read; added = s.3 } in (
+    let are : AreMarked sections old new (unit_context sections number header (unit_values sections header.end table first)) = record { read = is_read; added = s.3 } in (
       rw (known, here) (ap one_unit same),
       subst (AreMarked sections old new) (sym read_is) are,
     )

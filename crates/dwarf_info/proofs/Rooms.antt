@@ -13,7 +13,7 @@ use Rattle.dwarf_forms.proofs.Moves.{Moves, number_moves, uleb_moves, moves_then
 use Rattle.dwarf_forms.proofs.Rooms.{Takes, Misses, StepMoves, step_then, step_if, same_list, same_run, byte_misses, misses_first}
 use Rattle.dwarf_info.specs.declared.constants.TheConstants.{DW_RLE_end_of_list, DW_RLE_base_addressx, DW_RLE_startx_endx, DW_RLE_startx_length}
 use Rattle.dwarf_info.specs.declared.constants.TheConstants.{DW_RLE_offset_pair, DW_RLE_base_address, DW_RLE_start_end, DW_RLE_start_length}
-use Rattle.dwarf_info.specs.declared.entry.UnitBases.{UnitBases}
+use Rattle.dwarf_info.specs.declared.entry.UnitContext.{UnitContext}
 use Rattle.dwarf_info.specs.declared.unit_header.UnitHeader.{UnitHeader}
 use Rattle.dwarf_info.specs.declared.fault.InfoFault.{InfoFault}
 use Rattle.dwarf_info.specs.declared.fault.InfoFault.TheVariants.{BadUnit, UnknownForm}
@@ -23,7 +23,7 @@ use Rattle.dwarf_info.specs.declared.ranges.RangeListEntry.TheVariants.{BaseAddr
 use Rattle.dwarf_info.specs.Sections.{Sections, element_in}
 use Rattle.dwarf_info.specs.Values.{passed_from, declaration_of}
 use Rattle.dwarf_info.specs.Entries.{declared_entry, entry_from, entries_from}
-use Rattle.dwarf_info.specs.UnitHeaders.{header_from}
+use Rattle.dwarf_info.specs.UnitHeaders.{unit_header_from}
 use Rattle.dwarf_info.specs.Units.{read_unit, unit_from, info_input, units_of}
 use Rattle.dwarf_info.specs.Ranges.{Field, or_absent, indexed_from, address_from, one_field, two_fields, start_length, kind_from, range_entry_from, range_list_from}
 use Rattle.dwarf_info.proofs.UnitMoves.{Parts, parts}
@@ -60,7 +60,7 @@ unit_moves : (sections : Sections) (index : ℕ) (input : Input InfoFault) → S
 unfolding unit_from
 unit_moves sections index input = parted (part_from (record input { missing = BadUnit input.at.offset })) (parts (record input { missing = BadUnit input.at.offset }))
   where
-    given : (next : Input InfoFault) → length (left_of next.at) + 1 ≤ length (left_of input.at) → (read : Result (List UnitBases) InfoFault)
+    given : (next : Input InfoFault) → length (left_of next.at) + 1 ≤ length (left_of input.at) → (read : Result (List UnitContext) InfoFault)
         → StepMoves 1 input (read >>= (λ found. Ok (found, index + length found, next)))
     given next le (Err fault) = tt
     given next le (Ok units) = le
@@ -71,9 +71,9 @@ unit_moves sections index input = parted (part_from (record input { missing = Ba
     headed next le (Ok h) = given next le (read_unit sections index h.0)
 
     parted : (read : Result (Input InfoFault × Input InfoFault) InfoFault) → Parts input read
-        → StepMoves 1 input (read >>= (λ (part, next). header_from input.at.offset next.at.offset part >>= (λ (header, body). read_unit sections index header >>= (λ found. Ok (found, index + length found, next)))))
+        → StepMoves 1 input (read >>= (λ (part, next). unit_header_from input.at.offset next.at.offset part >>= (λ (header, body). read_unit sections index header >>= (λ found. Ok (found, index + length found, next)))))
     parted (Err fault) p = tt
-    parted (Ok r) p = headed r.1 (let l = p.1 in omega arith) (header_from input.at.offset r.1.at.offset r.0)
+    parted (Ok r) p = headed r.1 (let l = p.1 in omega arith) (unit_header_from input.at.offset r.1.at.offset r.0)
 
 pub units : (sections : Sections) (room : ℕ) → length sections.info ≤ room → run_from (unit_from sections) room 0 (info_input sections) ≡ units_of sections
 units sections room le = same_run (unit_from sections) (unit_moves sections) room (length (left_of (info_input sections).at)) 0 (info_input sections) le (omega arith)

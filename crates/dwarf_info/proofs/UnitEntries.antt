@@ -4,7 +4,7 @@ use Rattle.std.specs.Prelude.{slice_get, is_some, option_map, option_and_then}
 use Rattle.dwarf_forms.specs.declared.value.FormFault.TheVariants.{Short}
 use Rattle.dwarf_forms.specs.Abbreviations.{table_at}
 use Rattle.dwarf_forms.specs.Values.{FormValue}
-use Rattle.dwarf_info.specs.declared.entry.UnitBases.{UnitBases}
+use Rattle.dwarf_info.specs.declared.entry.UnitContext.{UnitContext}
 use Rattle.dwarf_info.specs.declared.entry.InfoEntry.{InfoEntry}
 use Rattle.dwarf_info.specs.Sections.{section_up_to}
 use Rattle.dwarf_info.specs.Values.{value_of, entry_values}
@@ -13,61 +13,61 @@ use Rattle.dwarf_info.specs.declared.tables.Tables.{Tables}
 use Rattle.dwarf_info.specs.private.Tables.{table_in, AreTables, HaveTables}
 use Rattle.dwarf_info.specs.Queries.{UnitEntry, unit_entry, attribute_value}
 
-abbrev with_unit : InfoEntry → Option UnitBases → Option UnitEntry
-with_unit e ou = option_map (λ u. record { entry = e; bases = u }) ou
+abbrev with_unit : InfoEntry → Option UnitContext → Option UnitEntry
+with_unit e ou = option_map (λ u. record { entry = e; context = u }) ou
 
-unit_is : (e : InfoEntry) (ou : Option UnitBases) (s : UnitEntry) → with_unit e ou ≡ Some s → ou ≡ Some s.bases
+unit_is : (e : InfoEntry) (ou : Option UnitContext) (s : UnitEntry) → with_unit e ou ≡ Some s → ou ≡ Some s.context
 unit_is e None s same = absurd cc
-unit_is e (Some u) s same = ap (λ (o : Option UnitEntry). option_map (λ t. t.bases) o) same
+unit_is e (Some u) s same = ap (λ (o : Option UnitEntry). option_map (λ t. t.context) o) same
 
-there_is : (units : List UnitBases) (oe : Option InfoEntry) (s : UnitEntry) → option_and_then (λ e. with_unit e (slice_get units e.«unit»)) oe ≡ Some s → (k : ℕ) × (slice_get units k ≡ Some s.bases)
+there_is : (units : List UnitContext) (oe : Option InfoEntry) (s : UnitEntry) → option_and_then (λ e. with_unit e (slice_get units e.«unit»)) oe ≡ Some s → (k : ℕ) × (slice_get units k ≡ Some s.context)
 there_is units None s same = absurd cc
 there_is units (Some e) s same = (e.«unit», unit_is e (slice_get units e.«unit») s same)
 
 abbrev Shown : Type 0
-Shown = UnitBases × ℕ
+Shown = UnitContext × ℕ
 
 abbrev shown : Option UnitEntry → Option Shown
-shown o = option_map (λ s. (s.bases, s.entry.offset)) o
+shown o = option_map (λ s. (s.context, s.entry.offset)) o
 
-abbrev pub Finds : DebugInfo → Tables → ℕ → UnitBases → ℕ → Option FormValue → Type 0
+abbrev pub Finds : DebugInfo → Tables → ℕ → UnitContext → ℕ → Option FormValue → Type 0
 Finds info tables attribute read offset r =
     (section : List ℕ) → AreTables section tables → is_some (table_in tables read.header.debug_abbrev_offset) ≡ true
     → r ≡ value_of attribute (entry_values (or_none (table_at section read.header.debug_abbrev_offset)) (section_up_to read.header.end info.sections.info offset Short))
 
-abbrev read_or : UnitBases → Option Shown → UnitBases
+abbrev read_or : UnitContext → Option Shown → UnitContext
 read_or d None = d
 read_or d (Some p) = p.0
 
-same_read : (t : UnitEntry) (u : UnitBases) (n : ℕ) → shown (Some t) ≡ Some (u, n) → t.bases ≡ u
+same_read : (t : UnitEntry) (u : UnitContext) (n : ℕ) → shown (Some t) ≡ Some (u, n) → t.context ≡ u
 same_read t u n e = ap (λ (p : Option Shown). read_or u p) e
 
 abbrev offset_or : Option Shown → ℕ
 offset_or None = 0
 offset_or (Some p) = p.1
 
-same_offset : (t : UnitEntry) (u : UnitBases) (n : ℕ) → shown (Some t) ≡ Some (u, n) → t.entry.offset ≡ n
+same_offset : (t : UnitEntry) (u : UnitContext) (n : ℕ) → shown (Some t) ≡ Some (u, n) → t.entry.offset ≡ n
 same_offset t u n e = ap offset_or e
 
-found_in : (info : DebugInfo) (tables : Tables) (i attribute : ℕ) (read : UnitBases) (offset : ℕ) (r : Option FormValue) (o : Option UnitEntry) → unit_entry info i ≡ o
+found_in : (info : DebugInfo) (tables : Tables) (i attribute : ℕ) (read : UnitContext) (offset : ℕ) (r : Option FormValue) (o : Option UnitEntry) → unit_entry info i ≡ o
     → AreTables info.sections.abbrev_bytes tables → HaveTables tables info.units
     → shown o ≡ Some (read, offset) → Finds info tables attribute read offset r
     → r ≡ option_and_then (attribute_value info attribute) o
 found_in info tables i attribute read offset r None at are have is finds = absurd cc
 found_in info tables i attribute read offset r (Some s) at are have is finds =
     let k = there_is info.units (slice_get info.entries i) s at in
-    let first : s.bases ≡ read = same_read s read offset is in
+    let first : s.context ≡ read = same_read s read offset is in
     let second : s.entry.offset ≡ offset = same_offset s read offset is in
-    let has : is_some (table_in tables read.header.debug_abbrev_offset) ≡ true = subst (λ (u : UnitBases). is_some (table_in tables u.header.debug_abbrev_offset) ≡ true) first (have k.0 s.bases k.1) in
+    let has : is_some (table_in tables read.header.debug_abbrev_offset) ≡ true = subst (λ (u : UnitContext). is_some (table_in tables u.header.debug_abbrev_offset) ≡ true) first (have k.0 s.context k.1) in
     finds info.sections.abbrev_bytes are has
-    ∙ ap (λ (u : UnitBases). value_of attribute (entry_values (or_none (table_at info.sections.abbrev_bytes u.header.debug_abbrev_offset)) (section_up_to u.header.end info.sections.info offset Short))) (sym first)
-    ∙ ap (λ (n : ℕ). value_of attribute (entry_values (or_none (table_at info.sections.abbrev_bytes s.bases.header.debug_abbrev_offset)) (section_up_to s.bases.header.end info.sections.info n Short))) (sym second)
+    ∙ ap (λ (u : UnitContext). value_of attribute (entry_values (or_none (table_at info.sections.abbrev_bytes u.header.debug_abbrev_offset)) (section_up_to u.header.end info.sections.info offset Short))) (sym first)
+    ∙ ap (λ (n : ℕ). value_of attribute (entry_values (or_none (table_at info.sections.abbrev_bytes s.context.header.debug_abbrev_offset)) (section_up_to s.context.header.end info.sections.info n Short))) (sym second)
 
-abbrev pub some_shown : UnitBases × ℕ → Option (UnitBases × ℕ)
+abbrev pub some_shown : UnitContext × ℕ → Option (UnitContext × ℕ)
 some_shown p = Some p
 
-pub found : (info : DebugInfo) (tables : Tables) (i attribute : ℕ) (read : UnitBases) (offset : ℕ) (r : Option FormValue)
+pub found : (info : DebugInfo) (tables : Tables) (i attribute : ℕ) (read : UnitContext) (offset : ℕ) (r : Option FormValue)
     → AreTables info.sections.abbrev_bytes tables → HaveTables tables info.units
-    → some_shown (read, offset) ≡ option_map (λ s. (s.bases, s.entry.offset)) (unit_entry info i) → Finds info tables attribute read offset r
+    → some_shown (read, offset) ≡ option_map (λ s. (s.context, s.entry.offset)) (unit_entry info i) → Finds info tables attribute read offset r
     → r ≡ option_and_then (attribute_value info attribute) (unit_entry info i)
 found info tables i attribute read offset r are have is finds = found_in info tables i attribute read offset r (unit_entry info i) refl are have (sym is) finds

@@ -9,16 +9,16 @@ use Rattle.prof_bytes.specs.Reading.{left_of, moved, up_to}
 use Rattle.prof_bytes.specs.Outcome.{◌>>=◌}
 use Rattle.dwarf_forms.proofs.Moves.{Moves, number_moves, moves_then, moves_if, moves_less, stays}
 use Rattle.dwarf_info.specs.declared.constants.TheConstants.{DW_UT_type}
-use Rattle.dwarf_forms.specs.Runs.{Step}
-use Rattle.dwarf_info.specs.declared.entry.UnitBases.{UnitBases}
+use Rattle.dwarf_forms.specs.Runs.{RunStep}
+use Rattle.dwarf_info.specs.declared.entry.UnitContext.{UnitContext}
 use Rattle.dwarf_info.specs.declared.unit_header.UnitHeader.{UnitHeader}
 use Rattle.dwarf_info.specs.declared.fault.InfoFault.{InfoFault}
 use Rattle.dwarf_info.specs.declared.fault.InfoFault.TheVariants.{BadUnit}
-use Rattle.dwarf_info.specs.UnitHeaders.{checked_header, fields_from, version5_from, by_version, header_from}
+use Rattle.dwarf_info.specs.UnitHeaders.{checked_header, fields_from, version5_from, by_version, unit_header_from}
 use Rattle.dwarf_info.specs.Units.{unit_from, read_unit}
 use Rattle.dwarf_info.specs.Sections.{Sections}
 
--- the part and what is behind it are in the same bytes, behind the length
+-- the part and what is after it are in the same bytes, after the length
 abbrev pub Parts : {F : Type 0} → Input F → Result (Input F × Input F) F → Type 0
 Parts input (Ok r) = (r.1.at.whole ≡ input.at.whole) × (length (left_of r.0.at) + length (left_of r.1.at) + 4 ≤ length (left_of input.at))
 Parts input (Err fault) = Unit {0}
@@ -76,21 +76,21 @@ by_version_moves version offset end input =
     moves_if 0 input (version == 5) (version5_from offset end input) _ (version5_moves offset end input)
     (moves_if 0 input (nat_le 2 version && nat_le version 4) (Ok (nothing, input)) (Err input.missing) (stays input nothing) tt)
 
-pub header_moves : (offset end : ℕ) (input : Input InfoFault) → Moves 2 input (header_from offset end input)
-unfolding header_from
+pub header_moves : (offset end : ℕ) (input : Input InfoFault) → Moves 2 input (unit_header_from offset end input)
+unfolding unit_header_from
 header_moves offset end input =
     moves_then 2 0 input (number_from 2 input) _ (number_moves 2 input) (λ version. by_version_moves version.0 offset end version.1)
 
 -- a unit that is passed over
 pub unit_passed : (sections : Sections) (index offset end : ℕ) (input set part next after : Input InfoFault)
     → offset ≡ input.at.offset → set ≡ record input { missing = BadUnit offset } → part_from set ≡ Ok (part, next) → end ≡ next.at.offset
-    → header_from offset end part ≡ Ok (None, after) → unit_from sections index input ≡ Ok ([], index, next)
+    → unit_header_from offset end part ≡ Ok (None, after) → unit_from sections index input ≡ Ok ([], index, next)
 unfolding unit_from read_unit
 unit_passed sections index offset end input set part next after offset_is set_is parted end_is headed =
     let same : record input { missing = BadUnit input.at.offset } ≡ set = ap (λ (o : ℕ). record input { missing = BadUnit o }) (sym offset_is) ∙ sym set_is in
-    let here : header_from input.at.offset next.at.offset part ≡ Ok (None, after) = ap (λ (o : ℕ). header_from o next.at.offset part) (sym offset_is) ∙ ap (λ (e : ℕ). header_from offset e part) (sym end_is) ∙ headed in
-    ap (λ (r : Result (Input InfoFault × Input InfoFault) InfoFault). r >>= (λ (part, next). header_from input.at.offset next.at.offset part >>= (λ (header, body). read_unit sections index header >>= (λ units. Ok (units, index + length units, next))))) (ap part_from same ∙ parted)
+    let here : unit_header_from input.at.offset next.at.offset part ≡ Ok (None, after) = ap (λ (o : ℕ). unit_header_from o next.at.offset part) (sym offset_is) ∙ ap (λ (e : ℕ). unit_header_from offset e part) (sym end_is) ∙ headed in
+    ap (λ (r : Result (Input InfoFault × Input InfoFault) InfoFault). r >>= (λ (part, next). unit_header_from input.at.offset next.at.offset part >>= (λ (header, body). read_unit sections index header >>= (λ units. Ok (units, index + length units, next))))) (ap part_from same ∙ parted)
     ∙ ap (λ (r : Result (Option UnitHeader × Input InfoFault) InfoFault). r >>= (λ (header, body). read_unit sections index header >>= (λ units. Ok (units, index + length units, next)))) here ∙ ap given (let e : index + 0 ≡ index = omega arith in e)
   where
-    given : ℕ → Step ℕ UnitBases InfoFault
+    given : ℕ → RunStep ℕ UnitContext InfoFault
     given n = Ok ([], n, next)

@@ -1,4 +1,4 @@
--- What the values of attributes mean; nothing, where one counts as absent. DWARF 5, sections 7.5.5, 7.26 and 7.27.
+-- What the values of attributes mean; none where one counts as absent. DWARF 5, sections 7.5.5, 7.26 and 7.27.
 use Rattle.std.specs.Prelude.{ℕ, ◌^◌, pos, nat_lt, List, Option, Some, None, option_and_then, if◌then◌else◌}
 use Rattle.dwarf_forms.specs.Values.{FormValue, Address, Number, Signed, Name, StrAt, LineStrAt, StrIndex, AddrIndex}
 use Rattle.dwarf_forms.specs.Values.{Section}
@@ -10,11 +10,11 @@ abbrev pub section_value : FormValue → Option ℕ
 section_value (Section n) = Some n
 section_value other = None
 
--- a number of 32 bits
-abbrev pub small_value : FormValue → Option ℕ
-small_value (Number n) = if nat_lt n (2 ^ 32) then Some n else None
-small_value (Signed (pos n)) = if nat_lt n (2 ^ 32) then Some n else None
-small_value other = None
+-- a constant of 32 bits
+abbrev pub constant_value : FormValue → Option ℕ
+constant_value (Number n) = if nat_lt n (2 ^ 32) then Some n else None
+constant_value (Signed (pos n)) = if nat_lt n (2 ^ 32) then Some n else None
+constant_value other = None
 
 -- a text, by the unit's base into .debug_str_offsets
 abbrev pub text_value : Sections → Option ℕ → FormValue → Option (List ℕ)

@@ -3,14 +3,14 @@ use Rattle.std.specs.Prelude.{ℕ, ◌+◌, ◌-◌, ◌==◌, List, [], ◌∷�
 use Rattle.prof_bytes.specs.Fields.{Input, uleb_from}
 use Rattle.prof_bytes.specs.Outcome.{◌>>=◌}
 use Rattle.dwarf_forms.specs.declared.declaration.Abbrev.{Abbrev}
-use Rattle.dwarf_forms.specs.Runs.{Step, run_to_end}
+use Rattle.dwarf_forms.specs.Runs.{RunStep, run_to_end}
 use Rattle.dwarf_info.specs.declared.entry.InfoEntry.{InfoEntry}
 use Rattle.dwarf_info.specs.declared.fault.InfoFault.{InfoFault}
 use Rattle.dwarf_info.specs.declared.fault.InfoFault.TheVariants.{BadUnit, BadAbbrev, UnknownForm}
 use Rattle.dwarf_info.specs.Values.{passed_from, declaration_of}
 
 -- an entry at an offset by its declaration; those that follow it are one level deeper where it has children
-abbrev pub declared_entry : ℕ → ℕ → ℕ → Option Abbrev → Input InfoFault → Step ℕ InfoEntry InfoFault
+abbrev pub declared_entry : ℕ → ℕ → ℕ → Option Abbrev → Input InfoFault → RunStep ℕ InfoEntry InfoFault
 declared_entry index depth offset None input = Err (BadAbbrev offset)
 declared_entry index depth offset (Some d) input = do
   (passed, input) ← passed_from (UnknownForm offset) d.specs input
@@ -21,7 +21,7 @@ declared_entry index depth offset (Some d) input = do
   )
 
 -- an entry at a depth, or the null entry that closes its level
-unfoldable pub entry_from : List Abbrev → ℕ → ℕ → Input InfoFault → Step ℕ InfoEntry InfoFault
+unfoldable pub entry_from : List Abbrev → ℕ → ℕ → Input InfoFault → RunStep ℕ InfoEntry InfoFault
 entry_from declared index depth input = do
   (code, after) ← uleb_from (record input { missing = BadUnit input.at.offset })
   if code == 0 then Ok ([], depth - 1, after)

@@ -6,34 +6,34 @@ use Rattle.dwarf_forms.specs.declared.value.FormFault.TheVariants.{Short}
 use Rattle.dwarf_forms.specs.Values.{FormValue, UnitRef, InfoRef}
 use Rattle.dwarf_info.specs.declared.constants.TheConstants.{DW_AT_name, DW_AT_linkage_name, DW_AT_abstract_origin}
 use Rattle.dwarf_info.specs.declared.constants.TheConstants.{DW_AT_specification, DW_AT_call_file, DW_AT_call_line}
-use Rattle.dwarf_info.specs.declared.entry.UnitBases.{UnitBases}
+use Rattle.dwarf_info.specs.declared.entry.UnitContext.{UnitContext}
 use Rattle.dwarf_info.specs.declared.entry.InfoEntry.{InfoEntry}
 use Rattle.dwarf_info.specs.Sections.{section_up_to}
 use Rattle.dwarf_info.specs.Values.{entry_values, value_of}
-use Rattle.dwarf_info.specs.Attributes.{small_value, text_value}
+use Rattle.dwarf_info.specs.Attributes.{constant_value, text_value}
 use Rattle.dwarf_info.specs.Units.{DebugInfo, declared_in}
 
 -- an entry with its unit
 pub record UnitEntry : Type 0 where
   pub entry : InfoEntry
-  pub bases : UnitBases
+  pub context : UnitContext
 
 -- the entry with an index
 abbrev pub unit_entry : DebugInfo → ℕ → Option UnitEntry
 unit_entry info i =
-    option_and_then (λ e. option_map (λ b. record { entry = e; bases = b }) (slice_get info.units e.«unit»))
+    option_and_then (λ e. option_map (λ b. record { entry = e; context = b }) (slice_get info.units e.«unit»))
     (slice_get info.entries i)
 
 -- the first value of one of its attributes
 abbrev pub attribute_value : DebugInfo → ℕ → UnitEntry → Option FormValue
 attribute_value info attribute e =
     value_of attribute
-    (entry_values (declared_in info.sections e.bases)
-    (section_up_to e.bases.header.end info.sections.info e.entry.offset Short))
+    (entry_values (declared_in info.sections e.context)
+    (section_up_to e.context.header.end info.sections.info e.entry.offset Short))
 
 abbrev pub attribute_text : DebugInfo → ℕ → UnitEntry → Option (List ℕ)
 attribute_text info attribute e =
-    option_and_then (text_value info.sections e.bases.str_offsets_base) (attribute_value info attribute e)
+    option_and_then (text_value info.sections e.context.str_offsets_base) (attribute_value info attribute e)
 
 -- its name, else its linkage name
 abbrev pub name_of : DebugInfo → ℕ → Option (List ℕ)
@@ -54,7 +54,7 @@ index_at entries offset = position (λ e. e.offset == offset) entries
 abbrev pub attribute_entry : DebugInfo → ℕ → UnitEntry → Option ℕ
 attribute_entry info attribute e =
     option_and_then (index_at info.entries)
-    (option_and_then (reference_value e.bases.header.offset) (attribute_value info attribute e))
+    (option_and_then (reference_value e.context.header.offset) (attribute_value info attribute e))
 
 -- the index of its abstract origin, else of the entry that it specifies
 abbrev pub link_of : DebugInfo → ℕ → Option ℕ
@@ -65,7 +65,7 @@ link_of info i =
 
 abbrev pub attribute_number : DebugInfo → ℕ → ℕ → Option ℕ
 attribute_number info attribute i =
-    option_and_then (λ e. option_and_then small_value (attribute_value info attribute e)) (unit_entry info i)
+    option_and_then (λ e. option_and_then constant_value (attribute_value info attribute e)) (unit_entry info i)
 
 -- the file and the line of its call
 abbrev pub call_site_of : DebugInfo → ℕ → Option ℕ × Option ℕ

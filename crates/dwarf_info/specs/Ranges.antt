@@ -1,11 +1,13 @@
 -- The address ranges of an entry. DWARF 5, sections 2.17 and 7.25.
 use Rattle.std.specs.Prelude.{ℕ, ◌+◌, ◌%◌, ◌^◌, ◌==◌, List, [], ◌∷◌, ◌++◌, length, Option, Some, None, option_map}
 use Rattle.std.specs.Prelude.{option_and_then, unwrap_or, Result, Ok, Err, if◌then◌else◌}
+use Rattle.prof_bytes.specs.Number.{word_sum}
 use Rattle.prof_bytes.specs.Fields.{Input, number_from, uleb_from}
 use Rattle.prof_bytes.specs.Reading.{left_of}
 use Rattle.prof_bytes.specs.Outcome.{◌>>=◌}
 use Rattle.dwarf_forms.specs.Lists.{list_from}
-use Rattle.dwarf_forms.specs.Sections.{input_at, wrapped}
+use Rattle.dwarf_forms.specs.Sections.{input_at}
+use Rattle.dwarf_forms.specs.Words.{low_word_signed}
 use Rattle.dwarf_forms.specs.Values.{FormValue, Number, Signed, Section, ListIndex}
 use Rattle.dwarf_info.specs.declared.constants.TheConstants.{DW_RLE_end_of_list, DW_RLE_base_addressx}
 use Rattle.dwarf_info.specs.declared.constants.TheConstants.{DW_RLE_startx_endx, DW_RLE_startx_length}
@@ -20,13 +22,9 @@ use Rattle.dwarf_info.specs.Attributes.{address_value}
 use Rattle.dwarf_info.specs.Units.{DebugInfo}
 use Rattle.dwarf_info.specs.Queries.{UnitEntry, unit_entry, attribute_value}
 
--- the list counts as absent
+-- the fault of a malformed list: it counts as absent
 abbrev pub absent : Absent
 absent = record {}
-
--- sums of addresses
-abbrev pub plus : ℕ → ℕ → ℕ
-plus a b = (a + b) % 2 ^ 32
 
 -- ---- entries of range lists
 
@@ -38,14 +36,14 @@ or_absent None = Err absent
 abbrev pub Field : Type 0
 Field = Input Absent → Result (ℕ × Input Absent) Absent
 
--- the address in .debug_addr whose index is read
+-- an index is read, and gives the address with that index in .debug_addr
 abbrev pub indexed_from : Sections → Option ℕ → Field
 indexed_from sections addr_base input = do
   (index, input) ← uleb_from input
   address ← or_absent (element_in sections.addr addr_base index)
   Ok (address, input)
 
--- an address in place
+-- an address in the list itself
 abbrev pub address_from : Field
 address_from input = number_from 4 input
 
@@ -66,9 +64,9 @@ two_fields first second entry input = do
 
 -- a start and a length
 abbrev pub start_length : ℕ → ℕ → RangeListEntry
-start_length start size = StartEnd start (plus start size)
+start_length start size = StartEnd start (word_sum start size)
 
--- the rest of an entry by its kind; nothing for the one that ends the list
+-- the rest of an entry by its kind; none for the one that ends the list
 abbrev pub kind_from : Sections → Option ℕ → ℕ → Input Absent → Result (Option RangeListEntry × Input Absent) Absent
 kind_from sections addr_base kind input =
     if kind == DW_RLE_end_of_list then Ok (None, input)
@@ -99,7 +97,7 @@ range_list_from sections addr_base input =
 abbrev pub ranges_by : ℕ → RangeListEntry → List (ℕ × ℕ)
 ranges_by base (BaseAddress address) = []
 ranges_by base (StartEnd start end) = (start, end) ∷ []
-ranges_by base (OffsetPair start end) = (plus base start, plus base end) ∷ []
+ranges_by base (OffsetPair start end) = (word_sum base start, word_sum base end) ∷ []
 
 abbrev pub base_by : ℕ → RangeListEntry → ℕ
 base_by base (BaseAddress address) = address
@@ -110,47 +108,48 @@ unfoldable pub ranges_from : ℕ → List RangeListEntry → List (ℕ × ℕ)
 ranges_from base [] = []
 ranges_from base (entry ∷ entries) = ranges_by base entry ++ ranges_from (base_by base entry) entries
 
--- what a list gives, unless it counts as absent
-abbrev pub listed : ℕ → Result (List RangeListEntry × Input Absent) Absent → Option (List (ℕ × ℕ))
-listed base (Ok entries) = Some (ranges_from base entries.0)
-listed base (Err fault) = None
+-- the ranges of a list that was read, unless it counts as absent
+abbrev pub list_ranges : ℕ → Result (List RangeListEntry × Input Absent) Absent → Option (List (ℕ × ℕ))
+list_ranges base (Ok entries) = Some (ranges_from base entries.0)
+list_ranges base (Err fault) = None
 
 -- the ranges of the list at an offset of .debug_rnglists
 abbrev pub ranges_at : Sections → Option ℕ → ℕ → ℕ → Option (List (ℕ × ℕ))
 ranges_at sections addr_base base offset =
-    listed base (input_at sections.rnglists offset absent >>= range_list_from sections addr_base)
+    list_ranges base (input_at sections.rnglists offset absent >>= range_list_from sections addr_base)
 
 -- ---- the ranges of an entry
 
--- the offset of the list that DW_AT_ranges names
-abbrev pub list_value : Sections → Option ℕ → FormValue → Option ℕ
-list_value sections rnglists_base (Section n) = Some n
-list_value sections rnglists_base (ListIndex i) =
+-- the offset of the list that DW_AT_ranges gives
+abbrev pub rnglist_offset : Sections → Option ℕ → FormValue → Option ℕ
+rnglist_offset sections rnglists_base (Section n) = Some n
+rnglist_offset sections rnglists_base (ListIndex i) =
     option_and_then (λ start. option_map (λ offset. start + offset) (element_in sections.rnglists rnglists_base i))
     rnglists_base
-list_value sections rnglists_base other = None
+rnglist_offset sections rnglists_base other = None
 
 -- DW_AT_high_pc is an address, or a number that is added to DW_AT_low_pc
-abbrev pub high_value : Sections → Option ℕ → ℕ → FormValue → Option ℕ
-high_value sections addr_base low (Number n) = Some (plus low n)
-high_value sections addr_base low (Signed z) = Some (plus low (wrapped z))
-high_value sections addr_base low other = address_value sections addr_base other
+abbrev pub high_pc_value : Sections → Option ℕ → ℕ → FormValue → Option ℕ
+high_pc_value sections addr_base low (Number n) = Some (word_sum low n)
+high_pc_value sections addr_base low (Signed z) = Some (word_sum low (low_word_signed z))
+high_pc_value sections addr_base low other = address_value sections addr_base other
 
--- the ranges of the list that DW_AT_ranges names, unless it counts as absent
+-- the ranges of the list that DW_AT_ranges gives, unless it counts as absent
 abbrev pub attribute_ranges : DebugInfo → UnitEntry → Option (List (ℕ × ℕ))
 attribute_ranges info e =
-    option_and_then (ranges_at info.sections e.bases.addr_base (unwrap_or e.bases.low_pc 0))
-    (option_and_then (list_value info.sections e.bases.rnglists_base) (attribute_value info DW_AT_ranges e))
+    option_and_then (ranges_at info.sections e.context.addr_base (unwrap_or e.context.low_pc 0))
+    (option_and_then (rnglist_offset info.sections e.context.rnglists_base) (attribute_value info DW_AT_ranges e))
 
 abbrev pub low_pc_of : DebugInfo → UnitEntry → Option ℕ
-low_pc_of info e = option_and_then (address_value info.sections e.bases.addr_base) (attribute_value info DW_AT_low_pc e)
+low_pc_of info e =
+    option_and_then (address_value info.sections e.context.addr_base) (attribute_value info DW_AT_low_pc e)
 
 -- the range from DW_AT_low_pc to DW_AT_high_pc
 abbrev pub low_high_of : DebugInfo → UnitEntry → Option (ℕ × ℕ)
 low_high_of info e =
     option_and_then
     (λ low. option_map (λ high. (low, high))
-    (option_and_then (high_value info.sections e.bases.addr_base low) (attribute_value info DW_AT_high_pc e)))
+    (option_and_then (high_pc_value info.sections e.context.addr_base low) (attribute_value info DW_AT_high_pc e)))
     (low_pc_of info e)
 
 -- one range, if there is one

@@ -24,11 +24,11 @@ sections_of parts = record {
   rnglists = parts.rnglists.now;
 }
 
--- the number of four bytes at an offset of a section; nothing where it is not whole there
+-- the number of four bytes at an offset of a section; none where the section ends before it does
 abbrev pub section_word : List ℕ → ℕ → Option ℕ
 section_word section offset = option_map (λ r. r.0) (number_at 4 (drop offset section))
 
--- the same of the element with an index behind a base
+-- the number of four bytes with an index in the table that begins at a base
 abbrev pub element_in : List ℕ → Option ℕ → ℕ → Option ℕ
 element_in section base index = option_and_then (λ start. section_word section (start + 4 * index)) base
 

@@ -20,7 +20,7 @@ checked_header unit_type address_size header =
     else (if (unit_type == DW_UT_compile || unit_type == DW_UT_partial) && (address_size == 4) then Ok header
     else Err (BadUnit header.offset))
 
--- the fields behind the unit type of the unit at an offset that ends at another
+-- the header from the field after unit_type on, of the unit from `offset` up to `end`
 abbrev pub fields_from : ℕ → ℕ → ℕ → Input InfoFault → Result (Option UnitHeader × Input InfoFault) InfoFault
 fields_from offset end unit_type input = do
   (address_size, input) ← number_from 1 input
@@ -33,20 +33,20 @@ fields_from offset end unit_type input = do
   })
   Ok (Some header, input)
 
--- a header of version 5 behind the version; type units are passed over
+-- a header of version 5 after version; none for a type unit
 unfoldable pub version5_from : ℕ → ℕ → Input InfoFault → Result (Option UnitHeader × Input InfoFault) InfoFault
 version5_from offset end input = do
   (unit_type, input) ← number_from 1 input
   if unit_type == DW_UT_type then Ok (None, input) else fields_from offset end unit_type input
 
--- the same behind a version; units of versions 2 to 4 are passed over
+-- a header after its version; none for versions 2 to 4
 abbrev pub by_version : ℕ → ℕ → ℕ → Input InfoFault → Result (Option UnitHeader × Input InfoFault) InfoFault
 by_version version offset end input =
     if version == 5 then version5_from offset end input
     else (if nat_le 2 version && nat_le version 4 then Ok (None, input) else Err input.missing)
 
--- the header behind the unit's length; nothing for a unit that is passed over
-unfoldable pub header_from : ℕ → ℕ → Input InfoFault → Result (Option UnitHeader × Input InfoFault) InfoFault
-header_from offset end input = do
+-- the header after unit_length; none for a unit that is skipped
+unfoldable pub unit_header_from : ℕ → ℕ → Input InfoFault → Result (Option UnitHeader × Input InfoFault) InfoFault
+unit_header_from offset end input = do
   (version, input) ← number_from 2 input
   by_version version offset end input

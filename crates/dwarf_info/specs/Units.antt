@@ -7,14 +7,14 @@ use Rattle.prof_bytes.specs.Outcome.{◌>>=◌}
 use Rattle.dwarf_forms.specs.declared.declaration.Abbrev.{Abbrev}
 use Rattle.dwarf_forms.specs.declared.value.FormFault.TheVariants.{Short}
 use Rattle.dwarf_forms.specs.Abbreviations.{table_at}
-use Rattle.dwarf_forms.specs.Runs.{Step, run_to_end}
+use Rattle.dwarf_forms.specs.Runs.{RunStep, run_to_end}
 use Rattle.dwarf_forms.specs.Values.{FormValue}
 use Rattle.dwarf_info.specs.declared.constants.TheConstants.{DW_AT_stmt_list, DW_AT_low_pc}
 use Rattle.dwarf_info.specs.declared.constants.TheConstants.{DW_AT_str_offsets_base, DW_AT_addr_base}
 use Rattle.dwarf_info.specs.declared.constants.TheConstants.{DW_AT_rnglists_base}
 use Rattle.dwarf_info.specs.declared.unit_header.UnitHeader.{UnitHeader}
 use Rattle.dwarf_info.specs.declared.entry.Unit.{Unit}
-use Rattle.dwarf_info.specs.declared.entry.UnitBases.{UnitBases}
+use Rattle.dwarf_info.specs.declared.entry.UnitContext.{UnitContext}
 use Rattle.dwarf_info.specs.declared.entry.InfoEntry.{InfoEntry}
 use Rattle.dwarf_info.specs.declared.fault.InfoFault.{InfoFault}
 use Rattle.dwarf_info.specs.declared.fault.InfoFault.TheVariants.{BadUnit, BadAbbrev}
@@ -22,30 +22,30 @@ use Rattle.dwarf_info.specs.Sections.{Sections, section_up_to}
 use Rattle.dwarf_info.specs.Values.{entry_values, value_of}
 use Rattle.dwarf_info.specs.Attributes.{section_value, address_value}
 use Rattle.dwarf_info.specs.Entries.{entries_from}
-use Rattle.dwarf_info.specs.UnitHeaders.{header_from}
+use Rattle.dwarf_info.specs.UnitHeaders.{unit_header_from}
 
--- ---- what the first entry of a unit says
+-- ---- the entry of the unit itself, which is its first entry
 
--- the values of the first of the entries, by its offset
-abbrev pub first_values : Sections → ℕ → List Abbrev → Option ℕ → List (ℕ × FormValue)
-first_values sections end declared None = []
-first_values sections end declared (Some offset) = entry_values declared (section_up_to end sections.info offset Short)
+-- the values of the entry of the unit, by its offset
+abbrev pub unit_values : Sections → ℕ → List Abbrev → Option ℕ → List (ℕ × FormValue)
+unit_values sections end declared None = []
+unit_values sections end declared (Some offset) = entry_values declared (section_up_to end sections.info offset Short)
 
 -- the offset in a section that an attribute gives
-abbrev pub section_offset : ℕ → List (ℕ × FormValue) → Option ℕ
-section_offset attribute values = option_and_then section_value (value_of attribute values)
+abbrev pub sec_offset_of : ℕ → List (ℕ × FormValue) → Option ℕ
+sec_offset_of attribute values = option_and_then section_value (value_of attribute values)
 
--- a unit with the bases that its first entry gives
-abbrev pub unit_bases : Sections → ℕ → UnitHeader → List (ℕ × FormValue) → UnitBases
-unit_bases sections index header values = record {
+-- a unit's header with the attributes of its entry that the values of all entries depend on
+abbrev pub unit_context : Sections → ℕ → UnitHeader → List (ℕ × FormValue) → UnitContext
+unit_context sections index header values = record {
   index = index;
   header = header;
-  stmt_list = section_offset DW_AT_stmt_list values;
-  str_offsets_base = section_offset DW_AT_str_offsets_base values;
-  addr_base = section_offset DW_AT_addr_base values;
-  rnglists_base = section_offset DW_AT_rnglists_base values;
+  stmt_list = sec_offset_of DW_AT_stmt_list values;
+  str_offsets_base = sec_offset_of DW_AT_str_offsets_base values;
+  addr_base = sec_offset_of DW_AT_addr_base values;
+  rnglists_base = sec_offset_of DW_AT_rnglists_base values;
   low_pc =
-      option_and_then (address_value sections (section_offset DW_AT_addr_base values)) (value_of DW_AT_low_pc values);
+      option_and_then (address_value sections (sec_offset_of DW_AT_addr_base values)) (value_of DW_AT_low_pc values);
 }
 
 abbrev pub first_offset : List InfoEntry → Option ℕ
@@ -57,7 +57,7 @@ first_offset entries = option_map (λ e. e.offset) (slice_get entries 0)
 abbrev pub unit_body : Sections → UnitHeader → Input InfoFault
 unit_body sections header = section_up_to header.end sections.info header.first_entry (BadUnit header.offset)
 
--- the same with another fault
+-- a result with another fault
 abbrev pub failing_as : {X F G : Type 0} → G → Result X F → Result X G
 failing_as other (Ok x) = Ok x
 failing_as other (Err fault) = Err other
@@ -68,18 +68,18 @@ unit_table sections header =
     failing_as (BadAbbrev header.offset) (table_at sections.abbrev_bytes header.debug_abbrev_offset)
 
 -- a unit that is read: its abbreviation table, its entries, and what the first of them says
-unfoldable pub read_unit : Sections → ℕ → Option UnitHeader → Result (List UnitBases) InfoFault
+unfoldable pub read_unit : Sections → ℕ → Option UnitHeader → Result (List UnitContext) InfoFault
 read_unit sections index None = Ok []
 read_unit sections index (Some header) = do
   declared ← unit_table sections header
   entries ← entries_from declared index (unit_body sections header)
-  Ok (unit_bases sections index header (first_values sections header.end declared (first_offset entries)) ∷ [])
+  Ok (unit_context sections index header (unit_values sections header.end declared (first_offset entries)) ∷ [])
 
 -- the unit that begins here, with its index among those that are read
-unfoldable pub unit_from : Sections → ℕ → Input InfoFault → Step ℕ UnitBases InfoFault
+unfoldable pub unit_from : Sections → ℕ → Input InfoFault → RunStep ℕ UnitContext InfoFault
 unit_from sections index input = do
   (part, next) ← part_from (record input { missing = BadUnit input.at.offset })
-  (header, body) ← header_from input.at.offset next.at.offset part
+  (header, body) ← unit_header_from input.at.offset next.at.offset part
   units ← read_unit sections index header
   Ok (units, index + length units, next)
 
@@ -90,7 +90,7 @@ abbrev pub info_input : Sections → Input InfoFault
 info_input sections = record { at = record { whole = sections.info; offset = 0 }; missing = BadUnit 0 }
 
 -- the units that are read, in section order
-abbrev pub units_of : Sections → Result (List UnitBases) InfoFault
+abbrev pub units_of : Sections → Result (List UnitContext) InfoFault
 units_of sections = run_to_end (unit_from sections) 0 (info_input sections)
 
 abbrev pub or_none : {X F : Type 0} → Result (List X) F → List X
@@ -98,25 +98,25 @@ or_none (Ok xs) = xs
 or_none (Err fault) = []
 
 -- the declarations of a unit that was read
-abbrev pub declared_in : Sections → UnitBases → List Abbrev
-declared_in sections bases = or_none (table_at sections.abbrev_bytes bases.header.debug_abbrev_offset)
+abbrev pub declared_in : Sections → UnitContext → List Abbrev
+declared_in sections context = or_none (table_at sections.abbrev_bytes context.header.debug_abbrev_offset)
 
 -- its entries
-abbrev pub entries_in : Sections → UnitBases → List InfoEntry
-entries_in sections bases =
-    or_none (entries_from (declared_in sections bases) bases.index (unit_body sections bases.header))
+abbrev pub entries_in : Sections → UnitContext → List InfoEntry
+entries_in sections context =
+    or_none (entries_from (declared_in sections context) context.index (unit_body sections context.header))
 
 -- a unit as callers see it
-abbrev pub unit_of : UnitBases → Unit
-unit_of bases = record { offset = bases.header.offset; table = bases.stmt_list }
+abbrev pub unit_of : UnitContext → Unit
+unit_of context = record { offset = context.header.offset; table = context.stmt_list }
 
 -- the debug information that was read
 pub record DebugInfo : Type 0 where
   pub sections : Sections
-  pub units : List UnitBases
+  pub units : List UnitContext
   pub entries : List InfoEntry
 
--- all of it: the units, and their entries one unit after the other
+-- the debug information of sections: the units, and their entries one unit after the other
 unfoldable pub debug_info_of : Sections → Result DebugInfo InfoFault
 debug_info_of sections = do
   units ← units_of sections

@@ -8,7 +8,7 @@ use Rattle.dwarf_forms.specs.declared.value.FormFault.{FormFault}
 use Rattle.dwarf_forms.specs.declared.value.FormFault.TheVariants.{Unknown}
 use Rattle.dwarf_forms.specs.Values.{FormValue, value_from}
 
--- the input behind the values of these attributes, or the fault of the first that is not whole or of an unknown form
+-- the input after the values of these attributes, or the fault of the first that is not whole or of an unknown form
 unfoldable pub passed_from : {F : Type 0} → F → List Spec → Input F → Result (Unit {0} × Input F) F
 passed_from unknown [] input = Ok (tt, input)
 passed_from unknown (spec ∷ specs) input = do

@@ -3,14 +3,14 @@ ghost use Rattle.std.specs.Prelude.{◌≡◌, ◌^◌, Some, None, nat_le, nat_
 ghost use Rattle.std.specs.Prelude.{option_and_then, option_map};
 ghost use Rattle.dwarf_forms.specs.Values.{form_value};
 ghost use Rattle.dwarf_info.specs.Sections.{sections_of, section_word, element_in};
-ghost use Rattle.dwarf_info.specs.Attributes.{section_value, small_value, text_value, address_value};
+ghost use Rattle.dwarf_info.specs.Attributes.{section_value, constant_value, text_value, address_value};
 
 use dwarf_forms::{Value, text_in};
 use elf_image::DebugParts;
 use prof_bytes::Cursor;
 
-/// The bytes before an end.
-pub(crate) fn front(bytes: &[u8], end: u32) -> &[u8]
+/// The bytes before the offset `end`.
+pub(crate) fn bytes_before(bytes: &[u8], end: u32) -> &[u8]
     ensures { result.now ≡ take end bytes.now }
 {
     let end = end as usize;
@@ -42,6 +42,7 @@ pub(crate) fn element_in(section: &[u8], base: Option<u32>, index: u64) -> Optio
     word_in(section, offset as usize)
 }
 
+/// The offset of a value of class `sec_offset`.
 pub(crate) fn section_value(value: Value<'_>) -> Option<u32>
     ensures { result ≡ section_value (form_value value.entry) }
 {
@@ -51,7 +52,7 @@ pub(crate) fn section_value(value: Value<'_>) -> Option<u32>
     }
 }
 
-fn small_unsigned(number: u64) -> Option<u32>
+fn constant_u32(number: u64) -> Option<u32>
     ensures { result ≡ (if nat_lt number (2 ^ 32) then Some number else None) }
 {
     if number < 1 << 32 {
@@ -60,16 +61,17 @@ fn small_unsigned(number: u64) -> Option<u32>
     None
 }
 
-pub(crate) fn small_value(value: Value<'_>) -> Option<u32>
-    ensures { result ≡ small_value (form_value value.entry) }
+/// The value of class `constant`, where it is one of 32 bits.
+pub(crate) fn constant_value(value: Value<'_>) -> Option<u32>
+    ensures { result ≡ constant_value (form_value value.entry) }
 {
     match value {
-        Value::Number(number) => small_unsigned(number),
+        Value::Number(number) => constant_u32(number),
         Value::Signed(number) => {
             if number < 0 {
                 return None;
             }
-            small_unsigned(number as u64)
+            constant_u32(number as u64)
         }
         _ => None,
     }

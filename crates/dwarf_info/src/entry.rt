@@ -1,6 +1,6 @@
 use crate::unit_header::UnitHeader;
 
-/// A unit that was read.
+/// A unit that was read (DWARF 5, section 3.1.1).
 #[derive(Clone, Copy, Debug, PartialEq, Eq)]
 pub struct Unit {
     /// The offset of its header in `.debug_info`.
@@ -14,7 +14,7 @@ pub struct Unit {
 pub struct InfoEntry {
     /// Its offset in `.debug_info`.
     pub offset: u32,
-    /// How many entries of its unit it stands below.
+    /// The number of entries that it stands below in its unit.
     pub depth: u32,
     /// Its tag, a `DW_TAG` of `constants`.
     pub tag: u64,
@@ -22,10 +22,10 @@ pub struct InfoEntry {
     pub unit: u32,
 }
 
-/// A unit's header, with what its first entry says of the values of all its entries (DWARF 5,
+/// A unit's header, and the attributes of the unit's own entry that the values of all its entries depend on (DWARF 5,
 /// section 3.1.1).
 #[derive(Clone, Copy)]
-pub(crate) struct UnitBases {
+pub(crate) struct UnitContext {
     /// Its index among the units that were read.
     pub(crate) index: u32,
     pub(crate) header: UnitHeader,

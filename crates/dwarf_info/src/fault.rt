@@ -6,8 +6,8 @@ use prof_bytes::Fail;
 /// The first fault of `.debug_info`, in section order, with the offset of its unit or entry.
 #[derive(Clone, Copy, Debug, PartialEq, Eq)]
 pub enum InfoFault {
-    /// A unit whose length or header is not one of DWARF 2 to 5 within the section, or whose addresses
-    /// do not have four bytes; or an entry that is not whole within its unit.
+    /// A unit whose length or header is not one of DWARF 2 to 5 within the section, or whose addresses don't have four
+    /// bytes; or an entry that doesn't end within its unit.
     BadUnit { offset: u32 },
     /// A skeleton unit or a split unit.
     SplitUnit { offset: u32 },

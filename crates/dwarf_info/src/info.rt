@@ -1,4 +1,4 @@
-//! Debug information that was read, and what is asked of its entries.
+//! Debug information that was read, and the attributes of its entries.
 ghost use Rattle.std.specs.Prelude.{◌≡◌, ◌<◌, ◌^◌, ◌++◌, ℕ, List, true, is_some, length, map, IfOk, OnOk, option_map};
 ghost use Rattle.std.specs.Prelude.{option_copied, option_and_then, IfSome};
 ghost use Rattle.prof_bytes.specs.Outcome.{Gives};
@@ -15,18 +15,18 @@ ghost use Rattle.dwarf_info.specs.private.Located.{IsLocated, found_unit, own_un
 ghost use Rattle.dwarf_info.specs.private.Indexed.{IsRead};
 ghost use Rattle.dwarf_info.specs.private.Tables.{table_in, AreTables};
 
-use crate::attributes::{address_value, front, small_value, text_value};
+use crate::attributes::{address_value, bytes_before, constant_value, text_value};
 use crate::constants::{
     DW_AT_abstract_origin, DW_AT_call_file, DW_AT_call_line, DW_AT_high_pc, DW_AT_linkage_name,
     DW_AT_low_pc, DW_AT_name, DW_AT_ranges, DW_AT_specification,
 };
 use crate::entries::read_entries;
-use crate::entry::{InfoEntry, Unit, UnitBases};
+use crate::entry::{InfoEntry, Unit, UnitContext};
 use crate::fault::InfoFault;
 use crate::indices::referred;
 use crate::offsets::{Offsets, count_up_to};
 use crate::pairs::Ranges;
-use crate::ranges::{high_value, list_value, ranges_at};
+use crate::ranges::{high_pc_value, ranges_at, rnglist_offset};
 use crate::starts::Starts;
 use crate::tables::Tables;
 use crate::units::{named_tables, read_units, value_at};
@@ -40,47 +40,47 @@ use std::marker::Model;
 fn tabled_value<'a>(
     info: &'a [u8],
     tables: &Tables,
-    bases: UnitBases,
+    context: UnitContext,
     offset: u32,
     attribute: u64,
 ) -> Option<Value<'a>>
     ensures { (section : List ℕ) → AreTables section tables.now
-        → is_some (table_in tables.now bases.header.debug_abbrev_offset) ≡ true
+        → is_some (table_in tables.now context.header.debug_abbrev_offset) ≡ true
         → option_map form_value result ≡ value_of attribute
-        (entry_values (or_none (table_at section bases.header.debug_abbrev_offset))
-        (section_up_to bases.header.end info.now offset Short)) }
+        (entry_values (or_none (table_at section context.header.debug_abbrev_offset))
+        (section_up_to context.header.end info.now offset Short)) }
 {
-    match tables.get(bases.header.debug_abbrev_offset) {
-        Some(table) => value_at(info, &table, bases.header.end, offset, attribute),
+    match tables.get(context.header.debug_abbrev_offset) {
+        Some(table) => value_at(info, &table, context.header.end, offset, attribute),
         None => None,
     }
 }
 
-/// Appends the entries of a unit, which are read again.
+/// Reads the entries of a unit again, and appends them.
 fn add_entries(
     sections: &DebugParts<'_>,
     tables: &Tables,
-    bases: &UnitBases,
+    context: &UnitContext,
     entries: &mut Vec<InfoEntry>,
 ) -> Result<(), Memory>
     requires small { length sections.now.info.now < 2 ^ 31 }
     requires are { AreTables sections.now.«abbrev».now tables.now }
-    requires has { is_some (table_in tables.now bases.now.header.debug_abbrev_offset) ≡ true }
-    requires read { IsRead (sections_of sections.now) bases.now }
-    ensures { OnOk result (entries.new.items ≡ entries.old.items ++ entries_in (sections_of sections.now) bases.now) }
+    requires has { is_some (table_in tables.now context.now.header.debug_abbrev_offset) ≡ true }
+    requires read { IsRead (sections_of sections.now) context.now }
+    ensures { OnOk result (entries.new.items ≡ entries.old.items ++ entries_in (sections_of sections.now) context.now) }
 {
-    let header = bases.header;
+    let header = context.header;
     let missing = InfoFault::BadUnit {
         offset: header.offset,
     };
     let table = tables.get(header.debug_abbrev_offset).unwrap();
-    let bytes = front(sections.info, header.end);
+    let bytes = bytes_before(sections.info, header.end);
     let offset = header.first_entry as usize;
     if offset > bytes.len() {
         return Ok(());
     }
     let mut reader = Reader::new(bytes, offset, missing);
-    match read_entries(&mut reader, &table, bases.index, entries) {
+    match read_entries(&mut reader, &table, context.index, entries) {
         Ok(()) => Ok(()),
         Err(Fail::Memory(memory)) => Err(memory),
         Err(Fail::Fault(_)) => unreachable!(),
@@ -91,16 +91,16 @@ fn add_entries(
 #[derive(Clone, Copy)]
 pub(crate) struct Located {
     index: u32,
-    bases: UnitBases,
+    context: UnitContext,
     offset: u32,
 }
 
-/// Debug information that was read. It lends the sections' bytes.
+/// Debug information that was read (DWARF 5, section 7.5). It borrows the sections' bytes.
 #[derive(Drop)]
 pub struct Info<'a> {
     sections: DebugParts<'a>,
     units: Vec<Unit>,
-    bases: Vec<UnitBases>,
+    contexts: Vec<UnitContext>,
     /// The offsets of the entries of all units.
     offsets: Offsets,
     /// The index of the first entry of each unit.
@@ -118,42 +118,42 @@ impl<'a> Model for Info<'a> {
 
     ghost view = { λ info. record {
       sections = sections_of info.sections;
-      units = info.bases.items;
-      entries = flat_map (entries_in (sections_of info.sections)) info.bases.items;
+      units = info.contexts.items;
+      entries = flat_map (entries_in (sections_of info.sections)) info.contexts.items;
     } };
 
-    ghost invariant = { λ info. IsWhole (sections_of info.sections) info.units.items info.bases.items
+    ghost invariant = { λ info. IsWhole (sections_of info.sections) info.units.items info.contexts.items
         info.offsets info.firsts.items info.tables };
 }
 
 impl<'a> Info<'a> {
-    /// The units that were read, in section order.
+    /// The units that were read, in section order (DWARF 5, section 3.1).
     pub fn units(&self) -> &[Unit]
         ensures { result.now ≡ map unit_of self.now.units }
     {
         self.units.as_slice()
     }
 
-    /// How many entries all units have: fewer than `.debug_info` has bytes.
+    /// The number of entries of all units. It is less than the number of bytes of `.debug_info`.
     pub fn entry_count(&self) -> u32
         ensures { result ≡ length self.now.entries }
     {
         self.offsets.count()
     }
 
-    /// The entries of all units, in section order. They are read anew.
+    /// The entries of all units, in section order (DWARF 5, section 2.3). Each call reads them again.
     pub fn entries(&self, alloc: Global) -> Result<Vec<InfoEntry>, Memory>
         ensures entries { IfOk result (λ v. v.items ≡ self.now.entries) }
         ensures few { length self.now.entries < 2 ^ 31 }
     {
         let mut entries = Vec::new(alloc);
-        for bases in self.bases.as_slice() {
-            add_entries(&self.sections, &self.tables, bases, &mut entries)?;
+        for context in self.contexts.as_slice() {
+            add_entries(&self.sections, &self.tables, context, &mut entries)?;
         }
         Ok(entries)
     }
 
-    /// The entry's name, or else its linkage name.
+    /// The entry's name (DWARF 5, section 2.15), or else its linkage name (section 2.22).
     pub fn name(&self, i: u32) -> Option<&'a [u8]>
         requires { i < length self.now.entries }
         ensures { option_copied result ≡ name_of self.now i }
@@ -165,7 +165,8 @@ impl<'a> Info<'a> {
         }
     }
 
-    /// The entry that this one completes: its abstract origin, or else its specification.
+    /// The entry that this one completes: its abstract origin (DWARF 5, section 3.3.8), or else its specification
+    /// (section 2.13.2).
     #[tactic(auto, using(crate::proofs::Bounds::link_bound))]
     pub fn link(&self, i: u32) -> Option<u32>
         requires { i < length self.now.entries }
@@ -179,15 +180,15 @@ impl<'a> Info<'a> {
         }
     }
 
-    /// The file and the line of the call of an inlined subroutine.
+    /// The file and the line of the call of an inlined subroutine (DWARF 5, section 3.3.8.2).
     pub fn call(&self, i: u32) -> (Option<u32>, Option<u32>)
         requires { i < length self.now.entries }
         ensures { result ≡ call_site_of self.now i }
     {
         match self.located(i) {
             Some(at) => (
-                self.small(at, DW_AT_call_file),
-                self.small(at, DW_AT_call_line),
+                self.constant(at, DW_AT_call_file),
+                self.constant(at, DW_AT_call_line),
             ),
             None => (None, None),
         }
@@ -202,7 +203,7 @@ impl<'a> Info<'a> {
         let unit = count_up_to(self.firsts.as_slice(), i).checked_sub(1)?;
         Some(Located {
             index: i,
-            bases: self.bases[unit],
+            context: self.contexts[unit],
             offset,
         })
     }
@@ -216,7 +217,7 @@ impl<'a> Info<'a> {
         tabled_value(
             self.sections.info,
             &self.tables,
-            at.bases,
+            at.context,
             at.offset,
             attribute,
         )
@@ -228,7 +229,7 @@ impl<'a> Info<'a> {
             ≡ option_and_then (attribute_text self.now attribute) (unit_entry self.now at.index) }
     {
         let value = self.value(at, attribute)?;
-        text_value(&self.sections, at.bases.str_offsets_base, value)
+        text_value(&self.sections, at.context.str_offsets_base, value)
     }
 
     fn reference(&self, at: Located, attribute: u64) -> Option<u32>
@@ -236,19 +237,19 @@ impl<'a> Info<'a> {
         ensures { result ≡ option_and_then (attribute_entry self.now attribute) (unit_entry self.now at.index) }
     {
         let value = self.value(at, attribute)?;
-        referred(&self.offsets, at.bases.header.offset, value)
+        referred(&self.offsets, at.context.header.offset, value)
     }
 
-    fn small(&self, at: Located, attribute: u64) -> Option<u32>
+    fn constant(&self, at: Located, attribute: u64) -> Option<u32>
         requires { IsLocated self.now at }
         ensures { result ≡ attribute_number self.now attribute at.index }
     {
         let value = self.value(at, attribute)?;
-        small_value(value)
+        constant_value(value)
     }
 
-    /// The ranges of the list that `DW_AT_ranges` names, unless it counts as absent.
-    fn listed(&self, alloc: Global, at: Located) -> Result<Option<Vec<(u32, u32)>>, Memory>
+    /// The ranges of the list that `DW_AT_ranges` gives, unless it is malformed.
+    fn range_list(&self, alloc: Global, at: Located) -> Result<Option<Vec<(u32, u32)>>, Memory>
         requires { IsLocated self.now at }
         ensures { IfOk result (λ o. option_map (λ v. v.items) o
             ≡ option_and_then (attribute_ranges self.now) (unit_entry self.now at.index)) }
@@ -256,34 +257,34 @@ impl<'a> Info<'a> {
         let Some(value) = self.value(at, DW_AT_ranges) else {
             return Ok(None);
         };
-        let base = at.bases.low_pc.unwrap_or(0);
-        match list_value(&self.sections, at.bases.rnglists_base, value) {
-            Some(offset) => ranges_at(alloc, &self.sections, at.bases.addr_base, base, offset),
+        let base = at.context.low_pc.unwrap_or(0);
+        match rnglist_offset(&self.sections, at.context.rnglists_base, value) {
+            Some(offset) => ranges_at(alloc, &self.sections, at.context.addr_base, base, offset),
             None => Ok(None),
         }
     }
 
-    fn low(&self, at: Located) -> Option<u32>
+    fn low_pc(&self, at: Located) -> Option<u32>
         requires { IsLocated self.now at }
         ensures { result ≡ option_and_then (low_pc_of self.now) (unit_entry self.now at.index) }
     {
         let value = self.value(at, DW_AT_low_pc)?;
-        address_value(&self.sections, at.bases.addr_base, value)
+        address_value(&self.sections, at.context.addr_base, value)
     }
 
     /// The range from `DW_AT_low_pc` to `DW_AT_high_pc`.
-    fn bounds(&self, at: Located) -> Option<(u32, u32)>
+    fn low_high_pc(&self, at: Located) -> Option<(u32, u32)>
         requires { IsLocated self.now at }
         ensures { result ≡ option_and_then (low_high_of self.now) (unit_entry self.now at.index) }
     {
-        let low = self.low(at)?;
+        let low = self.low_pc(at)?;
         let value = self.value(at, DW_AT_high_pc)?;
-        let high = high_value(&self.sections, at.bases.addr_base, low, value)?;
+        let high = high_pc_value(&self.sections, at.context.addr_base, low, value)?;
         Some((low, high))
     }
 
-    /// The entry's address ranges: those of its range list, or else the one from its low to its high
-    /// address. Also empty ones are among them.
+    /// The entry's address ranges (DWARF 5, section 2.17): those of `DW_AT_ranges`, or else the one from `DW_AT_low_pc`
+    /// to `DW_AT_high_pc`. Empty ranges are among them.
     #[tactic(auto, using(crate::proofs::Bounds::ranges_bound))]
     pub fn ranges(&self, alloc: Global, i: u32) -> Result<Ranges, Memory>
         requires { i < length self.now.entries }
@@ -294,9 +295,9 @@ impl<'a> Info<'a> {
         let Some(at) = self.located(i) else {
             return one_or_none(alloc, None);
         };
-        match self.listed(alloc, at)? {
+        match self.range_list(alloc, at)? {
             Some(pairs) => Ok(Ranges::from_vec(pairs)),
-            None => one_or_none(alloc, self.bounds(at)),
+            None => one_or_none(alloc, self.low_high_pc(at)),
         }
     }
 }
@@ -311,11 +312,11 @@ fn one_or_none(alloc: Global, range: Option<(u32, u32)>) -> Result<Ranges, Memor
     Ok(Ranges::from_vec(pairs))
 }
 
-fn shown_units(alloc: Global, bases: &[UnitBases]) -> Result<Vec<Unit>, Memory>
-    ensures { IfOk result (λ units. units.items ≡ map unit_of bases.now) }
+fn shown_units(alloc: Global, contexts: &[UnitContext]) -> Result<Vec<Unit>, Memory>
+    ensures { IfOk result (λ units. units.items ≡ map unit_of contexts.now) }
 {
     let mut units = Vec::new(alloc);
-    for unit in bases {
+    for unit in contexts {
         units.push(Unit {
             offset: unit.header.offset,
             table: unit.stmt_list,
@@ -324,8 +325,8 @@ fn shown_units(alloc: Global, bases: &[UnitBases]) -> Result<Vec<Unit>, Memory>
     Ok(units)
 }
 
-/// The debug information of these sections, or the first fault in section order. Linear in the bytes of
-/// `.debug_info`, and in those of each abbreviation table that units name, read once each.
+/// The debug information of these sections (DWARF 5, section 7.5), or the first fault in section order. Takes time
+/// linear in the bytes of `.debug_info`, and in those of each abbreviation table that units name: each is read once.
 #[tactic(auto, unfolding(crate::specs::Units::debug_info_of))]
 pub fn read_info<'a>(alloc: Global, sections: DebugParts<'a>) -> Result<Info<'a>, Fail<InfoFault>>
     requires info { length sections.info.now < 2 ^ 31 }
@@ -335,13 +336,13 @@ pub fn read_info<'a>(alloc: Global, sections: DebugParts<'a>) -> Result<Info<'a>
     let mut tables = named_tables(alloc, &sections)?;
     let mut starts = Starts::new(alloc, sections.info.len())?;
     let mut firsts = Vec::new(alloc);
-    let bases = read_units(alloc, &sections, &mut tables, &mut starts, &mut firsts)?;
-    let units = shown_units(alloc, bases.as_slice())?;
+    let contexts = read_units(alloc, &sections, &mut tables, &mut starts, &mut firsts)?;
+    let units = shown_units(alloc, contexts.as_slice())?;
     let offsets = starts.offsets(alloc)?;
     Ok(Info {
         sections,
         units,
-        bases,
+        contexts,
         offsets,
         firsts,
         tables,

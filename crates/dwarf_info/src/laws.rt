@@ -1,4 +1,4 @@
-//! What holds of the definitions.
+//! Laws of the definitions.
 ghost use Rattle.std.specs.Prelude.{◌≡◌, ◌≤◌, ℕ, List, Option, length};
 ghost use Rattle.prof_bytes.specs.Fields.{Input};
 ghost use Rattle.prof_bytes.specs.Reading.{left_of};
@@ -15,7 +15,7 @@ ghost use Rattle.dwarf_info.specs.Ranges.{range_entry_from, range_list_from};
 /// Each unit, each entry and each entry of a range list takes a byte or more, so room for as many as
 /// there are bytes is enough: with more room the lists are the same.
 #[tactic(auto, using(crate::proofs::Rooms::units, crate::proofs::Rooms::entries, crate::proofs::Rooms::ranges))]
-pub fn a_byte_an_entry()
+pub fn die_count_is_at_most_bytes()
     ensures units { (sections : Sections) (room : ℕ) → length sections.info ≤ room
         → run_from (unit_from sections) room 0 (info_input sections) ≡ units_of sections }
     ensures entries { (declared : List Abbrev) (index room : ℕ) (input : Input InfoFault)

@@ -28,5 +28,5 @@ pub use elf_image::DebugParts;
 pub use entry::{InfoEntry, Unit};
 pub use fault::InfoFault;
 pub use info::{Info, read_info};
-pub use laws::a_byte_an_entry;
+pub use laws::die_count_is_at_most_bytes;
 pub use pairs::Ranges;

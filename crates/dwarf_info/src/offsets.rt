@@ -7,10 +7,10 @@ use prof_bytes::Memory;
 use std::alloc::Global;
 use std::marker::Model;
 
-/// How many flags share a count.
+/// The number of flags that share a count.
 const BLOCK: usize = 32;
 
-/// How many flags are set.
+/// The number of flags that are set.
 fn count_set(flags: &[bool]) -> u32
     requires { length flags.now < 2 ^ 31 }
     ensures { result ≡ length (filter (λ flag. flag) flags.now) }
@@ -18,7 +18,7 @@ fn count_set(flags: &[bool]) -> u32
     flags.iter().filter(|flag| **flag).count() as u32
 }
 
-/// How many flags are set before each block.
+/// The number of flags that are set before each block.
 fn counts_of(alloc: Global, flags: &[bool]) -> Result<Vec<u32>, Memory>
     requires { length flags.now < 2 ^ 31 }
     ensures { IfOk result (λ counts. AreCounts flags.now counts.items) }
@@ -56,7 +56,7 @@ fn nth_set(flags: &[bool], from: u32, index: u32) -> Option<u32>
     None
 }
 
-/// How many of numbers that don't fall are at most a number, by halving.
+/// The number of the first numbers that are at most `most`, by a binary search; the numbers never fall.
 pub(crate) fn count_up_to(numbers: &[u32], most: u32) -> usize
     requires { IsNonDecreasingBy (λ n. n) numbers.now }
     ensures { IsSplit most numbers.now result }
@@ -117,7 +117,7 @@ impl Model for Offsets {
 }
 
 impl Offsets {
-    /// The offsets of the flags that are set, so many.
+    /// The offsets whose flags are set; `count` is their number.
     pub(crate) fn new(alloc: Global, flags: Vec<bool>, count: u32) -> Result<Offsets, Memory>
         requires few { length flags.items < 2 ^ 31 }
         requires counted { count ≡ length (set_from 0 flags.items) }
@@ -145,7 +145,7 @@ impl Offsets {
         index_at(self.flags.as_slice(), self.counts.as_slice(), offset)
     }
 
-    /// The offset with an index, by halving.
+    /// The offset with an index, by a binary search.
     pub(crate) fn get(&self, index: u32) -> Option<u32>
         ensures { result ≡ slice_get self.now index }
     {

@@ -2,8 +2,8 @@ ghost use Rattle.std.specs.Prelude.{◌≡◌};
 
 use std::marker::Model;
 
-/// The address ranges of an entry: a start and an end each, the end not among the addresses. Contracts
-/// see them as a list.
+/// The address ranges of an entry (DWARF 5, section 2.17), each from its start up to its end, which is not one of its
+/// addresses. Contracts see them as a list.
 #[derive(Debug, Drop)]
 pub struct Ranges {
     pairs: Vec<(u32, u32)>,

@@ -3,24 +3,26 @@ ghost use Rattle.std.specs.Prelude.{◌≡◌, ◌++◌, IfOk, option_map};
 ghost use Rattle.prof_bytes.specs.Outcome.{GivesAt};
 ghost use Rattle.dwarf_forms.specs.Values.{form_value};
 ghost use Rattle.dwarf_info.specs.Sections.{sections_of};
-ghost use Rattle.dwarf_info.specs.Ranges.{plus, indexed_from, start_length, kind_from, range_entry_from, ranges_by};
-ghost use Rattle.dwarf_info.specs.Ranges.{base_by, high_value, list_value, listed, range_list_from, ranges_at};
+ghost use Rattle.prof_bytes.specs.Number.{word_sum};
+ghost use Rattle.dwarf_info.specs.Ranges.{indexed_from, start_length, kind_from, range_entry_from};
+ghost use Rattle.dwarf_info.specs.Ranges.{ranges_by, base_by, high_pc_value, rnglist_offset, list_ranges};
+ghost use Rattle.dwarf_info.specs.Ranges.{range_list_from, ranges_at};
 
 use crate::attributes::{address_value, element_in};
 use crate::constants::{
     DW_RLE_base_address, DW_RLE_base_addressx, DW_RLE_end_of_list, DW_RLE_offset_pair,
     DW_RLE_start_end, DW_RLE_start_length, DW_RLE_startx_endx, DW_RLE_startx_length,
 };
-use dwarf_forms::{Value, reader_at, wrapped};
+use dwarf_forms::{Value, low_word_signed, reader_at};
 use elf_image::DebugParts;
 use prof_bytes::{Memory, Reader};
 use std::alloc::Global;
 
-/// A range list that counts as absent.
+/// The fault of a malformed range list: it counts as absent.
 #[derive(Clone, Copy)]
 pub(crate) struct Absent;
 
-/// An entry of a range list, with its indices followed.
+/// An entry of a range list (DWARF 5, section 7.25); indices are replaced by the addresses that they lead to.
 #[derive(Clone, Copy)]
 pub(crate) enum RangeListEntry {
     /// The base of the offsets that follow.
@@ -31,8 +33,9 @@ pub(crate) enum RangeListEntry {
     OffsetPair(u64, u64),
 }
 
-pub(crate) fn plus(address: u32, count: u64) -> u32
-    ensures { result ≡ plus address count }
+/// The address `count` bytes after another one, modulo 2^32.
+pub(crate) fn word_sum(address: u32, count: u64) -> u32
+    ensures { result ≡ word_sum address count }
 {
     ((u128::from(address) + u128::from(count)) % (1 << 32)) as u32
 }
@@ -40,10 +43,10 @@ pub(crate) fn plus(address: u32, count: u64) -> u32
 fn start_length(start: u32, length: u64) -> RangeListEntry
     ensures { result ≡ start_length start length }
 {
-    RangeListEntry::StartEnd(start, plus(start, length))
+    RangeListEntry::StartEnd(start, word_sum(start, length))
 }
 
-/// The address in `.debug_addr` whose index is read.
+/// Reads an index, and gives the address with that index in `.debug_addr`.
 fn indexed(
     sections: &DebugParts<'_>,
     addr_base: Option<u32>,
@@ -58,7 +61,7 @@ fn indexed(
     }
 }
 
-fn kind_entry(
+fn entry_of_kind(
     sections: &DebugParts<'_>,
     addr_base: Option<u32>,
     kind: u8,
@@ -106,7 +109,7 @@ fn range_entry(
     ensures { GivesAt (λ e. e) result reader.new (range_entry_from (sections_of sections.now) addr_base reader.old) }
 {
     let kind = reader.u8()?;
-    kind_entry(sections, addr_base, kind, reader)
+    entry_of_kind(sections, addr_base, kind, reader)
 }
 
 fn push_range(pairs: &mut Vec<(u32, u32)>, base: u32, entry: RangeListEntry) -> Result<u32, Memory>
@@ -117,19 +120,19 @@ fn push_range(pairs: &mut Vec<(u32, u32)>, base: u32, entry: RangeListEntry) -> 
         RangeListEntry::BaseAddress(address) => return Ok(address),
         RangeListEntry::StartEnd(start, end) => pairs.push((start, end))?,
         RangeListEntry::OffsetPair(start, end) => {
-            pairs.push((plus(base, start), plus(base, end)))?;
+            pairs.push((word_sum(base, start), word_sum(base, end)))?;
         }
     }
     Ok(base)
 }
 
-/// The offset of the range list that a value names.
-pub(crate) fn list_value(
+/// The offset of the range list that a value of class `rnglist` gives (DWARF 5, section 7.5.5).
+pub(crate) fn rnglist_offset(
     sections: &DebugParts<'_>,
     rnglists_base: Option<u32>,
     value: Value<'_>,
 ) -> Option<u64>
-    ensures { result ≡ list_value (sections_of sections.now) rnglists_base (form_value value.entry) }
+    ensures { result ≡ rnglist_offset (sections_of sections.now) rnglists_base (form_value value.entry) }
 {
     match value {
         Value::Section(offset) => Some(u64::from(offset)),
@@ -143,22 +146,22 @@ pub(crate) fn list_value(
 }
 
 /// The end of the range that begins at `low` (DWARF 5, section 2.17.2).
-pub(crate) fn high_value(
+pub(crate) fn high_pc_value(
     sections: &DebugParts<'_>,
     addr_base: Option<u32>,
     low: u32,
     value: Value<'_>,
 ) -> Option<u32>
-    ensures { result ≡ high_value (sections_of sections.now) addr_base low (form_value value.entry) }
+    ensures { result ≡ high_pc_value (sections_of sections.now) addr_base low (form_value value.entry) }
 {
     match value {
-        Value::Number(number) => Some(plus(low, number)),
-        Value::Signed(number) => Some(plus(low, u64::from(wrapped(number)))),
+        Value::Number(number) => Some(word_sum(low, number)),
+        Value::Signed(number) => Some(word_sum(low, u64::from(low_word_signed(number)))),
         _ => address_value(sections, addr_base, value),
     }
 }
 
-fn range_list(
+fn read_range_list(
     alloc: Global,
     sections: &DebugParts<'_>,
     addr_base: Option<u32>,
@@ -166,7 +169,7 @@ fn range_list(
     reader: &mut Reader<'_, Absent>,
 ) -> Result<Option<Vec<(u32, u32)>>, Memory>
     ensures { IfOk result (λ o. option_map (λ v. v.items) o
-        ≡ listed start (range_list_from (sections_of sections.now) addr_base reader.old)) }
+        ≡ list_ranges start (range_list_from (sections_of sections.now) addr_base reader.old)) }
 {
     let mut pairs = Vec::new(alloc);
     let mut base = start;
@@ -181,7 +184,7 @@ fn range_list(
     Ok(None)
 }
 
-/// The ranges of the list at an offset of `.debug_rnglists`; `None` where it counts as absent.
+/// The ranges of the list at an offset of `.debug_rnglists` (DWARF 5, section 7.25); `None` where it is malformed.
 pub(crate) fn ranges_at(
     alloc: Global,
     sections: &DebugParts<'_>,
@@ -194,6 +197,6 @@ pub(crate) fn ranges_at(
 {
     match reader_at(sections.rnglists, offset as usize, Absent) {
         Err(_) => Ok(None),
-        Ok(mut reader) => range_list(alloc, sections, addr_base, base, &mut reader),
+        Ok(mut reader) => read_range_list(alloc, sections, addr_base, base, &mut reader),
     }
 }

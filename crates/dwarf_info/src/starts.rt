@@ -12,7 +12,7 @@ pub(crate) struct Starts {
     flags: Vec<bool>,
     /// How many flags are set.
     count: u32,
-    /// None is set from this offset on.
+    /// No flag is set from this offset on.
     end: u32,
 }
 
@@ -32,7 +32,7 @@ impl Model for Starts {
 }
 
 impl Starts {
-    /// No entry in so many bytes.
+    /// No entry starts are marked yet, in a section of `bytes` bytes.
     pub(crate) fn new(alloc: Global, bytes: usize) -> Result<Starts, Memory>
         requires { bytes < 2 ^ 31 }
         ensures { IfOk result (λ s. s ≡ record { offsets = []; end = 0; bytes = bytes }) }
@@ -45,14 +45,14 @@ impl Starts {
         })
     }
 
-    /// How many entries begin.
+    /// The number of offsets that are marked.
     pub(crate) fn count(&self) -> u32
         ensures { result ≡ length self.now.offsets }
     {
         self.count
     }
 
-    /// Marks an offset behind all that are marked.
+    /// Marks an offset after all that are marked.
     pub(crate) fn mark(&mut self, offset: u32)
         requires inside { offset < self.old.bytes }
         requires behind { self.old.end ≤ offset }
@@ -67,7 +67,7 @@ impl Starts {
         self.end = offset + 1;
     }
 
-    /// What was marked.
+    /// The offsets that were marked.
     pub(crate) fn offsets(self, alloc: Global) -> Result<Offsets, Memory>
         ensures { IfOk result (λ offsets. offsets ≡ self.offsets) }
     {

@@ -13,31 +13,31 @@ use prof_bytes::{Fail, Memory};
 use std::alloc::Global;
 use std::collections::BTreeMap;
 
-/// A table that is the end of one that was read.
+/// A table that is a suffix of one that was read.
 #[derive(Clone, Copy, Drop)]
 pub(crate) struct Suffix {
-    /// The index of the one that was read.
+    /// The index of the table that was read.
     pub(crate) table: usize,
-    /// The index of its first declaration there.
+    /// The index of the suffix's first declaration in that table.
     pub(crate) from: usize,
 }
 
-/// What the table at an offset is: known, the end of one that was read, or read now.
+/// The table at an offset: known already, a suffix of one that was read, or read now.
 #[derive(Drop)]
-pub(crate) enum Found {
+pub(crate) enum TableAt {
     Known,
     End(Suffix),
     Read(Abbrevs),
 }
 
-/// The abbreviation tables that units name, by their offsets. One that is the end of another isn't read again.
+/// The abbreviation tables that units name, by their offsets. A table that is a suffix of another isn't read again.
 #[derive(Drop)]
 pub(crate) struct Tables {
     read: Vec<Abbrevs>,
     suffixes: BTreeMap<u32, Suffix>,
 }
 
-/// The nearest offset of a table up to another one.
+/// The greatest offset of a table that is at most `offset`.
 fn nearest(suffixes: &BTreeMap<u32, Suffix>, offset: u32) -> Option<u32> {
     let (start, _) = suffixes.range(..=offset).next_back()?;
     Some(*start)
@@ -75,7 +75,7 @@ impl Tables {
         Some(table.from_index(suffix.from))
     }
 
-    /// The table at an offset, if it is the end of the nearest one before it.
+    /// The table at an offset, if it is a suffix of the nearest one before it.
     fn suffix_near(&self, offset: u32) -> Option<Suffix>
         ensures { (section : List ℕ) → AreTables section self.now
             → IfSome result (λ suffix. IsSuffix section self.now.read.items suffix offset) }
@@ -91,18 +91,18 @@ impl Tables {
         })
     }
 
-    /// What the table at an offset is. It is read, unless it is known already or the end of one that is.
-    fn find(&self, alloc: Global, section: &[u8], offset: u32) -> Result<Found, Fail<BadTable>>
+    /// The table at an offset. It is read, unless it is known already or a suffix of a known one.
+    fn find(&self, alloc: Global, section: &[u8], offset: u32) -> Result<TableAt, Fail<BadTable>>
         requires { AreTables section.now self.now }
         ensures found { IfOk result (λ found. IsFound section.now self.now found offset) }
         ensures bad { IfErr result (λ fail. FailsBy fail (table_at section.now offset)) }
     {
         if self.get(offset).is_some() {
-            return Ok(Found::Known);
+            return Ok(TableAt::Known);
         }
         match self.suffix_near(offset) {
-            Some(suffix) => Ok(Found::End(suffix)),
-            None => Ok(Found::Read(read_abbrevs(alloc, section, offset)?)),
+            Some(suffix) => Ok(TableAt::End(suffix)),
+            None => Ok(TableAt::Read(read_abbrevs(alloc, section, offset)?)),
         }
     }
 
@@ -120,15 +120,15 @@ impl Tables {
         Ok(())
     }
 
-    /// Keeps what the table at an offset is.
-    fn keep(&mut self, found: Found, offset: u32) -> Result<(), Memory>
+    /// Keeps the table at an offset as it was found.
+    fn keep(&mut self, found: TableAt, offset: u32) -> Result<(), Memory>
         ensures { (section : List ℕ) → AreTables section self.old → IsFound section self.old found offset
             → IfOk result (λ _. IsKnown section self.old self.new offset) }
     {
         match found {
-            Found::Known => Ok(()),
-            Found::End(suffix) => add_suffix(&mut self.suffixes, offset, suffix),
-            Found::Read(table) => self.keep_read(table, offset),
+            TableAt::Known => Ok(()),
+            TableAt::End(suffix) => add_suffix(&mut self.suffixes, offset, suffix),
+            TableAt::Read(table) => self.keep_read(table, offset),
         }
     }
 
@@ -150,8 +150,8 @@ impl Tables {
         Ok(())
     }
 
-    /// Makes the tables at these offsets known, up to the first that is none. Where the offsets ascend, and each table
-    /// is the end of the one before, one is read.
+    /// Makes the tables at these offsets known, up to the first malformed one. Where the offsets ascend, and each table
+    /// is a suffix of the one before, only the first is read.
     pub(crate) fn know_all(
         &mut self,
         alloc: Global,

@@ -1,7 +1,7 @@
 //! The header of a unit (DWARF 5, section 7.5.1).
 ghost use Rattle.std.specs.Prelude.{◌≡◌, ◌<◌, ◌^◌, length, IfOk, IfSome};
 ghost use Rattle.prof_bytes.specs.Outcome.{GivesAt};
-ghost use Rattle.dwarf_info.specs.UnitHeaders.{is_split, checked_header, fields_from, version5_from, header_from};
+ghost use Rattle.dwarf_info.specs.UnitHeaders.{is_split, checked_header, fields_from, version5_from, unit_header_from};
 ghost use Rattle.dwarf_info.specs.private.Bodies.{IsAtEntries};
 
 use crate::constants::{
@@ -13,12 +13,13 @@ use prof_bytes::Reader;
 /// The bytes of an address.
 const ADDRESS_SIZE: u8 = 4;
 
-/// Where a unit lies in `.debug_info`, where its abbreviation table lies, and where its entries begin.
+/// Where a unit lies in `.debug_info`, where its abbreviation table lies, and where its entries begin (DWARF 5,
+/// section 7.5.1.1).
 #[derive(Clone, Copy)]
 pub(crate) struct UnitHeader {
     /// The offset of the header.
     pub(crate) offset: u32,
-    /// The offset behind the unit.
+    /// The offset after the unit.
     pub(crate) end: u32,
     /// The offset of the unit's abbreviation table in `.debug_abbrev`.
     pub(crate) debug_abbrev_offset: u32,
@@ -43,7 +44,7 @@ fn is_split(unit_type: u8) -> bool
     )
 }
 
-/// Refuses what is no compile unit or partial unit, or has addresses of another size.
+/// Refuses a unit that is neither a compile unit nor a partial unit, or whose addresses don't have four bytes.
 fn checked(unit_type: u8, address_size: u8, header: UnitHeader) -> Result<UnitHeader, InfoFault>
     ensures { result ≡ checked_header unit_type address_size header }
 {
@@ -57,7 +58,7 @@ fn checked(unit_type: u8, address_size: u8, header: UnitHeader) -> Result<UnitHe
     Err(InfoFault::BadUnit { offset })
 }
 
-/// The fields behind the unit type.
+/// The header from the field after `unit_type` on.
 fn fields(
     reader: &mut Reader<'_, InfoFault>,
     offset: u32,
@@ -80,7 +81,7 @@ fn fields(
     Ok(Some(checked(unit_type, address_size, header)?))
 }
 
-/// A header of version 5 behind the version; `None` for a type unit.
+/// A header of version 5 after `version`; `None` for a type unit.
 #[tactic(auto, unfolding(crate::specs::UnitHeaders::version5_from))]
 fn version5(
     reader: &mut Reader<'_, InfoFault>,
@@ -98,15 +99,15 @@ fn version5(
     fields(reader, offset, end, unit_type)
 }
 
-/// The header behind the unit's length; `None` for a unit that is passed over.
-#[tactic(auto, unfolding(crate::specs::UnitHeaders::header_from))]
+/// The header after `unit_length`; `None` for a unit that is skipped.
+#[tactic(auto, unfolding(crate::specs::UnitHeaders::unit_header_from))]
 pub(crate) fn read_header(
     reader: &mut Reader<'_, InfoFault>,
     offset: u32,
     end: u32,
 ) -> Result<Option<UnitHeader>, InfoFault>
     requires { length reader.old.at.whole < 2 ^ 31 }
-    ensures header { GivesAt (λ h. h) result reader.new (header_from offset end reader.old) }
+    ensures header { GivesAt (λ h. h) result reader.new (unit_header_from offset end reader.old) }
     ensures stands { IfOk result (λ o. IfSome o (λ h. IsAtEntries offset end reader.old reader.new h)) }
 {
     match reader.u16()? {

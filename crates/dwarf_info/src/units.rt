@@ -12,17 +12,17 @@ ghost use Rattle.dwarf_info.specs.declared.fault.InfoFault.TheVariants.{BadUnit,
 ghost use Rattle.dwarf_info.specs.Sections.{sections_of, section_up_to};
 ghost use Rattle.dwarf_info.specs.Values.{value_of, entry_values};
 ghost use Rattle.dwarf_info.specs.Attributes.{address_value};
-ghost use Rattle.dwarf_info.specs.Units.{first_values, section_offset, unit_bases, unit_body, failing_as, read_unit};
+ghost use Rattle.dwarf_info.specs.Units.{unit_values, sec_offset_of, unit_context, unit_body, failing_as, read_unit};
 ghost use Rattle.dwarf_info.specs.Units.{unit_from, units_of};
 ghost use Rattle.dwarf_info.specs.private.Indexed.{AreMarked, AreIndexed};
 ghost use Rattle.dwarf_info.specs.private.Tables.{table_in, AreTables, KeepTables, HaveTables};
 
-use crate::attributes::{address_value, front, section_value};
+use crate::attributes::{address_value, bytes_before, section_value};
 use crate::constants::{
     DW_AT_addr_base, DW_AT_low_pc, DW_AT_rnglists_base, DW_AT_stmt_list, DW_AT_str_offsets_base,
 };
 use crate::entries::{mark_entries, push_some};
-use crate::entry::UnitBases;
+use crate::entry::UnitContext;
 use crate::fault::InfoFault;
 use crate::starts::Starts;
 use crate::tables::Tables;
@@ -45,63 +45,57 @@ pub(crate) fn value_at<'a>(
     ensures { option_map form_value result
         ≡ value_of attribute (entry_values table.now (section_up_to end info.now offset Short)) }
 {
-    let mut reader = reader_at(front(info, end), offset as usize, FormFault::Short).ok()?;
+    let mut reader = reader_at(bytes_before(info, end), offset as usize, FormFault::Short).ok()?;
     entry_value(&mut reader, table, attribute)
 }
 
-/// A unit's first entry, by its offset, if there is one.
+/// The entry of a unit itself (DWARF 5, section 3.1): the unit's first entry, by its offset, if there is one.
 #[derive(Clone, Copy)]
-struct First<'i, 'a> {
+struct UnitDie<'i, 'a> {
     sections: &'i DebugParts<'a>,
     table: &'i Declarations<'i>,
     end: u32,
     offset: Option<u32>,
 }
 
-fn first_value<'a>(first: First<'_, 'a>, attribute: u64) -> Option<Value<'a>>
-    ensures { option_map form_value result ≡ value_of attribute (first_values (sections_of first.entry.sections.now)
-        first.entry.end first.entry.table.now first.entry.offset) }
+fn unit_value<'a>(die: UnitDie<'_, 'a>, attribute: u64) -> Option<Value<'a>>
+    ensures { option_map form_value result ≡ value_of attribute (unit_values (sections_of die.entry.sections.now)
+        die.entry.end die.entry.table.now die.entry.offset) }
 {
-    let offset = first.offset?;
-    value_at(
-        first.sections.info,
-        first.table,
-        first.end,
-        offset,
-        attribute,
-    )
+    let offset = die.offset?;
+    value_at(die.sections.info, die.table, die.end, offset, attribute)
 }
 
-fn first_offset_in_section(first: First<'_, '_>, attribute: u64) -> Option<u32>
-    ensures { result ≡ section_offset attribute (first_values (sections_of first.entry.sections.now) first.entry.end
-        first.entry.table.now first.entry.offset) }
+fn unit_sec_offset(die: UnitDie<'_, '_>, attribute: u64) -> Option<u32>
+    ensures { result ≡ sec_offset_of attribute (unit_values (sections_of die.entry.sections.now) die.entry.end
+        die.entry.table.now die.entry.offset) }
 {
-    let value = first_value(first, attribute)?;
+    let value = unit_value(die, attribute)?;
     section_value(value)
 }
 
-fn first_address(first: First<'_, '_>, addr_base: Option<u32>) -> Option<u32>
-    ensures { result ≡ option_and_then (address_value (sections_of first.entry.sections.now) addr_base)
-        (value_of DW_AT_low_pc (first_values (sections_of first.entry.sections.now) first.entry.end
-        first.entry.table.now first.entry.offset)) }
+fn unit_low_pc(die: UnitDie<'_, '_>, addr_base: Option<u32>) -> Option<u32>
+    ensures { result ≡ option_and_then (address_value (sections_of die.entry.sections.now) addr_base)
+        (value_of DW_AT_low_pc (unit_values (sections_of die.entry.sections.now) die.entry.end
+        die.entry.table.now die.entry.offset)) }
 {
-    let value = first_value(first, DW_AT_low_pc)?;
-    address_value(first.sections, addr_base, value)
+    let value = unit_value(die, DW_AT_low_pc)?;
+    address_value(die.sections, addr_base, value)
 }
 
-fn unit_bases(first: First<'_, '_>, index: u32, header: UnitHeader) -> UnitBases
-    ensures { result ≡ unit_bases (sections_of first.entry.sections.now) index header
-        (first_values (sections_of first.entry.sections.now) first.entry.end first.entry.table.now first.entry.offset) }
+fn unit_context(die: UnitDie<'_, '_>, index: u32, header: UnitHeader) -> UnitContext
+    ensures { result ≡ unit_context (sections_of die.entry.sections.now) index header
+        (unit_values (sections_of die.entry.sections.now) die.entry.end die.entry.table.now die.entry.offset) }
 {
-    let addr_base = first_offset_in_section(first, DW_AT_addr_base);
-    UnitBases {
+    let addr_base = unit_sec_offset(die, DW_AT_addr_base);
+    UnitContext {
         index,
         header,
-        stmt_list: first_offset_in_section(first, DW_AT_stmt_list),
-        str_offsets_base: first_offset_in_section(first, DW_AT_str_offsets_base),
+        stmt_list: unit_sec_offset(die, DW_AT_stmt_list),
+        str_offsets_base: unit_sec_offset(die, DW_AT_str_offsets_base),
         addr_base,
-        rnglists_base: first_offset_in_section(first, DW_AT_rnglists_base),
-        low_pc: first_address(first, addr_base),
+        rnglists_base: unit_sec_offset(die, DW_AT_rnglists_base),
+        low_pc: unit_low_pc(die, addr_base),
     }
 }
 
@@ -123,7 +117,7 @@ fn read_body<'a>(
     unit: (u32, UnitHeader),
     body: &mut Reader<'a, InfoFault>,
     starts: &mut Starts,
-) -> Result<UnitBases, Fail<InfoFault>>
+) -> Result<UnitContext, Fail<InfoFault>>
     requires small { length sections.now.info.now < 2 ^ 31 }
     requires stands { body.old ≡ unit_body (sections_of sections.now) «unit».1 }
     requires known { table_at sections.now.«abbrev».now «unit».1.debug_abbrev_offset ≡ Ok table.now }
@@ -138,13 +132,13 @@ fn read_body<'a>(
 {
     let (index, header) = unit;
     let offset = mark_entries(body, table, index, starts)?;
-    let first = First {
+    let die = UnitDie {
         sections,
         table,
         end: header.end,
         offset,
     };
-    Ok(unit_bases(first, index, header))
+    Ok(unit_context(die, index, header))
 }
 
 /// A unit with its header: its table is read unless it is known, and the offsets of its entries are marked.
@@ -155,7 +149,7 @@ fn read_headed<'a>(
     body: &mut Reader<'a, InfoFault>,
     tables: &mut Tables,
     starts: &mut Starts,
-) -> Result<UnitBases, Fail<InfoFault>>
+) -> Result<UnitContext, Fail<InfoFault>>
     requires small { length sections.now.info.now < 2 ^ 31 }
     requires stands { body.old ≡ unit_body (sections_of sections.now) «unit».1 }
     requires tables { AreTables sections.now.«abbrev».now tables.old }
@@ -180,7 +174,7 @@ fn read_headed<'a>(
     read_body(sections, &table, unit, body, starts)
 }
 
-/// The unit that begins here, `None` where it is passed over, and the index of the next one.
+/// The unit that begins here, `None` where it is skipped, and the index of the next one.
 #[tactic(auto, unfolding(crate::specs::Units::unit_from))]
 fn read_unit<'a>(
     alloc: Global,
@@ -189,7 +183,7 @@ fn read_unit<'a>(
     reader: &mut Reader<'a, InfoFault>,
     tables: &mut Tables,
     starts: &mut Starts,
-) -> Result<(Option<UnitBases>, u32), Fail<InfoFault>>
+) -> Result<(Option<UnitContext>, u32), Fail<InfoFault>>
     requires small { length sections.now.info.now < 2 ^ 31 }
     requires whole { reader.old.at.whole ≡ sections.now.info.now }
     requires index { index < 2 ^ 31 }
@@ -223,8 +217,8 @@ fn read_unit<'a>(
     }
 }
 
-/// Appends the index of a unit's first entry, unless the unit is passed over.
-fn push_first(firsts: &mut Vec<u32>, unit: &Option<UnitBases>, first: u32) -> Result<(), Memory>
+/// Appends the index of a unit's first entry, unless the unit is skipped.
+fn push_first(firsts: &mut Vec<u32>, unit: &Option<UnitContext>, first: u32) -> Result<(), Memory>
     ensures { OnOk result (firsts.new.items
         ≡ firsts.old.items ++ option_to_list (option_map (λ _. first) «unit».now)) }
 {
@@ -242,7 +236,7 @@ pub(crate) fn read_units(
     tables: &mut Tables,
     starts: &mut Starts,
     firsts: &mut Vec<u32>,
-) -> Result<Vec<UnitBases>, Fail<InfoFault>>
+) -> Result<Vec<UnitContext>, Fail<InfoFault>>
     requires small { length sections.now.info.now < 2 ^ 31 }
     requires tables { AreTables sections.now.«abbrev».now tables.old }
     requires starts { starts.old ≡ record { offsets = []; end = 0; bytes = length sections.now.info.now } }
@@ -271,7 +265,7 @@ pub(crate) fn read_units(
     Ok(units)
 }
 
-/// The offset of the abbreviation table that the next unit names, if it has one that is read.
+/// The offset of the abbreviation table that the next unit names; `None` for a unit that is skipped.
 fn next_table(reader: &mut Reader<'_, InfoFault>) -> Result<Option<u32>, InfoFault>
     requires { length reader.old.at.whole < 2 ^ 31 }
     ensures { reader.new.at.whole ≡ reader.old.at.whole }
@@ -285,7 +279,7 @@ fn next_table(reader: &mut Reader<'_, InfoFault>) -> Result<Option<u32>, InfoFau
     }
 }
 
-/// Appends the offsets of the abbreviation tables that units name, up to the first header that is at fault.
+/// Appends the offsets of the abbreviation tables that units name, up to the first malformed header.
 fn put_table_offsets(sections: &DebugParts<'_>, offsets: &mut Vec<u32>) -> Result<(), Memory>
     requires { length sections.now.info.now < 2 ^ 31 }
 {
@@ -304,8 +298,8 @@ fn put_table_offsets(sections: &DebugParts<'_>, offsets: &mut Vec<u32>) -> Resul
     Ok(())
 }
 
-/// The abbreviation tables that units name, up to the first header or table that is at fault. They are read in
-/// ascending order, so that one that is the end of another is met after it.
+/// The abbreviation tables that units name, up to the first malformed header or table. They are read in ascending
+/// order, so that a table that is a suffix of another comes after it.
 pub(crate) fn named_tables(alloc: Global, sections: &DebugParts<'_>) -> Result<Tables, Memory>
     requires { length sections.now.info.now < 2 ^ 31 }
     ensures { IfOk result (λ tables. AreTables sections.now.«abbrev».now tables) }

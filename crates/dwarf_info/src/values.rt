@@ -22,7 +22,7 @@ fn one_value<'a, F: Copy>(
     read_form(reader, spec.form, spec.implicit, unknown)
 }
 
-/// Passes so many bytes.
+/// Skips `count` bytes.
 fn pass_bytes(reader: &mut Reader<'_, InfoFault>, count: u32) -> Result<(), InfoFault>
     ensures { GivesAt (λ u. u) result reader.new (passed_by (bytes_from count reader.old)) }
 {
@@ -30,7 +30,7 @@ fn pass_bytes(reader: &mut Reader<'_, InfoFault>, count: u32) -> Result<(), Info
     Ok(())
 }
 
-/// Passes the values of these attributes one after the other.
+/// Skips the values of these attributes one after the other.
 fn pass_each(
     reader: &mut Reader<'_, InfoFault>,
     specs: &[Spec],
@@ -49,8 +49,8 @@ fn pass_each(
     Ok(())
 }
 
-/// Passes the values of these attributes, in one step where their forms say how many bytes they are; `unknown` is the
-/// fault of one of an unknown form.
+/// Skips the values of these attributes, in one step where their forms fix their number of bytes; `unknown` is the
+/// fault of an unknown form.
 pub(crate) fn pass_values(
     reader: &mut Reader<'_, InfoFault>,
     specs: &Specs,
@@ -91,7 +91,8 @@ fn value_by<'a>(
     None
 }
 
-/// The same; where the attribute is not declared, no value is read.
+/// The first value of an attribute among those of a declaration; where the declaration lacks the attribute, no value is
+/// read.
 #[tactic(auto, using(crate::proofs::OneValue::not_declared))]
 fn declared_value<'a>(
     reader: &mut Reader<'a, FormFault>,

@@ -57,7 +57,7 @@ end_reaches entries i depth j d lt le all =
     (λ k near. ap (λ (e : InfoEntry). nat_lt depth e.depth) (get_or-drop (i + 1) entries k d) ∙ lt-ltb _ _ (all (i + 1 + k) (omega arith) (omega arith))) in
     omega (arith, end_is entries i depth)
 
--- behind a deeper entry and its descendants the entries up to the end go on
+-- after a deeper entry and its descendants the entries up to the end go on
 jumps : (entries : List InfoEntry) (i depth j : ℕ) (d : InfoEntry) → i < j → j < length entries → depth < (get_or entries j d).depth
     → j ≤ entry_end entries i depth → entry_end entries j (get_or entries j d).depth ≤ entry_end entries i depth
 jumps entries i depth j d lt there deep covered =

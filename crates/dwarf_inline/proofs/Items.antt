@@ -114,7 +114,7 @@ pub count_there : (info : DebugInfo) (items : List Indexed) (ends counts : List 
     → AreItemsBefore info.entries counts → n ≡ length counts → k < length items → get_or ends (get_or items k d).0 0 < n
 count_there info items ends counts n k d same are before long lt = omega (arith, (item_count info items ends counts k d same are before lt).0)
 
--- one number more of an item behind its descendants
+-- one number more of an item after its descendants
 pub after_more : (info : DebugInfo) (items : List Indexed) (ends counts : List ℕ) (k : ℕ) (d : Indexed) (x : ℕ) (old new : List ℕ) → items ≡ item_entries info
     → AreEndsFrom info.entries 0 ends → AreItemsBefore info.entries counts → k < length items
     → x ≡ get_or counts (get_or ends (get_or items k d).0 0) x → old ≡ map (item_after info) (take k items) → new ≡ old ++ x ∷ []
@@ -171,7 +171,7 @@ all_counted : (info : DebugInfo) → count_by is_item info.entries ≡ length (i
 all_counted info =
     ap (count_by is_item) (sym (entries_are 0 info.entries)) ∙ count_map is_item (λ (e : Indexed). e.1) (indexed info) ∙ sym (length-filter passes (indexed info))
 
--- the first item behind one has a higher number, or there is none
+-- the first item after one has a higher number, or there is none
 pub after_between : (info : DebugInfo) (k : ℕ) (d : Indexed) → k < length (item_entries info)
     → (k < item_after info (get_or (item_entries info) k d)) × (item_after info (get_or (item_entries info) k d) ≤ length (item_entries info))
 after_between info k d lt =

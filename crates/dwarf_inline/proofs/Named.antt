@@ -9,7 +9,7 @@ use Rattle.std.proofs.lemmas.Option.{cond_some, slice_get-get_or, slice_get_past
 use Rattle.std.proofs.lemmas.Bool.{ltb-true, ltb-false}
 use Rattle.dwarf_inline.specs.Links.{unnamed}
 use Rattle.dwarf_inline.specs.Structure.{ProgramStructure, proc_name}
-use Rattle.dwarf_inline.specs.private.Parts.{Numbers, IsIndexed}
+use Rattle.dwarf_inline.specs.private.Numbers.{Numbers, IsIndexed}
 
 step : {X Y : Type 0} (p : X → Bool) (x : X) (xs : List X) (y : Y) (ys : List Y) (b : Bool) → p x ≡ b
     → option_map (λ i. i.1) (find (λ i. p i.0) (zip xs ys)) ≡ slice_get ys (position_or_len p xs)

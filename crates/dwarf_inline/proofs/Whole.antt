@@ -14,11 +14,11 @@ use Rattle.elf_image.specs.Image.{ProgramImage, counts}
 use Rattle.dwarf_info.specs.Units.{DebugInfo}
 use Rattle.dwarf_info.specs.Ranges.{ranges_of}
 use Rattle.dwarf_line.specs.Lines.{Lines}
-use Rattle.dwarf_inline.specs.declared.item.Item.{Item}
+use Rattle.dwarf_inline.specs.declared.subroutine.Subroutine.{Subroutine}
 use Rattle.dwarf_inline.specs.declared.fault.StructureFault.{StructureFault}
 use Rattle.dwarf_inline.specs.Links.{Indexed, indexed, is_item, item_entries, entry_name}
 use Rattle.dwarf_inline.specs.Nesting.{item_after}
-use Rattle.dwarf_inline.specs.Structure.{ProgramStructure, IsWhole, item_of, counted_ranges, ranges_before, checked_items, structure_of}
+use Rattle.dwarf_inline.specs.Structure.{ProgramStructure, IsWholeStructure, item_of, counted_ranges, ranges_before, checked_items, structure_of}
 use Rattle.dwarf_inline.proofs.Items.{ranges_so_far, after_between}
 
 abbrev pub built : DebugInfo → Lines → ProgramImage → ProgramStructure
@@ -64,13 +64,13 @@ mapped f [] k y is = absurd (no y is)
 mapped f (x ∷ xs) zero y is = (x, refl, same_Some (f x) y is)
 mapped f (x ∷ xs) (suc k) y is = mapped f xs k y is
 
-all_after : (info : DebugInfo) (lines : Lines) (image : ProgramImage) (k : ℕ) (i : Item) → slice_get (map (item_of info lines image) (item_entries info)) k ≡ Some i
-    → (k < i.after) × (i.after ≤ length (map (item_of info lines image) (item_entries info)))
+all_after : (info : DebugInfo) (lines : Lines) (image : ProgramImage) (k : ℕ) (i : Subroutine) → slice_get (map (item_of info lines image) (item_entries info)) k ≡ Some i
+    → (k < i.next_after_subtree) × (i.next_after_subtree ≤ length (map (item_of info lines image) (item_entries info)))
 all_after info lines image k i is =
     let found = mapped (item_of info lines image) (item_entries info) k i is in
     let lt : k < length (item_entries info) = slice_get_within (item_entries info) k found.0 found.1 in
     let own : get_or (item_entries info) k found.0 ≡ found.0 = same_Some _ _ (sym (slice_get-get_or (item_entries info) k found.0 lt) ∙ found.1) in
-    let same : item_after info (get_or (item_entries info) k found.0) ≡ i.after = ap (item_after info) own ∙ ap (λ (j : Item). j.after) found.2 in
+    let same : item_after info (get_or (item_entries info) k found.0) ≡ i.next_after_subtree = ap (item_after info) own ∙ ap (λ (j : Subroutine). j.next_after_subtree) found.2 in
     let between = after_between info k found.0 lt in
     let low : k < item_after info (get_or (item_entries info) k found.0) = between.0 in
     let high : item_after info (get_or (item_entries info) k found.0) ≤ length (item_entries info) = between.1 in
@@ -78,17 +78,17 @@ all_after info lines image k i is =
     (omega arith, omega arith)
 
 pub built_whole : (info : DebugInfo) (lines : Lines) (image : ProgramImage) → length info.entries < 2 ^ 31
-    → length (flat_map (λ e. counted_ranges info image e.0) (item_entries info)) < 2 ^ 63 → IsWhole (built info lines image)
+    → length (flat_map (λ e. counted_ranges info image e.0) (item_entries info)) < 2 ^ 63 → IsWholeStructure (built info lines image)
 built_whole info lines image few short = record {
   few = let least = few_items info in let long : length (map (item_of info lines image) (item_entries info)) ≡ length (item_entries info) = length-map (item_entries info) (item_of info lines image) in omega arith;
   short = short;
   named = length-map (item_entries info) (λ (e : Indexed). entry_name info e.0) ∙ sym (length-map (item_entries info) (item_of info lines image));
-  placed = All-map (λ i. i.first + i.ranges ≤ length (flat_map (λ f. counted_ranges info image f.0) (item_entries info))) (item_of info lines image) (item_entries info) (all_placed info lines image);
+  placed = All-map (λ i. i.first_range + i.range_count ≤ length (flat_map (λ f. counted_ranges info image f.0) (item_entries info))) (item_of info lines image) (item_entries info) (all_placed info lines image);
   some = all_counted info image (item_entries info);
   after = all_after info lines image;
 }
 
-pub is_built : (info : DebugInfo) (lines : Lines) (image : ProgramImage) (items : List Item) (names : List (List ℕ)) (ranges : List (ℕ × ℕ)) (entries : List Indexed) → entries ≡ item_entries info
+pub is_built : (info : DebugInfo) (lines : Lines) (image : ProgramImage) (items : List Subroutine) (names : List (List ℕ)) (ranges : List (ℕ × ℕ)) (entries : List Indexed) → entries ≡ item_entries info
     → items ≡ map (item_of info lines image) entries → names ≡ map (λ e. entry_name info e.0) entries
     → ranges ≡ flat_map (λ e. counted_ranges info image e.0) entries
     → let s : ProgramStructure = record { items = items; names = names; ranges = ranges } in s ≡ built info lines image
@@ -100,7 +100,7 @@ unfolding structure_of
 structure_is info lines image entries s same checked is =
     ap (λ (r : Result (Unit {0}) StructureFault). r >>= (λ u. let whole : Result ProgramStructure StructureFault = Ok (built info lines image) in whole)) (ap (checked_items info) (sym same) ∙ checked) ∙ ap Ok (sym is)
 
-pub few_made : (info : DebugInfo) (lines : Lines) (image : ProgramImage) (entries : List Indexed) (items read : List Item) → entries ≡ item_entries info
+pub few_made : (info : DebugInfo) (lines : Lines) (image : ProgramImage) (entries : List Indexed) (items read : List Subroutine) → entries ≡ item_entries info
     → items ≡ map (item_of info lines image) entries → read ≡ items → length info.entries < 2 ^ 31 → length read < 2 ^ 31
 few_made info lines image entries items read same made is few =
     let long : length read ≡ length (item_entries info) =
@@ -108,10 +108,10 @@ few_made info lines image entries items read same made is few =
     omega (arith, few_items info)
 
 -- what was made is whole
-pub made_whole : (info : DebugInfo) (lines : Lines) (image : ProgramImage) (items : List Item) (names : List (List ℕ)) (ranges : List (ℕ × ℕ)) (entries : List Indexed)
+pub made_whole : (info : DebugInfo) (lines : Lines) (image : ProgramImage) (items : List Subroutine) (names : List (List ℕ)) (ranges : List (ℕ × ℕ)) (entries : List Indexed)
     → entries ≡ item_entries info → items ≡ map (item_of info lines image) entries → names ≡ map (λ e. entry_name info e.0) entries
     → ranges ≡ flat_map (λ e. counted_ranges info image e.0) entries → length info.entries < 2 ^ 31 → length ranges < 2 ^ 63
-    → IsWhole (record { items = items; names = names; ranges = ranges })
+    → IsWholeStructure (record { items = items; names = names; ranges = ranges })
 made_whole info lines image items names ranges entries same one two three few short =
-    subst IsWhole (sym (is_built info lines image items names ranges entries same one two three))
+    subst IsWholeStructure (sym (is_built info lines image items names ranges entries same one two three))
     (built_whole info lines image few (subst (λ rs. length rs < 2 ^ 63) (three ∙ ap (flat_map (λ e. counted_ranges info image e.0)) same) short))

@@ -4,6 +4,7 @@ use Rattle.std.specs.Prelude.{ℕ, zero, suc, ◌==◌, ◌||◌, Bool, List, fi
 use Rattle.std.specs.Prelude.{unwrap_or, codes}
 use Rattle.std.specs.List.{enumerate_from}
 use Rattle.std.specs.Option.{option_map_or}
+use Rattle.dwarf_forms.specs.declared.name.TheConstants.{MAX_NAME_BYTES}
 use Rattle.dwarf_info.specs.declared.constants.TheConstants.{DW_TAG_subprogram, DW_TAG_inlined_subroutine}
 use Rattle.dwarf_info.specs.declared.entry.InfoEntry.{InfoEntry}
 use Rattle.dwarf_info.specs.Units.{DebugInfo}
@@ -33,11 +34,11 @@ item_entries info = filter (λ e. is_item e.1) (indexed info)
 
 -- ---- links
 
--- how many links from entry to entry may follow one another
+-- the most links from entry to entry that may follow one another
 abbrev pub most_links : ℕ
 most_links = 8
 
--- the entry that so many links lead to, or fewer where there are no more: each link is the abstract origin, else the
+-- the entry that `n` links lead to, or fewer where there are no more: each link is the abstract origin, else the
 -- specification
 unfoldable pub linked : DebugInfo → ℕ → ℕ → ℕ
 linked info zero i = i
@@ -47,7 +48,7 @@ linked info (suc n) i = option_map_or (linked info n) (link_of info i) i
 abbrev pub identity : DebugInfo → ℕ → ℕ
 identity info i = linked info most_links i
 
--- a link is left after as many as there may be
+-- a link is left after the most that there may be
 abbrev pub has_more_links : DebugInfo → ℕ → Bool
 has_more_links info i = is_some (link_of info (identity info i))
 
@@ -60,13 +61,9 @@ identity_offset info i = entry_offset info (identity info i)
 
 -- ---- names
 
--- the most bytes of a name
-abbrev pub most_name : ℕ
-most_name = 4096
-
 abbrev pub unnamed : List ℕ
 unnamed = codes "<unnamed>"
 
 -- the name of an entry's identity, cut
 abbrev pub entry_name : DebugInfo → ℕ → List ℕ
-entry_name info i = take most_name (unwrap_or (name_of info (identity info i)) unnamed)
+entry_name info i = take MAX_NAME_BYTES (unwrap_or (name_of info (identity info i)) unnamed)

@@ -12,7 +12,7 @@ is_deeper depth e = nat_lt depth e.depth
 abbrev pub descendants : DebugInfo → Indexed → List InfoEntry
 descendants info e = take_while (is_deeper e.1.depth) (drop (e.0 + 1) info.entries)
 
--- the index behind an entry and its descendants
+-- the index after an entry and its descendants
 abbrev pub end_of : DebugInfo → Indexed → ℕ
 end_of info e = e.0 + 1 + length (descendants info e)
 
@@ -20,7 +20,7 @@ end_of info e = e.0 + 1 + length (descendants info e)
 abbrev pub items_before : DebugInfo → ℕ → ℕ
 items_before info i = count_by is_item (take i info.entries)
 
--- the number of the first later item that is no descendant of an entry; as many as there are items where there is none
+-- the number of the first later item that is not a descendant of an entry; the number of all items where there is none
 abbrev pub item_after : DebugInfo → Indexed → ℕ
 item_after info e = items_before info (end_of info e)
 

@@ -14,7 +14,7 @@ use Rattle.dwarf_info.specs.Units.{DebugInfo}
 use Rattle.dwarf_info.specs.Queries.{unit_entry, call_site_of}
 use Rattle.dwarf_info.specs.Ranges.{ranges_of}
 use Rattle.dwarf_line.specs.Lines.{Lines, table_with}
-use Rattle.dwarf_inline.specs.declared.item.Item.{Item}
+use Rattle.dwarf_inline.specs.declared.subroutine.Subroutine.{Subroutine}
 use Rattle.dwarf_inline.specs.declared.fault.StructureFault.{StructureFault}
 use Rattle.dwarf_inline.specs.declared.fault.StructureFault.TheVariants.{TooDeep, LinkCycle}
 use Rattle.dwarf_inline.specs.Links.{Indexed, is_inlined, item_entries, identity_offset, has_more_links}
@@ -31,7 +31,7 @@ counted_ranges info image i = filter (λ r. counts image.segments r.0 r.1) (rang
 abbrev pub unit_line_table : DebugInfo → Lines → ℕ → Option ℕ
 unit_line_table info lines i =
     option_and_then (λ table. if is_some (table_with lines.tables table) then Some table else None)
-    (option_and_then (λ e. e.bases.stmt_list) (unit_entry info i))
+    (option_and_then (λ e. e.context.stmt_list) (unit_entry info i))
 
 -- a file and a line of a table, where both table and line are there; without a number of the file it is file 0
 abbrev pub row_of : Option ℕ → Option ℕ × Option ℕ → Option LineId
@@ -53,15 +53,15 @@ ranges_before info image i =
     sum_by (λ e. length (counted_ranges info image e.0)) (filter (λ e. nat_lt e.0 i) (item_entries info))
 
 -- an entry as an item
-abbrev pub item_of : DebugInfo → Lines → ProgramImage → Indexed → Item
+abbrev pub item_of : DebugInfo → Lines → ProgramImage → Indexed → Subroutine
 item_of info lines image e = record {
   offset = e.1.offset;
   inlined = is_inlined e.1;
-  after = item_after info e;
+  next_after_subtree = item_after info e;
   identity = identity_offset info e.0;
   call = if is_inlined e.1 then call_at info lines e.0 (counted_ranges info image e.0) else None;
-  first = ranges_before info image e.0;
-  ranges = length (counted_ranges info image e.0);
+  first_range = ranges_before info image e.0;
+  range_count = length (counted_ranges info image e.0);
 }
 
 -- ---- faults
@@ -87,7 +87,7 @@ checked_items info (e ∷ entries) = do
 
 -- the items in section order; what each is called; and their ranges, one item's after the other's
 pub record ProgramStructure : Type 0 where
-  pub items : List Item
+  pub items : List Subroutine
   pub names : List (List ℕ)
   pub ranges : List (ℕ × ℕ)
 
@@ -105,10 +105,11 @@ abbrev pub proc_name : ProgramStructure → ℕ → List ℕ
 proc_name s offset = option_map_or (λ i. i.1) (find (λ i. i.0.identity == offset) (zip s.items s.names)) unnamed
 
 -- what is so of every structure that is read
-pub record IsWhole (s : ProgramStructure) : Type 0 where
+pub record IsWholeStructure (s : ProgramStructure) : Type 0 where
   pub few : length s.items < 2 ^ 31
   pub short : length s.ranges < 2 ^ 63
   pub named : length s.names ≡ length s.items
-  pub placed : All (λ i. i.first + i.ranges ≤ length s.ranges) s.items
+  pub placed : All (λ i. i.first_range + i.range_count ≤ length s.ranges) s.items
   pub some : All (λ r. r.0 < r.1) s.ranges
-  pub after : (k : ℕ) (i : Item) → slice_get s.items k ≡ Some i → (k < i.after) × (i.after ≤ length s.items)
+  pub after : (k : ℕ) (i : Subroutine) → slice_get s.items k ≡ Some i
+      → (k < i.next_after_subtree) × (i.next_after_subtree ≤ length s.items)

@@ -1,3 +1,3 @@
 pub mod Ends
 pub mod Levels
-pub mod Parts
+pub mod Numbers

@@ -9,7 +9,7 @@ use dwarf_info::{Info, InfoEntry};
 use prof_bytes::Memory;
 use std::alloc::Global;
 
-/// The index behind the entry of a depth at an index and its descendants, by the ends of later entries.
+/// The index after an entry and its descendants, by the ends of later entries; the entry has this index and depth.
 fn end_from(entries: &[InfoEntry], ends: &[u32], at: usize, depth: u32) -> u32
     requires few { length entries.now < 2 ^ 31 }
     requires here { at < length entries.now }
@@ -23,7 +23,8 @@ fn end_from(entries: &[InfoEntry], ends: &[u32], at: usize, depth: u32) -> u32
     end as u32
 }
 
-/// The index behind each entry and its descendants. Linear: from the last entry to the first, each is passed once.
+/// The index after each entry and its descendants. Takes linear time: from the last entry to the first, each is passed
+/// once.
 pub(crate) fn ends_of(alloc: Global, entries: &[InfoEntry]) -> Result<Vec<u32>, Memory>
     requires { length entries.now < 2 ^ 31 }
     ensures { IfOk result (λ ends. AreEndsFrom entries.now 0 ends.items) }
@@ -38,7 +39,7 @@ pub(crate) fn ends_of(alloc: Global, entries: &[InfoEntry]) -> Result<Vec<u32>, 
     Ok(ends)
 }
 
-/// How many items stand before each index, and before the end.
+/// The number of items before each index, and before the end.
 pub(crate) fn items_before(alloc: Global, entries: &[InfoEntry]) -> Result<Vec<u32>, Memory>
     requires { length entries.now < 2 ^ 31 }
     ensures { IfOk result (λ counts. AreItemsBefore entries.now counts.items) }
@@ -72,7 +73,7 @@ pub(crate) fn items_among(
     Ok(items)
 }
 
-/// For each item the number of the first later one that is no descendant.
+/// For each item the number of the first later item that is not a descendant of it.
 pub(crate) fn afters_of(
     alloc: Global,
     info: &Info<'_>,

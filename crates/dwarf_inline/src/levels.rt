@@ -16,7 +16,7 @@ use std::alloc::Global;
 /// The most inlined subroutines among an inlined subroutine and its ancestors.
 const MOST_LEVELS: usize = 62;
 
-/// Closes what ends up to an index, and opens what ends at another; how many are open then.
+/// Closes what ends at `at` or before, and opens what ends at `end`; the answer is how many are open then.
 fn open_level(open_ends: &mut Vec<u32>, at: u32, end: u32) -> Result<usize, Memory>
     ensures opened { IfOk result (λ _. open_ends.new.items
         ≡ filter (λ other. nat_lt at other) open_ends.old.items ++ end ∷ []) }

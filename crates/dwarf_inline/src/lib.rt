@@ -2,19 +2,19 @@
 //! addresses that count, their identities, calls and names (what HPCToolkit's hpcstruct recovers).
 //!
 //! It promises that the items are the subprograms and inlined subroutines of `.debug_info` in section order, or the
-//! first fault. The standard is DWARF 5, section 3.3. Below stand `dwarf_info`, `dwarf_line`, `elf_image`,
-//! `scope_types` and `prof_bytes`.
+//! first fault. The standard is DWARF 5, section 3.3. Below stand `dwarf_info`, `dwarf_line`, `dwarf_forms`,
+//! `elf_image`, `scope_types` and `prof_bytes`.
 #![tactic(auto)]
 
 mod ends;
 mod fault;
-mod item;
 mod levels;
 mod links;
 mod numbers;
-mod parts;
 mod structure;
+mod subroutine;
+mod subroutine_lists;
 
 pub use fault::StructureFault;
-pub use item::Item;
 pub use structure::{Structure, read_structure};
+pub use subroutine::Subroutine;

@@ -5,7 +5,7 @@ ghost use Rattle.dwarf_inline.specs.Links.{is_item, is_inlined, identity, has_mo
 use dwarf_info::constants::{DW_TAG_inlined_subroutine, DW_TAG_subprogram};
 use dwarf_info::{Info, InfoEntry};
 
-/// How many links may follow one another.
+/// The most links that may follow one another.
 const MOST_LINKS: u32 = 8;
 
 pub(crate) fn is_inlined(entry: &InfoEntry) -> bool
@@ -20,7 +20,7 @@ pub(crate) fn is_item(entry: &InfoEntry) -> bool
     entry.tag == DW_TAG_subprogram || is_inlined(entry)
 }
 
-/// The entry to which all links lead; `None` where more follow one another than may.
+/// The entry to which all links lead; `None` where more than `MOST_LINKS` follow one another.
 pub(crate) fn identity_of(info: &Info<'_>, entry: u32) -> Option<u32>
     requires { entry < length info.now.entries }
     ensures identity { result ≡ (if has_more_links info.now entry then None else Some (identity info.now entry)) }

@@ -1,14 +1,14 @@
 //! A structure that was read.
 ghost use Rattle.std.specs.Prelude.{◌≡◌, ◌<◌, length, slice_get, Some};
 ghost use Rattle.prof_bytes.specs.Outcome.{Gives};
-ghost use Rattle.dwarf_inline.specs.Structure.{IsWhole, proc_name, structure_of};
+ghost use Rattle.dwarf_inline.specs.Structure.{IsWholeStructure, proc_name, structure_of};
 
 use crate::ends::{afters_of, ends_of, items_among};
 use crate::fault::StructureFault;
-use crate::item::Item;
 use crate::levels::checked_items;
 use crate::numbers::numbers_of;
-use crate::parts::{Sources, read_parts};
+use crate::subroutine::Subroutine;
+use crate::subroutine_lists::{Sources, read_lists};
 use dwarf_info::Info;
 use dwarf_line::LineTable;
 use elf_image::Image;
@@ -17,10 +17,10 @@ use std::alloc::Global;
 use std::collections::BTreeMap;
 use std::marker::Model;
 
-/// The structure of a program. It lends the sections' bytes.
+/// The structure of a program (DWARF 5, section 3.3). It borrows the sections' bytes.
 #[derive(Drop)]
 pub struct Structure<'a> {
-    items: Vec<Item>,
+    items: Vec<Subroutine>,
     names: Vec<&'a [u8]>,
     ranges: Vec<(u32, u32)>,
     numbers: BTreeMap<u32, u32>,
@@ -28,7 +28,7 @@ pub struct Structure<'a> {
 
 impl<'a> Model for Structure<'a> {
     ghost use Rattle.dwarf_inline.specs.Structure.{ProgramStructure};
-    ghost use Rattle.dwarf_inline.specs.private.Parts.{IsIndexed};
+    ghost use Rattle.dwarf_inline.specs.private.Numbers.{IsIndexed};
     ghost use Rattle.std.specs.Prelude.{map};
 
     ghost Value = { ProgramStructure };
@@ -47,24 +47,24 @@ impl<'a> Model for Structure<'a> {
 }
 
 impl<'a> Structure<'a> {
-    /// How many items there are.
+    /// The number of items.
     pub fn len(&self) -> u32
         ensures count { result ≡ length self.now.items }
-        ensures whole { IsWhole self.now }
+        ensures whole { IsWholeStructure self.now }
     {
         self.items.len() as u32
     }
 
     /// The item with a number. Takes no memory.
-    pub fn item(&self, at: u32) -> Item
+    pub fn subroutine(&self, at: u32) -> Subroutine
         requires { at < length self.now.items }
         ensures { slice_get self.now.items at ≡ Some result }
     {
         self.items[at as usize]
     }
 
-    /// A range of an item that counts, from its start up to its end: an item's ranges stand from its `first` on, as
-    /// many as it has. Takes no memory.
+    /// A range that counts, from its start up to its end (DWARF 5, section 2.17). Those of an item are the
+    /// `range_count` ranges from `first_range` on. Takes no memory.
     pub fn range(&self, at: u64) -> (u32, u32)
         requires { at < length self.now.ranges }
         ensures { slice_get self.now.ranges at ≡ Some result }
@@ -72,8 +72,8 @@ impl<'a> Structure<'a> {
         self.ranges[at as usize]
     }
 
-    /// What the procedure with an identity is called, of at most 4,096 bytes; `<unnamed>` where it has no name, or
-    /// no item has this identity. Takes no memory.
+    /// The name of the procedure with an identity, of at most `MAX_NAME_BYTES` bytes (DWARF 5, section 2.15);
+    /// `<unnamed>` where it has no name, or no item has this identity. Takes no memory.
     pub fn proc_name(&self, offset: u32) -> &'a [u8]
         ensures { result.now ≡ proc_name self.now offset }
     {
@@ -84,8 +84,8 @@ impl<'a> Structure<'a> {
     }
 }
 
-/// The structure of a program by its debug information, or the first fault in section order. Linear in the entries and
-/// in the ranges of the items, and n log n in the items.
+/// The structure of a program by its debug information (DWARF 5, section 3.3), or the first fault in section order.
+/// Takes time linear in the entries and in the ranges of the items, and n log n in the number of items.
 #[tactic(auto, unfolding(crate::specs::Structure::structure_of))]
 pub fn read_structure<'a>(
     alloc: Global,
@@ -107,18 +107,18 @@ pub fn read_structure<'a>(
         lines,
         image,
     };
-    let parts = read_parts(
+    let lists = read_lists(
         alloc,
         sources,
         items.as_slice(),
         afters.as_slice(),
         identities.as_slice(),
     )?;
-    let numbers = numbers_of(alloc, parts.items.as_slice())?;
+    let numbers = numbers_of(alloc, lists.items.as_slice())?;
     Ok(Structure {
-        items: parts.items,
-        names: parts.names,
-        ranges: parts.ranges,
+        items: lists.items,
+        names: lists.names,
+        ranges: lists.ranges,
         numbers,
     })
 }

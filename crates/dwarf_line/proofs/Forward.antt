@@ -11,7 +11,7 @@ use Rattle.dwarf_line.specs.declared.registers.LineRegisters.{LineRegisters}
 use Rattle.dwarf_line.specs.declared.registers.OpcodeEffect.{OpcodeEffect}
 use Rattle.dwarf_line.specs.Names.{checked, present, counted_from}
 use Rattle.dwarf_line.specs.Headers.{ProgramEncoding}
-use Rattle.dwarf_line.specs.Programs.{set_file_from, skipped_from, registers_from, standard_from, extended, extended_from, by_opcode, opcode_from}
+use Rattle.dwarf_line.specs.Programs.{set_file_from, skipped_from, registers_from, standard_from, extended, extended_opcode_from, by_opcode, opcode_from}
 
 abbrev In : Type 0
 In = Input LineFault
@@ -59,8 +59,8 @@ standard_moves encoding opcode registers input =
     moves_if 0 input (opcode == DW_LNS_copy) _ _ (itself input)
     (moves_then 0 0 input (registers_from encoding opcode registers input) _ (registers_moves encoding opcode registers input) (λ r. itself r.1))
 
-extended_moves : (registers : LineRegisters) (input : In) → Moves 0 input (extended_from registers input)
-unfolding extended_from
+extended_moves : (registers : LineRegisters) (input : In) → Moves 0 input (extended_opcode_from registers input)
+unfolding extended_opcode_from
 extended_moves registers input =
     moves_then 0 0 input (uleb_from input) _ (uleb_passes input) (λ size.
     checked_moves (not (size.0 == 0)) size.1 (λ i. bytes_from size.0 i >>= (λ r. present r.1 (extended r.0 registers)))

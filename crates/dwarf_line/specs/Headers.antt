@@ -15,7 +15,7 @@ pub record ProgramEncoding : Type 0 where
   pub opcode_base : ℕ
   pub standard_opcode_lengths : List ℕ
 
--- what a header of version 5 says, and the program behind it
+-- what a header of version 5 says, and the program after it
 pub record Header : Type 0 where
   pub encoding : ProgramEncoding
   pub directories : List NamedPath
@@ -26,7 +26,7 @@ pub record Header : Type 0 where
 abbrev pub is_flat : ℕ → ℕ → Bool
 is_flat address_size segment_selector_size = (address_size == 4) && (segment_selector_size == 0)
 
--- one operation an instruction, a line range and an opcode base
+-- maximum_operations_per_instruction is 1, and line_range and opcode_base are not 0
 abbrev pub is_supported : ℕ → ℕ → ℕ → Bool
 is_supported maximum_operations_per_instruction line_range opcode_base =
     (maximum_operations_per_instruction == 1) && not (line_range == 0) && not (opcode_base == 0)
@@ -52,7 +52,7 @@ line_encoding_from input = do
     input,
   )
 
--- a header of version 5 behind the version. The program begins as many bytes behind header_length as that says
+-- a header of version 5 after its version. The program begins header_length bytes after the field header_length
 unfoldable pub header5_from : Texts → Input LineFault → Result Header LineFault
 header5_from texts input = do
   (address_size, input) ← number_from 1 input
@@ -65,7 +65,7 @@ header5_from texts input = do
   (file_names, input) ← names_from texts input
   Ok (record { encoding = encoding; directories = directories; file_names = file_names; program = program })
 
--- nothing for a table of version 2 to 4
+-- the header of a table by its version; none for versions 2 to 4
 abbrev pub header_by_version : Texts → ℕ → Input LineFault → Result (Option Header) LineFault
 header_by_version texts version input =
     if version == 5 then header5_from texts input >>= (λ header. Ok (Some header))

@@ -4,6 +4,7 @@ use Rattle.std.specs.Prelude.{slice_index, Option, Some, None, option_map, unwra
 use Rattle.std.specs.Option.{option_and_then}
 use Rattle.std.specs.List.{flat_map}
 use Rattle.prof_bytes.specs.Outcome.{◌>>=◌}
+use Rattle.dwarf_forms.specs.declared.name.TheConstants.{MAX_NAME_BYTES}
 use Rattle.dwarf_forms.specs.Sections.{input_at}
 use Rattle.elf_image.specs.declared.part.Segment.{Segment}
 use Rattle.dwarf_line.specs.declared.fault.LineFault.{LineFault}
@@ -40,7 +41,7 @@ table_by segments offset (Some header) = do
     sequences = filter (is_counted segments) (sequences_from offset [] rows);
   } ∷ [])
 
--- the table at an offset; nothing where it is of an earlier version. Faults of its header are at that offset
+-- the table at an offset; none where it is of an earlier version. A fault of its header has that offset
 unfoldable pub line_table_of : List ℕ → Texts → List Segment → ℕ → Result (List TableRead) LineFault
 line_table_of line texts segments offset = do
   input ← input_at line offset (record { offset = offset })
@@ -77,7 +78,7 @@ table_with tables offset = find (λ t. t.offset == offset) tables
 abbrev pub unknown_file : List ℕ
 unknown_file = codes "<unknown file>"
 
--- a path that begins with `/` or has no directory stands alone
+-- a path after its directory and a `/`; the path alone where it begins with `/` or the directory is empty
 abbrev pub joined_path : List ℕ → List ℕ → List ℕ
 joined_path directory path =
     if (length directory == 0) || (slice_index path 0 == 47) then path else directory ++ 47 ∷ path
@@ -86,10 +87,10 @@ abbrev pub directory_path : List NamedPath → Option ℕ → List ℕ
 directory_path directories index =
     unwrap_or (option_map (λ d. d.path) (option_and_then (slice_get directories) index)) []
 
--- the name of a file of a table, of at most 4,096 bytes
+-- the name of a file of a table, of at most `MAX_NAME_BYTES` bytes
 abbrev pub file_in : TableNames → ℕ → Option (List ℕ)
 file_in table file =
-    option_map (λ f. take 4096 (joined_path (directory_path table.directories f.directory_index) f.path))
+    option_map (λ f. take MAX_NAME_BYTES (joined_path (directory_path table.directories f.directory_index) f.path))
     (slice_get table.file_names file)
 
 -- the name of a file of the table at an offset

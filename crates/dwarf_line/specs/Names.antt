@@ -14,11 +14,11 @@ use Rattle.dwarf_line.specs.declared.names.EntryFormat.{EntryFormat}
 
 -- ---- reading
 
--- what is read of a line table: a value, and the input behind it
+-- what is read of a line table: a value, and the input after it
 abbrev pub LineRead : Type 0 → Type 0
 LineRead X = Result (X × Input LineFault) LineFault
 
--- the input, unless a rule is broken
+-- the input where a rule holds, else its fault
 abbrev pub checked : Bool → Input LineFault → Result (Input LineFault) LineFault
 checked rule input = if rule then Ok input else Err input.missing
 
@@ -27,7 +27,7 @@ abbrev pub present : {X : Type 0} → Input LineFault → Option X → LineRead 
 present input None = Err input.missing
 present input (Some x) = Ok (x, input)
 
--- so many items that follow one another
+-- `count` items that follow one another
 unfoldable pub counted_from : {X : Type 0} → (Input LineFault → LineRead X) → ℕ → Input LineFault → LineRead (List X)
 counted_from item zero input = Ok ([], input)
 counted_from item (suc count) input = do
@@ -92,8 +92,8 @@ name_entry_from texts formats input = do
   (index, input) ← present input (index_by_value (first_value_of DW_LNCT_directory_index values))
   Ok (record { path = path; directory_index = index }, input)
 
--- a list of directories or of files: the formats, and as many entries as are counted. The count is at most that of the
--- bytes behind it
+-- a list of directories or of files: their formats, their number, and the entries. The number is at most that of the
+-- bytes after it
 unfoldable pub names_from : Texts → Input LineFault → LineRead (List NamedPath)
 names_from texts input = do
   (format_count, input) ← number_from 1 input

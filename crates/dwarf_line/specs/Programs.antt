@@ -7,7 +7,7 @@ use Rattle.prof_bytes.specs.Number.{number_in}
 use Rattle.prof_bytes.specs.Reading.{left_of}
 use Rattle.prof_bytes.specs.Fields.{Input, number_from, uleb_from, sleb_from, bytes_from}
 use Rattle.prof_bytes.specs.Outcome.{◌>>=◌}
-use Rattle.dwarf_forms.specs.Sections.{wrapped}
+use Rattle.dwarf_forms.specs.Words.{low_word_signed}
 use Rattle.dwarf_line.specs.declared.constants.TheConstants.{DW_LNS_copy, DW_LNS_advance_pc, DW_LNS_advance_line}
 use Rattle.dwarf_line.specs.declared.constants.TheConstants.{DW_LNS_set_file, DW_LNS_set_column, DW_LNS_negate_stmt}
 use Rattle.dwarf_line.specs.declared.constants.TheConstants.{DW_LNS_set_basic_block, DW_LNS_const_add_pc}
@@ -53,9 +53,9 @@ row_appended registers = record { row = Some (plain_row registers); registers = 
 abbrev pub no_row_appended : LineRegisters → OpcodeEffect
 no_row_appended registers = record { row = None; registers = registers }
 
--- ---- special opcodes: section 6.2.5.1. They are adjusted: the opcode base is taken off
+-- ---- special opcodes: section 6.2.5.1. An adjusted opcode is the opcode less the opcode base
 
--- the line base, a signed byte, as a number to be added modulo 2^32
+-- the line base, a signed byte, modulo 2^32
 abbrev pub signed_byte : ℕ → ℕ
 signed_byte byte = if nat_lt byte 128 then byte else 2 ^ 32 - 256 + byte
 
@@ -79,7 +79,7 @@ advance_pc_from encoding registers input = do
 abbrev pub advance_line_from : LineRegisters → Input LineFault → LineRead LineRegisters
 advance_line_from registers input = do
   (advance, input) ← sleb_from input
-  Ok (at_line (wrapped advance) registers, input)
+  Ok (at_line (low_word_signed advance) registers, input)
 
 abbrev pub set_file_from : LineRegisters → Input LineFault → LineRead LineRegisters
 set_file_from registers input = do
@@ -92,7 +92,7 @@ fixed_advance_pc_from registers input = do
   (advance, input) ← number_from 2 input
   Ok (at_address advance registers, input)
 
--- so many operands are passed over
+-- `count` operands are skipped
 abbrev pub skipped_from : ℕ → LineRegisters → Input LineFault → LineRead LineRegisters
 skipped_from count registers input = do
   (operands, input) ← counted_from uleb_from count input
@@ -137,8 +137,8 @@ extended body registers =
     else Some (no_row_appended registers)
 
 -- a size, which is not 0, and as many bytes
-unfoldable pub extended_from : LineRegisters → Input LineFault → LineRead OpcodeEffect
-extended_from registers input = do
+unfoldable pub extended_opcode_from : LineRegisters → Input LineFault → LineRead OpcodeEffect
+extended_opcode_from registers input = do
   (size, input) ← uleb_from input
   input ← checked (not (size == 0)) input
   (body, input) ← bytes_from size input
@@ -149,7 +149,7 @@ extended_from registers input = do
 abbrev pub by_opcode : ProgramEncoding → ℕ → LineRegisters → Input LineFault → LineRead OpcodeEffect
 by_opcode encoding opcode registers input =
     if nat_le encoding.opcode_base opcode then Ok (special encoding (opcode - encoding.opcode_base) registers, input)
-    else if opcode == 0 then extended_from registers input
+    else if opcode == 0 then extended_opcode_from registers input
     else standard_from encoding opcode registers input
 
 -- an opcode; its fault is at its offset

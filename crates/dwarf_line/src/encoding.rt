@@ -35,15 +35,15 @@ impl<'a> Model for LineEncoding<'a> {
     ghost invariant = { λ encoding. 0 < encoding.line_range };
 }
 
-/// Whether the program is one of this profile: one operation an instruction, a line range and an opcode
-/// base that are not 0.
+/// Whether the line number program is supported: `maximum_operations_per_instruction` is 1, and `line_range` and
+/// `opcode_base` are not 0.
 fn is_supported(maximum_operations_per_instruction: u8, line_range: u8, opcode_base: u8) -> bool
     ensures { result ≡ is_supported maximum_operations_per_instruction line_range opcode_base }
 {
     maximum_operations_per_instruction == 1 && line_range != 0 && opcode_base != 0
 }
 
-/// A signed byte as a number to be added modulo 2^32.
+/// A signed byte modulo 2^32.
 fn signed_byte(byte: u8) -> u32
     ensures { result ≡ signed_byte byte }
 {
@@ -92,7 +92,7 @@ impl<'a> LineEncoding<'a> {
         self.opcode_base
     }
 
-    /// How many operands a standard opcode has.
+    /// The number of operands of a standard opcode.
     pub(crate) fn operand_count(&self, opcode: u8) -> u8
         requires { 0 < opcode }
         ensures { result ≡ slice_index self.now.standard_opcode_lengths (opcode - 1) }
@@ -104,7 +104,8 @@ impl<'a> LineEncoding<'a> {
         }
     }
 
-    /// How far a special opcode, less the opcode base, advances the address, in bytes.
+    /// By how many bytes a special opcode advances the address (DWARF 5, section 6.2.5.1); `adjusted` is the opcode
+    /// less the opcode base.
     pub(crate) fn address_advance(&self, adjusted: u8) -> u128
         ensures advance { result ≡ address_advance self.now adjusted }
         ensures small { result < 2 ^ 16 }
@@ -112,7 +113,7 @@ impl<'a> LineEncoding<'a> {
         u128::from(adjusted / self.line_range) * u128::from(self.minimum_instruction_length)
     }
 
-    /// How far it advances the line, modulo 2^32.
+    /// By how much a special opcode advances the line, modulo 2^32.
     pub(crate) fn line_advance(&self, adjusted: u8) -> u128
         ensures advance { result ≡ line_advance self.now adjusted }
         ensures small { result < 2 ^ 33 }

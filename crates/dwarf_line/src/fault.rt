@@ -4,8 +4,8 @@ ghost use Rattle.prof_bytes.specs.declared.fail.Fail.TheVariants as fails;
 
 use prof_bytes::Fail;
 
-/// The first fault of the line tables: of a header at its table's offset, of a program at its opcode, each
-/// an offset in `.debug_line`.
+/// The first fault of the line tables, by its offset in `.debug_line`: that of the table for a fault of its header,
+/// that of the opcode for a fault of its program.
 #[derive(Clone, Copy, Debug, PartialEq, Eq)]
 pub struct LineFault {
     pub offset: u32,

@@ -12,7 +12,7 @@ use prof_bytes::{Fail, Reader};
 use std::alloc::Global;
 use std::marker::Model;
 
-/// A header of version 5, and a reader of the program behind it.
+/// A header of version 5, and a reader of the program after it.
 #[derive(Drop)]
 pub(crate) struct LineHeader<'a> {
     pub(crate) encoding: LineEncoding<'a>,
@@ -34,7 +34,7 @@ impl<'a> Model for LineHeader<'a> {
     } };
 }
 
-/// A header of version 5 behind the version.
+/// A header of version 5 after its `version`.
 #[tactic(auto, unfolding(crate::specs::Headers::header5_from))]
 fn version5<'a>(
     alloc: Global,

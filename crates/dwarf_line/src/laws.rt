@@ -1,4 +1,4 @@
-//! What the definitions of this crate keep.
+//! Laws of the definitions.
 ghost use Rattle.std.specs.Prelude.{◌≡◌, ℕ, ◌≤◌, length};
 ghost use Rattle.prof_bytes.specs.Fields.{Input};
 ghost use Rattle.prof_bytes.specs.Reading.{left_of};
@@ -9,7 +9,7 @@ ghost use Rattle.dwarf_line.specs.Programs.{rows_from};
 
 /// A program has at most as many opcodes as bytes: with more room its rows are the same.
 #[tactic(auto, using(crate::proofs::Fuel::program_law))]
-pub fn bytes_are_room_enough()
+pub fn row_count_is_at_most_bytes()
     ensures { (encoding : ProgramEncoding) (room : ℕ) (registers : LineRegisters) (program : Input LineFault)
         → length (left_of program.at) ≤ room
         → rows_from encoding room registers program

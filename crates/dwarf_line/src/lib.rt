@@ -20,5 +20,5 @@ mod sequence;
 mod tables;
 
 pub use fault::LineFault;
-pub use laws::bytes_are_room_enough;
+pub use laws::row_count_is_at_most_bytes;
 pub use lines::{LineTable, read_lines};

@@ -1,4 +1,4 @@
-//! The line tables at some offsets, and what is asked of them.
+//! The line tables at some offsets, and the rows and file names that they give.
 ghost use Rattle.std.specs.Prelude.{◌≡◌, ◌<◌, ◌^◌, ◌++◌, ◌∷◌, [], option_to_list, IfOk, OnOk, is_some, length, take};
 ghost use Rattle.std.specs.Prelude.{unwrap_or};
 ghost use Rattle.std.specs.Option.{option_copied};
@@ -7,7 +7,7 @@ ghost use Rattle.dwarf_line.specs.Names.{texts_of};
 ghost use Rattle.dwarf_line.specs.Lines.{table_by, line_table_of, line_tables_of, lines_at, table_with, joined_path};
 ghost use Rattle.dwarf_line.specs.Lines.{directory_path, file_in, file_name_of, unknown_file};
 ghost use Rattle.dwarf_line.specs.Sequences.{line_at};
-ghost use Rattle.dwarf_line.specs.private.Tables.{behind};
+ghost use Rattle.dwarf_line.specs.private.Tables.{added_to};
 
 use crate::fault::LineFault;
 use crate::header::{LineHeader, read_header};
@@ -16,17 +16,14 @@ use crate::run::run;
 use crate::sequence::{Collector, Sequence};
 use crate::tables::Table;
 use address_ranges::RangeTable;
-use dwarf_forms::reader_at;
+use dwarf_forms::{MAX_NAME_BYTES, reader_at};
 use elf_image::{DebugParts, Image};
 use prof_bytes::{Fail, Memory, Text};
 use scope_types::LineId;
 use std::alloc::Global;
 use std::marker::Model;
 
-/// The most bytes of a name.
-const NAME_LIMIT: usize = 4096;
-
-/// Line tables that were read. They lend the sections' bytes.
+/// Line tables that were read (DWARF 5, section 6.2). They borrow the sections' bytes.
 #[derive(Drop)]
 pub struct LineTable<'a> {
     tables: RangeTable<Table<'a>>,
@@ -49,17 +46,17 @@ impl<'a> LineTable<'a> {
         self.tables.first(offset)
     }
 
-    /// Whether a table of version 5 was read at this offset of `.debug_line`. Takes no memory, and time as
-    /// the logarithm of the number of tables.
+    /// Whether a table of version 5 was read at this offset of `.debug_line` (DWARF 5, section 6.2.4). Takes no memory,
+    /// and time logarithmic in the number of tables.
     pub fn has_table(&self, table: u32) -> bool
         ensures { result ≡ is_some (table_with self.now.tables table) }
     {
         self.table(table).is_some()
     }
 
-    /// The line of the row in force at an address. Takes no memory, and time as the logarithm of the number
-    /// of sequences and of the rows of the one that holds the address; where the addresses of its rows
-    /// fall, they are looked through.
+    /// The line of the row in force at an address (DWARF 5, section 6.2). Takes no memory, and time logarithmic in the
+    /// number of sequences and of the rows of the sequence that holds the address; where the addresses of its rows
+    /// fall, time linear in these rows.
     pub fn row_at(&self, pc: u32) -> Option<LineId>
         ensures { result ≡ line_at self.now.sequences pc }
     {
@@ -72,8 +69,9 @@ impl<'a> LineTable<'a> {
         })
     }
 
-    /// The name of a file of the table at an offset, of at most 4,096 bytes; `<unknown file>` where there is
-    /// no such table or file. The table is found in time as the logarithm of the number of tables.
+    /// The name of a file of the table at an offset, of at most `MAX_NAME_BYTES` bytes (DWARF 5, section 6.2.4);
+    /// `<unknown file>` where there is no such table or file. The table is found in time logarithmic in the number of
+    /// tables.
     pub fn file_name(&self, alloc: Global, table: u32, file: u32) -> Result<Text, Memory>
         ensures { IfOk result (λ name. name ≡ file_name_of self.now.tables table file) }
     {
@@ -97,7 +95,7 @@ fn directory_path<'a>(directories: &[NameEntry<'a>], index: Option<u64>) -> &'a 
 }
 
 fn joined_path(alloc: Global, directory: &[u8], path: &[u8]) -> Result<Text, Memory>
-    ensures { IfOk result (λ name. name ≡ take 4096 (joined_path directory.now path.now)) }
+    ensures { IfOk result (λ name. name ≡ take MAX_NAME_BYTES (joined_path directory.now path.now)) }
 {
     let mut name = Vec::new(alloc);
     if !directory.is_empty() && path.first() != Some(&b'/') {
@@ -105,7 +103,7 @@ fn joined_path(alloc: Global, directory: &[u8], path: &[u8]) -> Result<Text, Mem
         name.push(b'/')?;
     }
     name.extend_from_slice(path)?;
-    name.truncate(NAME_LIMIT);
+    name.truncate(MAX_NAME_BYTES);
     Ok(Text::from_vec(name))
 }
 
@@ -131,7 +129,7 @@ fn run_header<'a>(
     requires { length header.program.at.whole < 2 ^ 32 }
     ensures segments { IfOk result (λ _. collector.new.segments ≡ collector.old.segments) }
     ensures table { Gives (λ t. (t ∷ [], collector.new.sequences)) result
-        (behind [] collector.old.sequences (table_by collector.old.segments offset (Some header.entry))) }
+        (added_to [] collector.old.sequences (table_by collector.old.segments offset (Some header.entry))) }
 {
     let LineHeader {
         encoding,
@@ -148,8 +146,7 @@ fn run_header<'a>(
     })
 }
 
-/// Reads the table at an offset; its sequences that count are collected. `None` for a table of an earlier
-/// version.
+/// Reads the table at an offset and collects its sequences that count. `None` for a table of an earlier version.
 #[tactic(auto, unfolding(crate::specs::Lines::line_table_of))]
 fn read_table<'a>(
     alloc: Global,
@@ -161,7 +158,7 @@ fn read_table<'a>(
     requires { length line.now < 2 ^ 32 }
     ensures segments { IfOk result (λ _. collector.new.segments ≡ collector.old.segments) }
     ensures table { Gives (λ t. (option_to_list t, collector.new.sequences)) result
-        (behind [] collector.old.sequences
+        (added_to [] collector.old.sequences
         (line_table_of line.now (texts_of sections.now) collector.old.segments offset)) }
 {
     let fault = LineFault { offset };
@@ -182,7 +179,7 @@ fn read_tables<'a>(
 ) -> Result<Vec<Table<'a>>, Fail<LineFault>>
     requires { length line.now < 2 ^ 32 }
     ensures { Gives (λ v. (v.items, collector.new.sequences)) result
-        (behind [] collector.old.sequences
+        (added_to [] collector.old.sequences
         (line_tables_of line.now (texts_of sections.now) collector.old.segments offsets.now)) }
 {
     let mut tables = Vec::new(alloc);
@@ -205,8 +202,8 @@ fn push_some<'a>(tables: &mut Vec<Table<'a>>, table: Option<Table<'a>>) -> Resul
 }
 
 /// The line tables at these offsets of `.debug_line` (DWARF 5, section 6.2), or the first fault in their
-/// order. Of the sequences those are kept that lie within one executed segment of the program. Takes time
-/// linear in the bytes of the tables, and as n log n in the number of tables and of sequences.
+/// order. Of the sequences those are kept that lie within one executable segment of the program. Takes time
+/// linear in the bytes of the tables, and n log n in the number of tables and of sequences.
 #[tactic(auto, using(crate::proofs::TableLists::lines_are, crate::proofs::TableLists::lines_fail))]
 pub fn read_lines<'a>(
     alloc: Global,

@@ -17,7 +17,7 @@ use std::marker::Model;
 
 const EMPTY: &[u8] = b"";
 
-/// A content type code, and the form of its values.
+/// A content type code, and the form of its values (DWARF 5, section 6.2.4.1).
 #[derive(Clone, Copy)]
 pub(crate) struct EntryFormat {
     pub(crate) content_type: u64,
@@ -98,7 +98,7 @@ fn noted<'a>(values: EntryValues<'a>, content_type: u64, value: Value<'a>) -> En
     }
 }
 
-/// The values of an entry by its formats, the first of each content type that counts.
+/// The values of an entry by its formats: the first path and the first directory index.
 fn entry_values<'a>(
     reader: &mut Reader<'a, LineFault>,
     formats: &[EntryFormat],
@@ -182,7 +182,7 @@ fn entries<'a>(
     Ok(entries)
 }
 
-/// A list of directories or of files: the formats, and as many entries as are counted.
+/// A list of directories or of files: their formats, their number, and the entries.
 #[tactic(auto, unfolding(crate::specs::Names::names_from))]
 pub(crate) fn read_names<'a>(
     alloc: Global,

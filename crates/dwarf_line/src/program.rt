@@ -3,7 +3,7 @@ ghost use Rattle.std.specs.Prelude.{◌≡◌, ◌<◌, ◌^◌, ◌+◌, ◌%�
 ghost use Rattle.prof_bytes.specs.Outcome.{GivesAt};
 ghost use Rattle.dwarf_line.specs.Programs.{start, at_address, at_line, plain_row, end_row_of, row_appended};
 ghost use Rattle.dwarf_line.specs.Programs.{no_row_appended, special, advance_pc_from, set_file_from, skipped_from};
-ghost use Rattle.dwarf_line.specs.Programs.{registers_from, standard_from, extended, extended_from, by_opcode};
+ghost use Rattle.dwarf_line.specs.Programs.{registers_from, standard_from, extended, extended_opcode_from, by_opcode};
 ghost use Rattle.dwarf_line.specs.Programs.{opcode_from};
 
 use crate::constants::{
@@ -16,7 +16,7 @@ use crate::encoding::LineEncoding;
 use crate::fault::LineFault;
 use crate::registers::{LineRegisters, LineRow, OpcodeEffect};
 use byteorder::{ByteOrder, LittleEndian};
-use dwarf_forms::wrapped;
+use dwarf_forms::low_word_signed;
 use prof_bytes::Reader;
 
 /// The registers at the beginning of each sequence.
@@ -30,8 +30,8 @@ pub(crate) fn start() -> LineRegisters
     }
 }
 
-/// A sum of 32 bits.
-fn plus(number: u32, more: u128) -> u32
+/// The low 32 bits of a sum.
+fn low_word_sum(number: u32, more: u128) -> u32
     requires { more < 2 ^ 100 }
     ensures { result ≡ (number + more) % 2 ^ 32 }
 {
@@ -43,7 +43,7 @@ fn at_address(registers: LineRegisters, more: u128) -> LineRegisters
     ensures { result ≡ at_address more registers }
 {
     LineRegisters {
-        address: plus(registers.address, more),
+        address: low_word_sum(registers.address, more),
         file: registers.file,
         line: registers.line,
     }
@@ -56,7 +56,7 @@ fn at_line(registers: LineRegisters, more: u128) -> LineRegisters
     LineRegisters {
         address: registers.address,
         file: registers.file,
-        line: plus(registers.line, more),
+        line: low_word_sum(registers.line, more),
     }
 }
 
@@ -137,7 +137,7 @@ fn set_file(
     })
 }
 
-/// Passes over so many operands.
+/// Skips `count` operands.
 fn skip(
     count: u8,
     registers: LineRegisters,
@@ -164,7 +164,7 @@ fn registers_after(
     match opcode {
         DW_LNS_advance_pc => advance_pc(encoding, registers, reader),
         DW_LNS_advance_line => {
-            let advance = wrapped(reader.sleb()?);
+            let advance = low_word_signed(reader.sleb()?);
             Ok(at_line(registers, u128::from(advance)))
         }
         DW_LNS_set_file => set_file(registers, reader),
@@ -201,7 +201,7 @@ fn standard(
     Ok(no_row_appended(after))
 }
 
-/// An extended opcode by its bytes; `None` where an address has other than four bytes.
+/// An extended opcode by its bytes; `None` where the operand of `DW_LNE_set_address` doesn't have four bytes.
 fn extended(body: &[u8], registers: LineRegisters) -> Option<OpcodeEffect>
     requires { 0 < length body.now }
     ensures { result ≡ extended body.now registers }
@@ -225,13 +225,13 @@ fn extended(body: &[u8], registers: LineRegisters) -> Option<OpcodeEffect>
     }
 }
 
-/// An extended opcode behind its 0: a size, and as many bytes.
-#[tactic(auto, unfolding(crate::specs::Programs::extended_from))]
+/// An extended opcode after its 0: a size, and that number of bytes.
+#[tactic(auto, unfolding(crate::specs::Programs::extended_opcode_from))]
 fn extended_opcode(
     registers: LineRegisters,
     reader: &mut Reader<'_, LineFault>,
 ) -> Result<OpcodeEffect, LineFault>
-    ensures { GivesAt (λ e. e) result reader.new (extended_from registers reader.old) }
+    ensures { GivesAt (λ e. e) result reader.new (extended_opcode_from registers reader.old) }
 {
     let size = reader.uleb()?;
     if size == 0 {
@@ -262,7 +262,7 @@ fn by_opcode(
     standard(encoding, opcode, registers, reader)
 }
 
-/// The opcode at the reader, whose offset its faults have.
+/// The opcode at the reader; its faults have the offset of the opcode.
 #[tactic(auto, unfolding(crate::specs::Programs::opcode_from))]
 pub(crate) fn read_opcode(
     encoding: &LineEncoding<'_>,

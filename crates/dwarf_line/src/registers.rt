@@ -1,5 +1,5 @@
-//! The state machine of the line number program (DWARF 5, section 6.2.2), without the registers that this
-//! profile doesn't keep.
+//! The state machine of the line number program (DWARF 5, section 6.2.2), with the registers `address`, `file` and
+//! `line` alone.
 
 /// The registers of the state machine.
 #[derive(Clone, Copy)]

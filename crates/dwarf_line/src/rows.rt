@@ -9,12 +9,12 @@ use std::marker::Model;
 
 /// The rows of a sequence. Contracts see them as a list.
 #[derive(Drop)]
-pub(crate) struct Rows {
+pub(crate) struct SequenceRows {
     items: Vec<LineRow>,
     rising: bool,
 }
 
-impl Model for Rows {
+impl Model for SequenceRows {
     ghost use Rattle.std.specs.Prelude.{◌≡◌, true, List};
     ghost use Rattle.dwarf_line.specs.declared.registers.LineRow.{LineRow};
     ghost use Rattle.dwarf_line.specs.private.Rising.{Rises};
@@ -26,7 +26,7 @@ impl Model for Rows {
     ghost invariant = { λ rows. rows.rising ≡ true → Rises rows.items.items };
 }
 
-/// Whether no address is below one before it.
+/// Whether the addresses never fall.
 fn is_rising(rows: &[LineRow]) -> bool
     ensures { result ≡ true → Rises rows.now }
 {
@@ -40,7 +40,7 @@ fn is_rising(rows: &[LineRow]) -> bool
     true
 }
 
-/// The row in force among rows that rise, by halving.
+/// The row in force among rows whose addresses never fall, by a binary search.
 fn halved(at: u32, rows: &[LineRow]) -> Option<LineRow>
     requires { Rises rows.now }
     ensures { result ≡ last_row_at at rows.now }
@@ -52,12 +52,12 @@ fn halved(at: u32, rows: &[LineRow]) -> Option<LineRow>
     Some(rows[count - 1])
 }
 
-impl Rows {
-    pub(crate) fn from_vec(items: Vec<LineRow>) -> Rows
+impl SequenceRows {
+    pub(crate) fn from_vec(items: Vec<LineRow>) -> SequenceRows
         ensures { result ≡ items.items }
     {
         let rising = is_rising(items.as_slice());
-        Rows { items, rising }
+        SequenceRows { items, rising }
     }
 
     pub(crate) fn as_slice(&self) -> &[LineRow]
@@ -66,8 +66,8 @@ impl Rows {
         self.items.as_slice()
     }
 
-    /// The row in force at an address: by halving where the addresses of the rows rise, else by a look
-    /// at each row.
+    /// The row in force at an address: by a binary search where the addresses of the rows never fall, else by a look at
+    /// each row.
     pub(crate) fn row_at(&self, at: u32) -> Option<LineRow>
         ensures { result ≡ last_row_at at self.now }
     {

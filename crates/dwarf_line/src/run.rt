@@ -10,7 +10,7 @@ use crate::program::{read_opcode, start};
 use crate::sequence::Collector;
 use prof_bytes::{Fail, Reader};
 
-/// Runs a program to its end; its sequences that count are collected.
+/// Runs a program to its end, and collects its sequences that count.
 pub(crate) fn run(
     encoding: &LineEncoding<'_>,
     program: &mut Reader<'_, LineFault>,

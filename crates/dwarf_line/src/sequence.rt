@@ -5,7 +5,7 @@ ghost use Rattle.dwarf_line.specs.Sequences.{rows_range, sequence_range, is_coun
 ghost use Rattle.dwarf_line.specs.private.Collecting.{with_row, with_effect};
 
 use crate::registers::LineRow;
-use crate::rows::Rows;
+use crate::rows::SequenceRows;
 use address_ranges::{AddressRange, HasRange};
 use elf_image::Image;
 use prof_bytes::Memory;
@@ -17,7 +17,7 @@ use std::mem;
 #[derive(Drop)]
 pub(crate) struct Sequence {
     pub(crate) table: u32,
-    pub(crate) rows: Rows,
+    pub(crate) rows: SequenceRows,
     pub(crate) end: u32,
 }
 
@@ -37,8 +37,7 @@ impl HasRange for Sequence {
     }
 }
 
-/// The sequences that count, of the tables whose programs were run, and the rows of the sequence that is
-/// open.
+/// The sequences that count of the programs that were run, and the rows of the open sequence.
 #[derive(Drop)]
 pub(crate) struct Collector<'i, 'f> {
     alloc: Global,
@@ -62,7 +61,7 @@ impl<'i, 'f> Model for Collector<'i, 'f> {
 }
 
 impl<'i, 'f> Collector<'i, 'f> {
-    /// A collector of sequences that lie in this program.
+    /// A collector of the sequences that lie in this program.
     pub(crate) fn new(alloc: Global, image: &'i Image<'f>) -> Collector<'i, 'f>
         ensures { result ≡ record { segments = image.now.segments; sequences = []; table = 0; rows = [] } }
     {
@@ -75,7 +74,7 @@ impl<'i, 'f> Collector<'i, 'f> {
         }
     }
 
-    /// The rows to come are of the table at this offset.
+    /// Begins the table at this offset: the next rows are its rows.
     pub(crate) fn begin(&mut self, table: u32)
         ensures { self.new ≡ record self.old { table = table; rows = [] } }
     {
@@ -94,7 +93,7 @@ impl<'i, 'f> Collector<'i, 'f> {
         let rows = mem::replace(&mut self.rows, Vec::new(self.alloc));
         let sequence = Sequence {
             table: self.table,
-            rows: Rows::from_vec(rows),
+            rows: SequenceRows::from_vec(rows),
             end: row.address,
         };
         if is_counted(self.image, &sequence) {
@@ -103,7 +102,7 @@ impl<'i, 'f> Collector<'i, 'f> {
         Ok(())
     }
 
-    /// The same where there is a row.
+    /// Adds a row where there is one.
     pub(crate) fn add_some(&mut self, row: Option<LineRow>) -> Result<(), Memory>
         ensures { IfOk result (λ _. self.new ≡ with_effect self.old row) }
     {
@@ -121,7 +120,7 @@ impl<'i, 'f> Collector<'i, 'f> {
     }
 }
 
-/// Whether a sequence isn't empty and lies within one executed segment of the program.
+/// Whether a sequence isn't empty and lies within one executable segment of the program.
 fn is_counted(image: &Image<'_>, sequence: &Sequence) -> bool
     ensures { result ≡ is_counted image.now.segments sequence.now }
 {

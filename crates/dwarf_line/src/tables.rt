@@ -25,7 +25,7 @@ impl<'a> Model for Table<'a> {
     } };
 }
 
-/// A table is found by its offset, as by a range of one address.
+/// A table is found by its offset: its range is that one offset.
 impl<'a> HasRange for Table<'a> {
     ghost use Rattle.dwarf_line.specs.private.Tables.{offset_range};
 

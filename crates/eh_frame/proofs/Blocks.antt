@@ -1,4 +1,4 @@
--- The blocks of a translation, one behind the other, are its entries.
+-- The blocks of a translation, one after the other, are its entries.
 use Rattle.std.proofs.Common.{◌≡◌, ℕ, ◌+◌, ◌-◌, ◌*◌, ◌/◌, ◌%◌, ◌≤◌, ◌<◌, ◌^◌, List, [], ◌∷◌, ◌++◌, length, length-append, length-drop, take, drop, map, Result, Ok, inl, inr, refl, sym, ap, subst, ◌∙◌, append_assoc, arith, suc, Err}
 use Rattle.prof_bytes.specs.Outcome.{◌>>=◌, viewed}
 use Rattle.std.specs.Prelude.{replicate, All}
@@ -13,7 +13,7 @@ use Rattle.cfi_table.specs.declared.extent.Extent.{Extent}
 use Rattle.cfi_table.specs.Entries.{body_of}
 use Rattle.cfi_table.specs.Frames.{all_ok, size_of}
 use Rattle.cfi_table.specs.private.Placed.{IsPlaced}
-use Rattle.eh_frame.specs.Entries.{EhEntry, Content, PassedOver, Common, Description, content_of, entry_with, entry_of}
+use Rattle.eh_frame.specs.Entries.{EhEntry, Content, PassedOver, Common, Description, entry_content, entry_with, entry_of}
 use Rattle.eh_frame.specs.Translation.{encoded, cie_head, fde_head, translated_offset, entry_body, aligned, with_length, block_with, block_of}
 use Rattle.eh_frame.specs.private.Adjoining.{AreAdjoining}
 use Rattle.eh_frame.proofs.Described.{AllFacts, FitsIn, content_facts}
@@ -212,7 +212,7 @@ pub extents_same : (section : List ℕ) (address : ℕ) (extents es : List Exten
 extents_same section address extents [] all is = ap (λ (xs : List EhEntry). map (λ x. x.extent) xs) (sym (ok_same {F = FrameFault} [] all is))
 extents_same section address extents (e ∷ es) all is =
     let parts = ok_cons (entry_of section address extents e) (map (entry_of section address extents) es) all is in
-    let content = bind_ok (content_of section address extents e) (λ c. (let u : Result EhEntry FrameFault = Ok (entry_with e c) in u)) parts.0 parts.2 in
+    let content = bind_ok (entry_content section address extents e) (λ c. (let u : Result EhEntry FrameFault = Ok (entry_with e c) in u)) parts.0 parts.2 in
     let first : parts.0.extent ≡ e = ap (λ (x : EhEntry). x.extent) (sym (ok_same {F = FrameFault} (entry_with e content.0) parts.0 content.2)) in
     ap (λ (xs : List EhEntry). map (λ x. x.extent) xs) parts.4
     ∙ ap (λ (x : Extent). x ∷ map (λ (y : EhEntry). y.extent) parts.1) first
@@ -220,12 +220,12 @@ extents_same section address extents (e ∷ es) all is =
 
 pub record WasRead (section : List ℕ) (address : ℕ) (extents : List Extent) (x : EhEntry) : Type 0 where
   pub there : IsIn x.extent extents
-  pub content : content_of section address extents x.extent ≡ Ok x.content
+  pub content : entry_content section address extents x.extent ≡ Ok x.content
 
 pub was_read : (section : List ℕ) (address : ℕ) (extents : List Extent) (all : List EhEntry) (x : EhEntry) → all_ok (map (entry_of section address extents) extents) ≡ Ok all → IsIn x all → WasRead section address extents x
 was_read section address extents all x is there =
     let from = ok_of (entry_of section address extents) extents all x is there in
-    let content = bind_ok (content_of section address extents from.0) (λ c. (let u : Result EhEntry FrameFault = Ok (entry_with from.0 c) in u)) x from.2 in
+    let content = bind_ok (entry_content section address extents from.0) (λ c. (let u : Result EhEntry FrameFault = Ok (entry_with from.0 c) in u)) x from.2 in
     let P : EhEntry → Type 0 = λ y. WasRead section address extents y in
     subst P (ok_same {F = FrameFault} (entry_with from.0 content.0) x content.2) (record { there = from.1; content = content.1 })
 
@@ -250,7 +250,7 @@ blocks_size section address base extents start [] entries bytes le adjoin placed
     none [] e = omega arith
     none (x ∷ xs) e = absurd cc
 blocks_size section address base extents start (e ∷ es) entries bytes le adjoin placed is =
-    first (content_of section address extents e) (content_facts section address extents e bytes here) is
+    first (entry_content section address extents e) (content_facts section address extents e bytes here) is
     (λ xs same. blocks_size section address base extents e.end es xs bytes here.within adjoin.2 (λ k d lt. placed (suc k) d (omega arith)) same)
   where
     here : IsPlaced section e

@@ -11,14 +11,14 @@ use Rattle.cfi_table.specs.declared.fault.FrameFault.{FrameFault}
 use Rattle.cfi_table.specs.declared.instruction.AlignmentFactors.{AlignmentFactors}
 use Rattle.cfi_table.specs.declared.instruction.CallFrameInstruction.{CallFrameInstruction}
 use Rattle.cfi_table.specs.Instructions.{Reading, block_from}
-use Rattle.cfi_table.specs.Rules.{State, execute, no_rules, all_same_value}
+use Rattle.cfi_table.specs.Rules.{FrameState, execute, no_rules, all_same_value}
 use Rattle.cfi_table.specs.Entries.{register_from, instructions_of}
 use Rattle.cfi_table.proofs.Moves.{Moves, AllMove, stays, binds, number_moves, takes, uleb_moves, sleb_moves, bytes_move, block_moves, either}
 use Rattle.eh_frame.specs.declared.address.Application.{Application}
 use Rattle.eh_frame.specs.declared.address.Application.TheVariants as applications
 use Rattle.eh_frame.specs.declared.cie.EhCie.{EhCie}
 use Rattle.eh_frame.specs.Addresses.{address_from}
-use Rattle.eh_frame.specs.Cies.{is_read_augmentation, starts_from, until, eh_cie_with, factors_of, cie_from_letters, cie_from_data, cie_from_factors, cie_from_augmentation, cie_from}
+use Rattle.eh_frame.specs.Cies.{is_read_augmentation, starts_from, until, eh_cie_with, factors_of, cie_from_letters, cie_from_data, eh_cie_from_factors, eh_cie_from_augmentation, eh_cie_from}
 use Rattle.eh_frame.specs.Runs.{listed_by, addresses_of, cie_instructions, fde_instructions}
 use Rattle.eh_frame.specs.Entries.{past_data, eh_fields_from}
 use Rattle.eh_frame.specs.Translation.{encoded}
@@ -77,22 +77,22 @@ register_moves version input = either input (version == 1) _ _ (number_moves 1 i
 low : (n : ℕ) → nat_lt n 32 ≡ true → n < 32
 low n e = grind (arith, nat_tests)
 
-factors_sound : (end version : ℕ) (augmentation : List ℕ) (input : Input FrameFault) → AllSound end (length (left_of input.at)) (cie_from_factors end version augmentation input)
-unfolding cie_from_factors
+factors_sound : (end version : ℕ) (augmentation : List ℕ) (input : Input FrameFault) → AllSound end (length (left_of input.at)) (eh_cie_from_factors end version augmentation input)
+unfolding eh_cie_from_factors
 factors_sound end version augmentation input =
     sound_bind end input (uleb_from input) _ (uleb_moves input) (λ c. sound_bind end c.1 (sleb_from c.1) _ (sleb_moves c.1) (λ d. sound_bind end d.1 (register_from version d.1) _ (register_moves version d.1) (λ r.
     sound_either end (length (left_of r.1.at)) (nat_lt r.0 32) _ _ (λ is. data_sound end (factors_of c.0 d.0) r.0 augmentation r.1 (low r.0 is)) tt)))
 
-augmentation_sound : (end version : ℕ) (input : Input FrameFault) → AllSound end (length (left_of input.at)) (cie_from_augmentation end version input)
-unfolding cie_from_augmentation
+augmentation_sound : (end version : ℕ) (input : Input FrameFault) → AllSound end (length (left_of input.at)) (eh_cie_from_augmentation end version input)
+unfolding eh_cie_from_augmentation
 augmentation_sound end version input =
     sound_bind {X = List ℕ} end input (text_from input) _ (takes input (text_at (left_of input.at))) (λ t. sound_either end (length (left_of t.1.at)) (is_read_augmentation t.0) _ _ (λ is. factors_sound end version t.0 t.1) tt)
 
-cie_sound : (end : ℕ) (input : Input FrameFault) → AllSound end (length (left_of input.at)) (cie_from end input)
-unfolding cie_from
+cie_sound : (end : ℕ) (input : Input FrameFault) → AllSound end (length (left_of input.at)) (eh_cie_from end input)
+unfolding eh_cie_from
 cie_sound end input = sound_bind end input (number_from 1 input) _ (number_moves 1 input) (λ v. sound_either end (length (left_of v.1.at)) (v.0 == 1 || v.0 == 3) _ _ (λ is. augmentation_sound end v.0 v.1) tt)
 
-pub sound_of : (end : ℕ) (input : Input FrameFault) (cie : EhCie) → cie_from end input ≡ Ok (Some cie) → IsSound end (length (left_of input.at)) cie
+pub sound_of : (end : ℕ) (input : Input FrameFault) (cie : EhCie) → eh_cie_from end input ≡ Ok (Some cie) → IsSound end (length (left_of input.at)) cie
 sound_of end input cie is = let P : Result (Option EhCie) FrameFault → Type 0 = λ r. AllSound end (length (left_of input.at)) r in subst P is (cie_sound end input)
 
 -- ---- instructions of an entry
@@ -100,7 +100,7 @@ sound_of end input cie is = let P : Result (Option EhCie) FrameFault → Type 0 
 short_is : {S : Type 0} (input : Input FrameFault) (r : Result (List CallFrameInstruction × S) FrameFault) (own : List CallFrameInstruction × S) → Short input r → r ≡ Ok own → length (flat_map encoded own.0) ≤ 7 * length (left_of input.at)
 short_is {S} input r own short is = let P : Result (List CallFrameInstruction × S) FrameFault → Type 0 = λ x. Short input x in subst P is short
 
-pub cie_short : (section : List ℕ) (address : ℕ) (cie : EhCie) (own : List CallFrameInstruction × State) → cie_instructions section address cie ≡ Ok own → length (flat_map encoded own.0) ≤ 7 * (cie.initial_instructions.end - cie.initial_instructions.offset)
+pub cie_short : (section : List ℕ) (address : ℕ) (cie : EhCie) (own : List CallFrameInstruction × FrameState) → cie_instructions section address cie ≡ Ok own → length (flat_map encoded own.0) ≤ 7 * (cie.initial_instructions.end - cie.initial_instructions.offset)
 unfolding cie_instructions
 cie_short section address cie own is =
     let input : Input FrameFault = instructions_of section cie.initial_instructions in
@@ -108,7 +108,7 @@ cie_short section address cie own is =
     (listed_short (execute all_same_value) (length (left_of input.at)) (addresses_of address cie) cie.factors input no_rules) is in
     omega (arith, length-drop cie.initial_instructions.offset (take cie.initial_instructions.end section), length-take cie.initial_instructions.end section)
 
-pub own_short : (address : ℕ) (cie : EhCie) (start : ℕ) (input : Input FrameFault) (initial : State) (own : List CallFrameInstruction × State) → fde_instructions address cie start input initial ≡ Ok own → length (flat_map encoded own.0) ≤ 7 * length (left_of input.at)
+pub own_short : (address : ℕ) (cie : EhCie) (start : ℕ) (input : Input FrameFault) (initial : FrameState) (own : List CallFrameInstruction × FrameState) → fde_instructions address cie start input initial ≡ Ok own → length (flat_map encoded own.0) ≤ 7 * length (left_of input.at)
 own_short address cie start input initial own is =
     short_is input (fde_instructions address cie start input initial) own
     (listed_short (execute initial.regs) (length (left_of input.at)) (addresses_of address cie) cie.factors input (record initial { location = start })) is

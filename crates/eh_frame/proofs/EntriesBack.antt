@@ -15,7 +15,7 @@ use Rattle.cfi_table.specs.declared.cie.Cie.{Cie}
 use Rattle.cfi_table.specs.declared.fde.Fde.{Fde}
 use Rattle.cfi_table.specs.declared.instruction.CallFrameInstruction.{CallFrameInstruction}
 use Rattle.cfi_table.specs.declared.rules.Rule.{Rule}
-use Rattle.cfi_table.specs.Rules.{State, execute, is_past, no_rules, all_same_value}
+use Rattle.cfi_table.specs.Rules.{FrameState, execute, is_past, no_rules, all_same_value}
 use Rattle.cfi_table.specs.Entries.{body_of, instructions_of, cie_from_factors, cie_from_sizes, cie_from_augmentation, cie_from, after_cie, continued, is_cie, cie_at, cie_of, checked_cie, checked_fde, fde_fields_from, fde_with, read_entry}
 use Rattle.eh_frame.specs.Runs.{rules_after}
 use Rattle.eh_frame.specs.Translation.{encoded, cie_head, fde_head, aligned}
@@ -132,7 +132,7 @@ cie_back section e register own small size is = record {
         let count : length (drop (e.offset + 4) (take e.end section)) ≡ 9 + length rest = ap (λ (xs : List ℕ). length xs) here ∙ (omega arith) in
         omega (arith, length-drop (e.offset + 4) (take e.end section))
 
-pub cie_ran : (section : List ℕ) (e : Extent) (register : ℕ) (own : List CallFrameInstruction) (final : State) (c : CieBack section e register own) → All HasWordOperands own → rules_after None all_same_value own no_rules ≡ Some final
+pub cie_ran : (section : List ℕ) (e : Extent) (register : ℕ) (own : List CallFrameInstruction) (final : FrameState) (c : CieBack section e register own) → All HasWordOperands own → rules_after None all_same_value own no_rules ≡ Some final
     → after_cie section c.cie ≡ Ok final
 unfolding after_cie
 cie_ran section e register own final c words rules =
@@ -198,7 +198,7 @@ fde_back section extents e c pointer start range cie own small low few size is f
         let count : length (drop (e.offset + 4) (take e.end section)) ≡ 12 + length rest = ap (λ (xs : List ℕ). length xs) here ∙ (omega arith) in
         omega (arith, length-drop (e.offset + 4) (take e.end section))
 
-pub fde_ran : (limit : Option ℕ) (section : List ℕ) (extents : List Extent) (e : Extent) (start range : ℕ) (cie : Cie) (own : List CallFrameInstruction) (initial final : State) (f : FdeBack section extents e start range cie own) → cie.factors ≡ ones → All HasWordOperands own
+pub fde_ran : (limit : Option ℕ) (section : List ℕ) (extents : List Extent) (e : Extent) (start range : ℕ) (cie : Cie) (own : List CallFrameInstruction) (initial final : FrameState) (f : FdeBack section extents e start range cie own) → cie.factors ≡ ones → All HasWordOperands own
     → rules_after limit initial.regs own (record initial { location = start }) ≡ Some final → continued limit section f.fde initial ≡ Ok final
 fde_ran limit section extents e start range cie own initial final f factors words rules =
     rw (f.cie_is, factors, f.start_is)
@@ -207,16 +207,16 @@ fde_ran limit section extents e start range cie own initial final f factors word
 -- ---- the rules at an address
 
 -- instructions without a fault have none up to where they stop
-pub rules_up_to : (limit : Option ℕ) (initial : List Rule) (all : List CallFrameInstruction) (s t : State) → rules_after None initial all s ≡ Some t → (u : State) × (rules_after limit initial all s ≡ Some u)
+pub rules_up_to : (limit : Option ℕ) (initial : List Rule) (all : List CallFrameInstruction) (s t : FrameState) → rules_after None initial all s ≡ Some t → (u : FrameState) × (rules_after limit initial all s ≡ Some u)
 unfolding rules_after
 rules_up_to limit initial [] s t is = (s, refl)
 rules_up_to limit initial (i ∷ all) s t is = executed (execute initial i s) is (λ v more. rules_up_to limit initial all v t more)
   where
-    stopped : (b : Bool) (v : State) → ((u : State) × (rules_after limit initial all v ≡ Some u)) → (u : State) × (cond b (Some v) (rules_after limit initial all v) ≡ Some u)
+    stopped : (b : Bool) (v : FrameState) → ((u : FrameState) × (rules_after limit initial all v ≡ Some u)) → (u : FrameState) × (cond b (Some v) (rules_after limit initial all v) ≡ Some u)
     stopped true v more = (v, refl)
     stopped false v more = more
 
-    executed : (o : Option State) → option_and_then (λ (v : State). rules_after None initial all v) o ≡ Some t → ((v : State) → rules_after None initial all v ≡ Some t → (u : State) × (rules_after limit initial all v ≡ Some u))
-        → (u : State) × (option_and_then (λ (v : State). cond (is_past limit v) (Some v) (rules_after limit initial all v)) o ≡ Some u)
+    executed : (o : Option FrameState) → option_and_then (λ (v : FrameState). rules_after None initial all v) o ≡ Some t → ((v : FrameState) → rules_after None initial all v ≡ Some t → (u : FrameState) × (rules_after limit initial all v ≡ Some u))
+        → (u : FrameState) × (option_and_then (λ (v : FrameState). cond (is_past limit v) (Some v) (rules_after limit initial all v)) o ≡ Some u)
     executed None is again = absurd cc
     executed (Some v) is again = stopped (is_past limit v) v (again v is)

@@ -19,7 +19,7 @@ use Rattle.cfi_table.specs.Entries.{extents_of, at_end, read_entry, entries_of}
 use Rattle.cfi_table.specs.Frames.{Frames, all_ok, counted_fde, frames_of, fde_range, rules_of, rules_at}
 use Rattle.cfi_table.specs.private.Placed.{IsPlaced, AreRising}
 use Rattle.cfi_table.proofs.Chains.{in_order}
-use Rattle.eh_frame.specs.Entries.{EhFde, EhEntry, eh_extents, entry_of, faulty_end, eh_entries}
+use Rattle.eh_frame.specs.Entries.{EhFde, EhEntry, eh_extents, entry_of, eh_entries}
 use Rattle.eh_frame.specs.Translation.{translated_offset, block_of, translated, translation}
 use Rattle.eh_frame.specs.private.Adjoining.{AreAdjoining}
 use Rattle.eh_frame.specs.Both.{FrameDescription, described, eh_described, eh_range_of, eh_counted, frames_with_eh, descriptions_of_both, frame_ranges, described_ranges, rules_by}
@@ -36,7 +36,7 @@ use Rattle.eh_frame.proofs.JoinedReads.{Matches, Joined, Read, all_read}
 
 -- ---- each section that was read
 
-none_broken : (b : Option FrameFault) (ys : List Entry) → all_ok (at_end b) ≡ Ok ys → (b ≡ None) × ([] ≡ ys)
+none_broken : {X : Type 0} (b : Option FrameFault) (ys : List X) → all_ok (at_end b) ≡ Ok ys → (b ≡ None) × ([] ≡ ys)
 none_broken None ys e = (refl, ok_same {F = FrameFault} [] ys e)
 none_broken (Some fault) ys e = absurd cc
 
@@ -65,16 +65,12 @@ front_of section segments own is =
       within = λ x there. ends_within PassedOver (length section) section 0 (record { offset = 0 }) x (omega arith) there;
     }
 
-none_faulty : (b : Option FrameFault) (ys : List EhEntry) → all_ok (faulty_end b) ≡ Ok ys → [] ≡ ys
-none_faulty None ys e = ok_same {F = FrameFault} [] ys e
-none_faulty (Some fault) ys e = absurd cc
-
 eh_front_of : (eh : List ℕ) (address : ℕ) (all : List EhEntry) → eh_entries eh address ≡ Ok all → all_ok (map (entry_of eh address (eh_extents eh).0) (eh_extents eh).0) ≡ Ok all
 unfolding eh_entries
 eh_front_of eh address all is =
     let X : List Extent = (eh_extents eh).0 in
-    let parts = ok_parts (map (entry_of eh address X) X) (faulty_end (eh_extents eh).1) all is in
-    let same : parts.0 ≡ all = sym (parts.4 ∙ ap (λ (ys : List EhEntry). parts.0 ++ ys) (sym (none_faulty (eh_extents eh).1 parts.1 parts.3)) ∙ append-nil parts.0) in
+    let parts = ok_parts (map (entry_of eh address X) X) (at_end (eh_extents eh).1) all is in
+    let same : parts.0 ≡ all = sym (parts.4 ∙ ap (λ (ys : List EhEntry). parts.0 ++ ys) (sym (none_broken (eh_extents eh).1 parts.1 parts.3).1) ∙ append-nil parts.0) in
     parts.2 ∙ ap (λ (xs : List EhEntry). Ok xs) same
 
 all_of : {X : Type 0} (P : X → Type 0) (xs : List X) → ((x : X) → IsIn x xs → P x) → All P xs

@@ -1,4 +1,4 @@
--- The entries of a translation, read where it stands behind a section's bytes.
+-- The entries of a translation, read where it stands after a section's bytes.
 use Rattle.std.proofs.Common.{◌≡◌, ℕ, ◌+◌, ◌*◌, ◌≤◌, ◌<◌, ◌^◌, Bool, true, false, cond, List, [], ◌∷◌, length, map, Option, Some, None, Result, Ok, Err, inl, inr, refl, sym, ap, subst, ◌∙◌, arith}
 use Rattle.std.specs.Prelude.{All, option_map}
 use Rattle.std.specs.List.{filter_map, cons_option, flat_map}
@@ -13,13 +13,13 @@ use Rattle.cfi_table.specs.declared.extent.Extent.{Extent}
 use Rattle.cfi_table.specs.declared.cie.Cie.{Cie}
 use Rattle.cfi_table.specs.declared.fde.Fde.{Fde}
 use Rattle.cfi_table.specs.declared.instruction.CallFrameInstruction.{CallFrameInstruction}
-use Rattle.cfi_table.specs.Rules.{State, no_rules, all_same_value}
+use Rattle.cfi_table.specs.Rules.{FrameState, no_rules, all_same_value}
 use Rattle.cfi_table.specs.Entries.{is_cie, cie_at, after_cie, continued, after_fde, checked_fde, read_entry}
 use Rattle.cfi_table.specs.Frames.{all_ok, counted_fde, fde_range, rules_with, rules_of, size_of}
 use Rattle.cfi_table.specs.private.Placed.{AreRising}
 use Rattle.eh_frame.specs.declared.cie.EhCie.{EhCie}
 use Rattle.eh_frame.specs.Runs.{rules_after}
-use Rattle.eh_frame.specs.Entries.{EhFde, EhEntry, Content, PassedOver, Common, Description, content_of, entry_with, entry_of}
+use Rattle.eh_frame.specs.Entries.{EhFde, EhEntry, Content, PassedOver, Common, Description, entry_content, entry_with, entry_of}
 use Rattle.eh_frame.specs.Translation.{translated_offset, entry_body}
 use Rattle.eh_frame.specs.Both.{eh_range_of, eh_rules_with, eh_rules_from, eh_rules_of, eh_content_counted, eh_counted}
 use Rattle.eh_frame.specs.Laws.{HasWordOperands}
@@ -96,25 +96,25 @@ common_reads section eh address base all extents es e cie own j is =
     subst P (sym (back.read es)) (reads_behind nothing (after_cie section back.cie) _ read.final ran (λ segments. refl))
 
 -- the rules of an FDE that was written
-fde_rules : (pc : ℕ) (section : List ℕ) (extents : List Extent) (e c : Extent) (g : EhFde) (initial u : State) (back : CieBack section c g.cie.return_address_register g.initial) (f : FdeBack section extents e g.initial_location g.address_range back.cie g.instructions)
+fde_rules : (pc : ℕ) (section : List ℕ) (extents : List Extent) (e c : Extent) (g : EhFde) (initial u : FrameState) (back : CieBack section c g.cie.return_address_register g.initial) (f : FdeBack section extents e g.initial_location g.address_range back.cie g.instructions)
     → All HasWordOperands g.instructions → after_cie section back.cie ≡ Ok initial → rules_after (Some pc) initial.regs g.instructions (record initial { location = g.initial_location }) ≡ Some u
     → rules_of section pc f.fde ≡ Some (eh_rules_with g.cie u)
 unfolding rules_of after_fde
 fde_rules pc section extents e c g initial u back f words ran rules =
     ap (λ (d : Cie). rules_with f.fde.cie (after_cie section d >>= λ i. continued (Some pc) section f.fde i)) f.cie_is
-    ∙ ap (λ (r : Result State FrameFault). rules_with f.fde.cie (r >>= λ i. continued (Some pc) section f.fde i)) ran
-    ∙ ap (λ (r : Result State FrameFault). rules_with f.fde.cie r) (fde_ran (Some pc) section extents e g.initial_location g.address_range back.cie g.instructions initial u f back.factors words rules)
+    ∙ ap (λ (r : Result FrameState FrameFault). rules_with f.fde.cie (r >>= λ i. continued (Some pc) section f.fde i)) ran
+    ∙ ap (λ (r : Result FrameState FrameFault). rules_with f.fde.cie r) (fde_ran (Some pc) section extents e g.initial_location g.address_range back.cie g.instructions initial u f back.factors words rules)
     ∙ ap (λ (d : Cie). rules_with d (Ok u)) f.cie_is
     ∙ ap (λ (n : ℕ). Some (record { cfa = u.cfa; regs = u.regs; return_register = n })) back.returns
 
-eh_rules : (pc : ℕ) (g : EhFde) (initial u : State) → rules_after None all_same_value g.initial no_rules ≡ Some initial → rules_after (Some pc) initial.regs g.instructions (record initial { location = g.initial_location }) ≡ Some u
+eh_rules : (pc : ℕ) (g : EhFde) (initial u : FrameState) → rules_after None all_same_value g.initial no_rules ≡ Some initial → rules_after (Some pc) initial.regs g.instructions (record initial { location = g.initial_location }) ≡ Some u
     → eh_rules_of pc g ≡ Some (eh_rules_with g.cie u)
 unfolding eh_rules_of
-eh_rules pc g initial u before rules = ap (λ (o : Option State). option_and_then (eh_rules_from pc g) o) before ∙ ap (λ (o : Option State). option_map (eh_rules_with g.cie) o) rules
+eh_rules pc g initial u before rules = ap (λ (o : Option FrameState). option_and_then (eh_rules_from pc g) o) before ∙ ap (λ (o : Option FrameState). option_map (eh_rules_with g.cie) o) rules
 
-checked_as : (section : List ℕ) (f : Fde) (q : Result State FrameFault) (initial final : State) → q ≡ Ok initial → continued None section f initial ≡ Ok final → ReadsAs (only f) (checked_fde section f q)
+checked_as : (section : List ℕ) (f : Fde) (q : Result FrameState FrameFault) (initial final : FrameState) → q ≡ Ok initial → continued None section f initial ≡ Ok final → ReadsAs (only f) (checked_fde section f q)
 checked_as section f q initial final is ran =
-    let P : Result State FrameFault → Type 0 = λ p. ReadsAs (only f) (checked_fde section f p) in
+    let P : Result FrameState FrameFault → Type 0 = λ p. ReadsAs (only f) (checked_fde section f p) in
     subst P (sym is) (reads_behind (only f) (continued None section f initial) _ final ran (λ segments. refl))
 
 -- an FDE, where its CIE's entry is among those of the section
@@ -157,7 +157,7 @@ fde_by_cie section eh address base extents es e c g rest d small bytes within mo
     whole : continued None section f.fde d.initial ≡ Ok d.own
     whole = fde_ran None section es (translated_extent base (record { extent = e; content = Description g })) g.initial_location g.address_range back.cie g.instructions d.initial d.own f back.factors d.words d.own_rules
 
-made_by : (eh : List ℕ) (address : ℕ) (extents : List Extent) (c : Extent) (content : Content) (x : EhEntry) → content_of eh address extents c ≡ Ok content → entry_of eh address extents c ≡ Ok x → x ≡ (record { extent = c; content = content })
+made_by : (eh : List ℕ) (address : ℕ) (extents : List Extent) (c : Extent) (content : Content) (x : EhEntry) → entry_content eh address extents c ≡ Ok content → entry_of eh address extents c ≡ Ok x → x ≡ (record { extent = c; content = content })
 made_by eh address extents c content x is made =
     let content_made : entry_of eh address extents c ≡ Ok (entry_with c content) = ap (λ (r : Result Content FrameFault). r >>= λ k. (let u : Result EhEntry FrameFault = Ok (entry_with c k) in u)) is in
     ok_same {F = FrameFault} x (entry_with c content) (sym made ∙ content_made)

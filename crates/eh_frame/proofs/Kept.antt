@@ -1,5 +1,5 @@
--- The entries of a section are as they were where bytes stand behind it.
-use Rattle.std.proofs.Common.{◌≡◌, ℕ, ◌+◌, ◌-◌, ◌≤◌, Bool, true, false, cond, List, [], ◌∷◌, ◌++◌, length, take, map, Option, Some, None, Result, Ok, Err, inl, inr, refl, sym, ap, subst, ◌∙◌, arith}
+-- The entries of a section are as they were where bytes stand after it.
+use Rattle.std.proofs.Common.{◌≡◌, ℕ, ◌+◌, ◌-◌, ◌≤◌, Bool, true, false, cond, List, [], ◌∷◌, ◌++◌, length, map, Option, Some, None, Result, Ok, Err, inl, inr, refl, sym, ap, subst, ◌∙◌, arith}
 use Rattle.std.specs.Prelude.{ℤ, ◌==◌, ◌&&◌, ◌||◌, IfOk, IfSome, nat_lt}
 use Rattle.std.proofs.lemmas.List.{take-append-le}
 use Rattle.prof_bytes.specs.Outcome.{◌>>=◌}
@@ -13,7 +13,7 @@ use Rattle.cfi_table.specs.declared.fde.Fde.{Fde}
 use Rattle.elf_image.specs.declared.part.Segment.{Segment}
 use Rattle.elf_image.specs.Image.{counts}
 use Rattle.cfi_table.specs.Instructions.{Reading, low_32_bits, word_of_signed}
-use Rattle.cfi_table.specs.Rules.{State}
+use Rattle.cfi_table.specs.Rules.{FrameState}
 use Rattle.cfi_table.specs.Entries.{body_of, register_from, cie_with, cie_from_factors, cie_from_segment, cie_from_sizes, cie_from_augmentation, cie_from}
 use Rattle.cfi_table.specs.Entries.{after_cie, continued, after_fde, is_cie, cie_at, cie_of, checked_cie, checked_fde, fde_fields_from, fde_with, fde_of, fde_by, read_entry}
 use Rattle.cfi_table.specs.Frames.{all_ok, counted_fde, rules_with, rules_of}
@@ -81,25 +81,22 @@ cie_ends section c cie is =
 
 -- ---- what is read up to an end is the same
 
-take_joined : (section behind : List ℕ) (n : ℕ) → n ≤ length section → take n (section ++ behind) ≡ take n section
-take_joined section behind n le = take-append-le n section behind le
-
 pub body_joined : (section behind : List ℕ) (e : Extent) → e.end ≤ length section → body_of (section ++ behind) e ≡ body_of section e
-body_joined section behind e le = rw (take_joined section behind e.end le) refl
+body_joined section behind e le = rw (take-append-le e.end section behind le) refl
 
 pub after_cie_joined : (section behind : List ℕ) (cie : Cie) → cie.initial_instructions.end ≤ length section → after_cie (section ++ behind) cie ≡ after_cie section cie
 unfolding after_cie
-after_cie_joined section behind cie le = rw (take_joined section behind cie.initial_instructions.end le) refl
+after_cie_joined section behind cie le = rw (take-append-le cie.initial_instructions.end section behind le) refl
 
-continued_joined : (limit : Option ℕ) (section behind : List ℕ) (fde : Fde) (initial : State) → fde.instructions.end ≤ length section → continued limit (section ++ behind) fde initial ≡ continued limit section fde initial
-continued_joined limit section behind fde initial le = rw (take_joined section behind fde.instructions.end le) refl
+continued_joined : (limit : Option ℕ) (section behind : List ℕ) (fde : Fde) (initial : FrameState) → fde.instructions.end ≤ length section → continued limit (section ++ behind) fde initial ≡ continued limit section fde initial
+continued_joined limit section behind fde initial le = rw (take-append-le fde.instructions.end section behind le) refl
 
 cie_of_joined : (section behind : List ℕ) (c : Extent) → c.end ≤ length section → cie_of (section ++ behind) c ≡ cie_of section c
 unfolding cie_of
-cie_of_joined section behind c le = rw (take_joined section behind c.end le) refl
+cie_of_joined section behind c le = rw (take-append-le c.end section behind le) refl
 
 is_cie_joined : (section behind : List ℕ) (c : Extent) → c.end ≤ length section → is_cie section c ≡ is_cie (section ++ behind) c
-is_cie_joined section behind c le = rw (take_joined section behind c.end le) refl
+is_cie_joined section behind c le = rw (take-append-le c.end section behind le) refl
 
 -- ---- an FDE's rules
 
@@ -121,12 +118,12 @@ Inside section read = (segments : List Segment) (fde : Fde) → counted_fde segm
 pub rules_joined : (section behind : List ℕ) (address : ℕ) (fde : Fde) → FdeIn section fde → rules_of (section ++ behind) address fde ≡ rules_of section address fde
 unfolding rules_of after_fde
 rules_joined section behind address fde inside =
-    ap (λ (r : Result State FrameFault). rules_with fde.cie (r >>= λ initial. continued (Some address) (section ++ behind) fde initial)) (after_cie_joined section behind fde.cie inside.initial)
+    ap (λ (r : Result FrameState FrameFault). rules_with fde.cie (r >>= λ initial. continued (Some address) (section ++ behind) fde initial)) (after_cie_joined section behind fde.cie inside.initial)
     ∙ go (after_cie section fde.cie)
   where
-    go : (r : Result State FrameFault) → rules_with fde.cie (r >>= λ initial. continued (Some address) (section ++ behind) fde initial) ≡ rules_with fde.cie (r >>= λ initial. continued (Some address) section fde initial)
+    go : (r : Result FrameState FrameFault) → rules_with fde.cie (r >>= λ initial. continued (Some address) (section ++ behind) fde initial) ≡ rules_with fde.cie (r >>= λ initial. continued (Some address) section fde initial)
     go (Err fault) = refl
-    go (Ok initial) = ap (λ (r : Result State FrameFault). rules_with fde.cie r) (continued_joined (Some address) section behind fde initial inside.own)
+    go (Ok initial) = ap (λ (r : Result FrameState FrameFault). rules_with fde.cie r) (continued_joined (Some address) section behind fde initial inside.own)
 
 -- ---- an entry
 
@@ -156,7 +153,7 @@ cie_kept section behind e input (Some cie) read is le made =
     let ran = bind_ok (after_cie section cie) _ read made in
     kept_as section (checked_cie (section ++ behind) (Some cie)) _ read ran.2 (rw (after_cie_joined section behind cie (omega arith), ran.1) refl) (λ segments fde c. none_counted section fde c)
 
-checked_kept : (section behind : List ℕ) (fde : Fde) (r : Result State FrameFault) (read : Entry) → FdeIn section fde → checked_fde section fde r ≡ Ok read → Kept section (checked_fde (section ++ behind) fde r) read
+checked_kept : (section behind : List ℕ) (fde : Fde) (r : Result FrameState FrameFault) (read : Entry) → FdeIn section fde → checked_fde section fde r ≡ Ok read → Kept section (checked_fde (section ++ behind) fde r) read
 checked_kept section behind fde (Err fault) read inside made =
     kept_as section (checked_fde (section ++ behind) fde (Err fault)) _ read made refl (λ segments f c. one_counted section (counts segments fde.initial_location (fde.initial_location + fde.address_range)) fde f inside c)
 checked_kept section behind fde (Ok initial) read inside made =

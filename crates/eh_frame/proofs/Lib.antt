@@ -1,4 +1,5 @@
 pub mod Listed
+pub mod Room
 pub mod Entries
 pub mod Bounds
 pub mod ReadBack

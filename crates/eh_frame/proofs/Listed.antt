@@ -6,6 +6,7 @@ use Rattle.std.proofs.lemmas.Bool.Decides.{nat_tests}
 use Rattle.std.proofs.lemmas.List.{append-nil}
 use Rattle.std.proofs.lemmas.List.Concat.{flat_map-append}
 use Rattle.std.proofs.lemmas.Bool.{eq-eqb}
+use Rattle.std.specs.Option.{ok_or}
 use Rattle.prof_bytes.specs.Outcome.{◌>>=◌, FailsBy, Gives, viewed}
 use Rattle.prof_bytes.specs.Reading.{left_of}
 use Rattle.prof_bytes.specs.Fields.{Input, number_from}
@@ -18,8 +19,8 @@ use Rattle.cfi_table.specs.declared.instruction.AlignmentFactors.{AlignmentFacto
 use Rattle.cfi_table.specs.declared.instruction.CallFrameInstruction.{CallFrameInstruction}
 use Rattle.cfi_table.specs.declared.instruction.CallFrameInstruction.TheVariants as instructions
 use Rattle.cfi_table.specs.declared.rules.Rule.{Rule}
-use Rattle.cfi_table.specs.Instructions.{Reading, opcode_then}
-use Rattle.cfi_table.specs.Rules.{State, execute, or_fault, instruction_fault, no_rules, all_same_value}
+use Rattle.cfi_table.specs.Instructions.{Reading, instruction_after_opcode}
+use Rattle.cfi_table.specs.Rules.{FrameState, execute, fault_here, no_rules, all_same_value}
 use Rattle.cfi_table.specs.Entries.{instructions_of}
 use Rattle.cfi_table.specs.private.Checking.{CfaForms, no_forms, forms_of, execute_forms}
 use Rattle.cfi_table.proofs.Forms.{execute_as_forms}
@@ -44,7 +45,7 @@ address_moves a input = binds input (number_from 4 input) _ (number_moves 4 inpu
 pub eh_instruction_moves : (a : Addresses) (f : AlignmentFactors) (input next : Input FrameFault) (i : CallFrameInstruction) → eh_instruction_from a f input ≡ Ok (i, next) → (next.at.whole ≡ input.at.whole) × (input.at.offset < next.at.offset)
 unfolding eh_instruction_from
 eh_instruction_moves a f input next i e =
-    behind_byte (λ byte. cond (byte.0 == DW_CFA_set_loc) (address_from a byte.1 >>= λ to. (let r : Reading CallFrameInstruction = Ok (instructions.SetLoc to.0, to.1) in r)) (opcode_then f byte.0 byte.1)) input next i
+    behind_byte (λ byte. cond (byte.0 == DW_CFA_set_loc) (address_from a byte.1 >>= λ to. (let r : Reading CallFrameInstruction = Ok (instructions.SetLoc to.0, to.1) in r)) (instruction_after_opcode f byte.0 byte.1)) input next i
     (λ n mid. either mid (n == DW_CFA_set_loc) _ _ (binds mid (address_from a mid) _ (address_moves a mid) (λ to. stays to.1)) (opcode_moves f n mid)) e
 
 -- what a step carried out
@@ -54,7 +55,7 @@ unfolding eh_step_by
 step_ran {S} x a f input next i s t e = let read = bind_ok (eh_instruction_from a f (marked input)) _ ((i, t), next) e in executed read.0 (x read.0.0 s) read.1 refl read.2
   where
     executed : (j : CallFrameInstruction × Input FrameFault) (o : Option S) → eh_instruction_from a f (marked input) ≡ Ok j → x j.0 s ≡ o
-        → (or_fault (instruction_fault input) o >>= λ u. (let r : Reading (CallFrameInstruction × S) = Ok ((j.0, u), j.1) in r)) ≡ Ok ((i, t), next) → (eh_instruction_from a f (marked input) ≡ Ok (i, next)) × (x i s ≡ Some t)
+        → (ok_or o (fault_here input) >>= λ u. (let r : Reading (CallFrameInstruction × S) = Ok ((j.0, u), j.1) in r)) ≡ Ok ((i, t), next) → (eh_instruction_from a f (marked input) ≡ Ok (i, next)) × (x i s ≡ Some t)
     executed j None read ran e = absurd cc
     executed j (Some u) read ran e =
         let P : (CallFrameInstruction × S) × Input FrameFault → Type 0 = λ p. (eh_instruction_from a f (marked input) ≡ Ok (p.0.0, p.1)) × (x p.0.0 s ≡ Some p.0.1) in
@@ -70,7 +71,7 @@ shortens x a f input next i s t some is = let moves = step_moves x a f input nex
 
 -- ---- a list by its first step
 
-list_end : {S : Type 0} (x : CallFrameInstruction → S → Option S) (m : ℕ) (a : Addresses) (f : AlignmentFactors) (input : Input FrameFault) (s : S) → length (left_of input.at) ≡ 0 → listed_by x m a f input s ≡ Ok ([], s)
+pub list_end : {S : Type 0} (x : CallFrameInstruction → S → Option S) (m : ℕ) (a : Addresses) (f : AlignmentFactors) (input : Input FrameFault) (s : S) → length (left_of input.at) ≡ 0 → listed_by x m a f input s ≡ Ok ([], s)
 unfolding listed_by
 list_end x zero a f input s none = refl
 list_end x (suc m) a f input s none = rw (eq-eqb _ 0 none) refl
@@ -232,99 +233,99 @@ put_short {S} x a f input s t out0 out e = from (listed_by x (length (left_of in
 
 -- ---- the forms say which instruction is at fault
 
-abbrev forms_step : (CallFrameInstruction × State) × Input FrameFault → (CallFrameInstruction × CfaForms) × Input FrameFault
+abbrev forms_step : (CallFrameInstruction × FrameState) × Input FrameFault → (CallFrameInstruction × CfaForms) × Input FrameFault
 forms_step r = ((r.0.0, forms_of r.0.1), r.1)
 
-abbrev pub forms_list : List CallFrameInstruction × State → List CallFrameInstruction × CfaForms
+abbrev pub forms_list : List CallFrameInstruction × FrameState → List CallFrameInstruction × CfaForms
 forms_list r = (r.0, forms_of r.1)
 
-step_as_forms : (initial : List Rule) (a : Addresses) (f : AlignmentFactors) (input : Input FrameFault) (s : State) → viewed forms_step (eh_step_by (execute initial) a f input s) ≡ eh_step_by execute_forms a f input (forms_of s)
+step_as_forms : (initial : List Rule) (a : Addresses) (f : AlignmentFactors) (input : Input FrameFault) (s : FrameState) → viewed forms_step (eh_step_by (execute initial) a f input s) ≡ eh_step_by execute_forms a f input (forms_of s)
 unfolding eh_step_by
-step_as_forms initial a f input s = decoded (eh_instruction_from a f (record input { missing = instruction_fault input }))
+step_as_forms initial a f input s = decoded (eh_instruction_from a f (record input { missing = fault_here input }))
   where
-    after : CallFrameInstruction × Input FrameFault → State → Reading (CallFrameInstruction × State)
+    after : CallFrameInstruction × Input FrameFault → FrameState → Reading (CallFrameInstruction × FrameState)
     after j t = Ok ((j.0, t), j.1)
 
     after_forms : CallFrameInstruction × Input FrameFault → CfaForms → Reading (CallFrameInstruction × CfaForms)
     after_forms j k = Ok ((j.0, k), j.1)
 
-    executed : (j : CallFrameInstruction × Input FrameFault) (o : Option State) → viewed forms_step (or_fault (instruction_fault input) o >>= after j) ≡ (or_fault (instruction_fault input) (option_map forms_of o) >>= after_forms j)
+    executed : (j : CallFrameInstruction × Input FrameFault) (o : Option FrameState) → viewed forms_step (ok_or o (fault_here input) >>= after j) ≡ (ok_or (option_map forms_of o) (fault_here input) >>= after_forms j)
     executed j None = refl
     executed j (Some t) = refl
 
     decoded : (r : Reading CallFrameInstruction)
-        → viewed forms_step (r >>= λ j. or_fault (instruction_fault input) (execute initial j.0 s) >>= after j) ≡ (r >>= λ j. or_fault (instruction_fault input) (execute_forms j.0 (forms_of s)) >>= after_forms j)
+        → viewed forms_step (r >>= λ j. ok_or (execute initial j.0 s) (fault_here input) >>= after j) ≡ (r >>= λ j. ok_or (execute_forms j.0 (forms_of s)) (fault_here input) >>= after_forms j)
     decoded (Err fault) = refl
-    decoded (Ok j) = executed j (execute initial j.0 s) ∙ ap (λ (o : Option CfaForms). or_fault (instruction_fault input) o >>= after_forms j) (execute_as_forms initial j.0 s)
+    decoded (Ok j) = executed j (execute initial j.0 s) ∙ ap (λ (o : Option CfaForms). ok_or o (fault_here input) >>= after_forms j) (execute_as_forms initial j.0 s)
 
-pub list_as_forms : (m : ℕ) (initial : List Rule) (a : Addresses) (f : AlignmentFactors) (input : Input FrameFault) (s : State) → viewed forms_list (listed_by (execute initial) m a f input s) ≡ listed_by execute_forms m a f input (forms_of s)
+pub list_as_forms : (m : ℕ) (initial : List Rule) (a : Addresses) (f : AlignmentFactors) (input : Input FrameFault) (s : FrameState) → viewed forms_list (listed_by (execute initial) m a f input s) ≡ listed_by execute_forms m a f input (forms_of s)
 unfolding listed_by
 list_as_forms zero initial a f input s = refl
 list_as_forms (suc m) initial a f input s = go (length (left_of input.at) == 0) (eh_step_by (execute initial) a f input s) (eh_step_by execute_forms a f input (forms_of s)) (step_as_forms initial a f input s) (λ next t. list_as_forms m initial a f next t)
   where
     Same : Type 0
-    Same = (next : Input FrameFault) (t : State) → viewed forms_list (listed_by (execute initial) m a f next t) ≡ listed_by execute_forms m a f next (forms_of t)
+    Same = (next : Input FrameFault) (t : FrameState) → viewed forms_list (listed_by (execute initial) m a f next t) ≡ listed_by execute_forms m a f next (forms_of t)
 
-    one : (i : CallFrameInstruction) (r : Result (List CallFrameInstruction × State) FrameFault) → viewed forms_list (before_all i r) ≡ before_all i (viewed forms_list r)
+    one : (i : CallFrameInstruction) (r : Result (List CallFrameInstruction × FrameState) FrameFault) → viewed forms_list (before_all i r) ≡ before_all i (viewed forms_list r)
     one i (Ok r) = refl
     one i (Err fault) = refl
 
-    steps : (r : Reading (CallFrameInstruction × State)) → Same
+    steps : (r : Reading (CallFrameInstruction × FrameState)) → Same
         → viewed forms_list (r >>= λ done. before_all done.0.0 (listed_by (execute initial) m a f done.1 done.0.1)) ≡ (viewed forms_step r >>= λ done. before_all done.0.0 (listed_by execute_forms m a f done.1 done.0.1))
     steps (Err fault) same = refl
     steps (Ok t) same = one t.0.0 (listed_by (execute initial) m a f t.1 t.0.1) ∙ ap (λ (r : Result (List CallFrameInstruction × CfaForms) FrameFault). before_all t.0.0 r) (same t.1 t.0.1)
 
-    go : (b : Bool) (r : Reading (CallFrameInstruction × State)) (q : Reading (CallFrameInstruction × CfaForms)) → viewed forms_step r ≡ q → Same
+    go : (b : Bool) (r : Reading (CallFrameInstruction × FrameState)) (q : Reading (CallFrameInstruction × CfaForms)) → viewed forms_step r ≡ q → Same
         → viewed forms_list (cond b (Ok ([], s)) (r >>= λ done. before_all done.0.0 (listed_by (execute initial) m a f done.1 done.0.1))) ≡ cond b (Ok ([], forms_of s)) (q >>= λ done. before_all done.0.0 (listed_by execute_forms m a f done.1 done.0.1))
     go true r q e same = refl
     go false r q e same = steps r same ∙ ap (λ (p : Reading (CallFrameInstruction × CfaForms)). p >>= λ done. before_all done.0.0 (listed_by execute_forms m a f done.1 done.0.1)) e
 
 -- what the checker put is what the rules list
-pub put_as_forms : (initial : List Rule) (a : Addresses) (f : AlignmentFactors) (input : Input FrameFault) (s : State) (out : List ℕ) → viewed (λ (r : List CallFrameInstruction × State). out ++ flat_map encoded r.0) (listed_instructions initial a f input s)
+pub put_as_forms : (initial : List Rule) (a : Addresses) (f : AlignmentFactors) (input : Input FrameFault) (s : FrameState) (out : List ℕ) → viewed (λ (r : List CallFrameInstruction × FrameState). out ++ flat_map encoded r.0) (listed_instructions initial a f input s)
     ≡ viewed (λ (p : List ℕ × CfaForms). p.0) (viewed (put_behind out) (listed_forms a f input (forms_of s)))
 put_as_forms initial a f input s out =
     seen (listed_instructions initial a f input s)
     ∙ ap (λ (r : Result (List CallFrameInstruction × CfaForms) FrameFault). viewed (λ (p : List ℕ × CfaForms). p.0) (viewed (put_behind out) r)) (list_as_forms (length (left_of input.at)) initial a f input s)
   where
-    seen : (r : Result (List CallFrameInstruction × State) FrameFault) → viewed (λ (r : List CallFrameInstruction × State). out ++ flat_map encoded r.0) r ≡ viewed (λ (p : List ℕ × CfaForms). p.0) (viewed (put_behind out) (viewed forms_list r))
+    seen : (r : Result (List CallFrameInstruction × FrameState) FrameFault) → viewed (λ (r : List CallFrameInstruction × FrameState). out ++ flat_map encoded r.0) r ≡ viewed (λ (p : List ℕ × CfaForms). p.0) (viewed (put_behind out) (viewed forms_list r))
     seen (Ok r) = refl
     seen (Err fault) = refl
 
 -- where the checker ended well, so do the rules, with the same forms
-pub ends_as_forms : (initial : List Rule) (a : Addresses) (f : AlignmentFactors) (input : Input FrameFault) (s : State) (out : List ℕ) (p : List ℕ × CfaForms) → viewed (put_behind out) (listed_forms a f input (forms_of s)) ≡ Ok p
-    → (r : List CallFrameInstruction × State) × (listed_instructions initial a f input s ≡ Ok r) × (p.1 ≡ forms_of r.1)
+pub ends_as_forms : (initial : List Rule) (a : Addresses) (f : AlignmentFactors) (input : Input FrameFault) (s : FrameState) (out : List ℕ) (p : List ℕ × CfaForms) → viewed (put_behind out) (listed_forms a f input (forms_of s)) ≡ Ok p
+    → (r : List CallFrameInstruction × FrameState) × (listed_instructions initial a f input s ≡ Ok r) × (p.1 ≡ forms_of r.1)
 ends_as_forms initial a f input s out p e = from (listed_instructions initial a f input s) refl (ap (λ (r : Result (List CallFrameInstruction × CfaForms) FrameFault). viewed (put_behind out) r) (list_as_forms (length (left_of input.at)) initial a f input s) ∙ e)
   where
     same : (p q : List ℕ × CfaForms) → (let r : Result (List ℕ × CfaForms) FrameFault = Ok p in r) ≡ Ok q → q.1 ≡ p.1
     same p q e = cc
 
-    from : (r : Result (List CallFrameInstruction × State) FrameFault) → listed_instructions initial a f input s ≡ r → viewed (put_behind out) (viewed forms_list r) ≡ Ok p → (r : List CallFrameInstruction × State) × (listed_instructions initial a f input s ≡ Ok r) × (p.1 ≡ forms_of r.1)
+    from : (r : Result (List CallFrameInstruction × FrameState) FrameFault) → listed_instructions initial a f input s ≡ r → viewed (put_behind out) (viewed forms_list r) ≡ Ok p → (r : List CallFrameInstruction × FrameState) × (listed_instructions initial a f input s ≡ Ok r) × (p.1 ≡ forms_of r.1)
     from (Err fault) is e = absurd cc
     from (Ok r) is e = (r, is, same (put_behind out (forms_list r)) p e)
 
 -- ---- what the checker puts, as the definitions have it
 
-put_seen : (initial : List Rule) (a : Addresses) (f : AlignmentFactors) (input : Input FrameFault) (s : State) (out after : List ℕ) (k : CfaForms) (r : Result (Unit {0}) (Fail FrameFault)) → Gives (λ done. (after, k)) r (viewed (put_behind out) (listed_forms a f input (forms_of s)))
-    → Gives (λ done. after) r (viewed (λ (r : List CallFrameInstruction × State). out ++ flat_map encoded r.0) (listed_instructions initial a f input s))
+put_seen : (initial : List Rule) (a : Addresses) (f : AlignmentFactors) (input : Input FrameFault) (s : FrameState) (out after : List ℕ) (k : CfaForms) (r : Result (Unit {0}) (Fail FrameFault)) → Gives (λ done. (after, k)) r (viewed (put_behind out) (listed_forms a f input (forms_of s)))
+    → Gives (λ done. after) r (viewed (λ (r : List CallFrameInstruction × FrameState). out ++ flat_map encoded r.0) (listed_instructions initial a f input s))
 put_seen initial a f input s out after k r e =
     let P : Result (List ℕ) FrameFault → Type 0 = λ w. Gives (λ (done : Unit {0}). after) r w in
     subst P (sym (put_as_forms initial a f input s out))
     (gives_viewed (λ (done : Unit {0}). (after, k)) (λ (p : List ℕ × CfaForms). p.0) r (viewed (put_behind out) (listed_forms a f input (forms_of s))) e)
 
-pub own_gives : (address : ℕ) (cie : EhCie) (start : ℕ) (input : Input FrameFault) (initial : State) (k0 k : CfaForms) (out after : List ℕ) (r : Result (Unit {0}) (Fail FrameFault)) → k0 ≡ forms_of initial
+pub own_gives : (address : ℕ) (cie : EhCie) (start : ℕ) (input : Input FrameFault) (initial : FrameState) (k0 k : CfaForms) (out after : List ℕ) (r : Result (Unit {0}) (Fail FrameFault)) → k0 ≡ forms_of initial
     → Gives (λ done. (after, k)) r (viewed (put_behind out) (listed_forms (addresses_of address cie) cie.factors input k0))
-    → Gives (λ done. after) r (viewed (λ (r : List CallFrameInstruction × State). out ++ flat_map encoded r.0) (fde_instructions address cie start input initial))
+    → Gives (λ done. after) r (viewed (λ (r : List CallFrameInstruction × FrameState). out ++ flat_map encoded r.0) (fde_instructions address cie start input initial))
 own_gives address cie start input initial k0 k out after r same e =
     let P : CfaForms → Type 0 = λ x. Gives (λ (done : Unit {0}). (after, k)) r (viewed (put_behind out) (listed_forms (addresses_of address cie) cie.factors input x)) in
     put_seen initial.regs (addresses_of address cie) cie.factors input (record initial { location = start }) out after k r (subst P same e)
 
 pub cie_gives : (section : List ℕ) (address : ℕ) (cie : EhCie) (out after : List ℕ) (k : CfaForms) (r : Result (Unit {0}) (Fail FrameFault))
     → Gives (λ done. (after, k)) r (viewed (put_behind out) (listed_forms (addresses_of address cie) cie.factors (instructions_of section cie.initial_instructions) no_forms))
-    → Gives (λ done. after) r (viewed (λ (r : List CallFrameInstruction × State). out ++ flat_map encoded r.0) (cie_instructions section address cie))
+    → Gives (λ done. after) r (viewed (λ (r : List CallFrameInstruction × FrameState). out ++ flat_map encoded r.0) (cie_instructions section address cie))
 unfolding cie_instructions
 cie_gives section address cie out after k r e = put_seen all_same_value (addresses_of address cie) cie.factors (instructions_of section cie.initial_instructions) no_rules out after k r e
 
 pub cie_ends : (section : List ℕ) (address : ℕ) (cie : EhCie) (out : List ℕ) (p : List ℕ × CfaForms) → viewed (put_behind out) (listed_forms (addresses_of address cie) cie.factors (instructions_of section cie.initial_instructions) no_forms) ≡ Ok p
-    → (r : List CallFrameInstruction × State) × (cie_instructions section address cie ≡ Ok r) × (p.1 ≡ forms_of r.1)
+    → (r : List CallFrameInstruction × FrameState) × (cie_instructions section address cie ≡ Ok r) × (p.1 ≡ forms_of r.1)
 unfolding cie_instructions
 cie_ends section address cie out p e = ends_as_forms all_same_value (addresses_of address cie) cie.factors (instructions_of section cie.initial_instructions) no_rules out p e

@@ -11,9 +11,9 @@ use Rattle.prof_bytes.specs.Fields.{Input, taken, number_from, uleb_from}
 use Rattle.cfi_table.specs.declared.fault.FrameFault.{FrameFault}
 use Rattle.cfi_table.specs.declared.instruction.CallFrameInstruction.{CallFrameInstruction}
 use Rattle.cfi_table.specs.declared.instruction.CallFrameInstruction.TheVariants as instructions
-use Rattle.cfi_table.specs.Instructions.{Reading, low_32_bits, scaled, offset_from, factored_from, block_from, cfa_from, rule_from, register_rule_from, extended_from, opcode_then, instruction_from}
+use Rattle.cfi_table.specs.Instructions.{Reading, low_32_bits, scaled, offset_from, factored_from, block_from, cfa_from, rule_from, register_rule_from, extended_from, instruction_after_opcode, instruction_from}
 use Rattle.eh_frame.specs.Translation.{register_byte, offset_bytes, encoded}
-use Rattle.eh_frame.specs.Laws.{ones, HasWordOperands, kept_register, Reads, InstructionsReadBack}
+use Rattle.eh_frame.specs.Laws.{ones, HasWordOperands, kept_register, ReadsBack, InstructionsReadBack}
 
 -- ---- an input further on
 
@@ -110,13 +110,13 @@ block_found input rest is =
 abbrev second : Input FrameFault → Input FrameFault
 second input = on 1 input
 
-alone : (op : ℕ) (i : CallFrameInstruction) (input : Input FrameFault) (rest : List ℕ) → left_of input.at ≡ op ∷ rest → opcode_then ones op (second input) ≡ Ok (i, second input) → Reads i input rest
+alone : (op : ℕ) (i : CallFrameInstruction) (input : Input FrameFault) (rest : List ℕ) → left_of input.at ≡ op ∷ rest → instruction_after_opcode ones op (second input) ≡ Ok (i, second input) → ReadsBack i input rest
 unfolding instruction_from
 alone op i input rest is then = (second input, rw (byte_read input op rest is, then) refl, behind input (op ∷ []) rest is)
 
 with_one : (op n : ℕ) (make : ℕ → CallFrameInstruction) (reader : Input FrameFault → Reading ℕ) (input : Input FrameFault) (tail rest : List ℕ) → left_of input.at ≡ op ∷ tail
-    → opcode_then ones op (second input) ≡ (reader (second input) >>= λ o. (let u : Reading CallFrameInstruction = Ok (make o.0, o.1) in u))
-    → (left_of (second input).at ≡ tail → Finds reader (second input) n rest) → Reads (make n) input rest
+    → instruction_after_opcode ones op (second input) ≡ (reader (second input) >>= λ o. (let u : Reading CallFrameInstruction = Ok (make o.0, o.1) in u))
+    → (left_of (second input).at ≡ tail → Finds reader (second input) n rest) → ReadsBack (make n) input rest
 unfolding instruction_from
 with_one op n make reader input tail rest is then finds =
     let found = finds (behind input (op ∷ []) tail is) in
@@ -124,21 +124,21 @@ with_one op n make reader input tail rest is then finds =
 
 -- a register, and another operand
 with_two : (op register n : ℕ) (make : ℕ → ℕ → CallFrameInstruction) (reader : Input FrameFault → Reading ℕ) (input : Input FrameFault) (tail rest : List ℕ) → left_of input.at ≡ op ∷ register_byte register ∷ tail
-    → opcode_then ones op (second input) ≡ (uleb_from (second input) >>= λ r. reader r.1 >>= λ o. (let u : Reading CallFrameInstruction = Ok (make r.0 o.0, o.1) in u))
-    → ((input : Input FrameFault) → left_of input.at ≡ tail → Finds reader input n rest) → Reads (make (register_byte register) n) input rest
+    → instruction_after_opcode ones op (second input) ≡ (uleb_from (second input) >>= λ r. reader r.1 >>= λ o. (let u : Reading CallFrameInstruction = Ok (make r.0 o.0, o.1) in u))
+    → ((input : Input FrameFault) → left_of input.at ≡ tail → Finds reader input n rest) → ReadsBack (make (register_byte register) n) input rest
 unfolding instruction_from
 with_two op register n make reader input tail rest is then finds =
     let first = register_found (second input) register tail (behind input (op ∷ []) (register_byte register ∷ tail) is) in
     let found = finds first.0 first.2 in
     (found.0, rw (byte_read input op (register_byte register ∷ tail) is, then, first.1, found.1) refl, found.2)
 
-pub instruction_read : (i : CallFrameInstruction) (input : Input FrameFault) (rest : List ℕ) → HasWordOperands i → left_of input.at ≡ encoded i ++ rest → Reads (kept_register i) input rest
-unfolding opcode_then extended_from cfa_from register_rule_from rule_from
+pub instruction_read : (i : CallFrameInstruction) (input : Input FrameFault) (rest : List ℕ) → HasWordOperands i → left_of input.at ≡ encoded i ++ rest → ReadsBack (kept_register i) input rest
+unfolding instruction_after_opcode extended_from cfa_from register_rule_from rule_from
 instruction_read instructions.Nop input rest words is = alone 0 instructions.Nop input rest is refl
 instruction_read (instructions.SetLoc address) input rest words is = with_one 1 address instructions.SetLoc (λ i. number_from 4 i) input _ rest is refl (word_found (second input) address rest words)
 instruction_read (instructions.AdvanceLoc delta) input rest words is =
     let same : scaled delta 1 ≡ delta = omega arith in
-    subst (λ (n : ℕ). Reads (instructions.AdvanceLoc n) input rest) same (with_one 4 delta (λ n. instructions.AdvanceLoc (scaled n 1)) (λ i. number_from 4 i) input _ rest is refl (word_found (second input) delta rest words))
+    subst (λ (n : ℕ). ReadsBack (instructions.AdvanceLoc n) input rest) same (with_one 4 delta (λ n. instructions.AdvanceLoc (scaled n 1)) (λ i. number_from 4 i) input _ rest is refl (word_found (second input) delta rest words))
 instruction_read (instructions.DefCfa register offset) input rest words is = with_two 12 register offset instructions.DefCfa offset_from input _ rest is refl (λ i. offset_found i offset rest words)
 instruction_read (instructions.DefCfaRegister register) input rest words is = with_one 13 (register_byte register) instructions.DefCfaRegister uleb_from input _ rest is refl (register_found (second input) register rest)
 instruction_read (instructions.DefCfaOffset offset) input rest words is = with_one 14 offset instructions.DefCfaOffset offset_from input _ rest is refl (offset_found (second input) offset rest words)

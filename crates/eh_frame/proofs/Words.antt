@@ -1,5 +1,5 @@
 -- The addresses, steps and offsets of instructions that are read have 32 bits.
-use Rattle.std.proofs.Common.{◌≡◌, ℕ, zero, suc, ◌+◌, ◌/◌, ◌%◌, ◌<◌, ◌^◌, Bool, true, false, cond, List, [], ◌∷◌, length, take, Some, None, Result, Ok, Err, refl, subst, arith}
+use Rattle.std.proofs.Common.{◌≡◌, ℕ, zero, suc, ◌+◌, ◌<◌, ◌^◌, Bool, true, false, cond, List, [], ◌∷◌, length, take, Some, None, Result, Ok, Err, refl, subst, arith}
 use Rattle.std.specs.Prelude.{ℤ, ◌*◌, ◌==◌, All, IfOk, nat_lt}
 use Rattle.std.proofs.Math.Nat.{mod-lt}
 use Rattle.std.proofs.lemmas.List.{get_or-drop}
@@ -23,8 +23,8 @@ use Rattle.cfi_table.specs.declared.instruction.CallFrameInstruction.TheVariants
 use Rattle.cfi_table.specs.declared.instruction.AlignmentFactors.{AlignmentFactors}
 use Rattle.cfi_table.specs.declared.rules.Rule.{Rule}
 use Rattle.cfi_table.specs.Instructions.{Reading, scaled, low_32_bits, word_of_signed, offset_from, factored_from, factored_sf_from, block_from, cfa_from, rule_from, is_rule}
-use Rattle.cfi_table.specs.Instructions.{register_rule_from, extended_from, opcode_then}
-use Rattle.cfi_table.specs.Rules.{State, execute}
+use Rattle.cfi_table.specs.Instructions.{register_rule_from, extended_from, primary_opcode, primary_operand, instruction_after_opcode}
+use Rattle.cfi_table.specs.Rules.{FrameState, execute}
 use Rattle.cfi_table.proofs.Chains.{marked}
 use Rattle.eh_frame.specs.declared.address.Addresses.{Addresses}
 use Rattle.eh_frame.specs.declared.address.Application.{Application}
@@ -155,24 +155,24 @@ extended_words f opcode input are =
     (either (opcode == DW_CFA_GNU_args_size) _ _ (of_any (uleb_from input) _ (λ n. tt))
     (either (is_rule opcode) _ _ (register_rule_words f opcode input) (cfa_words f opcode input))))))))))
 
-opcode_words : (f : AlignmentFactors) (byte : ℕ) (input : Input FrameFault) → IsBytes input.at.whole → AllWords (opcode_then f byte input)
-unfolding opcode_then
+opcode_words : (f : AlignmentFactors) (byte : ℕ) (input : Input FrameFault) → IsBytes input.at.whole → AllWords (instruction_after_opcode f byte input)
+unfolding instruction_after_opcode
 opcode_words f byte input are =
-    either (byte / 64 == DW_CFA_advance_loc / 64) _ _ (scaled_small (byte % 64) f.code_alignment_factor)
-    (either (byte / 64 == DW_CFA_offset / 64) _ _ (rule_words f DW_CFA_offset_extended (byte % 64) input)
-    (either (byte / 64 == DW_CFA_restore / 64) _ _ tt (extended_words f byte input are)))
+    either (primary_opcode byte == DW_CFA_advance_loc) _ _ (scaled_small (primary_operand byte) f.code_alignment_factor)
+    (either (primary_opcode byte == DW_CFA_offset) _ _ (rule_words f DW_CFA_offset_extended (primary_operand byte) input)
+    (either (primary_opcode byte == DW_CFA_restore) _ _ tt (extended_words f byte input are)))
 
 instruction_words : (a : Addresses) (f : AlignmentFactors) (input : Input FrameFault) → IsBytes input.at.whole → AllWords (eh_instruction_from a f input)
 unfolding eh_instruction_from
 instruction_words a f input are = from (nat_lt (length (left_of input.at)) 1) (number_in 1 (left_of input.at))
   where
     by : (b : Bool) (n : ℕ) (mid : Input FrameFault) → IsBytes mid.at.whole
-        → AllWords (cond b (address_from a mid >>= λ to. (let r : Reading CallFrameInstruction = Ok (instructions.SetLoc to.0, to.1) in r)) (opcode_then f n mid))
+        → AllWords (cond b (address_from a mid >>= λ to. (let r : Reading CallFrameInstruction = Ok (instructions.SetLoc to.0, to.1) in r)) (instruction_after_opcode f n mid))
     by true n mid bytes = of_small (address_from a mid) _ (address_small a mid bytes) (λ to small. small)
     by false n mid bytes = opcode_words f n mid bytes
 
     from : (b : Bool) (n : ℕ)
-        → AllWords (taken input (cond b None (Some (n, 1))) >>= λ byte. cond (byte.0 == DW_CFA_set_loc) (address_from a byte.1 >>= λ to. (let r : Reading CallFrameInstruction = Ok (instructions.SetLoc to.0, to.1) in r)) (opcode_then f byte.0 byte.1))
+        → AllWords (taken input (cond b None (Some (n, 1))) >>= λ byte. cond (byte.0 == DW_CFA_set_loc) (address_from a byte.1 >>= λ to. (let r : Reading CallFrameInstruction = Ok (instructions.SetLoc to.0, to.1) in r)) (instruction_after_opcode f byte.0 byte.1))
     from true n = tt
     from false n = by (n == DW_CFA_set_loc) n (record { at = record { whole = input.at.whole; offset = input.at.offset + 1 }; missing = input.missing }) are
 
@@ -188,18 +188,18 @@ all_more i is words all (suc k) d lt = all k d (omega arith)
 same_instruction : (p q : CallFrameInstruction × Input FrameFault) → (let u : Reading CallFrameInstruction = Ok p in u) ≡ Ok q → p ≡ q
 same_instruction p q e = cc
 
-abbrev ListWords : Result (List CallFrameInstruction × State) FrameFault → Type 0
+abbrev ListWords : Result (List CallFrameInstruction × FrameState) FrameFault → Type 0
 ListWords r = IfOk r (λ x. All HasWordOperands x.0)
 
-listed_words : (initial : List Rule) (room : ℕ) (a : Addresses) (f : AlignmentFactors) (input : Input FrameFault) (s : State) → IsBytes input.at.whole → ListWords (listed_by (execute initial) room a f input s)
+listed_words : (initial : List Rule) (room : ℕ) (a : Addresses) (f : AlignmentFactors) (input : Input FrameFault) (s : FrameState) → IsBytes input.at.whole → ListWords (listed_by (execute initial) room a f input s)
 unfolding listed_by
 listed_words initial zero a f input s are = all_none
 listed_words initial (suc room) a f input s are = go (length (left_of input.at) == 0) (eh_step_by (execute initial) a f input s) refl (λ next t bytes. listed_words initial room a f next t bytes)
   where
     Again : Type 0
-    Again = (next : Input FrameFault) (t : State) → IsBytes next.at.whole → ListWords (listed_by (execute initial) room a f next t)
+    Again = (next : Input FrameFault) (t : FrameState) → IsBytes next.at.whole → ListWords (listed_by (execute initial) room a f next t)
 
-    one : (i : CallFrameInstruction) (r : Result (List CallFrameInstruction × State) FrameFault) → HasWordOperands i → ListWords r → ListWords (before_all i r)
+    one : (i : CallFrameInstruction) (r : Result (List CallFrameInstruction × FrameState) FrameFault) → HasWordOperands i → ListWords r → ListWords (before_all i r)
     one i (Err fault) words all = tt
     one i (Ok r) words all = all_more i r.0 words all
 
@@ -207,16 +207,16 @@ listed_words initial (suc room) a f input s are = go (length (left_of input.at) 
     has i next (Err fault) is words = absurd cc
     has i next (Ok j) is words = let P : CallFrameInstruction × Input FrameFault → Type 0 = λ k. HasWordOperands k.0 in subst P (same_instruction j (i, next) is) words
 
-    stepped : (d : Reading (CallFrameInstruction × State)) → eh_step_by (execute initial) a f input s ≡ d → Again → ListWords (d >>= λ done. before_all done.0.0 (listed_by (execute initial) room a f done.1 done.0.1))
+    stepped : (d : Reading (CallFrameInstruction × FrameState)) → eh_step_by (execute initial) a f input s ≡ d → Again → ListWords (d >>= λ done. before_all done.0.0 (listed_by (execute initial) room a f done.1 done.0.1))
     stepped (Err fault) is again = tt
     stepped (Ok done) is again =
         let moves = step_moves (execute initial) a f input done.1 done.0.0 s done.0.1 is in
         let ran = step_ran (execute initial) a f input done.1 done.0.0 s done.0.1 is in
         one done.0.0 (listed_by (execute initial) room a f done.1 done.0.1) (has done.0.0 done.1 (eh_instruction_from a f (marked input)) ran.0 (instruction_words a f (marked input) are)) (again done.1 done.0.1 (rw moves.0 are))
 
-    go : (b : Bool) (d : Reading (CallFrameInstruction × State)) → eh_step_by (execute initial) a f input s ≡ d → Again → ListWords (cond b (Ok ([], s)) (d >>= λ done. before_all done.0.0 (listed_by (execute initial) room a f done.1 done.0.1)))
+    go : (b : Bool) (d : Reading (CallFrameInstruction × FrameState)) → eh_step_by (execute initial) a f input s ≡ d → Again → ListWords (cond b (Ok ([], s)) (d >>= λ done. before_all done.0.0 (listed_by (execute initial) room a f done.1 done.0.1)))
     go true d is again = all_none
     go false d is again = stepped d is again
 
-pub words_of : (initial : List Rule) (room : ℕ) (a : Addresses) (f : AlignmentFactors) (input : Input FrameFault) (s : State) (r : List CallFrameInstruction × State) → IsBytes input.at.whole → listed_by (execute initial) room a f input s ≡ Ok r → All HasWordOperands r.0
-words_of initial room a f input s r are is = let P : Result (List CallFrameInstruction × State) FrameFault → Type 0 = λ x. ListWords x in subst P is (listed_words initial room a f input s are)
+pub words_of : (initial : List Rule) (room : ℕ) (a : Addresses) (f : AlignmentFactors) (input : Input FrameFault) (s : FrameState) (r : List CallFrameInstruction × FrameState) → IsBytes input.at.whole → listed_by (execute initial) room a f input s ≡ Ok r → All HasWordOperands r.0
+words_of initial room a f input s r are is = let P : Result (List CallFrameInstruction × FrameState) FrameFault → Type 0 = λ x. ListWords x in subst P is (listed_words initial room a f input s are)

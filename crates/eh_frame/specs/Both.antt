@@ -1,4 +1,4 @@
--- The frames of both sections: those of `.debug_frame`, and behind them those of `.eh_frame` (DWARF 5, section 6.4;
+-- The frames of both sections: those of `.debug_frame`, and after them those of `.eh_frame` (DWARF 5, section 6.4;
 -- LSB, core specification, "Exception Frames").
 use Rattle.std.specs.Prelude.{ℕ, ◌+◌, List, ◌++◌, length, map, find, Option, Some, None, option_map, Result, Ok, Err}
 use Rattle.std.specs.Prelude.{if◌then◌else◌}
@@ -12,7 +12,7 @@ use Rattle.elf_image.specs.Image.{counts}
 use Rattle.cfi_table.specs.declared.fault.FrameFault.{FrameFault}
 use Rattle.cfi_table.specs.declared.fde.Fde.{Fde}
 use Rattle.cfi_table.specs.declared.rules.Rules.{Rules}
-use Rattle.cfi_table.specs.Rules.{State, no_rules, all_same_value}
+use Rattle.cfi_table.specs.Rules.{FrameState, no_rules, all_same_value}
 use Rattle.cfi_table.specs.Frames.{Frames, frames_of, fde_range, rules_of}
 use Rattle.eh_frame.specs.declared.fault.EhFault.{EhFault}
 use Rattle.eh_frame.specs.declared.cie.EhCie.{EhCie}
@@ -39,7 +39,7 @@ frames_with_eh debug_frame eh_frame address segments = do
   bytes ← in_eh_frame (translation eh_frame address (length debug_frame))
   in_debug_frame (frames_of (debug_frame ++ bytes) segments)
 
--- ---- as two sections, without the translation: the frame descriptions of the one, and behind them those of the other
+-- ---- as two sections, without the translation: the frame descriptions of the one, and after them those of the other
 
 -- a frame description: its addresses, and the rules at each of them (DWARF 5, section 6.4.3)
 pub record FrameDescription : Type 0 where
@@ -50,12 +50,12 @@ pub record FrameDescription : Type 0 where
 abbrev pub described : List ℕ → Fde → FrameDescription
 described section fde = record { range = fde_range fde; rules = λ address. rules_of section address fde }
 
-abbrev pub eh_rules_with : EhCie → State → Rules
+abbrev pub eh_rules_with : EhCie → FrameState → Rules
 eh_rules_with cie s = record { cfa = s.cfa; regs = s.regs; return_register = cie.return_address_register }
 
 -- the rules after an FDE's instructions, from those after its CIE's instructions and from its start on, up to the first
 -- that moves the location past the address
-abbrev pub eh_rules_from : ℕ → EhFde → State → Option Rules
+abbrev pub eh_rules_from : ℕ → EhFde → FrameState → Option Rules
 eh_rules_from address fde initial = option_map (eh_rules_with fde.cie)
     (rules_after (Some address) initial.regs fde.instructions (record initial { location = fde.initial_location }))
 
@@ -87,7 +87,7 @@ abbrev pub eh_entries_or_fault : Result (List EhEntry) FrameFault → Result (Li
 eh_entries_or_fault (Ok entries) = Ok entries
 eh_entries_or_fault (Err fault) = Err (sections.EhFrame (record { offset = fault.offset }))
 
--- the frame descriptions of `.debug_frame` and behind them those of `.eh_frame`, whose first byte has that address, in
+-- the frame descriptions of `.debug_frame` and after them those of `.eh_frame`, whose first byte has that address, in
 -- the sections' order; or the first fault: one of `.debug_frame` comes first
 unfoldable pub descriptions_of_both : List ℕ → List ℕ → ℕ → List Segment → Result (List FrameDescription) SectionFault
 descriptions_of_both debug_frame eh_frame address segments = do

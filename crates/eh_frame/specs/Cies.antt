@@ -1,5 +1,5 @@
 -- Common information entries of .eh_frame (LSB, core specification, "The Common Information Entry Format").
-use Rattle.std.specs.Prelude.{ℕ, ℤ, ◌-◌, ◌%◌, ◌==◌, ◌||◌, ◌&&◌, Bool, true, false, nat_lt, List, [], ◌∷◌, length}
+use Rattle.std.specs.Prelude.{ℕ, ℤ, ◌-◌, ◌==◌, ◌||◌, ◌&&◌, Bool, true, false, nat_lt, List, [], ◌∷◌, length}
 use Rattle.std.specs.Prelude.{Option, Some, None, option_map, Result, Ok, Err, if◌then◌else◌}
 use Rattle.std.specs.List.{list_any, list_all}
 use Rattle.prof_bytes.specs.Reading.{left_of, up_to}
@@ -14,7 +14,7 @@ use Rattle.eh_frame.specs.declared.constants.TheConstants.{LETTER_PERSONALITY, L
 use Rattle.eh_frame.specs.declared.address.Application.{Application}
 use Rattle.eh_frame.specs.declared.address.Application.TheVariants as applications
 use Rattle.eh_frame.specs.declared.cie.EhCie.{EhCie}
-use Rattle.eh_frame.specs.Addresses.{application_of, pointer_from}
+use Rattle.eh_frame.specs.Addresses.{format_of, application_of, pointer_from}
 
 -- ---- the augmentation
 
@@ -34,7 +34,7 @@ abbrev pub kept : Application → Bool → Option Application
 kept application true = Some application
 kept application false = None
 
--- what stands for a letter, where others follow it: the application of addresses behind it. Nothing where the CIE is
+-- what stands for a letter, where others follow it: the application of addresses after it. Nothing where the CIE is
 -- passed over. Of several encodings of addresses the last one counts
 unfoldable pub letter_from : ℕ → List ℕ → Application → Input FrameFault → Reading (Option Application)
 letter_from letter others application input =
@@ -46,7 +46,7 @@ letter_from letter others application input =
       Ok (Some application, input))
     else if letter == LETTER_PERSONALITY then (do
       (encoding, input) ← number_from 1 input
-      (known, input) ← pointer_from (encoding % 16) input
+      (known, input) ← pointer_from (format_of encoding) input
       Ok (kept application known, input))
     else Ok (Some application, input)
 
@@ -56,14 +56,14 @@ abbrev pub unless_passed : {X Y : Type 0} → Option X → (X → Result (Option
 unless_passed None next = Ok None
 unless_passed (Some x) next = next x
 
--- the application of addresses behind all letters
+-- the application of addresses after all letters
 unfoldable pub starts_from : List ℕ → Application → Input FrameFault → Result (Option Application) FrameFault
 starts_from [] application input = Ok (Some application)
 starts_from (letter ∷ others) application input = do
   (found, input) ← letter_from letter others application input
   unless_passed found (λ next. starts_from others next input)
 
--- ---- a CIE's fields. Nothing where it is passed over: the fields behind the one that shows it are not read
+-- ---- a CIE's fields. Nothing where it is passed over: the fields after the one that shows it are not read
 
 -- the initial instructions are the bytes that are left, up to the entry's end
 abbrev pub eh_cie_with : ℕ → AlignmentFactors → ℕ → Bool → Input FrameFault → Application → EhCie
@@ -100,21 +100,21 @@ factors_of code_factor data_factor = record {
 }
 
 -- no return address register above 31
-unfoldable pub cie_from_factors : ℕ → ℕ → List ℕ → Input FrameFault → Result (Option EhCie) FrameFault
-cie_from_factors end version augmentation input = do
+unfoldable pub eh_cie_from_factors : ℕ → ℕ → List ℕ → Input FrameFault → Result (Option EhCie) FrameFault
+eh_cie_from_factors end version augmentation input = do
   (code_factor, input) ← uleb_from input
   (data_factor, input) ← sleb_from input
   (register, input) ← register_from version input
   if nat_lt register 32 then cie_from_data end (factors_of code_factor data_factor) register augmentation input
       else Err input.missing
 
-unfoldable pub cie_from_augmentation : ℕ → ℕ → Input FrameFault → Result (Option EhCie) FrameFault
-cie_from_augmentation end version input = do
+unfoldable pub eh_cie_from_augmentation : ℕ → ℕ → Input FrameFault → Result (Option EhCie) FrameFault
+eh_cie_from_augmentation end version input = do
   (augmentation, input) ← text_from input
-  if is_read_augmentation augmentation then cie_from_factors end version augmentation input else Ok None
+  if is_read_augmentation augmentation then eh_cie_from_factors end version augmentation input else Ok None
 
 -- versions 1 and 3
-unfoldable pub cie_from : ℕ → Input FrameFault → Result (Option EhCie) FrameFault
-cie_from end input = do
+unfoldable pub eh_cie_from : ℕ → Input FrameFault → Result (Option EhCie) FrameFault
+eh_cie_from end input = do
   (version, input) ← number_from 1 input
-  if version == 1 || version == 3 then cie_from_augmentation end version input else Err input.missing
+  if version == 1 || version == 3 then eh_cie_from_augmentation end version input else Err input.missing

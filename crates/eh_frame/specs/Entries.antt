@@ -1,5 +1,5 @@
 -- The entries of .eh_frame (LSB, core specification, "Exception Frames"; DWARF 5, section 6.4.1).
-use Rattle.std.specs.Prelude.{ℕ, ◌+◌, ◌==◌, ◌&&◌, ◌++◌, Bool, false, nat_lt, List, [], ◌∷◌, map}
+use Rattle.std.specs.Prelude.{ℕ, ◌+◌, ◌==◌, ◌&&◌, ◌++◌, Bool, false, nat_lt, List, map}
 use Rattle.std.specs.Prelude.{find, Option, Some, None, Result, Ok, Err, if◌then◌else◌}
 use Rattle.prof_bytes.specs.Outcome.{◌>>=◌}
 use Rattle.prof_bytes.specs.Fields.{Input, number_from}
@@ -8,12 +8,12 @@ use Rattle.cfi_table.specs.declared.extent.Extent.{Extent}
 use Rattle.cfi_table.specs.declared.extent.ZeroLength.TheVariants.{EndsList}
 use Rattle.cfi_table.specs.declared.instruction.CallFrameInstruction.{CallFrameInstruction}
 use Rattle.cfi_table.specs.Instructions.{Reading, block_from}
-use Rattle.cfi_table.specs.Entries.{body_of, extents_by}
+use Rattle.cfi_table.specs.Entries.{body_of, extents_by, at_end}
 use Rattle.cfi_table.specs.Frames.{all_ok}
 use Rattle.eh_frame.specs.declared.constants.TheConstants.{EH_CIE_ID}
 use Rattle.eh_frame.specs.declared.cie.EhCie.{EhCie}
 use Rattle.eh_frame.specs.Addresses.{address_from}
-use Rattle.eh_frame.specs.Cies.{cie_from}
+use Rattle.eh_frame.specs.Cies.{eh_cie_from}
 use Rattle.eh_frame.specs.Runs.{addresses_of, cie_instructions, fde_instructions}
 
 -- ---- where the entries lie
@@ -48,7 +48,7 @@ abbrev pub is_eh_id : Reading ℕ → Bool
 is_eh_id (Err fault) = false
 is_eh_id (Ok found) = found.0 == EH_CIE_ID
 
--- the word behind its length says that an entry is a CIE
+-- the word after its length, its id, says that an entry is a CIE
 abbrev pub is_eh_cie : List ℕ → Extent → Bool
 is_eh_cie section e = is_eh_id (number_from 4 (body_of section e))
 
@@ -56,13 +56,13 @@ is_eh_cie section e = is_eh_id (number_from 4 (body_of section e))
 unfoldable pub eh_cie_of : List ℕ → Extent → Result (Option EhCie) FrameFault
 eh_cie_of section e = do
   (id, input) ← number_from 4 (body_of section e)
-  cie_from e.end input
+  eh_cie_from e.end input
 
 -- a CIE before an entry
 abbrev pub is_cie_before : List ℕ → Extent → Extent → Bool
 is_cie_before section e c = nat_lt c.offset e.offset && is_eh_cie section c
 
--- the CIE before an entry at that distance from the entry's word, which stands behind its length
+-- the CIE before an entry at that distance from the entry's word, which stands after its length
 unfoldable pub cie_back : List ℕ → List Extent → Extent → ℕ → Option Extent
 cie_back section extents e distance =
     find (λ c. c.offset + distance == e.offset + 4 && is_cie_before section e c) extents
@@ -73,7 +73,7 @@ content_of_cie section address (Some cie) = do
   instructions ← cie_instructions section address cie
   Ok (Common cie instructions.0)
 
--- behind an FDE's addresses may stand augmentation data, which are passed over
+-- augmentation data may follow an FDE's addresses, and are passed over
 abbrev pub past_data : Bool → Input FrameFault → Result (Input FrameFault) FrameFault
 past_data has_data input =
     if has_data then (do
@@ -81,7 +81,7 @@ past_data has_data input =
       Ok input)
     else Ok input
 
--- an FDE's fields behind its word: initial_location, encoded, and address_range, a number by the format alone
+-- an FDE's fields after its CIE_pointer: initial_location, encoded, and address_range, a number by the format alone
 unfoldable pub eh_fields_from : ℕ → EhCie → Input FrameFault → Reading (ℕ × ℕ)
 eh_fields_from address cie input = do
   (initial_location, input) ← address_from (addresses_of address cie) input
@@ -116,11 +116,11 @@ content_by section address e input (Some c) = do
   content_of_fde section address c.offset input cie
 
 -- an entry is read, where these are the section's entries
-unfoldable pub content_of : List ℕ → ℕ → List Extent → Extent → Result Content FrameFault
-content_of section address extents e = do
+unfoldable pub entry_content : List ℕ → ℕ → List Extent → Extent → Result Content FrameFault
+entry_content section address extents e = do
   (id, input) ← number_from 4 (body_of section e)
   if id == EH_CIE_ID then (do
-    cie ← cie_from e.end input
+    cie ← eh_cie_from e.end input
     content_of_cie section address cie)
       else content_by section address e input (cie_back section extents e id)
 
@@ -129,16 +129,11 @@ entry_with e content = record { extent = e; content = content }
 
 abbrev pub entry_of : List ℕ → ℕ → List Extent → Extent → Result EhEntry FrameFault
 entry_of section address extents e = do
-  content ← content_of section address extents e
+  content ← entry_content section address extents e
   Ok (entry_with e content)
-
--- behind the entries may stand a faulty length
-abbrev pub faulty_end : Option FrameFault → List (Result EhEntry FrameFault)
-faulty_end None = []
-faulty_end (Some fault) = Err fault ∷ []
 
 -- the section's entries in their order, or its first fault, where its first byte has that address
 unfoldable pub eh_entries : List ℕ → ℕ → Result (List EhEntry) FrameFault
 eh_entries section address =
     let found = eh_extents section in
-    all_ok (map (entry_of section address found.0) found.0 ++ faulty_end found.1)
+    all_ok (map (entry_of section address found.0) found.0 ++ at_end found.1)

@@ -1,5 +1,5 @@
 -- What the translation means: an instruction, a run of instructions, and the section.
-use Rattle.std.specs.Prelude.{◌≡◌, ℕ, ◌+◌, ◌*◌, ◌<◌, ◌^◌, ◌++◌, All, List, length, Option, Some, Ok, replicate}
+use Rattle.std.specs.Prelude.{◌≡◌, ℕ, ◌+◌, ◌*◌, ◌<◌, ◌≤◌, ◌^◌, ◌++◌, All, List, length, Option, Some, Ok, replicate}
 use Rattle.std.specs.List.{flat_map}
 use Rattle.prof_bytes.specs.Number.{IsBytes}
 use Rattle.prof_bytes.specs.Reading.{left_of}
@@ -12,9 +12,10 @@ use Rattle.cfi_table.specs.declared.instruction.CallFrameInstruction.{CallFrameI
 use Rattle.cfi_table.specs.declared.instruction.CallFrameInstruction.TheVariants as instructions
 use Rattle.cfi_table.specs.declared.rules.Rule.{Rule}
 use Rattle.cfi_table.specs.Instructions.{instruction_from}
-use Rattle.cfi_table.specs.Rules.{State, run_all}
+use Rattle.cfi_table.specs.Rules.{FrameState, execute, run_all}
 use Rattle.cfi_table.specs.Frames.{rules_at}
-use Rattle.eh_frame.specs.Runs.{rules_after}
+use Rattle.eh_frame.specs.declared.address.Addresses.{Addresses}
+use Rattle.eh_frame.specs.Runs.{listed_by, listed_instructions, rules_after}
 use Rattle.eh_frame.specs.Translation.{register_byte, encoded}
 use Rattle.eh_frame.specs.Both.{frames_with_eh, descriptions_of_both, frame_ranges, described_ranges, rules_by}
 
@@ -63,27 +64,38 @@ kept_register (instructions.Restore register) = instructions.Restore (register_b
 kept_register instructions.RememberState = instructions.RememberState
 kept_register instructions.RestoreState = instructions.RestoreState
 
--- the instruction stands at the input's front, and these bytes behind it
-abbrev pub Reads : CallFrameInstruction → Input FrameFault → List ℕ → Type 0
-Reads i input rest = (next : Input FrameFault) × (instruction_from ones input ≡ Ok (i, next)) × (left_of next.at ≡ rest)
+-- the instruction stands at the input's front, and these bytes after it
+abbrev pub ReadsBack : CallFrameInstruction → Input FrameFault → List ℕ → Type 0
+ReadsBack i input rest =
+    (next : Input FrameFault) × (instruction_from ones input ≡ Ok (i, next)) × (left_of next.at ≡ rest)
 
 -- a written instruction reads back as the one that was meant
 abbrev pub InstructionsReadBack : Type 0
 InstructionsReadBack = (i : CallFrameInstruction) (input : Input FrameFault) (rest : List ℕ)
-    → HasWordOperands i → left_of input.at ≡ encoded i ++ rest → Reads (kept_register i) input rest
+    → HasWordOperands i → left_of input.at ≡ encoded i ++ rest → ReadsBack (kept_register i) input rest
+
+-- ---- lists of instructions
+
+-- as much room as there are bytes is enough for the list of an entry's instructions: with any larger room it is the
+-- same
+abbrev pub ListsHaveRoom : Type 0
+ListsHaveRoom = (room : ℕ) (initial : List Rule) (addresses : Addresses) (factors : AlignmentFactors)
+    (input : Input FrameFault) (s : FrameState)
+    → length (left_of input.at) ≤ room → listed_by (execute initial) room addresses factors input s
+    ≡ listed_instructions initial addresses factors input s
 
 -- ---- runs of instructions
 
--- written instructions, with zeros behind them, make the rules that the instructions make
+-- written instructions, with zeros after them, make the rules that the instructions make
 abbrev pub RunsReadBack : Type 0
 RunsReadBack = (limit : Option ℕ) (initial : List Rule) (all : List CallFrameInstruction) (zeros : ℕ)
-    (input : Input FrameFault) (s t : State)
+    (input : Input FrameFault) (s t : FrameState)
     → All HasWordOperands all → left_of input.at ≡ flat_map encoded all ++ replicate zeros 0
     → rules_after limit initial all s ≡ Some t → run_all limit initial ones input s ≡ Ok t
 
 -- ---- both sections
 
--- the frames that are read of `.debug_frame` and the translation behind it have the ranges of both sections' frame
+-- the frames that are read of `.debug_frame` and the translation after it have the ranges of both sections' frame
 -- descriptions, or the same fault
 abbrev pub RangesAreBoth : Type 0
 RangesAreBoth = (debug_frame eh_frame : List ℕ) (address : ℕ) (segments : List Segment)

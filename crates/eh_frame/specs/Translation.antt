@@ -1,5 +1,5 @@
 -- `.eh_frame` as bytes of `.debug_frame` (DWARF 5, sections 6.4.1 and 7.24). An entry stands at eight times its offset,
--- and behind it zeros, which are lengths of 0, up to where the next one begins.
+-- and after it zeros, which are lengths of 0, up to where the next one begins.
 use Rattle.std.specs.Prelude.{ℕ, ◌+◌, ◌*◌, ◌-◌, ◌/◌, ◌%◌, List, [], ◌∷◌, ◌++◌, length, min, replicate, Result, Ok, Err}
 use Rattle.std.specs.List.{flat_map}
 use Rattle.prof_bytes.specs.Number.{number_bytes}
@@ -18,6 +18,7 @@ use Rattle.cfi_table.specs.declared.instruction.CallFrameInstruction.{CallFrameI
 use Rattle.cfi_table.specs.declared.instruction.CallFrameInstruction.TheVariants as instructions
 use Rattle.cfi_table.specs.Frames.{size_of}
 use Rattle.eh_frame.specs.declared.fault.EhFault.{EhFault}
+use Rattle.eh_frame.specs.declared.constants.TheConstants.{CIE_VERSION, EMPTY_AUGMENTATION, FACTOR_OF_ONE}
 use Rattle.eh_frame.specs.Entries.{EhEntry, Content, PassedOver, Common, Description, eh_entries}
 
 -- ---- instructions
@@ -59,9 +60,11 @@ encoded instructions.RestoreState = DW_CFA_restore_state ∷ []
 
 -- ---- entries
 
--- a CIE up to its instructions: of version 1, with no augmentation, both factors 1, and its return address register
+-- a CIE up to its instructions: its id, version 1, an empty augmentation, the factors 1 and 1, and its return address
+-- register
 abbrev pub cie_head : ℕ → List ℕ
-cie_head register = number_bytes 4 DW_CIE_ID ++ (1 ∷ 0 ∷ 1 ∷ 1 ∷ register ∷ [])
+cie_head register = number_bytes 4 DW_CIE_ID ++
+    (CIE_VERSION ∷ EMPTY_AUGMENTATION ∷ FACTOR_OF_ONE ∷ FACTOR_OF_ONE ∷ register ∷ [])
 
 -- an FDE up to its instructions: its CIE's offset, its start, and how many addresses it has
 abbrev pub fde_head : ℕ → ℕ → ℕ → List ℕ
@@ -71,12 +74,13 @@ fde_head cie_pointer start range = (number_bytes 4 cie_pointer ++ number_bytes 4
 abbrev pub translated_offset : ℕ → ℕ → ℕ
 translated_offset base offset = base + 8 * offset
 
--- what stands behind an entry's length; nothing where it is passed over
+-- what stands after an entry's length; nothing where it is passed over
 abbrev pub entry_body : ℕ → Content → List ℕ
 entry_body base PassedOver = []
 entry_body base (Common cie own) = cie_head cie.return_address_register ++ flat_map encoded own
 entry_body base (Description fde) =
-    fde_head (translated_offset base fde.cie_offset) fde.initial_location fde.address_range ++ flat_map encoded fde.instructions
+    fde_head (translated_offset base fde.cie_offset) fde.initial_location fde.address_range
+    ++ flat_map encoded fde.instructions
 
 -- zeros up to the next multiple of four, which are instructions that do nothing
 abbrev pub aligned : List ℕ → List ℕ
@@ -97,13 +101,14 @@ block_of base entry = block_with (size_of entry.extent) (entry_body base entry.c
 
 -- ---- the section
 
-abbrev pub told : Result (List ℕ) FrameFault → Result (List ℕ) EhFault
-told (Ok bytes) = Ok bytes
-told (Err fault) = Err (record { offset = fault.offset })
+-- the bytes, or the fault as one of `.eh_frame`
+abbrev pub as_eh_fault : Result (List ℕ) FrameFault → Result (List ℕ) EhFault
+as_eh_fault (Ok bytes) = Ok bytes
+as_eh_fault (Err fault) = Err (record { offset = fault.offset })
 
--- the entries one behind the other, or the section's first fault
+-- the entries one after the other, or the section's first fault
 unfoldable pub translated : List ℕ → ℕ → ℕ → Result (List ℕ) FrameFault
 translated section address base = viewed (flat_map (block_of base)) (eh_entries section address)
 
 unfoldable pub translation : List ℕ → ℕ → ℕ → Result (List ℕ) EhFault
-translation section address base = told (translated section address base)
+translation section address base = as_eh_fault (translated section address base)

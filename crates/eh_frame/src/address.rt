@@ -1,11 +1,12 @@
 //! Addresses and other pointers, as `.eh_frame` encodes them.
 ghost use Rattle.std.specs.Prelude.{◌≡◌, ◌<◌, ◌^◌, length};
 ghost use Rattle.prof_bytes.specs.Outcome.{GivesAt};
-ghost use Rattle.eh_frame.specs.Addresses.{has_four_bytes, application_of, address_from, pointer_from};
+ghost use Rattle.eh_frame.specs.Addresses.{has_four_bytes, format_of, application_bits, application_of};
+ghost use Rattle.eh_frame.specs.Addresses.{address_from, pointer_from};
 
 use crate::constants::{
-    DW_EH_PE_absptr, DW_EH_PE_sdata2, DW_EH_PE_sdata4, DW_EH_PE_sdata8, DW_EH_PE_sleb128,
-    DW_EH_PE_udata2, DW_EH_PE_udata4, DW_EH_PE_udata8, DW_EH_PE_uleb128,
+    DW_EH_PE_absptr, DW_EH_PE_pcrel, DW_EH_PE_sdata2, DW_EH_PE_sdata4, DW_EH_PE_sdata8,
+    DW_EH_PE_sleb128, DW_EH_PE_udata2, DW_EH_PE_udata4, DW_EH_PE_udata8, DW_EH_PE_uleb128,
 };
 use cfi_table::FrameFault;
 use prof_bytes::Reader;
@@ -32,16 +33,30 @@ fn has_four_bytes(format: u8) -> bool
     format == DW_EH_PE_absptr || format == DW_EH_PE_udata4 || format == DW_EH_PE_sdata4
 }
 
-/// The application of an encoding by which addresses are read; `None` where it is none of these.
+/// The format of an encoding, in its low four bits.
+pub(crate) fn format_of(encoding: u8) -> u8
+    ensures { result ≡ format_of encoding }
+{
+    encoding % 16
+}
+
+/// The application of an encoding, in its high four bits.
+fn application_bits(encoding: u8) -> u8
+    ensures { result ≡ application_bits encoding }
+{
+    encoding - encoding % 16
+}
+
+/// How addresses of the encoding are read; `None` if the encoding is not supported.
 pub(crate) fn application_of(encoding: u8) -> Option<Application>
     ensures { result ≡ application_of encoding }
 {
-    if !has_four_bytes(encoding % 16) {
+    if !has_four_bytes(format_of(encoding)) {
         return None;
     }
-    match encoding / 16 {
-        0 => Some(Application::Absolute),
-        1 => Some(Application::PcRelative),
+    match application_bits(encoding) {
+        DW_EH_PE_absptr => Some(Application::Absolute),
+        DW_EH_PE_pcrel => Some(Application::PcRelative),
         _ => None,
     }
 }
@@ -64,7 +79,7 @@ pub(crate) fn address(
     }
 }
 
-/// Passes over a pointer of the format. `Ok(false)` where the format is none that is read.
+/// Passes over a pointer of the format. `Ok(false)` if the format is not supported.
 #[tactic(auto, unfolding(crate::specs::Addresses::pointer_from))]
 pub(crate) fn pointer(format: u8, reader: &mut Reader<'_, FrameFault>) -> Result<bool, FrameFault>
     ensures { GivesAt (λ known. known) result reader.new (pointer_from format reader.old) }

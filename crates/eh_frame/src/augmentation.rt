@@ -6,7 +6,7 @@ ghost use Rattle.eh_frame.specs.Cies.{is_letter, is_read_augmentation, letter_fr
 ghost use Rattle.eh_frame.specs.declared.address.Application.TheVariants as applications;
 ghost use Rattle.eh_frame.specs.declared.constants.TheConstants.{LETTER_ADDRESSES};
 
-use crate::address::{Application, application_of, pointer};
+use crate::address::{Application, application_of, format_of, pointer};
 use crate::constants::{
     LETTER_ADDRESSES, LETTER_DATA, LETTER_LANGUAGE_DATA, LETTER_PERSONALITY, LETTER_SIGNAL_FRAME,
 };
@@ -44,7 +44,7 @@ fn has_addresses(letters: &[u8]) -> bool
     letters.iter().any(|l| *l == LETTER_ADDRESSES)
 }
 
-/// What stands for a letter: the application of addresses behind it, and `None` where the CIE is passed over.
+/// What stands for a letter: the application of addresses after it, and `None` where the CIE is passed over.
 #[tactic(auto, unfolding(crate::specs::Cies::letter_from))]
 fn letter(
     letter: u8,
@@ -67,7 +67,7 @@ fn letter(
     }
     if letter == LETTER_PERSONALITY {
         let encoding = reader.u8()?;
-        if !pointer(encoding % 16, reader)? {
+        if !pointer(format_of(encoding), reader)? {
             return Ok(None);
         }
     }

@@ -60,7 +60,7 @@ fn joined(alloc: Global, first: &[u8], second: &[u8]) -> Result<Vec<u8>, Memory>
     Ok(all)
 }
 
-/// The frames of `.debug_frame` with the translation of `.eh_frame` behind it, if that has any bytes.
+/// The frames of `.debug_frame` with the translation of `.eh_frame` after it, if that has any bytes.
 #[tactic(auto, unfolding(crate::specs::Both::frames_with_eh))]
 fn translated_frames(
     alloc: Global,
@@ -82,8 +82,8 @@ fn translated_frames(
     debug_frames(alloc, &all, image)
 }
 
-/// The frames of `.debug_frame`, and behind them those of `.eh_frame`, whose first byte has that address; or
-/// the first fault.
+/// The frames of `.debug_frame` (DWARF 5, section 6.4.1), and after them those of `.eh_frame` (LSB, core
+/// specification, "Exception Frames"), whose first byte has that address; or the first fault.
 pub fn read_both_frames(
     alloc: Global,
     debug_frame: &[u8],

@@ -1,17 +1,17 @@
 //! Common information entries of `.eh_frame` (LSB, core specification, "The Common Information Entry Format").
-ghost use Rattle.std.specs.Prelude.{◌≡◌, ◌+◌, ◌<◌, ◌≤◌, ◌^◌, Some, None, IfOk, IfSome, length};
+ghost use Rattle.std.specs.Prelude.{◌≡◌, ◌<◌, Some, None, IfOk, IfSome, length};
 ghost use Rattle.prof_bytes.specs.Reading.{left_of};
 ghost use Rattle.prof_bytes.specs.Fields.{Input};
-ghost use Rattle.prof_bytes.specs.Outcome.{GivesAt};
 ghost use Rattle.cfi_table.specs.declared.fault.FrameFault.{FrameFault};
-ghost use Rattle.cfi_table.specs.Entries.{register_from};
-ghost use Rattle.cfi_table.specs.private.Placed.{IsPlaced};
-ghost use Rattle.eh_frame.specs.Cies.{eh_cie_with, cie_from_letters, cie_from_data, cie_from_factors};
-ghost use Rattle.eh_frame.specs.Cies.{cie_from_augmentation, cie_from};
+ghost use Rattle.cfi_table.specs.private.Placed.{IsUpTo};
+ghost use Rattle.eh_frame.specs.Cies.{eh_cie_with, cie_from_letters, cie_from_data, eh_cie_from_factors};
+ghost use Rattle.eh_frame.specs.Cies.{eh_cie_from_augmentation, eh_cie_from};
 
 use crate::address::Application;
 use crate::augmentation::{application, is_read};
-use cfi_table::{AlignmentFactors, Extent, FrameFault, word_of, word_of_signed};
+use cfi_table::{
+    AlignmentFactors, Extent, FrameFault, return_address_register, word_of, word_of_signed,
+};
 use prof_bytes::Reader;
 
 /// A common information entry (CIE).
@@ -25,17 +25,6 @@ pub(crate) struct EhCie {
     pub(crate) initial_instructions: Extent,
 }
 
-/// The return address register. In version 1 it has one byte.
-fn register(version: u8, reader: &mut Reader<'_, FrameFault>) -> Result<u64, FrameFault>
-    ensures { GivesAt (λ n. n) result reader.new (register_from version reader.old) }
-{
-    if version == 1 {
-        Ok(u64::from(reader.u8()?))
-    } else {
-        reader.uleb()
-    }
-}
-
 fn cie_with(
     end: u32,
     factors: AlignmentFactors,
@@ -46,8 +35,7 @@ fn cie_with(
 ) -> EhCie
     ensures cie { (input : Input FrameFault) → left ≡ length (left_of input.at)
         → result ≡ eh_cie_with end factors register has_data input application }
-    ensures order { result.initial_instructions.offset ≤ result.initial_instructions.end }
-    ensures end { result.initial_instructions.end ≡ end }
+    ensures placed { IsUpTo end result.initial_instructions }
 {
     EhCie {
         factors,
@@ -70,8 +58,7 @@ fn from_letters(
     reader: &mut Reader<'_, FrameFault>,
 ) -> Result<Option<EhCie>, FrameFault>
     ensures cie { result ≡ cie_from_letters end factors register letters.now reader.old }
-    ensures placed { IfOk result (λ cie. IfSome cie
-        (λ c. (c.initial_instructions.offset ≤ c.initial_instructions.end) × (c.initial_instructions.end ≡ end))) }
+    ensures placed { IfOk result (λ cie. IfSome cie (λ c. IsUpTo end c.initial_instructions)) }
 {
     let size = reader.uleb()?;
     let data = reader.fork();
@@ -91,8 +78,7 @@ fn from_data(
     reader: &mut Reader<'_, FrameFault>,
 ) -> Result<Option<EhCie>, FrameFault>
     ensures cie { result ≡ cie_from_data end factors register augmentation.now reader.old }
-    ensures placed { IfOk result (λ cie. IfSome cie
-        (λ c. (c.initial_instructions.offset ≤ c.initial_instructions.end) × (c.initial_instructions.end ≡ end))) }
+    ensures placed { IfOk result (λ cie. IfSome cie (λ c. IsUpTo end c.initial_instructions)) }
 {
     match augmentation {
         [] => Ok(Some(cie_with(
@@ -107,20 +93,19 @@ fn from_data(
     }
 }
 
-#[tactic(auto, unfolding(crate::specs::Cies::cie_from_factors))]
+#[tactic(auto, unfolding(crate::specs::Cies::eh_cie_from_factors))]
 fn from_factors(
     end: u32,
     version: u8,
     augmentation: &[u8],
     reader: &mut Reader<'_, FrameFault>,
 ) -> Result<Option<EhCie>, FrameFault>
-    ensures cie { result ≡ cie_from_factors end version augmentation.now reader.old }
-    ensures placed { IfOk result (λ cie. IfSome cie
-        (λ c. (c.initial_instructions.offset ≤ c.initial_instructions.end) × (c.initial_instructions.end ≡ end))) }
+    ensures cie { result ≡ eh_cie_from_factors end version augmentation.now reader.old }
+    ensures placed { IfOk result (λ cie. IfSome cie (λ c. IsUpTo end c.initial_instructions)) }
 {
     let code_factor = reader.uleb()?;
     let data_factor = reader.sleb()?;
-    let register = register(version, reader)?;
+    let register = return_address_register(version, reader)?;
     if register >= 32 {
         return Err(reader.missing());
     }
@@ -131,15 +116,14 @@ fn from_factors(
     from_data(end, factors, register as u8, augmentation, reader)
 }
 
-#[tactic(auto, unfolding(crate::specs::Cies::cie_from_augmentation))]
+#[tactic(auto, unfolding(crate::specs::Cies::eh_cie_from_augmentation))]
 fn from_augmentation(
     end: u32,
     version: u8,
     reader: &mut Reader<'_, FrameFault>,
 ) -> Result<Option<EhCie>, FrameFault>
-    ensures cie { result ≡ cie_from_augmentation end version reader.old }
-    ensures placed { IfOk result (λ cie. IfSome cie
-        (λ c. (c.initial_instructions.offset ≤ c.initial_instructions.end) × (c.initial_instructions.end ≡ end))) }
+    ensures cie { result ≡ eh_cie_from_augmentation end version reader.old }
+    ensures placed { IfOk result (λ cie. IfSome cie (λ c. IsUpTo end c.initial_instructions)) }
 {
     let augmentation = reader.cstr()?;
     if is_read(augmentation) {
@@ -149,15 +133,14 @@ fn from_augmentation(
     }
 }
 
-/// The fields behind a CIE's id, in an entry that ends there. `None` where it is passed over.
-#[tactic(auto, unfolding(crate::specs::Cies::cie_from))]
+/// The CIE's fields after its id, up to `end`. `None` if the CIE is skipped.
+#[tactic(auto, unfolding(crate::specs::Cies::eh_cie_from))]
 pub(crate) fn cie_from(
     end: u32,
     reader: &mut Reader<'_, FrameFault>,
 ) -> Result<Option<EhCie>, FrameFault>
-    ensures cie { result ≡ cie_from end reader.old }
-    ensures placed { IfOk result (λ cie. IfSome cie
-        (λ c. (c.initial_instructions.offset ≤ c.initial_instructions.end) × (c.initial_instructions.end ≡ end))) }
+    ensures cie { result ≡ eh_cie_from end reader.old }
+    ensures placed { IfOk result (λ cie. IfSome cie (λ c. IsUpTo end c.initial_instructions)) }
 {
     let version = reader.u8()?;
     if version == 1 || version == 3 {

@@ -2,7 +2,7 @@
 ghost use Rattle.std.specs.Prelude.{◌≡◌, ℕ, ◌≤◌, List, Result, IfOk, length};
 ghost use Rattle.prof_bytes.specs.Outcome.{Gives};
 ghost use Rattle.cfi_table.specs.declared.fault.FrameFault.{FrameFault};
-ghost use Rattle.eh_frame.specs.Translation.{told};
+ghost use Rattle.eh_frame.specs.Translation.{as_eh_fault};
 
 use cfi_table::FrameFault;
 use prof_bytes::{Fail, Text};
@@ -15,11 +15,11 @@ pub struct EhFault {
 }
 
 /// The bytes, or the fault as one of this section.
-pub(crate) fn told(read: Result<Vec<u8>, Fail<FrameFault>>) -> Result<Text, Fail<EhFault>>
+pub(crate) fn as_eh_fault(read: Result<Vec<u8>, Fail<FrameFault>>) -> Result<Text, Fail<EhFault>>
     ensures few { (most : ℕ) → IfOk read (λ bytes. length bytes.items ≤ most)
         → IfOk result (λ text. length text ≤ most) }
-    ensures told { (wanted : Result (List ℕ) FrameFault) → Gives (λ bytes. bytes.items) read wanted
-        → Gives (λ text. text) result (told wanted) }
+    ensures bytes { (wanted : Result (List ℕ) FrameFault) → Gives (λ bytes. bytes.items) read wanted
+        → Gives (λ text. text) result (as_eh_fault wanted) }
 {
     match read {
         Ok(bytes) => Ok(Text::from_vec(bytes)),

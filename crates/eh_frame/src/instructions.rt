@@ -14,7 +14,8 @@ use cfi_table::{
     DW_CFA_def_cfa_expression, DW_CFA_def_cfa_offset, DW_CFA_def_cfa_register, DW_CFA_expression,
     DW_CFA_nop, DW_CFA_offset_extended, DW_CFA_register, DW_CFA_remember_state,
     DW_CFA_restore_extended, DW_CFA_restore_state, DW_CFA_same_value, DW_CFA_set_loc,
-    DW_CFA_undefined, DW_CFA_val_expression, DW_CFA_val_offset, FrameFault, opcode_then,
+    DW_CFA_undefined, DW_CFA_val_expression, DW_CFA_val_offset, FrameFault,
+    instruction_after_opcode,
 };
 use prof_bytes::{Fail, Memory, Reader, put_u32};
 
@@ -32,7 +33,7 @@ fn next_instruction(
     if byte == DW_CFA_set_loc {
         return Ok(CallFrameInstruction::SetLoc(address(addresses, reader)?));
     }
-    opcode_then(factors, byte, reader)
+    instruction_after_opcode(factors, byte, reader)
 }
 
 fn register_byte(register: u64) -> u8
@@ -73,7 +74,7 @@ fn put_register(out: &mut Vec<u8>, opcode: u8, register: u64) -> Result<(), Memo
     put_bytes(out, &[opcode, register_byte(register)])
 }
 
-/// A register and an offset.
+/// Appends an opcode, a register and an offset.
 fn put_rule(out: &mut Vec<u8>, opcode: u8, register: u64, offset: u32) -> Result<(), Memory>
     ensures { IfOk result (λ done. out.new.items
         ≡ out.old.items ++ (opcode ∷ register_byte register ∷ offset_bytes offset)) }
@@ -89,7 +90,7 @@ fn put_offset(out: &mut Vec<u8>, opcode: u8, offset: u32) -> Result<(), Memory>
     put_bytes(out, &offset_bytes(offset))
 }
 
-/// A register, and a byte behind it.
+/// Appends an opcode, a register, and a byte after it.
 fn put_two(out: &mut Vec<u8>, opcode: u8, register: u64, second: u8) -> Result<(), Memory>
     ensures { IfOk result (λ done. out.new.items
         ≡ out.old.items ++ (opcode ∷ register_byte register ∷ second ∷ [])) }

@@ -4,7 +4,7 @@ ghost use Rattle.std.specs.Option.{option_copied};
 ghost use Rattle.cfi_table.specs.private.Placed.{AreRising};
 
 use crate::cie::EhCie;
-use cfi_table::CieEnd;
+use cfi_table::InitialCfaForms;
 
 /// A CIE: its offset in the section, what it says, and the forms after its instructions. `None` where it is
 /// passed over.
@@ -12,7 +12,7 @@ use cfi_table::CieEnd;
 pub(crate) struct KnownEhCie {
     pub(crate) offset: u32,
     pub(crate) cie: Option<EhCie>,
-    pub(crate) end: CieEnd,
+    pub(crate) initial_forms: InitialCfaForms,
 }
 
 /// The CIE with that offset, in time as the logarithm of their number.

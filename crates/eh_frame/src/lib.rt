@@ -20,9 +20,11 @@ mod section;
 
 pub use both::{SectionFault, read_both_frames};
 pub use constants::{
-    DW_EH_PE_absptr, DW_EH_PE_sdata2, DW_EH_PE_sdata4, DW_EH_PE_sdata8, DW_EH_PE_sleb128,
-    DW_EH_PE_udata2, DW_EH_PE_udata4, DW_EH_PE_udata8, DW_EH_PE_uleb128,
+    DW_EH_PE_absptr, DW_EH_PE_pcrel, DW_EH_PE_sdata2, DW_EH_PE_sdata4, DW_EH_PE_sdata8,
+    DW_EH_PE_sleb128, DW_EH_PE_udata2, DW_EH_PE_udata4, DW_EH_PE_udata8, DW_EH_PE_uleb128,
 };
 pub use fault::EhFault;
-pub use laws::{frames_are_of_both, instructions_read_back, runs_read_back};
+pub use laws::{
+    frames_are_of_both, instruction_count_is_at_most_bytes, instructions_read_back, runs_read_back,
+};
 pub use section::translate;

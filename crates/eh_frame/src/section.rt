@@ -9,7 +9,7 @@ ghost use Rattle.eh_frame.specs.Translation.{block_with, block_of, translated, t
 ghost use Rattle.eh_frame.specs.private.Adjoining.{AreAdjoining};
 
 use crate::entry::{ReadEntry, read_entry};
-use crate::fault::{EhFault, told};
+use crate::fault::{EhFault, as_eh_fault};
 use cfi_table::{Extent, FrameFault, ZeroLength, all_extents};
 use prof_bytes::{Fail, Memory, Text, put_u32};
 use std::alloc::Global;
@@ -44,7 +44,7 @@ fn put_block(out: &mut Vec<u8>, size: usize, body: &[u8]) -> Result<(), Memory>
     put_zeros(out, (8 * size).saturating_sub(4 + length))
 }
 
-/// The entries as one behind the other, or the first fault.
+/// The translated entries, one after the other, or the first fault.
 fn put_entries(
     alloc: Global,
     section: &[u8],
@@ -102,5 +102,5 @@ pub fn translate(
     ensures bytes { Gives (λ text. text) result (translation section.now address base) }
     ensures few { IfOk result (λ text. length text ≤ 8 * length section.now) }
 {
-    told(translated(alloc, section, address, base))
+    as_eh_fault(translated(alloc, section, address, base))
 }

@@ -12,8 +12,8 @@ use Rattle.elf_image.specs.declared.fault.ElfRule.TheVariants.{NotElf, NotRiscv3
 use Rattle.elf_image.specs.Fields.{lies_within}
 use Rattle.elf_image.specs.Headers.{e_phoff, e_phnum, e_shoff, e_shnum, section_headers, symbol_table, has_bytes}
 use Rattle.elf_image.specs.declared.elf.TheConstants.{SHT_SYMTAB}
-use Rattle.elf_image.specs.Refusals.{not_elf, not_riscv32_exec, compressed_code, header_tests, header_place, outside}
-use Rattle.elf_image.specs.Reading.{refused_at, header_of, sections_of}
+use Rattle.elf_image.specs.Refusals.{not_elf, not_riscv32_exec, compressed_code, header_tests, header_place, section_outside}
+use Rattle.elf_image.specs.Reading.{refused_at, checked_header, checked_sections}
 use Rattle.elf_image.proofs.Tables.{cond_none}
 
 -- a rule that refused nothing, and what came after it
@@ -45,18 +45,18 @@ headers_lie file none =
     let all = find_none (λ t. t.0) tests (option_map_none (λ t. t.1) (find (λ t. t.0) tests) none) in
     (not-false _ (all 1 (true, 0) (lit< tt)), not-false _ (all 3 (true, 0) (lit< tt)))
 
-headers_within : (file : List ℕ) → header_of file ≡ Ok tt → (lies_within file (e_phoff file) (32 * e_phnum file) ≡ true) × (lies_within file (e_shoff file) (40 * e_shnum file) ≡ true)
-unfolding header_of
+headers_within : (file : List ℕ) → checked_header file ≡ Ok tt → (lies_within file (e_phoff file) (32 * e_phnum file) ≡ true) × (lies_within file (e_shoff file) (40 * e_shnum file) ≡ true)
+unfolding checked_header
 headers_within file e =
     let a = passed NotElf (not_elf file) _ tt e in
     let b = passed NotRiscv32Exec (not_riscv32_exec file) _ tt a.1 in
     let c = passed CompressedCode (compressed_code file) _ tt b.1 in
     headers_lie file (passed_last HeaderPlace (header_place file) c.1)
 
-pub programs_within : (file : List ℕ) → header_of file ≡ Ok tt → 0 < e_phnum file → e_phoff file + 32 * e_phnum file ≤ length file
+pub programs_within : (file : List ℕ) → checked_header file ≡ Ok tt → 0 < e_phnum file → e_phoff file + 32 * e_phnum file ≤ length file
 programs_within file e some = within file (e_phoff file) (32 * e_phnum file) (headers_within file e).0 (omega arith)
 
-pub sections_within : (file : List ℕ) → header_of file ≡ Ok tt → 0 < e_shnum file → e_shoff file + 40 * e_shnum file ≤ length file
+pub sections_within : (file : List ℕ) → checked_header file ≡ Ok tt → 0 < e_shnum file → e_shoff file + 40 * e_shnum file ≤ length file
 sections_within file e some = within file (e_shoff file) (40 * e_shnum file) (headers_within file e).1 (omega arith)
 
 -- ---- the symbol table
@@ -71,18 +71,18 @@ find_both {X} p q (y ∷ ys) x found none =
     go true is here e rest = let P : X → Type 0 = λ z. (p z ≡ true) × (q z ≡ false) in subst P (some_same y x e) (is, here)
     go false is here e rest = rest e
 
-nothing_outside : (file : List ℕ) → sections_of file ≡ Ok tt → outside file (section_headers file) ≡ None
-unfolding sections_of
-nothing_outside file e = (passed SectionPlace (outside file (section_headers file)) _ tt e).0
+nothing_outside : (file : List ℕ) → checked_sections file ≡ Ok tt → section_outside file (section_headers file) ≡ None
+unfolding checked_sections
+nothing_outside file e = (passed SectionPlace (section_outside file (section_headers file)) _ tt e).0
 
 table_tests : (file : List ℕ) (h : SectionHeader) → (h.sh_type == SHT_SYMTAB) ≡ true → (has_bytes h && not (lies_within file h.sh_offset h.sh_size)) ≡ false → lies_within file h.sh_offset h.sh_size ≡ true
 table_tests file h kind inside = grind (arith, nat_tests)
 
-table_lies : (file : List ℕ) (table : SectionHeader) → symbol_table file ≡ Some table → outside file (section_headers file) ≡ None → lies_within file table.sh_offset table.sh_size ≡ true
-unfolding symbol_table outside
+table_lies : (file : List ℕ) (table : SectionHeader) → symbol_table file ≡ Some table → section_outside file (section_headers file) ≡ None → lies_within file table.sh_offset table.sh_size ≡ true
+unfolding symbol_table section_outside
 table_lies file table found none =
     let both = find_both (λ h. h.sh_type == SHT_SYMTAB) (λ h. has_bytes h && not (lies_within file h.sh_offset h.sh_size)) (section_headers file) table found (option_map_none (λ h. h.offset) _ none) in
     table_tests file table both.0 both.1
 
-pub table_within : (file : List ℕ) (table : SectionHeader) → symbol_table file ≡ Some table → sections_of file ≡ Ok tt → 0 < table.sh_size → table.sh_offset + table.sh_size ≤ length file
+pub table_within : (file : List ℕ) (table : SectionHeader) → symbol_table file ≡ Some table → checked_sections file ≡ Ok tt → 0 < table.sh_size → table.sh_offset + table.sh_size ≤ length file
 table_within file table found e some = within file table.sh_offset table.sh_size (table_lies file table found (nothing_outside file e)) some

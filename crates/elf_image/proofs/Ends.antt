@@ -1,11 +1,11 @@
--- Where the first 0 byte stands: in the block of an index, or behind it.
+-- Where the first 0 byte stands: in the block of an index, or after it.
 use Rattle.std.proofs.Common.{◌≡◌, ℕ, zero, suc, ◌+◌, ◌-◌, ◌<◌, ◌≤◌, Bool, true, false, cond, not, List, [], ◌∷◌, length, get_or, take, drop, Some, None, refl, ap, arith, length-take, length-drop}
 use Rattle.std.specs.Prelude.{nat_lt}
 use Rattle.std.specs.List.{position_or_len}
 use Rattle.std.proofs.lemmas.List.{drop_all}
 use Rattle.std.proofs.lemmas.Bool.{lt-ltb, le-ltb}
-use Rattle.elf_image.specs.Fields.{is_zero, text_in}
-use Rattle.elf_image.specs.private.Texts.{first_zero}
+use Rattle.elf_image.specs.Fields.{is_zero, string_in}
+use Rattle.elf_image.specs.private.StringTable.{first_zero}
 
 pub pol_at : {X : Type 0} (p : X → Bool) (xs : List X) (k : ℕ) (d : X) → position_or_len p (take k xs) ≡ k → k < length xs → p (get_or xs k d) ≡ true → position_or_len p xs ≡ k
 pol_at p [] k d e lt passes = absurd (omega arith)
@@ -53,7 +53,7 @@ pub zero_later : (bytes : List ℕ) (start end index later : ℕ) → index ≡ 
 unfolding first_zero
 zero_later bytes start end index later is order le none next =
     let len : length (take (end - start) (drop start bytes)) ≡ end - start = omega (arith, length-take (end - start) (drop start bytes), length-drop start bytes) in
-    let behind = not_in_front is_zero (end - start) (drop start bytes) (omega arith) in
+    let after = not_in_front is_zero (end - start) (drop start bytes) (omega arith) in
     let rest : drop (end - start) (drop start bytes) ≡ drop end bytes = drop_drop start (end - start) end bytes (omega arith) in
     let same : position_or_len is_zero (drop (end - start) (drop start bytes)) ≡ position_or_len is_zero (drop end bytes) = ap (λ (zs : List ℕ). position_or_len is_zero zs) rest in
     omega arith
@@ -69,15 +69,15 @@ pub first_above : (bytes : List ℕ) (start : ℕ) → start ≤ first_zero byte
 unfolding first_zero
 first_above bytes start = omega arith
 
-pub text_is : (bytes : List ℕ) (start end : ℕ) → end ≡ first_zero bytes start → start ≤ length bytes → end < length bytes → Some (take (end - start) (drop start bytes)) ≡ text_in bytes start
-unfolding first_zero text_in
+pub text_is : (bytes : List ℕ) (start end : ℕ) → end ≡ first_zero bytes start → start ≤ length bytes → end < length bytes → Some (take (end - start) (drop start bytes)) ≡ string_in bytes start
+unfolding first_zero string_in
 text_is bytes start end is le lt =
     let index : position_or_len is_zero (drop start bytes) ≡ end - start = omega arith in
     let test : nat_lt (position_or_len is_zero (drop start bytes)) (length (drop start bytes)) ≡ true = lt-ltb _ _ (omega (arith, length-drop start bytes)) in
     rw (test, index) refl
 
-pub text_is_not : (bytes : List ℕ) (start end : ℕ) → end ≡ first_zero bytes start → start ≤ length bytes → length bytes ≤ end → None ≡ text_in bytes start
-unfolding first_zero text_in
+pub text_is_not : (bytes : List ℕ) (start end : ℕ) → end ≡ first_zero bytes start → start ≤ length bytes → length bytes ≤ end → None ≡ string_in bytes start
+unfolding first_zero string_in
 text_is_not bytes start end is le ge =
     let test : nat_lt (position_or_len is_zero (drop start bytes)) (length (drop start bytes)) ≡ false = le-ltb _ _ (omega (arith, length-drop start bytes)) in
     rw test refl

@@ -12,9 +12,9 @@ use Rattle.elf_image.specs.declared.fault.ElfFault.{ElfFault}
 use Rattle.elf_image.specs.declared.fault.ElfRule.TheVariants.{SegmentPlace}
 use Rattle.elf_image.specs.Fields.{lies_within}
 use Rattle.elf_image.specs.Image.{IsWithin, are_apart, stacks_begin}
-use Rattle.elf_image.specs.Headers.{program_header_at, e_phoff, e_phnum, program_headers, is_load, loads, segment_of, segments}
+use Rattle.elf_image.specs.Headers.{program_header_at, e_phoff, e_phnum, program_headers, is_load, load_headers, segment_of, segments}
 use Rattle.elf_image.specs.Refusals.{share, shares_earlier, overfilled, unfilled, too_high, shared}
-use Rattle.elf_image.specs.Reading.{refused_at, header_of, each_segment_of, segments_of}
+use Rattle.elf_image.specs.Reading.{refused_at, checked_header, checked_each_segment, checked_all_segments}
 use Rattle.elf_image.proofs.Checked.{passed, passed_last, option_map_none, find_none, within, programs_within}
 
 -- headers with ever higher places, from some place on
@@ -38,8 +38,8 @@ table_ascends : (file : List ℕ) (first a n : ℕ) → IsAscending (first + 32 
 table_ascends file first a zero = tt
 table_ascends file first a (suc n) = (omega arith, from_lower (first + 32 * a + 1) (first + 32 * (a + 1)) _ (omega arith) (table_ascends file first (a + 1) n))
 
-loads_ascend : (file : List ℕ) → IsAscending (e_phoff file + 32 * 0) (loads file)
-unfolding loads program_headers
+loads_ascend : (file : List ℕ) → IsAscending (e_phoff file + 32 * 0) (load_headers file)
+unfolding load_headers program_headers
 loads_ascend file = filter_ascends is_load (e_phoff file + 32 * 0) _ (table_ascends file (e_phoff file) 0 (e_phnum file))
 
 place_at : (low : ℕ) (hs : List ProgramHeader) (i : ℕ) (d : ProgramHeader) → IsAscending low hs → i < length hs → low ≤ (get_or hs i d).offset
@@ -76,8 +76,8 @@ filter_passes {X} p (x ∷ xs) i d lt = go (p x) refl i lt (λ k below. filter_p
     go true here (suc k) below rest = rest k (omega arith)
     go false here k below rest = rest k below
 
-are_loads : (file : List ℕ) (i : ℕ) (d : ProgramHeader) → i < length (loads file) → is_load (get_or (loads file) i d) ≡ true
-unfolding loads
+are_loads : (file : List ℕ) (i : ℕ) (d : ProgramHeader) → i < length (load_headers file) → is_load (get_or (load_headers file) i d) ≡ true
+unfolding load_headers
 are_loads file i d lt = filter_passes is_load (program_headers file) i d lt
 
 -- ---- what the checks found
@@ -105,38 +105,38 @@ unfolding shared
 none_shared hs e = find_none (shares_earlier hs) hs (option_map_none (λ h. h.offset) _ e)
 
 pub record Refused (file : List ℕ) : Type 0 where
-  pub over : overfilled (loads file) ≡ None
-  pub unfilled : unfilled file (loads file) ≡ None
-  pub high : too_high (loads file) ≡ None
-  pub shared : shared (loads file) ≡ None
+  pub over : overfilled (load_headers file) ≡ None
+  pub unfilled : unfilled file (load_headers file) ≡ None
+  pub high : too_high (load_headers file) ≡ None
+  pub shared : shared (load_headers file) ≡ None
 
-each_refused : (file : List ℕ) → each_segment_of file ≡ Ok tt → (overfilled (loads file) ≡ None) × (unfilled file (loads file) ≡ None) × (too_high (loads file) ≡ None)
-unfolding each_segment_of
+each_refused : (file : List ℕ) → checked_each_segment file ≡ Ok tt → (overfilled (load_headers file) ≡ None) × (unfilled file (load_headers file) ≡ None) × (too_high (load_headers file) ≡ None)
+unfolding checked_each_segment
 each_refused file e =
-    let a = passed SegmentPlace (overfilled (loads file)) _ tt e in
-    let b = passed SegmentPlace (unfilled file (loads file)) _ tt a.1 in
-    (a.0, b.0, passed_last SegmentPlace (too_high (loads file)) b.1)
+    let a = passed SegmentPlace (overfilled (load_headers file)) _ tt e in
+    let b = passed SegmentPlace (unfilled file (load_headers file)) _ tt a.1 in
+    (a.0, b.0, passed_last SegmentPlace (too_high (load_headers file)) b.1)
 
 -- two checks, one after the other
 both_passed : (first next : Result (Unit {0}) ElfFault) → (first >>= λ _. next) ≡ Ok tt → (first ≡ Ok tt) × (next ≡ Ok tt)
 both_passed (Ok done) next e = (refl, e)
 both_passed (Err fault) next e = absurd cc
 
-nothing_refused : (file : List ℕ) → segments_of file ≡ Ok tt → Refused file
-unfolding segments_of
+nothing_refused : (file : List ℕ) → checked_all_segments file ≡ Ok tt → Refused file
+unfolding checked_all_segments
 nothing_refused file e =
-    let both = both_passed (each_segment_of file) (refused_at SegmentPlace (shared (loads file))) e in
+    let both = both_passed (checked_each_segment file) (refused_at SegmentPlace (shared (load_headers file))) e in
     let each = each_refused file both.0 in
-    record { over = each.0; unfilled = each.1; high = each.2; shared = passed_last SegmentPlace (shared (loads file)) both.1 }
+    record { over = each.0; unfilled = each.1; high = each.2; shared = passed_last SegmentPlace (shared (load_headers file)) both.1 }
 
-checked_at : (file : List ℕ) → segments_of file ≡ Ok tt → (i : ℕ) (d : ProgramHeader) → i < length (loads file) → Checked file (get_or (loads file) i d)
+checked_at : (file : List ℕ) → checked_all_segments file ≡ Ok tt → (i : ℕ) (d : ProgramHeader) → i < length (load_headers file) → Checked file (get_or (load_headers file) i d)
 checked_at file e i d lt =
     let r = nothing_refused file e in
     record {
       load = are_loads file i d lt;
-      filled = none_over (loads file) r.over i d lt;
-      there = none_unfilled file (loads file) r.unfilled i d lt;
-      low = none_high (loads file) r.high i d lt;
+      filled = none_over (load_headers file) r.over i d lt;
+      there = none_unfilled file (load_headers file) r.unfilled i d lt;
+      low = none_high (load_headers file) r.high i d lt;
     }
 
 load_takes : (h : ProgramHeader) → is_load h ≡ true → 0 < h.p_memsz
@@ -162,14 +162,14 @@ segment_within file h c =
 all_low : (hs : List ProgramHeader) → too_high hs ≡ None → All (λ h. h.p_vaddr + h.p_memsz ≤ stacks_begin) hs
 all_low hs e i d lt = ends_low (get_or hs i d) (none_high hs e i d lt)
 
-pub loads_low : (file : List ℕ) → each_segment_of file ≡ Ok tt → All (λ h. h.p_vaddr + h.p_memsz ≤ stacks_begin) (loads file)
-loads_low file e = all_low (loads file) (each_refused file e).2
+pub loads_low : (file : List ℕ) → checked_each_segment file ≡ Ok tt → All (λ h. h.p_vaddr + h.p_memsz ≤ stacks_begin) (load_headers file)
+loads_low file e = all_low (load_headers file) (each_refused file e).2
 
-pub loads_take : (file : List ℕ) → All (λ h. 0 < h.p_memsz) (loads file)
-loads_take file i d lt = load_takes (get_or (loads file) i d) (are_loads file i d lt)
+pub loads_take : (file : List ℕ) → All (λ h. 0 < h.p_memsz) (load_headers file)
+loads_take file i d lt = load_takes (get_or (load_headers file) i d) (are_loads file i d lt)
 
-pub loads_in_order : (file : List ℕ) → AllPairs (λ g h. g.offset < h.offset) (loads file)
-loads_in_order file i j d lt within = places_ascend _ (loads file) i j d (loads_ascend file) lt within
+pub loads_in_order : (file : List ℕ) → AllPairs (λ g h. g.offset < h.offset) (load_headers file)
+loads_in_order file i j d lt within = places_ascend _ (load_headers file) i j d (loads_ascend file) lt within
 
 -- there are as many headers as half a number counts, at most
 filter_shorter : (p : ProgramHeader → Bool) (hs : List ProgramHeader) → length (filter p hs) ≤ length hs
@@ -180,37 +180,37 @@ filter_shorter p (h ∷ hs) = go (p h) (filter_shorter p hs)
     go true le = omega arith
     go false le = omega arith
 
-pub few_loads : (file : List ℕ) → length (loads file) ≤ e_phnum file
-unfolding loads program_headers
+pub few_loads : (file : List ℕ) → length (load_headers file) ≤ e_phnum file
+unfolding load_headers program_headers
 few_loads file = omega (arith, filter_shorter is_load (map (λ k. program_header_at file (e_phoff file + 32 * k)) (range_with_len 0 (e_phnum file))), length-map-range_with_len (λ k. program_header_at file (e_phoff file + 32 * k)) 0 (e_phnum file))
 
 no_header : ProgramHeader
 no_header = record { offset = 0; p_type = 0; p_offset = 0; p_vaddr = 0; p_filesz = 0; p_memsz = 0; p_flags = 0 }
 
-pub all_within : (file : List ℕ) → segments_of file ≡ Ok tt → All (IsWithin file) (segments file)
+pub all_within : (file : List ℕ) → checked_all_segments file ≡ Ok tt → All (IsWithin file) (segments file)
 unfolding segments
 all_within file e i d lt =
-    let n : i < length (loads file) = omega (arith, length-map (loads file) segment_of) in
-    rw (get_or-map segment_of (loads file) i no_header d n) (segment_within file (get_or (loads file) i no_header) (checked_at file e i no_header n))
+    let n : i < length (load_headers file) = omega (arith, length-map (load_headers file) segment_of) in
+    rw (get_or-map segment_of (load_headers file) i no_header d n) (segment_within file (get_or (load_headers file) i no_header) (checked_at file e i no_header n))
 
 apart_tests : (g h : ProgramHeader) → (nat_lt g.offset h.offset && share g h) ≡ false → g.offset < h.offset → are_apart (segment_of g) (segment_of h) ≡ true
 apart_tests g h e lt = grind (arith, nat_tests)
 
-pub all_apart : (file : List ℕ) → segments_of file ≡ Ok tt → AllPairs (λ s t. IsTrue (are_apart s t)) (segments file)
+pub all_apart : (file : List ℕ) → checked_all_segments file ≡ Ok tt → AllPairs (λ s t. IsTrue (are_apart s t)) (segments file)
 unfolding segments
 all_apart file e i j d lt within =
-    let n : j < length (loads file) = omega (arith, length-map (loads file) segment_of) in
-    let m : i < length (loads file) = omega arith in
+    let n : j < length (load_headers file) = omega (arith, length-map (load_headers file) segment_of) in
+    let m : i < length (load_headers file) = omega arith in
     let r = nothing_refused file e in
-    let h = get_or (loads file) j no_header in
-    let g = get_or (loads file) i no_header in
-    let up : g.offset < h.offset = places_ascend _ (loads file) i j no_header (loads_ascend file) lt n in
-    let tested = any_none (λ g. nat_lt g.offset h.offset && share g h) (loads file) i no_header (none_shared (loads file) r.shared j no_header n) m in
-    rw (get_or-map segment_of (loads file) i no_header d m, get_or-map segment_of (loads file) j no_header d n) (apart_tests g h tested up)
+    let h = get_or (load_headers file) j no_header in
+    let g = get_or (load_headers file) i no_header in
+    let up : g.offset < h.offset = places_ascend _ (load_headers file) i j no_header (loads_ascend file) lt n in
+    let tested = any_none (λ g. nat_lt g.offset h.offset && share g h) (load_headers file) i no_header (none_shared (load_headers file) r.shared j no_header n) m in
+    rw (get_or-map segment_of (load_headers file) i no_header d m, get_or-map segment_of (load_headers file) j no_header d n) (apart_tests g h tested up)
 
 -- ---- for the one function that reads them
 
-pub loads_few : (file : List ℕ) → header_of file ≡ Ok tt → length file ≤ 2 ^ 26 → length (loads file) ≤ 2 ^ 21
+pub loads_few : (file : List ℕ) → checked_header file ≡ Ok tt → length file ≤ 2 ^ 26 → length (load_headers file) ≤ 2 ^ 21
 loads_few file checked small =
     let few = few_loads file in
     elim (cases_lt 0 (e_phnum file)) [
@@ -218,14 +218,14 @@ loads_few file checked small =
       | inr none ↦ omega arith
     ]
 
-pub both_checked : (file : List ℕ) → each_segment_of file ≡ Ok tt → refused_at SegmentPlace (shared (loads file)) ≡ Ok tt → segments_of file ≡ Ok tt
-unfolding segments_of
+pub both_checked : (file : List ℕ) → checked_each_segment file ≡ Ok tt → refused_at SegmentPlace (shared (load_headers file)) ≡ Ok tt → checked_all_segments file ≡ Ok tt
+unfolding checked_all_segments
 both_checked file each last = rw (each, last) refl
 
-pub segments_are : (file : List ℕ) → map segment_of (loads file) ≡ segments file
+pub segments_are : (file : List ℕ) → map segment_of (load_headers file) ≡ segments file
 unfolding segments
 segments_are file = refl
 
-pub segments_few : (file : List ℕ) → header_of file ≡ Ok tt → length file ≤ 2 ^ 26 → length (segments file) ≤ 2 ^ 21
+pub segments_few : (file : List ℕ) → checked_header file ≡ Ok tt → length file ≤ 2 ^ 26 → length (segments file) ≤ 2 ^ 21
 unfolding segments
-segments_few file checked small = rw (length-map (loads file) segment_of) (loads_few file checked small)
+segments_few file checked small = rw (length-map (load_headers file) segment_of) (loads_few file checked small)

@@ -3,12 +3,13 @@ use Rattle.std.specs.Prelude.{ℕ, ◌+◌, ◌/◌, ◌%◌, ◌==◌, Bool, no
 use Rattle.std.specs.Prelude.{None, unwrap_or, take, drop, find, if◌then◌else◌, slice_get}
 use Rattle.std.specs.Option.{option_map_or}
 use Rattle.elf_image.specs.declared.part.Segment.{Segment}
+use Rattle.elf_image.specs.declared.elf.TheConstants.{E_PHOFF, E_PHNUM, E_SHOFF, E_SHNUM, E_SHSTRNDX}
 use Rattle.elf_image.specs.declared.elf.TheConstants.{ELF32_PHDR_SIZE, ELF32_SHDR_SIZE, ELF32_SYM_SIZE, PT_LOAD}
 use Rattle.elf_image.specs.declared.elf.TheConstants.{SHN_UNDEF, SHT_NOBITS, SHT_NULL, SHT_SYMTAB, STT_FUNC}
 use Rattle.elf_image.specs.declared.header.ProgramHeader.{ProgramHeader}
 use Rattle.elf_image.specs.declared.header.SectionHeader.{SectionHeader}
 use Rattle.elf_image.specs.declared.header.Symbol.{Symbol}
-use Rattle.elf_image.specs.Fields.{file_byte, half_at, word_at, table_entries, text_in}
+use Rattle.elf_image.specs.Fields.{file_byte, half_at, word_at, table_entries, string_in}
 use Rattle.elf_image.specs.Image.{Named, FunctionSymbol, counts}
 
 -- a program header of 32 bytes
@@ -37,32 +38,36 @@ section_header_at file offset = record {
   sh_entsize = word_at file (offset + 36);
 }
 
--- a symbol of 16 bytes; its type is the low four bits of st_info
+-- a symbol's type is the low four bits of st_info
+abbrev pub elf32_st_type : ℕ → ℕ
+elf32_st_type st_info = st_info % 16
+
+-- a symbol of 16 bytes
 abbrev pub symbol_entry : List ℕ → ℕ → Symbol
 symbol_entry file offset = record {
   offset = offset;
   st_name = word_at file offset;
   st_value = word_at file (offset + 4);
   st_size = word_at file (offset + 8);
-  st_type = file_byte file (offset + 12) % 16;
+  st_type = elf32_st_type (file_byte file (offset + 12));
   st_shndx = half_at file (offset + 14);
 }
 
 -- fields of the file's header
 abbrev pub e_phoff : List ℕ → ℕ
-e_phoff file = word_at file 28
+e_phoff file = word_at file E_PHOFF
 
 abbrev pub e_phnum : List ℕ → ℕ
-e_phnum file = half_at file 44
+e_phnum file = half_at file E_PHNUM
 
 abbrev pub e_shoff : List ℕ → ℕ
-e_shoff file = word_at file 32
+e_shoff file = word_at file E_SHOFF
 
 abbrev pub e_shnum : List ℕ → ℕ
-e_shnum file = half_at file 48
+e_shnum file = half_at file E_SHNUM
 
 abbrev pub e_shstrndx : List ℕ → ℕ
-e_shstrndx file = half_at file 50
+e_shstrndx file = half_at file E_SHSTRNDX
 
 unfoldable pub program_headers : List ℕ → List ProgramHeader
 program_headers file = table_entries (program_header_at file) (e_phoff file) ELF32_PHDR_SIZE (e_phnum file)
@@ -76,8 +81,8 @@ section_headers file = table_entries (section_header_at file) (e_shoff file) ELF
 abbrev pub is_load : ProgramHeader → Bool
 is_load h = h.p_type == PT_LOAD && nat_lt 0 h.p_memsz
 
-unfoldable pub loads : List ℕ → List ProgramHeader
-loads file = filter is_load (program_headers file)
+unfoldable pub load_headers : List ℕ → List ProgramHeader
+load_headers file = filter is_load (program_headers file)
 
 abbrev pub segment_of : ProgramHeader → Segment
 segment_of h =
@@ -90,33 +95,33 @@ segment_of h =
     }
 
 unfoldable pub segments : List ℕ → List Segment
-segments file = map segment_of (loads file)
+segments file = map segment_of (load_headers file)
 
 -- ---- sections
 
--- a header of type NULL is no section
+-- a header of type NULL is not a section's
 abbrev pub is_section : SectionHeader → Bool
 is_section h = not (h.sh_type == SHT_NULL)
 
--- it has bytes in the file, as a section of type NOBITS has not
+-- it has bytes in the file; a section of type NOBITS has none
 abbrev pub has_bytes : SectionHeader → Bool
 has_bytes h = not (h.sh_type == SHT_NULL) && not (h.sh_type == SHT_NOBITS)
 
 abbrev pub section_bytes : List ℕ → SectionHeader → List ℕ
 section_bytes file h = if has_bytes h then take h.sh_size (drop h.sh_offset file) else []
 
--- the bytes of the section with that index, and none where there is no such section
+-- the bytes of the section with that index, and none where the file has no such section
 abbrev pub bytes_of_index : List ℕ → ℕ → List ℕ
 bytes_of_index file index = option_map_or (section_bytes file) (slice_get (section_headers file) index) []
 
--- a section's name, where it ends within the section that has the names; without such a section all names are empty
-unfoldable pub name_of : List ℕ → SectionHeader → Option (List ℕ)
-name_of file h =
-    if e_shstrndx file == SHN_UNDEF then Some [] else text_in (bytes_of_index file (e_shstrndx file)) h.sh_name
+-- a section's name, where it ends within the section name string table; without such a table all names are empty
+unfoldable pub section_name_of : List ℕ → SectionHeader → Option (List ℕ)
+section_name_of file h =
+    if e_shstrndx file == SHN_UNDEF then Some [] else string_in (bytes_of_index file (e_shstrndx file)) h.sh_name
 
 abbrev pub section_of : List ℕ → SectionHeader → Named
 section_of file h =
-    record { name = unwrap_or (name_of file h) []; address = h.sh_addr; bytes = section_bytes file h }
+    record { name = unwrap_or (section_name_of file h) []; address = h.sh_addr; bytes = section_bytes file h }
 
 unfoldable pub sections : List ℕ → List Named
 sections file = map (section_of file) (filter is_section (section_headers file))
@@ -136,9 +141,9 @@ abbrev pub is_function : List Segment → Symbol → Bool
 is_function loaded s =
     s.st_type == STT_FUNC && not (s.st_shndx == SHN_UNDEF) && counts loaded s.st_value (s.st_value + s.st_size)
 
--- a symbol's name, where it ends within the table's section of texts
+-- a symbol's name, where it ends within the table's string table
 abbrev pub symbol_name : List ℕ → SectionHeader → Symbol → Option (List ℕ)
-symbol_name file table s = text_in (bytes_of_index file table.sh_link) s.st_name
+symbol_name file table s = string_in (bytes_of_index file table.sh_link) s.st_name
 
 abbrev pub function_symbol : List ℕ → SectionHeader → Symbol → FunctionSymbol
 function_symbol file table s =

@@ -17,7 +17,7 @@ pub record Named : Type 0 where
   pub address : ℕ
   pub bytes : List ℕ
 
--- a function symbol: where the function begins, how many bytes it has, what it is symbol_view
+-- a function symbol: where the function begins, how many bytes it has, and its name
 pub record FunctionSymbol : Type 0 where
   pub start : ℕ
   pub size : ℕ
@@ -69,7 +69,7 @@ is_writable s = has_flag PF_W s.flags
 abbrev pub is_readable : Segment → Bool
 is_readable s = has_flag PF_R s.flags
 
--- a range counts where it is not empty and lies within one segment that can be executed
+-- a range counts where it is nonempty and lies in one executable segment
 abbrev pub counts : List Segment → ℕ → ℕ → Bool
 counts segments low high =
     nat_lt low high && list_any (λ s. is_executable s && nat_le s.start low && nat_le high s.end) segments

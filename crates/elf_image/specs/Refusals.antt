@@ -4,6 +4,9 @@ use Rattle.std.specs.Prelude.{ℕ, ◌+◌, ◌*◌, ◌%◌, ◌==◌, Bool, fa
 use Rattle.std.specs.Prelude.{find, Option, Some, None, option_map, is_none, slice_get, codes}
 use Rattle.std.specs.List.{list_any}
 use Rattle.std.specs.Option.{option_map_or}
+use Rattle.elf_image.specs.declared.elf.TheConstants.{EI_MAG0, EI_MAG1, EI_MAG2, EI_MAG3, EI_CLASS, EI_DATA}
+use Rattle.elf_image.specs.declared.elf.TheConstants.{EI_VERSION, E_TYPE, E_MACHINE, E_VERSION, E_FLAGS, E_PHENTSIZE}
+use Rattle.elf_image.specs.declared.elf.TheConstants.{E_PHOFF, E_SHENTSIZE, E_SHOFF, E_SHSTRNDX}
 use Rattle.elf_image.specs.declared.elf.TheConstants.{EF_RISCV_RVC, ELF32_EHDR_SIZE, ELF32_PHDR_SIZE, ELF32_SHDR_SIZE}
 use Rattle.elf_image.specs.declared.elf.TheConstants.{ELF32_SYM_SIZE, ELFCLASS32, ELFDATA2LSB, ELFMAG0, ELFMAG1}
 use Rattle.elf_image.specs.declared.elf.TheConstants.{ELFMAG2, ELFMAG3, EM_RISCV, ET_EXEC, EV_CURRENT, SHF_COMPRESSED}
@@ -13,7 +16,7 @@ use Rattle.elf_image.specs.declared.header.SectionHeader.{SectionHeader}
 use Rattle.elf_image.specs.Fields.{file_byte, half_at, word_at, lies_within, same_bytes}
 use Rattle.elf_image.specs.Image.{has_flag, stacks_begin}
 use Rattle.elf_image.specs.Headers.{e_phoff, e_phnum, e_shoff, e_shnum, e_shstrndx, section_headers, segments}
-use Rattle.elf_image.specs.Headers.{is_section, has_bytes, name_of, symbols_of, is_function, symbol_name}
+use Rattle.elf_image.specs.Headers.{is_section, has_bytes, section_name_of, symbols_of, is_function, symbol_name}
 
 -- the offset of the first test that holds
 abbrev pub first_of : List (Bool × ℕ) → Option ℕ
@@ -23,39 +26,39 @@ first_of tests = option_map (λ t. t.1) (find (λ t. t.0) tests)
 abbrev pub differs : ℕ → ℕ → Bool
 differs m n = not (m == n)
 
--- it does not begin as every ELF file does, or has no room for the header
+-- it does not begin with the magic number, or is shorter than the file's header
 unfoldable pub not_elf : List ℕ → Option ℕ
 not_elf file = first_of (
-    (differs (file_byte file 0) ELFMAG0, 0)
-    ∷ (differs (file_byte file 1) ELFMAG1, 1)
-    ∷ (differs (file_byte file 2) ELFMAG2, 2)
-    ∷ (differs (file_byte file 3) ELFMAG3, 3)
+    (differs (file_byte file EI_MAG0) ELFMAG0, EI_MAG0)
+    ∷ (differs (file_byte file EI_MAG1) ELFMAG1, EI_MAG1)
+    ∷ (differs (file_byte file EI_MAG2) ELFMAG2, EI_MAG2)
+    ∷ (differs (file_byte file EI_MAG3) ELFMAG3, EI_MAG3)
     ∷ (nat_lt (length file) ELF32_EHDR_SIZE, length file)
     ∷ [])
 
 -- class, data and version, type, machine, and version again
 unfoldable pub not_riscv32_exec : List ℕ → Option ℕ
 not_riscv32_exec file = first_of (
-    (differs (file_byte file 4) ELFCLASS32, 4)
-    ∷ (differs (file_byte file 5) ELFDATA2LSB, 5)
-    ∷ (differs (file_byte file 6) EV_CURRENT, 6)
-    ∷ (differs (half_at file 16) ET_EXEC, 16)
-    ∷ (differs (half_at file 18) EM_RISCV, 18)
-    ∷ (differs (word_at file 20) EV_CURRENT, 20)
+    (differs (file_byte file EI_CLASS) ELFCLASS32, EI_CLASS)
+    ∷ (differs (file_byte file EI_DATA) ELFDATA2LSB, EI_DATA)
+    ∷ (differs (file_byte file EI_VERSION) EV_CURRENT, EI_VERSION)
+    ∷ (differs (half_at file E_TYPE) ET_EXEC, E_TYPE)
+    ∷ (differs (half_at file E_MACHINE) EM_RISCV, E_MACHINE)
+    ∷ (differs (word_at file E_VERSION) EV_CURRENT, E_VERSION)
     ∷ [])
 
 -- the flag EF_RISCV_RVC
 unfoldable pub compressed_code : List ℕ → Option ℕ
-compressed_code file = first_of ((has_flag EF_RISCV_RVC (word_at file 36), 36) ∷ [])
+compressed_code file = first_of ((has_flag EF_RISCV_RVC (word_at file E_FLAGS), E_FLAGS) ∷ [])
 
--- the sizes and offsets of the headers, and the section that has the names
+-- the sizes and offsets of the headers, and the index of the section name string table
 abbrev pub header_tests : List ℕ → List (Bool × ℕ)
 header_tests file =
-    (differs (e_phnum file) 0 && differs (half_at file 42) ELF32_PHDR_SIZE, 42)
-    ∷ (not (lies_within file (e_phoff file) (ELF32_PHDR_SIZE * e_phnum file)), 28)
-    ∷ (differs (e_shnum file) 0 && differs (half_at file 46) ELF32_SHDR_SIZE, 46)
-    ∷ (not (lies_within file (e_shoff file) (ELF32_SHDR_SIZE * e_shnum file)), 32)
-    ∷ (differs (e_shnum file) 0 && nat_le (e_shnum file) (e_shstrndx file), 50)
+    (differs (e_phnum file) 0 && differs (half_at file E_PHENTSIZE) ELF32_PHDR_SIZE, E_PHENTSIZE)
+    ∷ (not (lies_within file (e_phoff file) (ELF32_PHDR_SIZE * e_phnum file)), E_PHOFF)
+    ∷ (differs (e_shnum file) 0 && differs (half_at file E_SHENTSIZE) ELF32_SHDR_SIZE, E_SHENTSIZE)
+    ∷ (not (lies_within file (e_shoff file) (ELF32_SHDR_SIZE * e_shnum file)), E_SHOFF)
+    ∷ (differs (e_shnum file) 0 && nat_le (e_shnum file) (e_shstrndx file), E_SHSTRNDX)
     ∷ []
 
 unfoldable pub header_place : List ℕ → Option ℕ
@@ -90,25 +93,26 @@ shared headers = first_program (shares_earlier headers) headers
 abbrev pub first_section : (SectionHeader → Bool) → List SectionHeader → Option ℕ
 first_section test headers = option_map (λ h. h.offset) (find test headers)
 
-unfoldable pub outside : List ℕ → List SectionHeader → Option ℕ
-outside file headers = first_section (λ h. has_bytes h && not (lies_within file h.sh_offset h.sh_size)) headers
+unfoldable pub section_outside : List ℕ → List SectionHeader → Option ℕ
+section_outside file headers = first_section (λ h. has_bytes h && not (lies_within file h.sh_offset h.sh_size)) headers
 
-unfoldable pub nameless : List ℕ → List SectionHeader → Option ℕ
-nameless file headers = first_section (λ h. is_section h && is_none (name_of file h)) headers
+unfoldable pub unterminated_name : List ℕ → List SectionHeader → Option ℕ
+unterminated_name file headers = first_section (λ h. is_section h && is_none (section_name_of file h)) headers
 
--- the sections that are read when a program is measured
-abbrev pub read_names : List (List ℕ)
-read_names =
+-- the sections of debug information that are read. `.eh_frame` is allocated, and SHF_COMPRESSED does not apply to
+-- allocated sections
+abbrev pub debug_section_names : List (List ℕ)
+debug_section_names =
     codes ".debug_info" ∷ codes ".debug_abbrev" ∷ codes ".debug_line" ∷ codes ".debug_str" ∷ codes ".debug_line_str"
     ∷ codes ".debug_str_offsets" ∷ codes ".debug_addr" ∷ codes ".debug_rnglists" ∷ codes ".debug_frame" ∷ []
 
-unfoldable pub is_read_name : List ℕ → Bool
-is_read_name name = list_any (same_bytes name) read_names
+unfoldable pub is_debug_section_name : List ℕ → Bool
+is_debug_section_name name = list_any (same_bytes name) debug_section_names
 
 -- the name is one of these
-abbrev pub is_read : Option (List ℕ) → Bool
-is_read None = false
-is_read (Some name) = is_read_name name
+abbrev pub is_debug_section : Option (List ℕ) → Bool
+is_debug_section None = false
+is_debug_section (Some name) = is_debug_section_name name
 
 -- the flag SHF_COMPRESSED
 abbrev pub is_compressed : SectionHeader → Bool
@@ -116,23 +120,23 @@ is_compressed h = has_flag SHF_COMPRESSED h.sh_flags
 
 unfoldable pub compressed_section : List ℕ → List SectionHeader → Option ℕ
 compressed_section file headers =
-    first_section (λ h. is_section h && is_compressed h && is_read (name_of file h)) headers
+    first_section (λ h. is_section h && is_compressed h && is_debug_section (section_name_of file h)) headers
 
 -- ---- symbols
 
 -- the section with that index has type STRTAB
-abbrev pub is_text_table : List SectionHeader → ℕ → Bool
-is_text_table headers index = option_map_or (λ h. h.sh_type == SHT_STRTAB) (slice_get headers index) false
+abbrev pub is_string_table : List SectionHeader → ℕ → Bool
+is_string_table headers index = option_map_or (λ h. h.sh_type == SHT_STRTAB) (slice_get headers index) false
 
 -- the table's own fields
 unfoldable pub bad_table : List ℕ → SectionHeader → Option ℕ
 bad_table file table = first_of (
     (differs table.sh_entsize ELF32_SYM_SIZE, table.offset)
     ∷ (differs (table.sh_size % ELF32_SYM_SIZE) 0, table.offset)
-    ∷ (not (is_text_table (section_headers file) table.sh_link), table.offset)
+    ∷ (not (is_string_table (section_headers file) table.sh_link), table.offset)
     ∷ [])
 
-unfoldable pub nameless_function : List ℕ → SectionHeader → Option ℕ
-nameless_function file table =
+unfoldable pub function_with_unterminated_name : List ℕ → SectionHeader → Option ℕ
+function_with_unterminated_name file table =
     option_map (λ s. s.offset) (find (λ s. is_function (segments file) s
     && is_none (symbol_name file table s)) (symbols_of file table))

@@ -1,7 +1,48 @@
 //! Numbers of the format by the names that the standard gives them: System V ABI, chapters 4 and 5
 //! (`elf.h`), and the RISC-V ELF psABI.
 ghost use Rattle.std.specs.Prelude.{◌≡◌, ◌<◌, ◌∷◌, []};
+ghost use Rattle.elf_image.specs.Headers.{elf32_st_type};
 ghost use Rattle.elf_image.specs.Image.{has_flag};
+
+/// Offsets of the bytes of `e_ident`, with which the file begins.
+pub const EI_MAG0: u32 = 0;
+
+pub const EI_MAG1: u32 = 1;
+
+pub const EI_MAG2: u32 = 2;
+
+pub const EI_MAG3: u32 = 3;
+
+pub const EI_CLASS: u32 = 4;
+
+pub const EI_DATA: u32 = 5;
+
+pub const EI_VERSION: u32 = 6;
+
+/// Offsets of the fields of the file's header.
+pub const E_TYPE: u32 = 16;
+
+pub const E_MACHINE: u32 = 18;
+
+pub const E_VERSION: u32 = 20;
+
+pub const E_ENTRY: u32 = 24;
+
+pub const E_PHOFF: u32 = 28;
+
+pub const E_SHOFF: u32 = 32;
+
+pub const E_FLAGS: u32 = 36;
+
+pub const E_PHENTSIZE: u32 = 42;
+
+pub const E_PHNUM: u32 = 44;
+
+pub const E_SHENTSIZE: u32 = 46;
+
+pub const E_SHNUM: u32 = 48;
+
+pub const E_SHSTRNDX: u32 = 50;
 
 /// How an ELF file begins (`e_ident`).
 pub const ELFMAG0: u8 = 0x7f;
@@ -50,6 +91,8 @@ pub const PF_R: u32 = 4;
 /// `sh_type`.
 pub const SHT_NULL: u32 = 0;
 
+pub const SHT_PROGBITS: u32 = 1;
+
 pub const SHT_SYMTAB: u32 = 2;
 
 pub const SHT_STRTAB: u32 = 3;
@@ -59,24 +102,43 @@ pub const SHT_NOBITS: u32 = 8;
 /// `sh_flags`: the section's bytes are compressed.
 pub const SHF_COMPRESSED: u32 = 0x800;
 
-/// `st_shndx`: the symbol has no section; `e_shstrndx`: the file has no section of names.
+/// `st_shndx`: the symbol is undefined; `e_shstrndx`: the sections have no names.
 pub const SHN_UNDEF: u16 = 0;
+
+/// `st_shndx`: the symbol's value is an address.
+pub const SHN_ABS: u16 = 0xfff1;
+
+/// The high four bits of `st_info`: a global symbol.
+pub const STB_GLOBAL: u8 = 1;
 
 /// The low four bits of `st_info`: a function.
 pub const STT_FUNC: u8 = 2;
 
 /// The numbers that the definitions cite by their names are those of the standard.
-pub fn number_laws()
+pub fn elf_constant_values()
+    ensures ident_offsets { EI_MAG0 ∷ EI_MAG1 ∷ EI_MAG2 ∷ EI_MAG3 ∷ EI_CLASS ∷ EI_DATA ∷ EI_VERSION ∷ []
+        ≡ 0 ∷ 1 ∷ 2 ∷ 3 ∷ 4 ∷ 5 ∷ 6 ∷ [] }
+    ensures header_offsets { E_TYPE ∷ E_MACHINE ∷ E_VERSION ∷ E_ENTRY ∷ E_PHOFF ∷ E_SHOFF ∷ E_FLAGS ∷ []
+        ≡ 16 ∷ 18 ∷ 20 ∷ 24 ∷ 28 ∷ 32 ∷ 36 ∷ [] }
+    ensures table_offsets { E_PHENTSIZE ∷ E_PHNUM ∷ E_SHENTSIZE ∷ E_SHNUM ∷ E_SHSTRNDX ∷ []
+        ≡ 42 ∷ 44 ∷ 46 ∷ 48 ∷ 50 ∷ [] }
     ensures ident { ELFMAG0 ∷ ELFMAG1 ∷ ELFMAG2 ∷ ELFMAG3 ∷ ELFCLASS32 ∷ ELFDATA2LSB ∷ EV_CURRENT ∷ []
         ≡ 0x7f ∷ 69 ∷ 76 ∷ 70 ∷ 1 ∷ 1 ∷ 1 ∷ [] }
     ensures header { ET_EXEC ∷ EM_RISCV ∷ EF_RISCV_RVC ∷ SHN_UNDEF ∷ [] ≡ 2 ∷ 243 ∷ 1 ∷ 0 ∷ [] }
     ensures sizes { ELF32_EHDR_SIZE ∷ ELF32_PHDR_SIZE ∷ ELF32_SHDR_SIZE ∷ ELF32_SYM_SIZE ∷ []
         ≡ 52 ∷ 32 ∷ 40 ∷ 16 ∷ [] }
     ensures segments { PT_LOAD ∷ PF_X ∷ PF_W ∷ PF_R ∷ [] ≡ 1 ∷ 1 ∷ 2 ∷ 4 ∷ [] }
-    ensures sections { SHT_NULL ∷ SHT_SYMTAB ∷ SHT_STRTAB ∷ SHT_NOBITS ∷ SHF_COMPRESSED ∷ []
-        ≡ 0 ∷ 2 ∷ 3 ∷ 8 ∷ 0x800 ∷ [] }
-    ensures symbols { STT_FUNC ≡ 2 }
+    ensures sections { SHT_NULL ∷ SHT_PROGBITS ∷ SHT_SYMTAB ∷ SHT_STRTAB ∷ SHT_NOBITS ∷ SHF_COMPRESSED ∷ []
+        ≡ 0 ∷ 1 ∷ 2 ∷ 3 ∷ 8 ∷ 0x800 ∷ [] }
+    ensures symbols { SHN_ABS ∷ STB_GLOBAL ∷ STT_FUNC ∷ [] ≡ 0xfff1 ∷ 1 ∷ 2 ∷ [] }
 {}
+
+/// The type of a symbol (`ELF32_ST_TYPE`).
+pub(crate) fn elf32_st_type(st_info: u8) -> u8
+    ensures { result ≡ elf32_st_type st_info }
+{
+    st_info % 16
+}
 
 /// Whether a flag of one bit is set.
 pub(crate) fn has_flag(flag: u32, flags: u32) -> bool

@@ -5,28 +5,36 @@ ghost use Rattle.elf_image.specs.Reading.{refused_at};
 
 use prof_bytes::Fail;
 
-/// What is refused in a file, in the order in which the rules are tried.
+/// What is refused in a file (System V ABI, chapters 4 and 5, and the RISC-V psABI), in the order in which the
+/// rules are tried.
 #[derive(Clone, Copy, Debug, PartialEq, Eq)]
 pub enum ElfRule {
-    /// It does not begin as every ELF file does, or has no room for the header.
+    /// Does not begin with the ELF magic number (`EI_MAG0` to `EI_MAG3`), or is shorter than the file's header.
     NotElf,
-    /// It is no 32-bit little endian program for execution on RISC-V.
+    /// Not a 32-bit little-endian RISC-V executable (`EI_CLASS`, `EI_DATA`, `EI_VERSION`, `e_type`,
+    /// `e_machine`, `e_version`).
     NotRiscv32Exec,
-    /// Its code has compressed instructions.
+    /// The code has compressed instructions (`EF_RISCV_RVC` in `e_flags`).
     CompressedCode,
-    /// The sizes or offsets of its headers are not as they must be.
+    /// A header table lies outside the file or has the wrong entry size, or the file has sections and
+    /// `e_shstrndx` is not the index of one.
     HeaderPlace,
-    /// A segment's bytes or addresses are not as they must be; the offset is its header's.
+    /// A loaded segment has more bytes in the file than in memory, lies outside the file, overlaps an earlier
+    /// one, or reaches into the stacks; the offset is its header's.
     SegmentPlace,
-    /// A section's bytes or name are not in the file; the offset is its header's.
+    /// A section's bytes lie outside the file, or its name is unterminated; the offset is its header's.
     SectionPlace,
-    /// A section that is read when a program is measured is compressed; the offset is its header's.
+    /// One of these sections is compressed (`SHF_COMPRESSED`): `.debug_info`, `.debug_abbrev`, `.debug_line`,
+    /// `.debug_str`, `.debug_line_str`, `.debug_str_offsets`, `.debug_addr`, `.debug_rnglists`, `.debug_frame`.
+    /// The offset is its header's. `.eh_frame` is not tested: it is allocated, and the flag does not apply to
+    /// allocated sections.
     CompressedSection,
-    /// The symbol table, by its header's offset, or a function symbol is not as it must be.
+    /// The symbol table's header is invalid (`sh_entsize`, `sh_size`, `sh_link`), or a function symbol's name is
+    /// unterminated; the offset is the header's or the symbol's.
     SymbolPlace,
 }
 
-/// A refusal, and the offset in the file at which it shows, in bytes.
+/// A refusal, and the offset in the file, in bytes, of the field, header or symbol that breaks the rule.
 #[derive(Clone, Copy, Debug, PartialEq, Eq)]
 pub struct ElfFault {
     pub rule: ElfRule,

@@ -1,7 +1,7 @@
-//! Fields of a file by their offsets, and 0 where the file has no such field.
+//! Fields of a file by their offsets, and 0 where a field lies outside the file.
 ghost use Rattle.std.specs.Prelude.{◌≡◌, ◌+◌, ◌<◌, ◌≤◌, length, position, option_map, IfSome};
 ghost use Rattle.std.specs.Option.{option_copied};
-ghost use Rattle.elf_image.specs.Fields.{file_byte, half_at, word_at, lies_within, is_zero, text_in};
+ghost use Rattle.elf_image.specs.Fields.{file_byte, half_at, word_at, lies_within, is_zero, string_in};
 
 use byteorder::{ByteOrder, LittleEndian};
 
@@ -34,7 +34,7 @@ pub(crate) fn word_at(file: &[u8], offset: usize) -> u32
     LittleEndian::read_u32(&file[offset..])
 }
 
-/// Whether so many bytes from an offset on are in the file. No bytes are in it anywhere.
+/// Whether a given number of bytes from an offset on lie in the file. An empty range does at any offset.
 pub(crate) fn lies_within(file: &[u8], offset: u32, size: u32) -> bool
     ensures { result ≡ lies_within file.now offset size }
 {

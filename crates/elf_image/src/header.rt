@@ -7,11 +7,13 @@ ghost use Rattle.elf_image.specs.Headers.{program_header_at, section_header_at, 
 ghost use Rattle.elf_image.specs.Headers.{e_shoff};
 ghost use Rattle.elf_image.specs.Headers.{e_shnum, e_shstrndx, program_headers, section_headers};
 ghost use Rattle.elf_image.specs.Refusals.{not_elf, not_riscv32_exec, compressed_code, header_place};
-ghost use Rattle.elf_image.specs.Reading.{header_of};
+ghost use Rattle.elf_image.specs.Reading.{checked_header};
 
 use crate::elf::{
-    EF_RISCV_RVC, ELF32_EHDR_SIZE, ELF32_PHDR_SIZE, ELF32_SHDR_SIZE, ELFCLASS32, ELFDATA2LSB,
-    ELFMAG0, ELFMAG1, ELFMAG2, ELFMAG3, EM_RISCV, ET_EXEC, EV_CURRENT, has_flag,
+    E_FLAGS, E_MACHINE, E_PHENTSIZE, E_PHNUM, E_PHOFF, E_SHENTSIZE, E_SHNUM, E_SHOFF, E_SHSTRNDX,
+    E_TYPE, E_VERSION, EF_RISCV_RVC, EI_CLASS, EI_DATA, EI_MAG0, EI_MAG1, EI_MAG2, EI_MAG3,
+    EI_VERSION, ELF32_EHDR_SIZE, ELF32_PHDR_SIZE, ELF32_SHDR_SIZE, ELFCLASS32, ELFDATA2LSB,
+    ELFMAG0, ELFMAG1, ELFMAG2, ELFMAG3, EM_RISCV, ET_EXEC, EV_CURRENT, elf32_st_type, has_flag,
 };
 use crate::fault::{ElfFault, ElfRule, first_of, refuse};
 use crate::field::{byte_at, half_at, lies_within, word_at};
@@ -96,7 +98,7 @@ pub(crate) fn symbol_entry(file: &[u8], offset: u32) -> Symbol
         st_name: word_at(file, at),
         st_value: word_at(file, at + 4),
         st_size: word_at(file, at + 8),
-        st_type: byte_at(file, at + 12) % 16,
+        st_type: elf32_st_type(byte_at(file, at + 12)),
         st_shndx: half_at(file, at + 14),
     }
 }
@@ -104,32 +106,32 @@ pub(crate) fn symbol_entry(file: &[u8], offset: u32) -> Symbol
 fn e_phoff(file: &[u8]) -> u32
     ensures { result ≡ e_phoff file.now }
 {
-    word_at(file, 28)
+    word_at(file, E_PHOFF as usize)
 }
 
 fn e_phnum(file: &[u8]) -> u16
     ensures { result ≡ e_phnum file.now }
 {
-    half_at(file, 44)
+    half_at(file, E_PHNUM as usize)
 }
 
 fn e_shoff(file: &[u8]) -> u32
     ensures { result ≡ e_shoff file.now }
 {
-    word_at(file, 32)
+    word_at(file, E_SHOFF as usize)
 }
 
 fn e_shnum(file: &[u8]) -> u16
     ensures { result ≡ e_shnum file.now }
 {
-    half_at(file, 48)
+    half_at(file, E_SHNUM as usize)
 }
 
 /// The index of the section that has the names, and 0 where there is none.
 pub(crate) fn e_shstrndx(file: &[u8]) -> u16
     ensures { result ≡ e_shstrndx file.now }
 {
-    half_at(file, 50)
+    half_at(file, E_SHSTRNDX as usize)
 }
 
 #[tactic(auto, unfolding(crate::specs::Refusals::not_elf))]
@@ -138,10 +140,10 @@ fn not_elf(file: &[u8]) -> Option<u32>
     ensures { result ≡ not_elf file.now }
 {
     first_of(&[
-        (byte_at(file, 0) != ELFMAG0, 0),
-        (byte_at(file, 1) != ELFMAG1, 1),
-        (byte_at(file, 2) != ELFMAG2, 2),
-        (byte_at(file, 3) != ELFMAG3, 3),
+        (byte_at(file, EI_MAG0 as usize) != ELFMAG0, EI_MAG0),
+        (byte_at(file, EI_MAG1 as usize) != ELFMAG1, EI_MAG1),
+        (byte_at(file, EI_MAG2 as usize) != ELFMAG2, EI_MAG2),
+        (byte_at(file, EI_MAG3 as usize) != ELFMAG3, EI_MAG3),
         (file.len() < ELF32_EHDR_SIZE as usize, file.len() as u32),
     ])
 }
@@ -151,12 +153,15 @@ fn not_riscv32_exec(file: &[u8]) -> Option<u32>
     ensures { result ≡ not_riscv32_exec file.now }
 {
     first_of(&[
-        (byte_at(file, 4) != ELFCLASS32, 4),
-        (byte_at(file, 5) != ELFDATA2LSB, 5),
-        (byte_at(file, 6) != EV_CURRENT, 6),
-        (half_at(file, 16) != ET_EXEC, 16),
-        (half_at(file, 18) != EM_RISCV, 18),
-        (word_at(file, 20) != u32::from(EV_CURRENT), 20),
+        (byte_at(file, EI_CLASS as usize) != ELFCLASS32, EI_CLASS),
+        (byte_at(file, EI_DATA as usize) != ELFDATA2LSB, EI_DATA),
+        (byte_at(file, EI_VERSION as usize) != EV_CURRENT, EI_VERSION),
+        (half_at(file, E_TYPE as usize) != ET_EXEC, E_TYPE),
+        (half_at(file, E_MACHINE as usize) != EM_RISCV, E_MACHINE),
+        (
+            word_at(file, E_VERSION as usize) != u32::from(EV_CURRENT),
+            E_VERSION,
+        ),
     ])
 }
 
@@ -164,7 +169,10 @@ fn not_riscv32_exec(file: &[u8]) -> Option<u32>
 fn compressed_code(file: &[u8]) -> Option<u32>
     ensures { result ≡ compressed_code file.now }
 {
-    first_of(&[(has_flag(EF_RISCV_RVC, word_at(file, 36)), 36)])
+    first_of(&[(
+        has_flag(EF_RISCV_RVC, word_at(file, E_FLAGS as usize)),
+        E_FLAGS,
+    )])
 }
 
 #[tactic(auto, unfolding(crate::specs::Refusals::header_place))]
@@ -175,24 +183,27 @@ fn header_place(file: &[u8]) -> Option<u32>
     let sections = ELF32_SHDR_SIZE * u32::from(e_shnum(file));
     first_of(&[
         (
-            e_phnum(file) != 0 && u32::from(half_at(file, 42)) != ELF32_PHDR_SIZE,
-            42,
+            e_phnum(file) != 0 && u32::from(half_at(file, E_PHENTSIZE as usize)) != ELF32_PHDR_SIZE,
+            E_PHENTSIZE,
         ),
-        (!lies_within(file, e_phoff(file), programs), 28),
+        (!lies_within(file, e_phoff(file), programs), E_PHOFF),
         (
-            e_shnum(file) != 0 && u32::from(half_at(file, 46)) != ELF32_SHDR_SIZE,
-            46,
+            e_shnum(file) != 0 && u32::from(half_at(file, E_SHENTSIZE as usize)) != ELF32_SHDR_SIZE,
+            E_SHENTSIZE,
         ),
-        (!lies_within(file, e_shoff(file), sections), 32),
-        (e_shnum(file) != 0 && e_shnum(file) <= e_shstrndx(file), 50),
+        (!lies_within(file, e_shoff(file), sections), E_SHOFF),
+        (
+            e_shnum(file) != 0 && e_shnum(file) <= e_shstrndx(file),
+            E_SHSTRNDX,
+        ),
     ])
 }
 
 /// The tests of the file's own header.
-#[tactic(auto, unfolding(crate::specs::Reading::header_of))]
+#[tactic(auto, unfolding(crate::specs::Reading::checked_header))]
 pub(crate) fn check_header(file: &[u8]) -> Result<(), Fail<ElfFault>>
     requires { length file.now ≤ 2 ^ 26 }
-    ensures { Gives (λ done. done) result (header_of file.now) }
+    ensures { Gives (λ done. done) result (checked_header file.now) }
 {
     refuse(ElfRule::NotElf, not_elf(file))?;
     refuse(ElfRule::NotRiscv32Exec, not_riscv32_exec(file))?;
@@ -203,7 +214,7 @@ pub(crate) fn check_header(file: &[u8]) -> Result<(), Fail<ElfFault>>
 #[tactic(auto, unfolding(crate::specs::Headers::program_headers))]
 pub(crate) fn program_headers(alloc: Global, file: &[u8]) -> Result<Vec<ProgramHeader>, Memory>
     requires small { length file.now ≤ 2 ^ 26 }
-    requires checked { header_of file.now ≡ Ok tt }
+    requires checked { checked_header file.now ≡ Ok tt }
     ensures { IfOk result (λ headers. headers.items ≡ program_headers file.now) }
 {
     let first = e_phoff(file);
@@ -217,7 +228,7 @@ pub(crate) fn program_headers(alloc: Global, file: &[u8]) -> Result<Vec<ProgramH
 #[tactic(auto, unfolding(crate::specs::Headers::section_headers))]
 pub(crate) fn section_headers(alloc: Global, file: &[u8]) -> Result<Vec<SectionHeader>, Memory>
     requires small { length file.now ≤ 2 ^ 26 }
-    requires checked { header_of file.now ≡ Ok tt }
+    requires checked { checked_header file.now ≡ Ok tt }
     ensures { IfOk result (λ headers. headers.items ≡ section_headers file.now) }
 {
     let first = e_shoff(file);

@@ -7,9 +7,10 @@ ghost use Rattle.prof_bytes.specs.Outcome.{Gives};
 ghost use Rattle.elf_image.specs.Image.{IsLoaded, IsWithin, are_apart, named, symbol_view, in_segment, in_function};
 ghost use Rattle.elf_image.specs.Image.{counts, bytes_of_name, address_of_name};
 ghost use Rattle.elf_image.specs.Headers.{segments, section_headers, sections, symbol_table, functions};
-ghost use Rattle.elf_image.specs.Reading.{header_of, segments_of, sections_of, symbols_in, image_of};
+ghost use Rattle.elf_image.specs.Reading.{checked_header, checked_all_segments, checked_sections, checked_symbols, image_of};
 ghost use Rattle.elf_image.specs.private.Checks.{after};
 
+use crate::elf::E_ENTRY;
 use crate::fault::ElfFault;
 use crate::field::word_at;
 use crate::header::{check_header, section_headers};
@@ -23,7 +24,7 @@ use prof_bytes::Fail;
 use std::alloc::Global;
 use std::marker::Model;
 
-/// A program that was read. It lends the file's bytes.
+/// A program that was read (System V ABI, chapters 4 and 5). It lends the file's bytes.
 #[derive(Debug, Drop)]
 pub struct Image<'a> {
     file: &'a [u8],
@@ -69,7 +70,7 @@ pub fn read_image(alloc: Global, file: &[u8]) -> Result<Image<'_>, Fail<ElfFault
     let functions = read_functions(alloc, file, &segments, &headers)?;
     Ok(Image {
         file,
-        entry: word_at(file, 24),
+        entry: word_at(file, E_ENTRY as usize),
         segments,
         sections,
         functions,
@@ -101,7 +102,7 @@ fn address_named(sections: &[Section<'_>], name: &[u8]) -> u32
 }
 
 impl<'a> Image<'a> {
-    /// The address at which the program begins to run.
+    /// The address at which the program begins to run (`e_entry`; System V ABI, chapter 4, ELF Header).
     pub fn entry(&self) -> u32
         ensures { result ≡ self.now.entry }
     {
@@ -122,7 +123,7 @@ impl<'a> Image<'a> {
         self.file
     }
 
-    /// The segments, in the order of their headers.
+    /// The loaded segments, in the order of their headers (System V ABI, chapter 5, Program Header).
     pub fn segments(&self) -> &[Segment]
         ensures value { result.now ≡ self.now.segments }
         ensures loaded { IsLoaded self.now }
@@ -137,15 +138,15 @@ impl<'a> Image<'a> {
         segment_at(&self.segments, at)
     }
 
-    /// Whether the addresses from `low` up to `high` count: there are some, and they lie within one
-    /// segment that can be executed.
+    /// Whether the range from `low` up to `high` counts: it is nonempty and lies in one executable segment.
     pub fn counts(&self, low: u32, high: u32) -> bool
         ensures { result ≡ counts self.now.segments low high }
     {
         counts(&self.segments, low, u64::from(high))
     }
 
-    /// Whether so many addresses from `start` on count. Their end is then below 2^32.
+    /// Whether the range of `size` bytes from `start` on counts: it is nonempty and lies in one executable
+    /// segment. Its end is then below 2^32.
     pub fn counts_from(&self, start: u32, size: u32) -> bool
         ensures counts { result ≡ counts self.now.segments start (start + size) }
         ensures low { IsTrue result → start + size < 2 ^ 32 }
@@ -153,8 +154,8 @@ impl<'a> Image<'a> {
         counts(&self.segments, start, u64::from(start) + u64::from(size))
     }
 
-    /// The bytes of the first section of that name, and none where there is no such section or it has
-    /// no bytes in the file.
+    /// The bytes of the first section of that name (System V ABI, chapter 4, Sections). They are empty where
+    /// the file has no such section, or the section has no bytes in the file.
     pub fn section(&self, name: &[u8]) -> &'a [u8]
         ensures bytes { result.now ≡ bytes_of_name self.now.sections name.now }
         ensures few { length result.now ≤ 2 ^ 26 }
@@ -162,15 +163,16 @@ impl<'a> Image<'a> {
         section_named(&self.sections, name)
     }
 
-    /// The address in memory (`sh_addr`) of the first section of that name, and 0 where there is no such
-    /// section.
+    /// The address in memory (`sh_addr`) of the first section of that name, and 0 where the file has no such
+    /// section (System V ABI, chapter 4, Section Header).
     pub fn section_address(&self, name: &[u8]) -> u32
         ensures { result ≡ address_of_name self.now.sections name.now }
     {
         address_named(&self.sections, name)
     }
 
-    /// The function symbols whose ranges count, in symbol order.
+    /// The function symbols whose ranges are nonempty and lie in one executable segment, in symbol order
+    /// (System V ABI, chapter 4, Symbol Table).
     pub fn functions(&self) -> &[Function<'a>]
         ensures { map symbol_view result.now ≡ self.now.functions }
     {

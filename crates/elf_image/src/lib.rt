@@ -15,12 +15,16 @@ mod part;
 mod program;
 mod section;
 mod segments;
+mod string_table;
 mod symbol;
-mod texts;
 
 pub use address_ranges::{AddressRange, HasRange, RangeTable};
 pub use debug_parts::DebugParts;
-pub use elf::{PF_R, PF_W, PF_X, number_laws};
+pub use elf::{
+    ELF32_EHDR_SIZE, ELF32_PHDR_SIZE, ELF32_SHDR_SIZE, ELF32_SYM_SIZE, ELFCLASS32, ELFDATA2LSB,
+    ELFMAG0, ELFMAG1, ELFMAG2, ELFMAG3, EM_RISCV, ET_EXEC, EV_CURRENT, PF_R, PF_W, PF_X, PT_LOAD,
+    SHN_ABS, SHT_PROGBITS, SHT_STRTAB, SHT_SYMTAB, STB_GLOBAL, STT_FUNC, elf_constant_values,
+};
 pub use fault::{ElfFault, ElfRule};
 pub use image::{Image, read_image};
 pub use part::{Function, Segment};

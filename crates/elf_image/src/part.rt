@@ -5,9 +5,9 @@ ghost use Rattle.elf_image.specs.Image.{range_of, function_range, symbol_view, i
 use crate::elf::{PF_R, PF_W, PF_X, has_flag};
 use address_ranges::{AddressRange, HasRange};
 
-/// A segment that is loaded: the addresses from `start` up to `end` (`p_vaddr` and `p_memsz`), the
-/// rights in `flags` (`p_flags`: `PF_X`, `PF_W`, `PF_R`), and the `filled` bytes (`p_filesz`) from
-/// `offset` on in the file (`p_offset`). Bytes past these are 0.
+/// A segment that is loaded (System V ABI, chapter 5, Program Header): the addresses from `start` up to
+/// `end` (`p_vaddr` and `p_memsz`), the rights in `flags` (`p_flags`: `PF_X`, `PF_W`, `PF_R`), and the
+/// `filled` bytes (`p_filesz`) from `offset` on in the file (`p_offset`). Bytes past these are 0.
 #[derive(Clone, Copy, Debug, PartialEq, Eq)]
 pub struct Segment {
     pub start: u32,
@@ -51,8 +51,8 @@ impl HasRange for Segment {
     }
 }
 
-/// A function symbol: the address at which the function begins (`st_value`), how many bytes it has
-/// (`st_size`), and its name.
+/// A function symbol (System V ABI, chapter 4, Symbol Table): the address at which the function begins
+/// (`st_value`), how many bytes it has (`st_size`), and its name.
 #[derive(Clone, Copy, Debug)]
 pub struct Function<'a> {
     pub start: u32,
@@ -71,7 +71,7 @@ impl<'a> HasRange for Function<'a> {
     }
 }
 
-/// A section's name, its address in memory (`sh_addr`) and its bytes.
+/// A section's name, its address in memory (`sh_addr`) and its bytes (System V ABI, chapter 4, Sections).
 #[derive(Clone, Copy, Debug)]
 pub(crate) struct Section<'a> {
     pub(crate) name: &'a [u8],

@@ -3,9 +3,9 @@ ghost use Rattle.std.specs.Prelude.{◌≡◌, ◌+◌, ◌*◌, ◌<◌, ◌≤
 ghost use Rattle.std.specs.Prelude.{option_map, find};
 ghost use Rattle.prof_bytes.specs.Outcome.{Gives};
 ghost use Rattle.elf_image.specs.Image.{IsWithin, are_apart, stacks_begin};
-ghost use Rattle.elf_image.specs.Headers.{is_load, loads, segment_of, segments};
+ghost use Rattle.elf_image.specs.Headers.{is_load, load_headers, segment_of, segments};
 ghost use Rattle.elf_image.specs.Refusals.{overfilled, unfilled, too_high, shared};
-ghost use Rattle.elf_image.specs.Reading.{header_of, each_segment_of, segments_of};
+ghost use Rattle.elf_image.specs.Reading.{checked_header, checked_each_segment, checked_all_segments};
 ghost use Rattle.elf_image.specs.private.Checks.{after};
 
 use crate::elf::PT_LOAD;
@@ -26,11 +26,11 @@ fn is_load(header: &ProgramHeader) -> bool
     header.p_type == PT_LOAD && header.p_memsz > 0
 }
 
-#[tactic(auto, unfolding(crate::specs::Headers::loads))]
+#[tactic(auto, unfolding(crate::specs::Headers::load_headers))]
 pub(crate) fn loads(alloc: Global, file: &[u8]) -> Result<Vec<ProgramHeader>, Memory>
     requires small { length file.now ≤ 2 ^ 26 }
-    requires checked { header_of file.now ≡ Ok tt }
-    ensures { IfOk result (λ headers. headers.items ≡ loads file.now) }
+    requires checked { checked_header file.now ≡ Ok tt }
+    ensures { IfOk result (λ headers. headers.items ≡ load_headers file.now) }
 {
     let headers = program_headers(alloc, file)?;
     let loads = headers.iter().copied().filter(is_load).collect(alloc)?;
@@ -68,10 +68,10 @@ fn too_high(headers: &[ProgramHeader]) -> Option<u32>
 }
 
 /// The tests of each segment's header by itself.
-#[tactic(auto, unfolding(crate::specs::Reading::each_segment_of))]
+#[tactic(auto, unfolding(crate::specs::Reading::checked_each_segment))]
 fn check_each(file: &[u8], headers: &[ProgramHeader]) -> Result<(), Fail<ElfFault>>
-    requires { headers.now ≡ loads file.now }
-    ensures { Gives (λ done. done) result (each_segment_of file.now) }
+    requires { headers.now ≡ load_headers file.now }
+    ensures { Gives (λ done. done) result (checked_each_segment file.now) }
 {
     refuse(ElfRule::SegmentPlace, overfilled(headers))?;
     refuse(ElfRule::SegmentPlace, unfilled(file, headers))?;
@@ -124,15 +124,15 @@ fn shared(headers: &[ProgramHeader], loaded: &RangeTable<Segment>) -> Option<u32
     None
 }
 
-/// The segments of the file, where their headers are as they must be.
-#[tactic(auto, unfolding(crate::specs::Reading::segments_of))]
+/// The loaded segments of the file, or the first fault of their headers.
+#[tactic(auto, unfolding(crate::specs::Reading::checked_all_segments))]
 pub(crate) fn read_segments(
     alloc: Global,
     file: &[u8],
 ) -> Result<RangeTable<Segment>, Fail<ElfFault>>
     requires small { length file.now ≤ 2 ^ 26 }
-    requires checked { header_of file.now ≡ Ok tt }
-    ensures value { Gives (λ all. all) result (after (segments_of file.now) (segments file.now)) }
+    requires checked { checked_header file.now ≡ Ok tt }
+    ensures value { Gives (λ all. all) result (after (checked_all_segments file.now) (segments file.now)) }
     ensures within { IfOk result (λ all. All (IsWithin file.now) all) }
     ensures apart { IfOk result (λ all. AllPairs (λ s t. IsTrue (are_apart s t)) all) }
     ensures few { IfOk result (λ all. length all ≤ 2 ^ 21) }

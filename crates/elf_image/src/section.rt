@@ -6,9 +6,10 @@ ghost use Rattle.prof_bytes.specs.Outcome.{Gives};
 ghost use Rattle.elf_image.specs.Image.{named};
 ghost use Rattle.elf_image.specs.Headers.{e_shstrndx, is_section, has_bytes, section_bytes, bytes_of_index};
 ghost use Rattle.elf_image.specs.Headers.{section_headers};
-ghost use Rattle.elf_image.specs.Headers.{name_of, section_of, sections};
-ghost use Rattle.elf_image.specs.Refusals.{outside, nameless, is_read, is_read_name, is_compressed, compressed_section};
-ghost use Rattle.elf_image.specs.Reading.{sections_of};
+ghost use Rattle.elf_image.specs.Headers.{section_name_of, section_of, sections};
+ghost use Rattle.elf_image.specs.Refusals.{section_outside, unterminated_name, is_debug_section, is_debug_section_name};
+ghost use Rattle.elf_image.specs.Refusals.{is_compressed, compressed_section};
+ghost use Rattle.elf_image.specs.Reading.{checked_sections};
 ghost use Rattle.elf_image.specs.private.Checks.{after};
 
 use crate::elf::{SHF_COMPRESSED, SHN_UNDEF, SHT_NOBITS, SHT_NULL, has_flag};
@@ -16,7 +17,7 @@ use crate::fault::{ElfFault, ElfRule, refuse};
 use crate::field::lies_within;
 use crate::header::{SectionHeader, e_shstrndx};
 use crate::part::Section;
-use crate::texts::{Texts, behind, front};
+use crate::string_table::{StringTable, bytes_from, first_bytes};
 use prof_bytes::{Fail, Memory};
 use std::alloc::Global;
 
@@ -39,13 +40,13 @@ fn section_bytes<'a>(file: &'a [u8], header: &SectionHeader) -> &'a [u8]
     if !has_bytes(header) {
         return &[];
     }
-    front(
-        behind(file, header.sh_offset as usize),
+    first_bytes(
+        bytes_from(file, header.sh_offset as usize),
         header.sh_size as usize,
     )
 }
 
-/// The bytes of the section with that index, and none where there is no such section.
+/// The bytes of the section with that index, and none where the file has no such section.
 pub(crate) fn bytes_of_index<'a>(
     file: &'a [u8],
     headers: &[SectionHeader],
@@ -61,21 +62,21 @@ pub(crate) fn bytes_of_index<'a>(
     }
 }
 
-/// A section's name; all names are empty where no section has names.
-#[tactic(auto, unfolding(crate::specs::Headers::name_of))]
-fn name_of<'a>(file: &[u8], names: &Texts<'a>, header: &SectionHeader) -> Option<&'a [u8]>
+/// A section's name; all names are empty where the file has no section name string table.
+#[tactic(auto, unfolding(crate::specs::Headers::section_name_of))]
+fn name_of<'a>(file: &[u8], names: &StringTable<'a>, header: &SectionHeader) -> Option<&'a [u8]>
     requires { names.now ≡ bytes_of_index file.now (e_shstrndx file.now) }
-    ensures { option_copied result ≡ name_of file.now header.now }
+    ensures { option_copied result ≡ section_name_of file.now header.now }
 {
     if e_shstrndx(file) == SHN_UNDEF {
         return Some(&[]);
     }
-    names.text_at(header.sh_name)
+    names.string_at(header.sh_name)
 }
 
-#[tactic(auto, unfolding(crate::specs::Refusals::outside))]
+#[tactic(auto, unfolding(crate::specs::Refusals::section_outside))]
 fn outside(file: &[u8], headers: &[SectionHeader]) -> Option<u32>
-    ensures { result ≡ outside file.now headers.now }
+    ensures { result ≡ section_outside file.now headers.now }
 {
     headers
         .iter()
@@ -83,28 +84,28 @@ fn outside(file: &[u8], headers: &[SectionHeader]) -> Option<u32>
         .map(|h| h.offset)
 }
 
-fn is_nameless(file: &[u8], names: &Texts<'_>, header: &SectionHeader) -> bool
+fn has_unterminated_name(file: &[u8], names: &StringTable<'_>, header: &SectionHeader) -> bool
     requires { names.now ≡ bytes_of_index file.now (e_shstrndx file.now) }
-    ensures { result ≡ (is_section header.now && is_none (name_of file.now header.now)) }
+    ensures { result ≡ (is_section header.now && is_none (section_name_of file.now header.now)) }
 {
     is_section(header) && name_of(file, names, header).is_none()
 }
 
-#[tactic(auto, unfolding(crate::specs::Refusals::nameless))]
-fn nameless(file: &[u8], names: &Texts<'_>, headers: &[SectionHeader]) -> Option<u32>
+#[tactic(auto, unfolding(crate::specs::Refusals::unterminated_name))]
+fn unterminated_name(file: &[u8], names: &StringTable<'_>, headers: &[SectionHeader]) -> Option<u32>
     requires { names.now ≡ bytes_of_index file.now (e_shstrndx file.now) }
-    ensures { result ≡ nameless file.now headers.now }
+    ensures { result ≡ unterminated_name file.now headers.now }
 {
     headers
         .iter()
-        .find(|h| is_nameless(file, names, h))
+        .find(|h| has_unterminated_name(file, names, h))
         .map(|h| h.offset)
 }
 
-/// Whether a section of that name is read when a program is measured.
-#[tactic(auto, unfolding(crate::specs::Refusals::is_read_name))]
-fn is_read_name(name: &[u8]) -> bool
-    ensures { result ≡ is_read_name name.now }
+/// Whether it is the name of a section of debug information that is read.
+#[tactic(auto, unfolding(crate::specs::Refusals::is_debug_section_name))]
+fn is_debug_section_name(name: &[u8]) -> bool
+    ensures { result ≡ is_debug_section_name name.now }
 {
     name == b".debug_info".as_slice()
         || name == b".debug_abbrev".as_slice()
@@ -117,20 +118,25 @@ fn is_read_name(name: &[u8]) -> bool
         || name == b".debug_frame".as_slice()
 }
 
-fn is_compressed(file: &[u8], names: &Texts<'_>, header: &SectionHeader) -> bool
+fn is_compressed(file: &[u8], names: &StringTable<'_>, header: &SectionHeader) -> bool
     requires { names.now ≡ bytes_of_index file.now (e_shstrndx file.now) }
-    ensures { result ≡ (is_section header.now && is_compressed header.now && is_read (name_of file.now header.now)) }
+    ensures { result
+        ≡ (is_section header.now && is_compressed header.now && is_debug_section (section_name_of file.now header.now)) }
 {
     is_section(header)
         && has_flag(SHF_COMPRESSED, header.sh_flags)
         && match name_of(file, names, header) {
-            Some(name) => is_read_name(name),
+            Some(name) => is_debug_section_name(name),
             None => false,
         }
 }
 
 #[tactic(auto, unfolding(crate::specs::Refusals::compressed_section))]
-fn compressed_section(file: &[u8], names: &Texts<'_>, headers: &[SectionHeader]) -> Option<u32>
+fn compressed_section(
+    file: &[u8],
+    names: &StringTable<'_>,
+    headers: &[SectionHeader],
+) -> Option<u32>
     requires { names.now ≡ bytes_of_index file.now (e_shstrndx file.now) }
     ensures { result ≡ compressed_section file.now headers.now }
 {
@@ -140,25 +146,28 @@ fn compressed_section(file: &[u8], names: &Texts<'_>, headers: &[SectionHeader])
         .map(|h| h.offset)
 }
 
-#[tactic(auto, unfolding(crate::specs::Reading::sections_of))]
+#[tactic(auto, unfolding(crate::specs::Reading::checked_sections))]
 fn check_sections(
     file: &[u8],
-    names: &Texts<'_>,
+    names: &StringTable<'_>,
     headers: &[SectionHeader],
 ) -> Result<(), Fail<ElfFault>>
     requires names { names.now ≡ bytes_of_index file.now (e_shstrndx file.now) }
     requires headers { headers.now ≡ section_headers file.now }
-    ensures { Gives (λ done. done) result (sections_of file.now) }
+    ensures { Gives (λ done. done) result (checked_sections file.now) }
 {
     refuse(ElfRule::SectionPlace, outside(file, headers))?;
-    refuse(ElfRule::SectionPlace, nameless(file, names, headers))?;
+    refuse(
+        ElfRule::SectionPlace,
+        unterminated_name(file, names, headers),
+    )?;
     refuse(
         ElfRule::CompressedSection,
         compressed_section(file, names, headers),
     )
 }
 
-fn section_of<'a>(file: &'a [u8], names: &Texts<'a>, header: &SectionHeader) -> Section<'a>
+fn section_of<'a>(file: &'a [u8], names: &StringTable<'a>, header: &SectionHeader) -> Section<'a>
     requires { names.now ≡ bytes_of_index file.now (e_shstrndx file.now) }
     ensures { named result ≡ section_of file.now header.now }
 {
@@ -176,7 +185,7 @@ fn section_of<'a>(file: &'a [u8], names: &Texts<'a>, header: &SectionHeader) -> 
 fn sections<'a>(
     alloc: Global,
     file: &'a [u8],
-    names: &Texts<'a>,
+    names: &StringTable<'a>,
     headers: &[SectionHeader],
 ) -> Result<Vec<Section<'a>>, Memory>
     requires names { names.now ≡ bytes_of_index file.now (e_shstrndx file.now) }
@@ -192,7 +201,7 @@ fn sections<'a>(
     Ok(all)
 }
 
-/// The sections of the file, where their headers are as they must be.
+/// The sections of the file, or the first fault of their headers.
 pub(crate) fn read_sections<'a>(
     alloc: Global,
     file: &'a [u8],
@@ -200,10 +209,10 @@ pub(crate) fn read_sections<'a>(
 ) -> Result<Vec<Section<'a>>, Fail<ElfFault>>
     requires small { length file.now ≤ 2 ^ 26 }
     requires headers { headers.now ≡ section_headers file.now }
-    ensures value { Gives (λ all. map named all.items) result (after (sections_of file.now) (sections file.now)) }
-    ensures checked { IfOk result (λ all. sections_of file.now ≡ Ok tt) }
+    ensures value { Gives (λ all. map named all.items) result (after (checked_sections file.now) (sections file.now)) }
+    ensures checked { IfOk result (λ all. checked_sections file.now ≡ Ok tt) }
 {
-    let names = Texts::of(
+    let names = StringTable::of(
         alloc,
         bytes_of_index(file, headers, e_shstrndx(file) as usize),
     )?;

@@ -1,4 +1,4 @@
-//! Which segment holds an address, and which ranges of addresses count.
+//! Which segment holds an address, and which ranges lie in one executable segment.
 ghost use Rattle.std.specs.Prelude.{◌≡◌, ◌<◌, ◌^◌, ◌&&◌, IsTrue, AllPairs, find, nat_le};
 ghost use Rattle.elf_image.specs.Image.{in_segment, is_executable, are_apart, counts};
 
@@ -19,8 +19,7 @@ fn is_code(segment: &Segment, low: u32, high: u64) -> bool
     segment.is_executable() && segment.start <= low && high <= u64::from(segment.end)
 }
 
-/// Whether the addresses from `low` up to `high` count: there are some, and they lie within one segment
-/// that can be executed.
+/// Whether the range from `low` up to `high` counts: it is nonempty and lies in one executable segment.
 pub(crate) fn counts(segments: &RangeTable<Segment>, low: u32, high: u64) -> bool
     requires { AllPairs (λ s t. IsTrue (are_apart s t)) segments.now }
     ensures counts { result ≡ counts segments.now low high }

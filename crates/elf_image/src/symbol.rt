@@ -4,13 +4,13 @@ ghost use Rattle.std.specs.Prelude.{Ok, Some, None, length, map, option_map, fin
 ghost use Rattle.std.specs.List.{list_any, range_with_len};
 ghost use Rattle.std.specs.Option.{option_copied};
 ghost use Rattle.prof_bytes.specs.Outcome.{Gives};
-ghost use Rattle.elf_image.specs.Fields.{text_in};
+ghost use Rattle.elf_image.specs.Fields.{string_in};
 ghost use Rattle.elf_image.specs.Image.{symbol_view, are_apart};
 ghost use Rattle.elf_image.specs.Headers.{section_headers, segments, bytes_of_index, symbol_table, symbol_entry};
 ghost use Rattle.elf_image.specs.Headers.{symbols_of, is_function, symbol_name, function_symbol, functions_of};
 ghost use Rattle.elf_image.specs.Headers.{functions};
-ghost use Rattle.elf_image.specs.Refusals.{is_text_table, bad_table, nameless_function};
-ghost use Rattle.elf_image.specs.Reading.{sections_of, symbols_in};
+ghost use Rattle.elf_image.specs.Refusals.{is_string_table, bad_table, function_with_unterminated_name};
+ghost use Rattle.elf_image.specs.Reading.{checked_sections, checked_symbols};
 ghost use Rattle.elf_image.specs.private.Checks.{after};
 
 use crate::elf::{ELF32_SYM_SIZE, SHN_UNDEF, SHT_STRTAB, SHT_SYMTAB, STT_FUNC};
@@ -19,7 +19,7 @@ use crate::header::{SectionHeader, Symbol, symbol_entry};
 use crate::part::{Function, Segment};
 use crate::section::bytes_of_index;
 use crate::segments::counts;
-use crate::texts::Texts;
+use crate::string_table::StringTable;
 use address_ranges::RangeTable;
 use prof_bytes::{Fail, Memory};
 use std::alloc::Global;
@@ -38,8 +38,8 @@ fn symbol_table(file: &[u8], headers: &[SectionHeader]) -> Option<SectionHeader>
     first_table(headers)
 }
 
-fn is_text_table(headers: &[SectionHeader], index: u32) -> bool
-    ensures { result ≡ is_text_table headers.now index }
+fn is_string_table(headers: &[SectionHeader], index: u32) -> bool
+    ensures { result ≡ is_string_table headers.now index }
 {
     match headers.get(index as usize) {
         Some(header) => header.sh_type == SHT_STRTAB,
@@ -55,7 +55,7 @@ fn bad_table(file: &[u8], headers: &[SectionHeader], table: &SectionHeader) -> O
     first_of(&[
         (table.sh_entsize != ELF32_SYM_SIZE, table.offset),
         (table.sh_size % ELF32_SYM_SIZE != 0, table.offset),
-        (!is_text_table(headers, table.sh_link), table.offset),
+        (!is_string_table(headers, table.sh_link), table.offset),
     ])
 }
 
@@ -73,42 +73,46 @@ fn is_function(loaded: &RangeTable<Segment>, symbol: &Symbol) -> bool
         )
 }
 
-fn is_nameless(loaded: &RangeTable<Segment>, names: &Texts<'_>, symbol: &Symbol) -> bool
+fn has_unterminated_function_name(
+    loaded: &RangeTable<Segment>,
+    names: &StringTable<'_>,
+    symbol: &Symbol,
+) -> bool
     requires { AllPairs (λ s t. IsTrue (are_apart s t)) loaded.now }
-    ensures { result ≡ (is_function loaded.now symbol.now && is_none (text_in names.now symbol.now.st_name)) }
+    ensures { result ≡ (is_function loaded.now symbol.now && is_none (string_in names.now symbol.now.st_name)) }
 {
-    is_function(loaded, symbol) && names.text_at(symbol.st_name).is_none()
+    is_function(loaded, symbol) && names.string_at(symbol.st_name).is_none()
 }
 
-/// The offset of the first function symbol whose name does not end.
-#[tactic(auto, unfolding(crate::specs::Refusals::nameless_function))]
-fn nameless_function(
+/// The offset of the first function symbol whose name is unterminated.
+#[tactic(auto, unfolding(crate::specs::Refusals::function_with_unterminated_name))]
+fn function_with_unterminated_name(
     file: &[u8],
     loaded: &RangeTable<Segment>,
-    names: &Texts<'_>,
+    names: &StringTable<'_>,
     table: &SectionHeader,
 ) -> Option<u32>
     requires loaded { loaded.now ≡ segments file.now }
     requires apart { AllPairs (λ s t. IsTrue (are_apart s t)) loaded.now }
     requires names { names.now ≡ bytes_of_index file.now table.now.sh_link }
     requires within { 0 < table.now.sh_size → table.now.sh_offset + table.now.sh_size ≤ 2 ^ 26 }
-    ensures { result ≡ nameless_function file.now table.now }
+    ensures { result ≡ function_with_unterminated_name file.now table.now }
 {
     for k in 0..table.sh_size / ELF32_SYM_SIZE {
         let symbol = symbol_entry(file, table.sh_offset + ELF32_SYM_SIZE * k);
-        if is_nameless(loaded, names, &symbol) {
+        if has_unterminated_function_name(loaded, names, &symbol) {
             return Some(symbol.offset);
         }
     }
     None
 }
 
-#[tactic(auto, unfolding(crate::specs::Reading::symbols_in))]
+#[tactic(auto, unfolding(crate::specs::Reading::checked_symbols))]
 fn check_symbols(
     file: &[u8],
     loaded: &RangeTable<Segment>,
     headers: &[SectionHeader],
-    names: &Texts<'_>,
+    names: &StringTable<'_>,
     table: &SectionHeader,
 ) -> Result<(), Fail<ElfFault>>
     requires loaded { loaded.now ≡ segments file.now }
@@ -116,18 +120,18 @@ fn check_symbols(
     requires headers { headers.now ≡ section_headers file.now }
     requires names { names.now ≡ bytes_of_index file.now table.now.sh_link }
     requires within { 0 < table.now.sh_size → table.now.sh_offset + table.now.sh_size ≤ 2 ^ 26 }
-    ensures { Gives (λ done. done) result (symbols_in file.now (Some table.now)) }
+    ensures { Gives (λ done. done) result (checked_symbols file.now (Some table.now)) }
 {
     refuse(ElfRule::SymbolPlace, bad_table(file, headers, table))?;
     refuse(
         ElfRule::SymbolPlace,
-        nameless_function(file, loaded, names, table),
+        function_with_unterminated_name(file, loaded, names, table),
     )
 }
 
 fn function_symbol<'a>(
     file: &[u8],
-    names: &Texts<'a>,
+    names: &StringTable<'a>,
     table: &SectionHeader,
     symbol: &Symbol,
 ) -> Function<'a>
@@ -137,7 +141,7 @@ fn function_symbol<'a>(
     Function {
         start: symbol.st_value,
         size: symbol.st_size,
-        name: match names.text_at(symbol.st_name) {
+        name: match names.string_at(symbol.st_name) {
             Some(name) => name,
             None => &[],
         },
@@ -149,7 +153,7 @@ fn functions_of<'a>(
     alloc: Global,
     file: &[u8],
     loaded: &RangeTable<Segment>,
-    names: &Texts<'a>,
+    names: &StringTable<'a>,
     table: &SectionHeader,
 ) -> Result<Vec<Function<'a>>, Memory>
     requires loaded { loaded.now ≡ segments file.now }
@@ -170,7 +174,7 @@ fn functions_of<'a>(
     Ok(all)
 }
 
-/// The function symbols of the file, where its symbol table is as it must be.
+/// The function symbols of the file, or the first fault of its symbol table.
 #[tactic(auto, unfolding(crate::specs::Headers::functions))]
 pub(crate) fn read_functions<'a>(
     alloc: Global,
@@ -182,14 +186,17 @@ pub(crate) fn read_functions<'a>(
     requires loaded { loaded.now ≡ segments file.now }
     requires apart { AllPairs (λ s t. IsTrue (are_apart s t)) loaded.now }
     requires headers { headers.now ≡ section_headers file.now }
-    requires checked { sections_of file.now ≡ Ok tt }
+    requires checked { checked_sections file.now ≡ Ok tt }
     ensures fit { IfOk result (λ all. All (λ f. f.start + f.size < 2 ^ 32) (map symbol_view all)) }
     ensures functions { Gives (λ all. map symbol_view all) result
-        (after (symbols_in file.now (symbol_table file.now)) (functions file.now)) }
+        (after (checked_symbols file.now (symbol_table file.now)) (functions file.now)) }
 {
     match symbol_table(file, headers) {
         Some(table) => {
-            let names = Texts::of(alloc, bytes_of_index(file, headers, table.sh_link as usize))?;
+            let names = StringTable::of(
+                alloc,
+                bytes_of_index(file, headers, table.sh_link as usize),
+            )?;
             check_symbols(file, loaded, headers, &names, &table)?;
             let all = functions_of(alloc, file, loaded, &names, &table)?;
             Ok(RangeTable::of(alloc, all)?)

@@ -9,8 +9,8 @@ use Rattle.guest_gen.specs.Code.{code, function_bytes, functions_bytes, start_wo
 use Rattle.prof_bytes.specs.Number.{word}
 use Rattle.guest_gen.specs.declared.file.Sizes.{Sizes}
 use Rattle.guest_gen.specs.declared.file.SectionHeader.{SectionHeader}
-use Rattle.guest_gen.specs.Draws.{draw, state_after}
-use Rattle.guest_gen.specs.File.{elf_header, file_of, program_header, section_header_bytes, section_headers, sizes_of, strtab, symtab, shstrtab}
+use Rattle.guest_gen.specs.Draws.{draw, draw_state}
+use Rattle.guest_gen.specs.File.{elf_header, guest_file, program_header, section_header_bytes, guest_section_headers, sizes_of, strtab, symtab, shstrtab}
 use Rattle.guest_gen.specs.Frames.{debug_frame, fde, fdes}
 use Rattle.guest_gen.specs.Guest.{slice_line, slice_lines}
 
@@ -68,7 +68,7 @@ names_size bytes is = ap (λ (l : List ℕ). length l) is ∙ names_long
 slice_short : (s j : ℕ) → length (slice_line s j) ≤ 42
 unfolding slice_line
 slice_short s j =
-    let at : ℕ = state_after (2 * j) s in
+    let at : ℕ = draw_state (2 * j) s in
     let hart : ℕ = draw at 0 % 4 in
     let count : ℕ = 1 + draw at 1 % 997 in
     let a = length-decimal-le 20 hart (omega arith) (omega arith) (omega arith) in
@@ -116,17 +116,17 @@ eight_long a b c d e f g h =
     let p7 = length-append (a ++ b ++ c ++ d ++ e ++ f ++ g) h in
     omega (arith, p1, p2, p3, p4, p5, p6, p7)
 
-pub program_short : (text own : List ℕ) → text ≡ file_of own → length own ≡ 2512 → length text ≤ 67108864
-unfolding file_of
+pub program_short : (text own : List ℕ) → text ≡ guest_file own → length own ≡ 2512 → length text ≤ 67108864
+unfolding guest_file
 program_short text own is long =
     let sizes : Sizes = sizes_of own in
     let all = ap (λ (l : List ℕ). length l) is in
-    let parts = eight_long (elf_header sizes) (program_header sizes) own debug_frame symtab strtab shstrtab (flat_map section_header_bytes (section_headers sizes)) in
+    let parts = eight_long (elf_header sizes) (program_header sizes) own debug_frame symtab strtab shstrtab (flat_map section_header_bytes (guest_section_headers sizes)) in
     let head = head_long sizes in
     let segment = segment_long sizes in
     let frames = frames_long in
     let symbols = symbols_long in
     let names = names_long in
-    let headers = headers_long (section_headers sizes) in
+    let headers = headers_long (guest_section_headers sizes) in
     let section_names : length shstrtab ≡ 40 = refl in
     omega (arith, all, parts, long, head, segment, frames, symbols, names, headers, section_names)

@@ -3,11 +3,11 @@ use Rattle.std.specs.Prelude.{ℕ, ◌+◌, ◌-◌, ◌*◌, ◌/◌, ◌%◌, 
 use Rattle.std.specs.List.{flat_map, range_with_len}
 use Rattle.prof_bytes.specs.Number.{words}
 use Rattle.guest_gen.specs.declared.code.DrawnFunction.{DrawnFunction}
-use Rattle.guest_gen.specs.Draws.{draw, state_after}
+use Rattle.guest_gen.specs.Draws.{draw, draw_state}
 
 -- how many functions there are
-abbrev pub functions : ℕ
-functions = 48
+abbrev pub function_count : ℕ
+function_count = 48
 
 -- where the program begins, and where each function does, whose code is 13 words
 abbrev pub entry : ℕ
@@ -43,7 +43,7 @@ jal rd offset = offset / 2 ^ 20 % 2 * 2 ^ 31 + offset / 2 % 2 ^ 10 * 2 ^ 21 + of
 
 -- from an address, a call of a function further on; nothing, where there is no function of that number
 abbrev pub call_instruction : ℕ → ℕ → ℕ
-call_instruction address callee = if nat_lt callee functions then jal 1 (function_start callee - address) else nop
+call_instruction address callee = if nat_lt callee function_count then jal 1 (function_start callee - address) else nop
 
 -- call f0, again and again; two EBREAK
 abbrev pub start_words : List ℕ
@@ -58,13 +58,13 @@ function_words i f = 0xff010113 ∷ 0x00112623 ∷ 0x00812423 ∷ (0x00000413 + 
 
 -- ---- bytes
 
--- a function, which draws behind those before it
+-- a function, which draws after those before it
 unfoldable pub function_bytes : ℕ → ℕ → List ℕ
-function_bytes s i = words (function_words i (drawn_function (state_after (3 * i) s) i))
+function_bytes s i = words (function_words i (drawn_function (draw_state (3 * i) s) i))
 
--- so many functions
+-- a given number of functions
 unfoldable pub functions_bytes : ℕ → ℕ → List ℕ
 functions_bytes s count = flat_map (function_bytes s) (range_with_len 0 count)
 
 abbrev pub code : ℕ → List ℕ
-code s = words start_words ++ functions_bytes s functions
+code s = words start_words ++ functions_bytes s function_count

@@ -4,11 +4,11 @@ use Rattle.std.specs.Prelude.{ℕ, zero, suc, ◌+◌, ◌*◌, ◌/◌, ◌%◌
 abbrev pub next_state : ℕ → ℕ
 next_state s = (1664525 * s + 1013904223) % 2 ^ 32
 
--- the state behind so many draws
-unfoldable pub state_after : ℕ → ℕ → ℕ
-state_after zero s = s
-state_after (suc n) s = next_state (state_after n s)
+-- the state after a given number of draws
+unfoldable pub draw_state : ℕ → ℕ → ℕ
+draw_state zero s = s
+draw_state (suc n) s = next_state (draw_state n s)
 
--- a draw, numbered from 0: the upper half of the state behind it
+-- a draw, numbered from 0: the upper half of the state after it
 abbrev pub draw : ℕ → ℕ → ℕ
-draw s k = state_after (k + 1) s / 65536
+draw s k = draw_state (k + 1) s / 65536

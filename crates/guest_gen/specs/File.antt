@@ -2,13 +2,14 @@
 use Rattle.std.specs.Prelude.{ℕ, ◌+◌, ◌*◌, List, [], ◌∷◌, ◌++◌, length, map, take, replicate, sum_by, codes, decimal}
 use Rattle.std.specs.List.{flat_map, range_with_len}
 use Rattle.prof_bytes.specs.Number.{number_bytes, words}
-use Rattle.guest_gen.specs.declared.elf.TheConstants.{ELFMAG0, ELFCLASS32, ELFDATA2LSB, EV_CURRENT, ET_EXEC, EM_RISCV}
-use Rattle.guest_gen.specs.declared.elf.TheConstants.{ELF32_EHDR_SIZE, ELF32_PHDR_SIZE, ELF32_SHDR_SIZE, PT_LOAD}
-use Rattle.guest_gen.specs.declared.elf.TheConstants.{ELF32_SYM_SIZE, PF_R, PF_X, SHN_ABS, SHT_PROGBITS, SHT_STRTAB}
-use Rattle.guest_gen.specs.declared.elf.TheConstants.{SHT_SYMTAB, STB_GLOBAL, STT_FUNC}
+use Rattle.elf_image.specs.declared.elf.TheConstants.{ELFMAG0, ELFMAG1, ELFMAG2, ELFMAG3, ELFCLASS32, ELFDATA2LSB}
+use Rattle.elf_image.specs.declared.elf.TheConstants.{EV_CURRENT, ET_EXEC, EM_RISCV, PT_LOAD, PF_R, PF_X}
+use Rattle.elf_image.specs.declared.elf.TheConstants.{ELF32_EHDR_SIZE, ELF32_PHDR_SIZE, ELF32_SHDR_SIZE, ELF32_SYM_SIZE}
+use Rattle.elf_image.specs.declared.elf.TheConstants.{SHT_PROGBITS, SHT_SYMTAB, SHT_STRTAB, SHN_ABS}
+use Rattle.elf_image.specs.declared.elf.TheConstants.{STB_GLOBAL, STT_FUNC}
 use Rattle.guest_gen.specs.declared.file.Sizes.{Sizes}
 use Rattle.guest_gen.specs.declared.file.SectionHeader.{SectionHeader}
-use Rattle.guest_gen.specs.Code.{entry, functions, function_size, function_start}
+use Rattle.guest_gen.specs.Code.{entry, function_count, function_size, function_start}
 use Rattle.guest_gen.specs.Frames.{debug_frame}
 
 abbrev pub half : ℕ → List ℕ
@@ -19,7 +20,7 @@ halves ns = flat_map half ns
 
 -- ---- string tables
 
--- a name, and a 0 byte behind it
+-- a name, and a 0 byte after it
 abbrev pub name_bytes : List ℕ → List ℕ
 name_bytes name = name ++ 0 ∷ []
 
@@ -35,7 +36,7 @@ abbrev pub function_name : ℕ → List ℕ
 function_name i = codes "f" ++ decimal i
 
 abbrev pub symbol_names : List (List ℕ)
-symbol_names = codes "_start" ∷ map function_name (range_with_len 0 functions)
+symbol_names = codes "_start" ∷ map function_name (range_with_len 0 function_count)
 
 unfoldable pub strtab : List ℕ
 strtab = string_table symbol_names
@@ -58,7 +59,7 @@ drawn_symbol i = symbol_bytes (name_offset symbol_names (i + 1)) (function_start
 -- a symbol of zeros, the start, and the functions
 unfoldable pub symtab : List ℕ
 symtab = replicate ELF32_SYM_SIZE 0 ++ symbol_bytes (name_offset symbol_names 0) entry 16
-    ++ flat_map drawn_symbol (range_with_len 0 functions)
+    ++ flat_map drawn_symbol (range_with_len 0 function_count)
 
 -- ---- where the parts stand: the file's header, the program header, the code, the sections and their headers
 
@@ -83,7 +84,7 @@ headers_at s = section_names_at s + s.section_names
 -- ---- headers
 
 abbrev pub e_ident : List ℕ
-e_ident = ELFMAG0 ∷ codes "ELF" ++ ELFCLASS32 ∷ ELFDATA2LSB ∷ EV_CURRENT ∷ replicate 9 0
+e_ident = ELFMAG0 ∷ ELFMAG1 ∷ ELFMAG2 ∷ ELFMAG3 ∷ ELFCLASS32 ∷ ELFDATA2LSB ∷ EV_CURRENT ∷ replicate 9 0
 
 -- one program header and five section headers, of which the last is that of their names
 unfoldable pub elf_header : Sizes → List ℕ
@@ -114,8 +115,8 @@ plain_header name kind offset size = record {
 
 -- a header of zeros; then `.debug_frame`; `.symtab`, whose names are those of header 3 and whose first global symbol is
 -- number 1; `.strtab`; and `.shstrtab`
-abbrev pub section_headers : Sizes → List SectionHeader
-section_headers s =
+abbrev pub guest_section_headers : Sizes → List SectionHeader
+guest_section_headers s =
     plain_header 0 0 0 0
     ∷ plain_header (name_offset section_names 0) SHT_PROGBITS (frames_at s) s.frames
     ∷ record (plain_header (name_offset section_names 1) SHT_SYMTAB (symbols_at s) s.symbols) {
@@ -138,6 +139,7 @@ sizes_of code = record {
   section_names = length shstrtab;
 }
 
-unfoldable pub file_of : List ℕ → List ℕ
-file_of code = elf_header (sizes_of code) ++ program_header (sizes_of code) ++ code ++ debug_frame ++ symtab ++ strtab
-    ++ shstrtab ++ flat_map section_header_bytes (section_headers (sizes_of code))
+unfoldable pub guest_file : List ℕ → List ℕ
+guest_file code = elf_header (sizes_of code) ++ program_header (sizes_of code) ++ code
+    ++ debug_frame ++ symtab ++ strtab
+    ++ shstrtab ++ flat_map section_header_bytes (guest_section_headers (sizes_of code))

@@ -2,9 +2,9 @@
 use Rattle.std.specs.Prelude.{ℕ, ◌+◌, ◌*◌, ◌%◌, List, [], ◌++◌, codes, decimal}
 use Rattle.std.specs.List.{flat_map, range_with_len}
 use Rattle.guest_gen.specs.declared.generate.GuestFiles.{GuestFiles}
-use Rattle.guest_gen.specs.Draws.{draw, state_after}
-use Rattle.guest_gen.specs.Code.{code, functions}
-use Rattle.guest_gen.specs.File.{file_of}
+use Rattle.guest_gen.specs.Draws.{draw, draw_state}
+use Rattle.guest_gen.specs.Code.{code, function_count}
+use Rattle.guest_gen.specs.File.{guest_file}
 
 -- ---- the schedule: which hart runs, and for how many instructions
 
@@ -12,11 +12,11 @@ use Rattle.guest_gen.specs.File.{file_of}
 abbrev pub drawn_line : ℕ → List ℕ
 drawn_line s = decimal (draw s 0 % 4) ++ codes " " ++ decimal (1 + draw s 1 % 997) ++ codes "\n"
 
--- a slice, which draws behind those before it
+-- a slice, which draws after those before it
 unfoldable pub slice_line : ℕ → ℕ → List ℕ
-slice_line s j = drawn_line (state_after (2 * j) s)
+slice_line s j = drawn_line (draw_state (2 * j) s)
 
--- so many slices
+-- a given number of slices
 unfoldable pub slice_lines : ℕ → ℕ → List ℕ
 slice_lines s count = flat_map (slice_line s) (range_with_len 0 count)
 
@@ -27,11 +27,11 @@ slices = 4000
 -- ---- the guest. The functions draw first, three times each
 
 abbrev pub guest_schedule : ℕ → List ℕ
-guest_schedule number = codes "harts 4\n" ++ slice_lines (state_after (3 * functions) number) slices
+guest_schedule number = codes "harts 4\n" ++ slice_lines (draw_state (3 * function_count) number) slices
 
 abbrev pub guest_of : ℕ → GuestFiles
 guest_of number = record {
-  elf = file_of (code number);
+  elf = guest_file (code number);
   input = [];
   schedule = guest_schedule number;
   period = 97;

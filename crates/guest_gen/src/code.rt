@@ -1,7 +1,7 @@
 //! The program's code.
 ghost use Rattle.std.specs.Prelude.{◌≡◌, ◌<◌, ◌≤◌, ◌+◌, ◌*◌, ◌++◌, IfOk, OnOk, length};
 ghost use Rattle.std.specs.List.{flat_map};
-ghost use Rattle.guest_gen.specs.Draws.{state_after};
+ghost use Rattle.guest_gen.specs.Draws.{draw_state};
 ghost use Rattle.guest_gen.specs.Code.{call_instruction, code, function_bytes, functions_bytes, drawn_function};
 ghost use Rattle.guest_gen.specs.Code.{function_start};
 ghost use Rattle.guest_gen.specs.Code.{function_words, jal, start_words};
@@ -61,12 +61,12 @@ pub(crate) struct DrawnFunction {
     pub(crate) second: u32,
 }
 
-#[tactic(auto, unfolding(crate::specs::Draws::state_after))]
+#[tactic(auto, unfolding(crate::specs::Draws::draw_state))]
 fn drawn_function(draws: &mut Draws, number: u32) -> DrawnFunction
     requires { number < 48 }
     ensures function { result ≡ drawn_function draws.old.state number }
     ensures few { IsFurther number result }
-    ensures state { draws.new.state ≡ state_after 3 draws.old.state }
+    ensures state { draws.new.state ≡ draw_state 3 draws.old.state }
 {
     let turns = 1 + draws.draw() % 31;
     let first = number + 1 + draws.draw() % 3;
@@ -114,7 +114,7 @@ fn put_function(out: &mut Vec<u8>, draws: &mut Draws, number: u32) -> Result<(),
     requires { number < 48 }
     ensures code { OnOk result (out.new.items
         ≡ out.old.items ++ words (function_words number (drawn_function draws.old.state number))) }
-    ensures state { OnOk result (draws.new.state ≡ state_after 3 draws.old.state) }
+    ensures state { OnOk result (draws.new.state ≡ draw_state 3 draws.old.state) }
 {
     let function = drawn_function(draws, number);
     put_code(out, number, function)?;
@@ -125,7 +125,7 @@ fn put_function(out: &mut Vec<u8>, draws: &mut Draws, number: u32) -> Result<(),
 fn put_functions(out: &mut Vec<u8>, draws: &mut Draws, count: u32) -> Result<(), Memory>
     requires { count ≤ 48 }
     ensures code { OnOk result (out.new.items ≡ out.old.items ++ functions_bytes draws.old.state count) }
-    ensures state { OnOk result (draws.new.state ≡ state_after (3 * count) draws.old.state) }
+    ensures state { OnOk result (draws.new.state ≡ draw_state (3 * count) draws.old.state) }
 {
     for number in 0..count {
         put_function(out, draws, number)?;
@@ -137,7 +137,7 @@ fn put_functions(out: &mut Vec<u8>, draws: &mut Draws, count: u32) -> Result<(),
 #[tactic(auto, using(crate::proofs::Lengths::code_size))]
 pub(crate) fn code(alloc: Global, draws: &mut Draws) -> Result<Vec<u8>, Memory>
     ensures code { IfOk result (λ bytes. bytes.items ≡ code draws.old.state) }
-    ensures state { OnOk result (draws.new.state ≡ state_after (3 * 48) draws.old.state) }
+    ensures state { OnOk result (draws.new.state ≡ draw_state (3 * 48) draws.old.state) }
     ensures size { IfOk result (λ bytes. length bytes.items ≡ 2512) }
 {
     let mut out = Vec::new(alloc);

@@ -2,20 +2,20 @@
 ghost use Rattle.std.specs.Prelude.{◌≡◌, ◌≤◌, ◌++◌, IfOk, OnOk, length};
 ghost use Rattle.std.specs.List.{flat_map};
 ghost use Rattle.guest_gen.specs.Frames.{debug_frame};
-ghost use Rattle.guest_gen.specs.File.{elf_header, file_of, program_header, section_header_bytes, section_headers};
+ghost use Rattle.guest_gen.specs.File.{elf_header, guest_file, program_header, section_header_bytes, guest_section_headers};
 ghost use Rattle.guest_gen.specs.File.{code_at, frames_at, headers_at, names_at, plain_header, section_names_at};
 ghost use Rattle.guest_gen.specs.File.{symbols_at, strtab, symtab};
 ghost use Rattle.guest_gen.specs.private.Fits.{AreFew, sized};
 
 use crate::code::ENTRY;
-use crate::elf::{
-    ELF32_EHDR_SIZE, ELF32_PHDR_SIZE, ELF32_SHDR_SIZE, ELF32_SYM_SIZE, ELFCLASS32, ELFDATA2LSB,
-    ELFMAG0, EM_RISCV, ET_EXEC, EV_CURRENT, PF_R, PF_X, PT_LOAD, SHT_PROGBITS, SHT_STRTAB,
-    SHT_SYMTAB,
-};
 use crate::frames::debug_frame;
 use crate::put::put_halves;
 use crate::symbols::{strtab, symtab};
+use elf_image::{
+    ELF32_EHDR_SIZE, ELF32_PHDR_SIZE, ELF32_SHDR_SIZE, ELF32_SYM_SIZE, ELFCLASS32, ELFDATA2LSB,
+    ELFMAG0, ELFMAG1, ELFMAG2, ELFMAG3, EM_RISCV, ET_EXEC, EV_CURRENT, PF_R, PF_X, PT_LOAD,
+    SHT_PROGBITS, SHT_STRTAB, SHT_SYMTAB,
+};
 use prof_bytes::{Memory, Text, put_words};
 use std::alloc::Global;
 
@@ -42,7 +42,7 @@ pub(crate) struct SectionHeader {
 }
 
 /// Where the code stands.
-const CODE_AT: u32 = 84;
+const CODE_AT: u32 = ELF32_EHDR_SIZE + ELF32_PHDR_SIZE;
 
 /// `.shstrtab`; its names begin at 1, 14, 22 and 30.
 static SECTION_NAMES: [u8; 40] = *b"\0.debug_frame\0.symtab\0.strtab\0.shstrtab\0";
@@ -91,9 +91,9 @@ fn put_elf_header(out: &mut Vec<u8>, sizes: Sizes) -> Result<(), Memory>
 {
     let ident = [
         ELFMAG0,
-        b'E',
-        b'L',
-        b'F',
+        ELFMAG1,
+        ELFMAG2,
+        ELFMAG3,
         ELFCLASS32,
         ELFDATA2LSB,
         EV_CURRENT,
@@ -114,14 +114,21 @@ fn put_elf_header(out: &mut Vec<u8>, sizes: Sizes) -> Result<(), Memory>
         &[
             u32::from(EV_CURRENT),
             ENTRY,
-            u32::from(ELF32_EHDR_SIZE),
+            ELF32_EHDR_SIZE,
             sizes.headers_at(),
             0,
         ],
     )?;
     put_halves(
         out,
-        &[ELF32_EHDR_SIZE, ELF32_PHDR_SIZE, 1, ELF32_SHDR_SIZE, 5, 4],
+        &[
+            ELF32_EHDR_SIZE as u16,
+            ELF32_PHDR_SIZE as u16,
+            1,
+            ELF32_SHDR_SIZE as u16,
+            5,
+            4,
+        ],
     )?;
     Ok(())
 }
@@ -175,7 +182,7 @@ fn plain_header(sh_name: u32, sh_type: u32, sh_offset: u32, sh_size: u32) -> Sec
 fn put_section_headers(out: &mut Vec<u8>, sizes: Sizes) -> Result<(), Memory>
     requires { AreFew sizes }
     ensures { OnOk result (out.new.items
-        ≡ out.old.items ++ flat_map section_header_bytes (section_headers sizes)) }
+        ≡ out.old.items ++ flat_map section_header_bytes (guest_section_headers sizes)) }
 {
     let frames = plain_header(1, SHT_PROGBITS, sizes.frames_at(), sizes.frames);
     let symbols = SectionHeader {
@@ -212,7 +219,7 @@ fn spelled(
     requires frames { frames.now ≡ debug_frame }
     requires symbols { symbols.now ≡ symtab }
     requires names { names.now ≡ strtab }
-    ensures { IfOk result (λ text. text ≡ file_of code.now) }
+    ensures { IfOk result (λ text. text ≡ guest_file code.now) }
 {
     let mut out = Vec::new(alloc);
     put_elf_header(&mut out, sizes)?;
@@ -229,7 +236,7 @@ fn spelled(
 /// The file of a program with this code.
 pub(crate) fn file(alloc: Global, code: &[u8]) -> Result<Text, Memory>
     requires { length code.now ≤ 65536 }
-    ensures { IfOk result (λ text. text ≡ file_of code.now) }
+    ensures { IfOk result (λ text. text ≡ guest_file code.now) }
 {
     let frames = debug_frame(alloc)?;
     let symbols = symtab(alloc)?;

@@ -3,17 +3,51 @@ ghost use Rattle.std.specs.Prelude.{◌≡◌, ◌<◌, ◌≤◌, ◌++◌, IfO
 ghost use Rattle.guest_gen.specs.Frames.{cie, debug_frame, fde, fdes, frame_instructions};
 
 use crate::code::{FUNCTION_SIZE, FUNCTIONS, function_start};
+use cfi_table::{
+    DW_CFA_advance_loc, DW_CFA_def_cfa, DW_CFA_def_cfa_offset, DW_CFA_offset, DW_CFA_restore,
+};
 use prof_bytes::{Memory, put_words};
 use std::alloc::Global;
 
-/// The CIE.
+/// The CIE: its length, `DW_CIE_ID`, version 3, no augmentation, code alignment 1, data alignment -4, the return
+/// address in x1, and the CFA.
 static CIE: [u8; 16] = [
-    0x0c, 0, 0, 0, 0xff, 0xff, 0xff, 0xff, 3, 0, 1, 0x7c, 1, 0x0c, 2, 0,
+    12,
+    0,
+    0,
+    0,
+    0xff,
+    0xff,
+    0xff,
+    0xff,
+    3,
+    0,
+    1,
+    0x7c,
+    1,
+    DW_CFA_def_cfa,
+    2,
+    0,
 ];
 
 /// The call frame instructions of a function.
 static FRAME_INSTRUCTIONS: [u8; 16] = [
-    0x44, 0x0e, 0x10, 0x44, 0x81, 0x01, 0x44, 0x88, 0x02, 0x5c, 0xc1, 0x44, 0xc8, 0x44, 0x0e, 0x00,
+    DW_CFA_advance_loc + 4,
+    DW_CFA_def_cfa_offset,
+    16,
+    DW_CFA_advance_loc + 4,
+    DW_CFA_offset + 1,
+    1,
+    DW_CFA_advance_loc + 4,
+    DW_CFA_offset + 8,
+    2,
+    DW_CFA_advance_loc + 28,
+    DW_CFA_restore + 1,
+    DW_CFA_advance_loc + 4,
+    DW_CFA_restore + 8,
+    DW_CFA_advance_loc + 4,
+    DW_CFA_def_cfa_offset,
+    0,
 ];
 
 /// The FDE of a function.
@@ -27,7 +61,7 @@ fn put_fde(out: &mut Vec<u8>, number: u32) -> Result<(), Memory>
     Ok(())
 }
 
-/// The FDEs of so many functions.
+/// The FDEs of a given number of functions.
 fn put_fdes(out: &mut Vec<u8>, count: u32) -> Result<(), Memory>
     requires { count ≤ 48 }
     ensures { OnOk result (out.new.items ≡ out.old.items ++ fdes count) }

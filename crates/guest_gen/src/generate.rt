@@ -1,8 +1,8 @@
 //! The guest of a number.
 ghost use Rattle.std.specs.Prelude.{◌≡◌, ◌<◌, ◌≤◌, ◌*◌, ◌++◌, IfOk, OnOk, codes, length};
-ghost use Rattle.guest_gen.specs.Draws.{state_after};
-ghost use Rattle.guest_gen.specs.Code.{code, functions};
-ghost use Rattle.guest_gen.specs.File.{file_of};
+ghost use Rattle.guest_gen.specs.Draws.{draw_state};
+ghost use Rattle.guest_gen.specs.Code.{code, function_count};
+ghost use Rattle.guest_gen.specs.File.{guest_file};
 ghost use Rattle.guest_gen.specs.Guest.{guest_of, guest_schedule, drawn_line, slice_lines, slices};
 
 use crate::code::code;
@@ -25,10 +25,10 @@ pub struct GuestFiles {
 const SLICES: u32 = 4000;
 
 /// A slice: a hart and a number of instructions.
-#[tactic(auto, unfolding(crate::specs::Draws::state_after))]
+#[tactic(auto, unfolding(crate::specs::Draws::draw_state))]
 fn put_slice(out: &mut Vec<u8>, draws: &mut Draws) -> Result<(), Memory>
     ensures line { OnOk result (out.new.items ≡ out.old.items ++ drawn_line draws.old.state) }
-    ensures state { OnOk result (draws.new.state ≡ state_after 2 draws.old.state) }
+    ensures state { OnOk result (draws.new.state ≡ draw_state 2 draws.old.state) }
 {
     let hart = draws.draw() % 4;
     let count = 1 + draws.draw() % 997;

@@ -4,8 +4,8 @@ ghost use Rattle.guest_gen.specs.File.{function_name, name_bytes, strtab, symbol
 ghost use Rattle.guest_gen.specs.private.Names.{function_names, function_symbols, short_offset, short_symbol};
 
 use crate::code::{ENTRY, FUNCTION_SIZE, FUNCTIONS, function_start};
-use crate::elf::{SHN_ABS, STB_GLOBAL, STT_FUNC};
 use crate::put::put_half;
+use elf_image::{ELF32_SYM_SIZE, SHN_ABS, STB_GLOBAL, STT_FUNC};
 use prof_bytes::{Memory, put_decimal, put_words};
 use std::alloc::Global;
 
@@ -41,7 +41,7 @@ fn put_function_symbol(out: &mut Vec<u8>, number: u32) -> Result<(), Memory>
     Ok(())
 }
 
-/// The symbols of so many functions.
+/// The symbols of a given number of functions.
 fn put_function_symbols(out: &mut Vec<u8>, count: u32) -> Result<(), Memory>
     requires { count ≤ 48 }
     ensures { OnOk result (out.new.items ≡ out.old.items ++ function_symbols count) }
@@ -59,13 +59,13 @@ pub(crate) fn symtab(alloc: Global) -> Result<Vec<u8>, Memory>
     ensures size { IfOk result (λ bytes. length bytes.items ≡ 800) }
 {
     let mut out = Vec::new(alloc);
-    out.extend_from_slice(&[0; 16])?;
+    out.extend_from_slice(&[0; ELF32_SYM_SIZE as usize])?;
     put_symbol(&mut out, 1, ENTRY, 16)?;
     put_function_symbols(&mut out, FUNCTIONS)?;
     Ok(out)
 }
 
-/// A function's name, and the 0 byte behind it.
+/// A function's name, and the 0 byte after it.
 fn put_function_name(out: &mut Vec<u8>, number: u32) -> Result<(), Memory>
     ensures { OnOk result (out.new.items ≡ out.old.items ++ name_bytes (function_name number)) }
 {
@@ -75,7 +75,7 @@ fn put_function_name(out: &mut Vec<u8>, number: u32) -> Result<(), Memory>
     Ok(())
 }
 
-/// The names of so many functions.
+/// The names of a given number of functions.
 fn put_function_names(out: &mut Vec<u8>, count: u32) -> Result<(), Memory>
     ensures { OnOk result (out.new.items ≡ out.old.items ++ function_names count) }
 {

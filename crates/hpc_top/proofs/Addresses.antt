@@ -11,7 +11,8 @@ use Rattle.rv_table.specs.Table.{decoded}
 use Rattle.rv_hart.specs.declared.outcome.Stepped.{Stepped}
 use Rattle.rv_hart.specs.declared.outcome.Stepped.TheVariants as stepped
 use Rattle.rv_hart.specs.declared.outcome.Cause.TheVariants as cause
-use Rattle.rv_hart.specs.Arithmetic.{sum, signed}
+use Rattle.prof_bytes.specs.Number.{word_sum}
+use Rattle.rv_hart.specs.Arithmetic.{signed}
 use Rattle.rv_hart.specs.AddressSpace.{AddressSpace, stored}
 use Rattle.rv_hart.specs.Step.{State, rs1_value, rs2_value, address, operand, trapped, retired, jumps, continues_at, branches, loads, finishes_store, executed, fetched, after_fetch, step_of}
 use Rattle.rv_run.specs.declared.schedule.Slice.{Slice}
@@ -48,11 +49,11 @@ StaysLow s r = IsWord s.pc → IsWord r.0.pc
 
 jump : (inst : Inst) (target : ℕ) (s : State) → IsWord target → StaysLow s (jumps inst target s)
 jump inst target s low =
-    elim (target % 4 == 0) as (λ b. StaysLow s (cond b (retired inst (sum s.pc 4) target s) (trapped cause.Target s))) [ true ↦ (λ here. low) | false ↦ (λ here. here) ]
+    elim (target % 4 == 0) as (λ b. StaysLow s (cond b (retired inst (word_sum s.pc 4) target s) (trapped cause.Target s))) [ true ↦ (λ here. low) | false ↦ (λ here. here) ]
 
 branch : (inst : Inst) (test : Bool) (s : State) → StaysLow s (branches inst test s)
 branch inst true s =
-    elim (sum s.pc inst.imm % 4 == 0) as (λ b. StaysLow s (cond b (continues_at (sum s.pc inst.imm) s) (trapped cause.Target s))) [ true ↦ (λ here. mod_word (s.pc + inst.imm)) | false ↦ (λ here. here) ]
+    elim (word_sum s.pc inst.imm % 4 == 0) as (λ b. StaysLow s (cond b (continues_at (word_sum s.pc inst.imm) s) (trapped cause.Target s))) [ true ↦ (λ here. mod_word (s.pc + inst.imm)) | false ↦ (λ here. here) ]
 branch inst false s = λ here. mod_word (s.pc + 4)
 
 take_up : (inst : Inst) (number : Option ℕ) (s : State) → StaysLow s (loads inst number s)
@@ -67,8 +68,8 @@ by_operation : (op : Op) (inst : Inst) (s : State) → StaysLow s (executed op i
 by_operation ops.Illegal inst s = λ here. here
 by_operation ops.Lui inst s = λ here. mod_word (s.pc + 4)
 by_operation ops.Auipc inst s = λ here. mod_word (s.pc + 4)
-by_operation ops.Jal inst s = jump inst (sum s.pc inst.imm) s (mod_word (s.pc + inst.imm))
-by_operation ops.Jalr inst s = jump inst (sum (rs1_value inst s) inst.imm / 2 * 2) s (half_word (sum (rs1_value inst s) inst.imm) (mod_word (rs1_value inst s + inst.imm)))
+by_operation ops.Jal inst s = jump inst (word_sum s.pc inst.imm) s (mod_word (s.pc + inst.imm))
+by_operation ops.Jalr inst s = jump inst (word_sum (rs1_value inst s) inst.imm / 2 * 2) s (half_word (word_sum (rs1_value inst s) inst.imm) (mod_word (rs1_value inst s + inst.imm)))
 by_operation ops.Beq inst s = branch inst (rs1_value inst s == rs2_value inst s) s
 by_operation ops.Bne inst s = branch inst (not (rs1_value inst s == rs2_value inst s)) s
 by_operation ops.Blt inst s = branch inst (int_lt (signed (rs1_value inst s)) (signed (rs2_value inst s))) s

@@ -15,8 +15,8 @@ use Rattle.measure_file.specs.declared.fault.MeasureFault.{MeasureFault}
 use Rattle.measure_file.specs.declared.head.MeasureHead.{MeasureHead}
 use Rattle.measure_file.specs.Measurable.{AreMeasured, AreSampled, IsHead, IsMeasurable}
 use Rattle.measure_file.specs.Reading.{measurement_in}
-use Rattle.measure_file.specs.Spelling.{spelling}
-use Rattle.prof_db.specs.Spelling.{spelling as database}
+use Rattle.measure_file.specs.Spelling.{measurement_spelling}
+use Rattle.prof_db.specs.Spelling.{database_spelling as database}
 use Rattle.rv_run.specs.Run.{Run, run_of}
 use Rattle.rv_run.specs.Schedule.{Scheduled}
 use Rattle.rv_run.specs.State.{first_state}
@@ -202,7 +202,7 @@ module _ (elf input schedule : List ℕ) (period : ℕ) (p : Profiled) (parts_of
 
 -- what measure_file's laws and those of counted samples say
 abbrev pub Written : Type 0
-Written = (head : MeasureHead) (tables : List (List Counted)) → IsMeasurable head tables → measurement_in (spelling head tables) ≡ Ok (head, tables)
+Written = (head : MeasureHead) (tables : List (List Counted)) → IsMeasurable head tables → measurement_in (measurement_spelling head tables) ≡ Ok (head, tables)
 
 abbrev pub Countable : Type 0
 Countable = (harts : ℕ) (samples : List HartRaw) → AreSampled harts samples → AreMeasured (distinct harts samples)

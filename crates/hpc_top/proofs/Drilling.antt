@@ -5,7 +5,7 @@ use Rattle.std.proofs.lemmas.List.Sums.{sum_by_more}
 use Rattle.prof_bytes.specs.declared.fail.Fail.TheVariants as fails
 use Rattle.prof_bytes.specs.Outcome.{◌>>=◌}
 use Rattle.guest_gen.specs.declared.generate.GuestFiles.{GuestFiles}
-use Rattle.prof_db.specs.Spelling.{spelling}
+use Rattle.prof_db.specs.Spelling.{database_spelling}
 use Rattle.rv_run.specs.State.{HartState, hart_in, no_hart}
 use Rattle.scope_types.specs.CallPaths.{HartPath}
 use Rattle.tree_types.specs.declared.content.Content.{Content}
@@ -48,18 +48,18 @@ nodes_long period harts naming ps content is = ap (λ (c : Content). length c.no
     node_count = length-map (nodes ps) _
 
 module _ (by : Merging) (period : ℕ) (contents : ContentsAlike) (tables : TablesAlike) (whole : IsTrue by.whole) where
-  lines_are : (number : ℕ) (p : Profiled) (run : RunProfile) → IsProfileOf by period p run → drill_lines number run.retired run.samples (length run.merged.content.nodes) (spelling run.merged.content) ≡ drill_text number period p
+  lines_are : (number : ℕ) (p : Profiled) (run : RunProfile) → IsProfileOf by period p run → drill_lines number run.retired run.samples (length run.merged.content.nodes) (database_spelling run.merged.content) ≡ drill_text number period p
   lines_are number p run is =
       let a : Attributed = p.attributed in
       let content : run.merged.content ≡ content_of period a.harts a.naming (call_paths_of a) = all_content by period contents tables a run.merged is.merged whole in
-      let database : spelling run.merged.content ≡ (attribution_of period a).stored = ap spelling content in
+      let database : database_spelling run.merged.content ≡ (attribution_of period a).stored = ap database_spelling content in
       let many = nodes_long period a.harts a.naming (call_paths_of a) run.merged.content content in
       let retired = is.retired in
       let samples = is.samples in
       λ i. drill_lines number (retired i) (samples i) (many i) (database i)
 
   pub drilled_is : (number : ℕ) (files : GuestFiles) (run : RunProfile) (made : Prepared) → period ≡ files.period → Profiles by period (Ok run) (profiled_of files.elf files.input files.schedule files.period)
-      → ready made ≡ only_text (drill_lines number run.retired run.samples (length run.merged.content.nodes) (spelling run.merged.content)) → drilled number files ≡ Ok (ready made)
+      → ready made ≡ only_text (drill_lines number run.retired run.samples (length run.merged.content.nodes) (database_spelling run.merged.content)) → drilled number files ≡ Ok (ready made)
   drilled_is number files run made at (p, is, profile) text =
       ap (λ (r : Result Profiled InputFault). r >>= λ p. Ok (only_text (drill_text number files.period p))) is
       ∙ ap (λ (n : ℕ). Ok (only_text (drill_text number n p))) (sym at)

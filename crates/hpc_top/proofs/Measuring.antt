@@ -4,7 +4,7 @@ use Rattle.prof_bytes.specs.declared.fail.Fail.{Fail}
 use Rattle.prof_bytes.specs.declared.fail.Fail.TheVariants as fails
 use Rattle.prof_bytes.specs.Outcome.{◌>>=◌, FailsBy}
 use Rattle.elf_image.specs.Image.{ProgramImage}
-use Rattle.measure_file.specs.Spelling.{spelling}
+use Rattle.measure_file.specs.Spelling.{measurement_spelling}
 use Rattle.rv_run.specs.Progress.{to_come}
 use Rattle.rv_run.specs.State.{MachineState}
 use Rattle.sample_clock.specs.Samples.{Paths}
@@ -36,13 +36,13 @@ module _ (path_of : Paths) (image : ProgramImage) (period harts : ℕ) (old : Sa
   refused_measure (fails.Memory memory) many = tt
 
   pub measured_is : EachCounted → (ccts : List (List Counted)) (new : Sampling) (final : MachineState) (made : Prepared) → AllCounted path_of harts ccts old new → final ≡ new.machine.state → length ccts ≡ harts
-      → ready made ≡ record { stored = spelling (head_of image period) ccts; text = counted_text period ccts final }
+      → ready made ≡ record { stored = measurement_spelling (head_of image period) ccts; text = counted_text period ccts final }
       → measurement_or image period (measured_run path_of period harts (to_come old.machine)) ≡ Ok (ready made)
   measured_is each ccts new final made counted at many is =
       let raws : List HartRaw = raws_to_come path_of old in
       let text : counted_text period ccts final ≡ run_text period harts (to_come old.machine).final raws =
       counted_is each period harts final ccts raws counted.counts many counted.all ∙ ap (λ (m : MachineState). run_text period harts m raws) (at ∙ counted.ended) in
       let counts = counted.counts in
-      let product : ready made ≡ record { stored = spelling (head_of image period) (distinct harts raws); text = run_text period harts (to_come old.machine).final raws } =
-      is ∙ (λ i. record { stored = spelling (head_of image period) (counts i); text = text i }) in
+      let product : ready made ≡ record { stored = measurement_spelling (head_of image period) (distinct harts raws); text = run_text period harts (to_come old.machine).final raws } =
+      is ∙ (λ i. record { stored = measurement_spelling (head_of image period) (counts i); text = text i }) in
       in_steps ∙ ap (then_measured (to_come old.machine).final) counted.few ∙ ap Ok (sym product)

@@ -25,7 +25,7 @@ use Rattle.tree_types.specs.Naming.{Naming}
 use Rattle.tree_types.specs.Database.{content_of}
 use Rattle.tree_types.specs.OfContent.{IsProfile, content_table}
 use Rattle.tree_types.specs.TopDown.{top_down}
-use Rattle.prof_db.specs.Spelling.{spelling}
+use Rattle.prof_db.specs.Spelling.{database_spelling}
 use Rattle.sample_clock.specs.Samples.{Paths}
 use Rattle.sample_clock.specs.Clock.{Sampling}
 use Rattle.hpc_top.specs.declared.status.InputFault.{InputFault}
@@ -190,10 +190,10 @@ module _ (by : Merging) (period : ℕ) (contents : ContentsAlike) (tables : Tabl
   all_table a m is all_merged = is.table ∙ tables period a.harts a.naming (named_paths m.crew.stripes) (call_paths_of a) (is.paths all_merged)
 
   -- database and table alone
-  pub attribution_is : (wanted : Result Attributed InputFault) (m : Merged) (made : Prepared) → Merges by period (Ok m) wanted → IsTrue by.whole → made.stored ≡ spelling m.content → made.text ≡ content_table m.content
+  pub attribution_is : (wanted : Result Attributed InputFault) (m : Merged) (made : Prepared) → Merges by period (Ok m) wanted → IsTrue by.whole → made.stored ≡ database_spelling m.content → made.text ≡ content_table m.content
       → attribution_or period wanted ≡ Ok (ready made)
   attribution_is wanted m made (a, is, merged) all_merged stored text =
-      let s : made.stored ≡ spelling (content_of period a.harts a.naming (call_paths_of a)) = stored ∙ ap spelling (all_content a m merged all_merged) in
+      let s : made.stored ≡ database_spelling (content_of period a.harts a.naming (call_paths_of a)) = stored ∙ ap database_spelling (all_content a m merged all_merged) in
       let t : made.text ≡ top_down period a.harts a.naming (call_paths_of a) = text ∙ all_table a m merged all_merged in
       let product : attribution_of period a ≡ ready made = (λ i. record { stored = sym s i; text = sym t i }) in
       ap (λ (r : Result Attributed InputFault). attribution_or period r) is ∙ ap Ok product
@@ -210,13 +210,13 @@ module _ (by : Merging) (period : ℕ) (contents : ContentsAlike) (tables : Tabl
         gives = here.gives;
         plan = here.plan;
         product =
-            let s : made.database ≡ spelling (content_of period a.harts a.naming named) = parts.database ∙ ap spelling here.content in
+            let s : made.database ≡ database_spelling (content_of period a.harts a.naming named) = parts.database ∙ ap database_spelling here.content in
             let table = here.table in
             let t : made.report ≡ lines_of period p ++ top_down period a.harts a.naming named = parts.report ∙ (λ i. lines i ++ table i) in
             λ i. record { stored = s i; text = t i };
         crew = here.crew;
         whole = λ all_merged.
-            let s : made.database ≡ spelling (content_of period a.harts a.naming (call_paths_of a)) = parts.database ∙ ap spelling (all_content a m here all_merged) in
+            let s : made.database ≡ database_spelling (content_of period a.harts a.naming (call_paths_of a)) = parts.database ∙ ap database_spelling (all_content a m here all_merged) in
             let table = all_table a m here all_merged in
             let t : made.report ≡ lines_of period p ++ top_down period a.harts a.naming (call_paths_of a) = parts.report ∙ (λ i. lines i ++ table i) in
             λ i. record { stored = s i; text = t i };

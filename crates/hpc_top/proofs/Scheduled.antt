@@ -10,12 +10,12 @@ use Rattle.prof_bytes.specs.Outcome.{◌>>=◌}
 use Rattle.elf_image.specs.declared.fault.ElfFault.{ElfFault}
 use Rattle.elf_image.specs.Fields.{number_of, word_at}
 use Rattle.elf_image.specs.Image.{ProgramImage}
-use Rattle.elf_image.specs.Reading.{header_of, image_of, image_of_file, sections_of, segments_of, symbols_in}
+use Rattle.elf_image.specs.Reading.{checked_header, image_of, image_of_file, checked_sections, checked_all_segments, checked_symbols}
 use Rattle.elf_image.specs.Headers.{symbol_table}
 use Rattle.rv_run.specs.declared.schedule.Slice.{Slice}
 use Rattle.rv_run.specs.declared.schedule.ScheduleFault.{ScheduleFault}
 use Rattle.rv_run.specs.Numerals.{decimal_in, decimal_value, is_decimal}
-use Rattle.rv_run.specs.Schedule.{NumberedLine, Scheduled, slices_before, entries, harts_in, harts_word, lines, most_harts, most_instructions, numbered, or_fault, schedule_in, schedule_of, slice_by, slice_cut, slice_in, slices_of}
+use Rattle.rv_run.specs.Schedule.{NumberedLine, Scheduled, slices_before, entries, harts_in, harts_word, lines, most_harts, most_instructions, numbered_lines, on_line, schedule_in, schedule_of, slice_by, slice_cut, slice_in, slices_of}
 use Rattle.hpc_top.specs.Program.{program, program_from, scheduled, scheduled_from}
 use Rattle.prof_bytes.proofs.Outcomes.{bind_ok, ok_same}
 
@@ -66,7 +66,7 @@ slice_own harts used line None slice some is = absurd cc
 slice_own harts used line (Some space) slice some is =
     slice_by_own harts (decimal_in 0 (harts - 1) (take space line)) (decimal_in 1 (most_instructions - used) (drop (space + 1) line)) slice some (λ n e. (bounds 0 (harts - 1) (take space line) n e).1) is
 
-fault_ok : {X : Type 0} (line : ℕ) (o : Option X) (x : X) → or_fault line o ≡ Ok x → o ≡ Some x
+fault_ok : {X : Type 0} (line : ℕ) (o : Option X) (x : X) → on_line line o ≡ Ok x → o ≡ Some x
 fault_ok line (Some y) x is = ap Some (ok_same y x is)
 fault_ok line None x is = absurd cc
 
@@ -74,7 +74,7 @@ slices_own : (harts used : ℕ) (all : List NumberedLine) (slices : List Slice) 
 unfolding slices_of
 slices_own harts used [] slices some is = subst (AllByRecursion (λ (slice : Slice). slice.hart < harts)) (ok_same [] slices is) tt
 slices_own harts used (line ∷ rest) slices some is =
-    let b = bind_ok (or_fault line.number (slice_in harts used line.bytes)) (λ slice. slices_before (slice ∷ []) (slices_of harts (used + slice.count) rest)) slices is in
+    let b = bind_ok (on_line line.number (slice_in harts used line.bytes)) (λ slice. slices_before (slice ∷ []) (slices_of harts (used + slice.count) rest)) slices is in
     let c = bind_ok (slices_of harts (used + b.0.count) rest) (λ more. Ok ((b.0 ∷ []) ++ more)) slices b.2 in
     subst (AllByRecursion (λ (slice : Slice). slice.hart < harts)) (ok_same (b.0 ∷ c.0) slices c.2)
     (slice_own harts used line.bytes (position (λ byte. byte == 32) line.bytes) b.0 some (fault_ok line.number (slice_in harts used line.bytes) b.0 b.1), slices_own harts (used + b.0.count) rest c.0 some c.1)
@@ -87,7 +87,7 @@ pub record IsOwn (s : Scheduled) : Type 0 where
 schedule_own : (end : ℕ) (all : List NumberedLine) (s : Scheduled) → schedule_in end all ≡ Ok s → IsOwn s
 schedule_own end [] s is = absurd cc
 schedule_own end (first ∷ rest) s is =
-    let h = bind_ok (or_fault first.number (harts_in first.bytes)) (λ harts. slices_of harts 0 rest >>= λ slices. Ok (record { harts = harts; slices = slices })) s is in
+    let h = bind_ok (on_line first.number (harts_in first.bytes)) (λ harts. slices_of harts 0 rest >>= λ slices. Ok (record { harts = harts; slices = slices })) s is in
     let l = bind_ok (slices_of h.0 0 rest) (λ slices. Ok (record { harts = h.0; slices = slices })) s h.2 in
     let b = harts_bounds first.bytes h.0 (fault_ok first.number (harts_in first.bytes) h.0 h.1) in
     subst IsOwn (ok_same (record { harts = h.0; slices = l.0 }) s l.2) (record { some = b.0; few = b.1; slices = slices_own h.0 0 rest l.0 b.0 l.1 })
@@ -97,7 +97,7 @@ schedule_from (Ok x) s is = ap Ok (ok_same x s is)
 schedule_from (Err fault) s is = absurd cc
 
 pub scheduled_own : (bytes : List ℕ) (s : Scheduled) → scheduled bytes ≡ Ok s → IsOwn s
-scheduled_own bytes s is = schedule_own (length (lines bytes) + 1) (entries (numbered 1 (lines bytes))) s (schedule_from (schedule_of bytes) s is)
+scheduled_own bytes s is = schedule_own (length (lines bytes) + 1) (entries (numbered_lines 1 (lines bytes))) s (schedule_from (schedule_of bytes) s is)
 
 -- ---- programs
 
@@ -108,10 +108,10 @@ image_from (Err fault) image is = absurd cc
 image_loaded : (elf : List ℕ) (image : ProgramImage) → image_of elf ≡ Ok image → image_of_file elf ≡ image
 unfolding image_of
 image_loaded elf image is =
-    let a = bind_ok (header_of elf) (λ _. segments_of elf >>= λ _. sections_of elf >>= λ _. symbols_in elf (symbol_table elf) >>= λ _. Ok (image_of_file elf)) image is in
-    let b = bind_ok (segments_of elf) (λ _. sections_of elf >>= λ _. symbols_in elf (symbol_table elf) >>= λ _. Ok (image_of_file elf)) image a.2 in
-    let c = bind_ok (sections_of elf) (λ _. symbols_in elf (symbol_table elf) >>= λ _. Ok (image_of_file elf)) image b.2 in
-    let d = bind_ok (symbols_in elf (symbol_table elf)) (λ _. Ok (image_of_file elf)) image c.2 in
+    let a = bind_ok (checked_header elf) (λ _. checked_all_segments elf >>= λ _. checked_sections elf >>= λ _. checked_symbols elf (symbol_table elf) >>= λ _. Ok (image_of_file elf)) image is in
+    let b = bind_ok (checked_all_segments elf) (λ _. checked_sections elf >>= λ _. checked_symbols elf (symbol_table elf) >>= λ _. Ok (image_of_file elf)) image a.2 in
+    let c = bind_ok (checked_sections elf) (λ _. checked_symbols elf (symbol_table elf) >>= λ _. Ok (image_of_file elf)) image b.2 in
+    let d = bind_ok (checked_symbols elf (symbol_table elf)) (λ _. Ok (image_of_file elf)) image c.2 in
     ok_same (image_of_file elf) image d.2
 
 pub program_loaded : (elf : List ℕ) (image : ProgramImage) → program elf ≡ Ok image → image_of_file elf ≡ image

@@ -4,7 +4,7 @@ use Rattle.std.proofs.lemmas.List.Elements.{All-weaker}
 use Rattle.prof_bytes.specs.Outcome.{◌>>=◌}
 use Rattle.prof_db.specs.declared.fault.DbFault.{DbFault}
 use Rattle.prof_db.specs.Rules.{database_in}
-use Rattle.prof_db.specs.Spelling.{spelling}
+use Rattle.prof_db.specs.Spelling.{database_spelling}
 use Rattle.prof_db.specs.Stored.{AreStored, is_call_path}
 use Rattle.scope_types.specs.Limits.{most_path_scopes}
 use Rattle.scope_types.specs.declared.scope.Scope.{Scope}
@@ -60,7 +60,7 @@ some_scopes (root ∷ rest) e = omega arith
 
 -- what the law of stored contents says
 abbrev pub ReadLaw : Type 0
-ReadLaw = (period harts : ℕ) (naming : Naming) (ps : List HartPath) → AreStored period harts naming ps → database_in (spelling (content_of period harts naming ps)) ≡ Ok (content_of period harts naming ps)
+ReadLaw = (period harts : ℕ) (naming : Naming) (ps : List HartPath) → AreStored period harts naming ps → database_in (database_spelling (content_of period harts naming ps)) ≡ Ok (content_of period harts naming ps)
 
 pub shown_of_stored : TopLaw → CallersLaw → FlatLaw → ReadLaw → (table : ViewTable) (period : ℕ) (a : Attributed) → AreStored period a.harts a.naming (call_paths_of a)
     → view_product table (attribution_of period a).stored ≡ Ok (only_text (table_of_paths table period a.harts a.naming (call_paths_of a)))

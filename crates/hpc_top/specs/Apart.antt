@@ -9,7 +9,7 @@ use Rattle.hpc_top.specs.Task.{program_limit}
 use Rattle.hpc_top.specs.Words.{most_period}
 
 -- `run` is accepted on the profile's files, and `prof` on the program and what `run` stores. It stores the profile's
--- database, and the profile's text is what `run` puts with what `prof` puts behind it
+-- database, and the profile's text is what `run` puts with what `prof` puts after it
 pub record IsApart (elf input schedule : List ℕ) (period : ℕ) (whole : Product) : Type 0 where
   pub kept : Product
   pub run : run_product elf input schedule period ≡ Ok kept

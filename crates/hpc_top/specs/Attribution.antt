@@ -5,7 +5,7 @@ use Rattle.elf_image.specs.Image.{ProgramImage}
 use Rattle.measure_file.specs.declared.fault.MeasureFault.{MeasureFault}
 use Rattle.measure_file.specs.declared.head.MeasureHead.{MeasureHead}
 use Rattle.measure_file.specs.Reading.{measurement_in}
-use Rattle.prof_db.specs.Spelling.{spelling}
+use Rattle.prof_db.specs.Spelling.{database_spelling}
 use Rattle.scope_find.specs.Found.{ProgramScopes, found_at, naming_of}
 use Rattle.scope_types.specs.declared.frame.Counted.{Counted}
 use Rattle.scope_types.specs.declared.scope.Scope.{Scope}
@@ -25,7 +25,7 @@ use Rattle.hpc_top.specs.Scopes.{program_scopes}
 
 -- ---- samples that are attributed
 
--- samples of so many harts, the names of their program, and how raw paths are expanded
+-- samples of a given number of harts, the names of their program, and how raw paths are expanded
 pub record Attributed : Type 0 where
   pub harts : ℕ
   pub naming : Naming
@@ -45,7 +45,7 @@ call_paths_of a = map (sample_path a.expand) a.samples
 -- the database and the top-down table of these paths
 abbrev pub attribution_from : ℕ → Attributed → List HartPath → Product
 attribution_from period a paths = record {
-  stored = spelling (content_of period a.harts a.naming paths);
+  stored = database_spelling (content_of period a.harts a.naming paths);
   text = top_down period a.harts a.naming paths;
 }
 

@@ -5,7 +5,7 @@ use Rattle.elf_image.specs.Image.{ProgramImage}
 use Rattle.cfi_table.specs.Frames.{Frames as Described}
 use Rattle.cfi_unwind.specs.Path.{unwinding_of, path_of as unwound_by}
 use Rattle.measure_file.specs.declared.head.MeasureHead.{MeasureHead}
-use Rattle.measure_file.specs.Spelling.{spelling}
+use Rattle.measure_file.specs.Spelling.{measurement_spelling}
 use Rattle.rv_run.specs.Run.{Run, run_of}
 use Rattle.rv_run.specs.Schedule.{Scheduled}
 use Rattle.rv_run.specs.State.{MachineState}
@@ -41,7 +41,7 @@ head_of image period = record { length = length image.file; entry = image.entry;
 -- the measurement has the distinct raw paths of the samples, and the text is that of the run
 abbrev pub measurement_of : ProgramImage → ℕ → Measured → Product
 measurement_of image period m = record {
-  stored = spelling (head_of image period) (distinct m.harts m.samples);
+  stored = measurement_spelling (head_of image period) (distinct m.harts m.samples);
   text = run_text period m.harts m.final m.samples;
 }
 

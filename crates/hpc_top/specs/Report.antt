@@ -47,7 +47,7 @@ hart_line final samples hart =
     ++ codes " samples " ++ decimal samples
     ++ codes " end " ++ end_text (hart_of final hart).end ++ codes "\n"
 
--- a line for each hart, where each has so many samples
+-- a line for each hart, where each has a given number of samples
 abbrev pub hart_lines : ℕ → MachineState → (ℕ → ℕ) → List ℕ
 hart_lines harts final samples = flat_map (λ hart. hart_line final (samples hart) hart) (harts_below harts)
 

@@ -1,7 +1,7 @@
 //! The database and the table of a content at once: each needs the content alone, so a thread of its own makes each,
 //! and touches its pages first. Before that both find the length of the table, which takes longer than the database.
-ghost use Rattle.std.specs.Prelude.{◌≡◌, ◌++◌, IfOk};
-ghost use Rattle.prof_db.specs.Spelling.{spelling};
+ghost use Rattle.std.specs.Prelude.{◌≡◌, ◌-◌, ◌^◌, ◌++◌, length, min, IfOk};
+ghost use Rattle.prof_db.specs.Spelling.{database_spelling};
 ghost use Rattle.prof_db.specs.Writable.{IsWritable};
 ghost use Rattle.tree_types.specs.OfContent.{IsProfile, content_table};
 
@@ -17,7 +17,7 @@ use view_tables::{top_down_length, top_down_length_by_two};
 /// With fewer nodes than these one thread makes both: another takes longer to start.
 const WORTH_A_THREAD: usize = 8_192;
 
-/// The content's database, and its table behind the lines, of which two threads make one each.
+/// The content's database, and its table after the lines, of which two threads make one each.
 pub fn database_and_report<R: Threads + Sync>(
     rt: &R,
     alloc: Global,
@@ -25,24 +25,25 @@ pub fn database_and_report<R: Threads + Sync>(
     content: &Content,
 ) -> Result<(Text, Text), Memory>
     requires { IsProfile content.now }
-    ensures { IfOk result (λ both. (both.0 ≡ spelling content.now) × (both.1 ≡ lines ++ content_table content.now)) }
+    ensures { IfOk result (λ both. (both.0 ≡ database_spelling content.now) × (both.1 ≡ lines ++ content_table content.now)) }
 {
     profiles_are_writable();
     if content.nodes.items().len() < WORTH_A_THREAD {
         let database = write_db(alloc, content)?;
         return Ok((database, report(lines, top_down_length(content), content)?));
     }
-    let length = top_down_length_by_two(rt, content);
+    let size = top_down_length_by_two(rt, content);
     let (database, report) = join(
         rt,
         || -> Result<Text, Memory>
             requires { IsWritable content.now }
-            ensures { IfOk result (λ text. text ≡ spelling content.entry.now) }
+            ensures { IfOk result (λ text. text ≡ database_spelling content.entry.now) }
         { write_db(alloc, content) },
         || -> Result<Text, Memory>
-            requires { IsProfile content.now }
+            requires { (IsProfile content.now)
+                × (size ≡ min (length (content_table content.now)) (2 ^ 64 - 1)) }
             ensures { IfOk result (λ text. text ≡ lines ++ content_table content.entry.now) }
-        { report(lines, length, content) },
+        { report(lines, size, content) },
     );
     Ok((database?, report?))
 }
@@ -54,7 +55,7 @@ pub fn database_and_table<R: Threads + Sync>(
     content: &Content,
 ) -> Result<(Text, Text), Memory>
     requires { IsProfile content.now }
-    ensures { IfOk result (λ both. (both.0 ≡ spelling content.now) × (both.1 ≡ content_table content.now)) }
+    ensures { IfOk result (λ both. (both.0 ≡ database_spelling content.now) × (both.1 ≡ content_table content.now)) }
 {
     database_and_report(rt, alloc, Text::from_vec(Vec::new(alloc)), content)
 }

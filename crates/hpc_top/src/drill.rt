@@ -2,7 +2,7 @@
 ghost use Rattle.std.specs.Prelude.{◌≡◌, ◌≤◌, ◌++◌, decimal, fold, IfOk, IsTrue, length, OnOk};
 ghost use Rattle.guest_gen.specs.Guest.{guest_of};
 ghost use Rattle.prof_bytes.specs.Outcome.{Gives};
-ghost use Rattle.prof_db.specs.Spelling.{spelling};
+ghost use Rattle.prof_db.specs.Spelling.{database_spelling};
 ghost use Rattle.scope_types.specs.Key.{fnv};
 ghost use Rattle.hpc_top.specs.Drill.{database_line, drill_lines, drill_product, drilled, nodes_line, number_line};
 ghost use Rattle.hpc_top.specs.Drill.{totals_line};
@@ -89,7 +89,7 @@ fn put_database_line(out: &mut Vec<u8>, database: &[u8]) -> Result<(), Memory>
 fn lines(alloc: Global, number: u32, run: &RunProfile) -> Result<Text, Memory>
     requires { IsProfile run.now.merged.content }
     ensures { IfOk result (λ text. text ≡ drill_lines number run.now.retired run.now.samples
-        (length run.now.merged.content.nodes) (spelling run.now.merged.content)) }
+        (length run.now.merged.content.nodes) (database_spelling run.now.merged.content)) }
 {
     profiles_are_writable();
     let content = &run.merged.content;

@@ -2,7 +2,7 @@
 ghost use Rattle.std.specs.Prelude.{◌≡◌, ◌≤◌, ◌<◌, All, IfOk, length};
 ghost use Rattle.prof_bytes.specs.Outcome.{Gives};
 ghost use Rattle.cfi_unwind.specs.Path.{path_of as unwound_by};
-ghost use Rattle.measure_file.specs.Spelling.{spelling};
+ghost use Rattle.measure_file.specs.Spelling.{measurement_spelling};
 ghost use Rattle.rv_run.specs.Progress.{to_come};
 ghost use Rattle.hpc_top.specs.Measure.{head_of, measured_program, measured_run, run_product};
 ghost use Rattle.hpc_top.specs.Task.{program_limit, schedule_limit};
@@ -37,7 +37,7 @@ fn measure_counted(
     requires few { length ccts.now ≤ 16 }
     requires harts { length ccts.now ≡ length machine.now.state.harts }
     ensures { IfOk result (λ made. ready made ≡ record {
-      stored = spelling (head_of image.now period) ccts.now;
+      stored = measurement_spelling (head_of image.now period) ccts.now;
       text = counted_text period ccts.now machine.now.state;
     }) }
 {

@@ -1,5 +1,5 @@
 //! A run and its profile as text.
-ghost use Rattle.std.specs.Prelude.{◌≡◌, ◌<◌, ◌≤◌, ◌^◌, ◌++◌, ◌*◌, length, codes, decimal, IfOk, OnOk};
+ghost use Rattle.std.specs.Prelude.{◌≡◌, ◌<◌, ◌≤◌, ◌^◌, ◌++◌, ◌*◌, ◌-◌, length, min, codes, decimal, IfOk, OnOk};
 ghost use Rattle.scope_types.specs.Distinct.{samples_in};
 ghost use Rattle.scope_types.specs.Limits.{most_samples};
 ghost use Rattle.thread_cct.specs.Adding.{samples_of_hart};
@@ -34,7 +34,7 @@ pub fn put_words(out: &mut Vec<u8>, words: &str) -> Result<(), Memory>
     Ok(())
 }
 
-/// A word, and a number behind it.
+/// A word, and a number after it.
 pub fn put_count(out: &mut Vec<u8>, word: &str, number: u64) -> Result<(), Memory>
     ensures { OnOk result (out.new.items ≡ out.old.items ++ word.now ++ decimal number) }
 {
@@ -160,14 +160,15 @@ pub fn run_report(
     Ok(Text::from_vec(lines))
 }
 
-/// The report of a profile: the lines on its run, and the content's table, which has so many bytes.
-pub fn report(lines: Text, length: u64, content: &Content) -> Result<Text, Memory>
-    requires { IsProfile content.now }
+/// The report of a profile: the lines on its run, and the content's table, which has `size` bytes.
+pub fn report(lines: Text, size: u64, content: &Content) -> Result<Text, Memory>
+    requires profile { IsProfile content.now }
+    requires size { size ≡ min (length (content_table content.now)) (2 ^ 64 - 1) }
     ensures { IfOk result (λ text. text ≡ lines ++ content_table content.now) }
 {
     let mut bytes = lines.into_vec();
     // A table may have gigabytes: where there is no room for it, memory runs out here, and not in the middle.
-    bytes.reserve(length as usize)?;
+    bytes.reserve(size as usize)?;
     put_top_down(&mut bytes, content)?;
     Ok(Text::from_vec(bytes))
 }

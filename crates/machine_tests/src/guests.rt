@@ -48,7 +48,7 @@ static HEAD: [u8; 68] = [
     0, 0, 0, 1, 0, 0, 0, 1, 0,
 ];
 
-/// The file of a program of so many bytes of code, up to where the code begins.
+/// The file of a program of a given number of bytes of code, up to where the code begins.
 fn before_code(alloc: Global, code: u32) -> Result<Vec<u8>, Trouble> {
     let mut file = Vec::new(alloc);
     file.extend_from_slice(&HEAD)?;
@@ -115,7 +115,7 @@ pub(crate) fn hart_at(pc: u32, x5: u32, x6: u32) -> Hart {
     Hart { pc, regs }
 }
 
-/// The memory of the program in a file, for so many harts.
+/// The memory of the program in a file, for a given number of harts.
 pub(crate) fn space_of(alloc: Global, file: &[u8], harts: u32) -> Result<Space<'_>, Trouble> {
     if harts > 64 {
         return Err(Fail::Fault(Refused));

@@ -1,5 +1,6 @@
 //! Runs of programs under a schedule: what they read, write and answer, and how their harts end.
 use crate::guests::{ADDER, Trouble, guest, machine_of};
+use rv_run::linux::{SYS_READ, SYS_WRITE};
 use rv_run::{Due, HartEnd, Machine, Moment};
 use std::alloc::Global;
 use std::test::Fail as Failed;
@@ -8,9 +9,9 @@ mod programs;
 mod tables;
 
 use programs::{CALLER, GROUP, SHARED, WRITER};
-use tables::{ENDS, MOMENTS, OTHERS, OUTPUTS, READ, READS, WRITE, WRITES};
+use tables::{ENDS, MOMENTS, OTHERS, OUTPUTS, READS, WRITES};
 
-/// Carries out so many instructions of a run.
+/// Carries out a given number of instructions of a run.
 fn carry_out(machine: &mut Machine<'_>, count: u32) -> Result<(), Trouble> {
     for _ in 0..count {
         machine.next()?;
@@ -18,7 +19,7 @@ fn carry_out(machine: &mut Machine<'_>, count: u32) -> Result<(), Trouble> {
     Ok(())
 }
 
-/// Whether a hart has retired so many instructions and stands like this.
+/// Whether a hart has retired a given number of instructions and stands like this.
 fn stands(machine: &Machine<'_>, hart: u32, retired: u64, end: HartEnd) -> bool {
     if hart as usize >= machine.harts() {
         return false;
@@ -48,7 +49,7 @@ fn caller(alloc: Global, given: [u32; 4]) -> Result<Vec<u8>, Trouble> {
     guest(alloc, words.as_slice())
 }
 
-/// A machine after the call of such a file and the break behind it, with the input `abcdef`.
+/// A machine after the call of such a file and the break after it, with the input `abcdef`.
 fn after_call(alloc: Global, file: &[u8]) -> Result<Machine<'_>, Trouble> {
     let mut machine = machine_of(alloc, file, b"harts 1\n0 6", b"abcdef")?;
     carry_out(&mut machine, 7)?;
@@ -58,7 +59,7 @@ fn after_call(alloc: Global, file: &[u8]) -> Result<Machine<'_>, Trouble> {
 #[test]
 fn reads_of_the_input(rt: HostRuntime) -> Result<(), Failed> {
     for (name, descriptor, at, count, answer, word) in &READS {
-        let file = caller(rt.alloc(), [READ, *descriptor, *at, *count])?;
+        let file = caller(rt.alloc(), [SYS_READ, *descriptor, *at, *count])?;
         let machine = after_call(rt.alloc(), file.as_slice())?;
         assert!(rt; answers(&machine, *answer, 6, HartEnd::Running), "{name}");
         assert_eq!(rt; machine.space().load(*at, 4), *word, "{name}");
@@ -70,7 +71,7 @@ fn reads_of_the_input(rt: HostRuntime) -> Result<(), Failed> {
 #[test]
 fn writes_of_memory(rt: HostRuntime) -> Result<(), Failed> {
     for (name, descriptor, at, count, answer, from, to) in &WRITES {
-        let file = caller(rt.alloc(), [WRITE, *descriptor, *at, *count])?;
+        let file = caller(rt.alloc(), [SYS_WRITE, *descriptor, *at, *count])?;
         let machine = after_call(rt.alloc(), file.as_slice())?;
         assert!(rt; answers(&machine, *answer, 6, HartEnd::Running), "{name}");
         assert_eq!(rt; Some(machine.output()), file.get(*from..*to), "{name}");
@@ -161,7 +162,7 @@ fn exit_of_all_harts(rt: HostRuntime) -> Result<(), Failed> {
     Ok(())
 }
 
-/// Whether so many instructions more leave this in the shared word.
+/// Whether a given number of instructions more leave this in the shared word.
 fn shares(machine: &mut Machine<'_>, count: u32, word: u32) -> Result<bool, Trouble> {
     carry_out(machine, count)?;
     Ok(machine.space().load(0xf008_0000, 4) == Some(word))

@@ -212,7 +212,7 @@ fn jumps_program(alloc: Global) -> Result<Vec<u8>, Trouble> {
     program!(alloc; &JUMPS, &JUMPS_BY_REGISTER)
 }
 
-fn other_jump_by_place(space: &mut Space) -> Result<Option<&'static str>, Trouble> {
+fn other_jump_by_pc(space: &mut Space) -> Result<Option<&'static str>, Trouble> {
     let mut pc = CODE;
     for (name, _, x5, by) in &JUMPS {
         let mut hart = hart_at(pc, *x5, 0);
@@ -242,7 +242,7 @@ fn other_jump_by_register(space: &mut Space) -> Result<Option<&'static str>, Tro
 fn jumps(rt: HostRuntime) -> Result<(), Fail> {
     let file = jumps_program(rt.alloc())?;
     let mut space = space_of(rt.alloc(), file.as_slice(), 1)?;
-    assert_eq!(rt; other_jump_by_place(&mut space)?, None);
+    assert_eq!(rt; other_jump_by_pc(&mut space)?, None);
     assert_eq!(rt; other_jump_by_register(&mut space)?, None);
     Ok(())
 }
@@ -282,7 +282,7 @@ fn other_x0(space: &mut Space) -> Result<Option<&'static str>, Trouble> {
 
 /// Addresses at which no instruction is fetched.
 const NOT_FETCHED: [(&str, u32); 5] = [
-    ("behind the code", 0x1_0044),
+    ("after the code", 0x1_0044),
     ("no multiple of 4", 0x1_0002),
     ("outside of all regions", 0),
     ("in a stack", STACK),

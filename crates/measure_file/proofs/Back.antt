@@ -15,12 +15,12 @@ use Rattle.scope_types.specs.declared.frame.Frame.{Frame}
 use Rattle.measure_file.specs.declared.fault.MeasureFault.{MeasureFault}
 use Rattle.measure_file.specs.Fields.{starting_at, word_by, word_from}
 use Rattle.measure_file.specs.Measurable.{HasWord}
-use Rattle.measure_file.specs.Reading.{frame_from, is_count, is_end_number, is_length, path_end}
+use Rattle.measure_file.specs.Reading.{measured_frame_from, is_count, is_end_number, is_length, path_end}
 use Rattle.measure_file.specs.Spelling.{end_number, frame_bytes}
 
 -- ---- words
 
--- a word of a rule that was read on the way to a value, and what was read behind it
+-- a word of a rule that was read on the way to a value, and what was read after it
 pub record WordBehind {Y : Type 0} (rule : ℕ → Bool) (at : At) (rest : ℕ × At → Result Y MeasureFault) (y : Y) : Type 0 where
   pub value : ℕ
   pub next : At
@@ -52,14 +52,14 @@ ruled_behind rule at rest y bytes is =
 
 -- ---- frames
 
-frame_back : (at next : At) (frame : Frame) → IsBytes at.whole → frame_from at ≡ Ok (frame, next) → Took at next (frame_bytes frame) × HasWord frame
-unfolding frame_from
+frame_back : (at next : At) (frame : Frame) → IsBytes at.whole → measured_frame_from at ≡ Ok (frame, next) → Took at next (frame_bytes frame) × HasWord frame
+unfolding measured_frame_from
 frame_back at next frame bytes is =
     let a = word_behind at _ _ bytes is in
     given (λ frame next. Took at next (frame_bytes frame) × HasWord frame) _ frame _ next a.is (a.took, a.few)
 
-pub frames_back : (n : ℕ) (frames : List Frame) (at next : At) → IsBytes at.whole → times (adding frame_from) n 0 [] at ≡ Ok (frames, next) → ItemsTook frame_bytes HasWord n at next [] frames
-frames_back n frames at next bytes is = items_took frame_from frame_bytes HasWord frame_back n 0 [] frames at next bytes is
+pub frames_back : (n : ℕ) (frames : List Frame) (at next : At) → IsBytes at.whole → times (adding measured_frame_from) n 0 [] at ≡ Ok (frames, next) → ItemsTook frame_bytes HasWord n at next [] frames
+frames_back n frames at next bytes is = items_took measured_frame_from frame_bytes HasWord frame_back n 0 [] frames at next bytes is
 
 -- ---- what the rules of single words say
 

@@ -12,7 +12,7 @@ use Rattle.prof_bytes.specs.Repeated.{times}
 use Rattle.measure_file.specs.Fields.{fault_at, starting_at, word_from}
 use Rattle.measure_file.specs.Measurable.{AreDistinct, AreMeasured, IsCounted, IsHead, IsMeasurable}
 use Rattle.measure_file.specs.Reading.{hart_from, is_harts, is_period, measurement_in, tables_from}
-use Rattle.measure_file.specs.Spelling.{magic, hart_bytes, spelling}
+use Rattle.measure_file.specs.Spelling.{magic, hart_bytes, measurement_spelling}
 use Rattle.prof_bytes.proofs.Outcomes.{bind_ok, guard_ok, ok_same}
 use Rattle.prof_bytes.specs.Format.{magic_or}
 use Rattle.prof_bytes.specs.Outcome.{◌>>=◌}
@@ -68,8 +68,8 @@ harts_rule n e = (let parts = and_parts _ _ e in (leb-true 1 n parts.0, leb-true
 
 -- ---- the file
 
-file_back : (bytes : List ℕ) (m : MeasureHead × Tables) → IsBytes bytes → measurement_in bytes ≡ Ok m → IsMeasurable m.0 m.1 × (bytes ≡ spelling m.0 m.1)
-unfolding measurement_in spelling
+file_back : (bytes : List ℕ) (m : MeasureHead × Tables) → IsBytes bytes → measurement_in bytes ≡ Ok m → IsMeasurable m.0 m.1 × (bytes ≡ measurement_spelling m.0 m.1)
+unfolding measurement_in measurement_spelling
 file_back bytes m are is =
     let front = bind_ok (magic_or (fault_at 0) magic bytes) _ _ is in
     let behind = magic_took (fault_at 0) magic bytes front.0 front.1 in
@@ -85,14 +85,14 @@ file_back bytes m are is =
     let harts_took : Took d.next f.next (word (length tables)) = subst (λ (n : ℕ). Took d.next f.next (word n)) (sym rest.many) f.took in
     let took = took_both a.took (took_both b.took (took_both d.took harts_took)) in
     let words : IsHead head = record { length = a.few; entry = b.few; period = d.few; some = leb-true 1 d.value d.passes } in
-    let made : IsMeasurable head tables × (bytes ≡ spelling head tables) = (
+    let made : IsMeasurable head tables × (bytes ≡ measurement_spelling head tables) = (
       record { words = words; counts = rest.measured },
       behind.1 ∙ ap (λ (l : List ℕ). magic ++ l) (ap left_of behind.0 ∙ took.left ∙ ap (λ (l : List ℕ). word head.length ++ (word head.entry ++ (word head.period ++ (word (length tables) ++ l)))) rest.left),
     ) in
-    subst (λ (m : MeasureHead × Tables). IsMeasurable m.0 m.1 × (bytes ≡ spelling m.0 m.1)) (ok_same (head, tables) m g.2) made
+    subst (λ (m : MeasureHead × Tables). IsMeasurable m.0 m.1 × (bytes ≡ measurement_spelling m.0 m.1)) (ok_same (head, tables) m g.2) made
 
 pub read_measurable : (bytes : List ℕ) (m : MeasureHead × Tables) → IsBytes bytes → measurement_in bytes ≡ Ok m → IsMeasurable m.0 m.1
 read_measurable bytes m are is = (file_back bytes m are is).0
 
-pub read_bytes : (bytes : List ℕ) (m : MeasureHead × Tables) → IsBytes bytes → measurement_in bytes ≡ Ok m → bytes ≡ spelling m.0 m.1
+pub read_bytes : (bytes : List ℕ) (m : MeasureHead × Tables) → IsBytes bytes → measurement_in bytes ≡ Ok m → bytes ≡ measurement_spelling m.0 m.1
 read_bytes bytes m are is = (file_back bytes m are is).1

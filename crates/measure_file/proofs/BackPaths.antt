@@ -11,29 +11,29 @@ use Rattle.thread_cct.specs.Adding.{has_path, of_hart, with_path}
 use Rattle.prof_bytes.specs.Repeated.{adding, times}
 use Rattle.measure_file.specs.Fields.{fault_at}
 use Rattle.measure_file.specs.Measurable.{AreMeasured, HasWord, IsCounted}
-use Rattle.measure_file.specs.Reading.{frame_from, hart_from, is_count, is_end_number, is_length, new_path, path_end, path_from}
+use Rattle.measure_file.specs.Reading.{measured_frame_from, hart_from, is_count, is_end_number, is_length, new_path, path_end, measured_path_from}
 use Rattle.measure_file.specs.Spelling.{end_number, frame_bytes, path_bytes, hart_bytes}
 use Rattle.prof_bytes.proofs.Outcomes.{bind_ok, guard_ok, ok_same}
 use Rattle.prof_bytes.proofs.Took.{Took, bytes_on, given, took_both, took_none}
 use Rattle.measure_file.proofs.Back.{count_rule, end_again, frames_back, length_rule, ruled_behind, word_behind}
 use Rattle.measure_file.proofs.Seams.{Tables, own_of, own_put, measured_more}
 
--- a path that was put behind those of its hart
+-- a path that was put after those of its hart
 pub record PathBack (done rest : Tables) (own : List Counted) (new : Tables) (at next : At) (c : Counted) : Type 0 where
   pub is : new ≡ done ++ (own ++ c ∷ []) ∷ rest
   pub measured : AreMeasured (done ++ (own ++ c ∷ []) ∷ rest)
   pub took : Took at next (path_bytes c)
 
-path_back : (done rest : Tables) (own : List Counted) (at next : At) (new : Tables) → IsBytes at.whole → AreMeasured (done ++ own ∷ rest) → path_from (length done) (done ++ own ∷ rest) at ≡ Ok (new, next)
+path_back : (done rest : Tables) (own : List Counted) (at next : At) (new : Tables) → IsBytes at.whole → AreMeasured (done ++ own ∷ rest) → measured_path_from (length done) (done ++ own ∷ rest) at ≡ Ok (new, next)
     → (c : Counted) × PathBack done rest own new at next c
-unfolding path_from
+unfolding measured_path_from
 path_back done rest own at next new bytes are is =
     let tables : Tables = done ++ own ∷ rest in
     let hart : ℕ = length done in
     let a = ruled_behind (is_count (samples_in tables)) at _ _ bytes is in
     let b = ruled_behind is_end_number a.next _ _ a.bytes a.is in
     let d = ruled_behind (is_length (frames_in tables)) b.next _ _ b.bytes b.is in
-    let f = bind_ok (times (adding frame_from) d.value 0 [] d.next) _ _ d.is in
+    let f = bind_ok (times (adding measured_frame_from) d.value 0 [] d.next) _ _ d.is in
     let frames : List Frame = f.0.0 in
     let read = frames_back d.value frames d.next f.0.1 d.bytes f.1 in
     let c : Counted = record { path = record { end = path_end b.value; frames = frames }; count = a.value } in
@@ -60,7 +60,7 @@ path_back done rest own at next new bytes are is =
       }),
     )
 
--- paths that were put behind those of their hart
+-- paths that were put after those of their hart
 pub record PathsBack (done rest : Tables) (own : List Counted) (n : ℕ) (new : Tables) (at next : At) (cs : List Counted) : Type 0 where
   pub is : new ≡ done ++ (own ++ cs) ∷ rest
   pub many : length cs ≡ n
@@ -68,7 +68,7 @@ pub record PathsBack (done rest : Tables) (own : List Counted) (n : ℕ) (new : 
   pub took : Took at next (flat_map path_bytes cs)
 
 paths_back : (n i : ℕ) (done rest : Tables) (own : List Counted) (at next : At) (new : Tables) → IsBytes at.whole → AreMeasured (done ++ own ∷ rest)
-    → times (λ i. path_from (length done)) n i (done ++ own ∷ rest) at ≡ Ok (new, next) → (cs : List Counted) × PathsBack done rest own n new at next cs
+    → times (λ i. measured_path_from (length done)) n i (done ++ own ∷ rest) at ≡ Ok (new, next) → (cs : List Counted) × PathsBack done rest own n new at next cs
 unfolding times
 paths_back zero i done rest own at next new bytes are is =
     let none : own ≡ own ++ [] = sym (append-nil own) in (
@@ -81,12 +81,12 @@ paths_back zero i done rest own at next new bytes are is =
       }),
     )
 paths_back (suc n) i done rest own at next new bytes are is =
-    let one = bind_ok (path_from (length done) (done ++ own ∷ rest) at) _ _ is in
+    let one = bind_ok (measured_path_from (length done) (done ++ own ∷ rest) at) _ _ is in
     let mid : Tables × At = one.0 in
     let first = path_back done rest own at mid.1 mid.0 bytes are one.1 in
     let c : Counted = first.0 in
     let more = paths_back n (i + 1) done rest (own ++ c ∷ []) mid.1 next new (bytes_on first.1.took bytes) first.1.measured
-    (subst (λ (t : Tables). times (λ i. path_from (length done)) n (i + 1) t mid.1 ≡ Ok (new, next)) first.1.is one.2) in
+    (subst (λ (t : Tables). times (λ i. measured_path_from (length done)) n (i + 1) t mid.1 ≡ Ok (new, next)) first.1.is one.2) in
     let cs : List Counted = more.0 in
     let joined : (own ++ c ∷ []) ++ cs ≡ own ++ c ∷ cs = append_assoc own (c ∷ []) cs in
     let long = more.1.many in (

@@ -25,7 +25,7 @@ use Rattle.measure_file.specs.declared.fault.MeasureFault.{MeasureFault}
 use Rattle.prof_bytes.specs.Repeated.{adding, times}
 use Rattle.measure_file.specs.Fields.{fault_at, starting_at, word_from, word_by}
 use Rattle.measure_file.specs.Measurable.{AreDistinct, HasWord, IsCounted}
-use Rattle.measure_file.specs.Reading.{frame_from, hart_from, is_count, is_end_number, is_length, path_end, new_path, path_from}
+use Rattle.measure_file.specs.Reading.{measured_frame_from, hart_from, is_count, is_end_number, is_length, path_end, new_path, measured_path_from}
 use Rattle.measure_file.specs.Spelling.{end_number, frame_bytes, path_bytes, hart_bytes}
 use Rattle.measure_file.proofs.Seams.{Tables, count_of, frames_of, own_of, own_put, own_sum, sum_more}
 use Rattle.measure_file.proofs.Sums.{no_sums}
@@ -40,15 +40,15 @@ ruled_forth rule at n rest passes few left = (let read = word_forth at n rest fe
 
 -- ---- frames
 
-frame_forth : (at : At) (frame : Frame) (rest : List ℕ) → HasWord frame → left_of at ≡ frame_bytes frame ++ rest → Reads (λ (f : Frame). f) (frame_from at) frame rest
-unfolding frame_from
+frame_forth : (at : At) (frame : Frame) (rest : List ℕ) → HasWord frame → left_of at ≡ frame_bytes frame ++ rest → Reads (λ (f : Frame). f) (measured_frame_from at) frame rest
+unfolding measured_frame_from
 frame_forth at frame rest few left =
     let a = word_forth at frame.pc rest few left in
     record { value = frame; next = a.0; is = rw a.1 refl; same = refl; left = a.2 }
 
-frames_forth : (frames : List Frame) (at : At) (rest : List ℕ) → All HasWord frames → left_of at ≡ flat_map frame_bytes frames ++ rest → Comes (times (adding frame_from) (length frames) 0 [] at) frames rest
+frames_forth : (frames : List Frame) (at : At) (rest : List ℕ) → All HasWord frames → left_of at ≡ flat_map frame_bytes frames ++ rest → Comes (times (adding measured_frame_from) (length frames) 0 [] at) frames rest
 frames_forth frames at rest words left =
-    let a = items_come frame_from (λ f. f) (λ f. f) frame_bytes HasWord frame_forth frames 0 [] at rest words left in
+    let a = items_come measured_frame_from (λ f. f) (λ f. f) frame_bytes HasWord frame_forth frames 0 [] at rest words left in
     (a.next, a.is ∙ ap (λ (fs : List Frame). Ok (fs, a.next)) (sym (map-id a.xs) ∙ a.same ∙ map-id frames), a.left)
 
 -- ---- paths
@@ -80,8 +80,8 @@ put_forth done rest own c offset new =
 
 path_forth : (done rest : Tables) (own : List Counted) (c : Counted) (at : At) (text : List ℕ) → IsCounted c → has_path c.path own ≡ false
     → samples_in (done ++ own ∷ rest) + c.count ≤ most_samples → frames_in (done ++ own ∷ rest) + length c.path.frames ≤ most_path_frames
-    → left_of at ≡ path_bytes c ++ text → Comes (path_from (length done) (done ++ own ∷ rest) at) (done ++ (own ++ c ∷ []) ∷ rest) text
-unfolding path_from
+    → left_of at ≡ path_bytes c ++ text → Comes (measured_path_from (length done) (done ++ own ∷ rest) at) (done ++ (own ++ c ∷ []) ∷ rest) text
+unfolding measured_path_from
 path_forth done rest own c at text is new few short left =
     let tables : Tables = done ++ own ∷ rest in
     let frames : List Frame = c.path.frames in
@@ -109,7 +109,7 @@ new_behind (d ∷ own) cs c are =
 
 paths_forth : (cs : List Counted) (i : ℕ) (done rest : Tables) (own : List Counted) (at : At) (text : List ℕ) → All IsCounted cs → AreDistinct (own ++ cs)
     → samples_in (done ++ own ∷ rest) + sum_by count_of cs ≤ most_samples → frames_in (done ++ own ∷ rest) + sum_by frames_of cs ≤ most_path_frames
-    → left_of at ≡ flat_map path_bytes cs ++ text → Comes (times (λ i. path_from (length done)) (length cs) i (done ++ own ∷ rest) at) (done ++ (own ++ cs) ∷ rest) text
+    → left_of at ≡ flat_map path_bytes cs ++ text → Comes (times (λ i. measured_path_from (length done)) (length cs) i (done ++ own ∷ rest) at) (done ++ (own ++ cs) ∷ rest) text
 unfolding times
 paths_forth [] i done rest own at text are apart few short left = (at, ap (λ (l : List Counted). Ok (done ++ l ∷ rest, at)) (sym (append-nil own)), left)
 paths_forth (c ∷ cs) i done rest own at text are apart few short left =

@@ -10,7 +10,7 @@ use Rattle.measure_file.specs.declared.head.MeasureHead.{MeasureHead}
 use Rattle.measure_file.specs.Fields.{fault_at}
 use Rattle.measure_file.specs.Measurable.{AreMeasured, IsMeasurable}
 use Rattle.measure_file.specs.Reading.{is_harts, is_period, measurement_in, tables_from}
-use Rattle.measure_file.specs.Spelling.{magic, hart_bytes, spelling}
+use Rattle.measure_file.specs.Spelling.{magic, hart_bytes, measurement_spelling}
 use Rattle.prof_bytes.specs.Number.{word}
 use Rattle.measure_file.proofs.Forth.{word_forth, ruled_forth, harts_forth}
 use Rattle.measure_file.proofs.Seams.{Tables}
@@ -23,8 +23,8 @@ rest_forth tables at are left =
     let read = harts_forth tables [] at [] are.paths are.distinct (omega (arith, few)) (omega (arith, short)) (left ∙ sym (append-nil (flat_map hart_bytes tables))) in
     rw (read.1, read.2) refl
 
-pub written_read : (head : MeasureHead) (tables : Tables) → IsMeasurable head tables → measurement_in (spelling head tables) ≡ Ok (head, tables)
-unfolding measurement_in spelling
+pub written_read : (head : MeasureHead) (tables : Tables) → IsMeasurable head tables → measurement_in (measurement_spelling head tables) ≡ Ok (head, tables)
+unfolding measurement_in measurement_spelling
 written_read head tables is =
     let some = is.counts.some in
     let few = is.counts.few in

@@ -1,10 +1,11 @@
--- What a measurement may hold: a head and counted raw paths that obey the rules of the format.
+-- What a measurement may hold: a head and counted raw paths that obey the rules of this project's format
+-- (docs/FORMATS.md, Measurement).
 use Rattle.std.specs.Prelude.{◌≡◌, ℕ, ◌<◌, ◌≤◌, ◌^◌, false, List, [], ◌∷◌, length, All}
 use Rattle.scope_types.specs.declared.frame.Counted.{Counted}
 use Rattle.scope_types.specs.declared.frame.Frame.{Frame}
 use Rattle.scope_types.specs.Raw.{HasFrames}
 use Rattle.scope_types.specs.Distinct.{HartRaw, distinct, frames_in, samples_in}
-use Rattle.scope_types.specs.Limits.{most_path_frames, most_samples}
+use Rattle.scope_types.specs.Limits.{most_path_frames, most_profile_harts, most_samples}
 use Rattle.thread_cct.specs.Adding.{has_path}
 use Rattle.measure_file.specs.declared.head.MeasureHead.{MeasureHead}
 
@@ -24,7 +25,7 @@ pub record IsCounted (counted : Counted) : Type 0 where
   pub frames : HasFrames counted.path.frames
   pub addresses : All HasWord counted.path.frames
 
--- no raw path stands twice: each is none of those behind it
+-- no raw path stands twice: each is none of those after it
 abbrev pub AreDistinct : List Counted → Type 0
 AreDistinct [] = Unit {0}
 AreDistinct (c ∷ paths) = (has_path c.path paths ≡ false) × AreDistinct paths
@@ -32,7 +33,7 @@ AreDistinct (c ∷ paths) = (has_path c.path paths ≡ false) × AreDistinct pat
 -- 1 to 16 harts, each with distinct counted paths; and the sums of counts and of frames are in their limits
 pub record AreMeasured (tables : List (List Counted)) : Type 0 where
   pub some : 1 ≤ length tables
-  pub few : length tables ≤ 16
+  pub few : length tables ≤ most_profile_harts
   pub paths : All (All IsCounted) tables
   pub distinct : All AreDistinct tables
   pub samples : samples_in tables ≤ most_samples
@@ -46,7 +47,7 @@ pub record IsMeasurable (head : MeasureHead) (tables : List (List Counted)) : Ty
 -- samples of 1 to 16 harts whose counted paths are such
 pub record AreSampled (harts : ℕ) (samples : List HartRaw) : Type 0 where
   pub some : 1 ≤ harts
-  pub few : harts ≤ 16
+  pub few : harts ≤ most_profile_harts
   pub own : All (λ s. s.hart < harts) samples
   pub paths : All (λ s. HasFrames s.raw.frames) samples
   pub addresses : All (λ s. All HasWord s.raw.frames) samples

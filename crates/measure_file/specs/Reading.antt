@@ -1,4 +1,5 @@
--- What the bytes of a measurement file say, or their first fault.
+-- What the bytes of a measurement file say, or their first fault, by this project's format (docs/FORMATS.md,
+-- Measurement).
 use Rattle.std.specs.Prelude.{ℕ, ◌+◌, ◌==◌, ◌&&◌, Bool, nat_le, List, [], replicate, Result, Ok, Err, if◌then◌else◌}
 use Rattle.prof_bytes.specs.Format.{ended_or, magic_or}
 use Rattle.prof_bytes.specs.Outcome.{◌>>=◌}
@@ -10,12 +11,12 @@ use Rattle.scope_types.specs.declared.frame.End.TheVariants.{Whole, Partial}
 use Rattle.scope_types.specs.declared.frame.PartialCause.TheVariants.{NoFde, NoCfa, Expression, Unmapped, Depth}
 use Rattle.scope_types.specs.Raw.{most_frames}
 use Rattle.scope_types.specs.Distinct.{frames_in, samples_in}
-use Rattle.scope_types.specs.Limits.{most_path_frames, most_samples}
+use Rattle.scope_types.specs.Limits.{most_path_frames, most_profile_harts, most_samples}
 use Rattle.thread_cct.specs.Adding.{has_path, of_hart, with_path}
 use Rattle.measure_file.specs.declared.fault.MeasureFault.{MeasureFault}
 use Rattle.measure_file.specs.declared.head.MeasureHead.{MeasureHead}
 use Rattle.prof_bytes.specs.Repeated.{adding, times}
-use Rattle.measure_file.specs.Fields.{Read, fault_at, starting_at, word_from, word_by}
+use Rattle.measure_file.specs.Fields.{MeasureRead, fault_at, starting_at, word_from, word_by}
 use Rattle.measure_file.specs.Spelling.{magic}
 
 -- ---- the rules of single words
@@ -24,7 +25,7 @@ abbrev pub is_period : ℕ → Bool
 is_period n = nat_le 1 n
 
 abbrev pub is_harts : ℕ → Bool
-is_harts n = nat_le 1 n && nat_le n 16
+is_harts n = nat_le 1 n && nat_le n most_profile_harts
 
 -- some samples, and with those before at most 1,048,576
 abbrev pub is_count : ℕ → ℕ → Bool
@@ -44,8 +45,8 @@ path_end n = if n == 0 then Whole else if n == 1 then Partial NoFde else if n ==
 
 -- ---- paths
 
-unfoldable pub frame_from : At → Read Frame
-frame_from at = do
+unfoldable pub measured_frame_from : At → MeasureRead Frame
+measured_frame_from at = do
   (pc, next) ← word_from at
   Ok (record { pc = pc }, next)
 
@@ -54,27 +55,27 @@ abbrev pub new_path : ℕ → ℕ → Counted → List (List Counted) → Result
 new_path hart offset counted tables = if has_path counted.path (of_hart tables hart) then Err (fault_at offset)
     else Ok (with_path tables hart counted)
 
--- a path of a hart, behind all that were read before. One that is there already is at fault at its first pc
-unfoldable pub path_from : ℕ → List (List Counted) → At → Read (List (List Counted))
-path_from hart tables at = do
+-- a path of a hart, after all that were read before. One that is there already is at fault at its first pc
+unfoldable pub measured_path_from : ℕ → List (List Counted) → At → MeasureRead (List (List Counted))
+measured_path_from hart tables at = do
   (count, next) ← word_by (is_count (samples_in tables)) at
   (end, next) ← word_by is_end_number next
   (length, first_pc) ← word_by (is_length (frames_in tables)) next
-  (frames, next) ← times (adding frame_from) length 0 [] first_pc
+  (frames, next) ← times (adding measured_frame_from) length 0 [] first_pc
   paths ← new_path hart first_pc.offset
       (record { path = record { end = path_end end; frames = frames }; count = count })
       tables
   Ok (paths, next)
 
 -- the paths of a hart, their number before them
-unfoldable pub hart_from : ℕ → List (List Counted) → At → Read (List (List Counted))
+unfoldable pub hart_from : ℕ → List (List Counted) → At → MeasureRead (List (List Counted))
 hart_from hart tables at = do
   (paths, next) ← word_from at
-  times (λ i. path_from hart) paths 0 tables next
+  times (λ i. measured_path_from hart) paths 0 tables next
 
 -- ---- the whole file
 
--- the paths of so many harts, and nothing behind them
+-- the paths of `harts` harts, and nothing after them
 unfoldable pub tables_from : ℕ → At → Result (List (List Counted)) MeasureFault
 tables_from harts at = do
   (tables, end) ← times hart_from harts 0 (replicate harts []) at

@@ -1,4 +1,4 @@
--- The bytes of a measurement, version 1.
+-- The bytes of a measurement in this project's format, version 1 (docs/FORMATS.md, Measurement).
 use Rattle.std.specs.Prelude.{ℕ, List, ◌++◌, length, codes}
 use Rattle.std.specs.List.{flat_map}
 use Rattle.prof_bytes.specs.Number.{word}
@@ -36,8 +36,8 @@ hart_bytes paths = word (length paths) ++ flat_map path_bytes paths
 abbrev pub head_bytes : MeasureHead → ℕ → List ℕ
 head_bytes head harts = magic ++ word head.length ++ word head.entry ++ word head.period ++ word harts
 
-unfoldable pub spelling : MeasureHead → List (List Counted) → List ℕ
-spelling head tables = head_bytes head (length tables) ++ flat_map hart_bytes tables
+unfoldable pub measurement_spelling : MeasureHead → List (List Counted) → List ℕ
+measurement_spelling head tables = head_bytes head (length tables) ++ flat_map hart_bytes tables
 
 -- the most bytes of a measurement that any command reads
 abbrev pub most_bytes : ℕ

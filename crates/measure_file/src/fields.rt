@@ -5,7 +5,7 @@ ghost use Rattle.scope_types.specs.Limits.{most_path_frames, most_samples};
 ghost use Rattle.prof_bytes.specs.Repeated.{adding, times};
 ghost use Rattle.measure_file.specs.Fields.{word_from, word_by};
 ghost use Rattle.measure_file.specs.Reading.{is_count, is_end_number, is_length, is_period, is_harts, path_end};
-ghost use Rattle.measure_file.specs.Reading.{frame_from};
+ghost use Rattle.measure_file.specs.Reading.{measured_frame_from};
 
 use crate::fault::MeasureFault;
 use prof_bytes::{Cursor, Fail};
@@ -62,7 +62,7 @@ pub(crate) fn read_harts(cursor: &mut Cursor<'_>) -> Result<u32, MeasureFault>
     Ok(harts)
 }
 
-/// A path's count, behind so many samples.
+/// A path's count, where the paths before it count `samples` samples.
 pub(crate) fn read_count(cursor: &mut Cursor<'_>, samples: u32) -> Result<u32, MeasureFault>
     requires { samples ≤ most_samples }
     ensures read { GivesAt (λ n. n) result cursor.new (word_by (is_count samples) cursor.old) }
@@ -101,7 +101,7 @@ pub(crate) fn read_end(cursor: &mut Cursor<'_>) -> Result<u32, MeasureFault>
     Ok(end)
 }
 
-/// How many frames a path has, behind so many of other paths.
+/// How many frames a path has, where the paths before it have `frames` frames.
 pub(crate) fn read_length(cursor: &mut Cursor<'_>, frames: u32) -> Result<u32, MeasureFault>
     requires { frames ≤ most_path_frames }
     ensures read { GivesAt (λ n. n) result cursor.new (word_by (is_length frames) cursor.old) }
@@ -115,21 +115,22 @@ pub(crate) fn read_length(cursor: &mut Cursor<'_>, frames: u32) -> Result<u32, M
     Ok(length)
 }
 
-#[tactic(auto, unfolding(crate::specs::Reading::frame_from))]
+#[tactic(auto, unfolding(crate::specs::Reading::measured_frame_from))]
 fn read_frame(cursor: &mut Cursor<'_>) -> Result<Frame, MeasureFault>
-    ensures { GivesAt (λ frame. frame) result cursor.new (frame_from cursor.old) }
+    ensures { GivesAt (λ frame. frame) result cursor.new (measured_frame_from cursor.old) }
 {
     let pc = read_word(cursor)?;
     Ok(Frame { pc })
 }
 
-/// So many frames. The list grows as they are read.
+/// `count` frames. The list grows as they are read.
 pub(crate) fn read_frames(
     alloc: Global,
     cursor: &mut Cursor<'_>,
     count: u32,
 ) -> Result<Vec<Frame>, Fail<MeasureFault>>
-    ensures read { GivesFrom (λ v. v.items) result cursor.new (times (adding frame_from) count 0 [] cursor.old) }
+    ensures read { GivesFrom (λ v. v.items) result cursor.new
+        (times (adding measured_frame_from) count 0 [] cursor.old) }
     ensures many { IfOk result (λ v. length v.items ≡ count) }
 {
     let mut frames = Vec::new(alloc);

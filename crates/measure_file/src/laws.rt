@@ -5,12 +5,12 @@ ghost use Rattle.scope_types.specs.declared.frame.Counted.{Counted};
 ghost use Rattle.measure_file.specs.declared.head.MeasureHead.{MeasureHead};
 ghost use Rattle.measure_file.specs.Measurable.{AreMeasured, AreSampled, IsMeasurable};
 ghost use Rattle.measure_file.specs.Reading.{measurement_in};
-ghost use Rattle.measure_file.specs.Spelling.{spelling};
+ghost use Rattle.measure_file.specs.Spelling.{measurement_spelling};
 
 /// What is written is read as the same.
 pub fn written_is_read()
     ensures { (head : MeasureHead) (tables : List (List Counted)) → IsMeasurable head tables
-        → measurement_in (spelling head tables) ≡ Ok (head, tables) }
+        → measurement_in (measurement_spelling head tables) ≡ Ok (head, tables) }
 {}
 
 /// What is read can be written, and has just these bytes.
@@ -18,7 +18,7 @@ pub fn read_is_written()
     ensures measurable { (bytes : List ℕ) (m : MeasureHead × List (List Counted)) → IsBytes bytes
         → measurement_in bytes ≡ Ok m → IsMeasurable m.0 m.1 }
     ensures bytes { (bytes : List ℕ) (m : MeasureHead × List (List Counted)) → IsBytes bytes
-        → measurement_in bytes ≡ Ok m → bytes ≡ spelling m.0 m.1 }
+        → measurement_in bytes ≡ Ok m → bytes ≡ measurement_spelling m.0 m.1 }
 {}
 
 /// The samples of a measurement are each path of the file, hart by hart, as often as its count: as many as are

@@ -34,7 +34,7 @@ impl Model for Paths {
 }
 
 impl Paths {
-    /// No paths, for so many harts.
+    /// No paths, for `harts` harts.
     #[tactic(auto, using(crate::proofs::Sums::no_sums))]
     pub(crate) fn start(alloc: Global, harts: u32) -> Result<Paths, Memory>
         ensures { IfOk result (λ paths. paths ≡ replicate harts []) }

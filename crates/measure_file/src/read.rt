@@ -1,11 +1,11 @@
-//! A measurement of its bytes.
+//! What the bytes of a measurement say.
 ghost use Rattle.std.specs.Prelude.{◌≡◌, ◌<◌, length, IfOk, OnOk};
 ghost use Rattle.prof_bytes.specs.Format.{magic_or};
 ghost use Rattle.prof_bytes.specs.Outcome.{Gives, GivesAt, GivesFrom};
 ghost use Rattle.prof_bytes.specs.Repeated.{times};
 ghost use Rattle.measure_file.specs.Measurable.{IsMeasurable};
 ghost use Rattle.measure_file.specs.Fields.{fault_at};
-ghost use Rattle.measure_file.specs.Reading.{path_from, hart_from, measurement_in, tables_from};
+ghost use Rattle.measure_file.specs.Reading.{measured_path_from, hart_from, measurement_in, tables_from};
 ghost use Rattle.measure_file.specs.Spelling.{magic};
 
 use crate::fault::MeasureFault;
@@ -21,7 +21,7 @@ use std::alloc::Global;
 use thread_cct::Ccts;
 
 /// A path of a hart.
-#[tactic(auto, unfolding(crate::specs::Reading::path_from))]
+#[tactic(auto, unfolding(crate::specs::Reading::measured_path_from))]
 fn read_path(
     alloc: Global,
     cursor: &mut Cursor<'_>,
@@ -29,7 +29,7 @@ fn read_path(
     hart: u32,
 ) -> Result<(), Fail<MeasureFault>>
     requires { hart < length paths.old }
-    ensures read { GivesFrom (λ done. paths.new) result cursor.new (path_from hart paths.old cursor.old) }
+    ensures read { GivesFrom (λ done. paths.new) result cursor.new (measured_path_from hart paths.old cursor.old) }
     ensures harts { OnOk result (length paths.new ≡ length paths.old) }
 {
     let count = read_count(cursor, paths.samples())?;
@@ -40,7 +40,7 @@ fn read_path(
     paths.put(hart, RawPath::of(path_end(end), frames), count, first_pc)
 }
 
-/// So many paths of a hart.
+/// `count` paths of a hart.
 fn read_paths(
     alloc: Global,
     cursor: &mut Cursor<'_>,
@@ -50,7 +50,7 @@ fn read_paths(
 ) -> Result<(), Fail<MeasureFault>>
     requires { hart < length paths.old }
     ensures read { GivesFrom (λ done. paths.new) result cursor.new
-        (times (λ i. path_from hart) count 0 paths.old cursor.old) }
+        (times (λ i. measured_path_from hart) count 0 paths.old cursor.old) }
     ensures harts { OnOk result (length paths.new ≡ length paths.old) }
 {
     for _ in 0..count {
@@ -91,7 +91,7 @@ fn read_tables(
     Ok(())
 }
 
-/// The paths of so many harts, and nothing behind them.
+/// The paths of `harts` harts, and nothing after them.
 #[tactic(auto, unfolding(crate::specs::Reading::tables_from))]
 fn read_rest(alloc: Global, cursor: &mut Cursor<'_>, harts: u32) -> Result<Ccts, Fail<MeasureFault>>
     ensures { Gives (λ ccts. ccts) result (tables_from harts cursor.old) }
@@ -104,8 +104,8 @@ fn read_rest(alloc: Global, cursor: &mut Cursor<'_>, harts: u32) -> Result<Ccts,
     Ok(paths.into_ccts())
 }
 
-/// A cursor behind the eight bytes that a file begins with.
-fn behind_magic(bytes: &[u8]) -> Result<Cursor<'_>, MeasureFault>
+/// A cursor after the eight bytes that a file begins with.
+fn after_magic(bytes: &[u8]) -> Result<Cursor<'_>, MeasureFault>
     ensures { magic_or (fault_at 0) magic bytes.now ≡ result }
 {
     if bytes.len() < 8 || &bytes[..8] != b"HPCRUNM1".as_slice() {
@@ -120,7 +120,7 @@ pub fn read_measure(alloc: Global, bytes: &[u8]) -> Result<(MeasureHead, Ccts), 
     ensures exact { Gives (λ m. m) result (measurement_in bytes.now) }
     ensures measured { IfOk result (λ m. IsMeasurable m.0 m.1) }
 {
-    let mut cursor = behind_magic(bytes)?;
+    let mut cursor = after_magic(bytes)?;
     let length = read_word(&mut cursor)?;
     let entry = read_word(&mut cursor)?;
     let period = read_period(&mut cursor)?;

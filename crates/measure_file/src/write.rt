@@ -3,7 +3,7 @@ ghost use Rattle.std.specs.Prelude.{◌≡◌, ◌<◌, ◌≤◌, ◌++◌, len
 ghost use Rattle.std.specs.List.{flat_map};
 ghost use Rattle.thread_cct.specs.Adding.{of_hart};
 ghost use Rattle.measure_file.specs.Spelling.{end_number, frame_bytes, head_bytes, hart_bytes, most_bytes};
-ghost use Rattle.measure_file.specs.Spelling.{path_bytes, spelling};
+ghost use Rattle.measure_file.specs.Spelling.{path_bytes, measurement_spelling};
 
 use crate::head::MeasureHead;
 use prof_bytes::{Memory, Text, put_u32};
@@ -84,11 +84,11 @@ fn put_head(out: &mut Vec<u8>, head: &MeasureHead, harts: u32) -> Result<(), Mem
     Ok(())
 }
 
-/// The bytes of a measurement with so many harts.
-#[tactic(auto, unfolding(crate::specs::Spelling::spelling))]
+/// The bytes of a measurement of `harts` harts.
+#[tactic(auto, unfolding(crate::specs::Spelling::measurement_spelling))]
 fn spelled(alloc: Global, head: &MeasureHead, ccts: &Ccts, harts: u32) -> Result<Text, Memory>
     requires { harts ≡ length ccts.now }
-    ensures { IfOk result (λ text. text ≡ spelling head.now ccts.now) }
+    ensures { IfOk result (λ text. text ≡ measurement_spelling head.now ccts.now) }
 {
     let mut out = Vec::new(alloc);
     put_head(&mut out, head, harts)?;
@@ -101,7 +101,7 @@ pub fn write_measure(alloc: Global, head: &MeasureHead, ccts: &Ccts) -> Result<T
     requires period { 0 < head.now.period }
     requires some { 0 < length ccts.now }
     requires few { length ccts.now ≤ 16 }
-    ensures spelled { IfOk result (λ text. text ≡ spelling head.now ccts.now) }
+    ensures spelled { IfOk result (λ text. text ≡ measurement_spelling head.now ccts.now) }
     ensures short { IfOk result (λ text. length text ≤ most_bytes) }
 {
     let text = spelled(alloc, head, ccts, ccts.harts())?;

@@ -1,4 +1,4 @@
--- What an offer does to the pieces that wait, and how a chunk's pieces come behind them.
+-- What an offer does to the pieces that wait, and how a chunk's pieces come after them.
 use Rattle.std.proofs.Common.{◌≡◌, ℕ, ◌+◌, ◌-◌, ◌<◌, ◌≤◌, Bool, true, false, cond, List, [], ◌∷◌, ◌++◌, length, map, All, sym, refl, ap, ◌∙◌, subst, arith, zero, suc, ltb, lt-ltb}
 use Rattle.std.specs.List.{range_with_len}
 use Rattle.std.proofs.lemmas.List.Elements.{All-append, All-cons, All-head, All-nil, All-push, All-tail}

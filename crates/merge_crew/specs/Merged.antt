@@ -14,8 +14,9 @@ pub record IsOfPlan (chunks : Chunks) (crew : Crew) : Type 0 where
 abbrev pub NamesEach : Chunks → Crew → Type 0
 NamesEach plan crew = (s c : ℕ) → s < 16 → c < length plan → occurrences c (stripe_names crew.stripes.stripes s) ≡ 1
 
--- every chunk's piece is in each stripe, by so many workers or by the caller: the passes merged `merged` pieces, and
--- the caller settled the others of the sixteen of each chunk, no more than the workers left busy or found there
+-- every chunk's piece is in each stripe, by a given number of workers or by the caller: the passes merged `merged`
+-- pieces, and the caller settled the others of the sixteen of each chunk, no more than the workers left busy or found
+-- there
 -- already. The passes found a stripe held or changed 64 times for each piece left busy, and no piece is left busy by a
 -- worker that is alone
 pub record IsWhole (plan : Chunks) (workers : ℕ) (crew : Crew) : Type 0 where

@@ -41,7 +41,7 @@ pub trait Crews: Sync {
         ensures plan { IfOk result (IsOfPlan crew.stripes.view.plan) }
         ensures whole { IsTrue (whole self.now) → IfOk result (λ given. given ≡ crew) };
 
-    /// Merges the pieces of a plan by so many workers, and hands out the stripes.
+    /// Merges the pieces of a plan by a given number of workers, and hands out the stripes.
     final fn merge<R: Threads + Sync, E: Expand + Sync>(
         &self,
         rt: &R,

@@ -27,8 +27,8 @@ pub struct Crew {
     pub settled: u64,
 }
 
-/// Merges the pieces of a plan into sixteen stripes, by so many workers in threads side by side, numbered from 0. A
-/// worker passes the gate before it offers a piece for the first time.
+/// Merges the pieces of a plan into sixteen stripes, by a given number of workers in threads side by side, numbered
+/// from 0. A worker passes the gate before it offers a piece for the first time.
 pub fn merge_all<R: Threads + Sync, E: Expand + Sync, G: Gate>(
     rt: &R,
     alloc: Global,

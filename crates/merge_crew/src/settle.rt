@@ -41,7 +41,7 @@ fn mark(marks: &mut Vec<bool>, chunk: u32)
 }
 
 impl Marks {
-    /// Of so many chunks, those among the names.
+    /// Of a given number of chunks, those among the names.
     fn of(alloc: Global, names: &[u32], chunks: u32) -> Result<Marks, Memory>
         ensures { IfOk result (MarksChunks chunks names.now) }
     {

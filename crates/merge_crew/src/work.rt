@@ -1,5 +1,5 @@
 //! What one worker does: it claims chunks, and offers their pieces to the stripes. A piece whose stripe is busy waits
-//! behind the others.
+//! after the others.
 ghost use Rattle.std.specs.Prelude.{◌≡◌, ℕ, ◌+◌, ◌-◌, ◌*◌, ◌<◌, ◌≤◌, ◌⊎◌, ◌^◌, ◌++◌, ◌∷◌, [], None, ltb, length, map};
 ghost use Rattle.std.specs.Prelude.{if◌then◌else◌, OnOk};
 ghost use Rattle.std.specs.VecDeque.{deque_capacity, deque_len};
@@ -63,7 +63,7 @@ fn offer_once(stripes: &Stripes, pass: &mut Pass, piece: &Piece) -> Offered
     stripes.offer(pass, piece)
 }
 
-/// Lets a piece that was busy wait behind the others, unless it was offered 64 times. Gives whether it waits.
+/// Lets a piece that was busy wait after the others, unless it was offered 64 times. Gives whether it waits.
 fn waits_on(queue: &mut VecDeque<Waiting>, waiting: Waiting) -> bool
     requires room { deque_len queue.old < deque_capacity queue.old }
     requires offers { waiting.offers < 64 }
@@ -153,7 +153,7 @@ fn offer_each<G: Gate>(
     }
 }
 
-/// Offers pieces until no more than so many wait. Other threads may run between the offers.
+/// Offers pieces until no more than a given number wait. Other threads may run between the offers.
 fn offer_down<G: Gate>(
     stripes: &Stripes,
     worker: &mut Worker,
@@ -175,7 +175,7 @@ fn offer_down<G: Gate>(
     }
 }
 
-/// Puts pieces that were not offered behind those that wait.
+/// Puts pieces that were not offered after those that wait.
 fn put_last(queue: &mut VecDeque<Waiting>, pieces: Vec<Piece>) -> Result<(), Memory>
     ensures { OnOk result (queue.new.items ≡ queue.old.items ++ map first_time pieces.items) }
 {

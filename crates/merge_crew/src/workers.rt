@@ -162,7 +162,7 @@ fn take_in_all(stripes: &Stripes, first: &mut Worker, mut others: Vec<Worker>)
     }
 }
 
-/// Merges by so many workers. Gives the first worker, which has taken in all others.
+/// Merges by a given number of workers. Gives the first worker, which has taken in all others.
 pub(crate) fn run<R: Threads + Sync, E: Expand + Sync, G: Gate>(
     rt: &R,
     alloc: Global,

@@ -5,8 +5,8 @@ use Rattle.std.proofs.lemmas.List.Sums.{sum_by-cons, sum_by_more_le}
 use Rattle.scope_types.specs.Limits.{most_samples}
 use Rattle.tree_types.specs.declared.counted_tree.NodeCount.{NodeCount}
 use Rattle.tree_types.specs.Tree.{counts_in}
-use Rattle.metric_sums.specs.declared.row.Sum.{Sum}
-use Rattle.metric_sums.specs.private.Rows.{IsSmall, count_of_hart, with_own}
+use Rattle.metric_sums.specs.declared.hart_sums.Sum.{Sum}
+use Rattle.metric_sums.specs.private.Sums.{IsSmall, count_of_hart, with_own}
 
 pub own_few : (cs : List NodeCount) (h : ℕ) → count_of_hart cs h ≤ counts_in cs
 own_few [] h = omega arith

@@ -4,8 +4,8 @@ use Rattle.std.specs.Prelude.{◌≢◌, ◌⊎◌, slice_get}
 use Rattle.std.proofs.lemmas.Bool.{eq-eqb}
 use Rattle.std.proofs.lemmas.List.Elements.{All-nil, All-cons, All-append, All-head, All-tail, All-weaker}
 use Rattle.std.proofs.lemmas.List.Quantifiers.{all_pairs_push}
-use Rattle.metric_sums.specs.declared.line.Open.{Open}
-use Rattle.metric_sums.specs.private.Lines.{ends_with, is_node}
+use Rattle.metric_sums.specs.declared.ancestors.OpenNode.{OpenNode}
+use Rattle.metric_sums.specs.private.Ancestors.{ends_with, is_node}
 
 pub fronts : {X : Type 0} (P : X → Type 0) (xs : List X) (x : X) → All P (xs ++ x ∷ []) → All P xs
 fronts P [] x all = All-nil P
@@ -42,40 +42,40 @@ pairs_front R xs x h i j d less lt =
 pub pairs_more : {X : Type 0} (R : X → X → Type 0) (xs : List X) (x : X) → AllPairs R xs → All (λ y. R y x) xs → AllPairs R (xs ++ x ∷ [])
 pairs_more R xs x pairs all = all_pairs_push R xs x pairs (λ k d lt. all k d lt)
 
--- ---- nodes of a line
+-- ---- nodes of ancestors
 
-pub last_view : (line : List Open) → (line ≡ []) ⊎ ((front : List Open) × (o : Open) × (line ≡ front ++ o ∷ []))
+pub last_view : (ancestors : List OpenNode) → (ancestors ≡ []) ⊎ ((front : List OpenNode) × (o : OpenNode) × (ancestors ≡ front ++ o ∷ []))
 last_view [] = inl refl
-last_view (o ∷ line) = elim (last_view line) [
-  | inl none ↦ inr ([], o, ap (λ (l : List Open). o ∷ l) none)
-  | inr some ↦ inr (o ∷ some.0, some.1, ap (λ (l : List Open). o ∷ l) some.2)
+last_view (o ∷ ancestors) = elim (last_view ancestors) [
+  | inl none ↦ inr ([], o, ap (λ (l : List OpenNode). o ∷ l) none)
+  | inr some ↦ inr (o ∷ some.0, some.1, ap (λ (l : List OpenNode). o ∷ l) some.2)
 ]
 
-last_got : (front : List Open) (o : Open) → slice_get (front ++ o ∷ []) (length (front ++ o ∷ []) - 1) ≡ Some o
+last_got : (front : List OpenNode) (o : OpenNode) → slice_get (front ++ o ∷ []) (length (front ++ o ∷ []) - 1) ≡ Some o
 last_got front o = (let long = length-append front (o ∷ []) in let at : length (front ++ o ∷ []) - 1 ≡ length front = omega (arith, long) in ap (slice_get (front ++ o ∷ [])) at) ∙ got front o
   where
-    got : (front : List Open) (o : Open) → slice_get (front ++ o ∷ []) (length front) ≡ Some o
+    got : (front : List OpenNode) (o : OpenNode) → slice_get (front ++ o ∷ []) (length front) ≡ Some o
     got [] o = refl
     got (p ∷ front) o = got front o
 
-not_last : (node : ℕ) (front : List Open) (o : Open) → ends_with node (front ++ o ∷ []) ≡ false → o.node ≢ node
+not_last : (node : ℕ) (front : List OpenNode) (o : OpenNode) → ends_with node (front ++ o ∷ []) ≡ false → o.node ≢ node
 not_last node front o fails e =
     let tested : (o.node == node) ≡ false = sym (ap (is_node node) (last_got front o)) ∙ fails in
     let same : (o.node == node) ≡ true = eq-eqb o.node node e in
     let f : true ≡ false = sym same ∙ tested in absurd cc
 
--- where a rising line doesn't end with a node, all its nodes are before that
-pub all_before : (node : ℕ) (line : List Open) → AllPairs (λ a b. a.node < b.node) line → All (λ o. o.node < node + 1) line → ends_with node line ≡ false → All (λ o. o.node < node) line
-all_before node line rise below fails = elim (last_view line) [
-  | inl none ↦ subst (λ (l : List Open). All (λ o. o.node < node) l) (sym none) (All-nil (λ (o : Open). o.node < node))
+-- where rising ancestors don't end with a node, all its nodes are before that
+pub all_before : (node : ℕ) (ancestors : List OpenNode) → AllPairs (λ a b. a.node < b.node) ancestors → All (λ o. o.node < node + 1) ancestors → ends_with node ancestors ≡ false → All (λ o. o.node < node) ancestors
+all_before node ancestors rise below fails = elim (last_view ancestors) [
+  | inl none ↦ subst (λ (l : List OpenNode). All (λ o. o.node < node) l) (sym none) (All-nil (λ (o : OpenNode). o.node < node))
   | inr some ↦
-      let front : List Open = some.0 in let o : Open = some.1 in
+      let front : List OpenNode = some.0 in let o : OpenNode = some.1 in
       let apart = not_last node front o (ap (ends_with node) (sym some.2) ∙ fails) in
-      let low = all_last (λ (o : Open). o.node < node + 1) front o (subst (λ (l : List Open). All (λ o. o.node < node + 1) l) some.2 below) in
+      let low = all_last (λ (o : OpenNode). o.node < node + 1) front o (subst (λ (l : List OpenNode). All (λ o. o.node < node + 1) l) some.2 below) in
       let here : o.node < node = at_most o.node node apart low in
-      let rest = pairs_last (λ (a b : Open). a.node < b.node) front o (subst (λ (l : List Open). AllPairs (λ a b. a.node < b.node) l) some.2 rise) in
-      subst (λ (l : List Open). All (λ o. o.node < node) l) (sym some.2)
-      (all_more (λ (o : Open). o.node < node) front o (All-weaker (λ (a : Open). a.node < o.node) (λ a. a.node < node) (λ a lt. omega arith) front rest) here)
+      let rest = pairs_last (λ (a b : OpenNode). a.node < b.node) front o (subst (λ (l : List OpenNode). AllPairs (λ a b. a.node < b.node) l) some.2 rise) in
+      subst (λ (l : List OpenNode). All (λ o. o.node < node) l) (sym some.2)
+      (all_more (λ (o : OpenNode). o.node < node) front o (All-weaker (λ (a : OpenNode). a.node < o.node) (λ a. a.node < node) (λ a lt. omega arith) front rest) here)
 ]
   where
     at_most : (a b : ℕ) → a ≢ b → a < b + 1 → a < b

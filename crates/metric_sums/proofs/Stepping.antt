@@ -18,16 +18,16 @@ use Rattle.tree_types.specs.NodeValues.{nonzero, values_for_hart, values_at_node
 use Rattle.tree_types.specs.Tree.{CountedTree, IsTree, count_order, count_at, counts_in, node_at}
 use Rattle.tree_types.proofs.Enclosed.{enclosed}
 use Rattle.tree_types.proofs.TreeLaws.{counts_are_paths}
-use Rattle.metric_sums.specs.declared.row.Sum.{Sum}
-use Rattle.metric_sums.specs.declared.line.Open.{Open}
-use Rattle.metric_sums.specs.private.Rows.{IsSmall, handed_up, sum_of_both, no_paths, count_of_hart, with_own}
-use Rattle.metric_sums.specs.private.Lines.{RowOf, HandsUp, row_values, sum_values}
+use Rattle.metric_sums.specs.declared.hart_sums.Sum.{Sum}
+use Rattle.metric_sums.specs.declared.ancestors.OpenNode.{OpenNode}
+use Rattle.metric_sums.specs.private.Sums.{IsSmall, handed_up, sum_of_both, no_paths, count_of_hart, with_own}
+use Rattle.metric_sums.specs.private.Ancestors.{SumsOf, HandsUp, values_of_sums, sum_values}
 use Rattle.metric_sums.specs.private.Walking.{whole_sum, pending, IsOpen, At}
 use Rattle.metric_sums.proofs.Lasts.{fronts, all_last, all_more, pairs_last, pairs_front, pairs_more, all_before}
 use Rattle.metric_sums.proofs.Shares.{pending_none, pending_other, pending_own, pending_small, whole_is, whole_small, joined_to_none}
 
-abbrev Rising : List Open → Type 0
-Rising line = AllPairs (λ a b. a.node < b.node) line
+abbrev Rising : List OpenNode → Type 0
+Rising ancestors = AllPairs (λ a b. a.node < b.node) ancestors
 
 -- ---- counts
 
@@ -132,95 +132,95 @@ module _ (period : ℕ) (t : CountedTree) (tree : IsTree t) (few : counts_in t.c
       let b = sum_by-take-drop (λ (c : NodeCount). c.count) t.counts first in
       omega (arith, a, b, few)
 
-  -- ---- the row of a node
+  -- ---- the sums of a node
 
-  abbrev IsFar : ℕ → Open → Type 0
+  abbrev IsFar : ℕ → OpenNode → Type 0
   IsFar i o = IsOpen t (i + 1) o × (o.node < i)
 
-  -- the line without the node, and what its children hand up to it
-  pub record Opened (i : ℕ) (line : List Open) (row : List Sum) : Type 0 where
-    pub parents : All (IsFar i) line
-    pub rise : Rising line
-    pub none : (node h : ℕ) → node < i → All (λ o. o.node ≢ node) line → pending t (i + 1) node h ≡ no_paths
-    pub long : length row ≡ t.harts
-    pub sums : (h : ℕ) (d : Sum) → h < t.harts → get_or row h d ≡ pending t (i + 1) i h
+  -- the ancestors without the node, and what its children hand up to it
+  pub record Opened (i : ℕ) (ancestors : List OpenNode) (sums : List Sum) : Type 0 where
+    pub parents : All (IsFar i) ancestors
+    pub rise : Rising ancestors
+    pub none : (node h : ℕ) → node < i → All (λ o. o.node ≢ node) ancestors → pending t (i + 1) node h ≡ no_paths
+    pub long : length sums ≡ t.harts
+    pub each : (h : ℕ) (d : Sum) → h < t.harts → get_or sums h d ≡ pending t (i + 1) i h
 
-  pub opened : (i left : ℕ) (old new : List Open) (row : List Sum) (out : List NodeValue) → i < size → At period t (i + 1) old left out → RowOf t.harts i old new row → Opened i new row
-  opened i left old new row out lt at (inl e) =
-      let o : Open = record { node = i; row = row } in
-      let parents : All (IsOpen t (i + 1)) (new ++ o ∷ []) = subst (λ (l : List Open). All (IsOpen t (i + 1)) l) e at.parents in
+  pub opened : (i left : ℕ) (old new : List OpenNode) (sums : List Sum) (out : List NodeValue) → i < size → At period t (i + 1) old left out → SumsOf t.harts i old new sums → Opened i new sums
+  opened i left old new sums out lt at (inl e) =
+      let o : OpenNode = record { node = i; sums = sums } in
+      let parents : All (IsOpen t (i + 1)) (new ++ o ∷ []) = subst (λ (l : List OpenNode). All (IsOpen t (i + 1)) l) e at.parents in
       let rise : Rising (new ++ o ∷ []) = subst Rising e at.rise in
-      let before = pairs_last (λ (a b : Open). a.node < b.node) new o rise in
+      let before = pairs_last (λ (a b : OpenNode). a.node < b.node) new o rise in
       let own = all_last (IsOpen t (i + 1)) new o parents in
       record {
         parents = λ k d inside. (fronts (IsOpen t (i + 1)) new o parents k d inside, before k d inside);
-        rise = pairs_front (λ (a b : Open). a.node < b.node) new o rise;
+        rise = pairs_front (λ (a b : OpenNode). a.node < b.node) new o rise;
         none = λ node h less apart. at.none node h (omega arith)
-            (subst (λ (l : List Open). All (λ o. o.node ≢ node) l) (sym e) (all_more (λ (o : Open). o.node ≢ node) new o apart (λ same. absurd (omega arith))));
+            (subst (λ (l : List OpenNode). All (λ o. o.node ≢ node) l) (sym e) (all_more (λ (o : OpenNode). o.node ≢ node) new o apart (λ same. absurd (omega arith))));
         long = own.long;
-        sums = own.sums;
+        each = own.each;
       }
-  opened i left old new row out lt at (inr (fails, same, zeros)) =
+  opened i left old new sums out lt at (inr (fails, same, zeros)) =
       let below : All (λ o. o.node < i + 1) old = All-weaker (IsOpen t (i + 1)) (λ o. o.node < i + 1) (λ o h. h.below) old at.parents in
       let before : All (λ o. o.node < i) old = all_before i old at.rise below fails in
       record {
-        parents = subst (λ (l : List Open). All (IsFar i) l) (sym same) (λ k d inside. (at.parents k d inside, before k d inside));
+        parents = subst (λ (l : List OpenNode). All (IsFar i) l) (sym same) (λ k d inside. (at.parents k d inside, before k d inside));
         rise = subst Rising (sym same) at.rise;
-        none = λ node h less apart. at.none node h (omega arith) (subst (λ (l : List Open). All (λ o. o.node ≢ node) l) same apart);
+        none = λ node h less apart. at.none node h (omega arith) (subst (λ (l : List OpenNode). All (λ o. o.node ≢ node) l) same apart);
         long = ap (λ (r : List Sum). length r) zeros ∙ length-replicate t.harts no_paths;
-        sums = λ h d inside.
+        each = λ h d inside.
             ap (λ (r : List Sum). get_or r h d) zeros ∙ get_or-replicate t.harts h no_paths d inside
-            ∙ sym (at.none i h (omega arith) (All-weaker (λ (o : Open). o.node < i) (λ o. o.node ≢ i) (λ o less same. absurd (omega arith)) old before));
+            ∙ sym (at.none i h (omega arith) (All-weaker (λ (o : OpenNode). o.node < i) (λ o. o.node ≢ i) (λ o less same. absurd (omega arith)) old before));
       }
 
-  pub row_small : (i : ℕ) (line : List Open) (row : List Sum) → i < size → Opened i line row → All IsSmall row
-  row_small i line row lt o = λ h d inside.
+  pub sums_small : (i : ℕ) (ancestors : List OpenNode) (sums : List Sum) → i < size → Opened i ancestors sums → All IsSmall sums
+  sums_small i ancestors sums lt o = λ h d inside.
       let long = o.long in
-      subst IsSmall (sym (o.sums h d (omega (arith, long, inside)))) (pending_small t tree (i + 1) i h few (omega arith) (omega arith))
+      subst IsSmall (sym (o.each h d (omega (arith, long, inside)))) (pending_small t tree (i + 1) i h few (omega arith) (omega arith))
 
-  pub line_small : (i : ℕ) (line : List Open) (row : List Sum) → i < size → Opened i line row → All (λ o. All IsSmall o.row) line
-  line_small i line row lt o = All-weaker (IsFar i) (λ p. All IsSmall p.row) (λ p far h d inside.
+  pub ancestors_small : (i : ℕ) (ancestors : List OpenNode) (sums : List Sum) → i < size → Opened i ancestors sums → All (λ o. All IsSmall o.sums) ancestors
+  ancestors_small i ancestors sums lt o = All-weaker (IsFar i) (λ p. All IsSmall p.sums) (λ p far h d inside.
       let long = far.0.long in
       let below = far.1 in
-      subst IsSmall (sym (far.0.sums h d (omega (arith, long, inside)))) (pending_small t tree (i + 1) p.node h few (omega arith) (omega arith))) line o.parents
+      subst IsSmall (sym (far.0.each h d (omega (arith, long, inside)))) (pending_small t tree (i + 1) p.node h few (omega arith) (omega arith))) ancestors o.parents
 
   -- ---- all sums of a node
 
-  pub record Summed (i : ℕ) (line : List Open) (row : List Sum) : Type 0 where
-    pub parents : All (IsFar i) line
-    pub rise : Rising line
-    pub none : (node h : ℕ) → node < i → All (λ o. o.node ≢ node) line → pending t (i + 1) node h ≡ no_paths
-    pub long : length row ≡ t.harts
-    pub sums : (h : ℕ) (d : Sum) → h < t.harts → get_or row h d ≡ whole_sum t i h
+  pub record Summed (i : ℕ) (ancestors : List OpenNode) (sums : List Sum) : Type 0 where
+    pub parents : All (IsFar i) ancestors
+    pub rise : Rising ancestors
+    pub none : (node h : ℕ) → node < i → All (λ o. o.node ≢ node) ancestors → pending t (i + 1) node h ≡ no_paths
+    pub long : length sums ≡ t.harts
+    pub each : (h : ℕ) (d : Sum) → h < t.harts → get_or sums h d ≡ whole_sum t i h
 
-  pub summed : (i left first : ℕ) (old line : List Open) (row new : List Sum) (out : List NodeValue) → i < size → At period t (i + 1) old left out → Opened i line row → Found i left first
-      → length new ≡ length row → ((h : ℕ) (d : Sum) → h < length new → get_or new h d ≡ with_own (count_of_hart (take (left - first) (drop first t.counts)) h) (get_or row h d))
-      → Summed i line new
-  summed i left first old line row new out lt at o f same counted = record {
+  pub summed : (i left first : ℕ) (old ancestors : List OpenNode) (sums new : List Sum) (out : List NodeValue) → i < size → At period t (i + 1) old left out → Opened i ancestors sums → Found i left first
+      → length new ≡ length sums → ((h : ℕ) (d : Sum) → h < length new → get_or new h d ≡ with_own (count_of_hart (take (left - first) (drop first t.counts)) h) (get_or sums h d))
+      → Summed i ancestors new
+  summed i left first old ancestors sums new out lt at o f same counted = record {
     parents = o.parents;
     rise = o.rise;
     none = o.none;
     long = same ∙ o.long;
-    sums = λ h d inside.
+    each = λ h d inside.
         let long = o.long in
         counted h d (omega (arith, same, long, inside))
-        ∙ (λ k. with_own (own_counts i h left first f at.few at.before at.behind k) (o.sums h d inside k))
+        ∙ (λ k. with_own (own_counts i h left first f at.few at.before at.behind k) (o.each h d inside k))
         ∙ whole_is t tree i h lt;
   }
 
-  pub summed_small : (i : ℕ) (line : List Open) (row : List Sum) → i < size → Summed i line row → All IsSmall row
-  summed_small i line row lt s = λ h d inside.
+  pub summed_small : (i : ℕ) (ancestors : List OpenNode) (sums : List Sum) → i < size → Summed i ancestors sums → All IsSmall sums
+  summed_small i ancestors sums lt s = λ h d inside.
       let long = s.long in
-      subst IsSmall (sym (s.sums h d (omega (arith, long, inside)))) (whole_small t tree i h few lt)
+      subst IsSmall (sym (s.each h d (omega (arith, long, inside)))) (whole_small t tree i h few lt)
 
-  pub same_long : (i : ℕ) (line : List Open) (row : List Sum) → Summed i line row → All (λ o. length o.row ≡ length row) line
-  same_long i line row s = All-weaker (IsFar i) (λ p. length p.row ≡ length row) (λ p far. far.0.long ∙ sym s.long) line s.parents
+  pub same_long : (i : ℕ) (ancestors : List OpenNode) (sums : List Sum) → Summed i ancestors sums → All (λ o. length o.sums ≡ length sums) ancestors
+  same_long i ancestors sums s = All-weaker (IsFar i) (λ p. length p.sums ≡ length sums) (λ p far. far.0.long ∙ sym s.long) ancestors s.parents
 
-  pub line_little : (i : ℕ) (line : List Open) (row : List Sum) → i < size → Summed i line row → All (λ o. All IsSmall o.row) line
-  line_little i line row lt s = All-weaker (IsFar i) (λ p. All IsSmall p.row) (λ p far h d inside.
+  pub ancestors_little : (i : ℕ) (ancestors : List OpenNode) (sums : List Sum) → i < size → Summed i ancestors sums → All (λ o. All IsSmall o.sums) ancestors
+  ancestors_little i ancestors sums lt s = All-weaker (IsFar i) (λ p. All IsSmall p.sums) (λ p far h d inside.
       let long = far.0.long in
       let below = far.1 in
-      subst IsSmall (sym (far.0.sums h d (omega (arith, long, inside)))) (pending_small t tree (i + 1) p.node h few (omega arith) (omega arith))) line s.parents
+      subst IsSmall (sym (far.0.each h d (omega (arith, long, inside)))) (pending_small t tree (i + 1) p.node h few (omega arith) (omega arith))) ancestors s.parents
 
   -- ---- the values of a node
 
@@ -235,106 +235,106 @@ module _ (period : ℕ) (t : CountedTree) (tree : IsTree t) (few : counts_in t.c
       ∷ record { node = i; hart = h; kind = Frame; value = period * (whole_sum t i h).frame }
       ∷ record { node = i; hart = h; kind = Inclusive; value = period * (whole_sum t i h).inclusive } ∷ []
 
-  pub node_values : (i : ℕ) (line : List Open) (row : List Sum) → i < size → Summed i line row → row_values period i row 0 (length row) ≡ nonzero (values_at_node period t i)
-  node_values i line row lt s =
-      ap (row_values period i row 0) s.long
-      ∙ ap nonzero (flat_same (λ h. sum_values period i h (get_or row h no_paths)) (values_for_hart period t i) 0 t.harts (λ h le inside.
-      ap (sum_values period i h) (s.sums h no_paths (omega arith)) ∙ hart_values i h lt))
+  pub node_values : (i : ℕ) (ancestors : List OpenNode) (sums : List Sum) → i < size → Summed i ancestors sums → values_of_sums period i sums 0 (length sums) ≡ nonzero (values_at_node period t i)
+  node_values i ancestors sums lt s =
+      ap (values_of_sums period i sums 0) s.long
+      ∙ ap nonzero (flat_same (λ h. sum_values period i h (get_or sums h no_paths)) (values_for_hart period t i) 0 t.harts (λ h le inside.
+      ap (sum_values period i h) (s.each h no_paths (omega arith)) ∙ hart_values i h lt))
 
-  pub all_values : (i : ℕ) (line : List Open) (row : List Sum) (old new : List NodeValue) → i < size → Summed i line row
+  pub all_values : (i : ℕ) (ancestors : List OpenNode) (sums : List Sum) (old new : List NodeValue) → i < size → Summed i ancestors sums
       → reverse old ≡ nonzero (flat_map (values_at_node period t) (range_with_len (i + 1) (size - (i + 1))))
-      → reverse new ≡ row_values period i row 0 (length row) ++ reverse old
+      → reverse new ≡ values_of_sums period i sums 0 (length sums) ++ reverse old
       → reverse new ≡ nonzero (flat_map (values_at_node period t) (range_with_len i (size - i)))
-  all_values i line row old new lt s so_far put =
+  all_values i ancestors sums old new lt s so_far put =
       let more : size - i ≡ suc (size - (i + 1)) = omega arith in
-      put ∙ (λ k. node_values i line row lt s k ++ so_far k)
+      put ∙ (λ k. node_values i ancestors sums lt s k ++ so_far k)
       ∙ sym (filter-append (λ (v : NodeValue). not (v.value == 0)) (values_at_node period t i) (flat_map (values_at_node period t) (range_with_len (i + 1) (size - (i + 1)))))
       ∙ ap (λ (n : ℕ). nonzero (flat_map (values_at_node period t) (range_with_len i n))) (sym more)
 
-  -- ---- the line after a node
+  -- ---- the ancestors after a node
 
-  keeps : (i : ℕ) (p : Open) → i < size → IsFar i p → parent i ≢ p.node → IsOpen t i p
+  keeps : (i : ℕ) (p : OpenNode) → i < size → IsFar i p → parent i ≢ p.node → IsOpen t i p
   keeps i p lt far apart = record {
     long = far.0.long;
     below = far.1;
     child = (let c = far.0.child in (c.0, (let le = c.1 in omega arith), c.2, c.3));
-    sums = λ h d inside. far.0.sums h d inside ∙ sym (pending_other t tree i p.node h lt apart);
+    each = λ h d inside. far.0.each h d inside ∙ sym (pending_other t tree i p.node h lt apart);
   }
 
-  keep_all : (i : ℕ) (line : List Open) → i < size → All (IsFar i) line → All (λ o. parent i ≢ o.node) line → All (IsOpen t i) line
-  keep_all i line lt far apart = λ k d inside. keeps i (get_or line k d) lt (far k d inside) (apart k d inside)
+  keep_all : (i : ℕ) (ancestors : List OpenNode) → i < size → All (IsFar i) ancestors → All (λ o. parent i ≢ o.node) ancestors → All (IsOpen t i) ancestors
+  keep_all i ancestors lt far apart = λ k d inside. keeps i (get_or ancestors k d) lt (far k d inside) (apart k d inside)
 
-  -- the line, and what it lacks, once node i is done
-  pub record Passed (i : ℕ) (line : List Open) : Type 0 where
-    pub parents : All (IsOpen t i) line
-    pub rise : Rising line
-    pub none : (node h : ℕ) → node < i → All (λ o. o.node ≢ node) line → pending t i node h ≡ no_paths
+  -- the ancestors, and what they lack, once node i is done
+  pub record Passed (i : ℕ) (ancestors : List OpenNode) : Type 0 where
+    pub parents : All (IsOpen t i) ancestors
+    pub rise : Rising ancestors
+    pub none : (node h : ℕ) → node < i → All (λ o. o.node ≢ node) ancestors → pending t i node h ≡ no_paths
 
-  pub at_root : (i : ℕ) (line : List Open) (row : List Sum) → i < size → Summed i line row → parent i ≡ no_parent → Passed i line
-  at_root i line row lt s root =
+  pub at_root : (i : ℕ) (ancestors : List OpenNode) (sums : List Sum) → i < size → Summed i ancestors sums → parent i ≡ no_parent → Passed i ancestors
+  at_root i ancestors sums lt s root =
       let few_nodes = tree.few in
       record {
-        parents = keep_all i line lt s.parents (All-weaker (IsFar i) (λ o. parent i ≢ o.node) (λ o far same. let below = far.1 in absurd (omega arith)) line s.parents);
+        parents = keep_all i ancestors lt s.parents (All-weaker (IsFar i) (λ o. parent i ≢ o.node) (λ o far same. let below = far.1 in absurd (omega arith)) ancestors s.parents);
         rise = s.rise;
         none = λ node h less apart. pending_other t tree i node h lt (λ same. absurd (omega arith)) ∙ s.none node h less apart;
       }
 
-  module _ (i : ℕ) (row : List Sum) (lt : i < size) (inner : parent i ≢ no_parent) where
+  module _ (i : ℕ) (sums : List Sum) (lt : i < size) (inner : parent i ≢ no_parent) where
     abbrev p : ℕ
     p = parent i
 
     p_before : p < i
     p_before = tree.preorder.parents i _ lt inner
 
-    -- the parent's row with what node i hands up
-    handed : (rest : List Open) (new : List Sum) → All (IsFar i) rest → Rising rest → All (λ o. o.node < p) rest
+    -- the parent's sums with what node i hands up
+    handed : (rest : List OpenNode) (new : List Sum) → All (IsFar i) rest → Rising rest → All (λ o. o.node < p) rest
         → ((node h : ℕ) → node < i → All (λ o. o.node ≢ node) rest → node ≢ p → pending t (i + 1) node h ≡ no_paths)
         → length new ≡ t.harts → ((h : ℕ) (d : Sum) → h < t.harts → get_or new h d ≡ pending t i p h)
-        → Passed i (rest ++ record { node = p; row = new } ∷ [])
-    handed rest new far rise below none long sums =
-        let o : Open = record { node = p; row = new } in
-        let apart : All (λ o. p ≢ o.node) rest = All-weaker (λ (o : Open). o.node < p) (λ o. p ≢ o.node) (λ o less same. absurd (omega arith)) rest below in
+        → Passed i (rest ++ record { node = p; sums = new } ∷ [])
+    handed rest new far rise below none long each =
+        let o : OpenNode = record { node = p; sums = new } in
+        let apart : All (λ o. p ≢ o.node) rest = All-weaker (λ (o : OpenNode). o.node < p) (λ o. p ≢ o.node) (λ o less same. absurd (omega arith)) rest below in
         record {
-          parents = all_more (IsOpen t i) rest o (keep_all i rest lt far apart) (record { long = long; below = p_before; child = (i, omega arith, lt, refl); sums = sums });
-          rise = pairs_more (λ (a b : Open). a.node < b.node) rest o rise below;
+          parents = all_more (IsOpen t i) rest o (keep_all i rest lt far apart) (record { long = long; below = p_before; child = (i, omega arith, lt, refl); each = each });
+          rise = pairs_more (λ (a b : OpenNode). a.node < b.node) rest o rise below;
           none = λ node h less others.
-              let not_p : p ≢ node = all_last (λ (o : Open). o.node ≢ node) rest o others in
-              pending_other t tree i node h lt not_p ∙ none node h less (fronts (λ (o : Open). o.node ≢ node) rest o others) (λ e. not_p (sym e));
+              let not_p : p ≢ node = all_last (λ (o : OpenNode). o.node ≢ node) rest o others in
+              pending_other t tree i node h lt not_p ∙ none node h less (fronts (λ (o : OpenNode). o.node ≢ node) rest o others) (λ e. not_p (sym e));
         }
 
-    pub passed_up : (line new : List Open) → Summed i line row → HandsUp p (node_at t.nodes i).scope row line new → Passed i new
-    passed_up line new s (inl (rest, up, sum, e, f, j)) =
-        let o : Open = record { node = p; row = up } in
-        let far : All (IsFar i) (rest ++ o ∷ []) = subst (λ (l : List Open). All (IsFar i) l) e s.parents in
+    pub passed_up : (ancestors new : List OpenNode) → Summed i ancestors sums → HandsUp p (node_at t.nodes i).scope sums ancestors new → Passed i new
+    passed_up ancestors new s (inl (rest, up, sum, e, f, j)) =
+        let o : OpenNode = record { node = p; sums = up } in
+        let far : All (IsFar i) (rest ++ o ∷ []) = subst (λ (l : List OpenNode). All (IsFar i) l) e s.parents in
         let rise : Rising (rest ++ o ∷ []) = subst Rising e s.rise in
         let own = all_last (IsFar i) rest o far in
         subst (Passed i) (sym f)
-        (handed rest sum (fronts (IsFar i) rest o far) (pairs_front (λ (a b : Open). a.node < b.node) rest o rise) (pairs_last (λ (a b : Open). a.node < b.node) rest o rise)
-        (λ node h less apart not_p. s.none node h less (subst (λ (l : List Open). All (λ o. o.node ≢ node) l) (sym e) (all_more (λ (o : Open). o.node ≢ node) rest o apart (λ same. not_p (sym same)))))
+        (handed rest sum (fronts (IsFar i) rest o far) (pairs_front (λ (a b : OpenNode). a.node < b.node) rest o rise) (pairs_last (λ (a b : OpenNode). a.node < b.node) rest o rise)
+        (λ node h less apart not_p. s.none node h less (subst (λ (l : List OpenNode). All (λ o. o.node ≢ node) l) (sym e) (all_more (λ (o : OpenNode). o.node ≢ node) rest o apart (λ same. not_p (sym same)))))
         (j.0 ∙ own.0.long)
         (λ h d inside.
         let long = own.0.long in let same = j.0 in
         j.1 h d (omega (arith, same, long, inside))
-        ∙ (λ k. sum_of_both (own.0.sums h d inside k) (handed_up (node_at t.nodes i).scope (s.sums h d inside k)))
+        ∙ (λ k. sum_of_both (own.0.each h d inside k) (handed_up (node_at t.nodes i).scope (s.each h d inside k)))
         ∙ sym (pending_own t tree i p h lt refl)))
-    passed_up line new s (inr (turned, fails, f, j)) =
-        let up : All (λ o. o.node < p + 1) line = All-weaker (IsFar i) (λ o. o.node < p + 1) (λ o far.
+    passed_up ancestors new s (inr (turned, fails, f, j)) =
+        let up : All (λ o. o.node < p + 1) ancestors = All-weaker (IsFar i) (λ o. o.node < p + 1) (λ o far.
         let child = far.0.child in
         let c1 = child.1 in
-        let most = (enclosed t tree o.node i child.0 far.1 (omega arith) child.2 child.3).1 in omega (arith, most)) line s.parents in
-        let below : All (λ o. o.node < p) line = all_before p line s.rise up fails in
-        let nothing : (h : ℕ) → pending t (i + 1) p h ≡ no_paths = λ h. s.none p h p_before (All-weaker (λ (o : Open). o.node < p) (λ o. o.node ≢ p) (λ o less same. absurd (omega arith)) line below) in
+        let most = (enclosed t tree o.node i child.0 far.1 (omega arith) child.2 child.3).1 in omega (arith, most)) ancestors s.parents in
+        let below : All (λ o. o.node < p) ancestors = all_before p ancestors s.rise up fails in
+        let nothing : (h : ℕ) → pending t (i + 1) p h ≡ no_paths = λ h. s.none p h p_before (All-weaker (λ (o : OpenNode). o.node < p) (λ o. o.node ≢ p) (λ o less same. absurd (omega arith)) ancestors below) in
         subst (Passed i) (sym f)
-        (handed line turned s.parents s.rise below (λ node h less apart not_p. s.none node h less apart) (j.0 ∙ s.long)
+        (handed ancestors turned s.parents s.rise below (λ node h less apart not_p. s.none node h less apart) (j.0 ∙ s.long)
         (λ h d inside.
         let long = s.long in let same = j.0 in
         j.1 h d (omega (arith, same, long, inside))
-        ∙ ap (handed_up (node_at t.nodes i).scope) (s.sums h d inside)
+        ∙ ap (handed_up (node_at t.nodes i).scope) (s.each h d inside)
         ∙ sym (pending_own t tree i p h lt refl ∙ ap (λ (x : Sum). sum_of_both x (handed_up (node_at t.nodes i).scope (whole_sum t i h))) (nothing h) ∙ joined_to_none (handed_up (node_at t.nodes i).scope (whole_sum t i h)))))
 
-  pub stepped : (i left first : ℕ) (old line : List Open) (row : List Sum) (out_old out_new : List NodeValue) (old_line : List Open) → i < size → At period t (i + 1) old left out_old → Found i left first
-      → Summed i old_line row → Passed i line → reverse out_new ≡ row_values period i row 0 (length row) ++ reverse out_old → At period t i line first out_new
-  stepped i left first old line row out_old out_new old_line lt at f s passed put =
+  pub stepped : (i left first : ℕ) (old ancestors : List OpenNode) (sums : List Sum) (out_old out_new : List NodeValue) (old_ancestors : List OpenNode) → i < size → At period t (i + 1) old left out_old → Found i left first
+      → Summed i old_ancestors sums → Passed i ancestors → reverse out_new ≡ values_of_sums period i sums 0 (length sums) ++ reverse out_old → At period t i ancestors first out_new
+  stepped i left first old ancestors sums out_old out_new old_ancestors lt at f s passed put =
       let within = f.within in let inside = at.few in
       record {
         parents = passed.parents;
@@ -346,45 +346,45 @@ module _ (period : ℕ) (t : CountedTree) (tree : IsTree t) (few : counts_in t.c
           | inl own ↦ (let e = f.own k d le own in omega (arith, e))
           | inr past ↦ (let high = at.behind k d past below in omega (arith, high))
         ];
-        values = all_values i old_line row out_old out_new lt s at.values put;
+        values = all_values i old_ancestors sums out_old out_new lt s at.values put;
       }
 
   -- ---- the same of what calls show
 
   -- what was found and counted of the counts that a call shows
-  pub record Walked (shown : List NodeCount) (i left first : ℕ) (row new : List Sum) : Type 0 where
+  pub record Walked (shown : List NodeCount) (i left first : ℕ) (sums new : List Sum) : Type 0 where
     pub within : first ≤ left
     pub own : (k : ℕ) (d : NodeCount) → first ≤ k → k < left → (get_or shown k d).node ≡ i
     pub before : (d : NodeCount) → 0 < first → (get_or shown (first - 1) d).node ≢ i
-    pub same : length new ≡ length row
-    pub counted : (h : ℕ) (d : Sum) → h < length new → get_or new h d ≡ with_own (count_of_hart (take (left - first) (drop first shown)) h) (get_or row h d)
+    pub same : length new ≡ length sums
+    pub counted : (h : ℕ) (d : Sum) → h < length new → get_or new h d ≡ with_own (count_of_hart (take (left - first) (drop first shown)) h) (get_or sums h d)
 
-  pub row_opened : (i left harts : ℕ) (old line : List Open) (row : List Sum) (out : List NodeValue) → i < size → At period t (i + 1) old left out → harts ≡ t.harts → RowOf harts i old line row → Opened i line row
-  row_opened i left harts old line row out lt at is r = opened i left old line row out lt at (subst (λ (n : ℕ). RowOf n i old line row) is r)
+  pub sums_opened : (i left harts : ℕ) (old ancestors : List OpenNode) (sums : List Sum) (out : List NodeValue) → i < size → At period t (i + 1) old left out → harts ≡ t.harts → SumsOf harts i old ancestors sums → Opened i ancestors sums
+  sums_opened i left harts old ancestors sums out lt at is r = opened i left old ancestors sums out lt at (subst (λ (n : ℕ). SumsOf n i old ancestors sums) is r)
 
   pub few_shown : (shown : List NodeCount) (left first : ℕ) → shown ≡ t.counts → counts_in (take (left - first) (drop first shown)) ≤ most_samples
   few_shown shown left first is = subst (λ (cs : List NodeCount). counts_in (take (left - first) (drop first cs)) ≤ most_samples) (sym is) (own_few left first)
 
-  pub row_summed : (i left first harts : ℕ) (old line : List Open) (row new : List Sum) (out : List NodeValue) (shown : List NodeCount) → i < size → At period t (i + 1) old left out → harts ≡ t.harts → RowOf harts i old line row
-      → shown ≡ t.counts → Walked shown i left first row new → Summed i line new
-  row_summed i left first harts old line row new out shown lt at is r same w =
-      let real : Walked t.counts i left first row new = subst (λ (cs : List NodeCount). Walked cs i left first row new) same w in
-      summed i left first old line row new out lt at (row_opened i left harts old line row out lt at is r) (record { within = real.within; own = real.own; before = real.before }) real.same real.counted
+  pub sums_summed : (i left first harts : ℕ) (old ancestors : List OpenNode) (sums new : List Sum) (out : List NodeValue) (shown : List NodeCount) → i < size → At period t (i + 1) old left out → harts ≡ t.harts → SumsOf harts i old ancestors sums
+      → shown ≡ t.counts → Walked shown i left first sums new → Summed i ancestors new
+  sums_summed i left first harts old ancestors sums new out shown lt at is r same w =
+      let real : Walked t.counts i left first sums new = subst (λ (cs : List NodeCount). Walked cs i left first sums new) same w in
+      summed i left first old ancestors sums new out lt at (sums_opened i left harts old ancestors sums out lt at is r) (record { within = real.within; own = real.own; before = real.before }) real.same real.counted
 
-  pub walked_on : {T E : Type 0} (r : Result T E) (i left first harts : ℕ) (old line new_line : List Open) (row new : List Sum) (out_old out_new : List NodeValue) (shown : List NodeCount) (n : Node) → i < size
-      → At period t (i + 1) old left out_old → harts ≡ t.harts → RowOf harts i old line row → shown ≡ t.counts → Walked shown i left first row new
-      → reverse out_new ≡ row_values period i new 0 (length new) ++ reverse out_old → n ≡ node_at t.nodes i
-      → OnOk r (n.parent ≡ no_parent → new_line ≡ line) → OnOk r (n.parent ≢ no_parent → HandsUp n.parent n.scope new line new_line)
-      → OnOk r (At period t i new_line first out_new)
-  walked_on (Err e) i left first harts old line new_line row new out_old out_new shown n lt at is r same w put own root inner = tt
-  walked_on (Ok x) i left first harts old line new_line row new out_old out_new shown n lt at is r same w put own root inner =
-      let real : Walked t.counts i left first row new = subst (λ (cs : List NodeCount). Walked cs i left first row new) same w in
-      let s = row_summed i left first harts old line row new out_old shown lt at is r same w in
-      let passed : Passed i new_line = elim (cases_eq n.parent no_parent) [
-        | inl none ↦ subst (Passed i) (sym (root none)) (at_root i line new lt s (sym (ap (λ (n : Node). n.parent) own) ∙ none))
-        | inr some ↦ passed_up i new lt (λ e. some (ap (λ (n : Node). n.parent) own ∙ e)) line new_line s (subst (λ (m : Node). HandsUp m.parent m.scope new line new_line) own (inner some))
+  pub walked_on : {T E : Type 0} (r : Result T E) (i left first harts : ℕ) (old ancestors new_ancestors : List OpenNode) (sums new : List Sum) (out_old out_new : List NodeValue) (shown : List NodeCount) (n : Node) → i < size
+      → At period t (i + 1) old left out_old → harts ≡ t.harts → SumsOf harts i old ancestors sums → shown ≡ t.counts → Walked shown i left first sums new
+      → reverse out_new ≡ values_of_sums period i new 0 (length new) ++ reverse out_old → n ≡ node_at t.nodes i
+      → OnOk r (n.parent ≡ no_parent → new_ancestors ≡ ancestors) → OnOk r (n.parent ≢ no_parent → HandsUp n.parent n.scope new ancestors new_ancestors)
+      → OnOk r (At period t i new_ancestors first out_new)
+  walked_on (Err e) i left first harts old ancestors new_ancestors sums new out_old out_new shown n lt at is r same w put own root inner = tt
+  walked_on (Ok x) i left first harts old ancestors new_ancestors sums new out_old out_new shown n lt at is r same w put own root inner =
+      let real : Walked t.counts i left first sums new = subst (λ (cs : List NodeCount). Walked cs i left first sums new) same w in
+      let s = sums_summed i left first harts old ancestors sums new out_old shown lt at is r same w in
+      let passed : Passed i new_ancestors = elim (cases_eq n.parent no_parent) [
+        | inl none ↦ subst (Passed i) (sym (root none)) (at_root i ancestors new lt s (sym (ap (λ (n : Node). n.parent) own) ∙ none))
+        | inr some ↦ passed_up i new lt (λ e. some (ap (λ (n : Node). n.parent) own ∙ e)) ancestors new_ancestors s (subst (λ (m : Node). HandsUp m.parent m.scope new ancestors new_ancestors) own (inner some))
       ] in
-      stepped i left first old new_line new out_old out_new line lt at (record { within = real.within; own = real.own; before = real.before }) s passed put
+      stepped i left first old new_ancestors new out_old out_new ancestors lt at (record { within = real.within; own = real.own; before = real.before }) s passed put
 
   -- ---- the walk's ends
 
@@ -399,19 +399,19 @@ module _ (period : ℕ) (t : CountedTree) (tree : IsTree t) (few : counts_in t.c
     values = (let none : size - size ≡ 0 = omega arith in ap (λ (n : ℕ). nonzero (flat_map (values_at_node period t) (range_with_len size n))) (sym none));
   }
 
-  pub ended : (line : List Open) (left : ℕ) (out : List NodeValue) → At period t 0 line left out → reverse out ≡ (values_of period t).entries
+  pub ended : (ancestors : List OpenNode) (left : ℕ) (out : List NodeValue) → At period t 0 ancestors left out → reverse out ≡ (values_of period t).entries
   unfolding values_of
-  ended line left out at = (let all : size - 0 ≡ size = omega arith in at.values ∙ ap (λ (n : ℕ). nonzero (flat_map (values_at_node period t) (range_with_len 0 n))) all)
+  ended ancestors left out at = (let all : size - 0 ≡ size = omega arith in at.values ∙ ap (λ (n : ℕ). nonzero (flat_map (values_at_node period t) (range_with_len 0 n))) all)
 
-  pub begun : (first left : ℕ) (line : List Open) (out : List NodeValue) → first ≡ size → left ≡ length t.counts → line ≡ [] → out ≡ [] → At period t first line left out
-  begun first left line out is all no_line no_out =
-      subst (λ (n : ℕ). At period t n line left out) (sym is)
-      (subst (λ (l : List Open). At period t size l left out) (sym no_line) (subst (λ (vs : List NodeValue). At period t size [] left vs) (sym no_out) (beginning left all)))
+  pub begun : (first left : ℕ) (ancestors : List OpenNode) (out : List NodeValue) → first ≡ size → left ≡ length t.counts → ancestors ≡ [] → out ≡ [] → At period t first ancestors left out
+  begun first left ancestors out is all no_ancestors no_out =
+      subst (λ (n : ℕ). At period t n ancestors left out) (sym is)
+      (subst (λ (l : List OpenNode). At period t size l left out) (sym no_ancestors) (subst (λ (vs : List NodeValue). At period t size [] left vs) (sym no_out) (beginning left all)))
 
-  pub all_made : (n done harts left : ℕ) (line : List Open) (out entries : List NodeValue) → n ≡ size → n ≤ done → At period t (n - done) line left out → harts ≡ t.harts → entries ≡ reverse out
+  pub all_made : (n done harts left : ℕ) (ancestors : List OpenNode) (out entries : List NodeValue) → n ≡ size → n ≤ done → At period t (n - done) ancestors left out → harts ≡ t.harts → entries ≡ reverse out
       → values_of period t ≡ record { nodes = n; harts = harts; entries = entries }
   unfolding values_of
-  all_made n done harts left line out entries is over at own turned =
+  all_made n done harts left ancestors out entries is over at own turned =
       let first : n - done ≡ 0 = omega arith in
-      let all = turned ∙ ended line left out (subst (λ (k : ℕ). At period t k line left out) first at) in
+      let all = turned ∙ ended ancestors left out (subst (λ (k : ℕ). At period t k ancestors left out) first at) in
       λ k. record { nodes = sym is k; harts = sym own k; entries = sym all k }

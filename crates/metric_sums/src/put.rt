@@ -1,10 +1,10 @@
 //! The values of a node, from the last to the first.
 ghost use Rattle.std.specs.Prelude.{◌≡◌, ◌<◌, ◌^◌, ◌++◌, ◌∷◌, [], length, OnOk, reverse};
 ghost use Rattle.tree_types.specs.NodeValues.{nonzero};
-ghost use Rattle.metric_sums.specs.private.Lines.{row_value, row_values, sum_values};
+ghost use Rattle.metric_sums.specs.private.Ancestors.{value_of_kind, values_of_sums, sum_values};
 ghost use Rattle.tree_types.specs.declared.content.Kind.TheVariants.{Exclusive, Frame, Inclusive};
 
-use crate::row::Sum;
+use crate::hart_sums::Sum;
 use prof_bytes::Memory;
 use tree_types::{Kind, NodeValue};
 
@@ -28,7 +28,7 @@ fn put_kind(
     paths: u32,
 ) -> Result<(), Memory>
     ensures { OnOk result
-        (reverse out.new.items ≡ nonzero (row_value period node hart kind paths ∷ []) ++ reverse out.old.items) }
+        (reverse out.new.items ≡ nonzero (value_of_kind period node hart kind paths ∷ []) ++ reverse out.old.items) }
 {
     let value = u64::from(period) * u64::from(paths);
     put_value(
@@ -60,19 +60,19 @@ fn put_sum(
 
 /// Puts the values of a node, hart by hart, the last one first.
 #[tactic(auto, using(crate::proofs::Emitted::one_hart_more))]
-pub(crate) fn put_row(
+pub(crate) fn put_sums(
     out: &mut Vec<NodeValue>,
     period: u32,
     node: u32,
-    row: &[Sum],
+    sums: &[Sum],
 ) -> Result<(), Memory>
-    requires { length row.now < 2 ^ 32 }
+    requires { length sums.now < 2 ^ 32 }
     ensures { OnOk result
-        (reverse out.new.items ≡ row_values period node row.now 0 (length row.now) ++ reverse out.old.items) }
+        (reverse out.new.items ≡ values_of_sums period node sums.now 0 (length sums.now) ++ reverse out.old.items) }
 {
-    for done in 0..row.len() {
-        let hart = row.len() - 1 - done;
-        put_sum(out, period, node, hart as u32, row[hart])?;
+    for done in 0..sums.len() {
+        let hart = sums.len() - 1 - done;
+        put_sum(out, period, node, hart as u32, sums[hart])?;
     }
     Ok(())
 }

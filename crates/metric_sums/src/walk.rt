@@ -8,13 +8,13 @@ ghost use Rattle.tree_types.specs.Tree.{counts_in, node_path, paths_in};
 ghost use Rattle.tree_types.specs.Values.{value};
 ghost use Rattle.tree_types.specs.declared.content.Kind.{Kind};
 ghost use Rattle.tree_types.specs.declared.counted_tree.NodeCount.{NodeCount};
-ghost use Rattle.metric_sums.specs.private.Lines.{HandsUp};
-ghost use Rattle.metric_sums.specs.private.Rows.{IsSmall};
+ghost use Rattle.metric_sums.specs.private.Ancestors.{HandsUp};
+ghost use Rattle.metric_sums.specs.private.Sums.{IsSmall};
 ghost use Rattle.metric_sums.specs.private.Walking.{At};
 
-use crate::line::{Open, hand_up, row_of};
-use crate::put::put_row;
-use crate::row::Row;
+use crate::ancestors::{OpenNode, hand_up, sums_of};
+use crate::hart_sums::HartSums;
+use crate::put::put_sums;
 use prof_bytes::Memory;
 use std::alloc::Global;
 use tree_types::{NO_PARENT, Node, NodeCount, NodeValue, Tree, Values};
@@ -23,8 +23,8 @@ use tree_types::{NO_PARENT, Node, NodeCount, NodeValue, Tree, Values};
 /// and the values so far, the last one first.
 #[derive(Debug, Drop)]
 struct Walk {
-    line: Vec<Open>,
-    spare: Vec<Row>,
+    ancestors: Vec<OpenNode>,
+    spare: Vec<HartSums>,
     left: usize,
     out: Vec<NodeValue>,
 }
@@ -43,40 +43,51 @@ fn first_own(counts: &[NodeCount], end: usize, node: u32) -> usize
     first
 }
 
-/// Passes a node's row on to its parent, if it has one.
-fn pass_on(line: &mut Vec<Open>, spare: &mut Vec<Row>, node: Node, row: Row) -> Result<(), Memory>
-    requires long { All (λ o. length o.row ≡ length row) line.old.items }
-    requires small { All (λ o. All IsSmall o.row) line.old.items }
-    requires row { All IsSmall row }
-    ensures root { OnOk result (node.parent ≡ no_parent → line.new.items ≡ line.old.items) }
+/// Passes a node's sums on to its parent, if it has one.
+fn pass_on(
+    ancestors: &mut Vec<OpenNode>,
+    spare: &mut Vec<HartSums>,
+    node: Node,
+    sums: HartSums,
+) -> Result<(), Memory>
+    requires long { All (λ o. length o.sums ≡ length sums) ancestors.old.items }
+    requires small { All (λ o. All IsSmall o.sums) ancestors.old.items }
+    requires sums { All IsSmall sums }
+    ensures root { OnOk result (node.parent ≡ no_parent → ancestors.new.items ≡ ancestors.old.items) }
     ensures inner { OnOk result
-        (node.parent ≢ no_parent → HandsUp node.parent node.scope row line.old.items line.new.items) }
+        (node.parent ≢ no_parent → HandsUp node.parent node.scope sums ancestors.old.items ancestors.new.items) }
 {
     if node.parent == NO_PARENT {
-        spare.push(row)?;
+        spare.push(sums)?;
         return Ok(());
     }
-    hand_up(line, spare, node.parent, node.scope, row)
+    hand_up(ancestors, spare, node.parent, node.scope, sums)
 }
 
 /// Sums up a node, whose later ones are done: its own paths, and what its children handed up.
 fn step(alloc: Global, tree: &Tree, period: u32, node: u32, walk: &mut Walk) -> Result<(), Memory>
     requires node { node < length tree.now.nodes }
     requires few { counts_in tree.now.counts ≤ most_samples }
-    requires at { At period tree.now (node + 1) walk.old.line.items walk.old.left walk.old.out.items }
-    ensures { OnOk result (At period tree.now node walk.new.line.items walk.new.left walk.new.out.items) }
+    requires at { At period tree.now (node + 1) walk.old.ancestors.items walk.old.left walk.old.out.items }
+    ensures { OnOk result (At period tree.now node walk.new.ancestors.items walk.new.left walk.new.out.items) }
 {
     let counts = tree.counts();
-    let mut row = row_of(alloc, &mut walk.line, &mut walk.spare, tree.harts(), node)?;
+    let mut node_sums = sums_of(
+        alloc,
+        &mut walk.ancestors,
+        &mut walk.spare,
+        tree.harts(),
+        node,
+    )?;
     let first = first_own(counts, walk.left, node);
-    row.count(&counts[first..walk.left]);
-    put_row(&mut walk.out, period, node, row.sums())?;
+    node_sums.count(&counts[first..walk.left]);
+    put_sums(&mut walk.out, period, node, node_sums.sums())?;
     walk.left = first;
     pass_on(
-        &mut walk.line,
+        &mut walk.ancestors,
         &mut walk.spare,
         tree.nodes()[node as usize],
-        row,
+        node_sums,
     )
 }
 
@@ -101,7 +112,7 @@ pub fn sums(alloc: Global, tree: &Tree, period: u32) -> Result<Values, Memory>
 {
     let nodes = tree.nodes().len();
     let mut walk = Walk {
-        line: Vec::new(alloc),
+        ancestors: Vec::new(alloc),
         spare: Vec::new(alloc),
         left: tree.counts().len(),
         out: Vec::new(alloc),

@@ -14,7 +14,7 @@ use Rattle.tree_types.specs.Paths.{Path, prefixes}
 use Rattle.tree_types.proofs.Putting.{length-prefixes}
 use Rattle.tree_types.proofs.Prefixes.{has-from_prefix, prefix_from_has}
 use Rattle.tree_types.proofs.Sorting.{has-from_Contains, Contains-from_has}
-use Rattle.path_trie.specs.Trie.{same_path, has_node, with_node, all_prefixes, trie_nodes, entries_of, count_of, samples_of, entry_scopes}
+use Rattle.path_trie.specs.Trie.{same_path, has_node, with_node, all_prefixes, trie_nodes, entries_with_path, count_of, samples_of, entry_scopes}
 use Rattle.path_trie.proofs.Places.{path_is, has_at}
 
 or_assoc : (a b c : Bool) → ((a || b) || c) ≡ (a || (b || c))
@@ -138,7 +138,7 @@ samples_merged old new more is = ap samples_of is ∙ sum_by-append (λ (e : Ent
 pub counts_merged : (old new more : List Entry) → new ≡ old ++ more → (hart : ℕ) (path : Path) → count_of new hart path ≡ count_of old hart path + count_of more hart path
 counts_merged old new more is hart path =
     ap (λ (es : List Entry). count_of es hart path) is ∙ ap samples_of (filter-append (λ (e : Entry). (e.hart == hart) && same_path path e.path) old more)
-    ∙ sum_by-append (λ (e : Entry). e.count) (entries_of old hart path) (entries_of more hart path)
+    ∙ sum_by-append (λ (e : Entry). e.count) (entries_with_path old hart path) (entries_with_path more hart path)
 
 pub ruleset merge_steps = (nodes_grow, nodes_stay, nodes_merged, samples_merged, counts_merged)
 

@@ -16,7 +16,7 @@ use Rattle.tree_types.specs.Paths.{Path, prefixes, after_prefix, rest_passes}
 use Rattle.tree_types.specs.Values.{ends_here, count_below}
 use Rattle.tree_types.proofs.Counting.{one, count_by-cons}
 use Rattle.tree_types.proofs.Sorting.{same_ascending}
-use Rattle.path_trie.specs.Trie.{same_path, has_node, all_prefixes, trie_nodes, entries_of, count_of, samples_of}
+use Rattle.path_trie.specs.Trie.{same_path, has_node, all_prefixes, trie_nodes, entries_with_path, count_of, samples_of}
 use Rattle.path_trie.proofs.Nodes.{has_trie, counts_merged}
 use Rattle.prof_bytes.proofs.Tests.{or_false}
 
@@ -90,8 +90,8 @@ samples_here [] hart path = refl
 samples_here (e ∷ es) hart path =
     let t : HartPath → Bool = passes hart path in
     let own : (((e.hart == hart) && same_path path e.path) ≡ t (entry_path e)) = ap (λ (b : Bool). (e.hart == hart) && b) (sym (ends_same path e.path)) in
-    ap (λ (b : Bool). samples_of (cond b (e ∷ entries_of es hart path) (entries_of es hart path))) own
-    ∙ first (t (entry_path e)) e (entries_of es hart path)
+    ap (λ (b : Bool). samples_of (cond b (e ∷ entries_with_path es hart path) (entries_with_path es hart path))) own
+    ∙ first (t (entry_path e)) e (entries_with_path es hart path)
     ∙ ap₂ (λ (a b : ℕ). a + b) (sym (count_replicate t (entry_path e) e.count)) (samples_here es hart path)
     ∙ sym (sum_by-append (λ (p : HartPath). one (t p)) (replicate e.count (entry_path e)) (each_path es))
   where

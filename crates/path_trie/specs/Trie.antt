@@ -56,8 +56,8 @@ abbrev pub counted_entry : List Path → PathEnd → Entry
 counted_entry ns e = record { hart = e.hart; count = e.count; path = path_at ns e.node }
 
 -- the entries of a hart and a path
-abbrev pub entries_of : List Entry → ℕ → Path → List Entry
-entries_of entries hart path = filter (λ e. e.hart == hart && same_path path e.path) entries
+abbrev pub entries_with_path : List Entry → ℕ → Path → List Entry
+entries_with_path entries hart path = filter (λ e. e.hart == hart && same_path path e.path) entries
 
 -- how many samples entries count
 abbrev pub samples_of : List Entry → ℕ
@@ -65,7 +65,7 @@ samples_of entries = sum_by (λ e. e.count) entries
 
 -- and of these, how many samples of a hart have a path
 abbrev pub count_of : List Entry → ℕ → Path → ℕ
-count_of entries hart path = samples_of (entries_of entries hart path)
+count_of entries hart path = samples_of (entries_with_path entries hart path)
 
 -- how many scopes the entries' paths have together
 abbrev pub entry_scopes : List Entry → ℕ

@@ -35,7 +35,7 @@ impl NodeTable {
         }
     }
 
-    /// Makes room for so many nodes and branches more.
+    /// Makes room for a given number of nodes and branches more.
     pub fn reserve(&mut self, nodes: usize, branches: usize) -> Result<(), Memory>
         ensures nodes { self.new.nodes.items ≡ self.old.nodes.items }
         ensures branches { self.new.branches.entries ≡ self.old.branches.entries }

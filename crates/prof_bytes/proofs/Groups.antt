@@ -1,4 +1,4 @@
--- The bytes behind the first ten don't count for a number at the front.
+-- The bytes after the first ten don't count for a number at the front.
 use Rattle.std.proofs.Common.{◌≡◌, ℕ, zero, suc, ◌⊎◌, inl, inr, ◌+◌, ◌<◌, ◌≤◌, Bool, true, false, List, [], ◌∷◌, length, take, Option, Some, None, refl, sym, ap, ◌∙◌, arith}
 use Rattle.std.specs.Prelude.{option_and_then, nat_lt, ◌%◌, ◌^◌, ◌*◌}
 use Rattle.std.proofs.Math.Nat.{mod-eq_of_lt}

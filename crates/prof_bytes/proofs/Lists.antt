@@ -1,4 +1,4 @@
--- Lists whose items were read one behind the other.
+-- Lists whose items were read one after the other.
 use Rattle.std.proofs.Common.{◌≡◌, ℕ, zero, suc, ◌+◌, List, [], ◌∷◌, ◌++◌, length, map, All, Result, Ok, refl, sym, ap, ap₂, ◌∙◌, append_assoc, append-nil, subst, arith}
 use Rattle.std.specs.List.{flat_map}
 use Rattle.std.proofs.lemmas.List.Elements.{All-cons, All-head, All-nil, All-tail}
@@ -44,7 +44,7 @@ module _ {X Y Z F : Type 0} (item : At → Result (X × At) F) (bare : X → Z) 
 
 -- ---- what was read has just these bytes
 
--- what was read behind others
+-- what was read after others
 pub record ItemsTook {X : Type 0} (spelled : X → List ℕ) (Fits : X → Type 0) (n : ℕ) (at next : At) (before after : List X) : Type 0 where
   pub xs : List X
   pub is : after ≡ before ++ xs

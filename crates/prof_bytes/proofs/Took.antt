@@ -47,7 +47,7 @@ given {X} P made x end next is holds =
 -- ---- single fields
 
 module _ {F : Type 0} (missing : At → F) where
-  -- a number that was read is that of the bytes there, and what follows begins behind them
+  -- a number that was read is that of the bytes there, and what follows begins after them
   pub number_moved : (width : ℕ) (at next : At) (n : ℕ) → number_or missing width at ≡ Ok (n, next) → (width ≤ length (left_of at)) × (number_in width (left_of at) ≡ n) × (moved width at ≡ next)
   number_moved width at next n is =
       let whole = guard_ok (nat_lt (length (left_of at)) width) (missing at) (Ok (number_in width (left_of at), moved width at)) (n, next) is in
@@ -76,7 +76,7 @@ magic_took missing magic bytes at is =
     let front : take 8 bytes ≡ magic = same_text (take 8 bytes) magic (sym test) in
     (ok_same (record { whole = bytes; offset = 8 }) at whole.1, sym (take-append-drop 8 bytes) ∙ ap (λ (l : List ℕ). l ++ drop 8 bytes) front)
 
--- ---- one field behind the other
+-- ---- one field after the other
 
 -- a field that was read on the way to a value: what it is, its bytes, and what the rest of the reading gave
 pub record Behind {X Y F : Type 0} (spelled : X → List ℕ) (at : At) (rest : X × At → Result Y F) (y : Y) : Type 0 where

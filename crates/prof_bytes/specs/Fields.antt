@@ -11,12 +11,12 @@ pub record Input (F : Type 0) : Type 0 where
   pub at : At
   pub missing : F
 
--- a value, and the input behind it; the input's fault where there is none
+-- a value, and the input after it; the input's fault where there is none
 abbrev pub taken : {X F : Type 0} → Input F → Option (X × ℕ) → Result (X × Input F) F
 taken input None = Err input.missing
 taken input (Some r) = Ok (r.0, record input { at = moved r.1 input.at })
 
--- a number of so many bytes
+-- a number of that many bytes
 abbrev pub number_from : {F : Type 0} → ℕ → Input F → Result (ℕ × Input F) F
 number_from count input = taken input (number_at count (left_of input.at))
 
@@ -28,7 +28,7 @@ uleb_from input = taken input (uleb_at (left_of input.at))
 abbrev pub sleb_from : {F : Type 0} → Input F → Result (ℤ × Input F) F
 sleb_from input = taken input (sleb_at (left_of input.at))
 
--- so many bytes
+-- a given number of bytes
 abbrev pub bytes_from : {F : Type 0} → ℕ → Input F → Result (List ℕ × Input F) F
 bytes_from count input = taken input (bytes_at count (left_of input.at))
 
@@ -49,7 +49,7 @@ initial_length_from input = do
   if nat_le first_reserved_length size || nat_lt (length (left_of body.at)) size
       then Err input.missing else Ok (size, body)
 
--- the part that an initial length counts, and the input behind it
+-- the part that an initial length counts, and the input after it
 abbrev pub part_from : {F : Type 0} → Input F → Result (Input F × Input F) F
 part_from input = do
   (size, body) ← initial_length_from input
@@ -57,7 +57,7 @@ part_from input = do
 
 -- ---- what a call gives
 
--- the answer, and the input behind the value, or as before after a fault
+-- the answer, and the input after the value, or as before after a fault
 abbrev pub answered : {X F : Type 0} → Input F → Result (X × Input F) F → Result X F × Input F
 answered before (Ok found) = (Ok found.0, found.1)
 answered before (Err fault) = (Err fault, before)

@@ -15,7 +15,7 @@ abbrev pub seven_bits : List ℕ → ℕ
 seven_bits [] = 0
 seven_bits (byte ∷ bytes) = byte % 128 + 128 * seven_bits bytes
 
--- one more than the largest number that so many bytes hold
+-- one more than the largest number that a given number of bytes hold
 abbrev pub span : List ℕ → ℕ
 span group = 128 ^ length group
 

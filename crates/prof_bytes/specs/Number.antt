@@ -1,5 +1,6 @@
 -- A number and its bytes, the lowest byte first: one definition for reads and for puts.
-use Rattle.std.specs.Prelude.{ℕ, ◌<◌, List, length, slice_index, Option, Some, None, if◌then◌else◌, nat_lt}
+use Rattle.std.specs.Prelude.{ℕ, ◌+◌, ◌%◌, ◌^◌, ◌<◌, List, length, slice_index, Option, Some, None}
+use Rattle.std.specs.Prelude.{if◌then◌else◌, nat_lt}
 use Rattle.std.specs.List.{flat_map}
 use Rattle.byteorder.specs.Endian.{little_bytes, little_number}
 
@@ -14,6 +15,10 @@ word number = number_bytes 4 number
 -- numbers of four bytes, one after another
 abbrev pub words : List ℕ → List ℕ
 words numbers = flat_map word numbers
+
+-- the sum of two numbers of four bytes, modulo 2^32
+abbrev pub word_sum : ℕ → ℕ → ℕ
+word_sum a b = (a + b) % 2 ^ 32
 
 -- the number in the first `count` bytes
 abbrev pub number_in : ℕ → List ℕ → ℕ

@@ -24,7 +24,7 @@ abbrev pub Gives : {X Y F : Type 0} → (X → Y) → Result X (Fail F) → Resu
 Gives view (Ok x) wanted = wanted ≡ Ok (view x)
 Gives view (Err fail) wanted = FailsBy fail wanted
 
--- a call gave what the definition gives, seen by `view`, and left its reader at what is behind it
+-- a call gave what the definition gives, seen by `view`, and left its reader at what is after it
 abbrev pub GivesAt : {X Y F R : Type 0} → (X → Y) → Result X F → R → Result (Y × R) F → Type 0
 GivesAt view (Ok x) after wanted = wanted ≡ Ok (view x, after)
 GivesAt view (Err fault) after wanted = wanted ≡ Err fault

@@ -11,7 +11,7 @@ pub record At : Type 0 where
 abbrev pub left_of : At → List ℕ
 left_of at = drop at.offset at.whole
 
--- so many bytes further on
+-- a given number of bytes further on
 abbrev pub moved : ℕ → At → At
 moved count at = record { whole = at.whole; offset = at.offset + count }
 
@@ -24,7 +24,7 @@ abbrev pub reading : {X : Type 0} → At → Option (X × ℕ) → Option X × A
 reading at None = (None, at)
 reading at (Some r) = (Some r.0, moved r.1 at)
 
--- so many bytes from the front
+-- a given number of bytes from the front
 abbrev pub bytes_at : ℕ → List ℕ → Option (List ℕ × ℕ)
 bytes_at count bytes = if nat_lt (length bytes) count then None else Some (take count bytes, count)
 

@@ -137,7 +137,7 @@ impl<'a> Cursor<'a> {
         Some(value)
     }
 
-    /// An unsigned LEB128 number of at most ten bytes. `None` also where it is 2^64 or more.
+    /// An unsigned LEB128 number of at most ten bytes (DWARF 5, section 7.6). `None` also where it is 2^64 or more.
     pub fn uleb(&mut self) -> Option<u64>
         ensures { (result, self.new) ≡ reading self.old (uleb_at (left_of self.old)) }
     {
@@ -146,7 +146,7 @@ impl<'a> Cursor<'a> {
         Some(value)
     }
 
-    /// A signed LEB128 number of at most ten bytes. `None` also where it does not fit 64 bits.
+    /// A signed LEB128 number of at most ten bytes (DWARF 5, section 7.6). `None` also where it does not fit 64 bits.
     pub fn sleb(&mut self) -> Option<i64>
         ensures { (result, self.new) ≡ reading self.old (sleb_at (left_of self.old)) }
     {
@@ -164,7 +164,7 @@ impl<'a> Cursor<'a> {
         Some(text)
     }
 
-    /// So many bytes as they stand.
+    /// The next `count` bytes.
     pub fn take(&mut self, count: usize) -> Option<&'a [u8]>
         ensures { (option_copied result, self.new) ≡ reading self.old (bytes_at count (left_of self.old)) }
     {

@@ -10,8 +10,8 @@ use std::marker::Model;
 /// Lengths from here on are reserved; 0xffffffff begins one of 64-bit DWARF (DWARF 5, section 7.4).
 const FIRST_RESERVED_LENGTH: u32 = 0xffff_fff0;
 
-/// Bytes that are read field by field, and the fault that a field is which they don't hold whole. After
-/// a fault the reader stands where it stood.
+/// Reads bytes field by field. A field that is truncated or malformed is the fault `missing`; the offset then stays as it
+/// was.
 #[derive(Debug, Drop)]
 pub struct Reader<'a, F> {
     cursor: Cursor<'a>,
@@ -52,7 +52,7 @@ impl<'a, F: Copy> Reader<'a, F> {
         self.cursor.fork()
     }
 
-    /// Goes on from where the cursor stands.
+    /// Continues at the cursor's offset.
     pub fn set_cursor(&mut self, cursor: Cursor<'a>)
         ensures { self.new ≡ record self.old { at = cursor.entry } }
     {
@@ -80,14 +80,14 @@ impl<'a, F: Copy> Reader<'a, F> {
         }
     }
 
-    /// A field that isn't whole is this fault from now on.
+    /// Sets the fault of a truncated field.
     pub fn set_missing(&mut self, missing: F)
         ensures { self.new ≡ record self.old { missing = missing } }
     {
         self.missing = missing;
     }
 
-    /// The fault that a field is which isn't whole.
+    /// The fault of a truncated field.
     pub fn missing(&self) -> F
         ensures { result ≡ self.now.missing }
     {
@@ -144,14 +144,14 @@ impl<'a, F: Copy> Reader<'a, F> {
         self.cursor.u64().ok_or(self.missing)
     }
 
-    /// An unsigned LEB128 number of at most ten bytes, below 2^64.
+    /// An unsigned LEB128 number of at most ten bytes, below 2^64 (DWARF 5, section 7.6).
     pub fn uleb(&mut self) -> Result<u64, F>
         ensures { (result, self.new) ≡ answered self.old (uleb_from self.old) }
     {
         self.cursor.uleb().ok_or(self.missing)
     }
 
-    /// A signed LEB128 number of at most ten bytes, from -2^63 to 2^63 - 1.
+    /// A signed LEB128 number of at most ten bytes, from -2^63 to 2^63 - 1 (DWARF 5, section 7.6).
     pub fn sleb(&mut self) -> Result<i64, F>
         ensures { (result, self.new) ≡ answered self.old (sleb_from self.old) }
     {
@@ -165,15 +165,14 @@ impl<'a, F: Copy> Reader<'a, F> {
         self.cursor.cstr().ok_or(self.missing)
     }
 
-    /// So many bytes as they stand.
+    /// The next `count` bytes.
     pub fn take(&mut self, count: usize) -> Result<&'a [u8], F>
         ensures { (viewed (λ bytes. bytes.now) result, self.new) ≡ answered self.old (bytes_from count self.old) }
     {
         self.cursor.take(count).ok_or(self.missing)
     }
 
-    /// An initial length: not a reserved one, and at most the number of bytes behind it (DWARF 5,
-    /// section 7.4).
+    /// An initial length: not a reserved one, and at most the number of bytes after it (DWARF 5, section 7.4).
     pub fn initial_length(&mut self) -> Result<usize, F>
         ensures read { (result, self.new) ≡ answered self.old (initial_length_from self.old) }
         ensures fits { IfOk result (λ size. size ≤ length (left_of self.new.at)) }
@@ -187,7 +186,7 @@ impl<'a, F: Copy> Reader<'a, F> {
         Ok(size as usize)
     }
 
-    /// The part of the bytes that an initial length counts, behind which this reader then stands.
+    /// Reads an initial length, and gives a reader of that many bytes. This reader continues after them.
     pub fn part(&mut self) -> Result<Reader<'a, F>, F>
         ensures { (result, self.new) ≡ answered self.old (part_from self.old) }
     {

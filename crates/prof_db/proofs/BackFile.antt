@@ -19,7 +19,7 @@ use Rattle.prof_db.specs.Layout.{body_from, column_from, file_from, head_from, l
 use Rattle.prof_db.specs.NameRules.{file_name, names_in, raw_proc_name, used_files, used_procs}
 use Rattle.prof_db.specs.NodeRules.{in_range, node_of}
 use Rattle.prof_db.specs.Rules.{database_in}
-use Rattle.prof_db.specs.Spelling.{database_magic, context_entry_bytes, node_bytes, profile_entry_bytes, spelling, with_count}
+use Rattle.prof_db.specs.Spelling.{database_magic, context_entry_bytes, node_bytes, profile_entry_bytes, database_spelling, with_count}
 use Rattle.prof_db.specs.ValueRules.{context_fields, plane_fields, profile_fields}
 use Rattle.prof_bytes.specs.Format.{magic_or}
 use Rattle.prof_bytes.proofs.Lists.{list_took}
@@ -179,15 +179,15 @@ module _ (layout : Layout) (c : Content) (p : Passed layout c) (head : Head) (at
       (subst (λ (n : ℕ). All (λ r. in_range n (length names.files) r.scope ≡ true) layout.nodes) (sym (length-map layout.procs raw_proc_name))
       (subst (λ (n : ℕ). All (λ r. in_range (length layout.procs) n r.scope ≡ true) layout.nodes) (sym (length-map layout.files file_name)) (ranged layout c p)))
 
-  own_spelled : database_magic ++ (words (head_numbers head) ++ left_of at) ≡ spelling own
-  unfolding spelling
+  own_spelled : database_magic ++ (words (head_numbers head) ++ left_of at) ≡ database_spelling own
+  unfolding database_spelling
   own_spelled =
       ap (λ (l : List ℕ). database_magic ++ (words (head_numbers head) ++ l)) left_is
       ∙ seams database_magic (words (head_numbers head)) (flat_map raw_proc_bytes layout.procs) (flat_map raw_file_bytes layout.files) (flat_map raw_node_bytes layout.nodes) profile_plane context_plane
       ∙ (λ i. database_magic ++ words (numbers_are i) ++ sym (procs_spelled layout.procs (used_procs layout.nodes) p.procs) i ++ sym (files_spelled layout.files) i ++ sym nodes_are i ++ profile_plane ++ context_plane)
 
 -- what is read of a database is spelled by its bytes
-pub read_spelled : (bytes : List ℕ) (c : Content) → IsBytes bytes → database_in bytes ≡ Ok c → bytes ≡ spelling c
+pub read_spelled : (bytes : List ℕ) (c : Content) → IsBytes bytes → database_in bytes ≡ Ok c → bytes ≡ database_spelling c
 unfolding layout_in
 read_spelled bytes c are read =
     let a = passed bytes c read in
@@ -195,8 +195,8 @@ read_spelled bytes c are read =
     let front = magic_took (fault 1 0) database_magic bytes b.0 b.1 in
     let head = behind head_from (λ h. words (head_numbers h)) head_back b.0 _ _ (subst IsBytes (ap (λ (at : At). at.whole) front.0) are) b.2 in
     front.1 ∙ ap (λ (l : List ℕ). database_magic ++ l) (ap left_of front.0 ∙ head.took.left)
-    ∙ own_spelled a.0 c a.2 head.value head.next head.bytes (body_back head.value head.next a.0 head.bytes head.is) ∙ ap spelling a.2.is
+    ∙ own_spelled a.0 c a.2 head.value head.next head.bytes (body_back head.value head.next a.0 head.bytes head.is) ∙ ap database_spelling a.2.is
 
 -- and so its spelling is read as the same
-pub read_again : (bytes : List ℕ) (c : Content) → IsBytes bytes → database_in bytes ≡ Ok c → database_in (spelling c) ≡ Ok c
+pub read_again : (bytes : List ℕ) (c : Content) → IsBytes bytes → database_in bytes ≡ Ok c → database_in (database_spelling c) ≡ Ok c
 read_again bytes c are read = subst (λ (b : List ℕ). database_in b ≡ Ok c) (read_spelled bytes c are read) read

@@ -13,8 +13,8 @@ use Rattle.prof_db.specs.declared.raw.RawNode.{RawNode}
 use Rattle.prof_db.specs.declared.raw.RawProc.{RawProc}
 use Rattle.prof_db.specs.declared.raw.RawScope.{RawScope}
 use Rattle.prof_db.specs.declared.raw.RawScope.TheVariants.{Root, Proc, Inline, Call, Stmt}
-use Rattle.prof_db.specs.Fields.{Read, not_whole, word_from}
-use Rattle.prof_db.specs.Layout.{address_from, call_from, file_from, frame_from, inline_from, line_from, node_from, proc_from, root_from, row_from, scope_from, stmt_from, text_from}
+use Rattle.prof_db.specs.Fields.{DbRead, not_whole, word_field}
+use Rattle.prof_db.specs.Layout.{stored_address_from, call_from, file_from, stored_frame_from, inline_from, line_from, node_from, proc_from, root_from, stored_row_from, scope_from, stmt_from, stored_text_from}
 use Rattle.prof_db.specs.Spelling.{text_bytes}
 
 -- ---- the numbers of what was read
@@ -41,19 +41,19 @@ raw_node_bytes n = word n.parent ++ words (raw_scope_numbers n.scope)
 
 -- ---- words and texts
 
--- a word, and what was read behind it
-pub word_behind : {Y : Type 0} (at : At) (rest : ℕ × At → Result Y DbFault) (y : Y) → IsBytes at.whole → (word_from at >>= rest) ≡ Ok y → Behind word at rest y
-word_behind at rest y bytes is = behind word_from word (number_took not_whole 4) at rest y bytes is
+-- a word, and what was read after it
+pub word_behind : {Y : Type 0} (at : At) (rest : ℕ × At → Result Y DbFault) (y : Y) → IsBytes at.whole → (word_field at >>= rest) ≡ Ok y → Behind word at rest y
+word_behind at rest y bytes is = behind word_field word (number_took not_whole 4) at rest y bytes is
 
-text_back : (at next : At) (name : List ℕ) → IsBytes at.whole → text_from at ≡ Ok (name, next) → Took at next (text_bytes name)
-unfolding text_from
+text_back : (at next : At) (name : List ℕ) → IsBytes at.whole → stored_text_from at ≡ Ok (name, next) → Took at next (text_bytes name)
+unfolding stored_text_from
 text_back at next name bytes is =
     let a = word_behind at _ _ bytes is in
     let b = bytes_took not_whole a.value a.next next name a.is in
     took_both (subst (λ (n : ℕ). Took at a.next (word n)) (sym b.1) a.took) b.0
 
-text_behind : {Y : Type 0} (at : At) (rest : List ℕ × At → Result Y DbFault) (y : Y) → IsBytes at.whole → (text_from at >>= rest) ≡ Ok y → Behind text_bytes at rest y
-text_behind at rest y bytes is = behind text_from text_bytes text_back at rest y bytes is
+text_behind : {Y : Type 0} (at : At) (rest : List ℕ × At → Result Y DbFault) (y : Y) → IsBytes at.whole → (stored_text_from at >>= rest) ≡ Ok y → Behind text_bytes at rest y
+text_behind at rest y bytes is = behind stored_text_from text_bytes text_back at rest y bytes is
 
 -- ---- procedures and files
 
@@ -73,7 +73,7 @@ file_back at next f bytes is =
     let c = text_behind b.next _ _ b.bytes b.is in
     given (λ f next. Took at next (raw_file_bytes f)) _ f _ next c.is (took_both a.took (took_both b.took c.took))
 
--- ---- numbers behind a first one that tells their form
+-- ---- numbers after a first one that tells their form
 
 -- what a value's numbers are, of which the first is this tag
 record Tagged {X : Type 0} (numbers : X → List ℕ) (at next : At) (x : X) (tag : ℕ) : Type 0 where
@@ -86,7 +86,7 @@ module _ {X : Type 0} (numbers : X → List ℕ) (at mid next : At) (x : X) (tag
   Whole = Took at next (words (numbers x))
 
   -- this form or one of the others, by its tag
-  by_tag : (n : ℕ) (one other : Read X) → cond (tag == n) one other ≡ Ok (x, next) → (one ≡ Ok (x, next) → Tagged numbers mid next x n) → (other ≡ Ok (x, next) → Whole) → Whole
+  by_tag : (n : ℕ) (one other : DbRead X) → cond (tag == n) one other ≡ Ok (x, next) → (one ≡ Ok (x, next) → Tagged numbers mid next x n) → (other ≡ Ok (x, next) → Whole) → Whole
   by_tag n one other is own others = by_test (tag == n) refl is
     where
       by_test : (b : Bool) → (tag == n) ≡ b → cond b one other ≡ Ok (x, next) → Whole
@@ -95,7 +95,7 @@ module _ {X : Type 0} (numbers : X → List ℕ) (at mid next : At) (x : X) (tag
           subst (λ (ns : List ℕ). Took at next (words ns)) (sym back.is) (took_both (subst (λ (m : ℕ). Took at mid (word m)) (eqb-true tag n same) first) back.took)
       by_test false differs read = others read
 
-  no_form : (fault : DbFault) → ◌≡◌ {A = Read X} (Err fault) (Ok (x, next)) → Whole
+  no_form : (fault : DbFault) → ◌≡◌ {A = DbRead X} (Err fault) (Ok (x, next)) → Whole
   no_form fault is = absurd cc
 
 -- ---- lines
@@ -103,15 +103,15 @@ module _ {X : Type 0} (numbers : X → List ℕ) (at mid next : At) (x : X) (tag
 abbrev LineTagged : At → At → RawLine → ℕ → Type 0
 LineTagged at next line tag = Tagged raw_line_numbers at next line tag
 
-row_back : (at next : At) (line : RawLine) → IsBytes at.whole → row_from at ≡ Ok (line, next) → LineTagged at next line 0
-unfolding row_from
+row_back : (at next : At) (line : RawLine) → IsBytes at.whole → stored_row_from at ≡ Ok (line, next) → LineTagged at next line 0
+unfolding stored_row_from
 row_back at next line bytes is =
     let a = word_behind at _ _ bytes is in
     let b = word_behind a.next _ _ a.bytes a.is in
     given (λ line next. LineTagged at next line 0) _ line _ next b.is (record { rest = a.value ∷ b.value ∷ []; is = refl; took = took_both a.took b.took })
 
-address_back : (at next : At) (line : RawLine) → IsBytes at.whole → address_from at ≡ Ok (line, next) → LineTagged at next line 1
-unfolding address_from
+address_back : (at next : At) (line : RawLine) → IsBytes at.whole → stored_address_from at ≡ Ok (line, next) → LineTagged at next line 1
+unfolding stored_address_from
 address_back at next line bytes is =
     let a = word_behind at _ _ bytes is in
     given (λ line next. LineTagged at next line 1) _ line _ next a.is (record { rest = a.value ∷ []; is = refl; took = a.took })
@@ -122,8 +122,8 @@ line_back at next line bytes is =
     let a = word_behind at _ _ bytes is in
     let mid : At = a.next in
     let kind : ℕ = a.value in
-    by_tag raw_line_numbers at mid next line kind a.took 0 (row_from mid) (if kind == 1 then address_from mid else Err (not_whole at)) a.is (λ read. row_back mid next line a.bytes read)
-    (λ more. by_tag raw_line_numbers at mid next line kind a.took 1 (address_from mid) (Err (not_whole at)) more (λ read. address_back mid next line a.bytes read)
+    by_tag raw_line_numbers at mid next line kind a.took 0 (stored_row_from mid) (if kind == 1 then stored_address_from mid else Err (not_whole at)) a.is (λ read. row_back mid next line a.bytes read)
+    (λ more. by_tag raw_line_numbers at mid next line kind a.took 1 (stored_address_from mid) (Err (not_whole at)) more (λ read. address_back mid next line a.bytes read)
     (λ fails. no_form raw_line_numbers at mid next line kind a.took (not_whole at) fails))
 
 line_behind : {Y : Type 0} (at : At) (rest : RawLine × At → Result Y DbFault) (y : Y) → IsBytes at.whole → (line_from at >>= rest) ≡ Ok y → Behind (λ line. words (raw_line_numbers line)) at rest y
@@ -140,8 +140,8 @@ root_back at next scope bytes is =
     let a = word_behind at _ _ bytes is in
     given (λ scope next. ScopeTagged at next scope 0) _ scope _ next a.is (record { rest = a.value ∷ []; is = refl; took = a.took })
 
-frame_back : (at next : At) (scope : RawScope) → IsBytes at.whole → frame_from at ≡ Ok (scope, next) → ScopeTagged at next scope 1
-unfolding frame_from
+frame_back : (at next : At) (scope : RawScope) → IsBytes at.whole → stored_frame_from at ≡ Ok (scope, next) → ScopeTagged at next scope 1
+unfolding stored_frame_from
 frame_back at next scope bytes is =
     let a = word_behind at _ _ bytes is in
     given (λ scope next. ScopeTagged at next scope 1) _ scope _ next a.is (record { rest = a.value ∷ []; is = refl; took = a.took })
@@ -172,7 +172,7 @@ scope_back at next scope bytes is =
     let mid : At = a.next in
     let by = by_tag raw_scope_numbers at mid next scope a.value a.took in
     by 0 (root_from mid) _ a.is (λ read. root_back mid next scope a.bytes read)
-    (λ m1. by 1 (frame_from mid) _ m1 (λ read. frame_back mid next scope a.bytes read)
+    (λ m1. by 1 (stored_frame_from mid) _ m1 (λ read. frame_back mid next scope a.bytes read)
     (λ m2. by 2 (inline_from mid) _ m2 (λ read. inline_back mid next scope a.bytes read)
     (λ m3. by 3 (call_from mid) _ m3 (λ read. call_back mid next scope a.bytes read)
     (λ m4. by 4 (stmt_from mid) _ m4 (λ read. stmt_back mid next scope a.bytes read)

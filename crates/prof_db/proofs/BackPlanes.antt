@@ -9,8 +9,8 @@ use Rattle.tree_types.specs.declared.content.ContextEntry.{ContextEntry}
 use Rattle.tree_types.specs.declared.content.ProfileEntry.{ProfileEntry}
 use Rattle.prof_db.specs.declared.raw.RawEntry.{RawEntry}
 use Rattle.prof_bytes.specs.Repeated.{adding, times}
-use Rattle.prof_db.specs.Fields.{Read, fault, not_whole, number_from, word_from}
-use Rattle.prof_db.specs.Layout.{column_from, entry_from, past_column, past_entry}
+use Rattle.prof_db.specs.Fields.{DbRead, fault, not_whole, number_field, word_field}
+use Rattle.prof_db.specs.Layout.{column_from, stored_entry_from, past_column, past_entry}
 use Rattle.prof_db.specs.Spelling.{context_entry_bytes, kind_number, long, profile_entry_bytes, with_count}
 use Rattle.prof_db.specs.ValueRules.{ValueField, column_fields, context_fields, fields_kept, plane_fields, profile_fields, stands_at}
 use Rattle.prof_bytes.proofs.Took.{Took, given, number_moved, stands_took, took_both, took_none}
@@ -75,7 +75,7 @@ width_entries fields wide (x ∷ xs) =
 
 -- ---- columns that were read
 
-entries_moved : {S : Type 0} (step : ℕ → S → At → Read S) → ((i : ℕ) (b a : S) (at next : At) → step i b at ≡ Ok (a, next) → moved 16 at ≡ next)
+entries_moved : {S : Type 0} (step : ℕ → S → At → DbRead S) → ((i : ℕ) (b a : S) (at next : At) → step i b at ≡ Ok (a, next) → moved 16 at ≡ next)
     → (n i : ℕ) (before after : S) (at next : At) → times step n i before at ≡ Ok (after, next) → moved (16 * n) at ≡ next
 unfolding times
 entries_moved step one zero i before after at next is = given (λ after next. moved 0 at ≡ next) before after at next is (not_moved at)
@@ -85,31 +85,31 @@ entries_moved step one (suc n) i before after at next is =
     sym (moved_twice 16 (16 * n) (16 * suc n) at far) ∙ ap (moved (16 * n)) (one i before a.0.0 at a.0.1 a.1) ∙ entries_moved step one n (i + 1) a.0.0 after a.0.1 next a.2
 
 -- two words and eight bytes
-three_moved : (at a b c : At) (k m n : ℕ) → word_from at ≡ Ok (k, a) → word_from a ≡ Ok (m, b) → number_from 8 b ≡ Ok (n, c) → moved 16 at ≡ c
+three_moved : (at a b c : At) (k m n : ℕ) → word_field at ≡ Ok (k, a) → word_field a ≡ Ok (m, b) → number_field 8 b ≡ Ok (n, c) → moved 16 at ≡ c
 three_moved at a b c k m n first second third =
     sym (moved_twice 8 8 16 at refl)
     ∙ ap (moved 8) (sym (moved_twice 4 4 8 at refl) ∙ ap (moved 4) (number_moved not_whole 4 at a k first).2 ∙ (number_moved not_whole 4 a b m second).2)
     ∙ (number_moved not_whole 8 b c n third).2
 
-entry_moved : (hart : ℕ) (at next : At) (e : RawEntry) → entry_from hart at ≡ Ok (e, next) → moved 16 at ≡ next
-unfolding entry_from
+entry_moved : (hart : ℕ) (at next : At) (e : RawEntry) → stored_entry_from hart at ≡ Ok (e, next) → moved 16 at ≡ next
+unfolding stored_entry_from
 entry_moved hart at next e is =
-    let a = bind_ok (word_from at) _ _ is in
-    let b = bind_ok (word_from a.0.1) _ _ a.2 in
-    let c = bind_ok (number_from 8 b.0.1) _ _ b.2 in
+    let a = bind_ok (word_field at) _ _ is in
+    let b = bind_ok (word_field a.0.1) _ _ a.2 in
+    let c = bind_ok (number_field 8 b.0.1) _ _ b.2 in
     given (λ e next. moved 16 at ≡ next) _ e c.0.1 next c.2 (three_moved at a.0.1 b.0.1 c.0.1 a.0.0 b.0.0 c.0.0 a.1 b.1 c.1)
 
-added_moved : (hart i : ℕ) (before after : List RawEntry) (at next : At) → adding (entry_from hart) i before at ≡ Ok (after, next) → moved 16 at ≡ next
+added_moved : (hart i : ℕ) (before after : List RawEntry) (at next : At) → adding (stored_entry_from hart) i before at ≡ Ok (after, next) → moved 16 at ≡ next
 added_moved hart i before after at next is =
-    let a = bind_ok (entry_from hart at) _ _ is in
+    let a = bind_ok (stored_entry_from hart at) _ _ is in
     given (λ after next. moved 16 at ≡ next) _ after a.0.1 next a.2 (entry_moved hart at a.0.1 a.0.0 a.1)
 
 past_moved : (i : ℕ) (before after : Unit {0}) (at next : At) → past_entry i before at ≡ Ok (after, next) → moved 16 at ≡ next
 unfolding past_entry
 past_moved i before after at next is =
-    let a = bind_ok (word_from at) _ _ is in
-    let b = bind_ok (word_from a.0.1) _ _ a.2 in
-    let c = bind_ok (number_from 8 b.0.1) _ _ b.2 in
+    let a = bind_ok (word_field at) _ _ is in
+    let b = bind_ok (word_field a.0.1) _ _ a.2 in
+    let c = bind_ok (number_field 8 b.0.1) _ _ b.2 in
     given (λ done next. moved 16 at ≡ next) tt after c.0.1 next c.2 (three_moved at a.0.1 b.0.1 c.0.1 a.0.0 b.0.0 c.0.0 a.1 b.1 c.1)
 
 -- how far a column reaches: its count, and each entry
@@ -123,20 +123,20 @@ counted_moved at mid next count is first rest =
 pub column_moved : (hart : ℕ) (before after : List RawEntry) (at next : At) → column_from hart before at ≡ Ok (after, next) → column_end at ≡ next
 unfolding column_from
 column_moved hart before after at next is =
-    let a = bind_ok (word_from at) _ _ is in
+    let a = bind_ok (word_field at) _ _ is in
     let m = number_moved not_whole 4 at a.0.1 a.0.0 a.1 in
-    counted_moved at a.0.1 next a.0.0 m.1 m.2 (entries_moved (adding (entry_from hart)) (λ i b f at next read. added_moved hart i b f at next read) a.0.0 0 before after a.0.1 next a.2)
+    counted_moved at a.0.1 next a.0.0 m.1 m.2 (entries_moved (adding (stored_entry_from hart)) (λ i b f at next read. added_moved hart i b f at next read) a.0.0 0 before after a.0.1 next a.2)
 
 pub past_column_moved : (i : ℕ) (before after : Unit {0}) (at next : At) → past_column i before at ≡ Ok (after, next) → column_end at ≡ next
 unfolding past_column
 past_column_moved i before after at next is =
-    let a = bind_ok (word_from at) _ _ is in
+    let a = bind_ok (word_field at) _ _ is in
     let m = number_moved not_whole 4 at a.0.1 a.0.0 a.1 in
     counted_moved at a.0.1 next a.0.0 m.1 m.2 (entries_moved past_entry past_moved a.0.0 0 tt after a.0.1 next a.2)
 
 -- ---- columns end where their fields do
 
-module _ {X S : Type 0} (rule : ℕ) (fields : X → List ValueField) (wide : (x : X) → width (fields x) ≡ 16) (step : ℕ → S → At → Read S)
+module _ {X S : Type 0} (rule : ℕ) (fields : X → List ValueField) (wide : (x : X) → width (fields x) ≡ 16) (step : ℕ → S → At → DbRead S)
     (sized : (i : ℕ) (b a : S) (at next : At) → step i b at ≡ Ok (a, next) → column_end at ≡ next) where
   column_same : (xs : List X) (at mid : At) → fields_kept rule (column_fields fields xs) at ≡ Ok (tt, mid) → mid ≡ column_end at
   column_same xs at mid is =

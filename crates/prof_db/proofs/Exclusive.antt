@@ -364,7 +364,7 @@ module _ (nodes : List Node) where
 pub moved_from : (old is new : List NodeCount) → old ≡ is → IsPermutation old new → IsPermutation is new
 moved_from old is new same moved = subst (λ (cs : List NodeCount). IsPermutation cs new) same moved
 
--- behind an entry that is not broken the samples are few
+-- after an entry that is not broken the samples are few
 pub passed_sum : (period harts : ℕ) (nodes : List Node) (entries : List RawEntry) (i : ℕ) → entry_breaks period harts nodes entries i ≡ false → sum_by (entry_samples period) (take (i + 1) entries) ≤ most_samples
 passed_sum period harts nodes entries i whole =
     let value : Bool = is_value period harts nodes (entry_at entries i) in

@@ -5,13 +5,13 @@ use Rattle.prof_bytes.specs.Outcome.{◌>>=◌, GivesAt}
 use Rattle.prof_db.specs.private.Marks.{Stands}
 use Rattle.prof_bytes.specs.Reading.{At, moved}
 use Rattle.prof_db.specs.declared.fault.DbFault.{DbFault}
-use Rattle.prof_db.specs.Fields.{Read, fault}
+use Rattle.prof_db.specs.Fields.{DbRead, fault}
 use Rattle.prof_db.specs.ValueRules.{ValueField, stands_at, fields_kept}
 
 abbrev Done : Type 0
-Done = Read (Unit {0})
+Done = DbRead (Unit {0})
 
--- one list of fields behind another
+-- one list of fields after another
 pub fields_append : (rule : ℕ) (a b : List ValueField) (at : At) → fields_kept rule (a ++ b) at ≡ (fields_kept rule a at >>= λ r. fields_kept rule b r.1)
 unfolding fields_kept
 fields_append rule [] b at = refl

@@ -13,7 +13,7 @@ use Rattle.prof_bytes.specs.Repeated.{times}
 use Rattle.prof_db.specs.Fields.{fault}
 use Rattle.prof_db.specs.Layout.{body_from, file_from, head_from, layout_in, node_from, past_column, proc_from}
 use Rattle.prof_db.specs.NameRules.{file_name}
-use Rattle.prof_db.specs.Spelling.{database_magic, context_entry_bytes, file_name_bytes, node_bytes, procedure_bytes, profile_entry_bytes, spelling, with_count}
+use Rattle.prof_db.specs.Spelling.{database_magic, context_entry_bytes, file_name_bytes, node_bytes, procedure_bytes, profile_entry_bytes, database_spelling, with_count}
 use Rattle.prof_bytes.specs.Number.{words}
 use Rattle.prof_db.specs.Stored.{IsWord}
 use Rattle.prof_db.proofs.BackFile.{made_of}
@@ -128,14 +128,14 @@ module _ (c : Content) (fits : ContentFits c) where
         rw (a.is, b.is, n.is, e.is, p.1, p.2) refl,
       )
 
-  pub layout_forth : (laid : IsLaid c) × (layout_in (spelling c) ≡ Ok (layout_of c laid))
-  unfolding spelling layout_in
+  pub layout_forth : (laid : IsLaid c) × (layout_in (database_spelling c) ≡ Ok (layout_of c laid))
+  unfolding database_spelling layout_in
   layout_forth =
       let numbers : List ℕ = words (c.period ∷ c.harts ∷ procs ∷ files ∷ many ∷ []) in
-      let parted : spelling c ≡ database_magic ++ (numbers ++ proc_part) =
+      let parted : database_spelling c ≡ database_magic ++ (numbers ++ proc_part) =
       seams database_magic numbers (flat_map procedure_bytes c.names.procs) (flat_map file_name_bytes c.names.files) (flat_map (node_bytes c.names) c.nodes) (profile_plane c) (context_plane c) in
-      let magic : magic_or (fault 1 0) database_magic (spelling c) ≡ Ok (record { whole = spelling c; offset = 8 }) =
+      let magic : magic_or (fault 1 0) database_magic (database_spelling c) ≡ Ok (record { whole = database_spelling c; offset = 8 }) =
       subst (λ (bytes : List ℕ). magic_or (fault 1 0) database_magic bytes ≡ Ok (record { whole = bytes; offset = 8 })) (sym parted) (magic_comes (fault 1 0) database_magic (numbers ++ proc_part) refl refl) in
-      let h = head_forth (record { whole = spelling c; offset = 8 }) proc_part (ap (drop 8) parted) in
+      let h = head_forth (record { whole = database_spelling c; offset = 8 }) proc_part (ap (drop 8) parted) in
       let b = body_forth h.0 h.2 in
       (b.0, rw (magic, h.1, b.1) refl)

@@ -21,8 +21,8 @@ use Rattle.prof_db.specs.declared.raw.RawNode.{RawNode}
 use Rattle.prof_db.specs.declared.raw.RawProc.{RawProc}
 use Rattle.prof_db.specs.declared.raw.RawScope.{RawScope}
 use Rattle.prof_db.specs.declared.raw.RawScope.TheVariants.{Root, Proc, Inline, Call, Stmt}
-use Rattle.prof_db.specs.Fields.{not_whole, word_from}
-use Rattle.prof_db.specs.Layout.{address_from, call_from, file_from, frame_from, inline_from, line_from, node_from, proc_from, root_from, row_from, scope_from, stmt_from, text_from}
+use Rattle.prof_db.specs.Fields.{not_whole, word_field}
+use Rattle.prof_db.specs.Layout.{stored_address_from, call_from, file_from, stored_frame_from, inline_from, line_from, node_from, proc_from, root_from, stored_row_from, scope_from, stmt_from, stored_text_from}
 use Rattle.prof_db.specs.NameRules.{file_name}
 use Rattle.prof_db.specs.Spelling.{file_name_bytes, file_index, line_numbers, node_bytes, proc_index, procedure_bytes, scope_numbers, text_bytes}
 use Rattle.prof_bytes.specs.Number.{word, words}
@@ -33,11 +33,11 @@ use Rattle.prof_bytes.proofs.Written.{Comes, bytes_come, word_comes}
 
 -- ---- words and texts
 
-pub word_forth : (at : At) (n : ℕ) (rest : List ℕ) → IsWord n → left_of at ≡ word n ++ rest → Comes (word_from at) n rest
+pub word_forth : (at : At) (n : ℕ) (rest : List ℕ) → IsWord n → left_of at ≡ word n ++ rest → Comes (word_field at) n rest
 word_forth at n rest few left = word_comes not_whole at n rest few left
 
-text_forth : (at : At) (name rest : List ℕ) → length name < 2 ^ 32 → left_of at ≡ text_bytes name ++ rest → Comes (text_from at) name rest
-unfolding text_from
+text_forth : (at : At) (name rest : List ℕ) → length name < 2 ^ 32 → left_of at ≡ text_bytes name ++ rest → Comes (stored_text_from at) name rest
+unfolding stored_text_from
 text_forth at name rest short left =
     let a = word_forth at (length name) (name ++ rest) short (left ∙ append_assoc (word (length name)) name rest) in
     let b = bytes_come not_whole a.0 name rest a.2 in
@@ -115,7 +115,7 @@ abbrev pub AreWords : List ℕ → Type 0
 AreWords ns = All IsWord ns
 
 line_forth : (at : At) (line : RawLine) (rest : List ℕ) → AreWords (raw_line_numbers line) → left_of at ≡ words (raw_line_numbers line) ++ rest → Comes (line_from at) line rest
-unfolding line_from row_from address_from
+unfolding line_from stored_row_from stored_address_from
 line_forth at (Row file line) rest fits left =
     let a = word_forth at 0 _ (omega arith) left in
     let b = word_forth a.0 file _ (fits 1 0 (omega arith)) a.2 in
@@ -129,7 +129,7 @@ line_forth at (Address address) rest fits left =
 -- ---- scopes
 
 scope_forth : (at : At) (s : RawScope) (rest : List ℕ) → AreWords (raw_scope_numbers s) → left_of at ≡ words (raw_scope_numbers s) ++ rest → Comes (scope_from at) s rest
-unfolding scope_from root_from frame_from inline_from call_from stmt_from
+unfolding scope_from root_from stored_frame_from inline_from call_from stmt_from
 scope_forth at (Root kind) rest fits left =
     let a = word_forth at 0 _ (omega arith) left in
     let b = word_forth a.0 kind rest (fits 1 0 (omega arith)) a.2 in

@@ -12,8 +12,8 @@ use Rattle.tree_types.specs.declared.content.Kind.TheVariants.{Exclusive, Frame,
 use Rattle.tree_types.specs.declared.content.ProfileEntry.{ProfileEntry}
 use Rattle.prof_db.specs.declared.raw.RawEntry.{RawEntry}
 use Rattle.prof_bytes.specs.Repeated.{times}
-use Rattle.prof_db.specs.Fields.{Read, fault, not_whole}
-use Rattle.prof_db.specs.Layout.{column_from, entry_from, past_column, past_entry}
+use Rattle.prof_db.specs.Fields.{DbRead, fault, not_whole}
+use Rattle.prof_db.specs.Layout.{column_from, stored_entry_from, past_column, past_entry}
 use Rattle.prof_db.specs.Spelling.{context_entry_bytes, kind_number, profile_entry_bytes, with_count}
 use Rattle.prof_db.specs.Stored.{IsWord}
 use Rattle.prof_db.specs.ValueRules.{ValueField, column_fields, context_fields, fields_kept, plane_fields, profile_fields, stands_at}
@@ -43,8 +43,8 @@ pub record EntryFits (e : ProfileEntry) : Type 0 where
   pub node : IsWord e.node
   pub value : e.value < 2 ^ 64
 
-entry_forth : (hart : ℕ) (at : At) (e : ProfileEntry) (rest : List ℕ) → EntryFits e → left_of at ≡ profile_entry_bytes e ++ rest → Reads bare_entry (entry_from hart at) (raw_entry hart e) rest
-unfolding entry_from
+entry_forth : (hart : ℕ) (at : At) (e : ProfileEntry) (rest : List ℕ) → EntryFits e → left_of at ≡ profile_entry_bytes e ++ rest → Reads bare_entry (stored_entry_from hart at) (raw_entry hart e) rest
+unfolding stored_entry_from
 entry_forth hart at e rest fits left =
     let few = fits.value in
     let a = word_forth at e.node _ fits.node left in
@@ -73,7 +73,7 @@ column_forth : (hart : ℕ) (before : List RawEntry) (at : At) (column : List Pr
 unfolding column_from
 column_forth hart before at column rest fits left =
     let a = word_forth at (length column) (flat_map profile_entry_bytes column ++ rest) fits.short (left ∙ append_assoc (word (length column)) (flat_map profile_entry_bytes column) rest) in
-    let b = items_come (entry_from hart) bare_entry (raw_entry hart) profile_entry_bytes EntryFits (entry_forth hart) column 0 before a.0 rest fits.entries a.2 in
+    let b = items_come (stored_entry_from hart) bare_entry (raw_entry hart) profile_entry_bytes EntryFits (entry_forth hart) column 0 before a.0 rest fits.entries a.2 in
     record { xs = b.xs; next = b.next; is = rw a.1 b.is; same = b.same; left = b.left }
 
 pub record PlaneRead (n hart : ℕ) (before : List RawEntry) (at : At) (columns : List (List ProfileEntry)) (rest : List ℕ) : Type 0 where
@@ -115,7 +115,7 @@ past_forth i at e rest fits left =
     (c.0, rw (a.1, b.1, c.1) refl, c.2)
 
 -- steps that leave nothing but the place
-module _ {X : Type 0} (step : ℕ → Unit {0} → At → Read (Unit {0})) (spelled : X → List ℕ) (Fits : X → Type 0)
+module _ {X : Type 0} (step : ℕ → Unit {0} → At → DbRead (Unit {0})) (spelled : X → List ℕ) (Fits : X → Type 0)
     (one : (i : ℕ) (at : At) (x : X) (rest : List ℕ) → Fits x → left_of at ≡ spelled x ++ rest → Comes (step i tt at) tt rest) where
   passed_forth : (xs : List X) (i : ℕ) (at : At) (rest : List ℕ) → All Fits xs → left_of at ≡ flat_map spelled xs ++ rest → Comes (times step (length xs) i tt at) tt rest
   unfolding times

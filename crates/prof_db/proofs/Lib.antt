@@ -10,6 +10,7 @@ pub mod Exclusive
 pub mod Contents
 pub mod Broken
 pub mod LineUp
+pub mod LineRoom
 pub mod OwnPaths
 pub mod OwnNames
 pub mod Passed

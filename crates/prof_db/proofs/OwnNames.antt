@@ -10,6 +10,7 @@ use Rattle.std.proofs.lemmas.Cmp.{nat_cmp_total, tied_itself}
 use Rattle.std.proofs.lemmas.List.{get_or_default, get_or-map, length-map, same_lists}
 use Rattle.std.proofs.lemmas.List.Elements.{All-append, All-cons, All-head, All-nil, All-tail, Contains-get_or}
 use Rattle.std.proofs.lemmas.List.Folds.{Any-from_list_any, flat_map-map}
+use Rattle.scope_types.specs.Limits.{most_name_bytes}
 use Rattle.scope_types.specs.CallPaths.{HartPath}
 use Rattle.scope_types.specs.Words.{proc_words}
 use Rattle.scope_types.specs.declared.scope.ProcId.{ProcId}
@@ -31,7 +32,7 @@ use Rattle.tree_types.proofs.NodeLaws.{sorted_from_pairs}
 use Rattle.tree_types.proofs.PathSteps.{as_many_paths}
 use Rattle.tree_types.proofs.Selecting.{map_of_flat_map}
 use Rattle.tree_types.proofs.Sorting.{bool_same, has, has_ascending, has-from_Contains, Contains-from_has, same_sorted, sorted_ascending}
-use Rattle.prof_db.specs.NameRules.{file_at, file_breaks, file_is_wrong, file_name, files_ascend, files_kept, is_among, is_valid_proc, line_file, most_name_bytes, names_in, pair_less, proc_at, proc_breaks, proc_id, proc_is_wrong, raw_proc_name, procs_ascend, procs_kept, scope_file, scope_proc, used_files, used_procs}
+use Rattle.prof_db.specs.NameRules.{file_at, file_breaks, file_is_wrong, file_name, files_ascend, files_kept, is_among, is_valid_proc, line_file, names_in, pair_less, proc_at, proc_breaks, proc_id, proc_is_wrong, raw_proc_name, procs_ascend, procs_kept, scope_file, scope_proc, used_files, used_procs}
 use Rattle.prof_db.specs.NodeRules.{in_range, line_in_range, line_id, node_of, scope_of}
 use Rattle.prof_db.specs.declared.raw.Layout.{Layout}
 use Rattle.prof_db.specs.declared.raw.RawFile.{RawFile}

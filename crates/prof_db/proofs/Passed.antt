@@ -14,7 +14,7 @@ use Rattle.prof_db.specs.Rules.{content_in, database_in, nodes_in, planes_in, va
 use Rattle.prof_db.specs.ValueRules.{context_fields, entries_kept, fields_kept, plane_fields, profile_fields, sampled_nodes, statements_kept}
 use Rattle.prof_bytes.proofs.Outcomes.{bind_ok, guard_ok, ok_same}
 
--- ---- the rules, one behind the other
+-- ---- the rules, one after the other
 
 abbrev pub own_nodes : Layout → List Node
 own_nodes layout = map (node_of (names_in layout)) layout.nodes

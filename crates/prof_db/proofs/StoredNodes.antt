@@ -121,7 +121,7 @@ module _ (c : Content) (s : IsStored c) where
 
   -- ---- what is below them
 
-  -- the node behind a prefix that is longer by one
+  -- the node after a prefix that is longer by one
   child_of : (i : ℕ) → i < length ns → (u : Scope) → Contains (nodes ps) (path i ++ u ∷ []) → (j : ℕ) × (j < length ns) × (parent j ≡ i)
   child_of i lt u there =
       let long = as_many_paths ns in

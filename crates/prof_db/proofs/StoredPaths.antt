@@ -34,7 +34,7 @@ use Rattle.tree_types.proofs.PathsAgain.{paths_alike}
 use Rattle.tree_types.proofs.TreeLaws.{nodes_listed}
 use Rattle.prof_db.specs.NodeRules.{stands_under}
 use Rattle.prof_db.specs.Rules.{database_in}
-use Rattle.prof_db.specs.Spelling.{spelling}
+use Rattle.prof_db.specs.Spelling.{database_spelling}
 use Rattle.prof_db.specs.Stored.{AreStored, HasWordNumbers, IsNamed, IsShort, IsStored, IsWord, is_call_path, leads_to_statement}
 use Rattle.prof_db.proofs.StoredRules.{stored_read}
 
@@ -170,9 +170,9 @@ module _ (period harts : ℕ) (naming : Naming) (ps : List HartPath) (s : AreSto
       }
 
   -- it is read as it was written, and has the paths' table
-  pub content_read : database_in (spelling (content_of period harts naming ps)) ≡ Ok (content_of period harts naming ps)
+  pub content_read : database_in (database_spelling (content_of period harts naming ps)) ≡ Ok (content_of period harts naming ps)
   content_read = stored_read (content_of period harts naming ps) content_stored
 
-  pub content_tabled : IfOk (database_in (spelling (content_of period harts naming ps))) (λ c. content_table c ≡ top_down period harts naming ps)
+  pub content_tabled : IfOk (database_in (database_spelling (content_of period harts naming ps))) (λ c. content_table c ≡ top_down period harts naming ps)
   content_tabled =
       subst (λ r. IfOk r (λ c. content_table c ≡ top_down period harts naming ps)) (sym content_read) (table_is period harts naming ps s.some_period few some s.below)

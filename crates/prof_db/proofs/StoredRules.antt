@@ -11,7 +11,7 @@ use Rattle.std.proofs.lemmas.List.Folds.{flat_map-map, list_any_at}
 use Rattle.prof_bytes.proofs.Tests.{and_false}
 use Rattle.prof_bytes.specs.Reading.{At}
 use Rattle.scope_types.specs.CallPaths.{HartPath}
-use Rattle.scope_types.specs.Limits.{most_samples}
+use Rattle.scope_types.specs.Limits.{most_name_bytes, most_samples}
 use Rattle.scope_types.specs.declared.scope.ProcId.{ProcId}
 use Rattle.scope_types.specs.declared.scope.ProcId.TheVariants.{Die, Sym, Nameless}
 use Rattle.tree_types.specs.Naming.{proc_order, file_order}
@@ -36,10 +36,10 @@ use Rattle.prof_db.specs.declared.raw.RawNode.{RawNode}
 use Rattle.prof_db.specs.declared.raw.RawProc.{RawProc}
 use Rattle.prof_db.specs.Broken.{first_broken}
 use Rattle.prof_db.specs.Fields.{fault}
-use Rattle.prof_db.specs.NameRules.{file_at, file_breaks, file_name, files_ascend, files_kept, head_kept, is_among, is_valid_proc, most_name_bytes, names_in, names_kept, pair_less, proc_at, proc_breaks, proc_id, raw_proc_name, procs_ascend, procs_kept, scope_file, scope_proc, used_files, used_procs}
+use Rattle.prof_db.specs.NameRules.{file_at, file_breaks, file_name, files_ascend, files_kept, head_kept, is_among, is_valid_proc, names_in, names_kept, pair_less, proc_at, proc_breaks, proc_id, raw_proc_name, procs_ascend, procs_kept, scope_file, scope_proc, used_files, used_procs}
 use Rattle.prof_db.specs.NodeRules.{in_preorder, in_range, is_placed, is_statement, node_breaks, node_of, nodes_kept, parents_of, raw_node_at}
 use Rattle.prof_db.specs.Rules.{content_in, database_in, nodes_in, planes_in, values_in}
-use Rattle.prof_db.specs.Spelling.{file_index, proc_index, spelling}
+use Rattle.prof_db.specs.Spelling.{file_index, proc_index, database_spelling}
 use Rattle.prof_db.specs.Stored.{IsNamed, IsStored}
 use Rattle.prof_db.specs.ValueRules.{context_fields, entry_count, entries_ascend, entries_kept, entry_at, entry_breaks, fields_kept, is_exclusive_entry, is_value, plane_fields, profile_fields, sampled_nodes, entry_samples, statement_breaks, statements_kept, tree_of}
 use Rattle.prof_db.proofs.BackPlanes.{context_bytes, profile_bytes}
@@ -345,7 +345,7 @@ module _ (c : Content) (s : IsStored c) (laid : IsLaid c) where
   own_nodes_ok = (λ i. nodes_in layout (names_are i) (map (node_of (names_are i)) laid.nodes)) ∙ ap (nodes_in layout names) nodes_same ∙ nodes_pass
 
 -- what is written of a stored content is read as that content
-pub stored_read : (c : Content) → IsStored c → database_in (spelling c) ≡ Ok c
+pub stored_read : (c : Content) → IsStored c → database_in (database_spelling c) ≡ Ok c
 unfolding database_in
 stored_read c s =
     let laid = layout_forth c (content_fits c s) in

@@ -1,12 +1,13 @@
--- The fields of a database, read one after another up to the first that is not whole.
+-- The fields of a database in this project's format (docs/FORMATS.md, Database), read one after another up to the first
+-- that is not whole.
 use Rattle.std.specs.Prelude.{ℕ, List, Result}
 use Rattle.prof_bytes.specs.Format.{bytes_or, number_or}
 use Rattle.prof_bytes.specs.Reading.{At}
 use Rattle.prof_db.specs.declared.fault.DbFault.{DbFault}
 
 -- a value, and where the next field begins; or the first fault
-abbrev pub Read : Type 0 → Type 0
-Read X = Result (X × At) DbFault
+abbrev pub DbRead : Type 0 → Type 0
+DbRead X = Result (X × At) DbFault
 
 abbrev pub fault : ℕ → ℕ → DbFault
 fault rule offset = record { offset = offset; rule = rule }
@@ -15,13 +16,13 @@ fault rule offset = record { offset = offset; rule = rule }
 abbrev pub not_whole : At → DbFault
 not_whole at = fault 2 at.offset
 
--- a number of so many bytes
-abbrev pub number_from : ℕ → At → Read ℕ
-number_from width at = number_or not_whole width at
+-- a number of `width` bytes
+abbrev pub number_field : ℕ → At → DbRead ℕ
+number_field width at = number_or not_whole width at
 
-abbrev pub word_from : At → Read ℕ
-word_from at = number_from 4 at
+abbrev pub word_field : At → DbRead ℕ
+word_field at = number_field 4 at
 
--- so many bytes as they stand
-abbrev pub bytes_from : ℕ → At → Read (List ℕ)
-bytes_from count at = bytes_or not_whole count at
+-- `count` bytes as they stand
+abbrev pub bytes_field : ℕ → At → DbRead (List ℕ)
+bytes_field count at = bytes_or not_whole count at

@@ -1,4 +1,5 @@
--- How the bytes of a database, version 1, are cut into fields: its first two rules.
+-- How the bytes of a database are cut into fields, by the first two rules of this project's format, version 1
+-- (docs/FORMATS.md, Database).
 use Rattle.std.specs.Prelude.{ℕ, ◌==◌, List, [], Result, Ok, Err, if◌then◌else◌}
 use Rattle.prof_bytes.specs.Format.{ended_or, magic_or}
 use Rattle.prof_bytes.specs.Outcome.{◌>>=◌}
@@ -15,125 +16,126 @@ use Rattle.prof_db.specs.declared.raw.RawScope.TheVariants.{Root, Proc, Inline, 
 use Rattle.prof_db.specs.declared.raw.RawNode.{RawNode}
 use Rattle.prof_db.specs.declared.raw.RawEntry.{RawEntry}
 use Rattle.prof_bytes.specs.Repeated.{times, adding}
-use Rattle.prof_db.specs.Fields.{Read, fault, not_whole, number_from, word_from, bytes_from}
+use Rattle.prof_db.specs.Fields.{DbRead, fault, not_whole, number_field, word_field, bytes_field}
 use Rattle.prof_db.specs.Spelling.{database_magic}
 
--- ---- the second rule: each field is whole, each scope and each line is of a form that there is, and nothing follows
+-- ---- the second rule: each field is whole, each scope has a tag from 0 to 4 and each line one of 0 or 1, and nothing
+-- follows
 
-unfoldable pub head_from : At → Read Head
+unfoldable pub head_from : At → DbRead Head
 head_from at = do
-  (period, next) ← word_from at
-  (harts, next) ← word_from next
-  (procs, next) ← word_from next
-  (files, next) ← word_from next
-  (nodes, next) ← word_from next
+  (period, next) ← word_field at
+  (harts, next) ← word_field next
+  (procs, next) ← word_field next
+  (files, next) ← word_field next
+  (nodes, next) ← word_field next
   Ok (record { period = period; harts = harts; procs = procs; files = files; nodes = nodes }, next)
 
 -- the length, and the bytes
-unfoldable pub text_from : At → Read (List ℕ)
-text_from at = do
-  (size, next) ← word_from at
-  bytes_from size next
+unfoldable pub stored_text_from : At → DbRead (List ℕ)
+stored_text_from at = do
+  (size, next) ← word_field at
+  bytes_field size next
 
-unfoldable pub proc_from : At → Read RawProc
+unfoldable pub proc_from : At → DbRead RawProc
 proc_from at = do
-  (kind, next) ← word_from at
-  (number, next) ← word_from next
-  (name, next) ← text_from next
+  (kind, next) ← word_field at
+  (number, next) ← word_field next
+  (name, next) ← stored_text_from next
   Ok (record { offset = at.offset; kind = kind; number = number; name = name }, next)
 
-unfoldable pub file_from : At → Read RawFile
+unfoldable pub file_from : At → DbRead RawFile
 file_from at = do
-  (table, next) ← word_from at
-  (file, next) ← word_from next
-  (name, next) ← text_from next
+  (table, next) ← word_field at
+  (file, next) ← word_field next
+  (name, next) ← stored_text_from next
   Ok (record { offset = at.offset; table = table; file = file; name = name }, next)
 
 -- a file and a line number
-unfoldable pub row_from : At → Read RawLine
-row_from at = do
-  (file, next) ← word_from at
-  (line, next) ← word_from next
+unfoldable pub stored_row_from : At → DbRead RawLine
+stored_row_from at = do
+  (file, next) ← word_field at
+  (line, next) ← word_field next
   Ok (Row file line, next)
 
-unfoldable pub address_from : At → Read RawLine
-address_from at = do
-  (address, next) ← word_from at
+unfoldable pub stored_address_from : At → DbRead RawLine
+stored_address_from at = do
+  (address, next) ← word_field at
   Ok (Address address, next)
 
 -- 0 and a row, or 1 and an address
-unfoldable pub line_from : At → Read RawLine
+unfoldable pub line_from : At → DbRead RawLine
 line_from at = do
-  (kind, next) ← word_from at
-  if kind == 0 then row_from next else if kind == 1 then address_from next else Err (not_whole at)
+  (kind, next) ← word_field at
+  if kind == 0 then stored_row_from next else if kind == 1 then stored_address_from next else Err (not_whole at)
 
-unfoldable pub root_from : At → Read RawScope
+unfoldable pub root_from : At → DbRead RawScope
 root_from at = do
-  (kind, next) ← word_from at
+  (kind, next) ← word_field at
   Ok (Root kind, next)
 
-unfoldable pub frame_from : At → Read RawScope
-frame_from at = do
-  (p, next) ← word_from at
+unfoldable pub stored_frame_from : At → DbRead RawScope
+stored_frame_from at = do
+  (p, next) ← word_field at
   Ok (Proc p, next)
 
-unfoldable pub inline_from : At → Read RawScope
+unfoldable pub inline_from : At → DbRead RawScope
 inline_from at = do
-  (p, next) ← word_from at
+  (p, next) ← word_field at
   (line, next) ← line_from next
   Ok (Inline p line, next)
 
-unfoldable pub call_from : At → Read RawScope
+unfoldable pub call_from : At → DbRead RawScope
 call_from at = do
   (line, next) ← line_from at
   Ok (Call line, next)
 
-unfoldable pub stmt_from : At → Read RawScope
+unfoldable pub stmt_from : At → DbRead RawScope
 stmt_from at = do
   (line, next) ← line_from at
   Ok (Stmt line, next)
 
 -- a tag from 0 to 4, and what it says
-unfoldable pub scope_from : At → Read RawScope
+unfoldable pub scope_from : At → DbRead RawScope
 scope_from at = do
-  (tag, next) ← word_from at
-  if tag == 0 then root_from next else if tag == 1 then frame_from next else if tag == 2 then inline_from next
+  (tag, next) ← word_field at
+  if tag == 0 then root_from next else if tag == 1 then stored_frame_from next else if tag == 2 then inline_from next
       else if tag == 3 then call_from next else if tag == 4 then stmt_from next else Err (not_whole at)
 
-unfoldable pub node_from : At → Read RawNode
+unfoldable pub node_from : At → DbRead RawNode
 node_from at = do
-  (parent, next) ← word_from at
+  (parent, next) ← word_field at
   (scope, next) ← scope_from next
   Ok (record { offset = at.offset; parent = parent; scope = scope }, next)
 
 -- an entry of a hart's column
-unfoldable pub entry_from : ℕ → At → Read RawEntry
-entry_from hart at = do
-  (node, next) ← word_from at
-  (kind, next) ← word_from next
-  (value, next) ← number_from 8 next
+unfoldable pub stored_entry_from : ℕ → At → DbRead RawEntry
+stored_entry_from hart at = do
+  (node, next) ← word_field at
+  (kind, next) ← word_field next
+  (value, next) ← number_field 8 next
   Ok (record { offset = at.offset; hart = hart; node = node; kind = kind; value = value }, next)
 
--- a hart's column behind those before: how many entries, and each
-unfoldable pub column_from : ℕ → List RawEntry → At → Read (List RawEntry)
+-- a hart's column, after the entries of those before: how many entries, and each
+unfoldable pub column_from : ℕ → List RawEntry → At → DbRead (List RawEntry)
 column_from hart before at = do
-  (count, next) ← word_from at
-  times (adding (entry_from hart)) count 0 before next
+  (count, next) ← word_field at
+  times (adding (stored_entry_from hart)) count 0 before next
 
 -- an entry of a node's column, which the seventh rule speaks of: two words and eight bytes
-unfoldable pub past_entry : ℕ → Unit {0} → At → Read (Unit {0})
+unfoldable pub past_entry : ℕ → Unit {0} → At → DbRead (Unit {0})
 past_entry i before at = do
-  (kind, next) ← word_from at
-  (hart, next) ← word_from next
-  (value, next) ← number_from 8 next
+  (kind, next) ← word_field at
+  (hart, next) ← word_field next
+  (value, next) ← number_field 8 next
   Ok (tt, next)
 
-unfoldable pub past_column : ℕ → Unit {0} → At → Read (Unit {0})
+unfoldable pub past_column : ℕ → Unit {0} → At → DbRead (Unit {0})
 past_column i before at = do
-  (count, next) ← word_from at
+  (count, next) ← word_field at
   times past_entry count 0 tt next
 
--- the lists that a head counts, the planes, and nothing behind them
+-- the lists that a head counts, the planes, and nothing after them
 unfoldable pub body_from : Head → At → Result Layout DbFault
 body_from head at = do
   (procs, next) ← times (adding proc_from) head.procs 0 [] at
@@ -152,7 +154,7 @@ body_from head at = do
     contexts = contexts;
   }) end
 
--- the first rule is that of the first eight bytes
+-- the first rule: a database begins with the format's eight bytes
 unfoldable pub layout_in : List ℕ → Result Layout DbFault
 layout_in bytes = do
   next ← magic_or (fault 1 0) database_magic bytes

@@ -8,4 +8,5 @@ pub mod NodeRules
 pub mod ValueRules
 pub mod Rules
 pub mod Stored
+pub mod Laws
 pub mod private

@@ -1,11 +1,14 @@
--- The third and the fourth rule of a database: the head, and the names.
+-- The third and the fourth rule of a database in this project's format (docs/FORMATS.md, Database): the head, and the
+-- names.
 use Rattle.std.specs.Prelude.{ℕ, ◌-◌, ◌==◌, ◌&&◌, ◌||◌, not, Bool, nat_eq, nat_le, nat_lt, List, [], ◌∷◌, length, map}
-use Rattle.std.specs.Prelude.{slice_index_or, codes, Ok, Err, if◌then◌else◌}
+use Rattle.std.specs.Prelude.{slice_index_or, Ok, Err, if◌then◌else◌}
 use Rattle.std.specs.List.{flat_map, list_any}
 use Rattle.std.specs.Cmp.Lexicographic.{pointwise}
 use Rattle.prof_bytes.specs.Outcome.{◌>>=◌}
 use Rattle.scope_types.specs.declared.scope.ProcId.{ProcId}
 use Rattle.scope_types.specs.declared.scope.ProcId.TheVariants.{Die, Sym, Nameless}
+use Rattle.scope_types.specs.Limits.{most_name_bytes, most_profile_harts}
+use Rattle.tree_types.specs.Naming.{unknown_procedure}
 use Rattle.tree_types.specs.Nodes.{no_parent}
 use Rattle.tree_types.specs.declared.content.Names.{Names}
 use Rattle.tree_types.specs.declared.content.ProcName.{ProcName}
@@ -21,17 +24,17 @@ use Rattle.prof_db.specs.declared.raw.RawNode.{RawNode}
 use Rattle.prof_db.specs.Fields.{fault}
 use Rattle.prof_db.specs.Broken.{Kept, first_broken}
 
--- ---- the third rule: a period of at least 1, 1 to 16 harts, and few enough nodes that each has a number other than no
--- parent's, which any file below 48 GiB has
+-- ---- the third rule: a period of at least 1, 1 to 16 harts, and fewer nodes than the number that stands for no
+-- parent, which any file below 48 GiB has: by the second rule it holds all its nodes
 
 abbrev pub head_kept : ℕ → ℕ → ℕ → Kept
 head_kept period harts nodes = if period == 0 then Err (fault 3 8)
-    else if harts == 0 || nat_lt 16 harts then Err (fault 3 12)
+    else if harts == 0 || nat_lt most_profile_harts harts then Err (fault 3 12)
     else if nat_le no_parent nodes then Err (fault 3 24) else Ok tt
 
 -- ---- the fourth rule: procedures and files strictly ascend, have short names, and are used
 
--- pairs of numbers, by the first, then the second
+-- pairs of numbers, by the first, then the second, as `slice_cmp` compares lists of the two
 abbrev pub pair_less : ℕ → ℕ → ℕ → ℕ → Bool
 pair_less a b c d = nat_lt a c || (a == c && nat_lt b d)
 
@@ -65,28 +68,26 @@ used_files nodes = flat_map (λ n. scope_file n.scope) nodes
 abbrev pub is_among : List ℕ → ℕ → Bool
 is_among numbers i = list_any (λ k. k == i) numbers
 
--- the longest name
-abbrev pub most_name_bytes : ℕ
-most_name_bytes = 4096
-
 abbrev pub proc_at : List RawProc → ℕ → RawProc
 proc_at procs i = slice_index_or procs i (record { offset = 0; kind = 0; number = 0; name = [] })
 
 abbrev pub file_at : List RawFile → ℕ → RawFile
 file_at files i = slice_index_or files i (record { offset = 0; table = 0; file = 0; name = [] })
 
--- a kind that there is; the procedure without a name has no number, and its name is the one that reports show
+-- a kind from 0 to 2; the procedure without a name, of kind 2, has the number 0 and the name that reports show
 abbrev pub is_valid_proc : RawProc → Bool
 is_valid_proc p = nat_lt p.kind 2
-    || (p.kind == 2 && (p.number == 0 && pointwise nat_eq p.name (codes "<unknown procedure>")))
+    || (p.kind == 2 && (p.number == 0 && pointwise nat_eq p.name unknown_procedure))
 
+-- by kind, then by number: the order of procedures (`proc_order` in tree_types), where the kinds are valid
 abbrev pub procs_ascend : RawProc → RawProc → Bool
 procs_ascend p q = pair_less p.kind p.number q.kind q.number
 
+-- by line table, then by number in it: the order of files (`file_order` in tree_types)
 abbrev pub files_ascend : RawFile → RawFile → Bool
 files_ascend f g = pair_less f.table f.file g.table g.file
 
--- an entry that does not come behind the one before it, or is wrong by itself
+-- an entry that does not come after the one before it, or is wrong by itself
 abbrev pub proc_is_wrong : List RawProc → ℕ → Bool
 proc_is_wrong procs i =
     (nat_lt 0 i && not (procs_ascend (proc_at procs (i - 1)) (proc_at procs i)))

@@ -1,4 +1,4 @@
--- The fifth rule of a database: the nodes stand in preorder.
+-- The fifth rule of a database in this project's format (docs/FORMATS.md, Database): the nodes stand in preorder.
 use Rattle.std.specs.Prelude.{ℕ, zero, suc, ◌==◌, ◌&&◌, ◌||◌, not, Bool, true, false, nat_lt, List, [], ◌∷◌, length}
 use Rattle.std.specs.Prelude.{map, slice_index_or, if◌then◌else◌}
 use Rattle.std.specs.List.{list_any}
@@ -47,7 +47,7 @@ scope_of names (Stmt line) = scopes.Stmt (line_id names line)
 abbrev pub node_of : Names → RawNode → Node
 node_of names n = record { parent = n.parent; scope = scope_of names n.scope }
 
--- procedures and files are in range, and a root is of a kind that there is
+-- procedures and files are in range, and a root has a kind of 0 or 1
 abbrev pub line_in_range : ℕ → RawLine → Bool
 line_in_range files (Row f line) = nat_lt f files
 line_in_range files (Address address) = true
@@ -61,7 +61,8 @@ in_range procs files (Stmt line) = line_in_range files line
 
 -- ---- preorder
 
--- a node, its parent, that one's parent, and so on, up to a root: at most so many
+-- a node, its parent, that one's parent, and so on, up to a root: at most `most` of them. Where parents stand before
+-- their nodes, i + 1 are enough (`LinesHaveRoom` in Laws)
 abbrev pub line_up : List Node → ℕ → ℕ → List ℕ
 line_up nodes zero i = []
 line_up nodes (suc most) i = if nat_lt i (length nodes) then i ∷ line_up nodes most (node_at nodes i).parent else []
@@ -70,7 +71,7 @@ line_up nodes (suc most) i = if nat_lt i (length nodes) then i ∷ line_up nodes
 abbrev pub siblings_ascend : Node → Node → Bool
 siblings_ascend m n = m.parent == n.parent && is_lt (scope_order m.scope n.scope)
 
--- a node is the first child of the node before it, or a sibling of that node or of one of its ancestors, behind which
+-- a node is the first child of the node before it, or a sibling of that node or of one of its ancestors, after which
 -- its scope comes; the first node is a root
 abbrev pub in_preorder : List Node → ℕ → Bool
 in_preorder nodes zero = (node_at nodes 0).parent == no_parent

@@ -1,4 +1,5 @@
--- What the bytes of a database, version 1, say, or the first of its seven rules that they break.
+-- What the bytes of a database say, or the first that they break of the seven rules of this project's format, version 1
+-- (docs/FORMATS.md, Database).
 use Rattle.std.specs.Prelude.{ℕ, List, length, map, Result, Ok}
 use Rattle.prof_bytes.specs.Outcome.{◌>>=◌}
 use Rattle.tree_types.specs.declared.content.Content.{Content}
@@ -33,13 +34,13 @@ planes_in layout content = do
   (done, next) ← fields_kept 7 (plane_fields context_fields content.contexts) layout.contexts
   Ok content
 
--- the sixth rule's first part, and those behind it
+-- the sixth rule's first part, and what comes after it
 unfoldable pub values_in : Layout → Content → Result Content DbFault
 values_in layout content = do
   done ← entries_kept layout.period layout.harts content.nodes layout.entries
   planes_in layout content
 
--- the fifth rule, and those behind it
+-- the fifth rule, and those after it
 unfoldable pub nodes_in : Layout → Names → List Node → Result Content DbFault
 nodes_in layout names nodes = do
   done ← nodes_kept (length layout.procs) (length layout.files) layout.nodes nodes

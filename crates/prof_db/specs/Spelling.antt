@@ -1,4 +1,4 @@
--- The bytes of a database, version 1.
+-- The bytes of a database in this project's format, version 1 (docs/FORMATS.md, Database).
 use Rattle.std.specs.Prelude.{ℕ, List, [], ◌∷◌, ◌++◌, length, codes}
 use Rattle.std.specs.List.{flat_map, position_or_len}
 use Rattle.prof_bytes.specs.Number.{number_bytes, word, words}
@@ -77,8 +77,8 @@ abbrev pub database_head : Content → List ℕ
 database_head c = database_magic
     ++ words (c.period ∷ c.harts ∷ length c.names.procs ∷ length c.names.files ∷ length c.nodes ∷ [])
 
-unfoldable pub spelling : Content → List ℕ
-spelling c =
+unfoldable pub database_spelling : Content → List ℕ
+database_spelling c =
     database_head c
     ++ flat_map procedure_bytes c.names.procs
     ++ flat_map file_name_bytes c.names.files

@@ -1,18 +1,18 @@
--- The contents that are read of their databases as they were written.
-use Rattle.std.specs.Prelude.{◌≡◌, ◌≤◌, ◌<◌, ◌^◌, ◌&&◌, ℕ, Bool, true, false, List, [], ◌∷◌, length, codes, All}
+-- The contents that are read of their databases, in this project's format (docs/FORMATS.md, Database), as they were
+-- written.
+use Rattle.std.specs.Prelude.{◌≡◌, ◌≤◌, ◌<◌, ◌^◌, ◌&&◌, ℕ, Bool, true, false, List, [], ◌∷◌, length, All}
 use Rattle.scope_types.specs.CallPaths.{HartPath}
-use Rattle.scope_types.specs.Limits.{most_path_scopes, most_samples}
+use Rattle.scope_types.specs.Limits.{most_name_bytes, most_path_scopes, most_profile_harts, most_samples}
 use Rattle.scope_types.specs.Words.{scope_words}
 use Rattle.scope_types.specs.declared.scope.ProcId.{ProcId}
 use Rattle.scope_types.specs.declared.scope.ProcId.TheVariants.{Nameless}
 use Rattle.scope_types.specs.declared.scope.Scope.{Scope}
-use Rattle.tree_types.specs.Naming.{Naming}
+use Rattle.tree_types.specs.Naming.{Naming, unknown_procedure}
 use Rattle.tree_types.specs.Nodes.{no_parent, nodes}
 use Rattle.tree_types.specs.OfContent.{IsProfile}
 use Rattle.tree_types.specs.PathsOf.{paths_of}
 use Rattle.tree_types.specs.declared.content.Content.{Content}
 use Rattle.tree_types.specs.declared.content.ProcName.{ProcName}
-use Rattle.prof_db.specs.NameRules.{most_name_bytes}
 use Rattle.prof_db.specs.NodeRules.{is_root, is_statement, stands_under}
 
 -- ---- call paths
@@ -43,7 +43,7 @@ IsShort name = length name ≤ most_name_bytes
 -- a name that is not too long; the procedure without a name has the one that reports show
 pub record IsNamed (p : ProcName) : Type 0 where
   pub short : IsShort p.name
-  pub nameless : p.id ≡ Nameless → p.name ≡ codes "<unknown procedure>"
+  pub nameless : p.id ≡ Nameless → p.name ≡ unknown_procedure
 
 -- ---- contents
 
@@ -52,7 +52,7 @@ pub record IsStored (c : Content) : Type 0 where
   pub profile : IsProfile c
   pub period : IsWord c.period
   pub some_harts : 1 ≤ c.harts
-  pub most_harts : c.harts ≤ 16
+  pub most_harts : c.harts ≤ most_profile_harts
   pub nodes : length c.nodes < no_parent
   pub columns : All (λ column. IsWord (length column)) c.profiles
   pub paths : All (λ p. is_call_path p.path ≡ true) (paths_of c)
@@ -65,12 +65,12 @@ pub record AreStored (period harts : ℕ) (naming : Naming) (paths : List HartPa
   pub some_period : 0 < period
   pub small_period : IsWord period
   pub some_harts : 1 ≤ harts
-  pub most_harts : harts ≤ 16
+  pub most_harts : harts ≤ most_profile_harts
   pub below : All (λ p. p.hart < harts) paths
   pub few_samples : length paths ≤ most_samples
   pub few_nodes : length (nodes paths) ≤ most_path_scopes
   pub call_paths : All (λ p. is_call_path p.path ≡ true) paths
   pub scopes : All (λ p. All HasWordNumbers p.path) paths
   pub procs : (id : ProcId) → IsShort (naming.proc_name id)
-  pub nameless : naming.proc_name Nameless ≡ codes "<unknown procedure>"
+  pub nameless : naming.proc_name Nameless ≡ unknown_procedure
   pub files : (table number : ℕ) → IsShort (naming.file_name table number)

@@ -1,4 +1,4 @@
--- The sixth and the seventh rule of a database: the two planes.
+-- The sixth and the seventh rule of a database in this project's format (docs/FORMATS.md, Database): the two planes.
 use Rattle.std.specs.Prelude.{ℕ, ◌+◌, ◌-◌, ◌/◌, ◌%◌, ◌==◌, ◌&&◌, ◌||◌, not, Bool, nat_le, nat_lt, List, [], ◌∷◌}
 use Rattle.std.specs.Prelude.{length, map, filter, take, sum_by, slice_index_or, Ok, Err, if◌then◌else◌}
 use Rattle.std.specs.List.{flat_map}
@@ -12,7 +12,7 @@ use Rattle.tree_types.specs.declared.content.ProfileEntry.{ProfileEntry}
 use Rattle.tree_types.specs.declared.counted_tree.NodeCount.{NodeCount}
 use Rattle.prof_db.specs.declared.raw.RawEntry.{RawEntry}
 use Rattle.prof_db.specs.Broken.{Kept, first_broken}
-use Rattle.prof_db.specs.Fields.{Read, fault}
+use Rattle.prof_db.specs.Fields.{DbRead, fault}
 use Rattle.prof_db.specs.NameRules.{is_among, pair_less}
 use Rattle.prof_db.specs.NodeRules.{is_statement, raw_node_at}
 use Rattle.prof_db.specs.declared.raw.RawNode.{RawNode}
@@ -23,24 +23,25 @@ use Rattle.prof_db.specs.Spelling.{kind_number}
 abbrev pub entry_at : List RawEntry → ℕ → RawEntry
 entry_at entries i = slice_index_or entries i (record { offset = 0; hart = 0; node = 0; kind = 0; value = 0 })
 
--- an entry of kind 0 is an exclusive value: so many samples end at its node
+-- an entry of kind 0 is an exclusive value: the period times the number of samples that end at its node
 abbrev pub is_exclusive_entry : RawEntry → Bool
 is_exclusive_entry e = e.kind == 0
 
 abbrev pub entry_samples : ℕ → RawEntry → ℕ
 entry_samples period e = if is_exclusive_entry e then e.value / period else 0
 
--- a value of a node and of a hart. An exclusive one is that of a statement, and of whole samples
+-- a node, a hart and a kind that the database has, and a value other than 0. An exclusive one stands at a statement and
+-- is a multiple of the period
 abbrev pub is_value : ℕ → ℕ → List Node → RawEntry → Bool
 is_value period harts nodes e =
     nat_lt e.node (length nodes) && (nat_lt e.hart harts && (nat_lt e.kind 3 && (not (e.value == 0)
     && (not (is_exclusive_entry e) || (is_statement (node_at nodes e.node).scope && e.value % period == 0)))))
 
--- the entries ascend by hart, then node, then kind: hart by hart they stand anyway
+-- the entries ascend by hart, then node, then kind. By hart they ascend in any case, column after column
 abbrev pub entries_ascend : RawEntry → RawEntry → Bool
 entries_ascend e f = nat_lt e.hart f.hart || (e.hart == f.hart && pair_less e.node e.kind f.node f.kind)
 
--- and the samples up to each entry are no more than there may be
+-- and the exclusive values up to each entry count at most 1,048,576 samples
 abbrev pub entry_breaks : ℕ → ℕ → List Node → List RawEntry → ℕ → Bool
 entry_breaks period harts nodes entries i =
     not (is_value period harts nodes (entry_at entries i)
@@ -70,18 +71,18 @@ tree_of period harts nodes entries = record {
 abbrev pub ValueField : Type 0
 ValueField = ℕ × ℕ
 
-abbrev pub word_field : ℕ → ValueField
-word_field n = (4, n)
+abbrev pub field_of_word : ℕ → ValueField
+field_of_word n = (4, n)
 
 abbrev pub profile_fields : ProfileEntry → List ValueField
-profile_fields e = word_field e.node ∷ word_field (kind_number e.kind) ∷ (8, e.value) ∷ []
+profile_fields e = field_of_word e.node ∷ field_of_word (kind_number e.kind) ∷ (8, e.value) ∷ []
 
 abbrev pub context_fields : ContextEntry → List ValueField
-context_fields e = word_field (kind_number e.kind) ∷ word_field e.hart ∷ (8, e.value) ∷ []
+context_fields e = field_of_word (kind_number e.kind) ∷ field_of_word e.hart ∷ (8, e.value) ∷ []
 
 -- how many entries a column has, and each
 abbrev pub column_fields : {X : Type 0} → (X → List ValueField) → List X → List ValueField
-column_fields fields xs = word_field (length xs) ∷ flat_map fields xs
+column_fields fields xs = field_of_word (length xs) ∷ flat_map fields xs
 
 abbrev pub plane_fields : {X : Type 0} → (X → List ValueField) → List (List X) → List ValueField
 plane_fields fields columns = flat_map (column_fields fields) columns
@@ -91,7 +92,7 @@ abbrev pub stands_at : ValueField → At → Bool
 stands_at field at = not (nat_lt (length (left_of at)) field.0) && number_in field.0 (left_of at) == field.1
 
 -- the fields stand there one after another: else the first that differs
-unfoldable pub fields_kept : ℕ → List ValueField → At → Read (Unit {0})
+unfoldable pub fields_kept : ℕ → List ValueField → At → DbRead (Unit {0})
 fields_kept rule [] at = Ok (tt, at)
 fields_kept rule (field ∷ fields) at = if stands_at field at then fields_kept rule fields (moved field.0 at)
     else Err (fault rule at.offset)

@@ -65,7 +65,7 @@ fn entries_ascend(e: RawEntry, f: RawEntry) -> bool
     e.hart < f.hart || (e.hart == f.hart && pair_less(e.node, e.kind, f.node, f.kind))
 }
 
-/// Whether an entry breaks the rule, behind others with so many samples.
+/// Whether entry `i` breaks the rule, where those before it count `samples` samples.
 fn entry_is_broken(
     period: u32,
     harts: u32,

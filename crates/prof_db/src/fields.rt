@@ -1,8 +1,8 @@
 //! The single fields of a database.
 ghost use Rattle.std.specs.Prelude.{◌≡◌};
 ghost use Rattle.prof_bytes.specs.Outcome.{GivesAt, GivesFrom};
-ghost use Rattle.prof_db.specs.Fields.{bytes_from, fault, number_from, word_from};
-ghost use Rattle.prof_db.specs.Layout.{text_from};
+ghost use Rattle.prof_db.specs.Fields.{bytes_field, fault, number_field, word_field};
+ghost use Rattle.prof_db.specs.Layout.{stored_text_from};
 
 use crate::fault::DbFault;
 use prof_bytes::{Cursor, Fail, Text};
@@ -22,7 +22,7 @@ pub(crate) fn not_whole(offset: usize) -> DbFault
 }
 
 pub(crate) fn read_word(cursor: &mut Cursor<'_>) -> Result<u32, DbFault>
-    ensures { GivesAt (λ n. n) result cursor.new (word_from cursor.old) }
+    ensures { GivesAt (λ n. n) result cursor.new (word_field cursor.old) }
 {
     let offset = cursor.place();
     match cursor.u32() {
@@ -32,7 +32,7 @@ pub(crate) fn read_word(cursor: &mut Cursor<'_>) -> Result<u32, DbFault>
 }
 
 pub(crate) fn read_long(cursor: &mut Cursor<'_>) -> Result<u64, DbFault>
-    ensures { GivesAt (λ n. n) result cursor.new (number_from 8 cursor.old) }
+    ensures { GivesAt (λ n. n) result cursor.new (number_field 8 cursor.old) }
 {
     let offset = cursor.place();
     match cursor.u64() {
@@ -42,7 +42,7 @@ pub(crate) fn read_long(cursor: &mut Cursor<'_>) -> Result<u64, DbFault>
 }
 
 fn read_bytes<'a>(cursor: &mut Cursor<'a>, count: u32) -> Result<&'a [u8], DbFault>
-    ensures { GivesAt (λ bytes. bytes.now) result cursor.new (bytes_from count cursor.old) }
+    ensures { GivesAt (λ bytes. bytes.now) result cursor.new (bytes_field count cursor.old) }
 {
     let offset = cursor.place();
     match cursor.take(count as usize) {
@@ -51,9 +51,9 @@ fn read_bytes<'a>(cursor: &mut Cursor<'a>, count: u32) -> Result<&'a [u8], DbFau
     }
 }
 
-#[tactic(auto, unfolding(crate::specs::Layout::text_from))]
+#[tactic(auto, unfolding(crate::specs::Layout::stored_text_from))]
 pub(crate) fn read_text(alloc: Global, cursor: &mut Cursor<'_>) -> Result<Text, Fail<DbFault>>
-    ensures { GivesFrom (λ text. text) result cursor.new (text_from cursor.old) }
+    ensures { GivesFrom (λ text. text) result cursor.new (stored_text_from cursor.old) }
 {
     let size = read_word(cursor)?;
     let bytes = read_bytes(cursor, size)?;

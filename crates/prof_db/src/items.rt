@@ -1,9 +1,9 @@
 //! The entries of a database's lists, each by itself.
 ghost use Rattle.std.specs.Prelude.{◌≡◌};
 ghost use Rattle.prof_bytes.specs.Outcome.{GivesAt, GivesFrom};
-ghost use Rattle.prof_db.specs.Layout.{address_from, call_from, entry_from, file_from, frame_from, head_from};
-ghost use Rattle.prof_db.specs.Layout.{inline_from, line_from, node_from, past_entry, proc_from, root_from};
-ghost use Rattle.prof_db.specs.Layout.{row_from, scope_from, stmt_from};
+ghost use Rattle.prof_db.specs.Layout.{call_from, file_from, head_from, inline_from, line_from, node_from, past_entry};
+ghost use Rattle.prof_db.specs.Layout.{proc_from, root_from, scope_from, stmt_from, stored_address_from};
+ghost use Rattle.prof_db.specs.Layout.{stored_entry_from, stored_frame_from, stored_row_from};
 
 use crate::fault::DbFault;
 use crate::fields::{not_whole, read_long, read_text, read_word};
@@ -61,18 +61,18 @@ pub(crate) fn read_file(alloc: Global, cursor: &mut Cursor<'_>) -> Result<RawFil
     })
 }
 
-#[tactic(auto, unfolding(crate::specs::Layout::row_from))]
+#[tactic(auto, unfolding(crate::specs::Layout::stored_row_from))]
 fn read_row(cursor: &mut Cursor<'_>) -> Result<RawLine, DbFault>
-    ensures { GivesAt (λ line. line) result cursor.new (row_from cursor.old) }
+    ensures { GivesAt (λ line. line) result cursor.new (stored_row_from cursor.old) }
 {
     let file = read_word(cursor)?;
     let line = read_word(cursor)?;
     Ok(RawLine::Row { file, line })
 }
 
-#[tactic(auto, unfolding(crate::specs::Layout::address_from))]
+#[tactic(auto, unfolding(crate::specs::Layout::stored_address_from))]
 fn read_address(cursor: &mut Cursor<'_>) -> Result<RawLine, DbFault>
-    ensures { GivesAt (λ line. line) result cursor.new (address_from cursor.old) }
+    ensures { GivesAt (λ line. line) result cursor.new (stored_address_from cursor.old) }
 {
     let address = read_word(cursor)?;
     Ok(RawLine::Address(address))
@@ -98,9 +98,9 @@ fn read_root(cursor: &mut Cursor<'_>) -> Result<RawScope, DbFault>
     Ok(RawScope::Root(kind))
 }
 
-#[tactic(auto, unfolding(crate::specs::Layout::frame_from))]
+#[tactic(auto, unfolding(crate::specs::Layout::stored_frame_from))]
 fn read_frame(cursor: &mut Cursor<'_>) -> Result<RawScope, DbFault>
-    ensures { GivesAt (λ scope. scope) result cursor.new (frame_from cursor.old) }
+    ensures { GivesAt (λ scope. scope) result cursor.new (stored_frame_from cursor.old) }
 {
     let p = read_word(cursor)?;
     Ok(RawScope::Proc(p))
@@ -160,9 +160,9 @@ pub(crate) fn read_node(cursor: &mut Cursor<'_>) -> Result<RawNode, DbFault>
     })
 }
 
-#[tactic(auto, unfolding(crate::specs::Layout::entry_from))]
+#[tactic(auto, unfolding(crate::specs::Layout::stored_entry_from))]
 pub(crate) fn read_entry(cursor: &mut Cursor<'_>, hart: u32) -> Result<RawEntry, DbFault>
-    ensures { GivesAt (λ entry. entry) result cursor.new (entry_from hart cursor.old) }
+    ensures { GivesAt (λ entry. entry) result cursor.new (stored_entry_from hart cursor.old) }
 {
     let offset = cursor.place() as u64;
     let node = read_word(cursor)?;
@@ -177,7 +177,7 @@ pub(crate) fn read_entry(cursor: &mut Cursor<'_>, hart: u32) -> Result<RawEntry,
     })
 }
 
-/// Passes an entry of the context plane by.
+/// Skips an entry of the context plane.
 #[tactic(auto, unfolding(crate::specs::Layout::past_entry))]
 pub(crate) fn pass_entry(cursor: &mut Cursor<'_>) -> Result<(), DbFault>
     ensures { GivesAt (λ done. done) result cursor.new (past_entry 0 tt cursor.old) }

@@ -8,8 +8,9 @@ ghost use Rattle.tree_types.specs.Naming.{Naming};
 ghost use Rattle.tree_types.specs.OfContent.{IsProfile, content_table};
 ghost use Rattle.tree_types.specs.TopDown.{top_down};
 ghost use Rattle.tree_types.specs.declared.content.Content.{Content};
+ghost use Rattle.prof_db.specs.Laws.{LinesHaveRoom};
 ghost use Rattle.prof_db.specs.Rules.{database_in};
-ghost use Rattle.prof_db.specs.Spelling.{spelling};
+ghost use Rattle.prof_db.specs.Spelling.{database_spelling};
 ghost use Rattle.prof_db.specs.Stored.{AreStored, IsStored, is_call_path};
 ghost use Rattle.prof_db.specs.Writable.{IsWritable};
 
@@ -26,14 +27,15 @@ pub fn databases_are_profiles()
 
 /// What is read of a database is spelled by just its bytes, and so is read again of its spelling.
 pub fn databases_are_spelled()
-    ensures bytes { (bytes : List ℕ) (c : Content) → IsBytes bytes → database_in bytes ≡ Ok c → bytes ≡ spelling c }
+    ensures bytes { (bytes : List ℕ) (c : Content) → IsBytes bytes → database_in bytes ≡ Ok c
+        → bytes ≡ database_spelling c }
     ensures again { (bytes : List ℕ) (c : Content) → IsBytes bytes → database_in bytes ≡ Ok c
-        → database_in (spelling c) ≡ Ok c }
+        → database_in (database_spelling c) ≡ Ok c }
 {}
 
 /// What is written of a stored content is read as that content.
 pub fn stored_contents_are_read()
-    ensures { (c : Content) → IsStored c → database_in (spelling c) ≡ Ok c }
+    ensures { (c : Content) → IsStored c → database_in (database_spelling c) ≡ Ok c }
 {}
 
 /// The paths of a program are call paths, and the content of call paths within a profile's limits is stored: it is
@@ -44,8 +46,15 @@ pub fn call_paths_are_stored()
     ensures stored { (period harts : ℕ) (naming : Naming) (paths : List HartPath) → AreStored period harts naming paths
         → IsStored (content_of period harts naming paths) }
     ensures read { (period harts : ℕ) (naming : Naming) (paths : List HartPath) → AreStored period harts naming paths
-        → database_in (spelling (content_of period harts naming paths)) ≡ Ok (content_of period harts naming paths) }
+        → database_in (database_spelling (content_of period harts naming paths))
+        ≡ Ok (content_of period harts naming paths) }
     ensures table { (period harts : ℕ) (naming : Naming) (paths : List HartPath) → AreStored period harts naming paths
-        → IfOk (database_in (spelling (content_of period harts naming paths)))
+        → IfOk (database_in (database_spelling (content_of period harts naming paths)))
         (λ c. content_table c ≡ top_down period harts naming paths) }
+{}
+
+/// The definition of a node's line upwards takes a number of steps at most: one more than the node's number. Where
+/// parents stand before their nodes, it says the same with any larger number.
+pub fn ancestor_count_is_at_most_number()
+    ensures { LinesHaveRoom }
 {}

@@ -4,7 +4,7 @@ ghost use Rattle.prof_bytes.specs.Format.{magic_or};
 ghost use Rattle.prof_bytes.specs.Outcome.{Gives, GivesAt, GivesFrom};
 ghost use Rattle.prof_bytes.specs.Repeated.{adding, times};
 ghost use Rattle.prof_db.specs.Fields.{fault};
-ghost use Rattle.prof_db.specs.Layout.{body_from, column_from, entry_from, file_from, layout_in};
+ghost use Rattle.prof_db.specs.Layout.{body_from, column_from, file_from, layout_in, stored_entry_from};
 ghost use Rattle.prof_db.specs.Layout.{node_from};
 ghost use Rattle.prof_db.specs.Layout.{past_column, past_entry, proc_from};
 ghost use Rattle.prof_db.specs.Spelling.{database_magic};
@@ -16,7 +16,7 @@ use crate::raw::{Head, Layout, RawEntry, RawFile, RawNode, RawProc};
 use prof_bytes::{Cursor, Fail, Listed};
 use std::alloc::Global;
 
-/// So many procedures. The list grows as they are read.
+/// `count` procedures. The list grows as they are read.
 fn read_procs(
     alloc: Global,
     cursor: &mut Cursor<'_>,
@@ -32,7 +32,7 @@ fn read_procs(
     Ok(procs)
 }
 
-/// So many files.
+/// `count` files.
 fn read_files(
     alloc: Global,
     cursor: &mut Cursor<'_>,
@@ -48,7 +48,7 @@ fn read_files(
     Ok(files)
 }
 
-/// So many nodes.
+/// `count` nodes.
 fn read_nodes(
     alloc: Global,
     cursor: &mut Cursor<'_>,
@@ -64,7 +64,7 @@ fn read_nodes(
     Ok(nodes)
 }
 
-/// So many entries of a hart, behind those that were read before.
+/// `count` entries of a hart, after those that were read before.
 fn read_entries(
     cursor: &mut Cursor<'_>,
     entries: &mut Vec<RawEntry>,
@@ -72,7 +72,7 @@ fn read_entries(
     count: u32,
 ) -> Result<(), Fail<DbFault>>
     ensures { GivesFrom (λ done. entries.new.items) result cursor.new
-        (times (adding (entry_from hart)) count 0 entries.old.items cursor.old) }
+        (times (adding (stored_entry_from hart)) count 0 entries.old.items cursor.old) }
 {
     for _ in 0..count {
         let e = read_entry(cursor, hart)?;
@@ -95,7 +95,7 @@ fn read_column(
     read_entries(cursor, entries, hart, count)
 }
 
-/// The columns of so many harts.
+/// The columns of `harts` harts.
 fn read_columns(
     alloc: Global,
     cursor: &mut Cursor<'_>,
@@ -110,7 +110,7 @@ fn read_columns(
     Ok(entries)
 }
 
-/// Passes so many entries of the context plane by.
+/// Skips `count` entries of the context plane.
 fn pass_entries(cursor: &mut Cursor<'_>, count: u32) -> Result<(), DbFault>
     ensures { GivesAt (λ done. done) result cursor.new (times past_entry count 0 tt cursor.old) }
 {
@@ -120,7 +120,7 @@ fn pass_entries(cursor: &mut Cursor<'_>, count: u32) -> Result<(), DbFault>
     Ok(())
 }
 
-/// Passes a node's column by.
+/// Skips a node's column.
 #[tactic(auto, unfolding(crate::specs::Layout::past_column))]
 fn pass_column(cursor: &mut Cursor<'_>) -> Result<(), DbFault>
     ensures { GivesAt (λ done. done) result cursor.new (past_column 0 tt cursor.old) }
@@ -129,7 +129,7 @@ fn pass_column(cursor: &mut Cursor<'_>) -> Result<(), DbFault>
     pass_entries(cursor, count)
 }
 
-/// Passes the columns of so many nodes by.
+/// Skips the columns of `nodes` nodes.
 fn pass_columns(cursor: &mut Cursor<'_>, nodes: u32) -> Result<(), DbFault>
     ensures { GivesAt (λ done. done) result cursor.new (times past_column nodes 0 tt cursor.old) }
 {
@@ -139,7 +139,7 @@ fn pass_columns(cursor: &mut Cursor<'_>, nodes: u32) -> Result<(), DbFault>
     Ok(())
 }
 
-/// The lists that a head counts, the planes, and nothing behind them.
+/// The lists that a head counts, the planes, and nothing after them.
 #[tactic(auto, unfolding(crate::specs::Layout::body_from))]
 fn read_body<'a>(
     alloc: Global,
@@ -170,8 +170,8 @@ fn read_body<'a>(
     })
 }
 
-/// A cursor behind the eight bytes that a database begins with.
-fn behind_magic(bytes: &[u8]) -> Result<Cursor<'_>, DbFault>
+/// A cursor after the eight bytes that a database begins with.
+fn after_magic(bytes: &[u8]) -> Result<Cursor<'_>, DbFault>
     ensures { magic_or (fault 1 0) database_magic bytes.now ≡ result }
 {
     if bytes.len() < 8 || &bytes[..8] != b"HPCPROF1".as_slice() {
@@ -180,12 +180,12 @@ fn behind_magic(bytes: &[u8]) -> Result<Cursor<'_>, DbFault>
     Ok(Cursor::at(bytes, 8))
 }
 
-/// The layout of a database, in time as there are bytes.
+/// The layout of a database, in time linear in the bytes.
 #[tactic(auto, unfolding(crate::specs::Layout::layout_in))]
 pub(crate) fn read_layout(alloc: Global, bytes: &[u8]) -> Result<Layout<'_>, Fail<DbFault>>
     ensures { Gives (λ layout. layout) result (layout_in bytes.now) }
 {
-    let mut cursor = behind_magic(bytes)?;
+    let mut cursor = after_magic(bytes)?;
     let head = read_head(&mut cursor)?;
     read_body(alloc, &mut cursor, head)
 }

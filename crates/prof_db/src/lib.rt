@@ -22,8 +22,8 @@ mod write;
 
 pub use fault::DbFault;
 pub use laws::{
-    call_paths_are_stored, databases_are_profiles, databases_are_spelled, profiles_are_writable,
-    stored_contents_are_read,
+    ancestor_count_is_at_most_number, call_paths_are_stored, databases_are_profiles,
+    databases_are_spelled, profiles_are_writable, stored_contents_are_read,
 };
 pub use read::read_db;
 pub use write::write_db;

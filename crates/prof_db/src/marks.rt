@@ -17,7 +17,7 @@ fn mark(marks: &mut Vec<bool>, index: usize)
     marks[index] = true;
 }
 
-/// For each number below the count, whether it is among these. In time as there are numbers, and as the count.
+/// For each number below the count, whether it is among these. In time linear in the numbers and in the count.
 pub(crate) fn marks(alloc: Global, numbers: &[u32], count: usize) -> Result<Vec<bool>, Memory>
     ensures { IfOk result (λ marks. AreMarks numbers.now count marks.items) }
 {

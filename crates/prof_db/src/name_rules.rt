@@ -183,7 +183,7 @@ fn judge_files(alloc: Global, files: &[RawFile], used: &[u32]) -> Result<(), Fai
     Ok(())
 }
 
-/// The fourth rule, in time as there are names and nodes.
+/// The fourth rule, in time linear in the names and the nodes.
 pub(crate) fn judge_names(alloc: Global, layout: &Layout<'_>) -> Result<(), Fail<DbFault>>
     ensures { Gives (λ done. done) result (names_kept layout.now) }
 {

@@ -140,7 +140,7 @@ fn parent_at(nodes: &[Node], i: usize) -> usize
     nodes[i].parent as usize
 }
 
-/// Whether a node comes behind a sibling that is the node `before` it or one of that node's ancestors.
+/// Whether a node comes after a sibling that is the node `before` it or one of that node's ancestors.
 fn follows_sibling(nodes: &[Node], before: usize, n: Node) -> bool
     requires { before < length nodes.now }
     ensures { result ≡ list_any (λ k. siblings_ascend (node_at nodes.now k) n) (line_up nodes.now (before + 1) before) }
@@ -253,7 +253,7 @@ fn is_statement_or(statement: bool, has_child: bool) -> bool
     statement || has_child
 }
 
-/// The fifth rule, in time as there are nodes: the nodes that are passed on the way up to a sibling are done, and none
+/// The fifth rule, in time linear in the nodes: the nodes that are passed on the way up to a sibling are done, and none
 /// is passed twice before the first fault.
 pub(crate) fn judge_nodes(
     alloc: Global,

@@ -5,7 +5,7 @@ ghost use Rattle.prof_bytes.specs.Outcome.{GivesAt};
 ghost use Rattle.prof_db.specs.private.Marks.{Stands};
 ghost use Rattle.prof_db.specs.Spelling.{kind_number};
 ghost use Rattle.prof_db.specs.ValueRules.{column_fields, context_fields, fields_kept, plane_fields, profile_fields};
-ghost use Rattle.prof_db.specs.ValueRules.{word_field};
+ghost use Rattle.prof_db.specs.ValueRules.{field_of_word};
 
 use crate::fault::DbFault;
 use crate::fields::fault_at;
@@ -16,7 +16,7 @@ use tree_types::{ContextEntry, ContextPlane, ProfileEntry, ProfilePlane};
 /// The next field is this word of four bytes.
 #[tactic(auto, unfolding(crate::specs::ValueRules::fields_kept))]
 fn same_word(cursor: &mut Cursor<'_>, rule: u32, number: u64) -> Result<(), DbFault>
-    ensures { GivesAt (λ done. done) result cursor.new (fields_kept rule (word_field number ∷ []) cursor.old) }
+    ensures { GivesAt (λ done. done) result cursor.new (fields_kept rule (field_of_word number ∷ []) cursor.old) }
 {
     let offset = cursor.place() as u64;
     match cursor.u32() {

@@ -2,7 +2,7 @@
 
 use prof_bytes::{Cursor, Listed, Text};
 
-/// The numbers that a database begins with, behind its first eight bytes.
+/// The numbers that a database begins with, after its first eight bytes.
 #[derive(Clone, Copy, Drop)]
 pub struct Head {
     pub period: u32,

@@ -1,4 +1,4 @@
-//! A content of the bytes of a database.
+//! The content that the bytes of a database say.
 ghost use Rattle.std.specs.Prelude.{◌≡◌, ◌≢◌, ◌<◌, ◌≤◌, ◌^◌, length, AllPairs, IfOk, Ok};
 ghost use Rattle.std.specs.List.Sorted.{IsPermutation};
 ghost use Rattle.std.specs.declared.cmp.Ordering.TheVariants.{Less};
@@ -123,7 +123,7 @@ fn judge_values(
     judge_planes(alloc, layout, content)
 }
 
-/// The fifth rule, and those behind it.
+/// The fifth rule, and those after it.
 #[tactic(auto, unfolding(crate::specs::Rules::nodes_in))]
 fn judge_tree(
     alloc: Global,
@@ -156,7 +156,8 @@ fn read_content(alloc: Global, bytes: &[u8]) -> Result<Content, Fail<DbFault>>
 }
 
 /// The content of a database, which a profile may have; or the first of the seven rules that is broken, with the least
-/// offset. In time as there are bytes, and n log n in the exclusive values.
+/// offset. In time linear in the bytes, and n log n in the exclusive
+/// values.
 pub fn read_db(alloc: Global, bytes: &[u8]) -> Result<Content, Fail<DbFault>>
     ensures exact { Gives (λ c. c) result (database_in bytes.now) }
     ensures profile { IfOk result (λ c. IsProfile c) }

@@ -8,7 +8,8 @@ ghost use Rattle.prof_db.specs.Writable.{IsWritable};
 ghost use Rattle.prof_db.specs.Spelling.{text_bytes, procedure_bytes, file_name_bytes, node_bytes};
 ghost use Rattle.prof_bytes.specs.Number.{word, words};
 ghost use Rattle.prof_db.specs.Spelling.{kind_number, line_numbers, scope_numbers, proc_index, file_index};
-ghost use Rattle.prof_db.specs.Spelling.{profile_entry_bytes, context_entry_bytes, with_count, database_head, spelling};
+ghost use Rattle.prof_db.specs.Spelling.{profile_entry_bytes, context_entry_bytes, with_count, database_head};
+ghost use Rattle.prof_db.specs.Spelling.{database_spelling};
 
 use prof_bytes::{Memory, Text, put_u32, put_u64, put_words};
 use scope_types::{LineId, ProcId, RootKind, Scope};
@@ -273,10 +274,10 @@ fn put_head(out: &mut Vec<u8>, content: &Content) -> Result<(), Memory>
 
 /// The bytes of a database with this content. Names are looked up by halving; the time grows as the number of nodes and
 /// entries otherwise.
-#[tactic(auto, using(crate::proofs::Writing::six_parts), unfolding(crate::specs::Spelling::spelling))]
+#[tactic(auto, using(crate::proofs::Writing::six_parts), unfolding(crate::specs::Spelling::database_spelling))]
 pub fn write_db(alloc: Global, content: &Content) -> Result<Text, Memory>
     requires { IsWritable content.now }
-    ensures { IfOk result (λ text. text ≡ spelling content.now) }
+    ensures { IfOk result (λ text. text ≡ database_spelling content.now) }
 {
     let names = &content.names;
     let mut out = Vec::new(alloc);

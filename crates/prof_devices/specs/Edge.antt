@@ -37,7 +37,7 @@ LinePuts old new bytes (Memory memory) = ⊥
 
 -- ---- a file that is read to its end
 
--- a source gave so many of the bytes that it had left, none only at their end
+-- a source gave a given number of the bytes that it had left, none only at their end
 pub record GivesSome (before after : Option (List ℕ)) (part : List ℕ) (count : ℕ) : Type 0 where
   pub within : count ≤ length part
   pub given : Consumes before after (take count part)

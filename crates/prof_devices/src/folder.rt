@@ -4,7 +4,7 @@ ghost use Rattle.prof_devices.specs.Edge.{FolderFetches, FolderStores};
 ghost use Rattle.prof_devices.specs.private.Parts.{IsAtMost};
 ghost use Rattle.prof_devices.specs.InMemory.{failed_at, no_failures};
 
-use crate::read::{ReadSource, Stop, fetch_from};
+use crate::read::{ReadSource, ReadStop, fetch_from};
 use crate::shelf::{Fetch, Put, Shelf};
 use crate::store::store_file;
 use prof_bytes::Text;
@@ -97,8 +97,8 @@ impl<'a, R: Files + AllocGlobal> FolderShelf<'a, R> {
         };
         match store_file(self.rt, self.rt.alloc(), name, bytes) {
             Ok(()) => Put::Done,
-            Err(Stop::Memory(memory)) => Put::Memory(memory),
-            Err(Stop::Failed) => Put::Fault,
+            Err(ReadStop::Memory(memory)) => Put::Memory(memory),
+            Err(ReadStop::Failed) => Put::Fault,
         }
     }
 }

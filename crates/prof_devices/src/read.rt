@@ -69,20 +69,20 @@ impl<R: Read> Source for ReadSource<R> {
 
 /// Why a call stopped before its end.
 #[derive(Drop)]
-pub(crate) enum Stop {
+pub(crate) enum ReadStop {
     /// The device failed.
     Failed,
     Memory(Memory),
 }
 
-impl From<Memory> for Stop {
-    fn from(memory: Memory) -> Stop {
-        Stop::Memory(memory)
+impl From<Memory> for ReadStop {
+    fn from(memory: Memory) -> ReadStop {
+        ReadStop::Memory(memory)
     }
 }
 
 /// Reads on, at most `most` bytes. False where the source is at its end.
-fn read_part<S: Source>(source: &mut S, bytes: &mut Vec<u8>, most: usize) -> Result<bool, Stop>
+fn read_part<S: Source>(source: &mut S, bytes: &mut Vec<u8>, most: usize) -> Result<bool, ReadStop>
     requires { 0 < most }
     ensures read { OnOk result (TakesFrom (S.left source.old) (S.left source.new) bytes.old.items bytes.new.items) }
     ensures few { OnOk result (length bytes.new.items ≤ length bytes.old.items + most) }
@@ -96,14 +96,14 @@ fn read_part<S: Source>(source: &mut S, bytes: &mut Vec<u8>, most: usize) -> Res
         Some(0) => Ok(false),
         Some(count) => match bytes.extend_from_slice(&part[..count]) {
             Ok(()) => Ok(true),
-            Err(failed) => Err(Stop::Memory(Memory::from(failed))),
+            Err(failed) => Err(ReadStop::Memory(Memory::from(failed))),
         },
-        None => Err(Stop::Failed),
+        None => Err(ReadStop::Failed),
     }
 }
 
 /// At most `limit` and one more of the source's bytes.
-fn read_front<S: Source>(alloc: Global, source: &mut S, limit: u64) -> Result<Vec<u8>, Stop>
+fn read_front<S: Source>(alloc: Global, source: &mut S, limit: u64) -> Result<Vec<u8>, ReadStop>
     ensures few { IfOk result (λ bytes. length bytes.items ≤ limit + 1) }
     ensures read { IfOk result (λ bytes. TakesFrom (S.left source.old) (S.left source.new) [] bytes.items) }
     ensures whole { IfOk result (λ bytes. length bytes.items ≤ limit → AtEnd false (S.left source.new)) }
@@ -129,7 +129,7 @@ pub fn fetch_from<S: Source>(alloc: Global, source: &mut S, limit: u64) -> Fetch
     match read_front(alloc, source, limit) {
         Ok(bytes) if bytes.len() as u64 > limit => Fetch::TooLong,
         Ok(bytes) => Fetch::Whole(Text::from_vec(bytes)),
-        Err(Stop::Memory(memory)) => Fetch::Memory(memory),
-        Err(Stop::Failed) => Fetch::Fault,
+        Err(ReadStop::Memory(memory)) => Fetch::Memory(memory),
+        Err(ReadStop::Failed) => Fetch::Fault,
     }
 }

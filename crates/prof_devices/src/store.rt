@@ -1,5 +1,5 @@
 //! Storing a file of a folder: whole, or not at all.
-use crate::read::Stop;
+use crate::read::ReadStop;
 use prof_bytes::Memory;
 use std::alloc::Global;
 use std::fs::{File, OpenFile, OpenOptions, Permissions};
@@ -38,16 +38,20 @@ fn name_beside(alloc: Global, name: &str, number: u32) -> Result<String, Memory>
 }
 
 /// Makes a new file in the folder of another, under the first name that no file has.
-fn create_beside<R: Files>(rt: &R, alloc: Global, name: &str) -> Result<(R::File, String), Stop> {
+fn create_beside<R: Files>(
+    rt: &R,
+    alloc: Global,
+    name: &str,
+) -> Result<(R::File, String), ReadStop> {
     for number in 0..MOST_NAMES {
         let new_name = name_beside(alloc, name, number)?;
         match File::create_new(rt, new_name.as_str()) {
             Ok(file) => return Ok((file, new_name)),
             Err(error) if error.kind() == ErrorKind::AlreadyExists => {}
-            Err(_) => return Err(Stop::Failed),
+            Err(_) => return Err(ReadStop::Failed),
         }
     }
-    Err(Stop::Failed)
+    Err(ReadStop::Failed)
 }
 
 /// Gives a file the permissions of the one that it is to replace.
@@ -84,13 +88,13 @@ fn replace<R: Files>(
     name: &str,
     permissions: Option<Permissions>,
     bytes: &[u8],
-) -> Result<(), Stop> {
+) -> Result<(), ReadStop> {
     let (file, new_name) = create_beside(rt, alloc, name)?;
     match write_new(rt, file, new_name.as_str(), name, permissions, bytes) {
         Ok(()) => Ok(()),
         Err(_) => {
             let _ = fs::remove_file(rt, new_name.as_str());
-            Err(Stop::Failed)
+            Err(ReadStop::Failed)
         }
     }
 }
@@ -102,10 +106,10 @@ fn overwrite<R: Files>(
     name: &str,
     permissions: Permissions,
     bytes: &[u8],
-) -> Result<(), Stop> {
+) -> Result<(), ReadStop> {
     match OpenOptions::new().write(true).open(rt, name) {
         Ok(_) => replace(rt, alloc, name, Some(permissions), bytes),
-        Err(_) => Err(Stop::Failed),
+        Err(_) => Err(ReadStop::Failed),
     }
 }
 
@@ -117,13 +121,13 @@ pub(crate) fn store_file<R: Files>(
     alloc: Global,
     name: &str,
     bytes: &[u8],
-) -> Result<(), Stop> {
+) -> Result<(), ReadStop> {
     match look_at(rt, name) {
         Standing::File(permissions) => overwrite(rt, alloc, name, permissions, bytes),
         Standing::Nothing => replace(rt, alloc, name, None, bytes),
         Standing::Other => match fs::write(rt, name, bytes) {
             Ok(()) => Ok(()),
-            Err(_) => Err(Stop::Failed),
+            Err(_) => Err(ReadStop::Failed),
         },
     }
 }

@@ -14,7 +14,7 @@ fn owned(alloc: Global, files: &[(&[u8], &[u8])]) -> Result<Vec<(Text, Text)>, M
     Ok(all)
 }
 
-/// A shelf of two files whose calls 2 and 4 fail, and which keeps so many bytes of a store that fails.
+/// A shelf of two files whose calls 2 and 4 fail, and which keeps a given number of bytes of a store that fails.
 fn failing_shelf(alloc: Global, kept: usize) -> Result<MemShelf, Memory> {
     let files = owned(alloc, &[(b"elf", b"\x7fELF"), (b"input", b"")])?;
     let failing = Vec::from_slice(alloc, &[2, 4])?;

@@ -122,7 +122,7 @@ static VIEW_FAILURES: [Failure; 3] = [
     },
 ];
 
-/// Whether so many bytes of the database stand in its file; 6 are those that stood there before.
+/// Whether a given number of bytes of the database stand in its file; 6 are those that stood there before.
 fn is_stored(shelf: &MemShelf, database: &[u8], length: usize) -> bool {
     let expected = if length == 6 { b"before" } else { database };
     is_front(shelf.file(b"d"), expected, length)

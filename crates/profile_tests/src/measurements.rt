@@ -122,7 +122,7 @@ fn measurements_that_are_refused(rt: HostRuntime) -> Result<(), Fail> {
     Ok(())
 }
 
-/// Whether a run whose measurement so many workers attribute makes what one profile makes.
+/// Whether a run whose measurement a given number of workers attribute makes what one profile makes.
 fn is_the_profile(
     rt: &(impl Threads + Sync + AllocGlobal),
     attribution: &'static str,

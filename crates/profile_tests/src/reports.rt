@@ -1,7 +1,7 @@
 //! Reports of runs: programs without symbols and call frame information, on one hart and on two, and each
 //! way in which a hart ends. The reports are written by hand from their layout. That 1,048,576 samples are
 //! taken and one more is refused is tried with the built program alone (`.ci/checks`): before they are proved
-//! tests are interpreted, and a run of so many samples then takes minutes.
+//! tests are interpreted, and a run of that many samples then takes minutes.
 use crate::programs::{ADDING, BRANCHING, ECHO, GROUP, files, program, put_by};
 use prof_bytes::Text;
 use prof_devices::SureShelf;

@@ -70,7 +70,7 @@ static BROKEN: [Broken; 9] = [
         ..OTHER_FORMAT
     },
     Broken {
-        name: "a node whose parent stands behind it",
+        name: "a node whose parent stands after it",
         words: "view d flat",
         changes: &[(83, 5)],
         rule: 5,

@@ -2,45 +2,50 @@ use prof_bytes::{Cursor, Listed, Memory, Text, put_u32, put_u64};
 use std::alloc::Global;
 use std::test::Fail;
 
-/// Reads of numbers of variable length: the bytes, the value, how many bytes it took. The values are
+/// Reads of numbers of variable length: a name, the bytes, the value, how many bytes it took. The values are
 /// the examples of DWARF 5, section 7.6, and the ends of 64 bits.
-static UNSIGNED: [(&[u8], Option<u64>, usize); 8] = [
-    (&[2], Some(2), 1),
-    (&[127], Some(127), 1),
-    (&[0x80, 1], Some(128), 2),
-    (&[0x81, 1, 9], Some(129), 2),
-    (&[0xb9, 0x64], Some(12857), 2),
-    (&[0x80, 0x80], None, 0),
+static UNSIGNED: [(&str, &[u8], Option<u64>, usize); 8] = [
+    ("2", &[2], Some(2), 1),
+    ("127", &[127], Some(127), 1),
+    ("128", &[0x80, 1], Some(128), 2),
+    ("129 with a byte after it", &[0x81, 1, 9], Some(129), 2),
+    ("12857", &[0xb9, 0x64], Some(12857), 2),
+    ("a number without end", &[0x80, 0x80], None, 0),
     (
+        "2^64 - 1",
         &[0xff, 0xff, 0xff, 0xff, 0xff, 0xff, 0xff, 0xff, 0xff, 1],
         Some(u64::MAX),
         10,
     ),
     (
+        "more than 2^64 - 1",
         &[0xff, 0xff, 0xff, 0xff, 0xff, 0xff, 0xff, 0xff, 0xff, 2],
         None,
         0,
     ),
 ];
 
-static SIGNED: [(&[u8], Option<i64>, usize); 9] = [
-    (&[2], Some(2), 1),
-    (&[0x7e], Some(-2), 1),
-    (&[0xff, 0], Some(127), 2),
-    (&[0x81, 0x7f], Some(-127), 2),
-    (&[0x80, 0x7f], Some(-128), 2),
-    (&[0xff, 0x7e], Some(-129), 2),
+static SIGNED: [(&str, &[u8], Option<i64>, usize); 9] = [
+    ("2", &[2], Some(2), 1),
+    ("-2", &[0x7e], Some(-2), 1),
+    ("127", &[0xff, 0], Some(127), 2),
+    ("-127", &[0x81, 0x7f], Some(-127), 2),
+    ("-128", &[0x80, 0x7f], Some(-128), 2),
+    ("-129", &[0xff, 0x7e], Some(-129), 2),
     (
+        "-2^63",
         &[0x80, 0x80, 0x80, 0x80, 0x80, 0x80, 0x80, 0x80, 0x80, 0x7f],
         Some(i64::MIN),
         10,
     ),
     (
+        "2^63",
         &[0x80, 0x80, 0x80, 0x80, 0x80, 0x80, 0x80, 0x80, 0x80, 1],
         None,
         0,
     ),
     (
+        "0 in eleven bytes",
         &[
             0x80, 0x80, 0x80, 0x80, 0x80, 0x80, 0x80, 0x80, 0x80, 0x80, 0,
         ],
@@ -49,22 +54,30 @@ static SIGNED: [(&[u8], Option<i64>, usize); 9] = [
     ),
 ];
 
-/// The index of the first row whose number is read otherwise.
-fn other_unsigned() -> Option<usize> {
-    for (index, (bytes, value, count)) in UNSIGNED.iter().enumerate() {
-        let mut cursor = Cursor::at(bytes, 0);
-        if cursor.uleb() != *value || cursor.place() != *count {
-            return Some(index);
+fn reads_unsigned(bytes: &[u8], value: Option<u64>, count: usize) -> bool {
+    let mut cursor = Cursor::at(bytes, 0);
+    cursor.uleb() == value && cursor.place() == count
+}
+
+fn reads_signed(bytes: &[u8], value: Option<i64>, count: usize) -> bool {
+    let mut cursor = Cursor::at(bytes, 0);
+    cursor.sleb() == value && cursor.place() == count
+}
+
+/// The first row whose number is read otherwise.
+fn other_unsigned() -> Option<&'static str> {
+    for (name, bytes, value, count) in &UNSIGNED {
+        if !reads_unsigned(bytes, *value, *count) {
+            return Some(name);
         }
     }
     None
 }
 
-fn other_signed() -> Option<usize> {
-    for (index, (bytes, value, count)) in SIGNED.iter().enumerate() {
-        let mut cursor = Cursor::at(bytes, 0);
-        if cursor.sleb() != *value || cursor.place() != *count {
-            return Some(index);
+fn other_signed() -> Option<&'static str> {
+    for (name, bytes, value, count) in &SIGNED {
+        if !reads_signed(bytes, *value, *count) {
+            return Some(name);
         }
     }
     None
@@ -89,7 +102,7 @@ fn numbers_come(cursor: &mut Cursor<'_>) -> bool {
         && cursor.u64() == Some(0x1211_100f_0e0d_0c0b)
 }
 
-/// Whether the texts come behind them, and nothing where too few bytes are left.
+/// Whether the texts come after them, and nothing where too few bytes are left.
 fn texts_come(cursor: &mut Cursor<'_>) -> bool {
     cursor.cstr() == Some(b"main".as_slice())
         && cursor.take(5).is_none()
@@ -108,7 +121,7 @@ fn fixed_numbers_and_texts(rt: HostRuntime) {
     assert!(rt; texts_come(&mut cursor));
 }
 
-/// A text with two numbers behind it.
+/// A text with two numbers after it.
 fn put_both(alloc: Global) -> Result<Vec<u8>, Memory> {
     let mut out = Vec::from_slice(alloc, b"HPC")?;
     put_u32(&mut out, 0x0102_0304)?;

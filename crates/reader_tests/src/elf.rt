@@ -175,7 +175,7 @@ fn functions_at(out: &mut String, image: &Image<'_>, addresses: &[u32]) -> Resul
     Ok(())
 }
 
-/// What the image has, a line each, and behind it the sizes and the functions at these addresses.
+/// What the image has, a line each, and after it the sizes and the functions at these addresses.
 fn texts(out: &mut String, image: &Image<'_>, addresses: &[u32]) -> Result<(), Memory> {
     write!(out, "entry {:x} length {}\n", image.entry(), image.length())?;
     segments(out, image)?;
@@ -299,14 +299,14 @@ fn files_of_gnu_ld_and_lld(rt: HostRuntime) -> Result<(), Fail> {
     Ok(())
 }
 
-/// Whether the addresses in the outer function alone, and behind both, have their functions.
+/// Whether the addresses in the outer function alone, and after both, have their functions.
 fn outer_shows(alloc: Global) -> Result<bool, Memory> {
     let wanted = Wanted::End("0 0 0 44 0 _start\nnone\n");
     let addresses = [0x10014, 0x10030];
     shows(alloc, files::recursive(), b"200=48", &addresses, wanted)
 }
 
-/// Whether the addresses before, in and behind the inner function have their functions.
+/// Whether the addresses before, in and after the inner function have their functions.
 fn inner_shows(alloc: Global) -> Result<bool, Memory> {
     let changes = b"196=16 200=8 212=0 216=48";
     let wanted = Wanted::End("0 0 0 44 0 f\n_start\nf\n");

@@ -1,9 +1,13 @@
 //! Two programs by gcc and clang are compared with what `llvm-dwarfdump --debug-info` prints of them; the
 //! numbers of files and lines of calls are those of `readelf --debug-dump=info`. A worked program, faults
 //! and absences are small units put together by hand after DWARF 5, chapter 7.
-use crate::program::{Sections, Unread, info_of, section};
+use crate::program::{Sections, Unread, info_of};
+use crate::rows::extend_each;
 use crate::worked;
-use dwarf_info::constants::{DW_TAG_compile_unit, DW_TAG_inlined_subroutine, DW_TAG_subprogram};
+use dwarf_forms::constants::{DW_CHILDREN_no, DW_CHILDREN_yes};
+use dwarf_info::constants::{
+    DW_TAG_compile_unit, DW_TAG_inlined_subroutine, DW_TAG_subprogram, DW_UT_compile,
+};
 use dwarf_info::{Info, InfoEntry};
 use prof_bytes::{Memory, put_u32};
 use std::alloc::Global;
@@ -37,9 +41,26 @@ enum Has {
     Ranges(&'static [(u32, u32)]),
 }
 
-/// A name, bytes of a unit of two entries, and what the second one has. Behind U stand attributes and forms of the first
-/// one, behind V their values, behind E and W those of the second one, and behind other letters whole sections.
-type Case = (&'static str, &'static [u8], Has);
+/// A part of the bytes of a unit of two entries.
+enum Part {
+    /// Attributes and forms of the first entry, and their values.
+    Unit(&'static [u64], &'static [u8]),
+    /// Those of the second entry.
+    Entry(&'static [u64], &'static [u8]),
+    /// `.debug_str`.
+    Str(&'static [u8]),
+    /// `.debug_line_str`.
+    LineStr(&'static [u8]),
+    /// `.debug_str_offsets`.
+    StrOffsets(&'static [u8]),
+    /// `.debug_addr`.
+    Addr(&'static [u8]),
+    /// `.debug_rnglists`, entry by entry.
+    RngLists(&'static [&'static [u8]]),
+}
+
+/// A name, the parts of a unit of two entries, and what the second one has.
+type Case = (&'static str, &'static [Part], Has);
 
 /// What an entry is to have; what it refers to, by its offset.
 #[derive(Clone, Copy)]
@@ -216,27 +237,83 @@ fn a_worked_program(rt: HostRuntime) -> Result<(), Fail> {
     Ok(())
 }
 
-/// The sections of a case: version 5, DW_UT_compile, addresses of 4 bytes, and an abbreviation for each entry.
-fn sections_of(alloc: Global, with: &[u8], text: &[u8]) -> Result<Sections, Memory> {
-    let mut all = Vec::from_slice(alloc, with)?;
-    all.extend_from_slice(text)?;
-    let mut sections = Sections::of(alloc, b"", &all)?;
-    sections.abbrev.extend_from_slice(&[1, 0x11, 1])?;
+/// Attributes and forms of an entry, and their values.
+#[derive(Drop)]
+struct EntryBytes {
+    specs: Vec<u8>,
+    values: Vec<u8>,
+}
+
+impl EntryBytes {
+    fn new(alloc: Global) -> EntryBytes {
+        EntryBytes {
+            specs: Vec::new(alloc),
+            values: Vec::new(alloc),
+        }
+    }
+
+    fn add(&mut self, specs: &[u64], values: &[u8]) -> Result<(), Memory> {
+        for number in specs {
+            self.specs.push((*number % 128) as u8)?;
+        }
+        self.values.extend_from_slice(values)?;
+        Ok(())
+    }
+}
+
+fn add_part(
+    sections: &mut Sections,
+    unit: &mut EntryBytes,
+    entry: &mut EntryBytes,
+    part: &Part,
+) -> Result<(), Memory> {
+    match *part {
+        Part::Unit(specs, values) => unit.add(specs, values)?,
+        Part::Entry(specs, values) => entry.add(specs, values)?,
+        Part::Str(bytes) => sections.str_bytes.extend_from_slice(bytes)?,
+        Part::LineStr(bytes) => sections.line_str.extend_from_slice(bytes)?,
+        Part::StrOffsets(bytes) => sections.str_offsets.extend_from_slice(bytes)?,
+        Part::Addr(bytes) => sections.addr.extend_from_slice(bytes)?,
+        Part::RngLists(entries) => extend_each(&mut sections.rnglists, entries)?,
+    }
+    Ok(())
+}
+
+fn add_parts(
+    sections: &mut Sections,
+    unit: &mut EntryBytes,
+    entry: &mut EntryBytes,
+    parts: &[Part],
+) -> Result<(), Memory> {
+    for part in parts {
+        add_part(sections, unit, entry, part)?;
+    }
+    Ok(())
+}
+
+/// The sections of a case: version 5, addresses of 4 bytes, and an abbreviation for each entry.
+fn sections_of(alloc: Global, with: &[Part], parts: &[Part]) -> Result<Sections, Memory> {
+    let mut sections = Sections::of(alloc, b"", b"")?;
+    let mut unit = EntryBytes::new(alloc);
+    let mut entry = EntryBytes::new(alloc);
+    add_parts(&mut sections, &mut unit, &mut entry, with)?;
+    add_parts(&mut sections, &mut unit, &mut entry, parts)?;
     sections
         .abbrev
-        .extend_from_slice(&section(alloc, &all, b'U')?)?;
-    sections.abbrev.extend_from_slice(&[0, 0, 2, 0x2e, 0])?;
+        .extend_from_slice(&[1, DW_TAG_compile_unit as u8, DW_CHILDREN_yes])?;
+    sections.abbrev.extend_from_slice(&unit.specs)?;
     sections
         .abbrev
-        .extend_from_slice(&section(alloc, &all, b'E')?)?;
+        .extend_from_slice(&[0, 0, 2, DW_TAG_subprogram as u8, DW_CHILDREN_no])?;
+    sections.abbrev.extend_from_slice(&entry.specs)?;
     sections.abbrev.extend_from_slice(&[0, 0, 0])?;
-    let mut unit = Vec::from_slice(alloc, &[5, 0, 1, 4, 0, 0, 0, 0, 1])?;
-    unit.extend_from_slice(&section(alloc, &all, b'V')?)?;
-    unit.push(2)?;
-    unit.extend_from_slice(&section(alloc, &all, b'W')?)?;
-    unit.push(0)?;
-    put_u32(&mut sections.info, u32::try_from(unit.len()).unwrap_or(0))?;
-    sections.info.extend_from_slice(&unit)?;
+    let mut bytes = Vec::from_slice(alloc, &[5, 0, DW_UT_compile, 4, 0, 0, 0, 0, 1])?;
+    bytes.extend_from_slice(&unit.values)?;
+    bytes.push(2)?;
+    bytes.extend_from_slice(&entry.values)?;
+    bytes.push(0)?;
+    put_u32(&mut sections.info, u32::try_from(bytes.len()).unwrap_or(0))?;
+    sections.info.extend_from_slice(&bytes)?;
     Ok(sections)
 }
 
@@ -259,15 +336,15 @@ fn wanted_of(has: &Has) -> Attributes {
 }
 
 /// Whether the second entry of a case has what it should.
-fn holds(alloc: Global, with: &[u8], case: &Case) -> Result<bool, Unread> {
+fn holds(alloc: Global, with: &[Part], case: &Case) -> Result<bool, Unread> {
     let sections = sections_of(alloc, with, case.1)?;
     let info = info_of(alloc, &sections)?;
     let entries = info.entries(alloc)?;
     Ok(is_entry(alloc, &info, &entries, 1, &wanted_of(&case.2)))
 }
 
-/// The first case that does not hold, where each has these bytes besides its own.
-fn failing(alloc: Global, with: &[u8], cases: &[Case]) -> Result<Option<&'static str>, Unread> {
+/// The first case that does not hold, where each has these parts besides its own.
+fn failing(alloc: Global, with: &[Part], cases: &[Case]) -> Result<Option<&'static str>, Unread> {
     for case in cases {
         if !holds(alloc, with, case)? {
             return Ok(Some(case.0));
@@ -280,8 +357,8 @@ fn failing(alloc: Global, with: &[u8], cases: &[Case]) -> Result<Option<&'static
 fn attributes_and_their_absence(rt: HostRuntime) -> Result<(), Fail> {
     use lists::{AT_START, INDEXED_LISTS, LISTS, WITH_ADDRESSES};
     let alloc = rt.alloc();
-    assert_eq!(rt; failing(alloc, b"", &names::CASES)?, None);
-    assert_eq!(rt; failing(alloc, b"", &lists::CASES)?, None);
+    assert_eq!(rt; failing(alloc, &[], &names::CASES)?, None);
+    assert_eq!(rt; failing(alloc, &[], &lists::CASES)?, None);
     assert_eq!(rt; failing(alloc, AT_START, &LISTS)?, None);
     assert_eq!(rt; failing(alloc, WITH_ADDRESSES, &INDEXED_LISTS)?, None);
     Ok(())

@@ -72,11 +72,17 @@ static FORMS: [(&str, u64, &[u8], Value<'static>, usize); 20] = [
         0,
     ),
     ("string", DW_FORM_string, &[0x61, 0, 0x62], Name(&[0x61]), 2),
-    ("indirect", DW_FORM_indirect, &[0x0b, 9], Number(9), 2),
+    (
+        "indirect",
+        DW_FORM_indirect,
+        &[DW_FORM_data1 as u8, 9],
+        Number(9),
+        2,
+    ),
     (
         "indirect in two bytes",
         DW_FORM_indirect,
-        &[0x85, 0, 1, 2],
+        &[0x80 | DW_FORM_data2 as u8, 0, 1, 2],
         Number(0x201),
         4,
     ),
@@ -172,9 +178,17 @@ fn each_form(rt: HostRuntime) -> Result<(), Fail> {
 static UNKNOWN: [(&str, u64, &[u8]); 6] = [
     ("DWARF 5 has no form 2", 0x02, &[1, 2, 3, 4]),
     ("no form 0", 0x00, &[1]),
-    ("no form behind the last", 0x2d, &[1]),
-    ("indirect implicit_const", DW_FORM_indirect, &[0x21, 1]),
-    ("indirect indirect", DW_FORM_indirect, &[0x16, 0x0b, 1]),
+    ("no form after the last", 0x2d, &[1]),
+    (
+        "indirect implicit_const",
+        DW_FORM_indirect,
+        &[DW_FORM_implicit_const as u8, 1],
+    ),
+    (
+        "indirect indirect",
+        DW_FORM_indirect,
+        &[DW_FORM_indirect as u8, DW_FORM_data1 as u8, 1],
+    ),
     ("indirect form 2", DW_FORM_indirect, &[0x02]),
 ];
 
@@ -184,7 +198,7 @@ static SHORT: [(&str, u64, &[u8]); 6] = [
     (
         "indirect data4 of three bytes",
         DW_FORM_indirect,
-        &[0x06, 1, 2, 3],
+        &[DW_FORM_data4 as u8, 1, 2, 3],
     ),
     ("data4 of three bytes", DW_FORM_data4, &[1, 2, 3]),
     (

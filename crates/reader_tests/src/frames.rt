@@ -84,24 +84,26 @@ fn row_holds(alloc: Global, table: &FrameTable, row: &[u8]) -> Result<bool, Memo
     Ok(low < high)
 }
 
-/// The number, from 1, of the first row that does not hold.
-fn failing(alloc: Global, table: &FrameTable, rows: &[u8]) -> Result<Option<u32>, Memory> {
-    let mut rows = rows;
-    for number in 1..999 {
-        let (row, rest) = cut(rows, b'\n');
-        if row.is_empty() {
-            return Ok(None);
+/// The first row that does not hold.
+fn failing(
+    alloc: Global,
+    table: &FrameTable,
+    rows: &[&'static str],
+) -> Result<Option<&'static str>, Memory> {
+    for row in rows {
+        if !row_holds(alloc, table, row.as_bytes())? {
+            return Ok(Some(row));
         }
-        if !row_holds(alloc, table, row)? {
-            return Ok(Some(number));
-        }
-        rows = rest;
     }
-    Ok(Some(999))
+    Ok(None)
 }
 
-/// The number of the first row that does not hold of a section of the program.
-fn failing_rules(alloc: Global, hex: &[u8], rows: &[u8]) -> Result<Option<u32>, Unread> {
+/// The first row that does not hold of a section of the program.
+fn failing_rules(
+    alloc: Global,
+    hex: &[u8],
+    rows: &[&'static str],
+) -> Result<Option<&'static str>, Unread> {
     let file = bytes_of(alloc, PROGRAM)?;
     let image = image_of(alloc, &file)?;
     let section = bytes_of(alloc, hex)?;
@@ -111,25 +113,23 @@ fn failing_rules(alloc: Global, hex: &[u8], rows: &[u8]) -> Result<Option<u32>, 
 
 #[test]
 fn rules_of_gcc(rt: HostRuntime) -> Result<(), Fail> {
-    let other = failing_rules(rt.alloc(), sections::gcc(), sections::gcc_rules())?;
+    let other = failing_rules(rt.alloc(), sections::gcc(), &sections::GCC_RULES)?;
     assert_eq!(rt; other, None);
     Ok(())
 }
 
 #[test]
 fn rules_of_clang(rt: HostRuntime) -> Result<(), Fail> {
-    let other = failing_rules(rt.alloc(), sections::clang(), sections::clang_rules())?;
+    let other = failing_rules(rt.alloc(), sections::clang(), &sections::CLANG_RULES)?;
     assert_eq!(rt; other, None);
     Ok(())
 }
 
 #[test]
 fn rules_of_every_directive(rt: HostRuntime) -> Result<(), Fail> {
-    let rules = sections::directives_rules();
-    assert_eq!(rt;
-        failing_rules(rt.alloc(), sections::directives(), rules)?,
-        None
-    );
+    let section = sections::directives();
+    let other = failing_rules(rt.alloc(), section, &sections::DIRECTIVES_RULES)?;
+    assert_eq!(rt; other, None);
     Ok(())
 }
 
@@ -198,7 +198,7 @@ static CHANGES: [(&str, &[(usize, u8)], &str); 35] = [
         "fault 16",
     ),
     ("CIE_pointer leads to an FDE", &[(20, 16)], "fault 16"),
-    ("the FDE ends behind CIE_pointer", &[(16, 4)], "fault 16"),
+    ("the FDE ends after CIE_pointer", &[(16, 4)], "fault 16"),
     ("the FDE ends within CIE_pointer", &[(16, 2)], "fault 16"),
     ("def_cfa, at 13, of register 32", &[(14, 32)], "fault 13"),
     (

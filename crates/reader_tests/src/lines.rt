@@ -2,7 +2,7 @@
 //! with `addr2line`, at every instruction. Other tables are put together by hand after DWARF 5, section 6.2.
 //! A text stands for bytes, two hexadecimal digits each, or has a run of instructions on each line.
 use crate::program::{Sections, UNREADABLE, Unread, image_of, lines_of};
-use crate::rows::{bytes_of, changed, cut, number};
+use crate::rows::{bytes_of, changed, cut, extend_each, joined, number};
 use crate::worked::{FILE, LINE};
 use dwarf_line::{LineTable, read_lines};
 use elf_image::Image;
@@ -17,7 +17,7 @@ mod faults;
 mod gcc_lines;
 mod worked;
 
-/// A program, its `.debug_line`, its texts behind S (`.debug_str`) and L (`.debug_line_str`), and offsets of tables; the
+/// A program, its `.debug_line`, its texts after S (`.debug_str`) and L (`.debug_line_str`), and offsets of tables; the
 /// runs of instructions with one row each, up to an end; which offsets have tables; and names of files.
 #[derive(Clone, Copy)]
 struct Program {
@@ -144,9 +144,7 @@ fn rows_hold(lines: &LineTable<'_>, rows: &[(u32, Option<(u32, u32)>)]) -> bool 
 /// A table of this header, from its version on, and a program of these opcodes.
 fn table(alloc: Global, header: &[u8], opcodes: &[&[u8]]) -> Result<Vec<u8>, Memory> {
     let mut unit = Vec::from_slice(alloc, header)?;
-    for opcode in opcodes {
-        unit.extend_from_slice(opcode)?;
-    }
+    extend_each(&mut unit, opcodes)?;
     let mut table = Vec::new(alloc);
     put_u32(&mut table, u32::try_from(unit.len()).unwrap_or(0))?;
     table.extend_from_slice(&unit)?;
@@ -204,8 +202,8 @@ fn fault_of(
 
 /// The first table whose length is not at fault.
 fn other_length(alloc: Global) -> Result<Option<&'static str>, Unread> {
-    for (name, hex) in &faults::LENGTH_FAULTS {
-        let line = bytes_of(alloc, hex.as_bytes())?;
+    for (name, fields) in &faults::LENGTH_FAULTS {
+        let line = joined(alloc, fields)?;
         if fault_of(alloc, by_hand::FILE, line, b"", &[0])? != Some(0) {
             return Ok(Some(*name));
         }
@@ -225,10 +223,20 @@ fn other_change(alloc: Global) -> Result<Option<&'static str>, Unread> {
     Ok(None)
 }
 
+/// A header with these fields after line_range.
+fn header_of(alloc: Global, fields: &[&[u8]]) -> Result<Vec<u8>, Memory> {
+    let mut rest = Vec::from_slice(alloc, faults::LINE_RANGE)?;
+    extend_each(&mut rest, fields)?;
+    let mut header = Vec::from_slice(alloc, faults::VERSION)?;
+    put_u32(&mut header, u32::try_from(rest.len()).unwrap_or(0))?;
+    header.extend_from_slice(&rest)?;
+    Ok(header)
+}
+
 /// The first header that is not at fault.
 fn other_header(alloc: Global) -> Result<Option<&'static str>, Unread> {
-    for (name, header, texts) in &faults::HEADER_FAULTS {
-        let header = bytes_of(alloc, header.as_bytes())?;
+    for (name, fields, texts) in &faults::HEADER_FAULTS {
+        let header = header_of(alloc, fields)?;
         let line = table(alloc, &header, &by_hand::PLAIN)?;
         if fault_of(alloc, by_hand::FILE, line, texts, &[0])? != Some(0) {
             return Ok(Some(*name));

@@ -35,15 +35,15 @@ pub(crate) struct Sections {
     pub(crate) line: Vec<u8>,
     pub(crate) info: Vec<u8>,
     pub(crate) abbrev: Vec<u8>,
-    str_bytes: Vec<u8>,
-    line_str: Vec<u8>,
-    str_offsets: Vec<u8>,
-    addr: Vec<u8>,
-    rnglists: Vec<u8>,
+    pub(crate) str_bytes: Vec<u8>,
+    pub(crate) line_str: Vec<u8>,
+    pub(crate) str_offsets: Vec<u8>,
+    pub(crate) addr: Vec<u8>,
+    pub(crate) rnglists: Vec<u8>,
 }
 
-/// The bytes of a section, two hexadecimal digits each, which stand behind its letter.
-pub(crate) fn section(alloc: Global, text: &[u8], letter: u8) -> Result<Vec<u8>, Memory> {
+/// The bytes of a section, two hexadecimal digits each, which stand after its letter.
+fn section(alloc: Global, text: &[u8], letter: u8) -> Result<Vec<u8>, Memory> {
     let mut out = Vec::new(alloc);
     let mut here = false;
     let mut high = None;
@@ -65,7 +65,7 @@ pub(crate) fn section(alloc: Global, text: &[u8], letter: u8) -> Result<Vec<u8>,
 }
 
 impl Sections {
-    /// The digits of `.debug_line`, and those of the others behind a letter: I info, A abbrev, S str, L line_str,
+    /// The digits of `.debug_line`, and those of the others after a letter: I info, A abbrev, S str, L line_str,
     /// O str_offsets, D addr, R rnglists.
     pub(crate) fn of(alloc: Global, line: &[u8], text: &[u8]) -> Result<Sections, Memory> {
         Ok(Sections {

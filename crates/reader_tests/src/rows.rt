@@ -1,4 +1,4 @@
-//! Rows of tests as text: bytes in hexadecimal, numbers, fields behind a mark, and changes of single bytes.
+//! Rows of tests as text: bytes in hexadecimal, numbers, fields after a mark, and changes of single bytes.
 use prof_bytes::Memory;
 use std::alloc::Global;
 
@@ -27,6 +27,21 @@ pub(crate) fn bytes_of(alloc: Global, hex: &[u8]) -> Result<Vec<u8>, Memory> {
     Ok(bytes)
 }
 
+/// Appends bytes that stand one after another.
+pub(crate) fn extend_each(out: &mut Vec<u8>, pieces: &[&[u8]]) -> Result<(), Memory> {
+    for piece in pieces {
+        out.extend_from_slice(piece)?;
+    }
+    Ok(())
+}
+
+/// Bytes that stand one after another.
+pub(crate) fn joined(alloc: Global, pieces: &[&[u8]]) -> Result<Vec<u8>, Memory> {
+    let mut bytes = Vec::new(alloc);
+    extend_each(&mut bytes, pieces)?;
+    Ok(bytes)
+}
+
 /// A number by its digits in this base.
 pub(crate) fn number(digits: &[u8], base: u32) -> u32 {
     let mut number = 0u32;
@@ -38,7 +53,7 @@ pub(crate) fn number(digits: &[u8], base: u32) -> u32 {
     number
 }
 
-/// What stands before the mark and what behind it.
+/// What stands before the mark and what after it.
 pub(crate) fn cut(text: &[u8], mark: u8) -> (&[u8], &[u8]) {
     for (index, byte) in text.iter().enumerate() {
         if *byte == mark {

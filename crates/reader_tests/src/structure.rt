@@ -7,7 +7,7 @@ use crate::rows::{bytes_of, change_each};
 use crate::worked::{FILE, LINE, SECTIONS};
 use Wanted::{Count, Fault, Rows};
 use dwarf_inline::StructureFault::{LinkCycle, TooDeep};
-use dwarf_inline::{Item, Structure, StructureFault, read_structure};
+use dwarf_inline::{Structure, StructureFault, Subroutine, read_structure};
 use prof_bytes::Memory;
 use scope_types::LineId;
 use std::alloc::Global;
@@ -35,7 +35,7 @@ enum Wanted {
 }
 
 /// The item of a row.
-fn item_of(row: &Row) -> Item {
+fn item_of(row: &Row) -> Subroutine {
     let (offset, after, identity, line, first, _, ranges) = *row;
     let call = match line {
         Some(line) => Some(LineId::Row {
@@ -45,14 +45,14 @@ fn item_of(row: &Row) -> Item {
         }),
         None => None,
     };
-    Item {
+    Subroutine {
         offset,
         inlined: call.is_some(),
-        after,
+        next_after_subtree: after,
         identity,
         call,
-        first,
-        ranges: u32::try_from(ranges.len()).unwrap_or(0),
+        first_range: first,
+        range_count: u32::try_from(ranges.len()).unwrap_or(0),
     }
 }
 
@@ -60,12 +60,12 @@ fn ranges_are(structure: &Structure<'_>, at: u32, wanted: &[(u32, u32)]) -> bool
     requires { at < length structure.now.items }
 {
     let _count = structure.len();
-    let item = structure.item(at);
-    if item.ranges as usize != wanted.len() {
+    let item = structure.subroutine(at);
+    if item.range_count as usize != wanted.len() {
         return false;
     }
-    for k in 0..item.ranges {
-        if structure.range(item.first + u64::from(k)) != wanted[k as usize] {
+    for k in 0..item.range_count {
+        if structure.range(item.first_range + u64::from(k)) != wanted[k as usize] {
             return false;
         }
     }
@@ -79,7 +79,7 @@ fn rows_are(structure: &Structure<'_>, rows: &[Row]) -> bool {
     }
     for at in 0..count {
         let row = &rows[at as usize];
-        let item = structure.item(at);
+        let item = structure.subroutine(at);
         if item != item_of(row)
             || structure.proc_name(item.identity) != row.5
             || !ranges_are(structure, at, row.6)
@@ -199,7 +199,7 @@ static SHAPES: [Shape; 6] = [
         Fault(LinkCycle { offset: 15 }),
     ),
     (
-        "ten links behind one level",
+        "ten links after one level",
         1,
         10,
         Fault(LinkCycle { offset: 17 }),

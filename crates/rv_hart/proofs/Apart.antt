@@ -10,7 +10,7 @@ use Rattle.elf_image.specs.declared.part.Segment.{Segment}
 use Rattle.elf_image.specs.Image.{ProgramImage, IsLoaded, in_segment, are_apart, stacks_begin}
 use Rattle.rv_hart.specs.declared.paged_memory.PagedMemory.{PagedMemory}
 use Rattle.rv_hart.specs.AddressSpace.{regions_of, stack_of, first_byte}
-use Rattle.rv_hart.specs.private.Pages.{nowhere, PageStore, paged_in, bytes_from}
+use Rattle.rv_hart.specs.private.Pages.{nowhere, PageStore, paged_in, stored_page}
 use Rattle.rv_hart.specs.private.Paging.{IsHome, AreApart, IsPaged}
 
 pub lt-leb : (a b : ℕ) → b < a → nat_le a b ≡ false
@@ -122,7 +122,7 @@ nowhere-home regions at held =
 
 -- what a program's memory begins as
 pub of-paged : (paged : PagedMemory) (program : ProgramImage) (harts : ℕ) → IsLoaded program → harts ≤ 64 → paged.regions ≡ regions_of program harts → paged.pages ≡ record { blocks = []; bytes = [] } → IsPaged paged × IsHome paged.regions nowhere
-unfolding bytes_from
+unfolding stored_page
 of-paged paged program harts is few regions pages =
     let stacked : IsStacked harts (regions_of program harts) = stacked-all program harts is in
     let high : (at : ℕ) → 2 ^ 32 ≤ at → (k : ℕ) (d : Segment) → k < length (regions_of program harts) → in_segment at (get_or (regions_of program harts) k d) ≡ false =

@@ -9,7 +9,7 @@ use Rattle.rv_hart.specs.AddressSpace.{byte_in}
 use Rattle.rv_hart.specs.private.Paging.{covers_all}
 use Rattle.rv_hart.proofs.Near.{part-get}
 
--- a page that begins with a part of the file, and has zeros behind it
+-- a page that begins with a part of the file, and has zeros after it
 pub record IsFilled (file bytes : List ℕ) (start end : ℕ) : Type 0 where
   pub part : (k : ℕ) → k < end - start → get_or bytes k 0 ≡ get_or file (start + k) 0
   pub zeros : (k : ℕ) → end - start ≤ k → k < 4096 → get_or bytes k 0 ≡ 0

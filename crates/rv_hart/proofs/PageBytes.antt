@@ -7,7 +7,7 @@ use Rattle.std.proofs.Math.Seq.{drop-append_seam, take-length}
 use Rattle.elf_image.specs.declared.part.Segment.{Segment}
 use Rattle.rv_hart.specs.declared.page.Page.{Page}
 use Rattle.rv_hart.specs.declared.recent.Recent.{Recent}
-use Rattle.rv_hart.specs.private.Pages.{Paged, PageStore, spliced, with_bytes, page_in, bytes_from, paged_of, paged_in, IsSetAt}
+use Rattle.rv_hart.specs.private.Pages.{Paged, PageStore, spliced, with_bytes, page_in, stored_page, paged_of, paged_in, IsSetAt}
 use Rattle.rv_hart.specs.private.Recents.{KeepsPages}
 use Rattle.rv_hart.proofs.Near.{part-get, part-length}
 use Rattle.rv_hart.proofs.Set.{spliced-length, spliced-before, spliced-in, spliced-behind}
@@ -115,24 +115,24 @@ page-other bytes other start offset source other_is start_is differ other_in sta
     ]
 
 -- the bytes of a page that was made
-pub page-long : (blocks : List (List Page)) (bytes : List ℕ) (recents : List Recent) (number start : ℕ) → KeepsPages blocks bytes recents → (page_in blocks number).start ≡ Some start → length (bytes_from bytes (Some start)) ≡ 2 ^ 12
-unfolding bytes_from
+pub page-long : (blocks : List (List Page)) (bytes : List ℕ) (recents : List Recent) (number start : ℕ) → KeepsPages blocks bytes recents → (page_in blocks number).start ≡ Some start → length (stored_page bytes (Some start)) ≡ 2 ^ 12
+unfolding stored_page
 page-long blocks bytes recents number start keeps is = part-length bytes start 4096 (keeps.whole number start is)
 
-pub page-none : (blocks : List (List Page)) (bytes : List ℕ) (recents : List Recent) (number : ℕ) → KeepsPages blocks bytes recents → bytes_from bytes (page_in blocks number).start ≡ [] → (page_in blocks number).start ≡ None
+pub page-none : (blocks : List (List Page)) (bytes : List ℕ) (recents : List Recent) (number : ℕ) → KeepsPages blocks bytes recents → stored_page bytes (page_in blocks number).start ≡ [] → (page_in blocks number).start ≡ None
 page-none blocks bytes recents number keeps empty = by_start (page_in blocks number).start refl
   where
     by_start : (start : Option ℕ) → (page_in blocks number).start ≡ start → (page_in blocks number).start ≡ None
     by_start None is = is
     by_start (Some start) is =
         let long = page-long blocks bytes recents number start keeps is in
-        let none : length (bytes_from bytes (Some start)) ≡ 0 = ap (λ (s : Option ℕ). length (bytes_from bytes s)) (sym is) ∙ ap length empty in
+        let none : length (stored_page bytes (Some start)) ≡ 0 = ap (λ (s : Option ℕ). length (stored_page bytes s)) (sym is) ∙ ap length empty in
         absurd (omega (arith, long, none))
 
 -- what the pages have after bytes were put into one of them
 pub pages-put : (blocks : List (List Page)) (bytes : List ℕ) (recents : List Recent) (number start offset : ℕ) (source : List ℕ) → KeepsPages blocks bytes recents → (page_in blocks number).start ≡ Some start → offset + length source ≤ 2 ^ 12
     → (n : ℕ) → paged_of (spliced bytes (start + offset) source) (page_in blocks n) ≡ cond (n == number) (with_bytes (paged_of bytes (page_in blocks number)) offset source) (paged_of bytes (page_in blocks n))
-unfolding bytes_from
+unfolding stored_page
 pages-put blocks bytes recents number start offset source keeps is inside n = by_number (n == number) refl
   where
     after : List ℕ
@@ -143,11 +143,11 @@ pages-put blocks bytes recents number start offset source keeps is inside n = by
 
     same : paged_of after (page_in blocks number) ≡ with_bytes (paged_of bytes (page_in blocks number)) offset source
     same =
-        ap (λ (s : Option ℕ). let p : Paged = record { home = own; bytes = bytes_from after s } in p) is
+        ap (λ (s : Option ℕ). let p : Paged = record { home = own; bytes = stored_page after s } in p) is
         ∙ ap (λ (b : List ℕ). let p : Paged = record { home = own; bytes = b } in p) (page-put bytes start offset source (keeps.whole number start is) inside)
-        ∙ sym (ap (λ (s : Option ℕ). let p : Paged = record { home = own; bytes = spliced (bytes_from bytes s) offset source } in p) is)
+        ∙ sym (ap (λ (s : Option ℕ). let p : Paged = record { home = own; bytes = spliced (stored_page bytes s) offset source } in p) is)
 
-    other : (s : Option ℕ) → (page_in blocks n).start ≡ s → n ≢ number → bytes_from after s ≡ bytes_from bytes s
+    other : (s : Option ℕ) → (page_in blocks n).start ≡ s → n ≢ number → stored_page after s ≡ stored_page bytes s
     other None there differ = refl
     other (Some t) there differ =
         page-other bytes t start offset source (keeps.aligned n t there) (keeps.aligned number start is)
@@ -198,7 +198,7 @@ begins store blocks bytes recents page number from offset count keeps view same 
     long : length (paged_in store number).bytes ≡ 4096
     long =
         sym (ap (λ (s : PageStore). length (paged_in s number).bytes) view)
-        ∙ ap (λ (o : Option ℕ). length (bytes_from bytes o)) there
+        ∙ ap (λ (o : Option ℕ). length (stored_page bytes o)) there
         ∙ page-long blocks bytes recents number from keeps there
 
 -- bytes of one page more
@@ -211,8 +211,8 @@ last : (bytes more : List ℕ) → length more ≡ 4096 → take 4096 (drop (len
 last bytes more long =
     ap (take 4096) (drop-append_seam bytes more) ∙ ap (λ (n : ℕ). take n more) (sym long) ∙ take-length more
 
-of-more : (blocks : List (List Page)) (bytes more : List ℕ) (recents : List Recent) (n : ℕ) (start : Option ℕ) → KeepsPages blocks bytes recents → (page_in blocks n).start ≡ start → bytes_from (bytes ++ more) start ≡ bytes_from bytes start
-unfolding bytes_from
+of-more : (blocks : List (List Page)) (bytes more : List ℕ) (recents : List Recent) (n : ℕ) (start : Option ℕ) → KeepsPages blocks bytes recents → (page_in blocks n).start ≡ start → stored_page (bytes ++ more) start ≡ stored_page bytes start
+unfolding stored_page
 of-more blocks bytes more recents n None keeps is = refl
 of-more blocks bytes more recents n (Some start) keeps is = longer bytes more start (keeps.whole n start is)
 
@@ -228,7 +228,7 @@ pages-more blocks after bytes more recents keeps same n =
 -- and with one page more
 pub pages-made : (blocks after : List (List Page)) (bytes more : List ℕ) (recents : List Recent) (number : ℕ) (home : Segment) → KeepsPages blocks bytes recents → IsSetAt blocks after number (record { home = home; start = Some (length bytes) }) → length more ≡ 2 ^ 12
     → (n : ℕ) → paged_of (bytes ++ more) (page_in after n) ≡ cond (n == number) (record { home = home; bytes = more }) (paged_of bytes (page_in blocks n))
-unfolding bytes_from
+unfolding stored_page
 pages-made blocks after bytes more recents number home keeps set long n =
     ap (λ (p : Page). paged_of (bytes ++ more) p) (set n) ∙ by_number (n == number)
   where

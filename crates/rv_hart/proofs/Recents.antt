@@ -7,7 +7,7 @@ use Rattle.prof_bytes.specs.declared.fail.Memory.{Memory}
 use Rattle.elf_image.specs.declared.elf.TheConstants.{PF_R, PF_W}
 use Rattle.rv_hart.specs.declared.page.Page.{Page}
 use Rattle.rv_hart.specs.declared.recent.Recent.{Recent}
-use Rattle.rv_hart.specs.private.Pages.{PageStore, page_in, bytes_from, paged_of, paged_in, IsSetAt}
+use Rattle.rv_hart.specs.private.Pages.{PageStore, page_in, stored_page, paged_of, paged_in, IsSetAt}
 use Rattle.rv_hart.specs.private.Recents.{Stands, Serves, IsRecentOf, IsRecent, KeepsPages, IsNear, AreNear}
 use Rattle.rv_hart.proofs.Near.{part-again}
 use Rattle.rv_hart.proofs.PageBytes.{page-long, page-none, pages-more, pages-made, Begins}
@@ -133,8 +133,8 @@ stands-number page number right at offset stands = let above = stands.above in l
 
 near-here : (blocks : List (List Page)) (bytes : List ℕ) (recents : List Recent) (number right at offset count : ℕ) → KeepsPages blocks bytes recents → count ≤ 4 → Stands (page_in blocks number) (number * 2 ^ 12) right at offset → IsNear (paged_of bytes (page_in blocks number)) right at count
 near-here blocks bytes recents number right at offset count keeps few stands =
-    let long : length (bytes_from bytes (page_in blocks number).start) ≡ 4096 =
-    ap (λ (s : Option ℕ). length (bytes_from bytes s)) stands.begins ∙ page-long blocks bytes recents number stands.start keeps stands.begins in
+    let long : length (stored_page bytes (page_in blocks number).start) ≡ 4096 =
+    ap (λ (s : Option ℕ). length (stored_page bytes s)) stands.begins ∙ page-long blocks bytes recents number stands.start keeps stands.begins in
     let low = stands.low in
     let high = stands.high in
     let above = stands.above in
@@ -147,8 +147,8 @@ stands-near blocks bytes recents number right at offset count keeps few stands =
     (near-here blocks bytes recents number right at offset count keeps few stands)
 
 bytes-here : (blocks : List (List Page)) (bytes : List ℕ) (recents : List Recent) (number right at offset count : ℕ) → KeepsPages blocks bytes recents → count ≤ 4 → Stands (page_in blocks number) (number * 2 ^ 12) right at offset
-    → take count (drop offset bytes) ≡ take count (drop (at % 2 ^ 12) (bytes_from bytes (page_in blocks number).start))
-unfolding bytes_from
+    → take count (drop offset bytes) ≡ take count (drop (at % 2 ^ 12) (stored_page bytes (page_in blocks number).start))
+unfolding stored_page
 bytes-here blocks bytes recents number right at offset count keeps few stands =
     let above = stands.above in
     let within = stands.within in
@@ -156,7 +156,7 @@ bytes-here blocks bytes recents number right at offset count keeps few stands =
     let whole = keeps.whole number stands.start stands.begins in
     ap (λ (k : ℕ). take count (drop k bytes)) (let e : offset ≡ stands.start + at % 4096 = omega arith in e)
     ∙ sym (part-again bytes stands.start 4096 (at % 4096) count whole (omega arith))
-    ∙ sym (ap (λ (s : Option ℕ). take count (drop (at % 4096) (bytes_from bytes s))) stands.begins)
+    ∙ sym (ap (λ (s : Option ℕ). take count (drop (at % 4096) (stored_page bytes s))) stands.begins)
 
 pub stands-bytes : (blocks : List (List Page)) (bytes : List ℕ) (recents : List Recent) (number right at offset count : ℕ) → KeepsPages blocks bytes recents → count ≤ 4 → Stands (page_in blocks number) (number * 2 ^ 12) right at offset
     → AreNear (paged_of bytes (page_in blocks (at / 2 ^ 12))) right at count (take count (drop offset bytes))
@@ -164,7 +164,7 @@ stands-bytes blocks bytes recents number right at offset count keeps few stands 
     record {
       near = stands-near blocks bytes recents number right at offset count keeps few stands;
       are =
-          subst (λ (n : ℕ). take count (drop offset bytes) ≡ take count (drop (at % 2 ^ 12) (bytes_from bytes (page_in blocks n).start))) (stands-number (page_in blocks number) number right at offset stands)
+          subst (λ (n : ℕ). take count (drop offset bytes) ≡ take count (drop (at % 2 ^ 12) (stored_page bytes (page_in blocks n).start))) (stands-number (page_in blocks number) number right at offset stands)
           (bytes-here blocks bytes recents number right at offset count keeps few stands);
     }
 
@@ -216,7 +216,7 @@ recent-write store blocks bytes recents recent at offset count keeps view is tol
     }
 
 -- a page that was to be made, whether there was memory for it or not
-pub keeps-either : (blocks after : List (List Page)) (bytes more all : List ℕ) (recents : List Recent) (number start : ℕ) (home : Segment) (result : Result (Unit {0}) Memory) → KeepsPages blocks bytes recents → bytes_from bytes (page_in blocks number).start ≡ [] → start ≡ length bytes
+pub keeps-either : (blocks after : List (List Page)) (bytes more all : List ℕ) (recents : List Recent) (number start : ℕ) (home : Segment) (result : Result (Unit {0}) Memory) → KeepsPages blocks bytes recents → stored_page bytes (page_in blocks number).start ≡ [] → start ≡ length bytes
     → OnOk result (IsSetAt blocks after number (record { home = home; start = Some start })) → OnErr result ((n : ℕ) → page_in after n ≡ page_in blocks n) → length more ≡ 2 ^ 12 → all ≡ bytes ++ more → KeepsPages after all recents
 keeps-either blocks after bytes more all recents number start home (Ok u) keeps new from set same long are =
     keeps-made blocks after bytes more all recents number home keeps (page-none blocks bytes recents number keeps new)

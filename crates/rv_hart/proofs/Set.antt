@@ -16,7 +16,7 @@ pub spliced-length : (bytes : List ℕ) (offset : ℕ) (source : List ℕ) → o
 spliced-length bytes offset source within =
     omega (arith, length-append (take offset bytes ++ source) (drop (offset + length source) bytes), length-append (take offset bytes) source, length-take offset bytes, length-drop (offset + length source) bytes)
 
--- before the bytes, in them and behind them
+-- before the bytes, in them and after them
 pub spliced-before : (bytes : List ℕ) (offset : ℕ) (source : List ℕ) (k d : ℕ) → offset + length source ≤ length bytes → k < offset → get_or (spliced bytes offset source) k d ≡ get_or bytes k d
 spliced-before bytes offset source k d within before =
     get_or_append_left (take offset bytes ++ source) (drop (offset + length source) bytes) d k (omega (arith, length-append (take offset bytes) source, length-take offset bytes))

@@ -9,7 +9,8 @@ use Rattle.rv_hart.specs.declared.outcome.Stepped.{Stepped}
 use Rattle.rv_hart.specs.declared.outcome.Stepped.TheVariants as stepped
 use Rattle.rv_hart.specs.declared.outcome.Cause.{Cause}
 use Rattle.rv_hart.specs.declared.outcome.Cause.TheVariants as cause
-use Rattle.rv_hart.specs.Arithmetic.{sum, signed}
+use Rattle.prof_bytes.specs.Number.{word_sum}
+use Rattle.rv_hart.specs.Arithmetic.{signed}
 use Rattle.rv_hart.specs.AddressSpace.{AddressSpace, stored}
 use Rattle.rv_hart.specs.Step.{State, rs1_value, rs2_value, address, operand, trapped, retired, jumps, continues_at, branches, loads, finishes_store, executed, carried_out, fetched, after_fetch, step_of}
 use Rattle.prof_bytes.specs.Number.{number_bytes}
@@ -25,11 +26,11 @@ IfChanged s r = Changes s r.0 r.1
 
 jump : (inst : Inst) (target : ℕ) (s : State) → IfChanged s (jumps inst target s)
 jump inst target s =
-    elim (target % 4 == 0) as (λ b. IfChanged s (cond b (retired inst (sum s.pc 4) target s) (trapped cause.Target s))) [ true ↦ tt | false ↦ refl ]
+    elim (target % 4 == 0) as (λ b. IfChanged s (cond b (retired inst (word_sum s.pc 4) target s) (trapped cause.Target s))) [ true ↦ tt | false ↦ refl ]
 
 branch : (inst : Inst) (test : Bool) (s : State) → IfChanged s (branches inst test s)
 branch inst true s =
-    elim (sum s.pc inst.imm % 4 == 0) as (λ b. IfChanged s (cond b (continues_at (sum s.pc inst.imm) s) (trapped cause.Target s))) [ true ↦ tt | false ↦ refl ]
+    elim (word_sum s.pc inst.imm % 4 == 0) as (λ b. IfChanged s (cond b (continues_at (word_sum s.pc inst.imm) s) (trapped cause.Target s))) [ true ↦ tt | false ↦ refl ]
 branch inst false s = tt
 
 take : (inst : Inst) (number : Option ℕ) (s : State) → IfChanged s (loads inst number s)
@@ -44,8 +45,8 @@ by_operation : (op : Op) (inst : Inst) (s : State) → IfChanged s (executed op 
 by_operation ops.Illegal inst s = refl
 by_operation ops.Lui inst s = tt
 by_operation ops.Auipc inst s = tt
-by_operation ops.Jal inst s = jump inst (sum s.pc inst.imm) s
-by_operation ops.Jalr inst s = jump inst (sum (rs1_value inst s) inst.imm / 2 * 2) s
+by_operation ops.Jal inst s = jump inst (word_sum s.pc inst.imm) s
+by_operation ops.Jalr inst s = jump inst (word_sum (rs1_value inst s) inst.imm / 2 * 2) s
 by_operation ops.Beq inst s = branch inst (rs1_value inst s == rs2_value inst s) s
 by_operation ops.Bne inst s = branch inst (not (rs1_value inst s == rs2_value inst s)) s
 by_operation ops.Blt inst s = branch inst (int_lt (signed (rs1_value inst s)) (signed (rs2_value inst s))) s

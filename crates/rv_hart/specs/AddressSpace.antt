@@ -39,12 +39,12 @@ grants right (Some region) = has right region
 abbrev pub may : ℕ → List Segment → ℕ → Bool
 may right regions at = grants right (region_at regions at)
 
--- each of so many addresses, from this one on, lies in a region with this right. No address is 2^32
+-- each of a given number of addresses, from this one on, lies in a region with this right. No address is 2^32
 -- or above, since no region reaches so far
 abbrev pub may_all : ℕ → AddressSpace → ℕ → ℕ → Bool
 may_all right memory at count = list_all (may right memory.regions) (range_with_len at count)
 
--- the number in so many bytes from this address on, the lowest first
+-- the number in that many bytes from this address on, the lowest first
 abbrev pub memory_number : AddressSpace → ℕ → ℕ → ℕ
 memory_number memory at size = number_in size (map (byte_at memory) (range_with_len at size))
 
@@ -83,7 +83,7 @@ stack_of hart =
     let end = stacks_begin + (hart + 1) * stack_stride in
     record { start = end - stack_size; end = end; flags = PF_R + PF_W; offset = 0; filled = 0 }
 
--- the program's segments and the stacks of so many harts
+-- the program's segments and the stacks of a given number of harts
 abbrev pub regions_of : ProgramImage → ℕ → List Segment
 regions_of program harts = program.segments ++ map stack_of (range_with_len 0 harts)
 
@@ -96,7 +96,7 @@ byte_in file at (Some region) =
 abbrev pub first_byte : List ℕ → List Segment → ℕ → ℕ
 first_byte file regions at = byte_in file at (region_at regions at)
 
--- the memory of a program that was loaded, with stacks for so many harts
+-- the memory of a program that was loaded, with stacks for a given number of harts
 abbrev pub first_memory : ProgramImage → ℕ → AddressSpace
 first_memory program harts =
     let regions = regions_of program harts in

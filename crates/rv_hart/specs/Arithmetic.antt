@@ -1,5 +1,6 @@
 -- What the operations of RV32IM give of two words (RISC-V unprivileged manual, "Integer
 -- Computational Instructions", and the "M" extension). All is modulo 2^32.
+use Rattle.prof_bytes.specs.Number.{word_sum}
 use Rattle.std.specs.Prelude.{ℕ, ◌+◌, ◌-◌, ◌*◌, ◌/◌, ◌%◌, ◌^◌, ◌==◌, ℤ, pos, ◌*ℤ◌, Bool, if◌then◌else◌, nat_lt, bit_and}
 use Rattle.std.specs.Prelude.{bit_or, bit_xor}
 use Rattle.std.specs.Int.{w32, w64, cast_signed, cast_unsigned, int_shr}
@@ -20,9 +21,6 @@ upper_word product = cast_unsigned w64 product / 2 ^ 32
 
 abbrev pub flag : Bool → ℕ
 flag test = if test then 1 else 0
-
-abbrev pub sum : ℕ → ℕ → ℕ
-sum a b = (a + b) % 2 ^ 32
 
 abbrev pub difference : ℕ → ℕ → ℕ
 difference a b = (a + (2 ^ 32 - b)) % 2 ^ 32
@@ -56,7 +54,7 @@ remainder a b = if b == 0 then a else a % b
 
 -- what an operation computes of its two registers and its immediate
 abbrev pub computed : Op → ℕ → ℕ → ℕ → ℕ
-computed ops.Addi a b imm = sum a imm
+computed ops.Addi a b imm = word_sum a imm
 computed ops.Slti a b imm = flag (int_lt (signed a) (signed imm))
 computed ops.Sltiu a b imm = flag (nat_lt a imm)
 computed ops.Xori a b imm = bit_xor a imm
@@ -65,7 +63,7 @@ computed ops.Andi a b imm = bit_and a imm
 computed ops.Slli a b imm = left_shift a imm
 computed ops.Srli a b imm = right_shift a imm
 computed ops.Srai a b imm = right_shift_signed a imm
-computed ops.Add a b imm = sum a b
+computed ops.Add a b imm = word_sum a b
 computed ops.Sub a b imm = difference a b
 computed ops.Sll a b imm = left_shift a b
 computed ops.Slt a b imm = flag (int_lt (signed a) (signed b))

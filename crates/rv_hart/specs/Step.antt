@@ -15,7 +15,8 @@ use Rattle.rv_hart.specs.declared.outcome.Cause.{Cause}
 use Rattle.rv_hart.specs.declared.outcome.Cause.TheVariants as cause
 use Rattle.elf_image.specs.declared.elf.TheConstants.{PF_X}
 use Rattle.rv_hart.specs.AddressSpace.{AddressSpace, has, region_at, memory_number, loaded, stored}
-use Rattle.rv_hart.specs.Arithmetic.{signed, sum, computed}
+use Rattle.prof_bytes.specs.Number.{word_sum}
+use Rattle.rv_hart.specs.Arithmetic.{signed, computed}
 
 pub record State : Type 0 where
   pub pc : ℕ
@@ -48,19 +49,19 @@ abbrev pub retired : Inst → ℕ → ℕ → State → State × Stepped
 retired inst value next s = (state next (with_register s.registers inst.rd value) s.memory, stepped.Retired)
 
 abbrev pub computes : Inst → ℕ → State → State × Stepped
-computes inst value s = retired inst value (sum s.pc 4) s
+computes inst value s = retired inst value (word_sum s.pc 4) s
 
 -- a jump leaves the address of the next instruction in the destination
 abbrev pub jumps : Inst → ℕ → State → State × Stepped
-jumps inst target s = if target % 4 == 0 then retired inst (sum s.pc 4) target s else trapped cause.Target s
+jumps inst target s = if target % 4 == 0 then retired inst (word_sum s.pc 4) target s else trapped cause.Target s
 
 abbrev pub continues_at : ℕ → State → State × Stepped
 continues_at next s = (state next s.registers s.memory, stepped.Retired)
 
 abbrev pub branches : Inst → Bool → State → State × Stepped
 branches inst test s =
-    let target = sum s.pc inst.imm in
-    if not test then continues_at (sum s.pc 4) s
+    let target = word_sum s.pc inst.imm in
+    if not test then continues_at (word_sum s.pc 4) s
     else (if target % 4 == 0 then continues_at target s else trapped cause.Target s)
 
 abbrev pub loads : Inst → Option ℕ → State → State × Stepped
@@ -69,14 +70,14 @@ loads inst (Some number) s = computes inst number s
 
 -- the address that a load or a store means, and the number there
 abbrev pub address : Inst → State → ℕ
-address inst s = sum (rs1_value inst s) inst.imm
+address inst s = word_sum (rs1_value inst s) inst.imm
 
 abbrev pub operand : Inst → ℕ → State → Option ℕ
 operand inst size s = loaded s.memory (address inst s) size
 
 abbrev pub finishes_store : Bool × AddressSpace → State → State × Stepped
 finishes_store answer s =
-    if answer.0 then (state (sum s.pc 4) s.registers answer.1, stepped.Retired) else trapped cause.Store s
+    if answer.0 then (state (word_sum s.pc 4) s.registers answer.1, stepped.Retired) else trapped cause.Store s
 
 abbrev pub stores : Inst → ℕ → State → State × Stepped
 stores inst size s = finishes_store (stored s.memory (address inst s) (number_bytes size (rs2_value inst s))) s
@@ -85,9 +86,9 @@ stores inst size s = finishes_store (stored s.memory (address inst s) (number_by
 abbrev pub executed : Op → Inst → State → State × Stepped
 executed ops.Illegal inst s = trapped cause.Illegal s
 executed ops.Lui inst s = computes inst inst.imm s
-executed ops.Auipc inst s = computes inst (sum s.pc inst.imm) s
-executed ops.Jal inst s = jumps inst (sum s.pc inst.imm) s
-executed ops.Jalr inst s = jumps inst (sum (rs1_value inst s) inst.imm / 2 * 2) s
+executed ops.Auipc inst s = computes inst (word_sum s.pc inst.imm) s
+executed ops.Jal inst s = jumps inst (word_sum s.pc inst.imm) s
+executed ops.Jalr inst s = jumps inst (word_sum (rs1_value inst s) inst.imm / 2 * 2) s
 executed ops.Beq inst s = branches inst (rs1_value inst s == rs2_value inst s) s
 executed ops.Bne inst s = branches inst (not (rs1_value inst s == rs2_value inst s)) s
 executed ops.Blt inst s = branches inst (int_lt (signed (rs1_value inst s)) (signed (rs2_value inst s))) s
@@ -102,7 +103,7 @@ executed ops.Lhu inst s = loads inst (operand inst 2 s) s
 executed ops.Sb inst s = stores inst 1 s
 executed ops.Sh inst s = stores inst 2 s
 executed ops.Sw inst s = stores inst 4 s
-executed ops.Fence inst s = continues_at (sum s.pc 4) s
+executed ops.Fence inst s = continues_at (word_sum s.pc 4) s
 executed ops.Ecall inst s = (s, stepped.Ecall)
 executed ops.Ebreak inst s = (s, stepped.Break)
 executed operation inst s = computes inst (computed operation (rs1_value inst s) (rs2_value inst s) inst.imm) s

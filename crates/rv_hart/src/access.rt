@@ -12,7 +12,7 @@ use elf_image::Segment;
 use prof_bytes::Memory;
 use std::alloc::Global;
 
-/// The number in so many bytes from `at` on, where each may be read.
+/// The number in that many bytes from `at` on, where each may be read.
 #[inline(always)]
 pub(crate) fn load(paged: &PagedMemory, at: u32, count: usize) -> Option<u32>
     requires paged { IsPaged paged.now }

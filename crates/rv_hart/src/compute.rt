@@ -20,7 +20,7 @@ fn mixed_product(a: i32, b: u32) -> i64
 }
 
 #[inline(never)]
-fn upper_signed(a: u32, b: u32) -> u32
+fn mulh(a: u32, b: u32) -> u32
     ensures { result ≡ upper_word (signed a *ℤ signed b) }
 {
     let product = long_product(a.cast_signed(), b.cast_signed());
@@ -28,7 +28,7 @@ fn upper_signed(a: u32, b: u32) -> u32
 }
 
 #[inline(never)]
-fn upper_mixed(a: u32, b: u32) -> u32
+fn mulhsu(a: u32, b: u32) -> u32
     ensures { result ≡ upper_word (signed a *ℤ pos b) }
 {
     let product = mixed_product(a.cast_signed(), b);
@@ -36,14 +36,14 @@ fn upper_mixed(a: u32, b: u32) -> u32
 }
 
 #[inline(never)]
-fn upper_unsigned(a: u32, b: u32) -> u32
+fn mulhu(a: u32, b: u32) -> u32
     ensures { result ≡ upper_word (pos a *ℤ pos b) }
 {
     ((u64::from(a) * u64::from(b)) >> 32) as u32
 }
 
 #[inline(always)]
-fn divide_signed(a: u32, b: u32) -> u32
+fn div(a: u32, b: u32) -> u32
     ensures { result ≡ quotient_signed a b }
 {
     if b == 0 {
@@ -55,14 +55,14 @@ fn divide_signed(a: u32, b: u32) -> u32
 }
 
 #[inline(always)]
-fn divide(a: u32, b: u32) -> u32
+fn divu(a: u32, b: u32) -> u32
     ensures { result ≡ quotient a b }
 {
     if b == 0 { u32::MAX } else { a / b }
 }
 
 #[inline(always)]
-fn rest_signed(a: u32, b: u32) -> u32
+fn rem(a: u32, b: u32) -> u32
     ensures { result ≡ remainder_signed a b }
 {
     if b == 0 {
@@ -74,7 +74,7 @@ fn rest_signed(a: u32, b: u32) -> u32
 }
 
 #[inline(always)]
-fn rest(a: u32, b: u32) -> u32
+fn remu(a: u32, b: u32) -> u32
     ensures { result ≡ remainder a b }
 {
     if b == 0 { a } else { a % b }
@@ -107,13 +107,13 @@ pub(crate) fn compute(op: Op, a: u32, b: u32, imm: u32) -> u32
         Op::Or => a | b,
         Op::And => a & b,
         Op::Mul => a.wrapping_mul(b),
-        Op::Mulh => upper_signed(a, b),
-        Op::Mulhsu => upper_mixed(a, b),
-        Op::Mulhu => upper_unsigned(a, b),
-        Op::Div => divide_signed(a, b),
-        Op::Divu => divide(a, b),
-        Op::Rem => rest_signed(a, b),
-        Op::Remu => rest(a, b),
+        Op::Mulh => mulh(a, b),
+        Op::Mulhsu => mulhsu(a, b),
+        Op::Mulhu => mulhu(a, b),
+        Op::Div => div(a, b),
+        Op::Divu => divu(a, b),
+        Op::Rem => rem(a, b),
+        Op::Remu => remu(a, b),
         _ => 0,
     }
 }

@@ -38,7 +38,7 @@ impl HasRange for DecodedCode {
     }
 }
 
-/// What stands behind the last word: no instruction, so that no run goes past it.
+/// What stands after the last word: no instruction, so that no run goes past it.
 pub(crate) const END: Inst = Inst {
     op: Op::Illegal,
     rd: 0,
@@ -70,8 +70,8 @@ fn word_in(bytes: &[u8], index: usize) -> u32
     number(&bytes[4 * index..4 * index + 4])
 }
 
-/// The words of the region that the file has from an address on, at most so many, decoded. There are none of a region
-/// that may be written. There is room for one behind them.
+/// The words of the region that the file has from an address on, at most a given number, decoded. There are none of a
+/// region that may be written. There is room for one after them.
 fn decoded_words(
     alloc: Global,
     file: &[u8],
@@ -93,7 +93,7 @@ fn decoded_words(
     Ok(words)
 }
 
-/// The words of the region that holds the address, at most so many, decoded.
+/// The words of the region that holds the address, at most a given number, decoded.
 fn decoded_region(
     alloc: Global,
     paged: &PagedMemory,
@@ -181,7 +181,7 @@ pub(crate) fn word_at(items: &[Inst], index: usize) -> &Inst
     &items[index]
 }
 
-/// Whether a word is no instruction.
+/// Whether a word is not an instruction.
 pub(crate) fn is_illegal(inst: &Inst) -> bool
     ensures yes { result ≡ true → inst.now.op ≡ Op.Illegal }
     ensures no { result ≡ false → inst.now.op ≢ Op.Illegal }

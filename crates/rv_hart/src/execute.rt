@@ -4,7 +4,8 @@ ghost use Rattle.prof_bytes.specs.Number.{number_bytes};
 ghost use Rattle.rv_table.specs.Fields.{sign_extended};
 ghost use Rattle.rv_table.specs.Table.{HasRegisters};
 ghost use Rattle.rv_hart.specs.AddressSpace.{AddressSpace, is_size, stored};
-ghost use Rattle.rv_hart.specs.Arithmetic.{computed, sum};
+ghost use Rattle.prof_bytes.specs.Number.{word_sum};
+ghost use Rattle.rv_hart.specs.Arithmetic.{computed};
 ghost use Rattle.rv_hart.specs.private.Going.{step_ended, Goes, GoesBy};
 ghost use Rattle.rv_hart.specs.private.Paging.{IsPaged, memory_of, word_address, indexed_state, state_at};
 ghost use Rattle.rv_hart.specs.Step.{State, state, rs1_value, rs2_value, address, operand, computes, jumps, branches};
@@ -21,34 +22,34 @@ use prof_bytes::Memory;
 use rv_table::{Inst, Op};
 use std::alloc::Global;
 
-/// How a hart goes on after the word at an index, among so many words.
+/// How execution continues after one instruction.
 #[derive(Clone, Copy, Debug, PartialEq, Eq)]
-pub(crate) enum Went {
-    /// The instruction retired, and the next one's word is among them.
-    On,
-    /// The instruction retired, and the next one's word lies elsewhere.
-    Away,
-    /// The word is no instruction.
+pub(crate) enum Continuation {
+    /// The instruction retired, and the next word is in the same list.
+    Next,
+    /// The instruction retired, and the next word lies outside of it.
+    Outside,
+    /// The word is not an instruction.
     Illegal,
     /// The instruction did not retire.
     Stopped(Stepped),
 }
 
-/// The hart goes on with the word behind this one.
+/// The hart goes on with the word after this one.
 #[inline(always)]
-fn go_on(index: &mut usize) -> Went
+fn go_on(index: &mut usize) -> Continuation
     ensures ends { (base : ℕ) (registers : List ℕ) (m : AddressSpace) →
         let s = state (word_address base index.old) registers m in
-        (state (word_address base index.new) registers m, step_ended result) ≡ continues_at (sum s.pc 4) s }
+        (state (word_address base index.new) registers m, step_ended result) ≡ continues_at (word_sum s.pc 4) s }
     ensures goes { (count : ℕ) → Goes count index.old index.new result }
 {
     *index = index.wrapping_add(1);
-    Went::On
+    Continuation::Next
 }
 
 /// The value goes into the destination.
 #[inline(always)]
-fn write_back(hart: &mut Hart, index: &mut usize, inst: &Inst, value: u32) -> Went
+fn write_back(hart: &mut Hart, index: &mut usize, inst: &Inst, value: u32) -> Continuation
     requires { HasRegisters inst.now }
     ensures ends { (base : ℕ) (m : AddressSpace) → (state_at base index.new hart.new m, step_ended result)
         ≡ computes inst.now value (state_at base index.old hart.old m) }
@@ -56,12 +57,12 @@ fn write_back(hart: &mut Hart, index: &mut usize, inst: &Inst, value: u32) -> We
 {
     write(hart, inst.rd, value);
     *index = index.wrapping_add(1);
-    Went::On
+    Continuation::Next
 }
 
 /// An operation on registers and the immediate goes into the destination.
 #[inline(always)]
-fn operate(hart: &mut Hart, index: &mut usize, inst: &Inst, op: Op) -> Went
+fn operate(hart: &mut Hart, index: &mut usize, inst: &Inst, op: Op) -> Continuation
     requires { HasRegisters inst.now }
     ensures ends { (base : ℕ) (m : AddressSpace) → let s = state_at base index.old hart.old m in
         (state_at base index.new hart.new m, step_ended result)
@@ -75,7 +76,7 @@ fn operate(hart: &mut Hart, index: &mut usize, inst: &Inst, op: Op) -> Went
 
 /// The hart goes on with the word at this address.
 #[inline(always)]
-fn go_to(index: &mut usize, base: u32, count: usize, target: u32) -> Went
+fn go_to(index: &mut usize, base: u32, count: usize, target: u32) -> Continuation
     requires base { base % 4 ≡ 0 }
     requires target { target % 4 ≡ 0 }
     ensures at { word_address base index.new ≡ target }
@@ -83,7 +84,11 @@ fn go_to(index: &mut usize, base: u32, count: usize, target: u32) -> Went
     ensures goes { Goes count index.old index.new result }
 {
     *index = index_of(base, target);
-    if *index < count { Went::On } else { Went::Away }
+    if *index < count {
+        Continuation::Next
+    } else {
+        Continuation::Outside
+    }
 }
 
 #[inline(always)]
@@ -94,7 +99,7 @@ fn jump(
     count: usize,
     inst: &Inst,
     target: u32,
-) -> Went
+) -> Continuation
     requires registers { HasRegisters inst.now }
     requires base { base % 4 ≡ 0 }
     ensures ends { (m : AddressSpace) → (state_at base index.new hart.new m, step_ended result)
@@ -102,7 +107,7 @@ fn jump(
     ensures goes { Goes count index.old index.new result }
 {
     if target % 4 != 0 {
-        return Went::Stopped(Stepped::Trap(Cause::Target));
+        return Continuation::Stopped(Stepped::Trap(Cause::Target));
     }
     let link = pc_of(base, *index).wrapping_add(4);
     write(hart, inst.rd, link);
@@ -110,7 +115,7 @@ fn jump(
 }
 
 #[inline(always)]
-fn branch(index: &mut usize, base: u32, count: usize, inst: &Inst, taken: bool) -> Went
+fn branch(index: &mut usize, base: u32, count: usize, inst: &Inst, taken: bool) -> Continuation
     requires base { base % 4 ≡ 0 }
     ensures ends { (registers : List ℕ) (m : AddressSpace) →
         (state (word_address base index.new) registers m, step_ended result)
@@ -119,18 +124,18 @@ fn branch(index: &mut usize, base: u32, count: usize, inst: &Inst, taken: bool) 
 {
     if !taken {
         *index = index.wrapping_add(1);
-        return Went::On;
+        return Continuation::Next;
     }
     let target = pc_of(base, *index).wrapping_add(inst.imm);
     if target % 4 != 0 {
-        return Went::Stopped(Stepped::Trap(Cause::Target));
+        return Continuation::Stopped(Stepped::Trap(Cause::Target));
     }
     go_to(index, base, count, target)
 }
 
 /// A number that was loaded goes into the destination.
 #[inline(always)]
-fn load(hart: &mut Hart, index: &mut usize, inst: &Inst, number: Option<u32>) -> Went
+fn load(hart: &mut Hart, index: &mut usize, inst: &Inst, number: Option<u32>) -> Continuation
     requires { HasRegisters inst.now }
     ensures ends { (base : ℕ) (m : AddressSpace) → (state_at base index.new hart.new m, step_ended result)
         ≡ loads inst.now number (state_at base index.old hart.old m) }
@@ -138,7 +143,7 @@ fn load(hart: &mut Hart, index: &mut usize, inst: &Inst, number: Option<u32>) ->
 {
     match number {
         Some(number) => write_back(hart, index, inst, number),
-        None => Went::Stopped(Stepped::Trap(Cause::Load)),
+        None => Continuation::Stopped(Stepped::Trap(Cause::Load)),
     }
 }
 
@@ -195,16 +200,16 @@ fn finish_store(
     at: u32,
     word: u32,
     size: usize,
-) -> Result<Went, Memory>
+) -> Result<Continuation, Memory>
     requires paged { IsPaged paged.old }
     requires size { size ≤ 4 }
     ensures rest { paged.new ≡ record paged.old { pages = paged.new.pages } }
     ensures paged { IsPaged paged.new }
     ensures ok { (base : ℕ) (registers : List ℕ) →
         let s = state (word_address base index.old) registers (memory_of paged.old) in
-        IfOk result (λ went. (state (word_address base index.new) registers (memory_of paged.new), step_ended went)
+        IfOk result (λ how. (state (word_address base index.new) registers (memory_of paged.new), step_ended how)
         ≡ finishes_store (stored (memory_of paged.old) at (number_bytes size word)) s) }
-    ensures goes { IfOk result (λ went. (count : ℕ) → Goes count index.old index.new went) }
+    ensures goes { IfOk result (λ how. (count : ℕ) → Goes count index.old index.new how) }
     ensures err { OnErr result (index.new ≡ index.old) }
     ensures same { OnErr result (memory_of paged.new ≡ memory_of paged.old) }
     ensures retires { let after = stored (memory_of paged.old) at (number_bytes size word) in
@@ -212,7 +217,7 @@ fn finish_store(
 {
     match access::store_word(paged, alloc, at, word, size) {
         Ok(true) => Ok(go_on(index)),
-        Ok(false) => Ok(Went::Stopped(Stepped::Trap(Cause::Store))),
+        Ok(false) => Ok(Continuation::Stopped(Stepped::Trap(Cause::Store))),
         Err(error) => Err(error),
     }
 }
@@ -226,15 +231,15 @@ fn store(
     alloc: Global,
     inst: &Inst,
     size: usize,
-) -> Result<Went, Memory>
+) -> Result<Continuation, Memory>
     requires paged { IsPaged paged.old }
     requires registers { HasRegisters inst.now }
     requires size { size ≤ 4 }
     ensures rest { paged.new ≡ record paged.old { pages = paged.new.pages } }
     ensures paged { IsPaged paged.new }
-    ensures ok { (base : ℕ) → IfOk result (λ went. (indexed_state base index.new hart.now paged.new, step_ended went)
+    ensures ok { (base : ℕ) → IfOk result (λ how. (indexed_state base index.new hart.now paged.new, step_ended how)
         ≡ stores inst.now size (indexed_state base index.old hart.now paged.old)) }
-    ensures goes { IfOk result (λ went. (count : ℕ) → Goes count index.old index.new went) }
+    ensures goes { IfOk result (λ how. (count : ℕ) → Goes count index.old index.new how) }
     ensures err { OnErr result (index.new ≡ index.old) }
     ensures same { OnErr result (memory_of paged.new ≡ memory_of paged.old) }
     ensures retires { (base : ℕ) → OnErr result
@@ -244,7 +249,7 @@ fn store(
     finish_store(index, paged, alloc, at, read(hart, inst.rs2), size)
 }
 
-/// Carries out the instruction of the word at an index among so many. The hart's own pc stands still.
+/// Carries out the instruction of the word at an index among a given number. The hart's own pc stands still.
 #[inline(always)]
 pub(crate) fn carry_out(
     hart: &mut Hart,
@@ -254,15 +259,15 @@ pub(crate) fn carry_out(
     paged: &mut PagedMemory,
     alloc: Global,
     inst: &Inst,
-) -> Result<Went, Memory>
+) -> Result<Continuation, Memory>
     requires paged { IsPaged paged.old }
     requires registers { HasRegisters inst.now }
     requires base { base % 4 ≡ 0 }
     ensures rest { paged.new ≡ record paged.old { pages = paged.new.pages } }
     ensures paged { IsPaged paged.new }
-    ensures ok { IfOk result (λ went. (indexed_state base index.new hart.new paged.new, step_ended went)
+    ensures ok { IfOk result (λ how. (indexed_state base index.new hart.new paged.new, step_ended how)
         ≡ carried_out inst.now (indexed_state base index.old hart.old paged.old)) }
-    ensures goes { IfOk result (λ went. GoesBy inst.now.op count index.old index.new went) }
+    ensures goes { IfOk result (λ how. GoesBy inst.now.op count index.old index.new how) }
     ensures err { OnErr result
         (indexed_state base index.new hart.new paged.new ≡ indexed_state base index.old hart.old paged.old) }
     ensures retires { OnErr result
@@ -270,7 +275,7 @@ pub(crate) fn carry_out(
     ensures store { OnErr result (is_store inst.now.op ≡ true) }
 {
     Ok(match inst.op {
-        Op::Illegal => Went::Illegal,
+        Op::Illegal => Continuation::Illegal,
         Op::Lui => write_back(hart, index, inst, inst.imm),
         Op::Auipc => write_back(
             hart,
@@ -355,8 +360,8 @@ pub(crate) fn carry_out(
         Op::Sh => return store(hart, index, paged, alloc, inst, 2),
         Op::Sw => return store(hart, index, paged, alloc, inst, 4),
         Op::Fence => go_on(index),
-        Op::Ecall => Went::Stopped(Stepped::Ecall),
-        Op::Ebreak => Went::Stopped(Stepped::Break),
+        Op::Ecall => Continuation::Stopped(Stepped::Ecall),
+        Op::Ebreak => Continuation::Stopped(Stepped::Break),
         Op::Addi => operate(hart, index, inst, Op::Addi),
         Op::Slti => operate(hart, index, inst, Op::Slti),
         Op::Sltiu => operate(hart, index, inst, Op::Sltiu),

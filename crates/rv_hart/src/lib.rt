@@ -2,7 +2,7 @@
 //!
 //! It promises that `step` gives exactly the pc, the registers and the memory after one instruction,
 //! or the trap that it meets, by the RISC-V unprivileged manual; and that `run` gives those after as many
-//! steps as retire, up to so many. Memory is whole: a byte for each address, in the program's segments and
+//! steps as retire, up to a given number. Memory is whole: a byte for each address, in the program's segments and
 //! a stack for each hart; in the code it is pages, and words that no store reaches are decoded once. Below
 //! stand the instruction table and the program's image.
 #![tactic(auto)]

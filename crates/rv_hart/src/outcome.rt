@@ -17,15 +17,15 @@ pub enum Stepped {
 /// Why an instruction trapped.
 #[derive(Clone, Copy, Debug, PartialEq, Eq)]
 pub enum Cause {
-    /// pc is no multiple of 4, or its four bytes do not lie in one segment that may be executed.
+    /// pc is not a multiple of 4, or its four bytes do not lie in one segment that may be executed.
     Fetch,
-    /// The word at pc is no instruction of RV32IM.
+    /// The word at pc is not an RV32IM instruction.
     Illegal,
     /// A byte that is loaded may not be read.
     Load,
     /// A byte that is stored may not be written.
     Store,
-    /// A jump or a taken branch to an address that is no multiple of 4.
+    /// A jump or a taken branch to an address that is not a multiple of 4.
     Target,
 }
 

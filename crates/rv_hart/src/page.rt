@@ -8,6 +8,9 @@ use prof_bytes::Memory;
 use std::alloc::Global;
 use std::marker::Model;
 
+/// Bytes of a page.
+pub(crate) const PAGE_SIZE: u32 = 4096;
+
 /// A page of 4 KiB: the region of the address for which it was made, and where its bytes begin among those of all
 /// pages; `None` where it was not made yet.
 #[derive(Clone, Copy)]

@@ -5,6 +5,7 @@ ghost use Rattle.rv_hart.specs.private.Paging.{page_of, paged_byte, memory_of, I
 ghost use Rattle.scope_types.specs.Memory.{HasWords};
 ghost use Rattle.rv_hart.specs.private.Lending.{AreWordsOf};
 
+use crate::page::PAGE_SIZE;
 use crate::pages::Pages;
 use crate::right::{NOWHERE, Right, grants};
 use elf_image::{RangeTable, Segment};
@@ -75,7 +76,11 @@ impl<'a> PagedMemory<'a> {
         requires { IsPaged self.now }
         ensures { HasWords (λ at. loaded (memory_of self.now) at 4) result }
     {
-        lent(self.page_home(at), self.page_bytes(at), at / 4096 * 4096)
+        lent(
+            self.page_home(at),
+            self.page_bytes(at),
+            at / PAGE_SIZE * PAGE_SIZE,
+        )
     }
 
     /// The byte that the address began with. It is found at once where this region holds it.
@@ -99,7 +104,7 @@ impl<'a> PagedMemory<'a> {
         requires { IsHome self.now.regions home.now }
         ensures { result ≡ paged_byte self.now at }
     {
-        match self.page_bytes(at).get(at as usize % 4096) {
+        match self.page_bytes(at).get(at as usize % PAGE_SIZE as usize) {
             Some(byte) => *byte,
             None => self.first(home, at),
         }

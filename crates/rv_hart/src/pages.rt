@@ -1,4 +1,4 @@
-//! The pages that were made: in blocks of 1 MiB by their numbers, with their bytes one page's behind another's.
+//! The pages that were made: in blocks of 1 MiB by their numbers, with their bytes one page's after another's.
 ghost use Rattle.std.specs.Prelude.{◌≡◌, ◌==◌, [], ◌+◌, ◌/◌, ◌%◌, ◌<◌, ◌≤◌, ◌^◌, ℕ, true, false, if◌then◌else◌, length};
 ghost use Rattle.std.specs.Prelude.{IfOk, IfSome, OnOk, OnErr};
 ghost use Rattle.std.specs.List.{slice_index_or};
@@ -6,7 +6,7 @@ ghost use Rattle.elf_image.specs.declared.elf.TheConstants.{PF_R, PF_W};
 ghost use Rattle.rv_hart.specs.private.Pages.{page_at, page_in, paged_in, spliced, with_bytes, IsSetAt, IsPagedAt};
 ghost use Rattle.rv_hart.specs.private.Recents.{IsRecent, IsNear, AreNear};
 
-use crate::page::{Block, Page, UNMADE};
+use crate::page::{Block, PAGE_SIZE, Page, UNMADE};
 use crate::recent::{NO_ADDRESS, Recent, offset_in, recent_of};
 use elf_image::Segment;
 use prof_bytes::Memory;
@@ -113,7 +113,7 @@ impl Pages {
         ensures whole { 0 < length result.now → length result.now ≡ 2 ^ 12 }
     {
         match self.page(at).start {
-            Some(start) => &self.bytes.as_slice()[start..start + 4096],
+            Some(start) => &self.bytes.as_slice()[start..start + PAGE_SIZE as usize],
             None => &[],
         }
     }
@@ -162,7 +162,11 @@ impl Pages {
             (with_bytes (paged_in self.old (at / 2 ^ 12)) (at % 2 ^ 12) source.now) }
     {
         match self.page(at).start {
-            Some(start) => splice(&mut self.bytes, start + at as usize % 4096, source),
+            Some(start) => splice(
+                &mut self.bytes,
+                start + at as usize % PAGE_SIZE as usize,
+                source,
+            ),
             None => {}
         }
     }
@@ -189,6 +193,9 @@ impl Pages {
     pub(crate) fn remember(&mut self, at: u32)
         ensures { self.new ≡ self.old }
     {
-        self.recent[(at >> 12) as usize % 256] = recent_of(&self.page(at), at / 4096 * 4096);
+        self.recent[(at >> 12) as usize % 256] = recent_of(
+            &self.page(at),
+            at / PAGE_SIZE * PAGE_SIZE,
+        );
     }
 }

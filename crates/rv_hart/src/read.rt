@@ -5,6 +5,7 @@ ghost use Rattle.prof_bytes.specs.Number.{number_in};
 ghost use Rattle.rv_hart.specs.AddressSpace.{region_at, may, byte_in, is_size, loaded};
 ghost use Rattle.rv_hart.specs.private.Paging.{paged_byte, covers_all, IsHome, IsPaged, bit_of, memory_of};
 
+use crate::page::PAGE_SIZE;
 use crate::paged_memory::PagedMemory;
 use crate::right::{NOWHERE, Right, covers, grants};
 use byteorder::{ByteOrder, LittleEndian};
@@ -65,8 +66,8 @@ impl<'a> PagedMemory<'a> {
         if !grants(home, Right::Write) {
             return near_in_file(self.file, home, at, count);
         }
-        let offset = at as usize % 4096;
-        if offset + count > 4096 {
+        let offset = at as usize % PAGE_SIZE as usize;
+        if offset + count > PAGE_SIZE as usize {
             return None;
         }
         let bytes = self.page_bytes(at);
@@ -89,7 +90,7 @@ impl<'a> PagedMemory<'a> {
         }
     }
 
-    /// The number in so many bytes, one by one.
+    /// The number in that many bytes, one by one.
     #[cold]
     pub(crate) fn number_apart(&self, at: u32, count: usize) -> u32
         requires count { is_size count ≡ true }
@@ -102,7 +103,7 @@ impl<'a> PagedMemory<'a> {
         number(&bytes[..count])
     }
 
-    /// The number in so many bytes of one region.
+    /// The number in that many bytes of one region.
     #[inline(always)]
     pub(crate) fn number(&self, home: &Segment, at: u32, count: usize) -> u32
         requires paged { IsPaged self.now }
@@ -118,7 +119,7 @@ impl<'a> PagedMemory<'a> {
         }
     }
 
-    /// The number in so many bytes from `at` on, where they stand together in a page
+    /// The number in that many bytes from `at` on, where they stand together in a page
     /// that was used last, of a region that may be read.
     #[inline(always)]
     pub(crate) fn number_in_page(&self, at: u32, count: usize) -> Option<u32>
@@ -131,7 +132,7 @@ impl<'a> PagedMemory<'a> {
         Some(number(bytes))
     }
 
-    /// A region that holds so many addresses from `at` on, if there is one.
+    /// A region that holds a given number of addresses from `at` on, if there is one.
     #[inline(always)]
     pub(crate) fn home(&self, at: u32, count: usize) -> Segment
         requires paged { IsPaged self.now }
@@ -159,7 +160,7 @@ impl<'a> PagedMemory<'a> {
         }
     }
 
-    /// Whether each of so many addresses from `at` on lies in a region with the right.
+    /// Whether each of a given number of addresses from `at` on lies in a region with the right.
     pub(crate) fn all_granted(&self, right: Right, at: u32, count: usize) -> bool
         requires paged { IsPaged self.now }
         requires count { count < 2 ^ 63 }

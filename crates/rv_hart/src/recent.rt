@@ -4,7 +4,7 @@ ghost use Rattle.rv_hart.specs.AddressSpace.{has};
 ghost use Rattle.rv_hart.specs.private.Paging.{bit_of};
 ghost use Rattle.rv_hart.specs.private.Recents.{IsRecentOf};
 
-use crate::page::Page;
+use crate::page::{PAGE_SIZE, Page};
 use crate::right::{Right, grants};
 use elf_image::Segment;
 
@@ -48,7 +48,7 @@ pub(crate) fn recent_of(page: &Page, base: u32) -> Recent
     let Some(start) = first.checked_add(low - base) else {
         return NO_ADDRESS;
     };
-    let high = u64::from(page.home.end).min(u64::from(base) + 4096);
+    let high = u64::from(page.home.end).min(u64::from(base) + PAGE_SIZE as u64);
     let count = high.saturating_sub(u64::from(low)).saturating_sub(3) as u32;
     Recent {
         low,
@@ -58,7 +58,7 @@ pub(crate) fn recent_of(page: &Page, base: u32) -> Recent
     }
 }
 
-/// Where the byte of an address stands, if it is one of so many from the lowest on.
+/// Where the byte of an address stands, if it is one of a given number from the lowest on.
 #[inline(always)]
 pub(crate) fn offset_in(at: u32, low: u32, count: u32, start: u32) -> Option<usize>
     requires { low + count ≤ 2 ^ 32 }

@@ -34,7 +34,7 @@ pub(crate) fn grants(region: &Segment, right: Right) -> bool
     }
 }
 
-/// Whether the segment holds so many addresses from `at` on.
+/// Whether the segment holds a given number of addresses from `at` on.
 #[inline(always)]
 pub(crate) fn covers(segment: &Segment, at: u32, count: usize) -> bool
     requires { count ≤ 2 ^ 12 }

@@ -107,8 +107,8 @@ impl<'a> Space<'a> {
         access::store(&mut self.paged, self.alloc, at, bytes)
     }
 
-    /// Does instructions of the hart as long as they retire, up to so many, and one at least: the one at pc, and those
-    /// that follow it as long as their words are kept decoded.
+    /// Does instructions of the hart as long as they retire, up to a given number, and one at least: the one at pc,
+    /// and those that follow it as long as their words are kept decoded.
     #[inline(always)]
     pub(crate) fn run_some(&mut self, hart: &mut Hart, most: u32) -> (u32, Result<Stepped, Memory>)
         requires { 0 < most }

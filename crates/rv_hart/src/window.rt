@@ -6,7 +6,7 @@ ghost use Rattle.rv_hart.specs.private.Decoding.{AreWords, Begins};
 ghost use Rattle.rv_hart.specs.private.Paging.{IsPaged, kept_state, indexed_state, memory_of, word_address};
 
 use crate::decoded_code::{pc_of, word_at};
-use crate::execute::{Went, carry_out};
+use crate::execute::{Continuation, carry_out};
 use crate::hart::Hart;
 use crate::outcome::Stepped;
 use crate::paged_memory::PagedMemory;
@@ -15,10 +15,11 @@ use rv_table::Inst;
 use std::alloc::Global;
 
 /// Does the instruction at an index and those that follow it, as long as they retire and their words are kept, up to
-/// so many, and says how many of these are left. All instructions of a machine are carried out here: the code of one
-/// is large, and LLVM puts it into the loop only where it is called from nowhere else. The index stands in a register
+/// a given number, and says how many of these are left. All instructions of a machine are carried out here: the code
+/// of one is large, and LLVM puts it into the loop only where it is called from nowhere else. The index stands in a
+/// register
 /// since it is no part of the hart, whose registers are an array in memory. No word's index is tested but that of a
-/// target, since the last word is no instruction.
+/// target, since the last word is not an instruction.
 #[inline(always)]
 fn run_own(
     items: &[Inst],
@@ -50,10 +51,10 @@ fn run_own(
     while left > 0 {
         let inst = word_at(items, *index);
         match carry_out(hart, index, base, items.len(), paged, alloc, inst) {
-            Ok(Went::On) => {}
-            Ok(Went::Away) => return (left - 1, Ok(Stepped::Retired)),
-            Ok(Went::Illegal) => return (left, Ok(Stepped::Retired)),
-            Ok(Went::Stopped(how)) => return (left, Ok(how)),
+            Ok(Continuation::Next) => {}
+            Ok(Continuation::Outside) => return (left - 1, Ok(Stepped::Retired)),
+            Ok(Continuation::Illegal) => return (left, Ok(Stepped::Retired)),
+            Ok(Continuation::Stopped(how)) => return (left, Ok(how)),
             Err(error) => return (left, Err(error)),
         }
         left -= 1;

@@ -8,13 +8,14 @@ ghost use Rattle.rv_hart.specs.private.Pages.{page_at, page_in, with_bytes, IsSe
 ghost use Rattle.rv_hart.specs.private.Paging.{page_numbered, page_of, paged_byte, value_after, covers_all, IsHome};
 ghost use Rattle.rv_hart.specs.private.Paging.{IsPaged};
 
+use crate::page::PAGE_SIZE;
 use crate::paged_memory::PagedMemory;
 use crate::right::{NOWHERE, covers};
 use elf_image::Segment;
 use prof_bytes::Memory;
 use std::alloc::Global;
 
-/// The bytes from an offset of the file on, at most so many: fewer where the file ends.
+/// The bytes from an offset of the file on, at most a given number: fewer where the file ends.
 fn part_of(file: &[u8], offset: usize, count: usize) -> &[u8]
     requires { offset + count < 2 ^ 63 }
     ensures { let start = min offset (length file.now) in
@@ -25,17 +26,17 @@ fn part_of(file: &[u8], offset: usize, count: usize) -> &[u8]
 
 /// What the 4,096 addresses of a region from `low` on began with: bytes of the file, and 0 past them.
 fn first_page(alloc: Global, file: &[u8], home: &Segment, low: u32) -> Result<Vec<u8>, Memory>
-    requires { covers_all home.now low 4096 ≡ true }
+    requires { covers_all home.now low PAGE_SIZE ≡ true }
     ensures long { IfOk result (λ bytes. length bytes.items ≡ 2 ^ 12) }
     ensures bytes { IfOk result (λ bytes. (i : ℕ) → i < 2 ^ 12
         → slice_index bytes.items i ≡ byte_in file.now (low + i) (Some home.now)) }
 {
     let depth = low - home.start;
-    let count = home.filled.saturating_sub(depth).min(4096);
+    let count = home.filled.saturating_sub(depth).min(PAGE_SIZE);
     let part = part_of(file, home.offset as usize + depth as usize, count as usize);
     let mut bytes = Vec::new(alloc);
     bytes.extend_from_slice(part)?;
-    bytes.resize(4096, 0)?;
+    bytes.resize(PAGE_SIZE as usize, 0)?;
     Ok(bytes)
 }
 
@@ -54,8 +55,8 @@ impl<'a> PagedMemory<'a> {
         ensures bytes { IfOk result (λ bytes. (i : ℕ) → i < 2 ^ 12
             → slice_index bytes.items i ≡ paged_byte self.now (number * 2 ^ 12 + i)) }
     {
-        let low = number * 4096;
-        if covers(home, low, 4096) && self.page_bytes(low).is_empty() {
+        let low = number * PAGE_SIZE;
+        if covers(home, low, PAGE_SIZE as usize) && self.page_bytes(low).is_empty() {
             let bytes = first_page(alloc, self.file, home, low)?;
             return Ok(bytes);
         }
@@ -71,8 +72,8 @@ impl<'a> PagedMemory<'a> {
             → slice_index bytes.items i ≡ paged_byte self.now (number * 2 ^ 12 + i)) }
     {
         let mut bytes = Vec::new(alloc);
-        for offset in 0..4096u32 {
-            bytes.push(self.byte_near(home, number * 4096 + offset))?;
+        for offset in 0..PAGE_SIZE {
+            bytes.push(self.byte_near(home, number * PAGE_SIZE + offset))?;
         }
         Ok(bytes)
     }
@@ -81,7 +82,7 @@ impl<'a> PagedMemory<'a> {
     pub(crate) fn is_page_wanted(&self, at: u32) -> bool {
         match self.region(at) {
             Some(region) => {
-                let depth = (at / 4096 * 4096).saturating_sub(region.start);
+                let depth = (at / PAGE_SIZE * PAGE_SIZE).saturating_sub(region.start);
                 depth < region.filled && self.page_bytes(at).is_empty()
             }
             None => false,
@@ -147,7 +148,7 @@ impl<'a> PagedMemory<'a> {
         self.pages.remember(at);
     }
 
-    /// Makes the pages of so many addresses.
+    /// Makes the pages of a given number of addresses.
     pub(crate) fn make_all(&mut self, alloc: Global, at: u32, count: usize) -> Result<(), Memory>
         requires paged { IsPaged self.old }
         requires low { at + count ≤ 2 ^ 32 }

@@ -12,12 +12,12 @@ use Rattle.rv_run.specs.declared.hart.HartEnd.TheVariants as ends
 use Rattle.rv_run.specs.State.{HartState, MachineState, hart_in, hart_of, no_hart, is_running, step_state, stepped_hart}
 use Rattle.rv_run.specs.Calls.{Acted, Answered, reads, writes, call_numbered, completes, ends_by, ends_all, grouped, with_answer, with_end, only_answers, all_readable, writes_out, room_for, read_into, negative, holds_in}
 use Rattle.rv_run.specs.Run.{acts, acts_by, acts_after, stepped_machine}
-use Rattle.rv_run.specs.Progress.{Counts, plus_one}
+use Rattle.rv_run.specs.Progress.{CountsRetired, plus_one}
 use Rattle.rv_run.proofs.Unchanged.{not-retired}
 
 -- one hart's state in place of another that retired so many
 with-counts : (hart : ℕ) (s : MachineState) (harts : List HartState) (new : HartState) (retired : Bool) → hart < length harts → harts ≡ s.harts → new.retired ≡ plus_one retired (hart_of s hart).retired
-    → (after : MachineState) → after.harts ≡ slice_set harts hart new → Counts hart retired s after
+    → (after : MachineState) → after.harts ≡ slice_set harts hart new → CountsRetired hart retired s after
 with-counts hart s harts new retired within same is after set_to =
     record {
       own = ap (λ (hs : List HartState). (hart_in hs hart).retired) set_to ∙ ap (λ (h : HartState). h.retired) (get_or-set_same harts hart new no_hart within) ∙ is;
@@ -45,20 +45,20 @@ read-harts : (count : ℕ) (answer : Bool × AddressSpace) (s : MachineState) �
 read-harts count (true, m) s = refl
 read-harts count (false, m) s = refl
 
-completes-counts : (hart : ℕ) (s : MachineState) (answered : Answered) → hart < length s.harts → answered.state.harts ≡ s.harts → Counts hart true s (completes hart answered).state
+completes-counts : (hart : ℕ) (s : MachineState) (answered : Answered) → hart < length s.harts → answered.state.harts ≡ s.harts → CountsRetired hart true s (completes hart answered).state
 completes-counts hart s answered within same =
     with-counts hart s answered.state.harts (with_answer answered.answer (hart_of answered.state hart)) true (subst (λ (hs : List HartState). hart < length hs) (sym same) within) same
     (ap (λ (hs : List HartState). (hart_in hs hart).retired + 1) same) (completes hart answered).state refl
 
-ends-counts : (hart : ℕ) (s : MachineState) (end : HartEnd) → hart < length s.harts → Counts hart false s (ends_by hart end s).state
+ends-counts : (hart : ℕ) (s : MachineState) (end : HartEnd) → hart < length s.harts → CountsRetired hart false s (ends_by hart end s).state
 ends-counts hart s end within = with-counts hart s s.harts (with_end end (hart_of s hart)) false within refl refl (ends_by hart end s).state refl
 
-all-counts : (hart : ℕ) (s : MachineState) (status : ℕ) → Counts hart false s (ends_all status s).state
+all-counts : (hart : ℕ) (s : MachineState) (status : ℕ) → CountsRetired hart false s (ends_all status s).state
 all-counts hart s status =
     record { own = group-counts status s.harts hart; others = λ other apart. group-counts status s.harts other; harts = group-length status s.harts }
 
 abbrev CountsBy : ℕ → MachineState → Acted → Type 0
-CountsBy hart s acted = Counts hart acted.retired s acted.state
+CountsBy hart s acted = CountsRetired hart acted.retired s acted.state
 
 reads-harts : (a b c : ℕ) (s : MachineState) → (reads a b c s).state.harts ≡ s.harts
 reads-harts a b c s =
@@ -101,7 +101,7 @@ steps-count hart s after stepped.Break within same =
 steps-count hart s after (stepped.Trap why) within same =
     subst (λ (t : MachineState). CountsBy hart s (acts_by (stepped.Trap why) hart t)) (sym (same (λ e. absurd cc))) (acted-counts hart s (stepped.Trap why) within (λ e. absurd cc))
 
-pub acts-count : (hart : ℕ) (s : MachineState) → hart < length s.harts → Counts hart (acts hart s).retired s (acts hart s).state
+pub acts-count : (hart : ℕ) (s : MachineState) → hart < length s.harts → CountsRetired hart (acts hart s).retired s (acts hart s).state
 unfolding acts
 acts-count hart s within =
     let r : State × Stepped = step_of (step_state (hart_of s hart) s.memory) in
@@ -115,5 +115,5 @@ acts-as hart s new how is ends = ap₂ (λ (h : Stepped) (n : MachineState). act
 pub same-as : (hart : ℕ) (s new : MachineState) (how : Stepped) → new ≡ stepped_machine hart (step_of (step_state (hart_of s hart) s.memory)) s → how ≡ (step_of (step_state (hart_of s hart) s.memory)).1 → (how ≡ stepped.Retired → ⊥) → new ≡ s
 same-as hart s new how is ends other = is ∙ not-retired hart s (λ e. other (ends ∙ e))
 
-pub counts-of : (hart : ℕ) (s new : MachineState) (is_retired : Bool) → record { state = new; retired = is_retired } ≡ acts hart s → hart < length s.harts → Counts hart is_retired s new
-counts-of hart s new is_retired done within = subst (λ (a : Acted). Counts hart a.retired s a.state) (sym done) (acts-count hart s within)
+pub counts-of : (hart : ℕ) (s new : MachineState) (is_retired : Bool) → record { state = new; retired = is_retired } ≡ acts hart s → hart < length s.harts → CountsRetired hart is_retired s new
+counts-of hart s new is_retired done within = subst (λ (a : Acted). CountsRetired hart a.retired s a.state) (sym done) (acts-count hart s within)

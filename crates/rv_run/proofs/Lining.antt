@@ -8,7 +8,7 @@ use Rattle.std.proofs.lemmas.List.Quantifiers.{position-Some}
 use Rattle.prof_bytes.specs.Outcome.{◌>>=◌}
 use Rattle.rv_run.specs.declared.schedule.Slice.{Slice}
 use Rattle.rv_run.specs.declared.schedule.ScheduleFault.{ScheduleFault}
-use Rattle.rv_run.specs.Schedule.{lines, with_first_byte, NumberedLine, numbered, slices_before, or_fault, slice_in, slices_of}
+use Rattle.rv_run.specs.Schedule.{lines, with_first_byte, NumberedLine, numbered_lines, slices_before, on_line, slice_in, slices_of}
 use Rattle.rv_run.specs.private.Reading.{first_or_none, rest_of}
 
 abbrev is_feed : ℕ → Bool
@@ -44,7 +44,7 @@ drop_all : (bytes : List ℕ) → drop (length bytes) bytes ≡ []
 drop_all [] = refl
 drop_all (byte ∷ rest) = drop_all rest
 
--- the first line, and the bytes behind it
+-- the first line, and the bytes after it
 pub split-some : (bytes : List ℕ) (end : ℕ) → position is_feed bytes ≡ Some end → lines bytes ≡ take end bytes ∷ lines (drop (end + 1) bytes)
 split-some bytes end found =
     let at : (end < length bytes) × (is_feed (get_or bytes end 0) ≡ true) × ((k : ℕ) → k < end → is_feed (get_or bytes k 0) ≡ false) = position-Some is_feed bytes end 0 found in
@@ -60,21 +60,21 @@ unfolding lines
 no-lines [] none = refl
 no-lines (byte ∷ rest) none = absurd (omega arith)
 
-pub line-first : (done : ℕ) (rest : List (List ℕ)) (line : List ℕ) (more : List (List ℕ)) → rest ≡ line ∷ more → Some (record { number = done + 1; bytes = line }) ≡ first_or_none (numbered (done + 1) rest)
-unfolding numbered
-line-first done rest line more is = ap (λ (ls : List (List ℕ)). first_or_none (numbered (done + 1) ls)) (sym is)
+pub line-first : (done : ℕ) (rest : List (List ℕ)) (line : List ℕ) (more : List (List ℕ)) → rest ≡ line ∷ more → Some (record { number = done + 1; bytes = line }) ≡ first_or_none (numbered_lines (done + 1) rest)
+unfolding numbered_lines
+line-first done rest line more is = ap (λ (ls : List (List ℕ)). first_or_none (numbered_lines (done + 1) ls)) (sym is)
 
-pub line-rest : (done : ℕ) (rest : List (List ℕ)) (line : List ℕ) (more : List (List ℕ)) → rest ≡ line ∷ more → numbered (done + 1 + 1) more ≡ rest_of (numbered (done + 1) rest)
-unfolding numbered
-line-rest done rest line more is = ap (λ (ls : List (List ℕ)). rest_of (numbered (done + 1) ls)) (sym is)
+pub line-rest : (done : ℕ) (rest : List (List ℕ)) (line : List ℕ) (more : List (List ℕ)) → rest ≡ line ∷ more → numbered_lines (done + 1 + 1) more ≡ rest_of (numbered_lines (done + 1) rest)
+unfolding numbered_lines
+line-rest done rest line more is = ap (λ (ls : List (List ℕ)). rest_of (numbered_lines (done + 1) ls)) (sym is)
 
-pub none-first : (done : ℕ) (rest : List (List ℕ)) → rest ≡ [] → None ≡ first_or_none (numbered (done + 1) rest)
-unfolding numbered
-none-first done rest is = ap (λ (ls : List (List ℕ)). first_or_none (numbered (done + 1) ls)) (sym is)
+pub none-first : (done : ℕ) (rest : List (List ℕ)) → rest ≡ [] → None ≡ first_or_none (numbered_lines (done + 1) rest)
+unfolding numbered_lines
+none-first done rest is = ap (λ (ls : List (List ℕ)). first_or_none (numbered_lines (done + 1) ls)) (sym is)
 
-pub none-rest : (done : ℕ) (rest : List (List ℕ)) → rest ≡ [] → numbered (done + 1) rest ≡ rest_of (numbered (done + 1) rest)
-unfolding numbered
-none-rest done rest is = ap (numbered (done + 1)) is ∙ ap (λ (ls : List (List ℕ)). rest_of (numbered (done + 1) ls)) (sym is)
+pub none-rest : (done : ℕ) (rest : List (List ℕ)) → rest ≡ [] → numbered_lines (done + 1) rest ≡ rest_of (numbered_lines (done + 1) rest)
+unfolding numbered_lines
+none-rest done rest is = ap (numbered_lines (done + 1)) is ∙ ap (λ (ls : List (List ℕ)). rest_of (numbered_lines (done + 1) ls)) (sym is)
 
 -- slices that were read, and those of the lines that are left
 pub before-before : (xs ys : List Slice) (rest : Result (List Slice) ScheduleFault) → slices_before xs (slices_before ys rest) ≡ slices_before (xs ++ ys) rest
@@ -87,7 +87,7 @@ unfolding slices_of
 read-one harts used [] rest line slice first more is = absurd cc
 read-one harts used (x ∷ xs) rest line slice first more is =
     let same : line ≡ x = cc in
-    ap (λ (found : Option Slice). or_fault x.number found >>= (λ (s : Slice). slices_before (s ∷ []) (slices_of harts (used + s.count) xs))) (ap (λ (l : NumberedLine). slice_in harts used l.bytes) (sym same) ∙ is)
+    ap (λ (found : Option Slice). on_line x.number found >>= (λ (s : Slice). slices_before (s ∷ []) (slices_of harts (used + s.count) xs))) (ap (λ (l : NumberedLine). slice_in harts used l.bytes) (sym same) ∙ is)
     ∙ ap (λ (ls : List NumberedLine). slices_before (slice ∷ []) (slices_of harts (used + slice.count) ls)) (sym more)
 
 pub read-bad : (harts used : ℕ) (left : List NumberedLine) (line : NumberedLine) → Some line ≡ first_or_none left → slice_in harts used line.bytes ≡ None → slices_of harts used left ≡ Err (record { line = line.number })
@@ -95,7 +95,7 @@ unfolding slices_of
 read-bad harts used [] line first bad = absurd cc
 read-bad harts used (x ∷ xs) line first bad =
     let same : line ≡ x = cc in
-    ap (λ (found : Option Slice). or_fault x.number found >>= (λ (s : Slice). slices_before (s ∷ []) (slices_of harts (used + s.count) xs))) (ap (λ (l : NumberedLine). slice_in harts used l.bytes) (sym same) ∙ bad)
+    ap (λ (found : Option Slice). on_line x.number found >>= (λ (s : Slice). slices_before (s ∷ []) (slices_of harts (used + s.count) xs))) (ap (λ (l : NumberedLine). slice_in harts used l.bytes) (sym same) ∙ bad)
     ∙ ap (λ (l : NumberedLine). Err (record { line = l.number })) (sym same)
 
 pub read-end : (harts used : ℕ) (left : List NumberedLine) (slices : List Slice) → None ≡ first_or_none left → slices_before slices (slices_of harts used left) ≡ Ok slices

@@ -15,7 +15,7 @@ use Rattle.rv_run.specs.Schedule.{instructions, most_instructions}
 use Rattle.rv_run.specs.State.{HartState, MachineState, hart_of, no_hart, runs, is_running, step_state, stepped_hart}
 use Rattle.rv_run.specs.Calls.{Acted}
 use Rattle.rv_run.specs.Run.{Instant, Run, acts, state_after, next_instant, finished, preceded, joined, run_slice, run_slices, stepped_machine}
-use Rattle.rv_run.specs.Progress.{Progress, Counts, IsBetween, Carried, Passed, Broke, WentOn, plus_one, to_come, count_of_first, due_of, first_due, is_plain, retires_plainly, plain_count, some_of, pass_length}
+use Rattle.rv_run.specs.Progress.{Progress, CountsRetired, IsBetween, Carried, Passed, Broke, WentOn, plus_one, to_come, count_of_first, due_of, first_due, is_plain, retires_plainly, plain_count, some_of, pass_length}
 use Rattle.rv_run.specs.private.Queue.{Passing, less, HaveRoom, IsNext, StandsAt}
 use Rattle.rv_run.proofs.Counting.{acts-as, counts-of}
 use Rattle.rv_run.proofs.Slices.{IsDue, less-by}
@@ -85,7 +85,7 @@ wider hart from to wide all le between = λ k d few. record { own = (between k d
 
 pub passing-more : (hart many : ℕ) (a b c : MachineState) → Passing hart many a b → Plain hart b c → hart < length a.harts → Passing hart (many + 1) a c
 passing-more hart many a b c was now within =
-    let counts : Counts hart true b c = counts-of hart b c true now.0 (omega (arith, was.harts)) in
+    let counts : CountsRetired hart true b c = counts-of hart b c true now.0 (omega (arith, was.harts)) in
     let i : Instant = next_instant hart b in
     record {
       passed = was.passed ++ next_instant hart b ∷ [];
@@ -182,7 +182,7 @@ at_most : (b : Bool) (n : ℕ) → plus_one b n ≤ n + 1
 at_most true n = omega arith
 at_most false n = omega arith
 
-carried-one : (hart most : ℕ) (moment : Moment) (old new : Progress) → WentOn moment old new → Counts moment.hart moment.retired old.state new.state → 0 < most → Carried moment.hart most (next_instant moment.hart old.state ∷ []) old new
+carried-one : (hart most : ℕ) (moment : Moment) (old new : Progress) → WentOn moment old new → CountsRetired moment.hart moment.retired old.state new.state → 0 < most → Carried moment.hart most (next_instant moment.hart old.state ∷ []) old new
 carried-one hart most moment old new went counts some =
     record {
       run = went.run;
@@ -197,7 +197,7 @@ carried-one hart most moment old new went counts some =
     one zero d few = record { own = refl; low = omega arith; high = omega arith }
     one (suc k) d few = absurd (omega arith)
 
-pub passed-one : (hart most : ℕ) (moment : Moment) (old new : Progress) → WentOn moment old new → Counts moment.hart moment.retired old.state new.state → moment.hart ≡ hart → 0 < most → retires_plainly hart old.state ≡ false → Passed hart most old new
+pub passed-one : (hart most : ℕ) (moment : Moment) (old new : Progress) → WentOn moment old new → CountsRetired moment.hart moment.retired old.state new.state → moment.hart ≡ hart → 0 < most → retires_plainly hart old.state ≡ false → Passed hart most old new
 passed-one hart most moment old new went counts same some stops =
     let none : plain_count (min most (count_of_first old.left)) hart old.state ≡ 0 = none-plain (min most (count_of_first old.left)) hart old.state stops in
     record {

@@ -1,16 +1,16 @@
--- The schedule that a text tells by its first line and those behind it.
+-- The schedule that a text tells by its first line and those after it.
 use Rattle.std.proofs.Common.{◌≡◌, ℕ, ◌+◌, List, [], ◌∷◌, length, Option, Some, None, Result, Ok, Err, refl, sym, ap, ◌∙◌}
 use Rattle.prof_bytes.specs.Outcome.{◌>>=◌}
 use Rattle.rv_run.specs.declared.schedule.Slice.{Slice}
 use Rattle.rv_run.specs.declared.schedule.ScheduleFault.{ScheduleFault}
-use Rattle.rv_run.specs.Schedule.{NumberedLine, Scheduled, lines, entries, harts_in, or_fault, schedule_in, schedule_of, slices_of}
+use Rattle.rv_run.specs.Schedule.{NumberedLine, Scheduled, lines, entries, harts_in, on_line, schedule_in, schedule_of, slices_of}
 use Rattle.rv_run.specs.private.Reading.{Unread, to_read, first_or_none, rest_of}
 
 abbrev under : ℕ → Result (List Slice) ScheduleFault → Result Scheduled ScheduleFault
 under harts slices = slices >>= λ all. Ok (record { harts = harts; slices = all })
 
 abbrev told : ℕ → List NumberedLine → Option ℕ → Result Scheduled ScheduleFault
-told number rest found = or_fault number found >>= λ harts. under harts (slices_of harts 0 rest)
+told number rest found = on_line number found >>= λ harts. under harts (slices_of harts 0 rest)
 
 no-first : (end : ℕ) (all : List NumberedLine) → None ≡ first_or_none all → schedule_in end all ≡ Err (record { line = end })
 no-first end [] none = refl

@@ -9,7 +9,7 @@ use Rattle.rv_run.specs.Schedule.{instructions, slice_count, most_instructions}
 use Rattle.rv_run.specs.State.{MachineState, hart_of, is_running}
 use Rattle.rv_run.specs.Calls.{Acted}
 use Rattle.rv_run.specs.Run.{Run, acts, state_after, next_instant, finished, preceded, joined, run_slice, run_slices}
-use Rattle.rv_run.specs.Progress.{Counts, plus_one, count_of_first, due_of, first_due, WentOn}
+use Rattle.rv_run.specs.Progress.{CountsRetired, plus_one, count_of_first, due_of, first_due, WentOn}
 use Rattle.rv_run.specs.private.Queue.{with_left, less, AreOf, HaveRoom, IsNext, StandsAt}
 
 whole : (slices : List Slice) → with_left (count_of_first slices) slices ≡ slices
@@ -119,7 +119,7 @@ at_most : (is_retired : Bool) (count : ℕ) → plus_one is_retired count ≤ co
 at_most true count = omega arith
 at_most false count = omega arith
 
-pub room-less : (s new : MachineState) (left : List Slice) (hart : ℕ) (is_retired : Bool) → 1 ≤ count_of_first left → HaveRoom s left → Counts hart is_retired s new → HaveRoom new (less 1 left)
+pub room-less : (s new : MachineState) (left : List Slice) (hart : ℕ) (is_retired : Bool) → 1 ≤ count_of_first left → HaveRoom s left → CountsRetired hart is_retired s new → HaveRoom new (less 1 left)
 room-less s new left hart is_retired some room counts other =
     elim (eqb_tells other hart) [ inl h ↦ same h.1 | inr h ↦ apart h.1 ]
   where

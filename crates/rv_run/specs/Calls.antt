@@ -4,7 +4,7 @@
 use Rattle.std.specs.Prelude.{ℕ, ◌+◌, ◌-◌, ◌^◌, ◌==◌, ◌||◌, ◌&&◌, nat_le, Bool, true, false, List, ◌++◌, map, length}
 use Rattle.std.specs.Prelude.{take, drop, min, if◌then◌else◌}
 use Rattle.std.specs.List.{range_with_len}
-use Rattle.rv_hart.specs.Arithmetic.{sum}
+use Rattle.prof_bytes.specs.Number.{word_sum}
 use Rattle.elf_image.specs.declared.elf.TheConstants.{PF_R}
 use Rattle.rv_hart.specs.AddressSpace.{AddressSpace, may_all, byte_at, stored}
 use Rattle.rv_hart.specs.Step.{register, with_register}
@@ -53,7 +53,7 @@ reads descriptor at count s =
 abbrev pub memory_bytes : AddressSpace → ℕ → ℕ → List ℕ
 memory_bytes memory at count = map (byte_at memory) (range_with_len at count)
 
--- how many of so many bytes the output has room for
+-- how many of a given number of bytes the output has room for
 abbrev pub room_for : ℕ → List ℕ → ℕ
 room_for count output = min count (most_output - length output)
 
@@ -61,7 +61,7 @@ abbrev pub writes_out : ℕ → ℕ → MachineState → Answered
 writes_out at count s =
     record { state = record s { output = s.output ++ memory_bytes s.memory at count }; answer = count }
 
--- each of so many addresses from this one on is below 2^32 and may be read
+-- each of a given number of addresses from this one on is below 2^32 and may be read
 abbrev pub all_readable : AddressSpace → ℕ → ℕ → Bool
 all_readable memory at count = nat_le (at + count) (2 ^ 32) && may_all PF_R memory at count
 
@@ -80,7 +80,7 @@ writes descriptor at count s =
 abbrev pub with_answer : ℕ → HartState → HartState
 with_answer answer hart =
     let registers = with_register hart.registers A0 answer in
-    record { pc = sum hart.pc 4; registers = registers; retired = hart.retired + 1; end = hart.end }
+    record { pc = word_sum hart.pc 4; registers = registers; retired = hart.retired + 1; end = hart.end }
 
 abbrev pub with_end : HartEnd → HartState → HartState
 with_end end hart = record hart { end = end }

@@ -53,14 +53,14 @@ plus_one true count = count + 1
 plus_one false count = count
 
 -- how many instructions harts retired in an instruction of one of them
-pub record Counts (hart : ℕ) (is_retired : Bool) (old new : MachineState) : Type 0 where
+pub record CountsRetired (hart : ℕ) (is_retired : Bool) (old new : MachineState) : Type 0 where
   pub own : (hart_of new hart).retired ≡ plus_one is_retired (hart_of old hart).retired
   pub others : (other : ℕ) → ¬ (other ≡ hart) → (hart_of new other).retired ≡ (hart_of old other).retired
   pub harts : length new.harts ≡ length old.harts
 
 abbrev pub CountsBy : Option Moment → MachineState → MachineState → Type 0
 CountsBy None old new = Unit {0}
-CountsBy (Some moment) old new = Counts moment.hart moment.retired old new
+CountsBy (Some moment) old new = CountsRetired moment.hart moment.retired old new
 
 -- ---- many instructions of one hart
 
@@ -73,7 +73,7 @@ is_plain _ = false
 abbrev pub retires_plainly : ℕ → MachineState → Bool
 retires_plainly hart s = is_plain (hart_step hart s).1
 
--- how many of the hart's next instructions, up to so many, retire by themselves, one after another
+-- how many of the hart's next instructions, up to a given number, retire by themselves, one after another
 unfoldable pub plain_count : ℕ → ℕ → MachineState → ℕ
 plain_count zero hart s = 0
 plain_count (suc most) hart s = if retires_plainly hart s then suc (plain_count most hart (state_after hart s)) else 0
@@ -99,7 +99,7 @@ pub record IsBetween (hart from to : ℕ) (i : Instant) : Type 0 where
   pub low : from ≤ i.moment.ordinal
   pub high : i.moment.ordinal ≤ to
 
--- these instructions of the hart were carried out, so many at most
+-- these instructions of the hart were carried out, a given number at most
 pub record Carried (hart most : ℕ) (passed : List Instant) (old new : Progress) : Type 0 where
   pub run : to_come old ≡ preceded passed (to_come new)
   pub between :

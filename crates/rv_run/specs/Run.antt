@@ -64,7 +64,7 @@ finished s = record { instants = []; final = s }
 abbrev pub preceded : List Instant → Run → Run
 preceded first rest = record { instants = first ++ rest.instants; final = rest.final }
 
--- up to so many instructions of one hart, fewer where it ends, and none where it has ended
+-- up to a given number of instructions of one hart, fewer where it ends, and none where it has ended
 unfoldable pub run_slice : ℕ → ℕ → MachineState → Run
 run_slice zero hart s = finished s
 run_slice (suc count) hart s =

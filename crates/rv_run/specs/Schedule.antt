@@ -35,9 +35,9 @@ pub record NumberedLine : Type 0 where
   pub number : ℕ
   pub bytes : List ℕ
 
-unfoldable pub numbered : ℕ → List (List ℕ) → List NumberedLine
-numbered first [] = []
-numbered first (line ∷ rest) = record { number = first; bytes = line } ∷ numbered (first + 1) rest
+unfoldable pub numbered_lines : ℕ → List (List ℕ) → List NumberedLine
+numbered_lines first [] = []
+numbered_lines first (line ∷ rest) = record { number = first; bytes = line } ∷ numbered_lines (first + 1) rest
 
 -- empty lines and those that begin with `#` are ignored
 abbrev pub is_ignored : List ℕ → Bool
@@ -68,15 +68,15 @@ slice_cut harts used line (Some space) =
     slice_by (decimal_in 0 (harts - 1) (take space line))
     (decimal_in 1 (most_instructions - used) (drop (space + 1) line))
 
--- the line `H C`, with one space, where the slices before it have so many instructions: C is at most
+-- the line `H C`, with one space, where the slices before it have a given number of instructions: C is at most
 -- what they leave of the most that there may be
 abbrev pub slice_in : ℕ → ℕ → List ℕ → Option Slice
 slice_in harts used line = slice_cut harts used line (position (λ byte. byte == 32) line)
 
 -- the value that a line has, or the fault that it is
-abbrev pub or_fault : {X : Type 0} → ℕ → Option X → Result X ScheduleFault
-or_fault line None = Err (record { line = line })
-or_fault line (Some x) = Ok x
+abbrev pub on_line : {X : Type 0} → ℕ → Option X → Result X ScheduleFault
+on_line line None = Err (record { line = line })
+on_line line (Some x) = Ok x
 
 abbrev pub slices_before : List Slice → Result (List Slice) ScheduleFault → Result (List Slice) ScheduleFault
 slices_before slices rest = do
@@ -87,20 +87,20 @@ slices_before slices rest = do
 unfoldable pub slices_of : ℕ → ℕ → List NumberedLine → Result (List Slice) ScheduleFault
 slices_of harts used [] = Ok []
 slices_of harts used (line ∷ rest) = do
-  slice ← or_fault line.number (slice_in harts used line.bytes)
+  slice ← on_line line.number (slice_in harts used line.bytes)
   slices_before (slice ∷ []) (slices_of harts (used + slice.count) rest)
 
 -- the first line is that of the harts. Where there is none, the fault is at the end of all lines
 abbrev pub schedule_in : ℕ → List NumberedLine → Result Scheduled ScheduleFault
 schedule_in end [] = Err (record { line = end })
 schedule_in end (first ∷ rest) = do
-  harts ← or_fault first.number (harts_in first.bytes)
+  harts ← on_line first.number (harts_in first.bytes)
   slices ← slices_of harts 0 rest
   Ok (record { harts = harts; slices = slices })
 
 -- the schedule that the bytes tell, or its first bad line; lines count from 1
 abbrev pub schedule_of : List ℕ → Result Scheduled ScheduleFault
-schedule_of bytes = schedule_in (length (lines bytes) + 1) (entries (numbered 1 (lines bytes)))
+schedule_of bytes = schedule_in (length (lines bytes) + 1) (entries (numbered_lines 1 (lines bytes)))
 
 abbrev pub slice_count : Slice → ℕ
 slice_count slice = slice.count
@@ -109,7 +109,7 @@ slice_count slice = slice.count
 abbrev pub instructions : List Slice → ℕ
 instructions slices = sum (map slice_count slices)
 
--- a slice of one of so many harts, which is not empty
+-- a slice of one of a given number of harts, which is not empty
 pub record IsSlice (harts : ℕ) (slice : Slice) : Type 0 where
   pub hart : slice.hart < harts
   pub count : 0 < slice.count

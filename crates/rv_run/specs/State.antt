@@ -74,7 +74,7 @@ first_hart entry harts hart =
     let registers = map (first_register harts hart) (range_with_len 0 32) in
     record { pc = entry; registers = registers; retired = 0; end = ends.Running }
 
--- how a machine of so many harts begins to run a program with this input
+-- how a machine of a given number of harts begins to run a program with this input
 abbrev pub first_state : ProgramImage → ℕ → List ℕ → MachineState
 first_state program harts input =
     let each_hart = map (first_hart program.entry harts) (range_with_len 0 harts) in

@@ -239,7 +239,7 @@ impl<'a> Environment<'a> {
         core.step(&mut self.space)
     }
 
-    /// Does instructions of the hart as long as they retire by themselves, up to so many. It says how
+    /// Does instructions of the hart as long as they retire by themselves, up to a given number. It says how
     /// many retired, and how the last step ended.
     pub(crate) fn steps(&mut self, hart: u32, most: u32) -> (u32, Result<Stepped, Memory>)
         requires some { 0 < most }

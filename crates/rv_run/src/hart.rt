@@ -120,8 +120,8 @@ impl MachineHart {
         Ok(stepped)
     }
 
-    /// Does instructions as long as they retire, up to so many, and counts them. It says how many there were, and how
-    /// the last step ended.
+    /// Does instructions as long as they retire, up to a given number, and counts them. It says how many there were,
+    /// and how the last step ended.
     pub(crate) fn run(&mut self, space: &mut Space<'_>, most: u32) -> (u32, Result<Stepped, Memory>)
         requires { self.old.retired + most < 2 ^ 32 }
         ensures few { result.0 ≤ most }

@@ -10,7 +10,7 @@ mod environment;
 mod hart;
 mod laws;
 mod lines;
-mod linux;
+pub mod linux;
 mod machine;
 mod numerals;
 mod output;

@@ -1,20 +1,20 @@
 //! Linux for RISC-V, as programs see it: numbers of system calls and of errors, and the registers that a call uses.
 
 /// System calls, by the number in a7.
-pub(crate) const SYS_READ: u32 = 63;
+pub const SYS_READ: u32 = 63;
 
-pub(crate) const SYS_WRITE: u32 = 64;
+pub const SYS_WRITE: u32 = 64;
 
-pub(crate) const SYS_EXIT: u32 = 93;
+pub const SYS_EXIT: u32 = 93;
 
-pub(crate) const SYS_EXIT_GROUP: u32 = 94;
+pub const SYS_EXIT_GROUP: u32 = 94;
 
 /// Errors: a call answers the negative number.
-pub(crate) const EBADF: u32 = 9;
+pub const EBADF: u32 = 9;
 
-pub(crate) const EFAULT: u32 = 14;
+pub const EFAULT: u32 = 14;
 
-pub(crate) const ENOSYS: u32 = 38;
+pub const ENOSYS: u32 = 38;
 
 /// Registers by the names of the RISC-V psABI ("Integer Register Convention").
 pub(crate) const SP: usize = 2;

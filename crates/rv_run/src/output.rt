@@ -8,7 +8,7 @@ use prof_bytes::Memory;
 use rv_hart::Space;
 use std::alloc::Global;
 
-/// Whether each of so many addresses from `at` on is below 2^32 and may be read. It takes time in
+/// Whether each of a given number of addresses from `at` on is below 2^32 and may be read. It takes time in
 /// proportion to their number.
 pub(crate) fn are_readable(space: &Space<'_>, at: u32, count: u32) -> bool
     ensures { result ≡ all_readable space.now at count }

@@ -86,7 +86,7 @@ fn space_in(line: &[u8]) -> Option<usize>
     line.iter().position(|byte| *byte == 32)
 }
 
-/// The line `H C`, where the slices before it have so many instructions.
+/// The line `H C`, where the slices before it have a given number of instructions.
 fn slice_line(harts: u32, used: u32, line: &[u8]) -> Option<Slice>
     requires { 0 < harts }
     ensures slice { result ≡ slice_in harts used line.now }

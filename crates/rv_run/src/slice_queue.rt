@@ -73,7 +73,7 @@ impl SliceQueue {
         })
     }
 
-    /// Takes so many instructions off the first slice.
+    /// Takes a given number of instructions off the first slice.
     #[inline(always)]
     pub(crate) fn take_off(&mut self, count: u32)
         requires { count ≤ count_of_first self.old }

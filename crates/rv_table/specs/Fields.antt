@@ -4,7 +4,7 @@ use Rattle.std.specs.Prelude.{ℕ, ◌+◌, ◌-◌, ◌*◌, ◌/◌, ◌%◌, 
 use Rattle.rv_table.specs.declared.inst.Op.{Op}
 use Rattle.rv_table.specs.declared.inst.Inst.{Inst}
 
--- so many bits of the word, from this bit on
+-- a given number of bits of the word, from this bit on
 abbrev pub bits : ℕ → ℕ → ℕ → ℕ
 bits word from count = word / 2 ^ from % 2 ^ count
 
@@ -26,7 +26,7 @@ rs2 word = bits word 20 5
 abbrev pub funct7 : ℕ → ℕ
 funct7 word = bits word 25 7
 
--- a number of so many bits, whose highest bit is its sign, modulo 2^32
+-- a number of that many bits, whose highest bit is its sign, modulo 2^32
 abbrev pub sign_extended : ℕ → ℕ → ℕ
 sign_extended count value = if nat_lt value (2 ^ (count - 1)) then value else value + (2 ^ 32 - 2 ^ count)
 

@@ -49,7 +49,7 @@ pub enum Op {
     Fence,
     Ecall,
     Ebreak,
-    /// The word is no instruction of RV32IM.
+    /// The word is not an RV32IM instruction.
     Illegal,
 }
 

@@ -11,7 +11,7 @@ use Rattle.rv_run.specs.State.{hart_of}
 use Rattle.rv_run.specs.Run.{Instant, Run, preceded, next_instant, instant}
 use Rattle.rv_run.specs.declared.machine.Moment.{Moment}
 use Rattle.rv_run.specs.declared.machine.Due.{Due}
-use Rattle.rv_run.specs.Progress.{Progress, to_come, WentOn, Counts, due_of, first_due, IsFresh, IsBetween, Carried, Passed, Broke, plain_count, some_of, count_of_first}
+use Rattle.rv_run.specs.Progress.{Progress, to_come, WentOn, CountsRetired, due_of, first_due, IsFresh, IsBetween, Carried, Passed, Broke, plain_count, some_of, count_of_first}
 use Rattle.rv_run.proofs.Passing.{preceded-twice}
 use Rattle.sample_clock.specs.Samples.{is_sampled}
 use Rattle.sample_clock.specs.Clock.{Sampling, Unsampled}
@@ -31,7 +31,7 @@ not-due period i other = by_case i.moment.retired
     by_case true = ne_eqb (i.moment.ordinal % period) 0 other
     by_case false = refl
 
-pub clock-sampled : (period met : ℕ) (old new : Progress) (next : List ℕ) (hart ordinal : ℕ) → IsClock (record { machine = old; period = period; met = met }) next → Counts hart true old.state new.state
+pub clock-sampled : (period met : ℕ) (old new : Progress) (next : List ℕ) (hart ordinal : ℕ) → IsClock (record { machine = old; period = period; met = met }) next → CountsRetired hart true old.state new.state
     → hart < length old.state.harts → (hart_of new.state hart).retired ≡ ordinal → ordinal % period ≡ 0 → IsClock (record { machine = new; period = period; met = met }) (slice_set next hart (ordinal + period))
 clock-sampled period met old new next hart ordinal clock counts in_harts is multiple =
     record {
@@ -92,12 +92,12 @@ carried period met due moment old new told went =
     }
 
 pub clock-carried : (period met : ℕ) (old new : Progress) (next : List ℕ) (due : Due) (moment : Moment) → IsClock (record { machine = old; period = period; met = met }) next → Some due ≡ first_due (to_come old).instants → WentOn moment old new
-    → Counts moment.hart moment.retired old.state new.state → moment.retired ≡ true → due.hart < length old.state.harts → due.ordinal % period ≡ 0
+    → CountsRetired moment.hart moment.retired old.state new.state → moment.retired ≡ true → due.hart < length old.state.harts → due.ordinal % period ≡ 0
     → IsClock (record { machine = new; period = period; met = met }) (slice_set next due.hart (due.ordinal + period))
 clock-carried period met old new next due moment clock told went counts retired within multiple =
     let same : due ≡ due_of (next_instant moment.hart old.state) = due-went due moment old new told went in
     let hart : moment.hart ≡ due.hart = sym (ap (λ (d : Due). d.hart) same) in
-    let counted : Counts due.hart true old.state new.state = subst (λ (b : Bool). Counts due.hart b old.state new.state) retired (subst (λ (h : ℕ). Counts h moment.retired old.state new.state) hart counts) in
+    let counted : CountsRetired due.hart true old.state new.state = subst (λ (b : Bool). CountsRetired due.hart b old.state new.state) retired (subst (λ (h : ℕ). CountsRetired h moment.retired old.state new.state) hart counts) in
     clock-sampled period met old new next due.hart due.ordinal clock counted within
     (counted.own ∙ sym (ap (λ (d : Due). d.ordinal) same ∙ ap (λ (h : ℕ). (hart_of old.state h).retired + 1) hart)) multiple
 

@@ -49,15 +49,15 @@ pub record NoneLost (path_of : Paths) (old new : Sampling) : Type 0 where
   pub met : new.met ≡ old.met
   pub few : old.met ≤ most_samples
 
-abbrev pub Fails : Paths → Fail TooManySamples → Sampling → Sampling → Type 0
-Fails path_of (fails.Fault fault) old new = AreTooMany path_of old new
-Fails path_of (fails.Memory memory) old new = NoneLost path_of old new
+abbrev pub RefusesSample : Paths → Fail TooManySamples → Sampling → Sampling → Type 0
+RefusesSample path_of (fails.Fault fault) old new = AreTooMany path_of old new
+RefusesSample path_of (fails.Memory memory) old new = NoneLost path_of old new
 
 -- what is answered where the next sample is asked for
 abbrev pub AnswersNext : Paths → Result (Option Sample) (Fail TooManySamples) → Sampling → Sampling → Type 0
 AnswersNext path_of (Ok (Some sample)) old new = Given path_of sample old new
 AnswersNext path_of (Ok None) old new = IsOver path_of old new
-AnswersNext path_of (Err fail) old new = Fails path_of fail old new
+AnswersNext path_of (Err fail) old new = RefusesSample path_of fail old new
 
 -- ---- where the machine stands then
 

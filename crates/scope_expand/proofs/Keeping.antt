@@ -10,7 +10,7 @@ use Rattle.scope_find.specs.declared.found.Found.{Found}
 use Rattle.scope_find.specs.Found.{ProgramScopes, found_at}
 use Rattle.scope_find.specs.Views.{found_view}
 use Rattle.scope_types.specs.Expansion.{FoundAt}
-use Rattle.scope_expand.specs.Kept.{Fits}
+use Rattle.scope_expand.specs.Kept.{MemoFits}
 
 module _ (at : ℕ → FoundAt) where
   -- what is kept at an address is found there
@@ -41,22 +41,22 @@ module _ (at : ℕ → FoundAt) where
 
 -- what a look-up finds is what is found there
 pub fits_hit : (program : ProgramScopes) (memo : LruCache ℕ Found) (pc : ℕ) (found : Found)
-    → Fits program memo → lookup (eqb pc) memo.entries ≡ Some found → found_view found ≡ found_at program pc
+    → MemoFits program memo → lookup (eqb pc) memo.entries ≡ Some found → found_view found ≡ found_at program pc
 fits_hit program memo pc found fits hit = found_of_hit (found_at program) memo.entries pc found fits.found hit
 
 -- a look-up moves a pair to the front, and no more
 pub fits_promoted : (program : ProgramScopes) (memo : LruCache ℕ Found) (test : ℕ → Bool)
-    → Fits program memo → Fits program (lru_cache (promoted test memo.entries) memo.cap)
+    → MemoFits program memo → MemoFits program (lru_cache (promoted test memo.entries) memo.cap)
 fits_promoted program memo test fits = record { cap = fits.cap; found = all_promoted (found_at program) memo.entries test fits.found }
 
 -- a put of what is found
-pub fits_put : (program : ProgramScopes) (memo : LruCache ℕ Found) (pc : ℕ) (found : Found) → Fits program memo → found_view found ≡ found_at program pc
-    → Fits program (lru_cache (put_entries eqb memo pc found) memo.cap)
+pub fits_put : (program : ProgramScopes) (memo : LruCache ℕ Found) (pc : ℕ) (found : Found) → MemoFits program memo → found_view found ≡ found_at program pc
+    → MemoFits program (lru_cache (put_entries eqb memo pc found) memo.cap)
 fits_put program memo pc found fits is = record { cap = fits.cap; found = all_put (found_at program) memo pc found fits.found is }
 
 -- and whether memory was found for it or not
 pub fits_after_put : (program : ProgramScopes) (old new : LruCache ℕ Found) (pc : ℕ) (found : Found) {T E : Type 0} (result : Result T E)
     → OnOk result (new ≡ lru_cache (put_entries eqb old pc found) old.cap) → OnErr result (new ≡ old)
-    → Fits program old → found_view found ≡ found_at program pc → Fits program new
-fits_after_put program old new pc found (Ok x) after same fits is = subst (Fits program) (sym after) (fits_put program old pc found fits is)
-fits_after_put program old new pc found (Err e) after same fits is = subst (Fits program) (sym same) fits
+    → MemoFits program old → found_view found ≡ found_at program pc → MemoFits program new
+fits_after_put program old new pc found (Ok x) after same fits is = subst (MemoFits program) (sym after) (fits_put program old pc found fits is)
+fits_after_put program old new pc found (Err e) after same fits is = subst (MemoFits program) (sym same) fits

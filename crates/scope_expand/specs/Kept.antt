@@ -10,6 +10,6 @@ abbrev pub most_kept : ℕ
 most_kept = 4096
 
 -- a memo of a program: what is kept at each address is what is found there
-pub record Fits (program : ProgramScopes) (memo : LruCache ℕ Found) : Type 0 where
+pub record MemoFits (program : ProgramScopes) (memo : LruCache ℕ Found) : Type 0 where
   pub cap : memo.cap ≡ most_kept
   pub found : All (λ kept. found_view kept.1 ≡ found_at program kept.0) memo.entries

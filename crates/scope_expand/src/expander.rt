@@ -7,7 +7,7 @@ ghost use Rattle.scope_find.specs.Views.{found_view};
 ghost use Rattle.tree_types.specs.Database.{names_used};
 ghost use Rattle.tree_types.specs.Nodes.{nodes};
 ghost use Rattle.tree_types.specs.PathsOf.{tree_paths};
-ghost use Rattle.scope_expand.specs.Kept.{Fits};
+ghost use Rattle.scope_expand.specs.Kept.{MemoFits};
 ghost use Rattle.scope_expand.specs.TreeNames.{node_names};
 ghost use Rattle.scope_expand.specs.private.Frames.{caller_scopes, last_scope};
 
@@ -94,8 +94,8 @@ fn put_frame(
     pc: u32,
     kind: FrameKind,
 ) -> Result<(), Memory>
-    requires { Fits finder.now memo.old }
-    ensures memo { Fits finder.now memo.new }
+    requires { MemoFits finder.now memo.old }
+    ensures memo { MemoFits finder.now memo.new }
     ensures scopes { OnOk result (scopes.new.items
         ≡ scopes.old.items ++ frame_scopes (last_scope kind) (found_at finder.now pc)) }
 {
@@ -115,8 +115,8 @@ fn put_callers(
     scopes: &mut Vec<Scope>,
     callers: &[Frame],
 ) -> Result<(), Memory>
-    requires { Fits finder.now memo.old }
-    ensures memo { Fits finder.now memo.new }
+    requires { MemoFits finder.now memo.old }
+    ensures memo { MemoFits finder.now memo.new }
     ensures scopes { OnOk result (scopes.new.items
         ≡ scopes.old.items ++ caller_scopes finder.now (reverse callers.now)) }
 {
@@ -133,8 +133,8 @@ fn expand_with(
     memo: &mut Kept,
     raw: &RawPath,
 ) -> Result<ScopePath, Memory>
-    requires { Fits finder.now memo.old }
-    ensures memo { Fits finder.now memo.new }
+    requires { MemoFits finder.now memo.old }
+    ensures memo { MemoFits finder.now memo.new }
     ensures path { IfOk result (λ path. path ≡ call_path (found_at finder.now) raw.now) }
 {
     let frames = raw.frames();
@@ -186,14 +186,14 @@ impl<'a> Expander<'a> {
 impl<'a> Expand for Expander<'a> {
     ghost use Rattle.scope_types.specs.Expansion.{call_path};
     ghost use Rattle.scope_find.specs.Found.{found_at};
-    ghost use Rattle.scope_expand.specs.Kept.{Fits};
+    ghost use Rattle.scope_expand.specs.Kept.{MemoFits};
 
     /// What was found at the addresses that were used last, of at most 4,096.
     type Memo = Kept;
 
     ghost call_path = { λ program raw. call_path (found_at program) raw };
 
-    ghost fits = { λ program memo. Fits program memo };
+    ghost fits = { λ program memo. MemoFits program memo };
 
     fn fresh(&self) -> Result<Kept, Memory> {
         Ok(Kept::sparse(self.alloc, NonZeroUsize::new(MOST_KEPT).unwrap())?)

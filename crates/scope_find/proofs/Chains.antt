@@ -7,20 +7,20 @@ use Rattle.std.proofs.Math.Seq.{drop-cons}
 use Rattle.std.proofs.lemmas.Bool.{cases_lt, le-leb, lt-leb}
 use Rattle.std.proofs.lemmas.List.FromFn.{length-enumerate_from, get_or-enumerate_from}
 use Rattle.std.proofs.lemmas.Option.{slice_get-get_or, slice_get_within, get_or_from_slice_get}
-use Rattle.dwarf_inline.specs.declared.item.Item.{Item}
+use Rattle.dwarf_inline.specs.declared.subroutine.Subroutine.{Subroutine}
 use Rattle.dwarf_inline.specs.Structure.{ProgramStructure}
 use Rattle.scope_find.specs.declared.span.Span.{Span}
 use Rattle.scope_find.specs.Found.{Numbered, numbered, item_holds, inlined_before}
 use Rattle.scope_find.specs.private.Spans.{IsOpenAt, NoneOpen, IsFirstOpen, IsNextInlined, IsInlinedNext, inlined_from, no_item, item_at, items_at}
 use Rattle.scope_find.proofs.Holding.{held_item, open_range}
 
-past_drop : {X : Type 0} (xs : List X) (k : ℕ) → length xs ≤ k → drop k xs ≡ []
+pub past_drop : {X : Type 0} (xs : List X) (k : ℕ) → length xs ≤ k → drop k xs ≡ []
 past_drop [] zero le = refl
 past_drop [] (suc k) le = refl
 past_drop (x ∷ xs) zero le = absurd (omega arith)
 past_drop (x ∷ xs) (suc k) le = past_drop xs k (omega arith)
 
-number_drop : (s : ProgramStructure) (k : ℕ) → k < length s.items → drop k (numbered s) ≡ (k, item_at s k) ∷ drop (k + 1) (numbered s)
+pub number_drop : (s : ProgramStructure) (k : ℕ) → k < length s.items → drop k (numbered s) ≡ (k, item_at s k) ∷ drop (k + 1) (numbered s)
 number_drop s k lt =
     let d : Numbered = (0, no_item) in
     let n : k < length (numbered s) = subst (λ (m : ℕ). k < m) (sym (length-enumerate_from 0 s.items)) lt in
@@ -30,25 +30,25 @@ number_drop s k lt =
     ∙ ap (λ (j : ℕ). (k, item_at s k) ∷ drop j (numbered s)) (let f : suc k ≡ k + 1 = omega arith in f)
 
 -- whether an item is a call that is inlined at the address
-abbrev called : ProgramStructure → ℕ → ℕ → Bool
+abbrev pub called : ProgramStructure → ℕ → ℕ → Bool
 called s address k = (item_at s k).inlined && item_holds s address (item_at s k)
 
-at_end : (s : ProgramStructure) (address low end : ℕ) → end ≤ low → inlined_from s address low end ≡ []
+pub at_end : (s : ProgramStructure) (address low end : ℕ) → end ≤ low → inlined_from s address low end ≡ []
 unfolding inlined_before
 at_end s address low end le = elim (cases_lt low (length s.items)) [
   | inl lt ↦ rw (number_drop s low lt, le-leb end low le) refl
   | inr ge ↦ rw (past_drop (numbered s) low (subst (λ (m : ℕ). m ≤ low) (sym (length-enumerate_from 0 s.items)) ge)) refl
 ]
 
-at_all : (s : ProgramStructure) (address low end : ℕ) → length s.items ≤ low → inlined_from s address low end ≡ []
+pub at_all : (s : ProgramStructure) (address low end : ℕ) → length s.items ≤ low → inlined_from s address low end ≡ []
 unfolding inlined_before
 at_all s address low end ge = rw (past_drop (numbered s) low (subst (λ (m : ℕ). m ≤ low) (sym (length-enumerate_from 0 s.items)) ge)) refl
 
-skip : (s : ProgramStructure) (address low end : ℕ) → low < end → low < length s.items → called s address low ≡ false → inlined_from s address low end ≡ inlined_from s address (low + 1) end
+pub skip : (s : ProgramStructure) (address low end : ℕ) → low < end → low < length s.items → called s address low ≡ false → inlined_from s address low end ≡ inlined_from s address (low + 1) end
 unfolding inlined_before
 skip s address low end lt within fails = rw (number_drop s low within, lt-leb end low lt, fails) refl
 
-call : (s : ProgramStructure) (address low end : ℕ) → low < end → low < length s.items → called s address low ≡ true → inlined_from s address low end ≡ item_at s low ∷ inlined_from s address (low + 1) (item_at s low).after
+pub call : (s : ProgramStructure) (address low end : ℕ) → low < end → low < length s.items → called s address low ≡ true → inlined_from s address low end ≡ item_at s low ∷ inlined_from s address (low + 1) (item_at s low).next_after_subtree
 unfolding inlined_before
 call s address low end lt within is = rw (number_drop s low within, lt-leb end low lt, is) refl
 
@@ -121,7 +121,7 @@ module _ (s : ProgramStructure) (held : List Span) (address : ℕ) (o : IsOpenAt
         next =
             to_number s address low number end above (omega arith) (omega arith) (quiet_below low number (λ q is kind from to. let le : number ≤ q.item = first.least q is kind from in omega arith))
             ∙ call s address number end near within is
-            ∙ ap (λ (i : Item). i ∷ inlined_from s address (number + 1) i.after) g;
+            ∙ ap (λ (i : Subroutine). i ∷ inlined_from s address (number + 1) i.next_after_subtree) g;
       }
 
 pub next_some : (s : ProgramStructure) (held : List Span) (low end number : ℕ) → IsFirstOpen held true low number → number < end → (address : ℕ) → IsOpenAt s held address → IsNextInlined s address low end (Some number)
@@ -133,17 +133,17 @@ next_far s held low end number first far address o = far_next s held address o l
 pub next_none : (s : ProgramStructure) (held : List Span) (low end : ℕ) → NoneOpen held true low → (address : ℕ) → IsOpenAt s held address → IsNextInlined s address low end None
 next_none s held low end none address o = none_next s held address o low end none
 
-one_item : (a b : Item) → Some a ≡ Some b → a ≡ b
+one_item : (a b : Subroutine) → Some a ≡ Some b → a ≡ b
 one_item a b e = cc
 
 -- one more call
-pub chain_more : (s : ProgramStructure) (address low end number : ℕ) (item : Item) (numbers more : List ℕ) (whole : List Item)
+pub chain_more : (s : ProgramStructure) (address low end number : ℕ) (item : Subroutine) (numbers more : List ℕ) (whole : List Subroutine)
     → slice_get s.items number ≡ Some item → more ≡ numbers ++ number ∷ [] → whole ≡ items_at s numbers ++ inlined_from s address low end → IsNextInlined s address low end (Some number)
-    → whole ≡ items_at s more ++ inlined_from s address (number + 1) item.after
+    → whole ≡ items_at s more ++ inlined_from s address (number + 1) item.next_after_subtree
 chain_more s address low end number item numbers more whole there pushed so_far next =
     let same : next.item ≡ item = one_item next.item item (sym next.there ∙ there) in
     let g : item_at s number ≡ item = get_or_from_slice_get s.items number item no_item there in
     so_far
-    ∙ ap (λ (rest : List Item). items_at s numbers ++ rest) (next.next ∙ ap (λ (i : Item). i ∷ inlined_from s address (number + 1) i.after) same)
-    ∙ sym (append_assoc (items_at s numbers) (item ∷ []) (inlined_from s address (number + 1) item.after))
-    ∙ ap (λ (front : List Item). front ++ inlined_from s address (number + 1) item.after) (sym (rw pushed (map_push (item_at s) numbers number ∙ ap (λ (i : Item). items_at s numbers ++ i ∷ []) g)))
+    ∙ ap (λ (rest : List Subroutine). items_at s numbers ++ rest) (next.next ∙ ap (λ (i : Subroutine). i ∷ inlined_from s address (number + 1) i.next_after_subtree) same)
+    ∙ sym (append_assoc (items_at s numbers) (item ∷ []) (inlined_from s address (number + 1) item.next_after_subtree))
+    ∙ ap (λ (front : List Subroutine). front ++ inlined_from s address (number + 1) item.next_after_subtree) (sym (rw pushed (map_push (item_at s) numbers number ∙ ap (λ (i : Subroutine). items_at s numbers ++ i ∷ []) g)))

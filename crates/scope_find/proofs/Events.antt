@@ -10,8 +10,8 @@ use Rattle.std.proofs.lemmas.List.Elements.{All-contains, Contains-append_left, 
 use Rattle.std.proofs.lemmas.List.FromFn.{length-enumerate_from, get_or-enumerate_from}
 use Rattle.std.proofs.lemmas.List.Sorted.{Contains-permutation, IsPermutation-sym}
 use Rattle.std.proofs.lemmas.Option.{slice_get-get_or, slice_get_within, get_or_from_slice_get}
-use Rattle.dwarf_inline.specs.declared.item.Item.{Item}
-use Rattle.dwarf_inline.specs.Structure.{ProgramStructure, IsWhole}
+use Rattle.dwarf_inline.specs.declared.subroutine.Subroutine.{Subroutine}
+use Rattle.dwarf_inline.specs.Structure.{ProgramStructure, IsWholeStructure}
 use Rattle.scope_find.specs.declared.span.Span.{Span}
 use Rattle.scope_find.specs.declared.span.Event.{Event}
 use Rattle.scope_find.specs.Found.{Numbered, numbered, item_ranges}
@@ -94,7 +94,7 @@ of_pair q e has =
     of_one : (x e : Event) → Contains (x ∷ []) e → e ≡ x
     of_one x e has = elim (Contains-push_cases [] x e has) [ inl none ↦ absurd (omega (arith, none.1)) | inr same ↦ sym same ]
 
-each_event : (s : ProgramStructure) → IsWhole s → (e : Event) → Contains (all_events s) e → IsEvent s e
+each_event : (s : ProgramStructure) → IsWholeStructure s → (e : Event) → Contains (all_events s) e → IsEvent s e
 unfolding one_of
 each_event s whole e has =
     let i = flat_from (item_events s) (numbered s) e has in
@@ -102,7 +102,7 @@ each_event s whole e has =
     record {
       span = span_of i.0 r.0;
       is = record { item = i.0.1; there = from_numbered s i.0 i.1; kind = refl; counted = r.1 };
-      some = All-contains (λ (p : ℕ × ℕ). p.0 < p.1) s.ranges r.0 whole.some (dropped i.0.1.first s.ranges r.0 (taken i.0.1.ranges (drop i.0.1.first s.ranges) r.0 r.1));
+      some = All-contains (λ (p : ℕ × ℕ). p.0 < p.1) s.ranges r.0 whole.some (dropped i.0.1.first_range s.ranges r.0 (taken i.0.1.range_count (drop i.0.1.first_range s.ranges) r.0 r.1));
       at = of_pair (span_of i.0 r.0) e r.2;
     }
 
@@ -114,7 +114,7 @@ in_events s q e is has =
     in_flat (item_events s) (numbered s) i e (in_numbered s i is.there)
     (in_flat (range_events i) (item_ranges s is.item) r e is.counted (subst (λ (z : Span). Contains (starting z ∷ ending z ∷ []) e) (sym same) has))
 
-pub events_are : (s : ProgramStructure) (events : List Event) → IsWhole s → IsPermutation (all_events s) events → AreEventsOf s events
+pub events_are : (s : ProgramStructure) (events : List Event) → IsWholeStructure s → IsPermutation (all_events s) events → AreEventsOf s events
 events_are s events whole moved = record {
   spans = λ e has. (let x = back e has in at_span e x.span x.at x.is);
   places = λ e has. (let x = back e has in at_place e x.span x.at);
@@ -142,7 +142,7 @@ events_are s events whole moved = record {
 
 -- ---- the loops that put them
 
-pub range_put : (s : ProgramStructure) → IsWhole s → (number k : ℕ) (item : Item) (start end : ℕ) (before after more : List Event) → slice_get s.items number ≡ Some item → k < item.ranges → slice_get s.ranges (item.first + k) ≡ Some (start, end)
+pub range_put : (s : ProgramStructure) → IsWholeStructure s → (number k : ℕ) (item : Subroutine) (start end : ℕ) (before after more : List Event) → slice_get s.items number ≡ Some item → k < item.range_count → slice_get s.ranges (item.first_range + k) ≡ Some (start, end)
     → after ≡ before ++ flat_map (range_events (number, item)) (take k (item_ranges s item)) → more ≡ after ++ starting (span_of (number, item) (start, end)) ∷ ending (span_of (number, item) (start, end)) ∷ []
     → more ≡ before ++ flat_map (range_events (number, item)) (take (k + 1) (item_ranges s item))
 range_put s whole number k item start end before after more there lt at so_far pushed =
@@ -150,9 +150,9 @@ range_put s whole number k item start end before after more there lt at so_far p
     let rs = item_ranges s item in
     let d : ℕ × ℕ = (start, end) in
     let placed = All-at s whole number item there in
-    let len : length rs ≡ item.ranges = length-take-le item.ranges (drop item.first s.ranges) (let l = length-drop item.first s.ranges in omega arith) in
+    let len : length rs ≡ item.range_count = length-take-le item.range_count (drop item.first_range s.ranges) (let l = length-drop item.first_range s.ranges in omega arith) in
     let g : get_or rs k d ≡ d =
-    get_or-take item.ranges (drop item.first s.ranges) k d lt ∙ get_or-drop item.first s.ranges k d ∙ get_or_from_slice_get s.ranges (item.first + k) d d at in
+    get_or-take item.range_count (drop item.first_range s.ranges) k d lt ∙ get_or-drop item.first_range s.ranges k d ∙ get_or_from_slice_get s.ranges (item.first_range + k) d d at in
     pushed
     ∙ ap (λ (es : List Event). es ++ f d) so_far
     ∙ append_assoc before (flat_map f (take k rs)) (f d)
@@ -160,10 +160,10 @@ range_put s whole number k item start end before after more there lt at so_far p
     ∙ ap (λ (es : List Event). before ++ es) (sym (flat_map-append f (take k rs) (d ∷ [])))
     ∙ ap (λ (xs : List (ℕ × ℕ)). before ++ flat_map f xs) (sym (take_more rs k d (omega arith) ∙ ap (λ (x : ℕ × ℕ). take k rs ++ x ∷ []) g))
   where
-    All-at : (s : ProgramStructure) → IsWhole s → (number : ℕ) (item : Item) → slice_get s.items number ≡ Some item → item.first + item.ranges ≤ length s.ranges
-    All-at s whole number item there = All-contains (λ (i : Item). i.first + i.ranges ≤ length s.ranges) s.items item whole.placed (number, slice_get_within s.items number item there, get_or_from_slice_get s.items number item item there)
+    All-at : (s : ProgramStructure) → IsWholeStructure s → (number : ℕ) (item : Subroutine) → slice_get s.items number ≡ Some item → item.first_range + item.range_count ≤ length s.ranges
+    All-at s whole number item there = All-contains (λ (i : Subroutine). i.first_range + i.range_count ≤ length s.ranges) s.items item whole.placed (number, slice_get_within s.items number item there, get_or_from_slice_get s.items number item item there)
 
-pub item_put : (s : ProgramStructure) (number : ℕ) (item : Item) (after more : List Event) → slice_get s.items number ≡ Some item
+pub item_put : (s : ProgramStructure) (number : ℕ) (item : Subroutine) (after more : List Event) → slice_get s.items number ≡ Some item
     → after ≡ flat_map (item_events s) (take number (numbered s)) → more ≡ after ++ item_events s (number, item)
     → more ≡ flat_map (item_events s) (take (number + 1) (numbered s))
 item_put s number item after more there so_far pushed =

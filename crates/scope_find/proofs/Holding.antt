@@ -4,7 +4,7 @@ use Rattle.std.specs.Prelude.{slice_get}
 use Rattle.std.specs.List.{Contains, list_any}
 use Rattle.std.proofs.lemmas.Bool.Decides.{nat_tests}
 use Rattle.std.proofs.lemmas.Bool.{le-leb, lt-ltb, or_right, leb-true}
-use Rattle.dwarf_inline.specs.declared.item.Item.{Item}
+use Rattle.dwarf_inline.specs.declared.subroutine.Subroutine.{Subroutine}
 use Rattle.dwarf_inline.specs.Structure.{ProgramStructure}
 use Rattle.scope_find.specs.declared.span.Span.{Span}
 use Rattle.scope_find.specs.Found.{item_ranges, range_holds, item_holds}
@@ -54,29 +54,29 @@ start_below address r e = leb-true r.0 address (both_true (leb r.0 address) (ltb
 pub below_end : (address : ℕ) (r : ℕ × ℕ) → range_holds address r ≡ true → address < r.1
 below_end address r e = from_ltb address r.1 (both_true (leb r.0 address) (ltb address r.1) e).1
 
-same_some : (a b : Item) → Some a ≡ Some b → a ≡ b
+same_some : (a b : Subroutine) → Some a ≡ Some b → a ≡ b
 same_some a b e = cc
 
 module _ (s : ProgramStructure) (held : List Span) (address : ℕ) (o : IsOpenAt s held address) where
-  same_item : (q : Span) (is : Contains held q) (item : Item) → slice_get s.items q.item ≡ Some item → (o.spans q is).item ≡ item
+  same_item : (q : Span) (is : Contains held q) (item : Subroutine) → slice_get s.items q.item ≡ Some item → (o.spans q is).item ≡ item
   same_item q is item at = same_some (o.spans q is).item item (sym (o.spans q is).there ∙ at)
 
   -- an open range makes its item hold the address
-  pub held_item : (q : Span) → Contains held q → (item : Item) → slice_get s.items q.item ≡ Some item → (q.inlined ≡ item.inlined) × (item_holds s address item ≡ true)
+  pub held_item : (q : Span) → Contains held q → (item : Subroutine) → slice_get s.items q.item ≡ Some item → (q.inlined ≡ item.inlined) × (item_holds s address item ≡ true)
   held_item q is item at =
       let e = same_item q is item at in (
-        (o.spans q is).kind ∙ ap (λ (i : Item). i.inlined) e,
-        any_here (range_holds address) (item_ranges s item) (q.start, q.end) (subst (λ (i : Item). Contains (item_ranges s i) (q.start, q.end)) e (o.spans q is).counted) (holds_from address (q.start, q.end) (o.from q is) (o.to q is)),
+        (o.spans q is).kind ∙ ap (λ (i : Subroutine). i.inlined) e,
+        any_here (range_holds address) (item_ranges s item) (q.start, q.end) (subst (λ (i : Subroutine). Contains (item_ranges s i) (q.start, q.end)) e (o.spans q is).counted) (holds_from address (q.start, q.end) (o.from q is) (o.to q is)),
       )
 
   -- an item that holds the address has an open range
-  pub record HasOpen (number : ℕ) (item : Item) : Type 0 where
+  pub record HasOpen (number : ℕ) (item : Subroutine) : Type 0 where
     pub span : Span
     pub there : Contains held span
     pub same : span.item ≡ number
     pub kind : span.inlined ≡ item.inlined
 
-  pub open_range : (number : ℕ) (item : Item) → slice_get s.items number ≡ Some item → item_holds s address item ≡ true → HasOpen number item
+  pub open_range : (number : ℕ) (item : Subroutine) → slice_get s.items number ≡ Some item → item_holds s address item ≡ true → HasOpen number item
   open_range number item at holds =
       let r = any_found (range_holds address) (item_ranges s item) holds in
       let q : Span = span_of (number, item) r.element in

@@ -4,9 +4,10 @@ pub mod FirstHeld
 pub mod Holding
 pub mod Procedures
 pub mod Chains
+pub mod Descending
 pub mod Events
 pub mod Sweeping
-pub mod PartsMade
-pub mod PartsFound
+pub mod IntervalsMade
+pub mod IntervalsFound
 pub mod SymbolsFound
 pub mod Scopes

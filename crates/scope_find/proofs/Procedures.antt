@@ -3,7 +3,7 @@ use Rattle.std.proofs.Common.{◌≡◌, ℕ, zero, suc, ◌+◌, ◌<◌, ◌�
 use Rattle.std.specs.Prelude.{slice_get, find, MatchOption, IfSome}
 use Rattle.std.specs.List.{enumerate_from}
 use Rattle.std.proofs.lemmas.Option.{slice_get-get_or, slice_get_within, get_or_from_slice_get}
-use Rattle.dwarf_inline.specs.declared.item.Item.{Item}
+use Rattle.dwarf_inline.specs.declared.subroutine.Subroutine.{Subroutine}
 use Rattle.dwarf_inline.specs.Structure.{ProgramStructure}
 use Rattle.scope_find.specs.declared.span.Span.{Span}
 use Rattle.scope_find.specs.Found.{Numbered, item_holds, subprogram_at}
@@ -11,7 +11,7 @@ use Rattle.scope_find.specs.private.Spans.{AreSpans, IsOpenAt, NoneOpen, IsFirst
 use Rattle.scope_find.proofs.Holding.{held_item, open_range}
 
 module _ (test : Numbered → Bool) where
-  find_first : (xs : List Item) (m n : ℕ) (d : Item) → n < length xs → test (m + n, get_or xs n d) ≡ true → ((k : ℕ) → k < n → test (m + k, get_or xs k d) ≡ false) → find test (enumerate_from m xs) ≡ Some (m + n, get_or xs n d)
+  find_first : (xs : List Subroutine) (m n : ℕ) (d : Subroutine) → n < length xs → test (m + n, get_or xs n d) ≡ true → ((k : ℕ) → k < n → test (m + k, get_or xs k d) ≡ false) → find test (enumerate_from m xs) ≡ Some (m + n, get_or xs n d)
   find_first [] m n d lt is before = absurd (omega arith)
   find_first (x ∷ xs) m zero d lt is before =
       let e : m + 0 ≡ m = omega arith in
@@ -25,7 +25,7 @@ module _ (test : Numbered → Bool) where
       (λ k lt. subst (λ (j : ℕ). test (j, get_or xs k d) ≡ false) (let f : m + suc k ≡ m + 1 + k = omega arith in f) (before (suc k) (omega arith))) in
       rw fails (rest ∙ ap (λ (j : ℕ). Some (j, get_or xs n d)) (sym e))
 
-  find_none : (xs : List Item) (m : ℕ) (d : Item) → ((k : ℕ) → k < length xs → test (m + k, get_or xs k d) ≡ false) → find test (enumerate_from m xs) ≡ None
+  find_none : (xs : List Subroutine) (m : ℕ) (d : Subroutine) → ((k : ℕ) → k < length xs → test (m + k, get_or xs k d) ≡ false) → find test (enumerate_from m xs) ≡ None
   find_none [] m d all = refl
   find_none (x ∷ xs) m d all =
       let z : m + 0 ≡ m = omega arith in
@@ -61,7 +61,7 @@ module _ (s : ProgramStructure) (held : List Span) (address : ℕ) (o : IsOpenAt
         found =
             find_first test s.items 0 number no_item (slice_get_within s.items number it there) is
             (λ k lt. not_both (item_at s k).inlined (item_holds s address (item_at s k)) (λ sub holds. earlier k lt (let l : k < length s.items = omega (arith, slice_get_within s.items number it there) in l) sub holds))
-            ∙ ap (λ (j : ℕ). Some (j, item_at s number)) z ∙ ap (λ (i : Item). Some (number, i)) g;
+            ∙ ap (λ (j : ℕ). Some (j, item_at s number)) z ∙ ap (λ (i : Subroutine). Some (number, i)) g;
       }
     where
       earlier : (k : ℕ) → k < number → k < length s.items → (item_at s k).inlined ≡ false → item_holds s address (item_at s k) ≡ true → ⊥

@@ -7,7 +7,7 @@ use Rattle.dwarf_inline.specs.Structure.{ProgramStructure}
 use Rattle.scope_find.specs.declared.span.Span.{Span}
 use Rattle.scope_find.specs.declared.span.Event.{Event}
 use Rattle.scope_find.specs.private.Spans.{starting, ending, AreEventsOf, AreSpans, Takes, IsOpenAfter, IsOpenAt}
-use Rattle.scope_find.specs.private.Parts.{AreAbove}
+use Rattle.scope_find.specs.private.Intervals.{AreAbove}
 use Rattle.scope_find.proofs.Orders.{span_cmp, span_total, span_tells}
 use Rattle.std.proofs.lemmas.Cmp.{tied_itself}
 

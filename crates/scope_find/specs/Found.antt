@@ -13,7 +13,7 @@ use Rattle.scope_types.specs.Expansion.{FoundAt}
 use Rattle.tree_types.specs.Naming.{Naming}
 use Rattle.dwarf_line.specs.Lines.{Lines, file_name_of}
 use Rattle.dwarf_line.specs.Sequences.{line_at}
-use Rattle.dwarf_inline.specs.declared.item.Item.{Item}
+use Rattle.dwarf_inline.specs.declared.subroutine.Subroutine.{Subroutine}
 use Rattle.dwarf_inline.specs.Structure.{ProgramStructure, proc_name}
 use Rattle.scope_find.specs.Symbols.{procedure_by_symbol, procedure_symbol_name}
 
@@ -25,7 +25,7 @@ pub record ProgramScopes : Type 0 where
 
 -- an item beside its number
 abbrev pub Numbered : Type 0
-Numbered = ℕ × Item
+Numbered = ℕ × Subroutine
 
 abbrev pub numbered : ProgramStructure → List Numbered
 numbered s = enumerate_from 0 s.items
@@ -33,14 +33,14 @@ numbered s = enumerate_from 0 s.items
 -- ---- who holds an address
 
 -- the ranges of an item that count
-abbrev pub item_ranges : ProgramStructure → Item → List (ℕ × ℕ)
-item_ranges s item = take item.ranges (drop item.first s.ranges)
+abbrev pub item_ranges : ProgramStructure → Subroutine → List (ℕ × ℕ)
+item_ranges s item = take item.range_count (drop item.first_range s.ranges)
 
 abbrev pub range_holds : ℕ → ℕ × ℕ → Bool
 range_holds address r = holds address (record { start = r.0; end = r.1 })
 
 -- one of its ranges holds the address
-abbrev pub item_holds : ProgramStructure → ℕ → Item → Bool
+abbrev pub item_holds : ProgramStructure → ℕ → Subroutine → Bool
 item_holds s address item = list_any (range_holds address) (item_ranges s item)
 
 -- the first subprogram that holds the address
@@ -49,21 +49,21 @@ subprogram_at s address = find (λ i. not i.1.inlined && item_holds s address i.
 
 -- of the items before `end`, the first inlined subroutine that holds the address; then the first among its descendants,
 -- and so on
-unfoldable pub inlined_before : ProgramStructure → ℕ → ℕ → List Numbered → List Item
+unfoldable pub inlined_before : ProgramStructure → ℕ → ℕ → List Numbered → List Subroutine
 inlined_before s address end [] = []
 inlined_before s address end (i ∷ items) =
     if nat_le end i.0 then []
-    else (if i.1.inlined && item_holds s address i.1 then i.1 ∷ inlined_before s address i.1.after items
+    else (if i.1.inlined && item_holds s address i.1 then i.1 ∷ inlined_before s address i.1.next_after_subtree items
     else inlined_before s address end items)
 
 -- the calls that are inlined into a subprogram at the address, the outermost first
-abbrev pub inlined_into : ProgramStructure → ℕ → Numbered → List Item
-inlined_into s address i = inlined_before s address i.1.after (drop (i.0 + 1) (numbered s))
+abbrev pub inlined_into : ProgramStructure → ℕ → Numbered → List Subroutine
+inlined_into s address i = inlined_before s address i.1.next_after_subtree (drop (i.0 + 1) (numbered s))
 
 -- ---- scopes
 
 -- what an inlined subroutine calls, and where. One that holds an address has a range, and so the place of its call
-abbrev pub inline_scope : Item → ProcId × LineId
+abbrev pub inline_scope : Subroutine → ProcId × LineId
 inline_scope item = (Die item.identity, unwrap_or item.call (Address 0))
 
 -- the procedure by debug information, else by symbols

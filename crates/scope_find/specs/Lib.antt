@@ -1,4 +1,5 @@
 pub mod Symbols
 pub mod Found
 pub mod Views
+pub mod Laws
 pub mod private

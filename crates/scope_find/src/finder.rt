@@ -1,16 +1,16 @@
-//! What finds the scopes at an address.
+//! Finding the scopes at an address.
 ghost use Rattle.std.specs.Prelude.{◌≡◌, ◌<◌, length, map, All, IfOk, IfSome, unwrap_or};
 ghost use Rattle.dwarf_line.specs.Sequences.{line_at};
 ghost use Rattle.scope_types.specs.declared.scope.LineId.TheVariants as lines;
 ghost use Rattle.scope_find.specs.Found.{inline_scope, found_at, naming_of};
 ghost use Rattle.scope_find.specs.Views.{inline_view, found_view};
-ghost use Rattle.scope_find.specs.private.Parts.{numbers_of};
+ghost use Rattle.scope_find.specs.private.Intervals.{numbers_of};
 ghost use Rattle.scope_find.specs.private.Scopes.{subprogram_of, numbers_in, procedure_by, scopes_by};
 
 use crate::found::{Found, InlineAt};
+use crate::intervals::{AddressInterval, AddressIntervals, interval_at, intervals_of};
 use crate::names::{procedure_by_symbol, procedure_symbol_name};
-use crate::parts::{AddressParts, Part, part_at, parts_of};
-use dwarf_inline::{Item, Structure};
+use dwarf_inline::{Structure, Subroutine};
 use dwarf_line::LineTable;
 use elf_image::Image;
 use prof_bytes::{Listed, Memory, Text};
@@ -18,19 +18,19 @@ use scope_types::{LineId, ProcId};
 use std::alloc::Global;
 use std::marker::Model;
 
-/// What finds the scopes at an address of a program.
+/// Finds the scopes at an address of a program.
 #[derive(Drop)]
 pub struct Finder<'a> {
     alloc: Global,
     structure: &'a Structure<'a>,
     lines: &'a LineTable<'a>,
     image: &'a Image<'a>,
-    found: AddressParts,
+    found: AddressIntervals,
 }
 
 impl<'a> Model for Finder<'a> {
     ghost use Rattle.scope_find.specs.Found.{ProgramScopes};
-    ghost use Rattle.scope_find.specs.private.Parts.{numbers_of, IsFoundIn};
+    ghost use Rattle.scope_find.specs.private.Intervals.{numbers_of, IsFoundIn};
 
     ghost Value = { ProgramScopes };
 
@@ -41,26 +41,26 @@ impl<'a> Model for Finder<'a> {
     } };
 
     ghost invariant = { λ finder.
-        IsFoundIn finder.structure.now finder.found.parts.items (numbers_of finder.found.lists.keys) };
+        IsFoundIn finder.structure.now finder.found.intervals.items (numbers_of finder.found.lists.keys) };
 }
 
-fn subprogram_of(part: Option<Part>) -> Option<u32>
-    ensures { result ≡ subprogram_of part }
+fn subprogram_of(interval: Option<AddressInterval>) -> Option<u32>
+    ensures { result ≡ subprogram_of interval }
 {
-    match part {
-        Some(part) => part.subprogram,
+    match interval {
+        Some(interval) => interval.subprogram,
         None => None,
     }
 }
 
-/// The numbers of the calls that are inlined in a part, the outermost first.
-fn numbers_in(found: &AddressParts, part: Option<Part>) -> &[u32]
-    ensures { result.now ≡ numbers_in (numbers_of found.now.lists.keys) part }
+/// The numbers of the calls that are inlined in an interval, the outermost first.
+fn numbers_in(found: &AddressIntervals, interval: Option<AddressInterval>) -> &[u32]
+    ensures { result.now ≡ numbers_in (numbers_of found.now.lists.keys) interval }
 {
-    let Some(part) = part else {
+    let Some(interval) = interval else {
         return &[];
     };
-    match found.lists.get_index(part.inlines) {
+    match found.lists.get_index(interval.inlines) {
         Some(list) => list.as_slice(),
         None => &[],
     }
@@ -76,12 +76,12 @@ fn procedure_of(
     ensures { result ≡ procedure_by structure.now image.now pc subprogram }
 {
     match subprogram {
-        Some(number) => ProcId::Die(structure.item(number).identity),
+        Some(number) => ProcId::Die(structure.subroutine(number).identity),
         None => procedure_by_symbol(image, pc),
     }
 }
 
-fn inline_of(item: Item) -> InlineAt
+fn inline_of(item: Subroutine) -> InlineAt
     ensures { inline_view result ≡ inline_scope item }
 {
     InlineAt {
@@ -100,7 +100,7 @@ fn inlines_of(
 {
     let mut inlines = Vec::new(alloc);
     for number in numbers {
-        inlines.push(inline_of(structure.item(*number)))?;
+        inlines.push(inline_of(structure.subroutine(*number)))?;
     }
     Ok(inlines)
 }
@@ -112,8 +112,8 @@ fn line_of(table: &LineTable<'_>, pc: u32) -> LineId
 }
 
 impl<'a> Finder<'a> {
-    /// What finds the scopes of a program. Takes time as n log n in the number of ranges, for each of the calls
-    /// that are inlined at an address.
+    /// The finder of a program's scopes. Takes time n log n in the number of ranges, for each of the calls that are
+    /// inlined at an address.
     pub fn of(
         alloc: Global,
         structure: &'a Structure<'a>,
@@ -123,7 +123,7 @@ impl<'a> Finder<'a> {
         ensures { IfOk result (λ finder.
             finder ≡ record { structure = structure.now; lines = lines.now; image = image.now }) }
     {
-        let found = parts_of(alloc, structure)?;
+        let found = intervals_of(alloc, structure)?;
         Ok(Finder {
             alloc,
             structure,
@@ -133,23 +133,27 @@ impl<'a> Finder<'a> {
         })
     }
 
-    /// How many inlined calls there are at an address. Takes no memory, and time as the logarithm of the number
-    /// of ranges.
+    /// The number of inlined calls at an address (DWARF 5, section 3.3.8). Takes no memory, and time logarithmic in the
+    /// number of ranges.
     pub fn levels_at(&self, pc: u32) -> u32
         ensures { result ≡ length (found_at self.now pc).inlines }
     {
-        let part = part_at(self.found.parts.as_slice(), pc);
-        numbers_in(&self.found, part).len() as u32
+        let interval = interval_at(self.found.intervals.as_slice(), pc);
+        numbers_in(&self.found, interval).len() as u32
     }
 
-    /// The scopes at an address. Takes time as the logarithm of the number of ranges, and linear in the inlined
-    /// calls.
+    /// The scopes at an address (DWARF 5, sections 3.3 and 6.2). Takes time logarithmic in the number of ranges, and
+    /// linear in the inlined calls.
     pub fn scopes_at(&self, pc: u32) -> Result<Found, Memory>
         ensures { IfOk result (λ found. found_view found ≡ found_at self.now pc) }
     {
-        let part = part_at(self.found.parts.as_slice(), pc);
-        let procedure = procedure_of(self.structure, self.image, pc, subprogram_of(part));
-        let inlines = inlines_of(self.alloc, self.structure, numbers_in(&self.found, part))?;
+        let interval = interval_at(self.found.intervals.as_slice(), pc);
+        let procedure = procedure_of(self.structure, self.image, pc, subprogram_of(interval));
+        let inlines = inlines_of(
+            self.alloc,
+            self.structure,
+            numbers_in(&self.found, interval),
+        )?;
         Ok(Found {
             procedure,
             inlines: Listed::of(inlines),
@@ -157,8 +161,8 @@ impl<'a> Finder<'a> {
         })
     }
 
-    /// What a procedure is called, of at most 4,096 bytes. Takes time linear in the number of function symbols
-    /// where it is known by a symbol alone.
+    /// The name of a procedure, of at most `MAX_NAME_BYTES` bytes. Takes time linear in the number of function symbols
+    /// where the procedure is known by a symbol alone.
     pub fn proc_name(&self, id: ProcId) -> Result<Text, Memory>
         ensures { IfOk result (λ name. name ≡ (naming_of self.now).proc_name id) }
     {
@@ -169,7 +173,7 @@ impl<'a> Finder<'a> {
         }
     }
 
-    /// What a file of a line table is called, of at most 4,096 bytes.
+    /// The name of a file of a line table, of at most `MAX_NAME_BYTES` bytes.
     pub fn file_name(&self, table: u32, file: u32) -> Result<Text, Memory>
         ensures { IfOk result (λ name. name ≡ (naming_of self.now).file_name table file) }
     {

@@ -1,7 +1,7 @@
 use prof_bytes::Listed;
 use scope_types::{LineId, ProcId};
 
-/// An inlined call: who is called, and where.
+/// An inlined call: the procedure that is called, and the line of the call (DWARF 5, section 3.3.8.2).
 #[derive(Clone, Copy, Debug, PartialEq, Eq)]
 pub struct InlineAt {
     pub callee: ProcId,

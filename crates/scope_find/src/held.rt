@@ -1,6 +1,6 @@
 //! The ranges that hold an address, and the items that are found by them.
 ghost use Rattle.std.specs.Prelude.{◌≡◌, ◌<◌, ◌≤◌, ℕ, length, All, IfOk, IfSome, OnOk, MatchOption};
-ghost use Rattle.dwarf_inline.specs.Structure.{IsWhole};
+ghost use Rattle.dwarf_inline.specs.Structure.{IsWholeStructure};
 ghost use Rattle.scope_find.specs.private.Spans.{Takes, NoneOpen, IsFirstOpen, AreSpans, IsOpenAt, IsProcedureAt};
 ghost use Rattle.scope_find.specs.private.Spans.{IsNextInlined, items_at, into_number};
 
@@ -69,7 +69,7 @@ pub(crate) fn inlined_into(
     held: &BTreeSet<Span>,
     subprogram: u32,
 ) -> Result<Vec<u32>, Memory>
-    requires whole { IsWhole structure.now }
+    requires whole { IsWholeStructure structure.now }
     requires there { subprogram < length structure.now.items }
     requires spans { AreSpans structure.now held.now.keys }
     ensures known { IfOk result (λ numbers. All (λ number. number < length structure.now.items) numbers.items) }
@@ -78,11 +78,11 @@ pub(crate) fn inlined_into(
 {
     let mut numbers = Vec::new(alloc);
     let mut low = subprogram + 1;
-    let mut end = structure.item(subprogram).after;
+    let mut end = structure.subroutine(subprogram).next_after_subtree;
     while let Some(number) = next_inlined(structure, held, low, end) {
         numbers.push(number)?;
         low = number + 1;
-        end = structure.item(number).after;
+        end = structure.subroutine(number).next_after_subtree;
     }
     Ok(numbers)
 }

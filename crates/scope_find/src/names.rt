@@ -1,13 +1,11 @@
-//! What the program's function symbols say.
-ghost use Rattle.std.specs.Prelude.{◌≡◌, ◌==◌, find, take};
+//! Procedures by the program's function symbols.
+ghost use Rattle.std.specs.Prelude.{◌≡◌, ◌==◌, find};
 ghost use Rattle.std.specs.Option.{option_copied};
 ghost use Rattle.scope_find.specs.Symbols.{procedure_by_symbol, procedure_symbol_name};
 
+use dwarf_forms::cut_name;
 use elf_image::{Function, Image};
 use scope_types::ProcId;
-
-/// The most bytes of a name.
-const MOST_NAME: usize = 4096;
 
 /// The first function symbol that starts at an address.
 fn starting<'a, 'f>(functions: &'f [Function<'a>], start: u32) -> Option<&'f Function<'a>>
@@ -16,23 +14,13 @@ fn starting<'a, 'f>(functions: &'f [Function<'a>], start: u32) -> Option<&'f Fun
     functions.iter().find(|function| function.start == start)
 }
 
-/// So many bytes from the front, or all where there are fewer.
-fn front(bytes: &[u8], count: usize) -> &[u8]
-    ensures { result.now ≡ take count bytes.now }
-{
-    if count > bytes.len() {
-        return bytes;
-    }
-    &bytes[..count]
-}
-
-/// What a procedure of a symbol is called. Takes time linear in the number of function symbols.
+/// The name of a procedure that is known by a symbol. Takes time linear in the number of function symbols.
 #[tactic(auto, using(crate::proofs::SymbolsFound::symbol_steps))]
 pub(crate) fn procedure_symbol_name<'a>(image: &Image<'a>, start: u32) -> &'a [u8]
     ensures { result.now ≡ procedure_symbol_name image.now start }
 {
     match starting(image.functions(), start) {
-        Some(function) => front(function.name, MOST_NAME),
+        Some(function) => cut_name(function.name),
         None => b"<unnamed>",
     }
 }

@@ -1,11 +1,11 @@
 //! The ranges of items, and where each starts and ends.
 ghost use Rattle.std.specs.Prelude.{◌≡◌, ◌<◌, ◌++◌, ◌∷◌, [], length, slice_get, IfOk, OnOk};
 ghost use Rattle.std.specs.List.Sorted.{IsNonDecreasingBy};
-ghost use Rattle.dwarf_inline.specs.Structure.{IsWhole};
+ghost use Rattle.dwarf_inline.specs.Structure.{IsWholeStructure};
 ghost use Rattle.scope_find.specs.Found.{item_ranges};
 ghost use Rattle.scope_find.specs.private.Spans.{starting, ending, item_events, AreEventsOf};
 
-use dwarf_inline::{Item, Structure};
+use dwarf_inline::{Structure, Subroutine};
 use prof_bytes::Memory;
 use std::alloc::Global;
 
@@ -38,19 +38,19 @@ fn put_span(events: &mut Vec<Event>, span: Span) -> Result<(), Memory>
     Ok(())
 }
 
-/// The starts and ends of an item's ranges, behind those that are there.
+/// Appends the starts and ends of an item's ranges.
 fn put_item(
     events: &mut Vec<Event>,
     structure: &Structure<'_>,
     number: u32,
-    item: Item,
+    item: Subroutine,
 ) -> Result<(), Memory>
-    requires whole { IsWhole structure.now }
+    requires whole { IsWholeStructure structure.now }
     requires there { slice_get structure.now.items number ≡ Some item }
     ensures { OnOk result (events.new.items ≡ events.old.items ++ item_events structure.now (number, item)) }
 {
-    for at in 0..item.ranges {
-        let (start, end) = structure.range(item.first + u64::from(at));
+    for at in 0..item.range_count {
+        let (start, end) = structure.range(item.first_range + u64::from(at));
         let span = Span {
             inlined: item.inlined,
             item: number,
@@ -64,13 +64,13 @@ fn put_item(
 
 /// The starts and ends of all ranges of items, by address.
 pub(crate) fn events_of(alloc: Global, structure: &Structure<'_>) -> Result<Vec<Event>, Memory>
-    ensures whole { IfOk result (λ _. IsWhole structure.now) }
+    ensures whole { IfOk result (λ _. IsWholeStructure structure.now) }
     ensures events { IfOk result (λ events. AreEventsOf structure.now events.items) }
     ensures sorted { IfOk result (λ events. IsNonDecreasingBy (λ e. e.address) events.items) }
 {
     let mut events = Vec::new(alloc);
     for number in 0..structure.len() {
-        put_item(&mut events, structure, number, structure.item(number))?;
+        put_item(&mut events, structure, number, structure.subroutine(number))?;
     }
     events.sort_unstable_by_key(|event| event.address);
     Ok(events)

@@ -12,3 +12,11 @@ most_path_frames = 4194304
 -- and how many scopes the call paths of its distinct raw paths may have together
 abbrev pub most_path_scopes : ℕ
 most_path_scopes = 8388608
+
+-- and how many harts
+abbrev pub most_profile_harts : ℕ
+most_profile_harts = 16
+
+-- and how many bytes the name of a procedure or of a file
+abbrev pub most_name_bytes : ℕ
+most_name_bytes = 4096

@@ -63,7 +63,7 @@ fn put_node(out: &mut Vec<ContextEntry>, values: &[NodeValue]) -> Result<(), Mem
     put_kind(out, values, Kind::Inclusive)
 }
 
-/// The index behind a node's values, which begin at an index.
+/// The index after a node's values, which begin at an index.
 fn node_end(values: &[NodeValue], first: usize, node: u32) -> usize
     requires { first ≤ length values.now }
     ensures after { first ≤ result }

@@ -10,7 +10,7 @@ use Rattle.path_trie.specs.Trie.{samples_of, entry_scopes}
 abbrev pub Chunks : Type 0
 Chunks = List (List Entry)
 
--- the limits of an expanded plan: so many chunks, samples and scopes at most
+-- the limits of an expanded plan: a given number of chunks, samples and scopes at most
 pub record IsLimited (plan : Chunks) : Type 0 where
   pub chunks : length plan ≤ most_chunks
   pub samples : sum_by samples_of plan ≤ most_samples

@@ -44,9 +44,9 @@ impl Play<Stripe, PassView> for Exchange {
 }
 
 /// Puts back a stripe with one more piece.
-pub(crate) struct Put;
+pub(crate) struct PutLonger;
 
-impl Play<Stripe, PassView> for Put {
+impl Play<Stripe, PassView> for PutLonger {
     ghost use Rattle.stripe_table.specs.private.Plays.{puts};
 
     ghost then = { puts };

@@ -11,7 +11,7 @@ ghost use Rattle.stripe_table.specs.Views.{occurrences};
 ghost use Rattle.stripe_table.specs.declared.stripe.Stripe.{Stripe};
 ghost use Rattle.stripe_table.specs.declared.view.Last.TheVariants.{Saw};
 
-use crate::plays::{Draw, Exchange, Put, PutBack, PutPresent, ReadWord};
+use crate::plays::{Draw, Exchange, PutBack, PutLonger, PutPresent, ReadWord};
 use crate::stripe::Addition;
 use crate::table::{Board, Laid, PassSeat, Take};
 use scope_types::Piece;
@@ -56,7 +56,7 @@ fn put_longer(board: &Board, seat: &mut PassSeat, stripe: usize, count: u64)
     ensures { IsSame seat.old seat.new × ((x : Stripe) → seat.old.me.1 ≡ (stripe, x) ∷ []
         → seat.new.me ≡ (after_put stripe count (slice_index x.names count) seat.old.me.0, [])) }
 {
-    board.store::<Put>(seat, stripe + 1, 2 * count + 2)
+    board.store::<PutLonger>(seat, stripe + 1, 2 * count + 2)
 }
 
 /// Puts a stripe back with the `count` pieces that it had.

@@ -48,7 +48,7 @@ pub(crate) enum Addition {
 }
 
 impl Stripe {
-    /// No pieces, of a plan with so many chunks.
+    /// No pieces, of a plan with a given number of chunks.
     pub(crate) fn empty(alloc: Global, chunks: u32) -> Result<Stripe, Memory>
         ensures { IfOk result (λ stripe. stripe ≡ empty_stripe) }
     {
@@ -79,7 +79,7 @@ impl Stripe {
         &self.trie
     }
 
-    /// Merges a piece and puts its chunk behind the names. Where memory runs out the stripe stays as it is.
+    /// Merges a piece and puts its chunk after the names. Where memory runs out the stripe stays as it is.
     pub(crate) fn add(&mut self, piece: &Piece) -> Result<(), Memory>
         requires room { HasRoom self.old piece.now }
         ensures ok { OnOk result (TakesIn self.old piece.now self.new) }

@@ -6,7 +6,7 @@ use Rattle.std.proofs.lemmas.List.{take_more, take_all, map-append}
 use Rattle.std.proofs.lemmas.List.Concat.{flat_map-append}
 use Rattle.std.proofs.lemmas.Option.{slice_get_within, get_or_from_slice_get}
 use Rattle.address_ranges.specs.Ranges.{holds}
-use Rattle.dwarf_inline.specs.declared.item.Item.{Item}
+use Rattle.dwarf_inline.specs.declared.subroutine.Subroutine.{Subroutine}
 use Rattle.dwarf_inline.specs.Structure.{ProgramStructure}
 use Rattle.scope_find.specs.Found.{Numbered, item_holds, item_ranges, range_holds, subprogram_at}
 use Rattle.struct_listing.specs.declared.symbols.CodeRange.{CodeRange}
@@ -15,8 +15,8 @@ use Rattle.struct_listing.proofs.RangeTexts.{more_ranges}
 
 -- ---- the ranges, one more at a time
 
-pub range_pushed : (s : ProgramStructure) (item : Item) (at : ℕ) (r : ℕ × ℕ) (start now after : List CodeRange)
-    → item.first + item.ranges ≤ length s.ranges → at < item.ranges → slice_get s.ranges (item.first + at) ≡ Some r
+pub range_pushed : (s : ProgramStructure) (item : Subroutine) (at : ℕ) (r : ℕ × ℕ) (start now after : List CodeRange)
+    → item.first_range + item.range_count ≤ length s.ranges → at < item.range_count → slice_get s.ranges (item.first_range + at) ≡ Some r
     → now ≡ start ++ map code_range (take at (item_ranges s item)) → after ≡ now ++ code_range r ∷ []
     → after ≡ start ++ map code_range (take (at + 1) (item_ranges s item))
 range_pushed s item at r start now after placed lt there so_far push =
@@ -24,13 +24,13 @@ range_pushed s item at r start now after placed lt there so_far push =
     push ∙ ap (λ (l : List CodeRange). l ++ code_range r ∷ []) so_far ∙ append_assoc start (map code_range rs) (code_range r ∷ [])
     ∙ ap (λ (l : List CodeRange). start ++ l) (sym (ap (map code_range) (more_ranges s item at r placed lt there) ∙ map-append code_range rs (r ∷ [])))
 
-pub item_added : (s : ProgramStructure) (number : ℕ) (item : Item) (now after : List CodeRange) → slice_get s.items number ≡ Some item
+pub item_added : (s : ProgramStructure) (number : ℕ) (item : Subroutine) (now after : List CodeRange) → slice_get s.items number ≡ Some item
     → now ≡ flat_map (item_part s) (take number s.items) → after ≡ now ++ item_part s item → after ≡ flat_map (item_part s) (take (number + 1) s.items)
 item_added s number item now after there so_far one =
     let lt : number < length s.items = slice_get_within s.items number item there in
     let is : get_or s.items number item ≡ item = get_or_from_slice_get s.items number item item there in
     one ∙ ap (λ (l : List CodeRange). l ++ item_part s item) so_far
-    ∙ sym (ap (flat_map (item_part s)) (take_more s.items number item lt ∙ ap (λ (x : Item). take number s.items ++ x ∷ []) is)
+    ∙ sym (ap (flat_map (item_part s)) (take_more s.items number item lt ∙ ap (λ (x : Subroutine). take number s.items ++ x ∷ []) is)
     ∙ flat_map-append (item_part s) (take number s.items) (item ∷ [])
     ∙ ap (λ (l : List CodeRange). flat_map (item_part s) (take number s.items) ++ l) (append-nil (item_part s item)))
 
@@ -58,14 +58,14 @@ module _ (s : ProgramStructure) (address : ℕ) where
   in_ranges [] = refl
   in_ranges (r ∷ rs) = some_find in_range (code_range r) (map code_range rs) ∙ ap (λ (b : Bool). range_holds address r || b) (in_ranges rs)
 
-  in_item : (item : Item) → is_some (find in_range (item_part s item)) ≡ (not item.inlined && item_holds s address item)
+  in_item : (item : Subroutine) → is_some (find in_range (item_part s item)) ≡ (not item.inlined && item_holds s address item)
   in_item item =
       elim item.inlined as (λ b. is_some (find in_range (cond b [] (map code_range (item_ranges s item)))) ≡ (not b && item_holds s address item)) [
         | true ↦ refl
         | false ↦ in_ranges (item_ranges s item)
       ]
 
-  in_items : (number : ℕ) (items : List Item)
+  in_items : (number : ℕ) (items : List Subroutine)
       → is_some (find in_range (flat_map (item_part s) items)) ≡ is_some (find (λ i. not i.1.inlined && item_holds s address i.1) (enumerate_from number items))
   in_items number [] = refl
   in_items number (item ∷ items) =

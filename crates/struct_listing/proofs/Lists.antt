@@ -4,8 +4,8 @@ use Rattle.std.specs.Prelude.{filter, slice_get}
 use Rattle.std.specs.List.{flat_map}
 use Rattle.std.proofs.lemmas.List.FromFn.{length-enumerate_from, get_or-enumerate_from}
 use Rattle.std.proofs.lemmas.Option.{slice_get_within, get_or_from_slice_get}
-use Rattle.dwarf_inline.specs.declared.item.Item.{Item}
-use Rattle.dwarf_inline.specs.Structure.{ProgramStructure, IsWhole}
+use Rattle.dwarf_inline.specs.declared.subroutine.Subroutine.{Subroutine}
+use Rattle.dwarf_inline.specs.Structure.{ProgramStructure, IsWholeStructure}
 use Rattle.scope_find.specs.Found.{Numbered, numbered}
 
 -- what a filter leaves gives, each of the others gives nothing
@@ -17,17 +17,17 @@ flat_filter g f (x ∷ xs) =
       | false ↦ flat_filter g f xs
     ]
 
-pub numbered_within : (s : ProgramStructure) (number : ℕ) (item : Item) → slice_get s.items number ≡ Some item → number < length (numbered s)
+pub numbered_within : (s : ProgramStructure) (number : ℕ) (item : Subroutine) → slice_get s.items number ≡ Some item → number < length (numbered s)
 numbered_within s number item there =
     subst (λ (m : ℕ). number < m) (sym (length-enumerate_from 0 s.items)) (slice_get_within s.items number item there)
 
-pub numbered_at : (s : ProgramStructure) (number : ℕ) (item : Item) (d : Numbered) → slice_get s.items number ≡ Some item → get_or (numbered s) number d ≡ (number, item)
+pub numbered_at : (s : ProgramStructure) (number : ℕ) (item : Subroutine) (d : Numbered) → slice_get s.items number ≡ Some item → get_or (numbered s) number d ≡ (number, item)
 numbered_at s number item d there =
     let lt : number < length s.items = slice_get_within s.items number item there in
     let e : 0 + number ≡ number = omega arith in
     get_or-enumerate_from 0 s.items number d lt ∙ (λ j. (e j, get_or_from_slice_get s.items number item d.1 there j))
 
 -- an item's ranges are there
-pub item_placed : (s : ProgramStructure) (number : ℕ) (item : Item) → IsWhole s → slice_get s.items number ≡ Some item → item.first + item.ranges ≤ length s.ranges
+pub item_placed : (s : ProgramStructure) (number : ℕ) (item : Subroutine) → IsWholeStructure s → slice_get s.items number ≡ Some item → item.first_range + item.range_count ≤ length s.ranges
 item_placed s number item whole there =
-    subst (λ (i : Item). i.first + i.ranges ≤ length s.ranges) (get_or_from_slice_get s.items number item item there) (whole.placed number item (slice_get_within s.items number item there))
+    subst (λ (i : Subroutine). i.first_range + i.range_count ≤ length s.ranges) (get_or_from_slice_get s.items number item item there) (whole.placed number item (slice_get_within s.items number item there))

@@ -5,13 +5,13 @@ use Rattle.std.specs.List.{flat_map}
 use Rattle.std.proofs.lemmas.List.{take_all}
 use Rattle.std.proofs.lemmas.List.FromFn.{length-enumerate_from}
 use Rattle.prof_bytes.proofs.Appending.{append_more}
-use Rattle.dwarf_inline.specs.declared.item.Item.{Item}
+use Rattle.dwarf_inline.specs.declared.subroutine.Subroutine.{Subroutine}
 use Rattle.scope_find.specs.Found.{Numbered, ProgramScopes, numbered}
 use Rattle.struct_listing.specs.Listing.{is_listed_subprogram, subprogram_lines}
 use Rattle.struct_listing.specs.private.Parts.{subprogram_part}
 use Rattle.struct_listing.proofs.Lists.{flat_filter, numbered_at, numbered_within}
 
-pub subprogram_more : (p : ProgramScopes) (number : ℕ) (item : Item) (start now after : List ℕ) → slice_get p.structure.items number ≡ Some item
+pub subprogram_more : (p : ProgramScopes) (number : ℕ) (item : Subroutine) (start now after : List ℕ) → slice_get p.structure.items number ≡ Some item
     → now ≡ start ++ flat_map (subprogram_part p) (take number (numbered p.structure)) → after ≡ now ++ subprogram_part p (number, item)
     → after ≡ start ++ flat_map (subprogram_part p) (take (number + 1) (numbered p.structure))
 subprogram_more p number item start now after there so_far one =

@@ -6,8 +6,8 @@ use Rattle.std.specs.List.{flat_map}
 use Rattle.elf_image.specs.Image.{FunctionSymbol}
 use Rattle.scope_types.specs.declared.scope.LineId.TheVariants.{Address}
 use Rattle.tree_types.specs.TopDown.{address_text, line_label, printed, spaces}
-use Rattle.dwarf_inline.specs.declared.item.Item.{Item}
-use Rattle.dwarf_inline.specs.Links.{most_name}
+use Rattle.dwarf_inline.specs.declared.subroutine.Subroutine.{Subroutine}
+use Rattle.dwarf_forms.specs.declared.name.TheConstants.{MAX_NAME_BYTES}
 use Rattle.dwarf_inline.specs.Structure.{ProgramStructure, proc_name}
 use Rattle.scope_find.specs.Found.{Numbered, ProgramScopes, item_ranges, naming_of, numbered, subprogram_at}
 
@@ -23,14 +23,14 @@ ranges_text [] = []
 ranges_text (first ∷ others) = range_text first ++ flat_map (λ r. codes "," ++ range_text r) others
 
 -- the ranges of an item that count, at the end of its line
-abbrev pub ranges_tail : ProgramStructure → Item → List ℕ
+abbrev pub ranges_tail : ProgramStructure → Subroutine → List ℕ
 ranges_tail s item = codes " " ++ ranges_text (item_ranges s item) ++ codes "\n"
 
 -- ---- subprograms and the calls that are inlined into them
 
 -- one of its ranges counts
-abbrev pub has_ranges : Item → Bool
-has_ranges item = nat_lt 0 item.ranges
+abbrev pub has_ranges : Subroutine → Bool
+has_ranges item = nat_lt 0 item.range_count
 
 abbrev pub is_listed_subprogram : Numbered → Bool
 is_listed_subprogram i = not i.1.inlined && has_ranges i.1
@@ -40,27 +40,27 @@ is_listed_inline i = i.1.inlined && has_ranges i.1
 
 -- the items below an item, those below nested subprograms too
 abbrev pub items_below : ProgramStructure → Numbered → List Numbered
-items_below s i = take (i.1.after - (i.0 + 1)) (drop (i.0 + 1) (numbered s))
+items_below s i = take (i.1.next_after_subtree - (i.0 + 1)) (drop (i.0 + 1) (numbered s))
 
--- the items behind a subprogram, up to the one with a number
-abbrev pub items_up_to : ProgramStructure → ℕ → ℕ → List Item
+-- the items after a subprogram, up to the one with a number
+abbrev pub items_up_to : ProgramStructure → ℕ → ℕ → List Subroutine
 items_up_to s subprogram number = take (number - subprogram) (drop (subprogram + 1) s.items)
 
 -- an inlined subroutine that has later items than the one with a number below it
-abbrev pub is_inlined_beyond : ℕ → Item → Bool
-is_inlined_beyond number item = item.inlined && nat_lt number item.after
+abbrev pub is_inlined_beyond : ℕ → Subroutine → Bool
+is_inlined_beyond number item = item.inlined && nat_lt number item.next_after_subtree
 
 -- how many inlined subroutines of a subprogram are the item with a number, or have it below them
 abbrev pub inlined_level : ProgramStructure → ℕ → ℕ → ℕ
 inlined_level s subprogram number = count_by (is_inlined_beyond number) (items_up_to s subprogram number)
 
 -- who it is, and its ranges
-abbrev pub subprogram_line : ProgramScopes → Item → List ℕ
+abbrev pub subprogram_line : ProgramScopes → Subroutine → List ℕ
 subprogram_line p item =
     codes "proc " ++ printed (proc_name p.structure item.identity) ++ ranges_tail p.structure item
 
 -- who is called and where, two blanks in for each level, and the call's ranges
-abbrev pub inline_line : ProgramScopes → ℕ → Item → List ℕ
+abbrev pub inline_line : ProgramScopes → ℕ → Subroutine → List ℕ
 inline_line p level item = spaces (2 * level) ++ codes "inline " ++ printed (proc_name p.structure item.identity)
     ++ codes " called at " ++ line_label (naming_of p) (unwrap_or item.call (Address 0)) ++ ranges_tail p.structure item
 
@@ -79,7 +79,7 @@ abbrev pub is_listed_symbol : ProgramStructure → FunctionSymbol → Bool
 is_listed_symbol s function = is_none (subprogram_at s function.start)
 
 abbrev pub symbol_line : FunctionSymbol → List ℕ
-symbol_line function = codes "symbol " ++ printed (take most_name function.name) ++ codes " "
+symbol_line function = codes "symbol " ++ printed (take MAX_NAME_BYTES function.name) ++ codes " "
     ++ range_text (function.start, function.start + function.size) ++ codes "\n"
 
 -- ---- the listing

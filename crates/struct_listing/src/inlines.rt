@@ -3,14 +3,14 @@ ghost use Rattle.std.specs.Prelude.{◌≡◌, ◌+◌, ◌*◌, ◌<◌, ◌≤
 ghost use Rattle.std.specs.Prelude.{slice_get};
 ghost use Rattle.std.specs.Prelude.{Some, OnOk, if◌then◌else◌};
 ghost use Rattle.tree_types.specs.TopDown.{line_label, spaces};
-ghost use Rattle.dwarf_inline.specs.Structure.{IsWhole};
+ghost use Rattle.dwarf_inline.specs.Structure.{IsWholeStructure};
 ghost use Rattle.scope_find.specs.Found.{naming_of};
 ghost use Rattle.struct_listing.specs.Listing.{inline_line, inline_lines, inlined_level};
 ghost use Rattle.struct_listing.specs.private.Parts.{inline_part, scopes_of};
 
 use crate::program::Program;
 use crate::ranges::put_tail;
-use dwarf_inline::Item;
+use dwarf_inline::Subroutine;
 use prof_bytes::{Memory, put_decimal};
 use scope_types::LineId;
 use std::alloc::Global;
@@ -24,11 +24,12 @@ fn close_ended(ends: &mut Vec<u32>, number: u32)
 }
 
 /// Opens an inlined subroutine.
-fn open_item(ends: &mut Vec<u32>, item: Item) -> Result<(), Memory>
-    ensures { OnOk result (ends.new.items ≡ ends.old.items ++ (if item.inlined then item.after ∷ [] else [])) }
+fn open_item(ends: &mut Vec<u32>, item: Subroutine) -> Result<(), Memory>
+    ensures { OnOk result (ends.new.items
+        ≡ ends.old.items ++ (if item.inlined then item.next_after_subtree ∷ [] else [])) }
 {
     if item.inlined {
-        ends.push(item.after)?;
+        ends.push(item.next_after_subtree)?;
     }
     Ok(())
 }
@@ -70,10 +71,10 @@ fn put_inline(
     alloc: Global,
     program: Program<'_>,
     level: usize,
-    item: Item,
+    item: Subroutine,
 ) -> Result<(), Memory>
     requires short { length program.structure.now.ranges < 2 ^ 63 }
-    requires placed { item.first + item.ranges ≤ length program.structure.now.ranges }
+    requires placed { item.first_range + item.range_count ≤ length program.structure.now.ranges }
     ensures { OnOk result (out.new.items ≡ out.old.items ++ inline_line (scopes_of program.entry) level item) }
 {
     put_indent(out, level)?;
@@ -90,18 +91,18 @@ fn put_below(
     out: &mut Vec<u8>,
     alloc: Global,
     program: Program<'_>,
-    item: Item,
+    item: Subroutine,
     subprogram: u32,
     number: u32,
     level: usize,
 ) -> Result<(), Memory>
-    requires whole { IsWhole program.structure.now }
+    requires whole { IsWholeStructure program.structure.now }
     requires there { slice_get program.structure.now.items number ≡ Some item }
     requires level { item.inlined ≡ true → level ≡ inlined_level program.structure.now subprogram number }
     ensures { OnOk result (out.new.items
         ≡ out.old.items ++ inline_part (scopes_of program.entry) subprogram (number, item)) }
 {
-    if item.inlined && item.ranges > 0 {
+    if item.inlined && item.range_count > 0 {
         put_inline(out, alloc, program, level, item)?;
     }
     Ok(())
@@ -114,15 +115,15 @@ pub(crate) fn put_inlines(
     alloc: Global,
     program: Program<'_>,
     subprogram: u32,
-    item: Item,
+    item: Subroutine,
 ) -> Result<(), Memory>
-    requires whole { IsWhole program.structure.now }
+    requires whole { IsWholeStructure program.structure.now }
     requires there { slice_get program.structure.now.items subprogram ≡ Some item }
     ensures { OnOk result (out.new.items ≡ out.old.items ++ inline_lines (scopes_of program.entry) (subprogram, item)) }
 {
     let mut ends = Vec::new(alloc);
-    for number in subprogram + 1..item.after {
-        let below = program.structure.item(number);
+    for number in subprogram + 1..item.next_after_subtree {
+        let below = program.structure.subroutine(number);
         close_ended(&mut ends, number);
         open_item(&mut ends, below)?;
         let level = ends.len();

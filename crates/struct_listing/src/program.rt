@@ -2,7 +2,7 @@ use dwarf_inline::Structure;
 use dwarf_line::LineTable;
 use elf_image::Image;
 
-/// What is known of a program's code.
+/// The structure, the line tables and the image of a program.
 #[derive(Clone, Copy)]
 pub(crate) struct Program<'a> {
     pub structure: &'a Structure<'a>,

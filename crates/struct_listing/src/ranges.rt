@@ -4,7 +4,7 @@ ghost use Rattle.scope_find.specs.Found.{item_ranges};
 ghost use Rattle.struct_listing.specs.Listing.{range_text, ranges_tail, ranges_text};
 ghost use Rattle.struct_listing.specs.private.Parts.{separator};
 
-use dwarf_inline::{Item, Structure};
+use dwarf_inline::{Structure, Subroutine};
 use prof_bytes::Memory;
 use view_tables::put_address;
 
@@ -28,27 +28,27 @@ fn put_separator(out: &mut Vec<u8>, at: u32) -> Result<(), Memory>
 }
 
 /// The ranges of an item, with commas between.
-fn put_ranges(out: &mut Vec<u8>, structure: &Structure<'_>, item: Item) -> Result<(), Memory>
+fn put_ranges(out: &mut Vec<u8>, structure: &Structure<'_>, item: Subroutine) -> Result<(), Memory>
     requires short { length structure.now.ranges < 2 ^ 63 }
-    requires placed { item.first + item.ranges ≤ length structure.now.ranges }
+    requires placed { item.first_range + item.range_count ≤ length structure.now.ranges }
     ensures { OnOk result (out.new.items ≡ out.old.items ++ ranges_text (item_ranges structure.now item)) }
 {
-    for at in 0..item.ranges {
-        let (start, end) = structure.range(item.first + u64::from(at));
+    for at in 0..item.range_count {
+        let (start, end) = structure.range(item.first_range + u64::from(at));
         put_separator(out, at)?;
         put_range(out, start, end)?;
     }
     Ok(())
 }
 
-/// The ranges of an item, behind a blank, and the line's end.
+/// A blank, the ranges of an item, and the line's end.
 pub(crate) fn put_tail(
     out: &mut Vec<u8>,
     structure: &Structure<'_>,
-    item: Item,
+    item: Subroutine,
 ) -> Result<(), Memory>
     requires short { length structure.now.ranges < 2 ^ 63 }
-    requires placed { item.first + item.ranges ≤ length structure.now.ranges }
+    requires placed { item.first_range + item.range_count ≤ length structure.now.ranges }
     ensures { OnOk result (out.new.items ≡ out.old.items ++ ranges_tail structure.now item) }
 {
     out.extend_from_slice(b" ")?;

@@ -1,7 +1,7 @@
 //! The subprograms, each with the calls that are inlined into it.
 ghost use Rattle.std.specs.Prelude.{◌≡◌, ◌+◌, ◌<◌, ◌≤◌, ◌^◌, ◌++◌, length, filter, slice_get, Some, OnOk};
 ghost use Rattle.std.specs.List.{flat_map};
-ghost use Rattle.dwarf_inline.specs.Structure.{IsWhole};
+ghost use Rattle.dwarf_inline.specs.Structure.{IsWholeStructure};
 ghost use Rattle.scope_find.specs.Found.{numbered};
 ghost use Rattle.struct_listing.specs.Listing.{is_listed_subprogram, subprogram_line, subprogram_lines};
 ghost use Rattle.struct_listing.specs.private.Parts.{scopes_of, subprogram_part};
@@ -9,15 +9,15 @@ ghost use Rattle.struct_listing.specs.private.Parts.{scopes_of, subprogram_part}
 use crate::inlines::put_inlines;
 use crate::program::Program;
 use crate::ranges::put_tail;
-use dwarf_inline::Item;
+use dwarf_inline::Subroutine;
 use prof_bytes::Memory;
 use std::alloc::Global;
 use view_tables::put_printed;
 
 /// The line of a subprogram.
-fn put_line(out: &mut Vec<u8>, program: Program<'_>, item: Item) -> Result<(), Memory>
+fn put_line(out: &mut Vec<u8>, program: Program<'_>, item: Subroutine) -> Result<(), Memory>
     requires short { length program.structure.now.ranges < 2 ^ 63 }
-    requires placed { item.first + item.ranges ≤ length program.structure.now.ranges }
+    requires placed { item.first_range + item.range_count ≤ length program.structure.now.ranges }
     ensures { OnOk result (out.new.items ≡ out.old.items ++ subprogram_line (scopes_of program.entry) item) }
 {
     out.extend_from_slice(b"proc ")?;
@@ -31,13 +31,13 @@ fn put_subprogram(
     alloc: Global,
     program: Program<'_>,
     number: u32,
-    item: Item,
+    item: Subroutine,
 ) -> Result<(), Memory>
-    requires whole { IsWhole program.structure.now }
+    requires whole { IsWholeStructure program.structure.now }
     requires there { slice_get program.structure.now.items number ≡ Some item }
     ensures { OnOk result (out.new.items ≡ out.old.items ++ subprogram_part (scopes_of program.entry) (number, item)) }
 {
-    if !item.inlined && item.ranges > 0 {
+    if !item.inlined && item.range_count > 0 {
         put_line(out, program, item)?;
         put_inlines(out, alloc, program, number, item)?;
     }
@@ -56,7 +56,7 @@ pub(crate) fn put_subprograms(
 {
     let count = program.structure.len();
     for number in 0..count {
-        let item = program.structure.item(number);
+        let item = program.structure.subroutine(number);
         put_subprogram(out, alloc, program, number, item)?;
     }
     Ok(())

@@ -1,5 +1,5 @@
 //! The functions that no subprogram holds, by their symbols.
-ghost use Rattle.std.specs.Prelude.{◌≡◌, ◌+◌, ◌<◌, ◌≤◌, ◌^◌, ◌++◌, length, map, filter, find, is_some, take, IfOk};
+ghost use Rattle.std.specs.Prelude.{◌≡◌, ◌+◌, ◌<◌, ◌≤◌, ◌^◌, ◌++◌, length, map, filter, find, is_some, IfOk};
 ghost use Rattle.std.specs.Prelude.{OnOk};
 ghost use Rattle.std.specs.List.{flat_map};
 ghost use Rattle.address_ranges.specs.Ranges.{holds};
@@ -11,14 +11,12 @@ ghost use Rattle.struct_listing.specs.private.Holders.{unheld_part};
 
 use crate::ranges::put_range;
 use address_ranges::{AddressRange, HasRange, RangeTable};
-use dwarf_inline::{Item, Structure};
+use dwarf_forms::cut_name;
+use dwarf_inline::{Structure, Subroutine};
 use elf_image::{Function, Image};
 use prof_bytes::Memory;
 use std::alloc::Global;
 use view_tables::put_printed;
-
-/// The most bytes of a name.
-const MOST_NAME: usize = 4096;
 
 /// A range of a subprogram.
 #[derive(Clone, Copy, Debug)]
@@ -40,31 +38,31 @@ impl HasRange for CodeRange {
     }
 }
 
-/// The ranges of an item, behind those that are there.
+/// Appends the ranges of an item.
 fn add_ranges(
     ranges: &mut Vec<CodeRange>,
     structure: &Structure<'_>,
-    item: Item,
+    item: Subroutine,
 ) -> Result<(), Memory>
     requires short { length structure.now.ranges < 2 ^ 63 }
-    requires placed { item.first + item.ranges ≤ length structure.now.ranges }
+    requires placed { item.first_range + item.range_count ≤ length structure.now.ranges }
     ensures { OnOk result (ranges.new.items ≡ ranges.old.items ++ map code_range (item_ranges structure.now item)) }
 {
-    for at in 0..item.ranges {
-        let (start, end) = structure.range(item.first + u64::from(at));
+    for at in 0..item.range_count {
+        let (start, end) = structure.range(item.first_range + u64::from(at));
         ranges.push(CodeRange { start, end })?;
     }
     Ok(())
 }
 
-/// The ranges of a subprogram, behind those that are there.
+/// Appends the ranges of an item, where it is a subprogram.
 fn add_subprogram(
     ranges: &mut Vec<CodeRange>,
     structure: &Structure<'_>,
-    item: Item,
+    item: Subroutine,
 ) -> Result<(), Memory>
     requires short { length structure.now.ranges < 2 ^ 63 }
-    requires placed { item.first + item.ranges ≤ length structure.now.ranges }
+    requires placed { item.first_range + item.range_count ≤ length structure.now.ranges }
     ensures { OnOk result (ranges.new.items ≡ ranges.old.items ++ item_part structure.now item) }
 {
     if !item.inlined {
@@ -79,12 +77,12 @@ fn subprogram_ranges(alloc: Global, structure: &Structure<'_>) -> Result<Vec<Cod
 {
     let mut ranges = Vec::new(alloc);
     for number in 0..structure.len() {
-        add_subprogram(&mut ranges, structure, structure.item(number))?;
+        add_subprogram(&mut ranges, structure, structure.subroutine(number))?;
     }
     Ok(ranges)
 }
 
-/// What tells whether a subprogram holds an address.
+/// A table that finds whether a subprogram holds an address.
 fn holders(alloc: Global, structure: &Structure<'_>) -> Result<RangeTable<CodeRange>, Memory>
     ensures { IfOk result (λ ranges. ranges ≡ subprogram_ranges structure.now) }
 {
@@ -99,23 +97,13 @@ fn is_held(ranges: &RangeTable<CodeRange>, address: u32) -> bool
     ranges.first(address).is_some()
 }
 
-/// So many bytes from the front, or all where there are fewer.
-fn front(bytes: &[u8], count: usize) -> &[u8]
-    ensures { result.now ≡ take count bytes.now }
-{
-    if count > bytes.len() {
-        return bytes;
-    }
-    &bytes[..count]
-}
-
 /// The line of a function symbol.
 fn put_line(out: &mut Vec<u8>, function: &Function<'_>) -> Result<(), Memory>
     requires { function.now.start + function.now.size < 2 ^ 32 }
     ensures { OnOk result (out.new.items ≡ out.old.items ++ symbol_line (symbol_view function.now)) }
 {
     out.extend_from_slice(b"symbol ")?;
-    put_printed(out, front(function.name, MOST_NAME))?;
+    put_printed(out, cut_name(function.name))?;
     out.extend_from_slice(b" ")?;
     put_range(out, function.start, function.start + function.size)?;
     out.extend_from_slice(b"\n")?;
@@ -137,7 +125,7 @@ fn put_symbol(
     Ok(())
 }
 
-/// The function symbols whose first address no subprogram holds, in symbol order. Takes time as n log n in the number
+/// The function symbols whose first address no subprogram holds, in symbol order. Takes time n log n in the number
 /// of ranges and of symbols.
 pub(crate) fn put_symbols(
     out: &mut Vec<u8>,
@@ -149,7 +137,7 @@ pub(crate) fn put_symbols(
         ++ flat_map symbol_line (filter (is_listed_symbol structure.now) image.now.functions)) }
 {
     let ranges = holders(alloc, structure)?;
-    // What is so of every image: no function ends beyond the last address.
+    // That no function ends beyond the last address follows from `segments`.
     let _ = image.segments();
     let functions = image.functions();
     for function in functions {

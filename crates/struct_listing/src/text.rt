@@ -12,13 +12,13 @@ use prof_bytes::{Memory, Text};
 use std::alloc::Global;
 
 /// The structure of a program as text: a line `proc NAME RANGES` for each subprogram that has a range that counts, in
-/// section order, and behind it a line `inline NAME called at PLACE RANGES` for each inlined subroutine below it that
+/// section order, and after it a line `inline NAME called at PLACE RANGES` for each inlined subroutine below it that
 /// has one, two blanks in for each level; then a line `symbol NAME RANGE` for each function symbol whose first address
 /// no subprogram holds. A range is `0xLO..0xHI`, from its start up to its end, and a place is `FILE:LINE` or an
 /// address.
 ///
-/// Takes time linear in the items below each subprogram that is listed, and as n log n in the number of ranges and of
-/// function symbols. Subprograms that nest to a depth list a call below the innermost as often as they are deep.
+/// Takes time linear in the items below each subprogram that is listed, and n log n in the number of ranges and of
+/// function symbols. A call below nested subprograms is listed once with each of them.
 #[tactic(auto, unfolding(crate::specs::Listing::structure_listing))]
 pub fn listing<'a>(
     alloc: Global,

@@ -100,12 +100,12 @@ abbrev pub all_entries : List (List Entry) → List Entry
 all_entries chunks = flat_map (λ chunk. flat_map (λ piece. piece.entries) (pieces_of chunks chunk))
     (range_with_len 0 (length chunks))
 
--- the entry counts samples: some, of one of so many harts, at a path that has scopes
+-- the entry counts samples: some, of one of a given number of harts, at a path that has scopes
 pub record CountsSamples (harts : ℕ) (e : Entry) : Type 0 where
   pub some : 0 < e.count
   pub path : 0 < length e.path
   pub hart : e.hart < harts
 
--- whether an expanded plan can be merged: each of its entries counts samples of one of so many harts
+-- whether an expanded plan can be merged: each of its entries counts samples of one of a given number of harts
 pub record IsMergeable (chunks : List (List Entry)) (harts : ℕ) : Type 0 where
   pub entries : All (All (CountsSamples harts)) chunks

@@ -98,7 +98,7 @@ fn put_last(
 }
 
 impl Ccts {
-    /// No samples, for so many harts.
+    /// No samples, for a given number of harts.
     #[tactic(auto, using(crate::proofs::Tables::starting_steps, crate::proofs::Putting::all_empty))]
     pub fn start(alloc: Global, harts: u32) -> Result<Ccts, Memory>
         ensures distinct { IfOk result (λ ccts. ccts ≡ distinct harts []) }

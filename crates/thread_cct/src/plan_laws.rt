@@ -40,7 +40,7 @@ pub fn plans_hold_counted_paths()
         ≡ map (λ s. record { hart = s.hart; path = call_path s.raw }) (each_sample tables) }
 {}
 
-/// A plan whose paths are counted and are of so many harts can be merged, where no call path is empty.
+/// A plan whose paths are counted and are of a given number of harts can be merged, where no call path is empty.
 pub fn plans_can_be_merged()
     ensures { (plan : Planned) (call_path : Raw → List Scope) (harts : ℕ)
         → All (λ p. 0 < p.count) plan.paths → All (λ p. p.hart < harts) plan.paths

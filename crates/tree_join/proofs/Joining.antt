@@ -15,7 +15,7 @@ use Rattle.tree_types.specs.PathsOf.{tree_paths}
 use Rattle.tree_types.specs.Tree.{CountedTree, IsTree, count_at, counts_in}
 use Rattle.tree_types.proofs.PathSteps.{as_many_paths}
 use Rattle.path_trie.specs.declared.trie.PathEnd.{PathEnd}
-use Rattle.path_trie.specs.Trie.{IsIndex, path_at, same_path, counted_entry, trie_nodes, nth_path, count_of, samples_of, entries_of}
+use Rattle.path_trie.specs.Trie.{IsIndex, path_at, same_path, counted_entry, trie_nodes, nth_path, count_of, samples_of, entries_with_path}
 use Rattle.path_trie.specs.private.Linked.{linked_node, Rooted}
 use Rattle.path_trie.proofs.Places.{path_none, not_empty, path_itself, path_false}
 use Rattle.tree_join.specs.Join.{nodes_of_all}
@@ -140,8 +140,8 @@ module _ (order nodes : List Node) (numbers : List ℕ) (ends : List PathEnd) (r
 
     first_entry : (x : Entry) (rest : List Entry) → count_of (x ∷ rest) hart q ≡ cond (test x) x.count 0 + count_of rest hart q
     first_entry x rest =
-        elim (test x) as (λ b. samples_of (cond b (x ∷ entries_of rest hart q) (entries_of rest hart q)) ≡ cond b x.count 0 + count_of rest hart q) [
-          | true ↦ sum_by-cons entry_count x (entries_of rest hart q)
+        elim (test x) as (λ b. samples_of (cond b (x ∷ entries_with_path rest hart q) (entries_with_path rest hart q)) ≡ cond b x.count 0 + count_of rest hart q) [
+          | true ↦ sum_by-cons entry_count x (entries_with_path rest hart q)
           | false ↦ omega arith
         ]
 

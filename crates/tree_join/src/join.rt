@@ -21,7 +21,7 @@ use prof_bytes::Memory;
 use std::alloc::Global;
 use tree_types::Tree;
 
-/// The tree of a trie, for so many harts: its nodes in preorder, siblings by their scopes, and the counts.
+/// The tree of a trie, for a given number of harts: its nodes in preorder, siblings by their scopes, and the counts.
 pub fn join_trie(alloc: Global, trie: &Trie, harts: u32) -> Result<Tree, Memory>
     requires { All (λ e. 0 < e.count → e.hart < harts) trie.now }
     ensures harts { IfOk result (λ tree. tree.harts ≡ harts) }
@@ -39,7 +39,7 @@ pub fn join_trie(alloc: Global, trie: &Trie, harts: u32) -> Result<Tree, Memory>
     tree_of(alloc, walkers.as_mut_slice(), harts)
 }
 
-/// The tree of what is walked over, for so many harts.
+/// The tree of what is walked over, for a given number of harts.
 fn tree_of(alloc: Global, walkers: &mut [Walker], harts: u32) -> Result<Tree, Memory>
     requires each { All (IsWalker []) walkers.old }
     requires samples { sum_by samples_of (map walked_entries walkers.old) ≤ most_samples }
@@ -64,8 +64,8 @@ fn walkers_of<'a>(alloc: Global, tries: &[&'a Trie]) -> Result<Vec<Walker<'a>>, 
     Ok(walkers)
 }
 
-/// The tree of several tries together, for so many harts: their nodes, each once and in preorder, and the sums of
-/// their counts.
+/// The tree of several tries together, for a given number of harts: their nodes, each once and in preorder, and the
+/// sums of their counts.
 pub fn join_tries(alloc: Global, tries: &[&Trie], harts: u32) -> Result<Tree, Memory>
     requires samples { sum_by (λ t. samples_of t.now) tries.now ≤ most_samples }
     requires nodes { sum_by (λ t. length (trie_nodes t.now)) tries.now ≤ most_path_scopes }

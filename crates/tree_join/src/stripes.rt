@@ -30,7 +30,8 @@ fn tries_of(alloc: Global, set: &StripeSet) -> Result<Vec<&Trie>, Memory>
     Ok(tries)
 }
 
-/// The tree of all stripes together, for so many harts: its paths are those of the pieces that the stripes name.
+/// The tree of all stripes together, for a given number of harts: its paths are those of the pieces that the stripes
+/// name.
 pub fn join_stripes(alloc: Global, stripes: &StripeSet, harts: u32) -> Result<Tree, Memory>
     requires plan { IsMergeable stripes.now.view.plan harts }
     ensures harts { IfOk result (λ tree. tree.harts ≡ harts) }

@@ -49,7 +49,7 @@ fn in_order(nodes: &[Node], numbers: &[u32], index: u32) -> Node
     }
 }
 
-/// No number for each of so many nodes.
+/// No number for each of a given number of nodes.
 fn no_numbers(alloc: Global, count: usize) -> Result<Vec<u32>, Memory>
     ensures { IfOk result (λ numbers. numbers.items ≡ replicate count no_parent) }
 {

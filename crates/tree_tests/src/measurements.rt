@@ -26,7 +26,7 @@ const HEAD: MeasureHead = MeasureHead {
 /// What a row changes: bytes at places, and how many bytes of the file there are; and where the fault is.
 static REFUSALS: [(&str, &[(usize, u8)], usize, u64); 16] = [
     ("without the last byte", &[], 91, 88),
-    ("with a byte behind", &[], 93, 92),
+    ("with a byte after", &[], 93, 92),
     ("another word at the start", &[(0, 0x49)], 92, 0),
     ("the period 0", &[(16, 0)], 92, 16),
     ("no harts", &[(20, 0)], 92, 20),
@@ -90,7 +90,7 @@ fn fault(alloc: Global, bytes: &[u8]) -> Result<Option<u64>, Memory> {
     }
 }
 
-/// The file's first bytes, and zeros behind its end, with changes.
+/// The file's first bytes, and zeros after its end, with changes.
 fn changed(alloc: Global, changes: &[(usize, u8)], size: usize) -> Result<Vec<u8>, Memory> {
     let mut bytes = Vec::new(alloc);
     for offset in 0..size {

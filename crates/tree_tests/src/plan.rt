@@ -16,7 +16,7 @@ use thread_cct::{Ccts, Plan, TooManyFrames, TooManyScopes, samples_are_counted};
 #[derive(Drop)]
 pub(crate) struct NoMemo;
 
-/// Expands a raw path to so many roots.
+/// Expands a raw path to a given number of roots.
 #[derive(Drop)]
 struct Roots {
     alloc: Global,
@@ -179,7 +179,7 @@ fn other_piece(
     Ok(None)
 }
 
-/// Whether the call paths of the samples have few enough scopes, where each has so many.
+/// Whether the call paths of the samples have few enough scopes, where each has the same number.
 fn are_few(alloc: Global, ccts: &Ccts, scopes: u64) -> Result<bool, Memory> {
     match Plan::of(alloc, ccts, &Roots { alloc, scopes }) {
         Ok(_) => Ok(true),

@@ -25,7 +25,7 @@ up_to_last starts n i d are lt = elim (cases_order i (length starts - 1)) [
 pub no_starts : AreStarts (0 ∷ []) 0
 no_starts = record { some = omega arith; first = refl; rise = λ i j d less lt. absurd (omega arith); last = refl }
 
--- another column behind the others
+-- another column after the others
 pub starts_more : (starts : List ℕ) (n last : ℕ) → AreStarts starts n → n ≤ last → AreStarts (starts ++ last ∷ []) last
 starts_more starts n last are le = record {
   some = (let long = length-append starts (last ∷ []) in omega arith);
@@ -80,7 +80,7 @@ module _ {X : Type 0} where
   unfolding cut
   no_columns xs = refl
 
-  -- another column behind the others
+  -- another column after the others
   pub cut_more : (starts : List ℕ) (xs column : List X) (last : ℕ) → AreStarts starts (length xs) → last ≡ length xs + length column
       → cut (starts ++ last ∷ []) (xs ++ column) ≡ cut starts xs ++ column ∷ []
   unfolding cut

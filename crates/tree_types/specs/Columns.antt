@@ -7,8 +7,8 @@ cut [] entries = []
 cut (from ∷ []) entries = []
 cut (from ∷ upto ∷ starts) entries = take (upto - from) (drop from entries) ∷ cut (upto ∷ starts) entries
 
--- where the columns of so many entries start: the first at 0, none before the one before it; the last start is where
--- the last column ends, behind the last entry
+-- where the columns of a given number of entries start: the first at 0, none before the one before it; the last start
+-- is where the last column ends, after the last entry
 pub record AreStarts (starts : List ℕ) (entries : ℕ) : Type 0 where
   pub some : 0 < length starts
   pub first : slice_index_or starts 0 0 ≡ 0

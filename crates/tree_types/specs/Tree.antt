@@ -59,7 +59,7 @@ node_at nodes node = slice_index_or nodes node (record { parent = no_parent; sco
 abbrev pub node_path : List Node → ℕ → Path
 node_path nodes node = slice_index_or (tree_paths nodes) node []
 
--- the numbers of the nodes behind a node
+-- the numbers of the nodes after a node
 abbrev pub nodes_behind : List Node → ℕ → List ℕ
 nodes_behind nodes node = range_with_len (node + 1) (length nodes - (node + 1))
 

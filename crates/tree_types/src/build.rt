@@ -16,7 +16,7 @@ use prof_bytes::Memory;
 use scope_types::{Entry, ScopePath};
 use std::alloc::Global;
 
-/// Puts a column behind the others.
+/// Puts a column after the others.
 #[tactic(auto, using(crate::proofs::Cutting::starts_more, crate::proofs::Cutting::cut_more))]
 fn put_column<T: Copy>(
     starts: &mut Vec<u64>,

@@ -26,7 +26,7 @@ pub fn trees_hold_paths()
     ensures all { (tree : CountedTree) → length (paths_in tree) ≡ counts_in tree.counts }
 {}
 
-/// A node's count is its own and its children's, which stand behind it: of the paths that pass there, and of those
+/// A node's count is its own and its children's, which stand after it: of the paths that pass there, and of those
 /// that end within the node's frame. No count is above the number of all paths.
 #[tactic(auto, using(crate::proofs::TreeValues::count_laws))]
 pub fn tree_counts_add_up()

@@ -132,7 +132,7 @@ module _ (n : ℕ) (parent : ℕ → ℕ) (mark below : ℕ → Bool) (w : ℕ �
   abbrev marked_from : ℕ → ℕ → List ℕ
   marked_from a k = filter mark (range_with_len a k)
 
-  -- what a list of frames that starts before, at or behind x leaves to count, where all before x is counted
+  -- what a list of frames that starts before, at or after x leaves to count, where all before x is counted
   abbrev IsLeft : ℕ → ℕ → List ℕ → Type 0
   IsLeft r x fs = sum_below weight x + covered ends sums r fs ≡ sum_below weight n
 

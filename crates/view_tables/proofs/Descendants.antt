@@ -29,7 +29,7 @@ parent_less c j profile lt up = (preorder c profile).parents j _ lt (λ e. absur
 
 -- ---- from child to child
 
--- all up to here are the node and descendants of it; of those behind only its own children have parents among them
+-- all up to here are the node and descendants of it; of those after only its own children have parents among them
 pub record IsRun (c : Content) (number end : ℕ) : Type 0 where
   pub behind : number < end
   pub within : end ≤ length c.nodes

@@ -6,7 +6,7 @@ use Rattle.std.proofs.lemmas.List.{take-append-drop, take-replicate, drop-replic
 use Rattle.tree_types.specs.TopDown.{percent, right, spaces}
 use Rattle.view_tables.proofs.TextLengths.{right_long, share_length, short_share, short_value, short_whole}
 
--- digits that are written over blanks up to an end, behind what stands before the blanks
+-- digits that are written over blanks up to an end, after what stands before the blanks
 filled : (new old front digits : List ℕ) (start from end more : ℕ) → length front ≡ from → from ≤ start → old ≡ front ++ spaces (end - from + more) → start + length digits ≡ end
     → drop start new ≡ digits ++ drop end old → take start new ≡ take start old → new ≡ (front ++ right (end - from) digits) ++ spaces more
 filled new old front digits start from end more long inside is ends written before =
@@ -26,7 +26,7 @@ filled new old front digits start from end more long inside is ends written befo
 one_wider : (width : ℕ) (bytes : List ℕ) → length bytes ≤ width → right (width + 1) bytes ≡ spaces 1 ++ right width bytes
 one_wider width bytes le = ap (λ (n : ℕ). spaces n ++ bytes) (let e : width + 1 - length bytes ≡ suc (width - length bytes) = omega (arith, le) in e)
 
--- the digits before the point, the point, and the digit behind it
+-- the digits before the point, the point, and the digit after it
 share_is : (part total : ℕ) → part ≤ total → right 5 (decimal (part * 1000 / total / 10)) ++ 46 ∷ (48 + part * 1000 / total % 10) ∷ [] ≡ spaces 1 ++ right 6 (percent part total)
 share_is part total within =
     let whole : List ℕ = decimal (part * 1000 / total / 10) in

@@ -80,7 +80,7 @@ sum_same f g (x ∷ xs) all =
 
 -- ---- what follows a chain
 
--- the item behind the chain, where the items begin with it and go on
+-- the item after the chain, where the items begin with it and go on
 next_item : List Item → List Item → Option Item
 next_item [] [] = None
 next_item [] (y ∷ items) = Some y
@@ -173,7 +173,7 @@ module _ (period : ℕ) (samples : List Sample) (chain : List Item) where
   own_row : (y : Item) → is_row y (row y) ≡ true
   own_row y = ap is_eq (tied_itself row_order_total (row y))
 
-  -- an item that goes behind the chain in a sample has a row
+  -- an item that goes after the chain in a sample has a row
   row_there : (y : Item) → 0 < (row y).inclusive → list_any (λ x. is_row y (row x)) (all_items samples) ≡ true → has row_order (row y) rows ≡ true
   unfolding rows_under
   row_there y some there =

@@ -7,7 +7,7 @@ use Rattle.tree_types.specs.Paths.{Path}
 use Rattle.view_tables.specs.Flat.{call_line, frame_proc}
 use Rattle.view_tables.specs.Views.{Item, Sample, begins_with, rows_under}
 
--- whether the sequence of a sample's innermost frame begins with the chain and goes on behind it
+-- whether the sequence of a sample's innermost frame begins with the chain and goes on after it
 abbrev pub goes_on : List Item → Sample → Bool
 goes_on chain sample =
     list_any (λ items. begins_with chain items && nat_lt (length chain) (length items)) (take 1 sample)
@@ -21,7 +21,7 @@ ends_frame (s ∷ outer) = nat_lt 0 (length (call_line s)) && nat_lt 0 (length (
 abbrev pub HasFrame : HartPath → Type 0
 HasFrame p = ends_frame (reverse p.path) ≡ true
 
--- the exclusive values of all rows that stand so many levels further down than those right under the chain
+-- the exclusive values of all rows that stand a given number of levels further down than those right under the chain
 abbrev pub exclusive_at : ℕ → List Sample → ℕ → List Item → ℕ
 exclusive_at period samples zero chain = sum_by (λ r. r.exclusive) (rows_under period samples chain)
 exclusive_at period samples (suc level) chain =

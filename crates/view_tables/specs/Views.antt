@@ -104,7 +104,7 @@ abbrev pub view_row : Naming → List ℕ → ℕ → ℕ → ViewRow → List �
 view_row naming mark total level r = table_row (decimal r.inclusive) (percent r.inclusive total)
     (decimal r.exclusive) level (mark_at mark level ++ item_label naming r.item)
 
--- the rows under that of the chain, so many levels of them, each row under that of its chain without the last
+-- the rows under that of the chain, a given number of levels of them, each row under that of its chain without the last
 unfoldable pub view_rows : ℕ → Naming → List ℕ → List Sample → ℕ → List Item → List ℕ
 view_rows period naming mark samples zero chain = []
 view_rows period naming mark samples (suc levels) chain =
@@ -115,6 +115,6 @@ view_rows period naming mark samples (suc levels) chain =
 abbrev pub view_header : List ℕ
 view_header = table_row (codes "inclusive") (codes "%") (codes "exclusive") 0 (codes "scope")
 
--- the heads, and the rows of so many levels
+-- the heads, and the rows of a given number of levels
 abbrev pub view_table : ℕ → Naming → List ℕ → List Sample → ℕ → List ℕ
 view_table period naming mark samples levels = view_header ++ view_rows period naming mark samples levels []

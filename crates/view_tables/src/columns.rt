@@ -5,7 +5,7 @@ ghost use Rattle.tree_types.specs.TopDown.{header, percent, right, spaces};
 ghost use Rattle.view_tables.specs.private.Rows.{row_text};
 
 use crate::label::put_label;
-use crate::row::Row;
+use crate::row::TableRow;
 use itoa::write_digits;
 use prof_bytes::Memory;
 use tree_types::Names;
@@ -62,7 +62,7 @@ pub fn put_values(out: &mut Vec<u8>, first: u64, total: u64, third: u64) -> Resu
 }
 
 /// A row with the names of its scope.
-pub fn put_row(out: &mut Vec<u8>, names: &Names, row: &Row) -> Result<(), Memory>
+pub fn put_row(out: &mut Vec<u8>, names: &Names, row: &TableRow) -> Result<(), Memory>
     requires names { NamesAscend names.now }
     requires some { 0 < row.now.total }
     requires small { row.now.total ≤ 2 ^ 52 }

@@ -1,4 +1,4 @@
-//! For each node, the number behind its descendants.
+//! For each node, the number after its descendants.
 ghost use Rattle.std.specs.Prelude.{◌≡◌, ◌+◌, ◌<◌, ◌&&◌, ◌==◌, length, IfOk, nat_lt};
 ghost use Rattle.tree_types.specs.OfContent.{IsProfile};
 ghost use Rattle.view_tables.specs.private.Frames.{AreEnds, IsEnd, parent_at};
@@ -17,7 +17,7 @@ fn is_child(content: &Content, number: u32, parent: u32) -> bool
     }
 }
 
-/// The end of a node, where those behind have theirs: from child to child.
+/// The end of a node, where those after have theirs: from child to child.
 #[tactic(auto, using(crate::proofs::Descendants::end_steps))]
 fn end_of(content: &Content, ends: &[u32], number: u32) -> u32
     requires profile { IsProfile content.now }

@@ -22,7 +22,7 @@ pub enum View {
 }
 
 /// A frame, by the number of the node where it ends, and what it still has of items: in the callers table those from a
-/// node up, in the flat table those of the node behind the first `level`.
+/// node up, in the flat table those of the node after the first `level`.
 #[derive(Clone, Copy, Debug, Drop)]
 pub struct Occurrence {
     pub frame: u32,

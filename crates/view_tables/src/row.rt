@@ -11,7 +11,7 @@ use tree_types::{Content, Kind};
 /// What the row of a node shows: its inclusive value, the total of all paths and its frame's value, in retired
 /// instructions; how many ancestors it has; and its own scope.
 #[derive(Clone, Copy, Debug, Drop)]
-pub struct Row {
+pub struct TableRow {
     pub inclusive: u64,
     pub total: u64,
     pub frame: u64,
@@ -31,7 +31,7 @@ pub fn scope_at(content: &Content, number: u32) -> Scope
 
 /// The row of a node whose path has `depth` scopes.
 #[tactic(auto, using(crate::proofs::ColumnSums::value_steps))]
-pub fn row_at(content: &Content, number: u32, depth: u32, total: u64) -> Row
+pub fn row_at(content: &Content, number: u32, depth: u32, total: u64) -> TableRow
     requires profile { IsProfile content.now }
     requires number { number < length content.now.nodes }
     requires depth { depth ≡ length (path_of_node content.now number) }
@@ -45,7 +45,7 @@ pub fn row_at(content: &Content, number: u32, depth: u32, total: u64) -> Row
     ensures frame { result.frame ≤ result.total }
 {
     let column = content.contexts.node(number);
-    Row {
+    TableRow {
         inclusive: column_sum(column, Kind::Inclusive),
         total,
         frame: column_sum(column, Kind::Frame),

@@ -170,7 +170,7 @@ fn narrow<'a>(
     })
 }
 
-/// Appends so many levels of rows under that of a chain, by the occurrences that the chain leaves.
+/// Appends a given number of levels of rows under that of a chain, by the occurrences that the chain leaves.
 #[tactic(auto, using(crate::proofs::ViewTexts::row_steps))]
 fn put_rows<'a>(
     out: &mut Vec<u8>,
@@ -221,7 +221,7 @@ fn put_rows<'a>(
     Ok(())
 }
 
-/// A table of so many levels.
+/// A table of a given number of levels.
 #[tactic(auto, using(crate::proofs::ViewTexts::table_steps))]
 fn view_of(alloc: Global, view: View, content: &Content, levels: usize) -> Result<Text, Memory>
     requires profile { IsProfile content.now }

@@ -11,19 +11,19 @@ use Rattle.cfi_table.specs.declared.rules.Cfa.{Cfa}
 use Rattle.cfi_table.specs.declared.rules.Cfa.TheVariants as cfas
 use Rattle.cfi_table.specs.declared.checker.CfaForm.{CfaForm}
 use Rattle.cfi_table.specs.declared.checker.CfaForm.TheVariants as forms
-use Rattle.cfi_table.specs.Rules.{State, Remembered, run_by}
+use Rattle.cfi_table.specs.Rules.{FrameState, Remembered, run_by}
 
 -- the form of the CFA's rule, and the forms that were remembered, the latest first
 pub record CfaForms : Type 0 where
-  pub now : CfaForm
+  pub current : CfaForm
   pub remembered : List CfaForm
 
 -- no rule is in force
 abbrev pub no_forms : CfaForms
-no_forms = record { now = forms.Missing; remembered = [] }
+no_forms = record { current = forms.Missing; remembered = [] }
 
 abbrev pub to_register : ℕ → CfaForms → Option CfaForms
-to_register register k = if nat_lt register 32 then Some (record k { now = forms.Register }) else None
+to_register register k = if nat_lt register 32 then Some (record k { current = forms.Register }) else None
 
 abbrev pub to_new_register : ℕ → CfaForm → CfaForms → Option CfaForms
 to_new_register register forms.Missing k = to_register register k
@@ -40,16 +40,16 @@ to_source register source k = if nat_lt register 32 then (if nat_lt source 32 th
 
 abbrev pub to_remembered : List CfaForm → CfaForms → Option CfaForms
 to_remembered [] k = None
-to_remembered (r ∷ older) k = Some (record { now = r; remembered = older })
+to_remembered (r ∷ older) k = Some (record { current = r; remembered = older })
 
 abbrev pub execute_forms : CallFrameInstruction → CfaForms → Option CfaForms
 execute_forms instructions.Nop k = Some k
 execute_forms (instructions.SetLoc address) k = Some k
 execute_forms (instructions.AdvanceLoc delta) k = Some k
 execute_forms (instructions.DefCfa register offset) k = to_register register k
-execute_forms (instructions.DefCfaRegister register) k = to_new_register register k.now k
-execute_forms (instructions.DefCfaOffset offset) k = to_new_offset k.now k
-execute_forms instructions.DefCfaExpression k = Some (record k { now = forms.Expression })
+execute_forms (instructions.DefCfaRegister register) k = to_new_register register k.current k
+execute_forms (instructions.DefCfaOffset offset) k = to_new_offset k.current k
+execute_forms instructions.DefCfaExpression k = Some (record k { current = forms.Expression })
 execute_forms (instructions.Undefined register) k = Some k
 execute_forms (instructions.SameValue register) k = Some k
 execute_forms (instructions.Offset register offset) k = Some k
@@ -58,7 +58,7 @@ execute_forms (instructions.Register register source) k = to_source register sou
 execute_forms (instructions.Expression register) k = Some k
 execute_forms (instructions.ValExpression register) k = Some k
 execute_forms (instructions.Restore register) k = Some k
-execute_forms instructions.RememberState k = Some (record k { remembered = k.now ∷ k.remembered })
+execute_forms instructions.RememberState k = Some (record k { remembered = k.current ∷ k.remembered })
 execute_forms instructions.RestoreState k = to_remembered k.remembered k
 
 abbrev pub never : CfaForms → Bool
@@ -79,8 +79,8 @@ abbrev pub remembered_forms : List Remembered → List CfaForm
 remembered_forms [] = []
 remembered_forms (r ∷ older) = form_of r.cfa ∷ remembered_forms older
 
-abbrev pub forms_of : State → CfaForms
-forms_of s = record { now = form_of s.cfa; remembered = remembered_forms s.remembered }
+abbrev pub forms_of : FrameState → CfaForms
+forms_of s = record { current = form_of s.cfa; remembered = remembered_forms s.remembered }
 
-abbrev pub forms_after : Result State FrameFault → Result CfaForms FrameFault
+abbrev pub forms_after : Result FrameState FrameFault → Result CfaForms FrameFault
 forms_after r = viewed forms_of r

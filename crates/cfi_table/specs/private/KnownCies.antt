@@ -4,7 +4,7 @@ use Rattle.prof_bytes.specs.Outcome.{viewed}
 use Rattle.cfi_table.specs.declared.fault.FrameFault.{FrameFault}
 use Rattle.cfi_table.specs.declared.extent.Extent.{Extent}
 use Rattle.cfi_table.specs.declared.cie.Cie.{Cie}
-use Rattle.cfi_table.specs.declared.checker.CieEnd.{CieEnd}
+use Rattle.cfi_table.specs.declared.checker.InitialCfaForms.{InitialCfaForms}
 use Rattle.cfi_table.specs.declared.known_cie.KnownCie.{KnownCie}
 use Rattle.cfi_table.specs.Entries.{cie_of, after_cie}
 use Rattle.cfi_table.specs.private.Checking.{CfaForms, no_forms, forms_after}
@@ -25,13 +25,13 @@ forms_of_cie section (Ok None) = Ok no_forms
 forms_of_cie section (Ok (Some cie)) = forms_after (after_cie section cie)
 
 -- what the code's values show of these
-abbrev pub end_seen : CieEnd → CfaForms
-end_seen end = record { now = end.now; remembered = reverse end.remembered.items }
+abbrev pub forms_seen : InitialCfaForms → CfaForms
+forms_seen forms = record { current = forms.current; remembered = reverse forms.remembered.items }
 
 abbrev pub seen_cie : KnownCie → Known
 seen_cie c = record { offset = c.offset; cie = c.cie }
 
--- its instructions lie in the section, and its end is theirs
+-- its instructions lie in the section, and the forms are those after them
 pub record IsKnown (section : List ℕ) (c : KnownCie) : Type 0 where
   pub placed : IsCieIn section c.cie
-  pub ends : viewed end_seen c.end ≡ forms_of_cie section c.cie
+  pub forms : viewed forms_seen c.initial_forms ≡ forms_of_cie section c.cie

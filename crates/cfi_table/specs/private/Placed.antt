@@ -1,5 +1,6 @@
 -- Where entries and instructions lie in a section.
-use Rattle.std.specs.Prelude.{ℕ, ◌+◌, ◌≤◌, ◌<◌, ◌^◌, List, [], ◌∷◌, length, All, Option, Some, None, Result, Ok, Err}
+use Rattle.std.specs.Prelude.{ℕ, ◌+◌, ◌≤◌, ◌<◌, ◌^◌, ◌≡◌, List, [], ◌∷◌, length, All}
+use Rattle.std.specs.Prelude.{Option, Some, None, Result, Ok, Err}
 use Rattle.cfi_table.specs.declared.extent.Extent.{Extent}
 use Rattle.cfi_table.specs.declared.fault.FrameFault.{FrameFault}
 use Rattle.cfi_table.specs.declared.cie.Cie.{Cie}
@@ -16,6 +17,10 @@ AreRising low (n ∷ numbers) = (low ≤ n) × AreRising (n + 1) numbers
 pub record IsPlaced (section : List ℕ) (e : Extent) : Type 0 where
   pub order : e.offset + 4 ≤ e.end
   pub within : e.end ≤ length section
+
+-- instructions go up to that offset
+abbrev pub IsUpTo : ℕ → Extent → Type 0
+IsUpTo end e = (e.offset ≤ e.end) × (e.end ≡ end)
 
 -- instructions lie in the section
 pub record IsWithin (section : List ℕ) (e : Extent) : Type 0 where

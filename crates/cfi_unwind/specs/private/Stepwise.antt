@@ -7,13 +7,14 @@ use Rattle.cfi_table.specs.declared.rules.Rules.{Rules}
 use Rattle.cfi_table.specs.Rules.{rule_at}
 use Rattle.cfi_unwind.specs.declared.caller.Unwound.{Unwound}
 use Rattle.cfi_unwind.specs.declared.caller.Unwound.TheVariants.{Caller, Ends}
-use Rattle.cfi_unwind.specs.Caller.{Words, sum, is_undefined, has_expression, cfa_of, is_unmapped, callers_registers}
+use Rattle.prof_bytes.specs.Number.{word_sum}
+use Rattle.cfi_unwind.specs.Caller.{Words, is_undefined, has_expression, cfa_of, is_unmapped, callers_registers}
 
 -- the return address is 0
 abbrev pub caller_at : List ℕ → ℕ → Unwound
 caller_at registers return_register =
     if get_or registers return_register 0 == 0 then Ends Whole
-    else Caller (record { pc = sum (get_or registers return_register 0) (2 ^ 32 - 4); registers = registers })
+    else Caller (record { pc = word_sum (get_or registers return_register 0) (2 ^ 32 - 4); registers = registers })
 
 -- a register saved in memory can't be loaded
 abbrev pub caller_over : Words → List ℕ → Rules → ℕ → Unwound

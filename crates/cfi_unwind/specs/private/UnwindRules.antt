@@ -16,7 +16,8 @@ use Rattle.cfi_unwind.specs.declared.saved_registers.SavedRegister.{SavedRegiste
 use Rattle.cfi_unwind.specs.declared.unwind_rule.FrameLayout.{FrameLayout}
 use Rattle.cfi_unwind.specs.declared.unwind_rule.UnwindRule.{UnwindRule}
 use Rattle.cfi_unwind.specs.declared.unwind_rule.UnwindRule.TheVariants as unwind_rules
-use Rattle.cfi_unwind.specs.Caller.{Words, sum, is_expression, is_unmapped, recovered, recovered_all}
+use Rattle.prof_bytes.specs.Number.{word_sum}
+use Rattle.cfi_unwind.specs.Caller.{Words, is_expression, is_unmapped, recovered, recovered_all}
 use Rattle.cfi_unwind.specs.private.Stepwise.{caller_at, caller_from, caller_if}
 
 abbrev pub is_kept : Rule → Bool
@@ -65,7 +66,7 @@ abbrev pub returned : ℕ → List RegisterRule
 returned offset = record { register = 1; rule = rules.Saved offset } ∷ []
 
 abbrev pub cfa_by : List ℕ → FrameLayout → ℕ
-cfa_by registers layout = sum (get_or registers layout.cfa_register 0) layout.cfa_offset
+cfa_by registers layout = word_sum (get_or registers layout.cfa_register 0) layout.cfa_offset
 
 -- the caller has these registers but x0, which is 0, and x2, which is the canonical frame address
 abbrev pub left_with : List ℕ → ℕ → ℕ → Unwound

@@ -7,7 +7,7 @@ use Rattle.dwarf_forms.specs.declared.declaration.Abbrev.{Abbrev}
 abbrev pub Indices : Type 0
 Indices = BTreeMap ℕ ℕ
 
--- the codes of so many declarations at the front are 1, 2, 3 and so on
+-- the codes of the first `count` declarations are 1, 2, 3 and so on
 pub record IsNumbered (declared : List Abbrev) (count : ℕ) : Type 0 where
   pub within : count ≤ length declared
   pub codes : (i : ℕ) (d : Abbrev) → i < count → (slice_index_or declared i d).code ≡ i + 1
@@ -16,7 +16,7 @@ pub record IsNumbered (declared : List Abbrev) (count : ℕ) : Type 0 where
 abbrev pub AreIndices : List Abbrev → Indices → Type 0
 AreIndices declared indices = (code : ℕ) → get nat_cmp indices code ≡ position (λ d. d.code == code) declared
 
--- the declarations at the front are numbered; where there are others, each code leads to its first declaration
+-- the first `count` declarations are numbered; where there are others, each code leads to its first declaration
 pub record AreKept (declared : List Abbrev) (count : ℕ) (indices : Indices) : Type 0 where
   pub front : IsNumbered declared count
   pub others : count < length declared → AreIndices declared indices

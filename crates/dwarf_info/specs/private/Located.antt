@@ -1,16 +1,16 @@
 -- An entry that was found by its index.
 use Rattle.std.specs.Prelude.{◌≡◌, ℕ, Option, Some, option_map}
-use Rattle.dwarf_info.specs.declared.entry.UnitBases.{UnitBases}
+use Rattle.dwarf_info.specs.declared.entry.UnitContext.{UnitContext}
 use Rattle.dwarf_info.specs.declared.info.Located.{Located}
 use Rattle.dwarf_info.specs.Queries.{UnitEntry, unit_entry}
 use Rattle.dwarf_info.specs.Units.{DebugInfo}
 
 -- the unit and the offset
-abbrev pub own_unit : UnitEntry → UnitBases × ℕ
-own_unit e = (e.bases, e.entry.offset)
+abbrev pub own_unit : UnitEntry → UnitContext × ℕ
+own_unit e = (e.context, e.entry.offset)
 
-abbrev pub found_unit : Located → UnitBases × ℕ
-found_unit at = (at.bases, at.offset)
+abbrev pub found_unit : Located → UnitContext × ℕ
+found_unit at = (at.context, at.offset)
 
 -- it has the unit and the offset of the entry with its index
 abbrev pub IsLocated : DebugInfo → Located → Type 0

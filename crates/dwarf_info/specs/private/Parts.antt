@@ -1,7 +1,7 @@
 -- What is kept of debug information beside its content.
 use Rattle.std.specs.Prelude.{◌≡◌, ℕ, ◌^◌, ◌<◌, List, length, map}
 use Rattle.dwarf_info.specs.declared.entry.Unit.{Unit}
-use Rattle.dwarf_info.specs.declared.entry.UnitBases.{UnitBases}
+use Rattle.dwarf_info.specs.declared.entry.UnitContext.{UnitContext}
 use Rattle.dwarf_info.specs.Sections.{Sections}
 use Rattle.dwarf_info.specs.Units.{unit_of}
 use Rattle.dwarf_info.specs.declared.tables.Tables.{Tables}
@@ -10,12 +10,12 @@ use Rattle.dwarf_info.specs.private.Tables.{AreTables, HaveTables}
 
 -- the units as callers see them, the tables of all units, and the offsets of all entries with the index of each unit's
 -- first; the offsets and the bytes of the sections are few
-pub record IsWhole (sections : Sections) (units : List Unit) (bases : List UnitBases) (offsets firsts : List ℕ)
+pub record IsWhole (sections : Sections) (units : List Unit) (contexts : List UnitContext) (offsets firsts : List ℕ)
     (tables : Tables) : Type 0 where
-  pub shown : units ≡ map unit_of bases
+  pub shown : units ≡ map unit_of contexts
   pub are : AreTables sections.abbrev_bytes tables
-  pub have : HaveTables tables bases
-  pub indexed : AreIndexed sections bases offsets firsts
+  pub have : HaveTables tables contexts
+  pub indexed : AreIndexed sections contexts offsets firsts
   pub few : length offsets < 2 ^ 31
   pub info : length sections.info < 2 ^ 31
   pub lists : length sections.rnglists < 2 ^ 31

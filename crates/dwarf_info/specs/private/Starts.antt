@@ -8,7 +8,7 @@ set_from offset [] = []
 set_from offset (true ∷ flags) = offset ∷ set_from (offset + 1) flags
 set_from offset (false ∷ flags) = set_from (offset + 1) flags
 
--- the offsets that are marked; an offset behind all of them; how many bytes there are
+-- the offsets that are marked; an offset after all of them; the number of bytes of the section
 pub record Marked : Type 0 where
   pub offsets : List ℕ
   pub end : ℕ

@@ -5,11 +5,11 @@ use Rattle.std.specs.Ordering.{nat_cmp}
 use Rattle.std.specs.BTreeMap.{get}
 use Rattle.dwarf_forms.specs.declared.declaration.Abbrev.{Abbrev}
 use Rattle.dwarf_forms.specs.Abbreviations.{table_at}
-use Rattle.dwarf_info.specs.declared.tables.Found.{Found}
-use Rattle.dwarf_info.specs.declared.tables.Found.TheVariants as found
+use Rattle.dwarf_info.specs.declared.tables.TableAt.{TableAt}
+use Rattle.dwarf_info.specs.declared.tables.TableAt.TheVariants as found
 use Rattle.dwarf_info.specs.declared.tables.Suffix.{Suffix}
 use Rattle.dwarf_info.specs.declared.tables.Tables.{Tables}
-use Rattle.dwarf_info.specs.declared.entry.UnitBases.{UnitBases}
+use Rattle.dwarf_info.specs.declared.entry.UnitContext.{UnitContext}
 
 -- the declarations of a suffix of one of the tables that were read
 abbrev pub suffix_of : List (List Abbrev) → Suffix → Option (List Abbrev)
@@ -37,7 +37,7 @@ abbrev pub KeepTables : Tables → Tables → Type 0
 KeepTables old new = (offset : ℕ) → is_some (table_in old offset) ≡ true → is_some (table_in new offset) ≡ true
 
 -- the table at an offset is known, the end of one that was read, or read now
-abbrev pub IsFound : List ℕ → Tables → Found → ℕ → Type 0
+abbrev pub IsFound : List ℕ → Tables → TableAt → ℕ → Type 0
 IsFound section tables found.Known offset = is_some (table_in tables offset) ≡ true
 IsFound section tables (found.End suffix) offset = IsSuffix section tables.read.items suffix offset
 IsFound section tables (found.Read table) offset = table_at section offset ≡ Ok table
@@ -49,7 +49,7 @@ pub record IsKnown (section : List ℕ) (old new : Tables) (offset : ℕ) : Type
   pub has : is_some (table_in new offset) ≡ true
 
 -- each unit's table is among them
-abbrev pub HaveTables : Tables → List UnitBases → Type 0
+abbrev pub HaveTables : Tables → List UnitContext → Type 0
 HaveTables tables units =
-    (i : ℕ) (bases : UnitBases) → slice_get units i ≡ Some bases
-    → is_some (table_in tables bases.header.debug_abbrev_offset) ≡ true
+    (i : ℕ) (context : UnitContext) → slice_get units i ≡ Some context
+    → is_some (table_in tables context.header.debug_abbrev_offset) ≡ true

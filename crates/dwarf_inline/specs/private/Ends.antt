@@ -6,7 +6,7 @@ use Rattle.dwarf_info.specs.declared.entry.InfoEntry.{InfoEntry}
 use Rattle.dwarf_inline.specs.Links.{Indexed, is_item}
 use Rattle.dwarf_inline.specs.Nesting.{is_deeper}
 
--- the index behind the entry of a depth at an index and its descendants
+-- the index after the entry with an index and a depth, and its descendants
 unfoldable pub entry_end : List InfoEntry → ℕ → ℕ → ℕ
 entry_end entries i depth = i + 1 + length (take_while (is_deeper depth) (drop (i + 1) entries))
 

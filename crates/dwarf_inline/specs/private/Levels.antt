@@ -5,16 +5,16 @@ use Rattle.dwarf_info.specs.Units.{DebugInfo}
 use Rattle.dwarf_inline.specs.Links.{Indexed, is_inlined}
 use Rattle.dwarf_inline.specs.Nesting.{end_of}
 
--- how many end behind an index
+-- how many end after an index
 abbrev pub open_at : ℕ → List ℕ → ℕ
 open_at i ends = count_by (λ end. nat_lt i end) ends
 
--- those that are open behind an item that ends there
+-- those that are open after an item that ends at `end`
 abbrev pub opened : Indexed → ℕ → List ℕ → List ℕ
 opened item end ends =
     if is_inlined item.1 then filter (λ other. nat_lt item.0 other) ends ++ end ∷ [] else ends
 
--- an inlined subroutine that ends behind an index
+-- an inlined subroutine that ends after an index
 abbrev pub is_open : DebugInfo → ℕ → Indexed → Bool
 is_open info i e = is_inlined e.1 && nat_lt i (end_of info e)
 

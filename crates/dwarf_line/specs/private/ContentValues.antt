@@ -14,7 +14,7 @@ pub record ContentValues : Type 0 where
   pub path : Option FormValue
   pub directory_index : Option FormValue
 
--- what the code holds of them
+-- the two values as the code holds them
 abbrev pub held_values : EntryValues → ContentValues
 held_values values =
     record { path = option_map form_value values.path; directory_index = option_map form_value values.directory_index }

@@ -7,13 +7,13 @@ use Rattle.dwarf_line.specs.declared.fault.LineFault.{LineFault}
 use Rattle.dwarf_line.specs.declared.sequence.Sequence.{Sequence}
 use Rattle.dwarf_line.specs.Lines.{TableNames, TableRead}
 
--- a table's offset, as a range of one address
+-- the range of the one offset of a table
 abbrev pub offset_range : TableNames → AddressRange
 offset_range table = record { start = table.offset; end = table.offset + 1 }
 
--- the names of the tables and the sequences that count, behind those of earlier tables
-abbrev pub behind : List TableNames → List Sequence → Result (List TableRead) LineFault
+-- the names of the tables and the sequences that count, after those of earlier tables
+abbrev pub added_to : List TableNames → List Sequence → Result (List TableRead) LineFault
     → Result (List TableNames × List Sequence) LineFault
-behind tables sequences read = do
+added_to tables sequences read = do
   reads ← read
   Ok (tables ++ map (λ t. t.names) reads, sequences ++ flat_map (λ t. t.sequences) reads)

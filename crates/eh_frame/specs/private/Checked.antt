@@ -4,13 +4,13 @@ use Rattle.std.specs.List.{flat_map}
 use Rattle.prof_bytes.specs.Reading.{left_of}
 use Rattle.prof_bytes.specs.Fields.{Input}
 use Rattle.cfi_table.specs.declared.fault.FrameFault.{FrameFault}
-use Rattle.cfi_table.specs.declared.checker.CieEnd.{CieEnd}
+use Rattle.cfi_table.specs.declared.checker.InitialCfaForms.{InitialCfaForms}
 use Rattle.cfi_table.specs.declared.extent.Extent.{Extent}
 use Rattle.cfi_table.specs.declared.instruction.AlignmentFactors.{AlignmentFactors}
 use Rattle.cfi_table.specs.declared.instruction.CallFrameInstruction.{CallFrameInstruction}
-use Rattle.cfi_table.specs.Rules.{State}
+use Rattle.cfi_table.specs.Rules.{FrameState}
 use Rattle.cfi_table.specs.private.Checking.{CfaForms, execute_forms, forms_of}
-use Rattle.cfi_table.specs.private.KnownCies.{end_seen}
+use Rattle.cfi_table.specs.private.KnownCies.{forms_seen}
 use Rattle.cfi_table.specs.private.Placed.{IsWithin}
 use Rattle.eh_frame.specs.declared.address.Addresses.{Addresses}
 use Rattle.eh_frame.specs.declared.cie.EhCie.{EhCie}
@@ -24,7 +24,7 @@ abbrev pub listed_forms : Addresses → AlignmentFactors → Input FrameFault �
     → Result (List CallFrameInstruction × CfaForms) FrameFault
 listed_forms addresses factors input k = listed_by execute_forms (length (left_of input.at)) addresses factors input k
 
--- instructions, written behind other bytes
+-- instructions, written after other bytes
 abbrev pub put_behind : {S : Type 0} → List ℕ → List CallFrameInstruction × S → List ℕ × S
 put_behind out r = (out ++ flat_map encoded r.0, r.1)
 
@@ -47,11 +47,11 @@ abbrev pub seen_eh_cie : KnownEhCie → KnownEh
 seen_eh_cie c = record { offset = c.offset; cie = Ok c.cie }
 
 -- the forms are those after the CIE's instructions, which have no fault
-abbrev pub IsEnd : List ℕ → ℕ → Option EhCie → CieEnd → Type 0
-IsEnd section address None end = Unit {0}
-IsEnd section address (Some cie) end = (initial : List CallFrameInstruction × State)
-    × (cie_instructions section address cie ≡ Ok initial) × (end_seen end ≡ forms_of initial.1)
+abbrev pub AreInitialForms : List ℕ → ℕ → Option EhCie → InitialCfaForms → Type 0
+AreInitialForms section address None forms = Unit {0}
+AreInitialForms section address (Some cie) forms = (initial : List CallFrameInstruction × FrameState)
+    × (cie_instructions section address cie ≡ Ok initial) × (forms_seen forms ≡ forms_of initial.1)
 
 pub record IsKnownEh (section : List ℕ) (address : ℕ) (c : KnownEhCie) : Type 0 where
   pub within : c.offset ≤ length section
-  pub ends : IsEnd section address c.cie c.end
+  pub forms : AreInitialForms section address c.cie c.initial_forms

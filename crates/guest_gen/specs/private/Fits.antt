@@ -10,7 +10,7 @@ pub record AreFew (sizes : Sizes) : Type 0 where
   pub names : sizes.names ≤ 65536
   pub section_names : sizes.section_names ≤ 65536
 
--- it calls functions behind it, and counts to a number that an ADDI holds
+-- it calls functions after it, and counts to a number that an ADDI holds
 pub record IsFurther (number : ℕ) (function : DrawnFunction) : Type 0 where
   pub turns : function.turns ≤ 31
   pub first : number < function.first

@@ -35,7 +35,7 @@ GivesNext path_of (Ok (Some sample)) old new = Given path_of sample old new
 GivesNext path_of (Ok None) old new = IsOver path_of old new
 GivesNext path_of (Err fail) old new = Stops path_of fail old new
 
--- all samples were counted, which are of so many harts, and the machine stands at the end of its run
+-- all samples were counted, which are of a given number of harts, and the machine stands at the end of its run
 pub record AllCounted (path_of : Paths) (harts : ℕ) (ccts : List (List Counted)) (old new : Sampling) : Type 0 where
   pub few : few_samples harts (raws_to_come path_of old) ≡ Ok (raws_to_come path_of old)
   pub counts : ccts ≡ distinct harts (raws_to_come path_of old)

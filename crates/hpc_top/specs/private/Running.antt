@@ -3,7 +3,7 @@ use Rattle.std.specs.Prelude.{◌≡◌, ℕ, ◌++◌, length, Result, Ok, Err}
 use Rattle.prof_bytes.specs.declared.fail.Fail.{Fail}
 use Rattle.prof_bytes.specs.Outcome.{FailsBy}
 use Rattle.guest_gen.specs.declared.generate.GuestFiles.{GuestFiles}
-use Rattle.prof_db.specs.Spelling.{spelling}
+use Rattle.prof_db.specs.Spelling.{database_spelling}
 use Rattle.tree_types.specs.OfContent.{IsProfile, content_table}
 use Rattle.hpc_top.specs.declared.main_job.Job.{Job}
 use Rattle.hpc_top.specs.declared.run_profile.RunProfile.{RunProfile}
@@ -28,9 +28,9 @@ Profiles by period (Ok run) wanted = (p : Profiled) × (wanted ≡ Ok p) × IsPr
 Profiles by period (Err fail) wanted = FailsBy fail wanted
 
 -- database, report and crew of a run's profile: the database and the table are the content's, and the report's table
--- stands behind the lines
+-- stands after the lines
 pub record IsMadeBy (run : RunProfile) (made : Made) : Type 0 where
-  pub database : made.database ≡ spelling run.merged.content
+  pub database : made.database ≡ database_spelling run.merged.content
   pub report : made.report ≡ run.lines ++ content_table run.merged.content
   pub crew : made.crew ≡ run.merged.crew
 

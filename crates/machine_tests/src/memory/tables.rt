@@ -35,7 +35,7 @@ pub(super) static WORDS: [(&str, u32, Option<u32>); 10] = [
     ("over the end of all addresses", 0xffff_fffe, None),
 ];
 
-/// Stores into the last of 64 stacks and behind it.
+/// Stores into the last of 64 stacks and after it.
 pub(super) static LAST_STORES: [(&str, u32, &[u8], bool); 3] = [
     (
         "the last word of the last stack",
@@ -44,17 +44,17 @@ pub(super) static LAST_STORES: [(&str, u32, &[u8], bool); 3] = [
         true,
     ),
     ("over its end", 0xf3ff_fffd, &[5, 6, 7, 8], false),
-    ("behind it", 0xf408_0000, &[9], false),
+    ("after it", 0xf408_0000, &[9], false),
 ];
 
-/// Words after these, in the last stack and behind it.
+/// Words after these, in the last stack and after it.
 pub(super) static LAST_WORDS: [(&str, u32, Option<u32>); 2] = [
     (
         "the last word of the last stack",
         0xf3ff_fffc,
         Some(0x0403_0201),
     ),
-    ("behind it", 0xf400_0000, None),
+    ("after it", 0xf400_0000, None),
 ];
 
 /// A program of four segments, as readelf shows them: code at 0x10000 (`addi x7, x0, 5`, `ecall`); in

@@ -1,6 +1,6 @@
 //! Programs that the tests run, as words that the GNU assembler 2.40 makes.
 
-/// Loads x17 and x10 to x12 from the four words behind its seven, makes an environment call, and
+/// Loads x17 and x10 to x12 from the four words after its seven, makes an environment call, and
 /// breaks.
 pub(super) static CALLER: [u32; 7] = [
     0x0000_0297, // auipc x5, 0x0

@@ -1,21 +1,14 @@
 //! Environment calls, moments and ends.
 use super::HartEnd;
 use rv_hart::Cause;
+use rv_run::linux::{EBADF, EFAULT, ENOSYS, SYS_EXIT, SYS_EXIT_GROUP};
 
-/// The numbers of calls, and the negative answers of those that fail, by Linux for RISC-V.
-pub(super) const READ: u32 = 63;
+/// What calls that fail answer: the negative numbers of errors.
+const MINUS_EBADF: u32 = u32::MAX - EBADF + 1;
 
-pub(super) const WRITE: u32 = 64;
+const MINUS_EFAULT: u32 = u32::MAX - EFAULT + 1;
 
-const EXIT: u32 = 93;
-
-const EXIT_GROUP: u32 = 94;
-
-const EBADF: u32 = 0xffff_fff7;
-
-const EFAULT: u32 = 0xffff_fff2;
-
-const ENOSYS: u32 = 0xffff_ffda;
+const MINUS_ENOSYS: u32 = u32::MAX - ENOSYS + 1;
 
 /// Reads: the row's name, x10 to x12, what x10 holds after it, and then the word at the address in x11. The input is
 /// `abcdef`; the code's 44 bytes stand at 0x10000, and the stack from 0xf0080000 up to 0xf0100000.
@@ -33,11 +26,32 @@ pub(super) static READS: [(&str, u32, u32, u32, u32, Option<u32>); 16] = [
     ("no bytes", 0, 0xf008_0000, 0, 0, Some(0)),
     ("no bytes to a bad address", 0, 0, 0, 0, None),
     ("no bytes into the code", 0, 0x0001_0000, 0, 0, Some(663)),
-    ("a byte into the code", 0, 0x0001_0000, 1, EFAULT, Some(663)),
-    ("a byte to a bad address", 0, 0, 1, EFAULT, None),
-    ("from the output", 1, 0xf008_0000, 4, EBADF, Some(0)),
-    ("from the output to a bad address", 1, 0, 4, EBADF, None),
-    ("from a bad descriptor", 0xffff_ffff, 0, 0, EBADF, None),
+    (
+        "a byte into the code",
+        0,
+        0x0001_0000,
+        1,
+        MINUS_EFAULT,
+        Some(663),
+    ),
+    ("a byte to a bad address", 0, 0, 1, MINUS_EFAULT, None),
+    ("from the output", 1, 0xf008_0000, 4, MINUS_EBADF, Some(0)),
+    (
+        "from the output to a bad address",
+        1,
+        0,
+        4,
+        MINUS_EBADF,
+        None,
+    ),
+    (
+        "from a bad descriptor",
+        0xffff_ffff,
+        0,
+        0,
+        MINUS_EBADF,
+        None,
+    ),
     (
         "all bytes at the end of the stack",
         0,
@@ -51,7 +65,7 @@ pub(super) static READS: [(&str, u32, u32, u32, u32, Option<u32>); 16] = [
         0,
         0xf00f_fffb,
         0xffff_ffff,
-        EFAULT,
+        MINUS_EFAULT,
         Some(0),
     ),
     (
@@ -67,7 +81,7 @@ pub(super) static READS: [(&str, u32, u32, u32, u32, Option<u32>); 16] = [
         0,
         0xf007_ffff,
         2,
-        EFAULT,
+        MINUS_EFAULT,
         None,
     ),
     (
@@ -75,7 +89,7 @@ pub(super) static READS: [(&str, u32, u32, u32, u32, Option<u32>); 16] = [
         0,
         0xffff_fffe,
         4,
-        EFAULT,
+        MINUS_EFAULT,
         None,
     ),
 ];
@@ -85,18 +99,18 @@ pub(super) static READS: [(&str, u32, u32, u32, u32, Option<u32>); 16] = [
 pub(super) static WRITES: [(&str, u32, u32, u32, u32, usize, usize); 13] = [
     ("four bytes", 1, 0x0001_0000, 4, 4, 84, 88),
     ("to the second output", 2, 0x0001_0002, 5, 5, 86, 91),
-    ("to the input", 0, 0x0001_0000, 4, EBADF, 84, 84),
-    ("to a bad descriptor", 3, 0, 4, EBADF, 84, 84),
-    ("no bytes to a bad descriptor", 3, 0, 0, EBADF, 84, 84),
+    ("to the input", 0, 0x0001_0000, 4, MINUS_EBADF, 84, 84),
+    ("to a bad descriptor", 3, 0, 4, MINUS_EBADF, 84, 84),
+    ("no bytes to a bad descriptor", 3, 0, 0, MINUS_EBADF, 84, 84),
     ("no bytes from a bad address", 1, 0, 0, 0, 84, 84),
-    ("from a bad address", 1, 0, 1, EFAULT, 84, 84),
+    ("from a bad address", 1, 0, 1, MINUS_EFAULT, 84, 84),
     ("all of the file", 1, 0x0001_0000, 44, 44, 84, 128),
     (
         "over the end of the file",
         1,
         0x0001_0000,
         45,
-        EFAULT,
+        MINUS_EFAULT,
         84,
         84,
     ),
@@ -105,7 +119,7 @@ pub(super) static WRITES: [(&str, u32, u32, u32, u32, usize, usize); 13] = [
         1,
         0x0001_0000,
         0xffff_ffff,
-        EFAULT,
+        MINUS_EFAULT,
         84,
         84,
     ),
@@ -114,7 +128,7 @@ pub(super) static WRITES: [(&str, u32, u32, u32, u32, usize, usize); 13] = [
         1,
         0xf00f_fffd,
         4,
-        EFAULT,
+        MINUS_EFAULT,
         84,
         84,
     ),
@@ -123,7 +137,7 @@ pub(super) static WRITES: [(&str, u32, u32, u32, u32, usize, usize); 13] = [
         1,
         0xffff_ffff,
         2,
-        EFAULT,
+        MINUS_EFAULT,
         84,
         84,
     ),
@@ -133,20 +147,27 @@ pub(super) static WRITES: [(&str, u32, u32, u32, u32, usize, usize); 13] = [
 /// Other calls: the row's name, x17 and x10, what x10 holds after it, how many instructions of six retired, and how the
 /// hart stands.
 pub(super) static OTHERS: [(&str, u32, u32, u32, u64, HartEnd); 7] = [
-    ("exit", EXIT, 7, 7, 5, HartEnd::Exit(7)),
+    ("exit", SYS_EXIT, 7, 7, 5, HartEnd::Exit(7)),
     (
         "exit with all bits",
-        EXIT,
+        SYS_EXIT,
         0xffff_ffff,
         0xffff_ffff,
         5,
         HartEnd::Exit(0xffff_ffff),
     ),
-    ("exit_group", EXIT_GROUP, 8, 8, 5, HartEnd::Group(8)),
-    ("call 0", 0, 1, ENOSYS, 6, HartEnd::Running),
-    ("call 62", 62, 1, ENOSYS, 6, HartEnd::Running),
-    ("call 95", 95, 1, ENOSYS, 6, HartEnd::Running),
-    ("the last call", 0xffff_ffff, 1, ENOSYS, 6, HartEnd::Running),
+    ("exit_group", SYS_EXIT_GROUP, 8, 8, 5, HartEnd::Group(8)),
+    ("call 0", 0, 1, MINUS_ENOSYS, 6, HartEnd::Running),
+    ("call 62", 62, 1, MINUS_ENOSYS, 6, HartEnd::Running),
+    ("call 95", 95, 1, MINUS_ENOSYS, 6, HartEnd::Running),
+    (
+        "the last call",
+        0xffff_ffff,
+        1,
+        MINUS_ENOSYS,
+        6,
+        HartEnd::Running,
+    ),
 ];
 
 /// How many instructions more, what x10 holds then, and how long the output is.
@@ -260,7 +281,7 @@ pub(super) static ENDS: [(&str, &[u32], u64, HartEnd); 11] = [
         },
     ),
     (
-        "fetch behind the code",
+        "fetch after the code",
         &[19],
         1,
         HartEnd::Trap {

@@ -4,7 +4,7 @@ use Rattle.scope_types.specs.declared.frame.Counted.{Counted}
 use Rattle.scope_types.specs.Distinct.{frames_in, samples_in}
 use Rattle.scope_types.specs.Limits.{most_path_frames, most_samples}
 
--- so many samples and frames are in the paths that were read, and both are few
+-- the paths that were read count `counted` samples and have `held` frames, and both are within the limits
 pub record AreSums (tables : List (List Counted)) (counted held : ℕ) : Type 0 where
   pub samples : counted ≡ samples_in tables
   pub few_samples : counted ≤ most_samples

@@ -8,7 +8,7 @@ use Rattle.merge_crew.specs.declared.work.Worker.{Worker}
 abbrev pub pieces_counted : Worker → ℕ
 pieces_counted w = w.merged + w.busy_left + w.present
 
--- a worker that has still to offer so many of the pieces of the chunks that it drew
+-- a worker that has still to offer a given number of the pieces of the chunks that it drew
 pub record Counts (stripes : StripesValue) (left : ℕ) (w : Worker) : Type 0 where
   pub of : IsPassOf stripes w.pass
   pub free : w.pass.view.hold ≡ Free

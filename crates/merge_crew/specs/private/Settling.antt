@@ -18,7 +18,7 @@ pub record MarkIsExact (all : List Stripe) (marks : List (List Bool)) (s c : ℕ
   pub chunk : c < length (slice_index_or marks s [])
   pub exact : chunk_mark marks s c ≡ is_named all s c
 
--- of so many chunks, those are marked that are among the names
+-- of a given number of chunks, those are marked that are among the names
 pub record MarksChunks (chunks : ℕ) (names : List ℕ) (marks : List Bool) : Type 0 where
   pub count : length marks ≡ chunks
   pub exact : (c : ℕ) → c < chunks → slice_index_or marks c false ≡ ltb 0 (occurrences c names)

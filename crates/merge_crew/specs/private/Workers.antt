@@ -18,17 +18,17 @@ idle_worker pass number = record {
   failed = None;
 }
 
--- the first pass, which has made so many others and nothing else
+-- the first pass, which has made a given number of others and nothing else
 abbrev pub split_view : Chunks → ℕ → PassView
 split_view plan splits = record (first_view plan) { splits = splits }
 
--- the last of the workers has the first pass, which has made so many others
+-- the last of the workers has the first pass, which has made a given number of others
 pub record LastIsFirst (others : ℕ) (all : List Worker) : Type 0 where
   pub first : (d : Worker) → (slice_index_or all (length all - 1) d).pass.view.first ≡ true
   pub splits : (d : Worker) → (slice_index_or all (length all - 1) d).pass.view.splits ≡ others
   pub joins : (d : Worker) → (slice_index_or all (length all - 1) d).pass.view.joins ≡ 0
 
--- so many workers that have not begun, the first of them last
+-- a given number of workers that have not begun, the first of them last
 pub record Made (stripes : StripesValue) (workers : ℕ) (all : List Worker) : Type 0 where
   pub idle : All (IsIdle stripes) all
   pub count : length all ≡ workers

@@ -8,9 +8,9 @@ use Rattle.tree_types.specs.NodeValues.{nonzero, values_at_node}
 use Rattle.tree_types.specs.Paths.{is_proc}
 use Rattle.tree_types.specs.Tree.{CountedTree, count_at, node_at, node_path, paths_in}
 use Rattle.tree_types.specs.Values.{anything, count_below, within_frame}
-use Rattle.metric_sums.specs.declared.row.Sum.{Sum}
-use Rattle.metric_sums.specs.declared.line.Open.{Open}
-use Rattle.metric_sums.specs.private.Rows.{no_paths}
+use Rattle.metric_sums.specs.declared.hart_sums.Sum.{Sum}
+use Rattle.metric_sums.specs.declared.ancestors.OpenNode.{OpenNode}
+use Rattle.metric_sums.specs.private.Sums.{no_paths}
 
 -- how many of a hart's paths pass a node, and how many of them end within its frame
 abbrev pub passing : CountedTree → ℕ → ℕ → ℕ
@@ -44,18 +44,19 @@ pending t first node hart = record {
 }
 
 -- a node before the first one of those that are done, with one of these as a child, and what they hand up to it
-pub record IsOpen (t : CountedTree) (first : ℕ) (o : Open) : Type 0 where
-  pub long : length o.row ≡ t.harts
+pub record IsOpen (t : CountedTree) (first : ℕ) (o : OpenNode) : Type 0 where
+  pub long : length o.sums ≡ t.harts
   pub below : o.node < first
   pub child : (j : ℕ) × (first ≤ j) × (j < length t.nodes) × ((node_at t.nodes j).parent ≡ o.node)
-  pub sums : (h : ℕ) (d : Sum) → h < t.harts → slice_index_or o.row h d ≡ pending t first o.node h
+  pub each : (h : ℕ) (d : Sum) → h < t.harts → slice_index_or o.sums h d ≡ pending t first o.node h
 
--- the nodes from `first` on are done: their parents before `first` stand in the line, and their values are there
-pub record At (period : ℕ) (t : CountedTree) (first : ℕ) (line : List Open) (left : ℕ) (out : List NodeValue)
+-- the nodes from `first` on are done: their parents before `first` stand among the ancestors, and their values are
+-- there
+pub record At (period : ℕ) (t : CountedTree) (first : ℕ) (ancestors : List OpenNode) (left : ℕ) (out : List NodeValue)
     : Type 0 where
-  pub parents : All (IsOpen t first) line
-  pub rise : AllPairs (λ a b. a.node < b.node) line
-  pub none : (node h : ℕ) → node < first → All (λ o. o.node ≢ node) line → pending t first node h ≡ no_paths
+  pub parents : All (IsOpen t first) ancestors
+  pub rise : AllPairs (λ a b. a.node < b.node) ancestors
+  pub none : (node h : ℕ) → node < first → All (λ o. o.node ≢ node) ancestors → pending t first node h ≡ no_paths
   pub few : left ≤ length t.counts
   pub before : (k : ℕ) (d : NodeCount) → k < left → (slice_index_or t.counts k d).node < first
   pub behind : (k : ℕ) (d : NodeCount) → left ≤ k → k < length t.counts

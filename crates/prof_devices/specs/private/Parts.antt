@@ -5,12 +5,12 @@ use Rattle.prof_devices.specs.declared.shelf.Fetch.{Fetch}
 use Rattle.prof_devices.specs.declared.shelf.Fetch.TheVariants as fetches
 use Rattle.prof_devices.specs.declared.shelf.Put.{Put}
 use Rattle.prof_devices.specs.declared.shelf.Put.TheVariants.{Done, Fault, Memory}
-use Rattle.prof_devices.specs.declared.read.Stop.{Stop}
-use Rattle.prof_devices.specs.declared.read.Stop.TheVariants as stops
+use Rattle.prof_devices.specs.declared.read.ReadStop.{ReadStop}
+use Rattle.prof_devices.specs.declared.read.ReadStop.TheVariants as stops
 use Rattle.prof_devices.specs.Files.{file_of, Holds}
 use Rattle.prof_devices.specs.InMemory.{MemoryShelf, MemorySink, failed_at, raised}
 
--- ---- over memory, behind the count
+-- ---- over memory, after the count
 
 -- a file is read, and the shelf is as before but for a name that no file has
 abbrev pub FileRead : MemoryShelf → MemoryShelf → List ℕ → ℕ → Fetch → Type 0
@@ -55,6 +55,6 @@ IsAtMost limit fetches.Fault = Unit {0}
 IsAtMost limit (fetches.Memory memory) = Unit {0}
 
 -- the source failed, and memory was there
-abbrev pub is_failure : Stop → Bool
+abbrev pub is_failure : ReadStop → Bool
 is_failure stops.Failed = true
 is_failure (stops.Memory memory) = false

@@ -2,145 +2,332 @@
 //! by hand after DWARF 5, chapter 7.
 use super::Case;
 use super::Has::{self, Nothing, Ranges};
+use super::Part::{self, Addr, Entry, RngLists, Unit};
+use dwarf_forms::constants::{
+    DW_FORM_addr, DW_FORM_addrx, DW_FORM_addrx1, DW_FORM_addrx2, DW_FORM_data1, DW_FORM_data4,
+    DW_FORM_implicit_const, DW_FORM_rnglistx, DW_FORM_sdata, DW_FORM_sec_offset,
+};
+use dwarf_info::constants::{
+    DW_AT_addr_base, DW_AT_high_pc, DW_AT_low_pc, DW_AT_ranges, DW_AT_rnglists_base,
+    DW_RLE_base_address, DW_RLE_base_addressx, DW_RLE_end_of_list, DW_RLE_offset_pair,
+    DW_RLE_start_end, DW_RLE_start_length, DW_RLE_startx_endx, DW_RLE_startx_length,
+};
 
 /// The range from DW_AT_low_pc up to DW_AT_high_pc, which counts where a list doesn't.
 const LOW_HIGH: Has = Ranges(&[(0x100, 0x110)]);
 
+/// Attributes and forms of an entry with a range and a list.
+const LOW_HIGH_RANGES: &[u64] = &[
+    DW_AT_low_pc,
+    DW_FORM_addr,
+    DW_AT_high_pc,
+    DW_FORM_data1,
+    DW_AT_ranges,
+    DW_FORM_sec_offset,
+];
+
+const LOW_HIGH_RNGLISTX: &[u64] = &[
+    DW_AT_low_pc,
+    DW_FORM_addr,
+    DW_AT_high_pc,
+    DW_FORM_data1,
+    DW_AT_ranges,
+    DW_FORM_rnglistx,
+];
+
+/// Those of the first entry with the base of `.debug_addr` or `.debug_rnglists`.
+const ADDR_BASE: &[u64] = &[DW_AT_addr_base, DW_FORM_sec_offset];
+
+const RNGLISTS_BASE: &[u64] = &[DW_AT_rnglists_base, DW_FORM_sec_offset];
+
+/// The addresses 0x200 and 0x300 from 4 on.
+const ADDRESSES: Part = Addr(&[0, 0, 0, 0, 0, 2, 0, 0, 0, 3, 0, 0]);
+
+/// The addresses 0x1000 and 0x2000.
+const TWO_ADDRESSES: Part = Addr(&[0, 0x10, 0, 0, 0, 0x20, 0, 0]);
+
+/// From 4 on the offsets 9 and 8 from there, and the lists.
+const OFFSETS: Part = RngLists(&[
+    &[0, 0, 0, 0],
+    &[9, 0, 0, 0],
+    &[8, 0, 0, 0],
+    &[DW_RLE_start_end, 0x10, 0, 0, 0, 0x20, 0, 0, 0],
+    &[DW_RLE_end_of_list],
+]);
+
+/// An entry from 0x100 up to 0x110 with the list at the beginning of `.debug_rnglists`.
+const ENTRY_AT_0: Part = Entry(LOW_HIGH_RANGES, &[0, 1, 0, 0, 0x10, 0, 0, 0, 0]);
+
 pub(super) static CASES: [Case; 17] = [
     (
         "DW_AT_high_pc as a number",
-        b"E1101120b W0001000010",
+        &[Entry(
+            &[DW_AT_low_pc, DW_FORM_addr, DW_AT_high_pc, DW_FORM_data1],
+            &[0, 1, 0, 0, 0x10],
+        )],
         LOW_HIGH,
     ),
     (
         "DW_AT_high_pc as an address",
-        b"E11011201 W0001000020010000",
+        &[Entry(
+            &[DW_AT_low_pc, DW_FORM_addr, DW_AT_high_pc, DW_FORM_addr],
+            &[0, 1, 0, 0, 0x20, 1, 0, 0],
+        )],
         Ranges(&[(0x100, 0x120)]),
     ),
     (
         "DW_AT_high_pc signed and negative",
-        b"E1101120d W000100007c",
+        &[Entry(
+            &[DW_AT_low_pc, DW_FORM_addr, DW_AT_high_pc, DW_FORM_sdata],
+            &[0, 1, 0, 0, 0x7c],
+        )],
         Ranges(&[(0x100, 0xfc)]),
     ),
     (
         "sums are modulo 2^32",
-        b"E11011206 Wf0ffffff20000000",
+        &[Entry(
+            &[DW_AT_low_pc, DW_FORM_addr, DW_AT_high_pc, DW_FORM_data4],
+            &[0xf0, 0xff, 0xff, 0xff, 0x20, 0, 0, 0],
+        )],
         Ranges(&[(0xfffffff0, 0x10)]),
     ),
     (
         "DW_AT_high_pc by DW_FORM_implicit_const",
-        b"E1101122108 W00010000",
+        &[Entry(
+            &[
+                DW_AT_low_pc,
+                DW_FORM_addr,
+                DW_AT_high_pc,
+                DW_FORM_implicit_const,
+                8,
+            ],
+            &[0, 1, 0, 0],
+        )],
         Ranges(&[(0x100, 0x108)]),
     ),
     (
         "DW_AT_low_pc by DW_FORM_addrx",
-        b"U7317 V04000000 E111b120b W0110 D000000000002000000030000",
+        &[
+            Unit(ADDR_BASE, &[4, 0, 0, 0]),
+            Entry(
+                &[DW_AT_low_pc, DW_FORM_addrx, DW_AT_high_pc, DW_FORM_data1],
+                &[1, 0x10],
+            ),
+            ADDRESSES,
+        ],
         Ranges(&[(0x300, 0x310)]),
     ),
     (
         "DW_AT_low_pc by DW_FORM_addrx without base",
-        b"E1129120b W0110 D000000000002000000030000",
+        &[
+            Entry(
+                &[DW_AT_low_pc, DW_FORM_addrx1, DW_AT_high_pc, DW_FORM_data1],
+                &[1, 0x10],
+            ),
+            ADDRESSES,
+        ],
         Nothing,
     ),
     (
         "DW_AT_low_pc by DW_FORM_addrx past the section",
-        b"U7317 V04000000 E112a120b W020010 D000000000002000000030000",
+        &[
+            Unit(ADDR_BASE, &[4, 0, 0, 0]),
+            Entry(
+                &[DW_AT_low_pc, DW_FORM_addrx2, DW_AT_high_pc, DW_FORM_data1],
+                &[2, 0, 0x10],
+            ),
+            ADDRESSES,
+        ],
         Nothing,
     ),
-    ("DW_AT_low_pc alone", b"E1101 W00010000", Nothing),
+    (
+        "DW_AT_low_pc alone",
+        &[Entry(&[DW_AT_low_pc, DW_FORM_addr], &[0, 1, 0, 0])],
+        Nothing,
+    ),
     (
         "DW_AT_low_pc of a form that is none of its own",
-        b"E1106120b W0001000010",
+        &[Entry(
+            &[DW_AT_low_pc, DW_FORM_data4, DW_AT_high_pc, DW_FORM_data1],
+            &[0, 1, 0, 0, 0x10],
+        )],
         Nothing,
     ),
     (
         "DW_RLE_offset_pair from the base of the unit",
-        b"U1101 V00050000 E1101120b5517 W000100001000000000 R04020600",
+        &[
+            Unit(&[DW_AT_low_pc, DW_FORM_addr], &[0, 5, 0, 0]),
+            ENTRY_AT_0,
+            RngLists(&[&[DW_RLE_offset_pair, 2, 6], &[DW_RLE_end_of_list]]),
+        ],
         Ranges(&[(0x502, 0x506)]),
     ),
     (
         "an index without base",
-        b"E1101120b5517 W000100001000000000 D0010000000200000 R03010800",
+        &[
+            ENTRY_AT_0,
+            TWO_ADDRESSES,
+            RngLists(&[&[DW_RLE_startx_length, 1, 8], &[DW_RLE_end_of_list]]),
+        ],
         LOW_HIGH,
     ),
     (
         "a list outside the section",
-        b"E1101120b5517 W000100001002000000 R00",
+        &[
+            Entry(LOW_HIGH_RANGES, &[0, 1, 0, 0, 0x10, 2, 0, 0, 0]),
+            RngLists(&[&[DW_RLE_end_of_list]]),
+        ],
         LOW_HIGH,
     ),
     (
         "DW_FORM_rnglistx",
-        b"U7417 V04000000 E5523 W01 R00000000090000000800000006100000002000000000",
+        &[
+            Unit(RNGLISTS_BASE, &[4, 0, 0, 0]),
+            Entry(&[DW_AT_ranges, DW_FORM_rnglistx], &[1]),
+            OFFSETS,
+        ],
         Ranges(&[(0x10, 0x20)]),
     ),
     (
         "DW_FORM_rnglistx without base",
-        b"E1101120b5523 W000100001001 R00000000090000000800000006100000002000000000",
+        &[Entry(LOW_HIGH_RNGLISTX, &[0, 1, 0, 0, 0x10, 1]), OFFSETS],
         LOW_HIGH,
     ),
     (
         "DW_FORM_rnglistx past the section",
-        b"U7417 V04000000 E1101120b5523 W00010000100e R00000000090000000800000006100000002000000000",
+        &[
+            Unit(RNGLISTS_BASE, &[4, 0, 0, 0]),
+            Entry(LOW_HIGH_RNGLISTX, &[0, 1, 0, 0, 0x10, 0xe]),
+            OFFSETS,
+        ],
         LOW_HIGH,
     ),
     (
         "DW_AT_ranges by a number",
-        b"E1101120b5506 W000100001000000000 R00",
+        &[
+            Entry(
+                &[
+                    DW_AT_low_pc,
+                    DW_FORM_addr,
+                    DW_AT_high_pc,
+                    DW_FORM_data1,
+                    DW_AT_ranges,
+                    DW_FORM_data4,
+                ],
+                &[0, 1, 0, 0, 0x10, 0, 0, 0, 0],
+            ),
+            RngLists(&[&[DW_RLE_end_of_list]]),
+        ],
         LOW_HIGH,
     ),
 ];
 
 /// An entry from 0x100 up to 0x110, which has the list at the beginning of `.debug_rnglists`.
-pub(super) const AT_START: &[u8] = b"E1101120b5517 W000100001000000000";
+pub(super) const AT_START: &[Part] = &[ENTRY_AT_0];
 
 /// Lists of this entry.
 pub(super) static LISTS: [Case; 8] = [
     (
         "DW_RLE_base_address, DW_RLE_offset_pair",
-        b"R050004000004020600",
+        &[RngLists(&[
+            &[DW_RLE_base_address, 0, 4, 0, 0],
+            &[DW_RLE_offset_pair, 2, 6],
+            &[DW_RLE_end_of_list],
+        ])],
         Ranges(&[(0x402, 0x406)]),
     ),
     (
         "DW_RLE_offset_pair from base 0",
-        b"R04020600",
+        &[RngLists(&[&[DW_RLE_offset_pair, 2, 6], &[DW_RLE_end_of_list]])],
         Ranges(&[(0x2, 0x6)]),
     ),
     (
         "DW_RLE_start_end, DW_RLE_start_length",
-        b"R06100000002000000007300000000500",
+        &[RngLists(&[
+            &[DW_RLE_start_end, 0x10, 0, 0, 0, 0x20, 0, 0, 0],
+            &[DW_RLE_start_length, 0x30, 0, 0, 0, 5],
+            &[DW_RLE_end_of_list],
+        ])],
         Ranges(&[(0x10, 0x20), (0x30, 0x35)]),
     ),
-    ("an empty list", b"R00", Nothing),
-    ("an entry above 7", b"R0610000000200000000800", LOW_HIGH),
-    ("a list without end", b"R061000000020000000", LOW_HIGH),
-    ("an entry that is not whole", b"R0610000000200000", LOW_HIGH),
+    (
+        "an empty list",
+        &[RngLists(&[&[DW_RLE_end_of_list]])],
+        Nothing,
+    ),
+    (
+        "an entry above 7",
+        &[RngLists(&[
+            &[DW_RLE_start_end, 0x10, 0, 0, 0, 0x20, 0, 0, 0],
+            &[8],
+            &[DW_RLE_end_of_list],
+        ])],
+        LOW_HIGH,
+    ),
+    (
+        "a list without end",
+        &[RngLists(&[&[DW_RLE_start_end, 0x10, 0, 0, 0, 0x20, 0, 0, 0]])],
+        LOW_HIGH,
+    ),
+    (
+        "an entry that is not whole",
+        &[RngLists(&[&[DW_RLE_start_end, 0x10, 0, 0, 0, 0x20, 0, 0]])],
+        LOW_HIGH,
+    ),
     (
         "a number too wide",
-        b"R04ffffffffffffffffff020000",
+        &[RngLists(&[
+            &[
+                DW_RLE_offset_pair,
+                0xff,
+                0xff,
+                0xff,
+                0xff,
+                0xff,
+                0xff,
+                0xff,
+                0xff,
+                0xff,
+                2,
+                0,
+            ],
+            &[DW_RLE_end_of_list],
+        ])],
         LOW_HIGH,
     ),
 ];
 
 /// The same where the unit has two addresses, 0x1000 and 0x2000.
-pub(super) const WITH_ADDRESSES: &[u8] =
-    b"U7317 V00000000 E1101120b5517 W000100001000000000 D0010000000200000";
+pub(super) const WITH_ADDRESSES: &[Part] = &[
+    Unit(ADDR_BASE, &[0, 0, 0, 0]),
+    ENTRY_AT_0,
+    TWO_ADDRESSES,
+];
 
 /// Lists of this entry that name addresses by their indices.
 pub(super) static INDEXED_LISTS: [Case; 4] = [
     (
         "DW_RLE_base_addressx",
-        b"R010104020600",
+        &[RngLists(&[
+            &[DW_RLE_base_addressx, 1],
+            &[DW_RLE_offset_pair, 2, 6],
+            &[DW_RLE_end_of_list],
+        ])],
         Ranges(&[(0x2002, 0x2006)]),
     ),
     (
         "DW_RLE_startx_endx",
-        b"R02000100",
+        &[RngLists(&[&[DW_RLE_startx_endx, 0, 1], &[DW_RLE_end_of_list]])],
         Ranges(&[(0x1000, 0x2000)]),
     ),
     (
         "DW_RLE_startx_length",
-        b"R03010800",
+        &[RngLists(&[&[DW_RLE_startx_length, 1, 8], &[DW_RLE_end_of_list]])],
         Ranges(&[(0x2000, 0x2008)]),
     ),
-    ("an index past the section", b"R03020800", LOW_HIGH),
+    (
+        "an index past the section",
+        &[RngLists(&[&[DW_RLE_startx_length, 2, 8], &[DW_RLE_end_of_list]])],
+        LOW_HIGH,
+    ),
 ];

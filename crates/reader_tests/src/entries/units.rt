@@ -1,108 +1,181 @@
 //! The first fault of small units, and their entries and line tables. They are put together by hand after DWARF 5,
-//! section 7.5; a letter before bytes says which section they are: I info, A abbrev.
+//! section 7.5: a section of debug information field by field, and an abbreviation table.
 use crate::program::Sections;
+use crate::rows::extend_each;
+use crate::worked;
+use dwarf_forms::constants::{DW_CHILDREN_no, DW_CHILDREN_yes, DW_FORM_sec_offset};
 use dwarf_info::InfoFault::{self, BadAbbrev, BadUnit, SplitUnit, UnknownForm};
+use dwarf_info::constants::{
+    DW_AT_stmt_list, DW_TAG_compile_unit, DW_TAG_subprogram, DW_UT_compile, DW_UT_partial,
+    DW_UT_skeleton, DW_UT_type,
+};
 use dwarf_info::read_info;
 use std::alloc::Global;
 
-/// A name, sections, and the fault in them.
-static FAULTS: [(&str, &[u8], InfoFault); 19] = [
+/// Fields of a unit's header without fault.
+const VERSION: &[u8] = &[5, 0];
+
+const UNIT_TYPE: &[u8] = &[DW_UT_compile];
+
+const ADDRESS_SIZE: &[u8] = &[4];
+
+const ABBREV_OFFSET: &[u8] = &[0, 0, 0, 0];
+
+/// The four of them, which stand after unit_length.
+const HEADER: &[u8] = &[5, 0, DW_UT_compile, 4, 0, 0, 0, 0];
+
+/// An entry of code 1 with DW_AT_stmt_list.
+const ENTRY: &[u8] = &[1, 0, 0, 0, 0];
+
+/// A compilation unit in an abbreviation table, its attribute with the form, and the table's end.
+const UNIT: &[u8] = &[DW_TAG_compile_unit as u8, DW_CHILDREN_no];
+
+const STMT_LIST: &[u8] = &[DW_AT_stmt_list as u8, DW_FORM_sec_offset as u8];
+
+const END: &[u8] = &[0, 0, 0];
+
+/// A name, fields of `.debug_info` and `.debug_abbrev`, and the fault in them.
+static FAULTS: [(&str, &[&[u8]], &[&[u8]], InfoFault); 18] = [
     (
         "unit_length that is not whole",
-        b"I010203 A00",
+        &[&[1, 2, 3]],
+        &[&[0]],
         BadUnit { offset: 0 },
     ),
     (
         "unit_length of 64-bit DWARF",
-        b"Iffffffff0500010400000000 0100000000 A00",
-        BadUnit { offset: 0 },
-    ),
-    (
-        "unit_length past the section",
-        b"\
-        I480000000500010400000000010000000002696e6e65720001026f757465720001036d61696e0000\
-        0001005400000004190000000c000000000305110000002400010008000000000b0000\
-        A01110110170000022e000308200b0000032e010308110112060000041d0131135517580b590b0000\
-        051d00311311011206580b590b000000",
+        &[&[0xff, 0xff, 0xff, 0xff], HEADER, ENTRY],
+        &[&[0]],
         BadUnit { offset: 0 },
     ),
     (
         "version past the unit's end",
-        b"I010000000500 A00",
+        &[&[1, 0, 0, 0], VERSION],
+        &[&[0]],
         BadUnit { offset: 0 },
     ),
     (
         "unit_type past the unit's end",
-        b"I020000000500 A00",
+        &[&[2, 0, 0, 0], VERSION],
+        &[&[0]],
         BadUnit { offset: 0 },
     ),
-    ("version 1", b"I020000000100 A00", BadUnit { offset: 0 }),
-    ("version 6", b"I020000000600 A00", BadUnit { offset: 0 }),
     (
-        "bytes behind the last unit that are no unit_length",
-        b"I080000000500010400000000 0100 A00",
+        "version 1",
+        &[&[2, 0, 0, 0], &[1, 0]],
+        &[&[0]],
+        BadUnit { offset: 0 },
+    ),
+    (
+        "version 6",
+        &[&[2, 0, 0, 0], &[6, 0]],
+        &[&[0]],
+        BadUnit { offset: 0 },
+    ),
+    (
+        "bytes after the last unit that are no unit_length",
+        &[&[8, 0, 0, 0], HEADER, &[1, 0]],
+        &[&[0]],
         BadUnit { offset: 12 },
     ),
     (
         "debug_abbrev_offset past the unit's end",
-        b"I070000000500010400000000 A00",
+        &[
+            &[7, 0, 0, 0],
+            VERSION,
+            UNIT_TYPE,
+            ADDRESS_SIZE,
+            ABBREV_OFFSET,
+        ],
+        &[&[0]],
         BadUnit { offset: 0 },
     ),
     (
         "an unknown unit_type",
-        b"I080000000500070400000000 A00",
+        &[&[8, 0, 0, 0], VERSION, &[7], ADDRESS_SIZE, ABBREV_OFFSET],
+        &[&[0]],
         BadUnit { offset: 0 },
     ),
     (
         "address_size 8",
-        b"I080000000500010800000000 A00",
+        &[&[8, 0, 0, 0], VERSION, UNIT_TYPE, &[8], ABBREV_OFFSET],
+        &[&[0]],
         BadUnit { offset: 0 },
     ),
     (
         "DW_UT_skeleton comes before address_size",
-        b"I080000000500040800000000 A00",
+        &[
+            &[8, 0, 0, 0],
+            VERSION,
+            &[DW_UT_skeleton],
+            &[8],
+            ABBREV_OFFSET,
+        ],
+        &[&[0]],
         SplitUnit { offset: 0 },
     ),
     (
         "DW_UT_skeleton",
-        b"I0d0000000500040400000000 0100000000 A0111001017000000",
+        &[
+            &[13, 0, 0, 0],
+            VERSION,
+            &[DW_UT_skeleton],
+            ADDRESS_SIZE,
+            ABBREV_OFFSET,
+            ENTRY,
+        ],
+        &[&[1], UNIT, STMT_LIST, END],
         SplitUnit { offset: 0 },
     ),
     (
         "DW_UT_skeleton without address_size",
-        b"I03000000050004 A00",
+        &[&[3, 0, 0, 0], VERSION, &[DW_UT_skeleton]],
+        &[&[0]],
         BadUnit { offset: 0 },
     ),
     (
         "debug_abbrev_offset past the section",
-        b"I080000000500010401000000 A00",
+        &[
+            &[8, 0, 0, 0],
+            VERSION,
+            UNIT_TYPE,
+            ADDRESS_SIZE,
+            &[1, 0, 0, 0],
+        ],
+        &[&[0]],
         BadAbbrev { offset: 0 },
     ),
     (
         "an abbreviation code that is not declared",
-        b"I0d0000000500010400000000 0100000000 A0211001017000000",
+        &[&[13, 0, 0, 0], HEADER, ENTRY],
+        &[&[2], UNIT, STMT_LIST, END],
         BadAbbrev { offset: 12 },
     ),
     (
         "an unknown form",
-        b"I0d0000000500010400000000 0100000000 A0111001002000000",
+        &[&[13, 0, 0, 0], HEADER, ENTRY],
+        &[&[1], UNIT, &[DW_AT_stmt_list as u8, 2], END],
         UnknownForm { offset: 12 },
     ),
     (
         "a value past the unit's end",
-        b"I0c0000000500010400000000 01000000 A0111001017000000",
+        &[&[12, 0, 0, 0], HEADER, &[1, 0, 0, 0]],
+        &[&[1], UNIT, STMT_LIST, END],
         BadUnit { offset: 12 },
     ),
     (
         "an abbreviation code past the unit's end",
-        b"I0c0000000500010400000000 80808080 A0111001017000000",
+        &[&[12, 0, 0, 0], HEADER, &[0x80, 0x80, 0x80, 0x80]],
+        &[&[1], UNIT, STMT_LIST, END],
         BadUnit { offset: 12 },
     ),
 ];
 
 /// The offset and depth of each entry, and the offset and line table of each unit.
-fn shape_of(alloc: Global, text: &[u8]) -> Result<Vec<(u32, u32)>, prof_bytes::Fail<InfoFault>> {
-    let sections = Sections::of(alloc, b"", text)?;
+fn shape_in(
+    alloc: Global,
+    sections: &Sections,
+) -> Result<Vec<(u32, u32)>, prof_bytes::Fail<InfoFault>> {
     let parts = sections.parts();
     if parts.info.len() > 4096 || parts.rnglists.len() > 4096 {
         return Ok(Vec::new(alloc));
@@ -119,15 +192,38 @@ fn shape_of(alloc: Global, text: &[u8]) -> Result<Vec<(u32, u32)>, prof_bytes::F
     Ok(seen)
 }
 
+/// The same in sections of these fields.
+fn shape_of(
+    alloc: Global,
+    info: &[&[u8]],
+    abbrev: &[&[u8]],
+) -> Result<Vec<(u32, u32)>, prof_bytes::Fail<InfoFault>> {
+    let mut sections = Sections::of(alloc, b"", b"")?;
+    extend_each(&mut sections.info, info)?;
+    extend_each(&mut sections.abbrev, abbrev)?;
+    shape_in(alloc, &sections)
+}
+
+/// The same in the unit of the worked program without its last byte.
+fn shape_of_short(alloc: Global) -> Result<Vec<(u32, u32)>, prof_bytes::Fail<InfoFault>> {
+    let mut sections = Sections::of(alloc, b"", worked::SECTIONS)?;
+    sections.info.pop();
+    sections.rnglists.clear();
+    shape_in(alloc, &sections)
+}
+
 /// The first row whose sections have another fault.
 fn other_fault(alloc: Global) -> Option<&'static str> {
-    for (name, bytes, fault) in &FAULTS {
-        match shape_of(alloc, bytes) {
+    for (name, info, abbrev, fault) in &FAULTS {
+        match shape_of(alloc, info, abbrev) {
             Err(prof_bytes::Fail::Fault(found)) if found == *fault => {}
             _ => return Some(name),
         }
     }
-    None
+    match shape_of_short(alloc) {
+        Err(prof_bytes::Fail::Fault(BadUnit { offset: 0 })) => None,
+        _ => Some("unit_length past the section"),
+    }
 }
 
 #[test]
@@ -135,33 +231,66 @@ fn the_first_fault(rt: HostRuntime) {
     assert_eq!(rt; other_fault(rt.alloc()), None);
 }
 
-/// A name, sections, and the offset and depth of each entry, then the offset and line table of each unit.
-static SHAPES: [(&str, &[u8], &[(u32, u32)]); 5] = [
+/// A name, fields of both sections, and the offset and depth of each entry, then the offset and line table of each
+/// unit.
+static SHAPES: [(&str, &[&[u8]], &[&[u8]], &[(u32, u32)]); 5] = [
     (
         "levels by null entries: one before the first entry, one too many, one missing",
-        b"I130000000500010400000000 00010101000100000000 01 A012e01000000",
+        &[
+            &[19, 0, 0, 0],
+            HEADER,
+            &[0, 1, 1, 1, 0, 1, 0, 0, 0, 0],
+            &[1],
+        ],
+        &[&[1, DW_TAG_subprogram as u8, DW_CHILDREN_yes], END],
         &[(13, 0), (14, 1), (15, 2), (17, 2), (22, 0), (0, u32::MAX)],
     ),
     (
         "a unit of version 4 before one with DW_AT_stmt_list",
-        b"I0700000004000000000004 0d0000000500010400000000 0100000000 A0111001017000000",
+        &[
+            &[7, 0, 0, 0],
+            &[4, 0],
+            ABBREV_OFFSET,
+            ADDRESS_SIZE,
+            &[13, 0, 0, 0],
+            HEADER,
+            ENTRY,
+        ],
+        &[&[1], UNIT, STMT_LIST, END],
         &[(23, 0), (11, 0)],
     ),
     (
         "a unit of version 2 and a DW_UT_type before one",
-        b"I020000000200 03000000050002 0d0000000500010400000000 0109000000 A0111001017000000",
+        &[
+            &[2, 0, 0, 0],
+            &[2, 0],
+            &[3, 0, 0, 0],
+            VERSION,
+            &[DW_UT_type],
+            &[13, 0, 0, 0],
+            HEADER,
+            &[1, 9, 0, 0, 0],
+        ],
+        &[&[1], UNIT, STMT_LIST, END],
         &[(25, 0), (13, 9)],
     ),
     (
         "DW_UT_partial without entries",
-        b"I080000000500030400000000 A00",
+        &[
+            &[8, 0, 0, 0],
+            VERSION,
+            &[DW_UT_partial],
+            ADDRESS_SIZE,
+            ABBREV_OFFSET,
+        ],
+        &[&[0]],
         &[(0, u32::MAX)],
     ),
-    ("no bytes", b"A00", &[]),
+    ("no bytes", &[], &[&[0]], &[]),
 ];
 
-fn has_shape(alloc: Global, bytes: &[u8], wanted: &[(u32, u32)]) -> bool {
-    match shape_of(alloc, bytes) {
+fn has_shape(alloc: Global, info: &[&[u8]], abbrev: &[&[u8]], wanted: &[(u32, u32)]) -> bool {
+    match shape_of(alloc, info, abbrev) {
         Ok(seen) => seen.as_slice() == wanted,
         Err(_) => false,
     }
@@ -169,8 +298,8 @@ fn has_shape(alloc: Global, bytes: &[u8], wanted: &[(u32, u32)]) -> bool {
 
 /// The first row whose sections have other entries or units.
 fn other_shape(alloc: Global) -> Option<&'static str> {
-    for (name, bytes, wanted) in &SHAPES {
-        if !has_shape(alloc, bytes, wanted) {
+    for (name, info, abbrev, wanted) in &SHAPES {
+        if !has_shape(alloc, info, abbrev, wanted) {
             return Some(name);
         }
     }

@@ -1,16 +1,17 @@
 //! Abbreviation tables. The first is that of a program of two functions by `clang -g`, with the declarations that
 //! `llvm-dwarfdump --debug-abbrev` prints; the others are put together by hand after DWARF 5, section 7.5.3.
 use crate::program::{Unread, readable};
-use crate::rows::bytes_of;
+use crate::rows::{bytes_of, joined};
 use dwarf_forms::constants::{
-    DW_FORM_data1, DW_FORM_data4, DW_FORM_flag_present, DW_FORM_implicit_const, DW_FORM_ref4,
-    DW_FORM_sec_offset,
+    DW_CHILDREN_no, DW_FORM_data1, DW_FORM_data2, DW_FORM_data4, DW_FORM_flag_present,
+    DW_FORM_implicit_const, DW_FORM_ref4, DW_FORM_sec_offset,
 };
 use dwarf_forms::{Abbrevs, BadTable, Spec, read_abbrevs};
 use dwarf_info::constants::{
     DW_AT_byte_size, DW_AT_call_column, DW_AT_external, DW_AT_high_pc, DW_AT_inline,
-    DW_AT_loclists_base, DW_AT_type, DW_TAG_base_type, DW_TAG_compile_unit,
-    DW_TAG_inlined_subroutine, DW_TAG_lexical_block, DW_TAG_subprogram, DW_TAG_volatile_type,
+    DW_AT_loclists_base, DW_AT_name, DW_AT_stmt_list, DW_AT_type, DW_TAG_base_type,
+    DW_TAG_compile_unit, DW_TAG_inlined_subroutine, DW_TAG_lexical_block, DW_TAG_subprogram,
+    DW_TAG_volatile_type,
 };
 use prof_bytes::Memory;
 use std::alloc::Global;
@@ -24,26 +25,57 @@ const ABBREV: &[u8] = b"\
     0000092e01111b120640187a1903253a0b3b0b27193f1900000a3400021803253a0b3b0b491300000b0b0111\
     1b120600000c3400022203253a0b3b0b491300000d35004913000000";
 
-/// Of some codes the tag, whether children follow, and how many attributes.
-static DECLARED: [(u64, u64, bool, usize); 7] = [
-    (1, DW_TAG_compile_unit, true, 10),
-    (2, DW_TAG_subprogram, true, 6),
-    (4, DW_TAG_base_type, false, 3),
-    (7, DW_TAG_inlined_subroutine, true, 6),
-    (9, DW_TAG_subprogram, true, 9),
-    (11, DW_TAG_lexical_block, true, 2),
-    (13, DW_TAG_volatile_type, false, 1),
-];
-
-/// Of the same codes the last attribute.
-static LAST: [(u64, u64, i64); 7] = [
-    (DW_AT_loclists_base, DW_FORM_sec_offset, 0),
-    (DW_AT_inline, DW_FORM_implicit_const, 1),
-    (DW_AT_byte_size, DW_FORM_data1, 0),
-    (DW_AT_call_column, DW_FORM_data1, 0),
-    (DW_AT_external, DW_FORM_flag_present, 0),
-    (DW_AT_high_pc, DW_FORM_data4, 0),
-    (DW_AT_type, DW_FORM_ref4, 0),
+/// Of some codes the tag, whether children follow, how many attributes, and the last one with its form.
+static DECLARED: [(u64, u64, bool, usize, (u64, u64, i64)); 7] = [
+    (
+        1,
+        DW_TAG_compile_unit,
+        true,
+        10,
+        (DW_AT_loclists_base, DW_FORM_sec_offset, 0),
+    ),
+    (
+        2,
+        DW_TAG_subprogram,
+        true,
+        6,
+        (DW_AT_inline, DW_FORM_implicit_const, 1),
+    ),
+    (
+        4,
+        DW_TAG_base_type,
+        false,
+        3,
+        (DW_AT_byte_size, DW_FORM_data1, 0),
+    ),
+    (
+        7,
+        DW_TAG_inlined_subroutine,
+        true,
+        6,
+        (DW_AT_call_column, DW_FORM_data1, 0),
+    ),
+    (
+        9,
+        DW_TAG_subprogram,
+        true,
+        9,
+        (DW_AT_external, DW_FORM_flag_present, 0),
+    ),
+    (
+        11,
+        DW_TAG_lexical_block,
+        true,
+        2,
+        (DW_AT_high_pc, DW_FORM_data4, 0),
+    ),
+    (
+        13,
+        DW_TAG_volatile_type,
+        false,
+        1,
+        (DW_AT_type, DW_FORM_ref4, 0),
+    ),
 ];
 
 fn last_of(specs: &[Spec]) -> (u64, u64, i64) {
@@ -55,7 +87,7 @@ fn last_of(specs: &[Spec]) -> (u64, u64, i64) {
 
 /// The first code that is declared in another way, or that is declared and should not be.
 fn other_declaration(table: &Abbrevs) -> Option<u64> {
-    for ((code, tag, children, count), last) in DECLARED.iter().zip(&LAST) {
+    for (code, tag, children, count, last) in &DECLARED {
         match table.find(*code) {
             Some(declared)
                 if (declared.code, declared.tag, declared.children) == (*code, *tag, *children)
@@ -78,49 +110,77 @@ fn declarations_of_a_program(rt: HostRuntime) -> Result<(), Fail> {
     Ok(())
 }
 
+/// Declarations after their codes: a tag, an attribute with its form, and the end of the attributes.
+const UNIT: &[u8] = &[DW_TAG_compile_unit as u8, DW_CHILDREN_no];
+
+const SUBPROGRAM: &[u8] = &[DW_TAG_subprogram as u8, DW_CHILDREN_no];
+
+const BASE_TYPE: &[u8] = &[DW_TAG_base_type as u8, DW_CHILDREN_no];
+
+const STMT_LIST: &[u8] = &[DW_AT_stmt_list as u8, DW_FORM_sec_offset as u8];
+
+const NAME: &[u8] = &[DW_AT_name as u8, DW_FORM_implicit_const as u8];
+
+const END: &[u8] = &[0, 0];
+
 /// A name, a table, and an offset in it where code 1 is a compilation unit.
-static UNITS: [(&str, &[u8], u32); 6] = [
-    ("one declaration", &[1, 0x11, 0, 0x10, 0x17, 0, 0, 0], 0),
+static UNITS: [(&str, &[&[u8]], u32); 6] = [
+    ("one declaration", &[&[1], UNIT, STMT_LIST, END, &[0]], 0),
     (
         "the first of two with a code",
-        &[1, 0x11, 0, 0, 0, 1, 0x2e, 0, 0, 0, 0],
+        &[&[1], UNIT, END, &[1], SUBPROGRAM, END, &[0]],
         0,
     ),
     (
-        "behind another code",
-        &[2, 0x2e, 0, 0, 0, 1, 0x11, 0, 0, 0, 1, 0x2e, 0, 0, 0, 0],
+        "after another code",
+        &[
+            &[2],
+            SUBPROGRAM,
+            END,
+            &[1],
+            UNIT,
+            END,
+            &[1],
+            SUBPROGRAM,
+            END,
+            &[0],
+        ],
         0,
     ),
-    ("at an offset", &[9, 9, 1, 0x11, 7, 0, 0, 0], 2),
-    ("implicit_const", &[1, 0x11, 0, 3, 0x21, 0, 0, 0, 0], 0),
     (
-        "an attribute with form 0 ends the list",
-        &[1, 0x11, 0, 0, 5, 0, 0, 0],
+        "at an offset",
+        &[&[9, 9], &[1, DW_TAG_compile_unit as u8, 7], END, &[0]],
+        2,
+    ),
+    ("implicit_const", &[&[1], UNIT, NAME, &[0], END, &[0]], 0),
+    (
+        "attribute 0 with a form does not end the list",
+        &[&[1], UNIT, &[0, DW_FORM_data2 as u8], END, &[0]],
         0,
     ),
 ];
 
 /// A name, a table, and an offset where none is whole that declares code 1.
-static ABSENT: [(&str, &[u8], u32); 5] = [
+static ABSENT: [(&str, &[&[u8]], u32); 5] = [
     (
         "at the section's end",
-        &[1, 0x11, 0, 0x10, 0x17, 0, 0, 0],
+        &[&[1], UNIT, STMT_LIST, END, &[0]],
         8,
     ),
     (
-        "behind the section's end",
-        &[1, 0x11, 0, 0x10, 0x17, 0, 0, 0],
+        "after the section's end",
+        &[&[1], UNIT, STMT_LIST, END, &[0]],
         9,
     ),
-    ("without the closing 0", &[1, 0x11, 0, 0x10, 0x17, 0, 0], 0),
+    ("without the closing 0", &[&[1], UNIT, STMT_LIST, END], 0),
     (
         "another code alone",
-        &[2, 0x2e, 0, 0, 0, 3, 0x11, 0, 0, 0, 0],
+        &[&[2], SUBPROGRAM, END, &[3], UNIT, END, &[0]],
         0,
     ),
     (
         "implicit_const without its end",
-        &[1, 0x11, 0, 3, 0x21, 0x80, 0, 0, 0],
+        &[&[1], UNIT, NAME, &[0x80], END, &[0]],
         0,
     ),
 ];
@@ -138,14 +198,25 @@ fn tag_at(alloc: Global, bytes: &[u8], offset: u32) -> Result<Option<u64>, Memor
     }
 }
 
+/// Whether code 1 has this tag in a table of these bytes.
+fn has_tag(
+    alloc: Global,
+    pieces: &[&[u8]],
+    offset: u32,
+    wanted: Option<u64>,
+) -> Result<bool, Memory> {
+    let bytes = joined(alloc, pieces)?;
+    Ok(tag_at(alloc, &bytes, offset)? == wanted)
+}
+
 /// The first table in which code 1 has another tag.
 fn other_tag(
     alloc: Global,
-    rows: &[(&'static str, &[u8], u32)],
+    rows: &[(&'static str, &[&[u8]], u32)],
     wanted: Option<u64>,
 ) -> Result<Option<&'static str>, Memory> {
-    for (name, bytes, offset) in rows {
-        if tag_at(alloc, bytes, *offset)? != wanted {
+    for (name, pieces, offset) in rows {
+        if !has_tag(alloc, pieces, *offset, wanted)? {
             return Ok(Some(name));
         }
     }
@@ -166,13 +237,35 @@ fn tables_by_their_offset(rt: HostRuntime) -> Result<(), Fail> {
 type End = (usize, Option<u64>, Option<u64>);
 
 /// Three declarations of five bytes each.
-static THREE: [u8; 16] = [1, 0x11, 0, 0, 0, 2, 0x2e, 0, 0, 0, 3, 0x24, 0, 0, 0, 0];
+static THREE: [&[u8]; 10] = [
+    &[1],
+    UNIT,
+    END,
+    &[2],
+    SUBPROGRAM,
+    END,
+    &[3],
+    BASE_TYPE,
+    END,
+    &[0],
+];
 
 /// Three whose codes fall.
-static FALLING: [u8; 16] = [7, 0x11, 0, 0, 0, 3, 0x24, 0, 0, 0, 1, 0x2e, 0, 0, 0, 0];
+static FALLING: [&[u8]; 10] = [
+    &[7],
+    UNIT,
+    END,
+    &[3],
+    BASE_TYPE,
+    END,
+    &[1],
+    SUBPROGRAM,
+    END,
+    &[0],
+];
 
 /// Two of one code.
-static TWICE: [u8; 11] = [1, 0x11, 0, 0, 0, 1, 0x2e, 0, 0, 0, 0];
+static TWICE: [&[u8]; 7] = [&[1], UNIT, END, &[1], SUBPROGRAM, END, &[0]];
 
 /// Offsets in the first, and what stands there.
 static ENDS: [(u32, Option<End>); 5] = [
@@ -195,8 +288,9 @@ fn end_at(table: &Abbrevs, offset: u32) -> Option<End> {
 }
 
 /// What stands at an offset of a table that begins the bytes.
-fn end_in(alloc: Global, bytes: &[u8], offset: u32) -> Result<Option<End>, Unread> {
-    let table = readable(read_abbrevs(alloc, bytes, 0))?;
+fn end_in(alloc: Global, pieces: &[&[u8]], offset: u32) -> Result<Option<End>, Unread> {
+    let bytes = joined(alloc, pieces)?;
+    let table = readable(read_abbrevs(alloc, &bytes, 0))?;
     Ok(end_at(&table, offset))
 }
 

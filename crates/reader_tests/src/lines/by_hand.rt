@@ -22,7 +22,7 @@ pub(super) const HEADER: &str =
 const SCALED: &str =
     "0500040024000000040101fb0e0d000101010100000001000001010108012f7300020108020b01612e630000";
 
-/// Where the program of these begins: behind 12 bytes up to header_length, and the 36 that this counts.
+/// Where the program of these begins: after 12 bytes up to header_length, and the 36 that this counts.
 pub(super) const PROGRAM: u32 = 48;
 
 /// A program with a sequence of one row, from 0x10000 to 0x10004.

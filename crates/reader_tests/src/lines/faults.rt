@@ -1,23 +1,78 @@
 //! Line tables that are at fault, put together by hand after DWARF 5, section 6.2.
-use super::by_hand::HEADER;
+use dwarf_forms::constants::{
+    DW_FORM_data1, DW_FORM_implicit_const, DW_FORM_indirect, DW_FORM_line_strp, DW_FORM_string,
+    DW_FORM_strp,
+};
 use dwarf_line::constants::{
-    DW_LNE_set_address, DW_LNS_advance_pc, DW_LNS_copy, DW_LNS_fixed_advance_pc, DW_LNS_set_file,
+    DW_LNCT_directory_index, DW_LNCT_path, DW_LNE_end_sequence, DW_LNE_set_address,
+    DW_LNS_advance_pc, DW_LNS_copy, DW_LNS_fixed_advance_pc, DW_LNS_set_file,
 };
 
-/// A name, and a section whose first table is at fault.
-pub(super) static LENGTH_FAULTS: [(&str, &str); 4] = [
-    ("unit_length not whole", "010203"),
+/// Fields of a header without fault: version, address_size, segment_selector_size; header_length stands after them.
+pub(super) const VERSION: &[u8] = &[5, 0, 4, 0];
+
+/// From minimum_instruction_length to line_range.
+pub(super) const LINE_RANGE: &[u8] = &[1, 1, 1, 0xfb, 14];
+
+/// opcode_base and standard_opcode_lengths.
+const OPCODE_BASE: &[u8] = &[13, 0, 1, 1, 1, 1, 0, 0, 0, 1, 0, 0, 1];
+
+/// directory_entry_format, directories_count and directories.
+const DIRECTORY_FORMAT: &[u8] = &[1, DW_LNCT_path as u8, DW_FORM_string as u8];
+
+const DIRECTORIES: &[u8] = b"\x01/s\0";
+
+/// file_name_entry_format, file_names_count and file_names.
+const FILE_FORMAT: &[u8] = &[
+    2,
+    DW_LNCT_path as u8,
+    DW_FORM_string as u8,
+    DW_LNCT_directory_index as u8,
+    DW_FORM_data1 as u8,
+];
+
+const FILES: &[u8] = b"\x01a.c\0\0";
+
+/// A name, and the fields of a section whose first table is at fault.
+pub(super) static LENGTH_FAULTS: [(&str, &[&[u8]]); 4] = [
+    ("unit_length not whole", &[&[1, 2, 3]]),
     (
         "unit_length of 64-bit DWARF",
-        "f0ffffff0500040024000000010101fb0e0d000101010100000001000001010108012f7300020108020b01612e\
-         63000000050200000100010204000101",
+        &[
+            &[0xf0, 0xff, 0xff, 0xff],
+            VERSION,
+            &[36, 0, 0, 0],
+            LINE_RANGE,
+            OPCODE_BASE,
+            DIRECTORY_FORMAT,
+            DIRECTORIES,
+            FILE_FORMAT,
+            FILES,
+            &[0, 5, DW_LNE_set_address, 0, 0, 1, 0],
+            &[DW_LNS_copy],
+            &[DW_LNS_advance_pc, 4],
+            &[0, 1, DW_LNE_end_sequence],
+        ],
     ),
     (
         "unit_length past the section",
-        "390000000500040024000000010101fb0e0d000101010100000001000001010108012f7300020108020b01612e\
-         630000000502000001000102040001",
+        &[
+            &[57, 0, 0, 0],
+            VERSION,
+            &[36, 0, 0, 0],
+            LINE_RANGE,
+            OPCODE_BASE,
+            DIRECTORY_FORMAT,
+            DIRECTORIES,
+            FILE_FORMAT,
+            FILES,
+            &[0, 5, DW_LNE_set_address, 0, 0, 1, 0],
+            &[DW_LNS_copy],
+            &[DW_LNS_advance_pc, 4],
+            &[0, 1],
+        ],
     ),
-    ("version not whole", "0100000005"),
+    ("version not whole", &[&[1, 0, 0, 0], &[5]]),
 ];
 
 /// A name, and the change of a byte of the header that is at fault.
@@ -30,56 +85,105 @@ pub(super) static HEADER_CHANGES: [(&str, &str); 6] = [
     ("the program past the end", "4=200"),
 ];
 
-/// A name, a header that is at fault, and `.debug_str` behind S.
-pub(super) static HEADER_FAULTS: [(&str, &str, &[u8]); 10] = [
+/// A name, fields after line_range of a header that is at fault, and `.debug_str` after S.
+pub(super) static HEADER_FAULTS: [(&str, &[&[u8]], &[u8]); 10] = [
     (
         "opcode_base 0",
-        "0500040018000000010101fb0e00010108012f7300020108020b01612e630000",
+        &[&[0], DIRECTORY_FORMAT, DIRECTORIES, FILE_FORMAT, FILES],
         b"",
     ),
     (
         "lengths past the table",
-        "0500040019000000010101fb0eff00010108012f7300020108020b01612e630000",
+        &[
+            &[0xff, 0],
+            DIRECTORY_FORMAT,
+            DIRECTORIES,
+            FILE_FORMAT,
+            FILES,
+        ],
         b"",
     ),
     (
         "a form that is none",
-        "0500040021000000010101fb0e0d00010101010000000100000101010200020108020b01612e630000",
+        &[
+            OPCODE_BASE,
+            &[1, DW_LNCT_path as u8, 2],
+            &[0],
+            FILE_FORMAT,
+            FILES,
+        ],
         b"",
     ),
     (
         "DW_FORM_indirect",
-        "0500040021000000010101fb0e0d00010101010000000100000101011600020108020b01612e630000",
+        &[
+            OPCODE_BASE,
+            &[1, DW_LNCT_path as u8, DW_FORM_indirect as u8],
+            &[0],
+            FILE_FORMAT,
+            FILES,
+        ],
         b"",
     ),
     (
         "DW_FORM_implicit_const",
-        "050004001d000000010101fb0e0d000101010100000001000001010108012f730001012100",
+        &[
+            OPCODE_BASE,
+            DIRECTORY_FORMAT,
+            DIRECTORIES,
+            &[1, DW_LNCT_path as u8, DW_FORM_implicit_const as u8],
+            &[0],
+        ],
         b"",
     ),
     (
         "DW_LNCT_path by a number",
-        "0500040022000000010101fb0e0d00010101010000000100000101010b0105020108020b01612e630000",
+        &[
+            OPCODE_BASE,
+            &[1, DW_LNCT_path as u8, DW_FORM_data1 as u8],
+            &[1, 5],
+            FILE_FORMAT,
+            FILES,
+        ],
         b"",
     ),
     (
         "DW_LNCT_path outside its section",
-        "0500040025000000010101fb0e0d00010101010000000100000101010e0109000000020108020b01612e630000",
+        &[
+            OPCODE_BASE,
+            &[1, DW_LNCT_path as u8, DW_FORM_strp as u8],
+            &[1, 9, 0, 0, 0],
+            FILE_FORMAT,
+            FILES,
+        ],
         b"S6100",
     ),
     (
         "DW_LNCT_path without end in its section",
-        "0500040025000000010101fb0e0d00010101010000000100000101011f0100000000020108020b01612e630000",
+        &[
+            OPCODE_BASE,
+            &[1, DW_LNCT_path as u8, DW_FORM_line_strp as u8],
+            &[1, 0, 0, 0, 0],
+            FILE_FORMAT,
+            FILES,
+        ],
         b"",
     ),
     (
         "DW_LNCT_directory_index by a text",
-        "0500040023000000010101fb0e0d000101010100000001000001010108012f730002010802080161006200",
+        &[
+            OPCODE_BASE,
+            DIRECTORY_FORMAT,
+            DIRECTORIES,
+            &[2, DW_LNCT_path as u8, DW_FORM_string as u8],
+            &[DW_LNCT_directory_index as u8, DW_FORM_string as u8],
+            b"\x01a\0b\0",
+        ],
         b"",
     ),
     (
         "more directories than bytes",
-        "050004001f000000010101fb0e0d000101010100000001000001007f020108020b01612e630000",
+        &[OPCODE_BASE, &[0], &[127], FILE_FORMAT, FILES],
         b"",
     ),
 ];

@@ -38,8 +38,9 @@ AreKept file home base items =
 abbrev pub end : Inst
 end = record { op = ops.Illegal; rd = 0; rs1 = 0; rs2 = 0; imm = 0 }
 
--- the words that are kept of one region, and behind them no instruction
-pub record IsCodeOf (file : List ℕ) (regions : List Segment) (home : Segment) (base : ℕ) (items : List Inst) : Type 0 where
+-- the words that are kept of one region, and after them no instruction
+pub record IsCodeOf
+    (file : List ℕ) (regions : List Segment) (home : Segment) (base : ℕ) (items : List Inst) : Type 0 where
   pub own : IsHome regions home
   pub aligned : base % 4 ≡ 0
   pub words : List Inst

@@ -25,7 +25,7 @@ spliced bytes offset source = take offset bytes ++ source ++ drop (offset + leng
 abbrev pub with_bytes : Paged → ℕ → List ℕ → Paged
 with_bytes page offset source = record { home = page.home; bytes = spliced page.bytes offset source }
 
--- blocks of 256 pages, and the bytes of all pages that were made, one page's behind another's
+-- blocks of 256 pages, and the bytes of all pages that were made, one page's after another's
 pub record PageStore : Type 0 where
   pub blocks : List (List Page)
   pub bytes : List ℕ
@@ -42,12 +42,12 @@ abbrev pub IsSetAt : List (List Page) → List (List Page) → ℕ → Page → 
 IsSetAt old new number page = (n : ℕ) → page_in new n ≡ (if n == number then page else page_in old n)
 
 -- the bytes of a page that begin there
-unfoldable pub bytes_from : List ℕ → Option ℕ → List ℕ
-bytes_from bytes None = []
-bytes_from bytes (Some start) = take (2 ^ 12) (drop start bytes)
+unfoldable pub stored_page : List ℕ → Option ℕ → List ℕ
+stored_page bytes None = []
+stored_page bytes (Some start) = take (2 ^ 12) (drop start bytes)
 
 abbrev pub paged_of : List ℕ → Page → Paged
-paged_of bytes page = record { home = page.home; bytes = bytes_from bytes page.start }
+paged_of bytes page = record { home = page.home; bytes = stored_page bytes page.start }
 
 abbrev pub paged_in : PageStore → ℕ → Paged
 paged_in store number = paged_of store.bytes (page_in store.blocks number)

@@ -68,7 +68,7 @@ pub record IsPaged (paged : PagedMemory) : Type 0 where
   pub intact : (at : ℕ) → may PF_W paged.regions at ≡ false
       → paged_byte paged at ≡ first_byte paged.file.now paged.regions at
 
--- the segment holds so many addresses from this one on
+-- the segment holds a given number of addresses from this one on
 abbrev pub covers_all : Segment → ℕ → ℕ → Bool
 covers_all segment at count = nat_le segment.start at && nat_le (at + count) segment.end
 

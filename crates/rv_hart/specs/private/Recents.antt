@@ -18,7 +18,7 @@ pub record Stands (page : Page) (base right at offset : ℕ) : Type 0 where
   pub begins : page.start ≡ Some start
   pub offset_is : offset ≡ start + (at - base)
 
--- so many addresses from the lowest on do
+-- a given number of addresses from the lowest on do
 pub record Serves (page : Page) (base right low count start : ℕ) : Type 0 where
   pub fits : low + count ≤ 2 ^ 32
   pub each : (k : ℕ) → k < count → Stands page base right (low + k) (start + k)
@@ -39,7 +39,7 @@ pub record KeepsPages (blocks : List (List Page)) (bytes : List ℕ) (recents : 
   pub single : (m n start : ℕ) → (page_in blocks m).start ≡ Some start → (page_in blocks n).start ≡ Some start → m ≡ n
   pub recent : All (IsRecent blocks) recents
 
--- so many bytes from an address on stand in its page, and lie in the page's region, which has the right
+-- a given number of bytes from an address on stand in its page, and lie in the page's region, which has the right
 pub record IsNear (page : Paged) (right at count : ℕ) : Type 0 where
   pub granted : has right page.home ≡ true
   pub low : page.home.start ≤ at

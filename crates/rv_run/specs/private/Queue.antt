@@ -8,16 +8,16 @@ use Rattle.rv_run.specs.State.{MachineState, hart_of, is_running}
 use Rattle.rv_run.specs.Run.{Instant, preceded, run_slice}
 use Rattle.rv_run.specs.Progress.{Progress, IsBetween, count_of_first, plain_count, retires_plainly}
 
--- slices of which the first has so many instructions
+-- slices of which the first has a given number of instructions
 abbrev pub with_left : ℕ → List Slice → List Slice
 with_left left [] = []
 with_left left (slice ∷ rest) = record slice { count = left } ∷ rest
 
--- the same slices, with so many instructions less in the first
+-- the same slices, with a given number of instructions less in the first
 abbrev pub less : ℕ → List Slice → List Slice
 less count slices = with_left (count_of_first slices - count) slices
 
--- slices of so many harts
+-- slices of a given number of harts
 abbrev pub AreOf : ℕ → List Slice → Type 0
 AreOf harts slices = All (λ slice. slice.hart < harts) slices
 
@@ -39,7 +39,7 @@ pub record IsReady (p : Progress) : Type 0 where
   pub room : HaveRoom p.state p.left
   pub stands : StandsAt p.state p.left
 
--- so many instructions of one hart were carried out, each of which retired by itself
+-- a given number of instructions of one hart were carried out, each of which retired by itself
 pub record Passing (hart many : ℕ) (old new : MachineState) : Type 0 where
   pub passed : List Instant
   pub long : length passed ≡ many

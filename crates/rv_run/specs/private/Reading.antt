@@ -1,7 +1,7 @@
 -- What is still to be read of a text, line by line.
 use Rattle.std.specs.Prelude.{ℕ, ◌+◌, List, [], ◌∷◌, length, Option, Some, None, option_map}
 use Rattle.rv_run.specs.declared.lines.Line.{Line}
-use Rattle.rv_run.specs.Schedule.{NumberedLine, numbered}
+use Rattle.rv_run.specs.Schedule.{NumberedLine, numbered_lines}
 
 -- how many lines were read, and the lines that were not
 pub record Unread : Type 0 where
@@ -10,7 +10,7 @@ pub record Unread : Type 0 where
 
 -- the lines that were not read, with their numbers
 abbrev pub to_read : Unread → List NumberedLine
-to_read unread = numbered (unread.done + 1) unread.rest
+to_read unread = numbered_lines (unread.done + 1) unread.rest
 
 -- how many lines there are
 abbrev pub all_lines : Unread → ℕ

@@ -1,21 +1,21 @@
--- The scopes at an address, by the part that holds it.
+-- The scopes at an address, by the interval that holds it.
 use Rattle.std.specs.Prelude.{ℕ, List, [], map, Option, Some, None, slice_get, unwrap_or}
 use Rattle.scope_types.specs.declared.scope.ProcId.{ProcId}
 use Rattle.scope_types.specs.declared.scope.ProcId.TheVariants.{Die}
 use Rattle.scope_types.specs.declared.scope.LineId.{LineId}
 use Rattle.elf_image.specs.Image.{ProgramImage}
 use Rattle.dwarf_inline.specs.Structure.{ProgramStructure}
-use Rattle.scope_find.specs.declared.parts.Part.{Part}
+use Rattle.scope_find.specs.declared.intervals.AddressInterval.{AddressInterval}
 use Rattle.scope_find.specs.Symbols.{procedure_by_symbol}
 use Rattle.scope_find.specs.Found.{inline_scope}
 use Rattle.scope_find.specs.private.Spans.{item_at}
 
-abbrev pub subprogram_of : Option Part → Option ℕ
+abbrev pub subprogram_of : Option AddressInterval → Option ℕ
 subprogram_of None = None
 subprogram_of (Some p) = p.subprogram
 
--- the numbers of the calls that are inlined in a part
-abbrev pub numbers_in : List (List ℕ) → Option Part → List ℕ
+-- the numbers of the calls that are inlined in an interval
+abbrev pub numbers_in : List (List ℕ) → Option AddressInterval → List ℕ
 numbers_in lists None = []
 numbers_in lists (Some p) = unwrap_or (slice_get lists p.inlines) []
 

@@ -2,7 +2,7 @@
 use Rattle.std.specs.Prelude.{◌≡◌, ◌≢◌, ◌⊎◌, ℕ, ◌+◌, ◌<◌, ◌≤◌, Bool, false, List, [], ◌∷◌, map, drop}
 use Rattle.std.specs.Prelude.{Option, Some, None, slice_get, slice_index_or}
 use Rattle.std.specs.List.{flat_map, Contains}
-use Rattle.dwarf_inline.specs.declared.item.Item.{Item}
+use Rattle.dwarf_inline.specs.declared.subroutine.Subroutine.{Subroutine}
 use Rattle.dwarf_inline.specs.Structure.{ProgramStructure}
 use Rattle.scope_find.specs.declared.span.Span.{Span}
 use Rattle.scope_find.specs.declared.span.Event.{Event}
@@ -12,7 +12,7 @@ use Rattle.scope_find.specs.Found.{Numbered, numbered, item_ranges, subprogram_a
 
 -- a range of an item that counts
 pub record IsSpan (s : ProgramStructure) (q : Span) : Type 0 where
-  pub item : Item
+  pub item : Subroutine
   pub there : slice_get s.items q.item ≡ Some item
   pub kind : q.inlined ≡ item.inlined
   pub counted : Contains (item_ranges s item) (q.start, q.end)
@@ -86,7 +86,7 @@ pub record IsFirstOpen (held : List Span) (inlined : Bool) (low number : ℕ) : 
 -- ---- the procedure at an address, and the calls inlined there
 
 pub record IsProcedure (s : ProgramStructure) (address number : ℕ) : Type 0 where
-  pub item : Item
+  pub item : Subroutine
   pub there : slice_get s.items number ≡ Some item
   pub found : subprogram_at s address ≡ Some (number, item)
 
@@ -95,29 +95,37 @@ abbrev pub IsProcedureAt : ProgramStructure → ℕ → Option ℕ → Type 0
 IsProcedureAt s address None = subprogram_at s address ≡ None
 IsProcedureAt s address (Some number) = IsProcedure s address number
 
-abbrev pub inlined_from : ProgramStructure → ℕ → ℕ → ℕ → List Item
+abbrev pub inlined_from : ProgramStructure → ℕ → ℕ → ℕ → List Subroutine
 inlined_from s address low end = inlined_before s address end (drop low (numbered s))
 
 pub record IsInlinedNext (s : ProgramStructure) (address low end number : ℕ) : Type 0 where
-  pub item : Item
+  pub item : Subroutine
   pub there : slice_get s.items number ≡ Some item
-  pub next : inlined_from s address low end ≡ item ∷ inlined_from s address (number + 1) item.after
+  pub next : inlined_from s address low end ≡ item ∷ inlined_from s address (number + 1) item.next_after_subtree
 
 -- the number is that of the first inlined subroutine at the address, of the items from `low` up to `end`
 abbrev pub IsNextInlined : ProgramStructure → ℕ → ℕ → ℕ → Option ℕ → Type 0
 IsNextInlined s address low end None = inlined_from s address low end ≡ []
 IsNextInlined s address low end (Some number) = IsInlinedNext s address low end number
 
-abbrev pub no_item : Item
-no_item = record { offset = 0; inlined = false; after = 0; identity = 0; call = None; first = 0; ranges = 0 }
+abbrev pub no_item : Subroutine
+no_item = record {
+  offset = 0;
+  inlined = false;
+  next_after_subtree = 0;
+  identity = 0;
+  call = None;
+  first_range = 0;
+  range_count = 0;
+}
 
-abbrev pub item_at : ProgramStructure → ℕ → Item
+abbrev pub item_at : ProgramStructure → ℕ → Subroutine
 item_at s number = slice_index_or s.items number no_item
 
 -- the items with these numbers
-abbrev pub items_at : ProgramStructure → List ℕ → List Item
+abbrev pub items_at : ProgramStructure → List ℕ → List Subroutine
 items_at s numbers = map (item_at s) numbers
 
 -- the calls that are inlined at an address into the subprogram with a number
-abbrev pub into_number : ProgramStructure → ℕ → ℕ → List Item
+abbrev pub into_number : ProgramStructure → ℕ → ℕ → List Subroutine
 into_number s address number = inlined_into s address (number, item_at s number)

@@ -4,7 +4,7 @@ use Rattle.std.specs.List.{flat_map}
 use Rattle.address_ranges.specs.declared.ranges.AddressRange.{AddressRange}
 use Rattle.address_ranges.specs.Ranges.{holds}
 use Rattle.elf_image.specs.Image.{FunctionSymbol}
-use Rattle.dwarf_inline.specs.declared.item.Item.{Item}
+use Rattle.dwarf_inline.specs.declared.subroutine.Subroutine.{Subroutine}
 use Rattle.dwarf_inline.specs.Structure.{ProgramStructure}
 use Rattle.scope_find.specs.Found.{item_ranges}
 use Rattle.struct_listing.specs.declared.symbols.CodeRange.{CodeRange}
@@ -17,7 +17,7 @@ abbrev pub code_range_of : CodeRange → AddressRange
 code_range_of r = record { start = r.start; end = r.end }
 
 -- what an item gives of the ranges of subprograms
-abbrev pub item_part : ProgramStructure → Item → List CodeRange
+abbrev pub item_part : ProgramStructure → Subroutine → List CodeRange
 item_part s item = if item.inlined then [] else map code_range (item_ranges s item)
 
 -- the ranges of all subprograms

@@ -2,7 +2,7 @@
 use Rattle.std.specs.Prelude.{◌≡◌, ℕ, ◌+◌, ◌-◌, ◌≤◌, nat_lt, List, [], ◌∷◌, ◌++◌, codes, count_by, drop, filter}
 use Rattle.std.specs.Prelude.{take, if◌then◌else◌}
 use Rattle.elf_image.specs.Image.{FunctionSymbol}
-use Rattle.dwarf_inline.specs.declared.item.Item.{Item}
+use Rattle.dwarf_inline.specs.declared.subroutine.Subroutine.{Subroutine}
 use Rattle.dwarf_inline.specs.Structure.{ProgramStructure}
 use Rattle.scope_find.specs.Found.{Numbered, ProgramScopes}
 use Rattle.struct_listing.specs.declared.program.Program.{Program}
@@ -32,10 +32,10 @@ symbol_part s function = if is_listed_symbol s function then symbol_line functio
 
 -- ---- the inlined subroutines that are open at an item, by the numbers at which they end
 
--- those that are open behind the item with a number
-abbrev pub opened_after : ℕ → Item → List ℕ → List ℕ
+-- those that are open after the item with a number
+abbrev pub opened_after : ℕ → Subroutine → List ℕ → List ℕ
 opened_after number item ends =
-    filter (λ end. nat_lt number end) ends ++ (if item.inlined then item.after ∷ [] else [])
+    filter (λ end. nat_lt number end) ends ++ (if item.inlined then item.next_after_subtree ∷ [] else [])
 
 -- from an item on, as many are open at each as of the items before
 abbrev pub AreOpenFrom : ProgramStructure → ℕ → ℕ → List ℕ → Type 0

@@ -18,8 +18,8 @@ IsPathAt raw [] index = ⊥
 IsPathAt raw (c ∷ counted) zero = same_raw raw c.path ≡ true
 IsPathAt raw (c ∷ counted) (suc index) = (same_raw raw c.path ≡ false) × IsPathAt raw counted index
 
--- what stands in counted paths of several harts: so many frames, which are few, and some in each path; few samples,
--- and some of each path
+-- what stands in counted paths of several harts: a given number of frames, which are few, and some in each path; few
+-- samples, and some of each path
 pub record FramesFit (tables : List (List Counted)) (frames : ℕ) : Type 0 where
   pub harts : length tables < 2 ^ 32
   pub is : frames ≡ frames_in tables

@@ -5,7 +5,7 @@ use Rattle.scope_types.specs.Distinct.{samples_in}
 use Rattle.scope_types.specs.Limits.{most_samples}
 use Rattle.thread_cct.specs.Plan.{plan_of}
 
--- the number of each hart's first path, where so many stand before
+-- the number of each hart's first path, where a given number stand before
 abbrev pub first_paths : ℕ → List (List Counted) → List ℕ
 first_paths before [] = []
 first_paths before (table ∷ tables) = before ∷ first_paths (before + length table) tables

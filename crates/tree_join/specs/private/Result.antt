@@ -11,7 +11,7 @@ use Rattle.tree_types.specs.Tree.{CountedTree, count_at, paths_in}
 use Rattle.path_trie.specs.Trie.{trie_node, nth_path, count_of}
 use Rattle.tree_join.specs.Join.{nodes_of_all}
 
--- the tree of these entries, for so many harts
+-- the tree of these entries, for a given number of harts
 pub record IsTreeOf (parts : List (List Entry)) (harts : ℕ) (tree : CountedTree) : Type 0 where
   pub harts_are : tree.harts ≡ harts
   pub nodes : tree.nodes ≡ map (trie_node (nodes_of_all parts)) (nodes_of_all parts)

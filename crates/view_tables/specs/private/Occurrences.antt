@@ -53,7 +53,7 @@ abbrev pub first_sequence : Sample → List Item
 first_sequence [] = []
 first_sequence (items ∷ sample) = items
 
--- the items of the first scope's frame, without so many of them
+-- the items of the first scope's frame, without a given number of them
 abbrev pub frame_items : View → Naming → Path → ℕ → List Item
 frame_items Callers naming scopes level = procs_up scopes
 frame_items Flat naming [] level = []

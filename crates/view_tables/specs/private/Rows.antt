@@ -15,7 +15,7 @@ use Rattle.tree_types.specs.Nodes.{nodes, no_parent, own_scope}
 use Rattle.tree_types.specs.Paths.{Path}
 use Rattle.tree_types.specs.PathsOf.{is_exclusive, paths_of}
 use Rattle.tree_types.specs.TopDown.{label, node_row, over_harts, percent, table_row}
-use Rattle.view_tables.specs.declared.row.Row.{Row}
+use Rattle.view_tables.specs.declared.row.TableRow.{TableRow}
 
 -- the value of an entry, if it is of this kind
 abbrev pub amount : Kind → ContextEntry → ℕ
@@ -50,7 +50,7 @@ abbrev pub total_value : Content → ℕ
 total_value c = c.period * length (paths_of c)
 
 -- what the row of a node shows
-abbrev pub shown_row : Content → ℕ → Row
+abbrev pub shown_row : Content → ℕ → TableRow
 shown_row c number = record {
   inclusive = over_harts c.period c.harts (paths_of c) (path_of_node c number) Inclusive;
   total = total_value c;
@@ -60,7 +60,7 @@ shown_row c number = record {
 }
 
 -- a row as text
-abbrev pub row_text : Names → Row → List ℕ
+abbrev pub row_text : Names → TableRow → List ℕ
 row_text names row = table_row (decimal row.inclusive) (percent row.inclusive row.total) (decimal row.frame) row.level
     (label (naming_in names) row.scope)
 

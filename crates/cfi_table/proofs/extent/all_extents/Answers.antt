@@ -1,7 +1,7 @@
 use Rattle.std.proofs.Common.{◌≡◌, ℕ, [], ◌∷◌, ◌++◌, Some, ap, ap₂, ◌∙◌, arith}
 use Rattle.cfi_table.specs.declared.fault.FrameFault.{FrameFault}
 use Rattle.prof_bytes.specs.Fields.{Input}
-use Rattle.cfi_table.specs.Rules.{instruction_fault}
+use Rattle.cfi_table.specs.Rules.{fault_here}
 use Rattle.cfi_table.proofs.Chains.{marked, entry_between, part_read, part_fault, shorter, passes_over, goes_on, stops, ends_zero, ends}
 use Rattle.cfi_table.proofs.extent.all_extents.Goals as goal
 
@@ -13,7 +13,7 @@ returns-in_default-clause-extents c =
     let here = marked_is c.loop-reader.reader c.set_missing.new.self c.offset.result c.set_missing.ensures c.offset.ensures.stands in
     let is = part_fault c.loop-reader.reader c.set_missing.new.self c.part.new.self c.in_default.field-0 c.part.result here c.part.ensures c.in_default.is in
     ap (λ (n : ℕ). (c.loop-reader.extents.items, Some (record { offset = n }))) c.offset.ensures.stands
-    ∙ stops c.args.zero_length c.args.section.now c.loop-reader.reader (instruction_fault c.loop-reader.reader) c.loop-reader.extents.items (let lt = c.loop-reader-test.true in omega arith) is c.loop-reader.invariant
+    ∙ stops c.args.zero_length c.args.section.now c.loop-reader.reader (fault_here c.loop-reader.reader) c.loop-reader.extents.items (let lt = c.loop-reader-test.true in omega arith) is c.loop-reader.invariant
 
 pub loop-reader-preserved-in-Continue-1 : goal.loop-reader-preserved-in-Continue-1
 loop-reader-preserved-in-Continue-1 c =

@@ -7,4 +7,4 @@ use Rattle.dwarf_info.proofs.info.add_entries.Goals as goal
 
 pub returns-then-offset-bytes : goal.returns-then-offset-bytes
 returns-then-offset-bytes c =
-    sym (ap (λ (es : List InfoEntry). c.args.entries.now.items ++ es) (none_past (sections_of c.args.sections.now) c.args.bases.now c.front-bytes.result.now c.front-bytes.ensures c.if-offset-bytes.true) ∙ append-nil c.args.entries.now.items)
+    sym (ap (λ (es : List InfoEntry). c.args.entries.now.items ++ es) (none_past (sections_of c.args.sections.now) c.args.context.now c.bytes_before-bytes.result.now c.bytes_before-bytes.ensures c.if-offset-bytes.true) ∙ append-nil c.args.entries.now.items)

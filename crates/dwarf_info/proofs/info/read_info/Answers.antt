@@ -8,9 +8,9 @@ use Rattle.dwarf_info.proofs.info.read_info.Goals as goal
 pub invariant_of-result : goal.invariant_of-result
 invariant_of-result c = record {
   shown = c.in_ok-units.ensures ∙ ap (map unit_of) c.as_slice.ensures.value;
-  are = c.in_ok-bases.ensures.are;
-  have = c.in_ok-bases.ensures.have;
-  indexed = subst (λ (os : List ℕ). AreIndexed (sections_of c.args.sections) c.in_ok-bases.bases.items os c.read_units.new.firsts.items) (sym c.in_ok-offsets.ensures) c.in_ok-bases.ensures.indexed;
+  are = c.in_ok-contexts.ensures.are;
+  have = c.in_ok-contexts.ensures.have;
+  indexed = subst (λ (os : List ℕ). AreIndexed (sections_of c.args.sections) c.in_ok-contexts.contexts.items os c.read_units.new.firsts.items) (sym c.in_ok-offsets.ensures) c.in_ok-contexts.ensures.indexed;
   few =
       let marked = set_few 0 c.starts.inside.flags.items in
       let few = c.starts.invariant.few in

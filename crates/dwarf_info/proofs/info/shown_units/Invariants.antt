@@ -3,4 +3,4 @@ use Rattle.dwarf_info.specs.Units.{unit_of}
 use Rattle.dwarf_info.proofs.info.shown_units.Given as goal
 
 abbrev pub invariant-loop-unit : goal.invariant-loop-unit
-invariant-loop-unit l = l.units.items ≡ map unit_of (take l.unit-index l.bases)
+invariant-loop-unit l = l.units.items ≡ map unit_of (take l.unit-index l.contexts)

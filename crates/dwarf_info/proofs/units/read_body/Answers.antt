@@ -8,13 +8,13 @@ use Rattle.dwarf_info.proofs.units.read_body.Goals as goal
 
 pub returns-clause-read : goal.returns-clause-read
 returns-clause-read c =
-    (body_is (sections_of c.args.sections.now) c.args.«unit».0 c.args.«unit».1 c.args.table.now c.args.body.now c.in_ok-offset.offset c.args.starts.now.offsets c.mark_entries.new.starts.offsets c.unit_bases.result
-    c.requires.stands c.requires.known c.in_ok-offset.ensures.entries c.unit_bases.ensures).0
+    (body_is (sections_of c.args.sections.now) c.args.«unit».0 c.args.«unit».1 c.args.table.now c.args.body.now c.in_ok-offset.offset c.args.starts.now.offsets c.mark_entries.new.starts.offsets c.unit_context.result
+    c.requires.stands c.requires.known c.in_ok-offset.ensures.entries c.unit_context.ensures).0
 
 pub returns-clause-marked : goal.returns-clause-marked
 returns-clause-marked c =
-    (body_is (sections_of c.args.sections.now) c.args.«unit».0 c.args.«unit».1 c.args.table.now c.args.body.now c.in_ok-offset.offset c.args.starts.now.offsets c.mark_entries.new.starts.offsets c.unit_bases.result
-    c.requires.stands c.requires.known c.in_ok-offset.ensures.entries c.unit_bases.ensures).1
+    (body_is (sections_of c.args.sections.now) c.args.«unit».0 c.args.«unit».1 c.args.table.now c.args.body.now c.in_ok-offset.offset c.args.starts.now.offsets c.mark_entries.new.starts.offsets c.unit_context.result
+    c.requires.stands c.requires.known c.in_ok-offset.ensures.entries c.unit_context.ensures).1
 
 pub returns-clause-end : goal.returns-clause-end
 returns-clause-end c = λ bound old new.

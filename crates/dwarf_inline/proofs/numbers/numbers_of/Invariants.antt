@@ -1,5 +1,5 @@
 use Rattle.std.proofs.Common.{take}
-use Rattle.dwarf_inline.specs.private.Parts.{AreNumbers}
+use Rattle.dwarf_inline.specs.private.Numbers.{AreNumbers}
 use Rattle.dwarf_inline.proofs.numbers.numbers_of.Given as goal
 
 abbrev pub invariant-loop-number : goal.invariant-loop-number

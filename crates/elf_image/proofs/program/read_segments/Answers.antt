@@ -1,8 +1,8 @@
 use Rattle.std.proofs.Common.{◌≡◌, Ok, ap, refl, sym, ◌∙◌}
 use Rattle.elf_image.specs.declared.fault.ElfRule.TheVariants.{SegmentPlace}
-use Rattle.elf_image.specs.Headers.{loads, segments}
+use Rattle.elf_image.specs.Headers.{load_headers, segments}
 use Rattle.elf_image.specs.Refusals.{shared}
-use Rattle.elf_image.specs.Reading.{refused_at, segments_of}
+use Rattle.elf_image.specs.Reading.{refused_at, checked_all_segments}
 use Rattle.elf_image.proofs.LoadHeaders.{loads_low, loads_take, loads_in_order, segments_few, both_checked, segments_are, all_within, all_apart}
 use Rattle.elf_image.proofs.program.read_segments.Goals as goal
 
@@ -19,9 +19,9 @@ pub shared-requires-clause-ascending : goal.shared-requires-clause-ascending
 shared-requires-clause-ascending c = rw (c.deref-3.ensures.value, c.in_ok-headers.ensures) (loads_in_order c.args.file.now)
 
 -- nothing was refused
-checked : (c : goal.After-drop-headers-2) → segments_of c.args.file.now ≡ Ok tt
+checked : (c : goal.After-drop-headers-2) → checked_all_segments c.args.file.now ≡ Ok tt
 checked c =
-    let is : c.shared.result ≡ shared (loads c.args.file.now) = c.shared.ensures ∙ rw (c.deref-3.ensures.value, c.in_ok-headers.ensures) refl in
+    let is : c.shared.result ≡ shared (load_headers c.args.file.now) = c.shared.ensures ∙ rw (c.deref-3.ensures.value, c.in_ok-headers.ensures) refl in
     both_checked c.args.file.now c.in_ok-check_each.ensures (sym (ap (refused_at SegmentPlace) is) ∙ c.in_ok-refuse.ensures)
 
 -- what was made

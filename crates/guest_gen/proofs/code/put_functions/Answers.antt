@@ -1,6 +1,6 @@
 use Rattle.std.proofs.Common.{List, ℕ, ◌++◌, ◌∙◌, ap, refl, ◌*◌, append-nil, arith, sym}
 use Rattle.guest_gen.specs.Code.{function_bytes, functions_bytes}
-use Rattle.guest_gen.specs.Draws.{state_after}
+use Rattle.guest_gen.specs.Draws.{draw_state}
 use Rattle.guest_gen.proofs.Loops.{put_all, put_more}
 use Rattle.guest_gen.proofs.Steps.{function_at}
 use Rattle.guest_gen.proofs.Turns.{turns_more}
@@ -14,12 +14,12 @@ loop-number-preserved c =
     record {
       code = put_more (function_bytes start) c.args.out.now.items c.loop-number.out.items _ i c.loop-number.invariant.code
           (c.in_ok-put_function.ensures.code ∙ ap (λ (l : List ℕ). c.loop-number.out.items ++ l) (function_at start c.loop-number.draws.state i c.loop-number.invariant.state));
-      state = c.in_ok-put_function.ensures.state ∙ ap (state_after 3) c.loop-number.invariant.state ∙ turns_more 3 i start;
+      state = c.in_ok-put_function.ensures.state ∙ ap (draw_state 3) c.loop-number.invariant.state ∙ turns_more 3 i start;
       few = omega (arith, test);
     }
 
 pub loop-number-init : goal.loop-number-init
-unfolding state_after
+unfolding draw_state
 loop-number-init c = record { code = sym (append-nil c.args.out.now.items); state = refl; few = omega arith }
 
 pub returns-clause-code : goal.returns-clause-code
@@ -30,4 +30,4 @@ pub returns-clause-state : goal.returns-clause-state
 returns-clause-state c =
     let few = c.loop-number.invariant.few in
     let done = c.loop-number-test.false in
-    c.loop-number.invariant.state ∙ ap (λ (n : ℕ). state_after (3 * n) c.args.draws.now.state) (omega (arith, few, done))
+    c.loop-number.invariant.state ∙ ap (λ (n : ℕ). draw_state (3 * n) c.args.draws.now.state) (omega (arith, few, done))

@@ -1,5 +1,5 @@
 use Rattle.std.proofs.Common.{List, ℕ, ◌++◌, ◌∙◌, ap, refl, append-nil, arith, sym}
-use Rattle.guest_gen.specs.Draws.{state_after}
+use Rattle.guest_gen.specs.Draws.{draw_state}
 use Rattle.guest_gen.specs.Guest.{slice_line, slice_lines}
 use Rattle.guest_gen.proofs.Loops.{put_all, put_more}
 use Rattle.guest_gen.proofs.Steps.{line_at}
@@ -14,12 +14,12 @@ loop-preserved c =
     record {
       lines = put_more (slice_line start) c.args.out.now.items c.loop.out.items _ i c.loop.invariant.lines
           (c.in_ok-put_slice.ensures.line ∙ ap (λ (l : List ℕ). c.loop.out.items ++ l) (line_at start c.loop.draws.state i c.loop.invariant.state));
-      state = c.in_ok-put_slice.ensures.state ∙ ap (state_after 2) c.loop.invariant.state ∙ turns_more 2 i start;
+      state = c.in_ok-put_slice.ensures.state ∙ ap (draw_state 2) c.loop.invariant.state ∙ turns_more 2 i start;
       few = omega (arith, test);
     }
 
 pub loop-init : goal.loop-init
-unfolding state_after
+unfolding draw_state
 loop-init c = record { lines = sym (append-nil c.args.out.now.items); state = refl; few = omega arith }
 
 pub returns : goal.returns

@@ -2,15 +2,15 @@ use Rattle.std.proofs.Common.{rules, ◌≡◌, Err, List, [], ◌∷◌, length
 use Rattle.std.proofs.lemmas.List.{length-append}
 use Rattle.prof_bytes.specs.Repeated.{adding, times}
 use Rattle.scope_types.specs.declared.frame.Frame.{Frame}
-use Rattle.measure_file.specs.Reading.{frame_from}
+use Rattle.measure_file.specs.Reading.{measured_frame_from}
 use Rattle.prof_bytes.proofs.Repeated.{added, ends, fails_at, goes_on, not_added}
 use Rattle.measure_file.proofs.fields.read_frames.Goals as goal
 
 pub returns-in_err-frame-clause-read : goal.returns-in_err-frame-clause-read
 returns-in_err-frame-clause-read c =
-    let failed : times (adding frame_from) c.args.count 0 [] c.args.cursor.now ≡ Err c.in_err-frame.field-0.0 =
-    fails_at c.in_err-frame.field-0.0 (adding frame_from) c.args.count c.loop.counter c.loop.frames.items c.loop.cursor _ c.loop-test.true
-    (not_added frame_from c.loop.counter c.loop.frames.items c.loop.cursor c.in_err-frame.field-0.0 c.in_err-frame.ensures) c.loop.invariant.read in
+    let failed : times (adding measured_frame_from) c.args.count 0 [] c.args.cursor.now ≡ Err c.in_err-frame.field-0.0 =
+    fails_at c.in_err-frame.field-0.0 (adding measured_frame_from) c.args.count c.loop.counter c.loop.frames.items c.loop.cursor _ c.loop-test.true
+    (not_added measured_frame_from c.loop.counter c.loop.frames.items c.loop.cursor c.in_err-frame.field-0.0 c.in_err-frame.ensures) c.loop.invariant.read in
     search rules
 
 pub loop-preserved : goal.loop-preserved
@@ -19,10 +19,10 @@ loop-preserved c =
     let parts = length-append c.loop.frames.items (c.in_ok-frame.frame ∷ []) in
     let many = c.loop.invariant.many in
     record {
-      read = goes_on (adding frame_from) c.args.count c.loop.counter c.loop.frames.items c.push.new.self.items c.loop.cursor c.read_frame.new.cursor _ c.loop-test.true
-          (added frame_from c.loop.counter c.loop.frames.items c.push.new.self.items c.loop.cursor c.read_frame.new.cursor c.in_ok-frame.frame c.in_ok-push.ensures.items c.in_ok-frame.ensures) c.loop.invariant.read;
+      read = goes_on (adding measured_frame_from) c.args.count c.loop.counter c.loop.frames.items c.push.new.self.items c.loop.cursor c.read_frame.new.cursor _ c.loop-test.true
+          (added measured_frame_from c.loop.counter c.loop.frames.items c.push.new.self.items c.loop.cursor c.read_frame.new.cursor c.in_ok-frame.frame c.in_ok-push.ensures.items c.in_ok-frame.ensures) c.loop.invariant.read;
       many = omega (arith, long, parts, many);
     }
 
 pub returns-clause-read : goal.returns-clause-read
-returns-clause-read c = ends (adding frame_from) c.args.count c.loop.counter c.loop.frames.items c.loop.cursor _ c.loop-test.false c.loop.invariant.read
+returns-clause-read c = ends (adding measured_frame_from) c.args.count c.loop.counter c.loop.frames.items c.loop.cursor _ c.loop-test.false c.loop.invariant.read

@@ -3,4 +3,4 @@ use Rattle.metric_sums.specs.private.Walking.{At}
 use Rattle.metric_sums.proofs.walk.sums.Given as goal
 
 abbrev pub invariant-loop-done : goal.invariant-loop-done
-invariant-loop-done l = At l.period l.tree (l.nodes - l.done) l.walk.line.items l.walk.left l.walk.out.items
+invariant-loop-done l = At l.period l.tree (l.nodes - l.done) l.walk.ancestors.items l.walk.left l.walk.out.items

@@ -1,12 +1,12 @@
 use Rattle.std.proofs.Common.{ℕ, option_map, sym, ap, ◌∙◌}
 use Rattle.rv_table.specs.Fields.{sign_extended}
 use Rattle.rv_table.specs.declared.inst.Op.{Op}
-use Rattle.rv_hart.specs.Arithmetic.{sum}
+use Rattle.prof_bytes.specs.Number.{word_sum}
 use Rattle.rv_hart.specs.private.Paging.{memory_of, word_address}
 use Rattle.rv_hart.specs.Step.{state, computes, executed}
 use Rattle.rv_hart.proofs.Going.{going, going-not, going-store}
 use Rattle.rv_hart.proofs.Loads.{loads-kept}
-use Rattle.rv_hart.specs.declared.execute.Went.TheVariants as went
+use Rattle.rv_hart.specs.declared.execute.Continuation.TheVariants as continuation
 use Rattle.rv_hart.specs.declared.outcome.Stepped.TheVariants as stepped
 use Rattle.rv_hart.proofs.execute.carry_out.Goals as goal
 
@@ -17,7 +17,7 @@ returns-in-Lui-clause-ok c =
 pub returns-in-Auipc-clause-ok : goal.returns-in-Auipc-clause-ok
 returns-in-Auipc-clause-ok c =
     c.write_back-in-Auipc.ensures.ends c.args.base (memory_of c.args.paged.now)
-    ∙ ap (λ (pc : ℕ). computes c.args.inst.now (sum pc c.args.inst.now.imm) (state (word_address c.args.base c.args.index.now) c.args.hart.now.regs (memory_of c.args.paged.now))) c.pc_of.ensures
+    ∙ ap (λ (pc : ℕ). computes c.args.inst.now (word_sum pc c.args.inst.now.imm) (state (word_address c.args.base c.args.index.now) c.args.hart.now.regs (memory_of c.args.paged.now))) c.pc_of.ensures
     ∙ ap (λ (op : Op). executed op c.args.inst.now (state (word_address c.args.base c.args.index.now) c.args.hart.now.regs (memory_of c.args.paged.now))) (sym c.in-Auipc.is)
 
 pub returns-in-Fence-clause-ok : goal.returns-in-Fence-clause-ok
@@ -223,10 +223,10 @@ pub returns-in-Fence-clause-goes : goal.returns-in-Fence-clause-goes
 returns-in-Fence-clause-goes c = going c.args.count c.args.index.now c.go_on.new.index c.go_on.result c.in-Fence.is (λ e. absurd cc) (c.go_on.ensures.goes c.args.count)
 
 pub returns-in-Ecall-clause-goes : goal.returns-in-Ecall-clause-goes
-returns-in-Ecall-clause-goes c = going c.args.count c.args.index.now c.args.index.now (went.Stopped stepped.Ecall) c.in-Ecall.is (λ e. absurd cc) (λ e. absurd cc, λ e. absurd cc)
+returns-in-Ecall-clause-goes c = going c.args.count c.args.index.now c.args.index.now (continuation.Stopped stepped.Ecall) c.in-Ecall.is (λ e. absurd cc) (λ e. absurd cc, λ e. absurd cc)
 
 pub returns-in-Ebreak-clause-goes : goal.returns-in-Ebreak-clause-goes
-returns-in-Ebreak-clause-goes c = going c.args.count c.args.index.now c.args.index.now (went.Stopped stepped.Break) c.in-Ebreak.is (λ e. absurd cc) (λ e. absurd cc, λ e. absurd cc)
+returns-in-Ebreak-clause-goes c = going c.args.count c.args.index.now c.args.index.now (continuation.Stopped stepped.Break) c.in-Ebreak.is (λ e. absurd cc) (λ e. absurd cc, λ e. absurd cc)
 
 pub returns-in-Addi-clause-goes : goal.returns-in-Addi-clause-goes
 returns-in-Addi-clause-goes c = going c.args.count c.args.index.now c.operate.new.index c.operate.result c.in-Addi.is (λ e. absurd cc) (c.operate.ensures.goes c.args.count)

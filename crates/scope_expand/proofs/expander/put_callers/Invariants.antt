@@ -1,12 +1,12 @@
 use Rattle.std.proofs.Common.{◌≡◌, ◌++◌, map, Bor}
-use Rattle.scope_expand.specs.Kept.{Fits}
+use Rattle.scope_expand.specs.Kept.{MemoFits}
 use Rattle.scope_types.specs.declared.frame.Frame.{Frame}
 use Rattle.scope_expand.specs.private.Frames.{caller_scopes}
 use Rattle.scope_expand.proofs.expander.put_callers.Given as goal
 
 abbrev pub invariant-loop-caller : goal.invariant-loop-caller
 invariant-loop-caller l = record {
-  memo : Fits l.fn.finder l.memo;
+  memo : MemoFits l.fn.finder l.memo;
   scopes : l.scopes.items ≡ l.fn.scopes.items ++ caller_scopes l.fn.finder (map (λ (b : Bor Frame). b.now) l.yielded);
   next : (goal.iterator-loop-caller).can_next l.caller-iterator;
   finite : (goal.iterator-loop-caller).is_finite l.caller-iterator;

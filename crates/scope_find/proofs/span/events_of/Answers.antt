@@ -7,7 +7,7 @@ use Rattle.scope_find.proofs.span.events_of.Goals as goal
 
 pub loop-number-preserved : goal.loop-number-preserved
 loop-number-preserved c =
-    item_put c.args.structure.now c.loop-number.number c.item.result c.loop-number.events.items c.put_item.new.events.items c.item.ensures c.loop-number.invariant c.in_ok-put_item.ensures
+    item_put c.args.structure.now c.loop-number.number c.subroutine.result c.loop-number.events.items c.put_item.new.events.items c.subroutine.ensures c.loop-number.invariant c.in_ok-put_item.ensures
 
 pub returns-clause-events : goal.returns-clause-events
 returns-clause-events c =

@@ -11,21 +11,21 @@ loop-number-init c = record {
 
 pub put_below-requires-clause-level : goal.put_below-requires-clause-level
 put_below-requires-clause-level c = λ inlined.
-    let is : c.open_item.new.ends.items ≡ opened_after c.loop-number.number c.item-below.result c.loop-number.ends.items =
-    c.in_ok-open_item.ensures ∙ ap (λ (es : List ℕ). es ++ cond c.item-below.result.inlined (c.item-below.result.after ∷ []) []) c.close_ended.ensures in
+    let is : c.open_item.new.ends.items ≡ opened_after c.loop-number.number c.subroutine-below.result c.loop-number.ends.items =
+    c.in_ok-open_item.ensures ∙ ap (λ (es : List ℕ). es ++ cond c.subroutine-below.result.inlined (c.subroutine-below.result.next_after_subtree ∷ []) []) c.close_ended.ensures in
     c.len-level.ensures ∙ c.open_item.new.ends.ok.0
-    ∙ level_is c.args.program.structure.now c.args.subprogram c.loop-number.number c.item-below.result c.loop-number.ends.items c.open_item.new.ends.items
-    c.requires.whole (omega arith) c.item-below.ensures c.loop-number.invariant.open_ends is inlined
+    ∙ level_is c.args.program.structure.now c.args.subprogram c.loop-number.number c.subroutine-below.result c.loop-number.ends.items c.open_item.new.ends.items
+    c.requires.whole (omega arith) c.subroutine-below.ensures c.loop-number.invariant.open_ends is inlined
 
 pub loop-number-preserved : goal.loop-number-preserved
 loop-number-preserved c =
-    let is : c.open_item.new.ends.items ≡ opened_after c.loop-number.number c.item-below.result c.loop-number.ends.items =
-    c.in_ok-open_item.ensures ∙ ap (λ (es : List ℕ). es ++ cond c.item-below.result.inlined (c.item-below.result.after ∷ []) []) c.close_ended.ensures in
+    let is : c.open_item.new.ends.items ≡ opened_after c.loop-number.number c.subroutine-below.result c.loop-number.ends.items =
+    c.in_ok-open_item.ensures ∙ ap (λ (es : List ℕ). es ++ cond c.subroutine-below.result.inlined (c.subroutine-below.result.next_after_subtree ∷ []) []) c.close_ended.ensures in
     record {
-      open_ends = open_more c.args.program.structure.now c.args.subprogram c.loop-number.number c.item-below.result c.loop-number.ends.items c.open_item.new.ends.items
-          (omega arith) c.item-below.ensures c.loop-number.invariant.open_ends is;
-      lines = lines_more (scopes_of c.args.program) c.args.subprogram c.loop-number.number c.item-below.result c.args.out.now.items c.loop-number.out.items c.put_below.new.out.items
-          (omega arith) c.item-below.ensures c.loop-number.invariant.lines c.in_ok-put_below.ensures;
+      open_ends = open_more c.args.program.structure.now c.args.subprogram c.loop-number.number c.subroutine-below.result c.loop-number.ends.items c.open_item.new.ends.items
+          (omega arith) c.subroutine-below.ensures c.loop-number.invariant.open_ends is;
+      lines = lines_more (scopes_of c.args.program) c.args.subprogram c.loop-number.number c.subroutine-below.result c.args.out.now.items c.loop-number.out.items c.put_below.new.out.items
+          (omega arith) c.subroutine-below.ensures c.loop-number.invariant.lines c.in_ok-put_below.ensures;
     }
 
 pub returns : goal.returns

@@ -5,8 +5,8 @@ use Rattle.struct_listing.proofs.subprograms.put_subprograms.Goals as goal
 
 pub loop-number-preserved : goal.loop-number-preserved
 loop-number-preserved c =
-    subprogram_more (scopes_of c.args.program) c.loop-number.number c.item-item.result c.args.out.now.items c.loop-number.out.items c.put_subprogram.new.out.items
-    c.item-item.ensures c.loop-number.invariant c.in_ok-put_subprogram.ensures
+    subprogram_more (scopes_of c.args.program) c.loop-number.number c.subroutine-item.result c.args.out.now.items c.loop-number.out.items c.put_subprogram.new.out.items
+    c.subroutine-item.ensures c.loop-number.invariant c.in_ok-put_subprogram.ensures
 
 pub returns : goal.returns
 returns c =

@@ -4,5 +4,5 @@ use Rattle.dwarf_info.specs.Units.{entries_in}
 use Rattle.dwarf_info.specs.Sections.{sections_of}
 use Rattle.dwarf_info.proofs.info.Info.entries.Given as goal
 
-abbrev pub invariant-loop-bases : goal.invariant-loop-bases
-invariant-loop-bases l = l.entries.items ≡ flat_map (entries_in (sections_of l.self-inside.sections)) (take l.bases-index l.bases-items)
+abbrev pub invariant-loop-context : goal.invariant-loop-context
+invariant-loop-context l = l.entries.items ≡ flat_map (entries_in (sections_of l.self-inside.sections)) (take l.context-index l.context-items)

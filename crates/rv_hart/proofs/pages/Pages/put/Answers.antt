@@ -1,6 +1,6 @@
 use Rattle.std.proofs.Common.{◌≡◌, ℕ, ◌/◌, ◌%◌, ◌^◌, length, Option, sym, ap, ◌∙◌, arith}
 use Rattle.rv_hart.specs.declared.page.Page.{Page}
-use Rattle.rv_hart.specs.private.Pages.{paged_in, bytes_from}
+use Rattle.rv_hart.specs.private.Pages.{paged_in, stored_page}
 use Rattle.rv_hart.proofs.PageBytes.{store-put, keeps-put, begins, Begins}
 use Rattle.rv_hart.proofs.pages.Pages.put.Goals as goal
 
@@ -25,10 +25,10 @@ returns-in-Some c =
     store-put c.args.self.now c.self.inside.blocks.items c.self.inside.bytes.items c.splice.new.bytes.items c.self.inside.recent (c.args.at / 2 ^ 12) c.in-Some.start (c.args.at % 2 ^ 12) c.args.source.now c.self.invariant c.self.view_is own.begins own.inside c.splice.ensures
 
 pub returns-in-None : goal.returns-in-None
-unfolding bytes_from
+unfolding stored_page
 returns-in-None c n =
     let within = c.requires.within in
     let some = c.requires.some in
     let none : length (paged_in c.args.self.now (c.args.at / 2 ^ 12)).bytes ≡ 0 =
-    ap (λ (p : Page). length (bytes_from c.args.self.now.bytes p.start)) (sym c.page.ensures) ∙ ap (λ (o : Option ℕ). length (bytes_from c.args.self.now.bytes o)) c.in-None.is in
+    ap (λ (p : Page). length (stored_page c.args.self.now.bytes p.start)) (sym c.page.ensures) ∙ ap (λ (o : Option ℕ). length (stored_page c.args.self.now.bytes o)) c.in-None.is in
     absurd (omega (arith, none, within, some))

@@ -5,7 +5,7 @@ use Rattle.rv_hart.specs.declared.decoded_code.DecodedCode.{DecodedCode}
 use Rattle.rv_hart.specs.declared.paged_memory.PagedMemory.{PagedMemory}
 use Rattle.rv_hart.specs.AddressSpace.{AddressSpace, each_address, first_byte, regions_of, stack_of}
 use Rattle.rv_hart.specs.private.Decoding.{AreCode}
-use Rattle.rv_hart.specs.private.Pages.{nowhere, PageStore, bytes_from}
+use Rattle.rv_hart.specs.private.Pages.{nowhere, PageStore, stored_page}
 use Rattle.rv_hart.specs.private.Paging.{IsPaged, IsHome, memory_of}
 use Rattle.rv_hart.proofs.Apart.{of-paged}
 use Rattle.rv_hart.proofs.space.Space.of.Goals as goal
@@ -33,7 +33,7 @@ invariant_of-result c =
     }
 
 pub returns : goal.returns
-unfolding bytes_from
+unfolding stored_page
 returns c =
     let regions : c.in_ok-of.field-0 ≡ regions_of c.args.image.now c.args.harts =
     c.in_ok-of.ensures ∙ c.in_ok-listed.ensures ∙ ap (λ (s : List Segment). s ++ map stack_of (range_with_len 0 c.args.harts)) c.segments.ensures.value in

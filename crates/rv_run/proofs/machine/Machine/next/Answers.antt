@@ -1,6 +1,6 @@
 use Rattle.std.proofs.Common.{◌<◌, ℕ, List, length, sym, ap, subst, ◌∙◌}
 use Rattle.rv_run.specs.declared.schedule.Slice.{Slice}
-use Rattle.rv_run.specs.Progress.{Progress, WentOn, Counts, first_due, to_come}
+use Rattle.rv_run.specs.Progress.{Progress, WentOn, CountsRetired, first_due, to_come}
 use Rattle.rv_run.specs.private.Queue.{less, AreOf, HaveRoom}
 use Rattle.rv_run.proofs.Counting.{counts-of}
 use Rattle.rv_run.proofs.Slices.{IsDue, due-is, room-for, less-are-of, room-less, went-on}
@@ -21,14 +21,14 @@ take_off-requires c =
 pub skip_idle-requires : goal.skip_idle-requires
 skip_idle-requires c =
     let within : c.in-Some.due.hart < length c.self.inside.environment.harts = subst (λ (p : Progress). c.in-Some.due.hart < length p.state.harts) (sym c.self.view_is) c.in-Some.ensures.hart in
-    let counts : Counts c.in-Some.due.hart c.in_ok-retired.retired c.self.inside.environment c.act.new.self = counts-of c.in-Some.due.hart c.self.inside.environment c.act.new.self c.in_ok-retired.retired c.in_ok-retired.ensures.ok within in
+    let counts : CountsRetired c.in-Some.due.hart c.in_ok-retired.retired c.self.inside.environment c.act.new.self = counts-of c.in-Some.due.hart c.self.inside.environment c.act.new.self c.in_ok-retired.retired c.in_ok-retired.ensures.ok within in
     subst (λ (l : List Slice). AreOf (length c.act.new.self.harts) l) (sym c.take_off.ensures)
     (subst (λ (n : ℕ). AreOf n (less 1 c.self.inside.queue)) (sym counts.harts) (less-are-of (length c.self.inside.environment.harts) 1 c.self.inside.queue c.self.invariant.harts))
 
 pub invariant_of-self-2 : goal.invariant_of-self-2
 invariant_of-self-2 c =
     let within : c.in-Some.due.hart < length c.self.inside.environment.harts = subst (λ (p : Progress). c.in-Some.due.hart < length p.state.harts) (sym c.self.view_is) c.in-Some.ensures.hart in
-    let counts : Counts c.in-Some.due.hart c.in_ok-retired.retired c.self.inside.environment c.act.new.self = counts-of c.in-Some.due.hart c.self.inside.environment c.act.new.self c.in_ok-retired.retired c.in_ok-retired.ensures.ok within in
+    let counts : CountsRetired c.in-Some.due.hart c.in_ok-retired.retired c.self.inside.environment c.act.new.self = counts-of c.in-Some.due.hart c.self.inside.environment c.act.new.self c.in_ok-retired.retired c.in_ok-retired.ensures.ok within in
     let due : IsDue c.self.inside.environment c.self.inside.queue c.in-Some.due =
     due-is c.self.inside.environment c.self.inside.queue c.in-Some.due c.self.invariant.stands (sym c.in-Some.is ∙ c.due.ensures.due ∙ ap (λ (p : Progress). first_due (to_come p).instants) (sym c.self.view_is)) in
     record {
@@ -49,5 +49,5 @@ returns-clause-ok c =
 pub returns-clause-counts : goal.returns-clause-counts
 returns-clause-counts c =
     let within : c.in-Some.due.hart < length c.self.inside.environment.harts = subst (λ (p : Progress). c.in-Some.due.hart < length p.state.harts) (sym c.self.view_is) c.in-Some.ensures.hart in
-    subst (λ (p : Progress). Counts c.in-Some.due.hart c.in_ok-retired.retired p.state c.act.new.self) c.self.view_is
+    subst (λ (p : Progress). CountsRetired c.in-Some.due.hart c.in_ok-retired.retired p.state c.act.new.self) c.self.view_is
     (counts-of c.in-Some.due.hart c.self.inside.environment c.act.new.self c.in_ok-retired.retired c.in_ok-retired.ensures.ok within)
