@@ -1,11 +1,13 @@
 -- Entries as they are read, with the CIEs that are kept.
-use Rattle.std.proofs.Common.{Bor, ◌≡◌, ◌≢◌, ℕ, suc, ◌+◌, Bool, true, false, cond, List, [], ◌∷◌, map, Option, Some, None, Result, Ok, Err, refl, sym, ap, subst, ◌∙◌, arith}
+use Rattle.std.proofs.Common.{Bor, ◌≡◌, ◌≢◌, ℕ, suc, ◌+◌, Bool, true, false, cond, List, [], ◌∷◌, map, Option, Some, None, Result, Ok, Err, inl, inr, refl, sym, ap, subst, ◌∙◌, arith}
 use Rattle.std.specs.Prelude.{◌==◌, All, IfSome, find, filter, option_map}
 use Rattle.std.specs.Option.{option_copied}
 use Rattle.std.specs.List.{filter_map}
+use Rattle.std.proofs.lemmas.Bool.{cases_eq}
 use Rattle.std.proofs.lemmas.List.{append-nil}
 use Rattle.prof_bytes.specs.Outcome.{◌>>=◌, FailsBy, viewed}
 use Rattle.prof_bytes.specs.Fields.{Input, number_from}
+use Rattle.prof_bytes.proofs.Tests.{some_same}
 use Rattle.prof_bytes.specs.declared.fail.Fail.{Fail}
 use Rattle.prof_bytes.specs.declared.fail.Fail.TheVariants as fails
 use Rattle.cfi_table.specs.declared.constants.TheConstants.{DW_CIE_ID}
@@ -17,18 +19,18 @@ use Rattle.cfi_table.specs.declared.known_cie.KnownCie.{KnownCie}
 use Rattle.cfi_table.specs.declared.entry.FrameEntry.{FrameEntry}
 use Rattle.cfi_table.specs.declared.entry.FrameEntry.TheVariants as entries
 use Rattle.cfi_table.specs.Rules.{FrameState, no_rules, all_same_value}
-use Rattle.cfi_table.specs.Entries.{body_of, after_cie, cie_from, cie_at, is_cie, checked_cie, checked_fde, continued, fde_of, read_entry, instructions_of}
+use Rattle.cfi_table.specs.Entries.{body_of, after_cie, cie_from, cie_at, cie_of, is_cie, checked_fde, continued, fde_of, read_entry, instructions_of}
 use Rattle.cfi_table.specs.Entries.{extents_of, at_end, entries_of}
 use Rattle.elf_image.specs.declared.part.Segment.{Segment}
 use Rattle.cfi_table.specs.Frames.{Frames, all_ok, counted_fde, frames_of}
 use Rattle.cfi_table.specs.private.Placed.{IsFdeIn, IsEntryIn}
 use Rattle.cfi_table.specs.private.Checking.{CfaForms, no_forms, forms_of, forms_after, run_forms}
 use Rattle.elf_image.specs.Image.{counts}
-use Rattle.cfi_table.specs.private.KnownCies.{Known, known, seen_cie}
+use Rattle.cfi_table.specs.private.KnownCies.{Known, known, seen_cie, entry_of_cie}
 use Rattle.cfi_table.proofs.AllOk.{given, refused, all_ok_fault, all_ok_early}
 use Rattle.cfi_table.proofs.Forms.{all_as_forms}
 use Rattle.cfi_table.proofs.Rising.{other}
-use Rattle.cfi_table.proofs.Seen.{find_known, none_known, one_known}
+use Rattle.cfi_table.proofs.Seen.{find_known, find_both, none_known, one_known}
 
 -- ---- a CIE among those that are kept
 
@@ -66,28 +68,48 @@ pub without_id : (section : List ℕ) (extents : List Extent) (e : Extent) (faul
 unfolding read_entry
 without_id section extents e fault is = rw is refl
 
-pub of_cie_fault : (section : List ℕ) (extents : List Extent) (e : Extent) (id : ℕ) (input : Input FrameFault) (fault : FrameFault) → number_from 4 (body_of section e) ≡ Ok (id, input) → id ≡ DW_CIE_ID
-    → cie_from e.end input ≡ Err fault → read_entry section extents e ≡ Err fault
-unfolding read_entry
-of_cie_fault section extents e id input fault is mark faulty = rw (is, mark, faulty) refl
+-- the CIE is the entry itself
+own_cie : (section : List ℕ) (extents : List Extent) (e : Extent) (id offset : ℕ) (input : Input FrameFault) → number_from 4 (body_of section e) ≡ Ok (id, input) → id ≡ DW_CIE_ID → offset ≡ cond (id == DW_CIE_ID) e.offset id
+    → find (λ x. x.offset == e.offset) extents ≡ Some e → cie_at section extents offset ≡ Some e
+unfolding cie_at
+own_cie section extents e id offset input is mark stands own =
+    let here : offset ≡ e.offset = rw mark at stands in
+    let marked : is_cie section e ≡ true = rw (is, mark) refl in
+    rw here (find_both (λ (x : Extent). x.offset == e.offset) (is_cie section) extents e own marked)
 
-pub of_cie : (section : List ℕ) (extents : List Extent) (e : Extent) (id : ℕ) (input : Input FrameFault) (cie : Option Cie) → number_from 4 (body_of section e) ≡ Ok (id, input) → id ≡ DW_CIE_ID
-    → cie_from e.end input ≡ Ok cie → read_entry section extents e ≡ checked_cie section cie
-unfolding read_entry
-of_cie section extents e id input cie is mark read = rw (is, mark, read) refl
+cie_read : (section : List ℕ) (e : Extent) (id : ℕ) (input : Input FrameFault) → number_from 4 (body_of section e) ≡ Ok (id, input) → cie_of section e ≡ cie_from e.end input
+unfolding cie_of
+cie_read section e id input is = rw is refl
 
-pub of_no_cie : (section : List ℕ) (extents : List Extent) (e : Extent) (id : ℕ) (input : Input FrameFault) (cies : List KnownCie) (r : Option (Bor KnownCie)) → number_from 4 (body_of section e) ≡ Ok (id, input) → id ≢ DW_CIE_ID
-    → option_copied r ≡ find (λ cie. cie.offset == id) cies → r ≡ None
+pub of_cie : (section : List ℕ) (extents : List Extent) (e : Extent) (id offset : ℕ) (input : Input FrameFault) (cies : List KnownCie) (r : Option (Bor KnownCie)) (c : Bor KnownCie) → number_from 4 (body_of section e) ≡ Ok (id, input) → id ≡ DW_CIE_ID
+    → offset ≡ cond (id == DW_CIE_ID) e.offset id → find (λ x. x.offset == e.offset) extents ≡ Some e → option_copied r ≡ find (λ cie. cie.offset == offset) cies → r ≡ Some c
+    → map seen_cie cies ≡ map (known section) (filter (is_cie section) extents) → read_entry section extents e ≡ entry_of_cie section c.now.cie
+unfolding read_entry
+of_cie section extents e id offset input cies r c is mark stands own found some each =
+    let p = present_cie section extents cies offset r c found some each in
+    let same : e ≡ p.0 = some_same e p.0 (sym (own_cie section extents e id offset input is mark stands own) ∙ p.1) in
+    let said : cie_from e.end input ≡ c.now.cie = sym (cie_read section e id input is) ∙ ap (cie_of section) same ∙ sym (ap (λ (k : Known). k.cie) p.2) in
+    rw (is, mark, said) refl
+
+pub of_no_cie : (section : List ℕ) (extents : List Extent) (e : Extent) (id offset : ℕ) (input : Input FrameFault) (cies : List KnownCie) (r : Option (Bor KnownCie)) → number_from 4 (body_of section e) ≡ Ok (id, input)
+    → offset ≡ cond (id == DW_CIE_ID) e.offset id → find (λ x. x.offset == e.offset) extents ≡ Some e → option_copied r ≡ find (λ cie. cie.offset == offset) cies → r ≡ None
     → map seen_cie cies ≡ map (known section) (filter (is_cie section) extents) → read_entry section extents e ≡ Err (record { offset = e.offset })
 unfolding read_entry
-of_no_cie section extents e id input cies r is ne found none each = rw (is, other id DW_CIE_ID ne, absent_cie section extents cies id r found none each) refl
+of_no_cie section extents e id offset input cies r is stands own found none each = elim (cases_eq id DW_CIE_ID) [
+  | inl mark ↦ let there = sym absent ∙ own_cie section extents e id offset input is mark stands own in absurd cc
+  | inr ne ↦ let here : offset ≡ id = rw (other id DW_CIE_ID ne) at stands in rw (is, other id DW_CIE_ID ne, rw here at absent) refl
+]
+  where
+    absent : cie_at section extents offset ≡ None
+    absent = absent_cie section extents cies offset r found none each
 
-pub of_fde : (section : List ℕ) (extents : List Extent) (e : Extent) (id : ℕ) (input : Input FrameFault) (cies : List KnownCie) (r : Option (Bor KnownCie)) (c : Bor KnownCie) → number_from 4 (body_of section e) ≡ Ok (id, input) → id ≢ DW_CIE_ID
-    → option_copied r ≡ find (λ cie. cie.offset == id) cies → r ≡ Some c
+pub of_fde : (section : List ℕ) (extents : List Extent) (e : Extent) (id offset : ℕ) (input : Input FrameFault) (cies : List KnownCie) (r : Option (Bor KnownCie)) (c : Bor KnownCie) → number_from 4 (body_of section e) ≡ Ok (id, input) → id ≢ DW_CIE_ID
+    → offset ≡ cond (id == DW_CIE_ID) e.offset id → option_copied r ≡ find (λ cie. cie.offset == offset) cies → r ≡ Some c
     → map seen_cie cies ≡ map (known section) (filter (is_cie section) extents) → read_entry section extents e ≡ fde_of section e input c.now.cie
 unfolding read_entry
-of_fde section extents e id input cies r c is ne found some each =
-    let p = present_cie section extents cies id r c found some each in
+of_fde section extents e id offset input cies r c is ne stands found some each =
+    let here : offset ≡ id = rw (other id DW_CIE_ID ne) at stands in
+    let p = present_cie section extents cies id r c (rw here at found) some each in
     rw (is, other id DW_CIE_ID ne, p.1) (ap (fde_of section e input) (sym (ap (λ (k : Known). k.cie) p.2)))
 
 -- ---- instructions that are carried out
@@ -100,9 +122,6 @@ done_as : (entry : FrameEntry) (r : Result FrameState FrameFault) (k : CfaForms)
 done_as entry (Err fault) k e = absurd cc
 done_as entry (Ok s) k e = refl
 
-pub cie_runs : (section : List ℕ) (cie : Cie) (k : CfaForms) → forms_after (after_cie section cie) ≡ Ok k → checked_cie section (Some cie) ≡ Ok (entries.Cie cie)
-cie_runs section cie k e = done_as (entries.Cie cie) (after_cie section cie) k e
-
 err_is : (a b : FrameFault) → (let u : Result CfaForms FrameFault = Err a in u) ≡ Err b → a ≡ b
 err_is a b e = cc
 
@@ -110,9 +129,6 @@ fails_as : (entry : FrameEntry) (fail : Fail FrameFault) (r : Result FrameState 
 fails_as entry (fails.Memory memory) r e = tt
 fails_as entry (fails.Fault fault) (Err f) e = ap (λ (g : FrameFault). Err g) (err_is f fault e)
 fails_as entry (fails.Fault fault) (Ok s) e = absurd cc
-
-pub cie_fails : (section : List ℕ) (cie : Cie) (fail : Fail FrameFault) → FailsBy fail (forms_after (after_cie section cie)) → FailsBy fail (checked_cie section (Some cie))
-cie_fails section cie fail e = fails_as (entries.Cie cie) fail (after_cie section cie) e
 
 ok_is : (a b : CfaForms) → (let u : Result CfaForms FrameFault = Ok a in u) ≡ Ok b → a ≡ b
 ok_is a b e = cc

@@ -42,7 +42,8 @@ same a b e = grind (arith, nat_tests)
 pub other : (a b : ℕ) → a ≢ b → (a == b) ≡ false
 other a b ne = grind (arith, nat_tests)
 
-find_there : {X : Type 0} (f : X → ℕ) (low : ℕ) (xs : List X) (i : ℕ) (d : X) (n : ℕ) → AreRising low (map f xs) → i < length xs → f (get_or xs i d) ≡ n → find (λ x. f x == n) xs ≡ Some (get_or xs i d)
+-- an element is found by its number
+pub find_there : {X : Type 0} (f : X → ℕ) (low : ℕ) (xs : List X) (i : ℕ) (d : X) (n : ℕ) → AreRising low (map f xs) → i < length xs → f (get_or xs i d) ≡ n → find (λ x. f x == n) xs ≡ Some (get_or xs i d)
 find_there f low [] i d n up lt is = absurd (omega arith)
 find_there f low (x ∷ xs) zero d n up lt is = rw (same (f x) n is) refl
 find_there f low (x ∷ xs) (suc i) d n up lt is =

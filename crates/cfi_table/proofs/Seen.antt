@@ -4,6 +4,7 @@ use Rattle.std.specs.Prelude.{◌&&◌, find, filter, option_map}
 use Rattle.std.proofs.lemmas.List.{append-nil, map_push}
 use Rattle.std.proofs.lemmas.List.Elements.{filter_more}
 use Rattle.std.proofs.lemmas.Simd.{map-map}
+use Rattle.prof_bytes.proofs.Tests.{some_same}
 use Rattle.elf_image.proofs.Tables.{find_map}
 use Rattle.cfi_table.specs.private.Placed.{AreRising}
 
@@ -18,6 +19,15 @@ find_filter {X} p q (x ∷ xs) = go (p x) (q x) refl (find_filter p q xs)
     go false true is rest = rw is rest
     go true false is rest = rest
     go false false is rest = rest
+
+-- what a test finds is also found by it and another, where it passes that too
+pub find_both : {X : Type 0} (p q : X → Bool) (xs : List X) (x : X) → find p xs ≡ Some x → q x ≡ true → find (λ x. p x && q x) xs ≡ Some x
+find_both p q [] x found is = absurd cc
+find_both {X} p q (y ∷ xs) x found is = go (p y) found (λ e. find_both p q xs x e is)
+  where
+    go : (b : Bool) → cond b (Some y) (find p xs) ≡ Some x → (find p xs ≡ Some x → find (λ x. p x && q x) xs ≡ Some x) → cond (b && q y) (Some y) (find (λ x. p x && q x) xs) ≡ Some x
+    go true e again = rw (ap q (some_same y x e) ∙ is) e
+    go false e again = again e
 
 -- what is found among those that were seen, where each is one of the others that the test lets through
 pub find_known : {C K E : Type 0} (p : K → Bool) (q : E → Bool) (seen : C → K) (known : E → K) (cs : List C) (es : List E) → map seen cs ≡ map known (filter q es)
@@ -34,18 +44,12 @@ none_known known (Some x) e = absurd cc
 
 pub one_known : {K E : Type 0} (known : E → K) (o : Option E) (k : K) → Some k ≡ option_map known o → (e : E) × (o ≡ Some e) × (k ≡ known e)
 one_known known None k e = absurd cc
-one_known {K} known (Some x) k e = (x, refl, some_is k (known x) e)
-  where
-    some_is : (a b : K) → Some a ≡ Some b → a ≡ b
-    some_is a b e = cc
+one_known known (Some x) k e = (x, refl, some_same k (known x) e)
 
 -- ---- one more element of the other list
 
 known_one : {K : Type 0} (b : Bool) (k x : K) → Some k ≡ cond b (Some x) None → (b ≡ true) × (k ≡ x)
-known_one {K} true k x e = (refl, same k x e)
-  where
-    same : (a b : K) → Some a ≡ Some b → a ≡ b
-    same a b e = cc
+known_one true k x e = (refl, some_same k x e)
 known_one false k x e = absurd cc
 
 pub seen_more : {C K E : Type 0} (q : E → Bool) (seen : C → K) (known : E → K) (es : List E) (k : ℕ) (d : E) (cs next : List C) (c : C) → k < length es → next ≡ cs ++ c ∷ []

@@ -127,10 +127,7 @@ fn from_augmentation(
 
 /// The CIE's fields after `CIE_id`, up to `end`. `None` if the CIE is skipped.
 #[tactic(auto, unfolding(crate::specs::Entries::cie_from))]
-pub(crate) fn cie_from(
-    end: u32,
-    reader: &mut Reader<'_, FrameFault>,
-) -> Result<Option<Cie>, FrameFault>
+fn cie_from(end: u32, reader: &mut Reader<'_, FrameFault>) -> Result<Option<Cie>, FrameFault>
     ensures cie { result ≡ cie_from end reader.old }
     ensures placed { IfOk result (λ cie. IfSome cie (λ c. IsUpTo end c.initial_instructions)) }
 {

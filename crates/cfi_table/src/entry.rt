@@ -1,25 +1,26 @@
-//! Entries, each as what it is or its fault. CIEs are read first, so that an FDE finds its own; then all entries in
-//! their order.
-ghost use Rattle.std.specs.Prelude.{◌≡◌, ◌+◌, ◌<◌, ◌≤◌, ◌^◌, List, Some, None, Ok, IfOk, All, map, filter};
+//! Entries, each as what it is or its fault. The section's CIEs are known: a CIE is found among them by its own offset,
+//! and an FDE's by CIE_pointer.
+ghost use Rattle.std.specs.Prelude.{◌≡◌, ◌==◌, ℕ, ◌+◌, ◌<◌, ◌≤◌, ◌^◌, List, Some, None, IfOk, All, map, filter, find};
+ghost use Rattle.std.specs.Prelude.{if◌then◌else◌};
 ghost use Rattle.std.specs.List.{filter_map};
 ghost use Rattle.prof_bytes.specs.Outcome.{Gives, viewed};
 ghost use Rattle.elf_image.specs.Image.{counts};
 ghost use Rattle.cfi_table.specs.declared.extent.Extent.{Extent};
 ghost use Rattle.cfi_table.specs.declared.entry.FrameEntry.TheVariants as entries;
-ghost use Rattle.cfi_table.specs.Entries.{is_cie, cie_of, after_cie, checked_cie, checked_fde, fde_with, fde_of};
-ghost use Rattle.cfi_table.specs.Entries.{read_entry};
+ghost use Rattle.cfi_table.specs.declared.constants.TheConstants.{DW_CIE_ID};
+ghost use Rattle.cfi_table.specs.Entries.{is_cie, after_cie, checked_fde, fde_with, fde_of, read_entry};
 ghost use Rattle.cfi_table.specs.Frames.{all_ok, counted_fde};
-ghost use Rattle.cfi_table.specs.private.Placed.{AreRising, IsPlaced, IsWithin, IsCieIn, IsFdeIn, IsEntryIn};
+ghost use Rattle.cfi_table.specs.private.Placed.{AreRising, IsPlaced, IsFdeIn, IsEntryIn};
 ghost use Rattle.cfi_table.specs.private.Checking.{forms_after};
-ghost use Rattle.cfi_table.specs.private.KnownCies.{forms_seen, known, seen_cie, IsKnown};
+ghost use Rattle.cfi_table.specs.private.KnownCies.{forms_seen, known, seen_cie, entry_of_cie, IsKnown};
 
 use crate::checker::{Checker, InitialCfaForms};
-use crate::cie::{Cie, cie_from};
+use crate::cie::Cie;
 use crate::constants::DW_CIE_ID;
 use crate::extent::{Extent, body, instructions};
 use crate::fault::FrameFault;
 use crate::fde::{Fde, fde_fields};
-use crate::known_cie::{KnownCie, cie_at, run_cie};
+use crate::known_cie::{KnownCie, cie_at};
 use elf_image::Image;
 use prof_bytes::{Fail, Reader};
 use std::alloc::Global;
@@ -33,21 +34,18 @@ pub(crate) enum FrameEntry {
     Fde(Fde),
 }
 
-/// A CIE, whose instructions are carried out.
-#[tactic(auto, using(crate::proofs::Entries::cie_runs, crate::proofs::Entries::cie_fails))]
-fn checked_cie(
-    alloc: Global,
-    section: &[u8],
-    cie: Option<Cie>,
-) -> Result<FrameEntry, Fail<FrameFault>>
-    requires { IsCieIn section.now (Ok cie) }
-    ensures { Gives (λ entry. entry) result (checked_cie section.now cie) }
+/// A CIE as an entry, or its fault, or that of its instructions.
+fn checked_cie(known: &KnownCie) -> Result<FrameEntry, FrameFault>
+    ensures entry { (section : List ℕ) → IsKnown section known.now → result ≡ entry_of_cie section known.now.cie }
+    ensures placed { (section : List ℕ) → IfOk result (IsEntryIn section) }
 {
-    let Some(cie) = cie else {
+    let Some(cie) = known.cie? else {
         return Ok(FrameEntry::PassedOver);
     };
-    run_cie(alloc, section, &cie)?;
-    Ok(FrameEntry::Cie(cie))
+    match known.initial_forms {
+        Ok(_) => Ok(FrameEntry::Cie(cie)),
+        Err(fault) => Err(fault),
+    }
 }
 
 /// An FDE, whose instructions are carried out after its CIE's, unless these are at fault.
@@ -114,6 +112,13 @@ fn read_fde(
     }
 }
 
+/// The offset of the CIE that an entry with that id is or refers to.
+fn cie_offset(extent: &Extent, id: u32) -> u32
+    ensures { result ≡ (if id == DW_CIE_ID then extent.now.offset else id) }
+{
+    if id == DW_CIE_ID { extent.offset } else { id }
+}
+
 /// An entry, where these are the section's CIEs.
 fn read_entry(
     alloc: Global,
@@ -124,18 +129,15 @@ fn read_entry(
     requires rising { AreRising 0 (map (λ cie. cie.offset) cies.now) }
     requires known { All (IsKnown section.now) cies.now }
     requires placed { IsPlaced section.now extent.now }
-    ensures entry { (extents : List Extent) → map seen_cie cies.now
-        ≡ map (known section.now) (filter (is_cie section.now) extents)
+    ensures entry { (extents : List Extent) → find (λ e. e.offset == extent.now.offset) extents ≡ Some extent.now
+        → map seen_cie cies.now ≡ map (known section.now) (filter (is_cie section.now) extents)
         → Gives (λ entry. entry) result (read_entry section.now extents extent.now) }
     ensures within { IfOk result (IsEntryIn section.now) }
 {
     let mut reader = body(section, extent);
     let id = reader.u32()?;
-    if id == DW_CIE_ID {
-        let cie = cie_from(extent.end, &mut reader)?;
-        return checked_cie(alloc, section, cie);
-    }
-    match cie_at(cies, id) {
+    match cie_at(cies, cie_offset(extent, id)) {
+        Some(known) if id == DW_CIE_ID => Ok(checked_cie(known)?),
         Some(known) => read_fde(alloc, section, extent, &mut reader, known),
         None => Err(Fail::Fault(FrameFault {
             offset: extent.offset,
@@ -164,6 +166,7 @@ pub(crate) fn counted_fdes(
     image: &Image<'_>,
 ) -> Result<Vec<Fde>, Fail<FrameFault>>
     requires all { All (IsPlaced section.now) extents.now }
+    requires order { AreRising 0 (map (λ e. e.offset) extents.now) }
     requires rising { AreRising 0 (map (λ cie. cie.offset) cies.now) }
     requires known { All (IsKnown section.now) cies.now }
     requires cies { map seen_cie cies.now ≡ map (known section.now) (filter (is_cie section.now) extents.now) }

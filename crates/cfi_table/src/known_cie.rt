@@ -34,11 +34,7 @@ fn is_cie(section: &[u8], extent: &Extent) -> bool
 
 /// The forms after a CIE's instructions, or their first fault.
 #[tactic(auto, unfolding(crate::specs::Entries::after_cie))]
-pub(crate) fn run_cie(
-    alloc: Global,
-    section: &[u8],
-    cie: &Cie,
-) -> Result<Checker<'static>, Fail<FrameFault>>
+fn run_cie(alloc: Global, section: &[u8], cie: &Cie) -> Result<Checker<'static>, Fail<FrameFault>>
     requires { IsWithin section.now cie.now.initial_instructions }
     ensures { Gives (λ checker. checker) result (forms_after (after_cie section.now cie.now)) }
 {

@@ -25,7 +25,7 @@ use Rattle.dwarf_info.specs.Values.{passed_from, declaration_of}
 use Rattle.dwarf_info.specs.Entries.{declared_entry, entry_from, entries_from}
 use Rattle.dwarf_info.specs.UnitHeaders.{unit_header_from}
 use Rattle.dwarf_info.specs.Units.{read_unit, unit_from, info_input, units_of}
-use Rattle.dwarf_info.specs.Ranges.{Field, or_absent, indexed_from, address_from, one_field, two_fields, start_length, kind_from, range_entry_from, range_list_from}
+use Rattle.dwarf_info.specs.Ranges.{Field, or_absent, indexed_from, target_address_from, one_field, two_fields, start_length, kind_from, range_entry_from, range_list_from}
 use Rattle.dwarf_info.proofs.UnitMoves.{Parts, parts}
 use Rattle.prof_bytes.specs.Fields.{part_from}
 
@@ -86,7 +86,7 @@ Passes field = (input : Input Absent) → Moves 0 input (field input)
 uleb_passes : Passes uleb_from
 uleb_passes input = moves_less 1 0 input (uleb_from input) (omega arith) (uleb_moves input)
 
-address_passes : Passes address_from
+address_passes : Passes target_address_from
 address_passes input = moves_less 4 0 input (number_from 4 input) (omega arith) (number_moves 4 input)
 
 indexed_passes : (sections : Sections) (addr_base : Option ℕ) → Passes (indexed_from sections addr_base)
@@ -113,9 +113,9 @@ kind_moves sections addr_base kind input =
     (moves_if 0 input (kind == DW_RLE_startx_endx) _ _ (two_pass x x xs xs StartEnd input)
     (moves_if 0 input (kind == DW_RLE_startx_length) _ _ (two_pass x uleb_from xs uleb_passes start_length input)
     (moves_if 0 input (kind == DW_RLE_offset_pair) _ _ (two_pass uleb_from uleb_from uleb_passes uleb_passes OffsetPair input)
-    (moves_if 0 input (kind == DW_RLE_base_address) _ _ (one_passes address_from address_passes BaseAddress input)
-    (moves_if 0 input (kind == DW_RLE_start_end) _ _ (two_pass address_from address_from address_passes address_passes StartEnd input)
-    (moves_if 0 input (kind == DW_RLE_start_length) _ _ (two_pass address_from uleb_from address_passes uleb_passes start_length input) tt)))))))
+    (moves_if 0 input (kind == DW_RLE_base_address) _ _ (one_passes target_address_from address_passes BaseAddress input)
+    (moves_if 0 input (kind == DW_RLE_start_end) _ _ (two_pass target_address_from target_address_from address_passes address_passes StartEnd input)
+    (moves_if 0 input (kind == DW_RLE_start_length) _ _ (two_pass target_address_from uleb_from address_passes uleb_passes start_length input) tt)))))))
 
 range_takes : (sections : Sections) (addr_base : Option ℕ) → Takes (range_entry_from sections addr_base)
 unfolding range_entry_from

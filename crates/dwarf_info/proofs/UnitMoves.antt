@@ -14,7 +14,7 @@ use Rattle.dwarf_info.specs.declared.entry.UnitContext.{UnitContext}
 use Rattle.dwarf_info.specs.declared.unit_header.UnitHeader.{UnitHeader}
 use Rattle.dwarf_info.specs.declared.fault.InfoFault.{InfoFault}
 use Rattle.dwarf_info.specs.declared.fault.InfoFault.TheVariants.{BadUnit}
-use Rattle.dwarf_info.specs.UnitHeaders.{checked_header, fields_from, version5_from, by_version, unit_header_from}
+use Rattle.dwarf_info.specs.UnitHeaders.{checked_unit_header, fields_from, version5_from, by_version, unit_header_from}
 use Rattle.dwarf_info.specs.Units.{unit_from, read_unit}
 use Rattle.dwarf_info.specs.Sections.{Sections}
 
@@ -56,7 +56,7 @@ fields_move : (offset end unit_type : ℕ) (input : Input InfoFault) → Moves 0
 fields_move offset end unit_type input =
     moves_then 0 0 input (number_from 1 input) _ (moves_less 1 0 input (number_from 1 input) (omega arith) (number_moves 1 input)) (λ size.
     moves_then 0 0 size.1 (number_from 4 size.1) _ (moves_less 4 0 size.1 (number_from 4 size.1) (omega arith) (number_moves 4 size.1)) (λ abbrevs.
-    checked abbrevs.1 (checked_header unit_type size.0 (record { offset = offset; end = end; debug_abbrev_offset = abbrevs.0; first_entry = abbrevs.1.at.offset }))))
+    checked abbrevs.1 (checked_unit_header unit_type size.0 (record { offset = offset; end = end; debug_abbrev_offset = abbrevs.0; first_entry = abbrevs.1.at.offset }))))
   where
     checked : (after : Input InfoFault) (header : Result UnitHeader InfoFault) → Moves 0 after (header >>= (λ h. Ok (Some h, after)))
     checked after (Ok header) = stays after (Some header)

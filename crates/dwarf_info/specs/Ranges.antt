@@ -44,8 +44,8 @@ indexed_from sections addr_base input = do
   Ok (address, input)
 
 -- an address in the list itself
-abbrev pub address_from : Field
-address_from input = number_from 4 input
+abbrev pub target_address_from : Field
+target_address_from input = number_from 4 input
 
 -- one field as an entry
 abbrev pub one_field : Field → (ℕ → RangeListEntry) → Input Absent
@@ -75,9 +75,9 @@ kind_from sections addr_base kind input =
     two_fields (indexed_from sections addr_base) (indexed_from sections addr_base) StartEnd input
     else (if kind == DW_RLE_startx_length then two_fields (indexed_from sections addr_base) uleb_from start_length input
     else (if kind == DW_RLE_offset_pair then two_fields uleb_from uleb_from OffsetPair input
-    else (if kind == DW_RLE_base_address then one_field address_from BaseAddress input
-    else (if kind == DW_RLE_start_end then two_fields address_from address_from StartEnd input
-    else (if kind == DW_RLE_start_length then two_fields address_from uleb_from start_length input
+    else (if kind == DW_RLE_base_address then one_field target_address_from BaseAddress input
+    else (if kind == DW_RLE_start_end then two_fields target_address_from target_address_from StartEnd input
+    else (if kind == DW_RLE_start_length then two_fields target_address_from uleb_from start_length input
     else Err absent)))))))
 
 unfoldable pub range_entry_from : Sections → Option ℕ → Input Absent

@@ -14,8 +14,8 @@ is_split unit_type =
     (unit_type == DW_UT_skeleton) || ((unit_type == DW_UT_split_compile) || (unit_type == DW_UT_split_type))
 
 -- compile units and partial units are read, with addresses of four bytes; skeletons and split units are not
-abbrev pub checked_header : ℕ → ℕ → UnitHeader → Result UnitHeader InfoFault
-checked_header unit_type address_size header =
+abbrev pub checked_unit_header : ℕ → ℕ → UnitHeader → Result UnitHeader InfoFault
+checked_unit_header unit_type address_size header =
     if is_split unit_type then Err (SplitUnit header.offset)
     else (if (unit_type == DW_UT_compile || unit_type == DW_UT_partial) && (address_size == 4) then Ok header
     else Err (BadUnit header.offset))
@@ -25,7 +25,7 @@ abbrev pub fields_from : ℕ → ℕ → ℕ → Input InfoFault → Result (Opt
 fields_from offset end unit_type input = do
   (address_size, input) ← number_from 1 input
   (debug_abbrev_offset, input) ← number_from 4 input
-  header ← checked_header unit_type address_size (record {
+  header ← checked_unit_header unit_type address_size (record {
     offset = offset;
     end = end;
     debug_abbrev_offset = debug_abbrev_offset;

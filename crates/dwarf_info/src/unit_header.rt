@@ -1,7 +1,8 @@
 //! The header of a unit (DWARF 5, section 7.5.1).
 ghost use Rattle.std.specs.Prelude.{◌≡◌, ◌<◌, ◌^◌, length, IfOk, IfSome};
 ghost use Rattle.prof_bytes.specs.Outcome.{GivesAt};
-ghost use Rattle.dwarf_info.specs.UnitHeaders.{is_split, checked_header, fields_from, version5_from, unit_header_from};
+ghost use Rattle.dwarf_info.specs.UnitHeaders.{is_split, checked_unit_header, fields_from, version5_from};
+ghost use Rattle.dwarf_info.specs.UnitHeaders.{unit_header_from};
 ghost use Rattle.dwarf_info.specs.private.Bodies.{IsAtEntries};
 
 use crate::constants::{
@@ -46,7 +47,7 @@ fn is_split(unit_type: u8) -> bool
 
 /// Refuses a unit that is neither a compile unit nor a partial unit, or whose addresses don't have four bytes.
 fn checked(unit_type: u8, address_size: u8, header: UnitHeader) -> Result<UnitHeader, InfoFault>
-    ensures { result ≡ checked_header unit_type address_size header }
+    ensures { result ≡ checked_unit_header unit_type address_size header }
 {
     let offset = header.offset;
     if is_split(unit_type) {

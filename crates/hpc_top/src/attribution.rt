@@ -14,7 +14,7 @@ ghost use Rattle.hpc_top.specs.private.Steps.{ready};
 use crate::both::database_and_table;
 use crate::merged::{Merge, merge_samples};
 use crate::program::program_of;
-use crate::scopes::{info_of, lines_of, structure_of};
+use crate::scopes::scopes_of;
 use crate::status::{InputFault, Prepared};
 use dwarf_inline::Structure;
 use dwarf_line::LineTable;
@@ -105,7 +105,6 @@ fn attribute_scopes<R: Threads + Sync, C: Crews>(
 }
 
 /// What is made of a measurement's samples, or the first refusal of the program's debug information.
-#[tactic(auto, unfolding(crate::specs::Scopes::program_scopes))]
 fn attribute_code<R: Threads + Sync, C: Crews>(
     rt: &R,
     alloc: Global,
@@ -119,10 +118,7 @@ fn attribute_code<R: Threads + Sync, C: Crews>(
     requires whole { IsTrue (C.whole merge.now.crews.now) }
     ensures { Gives ready result (attribution_or merge.now.period (attributed_code image.now ccts.now)) }
 {
-    let info = info_of(alloc, image)?;
-    let lines = lines_of(alloc, image, info.units())?;
-    let structure = structure_of(alloc, image, &info, &lines)?;
-    drop(info);
+    let (lines, structure) = scopes_of(alloc, image)?;
     attribute_scopes(rt, alloc, merge, image, &lines, &structure, ccts)
 }
 

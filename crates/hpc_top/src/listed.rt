@@ -6,7 +6,7 @@ ghost use Rattle.hpc_top.specs.Task.{program_limit};
 ghost use Rattle.hpc_top.specs.private.Steps.{ready};
 
 use crate::program::program_of;
-use crate::scopes::{info_of, lines_of, structure_of};
+use crate::scopes::scopes_of;
 use crate::status::{InputFault, Prepared};
 use elf_image::Image;
 use prof_bytes::{Fail, Text};
@@ -24,14 +24,10 @@ pub fn text_alone(alloc: Global, text: Text) -> Prepared
 }
 
 /// The structure of a program, or the first refusal of its debug information.
-#[tactic(auto, unfolding(crate::specs::Scopes::program_scopes))]
 fn list_code(alloc: Global, image: &Image<'_>) -> Result<Prepared, Fail<InputFault>>
     ensures { Gives ready result (listed_code image.now) }
 {
-    let info = info_of(alloc, image)?;
-    let lines = lines_of(alloc, image, info.units())?;
-    let structure = structure_of(alloc, image, &info, &lines)?;
-    drop(info);
+    let (lines, structure) = scopes_of(alloc, image)?;
     let text = listing(alloc, &structure, &lines, image)?;
     Ok(text_alone(alloc, text))
 }

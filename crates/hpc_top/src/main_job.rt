@@ -22,7 +22,7 @@ use crate::merged::{Merge, Merged, merge_samples};
 use crate::program::{frames_of, program_of, schedule_of};
 use crate::report::{all_samples, run_report};
 use crate::run_profile::{RunProfile, all_retired};
-use crate::scopes::{info_of, lines_of, structure_of};
+use crate::scopes::scopes_of;
 use crate::status::{InputFault, Made};
 use cfi_table::FrameTable;
 use cfi_unwind::Unwinder;
@@ -160,7 +160,6 @@ fn profile_scopes<R: Threads + Sync, C: Crews>(
 
 /// What is made of a program whose call frame information was read, or the first refusal of its debug information or of
 /// its run.
-#[tactic(auto, unfolding(crate::specs::Scopes::program_scopes))]
 fn profile_code<R: Threads + Sync, C: Crews>(
     rt: &R,
     alloc: Global,
@@ -175,10 +174,7 @@ fn profile_code<R: Threads + Sync, C: Crews>(
         result
         (profiled_code image.now table.now schedule job.now.input.now job.now.period) }
 {
-    let info = info_of(alloc, image)?;
-    let lines = lines_of(alloc, image, info.units())?;
-    let structure = structure_of(alloc, image, &info, &lines)?;
-    drop(info);
+    let (lines, structure) = scopes_of(alloc, image)?;
     profile_scopes(
         rt, alloc, job, crews, schedule, image, table, &lines, &structure,
     )

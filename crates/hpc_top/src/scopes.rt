@@ -2,7 +2,7 @@
 ghost use Rattle.std.specs.Prelude.{◌≡◌, IfOk, filter_map};
 ghost use Rattle.prof_bytes.specs.Outcome.{Gives};
 ghost use Rattle.dwarf_inline.specs.Structure.{structure_of as structure_by};
-ghost use Rattle.hpc_top.specs.Scopes.{debug_entries, line_tables, structure_from, table_offsets};
+ghost use Rattle.hpc_top.specs.Scopes.{debug_entries, line_tables, program_scopes, structure_from, table_offsets};
 
 use crate::status::InputFault;
 use dwarf_info::{DebugParts, Info, Unit, read_info};
@@ -14,7 +14,7 @@ use std::alloc::Global;
 use tree_types::ascend;
 
 /// The units and entries of a program, or their first fault.
-pub fn info_of<'a>(alloc: Global, image: &Image<'a>) -> Result<Info<'a>, Fail<InputFault>>
+fn info_of<'a>(alloc: Global, image: &Image<'a>) -> Result<Info<'a>, Fail<InputFault>>
     ensures { Gives (λ info. info) result (debug_entries image.now) }
 {
     match read_info(alloc, DebugParts::of(image)) {
@@ -42,7 +42,7 @@ fn table_offsets(alloc: Global, units: &[Unit]) -> Result<Vec<u32>, Memory>
 }
 
 /// The line tables that units name, or their first fault.
-pub fn lines_of<'a>(
+fn lines_of<'a>(
     alloc: Global,
     image: &Image<'a>,
     units: &[Unit],
@@ -68,7 +68,7 @@ pub fn lines_of<'a>(
 }
 
 /// The structure of a program, or its first fault.
-pub fn structure_of<'a>(
+fn structure_of<'a>(
     alloc: Global,
     image: &Image<'a>,
     info: &Info<'a>,
@@ -81,4 +81,19 @@ pub fn structure_of<'a>(
         Err(Fail::Fault(fault)) => Err(Fail::Fault(InputFault::Structure(fault))),
         Err(Fail::Memory(memory)) => Err(Fail::Memory(memory)),
     }
+}
+
+/// The line tables and the structure of a program, or the first refusal of its debug information.
+#[tactic(auto, unfolding(crate::specs::Scopes::program_scopes))]
+pub fn scopes_of<'a>(
+    alloc: Global,
+    image: &Image<'a>,
+) -> Result<(LineTable<'a>, Structure<'a>), Fail<InputFault>>
+    ensures { Gives (λ read. record { structure = read.1; lines = read.0; image = image.now })
+        result (program_scopes image.now) }
+{
+    let info = info_of(alloc, image)?;
+    let lines = lines_of(alloc, image, info.units())?;
+    let structure = structure_of(alloc, image, &info, &lines)?;
+    Ok((lines, structure))
 }

@@ -90,6 +90,19 @@ pub(crate) fn image_of(alloc: Global, file: &[u8]) -> Result<Image<'_>, Trouble>
     }
 }
 
+/// A machine before the first instruction of an image, under the schedule of a text and with this input.
+fn machine_of_image<'a>(
+    alloc: Global,
+    image: &Image<'a>,
+    text: &[u8],
+    input: &[u8],
+) -> Result<Machine<'a>, Trouble>
+    ensures { IfOk result (λ machine. IsFresh machine.state) }
+{
+    let told = schedule(alloc, text)?;
+    Ok(Machine::start(alloc, image, told, input)?)
+}
+
 /// A machine before the first instruction of the program in a file, under the schedule of a text and with
 /// this input.
 pub(crate) fn machine_of<'a>(
@@ -100,10 +113,8 @@ pub(crate) fn machine_of<'a>(
 ) -> Result<Machine<'a>, Trouble>
     ensures { IfOk result (λ machine. IsFresh machine.state) }
 {
-    let told = schedule(alloc, text)?;
     let image = image_of(alloc, file)?;
-    let machine = Machine::start(alloc, &image, told, input)?;
-    Ok(machine)
+    machine_of_image(alloc, &image, text, input)
 }
 
 /// A hart at this pc with these in x5 and x6, and 0x55aa55aa in x7.
@@ -115,12 +126,16 @@ pub(crate) fn hart_at(pc: u32, x5: u32, x6: u32) -> Hart {
     Hart { pc, regs }
 }
 
-/// The memory of the program in a file, for a given number of harts.
-pub(crate) fn space_of(alloc: Global, file: &[u8], harts: u32) -> Result<Space<'_>, Trouble> {
+/// The memory of an image, for a given number of harts.
+fn space_of_image<'a>(alloc: Global, image: &Image<'a>, harts: u32) -> Result<Space<'a>, Trouble> {
     if harts > 64 {
         return Err(Fail::Fault(Refused));
     }
+    Ok(Space::of(alloc, image, harts)?)
+}
+
+/// The memory of the program in a file, for a given number of harts.
+pub(crate) fn space_of(alloc: Global, file: &[u8], harts: u32) -> Result<Space<'_>, Trouble> {
     let image = image_of(alloc, file)?;
-    let space = Space::of(alloc, &image, harts)?;
-    Ok(space)
+    space_of_image(alloc, &image, harts)
 }

@@ -2,6 +2,7 @@
 use crate::guests::{ADDER, Trouble, guest, hart_at, space_of};
 use rv_hart::{Cause, Space, Stepped, step};
 use scope_types::Look;
+use std::alloc::Global;
 use std::test::Fail;
 
 mod tables;
@@ -44,46 +45,100 @@ fn other_store_or_word(
     }
 }
 
+/// The first load of one or two bytes that differs.
+fn other_load(space: &Space) -> Option<&'static str> {
+    if space.load(0xf00f_fff0, 1) != Some(7) {
+        return Some("the byte that was stored");
+    }
+    if space.load(0x1_0053, 2).is_some() {
+        return Some("two bytes over the end of the code");
+    }
+    None
+}
+
+/// The first store, word or load that differs in the memory of a program.
+fn other_access(space: &mut Space) -> Result<Option<&'static str>, Trouble> {
+    match other_store_or_word(space, &STORES, &WORDS)? {
+        Some(name) => Ok(Some(name)),
+        None => Ok(other_load(space)),
+    }
+}
+
+/// The first step that ends otherwise.
+fn other_step(space: &mut Space) -> Result<Option<&'static str>, Trouble> {
+    for (name, pc, end, x7) in &SEGMENT_STEPS {
+        let mut hart = hart_at(*pc, 0, 0);
+        let stepped = step(&mut hart, space)?;
+        if stepped != *end || hart.regs[7] != *x7 {
+            return Ok(Some(name));
+        }
+    }
+    Ok(None)
+}
+
+/// The first store, word or step that differs in the memory of four segments.
+fn other_in_segments(space: &mut Space) -> Result<Option<&'static str>, Trouble> {
+    match other_store_or_word(space, &SEGMENT_STORES, &SEGMENT_WORDS)? {
+        Some(name) => Ok(Some(name)),
+        None => other_step(space),
+    }
+}
+
+/// What is looked at in a memory.
+#[derive(Clone, Copy)]
+enum Wanted {
+    Program,
+    LastStack,
+    Segments,
+}
+
+/// The first of what is wanted that differs in a memory.
+fn other_row(space: &mut Space, wanted: Wanted) -> Result<Option<&'static str>, Trouble> {
+    match wanted {
+        Wanted::Program => other_access(space),
+        Wanted::LastStack => other_store_or_word(space, &LAST_STORES, &LAST_WORDS),
+        Wanted::Segments => other_in_segments(space),
+    }
+}
+
+/// The same in the memory of the program in a file, for a given number of harts.
+fn other_in_file(
+    alloc: Global,
+    file: &[u8],
+    harts: u32,
+    wanted: Wanted,
+) -> Result<Option<&'static str>, Trouble> {
+    let mut space = space_of(alloc, file, harts)?;
+    other_row(&mut space, wanted)
+}
+
+/// The same for the program that adds.
+fn other_in_adder(
+    alloc: Global,
+    harts: u32,
+    wanted: Wanted,
+) -> Result<Option<&'static str>, Trouble> {
+    let file = guest(alloc, &ADDER)?;
+    other_in_file(alloc, &file, harts, wanted)
+}
+
 #[test]
 fn memory_of_a_program(rt: HostRuntime) -> Result<(), Fail> {
-    let file = guest(rt.alloc(), &ADDER)?;
-    let mut space = space_of(rt.alloc(), file.as_slice(), 1)?;
-    assert_eq!(rt; other_store_or_word(&mut space, &STORES, &WORDS)?, None);
-    assert_eq!(rt;
-        space.load(0xf00f_fff0, 1),
-        Some(7),
-        "the byte that was stored"
-    );
-    assert_eq!(rt;
-        space.load(0x1_0053, 2),
-        None,
-        "two bytes over the end of the code"
-    );
+    assert_eq!(rt; other_in_adder(rt.alloc(), 1, Wanted::Program)?, None);
     Ok(())
 }
 
 #[test]
 fn the_last_stack(rt: HostRuntime) -> Result<(), Fail> {
-    let file = guest(rt.alloc(), &ADDER)?;
-    let mut space = space_of(rt.alloc(), file.as_slice(), 64)?;
-    assert_eq!(rt;
-        other_store_or_word(&mut space, &LAST_STORES, &LAST_WORDS)?,
-        None
-    );
+    assert_eq!(rt; other_in_adder(rt.alloc(), 64, Wanted::LastStack)?, None);
     Ok(())
 }
 
 #[test]
 fn segments_that_share_a_page(rt: HostRuntime) -> Result<(), Fail> {
-    let mut space = space_of(rt.alloc(), &SEGMENTS, 1)?;
     assert_eq!(rt;
-        other_store_or_word(&mut space, &SEGMENT_STORES, &SEGMENT_WORDS)?,
+        other_in_file(rt.alloc(), &SEGMENTS, 1, Wanted::Segments)?,
         None
     );
-    for (name, pc, end, x7) in &SEGMENT_STEPS {
-        let mut hart = hart_at(*pc, 0, 0);
-        let stepped = step(&mut hart, &mut space)?;
-        assert_eq!(rt; (stepped, hart.regs[7]), (*end, *x7), "{name}");
-    }
     Ok(())
 }

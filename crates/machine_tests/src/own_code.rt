@@ -49,20 +49,29 @@ fn carry_out(machine: &mut Machine<'_>) -> Result<(), Trouble> {
     Ok(())
 }
 
-/// What is left of the run of the program in a file, with the word at this address.
-fn after_run(alloc: Global, file: &[u8], at: u32) -> Result<Option<Ended>, Trouble> {
-    let mut machine = machine_of(alloc, file, b"harts 1\n0 1000\n", b"")?;
-    carry_out(&mut machine)?;
+/// What is left after a run, with the word at this address.
+fn left(machine: &Machine<'_>, at: u32) -> Option<Ended> {
     if machine.harts() == 0 {
-        return Ok(None);
+        return None;
     }
     let regs = *machine.regs(0);
-    Ok(Some(Ended {
+    Some(Ended {
         x10: regs[10],
         retired: machine.retired(0),
         end: machine.end(0),
         word: machine.space().word(at),
-    }))
+    })
+}
+
+fn run(machine: &mut Machine<'_>, at: u32) -> Result<Option<Ended>, Trouble> {
+    carry_out(machine)?;
+    Ok(left(machine, at))
+}
+
+/// The same for the program in a file.
+fn after_run(alloc: Global, file: &[u8], at: u32) -> Result<Option<Ended>, Trouble> {
+    let mut machine = machine_of(alloc, file, b"harts 1\n0 1000\n", b"")?;
+    run(&mut machine, at)
 }
 
 #[test]

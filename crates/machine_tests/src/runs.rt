@@ -27,6 +27,19 @@ fn stands(machine: &Machine<'_>, hart: u32, retired: u64, end: HartEnd) -> bool 
     machine.retired(hart) == retired && machine.end(hart) == end
 }
 
+/// The first of these harts that has retired another number of instructions or stands otherwise.
+fn other_hart(
+    machine: &Machine<'_>,
+    wanted: &[(&'static str, u32, u64, HartEnd)],
+) -> Option<&'static str> {
+    for (name, hart, retired, end) in wanted {
+        if !stands(machine, *hart, *retired, *end) {
+            return Some(name);
+        }
+    }
+    None
+}
+
 /// What x10 of hart 0 holds.
 fn x10(machine: &Machine<'_>) -> Option<u32> {
     if machine.harts() == 0 {
@@ -36,70 +49,47 @@ fn x10(machine: &Machine<'_>) -> Option<u32> {
     Some(regs[10])
 }
 
-/// Whether a call leaves this in x10, and hart 0 stands like this.
-fn answers(machine: &Machine<'_>, answer: u32, retired: u64, end: HartEnd) -> bool {
-    x10(machine) == Some(answer) && stands(machine, 0, retired, end)
+/// What a call leaves: x10, the retired instructions, how hart 0 stands, the output's place in the file, and a word.
+#[derive(Clone, Copy)]
+struct Left {
+    x10: u32,
+    retired: u64,
+    end: HartEnd,
+    output: (usize, usize),
+    word: (u32, Option<u32>),
 }
 
-/// The file of a program that makes a call with these in x17 and x10 to x12.
-fn caller(alloc: Global, given: [u32; 4]) -> Result<Vec<u8>, Trouble> {
-    let mut words = Vec::new(alloc);
-    words.extend_from_slice(&CALLER)?;
-    words.extend_from_slice(&given)?;
-    guest(alloc, words.as_slice())
-}
+/// The first word of the code, which no call changes.
+const CODE_WORD: (u32, Option<u32>) = (0x1_0000, Some(663));
 
-/// A machine after the call of such a file and the break after it, with the input `abcdef`.
-fn after_call(alloc: Global, file: &[u8]) -> Result<Machine<'_>, Trouble> {
-    let mut machine = machine_of(alloc, file, b"harts 1\n0 6", b"abcdef")?;
-    carry_out(&mut machine, 7)?;
-    Ok(machine)
-}
-
-#[test]
-fn reads_of_the_input(rt: HostRuntime) -> Result<(), Failed> {
-    for (name, descriptor, at, count, answer, word) in &READS {
-        let file = caller(rt.alloc(), [SYS_READ, *descriptor, *at, *count])?;
-        let machine = after_call(rt.alloc(), file.as_slice())?;
-        assert!(rt; answers(&machine, *answer, 6, HartEnd::Running), "{name}");
-        assert_eq!(rt; machine.space().load(*at, 4), *word, "{name}");
-        assert!(rt; machine.output().is_empty(), "{name}");
+/// What of these is another in a machine of the program in a file.
+fn other_part(machine: &Machine<'_>, file: &[u8], left: &Left) -> Option<&'static str> {
+    let (from, to) = left.output;
+    let (at, word) = left.word;
+    if x10(machine) != Some(left.x10) {
+        return Some("x10");
     }
-    Ok(())
-}
-
-#[test]
-fn writes_of_memory(rt: HostRuntime) -> Result<(), Failed> {
-    for (name, descriptor, at, count, answer, from, to) in &WRITES {
-        let file = caller(rt.alloc(), [SYS_WRITE, *descriptor, *at, *count])?;
-        let machine = after_call(rt.alloc(), file.as_slice())?;
-        assert!(rt; answers(&machine, *answer, 6, HartEnd::Running), "{name}");
-        assert_eq!(rt; Some(machine.output()), file.get(*from..*to), "{name}");
+    if !stands(machine, 0, left.retired, left.end) {
+        return Some("the hart");
     }
-    Ok(())
-}
-
-#[test]
-fn exits_and_unknown_calls(rt: HostRuntime) -> Result<(), Failed> {
-    for (name, number, a, answer, retired, end) in &OTHERS {
-        let file = caller(rt.alloc(), [*number, *a, 0, 0])?;
-        let machine = after_call(rt.alloc(), file.as_slice())?;
-        assert!(rt; answers(&machine, *answer, *retired, *end), "{name}");
-        assert!(rt; machine.output().is_empty(), "{name}");
+    if machine.space().load(at, 4) != word {
+        return Some("the word");
     }
-    Ok(())
+    if Some(machine.output()) != file.get(from..to) {
+        return Some("the output");
+    }
+    None
 }
 
-#[test]
-fn output_within_its_limit(rt: HostRuntime) -> Result<(), Failed> {
-    let file = guest(rt.alloc(), &WRITER)?;
-    let mut machine = machine_of(rt.alloc(), file.as_slice(), b"harts 1\n0 100", b"")?;
+/// The first number of instructions after which x10 or the output is another.
+fn other_output(machine: &mut Machine<'_>) -> Result<Option<&'static str>, Trouble> {
     for (name, count, answer, length) in &OUTPUTS {
-        carry_out(&mut machine, *count)?;
-        assert_eq!(rt; x10(&machine), Some(*answer), "{name}");
-        assert_eq!(rt; machine.output().len(), *length, "{name}");
+        carry_out(machine, *count)?;
+        if x10(machine) != Some(*answer) || machine.output().len() != *length {
+            return Ok(Some(name));
+        }
     }
-    Ok(())
+    Ok(None)
 }
 
 /// Whether this is due, and comes next.
@@ -112,16 +102,8 @@ fn comes(machine: &mut Machine<'_>, moment: Moment) -> Result<bool, Trouble> {
     Ok(machine.due() == Some(due) && machine.next()? == Some(moment))
 }
 
-/// Whether a run has ended.
-fn has_ended(machine: &mut Machine<'_>) -> Result<bool, Trouble> {
-    Ok(machine.due().is_none() && machine.next()?.is_none())
-}
-
-#[test]
-fn moments_in_their_order(rt: HostRuntime) -> Result<(), Failed> {
-    let file = guest(rt.alloc(), &ADDER)?;
-    let text = b"harts 2\n0 3\n1 2\n0 17\n1 1\n0 9\n1 1\n";
-    let mut machine = machine_of(rt.alloc(), file.as_slice(), text, b"")?;
+/// The first moment that doesn't come.
+fn other_moment(machine: &mut Machine<'_>) -> Result<Option<&'static str>, Trouble> {
     for (name, hart, ordinal, pc, retired) in &MOMENTS {
         let moment = Moment {
             hart: *hart,
@@ -129,52 +111,290 @@ fn moments_in_their_order(rt: HostRuntime) -> Result<(), Failed> {
             pc: *pc,
             retired: *retired,
         };
-        assert!(rt; comes(&mut machine, moment)?, "{name}");
+        if !comes(machine, moment)? {
+            return Ok(Some(name));
+        }
     }
-    assert!(rt; has_ended(&mut machine)?);
-    assert!(rt; stands(&machine, 0, 20, HartEnd::Exit(19)));
-    assert!(rt; stands(&machine, 1, 4, HartEnd::Running));
+    Ok(None)
+}
+
+/// Whether a run has ended.
+fn has_ended(machine: &mut Machine<'_>) -> Result<bool, Trouble> {
+    Ok(machine.due().is_none() && machine.next()?.is_none())
+}
+
+/// The first of these harts that stands otherwise at the end of a run.
+fn other_end(
+    machine: &mut Machine<'_>,
+    wanted: &[(&'static str, u32, u64, HartEnd)],
+) -> Result<Option<&'static str>, Trouble> {
+    if !has_ended(machine)? {
+        return Ok(Some("the end of the run"));
+    }
+    Ok(other_hart(machine, wanted))
+}
+
+/// The same after a given number of instructions more.
+fn other_end_after(
+    machine: &mut Machine<'_>,
+    count: u32,
+    wanted: &[(&'static str, u32, u64, HartEnd)],
+) -> Result<Option<&'static str>, Trouble> {
+    carry_out(machine, count)?;
+    other_end(machine, wanted)
+}
+
+/// How the harts stand after the moments.
+const ENDS_OF_MOMENTS: [(&str, u32, u64, HartEnd); 2] = [
+    ("hart 0 at the end", 0, 20, HartEnd::Exit(19)),
+    ("hart 1 at the end", 1, 4, HartEnd::Running),
+];
+
+/// The first moment that doesn't come, or hart that stands otherwise after them.
+fn other_moment_or_end(machine: &mut Machine<'_>) -> Result<Option<&'static str>, Trouble> {
+    match other_moment(machine)? {
+        Some(name) => Ok(Some(name)),
+        None => other_end(machine, &ENDS_OF_MOMENTS),
+    }
+}
+
+/// How the harts stand after an exit of all.
+const ENDS_OF_GROUP: [(&str, u32, u64, HartEnd); 3] = [
+    ("hart 0", 0, 3, HartEnd::Group(5)),
+    ("hart 1", 1, 4, HartEnd::Group(5)),
+    ("hart 2", 2, 5, HartEnd::Exit(9)),
+];
+
+/// How many instructions more, and the word that two harts share then.
+const SHARES: [(&str, u32, u32); 2] = [
+    ("after 23 instructions", 23, 0x122),
+    ("after 3 more", 3, 0x121),
+];
+
+/// The first number of instructions after which the shared word is another.
+fn other_word(machine: &mut Machine<'_>) -> Result<Option<&'static str>, Trouble> {
+    for (name, count, word) in &SHARES {
+        carry_out(machine, *count)?;
+        if machine.space().load(0xf008_0000, 4) != Some(*word) {
+            return Ok(Some(name));
+        }
+    }
+    Ok(None)
+}
+
+fn other_word_or_end(machine: &mut Machine<'_>) -> Result<Option<&'static str>, Trouble> {
+    match other_word(machine)? {
+        Some(name) => Ok(Some(name)),
+        None => other_end(machine, &[]),
+    }
+}
+
+/// The first of these that a call and the break after it leave otherwise.
+fn other_after_call(
+    machine: &mut Machine<'_>,
+    file: &[u8],
+    left: &Left,
+) -> Result<Option<&'static str>, Trouble> {
+    carry_out(machine, 7)?;
+    Ok(other_part(machine, file, left))
+}
+
+/// What is looked at in a run.
+#[derive(Clone, Copy)]
+enum Wanted<'a> {
+    /// What a call leaves.
+    Call(&'a Left),
+    Outputs,
+    Moments,
+    SharedWords,
+    /// How harts stand at the end, after a given number of instructions.
+    Ends(u32, &'a [(&'static str, u32, u64, HartEnd)]),
+}
+
+/// The first of what is wanted that differs in the run of the program in a file.
+fn other_in_run(
+    machine: &mut Machine<'_>,
+    file: &[u8],
+    wanted: Wanted<'_>,
+) -> Result<Option<&'static str>, Trouble> {
+    match wanted {
+        Wanted::Call(left) => other_after_call(machine, file, left),
+        Wanted::Outputs => other_output(machine),
+        Wanted::Moments => other_moment_or_end(machine),
+        Wanted::SharedWords => other_word_or_end(machine),
+        Wanted::Ends(count, harts) => other_end_after(machine, count, harts),
+    }
+}
+
+/// The same under the schedule of a text, and with the input `abcdef`.
+fn other_in_file(
+    alloc: Global,
+    file: &[u8],
+    text: &[u8],
+    wanted: Wanted<'_>,
+) -> Result<Option<&'static str>, Trouble> {
+    let mut machine = machine_of(alloc, file, text, b"abcdef")?;
+    other_in_run(&mut machine, file, wanted)
+}
+
+/// The same for a program of these words.
+fn other_in_program(
+    alloc: Global,
+    words: &[u32],
+    text: &[u8],
+    wanted: Wanted<'_>,
+) -> Result<Option<&'static str>, Trouble> {
+    let file = guest(alloc, words)?;
+    other_in_file(alloc, &file, text, wanted)
+}
+
+/// The words of a program that makes a call with these in x17 and x10 to x12.
+fn caller(alloc: Global, given: [u32; 4]) -> Result<Vec<u32>, Trouble> {
+    let mut words = Vec::new(alloc);
+    words.extend_from_slice(&CALLER)?;
+    words.extend_from_slice(&given)?;
+    Ok(words)
+}
+
+/// Whether a call with these in x17 and x10 to x12 leaves this.
+fn call_leaves(alloc: Global, given: [u32; 4], left: &Left) -> Result<bool, Trouble> {
+    let words = caller(alloc, given)?;
+    let other = other_in_program(alloc, &words, b"harts 1\n0 6", Wanted::Call(left))?;
+    Ok(other.is_none())
+}
+
+/// The first read that leaves something else.
+fn other_read(alloc: Global) -> Result<Option<&'static str>, Trouble> {
+    for (name, descriptor, at, count, answer, word) in &READS {
+        let left = Left {
+            x10: *answer,
+            retired: 6,
+            end: HartEnd::Running,
+            output: (84, 84),
+            word: (*at, *word),
+        };
+        if !call_leaves(alloc, [SYS_READ, *descriptor, *at, *count], &left)? {
+            return Ok(Some(name));
+        }
+    }
+    Ok(None)
+}
+
+#[test]
+fn reads_of_the_input(rt: HostRuntime) -> Result<(), Failed> {
+    assert_eq!(rt; other_read(rt.alloc())?, None);
+    Ok(())
+}
+
+/// The first write that leaves something else.
+fn other_write(alloc: Global) -> Result<Option<&'static str>, Trouble> {
+    for (name, descriptor, at, count, answer, from, to) in &WRITES {
+        let left = Left {
+            x10: *answer,
+            retired: 6,
+            end: HartEnd::Running,
+            output: (*from, *to),
+            word: CODE_WORD,
+        };
+        if !call_leaves(alloc, [SYS_WRITE, *descriptor, *at, *count], &left)? {
+            return Ok(Some(name));
+        }
+    }
+    Ok(None)
+}
+
+#[test]
+fn writes_of_memory(rt: HostRuntime) -> Result<(), Failed> {
+    assert_eq!(rt; other_write(rt.alloc())?, None);
+    Ok(())
+}
+
+/// The first other call that leaves something else.
+fn other_call(alloc: Global) -> Result<Option<&'static str>, Trouble> {
+    for (name, number, a, answer, retired, end) in &OTHERS {
+        let left = Left {
+            x10: *answer,
+            retired: *retired,
+            end: *end,
+            output: (84, 84),
+            word: CODE_WORD,
+        };
+        if !call_leaves(alloc, [*number, *a, 0, 0], &left)? {
+            return Ok(Some(name));
+        }
+    }
+    Ok(None)
+}
+
+#[test]
+fn exits_and_unknown_calls(rt: HostRuntime) -> Result<(), Failed> {
+    assert_eq!(rt; other_call(rt.alloc())?, None);
     Ok(())
 }
 
 #[test]
-fn ends_of_harts(rt: HostRuntime) -> Result<(), Failed> {
+fn output_within_its_limit(rt: HostRuntime) -> Result<(), Failed> {
+    let text = b"harts 1\n0 100";
+    assert_eq!(rt;
+        other_in_program(rt.alloc(), &WRITER, text, Wanted::Outputs)?,
+        None
+    );
+    Ok(())
+}
+
+#[test]
+fn moments_in_their_order(rt: HostRuntime) -> Result<(), Failed> {
+    let text = b"harts 2\n0 3\n1 2\n0 17\n1 1\n0 9\n1 1\n";
+    assert_eq!(rt;
+        other_in_program(rt.alloc(), &ADDER, text, Wanted::Moments)?,
+        None
+    );
+    Ok(())
+}
+
+/// Whether hart 1 stands like this at the end of the run of these words.
+fn second_hart_ends(
+    alloc: Global,
+    words: &[u32],
+    retired: u64,
+    end: HartEnd,
+) -> Result<bool, Trouble> {
+    let harts = [("hart 1", 1, retired, end)];
+    let text = b"harts 2\n1 9\n0 9\n1 9";
+    let other = other_in_program(alloc, words, text, Wanted::Ends(30, &harts))?;
+    Ok(other.is_none())
+}
+
+/// The first program whose hart 1 stands otherwise.
+fn other_program(alloc: Global) -> Result<Option<&'static str>, Trouble> {
     for (name, words, retired, end) in &ENDS {
-        let file = guest(rt.alloc(), words)?;
-        let text = b"harts 2\n1 9\n0 9\n1 9";
-        let mut machine = machine_of(rt.alloc(), file.as_slice(), text, b"")?;
-        carry_out(&mut machine, 30)?;
-        assert!(rt; stands(&machine, 1, *retired, *end), "{name}");
+        if !second_hart_ends(alloc, words, *retired, *end)? {
+            return Ok(Some(name));
+        }
     }
+    Ok(None)
+}
+
+#[test]
+fn ends_of_harts(rt: HostRuntime) -> Result<(), Failed> {
+    assert_eq!(rt; other_program(rt.alloc())?, None);
     Ok(())
 }
 
 #[test]
 fn exit_of_all_harts(rt: HostRuntime) -> Result<(), Failed> {
-    let file = guest(rt.alloc(), &GROUP)?;
     let text = b"harts 3\n1 4\n2 9\n0 9\n1 9\n2 9\n0 9";
-    let mut machine = machine_of(rt.alloc(), file.as_slice(), text, b"")?;
-    carry_out(&mut machine, 14)?;
-    assert!(rt; machine.next()?.is_none());
-    assert!(rt; stands(&machine, 0, 3, HartEnd::Group(5)));
-    assert!(rt; stands(&machine, 1, 4, HartEnd::Group(5)));
-    assert!(rt; stands(&machine, 2, 5, HartEnd::Exit(9)));
+    let wanted = Wanted::Ends(14, &ENDS_OF_GROUP);
+    assert_eq!(rt; other_in_program(rt.alloc(), &GROUP, text, wanted)?, None);
     Ok(())
-}
-
-/// Whether a given number of instructions more leave this in the shared word.
-fn shares(machine: &mut Machine<'_>, count: u32, word: u32) -> Result<bool, Trouble> {
-    carry_out(machine, count)?;
-    Ok(machine.space().load(0xf008_0000, 4) == Some(word))
 }
 
 #[test]
 fn two_harts_on_one_word(rt: HostRuntime) -> Result<(), Failed> {
-    let file = guest(rt.alloc(), &SHARED)?;
     let text = b"harts 2\n0 7\n1 7\n0 3\n1 6\n0 3";
-    let mut machine = machine_of(rt.alloc(), file.as_slice(), text, b"")?;
-    assert!(rt; shares(&mut machine, 23, 0x122)?);
-    assert!(rt; shares(&mut machine, 3, 0x121)?);
-    assert!(rt; machine.next()?.is_none());
+    assert_eq!(rt;
+        other_in_program(rt.alloc(), &SHARED, text, Wanted::SharedWords)?,
+        None
+    );
     Ok(())
 }

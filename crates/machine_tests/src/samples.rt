@@ -155,14 +155,30 @@ fn has_samples(
     come(&mut samples, &Probe { alloc }, wanted)
 }
 
+/// The same for a program of these words.
+fn guest_has_samples(
+    alloc: Global,
+    words: &[u32],
+    text: &[u8],
+    period: u32,
+    wanted: &[(u32, u64, u32, u32)],
+) -> Result<bool, Trouble> {
+    let file = guest(alloc, words)?;
+    has_samples(alloc, &file, text, period, wanted)
+}
+
+/// The first row with other samples.
+fn other_samples(alloc: Global) -> Result<Option<&'static str>, Trouble> {
+    for (name, words, text, period, wanted) in &SAMPLED {
+        if !guest_has_samples(alloc, words, text, *period, wanted)? {
+            return Ok(Some(name));
+        }
+    }
+    Ok(None)
+}
+
 #[test]
 fn samples_in_their_order(rt: HostRuntime) -> Result<(), Failed> {
-    for (name, words, text, period, wanted) in &SAMPLED {
-        let file = guest(rt.alloc(), words)?;
-        assert!(rt;
-            has_samples(rt.alloc(), file.as_slice(), text, *period, wanted)?,
-            "{name}"
-        );
-    }
+    assert_eq!(rt; other_samples(rt.alloc())?, None);
     Ok(())
 }

@@ -34,24 +34,40 @@ fn same_slices(told: &[Slice], wanted: &[(u32, u32)]) -> bool {
     true
 }
 
+/// The first text whose first bad line is another.
+fn other_fault(alloc: Global) -> Result<Option<&'static str>, Trouble> {
+    for (text, line) in &FAULTS {
+        if bad_line(alloc, text.as_bytes())? != Some(*line) {
+            return Ok(Some(text));
+        }
+    }
+    Ok(None)
+}
+
 #[test]
 fn bad_lines_of_schedules(rt: HostRuntime) -> Result<(), Failed> {
-    for (text, line) in &FAULTS {
-        assert_eq!(rt;
-            bad_line(rt.alloc(), text.as_bytes())?,
-            Some(*line),
-            "{text:?}"
-        );
-    }
+    assert_eq!(rt; other_fault(rt.alloc())?, None);
     Ok(())
+}
+
+/// Whether a text tells a schedule of so many harts and these slices.
+fn tells(alloc: Global, text: &[u8], harts: u32, slices: &[(u32, u32)]) -> Result<bool, Trouble> {
+    let told = schedule(alloc, text)?;
+    Ok(told.harts() == harts && same_slices(told.slices(), slices))
+}
+
+/// The first text that tells another schedule.
+fn other_schedule(alloc: Global) -> Result<Option<&'static str>, Trouble> {
+    for (text, harts, slices) in &SCHEDULES {
+        if !tells(alloc, text.as_bytes(), *harts, slices)? {
+            return Ok(Some(text));
+        }
+    }
+    Ok(None)
 }
 
 #[test]
 fn schedules_as_they_are_told(rt: HostRuntime) -> Result<(), Failed> {
-    for (text, harts, slices) in &SCHEDULES {
-        let told = schedule(rt.alloc(), text.as_bytes())?;
-        assert_eq!(rt; told.harts(), *harts, "{text:?}");
-        assert!(rt; same_slices(told.slices(), slices), "{text:?}");
-    }
+    assert_eq!(rt; other_schedule(rt.alloc())?, None);
     Ok(())
 }

@@ -211,18 +211,27 @@ pub(crate) fn made<C: Crews>(
     Ok(profile(rt, &job, crews).ok().ok_or("refused")?)
 }
 
+/// Whether the profile of a program has the row's report.
+fn is_unwound(rt: &(impl Threads + Sync + AllocGlobal), row: &Unwound) -> Result<bool, Fail> {
+    let crews = WorkCrew::of(&OpenGate);
+    let elf = changed(rt.alloc(), row.file, row.changes)?;
+    let made = made(rt, elf.as_slice(), row.schedule, row.period, &crews)?;
+    Ok(made.report.bytes() == row.report.as_bytes())
+}
+
+/// The first program whose profile has another report.
+fn other_unwound(rt: &(impl Threads + Sync + AllocGlobal)) -> Result<Option<&'static str>, Fail> {
+    for row in &ALL_UNWOUND {
+        if !is_unwound(rt, row)? {
+            return Ok(Some(row.name));
+        }
+    }
+    Ok(None)
+}
+
 #[test]
 fn call_paths_of_programs(rt: HostRuntime) -> Result<(), Fail> {
-    let crews = WorkCrew::of(&OpenGate);
-    for row in &ALL_UNWOUND {
-        let elf = changed(rt.alloc(), row.file, row.changes)?;
-        let made = made(&rt, elf.as_slice(), row.schedule, row.period, &crews)?;
-        assert!(rt;
-            made.report.bytes() == row.report.as_bytes(),
-            "{}",
-            row.name
-        );
-    }
+    assert_eq!(rt; other_unwound(&rt)?, None);
     Ok(())
 }
 

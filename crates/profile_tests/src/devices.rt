@@ -37,26 +37,38 @@ fn calls_of(front: &[u8]) -> [Call<'_>; 8] {
 }
 
 /// Fronts of a text, as long as their index is.
-const FRONTS: [&[u8]; 4] = [b"", b"N", b"NE", b"NEW"];
+static FRONTS: [&[u8]; 4] = [b"", b"N", b"NE", b"NEW"];
+
+/// Whether the calls over a shelf that keeps a given number of bytes have their answers, and leave its files so.
+fn calls_fail(alloc: Global, kept: usize, front: &[u8]) -> Result<bool, Memory> {
+    let mut shelf = failing_shelf(alloc, kept)?;
+    let other = other_answer(&mut shelf, &calls_of(front));
+    Ok(
+        other.is_none()
+            && shelf.file(b"db") == Some(front)
+            && shelf.file(b"elf") == Some(b"\x7fELF".as_slice())
+            && shelf.file(b"nobody").is_none(),
+    )
+}
+
+/// The first front that a shelf doesn't keep so.
+fn other_front(alloc: Global) -> Result<Option<&'static [u8]>, Memory> {
+    for (kept, front) in FRONTS.iter().enumerate() {
+        if !calls_fail(alloc, kept, front)? {
+            return Ok(Some(front));
+        }
+    }
+    Ok(None)
+}
 
 #[test]
 fn calls_that_fail_in_memory(rt: HostRuntime) -> Result<(), Fail> {
-    for (kept, front) in FRONTS.iter().enumerate() {
-        let mut shelf = failing_shelf(rt.alloc(), kept)?;
-        assert_eq!(rt;
-            other_answer(&mut shelf, &calls_of(front)),
-            None,
-            "{kept} bytes are kept"
-        );
-        assert!(rt; shelf.file(b"db") == Some(*front), "{kept} bytes are kept");
-        assert!(rt; shelf.file(b"elf") == Some(b"\x7fELF".as_slice()));
-        assert!(rt; shelf.file(b"nobody").is_none());
-    }
+    assert_eq!(rt; other_front(rt.alloc())?, None);
     Ok(())
 }
 
 /// What a sink has taken whose second put fails, by how many bytes it keeps then.
-const TAKEN: [&[u8]; 4] = [b"one\n", b"one\nt", b"one\ntw", b"one\ntwo"];
+static TAKEN: [&[u8]; 4] = [b"one\n", b"one\nt", b"one\ntw", b"one\ntwo"];
 
 /// Whether the second of three puts fails, and these bytes were taken then.
 fn second_put_fails(sink: &mut MemSink, taken: &[u8]) -> bool {
@@ -66,12 +78,20 @@ fn second_put_fails(sink: &mut MemSink, taken: &[u8]) -> bool {
         && sink.taken() == taken
 }
 
+/// The first of these that a sink hasn't taken so.
+fn other_taken(alloc: Global) -> Result<Option<&'static [u8]>, Memory> {
+    for (kept, taken) in TAKEN.iter().enumerate() {
+        let mut sink = MemSink::of(alloc, Vec::from_slice(alloc, &[2])?, kept);
+        if !second_put_fails(&mut sink, taken) {
+            return Ok(Some(taken));
+        }
+    }
+    Ok(None)
+}
+
 #[test]
 fn puts_that_fail_in_memory(rt: HostRuntime) -> Result<(), Fail> {
-    for (kept, taken) in TAKEN.iter().enumerate() {
-        let mut sink = MemSink::of(rt.alloc(), Vec::from_slice(rt.alloc(), &[2])?, kept);
-        assert!(rt; second_put_fails(&mut sink, taken), "{kept} bytes are kept");
-    }
+    assert_eq!(rt; other_taken(rt.alloc())?, None);
     Ok(())
 }
 
@@ -85,18 +105,30 @@ static SURE_CALLS: [Call<'static>; 6] = [
     Call::Fetched(b"db", 6, b"second"),
 ];
 
+/// Whether the calls have their answers, and leave the files so.
+fn calls_succeed(alloc: Global) -> Result<bool, Memory> {
+    let mut shelf = SureShelf::of(alloc, owned(alloc, &[(b"elf", b"\x7fELF")])?);
+    let other = other_answer(&mut shelf, &SURE_CALLS);
+    Ok(
+        other.is_none()
+            && shelf.file(b"db") == Some(b"second".as_slice())
+            && shelf.file(b"elf") == Some(b"\x7fELF".as_slice())
+            && shelf.file(b"nobody").is_none(),
+    )
+}
+
+/// Whether a sink takes all that is put.
+fn puts_succeed(alloc: Global) -> bool {
+    let mut sink = SureSink::new(alloc);
+    sink.put(b"one ") == Put::Done
+        && sink.put(b"two") == Put::Done
+        && sink.taken() == b"one two".as_slice()
+}
+
 #[test]
 fn devices_that_never_fail(rt: HostRuntime) -> Result<(), Fail> {
-    let files = owned(rt.alloc(), &[(b"elf", b"\x7fELF")])?;
-    let mut shelf = SureShelf::of(rt.alloc(), files);
-    assert_eq!(rt; other_answer(&mut shelf, &SURE_CALLS), None);
-    assert!(rt; shelf.file(b"db") == Some(b"second".as_slice()));
-    assert!(rt; shelf.file(b"elf") == Some(b"\x7fELF".as_slice()));
-    assert!(rt; shelf.file(b"nobody").is_none());
-    let mut sink = SureSink::new(rt.alloc());
-    assert_eq!(rt; sink.put(b"one "), Put::Done);
-    assert_eq!(rt; sink.put(b"two"), Put::Done);
-    assert_eq!(rt; sink.taken(), b"one two".as_slice());
+    assert!(rt; calls_succeed(rt.alloc())?);
+    assert!(rt; puts_succeed(rt.alloc()));
     OpenGate.pass(1, 2, 3);
     Ok(())
 }

@@ -1,7 +1,8 @@
 //! What `drill` puts of a number's guest, by any number of workers. The lines are those of `checks/drill`, which makes,
 //! runs and samples the guest in plain Python.
-use crate::programs::{put_by, words_of};
+use crate::programs::{puts_over, words_of};
 use hpc_top::{Status, hpc_main};
+use prof_bytes::Text;
 use prof_devices::{Gate, SureShelf, SureSink};
 use std::sync::atomic::{AtomicBool, AtomicU32, Ordering};
 use std::test::Fail;
@@ -48,6 +49,15 @@ impl Gate for Meeting {
     }
 }
 
+/// Whether these words are done, and put the lines and nothing on standard error.
+fn puts_lines(rt: &(impl Threads + Sync + AllocGlobal), words: &[Text], gate: &Meeting) -> bool {
+    let mut shelf = SureShelf::of(rt.alloc(), Vec::new(rt.alloc()));
+    let mut out = SureSink::new(rt.alloc());
+    let mut err = SureSink::new(rt.alloc());
+    let status = hpc_main(rt, words, &mut shelf, &mut out, &mut err, gate);
+    status == Status::Done && out.taken() == LINES.as_bytes() && err.taken().is_empty()
+}
+
 /// Whether a drill by two workers puts the lines, and the two were at work at once.
 fn meets(rt: &(impl Threads + Sync + AllocGlobal)) -> Result<bool, Fail> {
     let gate = Meeting {
@@ -55,21 +65,13 @@ fn meets(rt: &(impl Threads + Sync + AllocGlobal)) -> Result<bool, Fail> {
         met: AtomicBool::new(false),
     };
     let words = words_of(rt.alloc(), "drill 0 2")?;
-    let mut shelf = SureShelf::of(rt.alloc(), Vec::new(rt.alloc()));
-    let mut out = SureSink::new(rt.alloc());
-    let mut err = SureSink::new(rt.alloc());
-    let status = hpc_main(rt, words.as_slice(), &mut shelf, &mut out, &mut err, &gate);
-    let put = out.taken() == LINES.as_bytes() && err.taken().is_empty();
-    Ok(status == Status::Done && put && gate.met.load(Ordering::SeqCst))
+    Ok(puts_lines(rt, words.as_slice(), &gate) && gate.met.load(Ordering::SeqCst))
 }
 
 #[test]
 fn the_lines_are_the_same_by_one_and_sixteen_workers(rt: HostRuntime) -> Result<(), Fail> {
-    for words in ["drill 0 1", "drill 0 16"] {
-        let mut shelf = SureShelf::of(rt.alloc(), Vec::new(rt.alloc()));
-        let text = put_by(&rt, words, &mut shelf)?;
-        assert!(rt; text.bytes() == LINES.as_bytes());
-    }
+    assert!(rt; puts_over(&rt, "drill 0 1", Vec::new(rt.alloc()), LINES)?);
+    assert!(rt; puts_over(&rt, "drill 0 16", Vec::new(rt.alloc()), LINES)?);
     Ok(())
 }
 

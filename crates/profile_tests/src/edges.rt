@@ -54,14 +54,20 @@ static PUTS: [(&[u8], &[u8], Put, Put); 5] = [
     (b"\xff", b"\xff", Put::Done, Put::Fault),
 ];
 
+/// The index of the first row whose puts are answered otherwise.
+fn other_put(alloc: Global) -> Option<usize> {
+    for (index, (bytes, put, out, err)) in PUTS.iter().enumerate() {
+        let awaits = Awaits { alloc, bytes };
+        if OutSink::of(&awaits).put(put) != *out || ErrSink::of(&awaits).put(put) != *err {
+            return Some(index);
+        }
+    }
+    None
+}
+
 #[test]
 fn streams_take_just_the_bytes(rt: HostRuntime) {
-    for (bytes, put, out, err) in &PUTS {
-        let alloc = rt.alloc();
-        let awaits = Awaits { alloc, bytes };
-        assert_eq!(rt; OutSink::of(&awaits).put(put), *out, "{put:?}");
-        assert_eq!(rt; ErrSink::of(&awaits).put(put), *err, "{put:?}");
-    }
+    assert_eq!(rt; other_put(rt.alloc()), None);
     assert_eq!(rt; OutSink::of(&rt).put(b""), Put::Done);
     assert_eq!(rt; ErrSink::of(&rt).put(b""), Put::Done);
 }

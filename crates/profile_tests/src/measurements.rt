@@ -2,7 +2,7 @@
 //! `profile` makes. The measurement is written by hand from the layout of the file.
 use crate::databases::database_of_four;
 use crate::debug_programs::WITH_INLINES;
-use crate::programs::{ADDING, BRANCHING, file, files, is_refused, program, put_by};
+use crate::programs::{ADDING, BRANCHING, file, files, is_refused, program, put_by, puts};
 use hpc_top::{InputFault, Status};
 use prof_bytes::Text;
 use prof_devices::SureShelf;
@@ -41,28 +41,44 @@ fn files_with(alloc: Global, elf: &[u8], measurement: &[u8]) -> Result<Vec<(Text
     Ok(files)
 }
 
+/// Those of the run of a program with this code.
+fn files_of(alloc: Global, code: &[u32], measurement: &[u8]) -> Result<Vec<(Text, Text)>, Fail> {
+    let elf = program(alloc, code)?;
+    files_with(alloc, elf.as_slice(), measurement)
+}
+
+/// Whether a command over the adding program and this measurement puts this text, and leaves these bytes in `m` and `d`.
+fn leaves(
+    rt: &(impl Threads + Sync + AllocGlobal),
+    line: &str,
+    measurement: &[u8],
+    text: &str,
+    left: (&[u8], &[u8]),
+) -> Result<bool, Fail> {
+    let mut shelf = SureShelf::of(rt.alloc(), files_of(rt.alloc(), &ADDING, measurement)?);
+    let is_put = puts(rt, line, &mut shelf, text)?;
+    Ok(is_put && shelf.file(b"m") == Some(left.0) && shelf.file(b"d") == Some(left.1))
+}
+
 #[test]
 fn a_run_keeps_its_paths(rt: HostRuntime) -> Result<(), Fail> {
-    let elf = program(rt.alloc(), &ADDING)?;
-    let files = files_with(rt.alloc(), elf.as_slice(), b"before")?;
-    let mut shelf = SureShelf::of(rt.alloc(), files);
-    let text = put_by(&rt, "run p i s 5 m", &mut shelf)?;
-    assert!(rt; text.bytes() == LINES.as_bytes());
-    assert!(rt; shelf.file(b"m") == Some(FOUR_PATHS));
-    assert!(rt; shelf.file(b"d") == Some(b"before"));
+    assert!(rt;
+        leaves(
+            &rt,
+            "run p i s 5 m",
+            b"before",
+            LINES,
+            (FOUR_PATHS, b"before")
+        )?
+    );
     Ok(())
 }
 
 #[test]
 fn a_measurement_is_attributed(rt: HostRuntime) -> Result<(), Fail> {
-    let elf = program(rt.alloc(), &ADDING)?;
     let database = database_of_four(rt.alloc())?;
-    let files = files_with(rt.alloc(), elf.as_slice(), FOUR_PATHS)?;
-    let mut shelf = SureShelf::of(rt.alloc(), files);
-    let text = put_by(&rt, "prof p m 2 d", &mut shelf)?;
-    assert!(rt; text.bytes() == TABLE.as_bytes());
-    assert!(rt; shelf.file(b"d") == Some(database.as_slice()));
-    assert!(rt; shelf.file(b"m") == Some(FOUR_PATHS));
+    let left = (FOUR_PATHS, database.as_slice());
+    assert!(rt; leaves(&rt, "prof p m 2 d", FOUR_PATHS, TABLE, left)?);
     Ok(())
 }
 
@@ -106,37 +122,66 @@ static REFUSED: [Refused; 3] = [
 
 /// Whether a measurement is refused, and nothing is stored or put.
 fn is_faulty(rt: &(impl Threads + Sync + AllocGlobal), row: &Refused) -> Result<bool, Fail> {
-    let elf = program(rt.alloc(), row.code)?;
-    let mut measurement = Vec::from_slice(rt.alloc(), FOUR_PATHS)?;
-    measurement.truncate(row.kept);
-    let files = files_with(rt.alloc(), elf.as_slice(), measurement.as_slice())?;
+    let kept = FOUR_PATHS.get(..row.kept).unwrap_or(FOUR_PATHS);
+    let files = files_of(rt.alloc(), row.code, kept)?;
     let status = Status::Input(row.fault);
     is_refused(rt, "prof p m 1 d", files, b"before", status, row.line)
 }
 
+/// The first measurement that is not refused so.
+fn other_refused(rt: &(impl Threads + Sync + AllocGlobal)) -> Result<Option<&'static str>, Fail> {
+    for row in &REFUSED {
+        if !is_faulty(rt, row)? {
+            return Ok(Some(row.name));
+        }
+    }
+    Ok(None)
+}
+
 #[test]
 fn measurements_that_are_refused(rt: HostRuntime) -> Result<(), Fail> {
-    for row in &REFUSED {
-        assert!(rt; is_faulty(&rt, row)?, "{}", row.name);
-    }
+    assert_eq!(rt; other_refused(&rt)?, None);
     Ok(())
+}
+
+/// A shelf with the program of inlined procedures.
+fn inlined_shelf(alloc: Global) -> Result<SureShelf, Fail> {
+    Ok(SureShelf::of(alloc, files_with(alloc, WITH_INLINES, b"before")?))
+}
+
+/// What a run and then this command put over a shelf.
+fn put_by_two(
+    rt: &(impl Threads + Sync + AllocGlobal),
+    attribution: &str,
+    shelf: &mut SureShelf,
+) -> Result<Vec<u8>, Fail> {
+    let lines = put_by(rt, "run p i s 2 m", shelf)?;
+    let table = put_by(rt, attribution, shelf)?;
+    let mut text = Vec::from_slice(rt.alloc(), lines.bytes())?;
+    text.extend_from_slice(table.bytes())?;
+    Ok(text)
+}
+
+/// Whether a run and its attribution put this text, and leave this database.
+fn makes(
+    rt: &(impl Threads + Sync + AllocGlobal),
+    attribution: &str,
+    text: &[u8],
+    database: Option<&[u8]>,
+) -> Result<bool, Fail> {
+    let mut shelf = inlined_shelf(rt.alloc())?;
+    let both = put_by_two(rt, attribution, &mut shelf)?;
+    Ok(both.as_slice() == text && database.is_some() && shelf.file(b"d") == database)
 }
 
 /// Whether a run whose measurement a given number of workers attribute makes what one profile makes.
 fn is_the_profile(
     rt: &(impl Threads + Sync + AllocGlobal),
-    attribution: &'static str,
+    attribution: &str,
 ) -> Result<bool, Fail> {
-    let alloc = rt.alloc();
-    let mut whole = SureShelf::of(rt.alloc(), files_with(alloc, WITH_INLINES, b"before")?);
-    let profile = put_by(rt, "profile p i s 2 1 d", &mut whole)?;
-    let mut apart = SureShelf::of(rt.alloc(), files_with(alloc, WITH_INLINES, b"before")?);
-    let lines = put_by(rt, "run p i s 2 m", &mut apart)?;
-    let table = put_by(rt, attribution, &mut apart)?;
-    let mut text = Vec::from_slice(alloc, lines.bytes())?;
-    text.extend_from_slice(table.bytes())?;
-    let is_stored = whole.file(b"d").is_some() && apart.file(b"d") == whole.file(b"d");
-    Ok(is_stored && profile.bytes() == text.as_slice())
+    let mut shelf = inlined_shelf(rt.alloc())?;
+    let profile = put_by(rt, "profile p i s 2 1 d", &mut shelf)?;
+    makes(rt, attribution, profile.bytes(), shelf.file(b"d"))
 }
 
 #[test]

@@ -146,6 +146,42 @@ pub(crate) fn put_by(
     text(rt.alloc(), out.taken())
 }
 
+/// Whether a command over this shelf puts just this text.
+pub(crate) fn puts(
+    rt: &(impl Threads + Sync + AllocGlobal),
+    line: &str,
+    shelf: &mut SureShelf,
+    wanted: &str,
+) -> Result<bool, Fail> {
+    let text = put_by(rt, line, shelf)?;
+    Ok(text.bytes() == wanted.as_bytes())
+}
+
+/// Whether a command over these files puts just this text.
+pub(crate) fn puts_over(
+    rt: &(impl Threads + Sync + AllocGlobal),
+    line: &str,
+    files: Vec<(Text, Text)>,
+    wanted: &str,
+) -> Result<bool, Fail> {
+    let mut shelf = SureShelf::of(rt.alloc(), files);
+    puts(rt, line, &mut shelf, wanted)
+}
+
+/// Whether a command over this shelf has this answer and this line on standard error, and puts nothing.
+fn refuses(
+    rt: &(impl Threads + Sync + AllocGlobal),
+    line: &str,
+    shelf: &mut SureShelf,
+    status: Status,
+    message: &str,
+) -> Result<bool, Fail> {
+    let mut out = SureSink::new(rt.alloc());
+    let mut err = SureSink::new(rt.alloc());
+    let found = answer(rt, line, shelf, &mut out, &mut err)?;
+    Ok(found == status && out.taken().is_empty() && err.taken() == message.as_bytes())
+}
+
 /// Whether a command over these files has this answer and this line on standard error, puts nothing, and leaves
 /// these bytes in `d`.
 pub(crate) fn is_refused(
@@ -157,13 +193,6 @@ pub(crate) fn is_refused(
     message: &str,
 ) -> Result<bool, Fail> {
     let mut shelf = SureShelf::of(rt.alloc(), files);
-    let mut out = SureSink::new(rt.alloc());
-    let mut err = SureSink::new(rt.alloc());
-    let found = answer(rt, line, &mut shelf, &mut out, &mut err)?;
-    Ok(
-        found == status
-            && shelf.file(b"d") == Some(kept)
-            && out.taken().is_empty()
-            && err.taken() == message.as_bytes(),
-    )
+    let is_refused = refuses(rt, line, &mut shelf, status, message)?;
+    Ok(is_refused && shelf.file(b"d") == Some(kept))
 }

@@ -1,7 +1,6 @@
 //! What `struct` puts: the structure of a program. The text is written by hand from its layout.
 use crate::debug_programs::WITH_INLINES;
-use crate::programs::{files, put_by};
-use prof_devices::SureShelf;
+use crate::programs::{files, puts_over};
 use std::test::Fail;
 
 /// A subprogram, and two levels of inlined calls.
@@ -14,8 +13,6 @@ proc main 0x00010000..0x00010054
 #[test]
 fn the_structure_of_inlined_calls(rt: HostRuntime) -> Result<(), Fail> {
     let files = files(rt.alloc(), WITH_INLINES, b"", b"")?;
-    let mut shelf = SureShelf::of(rt.alloc(), files);
-    let text = put_by(&rt, "struct p", &mut shelf)?;
-    assert!(rt; text.bytes() == STRUCTURE.as_bytes());
+    assert!(rt; puts_over(&rt, "struct p", files, STRUCTURE)?);
     Ok(())
 }

@@ -5,7 +5,7 @@ use crate::call_paths::{RECURSION, SEVEN_FRAMES};
 use crate::databases::database_of_four;
 use crate::debug_programs::WITH_ENTRIES;
 use crate::measurements::TABLE;
-use crate::programs::{database_alone, files, put_by};
+use crate::programs::{database_alone, files, put_by, puts};
 use prof_bytes::Text;
 use prof_devices::SureShelf;
 use std::test::Fail;
@@ -70,16 +70,32 @@ static VIEWS_OF_FOUR: [(&str, &str); 3] = [
     ("view d flat", FOUR_FLAT),
 ];
 
+/// Whether a view of this database puts this table, and the database stays.
+fn is_view(
+    rt: &(impl Threads + Sync + AllocGlobal),
+    database: &[u8],
+    words: &str,
+    table: &str,
+) -> Result<bool, Fail> {
+    let mut shelf = SureShelf::of(rt.alloc(), database_alone(rt.alloc(), database)?);
+    let is_table = puts(rt, words, &mut shelf, table)?;
+    Ok(is_table && shelf.file(b"d") == Some(database))
+}
+
+/// The first view of the database of four samples that is another one.
+fn other_view(rt: &(impl Threads + Sync + AllocGlobal)) -> Result<Option<&'static str>, Fail> {
+    let database = database_of_four(rt.alloc())?;
+    for (words, table) in &VIEWS_OF_FOUR {
+        if !is_view(rt, database.as_slice(), words, table)? {
+            return Ok(Some(words));
+        }
+    }
+    Ok(None)
+}
+
 #[test]
 fn tables_of_a_database(rt: HostRuntime) -> Result<(), Fail> {
-    let database = database_of_four(rt.alloc())?;
-    let files = database_alone(rt.alloc(), database.as_slice())?;
-    let mut shelf = SureShelf::of(rt.alloc(), files);
-    for (words, table) in &VIEWS_OF_FOUR {
-        let text = put_by(&rt, words, &mut shelf)?;
-        assert!(rt; text.bytes() == table.as_bytes(), "{words}");
-        assert!(rt; shelf.file(b"d") == Some(database.as_slice()), "{words}");
-    }
+    assert_eq!(rt; other_view(&rt)?, None);
     Ok(())
 }
 
@@ -135,12 +151,25 @@ fn put_by_both(
     Ok((report, table))
 }
 
+/// Whether the view of the profile's database puts the row's table.
+fn is_shown(rt: &(impl Threads + Sync + AllocGlobal), row: &Shown) -> Result<bool, Fail> {
+    let (_, table) = put_by_both(rt, row)?;
+    Ok(table.bytes() == row.table.as_bytes())
+}
+
+/// The first row with another table.
+fn other_shown(rt: &(impl Threads + Sync + AllocGlobal)) -> Result<Option<&'static str>, Fail> {
+    for row in &SHOWN {
+        if !is_shown(rt, row)? {
+            return Ok(Some(row.name));
+        }
+    }
+    Ok(None)
+}
+
 #[test]
 fn tables_of_profiles(rt: HostRuntime) -> Result<(), Fail> {
-    for row in &SHOWN {
-        let (_, table) = put_by_both(&rt, row)?;
-        assert!(rt; table.bytes() == row.table.as_bytes(), "{}", row.name);
-    }
+    assert_eq!(rt; other_shown(&rt)?, None);
     Ok(())
 }
 
@@ -160,14 +189,29 @@ static REPORTED: [Shown; 2] = [
     },
 ];
 
+/// Whether the report is the row's, and ends with the table that the view puts, from its header on.
+fn is_reported(rt: &(impl Threads + Sync + AllocGlobal), row: &Shown) -> Result<bool, Fail> {
+    let header = b"       inclusive      %            frame  scope\n";
+    let (report, table) = put_by_both(rt, row)?;
+    Ok(
+        report.bytes() == row.table.as_bytes()
+            && table.bytes().starts_with(header)
+            && report.bytes().ends_with(table.bytes()),
+    )
+}
+
+/// The first row with another report, or with another table at its end.
+fn other_reported(rt: &(impl Threads + Sync + AllocGlobal)) -> Result<Option<&'static str>, Fail> {
+    for row in &REPORTED {
+        if !is_reported(rt, row)? {
+            return Ok(Some(row.name));
+        }
+    }
+    Ok(None)
+}
+
 #[test]
 fn the_table_of_a_report(rt: HostRuntime) -> Result<(), Fail> {
-    let header = b"       inclusive      %            frame  scope\n";
-    for row in &REPORTED {
-        let (report, table) = put_by_both(&rt, row)?;
-        assert!(rt; report.bytes() == row.table.as_bytes(), "{}", row.name);
-        assert!(rt; table.bytes().starts_with(header), "{}", row.name);
-        assert!(rt; report.bytes().ends_with(table.bytes()), "{}", row.name);
-    }
+    assert_eq!(rt; other_reported(&rt)?, None);
     Ok(())
 }

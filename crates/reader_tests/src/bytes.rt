@@ -85,8 +85,7 @@ fn other_signed() -> Option<&'static str> {
 
 #[test]
 fn numbers_of_variable_length(rt: HostRuntime) {
-    assert_eq!(rt; other_unsigned(), None);
-    assert_eq!(rt; other_signed(), None);
+    assert_eq!(rt; other_unsigned().or(other_signed()), None);
 }
 
 /// The bytes 1 to 18, and two texts, of which the second has no end.
@@ -102,13 +101,17 @@ fn numbers_come(cursor: &mut Cursor<'_>) -> bool {
         && cursor.u64() == Some(0x1211_100f_0e0d_0c0b)
 }
 
-/// Whether the texts come after them, and nothing where too few bytes are left.
-fn texts_come(cursor: &mut Cursor<'_>) -> bool {
+/// Whether the text comes after them, and none where too few bytes are left.
+fn text_comes(cursor: &mut Cursor<'_>) -> bool {
     cursor.cstr() == Some(b"main".as_slice())
         && cursor.take(5).is_none()
         && cursor.left() == 4
         && cursor.cstr().is_none()
-        && cursor.u64().is_none()
+}
+
+/// Whether the bytes of the other come after it, and no number where too few bytes are left.
+fn rest_comes(cursor: &mut Cursor<'_>) -> bool {
+    cursor.u64().is_none()
         && cursor.take(4) == Some(b"rest".as_slice())
         && cursor.u8().is_none()
         && cursor.place() == 27
@@ -118,7 +121,7 @@ fn texts_come(cursor: &mut Cursor<'_>) -> bool {
 fn fixed_numbers_and_texts(rt: HostRuntime) {
     let mut cursor = Cursor::at(BYTES, 0);
     assert!(rt; numbers_come(&mut cursor));
-    assert!(rt; texts_come(&mut cursor));
+    assert!(rt; text_comes(&mut cursor) && rest_comes(&mut cursor));
 }
 
 /// A text with two numbers after it.
@@ -137,11 +140,17 @@ fn both_kept(alloc: Global, bytes: &[u8]) -> Result<Vec<u8>, Memory> {
     Ok(kept.into_vec())
 }
 
+/// Whether bytes are given back as they are.
+fn are_kept(alloc: Global, bytes: &[u8]) -> Result<bool, Memory> {
+    let kept = both_kept(alloc, bytes)?;
+    Ok(kept.as_slice() == bytes)
+}
+
 #[test]
 fn puts_append(rt: HostRuntime) -> Result<(), Fail> {
     let out = put_both(rt.alloc())?;
     let wanted = b"HPC\x04\x03\x02\x01\x05\0\0\0\0\0\0\0".as_slice();
-    assert_eq!(rt; out.as_slice(), wanted);
-    assert_eq!(rt; both_kept(rt.alloc(), &out)?.as_slice(), wanted);
+    let kept = are_kept(rt.alloc(), &out)?;
+    assert_eq!(rt; (out.as_slice(), kept), (wanted, true));
     Ok(())
 }

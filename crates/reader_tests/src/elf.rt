@@ -1,5 +1,5 @@
 use crate::rows::{bytes_of, changed, cut};
-use elf_image::{Image, read_image};
+use elf_image::{ElfFault, Function, Image, read_image};
 use prof_bytes::Memory;
 use std::alloc::Global;
 use std::fmt::Write;
@@ -8,16 +8,22 @@ use std::test::Fail;
 mod files;
 mod refused;
 
+fn acceptance(alloc: Global) -> Result<String, Memory> {
+    Ok(String::from_str(alloc, "accepted")?)
+}
+
+fn refusal(alloc: Global, fault: &ElfFault) -> Result<String, Memory> {
+    Ok(format!(in alloc; "{:?} {}", fault.rule, fault.offset)?)
+}
+
 fn answer(alloc: Global, file: &[u8]) -> Result<String, Memory> {
     if file.len() > 1 << 26 {
         return Ok(String::new(alloc));
     }
     match read_image(alloc, file) {
-        Ok(_) => Ok(String::from_str(alloc, "accepted")?),
+        Ok(_) => acceptance(alloc),
         Err(prof_bytes::Fail::Memory(memory)) => Err(memory),
-        Err(prof_bytes::Fail::Fault(fault)) => {
-            Ok(format!(in alloc; "{:?} {}", fault.rule, fault.offset)?)
-        }
+        Err(prof_bytes::Fail::Fault(fault)) => refusal(alloc, &fault),
     }
 }
 
@@ -48,37 +54,29 @@ fn failing(
 
 #[test]
 fn the_header_is_refused(rt: HostRuntime) -> Result<(), Fail> {
-    assert_eq!(rt;
-        failing(rt.alloc(), files::straight(), &refused::HEADER_ROWS)?,
-        None
-    );
+    let other = failing(rt.alloc(), files::straight(), &refused::HEADER_ROWS)?;
+    assert_eq!(rt; other, None);
     Ok(())
 }
 
 #[test]
 fn segments_are_refused(rt: HostRuntime) -> Result<(), Fail> {
-    assert_eq!(rt;
-        failing(rt.alloc(), files::segments(), &refused::SEGMENT_ROWS)?,
-        None
-    );
+    let other = failing(rt.alloc(), files::segments(), &refused::SEGMENT_ROWS)?;
+    assert_eq!(rt; other, None);
     Ok(())
 }
 
 #[test]
 fn sections_are_refused(rt: HostRuntime) -> Result<(), Fail> {
-    assert_eq!(rt;
-        failing(rt.alloc(), files::names(), &refused::SECTION_ROWS)?,
-        None
-    );
+    let other = failing(rt.alloc(), files::names(), &refused::SECTION_ROWS)?;
+    assert_eq!(rt; other, None);
     Ok(())
 }
 
 #[test]
 fn symbols_are_refused(rt: HostRuntime) -> Result<(), Fail> {
-    assert_eq!(rt;
-        failing(rt.alloc(), files::recursive(), &refused::SYMBOL_ROWS)?,
-        None
-    );
+    let other = failing(rt.alloc(), files::recursive(), &refused::SYMBOL_ROWS)?;
+    assert_eq!(rt; other, None);
     Ok(())
 }
 
@@ -111,18 +109,23 @@ fn cut_sections_are_refused(alloc: Global) -> Result<bool, Memory> {
     answer_is(alloc, file.get(..473).unwrap_or(&[]), b"HeaderPlace 32")
 }
 
+/// The first of two files that is not refused by the place of its sections or segments.
+fn other_file(alloc: Global) -> Result<Option<&'static str>, Memory> {
+    if !cut_sections_are_refused(alloc)? {
+        return Ok(Some("cut within the section headers"));
+    }
+    failing(
+        alloc,
+        files::overlap(),
+        &[("lld, code over the headers", "", "SegmentPlace 116")],
+    )
+}
+
 #[test]
 fn short_files_are_refused(rt: HostRuntime) -> Result<(), Fail> {
-    assert_eq!(rt; other_short_file(rt.alloc())?, None);
-    assert!(rt; cut_sections_are_refused(rt.alloc())?);
-    assert_eq!(rt;
-        failing(
-            rt.alloc(),
-            files::overlap(),
-            &[("lld, code over the headers", "", "SegmentPlace 116")]
-        )?,
-        None
-    );
+    let length = other_short_file(rt.alloc())?;
+    let file = other_file(rt.alloc())?;
+    assert_eq!(rt; (length, file), (None, None));
     Ok(())
 }
 
@@ -146,11 +149,15 @@ fn segments(out: &mut String, image: &Image<'_>) -> Result<(), Memory> {
     Ok(())
 }
 
+fn function_line(out: &mut String, function: &Function<'_>) -> Result<(), Memory> {
+    write!(out, "{:x} {} ", function.start, function.size)?;
+    name(out, function.name)
+}
+
 /// Writes each function.
 fn functions(out: &mut String, image: &Image<'_>) -> Result<(), Memory> {
-    for f in image.functions() {
-        write!(out, "{:x} {} ", f.start, f.size)?;
-        name(out, f.name)?;
+    for function in image.functions() {
+        function_line(out, function)?;
     }
     Ok(())
 }
@@ -175,29 +182,43 @@ fn functions_at(out: &mut String, image: &Image<'_>, addresses: &[u32]) -> Resul
     Ok(())
 }
 
-/// What the image has, a line each, and after it the sizes and the functions at these addresses.
-fn texts(out: &mut String, image: &Image<'_>, addresses: &[u32]) -> Result<(), Memory> {
+/// The entry and the length, the segments and the functions, a line each.
+fn parts(out: &mut String, image: &Image<'_>) -> Result<(), Memory> {
     write!(out, "entry {:x} length {}\n", image.entry(), image.length())?;
     segments(out, image)?;
-    functions(out, image)?;
+    functions(out, image)
+}
+
+/// What the image has, a line each, and after it the sizes and the functions at these addresses.
+fn texts(out: &mut String, image: &Image<'_>, addresses: &[u32]) -> Result<(), Memory> {
+    parts(out, image)?;
     sizes(out, image)?;
     functions_at(out, image, addresses)
 }
 
-/// Which of the ranges count.
-fn counts(out: &mut String, image: &Image<'_>) -> Result<(), Memory> {
-    for (low, high) in [
-        (0x30000, 0x30008),
-        (0x30008, 0x30018),
-        (0x30004, 0x3000c),
-        (0x30004, 0x30004),
-        (0x30008, 0x30004),
-        (0x10000, 0x10004),
-        (0x30010, 0x30019),
-        (0x2ffff, 0x30001),
-    ] {
-        write!(out, "{} ", image.counts(low, high))?;
+/// Ranges, of which some count.
+static RANGES: [(u32, u32); 8] = [
+    (0x30000, 0x30008),
+    (0x30008, 0x30018),
+    (0x30004, 0x3000c),
+    (0x30004, 0x30004),
+    (0x30008, 0x30004),
+    (0x10000, 0x10004),
+    (0x30010, 0x30019),
+    (0x2ffff, 0x30001),
+];
+
+/// Which of them count.
+fn counted_ranges(out: &mut String, image: &Image<'_>) -> Result<(), Memory> {
+    for (low, high) in &RANGES {
+        write!(out, "{} ", image.counts(*low, *high))?;
     }
+    Ok(())
+}
+
+/// Which of the ranges count, whether one past 2^32 does, and whether no segment holds the end of the last.
+fn counts(out: &mut String, image: &Image<'_>) -> Result<(), Memory> {
+    counted_ranges(out, image)?;
     let far = image.counts_from(0xffff_ffff, 2);
     write!(out, "{far} {}", image.segment_at(0x30018).is_none())?;
     Ok(())

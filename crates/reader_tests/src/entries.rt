@@ -2,21 +2,18 @@
 //! numbers of files and lines of calls are those of `readelf --debug-dump=info`. A worked program, faults
 //! and absences are small units put together by hand after DWARF 5, chapter 7.
 use crate::program::{Sections, Unread, info_of};
-use crate::rows::extend_each;
 use crate::worked;
-use dwarf_forms::constants::{DW_CHILDREN_no, DW_CHILDREN_yes};
-use dwarf_info::constants::{
-    DW_TAG_compile_unit, DW_TAG_inlined_subroutine, DW_TAG_subprogram, DW_UT_compile,
-};
+use dwarf_info::constants::{DW_TAG_compile_unit, DW_TAG_inlined_subroutine, DW_TAG_subprogram};
 use dwarf_info::{Info, InfoEntry};
-use prof_bytes::{Memory, put_u32};
 use std::alloc::Global;
 use std::test::Fail;
+use two_entries::{Part, unit_of};
 
 mod clang_program;
 mod gcc_program;
 mod lists;
 mod names;
+mod two_entries;
 mod units;
 
 /// The offset and the depth of a subprogram, its name, what it refers to, and its ranges.
@@ -39,24 +36,6 @@ enum Has {
     Link(u32),
     Call(Option<u32>, Option<u32>),
     Ranges(&'static [(u32, u32)]),
-}
-
-/// A part of the bytes of a unit of two entries.
-enum Part {
-    /// Attributes and forms of the first entry, and their values.
-    Unit(&'static [u64], &'static [u8]),
-    /// Those of the second entry.
-    Entry(&'static [u64], &'static [u8]),
-    /// `.debug_str`.
-    Str(&'static [u8]),
-    /// `.debug_line_str`.
-    LineStr(&'static [u8]),
-    /// `.debug_str_offsets`.
-    StrOffsets(&'static [u8]),
-    /// `.debug_addr`.
-    Addr(&'static [u8]),
-    /// `.debug_rnglists`, entry by entry.
-    RngLists(&'static [&'static [u8]]),
 }
 
 /// A name, the parts of a unit of two entries, and what the second one has.
@@ -180,13 +159,35 @@ fn other_entry(
     inlined: &[Inlined],
 ) -> Result<Option<u32>, Unread> {
     let sections = Sections::of(alloc, b"", sections)?;
-    let info = info_of(alloc, &sections)?;
+    other_entry_of(alloc, &sections, tags, subprograms, inlined)
+}
+
+/// The same in these sections.
+fn other_entry_of(
+    alloc: Global,
+    sections: &Sections,
+    tags: &[(u64, usize)],
+    subprograms: &[Subprogram],
+    inlined: &[Inlined],
+) -> Result<Option<u32>, Unread> {
+    let info = info_of(alloc, sections)?;
+    other_entry_in(alloc, &info, tags, subprograms, inlined)
+}
+
+/// The same in this debug information.
+fn other_entry_in(
+    alloc: Global,
+    info: &Info<'_>,
+    tags: &[(u64, usize)],
+    subprograms: &[Subprogram],
+    inlined: &[Inlined],
+) -> Result<Option<u32>, Unread> {
     let entries = info.entries(alloc)?;
     if !are_counted(&entries, tags) {
         return Ok(Some(u32::MAX));
     }
-    let other = other_subprogram(alloc, &info, &entries, subprograms);
-    Ok(other.or(other_inlined(alloc, &info, &entries, inlined)))
+    let other = other_subprogram(alloc, info, &entries, subprograms);
+    Ok(other.or(other_inlined(alloc, info, &entries, inlined)))
 }
 
 #[test]
@@ -237,86 +238,6 @@ fn a_worked_program(rt: HostRuntime) -> Result<(), Fail> {
     Ok(())
 }
 
-/// Attributes and forms of an entry, and their values.
-#[derive(Drop)]
-struct EntryBytes {
-    specs: Vec<u8>,
-    values: Vec<u8>,
-}
-
-impl EntryBytes {
-    fn new(alloc: Global) -> EntryBytes {
-        EntryBytes {
-            specs: Vec::new(alloc),
-            values: Vec::new(alloc),
-        }
-    }
-
-    fn add(&mut self, specs: &[u64], values: &[u8]) -> Result<(), Memory> {
-        for number in specs {
-            self.specs.push((*number % 128) as u8)?;
-        }
-        self.values.extend_from_slice(values)?;
-        Ok(())
-    }
-}
-
-fn add_part(
-    sections: &mut Sections,
-    unit: &mut EntryBytes,
-    entry: &mut EntryBytes,
-    part: &Part,
-) -> Result<(), Memory> {
-    match *part {
-        Part::Unit(specs, values) => unit.add(specs, values)?,
-        Part::Entry(specs, values) => entry.add(specs, values)?,
-        Part::Str(bytes) => sections.str_bytes.extend_from_slice(bytes)?,
-        Part::LineStr(bytes) => sections.line_str.extend_from_slice(bytes)?,
-        Part::StrOffsets(bytes) => sections.str_offsets.extend_from_slice(bytes)?,
-        Part::Addr(bytes) => sections.addr.extend_from_slice(bytes)?,
-        Part::RngLists(entries) => extend_each(&mut sections.rnglists, entries)?,
-    }
-    Ok(())
-}
-
-fn add_parts(
-    sections: &mut Sections,
-    unit: &mut EntryBytes,
-    entry: &mut EntryBytes,
-    parts: &[Part],
-) -> Result<(), Memory> {
-    for part in parts {
-        add_part(sections, unit, entry, part)?;
-    }
-    Ok(())
-}
-
-/// The sections of a case: version 5, addresses of 4 bytes, and an abbreviation for each entry.
-fn sections_of(alloc: Global, with: &[Part], parts: &[Part]) -> Result<Sections, Memory> {
-    let mut sections = Sections::of(alloc, b"", b"")?;
-    let mut unit = EntryBytes::new(alloc);
-    let mut entry = EntryBytes::new(alloc);
-    add_parts(&mut sections, &mut unit, &mut entry, with)?;
-    add_parts(&mut sections, &mut unit, &mut entry, parts)?;
-    sections
-        .abbrev
-        .extend_from_slice(&[1, DW_TAG_compile_unit as u8, DW_CHILDREN_yes])?;
-    sections.abbrev.extend_from_slice(&unit.specs)?;
-    sections
-        .abbrev
-        .extend_from_slice(&[0, 0, 2, DW_TAG_subprogram as u8, DW_CHILDREN_no])?;
-    sections.abbrev.extend_from_slice(&entry.specs)?;
-    sections.abbrev.extend_from_slice(&[0, 0, 0])?;
-    let mut bytes = Vec::from_slice(alloc, &[5, 0, DW_UT_compile, 4, 0, 0, 0, 0, 1])?;
-    bytes.extend_from_slice(&unit.values)?;
-    bytes.push(2)?;
-    bytes.extend_from_slice(&entry.values)?;
-    bytes.push(0)?;
-    put_u32(&mut sections.info, u32::try_from(bytes.len()).unwrap_or(0))?;
-    sections.info.extend_from_slice(&bytes)?;
-    Ok(sections)
-}
-
 /// What the second entry of a case is to have.
 fn wanted_of(has: &Has) -> Attributes {
     let mut wanted = Attributes {
@@ -337,10 +258,20 @@ fn wanted_of(has: &Has) -> Attributes {
 
 /// Whether the second entry of a case has what it should.
 fn holds(alloc: Global, with: &[Part], case: &Case) -> Result<bool, Unread> {
-    let sections = sections_of(alloc, with, case.1)?;
-    let info = info_of(alloc, &sections)?;
+    let unit = unit_of(alloc, with, case.1)?;
+    second_has(alloc, &unit.sections, &case.2)
+}
+
+/// The same in these sections.
+fn second_has(alloc: Global, sections: &Sections, has: &Has) -> Result<bool, Unread> {
+    let info = info_of(alloc, sections)?;
+    second_is(alloc, &info, &wanted_of(has))
+}
+
+/// The same in this debug information.
+fn second_is(alloc: Global, info: &Info<'_>, wanted: &Attributes) -> Result<bool, Unread> {
     let entries = info.entries(alloc)?;
-    Ok(is_entry(alloc, &info, &entries, 1, &wanted_of(&case.2)))
+    Ok(is_entry(alloc, info, &entries, 1, wanted))
 }
 
 /// The first case that does not hold, where each has these parts besides its own.
@@ -353,13 +284,37 @@ fn failing(alloc: Global, with: &[Part], cases: &[Case]) -> Result<Option<&'stat
     Ok(None)
 }
 
+/// The first case of names, links and calls that does not hold.
+fn failing_attribute(alloc: Global) -> Result<Option<&'static str>, Unread> {
+    failing(alloc, &[], &names::CASES)
+}
+
+/// The first case of ranges that does not hold.
+fn failing_range(alloc: Global) -> Result<Option<&'static str>, Unread> {
+    failing(alloc, &[], &lists::CASES)
+}
+
+/// The first list that does not hold.
+fn failing_list(alloc: Global) -> Result<Option<&'static str>, Unread> {
+    failing(alloc, &lists::AT_START, &lists::LISTS)
+}
+
+/// The first list with indices of addresses that does not hold.
+fn failing_indexed_list(alloc: Global) -> Result<Option<&'static str>, Unread> {
+    failing(alloc, &lists::WITH_ADDRESSES, &lists::INDEXED_LISTS)
+}
+
+/// The first case of all these that does not hold.
+fn failing_of_all(alloc: Global) -> Result<Option<&'static str>, Unread> {
+    let attribute = failing_attribute(alloc)?;
+    let range = failing_range(alloc)?;
+    let list = failing_list(alloc)?;
+    let indexed_list = failing_indexed_list(alloc)?;
+    Ok(attribute.or(range).or(list).or(indexed_list))
+}
+
 #[test]
 fn attributes_and_their_absence(rt: HostRuntime) -> Result<(), Fail> {
-    use lists::{AT_START, INDEXED_LISTS, LISTS, WITH_ADDRESSES};
-    let alloc = rt.alloc();
-    assert_eq!(rt; failing(alloc, &[], &names::CASES)?, None);
-    assert_eq!(rt; failing(alloc, &[], &lists::CASES)?, None);
-    assert_eq!(rt; failing(alloc, AT_START, &LISTS)?, None);
-    assert_eq!(rt; failing(alloc, WITH_ADDRESSES, &INDEXED_LISTS)?, None);
+    assert_eq!(rt; failing_of_all(rt.alloc())?, None);
     Ok(())
 }

@@ -1,15 +1,13 @@
 use crate::program::{UNREADABLE, Unread, image_of, table_of};
 use crate::rows::{bytes_of, cut, number, replaced};
-use cfi_table::{
-    Cfa, DW_CFA_GNU_args_size, DW_CFA_def_cfa_expression, DW_CFA_def_cfa_offset,
-    DW_CFA_def_cfa_register, DW_CFA_expression, DW_CFA_nop, DW_CFA_offset, DW_CFA_register,
-    DW_CFA_remember_state, DW_CFA_restore_state, FrameTable, Rule, read_frames,
-};
+use cfi_table::{Cfa, FrameTable, Rule, read_frames};
+use elf_image::Image;
 use prof_bytes::Memory;
 use std::alloc::Global;
 use std::fmt::Write;
 use std::test::Fail;
 
+mod changes;
 mod sections;
 
 /// A program of one segment, executable, from 0x10000 up to 0x11000, and nothing in it.
@@ -26,30 +24,50 @@ fn with_offset(out: &mut String, letter: &str, offset: u32) -> Result<(), Memory
     Ok(())
 }
 
-fn cfa(out: &mut String, cfa: Cfa) -> Result<(), Memory> {
-    match cfa {
-        Cfa::Missing => out.push_str("none")?,
-        Cfa::Register { reg, offset } => {
-            write!(out, "{reg}")?;
-            with_offset(out, "", offset)?;
-        }
-        Cfa::Expression => out.push_str("exp")?,
-    }
+fn register_cfa(out: &mut String, reg: u8, offset: u32) -> Result<(), Memory> {
+    write!(out, "{reg}")?;
+    with_offset(out, "", offset)
+}
+
+fn no_cfa(out: &mut String) -> Result<(), Memory> {
+    out.push_str("none")?;
     Ok(())
 }
 
-fn rule(out: &mut String, register: usize, rule: Rule) -> Result<(), Memory> {
-    if rule == Rule::Kept || rule == Rule::Undefined {
+fn cfa(out: &mut String, cfa: Cfa) -> Result<(), Memory> {
+    match cfa {
+        Cfa::Missing => no_cfa(out),
+        Cfa::Register { reg, offset } => register_cfa(out, reg, offset),
+        Cfa::Expression => expression(out),
+    }
+}
+
+fn copied(out: &mut String, source: u8) -> Result<(), Memory> {
+    write!(out, "r{source}")?;
+    Ok(())
+}
+
+fn expression(out: &mut String) -> Result<(), Memory> {
+    out.push_str("exp")?;
+    Ok(())
+}
+
+fn rule(out: &mut String, rule: Rule) -> Result<(), Memory> {
+    match rule {
+        Rule::Saved(offset) => with_offset(out, "c", offset),
+        Rule::Sum(offset) => with_offset(out, "v", offset),
+        Rule::Copy(source) => copied(out, source),
+        _ => expression(out),
+    }
+}
+
+/// A register with its rule, where it has one.
+fn register_rule(out: &mut String, register: usize, one: Rule) -> Result<(), Memory> {
+    if one == Rule::Kept || one == Rule::Undefined {
         return Ok(());
     }
     write!(out, " {register}=")?;
-    match rule {
-        Rule::Saved(offset) => with_offset(out, "c", offset)?,
-        Rule::Sum(offset) => with_offset(out, "v", offset)?,
-        Rule::Copy(source) => write!(out, "r{source}")?,
-        _ => out.push_str("exp")?,
-    }
-    Ok(())
+    rule(out, one)
 }
 
 /// The rules at an address, as the rows have them.
@@ -58,7 +76,7 @@ fn shown(alloc: Global, table: &FrameTable, pc: u32) -> Result<String, Memory> {
     if let Some(rules) = table.rules_at(pc)? {
         cfa(&mut out, rules.cfa)?;
         for (register, one) in rules.regs.iter().enumerate() {
-            rule(&mut out, register, *one)?;
+            register_rule(&mut out, register, *one)?;
         }
     }
     Ok(out)
@@ -98,16 +116,26 @@ fn failing(
     Ok(None)
 }
 
+/// The frames of a section beside a file.
+fn frames_in(alloc: Global, file: &[u8], section: &[u8]) -> Result<FrameTable, Unread> {
+    let image = image_of(alloc, file)?;
+    table_of(alloc, section, &image)
+}
+
+/// The frames of a section of the program, in hexadecimal.
+fn frames_of(alloc: Global, hex: &[u8]) -> Result<FrameTable, Unread> {
+    let file = bytes_of(alloc, PROGRAM)?;
+    let section = bytes_of(alloc, hex)?;
+    frames_in(alloc, &file, &section)
+}
+
 /// The first row that does not hold of a section of the program.
 fn failing_rules(
     alloc: Global,
     hex: &[u8],
     rows: &[&'static str],
 ) -> Result<Option<&'static str>, Unread> {
-    let file = bytes_of(alloc, PROGRAM)?;
-    let image = image_of(alloc, &file)?;
-    let section = bytes_of(alloc, hex)?;
-    let table = table_of(alloc, &section, &image)?;
+    let table = frames_of(alloc, hex)?;
     Ok(failing(alloc, &table, rows)?)
 }
 
@@ -133,182 +161,63 @@ fn rules_of_every_directive(rt: HostRuntime) -> Result<(), Fail> {
     Ok(())
 }
 
-/// A row's name, bytes of the section that are others, and what is answered: the first fault's offset, or
-/// the offset of the FDE that holds 0x10010 and its rules at 0x10018.
-///
-/// The CIE's length stands at 0, its version at 8, its augmentation at 9, its return register at 12, and its
-/// instruction, def_cfa, at 13. The FDE's length stands at 16, CIE_pointer at 20, initial_location at 24,
-/// address_range at 28, and its instructions from 32 on: advance_loc, def_cfa_offset (33), advance_loc,
-/// offset (36), advance_loc (38), restore (39), advance_loc, def_cfa_offset (41) and nop (43).
-static CHANGES: [(&str, &[(usize, u8)], &str); 35] = [
-    ("as it stands", &[], "16 2+16 1=c-4"),
-    (
-        "the CIE's first instruction, at 13, has an unknown opcode",
-        &[(13, 0x3f)],
-        "fault 13",
-    ),
-    (
-        "the CIE's fault comes before the FDE's",
-        &[(13, 0x3f), (39, DW_CFA_restore_state)],
-        "fault 13",
-    ),
-    (
-        "the FDE's length, at 16, is reserved",
-        &[(16, 0xff), (17, 0xff), (18, 0xff), (19, 0xff)],
-        "fault 16",
-    ),
-    (
-        "the CIE's length, at 0, is past the section's end",
-        &[(0, 0xff)],
-        "fault 0",
-    ),
-    (
-        "the CIE's length is the first that is reserved",
-        &[(0, 0xf0), (1, 0xff), (2, 0xff), (3, 0xff)],
-        "fault 0",
-    ),
-    (
-        "def_cfa_register with no rule yet has the offset 0",
-        &[(13, DW_CFA_def_cfa_register)],
-        "16 2+16 1=c-4",
-    ),
-    (
-        "def_cfa_offset, at 13, with no register",
-        &[(13, DW_CFA_def_cfa_offset), (14, 0), (15, 0)],
-        "fault 13",
-    ),
-    ("version 2 is passed over", &[(8, 2)], "none"),
-    ("version 1 is read", &[(8, 1)], "16 2+16 1=c-4"),
-    ("version 5 is passed over", &[(8, 5)], "none"),
-    (
-        "version 4 with another address_size is passed over",
-        &[(8, 4)],
-        "none",
-    ),
-    ("an augmentation is passed over", &[(9, b'z')], "none"),
-    (
-        "an augmentation without its 0 byte is the CIE's fault",
-        &[(9, b'z'), (15, 1)],
-        "fault 0",
-    ),
-    ("return register 32 is passed over", &[(12, 32)], "none"),
-    (
-        "CIE_pointer leads to no entry: the FDE's fault",
-        &[(20, 1)],
-        "fault 16",
-    ),
-    ("CIE_pointer leads to an FDE", &[(20, 16)], "fault 16"),
-    ("the FDE ends after CIE_pointer", &[(16, 4)], "fault 16"),
-    ("the FDE ends within CIE_pointer", &[(16, 2)], "fault 16"),
-    ("def_cfa, at 13, of register 32", &[(14, 32)], "fault 13"),
-    (
-        "def_cfa_expression, at 13, past the entry's end",
-        &[(13, DW_CFA_def_cfa_expression)],
-        "fault 13",
-    ),
-    (
-        "def_cfa_offset, at 33, after an expression",
-        &[(13, DW_CFA_def_cfa_expression), (14, 1)],
-        "fault 33",
-    ),
-    (
-        "def_cfa_register, at 33, after an expression",
-        &[
-            (13, DW_CFA_def_cfa_expression),
-            (14, 1),
-            (33, DW_CFA_def_cfa_register),
-        ],
-        "fault 33",
-    ),
-    (
-        "expression, at 34, past the entry's end",
-        &[(33, DW_CFA_remember_state), (34, DW_CFA_expression)],
-        "fault 34",
-    ),
-    (
-        "restore_state, at 39, with nothing remembered",
-        &[(39, DW_CFA_restore_state)],
-        "fault 39",
-    ),
-    (
-        "restore_state after remember_state",
-        &[(38, DW_CFA_remember_state), (39, DW_CFA_restore_state)],
-        "16 2+16 1=c-4",
-    ),
-    (
-        "register, at 36, of a source of 32",
-        &[(36, DW_CFA_register), (37, 1), (38, 32)],
-        "fault 36",
-    ),
-    (
-        "register for register 32 is passed over",
-        &[(36, DW_CFA_register), (37, 32), (38, 32)],
-        "16 2+16",
-    ),
-    (
-        "register of x5 for x1",
-        &[(36, DW_CFA_register), (37, 1), (38, 5), (39, DW_CFA_nop)],
-        "16 2+16 1=r5",
-    ),
-    (
-        "GNU_args_size, at 43, without its operand",
-        &[(43, DW_CFA_GNU_args_size)],
-        "fault 43",
-    ),
-    (
-        "offset, at 43, without its operand",
-        &[(43, DW_CFA_offset + 1)],
-        "fault 43",
-    ),
-    (
-        "restore_state at the end, at 43",
-        &[(43, DW_CFA_restore_state)],
-        "fault 43",
-    ),
-    ("initial_location lies in no segment", &[(27, 0xf0)], "none"),
-    (
-        "address_range passes the segment's end",
-        &[(29, 16)],
-        "none",
-    ),
-    ("address_range is 0", &[(28, 0)], "none"),
-];
+/// An FDE, and the rules at 0x10018, as text.
+fn fde_and_rules(alloc: Global, table: &FrameTable, fde: u32) -> Result<String, Memory> {
+    let rules = shown(alloc, table, 0x10018)?;
+    Ok(format!(in alloc; "{fde} {}", rules.as_str())?)
+}
 
 /// The FDE that holds 0x10010 with the rules at 0x10018, as text.
 fn answer_of(alloc: Global, table: &FrameTable) -> Result<String, Memory> {
     match table.fde_at(0x10010) {
-        Some(offset) => {
-            let rules = shown(alloc, table, 0x10018)?;
-            Ok(format!(in alloc; "{offset} {}", rules.as_str())?)
-        }
+        Some(fde) => fde_and_rules(alloc, table, fde),
         None => Ok(String::from_str(alloc, "none")?),
     }
 }
 
-/// The same in a section, or its fault.
-fn answer(alloc: Global, section: &[u8]) -> Result<String, Unread> {
-    let file = bytes_of(alloc, PROGRAM)?;
-    let image = image_of(alloc, &file)?;
+fn fault(alloc: Global, offset: u32) -> Result<String, Memory> {
+    Ok(format!(in alloc; "fault {offset}")?)
+}
+
+/// The same in a section beside an image, or its fault.
+fn answer_in(alloc: Global, image: &Image<'_>, section: &[u8]) -> Result<String, Unread> {
     if section.len() > 4096 {
         return Err(UNREADABLE);
     }
-    match read_frames(alloc, section, &image) {
+    match read_frames(alloc, section, image) {
         Ok(table) => Ok(answer_of(alloc, &table)?),
         Err(prof_bytes::Fail::Memory(memory)) => Err(prof_bytes::Fail::Memory(memory)),
-        Err(prof_bytes::Fail::Fault(fault)) => Ok(format!(in alloc; "fault {}", fault.offset)?),
+        Err(prof_bytes::Fail::Fault(found)) => Ok(fault(alloc, found.offset)?),
     }
 }
 
+/// The same in a section beside a file.
+fn answer_beside(alloc: Global, file: &[u8], section: &[u8]) -> Result<String, Unread> {
+    let image = image_of(alloc, file)?;
+    answer_in(alloc, &image, section)
+}
+
+/// Whether a section of the program is answered so.
+fn section_is_answered(alloc: Global, section: &[u8], wanted: &str) -> Result<bool, Unread> {
+    let file = bytes_of(alloc, PROGRAM)?;
+    let answer = answer_beside(alloc, &file, section)?;
+    Ok(answer.as_str() == wanted)
+}
+
 /// Whether the section with these changes is answered so.
-fn is_answered(alloc: Global, changes: &[(usize, u8)], wanted: &str) -> Result<bool, Unread> {
+fn change_is_answered(
+    alloc: Global,
+    changes: &[(usize, u8)],
+    wanted: &str,
+) -> Result<bool, Unread> {
     let section = replaced(alloc, sections::recursive(), changes)?;
-    Ok(answer(alloc, &section)?.as_str() == wanted)
+    section_is_answered(alloc, &section, wanted)
 }
 
 /// The first change that is answered in another way.
 fn other_change(alloc: Global) -> Result<Option<&'static str>, Unread> {
-    for (name, changes, wanted) in &CHANGES {
-        if !is_answered(alloc, changes, wanted)? {
+    for (name, changes, wanted) in &changes::CHANGES {
+        if !change_is_answered(alloc, changes, wanted)? {
             return Ok(Some(name));
         }
     }
@@ -340,12 +249,14 @@ fn other_bytes(table: &FrameTable) -> Option<u32> {
     None
 }
 
+/// The same in the section of one CIE and one FDE.
+fn other_bytes_of_one_entry(alloc: Global) -> Result<Option<u32>, Unread> {
+    let table = frames_of(alloc, sections::recursive())?;
+    Ok(other_bytes(&table))
+}
+
 #[test]
 fn bytes_of_instructions(rt: HostRuntime) -> Result<(), Fail> {
-    let file = bytes_of(rt.alloc(), PROGRAM)?;
-    let section = bytes_of(rt.alloc(), sections::recursive())?;
-    let image = image_of(rt.alloc(), &file)?;
-    let table = table_of(rt.alloc(), &section, &image)?;
-    assert_eq!(rt; other_bytes(&table), None);
+    assert_eq!(rt; other_bytes_of_one_entry(rt.alloc())?, None);
     Ok(())
 }

@@ -1,4 +1,5 @@
-//! Programs that tests read: the sections of their debug information as text, and what is read of them.
+//! Programs that tests read: the sections of their debug information as text, what is read of them, and what tests ask
+//! of them.
 use crate::rows::{bytes_of, digit};
 use cfi_table::{FrameTable, read_frames};
 use dwarf_info::{Info, read_info};
@@ -42,9 +43,8 @@ pub(crate) struct Sections {
     pub(crate) rnglists: Vec<u8>,
 }
 
-/// The bytes of a section, two hexadecimal digits each, which stand after its letter.
-fn section(alloc: Global, text: &[u8], letter: u8) -> Result<Vec<u8>, Memory> {
-    let mut out = Vec::new(alloc);
+/// Appends the bytes of a section, two hexadecimal digits each, which stand after its letter.
+fn add_section(out: &mut Vec<u8>, text: &[u8], letter: u8) -> Result<(), Memory> {
     let mut here = false;
     let mut high = None;
     for byte in text {
@@ -61,23 +61,42 @@ fn section(alloc: Global, text: &[u8], letter: u8) -> Result<Vec<u8>, Memory> {
             _ => {}
         }
     }
-    Ok(out)
+    Ok(())
 }
 
 impl Sections {
+    /// Empty ones.
+    pub(crate) fn new(alloc: Global) -> Sections {
+        Sections {
+            line: Vec::new(alloc),
+            info: Vec::new(alloc),
+            abbrev: Vec::new(alloc),
+            str_bytes: Vec::new(alloc),
+            line_str: Vec::new(alloc),
+            str_offsets: Vec::new(alloc),
+            addr: Vec::new(alloc),
+            rnglists: Vec::new(alloc),
+        }
+    }
+
     /// The digits of `.debug_line`, and those of the others after a letter: I info, A abbrev, S str, L line_str,
     /// O str_offsets, D addr, R rnglists.
     pub(crate) fn of(alloc: Global, line: &[u8], text: &[u8]) -> Result<Sections, Memory> {
-        Ok(Sections {
-            line: bytes_of(alloc, line)?,
-            info: section(alloc, text, b'I')?,
-            abbrev: section(alloc, text, b'A')?,
-            str_bytes: section(alloc, text, b'S')?,
-            line_str: section(alloc, text, b'L')?,
-            str_offsets: section(alloc, text, b'O')?,
-            addr: section(alloc, text, b'D')?,
-            rnglists: section(alloc, text, b'R')?,
-        })
+        let mut sections = Sections::new(alloc);
+        sections.line = bytes_of(alloc, line)?;
+        sections.add(text)?;
+        Ok(sections)
+    }
+
+    /// Appends the bytes of each section but `.debug_line`.
+    fn add(&mut self, text: &[u8]) -> Result<(), Memory> {
+        add_section(&mut self.info, text, b'I')?;
+        add_section(&mut self.abbrev, text, b'A')?;
+        add_section(&mut self.str_bytes, text, b'S')?;
+        add_section(&mut self.line_str, text, b'L')?;
+        add_section(&mut self.str_offsets, text, b'O')?;
+        add_section(&mut self.addr, text, b'D')?;
+        add_section(&mut self.rnglists, text, b'R')
     }
 
     /// All but `.debug_line`.
@@ -145,4 +164,61 @@ pub(crate) fn structure_of<'a>(
     image: &Image<'_>,
 ) -> Result<Structure<'a>, Unread> {
     readable(read_structure(alloc, info, lines, image))
+}
+
+/// What a test asks of a program.
+pub(crate) trait Question {
+    /// Whether a program with these entries and lines is as wanted.
+    fn holds(
+        &self,
+        alloc: Global,
+        info: &Info<'_>,
+        lines: &LineTable<'_>,
+        image: &Image<'_>,
+    ) -> Result<bool, Unread>;
+}
+
+/// Whether a program is as wanted, by its file in hexadecimal digits and its sections. It has one line table, at 0.
+pub(crate) fn holds_in<Q: Question>(
+    alloc: Global,
+    file: &[u8],
+    sections: &Sections,
+    question: &Q,
+) -> Result<bool, Unread> {
+    let bytes = bytes_of(alloc, file)?;
+    holds_in_file(alloc, &bytes, sections, question)
+}
+
+/// The same by the bytes of its file.
+fn holds_in_file<Q: Question>(
+    alloc: Global,
+    file: &[u8],
+    sections: &Sections,
+    question: &Q,
+) -> Result<bool, Unread> {
+    let image = image_of(alloc, file)?;
+    holds_in_image(alloc, &image, sections, question)
+}
+
+/// The same by its image.
+fn holds_in_image<Q: Question>(
+    alloc: Global,
+    image: &Image<'_>,
+    sections: &Sections,
+    question: &Q,
+) -> Result<bool, Unread> {
+    let lines = lines_of(alloc, sections, image, &[0])?;
+    holds_with_lines(alloc, &lines, image, sections, question)
+}
+
+/// The same by its lines and its image.
+fn holds_with_lines<Q: Question>(
+    alloc: Global,
+    lines: &LineTable<'_>,
+    image: &Image<'_>,
+    sections: &Sections,
+    question: &Q,
+) -> Result<bool, Unread> {
+    let info = info_of(alloc, sections)?;
+    question.holds(alloc, &info, lines, image)
 }

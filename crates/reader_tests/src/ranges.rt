@@ -28,12 +28,20 @@ static RANGES: [(&str, u32, u64); 6] = [
     ("past 2^32", 0xffff_fff0, 0x1_0000_0010),
 ];
 
-fn table_of(alloc: Global) -> Result<RangeTable<Named>, Memory> {
+fn named_ranges(alloc: Global) -> Result<Vec<Named>, Memory> {
     let mut all = Vec::new(alloc);
-    for (name, start, end) in RANGES {
-        let range = AddressRange { start, end };
+    for (name, start, end) in &RANGES {
+        let range = AddressRange {
+            start: *start,
+            end: *end,
+        };
         all.push(Named { name, range })?;
     }
+    Ok(all)
+}
+
+fn table_of(alloc: Global) -> Result<RangeTable<Named>, Memory> {
+    let all = named_ranges(alloc)?;
     Ok(RangeTable::of(alloc, all)?)
 }
 
@@ -56,13 +64,29 @@ fn other_address(table: &RangeTable<Named>) -> Option<u32> {
     None
 }
 
+/// Parts of the range from 20 to 30: the index of an item, and whether that is the first that holds the part.
+static FIRST: [(usize, bool); 2] = [(0, true), (1, false)];
+
+/// The first index of which the table says otherwise.
+fn other_index(table: &RangeTable<Named>) -> Option<usize> {
+    let part = AddressRange { start: 20, end: 30 };
+    for (index, first) in FIRST {
+        if table.is_first(part, index) != first {
+            return Some(index);
+        }
+    }
+    None
+}
+
+/// How many items a table of the ranges has, and the first address and index of which it says otherwise.
+fn findings(alloc: Global) -> Result<(usize, Option<u32>, Option<usize>), Memory> {
+    let table = table_of(alloc)?;
+    let count = table.items().len();
+    Ok((count, other_address(&table), other_index(&table)))
+}
+
 #[test]
 fn the_first_of_many_ranges_that_holds_an_address(rt: HostRuntime) -> Result<(), Fail> {
-    let table = table_of(rt.alloc())?;
-    assert_eq!(rt; other_address(&table), None);
-    let part = AddressRange { start: 20, end: 30 };
-    assert_eq!(rt; table.is_first(part, 0), true);
-    assert_eq!(rt; table.is_first(part, 1), false);
-    assert_eq!(rt; table.items().len(), 6);
+    assert_eq!(rt; findings(rt.alloc())?, (6, None, None));
     Ok(())
 }

@@ -90,6 +90,15 @@ pub(crate) fn changed(alloc: Global, hex: &[u8], words: &[u8]) -> Result<Vec<u8>
     Ok(bytes)
 }
 
+/// Puts each value at its offset.
+fn replace_each(bytes: &mut [u8], others: &[(usize, u8)]) {
+    for (offset, value) in others {
+        if let Some(byte) = bytes.get_mut(*offset) {
+            *byte = *value;
+        }
+    }
+}
+
 /// The bytes of these digits, of which some are others.
 pub(crate) fn replaced(
     alloc: Global,
@@ -97,10 +106,6 @@ pub(crate) fn replaced(
     others: &[(usize, u8)],
 ) -> Result<Vec<u8>, Memory> {
     let mut bytes = bytes_of(alloc, hex)?;
-    for (offset, value) in others {
-        if let Some(byte) = bytes.get_mut(*offset) {
-            *byte = *value;
-        }
-    }
+    replace_each(&mut bytes, others);
     Ok(bytes)
 }

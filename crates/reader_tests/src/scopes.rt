@@ -1,9 +1,9 @@
 //! The scopes at the addresses of two programs. The first is a worked program, inlined code in two pieces, two levels
 //! deep; the second has subprograms and calls whose ranges overlap. What is wanted is read off their ranges by hand,
 //! after DWARF 5, section 3.3.
-use crate::program::{Sections, Unread, image_of, info_of, lines_of, structure_of};
-use crate::rows::bytes_of;
+use crate::program::{Question, Sections, Unread, holds_in, structure_of};
 use crate::worked::{FILE, LINE};
+use dwarf_info::Info;
 use dwarf_inline::Structure;
 use dwarf_line::LineTable;
 use elf_image::Image;
@@ -88,8 +88,13 @@ fn files_are(finder: &Finder<'_>) -> Result<bool, Memory> {
     Ok(file.bytes() == b"/s/a.c".as_slice() && other.bytes() == b"<unknown file>".as_slice())
 }
 
-/// Whether what is found in a program is what the case wants.
-fn finds(
+/// Whether what is found is what the case wants.
+fn finds(finder: &Finder<'_>, case: &Case) -> Result<bool, Unread> {
+    Ok(rows_are(finder, case.rows)? && names_are(finder, case.names)? && files_are(finder)?)
+}
+
+/// The same in a program of this structure.
+fn finds_in(
     alloc: Global,
     structure: &Structure<'_>,
     lines: &LineTable<'_>,
@@ -97,29 +102,41 @@ fn finds(
     case: &Case,
 ) -> Result<bool, Unread> {
     let finder = Finder::of(alloc, structure, lines, image)?;
-    Ok(rows_are(&finder, case.rows)? && names_are(&finder, case.names)? && files_are(&finder)?)
+    finds(&finder, case)
+}
+
+impl Question for Case {
+    fn holds(
+        &self,
+        alloc: Global,
+        info: &Info<'_>,
+        lines: &LineTable<'_>,
+        image: &Image<'_>,
+    ) -> Result<bool, Unread> {
+        let structure = structure_of(alloc, info, lines, image)?;
+        finds_in(alloc, &structure, lines, image, self)
+    }
 }
 
 /// Whether the case's program, with the code and the lines of the worked program, has the wanted scopes.
 fn holds(alloc: Global, case: &Case) -> Result<bool, Unread> {
-    holds_by(alloc, &Sections::of(alloc, LINE, case.sections)?, case)
+    let sections = Sections::of(alloc, LINE, case.sections)?;
+    holds_in(alloc, FILE, &sections, case)
 }
 
-/// The same with the sections of its debug information.
-fn holds_by(alloc: Global, sections: &Sections, case: &Case) -> Result<bool, Unread> {
-    let file = bytes_of(alloc, FILE)?;
-    let image = image_of(alloc, &file)?;
-    let info = info_of(alloc, sections)?;
-    let lines = lines_of(alloc, sections, &image, &[0])?;
-    let structure = structure_of(alloc, &info, &lines, &image)?;
-    finds(alloc, &structure, &lines, &image, case)
+/// The first case that does not hold.
+fn failing(alloc: Global, cases: &[Case]) -> Result<Option<&'static str>, Unread> {
+    for case in cases {
+        if !holds(alloc, case)? {
+            return Ok(Some(case.what));
+        }
+    }
+    Ok(None)
 }
 
 #[test]
 fn scopes_at_addresses(rt: HostRuntime) -> Result<(), Fail> {
     let cases = [worked::case(), overlapping::case()];
-    for case in &cases {
-        assert!(rt; holds(rt.alloc(), case)?, "{}", case.what);
-    }
+    assert_eq!(rt; failing(rt.alloc(), &cases)?, None);
     Ok(())
 }

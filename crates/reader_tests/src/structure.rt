@@ -2,12 +2,15 @@
 //! and 7.
 ghost use Rattle.std.specs.Prelude.{◌<◌, length};
 
-use crate::program::{Sections, Unread, image_of, info_of, lines_of};
+use crate::program::{Question, Sections, Unread, holds_in};
 use crate::rows::{bytes_of, change_each};
 use crate::worked::{FILE, LINE, SECTIONS};
 use Wanted::{Count, Fault, Rows};
+use dwarf_info::Info;
 use dwarf_inline::StructureFault::{LinkCycle, TooDeep};
 use dwarf_inline::{Structure, StructureFault, Subroutine, read_structure};
+use dwarf_line::LineTable;
+use elf_image::Image;
 use prof_bytes::Memory;
 use scope_types::LineId;
 use std::alloc::Global;
@@ -98,20 +101,28 @@ fn is_wanted(structure: &Structure<'_>, wanted: &Wanted) -> bool {
     }
 }
 
-/// Whether the structure of a program with these sections is the wanted one. Its code is that of the worked program.
-fn holds(alloc: Global, sections: &Sections, wanted: &Wanted) -> Result<bool, Unread> {
-    let file = bytes_of(alloc, FILE)?;
-    let image = image_of(alloc, &file)?;
-    let info = info_of(alloc, sections)?;
-    let lines = lines_of(alloc, sections, &image, &[0])?;
-    match read_structure(alloc, &info, &lines, &image) {
-        Ok(structure) => Ok(is_wanted(&structure, wanted)),
-        Err(prof_bytes::Fail::Memory(memory)) => Err(prof_bytes::Fail::Memory(memory)),
-        Err(prof_bytes::Fail::Fault(fault)) => match wanted {
-            Fault(other) => Ok(fault == *other),
-            _ => Ok(false),
-        },
+impl Question for Wanted {
+    fn holds(
+        &self,
+        alloc: Global,
+        info: &Info<'_>,
+        lines: &LineTable<'_>,
+        image: &Image<'_>,
+    ) -> Result<bool, Unread> {
+        match read_structure(alloc, info, lines, image) {
+            Ok(structure) => Ok(is_wanted(&structure, self)),
+            Err(prof_bytes::Fail::Memory(memory)) => Err(prof_bytes::Fail::Memory(memory)),
+            Err(prof_bytes::Fail::Fault(fault)) => match self {
+                Fault(other) => Ok(fault == *other),
+                _ => Ok(false),
+            },
+        }
     }
+}
+
+/// Whether a program with these sections is as wanted. Its code is that of the worked program.
+fn holds(alloc: Global, sections: &Sections, wanted: &Wanted) -> Result<bool, Unread> {
+    holds_in(alloc, FILE, sections, wanted)
 }
 
 /// Two inlined subprograms, one that holds all code, and two inlined calls.
@@ -131,12 +142,22 @@ static ROWS: [Row; 5] = [
     (58, 5, 17, Some(11), 3, b"inner", &[(0x10024, 0x1002c)]),
 ];
 
+/// Whether the structure of the worked program has these rows.
+fn worked_holds(alloc: Global) -> Result<bool, Unread> {
+    holds(alloc, &Sections::of(alloc, LINE, SECTIONS)?, &Rows(&ROWS))
+}
+
+/// Whether the worked program, where an inlined call refers to itself, has a cycle of links.
+fn cycle_is_fault(alloc: Global) -> Result<bool, Unread> {
+    let mut sections = Sections::of(alloc, LINE, SECTIONS)?;
+    change_each(&mut sections.info, b"48=47");
+    holds(alloc, &sections, &Fault(LinkCycle { offset: 47 }))
+}
+
 #[test]
 fn a_worked_program(rt: HostRuntime) -> Result<(), Fail> {
-    let mut sections = Sections::of(rt.alloc(), LINE, SECTIONS)?;
-    assert!(rt; holds(rt.alloc(), &sections, &Rows(&ROWS))?);
-    change_each(&mut sections.info, b"48=47");
-    assert!(rt; holds(rt.alloc(), &sections, &Fault(LinkCycle { offset: 47 }))?);
+    assert!(rt; worked_holds(rt.alloc())?);
+    assert!(rt; cycle_is_fault(rt.alloc())?);
     Ok(())
 }
 
@@ -144,29 +165,31 @@ fn a_worked_program(rt: HostRuntime) -> Result<(), Fail> {
 /// refers to the next one: all entries of a unit; and what is read of it.
 type Shape = (&'static str, u8, u8, Wanted);
 
-/// A unit: its entry, a subprogram with nested inlined subroutines, and the chain.
-fn unit_of(alloc: Global, levels: u8, links: u8) -> Result<Vec<u8>, Memory> {
-    let mut unit = bytes_of(alloc, b"fc030000050001040000000001")?;
-    unit.push(2)?;
-    for _ in 0..levels {
-        unit.push(3)?;
+fn add_times(out: &mut Vec<u8>, byte: u8, times: usize) -> Result<(), Memory> {
+    for _ in 0..times {
+        out.push(byte)?;
     }
-    for _ in 0..levels {
-        unit.push(0)?;
-    }
-    unit.push(0)?;
+    Ok(())
+}
+
+/// Appends entries that refer each to the next one, and one that refers to none.
+fn add_chain(unit: &mut Vec<u8>, links: u8) -> Result<(), Memory> {
     for _ in 0..links {
         let next = unit.len() as u64 + 5;
-        unit.push(4)?;
-        unit.push((next % 256) as u8)?;
-        unit.push((next / 256 % 256) as u8)?;
-        unit.push(0)?;
-        unit.push(0)?;
+        unit.extend_from_slice(&[4, (next % 256) as u8, (next / 256 % 256) as u8, 0, 0])?;
     }
     unit.push(5)?;
-    for _ in unit.len()..1024 {
-        unit.push(0)?;
-    }
+    Ok(())
+}
+
+/// A unit: its entry, a subprogram with nested inlined subroutines, and the chain.
+fn unit_of(alloc: Global, levels: u8, links: u8) -> Result<Vec<u8>, Memory> {
+    let mut unit = bytes_of(alloc, b"fc03000005000104000000000102")?;
+    add_times(&mut unit, 3, usize::from(levels))?;
+    add_times(&mut unit, 0, usize::from(levels) + 1)?;
+    add_chain(&mut unit, links)?;
+    let padding = 1024usize.saturating_sub(unit.len());
+    add_times(&mut unit, 0, padding)?;
     Ok(unit)
 }
 

@@ -2,7 +2,9 @@ ghost use Rattle.std.specs.Prelude.{◌==◌, ◌||◌, if◌then◌else◌, nat
 
 use crate::program::{Unread, image_of, table_of};
 use crate::rows::{bytes_of, replaced};
+use cfi_table::FrameTable;
 use cfi_unwind::Unwinder;
+use elf_image::Image;
 use prof_bytes::{Memory, put_u32};
 use scope_types::{End, Look, PartialCause, RawPath, Unwind};
 use std::alloc::Global;
@@ -74,7 +76,46 @@ fn is_path(path: &RawPath, end: End, pcs: &[u32]) -> bool {
     true
 }
 
-/// The path of an instruction of a program.
+/// The path of an instruction of a program, where these are its frames.
+fn path_by_frames<M: Look>(
+    alloc: Global,
+    image: &Image<'_>,
+    table: &FrameTable,
+    pc: u32,
+    values: &[(usize, u32)],
+    memory: &M,
+) -> Result<RawPath, Unread> {
+    let unwinder = Unwinder::of(alloc, table, image);
+    Ok(unwinder.path(pc, &registers(values), memory)?)
+}
+
+/// The same where its frames stand in this section.
+fn path_by_section<M: Look>(
+    alloc: Global,
+    image: &Image<'_>,
+    section: &[u8],
+    pc: u32,
+    values: &[(usize, u32)],
+    memory: &M,
+) -> Result<RawPath, Unread> {
+    let table = table_of(alloc, section, image)?;
+    path_by_frames(alloc, image, &table, pc, values, memory)
+}
+
+/// The path of an instruction of a file.
+fn path_in_file<M: Look>(
+    alloc: Global,
+    file: &[u8],
+    pc: u32,
+    values: &[(usize, u32)],
+    memory: &M,
+) -> Result<RawPath, Unread> {
+    let image = image_of(alloc, file)?;
+    let section = image.section(b".debug_frame");
+    path_by_section(alloc, &image, section, pc, values, memory)
+}
+
+/// The same of a file in hexadecimal.
 fn path_in<M: Look>(
     alloc: Global,
     hex: &[u8],
@@ -83,10 +124,7 @@ fn path_in<M: Look>(
     memory: &M,
 ) -> Result<RawPath, Unread> {
     let file = bytes_of(alloc, hex)?;
-    let image = image_of(alloc, &file)?;
-    let table = table_of(alloc, image.section(b".debug_frame"), &image)?;
-    let unwinder = Unwinder::of(alloc, &table, &image);
-    Ok(unwinder.path(pc, &registers(values), memory)?)
+    path_in_file(alloc, &file, pc, values, memory)
 }
 
 /// Instructions of the recursion: their addresses, x1 and x2 before them, and their paths. The stack
@@ -110,11 +148,21 @@ static RECURSION_PATHS: [(u32, u32, u32, &[u32]); 7] = [
     (0x1_002c, 0x1_0008, 0xf00f_fff0, &[0x1_002c, 0x1_0004]),
 ];
 
+/// Whether an instruction of the recursion has this whole path.
+fn recursion_has_path(
+    alloc: Global,
+    pc: u32,
+    values: &[(usize, u32)],
+    wanted: &[u32],
+) -> Result<bool, Unread> {
+    let path = path_in(alloc, RECURSION, pc, values, &Recursion)?;
+    Ok(is_path(&path, End::Whole, wanted))
+}
+
 /// The index of the first of these instructions that has another path.
 fn other_recursion_path(alloc: Global) -> Result<Option<usize>, Unread> {
     for (index, (pc, x1, x2, wanted)) in RECURSION_PATHS.iter().enumerate() {
-        let path = path_in(alloc, RECURSION, *pc, &[(1, *x1), (2, *x2)], &Recursion)?;
-        if !is_path(&path, End::Whole, wanted) {
+        if !recursion_has_path(alloc, *pc, &[(1, *x1), (2, *x2)], wanted)? {
             return Ok(Some(index));
         }
     }
@@ -136,13 +184,18 @@ static DEPTHS: [(u32, usize, End); 5] = [
     (600, 512, End::Partial(PartialCause::Depth)),
 ];
 
+/// How many frames the path of so many calls of `f` has, and how it ends.
+fn depth_of(alloc: Global, calls: u32) -> Result<(usize, End), Unread> {
+    let x2 = 0xf00f_fff0u32.wrapping_sub(calls.wrapping_mul(16));
+    let values = [(1, 0x1_0024), (2, x2)];
+    let path = path_in(alloc, RECURSION, 0x1_0024, &values, &Recursion)?;
+    Ok((path.frames().len(), path.end()))
+}
+
 /// The index of the first of these numbers of calls that has another path.
 fn other_depth(alloc: Global) -> Result<Option<usize>, Unread> {
     for (index, (calls, frames, end)) in DEPTHS.iter().enumerate() {
-        let x2 = 0xf00f_fff0u32.wrapping_sub(calls.wrapping_mul(16));
-        let values = [(1, 0x1_0024), (2, x2)];
-        let path = path_in(alloc, RECURSION, 0x1_0024, &values, &Recursion)?;
-        if path.end() != *end || path.frames().len() != *frames {
+        if depth_of(alloc, *calls)? != (*frames, *end) {
             return Ok(Some(index));
         }
     }

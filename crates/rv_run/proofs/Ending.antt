@@ -8,7 +8,7 @@ use Rattle.rv_run.specs.declared.schedule.Slice.{Slice}
 use Rattle.rv_run.specs.Schedule.{Scheduled, IsSchedule}
 use Rattle.rv_run.specs.State.{MachineState, first_hart, first_state, hart_of, is_running}
 use Rattle.rv_run.specs.Run.{Instant, Run, finished, preceded, next_instant, state_after, run_slice, run_slices}
-use Rattle.rv_run.specs.private.Queue.{AreOf}
+use Rattle.rv_run.specs.private.Queue.{AreOfHarts}
 use Rattle.rv_run.proofs.Counting.{acts-count}
 use Rattle.rv_run.proofs.Ranges.{ready-is}
 
@@ -29,7 +29,7 @@ after_slices (slice ∷ rest) s all =
     let same : length (run_slice slice.count slice.hart s).final.harts ≡ length s.harts = after_slice slice.count slice.hart s all.0 in
     after_slices rest (run_slice slice.count slice.hart s).final (subst (λ (n : ℕ). AllByRecursion (λ slice. slice.hart < n) rest) (sym same) all.1) ∙ same
 
-pub harts_stay : (slices : List Slice) (s : MachineState) → AreOf (length s.harts) slices → length (run_slices slices s).final.harts ≡ length s.harts
+pub harts_stay : (slices : List Slice) (s : MachineState) → AreOfHarts (length s.harts) slices → length (run_slices slices s).final.harts ≡ length s.harts
 harts_stay slices s all = after_slices slices s (recursion_from_All (λ (slice : Slice). slice.hart < length s.harts) slices all)
 
 -- a machine at its start: as many stand at the end of its run as its schedule tells
@@ -65,4 +65,4 @@ pub instants_told : (program : ProgramImage) (schedule : Scheduled) (input : Lis
 instants_told program schedule input harts environment left is few state slices =
     let many : length environment.harts ≡ schedule.harts = ap (λ (s : MachineState). length s.harts) state ∙ length-map-range_with_len (first_hart program.entry harts) 0 harts ∙ few in
     of_slices schedule.harts left environment
-    (recursion_from_All (λ (slice : Slice). slice.hart < schedule.harts) left (subst (λ (n : ℕ). AreOf n left) many (ready-is program schedule input harts environment left is few state slices).harts))
+    (recursion_from_All (λ (slice : Slice). slice.hart < schedule.harts) left (subst (λ (n : ℕ). AreOfHarts n left) many (ready-is program schedule input harts environment left is few state slices).harts))

@@ -10,7 +10,7 @@ use Rattle.rv_run.specs.State.{MachineState, hart_of, is_running}
 use Rattle.rv_run.specs.Calls.{Acted}
 use Rattle.rv_run.specs.Run.{Run, acts, state_after, next_instant, finished, preceded, joined, run_slice, run_slices}
 use Rattle.rv_run.specs.Progress.{CountsRetired, plus_one, count_of_first, due_of, first_due, WentOn}
-use Rattle.rv_run.specs.private.Queue.{with_left, less, AreOf, HaveRoom, IsNext, StandsAt}
+use Rattle.rv_run.specs.private.Queue.{with_left, less, AreOfHarts, HaveRoom, IsNext, StandsAt}
 
 whole : (slices : List Slice) → with_left (count_of_first slices) slices ≡ slices
 whole [] = refl
@@ -91,7 +91,7 @@ pub fewer : (left : List Slice) → instructions (rest_of left) ≤ instructions
 fewer [] = omega arith
 fewer (slice ∷ rest) = omega (arith, count-cons slice rest)
 
-pub rest-are-of : (harts : ℕ) (left : List Slice) → AreOf harts left → AreOf harts (rest_of left)
+pub rest-are-of : (harts : ℕ) (left : List Slice) → AreOfHarts harts left → AreOfHarts harts (rest_of left)
 rest-are-of harts [] all = all
 rest-are-of harts (slice ∷ rest) all = λ k d few. all (suc k) d (omega arith)
 
@@ -103,11 +103,11 @@ shorter [] slice first = absurd cc
 shorter (x ∷ rest) slice first = omega arith
 
 -- one instruction less
-pub less-are-of : (harts count : ℕ) (left : List Slice) → AreOf harts left → AreOf harts (less count left)
+pub less-are-of : (harts count : ℕ) (left : List Slice) → AreOfHarts harts left → AreOfHarts harts (less count left)
 less-are-of harts count [] all = all
 less-are-of harts count (slice ∷ rest) all = later
   where
-    later : AreOf harts (less count (slice ∷ rest))
+    later : AreOfHarts harts (less count (slice ∷ rest))
     later zero d few = all zero slice (omega arith)
     later (suc k) d few = all (suc k) d (omega arith)
 

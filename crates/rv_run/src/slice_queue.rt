@@ -4,7 +4,7 @@ ghost use Rattle.rv_run.specs.private.Reading.{first_or_none, rest_of};
 ghost use Rattle.rv_run.specs.State.{hart_of, is_running};
 ghost use Rattle.rv_run.specs.Run.{run_slices};
 ghost use Rattle.rv_run.specs.Progress.{count_of_first};
-ghost use Rattle.rv_run.specs.private.Queue.{AreOf, HaveRoom, StandsAt, less};
+ghost use Rattle.rv_run.specs.private.Queue.{AreOfHarts, HaveRoom, StandsAt, less};
 
 use crate::environment::Environment;
 use crate::schedule::Slice;
@@ -95,9 +95,9 @@ impl SliceQueue {
     /// Takes slices off the front in which nothing is left to do.
     #[inline(always)]
     pub(crate) fn skip_idle(&mut self, environment: &Environment<'_>)
-        requires { AreOf (length environment.now.harts) self.old }
+        requires { AreOfHarts (length environment.now.harts) self.old }
         ensures run { run_slices self.new environment.now ≡ run_slices self.old environment.now }
-        ensures harts { AreOf (length environment.now.harts) self.new }
+        ensures harts { AreOfHarts (length environment.now.harts) self.new }
         ensures room { HaveRoom environment.now self.old → HaveRoom environment.now self.new }
         ensures stands { StandsAt environment.now self.new }
     {

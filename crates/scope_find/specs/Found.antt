@@ -1,6 +1,6 @@
 -- The scopes at an address: its procedure, the calls that are inlined there, and its line. DWARF 5, sections 3.3.8 and
 -- 6.2; HPCToolkit's manual, attribution.
-use Rattle.std.specs.Prelude.{ℕ, ◌+◌, ◌&&◌, not, nat_le, Bool, List, [], ◌∷◌, map, take, drop, find, codes, unwrap_or}
+use Rattle.std.specs.Prelude.{ℕ, ◌+◌, ◌&&◌, not, nat_le, Bool, List, [], ◌∷◌, map, take, drop, find, unwrap_or}
 use Rattle.std.specs.Prelude.{Option, Some, None, if◌then◌else◌}
 use Rattle.std.specs.List.{enumerate_from, list_any}
 use Rattle.address_ranges.specs.Ranges.{holds}
@@ -10,7 +10,7 @@ use Rattle.scope_types.specs.declared.scope.ProcId.TheVariants.{Die, Sym, Namele
 use Rattle.scope_types.specs.declared.scope.LineId.{LineId}
 use Rattle.scope_types.specs.declared.scope.LineId.TheVariants.{Address}
 use Rattle.scope_types.specs.Expansion.{FoundAt}
-use Rattle.tree_types.specs.Naming.{Naming}
+use Rattle.tree_types.specs.Naming.{Naming, unknown_procedure}
 use Rattle.dwarf_line.specs.Lines.{Lines, file_name_of}
 use Rattle.dwarf_line.specs.Sequences.{line_at}
 use Rattle.dwarf_inline.specs.declared.subroutine.Subroutine.{Subroutine}
@@ -84,9 +84,6 @@ found_at p address = record {
 }
 
 -- ---- names
-
-abbrev pub unknown_procedure : List ℕ
-unknown_procedure = codes "<unknown procedure>"
 
 abbrev pub name_of_proc : ProgramScopes → ProcId → List ℕ
 name_of_proc p (Die offset) = proc_name p.structure offset

@@ -4,15 +4,16 @@ ghost use Rattle.std.specs.Prelude.{◌≡◌, ◌≤◌, IfOk};
 ghost use Rattle.merge_crew.specs.Merged.{IsOfPlan, IsWhole};
 ghost use Rattle.thread_cct.specs.Plan.{FitsExpansion, expanded};
 
+use crate::plan::one_hart;
 use merge_crew::{Crew, Crews, WorkCrew, merge_all};
 use prof_bytes::{Fail, Memory};
 use prof_devices::{Gate, OpenGate};
-use scope_types::{End, Expand, Frame, LineId, ProcId, RawPath, RootKind, Scope, ScopePath};
+use scope_types::{Expand, LineId, ProcId, RawPath, RootKind, Scope, ScopePath};
 use std::alloc::Global;
 use std::sync::atomic::{AtomicBool, AtomicU32, Ordering};
 use std::test::Fail as Failed;
 use std::thread::Threads;
-use thread_cct::{Ccts, Plan, TooManyFrames};
+use thread_cct::{Ccts, Plan, TooManyFrames, TooManyScopes};
 
 /// Expands a frame to its address, in a procedure without a name.
 #[derive(Drop)]
@@ -51,23 +52,9 @@ impl Expand for Nameless {
     }
 }
 
-/// A path of one frame.
-fn one_frame(alloc: Global, pc: u32) -> Result<RawPath, Memory> {
-    let mut frames = Vec::new(alloc);
-    frames.push(Frame { pc })?;
-    Ok(RawPath::of(End::Whole, frames))
-}
-
 /// One hart with 128 paths of one frame: two chunks, whose pieces are empty but for stripe 6.
 fn paths(alloc: Global) -> Result<Ccts, Fail<TooManyFrames>> {
-    let mut ccts = Ccts::start(alloc, 1)?;
-    for number in 0..128u32 {
-        let raw = one_frame(alloc, 0x1_0000 + 4 * number)?;
-        if 0 < ccts.harts() {
-            ccts.add(0, &raw)?;
-        }
-    }
-    Ok(ccts)
+    one_hart(alloc, 0x1_0000, 4, 128)
 }
 
 /// The first stripe that doesn't name the two chunks.
@@ -168,46 +155,126 @@ fn merge_by<R: Threads + Sync, E: Expand + Sync, G: Gate>(
     WorkCrew::of(gate).merge(rt, alloc, plan, expand, 2)
 }
 
+/// What a given number of workers, at most 16, merge of paths.
+fn merged<R: Threads + Sync>(
+    rt: &R,
+    alloc: Global,
+    ccts: &Ccts,
+    workers: u32,
+) -> Result<Crew, Fail<TooManyScopes>> {
+    let expand = Nameless { alloc };
+    let plan = Plan::of(alloc, ccts, &expand)?;
+    let workers = workers.min(16).max(1);
+    Ok(merge_all(rt, alloc, &plan, &expand, workers, &OpenGate)?)
+}
+
+/// What of all pieces a crew of a given number of workers has otherwise.
+fn other_piece(crew: &Crew, workers: u32) -> Option<&'static str> {
+    if crew.merged.saturating_add(crew.settled) != 32 {
+        return Some("the number of pieces");
+    }
+    if unnamed(crew).is_some() {
+        return Some("the chunks that a stripe names");
+    }
+    if crew.stripes.trie(6).len() != 130 {
+        return Some("the nodes of stripe 6");
+    }
+    let counts = (crew.merged, crew.busy_left, crew.present, crew.settled);
+    if workers == 1 && counts != (32, 0, 0, 0) {
+        return Some("the pieces that one worker merged");
+    }
+    None
+}
+
+fn other_merge<R: Threads + Sync>(
+    rt: &R,
+    alloc: Global,
+    ccts: &Ccts,
+    workers: u32,
+) -> Result<Option<&'static str>, Fail<TooManyScopes>> {
+    let crew = merged(rt, alloc, ccts, workers)?;
+    Ok(other_piece(&crew, workers))
+}
+
+/// The first number of workers whose crew has something otherwise, and what.
+fn other_workers<R: Threads + Sync>(
+    rt: &R,
+    alloc: Global,
+    ccts: &Ccts,
+) -> Result<Option<(u32, &'static str)>, Fail<TooManyScopes>> {
+    for workers in [1, 2, 16] {
+        if let Some(other) = other_merge(rt, alloc, ccts, workers)? {
+            return Ok(Some((workers, other)));
+        }
+    }
+    Ok(None)
+}
+
 #[test]
 fn workers_merge_all_pieces(rt: HostRuntime) -> Result<(), Failed> {
     let ccts = paths(rt.alloc())?;
-    let expand = Nameless { alloc: rt.alloc() };
-    let plan = Plan::of(rt.alloc(), &ccts, &expand)?;
-    for workers in [1, 2, 16] {
-        let crew = merge_all(&rt, rt.alloc(), &plan, &expand, workers, &OpenGate)?;
-        assert_eq!(rt; crew.merged.saturating_add(crew.settled), 32);
-        assert_eq!(rt; unnamed(&crew), None);
-        assert_eq!(rt; crew.stripes.trie(6).len(), 130);
-        if workers == 1 {
-            let left = (crew.busy_left, crew.present, crew.settled);
-            assert_eq!(rt; (crew.merged, left), (32, (0, 0, 0)));
-        }
-    }
+    assert_eq!(rt; other_workers(&rt, rt.alloc(), &ccts)?, None);
     Ok(())
+}
+
+/// What two workers that pass a gate merge of paths.
+fn merged_through<R: Threads + Sync>(
+    rt: &R,
+    alloc: Global,
+    ccts: &Ccts,
+    gate: &Meeting,
+) -> Result<Crew, Fail<TooManyScopes>> {
+    let expand = Nameless { alloc };
+    let plan = Plan::of(alloc, ccts, &expand)?;
+    Ok(merge_by(rt, alloc, &plan, &expand, gate)?)
+}
+
+/// Whether two workers missed one another, how many pieces they found in their stripes, and the first stripe that
+/// doesn't name the chunks.
+fn side_by_side<R: Threads + Sync>(
+    rt: &R,
+    alloc: Global,
+    ccts: &Ccts,
+) -> Result<(bool, u64, Option<u32>), Fail<TooManyScopes>> {
+    let gate = Meeting::new();
+    let crew = merged_through(rt, alloc, ccts, &gate)?;
+    let missed = gate.missed.load(Ordering::SeqCst);
+    Ok((missed, crew.present, unnamed(&crew)))
 }
 
 #[test]
 fn two_workers_run_side_by_side(rt: HostRuntime) -> Result<(), Failed> {
     let ccts = paths(rt.alloc())?;
-    let expand = Nameless { alloc: rt.alloc() };
-    let plan = Plan::of(rt.alloc(), &ccts, &expand)?;
-    let gate = Meeting::new();
-    let crew = merge_by(&rt, rt.alloc(), &plan, &expand, &gate)?;
-    assert!(rt; !gate.missed.load(Ordering::SeqCst));
-    assert_eq!(rt; crew.present, 0);
-    assert_eq!(rt; unnamed(&crew), None);
+    assert_eq!(rt; side_by_side(&rt, rt.alloc(), &ccts)?, (false, 0, None));
     Ok(())
+}
+
+/// What a crew that hands out other stripes merges of paths.
+fn merged_elsewhere<R: Threads + Sync>(
+    rt: &R,
+    alloc: Global,
+    ccts: &Ccts,
+) -> Result<Crew, Fail<TooManyScopes>> {
+    let expand = Nameless { alloc };
+    let plan = Plan::of(alloc, ccts, &expand)?;
+    let crews = EmptyCrew { gate: OpenGate };
+    Ok(crews.merge(rt, alloc, &plan, &expand, 2)?)
+}
+
+/// Whether such a crew has merged nothing, and its stripe 6 names no chunk.
+fn is_empty<R: Threads + Sync>(
+    rt: &R,
+    alloc: Global,
+    ccts: &Ccts,
+) -> Result<bool, Fail<TooManyScopes>> {
+    let crew = merged_elsewhere(rt, alloc, ccts)?;
+    let counts = (crew.merged, crew.busy_left, crew.present, crew.settled);
+    Ok(counts == (0, 0, 0, 0) && crew.stripes.names(6).is_empty())
 }
 
 #[test]
 fn other_stripes_are_handed_out(rt: HostRuntime) -> Result<(), Failed> {
     let ccts = paths(rt.alloc())?;
-    let expand = Nameless { alloc: rt.alloc() };
-    let plan = Plan::of(rt.alloc(), &ccts, &expand)?;
-    let crews = EmptyCrew { gate: OpenGate };
-    let crew = crews.merge(&rt, rt.alloc(), &plan, &expand, 2)?;
-    let left = (crew.busy_left, crew.present, crew.settled);
-    assert_eq!(rt; (crew.merged, left), (0, (0, 0, 0)));
-    assert!(rt; crew.stripes.names(6).is_empty());
+    assert!(rt; is_empty(&rt, rt.alloc(), &ccts)?);
     Ok(())
 }

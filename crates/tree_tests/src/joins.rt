@@ -1,9 +1,11 @@
-use crate::tries::{F, G, IN_F, NEXT_IN_F, ROOT, Row, SECOND, piece};
+use crate::tries::{F, G, IN_F, NEXT_IN_F, ROOT, Row, SECOND, trie_of};
 use path_trie::Trie;
+use prof_bytes::Memory;
 use scope_types::{RootKind, Scope};
+use std::alloc::Global;
 use std::test::Fail;
 use tree_join::{join_trie, join_tries};
-use tree_types::{NO_PARENT, Node, NodeCount};
+use tree_types::{NO_PARENT, Node, NodeCount, Tree};
 
 const PARTIAL: Scope = Scope::Root(RootKind::Partial);
 
@@ -148,35 +150,73 @@ static JOINED_COUNTS: [NodeCount; 5] = [
     },
 ];
 
+/// What of a tree is another than these.
+pub(crate) fn other_part(
+    tree: &Tree,
+    harts: u32,
+    nodes: &[Node],
+    counts: &[NodeCount],
+) -> Option<&'static str> {
+    if tree.harts() != harts {
+        return Some("the number of harts");
+    }
+    if tree.nodes() != nodes {
+        return Some("the nodes");
+    }
+    if tree.counts() != counts {
+        return Some("the counts");
+    }
+    None
+}
+
+/// The tree of the rows.
+fn tree_of_rows(alloc: Global) -> Result<Tree, Memory> {
+    let trie = trie_of(alloc, &ROWS)?;
+    join_trie(alloc, &trie, 3)
+}
+
+fn other_in_rows(alloc: Global) -> Result<Option<&'static str>, Memory> {
+    let tree = tree_of_rows(alloc)?;
+    Ok(other_part(&tree, 3, &NODES, &COUNTS))
+}
+
 #[test]
 fn nodes_of_a_trie_come_in_preorder(rt: HostRuntime) -> Result<(), Fail> {
-    let mut trie = Trie::empty(rt.alloc());
-    let piece = piece(rt.alloc(), &ROWS)?;
-    trie.merge(&piece)?;
-    let tree = join_trie(rt.alloc(), &trie, 3)?;
-    assert_eq!(rt; tree.harts(), 3);
-    assert!(rt; tree.nodes() == NODES.as_slice());
-    assert!(rt; tree.counts() == COUNTS.as_slice());
+    assert_eq!(rt; other_in_rows(rt.alloc())?, None);
     Ok(())
+}
+
+/// The tree of an empty trie.
+fn tree_of_nothing(alloc: Global) -> Result<Tree, Memory> {
+    join_trie(alloc, &Trie::empty(alloc), 0)
+}
+
+fn other_in_nothing(alloc: Global) -> Result<Option<&'static str>, Memory> {
+    let tree = tree_of_nothing(alloc)?;
+    Ok(other_part(&tree, 0, &[], &[]))
 }
 
 #[test]
 fn an_empty_trie_has_an_empty_tree(rt: HostRuntime) -> Result<(), Fail> {
-    let tree = join_trie(rt.alloc(), &Trie::empty(rt.alloc()), 0)?;
-    assert!(rt; tree.nodes().is_empty());
-    assert!(rt; tree.counts().is_empty());
+    assert_eq!(rt; other_in_nothing(rt.alloc())?, None);
     Ok(())
+}
+
+/// The tree of two tries.
+fn tree_of_both(alloc: Global) -> Result<Tree, Memory> {
+    let first = trie_of(alloc, &SECOND)?;
+    let second = trie_of(alloc, &ROWS)?;
+    join_tries(alloc, &[&first, &second], 3)
+}
+
+fn other_in_both(alloc: Global) -> Result<Option<&'static str>, Memory> {
+    let tree = tree_of_both(alloc)?;
+    Ok(other_part(&tree, 3, &NODES, &JOINED_COUNTS))
 }
 
 /// The nodes that both tries have come once, and their counts are added up.
 #[test]
 fn tries_are_joined(rt: HostRuntime) -> Result<(), Fail> {
-    let mut first = Trie::empty(rt.alloc());
-    first.merge(&piece(rt.alloc(), &SECOND)?)?;
-    let mut second = Trie::empty(rt.alloc());
-    second.merge(&piece(rt.alloc(), &ROWS)?)?;
-    let tree = join_tries(rt.alloc(), &[&first, &second], 3)?;
-    assert!(rt; tree.nodes() == NODES.as_slice());
-    assert!(rt; tree.counts() == JOINED_COUNTS.as_slice());
+    assert_eq!(rt; other_in_both(rt.alloc())?, None);
     Ok(())
 }

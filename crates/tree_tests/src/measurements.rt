@@ -1,13 +1,10 @@
 //! Measurement files: the bytes of a small one, written and read, and where what is not one has its first fault.
-ghost use Rattle.std.specs.Prelude.{◌≡◌, ◌+◌, ◌<◌, length, IfOk};
-ghost use Rattle.scope_types.specs.Distinct.{samples_in};
-
+use crate::plan::one_hart;
 use measure_file::{MeasureFault, MeasureHead, read_measure, write_measure};
 use prof_bytes::{Fail, Memory};
-use scope_types::{End, Frame, RawPath};
 use std::alloc::Global;
 use std::test::Fail as Failed;
-use thread_cct::{Ccts, TooManyFrames, samples_are_counted};
+use thread_cct::{Ccts, TooManyFrames};
 
 /// The program has 168 bytes and begins at 0x10000. Its one hart has four samples, 5 instructions apart.
 static MEASUREMENT: [u8; 92] =
@@ -48,39 +45,6 @@ static REFUSALS: [(&str, &[(usize, u8)], usize, u64); 16] = [
     ("a path twice", &[(56, 0x10)], 92, 56),
 ];
 
-/// No samples yet, of one hart.
-fn started(alloc: Global) -> Result<Ccts, Memory>
-    ensures harts { IfOk result (λ ccts. length ccts ≡ 1) }
-    ensures samples { IfOk result (λ ccts. samples_in ccts ≡ 0) }
-{
-    samples_are_counted();
-    Ccts::start(alloc, 1)
-}
-
-/// Adds a sample of one frame.
-fn add(alloc: Global, ccts: &mut Ccts, pc: u32) -> Result<(), Fail<TooManyFrames>>
-    requires hart { length ccts.old ≡ 1 }
-    requires few { samples_in ccts.old < 1000 }
-    ensures harts { length ccts.new ≡ 1 }
-    ensures samples { IfOk result (λ _. samples_in ccts.new ≡ samples_in ccts.old + 1) }
-{
-    let mut frames = Vec::new(alloc);
-    frames.push(Frame { pc })?;
-    ccts.add(0, &RawPath::of(End::Whole, frames))
-}
-
-/// The four samples.
-fn samples(alloc: Global) -> Result<Ccts, Fail<TooManyFrames>>
-    ensures { IfOk result (λ ccts. length ccts ≡ 1) }
-{
-    let mut ccts = started(alloc)?;
-    add(alloc, &mut ccts, 0x1_0010)?;
-    add(alloc, &mut ccts, 0x1_0024)?;
-    add(alloc, &mut ccts, 0x1_0038)?;
-    add(alloc, &mut ccts, 0x1_004c)?;
-    Ok(ccts)
-}
-
 /// The offset of the first fault.
 fn fault(alloc: Global, bytes: &[u8]) -> Result<Option<u64>, Memory> {
     match read_measure(alloc, bytes) {
@@ -108,11 +72,20 @@ fn changed(alloc: Global, changes: &[(usize, u8)], size: usize) -> Result<Vec<u8
     Ok(bytes)
 }
 
+/// The offset of the first fault of the file's first bytes with changes.
+fn changed_fault(
+    alloc: Global,
+    changes: &[(usize, u8)],
+    size: usize,
+) -> Result<Option<u64>, Memory> {
+    let bytes = changed(alloc, changes, size)?;
+    fault(alloc, &bytes)
+}
+
 /// The first row that has its fault elsewhere.
 fn wrong_row(alloc: Global) -> Result<Option<&'static str>, Memory> {
     for (name, changes, size, offset) in &REFUSALS {
-        let bytes = changed(alloc, changes, *size)?;
-        if fault(alloc, bytes.as_slice())? != Some(*offset) {
+        if changed_fault(alloc, changes, *size)? != Some(*offset) {
             return Ok(Some(*name));
         }
     }
@@ -123,47 +96,52 @@ fn wrong_row(alloc: Global) -> Result<Option<&'static str>, Memory> {
 fn wrong_front(alloc: Global) -> Result<Option<usize>, Memory> {
     for size in 0..92usize {
         let start = if size < 8 { 0 } else { size - size % 4 };
-        let bytes = changed(alloc, &[], size)?;
-        if fault(alloc, bytes.as_slice())? != Some(start as u64) {
+        if changed_fault(alloc, &[], size)? != Some(start as u64) {
             return Ok(Some(size));
         }
     }
     Ok(None)
 }
 
-/// What was read of bytes, written again.
-fn again(alloc: Global, bytes: &[u8]) -> Result<Option<(MeasureHead, Vec<u8>)>, Memory> {
-    let (head, ccts) = match read_measure(alloc, bytes) {
-        Ok(found) => found,
-        Err(Fail::Fault(_)) => return Ok(None),
-        Err(Fail::Memory(memory)) => return Err(memory),
-    };
+/// Whether samples are written as the file's bytes.
+fn are_written(alloc: Global, head: &MeasureHead, ccts: &Ccts) -> Result<bool, Memory> {
     let harts = ccts.harts();
     if head.period == 0 || harts == 0 || harts > 16 {
-        return Ok(None);
+        return Ok(false);
     }
-    let text = write_measure(alloc, &head, &ccts)?;
-    Ok(Some((head, text.into_vec())))
+    let text = write_measure(alloc, head, ccts)?;
+    Ok(text.bytes() == MEASUREMENT.as_slice())
+}
+
+/// Whether the file is read, and what was read is written as the file's bytes again.
+fn is_written_again(alloc: Global) -> Result<bool, Memory> {
+    match read_measure(alloc, &MEASUREMENT) {
+        Ok((head, ccts)) => Ok(head == HEAD && are_written(alloc, &head, &ccts)?),
+        Err(Fail::Fault(_)) => Ok(false),
+        Err(Fail::Memory(memory)) => Err(memory),
+    }
+}
+
+/// Whether the four samples are written as the file's bytes.
+fn four_samples_are_written(alloc: Global) -> Result<bool, Fail<TooManyFrames>> {
+    let ccts = one_hart(alloc, 0x1_0010, 20, 4)?;
+    Ok(are_written(alloc, &HEAD, &ccts)?)
 }
 
 #[test]
 fn four_samples_as_bytes(rt: HostRuntime) -> Result<(), Failed> {
-    let ccts = samples(rt.alloc())?;
-    let text = write_measure(rt.alloc(), &HEAD, &ccts)?;
-    assert_eq!(rt; text.bytes(), MEASUREMENT.as_slice());
-    match again(rt.alloc(), MEASUREMENT.as_slice())? {
-        Some((head, bytes)) => {
-            assert_eq!(rt; head, HEAD);
-            assert_eq!(rt; bytes.as_slice(), MEASUREMENT.as_slice());
-        }
-        None => assert!(rt; false),
-    }
+    assert!(rt; four_samples_are_written(rt.alloc())?, "what is written");
+    assert!(rt; is_written_again(rt.alloc())?, "what is read");
     Ok(())
+}
+
+/// The first row and the first front that have their faults elsewhere.
+fn wrong_row_and_front(alloc: Global) -> Result<(Option<&'static str>, Option<usize>), Memory> {
+    Ok((wrong_row(alloc)?, wrong_front(alloc)?))
 }
 
 #[test]
 fn first_faults(rt: HostRuntime) -> Result<(), Failed> {
-    assert_eq!(rt; wrong_row(rt.alloc())?, None);
-    assert_eq!(rt; wrong_front(rt.alloc())?, None);
+    assert_eq!(rt; wrong_row_and_front(rt.alloc())?, (None, None));
     Ok(())
 }

@@ -7,7 +7,9 @@ ghost use Rattle.scope_types.specs.declared.scope.LineId.TheVariants.{Address};
 ghost use Rattle.scope_types.specs.declared.scope.Scope.TheVariants.{Root, Proc, Stmt};
 
 use prof_bytes::{Fail, Memory};
-use scope_types::{End, Entry, Expand, Frame, LineId, ProcId, RawPath, RootKind, Scope, ScopePath};
+use scope_types::{
+    End, Entry, Expand, Frame, LineId, Piece, ProcId, RawPath, RootKind, Scope, ScopePath,
+};
 use std::alloc::Global;
 use std::test::Fail as Failed;
 use thread_cct::{Ccts, Plan, TooManyFrames, TooManyScopes, samples_are_counted};
@@ -108,6 +110,23 @@ fn add(alloc: Global, ccts: &mut Ccts, hart: u32, pc: u32) -> Result<(), Fail<To
     ccts.add(hart, &RawPath::of(End::Whole, frames))
 }
 
+/// One hart with up to 500 samples, the first at an address and each next one a number of bytes after it.
+pub(crate) fn one_hart(
+    alloc: Global,
+    first: u32,
+    apart: u32,
+    count: u32,
+) -> Result<Ccts, Fail<TooManyFrames>>
+    ensures { IfOk result (λ ccts. length ccts ≡ 1) }
+{
+    let mut ccts = started(alloc, 1)?;
+    for number in 0..count.min(500) {
+        let pc = first.wrapping_add(apart.wrapping_mul(number));
+        add(alloc, &mut ccts, 0, pc)?;
+    }
+    Ok(ccts)
+}
+
 /// Samples of hart 0 at 1000 to 1064, and of hart 1 at 2000, 2001 and 2000.
 pub(crate) fn samples(alloc: Global) -> Result<Ccts, Fail<TooManyFrames>> {
     let mut ccts = started(alloc, 2)?;
@@ -147,8 +166,20 @@ static PIECES: [(u32, u32, &[(u32, u32, u32)]); 5] = [
     (1, 0, &[]),
 ];
 
-/// Whether the piece of a chunk that is dealt to a stripe has these entries.
+/// Whether a piece is of this chunk and stripe, and has these entries.
 fn is_piece(
+    alloc: Global,
+    piece: &Piece,
+    chunk: u32,
+    stripe: u32,
+    wanted: &[(u32, u32, u32)],
+) -> Result<bool, Memory> {
+    let entries = shown(alloc, piece.entries.items())?;
+    Ok(piece.chunk == chunk && piece.stripe == stripe && entries.as_slice() == wanted)
+}
+
+/// Whether the piece of a chunk that is dealt to a stripe has these entries.
+fn has_piece(
     alloc: Global,
     plan: &Plan<'_>,
     memo: &mut NoMemo,
@@ -160,9 +191,7 @@ fn is_piece(
         return Ok(false);
     }
     let pieces = plan.cut(alloc, &Innermost { alloc }, memo, chunk)?;
-    let piece = pieces.piece(stripe);
-    let entries = shown(alloc, piece.entries.items())?;
-    Ok(piece.chunk == chunk && piece.stripe == stripe && entries.as_slice() == wanted)
+    is_piece(alloc, pieces.piece(stripe), chunk, stripe, wanted)
 }
 
 /// The first piece that is another one than its row says.
@@ -172,7 +201,7 @@ fn other_piece(
     memo: &mut NoMemo,
 ) -> Result<Option<(u32, u32)>, Memory> {
     for (chunk, stripe, wanted) in &PIECES {
-        if !is_piece(alloc, plan, memo, *chunk, *stripe, wanted)? {
+        if !has_piece(alloc, plan, memo, *chunk, *stripe, wanted)? {
             return Ok(Some((*chunk, *stripe)));
         }
     }
@@ -193,30 +222,71 @@ fn lent<T: Sync>(value: &T) -> &T {
     value
 }
 
+/// The chunks and harts of a plan, and the first piece that is another one.
+fn other_part(alloc: Global, plan: &Plan<'_>) -> Result<(u32, u32, Option<(u32, u32)>), Memory> {
+    let other = other_piece(alloc, plan, &mut NoMemo)?;
+    Ok((lent(plan).chunks(), plan.harts(), other))
+}
+
+/// The same for the plan of samples.
+fn other_part_of(
+    alloc: Global,
+    ccts: &Ccts,
+) -> Result<(u32, u32, Option<(u32, u32)>), Fail<TooManyScopes>> {
+    let expand = Innermost { alloc };
+    let plan = Plan::of(alloc, ccts, &expand)?;
+    Ok(other_part(alloc, &plan)?)
+}
+
 #[test]
 fn pieces_of_two_chunks(rt: HostRuntime) -> Result<(), Failed> {
     let ccts = samples(rt.alloc())?;
-    let expand = Innermost { alloc: rt.alloc() };
-    let plan = Plan::of(rt.alloc(), &ccts, &expand)?;
-    assert_eq!(rt; lent(&plan).chunks(), 2);
-    assert_eq!(rt; plan.harts(), 2);
-    let mut memo = expand.fresh()?;
-    assert_eq!(rt; other_piece(rt.alloc(), &plan, &mut memo)?, None);
+    assert_eq!(rt; other_part_of(rt.alloc(), &ccts)?, (2, 2, None));
     Ok(())
+}
+
+/// The first number of scopes that is taken and shouldn't be, or the other way round.
+fn other_limit(alloc: Global, ccts: &Ccts, rows: &[(u64, bool)]) -> Result<Option<u64>, Memory> {
+    for (scopes, are_taken) in rows {
+        if are_few(alloc, ccts, *scopes)? != *are_taken {
+            return Ok(Some(*scopes));
+        }
+    }
+    Ok(None)
+}
+
+fn other_limit_of_none(alloc: Global) -> Result<Option<u64>, Memory> {
+    let ccts = started(alloc, 3)?;
+    other_limit(alloc, &ccts, &[(8_388_609, true)])
+}
+
+/// How many scopes each call path of one sample may have.
+const LIMITS_OF_ONE: [(u64, bool); 2] = [(8_388_608, true), (8_388_609, false)];
+
+/// How many scopes each call path of 67 may have, hart 1's among them: 8,388,601 scopes in all, and 8,388,668.
+const LIMITS: [(u64, bool); 3] = [(125_203, true), (125_204, false), (u64::MAX, false)];
+
+fn other_limit_of_one(alloc: Global) -> Result<Option<u64>, Fail<TooManyFrames>> {
+    let ccts = one_hart(alloc, 4, 0, 1)?;
+    Ok(other_limit(alloc, &ccts, &LIMITS_OF_ONE)?)
+}
+
+fn other_limit_of_samples(alloc: Global) -> Result<Option<u64>, Fail<TooManyFrames>> {
+    let ccts = samples(alloc)?;
+    Ok(other_limit(alloc, &ccts, &LIMITS)?)
+}
+
+/// The first limit that is another without samples, with one, and with all.
+fn other_limits(
+    alloc: Global,
+) -> Result<(Option<u64>, Option<u64>, Option<u64>), Fail<TooManyFrames>> {
+    let without = other_limit_of_none(alloc)?;
+    let with_one = other_limit_of_one(alloc)?;
+    Ok((without, with_one, other_limit_of_samples(alloc)?))
 }
 
 #[test]
 fn scopes_at_their_limit(rt: HostRuntime) -> Result<(), Failed> {
-    let none = started(rt.alloc(), 3)?;
-    assert!(rt; are_few(rt.alloc(), &none, 8_388_609)?);
-    let mut one = started(rt.alloc(), 1)?;
-    add(rt.alloc(), &mut one, 0, 4)?;
-    assert!(rt; are_few(rt.alloc(), &one, 8_388_608)?);
-    assert!(rt; !are_few(rt.alloc(), &one, 8_388_609)?);
-    // 67 paths, hart 1's among them: 8,388,601 scopes and 8,388,668.
-    let ccts = samples(rt.alloc())?;
-    assert!(rt; are_few(rt.alloc(), &ccts, 125_203)?);
-    assert!(rt; !are_few(rt.alloc(), &ccts, 125_204)?);
-    assert!(rt; !are_few(rt.alloc(), &ccts, u64::MAX)?);
+    assert_eq!(rt; other_limits(rt.alloc())?, (None, None, None));
     Ok(())
 }

@@ -1,10 +1,12 @@
 //! The planes of the values of a tree of six nodes and two harts, derived by hand.
-ghost use Rattle.std.specs.Prelude.{◌≡◌, length};
+ghost use Rattle.std.specs.Prelude.{◌≡◌, length, IfOk};
 
-use crate::sums::six_nodes;
-use metric_sums::sums;
+use crate::sums::six_values;
+use prof_bytes::Memory;
 use sparse_planes::{by_context, by_profile};
+use std::alloc::Global;
 use std::test::Fail;
+use std::thread::Threads;
 use tree_types::{ContextEntry, ContextPlane, Kind, ProfileEntry, ProfilePlane};
 
 const E: Kind = Kind::Exclusive;
@@ -110,16 +112,37 @@ fn other_context(plane: &ContextPlane) -> Option<u32>
     None
 }
 
+/// The plane by hart.
+fn profiles<R: Threads + Sync>(rt: &R, alloc: Global) -> Result<ProfilePlane, Memory>
+    ensures { IfOk result (λ plane. length plane ≡ 2) }
+{
+    let values = six_values(alloc)?;
+    by_profile(rt, alloc, &values)
+}
+
+/// The plane by node.
+fn contexts<R: Threads + Sync>(rt: &R, alloc: Global) -> Result<ContextPlane, Memory>
+    ensures { IfOk result (λ plane. length plane ≡ 6) }
+{
+    let values = six_values(alloc)?;
+    by_context(rt, alloc, &values)
+}
+
+/// How many harts the plane by hart has, and the first whose column is another one.
+fn harts<R: Threads + Sync>(rt: &R, alloc: Global) -> Result<(u32, Option<u32>), Memory> {
+    let plane = profiles(rt, alloc)?;
+    Ok((plane.harts(), other_profile(&plane)))
+}
+
+/// How many nodes the plane by node has, and the first whose column is another one.
+fn nodes<R: Threads + Sync>(rt: &R, alloc: Global) -> Result<(u32, Option<u32>), Memory> {
+    let plane = contexts(rt, alloc)?;
+    Ok((plane.nodes(), other_context(&plane)))
+}
+
 #[test]
-#[tactic(auto, unfolding(tree_types::specs::NodeValues::values_of))]
 fn columns_by_hand(rt: HostRuntime) -> Result<(), Fail> {
-    let tree = six_nodes(rt.alloc())?;
-    let values = sums(rt.alloc(), &tree, 10)?;
-    let profiles = by_profile(&rt, rt.alloc(), &values)?;
-    let contexts = by_context(&rt, rt.alloc(), &values)?;
-    assert_eq!(rt; profiles.harts(), 2);
-    assert_eq!(rt; contexts.nodes(), 6);
-    assert_eq!(rt; other_profile(&profiles), None);
-    assert_eq!(rt; other_context(&contexts), None);
+    let found = (harts(&rt, rt.alloc())?, nodes(&rt, rt.alloc())?);
+    assert_eq!(rt; found, ((2, None), (6, None)));
     Ok(())
 }

@@ -4,14 +4,15 @@ ghost use Rattle.scope_types.specs.Raw.{Raw};
 ghost use Rattle.thread_cct.specs.Plan.{FitsExpansion, expanded, piece_of, stripes};
 ghost use Rattle.stripe_table.specs.Limits.{IsPieceOf};
 
+use crate::joins::other_part;
 use crate::plan::{Innermost, samples};
-use prof_bytes::Memory;
+use prof_bytes::{Fail, Memory};
 use scope_expand::call_paths_have_roots;
 use scope_types::{Expand, LineId, Piece, ProcId, RootKind, Scope};
 use std::alloc::Global;
-use std::test::Fail;
+use std::test::Fail as Failed;
 use stripe_table::{StripeSet, Stripes};
-use thread_cct::{Pieces, Plan, pieces_make_the_plan, plans_can_be_merged};
+use thread_cct::{Ccts, Pieces, Plan, TooManyScopes, pieces_make_the_plan, plans_can_be_merged};
 use tree_join::{join_stripes, stripes_hold_the_samples, stripes_hold_their_pieces};
 use tree_types::{NO_PARENT, Node, NodeCount, Tree};
 
@@ -125,31 +126,57 @@ fn expected(alloc: Global) -> Result<(Vec<Node>, Vec<NodeCount>), Memory> {
     Ok((nodes, counts))
 }
 
-#[test]
-fn stripes_without_pieces_have_no_nodes(rt: HostRuntime) -> Result<(), Fail> {
-    let ccts = samples(rt.alloc())?;
-    let expand = Innermost { alloc: rt.alloc() };
-    let plan = Plan::of(rt.alloc(), &ccts, &expand)?;
-    let set = closed(rt.alloc(), &plan, &expand)?;
-    let tree = joined(rt.alloc(), &plan, &expand, &set)?;
-    assert_eq!(rt; tree.harts(), 2);
-    assert!(rt; tree.nodes().is_empty());
-    assert!(rt; tree.counts().is_empty());
-    Ok(())
+/// The tree of stripes that nobody merged into.
+fn tree_without_pieces(alloc: Global, ccts: &Ccts) -> Result<Tree, Fail<TooManyScopes>> {
+    let expand = Innermost { alloc };
+    let plan = Plan::of(alloc, ccts, &expand)?;
+    let set = closed(alloc, &plan, &expand)?;
+    Ok(joined(alloc, &plan, &expand, &set)?)
+}
+
+/// What of that tree is other than empty.
+fn other_without_pieces(
+    alloc: Global,
+    ccts: &Ccts,
+) -> Result<Option<&'static str>, Fail<TooManyScopes>> {
+    let tree = tree_without_pieces(alloc, ccts)?;
+    Ok(other_part(&tree, 2, &[], &[]))
 }
 
 #[test]
-fn stripes_with_all_pieces_have_the_tree_of_the_samples(rt: HostRuntime) -> Result<(), Fail> {
+fn stripes_without_pieces_have_no_nodes(rt: HostRuntime) -> Result<(), Failed> {
     let ccts = samples(rt.alloc())?;
-    let expand = Innermost { alloc: rt.alloc() };
-    let plan = Plan::of(rt.alloc(), &ccts, &expand)?;
-    let mut set = closed(rt.alloc(), &plan, &expand)?;
-    settle_all(rt.alloc(), &mut set, &plan, &expand)?;
-    let tree = joined(rt.alloc(), &plan, &expand, &set)?;
-    let (nodes, counts) = expected(rt.alloc())?;
-    assert_eq!(rt; tree.harts(), 2);
-    assert!(rt; tree.nodes() == nodes.as_slice());
-    assert!(rt; tree.counts() == counts.as_slice());
+    assert_eq!(rt; other_without_pieces(rt.alloc(), &ccts)?, None);
+    Ok(())
+}
+
+/// The tree of stripes that have all pieces.
+fn tree_with_all_pieces(alloc: Global, ccts: &Ccts) -> Result<Tree, Fail<TooManyScopes>> {
+    let expand = Innermost { alloc };
+    let plan = Plan::of(alloc, ccts, &expand)?;
+    let mut set = closed(alloc, &plan, &expand)?;
+    settle_all(alloc, &mut set, &plan, &expand)?;
+    Ok(joined(alloc, &plan, &expand, &set)?)
+}
+
+/// What of a tree is other than expected.
+fn other_than_expected(alloc: Global, tree: &Tree) -> Result<Option<&'static str>, Memory> {
+    let (nodes, counts) = expected(alloc)?;
+    Ok(other_part(tree, 2, &nodes, &counts))
+}
+
+fn other_with_all_pieces(
+    alloc: Global,
+    ccts: &Ccts,
+) -> Result<Option<&'static str>, Fail<TooManyScopes>> {
+    let tree = tree_with_all_pieces(alloc, ccts)?;
+    Ok(other_than_expected(alloc, &tree)?)
+}
+
+#[test]
+fn stripes_with_all_pieces_have_the_tree_of_the_samples(rt: HostRuntime) -> Result<(), Failed> {
+    let ccts = samples(rt.alloc())?;
+    assert_eq!(rt; other_with_all_pieces(rt.alloc(), &ccts)?, None);
     stripes_hold_their_pieces();
     stripes_hold_the_samples();
     call_paths_have_roots();

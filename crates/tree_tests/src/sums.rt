@@ -78,6 +78,16 @@ pub(crate) fn six_nodes(alloc: Global) -> Result<Tree, Memory>
     Ok(Tree::of(2, nodes, counts))
 }
 
+/// The values of the tree, with a period of 10.
+#[tactic(auto, unfolding(tree_types::specs::NodeValues::values_of))]
+pub(crate) fn six_values(alloc: Global) -> Result<Values, Memory>
+    ensures nodes { IfOk result (λ values. values.nodes ≡ 6) }
+    ensures harts { IfOk result (λ values. values.harts ≡ 2) }
+{
+    let tree = six_nodes(alloc)?;
+    sums(alloc, &tree, 10)
+}
+
 /// The values of a node for a hart.
 fn values_at(values: &Values, node: u32, hart: u32) -> Option<[u64; 3]> {
     if node >= values.nodes() || hart >= values.harts() {
@@ -104,14 +114,24 @@ fn other_values(values: &Values) -> Option<(u32, u32)> {
     None
 }
 
+/// The harts of the tree, and the paths of hart 1 that end at node 4 and at node 3.
+fn harts_and_paths(alloc: Global) -> Result<(u32, u64, u64), Memory> {
+    let tree = six_nodes(alloc)?;
+    Ok((tree.harts(), tree.count(4, 1), tree.count(3, 1)))
+}
+
+/// The first node and hart with other values, and how many values there are other than 0.
+fn other_values_of_the_tree(alloc: Global) -> Result<(Option<(u32, u32)>, usize), Memory> {
+    let values = six_values(alloc)?;
+    Ok((other_values(&values), values.entries().len()))
+}
+
 #[test]
 fn values_of_a_tree(rt: HostRuntime) -> Result<(), Fail> {
-    let tree = six_nodes(rt.alloc())?;
-    assert_eq!(rt; tree.harts(), 2);
-    assert_eq!(rt; tree.count(4, 1), 1);
-    assert_eq!(rt; tree.count(3, 1), 0);
-    let values = sums(rt.alloc(), &tree, 10)?;
-    assert_eq!(rt; other_values(&values), None);
-    assert_eq!(rt; values.entries().len(), 20);
+    let found = (
+        harts_and_paths(rt.alloc())?,
+        other_values_of_the_tree(rt.alloc())?,
+    );
+    assert_eq!(rt; found, ((2, 1, 0), (None, 20)));
     Ok(())
 }

@@ -1,5 +1,5 @@
 ghost use Rattle.std.specs.Prelude.{◌<◌, ◌≤◌, length, All, IfOk};
-ghost use Rattle.path_trie.specs.Trie.{samples_of, entry_scopes};
+ghost use Rattle.path_trie.specs.Trie.{samples_of, entry_scopes, trie_nodes};
 
 use path_trie::{PathEnd, Trie, parts_add_up, trie_is_of_samples, trie_nodes_are_prefixes};
 use prof_bytes::{Listed, Memory};
@@ -176,29 +176,72 @@ pub(crate) fn piece(alloc: Global, rows: &[Row]) -> Result<Piece, Memory>
     })
 }
 
+/// The trie of a piece of up to a hundred of these rows.
+pub(crate) fn trie_of(alloc: Global, rows: &[Row]) -> Result<Trie, Memory>
+    ensures samples { IfOk result (λ t. samples_of t ≤ 10000) }
+    ensures nodes { IfOk result (λ t. length (trie_nodes t) ≤ 1600) }
+    ensures harts { IfOk result (λ t. All (λ e. 0 < e.count → e.hart < 3) t) }
+{
+    let piece = piece(alloc, &rows[..rows.len().min(100)])?;
+    let mut trie = Trie::empty(alloc);
+    trie.merge(&piece)?;
+    Ok(trie)
+}
+
 #[test]
 fn no_nodes_in_an_empty_trie(rt: HostRuntime) {
     let trie = Trie::empty(rt.alloc());
-    assert_eq!(rt; trie.len(), 0);
-    assert!(rt; trie.ends().is_empty());
+    assert_eq!(rt; (trie.len(), trie.ends().len()), (0, 0));
+}
+
+/// The trie of both pieces.
+fn trie_of_both(alloc: Global) -> Result<Trie, Memory> {
+    let mut trie = trie_of(alloc, &FIRST)?;
+    let second = piece(alloc, &SECOND)?;
+    trie.merge(&second)?;
+    Ok(trie)
+}
+
+/// How many nodes the trie of the first piece has.
+fn nodes_of_the_first(alloc: Global) -> Result<u32, Memory> {
+    let trie = trie_of(alloc, &FIRST)?;
+    Ok(trie.len())
+}
+
+/// The first node and hart with another count.
+fn other_count(trie: &Trie) -> Option<(u32, u32)> {
+    for (node, hart, count) in &COUNTS {
+        if *node >= trie.len() || trie.count(*node, *hart) != *count {
+            return Some((*node, *hart));
+        }
+    }
+    None
+}
+
+/// What of a trie is another than in the tables.
+fn other_part(trie: &Trie) -> Option<&'static str> {
+    if trie.len() != 6 || trie.nodes() != NODES.as_slice() {
+        return Some("the nodes");
+    }
+    if trie.node(5) != NODES[5] {
+        return Some("node 5");
+    }
+    if trie.ends() != ENDS.as_slice() {
+        return Some("the ends");
+    }
+    None
+}
+
+/// What of the trie of both pieces is another than in the tables, and the first node and hart with another count.
+fn other_in_both(alloc: Global) -> Result<(Option<&'static str>, Option<(u32, u32)>), Memory> {
+    let trie = trie_of_both(alloc)?;
+    Ok((other_part(&trie), other_count(&trie)))
 }
 
 #[test]
 fn pieces_are_merged(rt: HostRuntime) -> Result<(), Fail> {
-    let mut trie = Trie::empty(rt.alloc());
-    let first = piece(rt.alloc(), &FIRST)?;
-    let second = piece(rt.alloc(), &SECOND)?;
-    trie.merge(&first)?;
-    assert_eq!(rt; trie.len(), 4);
-    trie.merge(&second)?;
-    assert_eq!(rt; trie.len(), 6);
-    assert!(rt; trie.nodes() == NODES.as_slice());
-    assert!(rt; trie.ends() == ENDS.as_slice());
-    assert_eq!(rt; trie.node(5), NODES[5]);
-    for (node, hart, count) in COUNTS {
-        assert!(rt; node < 6);
-        assert_eq!(rt; trie.count(node, hart), count);
-    }
+    assert_eq!(rt; nodes_of_the_first(rt.alloc())?, 4);
+    assert_eq!(rt; other_in_both(rt.alloc())?, (None, None));
     trie_nodes_are_prefixes();
     trie_is_of_samples();
     parts_add_up();

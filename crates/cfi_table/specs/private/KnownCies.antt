@@ -1,12 +1,13 @@
 -- What is kept of each CIE while a section's FDEs are read.
 use Rattle.std.specs.Prelude.{◌≡◌, ℕ, List, reverse, Option, Some, None, Result, Ok, Err}
-use Rattle.prof_bytes.specs.Outcome.{viewed}
+use Rattle.prof_bytes.specs.Outcome.{◌>>=◌, viewed}
 use Rattle.cfi_table.specs.declared.fault.FrameFault.{FrameFault}
 use Rattle.cfi_table.specs.declared.extent.Extent.{Extent}
 use Rattle.cfi_table.specs.declared.cie.Cie.{Cie}
 use Rattle.cfi_table.specs.declared.checker.InitialCfaForms.{InitialCfaForms}
 use Rattle.cfi_table.specs.declared.known_cie.KnownCie.{KnownCie}
-use Rattle.cfi_table.specs.Entries.{cie_of, after_cie}
+use Rattle.cfi_table.specs.declared.entry.FrameEntry.{FrameEntry}
+use Rattle.cfi_table.specs.Entries.{cie_of, after_cie, checked_cie}
 use Rattle.cfi_table.specs.private.Checking.{CfaForms, no_forms, forms_after}
 use Rattle.cfi_table.specs.private.Placed.{IsCieIn}
 
@@ -17,6 +18,12 @@ pub record Known : Type 0 where
 
 abbrev pub known : List ℕ → Extent → Known
 known section e = record { offset = e.offset; cie = cie_of section e }
+
+-- what an entry is that says this as a CIE
+abbrev pub entry_of_cie : List ℕ → Result (Option Cie) FrameFault → Result FrameEntry FrameFault
+entry_of_cie section said = do
+  cie ← said
+  checked_cie section cie
 
 -- the forms after a CIE's instructions, or their fault
 abbrev pub forms_of_cie : List ℕ → Result (Option Cie) FrameFault → Result CfaForms FrameFault

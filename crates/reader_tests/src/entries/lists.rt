@@ -223,7 +223,7 @@ pub(super) static CASES: [Case; 17] = [
 ];
 
 /// An entry from 0x100 up to 0x110, which has the list at the beginning of `.debug_rnglists`.
-pub(super) const AT_START: &[Part] = &[ENTRY_AT_0];
+pub(super) static AT_START: [Part; 1] = [ENTRY_AT_0];
 
 /// Lists of this entry.
 pub(super) static LISTS: [Case; 8] = [
@@ -298,7 +298,7 @@ pub(super) static LISTS: [Case; 8] = [
 ];
 
 /// The same where the unit has two addresses, 0x1000 and 0x2000.
-pub(super) const WITH_ADDRESSES: &[Part] = &[
+pub(super) static WITH_ADDRESSES: [Part; 3] = [
     Unit(ADDR_BASE, &[0, 0, 0, 0]),
     ENTRY_AT_0,
     TWO_ADDRESSES,

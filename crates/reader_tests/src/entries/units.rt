@@ -9,7 +9,8 @@ use dwarf_info::constants::{
     DW_AT_stmt_list, DW_TAG_compile_unit, DW_TAG_subprogram, DW_UT_compile, DW_UT_partial,
     DW_UT_skeleton, DW_UT_type,
 };
-use dwarf_info::read_info;
+use dwarf_info::{Info, read_info};
+use prof_bytes::Memory;
 use std::alloc::Global;
 
 /// Fields of a unit's header without fault.
@@ -180,16 +181,30 @@ fn shape_in(
     if parts.info.len() > 4096 || parts.rnglists.len() > 4096 {
         return Ok(Vec::new(alloc));
     }
-    let read = read_info(alloc, parts)?;
-    let mut seen = Vec::new(alloc);
-    let entries = read.entries(alloc)?;
+    let info = read_info(alloc, parts)?;
+    shape_of_info(alloc, &info)
+}
+
+/// The same of this debug information.
+fn shape_of_info(
+    alloc: Global,
+    info: &Info<'_>,
+) -> Result<Vec<(u32, u32)>, prof_bytes::Fail<InfoFault>> {
+    let mut shape = Vec::new(alloc);
+    add_entries(alloc, &mut shape, info)?;
+    for unit in info.units() {
+        shape.push((unit.offset, unit.table.unwrap_or(u32::MAX)))?;
+    }
+    Ok(shape)
+}
+
+/// Appends the offset and depth of each entry.
+fn add_entries(alloc: Global, shape: &mut Vec<(u32, u32)>, info: &Info<'_>) -> Result<(), Memory> {
+    let entries = info.entries(alloc)?;
     for entry in entries.as_slice() {
-        seen.push((entry.offset, entry.depth))?;
+        shape.push((entry.offset, entry.depth))?;
     }
-    for unit in read.units() {
-        seen.push((unit.offset, unit.table.unwrap_or(u32::MAX)))?;
-    }
-    Ok(seen)
+    Ok(())
 }
 
 /// The same in sections of these fields.
@@ -198,7 +213,7 @@ fn shape_of(
     info: &[&[u8]],
     abbrev: &[&[u8]],
 ) -> Result<Vec<(u32, u32)>, prof_bytes::Fail<InfoFault>> {
-    let mut sections = Sections::of(alloc, b"", b"")?;
+    let mut sections = Sections::new(alloc);
     extend_each(&mut sections.info, info)?;
     extend_each(&mut sections.abbrev, abbrev)?;
     shape_in(alloc, &sections)
@@ -212,18 +227,33 @@ fn shape_of_short(alloc: Global) -> Result<Vec<(u32, u32)>, prof_bytes::Fail<Inf
     shape_in(alloc, &sections)
 }
 
+/// Whether this is the fault in place of a shape.
+fn is_fault(
+    shape: &Result<Vec<(u32, u32)>, prof_bytes::Fail<InfoFault>>,
+    wanted: &InfoFault,
+) -> bool {
+    match shape {
+        Err(prof_bytes::Fail::Fault(fault)) => fault == wanted,
+        _ => false,
+    }
+}
+
+/// Whether this is the fault in sections of these fields.
+fn has_fault(alloc: Global, info: &[&[u8]], abbrev: &[&[u8]], wanted: &InfoFault) -> bool {
+    is_fault(&shape_of(alloc, info, abbrev), wanted)
+}
+
 /// The first row whose sections have another fault.
 fn other_fault(alloc: Global) -> Option<&'static str> {
     for (name, info, abbrev, fault) in &FAULTS {
-        match shape_of(alloc, info, abbrev) {
-            Err(prof_bytes::Fail::Fault(found)) if found == *fault => {}
-            _ => return Some(name),
+        if !has_fault(alloc, info, abbrev, fault) {
+            return Some(name);
         }
     }
-    match shape_of_short(alloc) {
-        Err(prof_bytes::Fail::Fault(BadUnit { offset: 0 })) => None,
-        _ => Some("unit_length past the section"),
+    if !is_fault(&shape_of_short(alloc), &BadUnit { offset: 0 }) {
+        return Some("unit_length past the section");
     }
+    None
 }
 
 #[test]

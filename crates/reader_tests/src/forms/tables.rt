@@ -25,8 +25,10 @@ const ABBREV: &[u8] = b"\
     0000092e01111b120640187a1903253a0b3b0b27193f1900000a3400021803253a0b3b0b491300000b0b0111\
     1b120600000c3400022203253a0b3b0b491300000d35004913000000";
 
-/// Of some codes the tag, whether children follow, how many attributes, and the last one with its form.
-static DECLARED: [(u64, u64, bool, usize, (u64, u64, i64)); 7] = [
+/// Of a code the tag, whether children follow, how many attributes, and the last one with its form.
+type Declared = (u64, u64, bool, usize, (u64, u64, i64));
+
+static DECLARED: [Declared; 7] = [
     (
         1,
         DW_TAG_compile_unit,
@@ -85,28 +87,51 @@ fn last_of(specs: &[Spec]) -> (u64, u64, i64) {
     }
 }
 
-/// The first code that is declared in another way, or that is declared and should not be.
+fn is_declared(table: &Abbrevs, row: &Declared) -> bool {
+    let (code, tag, children, count, last) = row;
+    match table.find(*code) {
+        Some(declared) => {
+            (declared.code, declared.tag, declared.children) == (*code, *tag, *children)
+                && declared.specs.as_slice().len() == *count
+                && last_of(declared.specs.as_slice()) == *last
+        }
+        None => false,
+    }
+}
+
+/// The first code that is declared in another way.
 fn other_declaration(table: &Abbrevs) -> Option<u64> {
-    for (code, tag, children, count, last) in &DECLARED {
-        match table.find(*code) {
-            Some(declared)
-                if (declared.code, declared.tag, declared.children) == (*code, *tag, *children)
-                    && declared.specs.as_slice().len() == *count
-                    && last_of(declared.specs.as_slice()) == *last => {}
-            _ => return Some(*code),
+    for row in &DECLARED {
+        if !is_declared(table, row) {
+            return Some(row.0);
         }
     }
+    None
+}
+
+/// The first code that is declared and should not be.
+fn needless_declaration(table: &Abbrevs) -> Option<u64> {
     [14, 0]
         .iter()
         .find(|code| table.find(**code).is_some())
         .copied()
 }
 
+/// The first code of a table of these bytes that is declared in another way, or should not be.
+fn other_code(alloc: Global, bytes: &[u8]) -> Result<Option<u64>, Unread> {
+    let table = readable(read_abbrevs(alloc, bytes, 0))?;
+    Ok(other_declaration(&table).or(needless_declaration(&table)))
+}
+
+/// The same in the table of the program.
+fn other_code_of_program(alloc: Global) -> Result<Option<u64>, Unread> {
+    let bytes = bytes_of(alloc, ABBREV)?;
+    other_code(alloc, &bytes)
+}
+
 #[test]
 fn declarations_of_a_program(rt: HostRuntime) -> Result<(), Fail> {
-    let bytes = bytes_of(rt.alloc(), ABBREV)?;
-    let table = readable(read_abbrevs(rt.alloc(), &bytes, 0))?;
-    assert_eq!(rt; other_declaration(&table), None);
+    assert_eq!(rt; other_code_of_program(rt.alloc())?, None);
     Ok(())
 }
 
@@ -225,11 +250,9 @@ fn other_tag(
 
 #[test]
 fn tables_by_their_offset(rt: HostRuntime) -> Result<(), Fail> {
-    assert_eq!(rt;
-        other_tag(rt.alloc(), &UNITS, Some(DW_TAG_compile_unit))?,
-        None
-    );
-    assert_eq!(rt; other_tag(rt.alloc(), &ABSENT, None)?, None);
+    let unit = other_tag(rt.alloc(), &UNITS, Some(DW_TAG_compile_unit))?;
+    let absent = other_tag(rt.alloc(), &ABSENT, None)?;
+    assert_eq!(rt; unit.or(absent), None);
     Ok(())
 }
 
@@ -279,6 +302,14 @@ static ENDS: [(u32, Option<End>); 5] = [
     (15, None),
 ];
 
+/// The same of the second and the third table.
+static FALLING_ENDS: [(u32, Option<End>); 1] = [(
+    5,
+    Some((1, Some(DW_TAG_subprogram), Some(DW_TAG_base_type))),
+)];
+
+static TWICE_ENDS: [(u32, Option<End>); 1] = [(5, None)];
+
 fn end_at(table: &Abbrevs, offset: u32) -> Option<End> {
     let index = table.from_index(0).index_at(offset)?;
     let end = table.from_index(index);
@@ -294,22 +325,31 @@ fn end_in(alloc: Global, pieces: &[&[u8]], offset: u32) -> Result<Option<End>, U
     Ok(end_at(&table, offset))
 }
 
-/// The first offset at which another end stands.
-fn other_end(alloc: Global) -> Result<Option<u32>, Unread> {
-    for (offset, wanted) in &ENDS {
-        if end_in(alloc, &THREE, *offset)? != *wanted {
-            return Ok(Some(*offset));
+/// The first of these offsets of a table at which another end stands, after the table's name.
+fn other_end_of(
+    alloc: Global,
+    table: &'static str,
+    pieces: &[&[u8]],
+    ends: &[(u32, Option<End>)],
+) -> Result<Option<(&'static str, u32)>, Unread> {
+    for (offset, wanted) in ends {
+        if end_in(alloc, pieces, *offset)? != *wanted {
+            return Ok(Some((table, *offset)));
         }
     }
     Ok(None)
 }
 
+/// The same of the three tables.
+fn other_end(alloc: Global) -> Result<Option<(&'static str, u32)>, Unread> {
+    let three = other_end_of(alloc, "three declarations", &THREE, &ENDS)?;
+    let falling = other_end_of(alloc, "codes that fall", &FALLING, &FALLING_ENDS)?;
+    let twice = other_end_of(alloc, "two of one code", &TWICE, &TWICE_ENDS)?;
+    Ok(three.or(falling).or(twice))
+}
+
 #[test]
 fn ends_of_tables(rt: HostRuntime) -> Result<(), Fail> {
-    let alloc = rt.alloc();
-    assert_eq!(rt; other_end(alloc)?, None);
-    let falling = Some((1, Some(DW_TAG_subprogram), Some(DW_TAG_base_type)));
-    assert_eq!(rt; end_in(alloc, &FALLING, 5)?, falling);
-    assert_eq!(rt; end_in(alloc, &TWICE, 5)?, None);
+    assert_eq!(rt; other_end(rt.alloc())?, None);
     Ok(())
 }

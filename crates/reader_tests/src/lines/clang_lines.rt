@@ -1,6 +1,6 @@
 //! Lines of a program by clang 14 (-O2 with a section for each function, and -O0). Bytes stand as two
 //! hexadecimal digits each.
-use super::Program;
+use super::programs::Program;
 
 pub(super) const PROGRAM: Program = Program {
     what: "clang",

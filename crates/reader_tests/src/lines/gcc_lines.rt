@@ -1,6 +1,6 @@
 //! Lines of a program by gcc 12 (-O2): a table of version 4 and one of version 5. Bytes stand as two
 //! hexadecimal digits each.
-use super::Program;
+use super::programs::Program;
 
 pub(super) const PROGRAM: Program = Program {
     what: "gcc",

@@ -1,9 +1,11 @@
 //! Worked programs, and what their lines are.
-use super::Program;
+use super::programs::Program;
 use crate::worked::{FILE, LINE};
 
+pub(super) static WORKED_PROGRAMS: [Program; 3] = [WORKED, WITHOUT_TABLES, RECURSIVE];
+
 /// The worked program.
-pub(super) const WORKED: Program = Program {
+const WORKED: Program = Program {
     what: "the worked program",
     file: FILE,
     line: LINE,
@@ -15,7 +17,7 @@ pub(super) const WORKED: Program = Program {
     names: &[(0, 0, b"/s/a.c")],
 };
 
-pub(super) const WITHOUT_TABLES: Program = Program {
+const WITHOUT_TABLES: Program = Program {
     what: "no offset of a table",
     file: FILE,
     line: LINE,
@@ -28,7 +30,7 @@ pub(super) const WITHOUT_TABLES: Program = Program {
 };
 
 /// A program of 12 instructions, with a function that calls itself, at line 7.
-pub(super) const RECURSIVE: Program = Program {
+const RECURSIVE: Program = Program {
     what: "the recursive program",
     file: b"\
     7f454c460101010000000000000000000200f300010000000000010034000000000000000000000034002000\
@@ -42,3 +44,16 @@ pub(super) const RECURSIVE: Program = Program {
     tables: &[],
     names: &[],
 };
+
+/// A name, changes of `.debug_line` of the worked program, offsets of tables, and the offset of the first table at fault, in
+/// ascending order.
+pub(super) static FAULTS: [(&str, &[u8], &[u32], u32); 3] = [
+    ("an offset after the section's end", b"", &[80], 80),
+    ("the lower of two offsets", b"", &[4, 80], 4),
+    (
+        "2 as the greatest number of operations of an instruction",
+        b"13=2",
+        &[0],
+        0,
+    ),
+];

@@ -8,23 +8,42 @@ use cfi_table::{
     DW_CFA_undefined, DW_CFA_val_expression, DW_CFA_val_offset, DW_CIE_ID,
 };
 
-/// One CIE, with code alignment 1, data alignment -4 and return register x1, with these instructions,
-/// and one FDE, for the addresses from 0x10010 up to 0x10030, without any.
-fn section_of(alloc: Global, instructions: &[u8]) -> Result<Vec<u8>, Memory> {
-    let mut bytes = Vec::new(alloc);
-    put_u32(
-        &mut bytes,
-        u32::try_from(instructions.len())
-            .unwrap_or(0)
-            .wrapping_add(9),
-    )?;
-    put_u32(&mut bytes, DW_CIE_ID)?;
-    bytes.extend_from_slice(&[3, 0, 1, 0x7c, 1])?;
-    bytes.extend_from_slice(instructions)?;
+/// A CIE with code alignment 1, data alignment -4 and return register x1, with these instructions.
+fn put_cie(section: &mut Vec<u8>, instructions: &[u8]) -> Result<(), Memory> {
+    let length = u32::try_from(instructions.len()).unwrap_or(0);
+    put_u32(section, length.wrapping_add(9))?;
+    put_u32(section, DW_CIE_ID)?;
+    section.extend_from_slice(&[3, 0, 1, 0x7c, 1])?;
+    section.extend_from_slice(instructions)?;
+    Ok(())
+}
+
+/// An FDE of the CIE at 0, for the addresses from 0x10010 up to 0x10030, without instructions.
+fn put_fde(section: &mut Vec<u8>) -> Result<(), Memory> {
     for word in [12, 0, 0x1_0010, 32] {
-        put_u32(&mut bytes, word)?;
+        put_u32(section, word)?;
     }
-    Ok(bytes)
+    Ok(())
+}
+
+/// One CIE with these instructions, and one FDE.
+fn section_of(alloc: Global, instructions: &[u8]) -> Result<Vec<u8>, Memory> {
+    let mut section = Vec::new(alloc);
+    put_cie(&mut section, instructions)?;
+    put_fde(&mut section)?;
+    Ok(section)
+}
+
+/// The path of the instruction at 0x10010 of a file with this section of frames.
+fn path_with_section(
+    alloc: Global,
+    file: &[u8],
+    section: &[u8],
+    values: &[(usize, u32)],
+    words: &[(u32, u32)],
+) -> Result<RawPath, Unread> {
+    let image = image_of(alloc, file)?;
+    path_by_section(alloc, &image, section, 0x1_0010, values, &Words { words })
 }
 
 /// The path of the instruction at 0x10010 in the recursion with these call frame instructions.
@@ -35,11 +54,8 @@ fn path_by(
     words: &[(u32, u32)],
 ) -> Result<RawPath, Unread> {
     let file = bytes_of(alloc, RECURSION)?;
-    let image = image_of(alloc, &file)?;
     let section = section_of(alloc, instructions)?;
-    let table = table_of(alloc, &section, &image)?;
-    let unwinder = Unwinder::of(alloc, &table, &image);
-    Ok(unwinder.path(0x1_0010, &registers(values), &Words { words })?)
+    path_with_section(alloc, &file, &section, values, words)
 }
 
 /// Instructions, and how the path of one frame ends, where x1 is 0x10008 and x2 is 0xf00ffff0.
@@ -141,12 +157,17 @@ static ENDS: [(&str, &[u8], End); 17] = [
     ),
 ];
 
+/// Whether a path of one frame ends so.
+fn ends_so(alloc: Global, instructions: &[u8], end: End) -> Result<bool, Unread> {
+    let values = [(1, 0x1_0008), (2, 0xf00f_fff0)];
+    let path = path_by(alloc, instructions, &values, &[])?;
+    Ok(is_path(&path, end, &[0x1_0010]))
+}
+
 /// The first row whose path ends otherwise, or has other frames.
 fn other_end(alloc: Global) -> Result<Option<&'static str>, Unread> {
-    let values = [(1, 0x1_0008), (2, 0xf00f_fff0)];
     for (name, instructions, end) in &ENDS {
-        let path = path_by(alloc, instructions, &values, &[])?;
-        if !is_path(&path, *end, &[0x1_0010]) {
+        if !ends_so(alloc, instructions, *end)? {
             return Ok(Some(name));
         }
     }
@@ -159,9 +180,18 @@ fn a_path_ends_by_the_first_test_that_holds(rt: HostRuntime) -> Result<(), Fail>
     Ok(())
 }
 
-/// Instructions, registers and words of memory; how the path of the instruction at 0x10010 ends, and its
+/// A name, instructions, registers and words of memory; how the path of the instruction at 0x10010 ends, and its
 /// frames.
-static CALLERS: [(&str, &[u8], &[(usize, u32)], &[(u32, u32)], End, &[u32]); 13] = [
+type Caller = (
+    &'static str,
+    &'static [u8],
+    &'static [(usize, u32)],
+    &'static [(u32, u32)],
+    End,
+    &'static [u32],
+);
+
+static CALLERS: [Caller; 13] = [
     (
         "x1 keeps its value, and a rule of x40 is passed over",
         &[DW_CFA_def_cfa, 2, 0, DW_CFA_expression, 40, 0],
@@ -299,12 +329,17 @@ static CALLERS: [(&str, &[u8], &[(usize, u32)], &[(u32, u32)], End, &[u32]); 13]
     ),
 ];
 
+/// Whether a row's path ends as it says, and has its frames.
+fn caller_holds(alloc: Global, row: &Caller) -> Result<bool, Unread> {
+    let path = path_by(alloc, row.1, row.2, row.3)?;
+    Ok(is_path(&path, row.4, row.5))
+}
+
 /// The first row whose path ends otherwise, or has other frames.
 fn other_caller(alloc: Global) -> Result<Option<&'static str>, Unread> {
-    for (name, instructions, values, words, end, frames) in &CALLERS {
-        let path = path_by(alloc, instructions, values, words)?;
-        if !is_path(&path, *end, frames) {
-            return Ok(Some(name));
+    for row in &CALLERS {
+        if !caller_holds(alloc, row)? {
+            return Ok(Some(row.0));
         }
     }
     Ok(None)

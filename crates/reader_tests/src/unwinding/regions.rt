@@ -60,12 +60,22 @@ static REGIONS: [(&str, &[(usize, u8)], (u32, u32)); 11] = [
     ),
 ];
 
+/// The entry region of a program.
+fn region_of(alloc: Global, image: &Image<'_>) -> Result<(u32, u32), Unread> {
+    let table = table_of(alloc, image.section(b".debug_frame"), image)?;
+    Ok(Unwinder::of(alloc, &table, image).entry_region())
+}
+
+/// The same of a file.
+fn region_in(alloc: Global, file: &[u8]) -> Result<(u32, u32), Unread> {
+    let image = image_of(alloc, file)?;
+    region_of(alloc, &image)
+}
+
 /// The entry region of the program with these changes.
 fn region(alloc: Global, changes: &[(usize, u8)]) -> Result<(u32, u32), Unread> {
     let file = replaced(alloc, RECURSION, changes)?;
-    let image = image_of(alloc, &file)?;
-    let table = table_of(alloc, image.section(b".debug_frame"), &image)?;
-    Ok(Unwinder::of(alloc, &table, &image).entry_region())
+    region_in(alloc, &file)
 }
 
 /// The first row whose program has another entry region.

@@ -18,8 +18,8 @@ abbrev pub less : ℕ → List Slice → List Slice
 less count slices = with_left (count_of_first slices - count) slices
 
 -- slices of a given number of harts
-abbrev pub AreOf : ℕ → List Slice → Type 0
-AreOf harts slices = All (λ slice. slice.hart < harts) slices
+abbrev pub AreOfHarts : ℕ → List Slice → Type 0
+AreOfHarts harts slices = All (λ slice. slice.hart < harts) slices
 
 -- no hart retires more than the most in what is left
 abbrev pub HaveRoom : MachineState → List Slice → Type 0
@@ -35,7 +35,7 @@ StandsAt s (slice ∷ rest) = IsNext s slice
 
 -- a machine that stands at its next instruction, if there is one
 pub record IsReady (p : Progress) : Type 0 where
-  pub harts : AreOf (length p.state.harts) p.left
+  pub harts : AreOfHarts (length p.state.harts) p.left
   pub room : HaveRoom p.state p.left
   pub stands : StandsAt p.state p.left
 

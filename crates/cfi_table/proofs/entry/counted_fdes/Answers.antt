@@ -14,6 +14,7 @@ use Rattle.cfi_table.specs.Frames.{all_ok, counted_fde}
 use Rattle.cfi_table.specs.private.Placed.{IsFdeIn}
 use Rattle.cfi_table.proofs.AllOk.{Reads, reads_more, reads_fault, reads_all}
 use Rattle.cfi_table.proofs.Entries.{counted_in}
+use Rattle.cfi_table.proofs.Rising.{find_there}
 use Rattle.cfi_table.proofs.entry.counted_fdes.Goals as goal
 use Rattle.cfi_table.proofs.entry.counted_fdes.Goals.{in-Some+in_ok-push, in_default}
 
@@ -35,7 +36,8 @@ loop-extent-init c = record {
 pub loop-extent-preserved : goal.loop-extent-preserved
 loop-extent-preserved c =
     let segments = c.args.image.now.segments in
-    let is = c.in_ok-entry.ensures.entry c.args.extents.now c.requires.cies in
+    let own = find_there (λ (e : Extent). e.offset) 0 c.args.extents.now c.loop-extent.extent-index none _ c.requires.order c.loop-extent-test.true refl in
+    let is = c.in_ok-entry.ensures.entry c.args.extents.now own c.requires.cies in
     let more = reads_more (read_entry c.args.section.now c.args.extents.now) (filter_map (counted_fde segments)) c.args.extents.now c.loop-extent.extent-index none c.in_ok-entry.entry c.loop-extent.fdes.items in
     elim c.match-counted.branch [
       | in-Some+in_ok-push w ↦ rw w.fdes-is (record {
@@ -52,9 +54,10 @@ loop-extent-preserved c =
 
 pub returns-in_err-entry-clause-fdes : goal.returns-in_err-entry-clause-fdes
 returns-in_err-entry-clause-fdes c =
+    let own = find_there (λ (e : Extent). e.offset) 0 c.args.extents.now c.loop-extent.extent-index none _ c.requires.order c.loop-extent-test.true refl in
     let failed : FailsBy c.in_err-entry.field-0.0 (viewed (filter_map (counted_fde c.args.image.now.segments)) (all_ok (map (read_entry c.args.section.now c.args.extents.now) c.args.extents.now))) =
     fails_at c.args.section.now c.args.extents.now c.args.image.now.segments c.loop-extent.extent-index c.in_err-entry.field-0.0 c.loop-extent.fdes.items c.loop-extent-test.true
-    (c.in_err-entry.ensures.entry c.args.extents.now c.requires.cies) c.loop-extent.invariant.reads in
+    (c.in_err-entry.ensures.entry c.args.extents.now own c.requires.cies) c.loop-extent.invariant.reads in
     search rules
 
 pub returns-clause-fdes : goal.returns-clause-fdes

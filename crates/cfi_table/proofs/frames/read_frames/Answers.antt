@@ -9,6 +9,9 @@ use Rattle.cfi_table.proofs.frames.read_frames.Goals as goal
 pub known_cies-requires-clause-order : goal.known_cies-requires-clause-order
 known_cies-requires-clause-order c = rw c.deref.ensures.value (in_order PassedOver c.args.bytes.now (c.in_ok-extents.extents.items, c.in_ok-extents.broken) c.in_ok-extents.ensures.extents)
 
+pub counted_fdes-requires-clause-order : goal.counted_fdes-requires-clause-order
+counted_fdes-requires-clause-order c = rw c.deref-2.ensures.value (in_order PassedOver c.args.bytes.now (c.in_ok-extents.extents.items, c.in_ok-extents.broken) c.in_ok-extents.ensures.extents)
+
 pub returns-in_err-fdes : goal.returns-in_err-fdes
 returns-in_err-fdes c =
     let failed : FailsBy c.in_err-fdes.field-0.0 (frames_of c.args.bytes.now c.args.image.now.segments) =

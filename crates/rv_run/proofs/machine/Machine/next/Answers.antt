@@ -1,7 +1,7 @@
 use Rattle.std.proofs.Common.{◌<◌, ℕ, List, length, sym, ap, subst, ◌∙◌}
 use Rattle.rv_run.specs.declared.schedule.Slice.{Slice}
 use Rattle.rv_run.specs.Progress.{Progress, WentOn, CountsRetired, first_due, to_come}
-use Rattle.rv_run.specs.private.Queue.{less, AreOf, HaveRoom}
+use Rattle.rv_run.specs.private.Queue.{less, AreOfHarts, HaveRoom}
 use Rattle.rv_run.proofs.Counting.{counts-of}
 use Rattle.rv_run.proofs.Slices.{IsDue, due-is, room-for, less-are-of, room-less, went-on}
 use Rattle.rv_run.proofs.machine.Machine.next.Goals as goal
@@ -22,8 +22,8 @@ pub skip_idle-requires : goal.skip_idle-requires
 skip_idle-requires c =
     let within : c.in-Some.due.hart < length c.self.inside.environment.harts = subst (λ (p : Progress). c.in-Some.due.hart < length p.state.harts) (sym c.self.view_is) c.in-Some.ensures.hart in
     let counts : CountsRetired c.in-Some.due.hart c.in_ok-retired.retired c.self.inside.environment c.act.new.self = counts-of c.in-Some.due.hart c.self.inside.environment c.act.new.self c.in_ok-retired.retired c.in_ok-retired.ensures.ok within in
-    subst (λ (l : List Slice). AreOf (length c.act.new.self.harts) l) (sym c.take_off.ensures)
-    (subst (λ (n : ℕ). AreOf n (less 1 c.self.inside.queue)) (sym counts.harts) (less-are-of (length c.self.inside.environment.harts) 1 c.self.inside.queue c.self.invariant.harts))
+    subst (λ (l : List Slice). AreOfHarts (length c.act.new.self.harts) l) (sym c.take_off.ensures)
+    (subst (λ (n : ℕ). AreOfHarts n (less 1 c.self.inside.queue)) (sym counts.harts) (less-are-of (length c.self.inside.environment.harts) 1 c.self.inside.queue c.self.invariant.harts))
 
 pub invariant_of-self-2 : goal.invariant_of-self-2
 invariant_of-self-2 c =

@@ -6,7 +6,7 @@ use Rattle.rv_run.specs.declared.machine.Moment.{Moment}
 use Rattle.rv_run.specs.State.{MachineState}
 use Rattle.rv_run.specs.private.Reading.{first_or_none}
 use Rattle.rv_run.specs.Progress.{Progress, Went, CountsBy, Passed, Broke, count_of_first, first_due, to_come, retires_plainly}
-use Rattle.rv_run.specs.private.Queue.{AreOf, HaveRoom, IsNext, Passing, StopsBy, less}
+use Rattle.rv_run.specs.private.Queue.{AreOfHarts, HaveRoom, IsNext, Passing, StopsBy, less}
 use Rattle.rv_run.proofs.Slices.{IsDue, due-is, less-are-of}
 use Rattle.rv_run.proofs.Passing.{went-hart, slice-hart, stands-first, stops-first, passed-one, passed-many, broke-many, room-passed, first-count}
 use Rattle.rv_run.proofs.machine.Machine.pass.Goals as goal
@@ -43,8 +43,8 @@ pub skip_idle-requires : goal.skip_idle-requires
 skip_idle-requires c =
     let first : first_or_none c.self.inside.queue ≡ Some c.in-Some.slice = sym c.first.ensures ∙ c.in-Some.is in
     let next : IsNext c.self.inside.environment c.in-Some.slice = stands-first c.self.inside.environment c.self.inside.queue c.in-Some.slice c.self.invariant.stands first in
-    subst (λ (l : List Slice). AreOf (length c.steps-count.new.self.harts) l) (sym c.take_off.ensures)
-    (subst (λ (n : ℕ). AreOf n (less c.steps-count.result.0 c.self.inside.queue)) (sym (c.steps-count.ensures.passed next.1).harts) (less-are-of (length c.self.inside.environment.harts) c.steps-count.result.0 c.self.inside.queue c.self.invariant.harts))
+    subst (λ (l : List Slice). AreOfHarts (length c.steps-count.new.self.harts) l) (sym c.take_off.ensures)
+    (subst (λ (n : ℕ). AreOfHarts n (less c.steps-count.result.0 c.self.inside.queue)) (sym (c.steps-count.ensures.passed next.1).harts) (less-are-of (length c.self.inside.environment.harts) c.steps-count.result.0 c.self.inside.queue c.self.invariant.harts))
 
 room_left : (s new : MachineState) (left less_left : List Slice) (slice : Slice) (hart many asked most : ℕ) → first_or_none left ≡ Some slice → asked ≡ min most slice.count → many ≤ asked → HaveRoom s left → Passing slice.hart many s new → less_left ≡ less many left → HaveRoom new less_left
 room_left s new left less_left slice hart many asked most first is few had p taken =

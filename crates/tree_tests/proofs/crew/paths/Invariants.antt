@@ -1,6 +1,0 @@
-use Rattle.std.proofs.Common.{◌≤◌}
-use Rattle.scope_types.specs.Distinct.{samples_in}
-use Rattle.tree_tests.proofs.crew.paths.Given as goal
-
-abbrev pub invariant-loop-number : goal.invariant-loop-number
-invariant-loop-number l = samples_in l.ccts ≤ l.number
