@@ -1,12 +1,15 @@
 # Builds a program for the profiler from C, C++ and assembly files, with Debian's gcc-riscv64-unknown-elf and
 # picolibc-riscv64-unknown-elf. Include it after setting PROGRAM; the first target is what it makes:
 #
-#   PROGRAM   the source files (.c, .cc, .cpp, .cxx, .S), whose names differ
-#   NAME      what the program is called: NAME.elf, NAME.input, NAME.schedule (default: the first file, no suffix)
-#   HARTS     the number of harts of the schedule (default: 1)
-#   PERIOD    the sampling period of the line that is printed (default: 997)
-#   CFLAGS    options of the compiler (default: -O2)
-#   LDLIBS    libraries (for example -lm)
+#   PROGRAM      the source files (.c, .cc, .cpp, .cxx, .S), whose names differ
+#   NAME         what the program is called: NAME.elf, NAME.input, NAME.schedule (default: the first file, no suffix)
+#   BUILD        the folder of the objects (default: NAME.build)
+#   HARTS        the number of harts of the schedule (default: 1)
+#   PERIOD       the sampling period of the line that is printed (default: 997)
+#   CFLAGS       options of the compiler (default: -O2)
+#   LDFLAGS      options of the linker
+#   LDLIBS       libraries (for example -lm)
+#   GUEST_PARTS  the files of guest/ in place of the library's assembly (default: string.c divide.c save_restore.S)
 #
 # NAME.input and NAME.schedule are made where they are missing, and never changed.
 

@@ -58,8 +58,8 @@ void *sbrk(ptrdiff_t size)
 }
 
 /* The library's lock (malloc, atexit), for harts that share memory without atomic instructions: Lamport's fast
-   mutual exclusion (ACM Transactions on Computer Systems 5, 1987), which is seven loads and stores where no other
-   hart is in the way. Numbers of harts count from 1 here, so that 0 is nobody. */
+   mutual exclusion, which is seven loads and stores where no other hart is in the way.
+   Numbers of harts count from 1 here, so that 0 is nobody. */
 struct __lock {
     volatile unsigned char wants[MOST_HARTS + 1];
     volatile unsigned char first, second, owner;

@@ -8,7 +8,7 @@ pub const MOST_FRAMES: usize = 512;
 /// Places of the cache from an address to its step, a power of 2.
 const CACHED: usize = 1 << 12;
 
-/// Finds callers. A step is looked up by halving, and kept by its address.
+/// Finds callers. A step is looked up by binary search, and kept by its address.
 pub struct Unwinder {
     rows: Rows,
     cache: Vec<(u32, Step)>,

@@ -1,4 +1,4 @@
--- Tables of steps: they are found by halving, and two are laid over one another.
+-- Tables of steps: they are found by binary search, and two are laid over one another.
 use Rattle.std.proofs.Common.{◌≡◌, ℕ, zero, suc, ◌+◌, ◌-◌, ◌<◌, ◌≤◌, Bool, true, false, cond, ltb, min, List, [], ◌∷◌, ◌++◌, length, get_or, take, drop, Option, Some, None, refl, sym, ap, subst, ◌∙◌, arith, append_assoc, add-one, take_all, length-drop, inl, inr}
 use Rattle.std.specs.Prelude.{MatchBool, ◌==◌, ◌⊎◌, ◌≢◌}
 use Rattle.std.specs.Option.{option_or, option_map_or}

@@ -6,7 +6,7 @@ use Rattle.address_ranges.specs.declared.ranges.AddressRange.{AddressRange}
 abbrev pub holds : ℕ → AddressRange → Bool
 holds address r = nat_le r.start address && nat_lt address r.end
 
--- the range with that number is the first that holds each of its addresses, or is not
+-- the range with that number is the first to hold each address from `low` up to `high`, or is not
 abbrev pub IsFirst : List AddressRange → ℕ → ℕ → ℕ → Type 0
 IsFirst ranges low high number =
     (address : ℕ) → low ≤ address → address < high → position (holds address) ranges ≡ Some number

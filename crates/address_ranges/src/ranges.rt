@@ -1,5 +1,5 @@
 //! Ranges, and tables of steps over them.
-ghost use Rattle.std.specs.Prelude.{◌≡◌, ◌≢◌, ℕ, MatchBool, ◌+◌, ◌<◌, ◌≤◌, ◌^◌, IfOk, Some, None, length, map, find};
+ghost use Rattle.std.specs.Prelude.{◌≡◌, ◌≢◌, ℕ, MatchBool, ◌+◌, ◌<◌, ◌^◌, IfOk, Some, None, length, map, find};
 ghost use Rattle.std.specs.Prelude.{slice_get, if◌then◌else◌};
 ghost use Rattle.std.specs.List.{position_from};
 ghost use Rattle.std.specs.Option.{option_and_then, option_copied, option_or};
@@ -204,7 +204,8 @@ impl<T: HasRange + Drop> RangeTable<T> {
         self.items.as_slice()
     }
 
-    /// The first element whose range holds the address. Takes no memory, and time as log n.
+    /// The first element whose range holds the address. Takes no memory, and time logarithmic in the
+    /// number of ranges.
     pub fn first(&self, address: u32) -> Option<&T>
         ensures { option_copied result ≡ find (λ item. holds address (T.range_of item)) self.now }
     {
@@ -214,7 +215,8 @@ impl<T: HasRange + Drop> RangeTable<T> {
         )
     }
 
-    /// Whether the element of that index is the first for each address of its range.
+    /// Whether the element of that index is the first to hold each address of this range, which need not be its own.
+    /// True of an empty range.
     pub fn is_first(&self, range: AddressRange, index: usize) -> bool
         ensures { MatchBool result (IsFirst (map T.range_of self.now) range.start range.end index)
             (IsNotFirst (map T.range_of self.now) range.start range.end index) }

@@ -38,7 +38,7 @@ chained z input others (Ok found) =
     else before_others (record { offset = input.at.offset; end = found.1.at.offset }) (others found.1)
 
 -- the entries one after the other, and the fault of the first length that has one, at its offset. At most `room`
--- lengths are read: as many as there are bytes are enough
+-- lengths are read: as many as there are bytes are enough (`EntriesHaveRoom` in Laws)
 unfoldable pub chain_from : ZeroLength → ℕ → Input FrameFault → List Extent × Option FrameFault
 chain_from z zero input = ([], None)
 chain_from z (suc room) input =

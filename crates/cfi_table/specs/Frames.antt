@@ -68,10 +68,11 @@ rules_of section address fde = rules_with fde.cie (after_fde (Some address) sect
 abbrev pub rules_at : Frames → ℕ → Option Rules
 rules_at frames address = option_and_then (rules_of frames.section address) (fde_at frames address)
 
--- how many bytes an FDE's instructions and its CIE's have
+-- how many bytes an extent has
 abbrev pub size_of : Extent → ℕ
 size_of e = e.end - e.offset
 
+-- how many bytes an FDE's instructions and its CIE's have
 abbrev pub instruction_bytes : Fde → ℕ
 instruction_bytes fde = size_of fde.instructions + size_of fde.cie.initial_instructions
 

@@ -115,6 +115,7 @@ step_by execution factors input s = do
 
 -- the state after the instructions up to the first after which it stops, or the fault of the first that has one.
 -- At most `room` instructions are carried out: as many as there are bytes are enough
+-- (`InstructionsHaveRoom` in Laws)
 unfoldable pub run_by : {S : Type 0} → (CallFrameInstruction → S → Option S) → (S → Bool) → ℕ → AlignmentFactors
     → Input FrameFault → S
     → Result S FrameFault

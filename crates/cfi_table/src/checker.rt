@@ -1,5 +1,5 @@
 //! Whether a call frame instruction is at fault: the forms of the CFA's rules say it.
-ghost use Rattle.std.specs.Prelude.{◌≡◌, ◌<◌, ◌^◌, [], ◌∷◌, None, Some, IfOk, MatchBool, length, reverse};
+ghost use Rattle.std.specs.Prelude.{◌≡◌, ◌<◌, ◌^◌, [], None, Some, IfOk, MatchBool, length};
 ghost use Rattle.prof_bytes.specs.Outcome.{Gives, GivesFrom};
 ghost use Rattle.cfi_table.specs.Rules.{step_by};
 ghost use Rattle.cfi_table.specs.private.KnownCies.{forms_seen};

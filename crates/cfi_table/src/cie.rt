@@ -1,5 +1,5 @@
 //! Common information entries (DWARF 5, section 6.4.1).
-ghost use Rattle.std.specs.Prelude.{◌≡◌, ◌<◌, ◌^◌, Some, None, IfOk, IfSome, length};
+ghost use Rattle.std.specs.Prelude.{◌≡◌, ◌<◌, Some, None, IfOk, IfSome, length};
 ghost use Rattle.prof_bytes.specs.Reading.{left_of};
 ghost use Rattle.prof_bytes.specs.Fields.{Input};
 ghost use Rattle.prof_bytes.specs.Outcome.{GivesAt};
@@ -125,7 +125,7 @@ fn from_augmentation(
     }
 }
 
-/// The CIE's fields after `CIE_id`, up to `end`. `None` if the CIE is skipped.
+/// The CIE's fields after `CIE_id`, up to `end`. `None` if the CIE is passed over.
 #[tactic(auto, unfolding(crate::specs::Entries::cie_from))]
 fn cie_from(end: u32, reader: &mut Reader<'_, FrameFault>) -> Result<Option<Cie>, FrameFault>
     ensures cie { result ≡ cie_from end reader.old }

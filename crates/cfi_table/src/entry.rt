@@ -1,10 +1,9 @@
 //! Entries, each as what it is or its fault. The section's CIEs are known: a CIE is found among them by its own offset,
 //! and an FDE's by CIE_pointer.
-ghost use Rattle.std.specs.Prelude.{◌≡◌, ◌==◌, ℕ, ◌+◌, ◌<◌, ◌≤◌, ◌^◌, List, Some, None, IfOk, All, map, filter, find};
+ghost use Rattle.std.specs.Prelude.{◌≡◌, ◌==◌, ℕ, ◌<◌, ◌≤◌, List, Some, None, IfOk, All, map, filter, find};
 ghost use Rattle.std.specs.Prelude.{if◌then◌else◌};
 ghost use Rattle.std.specs.List.{filter_map};
 ghost use Rattle.prof_bytes.specs.Outcome.{Gives, viewed};
-ghost use Rattle.elf_image.specs.Image.{counts};
 ghost use Rattle.cfi_table.specs.declared.extent.Extent.{Extent};
 ghost use Rattle.cfi_table.specs.declared.entry.FrameEntry.TheVariants as entries;
 ghost use Rattle.cfi_table.specs.declared.constants.TheConstants.{DW_CIE_ID};
@@ -28,7 +27,7 @@ use std::alloc::Global;
 /// What an entry is.
 #[derive(Clone, Copy, Debug, PartialEq, Eq)]
 pub(crate) enum FrameEntry {
-    /// A CIE of a form that is not read, or an FDE of one.
+    /// A CIE of a form that is not read, or an FDE of such a CIE or of one whose fields are at fault.
     PassedOver,
     Cie(Cie),
     Fde(Fde),

@@ -1,5 +1,5 @@
 //! Where the entries of a section lie, and their instructions.
-ghost use Rattle.std.specs.Prelude.{◌≡◌, ◌+◌, ◌<◌, ◌≤◌, ◌^◌, Some, None, IfOk, All, length};
+ghost use Rattle.std.specs.Prelude.{◌≡◌, ◌+◌, ◌<◌, ◌^◌, Some, None, IfOk, All, length};
 ghost use Rattle.cfi_table.specs.Entries.{body_of, instructions_of, extents_by};
 ghost use Rattle.cfi_table.specs.Frames.{size_of};
 ghost use Rattle.cfi_table.specs.private.Placed.{IsPlaced, IsWithin};
@@ -49,7 +49,7 @@ pub fn instructions<'a>(section: &'a [u8], extent: &Extent) -> Reader<'a, FrameF
     Reader::new(bytes, extent.offset as usize, missing)
 }
 
-/// How many bytes instructions have.
+/// How many bytes an extent has.
 pub(crate) fn size_of(extent: &Extent) -> u64
     ensures size { result ≡ size_of extent.now }
     ensures small { result < 2 ^ 32 }

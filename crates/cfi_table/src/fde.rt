@@ -1,5 +1,5 @@
 //! Frame description entries (DWARF 5, section 6.4.1).
-ghost use Rattle.std.specs.Prelude.{◌≡◌, ◌+◌, ◌<◌, ◌≤◌, ◌^◌, Some, None};
+ghost use Rattle.std.specs.Prelude.{◌+◌, ◌<◌};
 ghost use Rattle.prof_bytes.specs.Outcome.{GivesAt};
 ghost use Rattle.cfi_table.specs.Entries.{fde_fields_from};
 ghost use Rattle.cfi_table.specs.Frames.{fde_range};

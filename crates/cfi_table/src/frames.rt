@@ -1,5 +1,5 @@
 //! A section's call frames, and the rules at an address.
-ghost use Rattle.std.specs.Prelude.{◌≡◌, ◌+◌, ◌<◌, ◌≤◌, ◌^◌, Some, None, IfOk, IfSome, All, length, map, option_map};
+ghost use Rattle.std.specs.Prelude.{◌≡◌, ◌+◌, ◌<◌, ◌^◌, Some, None, IfOk, IfSome, All, length, map, option_map};
 ghost use Rattle.std.specs.Prelude.{slice_get, MatchOption};
 ghost use Rattle.std.specs.Option.{option_map_or};
 ghost use Rattle.prof_bytes.specs.Outcome.{Gives};
@@ -196,7 +196,7 @@ impl FrameTable {
     }
 
     /// The rules at an address, by the first FDE that holds it. The instructions are run from the
-    /// start, in time as they have bytes.
+    /// start, in time linear in the number of their bytes.
     pub fn rules_at(&self, pc: u32) -> Result<Option<Rules>, Memory>
         ensures { IfOk result (λ rules. rules ≡ rules_at self.now pc) }
     {

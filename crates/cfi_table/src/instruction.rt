@@ -1,10 +1,10 @@
 //! Call frame instructions (DWARF 5, section 6.4.2).
-ghost use Rattle.std.specs.Prelude.{◌≡◌, ◌*◌, ◌%◌, ◌^◌};
-ghost use Rattle.std.specs.Int.{w64, cast_unsigned};
+ghost use Rattle.std.specs.Prelude.{◌≡◌, ◌%◌};
+ghost use Rattle.std.specs.Int.{cast_unsigned};
 ghost use Rattle.prof_bytes.specs.Outcome.{GivesAt};
 ghost use Rattle.cfi_table.specs.Instructions.{scaled, low_32_bits, word_of_signed, offset_from, factored_from};
 ghost use Rattle.cfi_table.specs.Instructions.{factored_sf_from};
-ghost use Rattle.cfi_table.specs.Instructions.{block_from, advance_loc, cfa_from, rule_from, is_rule};
+ghost use Rattle.cfi_table.specs.Instructions.{block_from, advance_loc, cfa_from, rule_from};
 ghost use Rattle.cfi_table.specs.Instructions.{register_rule_from};
 ghost use Rattle.cfi_table.specs.Instructions.{extended_from, primary_opcode, primary_operand};
 ghost use Rattle.cfi_table.specs.Instructions.{instruction_after_opcode, instruction_from};

@@ -1,10 +1,9 @@
 //! The rules as call frame instructions change them.
-ghost use Rattle.std.specs.Prelude.{◌≡◌, ℕ, ◌<◌, ◌≤◌, ◌^◌, [], ◌∷◌, None, Some, IfOk, MatchBool, false, length};
-ghost use Rattle.std.specs.List.{slice_set};
+ghost use Rattle.std.specs.Prelude.{◌≡◌, ℕ, ◌<◌, ◌≤◌, ◌^◌, None, Some, IfOk, MatchBool, false, length};
 ghost use Rattle.prof_bytes.specs.Outcome.{Gives, GivesFrom};
 ghost use Rattle.prof_bytes.specs.Reading.{left_of};
-ghost use Rattle.cfi_table.specs.Rules.{no_rules, all_same_value, rule_at, with_rule, with_cfa, with_cfa_register};
-ghost use Rattle.cfi_table.specs.Rules.{with_cfa_offset, with_source, with_remembered, remembering, execute, step_by};
+ghost use Rattle.cfi_table.specs.Rules.{no_rules, with_rule, with_cfa, with_cfa_register};
+ghost use Rattle.cfi_table.specs.Rules.{with_cfa_offset, with_source, with_remembered, execute, step_by};
 ghost use Rattle.cfi_table.specs.Rules.{is_past, run_all};
 ghost use Rattle.cfi_table.specs.private.Resuming.{resumed, Resumes};
 

@@ -1,5 +1,5 @@
-//! The CIEs of a section, each with the forms after its instructions, found by halving.
-ghost use Rattle.std.specs.Prelude.{◌≡◌, ◌==◌, ℕ, ◌+◌, ◌<◌, ◌≤◌, ◌^◌, Some, None, IfOk, IfSome, IsTrue, All, length};
+//! The CIEs of a section, each with the forms after its instructions, found by binary search.
+ghost use Rattle.std.specs.Prelude.{◌≡◌, ◌==◌, ◌<◌, Some, None, IfOk, All};
 ghost use Rattle.std.specs.Prelude.{map, find, filter};
 ghost use Rattle.std.specs.Option.{option_copied};
 ghost use Rattle.prof_bytes.specs.Outcome.{Gives, viewed};
@@ -100,7 +100,7 @@ pub(crate) fn known_cies(
     Ok(cies)
 }
 
-/// The CIE with that offset, in time as the logarithm of their number.
+/// The CIE with that offset, in time logarithmic in their number.
 pub(crate) fn cie_at(cies: &[KnownCie], offset: u32) -> Option<&KnownCie>
     requires { AreRising 0 (map (λ cie. cie.offset) cies.now) }
     ensures { option_copied result ≡ find (λ cie. cie.offset == offset) cies.now }

@@ -2,8 +2,8 @@
 //!
 //! It promises that the rules of an address are those that the instructions of its CIE and of its
 //! FDE make when they are run from their start, or the first fault of the section at its offset. It
-//! follows DWARF 5, section 6.4, for `.debug_frame` of 32-bit programs. Below stand `prof_bytes` and
-//! `elf_image`.
+//! follows DWARF 5, section 6.4, for `.debug_frame` of 32-bit programs. Below stand `prof_bytes`,
+//! `elf_image` and `address_ranges`.
 #![tactic(auto)]
 
 mod checker;
@@ -33,7 +33,7 @@ pub use constants::{
     DW_CFA_nop, DW_CFA_offset, DW_CFA_offset_extended, DW_CFA_offset_extended_sf, DW_CFA_register,
     DW_CFA_remember_state, DW_CFA_restore, DW_CFA_restore_extended, DW_CFA_restore_state,
     DW_CFA_same_value, DW_CFA_set_loc, DW_CFA_undefined, DW_CFA_val_expression, DW_CFA_val_offset,
-    DW_CFA_val_offset_sf, DW_CIE_ID,
+    DW_CFA_val_offset_sf, DW_CIE_ID, call_frame_constant_values,
 };
 pub use extent::{Extent, ZeroLength, all_extents, body, instructions};
 pub use fault::FrameFault;

@@ -1,7 +1,7 @@
 //! The rules of the registers, and how they were when remember_state kept them.
-ghost use Rattle.std.specs.Prelude.{◌≡◌, ◌∷◌, [], ◌<◌, IfOk, MatchOption, length, reverse};
+ghost use Rattle.std.specs.Prelude.{◌≡◌, ◌∷◌, [], ◌<◌, IfOk, MatchOption, reverse};
 ghost use Rattle.std.specs.List.{slice_set};
-ghost use Rattle.cfi_table.specs.Rules.{all_same_value, rule_at};
+ghost use Rattle.cfi_table.specs.Rules.{all_same_value};
 ghost use Rattle.cfi_table.specs.private.Undoing.{remembered_of, IsMarked, changed};
 
 use crate::rule_map::RuleMap;
@@ -96,7 +96,7 @@ impl RegisterRules {
         self.regs.rules()
     }
 
-    /// The rules with these others.
+    /// These rules, lent, with the CFA's rule and the return address register.
     pub(crate) fn lent(&self, cfa: Cfa, return_register: u8) -> RulesRef<'_>
         ensures { result ≡ record { cfa = cfa; regs = self.now.regs; return_register = return_register } }
     {

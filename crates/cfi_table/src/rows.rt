@@ -1,5 +1,5 @@
 //! The rows of an FDE (DWARF 5, section 6.4.1).
-ghost use Rattle.std.specs.Prelude.{◌≡◌, ◌+◌, ◌<◌, ◌≤◌, ◌^◌, None, Some, IfOk, MatchOption, length, min};
+ghost use Rattle.std.specs.Prelude.{◌≡◌, ◌+◌, ◌<◌, None, Some, IfOk, MatchOption, min};
 ghost use Rattle.std.specs.Prelude.{nat_lt, if◌then◌else◌, IsErr};
 ghost use Rattle.cfi_table.specs.Entries.{after_cie, after_fde};
 ghost use Rattle.cfi_table.specs.Frames.{instruction_bytes, fde_range, size_of};
@@ -124,7 +124,7 @@ impl<'a> Rows<'a> {
     }
 
     /// The next row; nothing after the last one. It ends at the first instruction that moves the location
-    /// past its start.
+    /// past its start. After out of memory there is no next row.
     pub fn next_row(&mut self) -> Result<Option<Row>, Memory>
         ensures section { self.new.section ≡ self.old.section }
         ensures fde { self.new.fde ≡ self.old.fde }

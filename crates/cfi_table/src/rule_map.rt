@@ -70,7 +70,7 @@ impl RuleMap {
         self.changed = changed_by(self.changed, register, rule);
     }
 
-    /// The rules with these others.
+    /// These rules, lent, with the CFA's rule and the return address register.
     pub(crate) fn lent(&self, cfa: Cfa, return_register: u8) -> RulesRef<'_>
         ensures { result ≡ record { cfa = cfa; regs = self.now; return_register = return_register } }
     {

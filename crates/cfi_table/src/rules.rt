@@ -42,7 +42,7 @@ pub struct Rules {
     pub return_register: u8,
 }
 
-/// Rules that are lent. Registers that no instruction gave a rule are passed over.
+/// Rules that are lent. `next_changed` passes over registers that are known to have the same value.
 #[derive(Debug, Drop)]
 pub struct RulesRef<'a> {
     cfa: Cfa,
@@ -107,7 +107,8 @@ impl<'a> RulesRef<'a> {
         self.regs
     }
 
-    /// A register from that one on before which none has another rule than same value; `None` where no more has.
+    /// The next register to look at, `from` or above: all registers from `from` up to it have the same value; it may
+    /// have that too. `None` only where all up to 31 have it.
     pub fn next_changed(&self, from: u8) -> Option<u8>
         ensures { MatchOption result (AreSameValue self.now.regs from 32)
             (λ register. (from ≤ register) × (register < 32) × AreSameValue self.now.regs from register) }

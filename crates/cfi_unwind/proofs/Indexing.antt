@@ -18,7 +18,7 @@ use Rattle.scope_types.specs.declared.frame.End.TheVariants.{Whole}
 use Rattle.cfi_unwind.specs.declared.unwind_rule.UnwindRule.TheVariants.{Ends}
 use Rattle.cfi_unwind.specs.Region.{is_in}
 use Rattle.cfi_unwind.specs.Caller.{Unwinding}
-use Rattle.cfi_unwind.specs.private.Index.{no_id, IsAt, IsId, IsIndex, IsFilled, IsRowIn, KeepsIndex, KeepsRules, EndsWhole, FindsCallers, IsFinding, IsReady}
+use Rattle.cfi_unwind.specs.private.Index.{no_id, IsAt, IsId, IsIndexOf, IsFilled, IsRowIn, KeepsIndex, KeepsRules, EndsWhole, FindsCallers, IsFinding, IsReady}
 use Rattle.cfi_unwind.proofs.Ending.{inside_region, outside_region}
 
 -- ---- ids that are set
@@ -196,7 +196,7 @@ no_region low high n (inr over) = grind (arith, nat_tests)
 -- paths end whole at the addresses of the region, and elsewhere the rules are followed
 pub ends_in : (u : Unwinding) (index after : Index) (start end low high id : ℕ) → after.first ≡ index.first → IsFilled index.ids.items after.ids.items low high id → KeepsRules index.unwind_rules.items after.unwind_rules.items
     → length after.unwind_rules.items ≤ 2 ^ 20 → EndsWhole after.unwind_rules.items id → u.region.0 ≤ 4 * start → 4 * start < u.region.0 + 4 → u.region.1 ≤ 4 * end → 4 * end < u.region.1 + 4
-    → high ≡ min (end - index.first) (length index.ids.items) → low ≡ min (start - index.first) high → IsIndex u.frames index → IsReady u after
+    → high ≡ min (end - index.first) (length index.ids.items) → low ≡ min (start - index.first) high → IsIndexOf u.frames index → IsReady u after
 ends_in u index after start end low high id first filled keeps few ends start_from start_to end_from end_to at_high at_low is = record {
   few = few;
   ids = λ k lt.
@@ -266,10 +266,10 @@ rule_with u index pc k id r is stands number found = go (cases_lt k (length inde
 pub record Grows (frames : Frames) (start after : Index) (id : ℕ) (found : Option Rules) : Type 0 where
   pub as_many : length after.ids.items ≡ length start.ids.items
   pub keeps : KeepsIndex frames start after
-  pub latest : IsIndex frames start → 0 < length after.ids.items → IsAt after.unwind_rules.items id found
+  pub latest : IsIndexOf frames start → 0 < length after.ids.items → IsAt after.unwind_rules.items id found
 
 pub grows_one : (frames : Frames) (start index after : Index) (k pc id last next : ℕ) (found latest : Option Rules) → k < length index.ids.items → length index.ids.items ≡ length start.ids.items
-    → KeepsIndex frames start index → (IsIndex frames start → 0 < length index.ids.items → IsAt index.unwind_rules.items last found)
+    → KeepsIndex frames start index → (IsIndexOf frames start → 0 < length index.ids.items → IsAt index.unwind_rules.items last found)
     → after.first ≡ index.first → after.ids.items ≡ set index.ids.items k id → KeepsRules index.unwind_rules.items after.unwind_rules.items → length after.unwind_rules.items ≤ 2 ^ 20 → pc ≡ 4 * (index.first + k)
     → (IsAt index.unwind_rules.items 0 None → IsAt index.unwind_rules.items last found → IsAt after.unwind_rules.items id (rules_at frames pc)) → (IsAt index.unwind_rules.items last found → IsAt after.unwind_rules.items next latest)
     → Grows frames start after next latest

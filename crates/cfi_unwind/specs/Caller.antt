@@ -1,7 +1,7 @@
 -- The caller of an activation by the rules of call frame information (DWARF 5, section 6.4.4; RISC-V psABI, "DWARF
 -- register numbers").
 use Rattle.prof_bytes.specs.Number.{word_sum}
-use Rattle.std.specs.Prelude.{ℕ, ◌+◌, ◌-◌, ◌%◌, ◌^◌, ◌==◌, ◌||◌, Bool, true, false, List, [], ◌∷◌, map, get_or}
+use Rattle.std.specs.Prelude.{ℕ, ◌-◌, ◌^◌, ◌==◌, ◌||◌, Bool, true, false, List, [], ◌∷◌, map, get_or}
 use Rattle.std.specs.Prelude.{slice_set, find, Option, Some, None}
 use Rattle.std.specs.Prelude.{is_none, unwrap_or, option_map}
 use Rattle.std.specs.List.{list_any, range_with_len}
@@ -68,7 +68,8 @@ is_unmapped words cfa rules.Expression = false
 
 -- ---- the caller's registers
 
--- the value in the caller of a register whose value here is its own: one that isn't kept is 0
+-- a register's value in the caller by its rule, where `own` is its value here; 0 where it is undefined, or where an
+-- expression or memory that can't be loaded would give it
 abbrev pub recovered : Words → List ℕ → ℕ → ℕ → Rule → ℕ
 recovered words registers cfa own rules.Kept = own
 recovered words registers cfa own rules.Undefined = 0

@@ -3,7 +3,7 @@ use Rattle.std.specs.Prelude.{◌≡◌, ◌⊎◌, ◌≤◌, ℕ, List, [], �
 use Rattle.scope_types.specs.declared.frame.Frame.{Frame}
 use Rattle.scope_types.specs.declared.frame.End.TheVariants.{Partial}
 use Rattle.scope_types.specs.declared.frame.PartialCause.TheVariants as causes
-use Rattle.scope_types.specs.Raw.{Raw, most_frames}
+use Rattle.scope_types.specs.Raw.{Raw, most_frames_of_path}
 use Rattle.cfi_unwind.specs.declared.caller.Activation.{Activation}
 use Rattle.cfi_unwind.specs.declared.caller.Unwound.TheVariants.{Caller, Ends}
 use Rattle.cfi_unwind.specs.Caller.{Words, Unwinding, caller_of}
@@ -40,9 +40,10 @@ pub record IsPath (most : ℕ) (u : Unwinding) (words : Words) (here : Activatio
 -- a path as it is defined is one
 abbrev pub PathsAreChains : Type 0
 PathsAreChains = (u : Unwinding) (pc : ℕ) (registers : List ℕ) (words : Words)
-    → IsPath most_frames u words (record { pc = pc; registers = registers }) (path_of u pc registers words)
+    → IsPath most_frames_of_path u words (record { pc = pc; registers = registers }) (path_of u pc registers words)
 
 -- and there is no other
 abbrev pub ChainsArePaths : Type 0
 ChainsArePaths = (u : Unwinding) (pc : ℕ) (registers : List ℕ) (words : Words) (path : Raw)
-    → IsPath most_frames u words (record { pc = pc; registers = registers }) path → path ≡ path_of u pc registers words
+    → IsPath most_frames_of_path u words (record { pc = pc; registers = registers }) path
+    → path ≡ path_of u pc registers words

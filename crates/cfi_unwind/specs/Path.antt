@@ -2,7 +2,7 @@
 use Rattle.std.specs.Prelude.{ℕ, zero, suc, List, [], ◌∷◌}
 use Rattle.scope_types.specs.declared.frame.End.TheVariants.{Partial}
 use Rattle.scope_types.specs.declared.frame.PartialCause.TheVariants as causes
-use Rattle.scope_types.specs.Raw.{Raw, most_frames}
+use Rattle.scope_types.specs.Raw.{Raw, most_frames_of_path}
 use Rattle.elf_image.specs.Image.{ProgramImage}
 use Rattle.cfi_table.specs.Frames.{Frames}
 use Rattle.cfi_unwind.specs.declared.caller.Activation.{Activation}
@@ -28,7 +28,7 @@ path_from (suc n) u words here = within here.pc (outside (λ caller. path_from n
 
 -- the path of an instruction at a pc with the registers and the memory before it
 abbrev pub path_of : Unwinding → ℕ → List ℕ → Words → Raw
-path_of u pc registers words = path_from most_frames u words (record { pc = pc; registers = registers })
+path_of u pc registers words = path_from most_frames_of_path u words (record { pc = pc; registers = registers })
 
 -- by a program's frames and image
 abbrev pub unwinding_of : Frames → ProgramImage → Unwinding

@@ -1,16 +1,21 @@
 //! From one frame to its caller's.
 ghost use Rattle.prof_bytes.specs.Number.{word_sum};
-ghost use Rattle.std.specs.Prelude.{◌≡◌, ◌==◌, ◌-◌, ◌^◌, Option, Some, None, if◌then◌else◌, get_or};
+ghost use Rattle.std.specs.Prelude.{◌≡◌, ◌==◌, ◌-◌, ◌^◌, Some, None, if◌then◌else◌, get_or};
 ghost use Rattle.std.specs.List.{list_any};
 ghost use Rattle.cfi_table.specs.Rules.{rule_at};
-ghost use Rattle.scope_types.specs.Raw.{Raw};
 ghost use Rattle.cfi_unwind.specs.private.UnwindRules.{unwound_to};
 ghost use Rattle.cfi_unwind.specs.Caller.{is_undefined, is_expression, has_expression, cfa_of, is_unmapped, recovered};
-ghost use Rattle.cfi_unwind.specs.Caller.{recovered_all, callers_registers};
+ghost use Rattle.cfi_unwind.specs.Caller.{recovered_all};
 ghost use Rattle.cfi_unwind.specs.private.Stepwise.{caller_at, caller_over, caller_from};
 
 use cfi_table::{Cfa, Rule, RulesRef};
 use scope_types::{End, Look, PartialCause};
+
+/// The number of the register `ra`, the return address (RISC-V psABI).
+pub(crate) const RA: u8 = 1;
+
+/// The number of the register `sp`, the stack pointer (RISC-V psABI).
+pub(crate) const SP: u8 = 2;
 
 /// A call of a procedure that has not returned: the address where it stands, and the registers x0 to
 /// x31 there.
@@ -151,7 +156,7 @@ fn caller_over<L: Look>(
         Some(values) => {
             let mut values = values;
             values[0] = 0;
-            values[2] = cfa;
+            values[SP as usize] = cfa;
             caller_at(&values, rules.return_register())
         }
         None => Unwound::Ends(End::Partial(PartialCause::Unmapped)),

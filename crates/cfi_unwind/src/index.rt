@@ -4,7 +4,7 @@ ghost use Rattle.std.specs.Prelude.{true};
 ghost use Rattle.cfi_unwind.specs.Caller.{Unwinding};
 ghost use Rattle.cfi_table.specs.Frames.{Frames, rules_at};
 ghost use Rattle.cfi_table.specs.Rows.{AreFirst};
-ghost use Rattle.cfi_unwind.specs.private.Index.{no_id, IsIndex, IsFilled, IsRowIn, KeepsIndex};
+ghost use Rattle.cfi_unwind.specs.private.Index.{no_id, IsIndexOf, IsFilled, IsRowIn, KeepsIndex};
 ghost use Rattle.cfi_unwind.specs.private.Index.{FindsCallers, IsReady};
 
 use crate::code_words::{address_of, words_below, words_of};
@@ -57,8 +57,8 @@ fn no_ids(alloc: Global, count: usize) -> Result<Vec<u32>, Memory>
     Ok(vec![in alloc; NO_ID; count]?)
 }
 
-/// From where on no id is set.
-fn last_unset(ids: &[u32]) -> usize
+/// The index from which on no id is set.
+fn unset_from(ids: &[u32]) -> usize
     ensures { result ≤ length ids.now }
 {
     let mut low = ids.len();
@@ -81,7 +81,7 @@ fn is_behind(table: &FrameTable, first: u32, number: usize) -> bool
 impl Index {
     /// No unwind rule is made ready.
     fn none(alloc: Global) -> Index
-        ensures index { (frames : Frames) → IsIndex frames result }
+        ensures index { (frames : Frames) → IsIndexOf frames result }
         ensures ready { (u : Unwinding) → IsReady u result }
     {
         Index {
@@ -93,7 +93,7 @@ impl Index {
 
     /// The index of `count` words of code from the first on, for none of which an unwind rule is made ready.
     fn unset(alloc: Global, first: u32, count: usize) -> Index
-        ensures { (frames : Frames) → IsIndex frames result }
+        ensures { (frames : Frames) → IsIndexOf frames result }
     {
         match (no_ids(alloc, count), first_rule(alloc)) {
             (Ok(ids), Ok(unwind_rules)) => Index {
@@ -158,7 +158,7 @@ impl Index {
         ensures { KeepsIndex table.now self.old self.new }
     {
         let count = self.ids.len();
-        let low = last_unset(&self.ids);
+        let low = unset_from(&self.ids);
         if low < count && is_behind(table, self.first, low) {
             fill(&mut self.ids, low, count, 0);
         }
@@ -182,7 +182,7 @@ impl Index {
 
     /// Ends each path whole at the addresses of a region. False if memory runs out or there are too many unwind rules.
     fn end_whole_in(&mut self, region: (u32, u32)) -> bool
-        ensures { result ≡ true → (frames : Frames) → IsIndex frames self.old
+        ensures { result ≡ true → (frames : Frames) → IsIndexOf frames self.old
             → IsReady (record { frames = frames; region = region }) self.new }
     {
         let first = u64::from(self.first);
@@ -201,9 +201,9 @@ impl Index {
 
     /// The index of a program by its rules alone. It lacks unwind rules if memory runs out. Each
     /// instruction of an FDE that is the first to hold its addresses is carried out once; the others anew for each
-    /// address, within the bounds above. Takes time as the program has frame descriptions and words of code.
+    /// address, within the bounds above. Takes time linear in the frame descriptions and words of code.
     fn by_rules(alloc: Global, table: &FrameTable, image: &Image<'_>) -> Index
-        ensures { IsIndex table.now result }
+        ensures { IsIndexOf table.now result }
     {
         let (first, last) = words_of(image);
         let mut index = Index::unset(alloc, first, last.saturating_sub(first) as usize);

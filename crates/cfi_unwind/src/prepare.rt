@@ -1,13 +1,13 @@
 //! The unwind rules of rules: where each register is kept or saved, in a form without the others.
 ghost use Rattle.std.specs.Prelude.{◌≡◌, ◌≤◌, ℕ, List, IfOk, IfSome, map, take, false, true};
 ghost use Rattle.cfi_unwind.specs.private.UnwindRules.{is_kept, saved_rule, usual, returned, unwound_with, unwound_by};
-ghost use Rattle.cfi_unwind.specs.private.UnwindRules.{AreSaved, Recovers, Follows, FollowsSome};
+ghost use Rattle.cfi_unwind.specs.private.UnwindRules.{AreSaved, Recovers, FollowsRules, FollowsSome};
 ghost use Rattle.cfi_unwind.specs.Caller.{Words, is_undefined};
 ghost use Rattle.cfi_table.specs.Rules.{rule_at};
 
-use crate::caller::{has_expression, is_outermost};
+use crate::caller::{RA, SP, has_expression, is_outermost};
 use crate::saved_registers::{SavedRegister, SavedRegisters};
-use crate::unwind_rule::{FrameLayout, RETURN_ADDRESS, RegisterRule, STACK_POINTER, UnwindRule};
+use crate::unwind_rule::{FrameLayout, RegisterRule, UnwindRule};
 use cfi_table::{Cfa, Rule, RulesRef};
 use prof_bytes::Memory;
 use scope_types::{End, PartialCause};
@@ -65,7 +65,7 @@ fn saved_of(rules: &RulesRef<'_>) -> Option<SavedRegisters>
 fn is_usual(layout: &FrameLayout) -> bool
     ensures { result ≡ true → layout.now ≡ usual layout.now.cfa_offset }
 {
-    layout.cfa_register == STACK_POINTER && layout.return_register == RETURN_ADDRESS
+    layout.cfa_register == SP && layout.return_register == RA
 }
 
 /// The offset at which the return address is saved, where x1 is the only register that is not kept.
@@ -73,7 +73,7 @@ fn return_offset(saved: &[SavedRegister]) -> Option<u32>
     ensures { IfSome result (λ offset. returned offset ≡ map saved_rule saved.now) }
 {
     match saved {
-        [only] if only.register == RETURN_ADDRESS => Some(only.offset),
+        [only] if only.register == RA => Some(only.offset),
         _ => None,
     }
 }
@@ -151,7 +151,7 @@ fn rule_by(alloc: Global, rules: &RulesRef<'_>) -> Result<UnwindRule, Memory>
 
 /// The unwind rule of the rules at an address, if there are any.
 pub(crate) fn prepare(alloc: Global, rules: Option<RulesRef<'_>>) -> Result<UnwindRule, Memory>
-    ensures { IfOk result (λ unwind_rule. Follows unwind_rule rules.entry) }
+    ensures { IfOk result (λ unwind_rule. FollowsRules unwind_rule rules.entry) }
 {
     match rules {
         Some(rules) => rule_by(alloc, &rules),

@@ -33,8 +33,9 @@ fn least_start(functions: &[Function<'_>], low: u32, least: Option<u32>) -> Opti
 }
 
 /// The addresses, from the first up to the second, in which the program begins to run: the function
-/// symbol that holds the entry; without one, from the entry up to where the next thing begins, or the
-/// segment ends. Takes no memory, and time as the program has functions and frame descriptions.
+/// symbol that holds the entry; without one, from the entry up to the next FDE or function symbol, or the
+/// segment's end; empty where no executable segment holds the entry. Takes no memory, and time linear in the function
+/// symbols and frame descriptions.
 #[tactic(auto, unfolding(crate::specs::Region::entry_region))]
 pub(crate) fn entry_region(table: &FrameTable, image: &Image<'_>) -> (u32, u32)
     ensures { result ≡ entry_region table.now image.now }

@@ -1,6 +1,6 @@
 //! The rules at an address in a short form: how the path ends there, or where the caller's values are
 //! of the few registers that are not kept.
-ghost use Rattle.std.specs.Prelude.{◌≡◌, ◌≤◌, ℕ, List, None, IfOk, IfSome, MatchBool, get_or, length, map};
+ghost use Rattle.std.specs.Prelude.{◌≡◌, None, IfSome, MatchBool, map};
 ghost use Rattle.std.specs.Prelude.{false, true};
 ghost use Rattle.std.specs.List.{list_any, slice_set};
 ghost use Rattle.cfi_unwind.specs.private.UnwindRules.{unwound_to, recovered_each, is_unmapped_register, saved_rule};
@@ -9,15 +9,10 @@ ghost use Rattle.scope_types.specs.Memory.{HasWords};
 ghost use Rattle.cfi_unwind.specs.declared.caller.Unwound.TheVariants.{Caller};
 ghost use Rattle.cfi_unwind.specs.private.UnwindRules.{cfa_by, usual, returned, left_with, unwound_with, unwound_by};
 
-use crate::caller::{call_of, recovered, value_of};
+use crate::caller::{RA, SP, call_of, recovered, value_of};
 use crate::saved_registers::{SavedRegister, SavedRegisters};
 use cfi_table::Rule;
 use scope_types::{End, Look, MemorySlice, PartialCause};
-
-/// The numbers of the registers that the psABI calls ra and sp.
-pub(crate) const RETURN_ADDRESS: u8 = 1;
-
-pub(crate) const STACK_POINTER: u8 = 2;
 
 /// A register that is not kept, and its rule.
 #[derive(Clone, Copy, Debug)]
@@ -56,9 +51,9 @@ fn usual(cfa_offset: u32) -> FrameLayout
     ensures { result ≡ usual cfa_offset }
 {
     FrameLayout {
-        cfa_register: STACK_POINTER,
+        cfa_register: SP,
         cfa_offset,
-        return_register: RETURN_ADDRESS,
+        return_register: RA,
     }
 }
 
@@ -164,7 +159,7 @@ impl FrameLayout {
         ensures { unwound_to result registers.new ≡ left_with registers.old cfa self.now.return_register }
     {
         registers[0] = 0;
-        registers[2] = cfa;
+        registers[SP as usize] = cfa;
         match call_of(registers, self.return_register) {
             Some(pc) => Ok(pc),
             None => Err(End::Whole),
@@ -224,14 +219,14 @@ pub(crate) fn go_near(
         ≡ unwound_with words registers.old (usual cfa_offset) (returned offset)) }
     ensures none { result ≡ None → registers.new ≡ registers.old }
 {
-    let cfa = registers[2].wrapping_add(cfa_offset);
+    let cfa = registers[SP as usize].wrapping_add(cfa_offset);
     let address = near.word(cfa.wrapping_add(offset))?;
     if address == 0 {
         return None;
     }
-    registers[1] = address;
+    registers[RA as usize] = address;
     registers[0] = 0;
-    registers[2] = cfa;
+    registers[SP as usize] = cfa;
     Some(address.wrapping_sub(4))
 }
 
@@ -253,7 +248,7 @@ fn go_by_return<'m, L: Look>(
     let cfa = layout.cfa(registers);
     match word_near(memory, near, cfa.wrapping_add(offset)) {
         Some(address) => {
-            put(registers, RETURN_ADDRESS, address);
+            put(registers, RA, address);
             layout.leave(registers, cfa)
         }
         None => Err(End::Partial(PartialCause::Unmapped)),

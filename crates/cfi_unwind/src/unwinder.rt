@@ -20,7 +20,7 @@ use std::alloc::Global;
 use std::marker::Model;
 
 /// How many frames a path has at most.
-const MOST_FRAMES: usize = 512;
+const MOST_FRAMES_OF_PATH: usize = 512;
 
 /// For how many frames there is room from the start. Most paths have fewer.
 const MANY_FRAMES: usize = 128;
@@ -48,8 +48,8 @@ impl<'a> Model for Unwinder<'a> {
 
 impl<'a> Unwinder<'a> {
     /// The unwinder of a program, by its frames and its image; the allocator is that of the paths'
-    /// frames, and of the unwind_rules that are made ready here for the addresses of the program's code. Where
-    /// there is no memory for these, paths are found in more time. Takes time as the program has code,
+    /// frames, and of the unwind rules that are made ready here for the addresses of the program's code. Where
+    /// there is no memory for these, paths are found in more time. Takes time linear in the program's code,
     /// function symbols and frame descriptions.
     pub fn of(alloc: Global, table: &'a FrameTable, image: &Image<'_>) -> Unwinder<'a>
         ensures { result ≡ unwinding_of table.now image.now }
@@ -183,7 +183,7 @@ impl<'a> Unwinder<'a> {
 fn has_room(frames: &Vec<Frame>) -> bool
     ensures { result ≡ nat_lt (length frames.now.items) 512 }
 {
-    frames.len() < MOST_FRAMES
+    frames.len() < MOST_FRAMES_OF_PATH
 }
 
 impl<'a> Unwinder<'a> {

@@ -1,6 +1,6 @@
 -- Values of a fixed size are passed as so many bytes are.
-use Rattle.std.proofs.Common.{◌≡◌, ℕ, ℤ, ◌+◌, ◌-◌, ◌≤◌, ◌<◌, ◌==◌, Bool, true, false, inl, inr, List, length, take, Option, Some, None, Ok, Err, refl, sym, ap, ◌∙◌, arith}
-use Rattle.std.specs.Prelude.{option_and_then, if◌then◌else◌, nat_lt}
+use Rattle.std.proofs.Common.{◌≡◌, ℕ, ℤ, ◌+◌, ◌-◌, ◌^◌, ◌≤◌, ◌<◌, ◌==◌, Bool, true, false, inl, inr, List, [], ◌∷◌, length, take, Option, Some, None, Ok, Err, refl, sym, ap, ◌∙◌, arith}
+use Rattle.std.specs.Prelude.{option_map, option_and_then, if◌then◌else◌, nat_lt}
 use Rattle.std.proofs.lemmas.Bool.{cases_lt, lt-ltb, le-ltb, eqb-true}
 use Rattle.prof_bytes.specs.Fields.{Input, taken, number_from, bytes_from}
 use Rattle.prof_bytes.specs.Reading.{At, left_of, moved}
@@ -11,7 +11,8 @@ use Rattle.dwarf_forms.specs.declared.encoding.Encoding.{Encoding}
 use Rattle.dwarf_forms.specs.declared.encoding.Encoding.TheVariants as encodings
 use Rattle.dwarf_forms.specs.Forms.{encoding_of}
 use Rattle.dwarf_forms.specs.Values.{FormValue, Bytes, as_value, word_value, number_value, sized_from, encoded_from, known_from, indirect_from, direct_from, value_from}
-use Rattle.dwarf_forms.specs.Sizes.{number_size, encoding_size, form_size, passed_by}
+use Rattle.dwarf_forms.specs.declared.declaration.Spec.{Spec}
+use Rattle.dwarf_forms.specs.Sizes.{number_size, encoding_size, form_size, fixed_size, in_32_bits, passed_by}
 use Rattle.dwarf_forms.proofs.Moves.{left_moved}
 
 -- ---- bytes
@@ -102,3 +103,33 @@ pub value_passed : {F : Type 0} (unknown : F) (form : ℕ) (implicit : ℤ) (cou
     → passed_by (value_from unknown form implicit input) ≡ passed_by (bytes_from count input)
 unfolding value_from
 value_passed unknown form implicit count input is = by_form unknown form implicit count input (form == DW_FORM_indirect) refl is
+
+-- ---- sums of 2^32 or more
+
+is_none : (n : ℕ) → in_32_bits (Some n) ≡ None → 2 ^ 32 ≤ n
+is_none n none =
+    elim (cases_lt n (2 ^ 32)) [
+      | inl lt ↦ absurd (let e : Some n ≡ None = sym (rw (lt-ltb n (2 ^ 32) lt) refl) ∙ none in cc)
+      | inr ge ↦ ge
+    ]
+
+larger_is_none : (total : ℕ) (first others : Option ℕ) → in_32_bits (option_map (λ n. total + n) first) ≡ None
+    → in_32_bits (option_map (λ n. total + n) (option_and_then (λ a. option_map (λ b. a + b) others) first)) ≡ None
+larger_is_none total None others none = refl
+larger_is_none total (Some a) None none = refl
+larger_is_none total (Some a) (Some b) none =
+    let large : 2 ^ 32 ≤ total + a = is_none (total + a) none in
+    rw (le-ltb (total + (a + b)) (2 ^ 32) (omega arith)) refl
+
+-- attributes whose first values don't have 32 bits don't have them together
+pub sum_is_large : (total : ℕ) (spec : Spec) (others : List Spec)
+    → in_32_bits (option_map (λ n. total + n) (form_size spec.form)) ≡ None
+    → in_32_bits (option_map (λ n. total + n) (fixed_size (spec ∷ others))) ≡ None
+sum_is_large total spec others none = larger_is_none total (form_size spec.form) (fixed_size others) none
+
+-- once no attributes are left the sum is the size of all
+pub whole_sum : (total : ℕ) (specs rest : List Spec) → total < 2 ^ 32 → length rest ≡ 0
+    → fixed_size specs ≡ option_map (λ n. total + n) (fixed_size rest) → Some total ≡ in_32_bits (fixed_size specs)
+whole_sum total specs [] lt none is =
+    sym (ap in_32_bits (is ∙ ap Some (let e : total + 0 ≡ total = omega arith in e)) ∙ rw (lt-ltb total (2 ^ 32) lt) refl)
+whole_sum total specs (spec ∷ rest) lt none is = absurd (omega arith)

@@ -11,7 +11,8 @@ with_first (Some x) after rest = do
   (others, end) ← rest after
   Ok (x ∷ others, end)
 
--- items up to the one that closes the list; the input's fault where `room` of them do not
+-- items up to the one that closes the list; the input's fault where `room` of them do not.
+-- As many as there are bytes are enough (`declaration_count_is_at_most_bytes`, `die_count_is_at_most_bytes`)
 unfoldable pub list_from : {X F : Type 0} → (Input F → Result (Option X × Input F) F) → ℕ → Input F
     → Result (List X × Input F) F
 list_from item zero input = Err input.missing

@@ -23,6 +23,7 @@ run_from step (suc room) state input =
     if is_end input then Ok []
     else step state input >>= (λ taken. before taken.0 (run_from step room taken.1 taken.2))
 
--- the items up to the end of the bytes, in at most one step for each byte: each step takes one byte or more
+-- the items up to the end of the bytes, in at most one step for each byte. That is enough where each
+-- step takes a byte or more, as those of units and entries do (`die_count_is_at_most_bytes`)
 abbrev pub run_to_end : {S X F : Type 0} → (S → Input F → RunStep S X F) → S → Input F → Result (List X) F
 run_to_end step state input = run_from step (length (left_of input.at)) state input

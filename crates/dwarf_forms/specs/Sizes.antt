@@ -1,5 +1,6 @@
 -- The number of bytes of values whose forms fix it. DWARF 5, sections 7.5.5 and 7.5.6.
-use Rattle.std.specs.Prelude.{ℕ, ◌+◌, List, [], ◌∷◌, Option, Some, None, option_map, option_and_then, Result, Ok, Err}
+use Rattle.std.specs.Prelude.{ℕ, ◌+◌, ◌^◌, List, [], ◌∷◌, Option, Some, None, option_map, option_and_then, Result, Ok}
+use Rattle.std.specs.Prelude.{Err, if◌then◌else◌, nat_lt}
 use Rattle.prof_bytes.specs.Fields.{Input}
 use Rattle.dwarf_forms.specs.declared.encoding.Size.{Size}
 use Rattle.dwarf_forms.specs.declared.encoding.Size.TheVariants.{One, Two, Three, Four, Eight, Uleb}
@@ -36,6 +37,11 @@ abbrev pub fixed_size : List Spec → Option ℕ
 fixed_size [] = Some 0
 fixed_size (spec ∷ specs) =
     option_and_then (λ first. option_map (λ others. first + others) (fixed_size specs)) (form_size spec.form)
+
+-- a number of bytes, where it has 32 bits
+abbrev pub in_32_bits : Option ℕ → Option ℕ
+in_32_bits None = None
+in_32_bits (Some n) = if nat_lt n (2 ^ 32) then Some n else None
 
 -- the input after a value
 abbrev pub passed_by : {X F : Type 0} → Result (X × Input F) F → Result (Unit {0} × Input F) F

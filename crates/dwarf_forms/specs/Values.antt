@@ -125,7 +125,8 @@ indirect_from unknown input = do
   (form, input) ← uleb_from input
   named_from unknown form input
 
--- the value of a form, and the input after it; `unknown` is the fault of a form that is not one of DWARF 5
+-- the value of a form, and the input after it; `unknown` is the fault of a form that is not one of
+-- DWARF 5, or that `DW_FORM_indirect` may not name
 unfoldable pub value_from : {F : Type 0} → F → ℕ → ℤ → Input F → Result (FormValue × Input F) F
 value_from unknown form implicit input =
     if form == DW_FORM_indirect then indirect_from unknown input else direct_from unknown form implicit input

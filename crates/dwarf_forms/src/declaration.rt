@@ -4,7 +4,7 @@ ghost use Rattle.std.specs.Prelude.{option_map};
 ghost use Rattle.std.specs.Prelude.{slice_get, IfSome, Some, Ok};
 ghost use Rattle.prof_bytes.specs.declared.fail.Fail.TheVariants as fails;
 ghost use Rattle.dwarf_forms.specs.Abbreviations.{table_at};
-ghost use Rattle.dwarf_forms.specs.Sizes.{fixed_size};
+ghost use Rattle.dwarf_forms.specs.Sizes.{fixed_size, in_32_bits};
 ghost use Rattle.dwarf_forms.specs.private.Indices.{AreKept};
 
 use crate::sizes::fixed_size;
@@ -45,15 +45,15 @@ pub struct Specs {
 }
 
 impl Model for Specs {
-    ghost use Rattle.std.specs.Prelude.{◌≡◌, List, Some, IfSome};
+    ghost use Rattle.std.specs.Prelude.{◌≡◌, List};
     ghost use Rattle.dwarf_forms.specs.declared.declaration.Spec.{Spec};
-    ghost use Rattle.dwarf_forms.specs.Sizes.{fixed_size};
+    ghost use Rattle.dwarf_forms.specs.Sizes.{fixed_size, in_32_bits};
 
     ghost Value = { List Spec };
 
     ghost view = { λ specs. specs.items.items };
 
-    ghost invariant = { λ specs. IfSome specs.size (λ n. fixed_size specs.items.items ≡ Some n) };
+    ghost invariant = { λ specs. specs.size ≡ in_32_bits (fixed_size specs.items.items) };
 }
 
 impl Specs {
@@ -68,7 +68,7 @@ impl Specs {
     /// The number of bytes of the values of an entry with these attributes, where it is the same for all such entries.
     /// `None` also where it is 2^32 or more.
     pub fn size(&self) -> Option<u32>
-        ensures { IfSome result (λ n. fixed_size self.now ≡ Some n) }
+        ensures { result ≡ in_32_bits (fixed_size self.now) }
     {
         self.size
     }
@@ -132,7 +132,7 @@ pub(crate) fn items_from(items: &[Abbrev], count: usize) -> &[Abbrev]
     &items[count..]
 }
 
-/// The index of the declaration at an offset, by halving.
+/// The index of the declaration at an offset, by binary search.
 fn index_at(items: &[Abbrev], offset: usize) -> Option<usize>
     ensures { IfSome result (λ index. option_map (λ d. d.offset) (slice_get items.now index) ≡ Some offset) }
 {
@@ -254,7 +254,8 @@ impl<'a> Declarations<'a> {
     }
 
     /// The index among them of the declaration at an offset of `.debug_abbrev`, from which on they are the table at
-    /// that offset; `None` where none stands there, or where the table declares a code twice.
+    /// that offset. `None` where none stands there, or where the table declares a code twice: no clause says so, and
+    /// the table at that offset is then read for itself.
     #[tactic(auto, using(crate::proofs::Suffixes::suffix_at))]
     pub fn index_at(&self, offset: u32) -> Option<usize>
         ensures in_range { IfSome result (λ index. index < length self.now) }

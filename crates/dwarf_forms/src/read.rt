@@ -114,8 +114,8 @@ fn value<'a, F: Copy>(
 }
 
 /// The value of this form (DWARF 5, section 7.5.6); the reader then stands after it. `unknown` is the fault of a form
-/// that is not one of DWARF 5. `implicit` is the constant that the attribute's declaration has for the form
-/// `DW_FORM_implicit_const`.
+/// that is not one of DWARF 5, or that `DW_FORM_indirect` may not name. `implicit` is the constant that the attribute's
+/// declaration has for the form `DW_FORM_implicit_const`.
 pub fn read_form<'a, F: Copy>(
     reader: &mut Reader<'a, F>,
     form: u64,

@@ -1,6 +1,6 @@
 //! The number of bytes of values whose forms fix it.
-ghost use Rattle.std.specs.Prelude.{◌≡◌, ◌-◌, ◌≤◌, Some, IfSome};
-ghost use Rattle.dwarf_forms.specs.Sizes.{number_size, encoding_size, form_size, fixed_size};
+ghost use Rattle.std.specs.Prelude.{◌≡◌, ◌+◌, ◌^◌, ◌<◌, IfSome, option_map};
+ghost use Rattle.dwarf_forms.specs.Sizes.{number_size, encoding_size, form_size, fixed_size, in_32_bits};
 
 use crate::declaration::Spec;
 use crate::encoding::{Encoding, Size, encoding_of};
@@ -39,16 +39,17 @@ fn form_size(form: u64) -> Option<u32>
 /// `total` and the number of bytes of a value of this form; `None` where the form doesn't fix it, or the sum is 2^32 or
 /// more.
 fn with_form(total: u32, form: u64) -> Option<u32>
-    ensures more { IfSome result (λ n. total ≤ n) }
-    ensures form { IfSome result (λ n. form_size form ≡ Some (n - total)) }
+    ensures sum { result ≡ in_32_bits (option_map (λ n. total + n) (form_size form)) }
+    ensures small { IfSome result (λ n. n < 2 ^ 32) }
 {
     let size = form_size(form)?;
     total.checked_add(size)
 }
 
 /// The number of bytes of all values of these attributes; `None` where a form doesn't fix it, or it is 2^32 or more.
+#[tactic(auto, using(crate::proofs::FixedSizes::sum_is_large))]
 pub(crate) fn fixed_size(specs: &[Spec]) -> Option<u32>
-    ensures { IfSome result (λ n. fixed_size specs.now ≡ Some n) }
+    ensures { result ≡ in_32_bits (fixed_size specs.now) }
 {
     let mut total = 0u32;
     let mut rest = specs;

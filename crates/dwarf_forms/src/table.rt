@@ -4,8 +4,6 @@ ghost use Rattle.std.specs.Option.{option_or};
 ghost use Rattle.std.specs.Ordering.{nat_cmp};
 ghost use Rattle.std.specs.BTreeMap.{get};
 ghost use Rattle.prof_bytes.specs.Outcome.{Gives, GivesAt, GivesFrom};
-ghost use Rattle.prof_bytes.specs.Reading.{left_of};
-ghost use Rattle.dwarf_forms.specs.Lists.{list_from};
 ghost use Rattle.dwarf_forms.specs.private.Indices.{IsNumbered, AreIndices};
 ghost use Rattle.dwarf_forms.specs.Abbreviations.{implicit_from, unless_closing, attribute_from, attributes_from};
 ghost use Rattle.dwarf_forms.specs.Abbreviations.{declared_from, declaration_from, table_from, table_at};

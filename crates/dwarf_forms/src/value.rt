@@ -1,7 +1,8 @@
 /// Why a value could not be read.
 #[derive(Clone, Copy, Debug, PartialEq, Eq)]
 pub enum FormFault {
-    /// The form is not one of DWARF 5 that stands in a compiled program.
+    /// The form is not one of DWARF 5 (section 7.5.6), or `DW_FORM_indirect` names `DW_FORM_indirect` or
+    /// `DW_FORM_implicit_const`.
     Unknown,
     /// The bytes run out before the value's end, or a number is wider than 64 bits.
     Short,
@@ -34,7 +35,7 @@ pub enum Value<'a> {
     UnitRef(u64),
     /// An entry, as an offset in `.debug_info`.
     InfoRef(u32),
-    /// An offset in the section that the attribute names.
+    /// An offset in another section; the attribute says in which (`DW_FORM_sec_offset`).
     Section(u32),
     /// An index into the unit's part of `.debug_rnglists`.
     ListIndex(u64),

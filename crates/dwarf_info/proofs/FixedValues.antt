@@ -1,14 +1,14 @@
 -- Values whose forms say their size are passed in one step.
-use Rattle.std.proofs.Common.{◌≡◌, ℕ, ◌+◌, inl, inr, List, [], ◌∷◌, length, Option, Some, None, Result, Ok, Err, refl, sym, ap, ◌∙◌, arith}
+use Rattle.std.proofs.Common.{◌≡◌, ℕ, ◌+◌, ◌^◌, inl, inr, List, [], ◌∷◌, length, Option, Some, None, Result, Ok, Err, refl, sym, ap, ◌∙◌, arith}
 use Rattle.std.specs.Prelude.{option_map, option_and_then}
-use Rattle.std.proofs.lemmas.Bool.{cases_lt}
+use Rattle.std.proofs.lemmas.Bool.{cases_lt, lt-ltb, le-ltb}
 use Rattle.std.proofs.lemmas.Option.{same_Some}
 use Rattle.prof_bytes.specs.Fields.{Input, bytes_from}
 use Rattle.prof_bytes.specs.Outcome.{◌>>=◌}
 use Rattle.prof_bytes.specs.Reading.{left_of, moved}
 use Rattle.dwarf_forms.specs.declared.declaration.Spec.{Spec}
 use Rattle.dwarf_forms.specs.Values.{FormValue, value_from}
-use Rattle.dwarf_forms.specs.Sizes.{form_size, fixed_size, passed_by}
+use Rattle.dwarf_forms.specs.Sizes.{form_size, fixed_size, in_32_bits, passed_by}
 use Rattle.dwarf_forms.proofs.FixedSizes.{few_left, some_left, none_passed, passed_twice, value_passed}
 use Rattle.dwarf_info.specs.Values.{passed_from}
 
@@ -52,3 +52,12 @@ passed_fixed {F = F} unknown (spec ∷ specs) count input is =
     then_passed unknown specs (value_from unknown spec.form spec.implicit input)
     ∙ ap next (value_passed unknown spec.form spec.implicit p.front input p.front_is)
     ∙ then_others unknown specs p.front p.back count input p.sum (λ after. passed_fixed unknown specs p.back after p.back_is)
+
+-- what has 32 bits is the size
+pub is_size : (size : Option ℕ) (count : ℕ) → Some count ≡ in_32_bits size → size ≡ Some count
+is_size None count e = absurd cc
+is_size (Some n) count e =
+    elim (cases_lt n (2 ^ 32)) [
+      | inl lt ↦ sym (e ∙ rw (lt-ltb n (2 ^ 32) lt) refl)
+      | inr ge ↦ absurd (let none : Some count ≡ None = e ∙ rw (le-ltb n (2 ^ 32) ge) refl in cc)
+    ]

@@ -20,7 +20,7 @@ use Rattle.dwarf_info.specs.Values.{passed_from, declaration_of}
 use Rattle.dwarf_info.specs.Entries.{declared_entry, entry_from, entries_from}
 use Rattle.dwarf_info.specs.Units.{declared_in, unit_body, entries_in, or_none}
 use Rattle.dwarf_info.specs.Queries.{index_at}
-use Rattle.dwarf_info.specs.private.Starts.{IsSplit}
+use Rattle.dwarf_info.specs.private.Starts.{IsCountUpTo}
 use Rattle.dwarf_info.specs.private.Indexed.{offsets_of, IsRead, AreMarked, AreFirsts, AreIndexed}
 use Rattle.dwarf_info.proofs.SetFlags.{all_pushed}
 
@@ -153,7 +153,7 @@ firsts_rise firsts next rise within i j d le lt =
           let m = at_most firsts next next i d within (omega arith) (omega arith) in omega arith
     ]
 
-old_split : (i count next : ℕ) (firsts : List ℕ) → i < next → IsSplit i firsts count → IsSplit i (firsts ++ next ∷ []) count
+old_split : (i count next : ℕ) (firsts : List ℕ) → i < next → IsCountUpTo i firsts count → IsCountUpTo i (firsts ++ next ∷ []) count
 old_split i count next firsts lt split =
     let long = length-append firsts (next ∷ []) in
     record {
@@ -166,7 +166,7 @@ old_split i count next firsts lt split =
       ];
     }
 
-new_split : (i next : ℕ) (firsts : List ℕ) → next ≤ i → ((k d : ℕ) → k < length firsts → get_or firsts k d ≤ next) → IsSplit i (firsts ++ next ∷ []) (length firsts + 1)
+new_split : (i next : ℕ) (firsts : List ℕ) → next ≤ i → ((k d : ℕ) → k < length firsts → get_or firsts k d ≤ next) → IsCountUpTo i (firsts ++ next ∷ []) (length firsts + 1)
 new_split i next firsts le within =
     let long = length-append firsts (next ∷ []) in
     record {
@@ -192,7 +192,7 @@ firsts_more known more firsts are of = record {
   within = λ k d lt. (let m = at_most firsts (length known) (length known) k d are.within (omega arith) lt in let l = length-append known more in omega arith);
   units = λ i e at. elim (cases_lt i (length known)) [
     | inl less ↦ old_split i (e.«unit» + 1) (length known) firsts less (are.units i e (before_get known more i less ∙ at))
-    | inr past ↦ subst (λ (n : ℕ). IsSplit i (firsts ++ length known ∷ []) (n + 1)) (sym (of (i - length known) e (behind known more i e past at))) (new_split i (length known) firsts past are.within)
+    | inr past ↦ subst (λ (n : ℕ). IsCountUpTo i (firsts ++ length known ∷ []) (n + 1)) (sym (of (i - length known) e (behind known more i e past at))) (new_split i (length known) firsts past are.within)
   ];
 }
 

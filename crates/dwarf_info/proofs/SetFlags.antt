@@ -10,7 +10,7 @@ use Rattle.std.proofs.lemmas.Option.{slice_get-get_or, get_or_from_slice_get, sl
 use Rattle.std.proofs.Math.Seq.{get_or-append_seam, drop-cons}
 use Rattle.std.proofs.Math.ListN.{get_or-append}
 use Rattle.std.specs.List.Sorted.{IsNonDecreasingBy, IsPartitionPoint}
-use Rattle.dwarf_info.specs.private.Starts.{set_from, AreCounts, IsSplit}
+use Rattle.dwarf_info.specs.private.Starts.{set_from, AreCounts, IsCountUpTo}
 
 -- ---- lists of flags
 
@@ -194,7 +194,7 @@ counts_rise flags counts are i j d le lt =
     let m = set_more (32 * i) (32 * j) (omega arith) flags 0 in
     omega arith
 
-pub split_of : (numbers : List ℕ) (most count : ℕ) → count ≤ length numbers → IsPartitionPoint (λ (n : ℕ). leb n most ≡ true) (λ n. leb n most ≡ false) numbers count → IsSplit most numbers count
+pub split_of : (numbers : List ℕ) (most count : ℕ) → count ≤ length numbers → IsPartitionPoint (λ (n : ℕ). leb n most ≡ true) (λ n. leb n most ≡ false) numbers count → IsCountUpTo most numbers count
 split_of numbers most count le point = record {
   within = le;
   below = λ i d lt. leb-true (get_or numbers i d) most (point.0 i d (omega arith) lt);
@@ -287,7 +287,7 @@ pub rank_fits : (flags : List Bool) (at : ℕ) → at < length flags → length 
 rank_fits flags at lt = let few = set_few 0 (take at flags) in let long = length-take-le at flags (omega arith) in omega arith
 
 -- no block has a count that small, so there are no blocks
-pub no_block : (flags : List Bool) (counts : List ℕ) (index count : ℕ) → AreCounts flags counts → IsSplit index counts count → count ≡ 0 → None ≡ slice_get (set_from 0 flags) index
+pub no_block : (flags : List Bool) (counts : List ℕ) (index count : ℕ) → AreCounts flags counts → IsCountUpTo index counts count → count ≡ 0 → None ≡ slice_get (set_from 0 flags) index
 unfolding set_from
 no_block flags [] index count are split none = empty flags (are.blocks)
   where

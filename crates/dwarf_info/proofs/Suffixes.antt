@@ -11,7 +11,7 @@ use Rattle.dwarf_forms.specs.Abbreviations.{table_at}
 use Rattle.dwarf_info.proofs.Bodies.{first_behind}
 use Rattle.dwarf_info.specs.declared.tables.Suffix.{Suffix}
 use Rattle.dwarf_info.specs.declared.tables.Tables.{Tables}
-use Rattle.dwarf_info.specs.private.Tables.{suffix_of, table_in, IsSuffix, IsKnown, AreTables}
+use Rattle.dwarf_info.specs.private.Tables.{suffix_of, table_in, IsSuffix, IsTableKnown, AreTables}
 
 abbrev Read : Type 0
 Read = List (List Abbrev)
@@ -56,7 +56,7 @@ stands_within read suffix (Some whole) table e is = slice_within read suffix.tab
 pub one_more : (section : List ℕ) (old new : Tables) (offset : ℕ) (suffix : Suffix) → AreTables section old
     → length old.read.items ≤ length new.read.items → ((k : ℕ) → k < length old.read.items → slice_get new.read.items k ≡ slice_get old.read.items k)
     → ((q : ℕ) → get nat_cmp new.suffixes q ≡ if_some (offset == q) suffix (get nat_cmp old.suffixes q))
-    → IsSuffix section new.read.items suffix offset → IsKnown section old new offset
+    → IsSuffix section new.read.items suffix offset → IsTableKnown section old new offset
 one_more section old new offset suffix tables longer same added stands = record {
   are = record {
     within = λ q p e. suffix_within q p (offset == q) (sym (added q) ∙ e);

@@ -1,4 +1,4 @@
--- What is asked of an entry: its name, the entry that it links to, its call. DWARF 5, sections 2.13.2, 2.15, 3.3.5
+-- What is asked of an entry: its name, the entry that it links to, its call. DWARF 5, sections 2.13.2, 2.15, 2.22
 -- and 3.3.8.
 use Rattle.std.specs.Prelude.{ℕ, ◌+◌, ◌==◌, List, Option, Some, None, option_map, option_and_then, slice_get, position}
 use Rattle.std.specs.Option.{option_or}

@@ -1,5 +1,5 @@
--- The address ranges of an entry. DWARF 5, sections 2.17 and 7.25.
-use Rattle.std.specs.Prelude.{ℕ, ◌+◌, ◌%◌, ◌^◌, ◌==◌, List, [], ◌∷◌, ◌++◌, length, Option, Some, None, option_map}
+-- The address ranges of an entry. DWARF 5, sections 2.17, 7.25 and 7.28.
+use Rattle.std.specs.Prelude.{ℕ, ◌+◌, ◌==◌, List, [], ◌∷◌, ◌++◌, length, Option, Some, None, option_map}
 use Rattle.std.specs.Prelude.{option_and_then, unwrap_or, Result, Ok, Err, if◌then◌else◌}
 use Rattle.prof_bytes.specs.Number.{word_sum}
 use Rattle.prof_bytes.specs.Fields.{Input, number_from, uleb_from}

@@ -1,6 +1,5 @@
 //! What the values of attributes mean (DWARF 5, sections 7.5.5, 7.26 and 7.27).
-ghost use Rattle.std.specs.Prelude.{◌≡◌, ◌^◌, Some, None, nat_le, nat_lt, if◌then◌else◌, option_copied, take};
-ghost use Rattle.std.specs.Prelude.{option_and_then, option_map};
+ghost use Rattle.std.specs.Prelude.{◌≡◌, ◌^◌, Some, None, nat_lt, if◌then◌else◌, option_copied, take};
 ghost use Rattle.dwarf_forms.specs.Values.{form_value};
 ghost use Rattle.dwarf_info.specs.Sections.{sections_of, section_word, element_in};
 ghost use Rattle.dwarf_info.specs.Attributes.{section_value, constant_value, text_value, address_value};
@@ -42,7 +41,7 @@ pub(crate) fn element_in(section: &[u8], base: Option<u32>, index: u64) -> Optio
     word_in(section, offset as usize)
 }
 
-/// The offset of a value of class `sec_offset`.
+/// The offset in a section that a value of the form `DW_FORM_sec_offset` gives.
 pub(crate) fn section_value(value: Value<'_>) -> Option<u32>
     ensures { result ≡ section_value (form_value value.entry) }
 {

@@ -4,7 +4,6 @@ ghost use Rattle.std.specs.Prelude.{option_map, Option, List};
 ghost use Rattle.std.specs.Option.{option_or};
 ghost use Rattle.prof_bytes.specs.Outcome.{Gives, viewed};
 ghost use Rattle.dwarf_forms.specs.Runs.{before};
-ghost use Rattle.dwarf_info.specs.Values.{declaration_of};
 ghost use Rattle.dwarf_info.specs.Entries.{declared_entry, entry_from, entries_from};
 ghost use Rattle.dwarf_info.specs.Units.{first_offset};
 ghost use Rattle.dwarf_info.specs.private.Indexed.{offsets_of};

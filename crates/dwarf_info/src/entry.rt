@@ -16,7 +16,7 @@ pub struct InfoEntry {
     pub offset: u32,
     /// The number of entries that it stands below in its unit.
     pub depth: u32,
-    /// Its tag, a `DW_TAG` of `constants`.
+    /// Its tag (DWARF 5, section 7.5.3), as the abbreviation table has it; `constants` has only some.
     pub tag: u64,
     /// The index of its unit among those that were read.
     pub unit: u32,

@@ -112,7 +112,7 @@ impl<'a> Model for Info<'a> {
     ghost use Rattle.std.specs.List.{flat_map};
     ghost use Rattle.dwarf_info.specs.Sections.{sections_of};
     ghost use Rattle.dwarf_info.specs.Units.{DebugInfo, entries_in};
-    ghost use Rattle.dwarf_info.specs.private.Parts.{IsWhole};
+    ghost use Rattle.dwarf_info.specs.private.Parts.{AreInfoParts};
 
     ghost Value = { DebugInfo };
 
@@ -122,7 +122,7 @@ impl<'a> Model for Info<'a> {
       entries = flat_map (entries_in (sections_of info.sections)) info.contexts.items;
     } };
 
-    ghost invariant = { λ info. IsWhole (sections_of info.sections) info.units.items info.contexts.items
+    ghost invariant = { λ info. AreInfoParts (sections_of info.sections) info.units.items info.contexts.items
         info.offsets info.firsts.items info.tables };
 }
 
@@ -134,7 +134,7 @@ impl<'a> Info<'a> {
         self.units.as_slice()
     }
 
-    /// The number of entries of all units. It is less than the number of bytes of `.debug_info`.
+    /// The number of entries of all units. It is at most the number of bytes of `.debug_info`.
     pub fn entry_count(&self) -> u32
         ensures { result ≡ length self.now.entries }
     {
@@ -153,7 +153,7 @@ impl<'a> Info<'a> {
         Ok(entries)
     }
 
-    /// The entry's name (DWARF 5, section 2.15), or else its linkage name (section 2.22).
+    /// The name of the entry with index `i` (DWARF 5, section 2.15), or else its linkage name (section 2.22).
     pub fn name(&self, i: u32) -> Option<&'a [u8]>
         requires { i < length self.now.entries }
         ensures { option_copied result ≡ name_of self.now i }
@@ -165,8 +165,8 @@ impl<'a> Info<'a> {
         }
     }
 
-    /// The entry that this one completes: its abstract origin (DWARF 5, section 3.3.8), or else its specification
-    /// (section 2.13.2).
+    /// The index of the entry that the entry with index `i` refers to: its abstract origin (DWARF 5, section 3.3.8.2),
+    /// or else its specification (section 2.13.2).
     #[tactic(auto, using(crate::proofs::Bounds::link_bound))]
     pub fn link(&self, i: u32) -> Option<u32>
         requires { i < length self.now.entries }
@@ -180,7 +180,8 @@ impl<'a> Info<'a> {
         }
     }
 
-    /// The file and the line of the call of an inlined subroutine (DWARF 5, section 3.3.8.2).
+    /// The number of the file in its unit's line table, and the line, of the call of the inlined subroutine with index
+    /// `i` (DWARF 5, section 3.3.8.2).
     pub fn call(&self, i: u32) -> (Option<u32>, Option<u32>)
         requires { i < length self.now.entries }
         ensures { result ≡ call_site_of self.now i }
@@ -283,14 +284,15 @@ impl<'a> Info<'a> {
         Some((low, high))
     }
 
-    /// The entry's address ranges (DWARF 5, section 2.17): those of `DW_AT_ranges`, or else the one from `DW_AT_low_pc`
-    /// to `DW_AT_high_pc`. Empty ranges are among them.
+    /// The address ranges of the entry with index `i` (DWARF 5, section 2.17): those of `DW_AT_ranges`, or else the one
+    /// from `DW_AT_low_pc` to `DW_AT_high_pc`. Empty ranges are among them.
     #[tactic(auto, using(crate::proofs::Bounds::ranges_bound))]
     pub fn ranges(&self, alloc: Global, i: u32) -> Result<Ranges, Memory>
         requires { i < length self.now.entries }
         ensures ranges { IfOk result (λ ranges. ranges ≡ ranges_of self.now i) }
         ensures few { length (ranges_of self.now i) < 2 ^ 31 }
     {
+        // The bound rests on the sections, which the checker sees once they are named.
         let _ = &self.sections;
         let Some(at) = self.located(i) else {
             return one_or_none(alloc, None);

@@ -1,7 +1,7 @@
 //! The offsets of entries, found by their index, and their indices by their offset.
-ghost use Rattle.std.specs.Prelude.{◌≡◌, ◌==◌, ◌+◌, ◌<◌, ◌≤◌, ◌^◌, ℕ, length, filter, IfOk, position, slice_get};
+ghost use Rattle.std.specs.Prelude.{◌≡◌, ◌==◌, ◌+◌, ◌<◌, ◌^◌, ℕ, length, filter, IfOk, position, slice_get};
 ghost use Rattle.std.specs.List.Sorted.{IsNonDecreasingBy};
-ghost use Rattle.dwarf_info.specs.private.Starts.{AreCounts, IsSplit, set_from};
+ghost use Rattle.dwarf_info.specs.private.Starts.{AreCounts, IsCountUpTo, set_from};
 
 use prof_bytes::Memory;
 use std::alloc::Global;
@@ -59,7 +59,7 @@ fn nth_set(flags: &[bool], from: u32, index: u32) -> Option<u32>
 /// The number of the first numbers that are at most `most`, by a binary search; the numbers never fall.
 pub(crate) fn count_up_to(numbers: &[u32], most: u32) -> usize
     requires { IsNonDecreasingBy (λ n. n) numbers.now }
-    ensures { IsSplit most numbers.now result }
+    ensures { IsCountUpTo most numbers.now result }
 {
     numbers.partition_point(|number| *number <= most)
 }

@@ -6,7 +6,7 @@ ghost use Rattle.std.specs.BTreeMap.{get};
 ghost use Rattle.prof_bytes.specs.Outcome.{FailsBy};
 ghost use Rattle.dwarf_forms.specs.Abbreviations.{table_at};
 ghost use Rattle.dwarf_info.specs.private.Tables.{table_in, IsSuffix, AreTables, KeepTables};
-ghost use Rattle.dwarf_info.specs.private.Tables.{IsFound, IsKnown};
+ghost use Rattle.dwarf_info.specs.private.Tables.{IsFound, IsTableKnown};
 
 use dwarf_forms::{Abbrevs, BadTable, Declarations, read_abbrevs};
 use prof_bytes::{Fail, Memory};
@@ -109,7 +109,7 @@ impl Tables {
     /// Keeps a table that was read.
     fn keep_read(&mut self, table: Abbrevs, offset: u32) -> Result<(), Memory>
         ensures { (section : List ℕ) → AreTables section self.old → table_at section offset ≡ Ok table
-            → IfOk result (λ _. IsKnown section self.old self.new offset) }
+            → IfOk result (λ _. IsTableKnown section self.old self.new offset) }
     {
         let suffix = Suffix {
             table: self.read.len(),
@@ -123,7 +123,7 @@ impl Tables {
     /// Keeps the table at an offset as it was found.
     fn keep(&mut self, found: TableAt, offset: u32) -> Result<(), Memory>
         ensures { (section : List ℕ) → AreTables section self.old → IsFound section self.old found offset
-            → IfOk result (λ _. IsKnown section self.old self.new offset) }
+            → IfOk result (λ _. IsTableKnown section self.old self.new offset) }
     {
         match found {
             TableAt::Known => Ok(()),

@@ -4,7 +4,7 @@ ghost use Rattle.prof_bytes.specs.Outcome.{GivesAt};
 ghost use Rattle.prof_bytes.specs.Fields.{bytes_from};
 ghost use Rattle.dwarf_forms.specs.Sizes.{passed_by};
 ghost use Rattle.dwarf_forms.specs.Values.{form_value, value_from};
-ghost use Rattle.dwarf_info.specs.Values.{passed_from, values_from, value_of, declaration_of, entry_values};
+ghost use Rattle.dwarf_info.specs.Values.{passed_from, values_from, value_of, entry_values};
 
 use crate::fault::InfoFault;
 use dwarf_forms::{Declarations, FormFault, Spec, Specs, Value, read_form};

@@ -1,5 +1,5 @@
--- Which entry gives a subprogram or an inlined subroutine its name and its identity. DWARF 5, sections 2.13.2, 2.15
--- and 3.3.8.1.
+-- Which entry gives a subprogram or an inlined subroutine its name and its identity. DWARF 5, sections 2.13.2, 2.15,
+-- 3.3.8.2 and 3.3.8.3.
 use Rattle.std.specs.Prelude.{ℕ, zero, suc, ◌==◌, ◌||◌, Bool, List, filter, take, slice_get, is_some}
 use Rattle.std.specs.Prelude.{unwrap_or, codes}
 use Rattle.std.specs.List.{enumerate_from}

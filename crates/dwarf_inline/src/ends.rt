@@ -10,13 +10,13 @@ use prof_bytes::Memory;
 use std::alloc::Global;
 
 /// The index after an entry and its descendants, by the ends of later entries; the entry has this index and depth.
-fn end_from(entries: &[InfoEntry], ends: &[u32], at: usize, depth: u32) -> u32
+fn end_from(entries: &[InfoEntry], ends: &[u32], index: usize, depth: u32) -> u32
     requires few { length entries.now < 2 ^ 31 }
-    requires here { at < length entries.now }
-    requires ends { AreEndsFrom entries.now (at + 1) ends.now }
-    ensures { result ≡ entry_end entries.now at depth }
+    requires here { index < length entries.now }
+    requires ends { AreEndsFrom entries.now (index + 1) ends.now }
+    ensures { result ≡ entry_end entries.now index depth }
 {
-    let mut end = at + 1;
+    let mut end = index + 1;
     while end < entries.len() && entries[end].depth > depth {
         end = ends[end] as usize;
     }
@@ -30,11 +30,11 @@ pub(crate) fn ends_of(alloc: Global, entries: &[InfoEntry]) -> Result<Vec<u32>, 
     ensures { IfOk result (λ ends. AreEndsFrom entries.now 0 ends.items) }
 {
     let mut ends = vec![in alloc; 0u32; entries.len()]?;
-    let mut at = entries.len();
-    while at > 0 {
-        at -= 1;
-        let end = end_from(entries, ends.as_slice(), at, entries[at].depth);
-        ends[at] = end;
+    let mut index = entries.len();
+    while index > 0 {
+        index -= 1;
+        let end = end_from(entries, ends.as_slice(), index, entries[index].depth);
+        ends[index] = end;
     }
     Ok(ends)
 }

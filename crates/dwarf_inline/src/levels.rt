@@ -16,13 +16,13 @@ use std::alloc::Global;
 /// The most inlined subroutines among an inlined subroutine and its ancestors.
 const MOST_LEVELS: usize = 62;
 
-/// Closes what ends at `at` or before, and opens what ends at `end`; the answer is how many are open then.
-fn open_level(open_ends: &mut Vec<u32>, at: u32, end: u32) -> Result<usize, Memory>
+/// Closes what ends at `index` or before, and opens what ends at `end`; the answer is how many are open then.
+fn open_level(open_ends: &mut Vec<u32>, index: u32, end: u32) -> Result<usize, Memory>
     ensures opened { IfOk result (λ _. open_ends.new.items
-        ≡ filter (λ other. nat_lt at other) open_ends.old.items ++ end ∷ []) }
-    ensures levels { IfOk result (λ levels. levels ≡ open_at at open_ends.old.items + 1) }
+        ≡ filter (λ other. nat_lt index other) open_ends.old.items ++ end ∷ []) }
+    ensures levels { IfOk result (λ levels. levels ≡ open_at index open_ends.old.items + 1) }
 {
-    open_ends.retain(|other| at < *other);
+    open_ends.retain(|other| index < *other);
     open_ends.push(end)?;
     Ok(open_ends.len())
 }
@@ -42,13 +42,13 @@ fn checked_item(
     ensures in_range { IfOk result (λ i. i < length info.now.entries) }
     ensures opened { IfOk result (λ _. open_ends.new.items ≡ opened item.now end open_ends.old.items) }
 {
-    let (at, entry) = *item;
+    let (index, entry) = *item;
     let offset = entry.offset;
-    let Some(identity) = identity_of(info, at) else {
+    let Some(identity) = identity_of(info, index) else {
         return Err(Fail::Fault(StructureFault::LinkCycle { offset }));
     };
     if is_inlined(&entry) {
-        let levels = open_level(open_ends, at, end)?;
+        let levels = open_level(open_ends, index, end)?;
         if levels > MOST_LEVELS {
             return Err(Fail::Fault(StructureFault::TooDeep { offset }));
         }

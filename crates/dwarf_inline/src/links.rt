@@ -1,6 +1,6 @@
-//! Links from entries to those that they complete (DWARF 5, sections 2.13.2 and 3.3.8.1).
+//! Links from entries to those that they complete (DWARF 5, sections 2.13.2, 3.3.8.2 and 3.3.8.3).
 ghost use Rattle.std.specs.Prelude.{◌≡◌, ◌<◌, length, IfSome, Some, None, if◌then◌else◌};
-ghost use Rattle.dwarf_inline.specs.Links.{is_item, is_inlined, identity, has_more_links, identity_offset};
+ghost use Rattle.dwarf_inline.specs.Links.{is_item, is_inlined, identity, has_more_links};
 
 use dwarf_info::constants::{DW_TAG_inlined_subroutine, DW_TAG_subprogram};
 use dwarf_info::{Info, InfoEntry};
@@ -26,15 +26,15 @@ pub(crate) fn identity_of(info: &Info<'_>, entry: u32) -> Option<u32>
     ensures identity { result ≡ (if has_more_links info.now entry then None else Some (identity info.now entry)) }
     ensures in_range { IfSome result (λ i. i < length info.now.entries) }
 {
-    let mut at = entry;
+    let mut index = entry;
     for _ in 0..MOST_LINKS {
-        match info.link(at) {
-            Some(next) => at = next,
-            None => return Some(at),
+        match info.link(index) {
+            Some(next) => index = next,
+            None => return Some(index),
         }
     }
-    match info.link(at) {
+    match info.link(index) {
         Some(_) => None,
-        None => Some(at),
+        None => Some(index),
     }
 }

@@ -56,20 +56,20 @@ impl<'a> Structure<'a> {
     }
 
     /// The item with a number. Takes no memory.
-    pub fn subroutine(&self, at: u32) -> Subroutine
-        requires { at < length self.now.items }
-        ensures { slice_get self.now.items at ≡ Some result }
+    pub fn subroutine(&self, number: u32) -> Subroutine
+        requires { number < length self.now.items }
+        ensures { slice_get self.now.items number ≡ Some result }
     {
-        self.items[at as usize]
+        self.items[number as usize]
     }
 
     /// A range that counts, from its start up to its end (DWARF 5, section 2.17). Those of an item are the
     /// `range_count` ranges from `first_range` on. Takes no memory.
-    pub fn range(&self, at: u64) -> (u32, u32)
-        requires { at < length self.now.ranges }
-        ensures { slice_get self.now.ranges at ≡ Some result }
+    pub fn range(&self, index: u64) -> (u32, u32)
+        requires { index < length self.now.ranges }
+        ensures { slice_get self.now.ranges index ≡ Some result }
     {
-        self.ranges[at as usize]
+        self.ranges[index as usize]
     }
 
     /// The name of the procedure with an identity, of at most `MAX_NAME_BYTES` bytes (DWARF 5, section 2.15);

@@ -39,15 +39,15 @@ fn add_ranges(
     alloc: Global,
     info: &Info<'_>,
     image: &Image<'_>,
-    at: u32,
+    index: u32,
     ranges: &mut Vec<(u32, u32)>,
 ) -> Result<u32, Memory>
-    requires { at < length info.now.entries }
+    requires { index < length info.now.entries }
     ensures ranges { IfOk result (λ _. ranges.new.items
-        ≡ ranges.old.items ++ counted_ranges info.now image.now at) }
-    ensures count { IfOk result (λ n. n ≡ length (counted_ranges info.now image.now at)) }
+        ≡ ranges.old.items ++ counted_ranges info.now image.now index) }
+    ensures count { IfOk result (λ n. n ≡ length (counted_ranges info.now image.now index)) }
 {
-    let all = info.ranges(alloc, at)?;
+    let all = info.ranges(alloc, index)?;
     let pairs = all.pairs();
     let mut count = 0u32;
     for range in pairs {
@@ -60,11 +60,11 @@ fn add_ranges(
 }
 
 /// The line table of an entry's unit, where it is of version 5.
-fn table_of(sources: Sources<'_, '_, '_, '_>, at: u32) -> Option<u32>
+fn table_of(sources: Sources<'_, '_, '_, '_>, index: u32) -> Option<u32>
     requires { sources.entries.now ≡ sources.info.now.entries }
-    ensures { result ≡ unit_line_table sources.entry.info.now sources.entry.lines.now at }
+    ensures { result ≡ unit_line_table sources.entry.info.now sources.entry.lines.now index }
 {
-    let entry = sources.entries.get(at as usize)?;
+    let entry = sources.entries.get(index as usize)?;
     let unit = sources.info.units().get(entry.unit as usize)?;
     let table = unit.table?;
     if sources.lines.has_table(table) {
@@ -88,14 +88,14 @@ fn row_of(table: Option<u32>, call: (Option<u32>, Option<u32>)) -> Option<LineId
 }
 
 /// Where an inlined subroutine with these ranges is called.
-fn call_at(sources: Sources<'_, '_, '_, '_>, at: u32, ranges: &[(u32, u32)]) -> Option<LineId>
+fn call_at(sources: Sources<'_, '_, '_, '_>, index: u32, ranges: &[(u32, u32)]) -> Option<LineId>
     requires entries { sources.entries.now ≡ sources.info.now.entries }
-    requires entry { at < length sources.info.now.entries }
-    ensures { result ≡ call_at sources.entry.info.now sources.entry.lines.now at ranges.now }
+    requires entry { index < length sources.info.now.entries }
+    ensures { result ≡ call_at sources.entry.info.now sources.entry.lines.now index ranges.now }
 {
     match ranges {
         [] => None,
-        [first, ..] => match row_of(table_of(sources, at), sources.info.call(at)) {
+        [first, ..] => match row_of(table_of(sources, index), sources.info.call(index)) {
             Some(row) => Some(row),
             None => Some(LineId::Address(first.0)),
         },
@@ -147,12 +147,12 @@ fn add_item<'a>(
     ensures ranges { IfOk result (λ _. lists.new.ranges.items ≡ lists.old.ranges.items
         ++ counted_ranges sources.entry.info.now sources.entry.image.now item.now.0) }
 {
-    let (at, entry) = *item;
+    let (index, entry) = *item;
     let inlined = is_inlined(&entry);
     let first = lists.ranges.len();
-    let range_count = add_ranges(alloc, sources.info, sources.image, at, &mut lists.ranges)?;
+    let range_count = add_ranges(alloc, sources.info, sources.image, index, &mut lists.ranges)?;
     let call = if inlined {
-        call_at(sources, at, &lists.ranges[first..])
+        call_at(sources, index, &lists.ranges[first..])
     } else {
         None
     };

@@ -1,6 +1,6 @@
 -- An opcode takes a byte or more, and is read from the same bytes.
-use Rattle.std.proofs.Common.{◌≡◌, ◌==◌, ◌||◌, ℕ, zero, suc, ◌+◌, ◌-◌, ◌≤◌, ◌^◌, length, Bool, true, false, [], ◌∷◌, Option, Some, None, Result, Ok, refl, arith}
-use Rattle.std.specs.Prelude.{if◌then◌else◌, nat_lt, nat_le, not, slice_index}
+use Rattle.std.proofs.Common.{◌≡◌, ◌==◌, ◌||◌, ℕ, zero, suc, ◌+◌, ◌-◌, ◌≤◌, ◌^◌, length, Bool, true, false, Option, Some, None, Result, Ok, refl, arith}
+use Rattle.std.specs.Prelude.{nat_lt, nat_le, not, slice_index}
 use Rattle.prof_bytes.specs.Reading.{left_of}
 use Rattle.prof_bytes.specs.Fields.{Input, number_from, uleb_from, sleb_from, bytes_from}
 use Rattle.prof_bytes.specs.Outcome.{◌>>=◌}
@@ -9,7 +9,7 @@ use Rattle.dwarf_line.specs.declared.constants.TheConstants.{DW_LNS_copy, DW_LNS
 use Rattle.dwarf_line.specs.declared.fault.LineFault.{LineFault}
 use Rattle.dwarf_line.specs.declared.registers.LineRegisters.{LineRegisters}
 use Rattle.dwarf_line.specs.declared.registers.OpcodeEffect.{OpcodeEffect}
-use Rattle.dwarf_line.specs.Names.{checked, present, counted_from}
+use Rattle.dwarf_line.specs.Names.{checked, present, repeated_from}
 use Rattle.dwarf_line.specs.Headers.{ProgramEncoding}
 use Rattle.dwarf_line.specs.Programs.{set_file_from, skipped_from, registers_from, standard_from, extended, extended_opcode_from, by_opcode, opcode_from}
 
@@ -27,16 +27,16 @@ present_moves : {X : Type 0} (input : In) (o : Option X) → Moves 0 input (pres
 present_moves input None = tt
 present_moves input (Some x) = itself input
 
-counted_moves : {X : Type 0} (item : In → Result (X × In) LineFault) (count : ℕ) (input : In) → ((i : In) → Moves 0 i (item i)) → Moves 0 input (counted_from item count input)
-unfolding counted_from
+counted_moves : {X : Type 0} (item : In → Result (X × In) LineFault) (count : ℕ) (input : In) → ((i : In) → Moves 0 i (item i)) → Moves 0 input (repeated_from item count input)
+unfolding repeated_from
 counted_moves item zero input each = itself input
 counted_moves item (suc count) input each =
     moves_then 0 0 input (item input) _ (each input) (λ r.
-    moves_then 0 0 r.1 (counted_from item count r.1) _ (counted_moves item count r.1 each) (λ others. itself others.1))
+    moves_then 0 0 r.1 (repeated_from item count r.1) _ (counted_moves item count r.1 each) (λ others. itself others.1))
 
 skipped_moves : (count : ℕ) (registers : LineRegisters) (input : In) → Moves 0 input (skipped_from count registers input)
 skipped_moves count registers input =
-    moves_then 0 0 input (counted_from uleb_from count input) _ (counted_moves uleb_from count input uleb_passes) (λ r. itself r.1)
+    moves_then 0 0 input (repeated_from uleb_from count input) _ (counted_moves uleb_from count input uleb_passes) (λ r. itself r.1)
 
 set_file_moves : (registers : LineRegisters) (input : In) → Moves 0 input (set_file_from registers input)
 set_file_moves registers input =

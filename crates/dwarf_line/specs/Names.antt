@@ -28,11 +28,11 @@ present input None = Err input.missing
 present input (Some x) = Ok (x, input)
 
 -- `count` items that follow one another
-unfoldable pub counted_from : {X : Type 0} → (Input LineFault → LineRead X) → ℕ → Input LineFault → LineRead (List X)
-counted_from item zero input = Ok ([], input)
-counted_from item (suc count) input = do
+unfoldable pub repeated_from : {X : Type 0} → (Input LineFault → LineRead X) → ℕ → Input LineFault → LineRead (List X)
+repeated_from item zero input = Ok ([], input)
+repeated_from item (suc count) input = do
   (first, input) ← item input
-  (others, input) ← counted_from item count input
+  (others, input) ← repeated_from item count input
   Ok (first ∷ others, input)
 
 -- ---- entries
@@ -97,7 +97,7 @@ name_entry_from texts formats input = do
 unfoldable pub names_from : Texts → Input LineFault → LineRead (List NamedPath)
 names_from texts input = do
   (format_count, input) ← number_from 1 input
-  (formats, input) ← counted_from format_from format_count input
+  (formats, input) ← repeated_from format_from format_count input
   (count, input) ← uleb_from input
   input ← checked (nat_le count (length (left_of input.at))) input
-  counted_from (name_entry_from texts formats) count input
+  repeated_from (name_entry_from texts formats) count input

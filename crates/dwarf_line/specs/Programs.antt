@@ -18,7 +18,7 @@ use Rattle.dwarf_line.specs.declared.fault.LineFault.{LineFault}
 use Rattle.dwarf_line.specs.declared.registers.LineRegisters.{LineRegisters}
 use Rattle.dwarf_line.specs.declared.registers.LineRow.{LineRow}
 use Rattle.dwarf_line.specs.declared.registers.OpcodeEffect.{OpcodeEffect}
-use Rattle.dwarf_line.specs.Names.{LineRead, checked, present, counted_from}
+use Rattle.dwarf_line.specs.Names.{LineRead, checked, present, repeated_from}
 use Rattle.dwarf_line.specs.Headers.{ProgramEncoding}
 
 -- ---- the state machine
@@ -95,7 +95,7 @@ fixed_advance_pc_from registers input = do
 -- `count` operands are skipped
 abbrev pub skipped_from : ℕ → LineRegisters → Input LineFault → LineRead LineRegisters
 skipped_from count registers input = do
-  (operands, input) ← counted_from uleb_from count input
+  (operands, input) ← repeated_from uleb_from count input
   Ok (registers, input)
 
 -- the registers after a standard opcode other than DW_LNS_copy. Those of a column, an instruction set and the flags are
@@ -167,5 +167,6 @@ rows_from encoding (suc room) registers input = if length (left_of input.at) == 
   Ok (option_to_list effect.row ++ rows)
 
 -- the matrix of a program: each opcode has one byte or more, so there are at most as many of them as bytes
+-- (`row_count_is_at_most_bytes`)
 abbrev pub matrix_from : ProgramEncoding → Input LineFault → Result (List LineRow) LineFault
 matrix_from encoding program = rows_from encoding (length (left_of program.at)) start program

@@ -1,23 +1,26 @@
 //! The header of a line table (DWARF 5, section 6.2.4).
-ghost use Rattle.std.specs.Prelude.{◌≡◌, ◌<◌, ◌^◌, length, option_map};
+ghost use Rattle.std.specs.Prelude.{◌<◌};
 ghost use Rattle.prof_bytes.specs.Outcome.{Gives};
-ghost use Rattle.dwarf_line.specs.Headers.{header5_from, header_by_version, header_from};
+ghost use Rattle.dwarf_line.specs.Headers.{header5_from, header_from};
 ghost use Rattle.dwarf_line.specs.Names.{texts_of};
 
 use crate::encoding::LineEncoding;
 use crate::fault::LineFault;
-use crate::names::{NameEntry, read_names};
+use crate::names::{NamedPath, read_names};
 use elf_image::DebugParts;
 use prof_bytes::{Fail, Reader};
 use std::alloc::Global;
 use std::marker::Model;
 
+/// The bytes of an address.
+const ADDRESS_SIZE: u8 = 4;
+
 /// A header of version 5, and a reader of the program after it.
 #[derive(Drop)]
 pub(crate) struct LineHeader<'a> {
     pub(crate) encoding: LineEncoding<'a>,
-    pub(crate) directories: Vec<NameEntry<'a>>,
-    pub(crate) file_names: Vec<NameEntry<'a>>,
+    pub(crate) directories: Vec<NamedPath<'a>>,
+    pub(crate) file_names: Vec<NamedPath<'a>>,
     pub(crate) program: Reader<'a, LineFault>,
 }
 
@@ -46,7 +49,7 @@ fn version5<'a>(
     let address_size = reader.u8()?;
     let segment_selector_size = reader.u8()?;
     let header_length = reader.u32()?;
-    if address_size != 4 || segment_selector_size != 0 {
+    if address_size != ADDRESS_SIZE || segment_selector_size != 0 {
         return Err(Fail::Fault(reader.missing()));
     }
     let mut program = reader.fork();

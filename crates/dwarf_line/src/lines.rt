@@ -11,7 +11,7 @@ ghost use Rattle.dwarf_line.specs.private.Tables.{added_to};
 
 use crate::fault::LineFault;
 use crate::header::{LineHeader, read_header};
-use crate::names::NameEntry;
+use crate::names::NamedPath;
 use crate::run::run;
 use crate::sequence::{Collector, Sequence};
 use crate::tables::Table;
@@ -82,7 +82,7 @@ impl<'a> LineTable<'a> {
     }
 }
 
-fn directory_path<'a>(directories: &[NameEntry<'a>], index: Option<u64>) -> &'a [u8]
+fn directory_path<'a>(directories: &[NamedPath<'a>], index: Option<u64>) -> &'a [u8]
     ensures { result.now ≡ directory_path directories.now index }
 {
     let Some(index) = index else {

@@ -3,7 +3,7 @@ ghost use Rattle.std.specs.Prelude.{◌≡◌, option_map};
 ghost use Rattle.std.specs.Option.{option_copied};
 ghost use Rattle.prof_bytes.specs.Outcome.{GivesAt, GivesFrom};
 ghost use Rattle.dwarf_forms.specs.Values.{form_value};
-ghost use Rattle.dwarf_line.specs.Names.{texts_of, counted_from, format_from, path_by_value, index_by_value};
+ghost use Rattle.dwarf_line.specs.Names.{texts_of, repeated_from, format_from, path_by_value, index_by_value};
 ghost use Rattle.dwarf_line.specs.Names.{name_entry_from, names_from};
 ghost use Rattle.dwarf_line.specs.private.ContentValues.{held_values, content_values_from, as_first, earlier_first};
 
@@ -26,12 +26,12 @@ pub(crate) struct EntryFormat {
 
 /// A directory or a file: its path, and the index of the directory that the path is relative to.
 #[derive(Drop)]
-pub(crate) struct NameEntry<'a> {
+pub(crate) struct NamedPath<'a> {
     pub(crate) path: &'a [u8],
     pub(crate) directory_index: Option<u64>,
 }
 
-impl<'a> Model for NameEntry<'a> {
+impl<'a> Model for NamedPath<'a> {
     ghost use Rattle.dwarf_line.specs.Names.{NamedPath};
 
     ghost Value = { NamedPath };
@@ -56,7 +56,7 @@ fn formats(
     reader: &mut Reader<'_, LineFault>,
     count: u8,
 ) -> Result<Vec<EntryFormat>, Fail<LineFault>>
-    ensures { GivesFrom (λ v. v.items) result reader.new (counted_from format_from count reader.old) }
+    ensures { GivesFrom (λ v. v.items) result reader.new (repeated_from format_from count reader.old) }
 {
     let mut formats = Vec::new(alloc);
     for _ in 0..count {
@@ -148,7 +148,7 @@ fn read_entry<'a>(
     sections: &DebugParts<'a>,
     reader: &mut Reader<'a, LineFault>,
     formats: &[EntryFormat],
-) -> Result<NameEntry<'a>, LineFault>
+) -> Result<NamedPath<'a>, LineFault>
     ensures { GivesAt (λ e. e) result reader.new (name_entry_from (texts_of sections.now) formats.now reader.old) }
 {
     let values = entry_values(reader, formats)?;
@@ -158,7 +158,7 @@ fn read_entry<'a>(
     let Some(directory_index) = index_by_value(values.directory_index) else {
         return Err(reader.missing());
     };
-    Ok(NameEntry {
+    Ok(NamedPath {
         path,
         directory_index,
     })
@@ -170,9 +170,9 @@ fn entries<'a>(
     reader: &mut Reader<'a, LineFault>,
     formats: &[EntryFormat],
     count: u64,
-) -> Result<Vec<NameEntry<'a>>, Fail<LineFault>>
+) -> Result<Vec<NamedPath<'a>>, Fail<LineFault>>
     ensures { GivesFrom (λ v. v.items) result reader.new
-        (counted_from (name_entry_from (texts_of sections.now) formats.now) count reader.old) }
+        (repeated_from (name_entry_from (texts_of sections.now) formats.now) count reader.old) }
 {
     let mut entries = Vec::new(alloc);
     for _ in 0..count {
@@ -188,7 +188,7 @@ pub(crate) fn read_names<'a>(
     alloc: Global,
     sections: &DebugParts<'a>,
     reader: &mut Reader<'a, LineFault>,
-) -> Result<Vec<NameEntry<'a>>, Fail<LineFault>>
+) -> Result<Vec<NamedPath<'a>>, Fail<LineFault>>
     ensures { GivesFrom (λ v. v.items) result reader.new (names_from (texts_of sections.now) reader.old) }
 {
     let format_count = reader.u8()?;

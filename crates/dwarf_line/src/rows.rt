@@ -40,12 +40,12 @@ fn is_rising(rows: &[LineRow]) -> bool
     true
 }
 
-/// The row in force among rows whose addresses never fall, by a binary search.
-fn halved(at: u32, rows: &[LineRow]) -> Option<LineRow>
+/// The row in force among rows whose addresses never fall, by binary search.
+fn last_row_by_search(address: u32, rows: &[LineRow]) -> Option<LineRow>
     requires { Rises rows.now }
-    ensures { result ≡ last_row_at at rows.now }
+    ensures { result ≡ last_row_at address rows.now }
 {
-    let count = rows.partition_point(|row| row.address <= at);
+    let count = rows.partition_point(|row| row.address <= address);
     if count == 0 {
         return None;
     }
@@ -66,15 +66,15 @@ impl SequenceRows {
         self.items.as_slice()
     }
 
-    /// The row in force at an address: by a binary search where the addresses of the rows never fall, else by a look at
+    /// The row in force at an address: by binary search where the addresses of the rows never fall, else by a look at
     /// each row.
-    pub(crate) fn row_at(&self, at: u32) -> Option<LineRow>
-        ensures { result ≡ last_row_at at self.now }
+    pub(crate) fn row_at(&self, address: u32) -> Option<LineRow>
+        ensures { result ≡ last_row_at address self.now }
     {
         if self.rising {
-            return halved(at, self.items.as_slice());
+            return last_row_by_search(address, self.items.as_slice());
         }
-        last_row_at(at, self.items.as_slice())
+        last_row_at(address, self.items.as_slice())
     }
 }
 
@@ -85,10 +85,10 @@ struct BestRow {
     found: Option<LineRow>,
 }
 
-fn better(at: u32, best: BestRow, row: LineRow) -> BestRow
-    ensures { result ≡ better at best row }
+fn better(address: u32, best: BestRow, row: LineRow) -> BestRow
+    ensures { result ≡ better address best row }
 {
-    if row.address <= at && best.greatest <= row.address {
+    if row.address <= address && best.greatest <= row.address {
         return BestRow {
             greatest: row.address,
             found: Some(row),
@@ -97,16 +97,16 @@ fn better(at: u32, best: BestRow, row: LineRow) -> BestRow
     best
 }
 
-/// The last row at the greatest address that is at most `at`.
-fn last_row_at(at: u32, rows: &[LineRow]) -> Option<LineRow>
-    ensures { result ≡ last_row_at at rows.now }
+/// The last row at the greatest address that is at most `address`.
+fn last_row_at(address: u32, rows: &[LineRow]) -> Option<LineRow>
+    ensures { result ≡ last_row_at address rows.now }
 {
     let mut best = BestRow {
         greatest: 0,
         found: None,
     };
     for row in rows {
-        best = better(at, best, *row);
+        best = better(address, best, *row);
     }
     best.found
 }

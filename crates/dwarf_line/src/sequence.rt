@@ -1,7 +1,7 @@
 //! Sequences of the matrix, and the collection of those that count.
 ghost use Rattle.std.specs.Prelude.{◌≡◌, [], IfOk};
 ghost use Rattle.elf_image.specs.Image.{counts};
-ghost use Rattle.dwarf_line.specs.Sequences.{rows_range, sequence_range, is_counted};
+ghost use Rattle.dwarf_line.specs.Sequences.{sequence_range, is_counted};
 ghost use Rattle.dwarf_line.specs.private.Collecting.{with_row, with_effect};
 
 use crate::registers::LineRow;

@@ -1,7 +1,6 @@
 //! The directories and files of tables.
-ghost use Rattle.std.specs.Prelude.{◌≡◌};
 
-use crate::names::NameEntry;
+use crate::names::NamedPath;
 use address_ranges::{AddressRange, HasRange};
 use std::marker::Model;
 
@@ -9,8 +8,8 @@ use std::marker::Model;
 #[derive(Drop)]
 pub(crate) struct Table<'a> {
     pub(crate) offset: u32,
-    pub(crate) directories: Vec<NameEntry<'a>>,
-    pub(crate) file_names: Vec<NameEntry<'a>>,
+    pub(crate) directories: Vec<NamedPath<'a>>,
+    pub(crate) file_names: Vec<NamedPath<'a>>,
 }
 
 impl<'a> Model for Table<'a> {

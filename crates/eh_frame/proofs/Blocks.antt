@@ -13,7 +13,7 @@ use Rattle.cfi_table.specs.declared.extent.Extent.{Extent}
 use Rattle.cfi_table.specs.Entries.{body_of}
 use Rattle.cfi_table.specs.Frames.{all_ok, size_of}
 use Rattle.cfi_table.specs.private.Placed.{IsPlaced}
-use Rattle.eh_frame.specs.Entries.{EhEntry, Content, PassedOver, Common, Description, entry_content, entry_with, entry_of}
+use Rattle.eh_frame.specs.Entries.{EhEntry, EhContent, PassedOver, Common, Description, entry_content, entry_with, entry_of}
 use Rattle.eh_frame.specs.Translation.{encoded, cie_head, fde_head, translated_offset, entry_body, aligned, with_length, block_with, block_of}
 use Rattle.eh_frame.specs.private.Adjoining.{AreAdjoining}
 use Rattle.eh_frame.proofs.Described.{AllFacts, FitsIn, content_facts}
@@ -140,7 +140,7 @@ translated_extent base entry = record {
   end = translated_offset base entry.extent.offset + 4 + length (aligned (entry_body base entry.content));
 }
 
-abbrev pub unless_passed : Content → Extent → List Extent
+abbrev pub unless_passed : EhContent → Extent → List Extent
 unless_passed PassedOver e = []
 unless_passed (Common cie own) e = e ∷ []
 unless_passed (Description fde) e = e ∷ []
@@ -154,7 +154,7 @@ Stands section base entry rest = Block section (translated_offset base entry.ext
 some_padded : (body : List ℕ) → 0 < length body → 0 < length (aligned body)
 some_padded body some = let long = padded_length body in omega arith
 
-entry_chain : (section : List ℕ) (base : ℕ) (e : Extent) (content : Content) (rest : List ℕ) (es : List Extent) → Block section (translated_offset base e.offset) (size_of e) (entry_body base content) rest → Chain section (translated_offset base e.offset + 8 * size_of e) es
+entry_chain : (section : List ℕ) (base : ℕ) (e : Extent) (content : EhContent) (rest : List ℕ) (es : List Extent) → Block section (translated_offset base e.offset) (size_of e) (entry_body base content) rest → Chain section (translated_offset base e.offset + 8 * size_of e) es
     → Chain section (translated_offset base e.offset) (unless_passed content (record { offset = translated_offset base e.offset; end = translated_offset base e.offset + 4 + length (aligned (entry_body base content)) }) ++ es)
 entry_chain section base e PassedOver rest es b then = block_over section (translated_offset base e.offset) (size_of e) [] rest es b refl then
 entry_chain section base e (Common cie own) rest es b then =
@@ -262,7 +262,7 @@ blocks_size section address base extents start (e ∷ es) entries bytes le adjoi
     More : Type 0
     More = (xs : List EhEntry) → all_ok (map (entry_of section address extents) es) ≡ Ok xs → length (flat_map (block_of base) xs) + 8 * e.end ≤ 8 * length section
 
-    rest : (content : Content) (r : Result (List EhEntry) FrameFault) → FitsIn e content → all_ok (map (entry_of section address extents) es) ≡ r → (r >>= λ xs. (let u : Result (List EhEntry) FrameFault = Ok (entry_with e content ∷ xs) in u)) ≡ Ok entries → More → Bound entries
+    rest : (content : EhContent) (r : Result (List EhEntry) FrameFault) → FitsIn e content → all_ok (map (entry_of section address extents) es) ≡ r → (r >>= λ xs. (let u : Result (List EhEntry) FrameFault = Ok (entry_with e content ∷ xs) in u)) ≡ Ok entries → More → Bound entries
     rest content (Err fault) fits same is again = absurd cc
     rest content (Ok xs) fits same is again =
         let at : e.offset ≡ start = adjoin.0 in
@@ -273,7 +273,7 @@ blocks_size section address base extents start (e ∷ es) entries bytes le adjoi
         let both = length-append (block_of base (entry_with e content)) (flat_map (block_of base) xs) in
         subst Bound (one_of (entry_with e content) xs entries is) (omega arith)
 
-    first : (r : Result Content FrameFault) → AllFacts section address extents e r → ((r >>= λ content. (let u : Result EhEntry FrameFault = Ok (entry_with e content) in u)) >>= λ x. all_ok (map (entry_of section address extents) es) >>= λ xs. (let u : Result (List EhEntry) FrameFault = Ok (x ∷ xs) in u)) ≡ Ok entries → More → Bound entries
+    first : (r : Result EhContent FrameFault) → AllFacts section address extents e r → ((r >>= λ content. (let u : Result EhEntry FrameFault = Ok (entry_with e content) in u)) >>= λ x. all_ok (map (entry_of section address extents) es) >>= λ xs. (let u : Result (List EhEntry) FrameFault = Ok (x ∷ xs) in u)) ≡ Ok entries → More → Bound entries
     first (Err fault) facts is again = absurd cc
     first (Ok content) facts is again = rest content (all_ok (map (entry_of section address extents) es)) facts.1 refl is again
 

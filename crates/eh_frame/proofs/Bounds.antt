@@ -18,7 +18,7 @@ use Rattle.eh_frame.specs.declared.address.Application.{Application}
 use Rattle.eh_frame.specs.declared.address.Application.TheVariants as applications
 use Rattle.eh_frame.specs.declared.cie.EhCie.{EhCie}
 use Rattle.eh_frame.specs.Addresses.{address_from}
-use Rattle.eh_frame.specs.Cies.{is_read_augmentation, starts_from, until, eh_cie_with, factors_of, cie_from_letters, cie_from_data, eh_cie_from_factors, eh_cie_from_augmentation, eh_cie_from}
+use Rattle.eh_frame.specs.Cies.{is_read_augmentation, application_from, until, eh_cie_with, factors_of, cie_from_letters, cie_from_data, eh_cie_from_factors, eh_cie_from_augmentation, eh_cie_from}
 use Rattle.eh_frame.specs.Runs.{listed_by, addresses_of, cie_instructions, fde_instructions}
 use Rattle.eh_frame.specs.Entries.{past_data, eh_fields_from}
 use Rattle.eh_frame.specs.Translation.{encoded}
@@ -61,7 +61,7 @@ with_sound end f register b input (Some a) small = (small, refl, omega arith)
 letters_sound : (end : ℕ) (f : AlignmentFactors) (register : ℕ) (letters : List ℕ) (input : Input FrameFault) → register < 32 → AllSound end (length (left_of input.at)) (cie_from_letters end f register letters input)
 unfolding cie_from_letters
 letters_sound end f register letters input small =
-    sound_bind end input (uleb_from input) _ (uleb_moves input) (λ s. sound_bind {X = List ℕ} end s.1 (bytes_from s.0 s.1) _ (bytes_move s.0 s.1) (λ b. go b.1 (starts_from letters applications.Absolute (until b.1 s.1))))
+    sound_bind end input (uleb_from input) _ (uleb_moves input) (λ s. sound_bind {X = List ℕ} end s.1 (bytes_from s.0 s.1) _ (bytes_move s.0 s.1) (λ b. go b.1 (application_from letters applications.Absolute (until b.1 s.1))))
   where
     go : (behind : Input FrameFault) (r : Result (Option Application) FrameFault) → AllSound end (length (left_of behind.at)) (r >>= λ application. (let u : Result (Option EhCie) FrameFault = Ok (option_map (eh_cie_with end f register true behind) application) in u))
     go behind (Err fault) = tt

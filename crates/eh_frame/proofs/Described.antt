@@ -22,7 +22,7 @@ use Rattle.eh_frame.specs.declared.cie.EhCie.{EhCie}
 use Rattle.eh_frame.specs.Addresses.{address_from}
 use Rattle.eh_frame.specs.Cies.{eh_cie_from}
 use Rattle.eh_frame.specs.Runs.{addresses_of, cie_instructions, fde_instructions, rules_after}
-use Rattle.eh_frame.specs.Entries.{EhFde, Content, PassedOver, Common, Description, past_data, eh_fields_from, eh_fde_with, content_of_cie, content_of_fde, content_by, is_eh_id, is_eh_cie, is_cie_before, cie_back, eh_cie_of, entry_content}
+use Rattle.eh_frame.specs.Entries.{EhFde, EhContent, PassedOver, Common, Description, past_data, eh_fields_from, eh_fde_with, content_of_cie, content_of_fde, content_by, is_eh_id, is_eh_cie, is_cie_before, cie_back, eh_cie_of, entry_content}
 use Rattle.eh_frame.specs.Laws.{HasWordOperands}
 use Rattle.eh_frame.proofs.Bounds.{fields_move, less_left, IsSound, sound_of, cie_short, own_short}
 use Rattle.eh_frame.proofs.Listed.{address_moves}
@@ -75,16 +75,16 @@ pub record DescriptionRead (section : List ℕ) (address : ℕ) (extents : List 
   pub start : fde.initial_location < 2 ^ 32
   pub range : fde.address_range < 2 ^ 32
 
-abbrev pub Facts : List ℕ → ℕ → List Extent → Content → Type 0
+abbrev pub Facts : List ℕ → ℕ → List Extent → EhContent → Type 0
 Facts section address extents PassedOver = Unit {0}
 Facts section address extents (Common cie own) = CommonRead section address cie own
 Facts section address extents (Description fde) = DescriptionRead section address extents fde
 
 -- what stands for it in the translation fits in its block
-abbrev pub FitsIn : Extent → Content → Type 0
+abbrev pub FitsIn : Extent → EhContent → Type 0
 FitsIn e content = (base : ℕ) → length (entry_body base content) + 7 ≤ 8 * size_of e
 
-abbrev pub AllFacts : List ℕ → ℕ → List Extent → Extent → Result Content FrameFault → Type 0
+abbrev pub AllFacts : List ℕ → ℕ → List Extent → Extent → Result EhContent FrameFault → Type 0
 AllFacts section address extents e r = IfOk r (λ content. Facts section address extents content × FitsIn e content)
 
 common_facts : (section : List ℕ) (address : ℕ) (extents : List Extent) (e : Extent) (input : Input FrameFault) (o : Option EhCie) → length (left_of input.at) + 4 ≤ size_of e → eh_cie_from e.end input ≡ Ok o → AllFacts section address extents e (content_of_cie section address o)
@@ -94,7 +94,7 @@ common_facts section address extents e input (Some cie) room is = go (cie_instru
     sound : IsSound e.end (length (left_of input.at)) cie
     sound = sound_of e.end input cie is
 
-    go : (r : Result (List CallFrameInstruction × FrameState) FrameFault) → cie_instructions section address cie ≡ r → AllFacts section address extents e (r >>= λ own. (let u : Result Content FrameFault = Ok (Common cie own.0) in u))
+    go : (r : Result (List CallFrameInstruction × FrameState) FrameFault) → cie_instructions section address cie ≡ r → AllFacts section address extents e (r >>= λ own. (let u : Result EhContent FrameFault = Ok (Common cie own.0) in u))
     go (Err fault) ran = tt
     go (Ok own) ran =
         let short = cie_short section address cie own ran in
@@ -118,7 +118,7 @@ fde_facts section address extents e c distance input (Some cie) room are found i
 
     own : (f : ℕ × ℕ) (next : Input FrameFault) (initial : List CallFrameInstruction × FrameState) (r : Result (List CallFrameInstruction × FrameState) FrameFault) → f.0 < 2 ^ 32 → f.1 < 2 ^ 32 → Moves input next
         → cie_instructions section address cie ≡ Ok initial → fde_instructions address cie f.0 next initial.1 ≡ r
-        → AllFacts section address extents e (r >>= λ own. (let u : Result Content FrameFault = Ok (Description (eh_fde_with cie c.offset initial.0 f own.0)) in u))
+        → AllFacts section address extents e (r >>= λ own. (let u : Result EhContent FrameFault = Ok (Description (eh_fde_with cie c.offset initial.0 f own.0)) in u))
     own f next initial (Err fault) start range moves before ran = tt
     own f next initial (Ok o) start range moves before ran =
         let s : FrameState = record initial.1 { location = f.0 } in
@@ -144,12 +144,12 @@ fde_facts section address extents e c distance input (Some cie) room are found i
         )
 
     initial : (f : ℕ × ℕ) (next : Input FrameFault) (r : Result (List CallFrameInstruction × FrameState) FrameFault) → f.0 < 2 ^ 32 → f.1 < 2 ^ 32 → Moves input next → cie_instructions section address cie ≡ r
-        → AllFacts section address extents e (r >>= λ initial. fde_instructions address cie f.0 next initial.1 >>= λ own. (let u : Result Content FrameFault = Ok (Description (eh_fde_with cie c.offset initial.0 f own.0)) in u))
+        → AllFacts section address extents e (r >>= λ initial. fde_instructions address cie f.0 next initial.1 >>= λ own. (let u : Result EhContent FrameFault = Ok (Description (eh_fde_with cie c.offset initial.0 f own.0)) in u))
     initial f next (Err fault) start range moves before = tt
     initial f next (Ok i) start range moves before = own f next i (fde_instructions address cie f.0 next i.1) start range moves before refl
 
     fields : (r : Reading (ℕ × ℕ)) → AreSmall r → AllMove input r
-        → AllFacts section address extents e (r >>= λ f. cie_instructions section address cie >>= λ initial. fde_instructions address cie f.0.0 f.1 initial.1 >>= λ own. (let u : Result Content FrameFault = Ok (Description (eh_fde_with cie c.offset initial.0 f.0 own.0)) in u))
+        → AllFacts section address extents e (r >>= λ f. cie_instructions section address cie >>= λ initial. fde_instructions address cie f.0.0 f.1 initial.1 >>= λ own. (let u : Result EhContent FrameFault = Ok (Description (eh_fde_with cie c.offset initial.0 f.0 own.0)) in u))
     fields (Err fault) small moves = tt
     fields (Ok f) small moves = initial f.0 f.1 (cie_instructions section address cie) small.0 small.1 moves refl
 
@@ -188,8 +188,8 @@ content_facts section address extents e are placed = go (number_from 4 (body_of 
         let enough = room in
         some (id.0 == EH_CIE_ID) id.0 id.1 (omega arith) (rw moves.whole (take_bytes e.end section are))
 
-pub facts_of : (section : List ℕ) (address : ℕ) (extents : List Extent) (e : Extent) (content : Content) → IsBytes section → IsPlaced section e → entry_content section address extents e ≡ Ok content → Facts section address extents content × FitsIn e content
-facts_of section address extents e content are placed is = let P : Result Content FrameFault → Type 0 = λ r. AllFacts section address extents e r in subst P is (content_facts section address extents e are placed)
+pub facts_of : (section : List ℕ) (address : ℕ) (extents : List Extent) (e : Extent) (content : EhContent) → IsBytes section → IsPlaced section e → entry_content section address extents e ≡ Ok content → Facts section address extents content × FitsIn e content
+facts_of section address extents e content are placed is = let P : Result EhContent FrameFault → Type 0 = λ r. AllFacts section address extents e r in subst P is (content_facts section address extents e are placed)
 
 -- ---- a CIE's instructions, and the rules after them
 

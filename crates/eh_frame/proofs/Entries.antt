@@ -22,7 +22,7 @@ use Rattle.eh_frame.specs.declared.constants.TheConstants.{EH_CIE_ID}
 use Rattle.eh_frame.specs.declared.cie.EhCie.{EhCie}
 use Rattle.eh_frame.specs.declared.known_eh_cie.KnownEhCie.{KnownEhCie}
 use Rattle.eh_frame.specs.Cies.{eh_cie_from}
-use Rattle.eh_frame.specs.Entries.{EhEntry, Content, Description, eh_fde_with, eh_fields_from, is_eh_cie, is_cie_before, eh_cie_of, cie_back, content_of_cie, content_of_fde, content_by, entry_content, entry_with, entry_of, eh_extents, eh_entries}
+use Rattle.eh_frame.specs.Entries.{EhEntry, EhContent, Description, eh_fde_with, eh_fields_from, is_eh_cie, is_cie_before, eh_cie_of, cie_back, content_of_cie, content_of_fde, content_by, entry_content, entry_with, entry_of, eh_extents, eh_entries}
 use Rattle.cfi_table.specs.declared.instruction.CallFrameInstruction.{CallFrameInstruction}
 use Rattle.cfi_table.specs.Rules.{FrameState}
 use Rattle.eh_frame.specs.Runs.{cie_instructions, fde_instructions}
@@ -83,7 +83,7 @@ pub fde_body : (section : List ℕ) (address base offset : ℕ) (input next : In
 fde_body section address base offset input next cie fields initial read is = rw (read, is) (go (fde_instructions address cie fields.0 next initial.1))
   where
     go : (r : Result (List CallFrameInstruction × FrameState) FrameFault)
-        → viewed (entry_body base) (r >>= λ own. (let u : Result Content FrameFault = Ok (Description (eh_fde_with cie offset initial.0 fields own.0)) in u)) ≡ viewed (λ (r : List CallFrameInstruction × FrameState). fde_head (translated_offset base offset) fields.0 fields.1 ++ flat_map encoded r.0) r
+        → viewed (entry_body base) (r >>= λ own. (let u : Result EhContent FrameFault = Ok (Description (eh_fde_with cie offset initial.0 fields own.0)) in u)) ≡ viewed (λ (r : List CallFrameInstruction × FrameState). fde_head (translated_offset base offset) fields.0 fields.1 ++ flat_map encoded r.0) r
     go (Ok r) = refl
     go (Err fault) = refl
 
@@ -156,7 +156,7 @@ cies_rise section extents k cies each up =
 
 -- ---- the entries that are read one after another
 
-read_as : (section : List ℕ) (address : ℕ) (extents : List Extent) (e : Extent) (content : Content) → entry_content section address extents e ≡ Ok content → entry_of section address extents e ≡ Ok (entry_with e content)
+read_as : (section : List ℕ) (address : ℕ) (extents : List Extent) (e : Extent) (content : EhContent) → entry_content section address extents e ≡ Ok content → entry_of section address extents e ≡ Ok (entry_with e content)
 read_as section address extents e content is = rw is refl
 
 pub block_more : (section : List ℕ) (address base : ℕ) (extents : List Extent) (k : ℕ) (d : Extent) (body out next : List ℕ) → k < length extents

@@ -19,7 +19,7 @@ use Rattle.cfi_table.specs.Frames.{all_ok, counted_fde, fde_range, rules_with, r
 use Rattle.cfi_table.specs.private.Placed.{AreRising}
 use Rattle.eh_frame.specs.declared.cie.EhCie.{EhCie}
 use Rattle.eh_frame.specs.Runs.{rules_after}
-use Rattle.eh_frame.specs.Entries.{EhFde, EhEntry, Content, PassedOver, Common, Description, entry_content, entry_with, entry_of}
+use Rattle.eh_frame.specs.Entries.{EhFde, EhEntry, EhContent, PassedOver, Common, Description, entry_content, entry_with, entry_of}
 use Rattle.eh_frame.specs.Translation.{translated_offset, entry_body}
 use Rattle.eh_frame.specs.Both.{eh_range_of, eh_rules_with, eh_rules_from, eh_rules_of, eh_content_counted, eh_counted}
 use Rattle.eh_frame.specs.Laws.{HasWordOperands}
@@ -157,9 +157,9 @@ fde_by_cie section eh address base extents es e c g rest d small bytes within mo
     whole : continued None section f.fde d.initial ≡ Ok d.own
     whole = fde_ran None section es (translated_extent base (record { extent = e; content = Description g })) g.initial_location g.address_range back.cie g.instructions d.initial d.own f back.factors d.words d.own_rules
 
-made_by : (eh : List ℕ) (address : ℕ) (extents : List Extent) (c : Extent) (content : Content) (x : EhEntry) → entry_content eh address extents c ≡ Ok content → entry_of eh address extents c ≡ Ok x → x ≡ (record { extent = c; content = content })
+made_by : (eh : List ℕ) (address : ℕ) (extents : List Extent) (c : Extent) (content : EhContent) (x : EhEntry) → entry_content eh address extents c ≡ Ok content → entry_of eh address extents c ≡ Ok x → x ≡ (record { extent = c; content = content })
 made_by eh address extents c content x is made =
-    let content_made : entry_of eh address extents c ≡ Ok (entry_with c content) = ap (λ (r : Result Content FrameFault). r >>= λ k. (let u : Result EhEntry FrameFault = Ok (entry_with c k) in u)) is in
+    let content_made : entry_of eh address extents c ≡ Ok (entry_with c content) = ap (λ (r : Result EhContent FrameFault). r >>= λ k. (let u : Result EhEntry FrameFault = Ok (entry_with c k) in u)) is in
     ok_same {F = FrameFault} x (entry_with c content) (sym made ∙ content_made)
 
 -- a CIE of an FDE is read too
@@ -206,7 +206,7 @@ matched section segments r f g fs gs tells same others = subst P (sym (tells seg
     go true = (same, others)
     go false = others
 
-one_more : (section : List ℕ) (segments : List Segment) (eh : List ℕ) (address base : ℕ) (all : List EhEntry) (extents es : List Extent) (e : Extent) (content : Content) (others : List EhEntry) → Joined section eh address base all extents es
+one_more : (section : List ℕ) (segments : List Segment) (eh : List ℕ) (address base : ℕ) (all : List EhEntry) (extents es : List Extent) (e : Extent) (content : EhContent) (others : List EhEntry) → Joined section eh address base all extents es
     → IsIn (let x : EhEntry = record { extent = e; content = content } in x) all → Read section segments es (flat_map (extents_in base) others) others
     → Read section segments es (flat_map (extents_in base) ((record { extent = e; content = content }) ∷ others)) ((record { extent = e; content = content }) ∷ others)
 one_more section segments eh address base all extents es e PassedOver others j is more = record { reads = more.reads; is = more.is; matches = more.matches }

@@ -28,7 +28,7 @@ use Rattle.cfi_table.proofs.Moves.{AllMove, stays, binds, either, number_moves, 
 use Rattle.cfi_table.proofs.Chains.{marked}
 use Rattle.cfi_table.proofs.Runs.{left_shorter}
 use Rattle.prof_bytes.proofs.Outcomes.{bind_ok, ok_same}
-use Rattle.eh_frame.specs.declared.address.Addresses.{Addresses}
+use Rattle.eh_frame.specs.declared.address.AddressEncoding.{AddressEncoding}
 use Rattle.eh_frame.specs.Addresses.{address_from}
 use Rattle.eh_frame.specs.Runs.{eh_instruction_from, eh_step_by, before_all, listed_by, listed_instructions, addresses_of, cie_instructions, fde_instructions}
 use Rattle.eh_frame.specs.declared.cie.EhCie.{EhCie}
@@ -38,18 +38,18 @@ use Rattle.eh_frame.proofs.Outcomes.{gives_viewed}
 
 -- ---- an instruction takes bytes
 
-pub address_moves : (a : Addresses) (input : Input FrameFault) → AllMove input (address_from a input)
+pub address_moves : (a : AddressEncoding) (input : Input FrameFault) → AllMove input (address_from a input)
 unfolding address_from
 address_moves a input = binds input (number_from 4 input) _ (number_moves 4 input) (λ n. stays n.1)
 
-pub eh_instruction_moves : (a : Addresses) (f : AlignmentFactors) (input next : Input FrameFault) (i : CallFrameInstruction) → eh_instruction_from a f input ≡ Ok (i, next) → (next.at.whole ≡ input.at.whole) × (input.at.offset < next.at.offset)
+pub eh_instruction_moves : (a : AddressEncoding) (f : AlignmentFactors) (input next : Input FrameFault) (i : CallFrameInstruction) → eh_instruction_from a f input ≡ Ok (i, next) → (next.at.whole ≡ input.at.whole) × (input.at.offset < next.at.offset)
 unfolding eh_instruction_from
 eh_instruction_moves a f input next i e =
     behind_byte (λ byte. cond (byte.0 == DW_CFA_set_loc) (address_from a byte.1 >>= λ to. (let r : Reading CallFrameInstruction = Ok (instructions.SetLoc to.0, to.1) in r)) (instruction_after_opcode f byte.0 byte.1)) input next i
     (λ n mid. either mid (n == DW_CFA_set_loc) _ _ (binds mid (address_from a mid) _ (address_moves a mid) (λ to. stays to.1)) (opcode_moves f n mid)) e
 
 -- what a step carried out
-pub step_ran : {S : Type 0} (x : CallFrameInstruction → S → Option S) (a : Addresses) (f : AlignmentFactors) (input next : Input FrameFault) (i : CallFrameInstruction) (s t : S) → eh_step_by x a f input s ≡ Ok ((i, t), next)
+pub step_ran : {S : Type 0} (x : CallFrameInstruction → S → Option S) (a : AddressEncoding) (f : AlignmentFactors) (input next : Input FrameFault) (i : CallFrameInstruction) (s t : S) → eh_step_by x a f input s ≡ Ok ((i, t), next)
     → (eh_instruction_from a f (marked input) ≡ Ok (i, next)) × (x i s ≡ Some t)
 unfolding eh_step_by
 step_ran {S} x a f input next i s t e = let read = bind_ok (eh_instruction_from a f (marked input)) _ ((i, t), next) e in executed read.0 (x read.0.0 s) read.1 refl read.2
@@ -61,27 +61,27 @@ step_ran {S} x a f input next i s t e = let read = bind_ok (eh_instruction_from 
         let P : (CallFrameInstruction × S) × Input FrameFault → Type 0 = λ p. (eh_instruction_from a f (marked input) ≡ Ok (p.0.0, p.1)) × (x p.0.0 s ≡ Some p.0.1) in
         subst P (ok_same {F = FrameFault} ((j.0, u), j.1) ((i, t), next) e) (read, ran)
 
-pub step_moves : {S : Type 0} (x : CallFrameInstruction → S → Option S) (a : Addresses) (f : AlignmentFactors) (input next : Input FrameFault) (i : CallFrameInstruction) (s t : S) → eh_step_by x a f input s ≡ Ok ((i, t), next)
+pub step_moves : {S : Type 0} (x : CallFrameInstruction → S → Option S) (a : AddressEncoding) (f : AlignmentFactors) (input next : Input FrameFault) (i : CallFrameInstruction) (s t : S) → eh_step_by x a f input s ≡ Ok ((i, t), next)
     → (next.at.whole ≡ input.at.whole) × (input.at.offset < next.at.offset)
 step_moves x a f input next i s t e = eh_instruction_moves a f (marked input) next i (step_ran x a f input next i s t e).0
 
-pub shortens : {S : Type 0} (x : CallFrameInstruction → S → Option S) (a : Addresses) (f : AlignmentFactors) (input next : Input FrameFault) (i : CallFrameInstruction) (s t : S) → 0 < length (left_of input.at) → eh_step_by x a f input s ≡ Ok ((i, t), next)
+pub shortens : {S : Type 0} (x : CallFrameInstruction → S → Option S) (a : AddressEncoding) (f : AlignmentFactors) (input next : Input FrameFault) (i : CallFrameInstruction) (s t : S) → 0 < length (left_of input.at) → eh_step_by x a f input s ≡ Ok ((i, t), next)
     → length (left_of next.at) < length (left_of input.at)
 shortens x a f input next i s t some is = let moves = step_moves x a f input next i s t is in left_shorter input next moves.0 moves.1 some
 
 -- ---- a list by its first step
 
-pub list_end : {S : Type 0} (x : CallFrameInstruction → S → Option S) (m : ℕ) (a : Addresses) (f : AlignmentFactors) (input : Input FrameFault) (s : S) → length (left_of input.at) ≡ 0 → listed_by x m a f input s ≡ Ok ([], s)
+pub list_end : {S : Type 0} (x : CallFrameInstruction → S → Option S) (m : ℕ) (a : AddressEncoding) (f : AlignmentFactors) (input : Input FrameFault) (s : S) → length (left_of input.at) ≡ 0 → listed_by x m a f input s ≡ Ok ([], s)
 unfolding listed_by
 list_end x zero a f input s none = refl
 list_end x (suc m) a f input s none = rw (eq-eqb _ 0 none) refl
 
-list_more : {S : Type 0} (x : CallFrameInstruction → S → Option S) (m : ℕ) (a : Addresses) (f : AlignmentFactors) (input next : Input FrameFault) (i : CallFrameInstruction) (s t : S) → 0 < length (left_of input.at) → eh_step_by x a f input s ≡ Ok ((i, t), next)
+list_more : {S : Type 0} (x : CallFrameInstruction → S → Option S) (m : ℕ) (a : AddressEncoding) (f : AlignmentFactors) (input next : Input FrameFault) (i : CallFrameInstruction) (s t : S) → 0 < length (left_of input.at) → eh_step_by x a f input s ≡ Ok ((i, t), next)
     → listed_by x (suc m) a f input s ≡ before_all i (listed_by x m a f next t)
 unfolding listed_by
 list_more x m a f input next i s t some is = rw (not_zero _ some, is) refl
 
-list_fault : {S : Type 0} (x : CallFrameInstruction → S → Option S) (m : ℕ) (a : Addresses) (f : AlignmentFactors) (input : Input FrameFault) (s : S) (fault : FrameFault) → 0 < length (left_of input.at) → eh_step_by x a f input s ≡ Err fault
+list_fault : {S : Type 0} (x : CallFrameInstruction → S → Option S) (m : ℕ) (a : AddressEncoding) (f : AlignmentFactors) (input : Input FrameFault) (s : S) (fault : FrameFault) → 0 < length (left_of input.at) → eh_step_by x a f input s ≡ Err fault
     → listed_by x (suc m) a f input s ≡ Err fault
 unfolding listed_by
 list_fault x m a f input s fault some is = rw (not_zero _ some, is) refl
@@ -91,7 +91,7 @@ list_fault x m a f input s fault some is = rw (not_zero _ some, is) refl
 abbrev pub after_done : {S : Type 0} → List CallFrameInstruction → List CallFrameInstruction × S → List CallFrameInstruction × S
 after_done done r = (done ++ r.0, r.1)
 
-pub record KeepsList {S : Type 0} (x : CallFrameInstruction → S → Option S) (a : Addresses) (f : AlignmentFactors) (first input : Input FrameFault) (s0 s : S) (out0 out : List ℕ) : Type 0 where
+pub record KeepsList {S : Type 0} (x : CallFrameInstruction → S → Option S) (a : AddressEncoding) (f : AlignmentFactors) (first input : Input FrameFault) (s0 s : S) (out0 out : List ℕ) : Type 0 where
   pub whole : input.at.whole ≡ first.at.whole
   pub count : ℕ
   pub enough : length (left_of input.at) ≤ count
@@ -107,7 +107,7 @@ one_done : {S F : Type 0} (done : List CallFrameInstruction) (i : CallFrameInstr
 one_done {S} {F} done i (Ok r) = ap (λ (is : List CallFrameInstruction). Ok (is, r.1)) (append_assoc done (i ∷ []) r.0)
 one_done done i (Err fault) = refl
 
-pub begins : {S : Type 0} (x : CallFrameInstruction → S → Option S) (a : Addresses) (f : AlignmentFactors) (first : Input FrameFault) (s0 : S) (out0 : List ℕ) → KeepsList x a f first first s0 s0 out0 out0
+pub begins : {S : Type 0} (x : CallFrameInstruction → S → Option S) (a : AddressEncoding) (f : AlignmentFactors) (first : Input FrameFault) (s0 : S) (out0 : List ℕ) → KeepsList x a f first first s0 s0 out0 out0
 begins x a f first s0 out0 = record {
   whole = refl;
   count = length (left_of first.at);
@@ -117,11 +117,11 @@ begins x a f first s0 out0 = record {
   put = sym (append-nil out0);
 }
 
-pub keeps_short : {S : Type 0} (x : CallFrameInstruction → S → Option S) (a : Addresses) (f : AlignmentFactors) (first input : Input FrameFault) (s0 s : S) (out0 out : List ℕ) → KeepsList x a f first input s0 s out0 out
+pub keeps_short : {S : Type 0} (x : CallFrameInstruction → S → Option S) (a : AddressEncoding) (f : AlignmentFactors) (first input : Input FrameFault) (s0 s : S) (out0 out : List ℕ) → KeepsList x a f first input s0 s out0 out
     → length first.at.whole < 2 ^ 32 → length input.at.whole < 2 ^ 32
 keeps_short x a f first input s0 s out0 out kept lt = let len : length input.at.whole ≡ length first.at.whole = ap (λ (xs : List ℕ). length xs) kept.whole in omega arith
 
-pub turns : {S : Type 0} (x : CallFrameInstruction → S → Option S) (a : Addresses) (f : AlignmentFactors) (first input next : Input FrameFault) (i : CallFrameInstruction) (s0 s t : S) (out0 out after : List ℕ)
+pub turns : {S : Type 0} (x : CallFrameInstruction → S → Option S) (a : AddressEncoding) (f : AlignmentFactors) (first input next : Input FrameFault) (i : CallFrameInstruction) (s0 s t : S) (out0 out after : List ℕ)
     → 0 < length (left_of input.at) → eh_step_by x a f input s ≡ Ok ((i, t), next) → after ≡ out ++ encoded i → KeepsList x a f first input s0 s out0 out → KeepsList x a f first next s0 t out0 after
 turns x a f first input next i s0 s t out0 out after some is pushed kept =
     let moves = step_moves x a f input next i s t is in
@@ -144,23 +144,23 @@ turns x a f first input next i s0 s t out0 out after some is pushed kept =
           ∙ ap (λ (bs : List ℕ). out0 ++ bs) (ap (λ (bs : List ℕ). flat_map encoded kept.done ++ bs) (sym (append-nil (encoded i))) ∙ sym (flat_map-append encoded kept.done (i ∷ [])));
     }
 
-fails_here : {S : Type 0} (x : CallFrameInstruction → S → Option S) (a : Addresses) (f : AlignmentFactors) (first input : Input FrameFault) (s0 s : S) (out0 out : List ℕ) (fault : FrameFault) → 0 < length (left_of input.at) → eh_step_by x a f input s ≡ Err fault
+fails_here : {S : Type 0} (x : CallFrameInstruction → S → Option S) (a : AddressEncoding) (f : AlignmentFactors) (first input : Input FrameFault) (s0 s : S) (out0 out : List ℕ) (fault : FrameFault) → 0 < length (left_of input.at) → eh_step_by x a f input s ≡ Err fault
     → KeepsList x a f first input s0 s out0 out → listed_by x (length (left_of first.at)) a f first s0 ≡ Err fault
 fails_here x a f first input s0 s out0 out fault some is kept =
     let enough = kept.enough in
     let one : kept.count ≡ suc (kept.count - 1) = omega arith in
     sym kept.so_far ∙ ap (λ r. viewed (after_done kept.done) r) (ap (λ (n : ℕ). listed_by x n a f input s) one ∙ list_fault x (kept.count - 1) a f input s fault some is)
 
-pub fails_by : {S : Type 0} (x : CallFrameInstruction → S → Option S) (a : Addresses) (f : AlignmentFactors) (first input : Input FrameFault) (s0 s : S) (out0 out : List ℕ) (fail : Fail FrameFault) → 0 < length (left_of input.at) → FailsBy fail (eh_step_by x a f input s)
+pub fails_by : {S : Type 0} (x : CallFrameInstruction → S → Option S) (a : AddressEncoding) (f : AlignmentFactors) (first input : Input FrameFault) (s0 s : S) (out0 out : List ℕ) (fail : Fail FrameFault) → 0 < length (left_of input.at) → FailsBy fail (eh_step_by x a f input s)
     → KeepsList x a f first input s0 s out0 out → FailsBy fail (viewed (put_behind out0) (listed_by x (length (left_of first.at)) a f first s0))
 fails_by x a f first input s0 s out0 out (fails.Memory memory) some is kept = tt
 fails_by x a f first input s0 s out0 out (fails.Fault fault) some is kept = ap (λ r. viewed (put_behind out0) r) (fails_here x a f first input s0 s out0 out fault some is kept)
 
-pub list_done : {S : Type 0} (x : CallFrameInstruction → S → Option S) (a : Addresses) (f : AlignmentFactors) (first input : Input FrameFault) (s0 s : S) (out0 out : List ℕ) → length (left_of input.at) ≡ 0
+pub list_done : {S : Type 0} (x : CallFrameInstruction → S → Option S) (a : AddressEncoding) (f : AlignmentFactors) (first input : Input FrameFault) (s0 s : S) (out0 out : List ℕ) → length (left_of input.at) ≡ 0
     → (kept : KeepsList x a f first input s0 s out0 out) → listed_by x (length (left_of first.at)) a f first s0 ≡ Ok (kept.done ++ [], s)
 list_done x a f first input s0 s out0 out none kept = sym kept.so_far ∙ ap (λ r. viewed (after_done kept.done) r) (list_end x kept.count a f input s none)
 
-pub ends_here : {S : Type 0} (x : CallFrameInstruction → S → Option S) (a : Addresses) (f : AlignmentFactors) (first input : Input FrameFault) (s0 s : S) (out0 out : List ℕ) → length (left_of input.at) ≡ 0
+pub ends_here : {S : Type 0} (x : CallFrameInstruction → S → Option S) (a : AddressEncoding) (f : AlignmentFactors) (first input : Input FrameFault) (s0 s : S) (out0 out : List ℕ) → length (left_of input.at) ≡ 0
     → KeepsList x a f first input s0 s out0 out → viewed (put_behind out0) (listed_by x (length (left_of first.at)) a f first s0) ≡ Ok (out, s)
 ends_here x a f first input s0 s out0 out none kept =
     ap (λ r. viewed (put_behind out0) r) (list_done x a f first input s0 s out0 out none kept)
@@ -192,7 +192,7 @@ abbrev pub Short : {S : Type 0} → Input FrameFault → Result (List CallFrameI
 Short input (Ok r) = length (flat_map encoded r.0) ≤ 7 * length (left_of input.at)
 Short input (Err fault) = Unit {0}
 
-pub listed_short : {S : Type 0} (x : CallFrameInstruction → S → Option S) (m : ℕ) (a : Addresses) (f : AlignmentFactors) (input : Input FrameFault) (s : S) → Short input (listed_by x m a f input s)
+pub listed_short : {S : Type 0} (x : CallFrameInstruction → S → Option S) (m : ℕ) (a : AddressEncoding) (f : AlignmentFactors) (input : Input FrameFault) (s : S) → Short input (listed_by x m a f input s)
 unfolding listed_by
 listed_short x zero a f input s = omega arith
 listed_short {S} x (suc m) a f input s = go (length (left_of input.at) == 0) refl (eh_step_by x a f input s) refl (λ next t. listed_short x m a f next t)
@@ -217,7 +217,7 @@ listed_short {S} x (suc m) a f input s = go (length (left_of input.at) == 0) ref
     go true left r is short = omega arith
     go false left r is short = steps r is (left_some _ left) short
 
-pub put_short : {S : Type 0} (x : CallFrameInstruction → S → Option S) (a : Addresses) (f : AlignmentFactors) (input : Input FrameFault) (s t : S) (out0 out : List ℕ) → viewed (put_behind out0) (listed_by x (length (left_of input.at)) a f input s) ≡ Ok (out, t)
+pub put_short : {S : Type 0} (x : CallFrameInstruction → S → Option S) (a : AddressEncoding) (f : AlignmentFactors) (input : Input FrameFault) (s t : S) (out0 out : List ℕ) → viewed (put_behind out0) (listed_by x (length (left_of input.at)) a f input s) ≡ Ok (out, t)
     → length out ≤ length out0 + 7 * length (left_of input.at)
 put_short {S} x a f input s t out0 out e = from (listed_by x (length (left_of input.at)) a f input s) (listed_short x (length (left_of input.at)) a f input s) e
   where
@@ -239,7 +239,7 @@ forms_step r = ((r.0.0, forms_of r.0.1), r.1)
 abbrev pub forms_list : List CallFrameInstruction × FrameState → List CallFrameInstruction × CfaForms
 forms_list r = (r.0, forms_of r.1)
 
-step_as_forms : (initial : List Rule) (a : Addresses) (f : AlignmentFactors) (input : Input FrameFault) (s : FrameState) → viewed forms_step (eh_step_by (execute initial) a f input s) ≡ eh_step_by execute_forms a f input (forms_of s)
+step_as_forms : (initial : List Rule) (a : AddressEncoding) (f : AlignmentFactors) (input : Input FrameFault) (s : FrameState) → viewed forms_step (eh_step_by (execute initial) a f input s) ≡ eh_step_by execute_forms a f input (forms_of s)
 unfolding eh_step_by
 step_as_forms initial a f input s = decoded (eh_instruction_from a f (record input { missing = fault_here input }))
   where
@@ -258,7 +258,7 @@ step_as_forms initial a f input s = decoded (eh_instruction_from a f (record inp
     decoded (Err fault) = refl
     decoded (Ok j) = executed j (execute initial j.0 s) ∙ ap (λ (o : Option CfaForms). ok_or o (fault_here input) >>= after_forms j) (execute_as_forms initial j.0 s)
 
-pub list_as_forms : (m : ℕ) (initial : List Rule) (a : Addresses) (f : AlignmentFactors) (input : Input FrameFault) (s : FrameState) → viewed forms_list (listed_by (execute initial) m a f input s) ≡ listed_by execute_forms m a f input (forms_of s)
+pub list_as_forms : (m : ℕ) (initial : List Rule) (a : AddressEncoding) (f : AlignmentFactors) (input : Input FrameFault) (s : FrameState) → viewed forms_list (listed_by (execute initial) m a f input s) ≡ listed_by execute_forms m a f input (forms_of s)
 unfolding listed_by
 list_as_forms zero initial a f input s = refl
 list_as_forms (suc m) initial a f input s = go (length (left_of input.at) == 0) (eh_step_by (execute initial) a f input s) (eh_step_by execute_forms a f input (forms_of s)) (step_as_forms initial a f input s) (λ next t. list_as_forms m initial a f next t)
@@ -281,7 +281,7 @@ list_as_forms (suc m) initial a f input s = go (length (left_of input.at) == 0) 
     go false r q e same = steps r same ∙ ap (λ (p : Reading (CallFrameInstruction × CfaForms)). p >>= λ done. before_all done.0.0 (listed_by execute_forms m a f done.1 done.0.1)) e
 
 -- what the checker put is what the rules list
-pub put_as_forms : (initial : List Rule) (a : Addresses) (f : AlignmentFactors) (input : Input FrameFault) (s : FrameState) (out : List ℕ) → viewed (λ (r : List CallFrameInstruction × FrameState). out ++ flat_map encoded r.0) (listed_instructions initial a f input s)
+pub put_as_forms : (initial : List Rule) (a : AddressEncoding) (f : AlignmentFactors) (input : Input FrameFault) (s : FrameState) (out : List ℕ) → viewed (λ (r : List CallFrameInstruction × FrameState). out ++ flat_map encoded r.0) (listed_instructions initial a f input s)
     ≡ viewed (λ (p : List ℕ × CfaForms). p.0) (viewed (put_behind out) (listed_forms a f input (forms_of s)))
 put_as_forms initial a f input s out =
     seen (listed_instructions initial a f input s)
@@ -292,7 +292,7 @@ put_as_forms initial a f input s out =
     seen (Err fault) = refl
 
 -- where the checker ended well, so do the rules, with the same forms
-pub ends_as_forms : (initial : List Rule) (a : Addresses) (f : AlignmentFactors) (input : Input FrameFault) (s : FrameState) (out : List ℕ) (p : List ℕ × CfaForms) → viewed (put_behind out) (listed_forms a f input (forms_of s)) ≡ Ok p
+pub ends_as_forms : (initial : List Rule) (a : AddressEncoding) (f : AlignmentFactors) (input : Input FrameFault) (s : FrameState) (out : List ℕ) (p : List ℕ × CfaForms) → viewed (put_behind out) (listed_forms a f input (forms_of s)) ≡ Ok p
     → (r : List CallFrameInstruction × FrameState) × (listed_instructions initial a f input s ≡ Ok r) × (p.1 ≡ forms_of r.1)
 ends_as_forms initial a f input s out p e = from (listed_instructions initial a f input s) refl (ap (λ (r : Result (List CallFrameInstruction × CfaForms) FrameFault). viewed (put_behind out) r) (list_as_forms (length (left_of input.at)) initial a f input s) ∙ e)
   where
@@ -305,7 +305,7 @@ ends_as_forms initial a f input s out p e = from (listed_instructions initial a 
 
 -- ---- what the checker puts, as the definitions have it
 
-put_seen : (initial : List Rule) (a : Addresses) (f : AlignmentFactors) (input : Input FrameFault) (s : FrameState) (out after : List ℕ) (k : CfaForms) (r : Result (Unit {0}) (Fail FrameFault)) → Gives (λ done. (after, k)) r (viewed (put_behind out) (listed_forms a f input (forms_of s)))
+put_seen : (initial : List Rule) (a : AddressEncoding) (f : AlignmentFactors) (input : Input FrameFault) (s : FrameState) (out after : List ℕ) (k : CfaForms) (r : Result (Unit {0}) (Fail FrameFault)) → Gives (λ done. (after, k)) r (viewed (put_behind out) (listed_forms a f input (forms_of s)))
     → Gives (λ done. after) r (viewed (λ (r : List CallFrameInstruction × FrameState). out ++ flat_map encoded r.0) (listed_instructions initial a f input s))
 put_seen initial a f input s out after k r e =
     let P : Result (List ℕ) FrameFault → Type 0 = λ w. Gives (λ (done : Unit {0}). after) r w in

@@ -10,12 +10,12 @@ use Rattle.cfi_table.specs.declared.instruction.AlignmentFactors.{AlignmentFacto
 use Rattle.cfi_table.specs.declared.instruction.CallFrameInstruction.{CallFrameInstruction}
 use Rattle.cfi_table.specs.Instructions.{Reading}
 use Rattle.cfi_table.specs.Rules.{execute}
-use Rattle.eh_frame.specs.declared.address.Addresses.{Addresses}
+use Rattle.eh_frame.specs.declared.address.AddressEncoding.{AddressEncoding}
 use Rattle.eh_frame.specs.Runs.{eh_step_by, before_all, listed_by}
 use Rattle.eh_frame.specs.Laws.{ListsHaveRoom}
 use Rattle.eh_frame.proofs.Listed.{shortens, list_end}
 
-same_list : {S : Type 0} (x : CallFrameInstruction → S → Option S) (m n : ℕ) (a : Addresses) (f : AlignmentFactors) (input : Input FrameFault) (s : S) → length (left_of input.at) ≤ m → length (left_of input.at) ≤ n
+same_list : {S : Type 0} (x : CallFrameInstruction → S → Option S) (m n : ℕ) (a : AddressEncoding) (f : AlignmentFactors) (input : Input FrameFault) (s : S) → length (left_of input.at) ≤ m → length (left_of input.at) ≤ n
     → listed_by x m a f input s ≡ listed_by x n a f input s
 unfolding listed_by
 same_list x zero n a f input s p q = sym (list_end x n a f input s (omega arith))

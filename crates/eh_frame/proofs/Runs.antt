@@ -21,7 +21,7 @@ use Rattle.cfi_table.specs.Instructions.{Reading}
 use Rattle.cfi_table.specs.Rules.{FrameState, execute, with_rule, rule_at, with_cfa, with_cfa_register, with_source, step_by, run_by, is_past}
 use Rattle.cfi_table.proofs.Chains.{marked}
 use Rattle.cfi_table.proofs.Runs.{run_end}
-use Rattle.eh_frame.specs.declared.address.Addresses.{Addresses}
+use Rattle.eh_frame.specs.declared.address.AddressEncoding.{AddressEncoding}
 use Rattle.eh_frame.specs.Runs.{eh_step_by, before_all, listed_by, rules_after}
 use Rattle.eh_frame.specs.Translation.{register_byte, encoded}
 use Rattle.eh_frame.specs.Laws.{ones, HasWordOperands, kept_register, ReadsBack, RunsReadBack}
@@ -186,7 +186,7 @@ none_listed initial s r e =
     let P : List CallFrameInstruction × FrameState → Type 0 = λ p. rules_after None initial p.0 s ≡ Some p.1 in
     subst P (same_list ([], s) r e) refl
 
-pub listed_rules : (initial : List Rule) (room : ℕ) (a : Addresses) (f : AlignmentFactors) (input : Input FrameFault) (s : FrameState) (r : List CallFrameInstruction × FrameState) → listed_by (execute initial) room a f input s ≡ Ok r
+pub listed_rules : (initial : List Rule) (room : ℕ) (a : AddressEncoding) (f : AlignmentFactors) (input : Input FrameFault) (s : FrameState) (r : List CallFrameInstruction × FrameState) → listed_by (execute initial) room a f input s ≡ Ok r
     → rules_after None initial r.0 s ≡ Some r.1
 unfolding listed_by rules_after
 listed_rules initial zero a f input s r e = none_listed initial s r e

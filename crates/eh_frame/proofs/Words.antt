@@ -26,7 +26,7 @@ use Rattle.cfi_table.specs.Instructions.{Reading, scaled, low_32_bits, word_of_s
 use Rattle.cfi_table.specs.Instructions.{register_rule_from, extended_from, primary_opcode, primary_operand, instruction_after_opcode}
 use Rattle.cfi_table.specs.Rules.{FrameState, execute}
 use Rattle.cfi_table.proofs.Chains.{marked}
-use Rattle.eh_frame.specs.declared.address.Addresses.{Addresses}
+use Rattle.eh_frame.specs.declared.address.AddressEncoding.{AddressEncoding}
 use Rattle.eh_frame.specs.declared.address.Application.{Application}
 use Rattle.eh_frame.specs.declared.address.Application.TheVariants as applications
 use Rattle.eh_frame.specs.Addresses.{applied, address_from}
@@ -55,11 +55,11 @@ number_small input are = go (nat_lt (length (left_of input.at)) 4)
     go true = tt
     go false = little_from-lt 0 4 (left_of input.at) (left_bytes input are)
 
-applied_small : (a : Addresses) (application : Application) (offset value : ℕ) → value < 2 ^ 32 → applied a application offset value < 2 ^ 32
+applied_small : (a : AddressEncoding) (application : Application) (offset value : ℕ) → value < 2 ^ 32 → applied a application offset value < 2 ^ 32
 applied_small a applications.Absolute offset value small = small
 applied_small a applications.PcRelative offset value small = omega arith
 
-pub address_small : (a : Addresses) (input : Input FrameFault) → IsBytes input.at.whole → AllSmall (address_from a input)
+pub address_small : (a : AddressEncoding) (input : Input FrameFault) → IsBytes input.at.whole → AllSmall (address_from a input)
 unfolding address_from
 address_small a input are = go (number_from 4 input) (number_small input are)
   where
@@ -162,7 +162,7 @@ opcode_words f byte input are =
     (either (primary_opcode byte == DW_CFA_offset) _ _ (rule_words f DW_CFA_offset_extended (primary_operand byte) input)
     (either (primary_opcode byte == DW_CFA_restore) _ _ tt (extended_words f byte input are)))
 
-instruction_words : (a : Addresses) (f : AlignmentFactors) (input : Input FrameFault) → IsBytes input.at.whole → AllWords (eh_instruction_from a f input)
+instruction_words : (a : AddressEncoding) (f : AlignmentFactors) (input : Input FrameFault) → IsBytes input.at.whole → AllWords (eh_instruction_from a f input)
 unfolding eh_instruction_from
 instruction_words a f input are = from (nat_lt (length (left_of input.at)) 1) (number_in 1 (left_of input.at))
   where
@@ -191,7 +191,7 @@ same_instruction p q e = cc
 abbrev ListWords : Result (List CallFrameInstruction × FrameState) FrameFault → Type 0
 ListWords r = IfOk r (λ x. All HasWordOperands x.0)
 
-listed_words : (initial : List Rule) (room : ℕ) (a : Addresses) (f : AlignmentFactors) (input : Input FrameFault) (s : FrameState) → IsBytes input.at.whole → ListWords (listed_by (execute initial) room a f input s)
+listed_words : (initial : List Rule) (room : ℕ) (a : AddressEncoding) (f : AlignmentFactors) (input : Input FrameFault) (s : FrameState) → IsBytes input.at.whole → ListWords (listed_by (execute initial) room a f input s)
 unfolding listed_by
 listed_words initial zero a f input s are = all_none
 listed_words initial (suc room) a f input s are = go (length (left_of input.at) == 0) (eh_step_by (execute initial) a f input s) refl (λ next t bytes. listed_words initial room a f next t bytes)
@@ -218,5 +218,5 @@ listed_words initial (suc room) a f input s are = go (length (left_of input.at) 
     go true d is again = all_none
     go false d is again = stepped d is again
 
-pub words_of : (initial : List Rule) (room : ℕ) (a : Addresses) (f : AlignmentFactors) (input : Input FrameFault) (s : FrameState) (r : List CallFrameInstruction × FrameState) → IsBytes input.at.whole → listed_by (execute initial) room a f input s ≡ Ok r → All HasWordOperands r.0
+pub words_of : (initial : List Rule) (room : ℕ) (a : AddressEncoding) (f : AlignmentFactors) (input : Input FrameFault) (s : FrameState) (r : List CallFrameInstruction × FrameState) → IsBytes input.at.whole → listed_by (execute initial) room a f input s ≡ Ok r → All HasWordOperands r.0
 words_of initial room a f input s r are is = let P : Result (List CallFrameInstruction × FrameState) FrameFault → Type 0 = λ x. ListWords x in subst P is (listed_words initial room a f input s are)

@@ -9,7 +9,7 @@ use Rattle.eh_frame.specs.declared.constants.TheConstants.{DW_EH_PE_absptr, DW_E
 use Rattle.eh_frame.specs.declared.constants.TheConstants.{DW_EH_PE_udata4, DW_EH_PE_udata8, DW_EH_PE_sleb128}
 use Rattle.eh_frame.specs.declared.constants.TheConstants.{DW_EH_PE_sdata2, DW_EH_PE_sdata4, DW_EH_PE_sdata8}
 use Rattle.eh_frame.specs.declared.constants.TheConstants.{DW_EH_PE_pcrel}
-use Rattle.eh_frame.specs.declared.address.Addresses.{Addresses}
+use Rattle.eh_frame.specs.declared.address.AddressEncoding.{AddressEncoding}
 use Rattle.eh_frame.specs.declared.address.Application.{Application}
 use Rattle.eh_frame.specs.declared.address.Application.TheVariants as applications
 
@@ -35,11 +35,12 @@ application_of encoding =
     else None
 
 -- an address of that value, which stands at an offset in the section
-abbrev pub applied : Addresses → Application → ℕ → ℕ → ℕ
+abbrev pub applied : AddressEncoding → Application → ℕ → ℕ → ℕ
 applied addresses applications.Absolute offset value = value
-applied addresses applications.PcRelative offset value = ((addresses.section + offset) % 2 ^ 32 + value) % 2 ^ 32
+applied addresses applications.PcRelative offset value =
+    ((addresses.section_address + offset) % 2 ^ 32 + value) % 2 ^ 32
 
-unfoldable pub address_from : Addresses → Input FrameFault → Reading ℕ
+unfoldable pub address_from : AddressEncoding → Input FrameFault → Reading ℕ
 address_from addresses input = do
   (value, next) ← number_from 4 input
   Ok (applied addresses addresses.application input.at.offset value, next)

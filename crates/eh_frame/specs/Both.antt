@@ -19,7 +19,7 @@ use Rattle.eh_frame.specs.declared.cie.EhCie.{EhCie}
 use Rattle.eh_frame.specs.declared.both.SectionFault.{SectionFault}
 use Rattle.eh_frame.specs.declared.both.SectionFault.TheVariants as sections
 use Rattle.eh_frame.specs.Runs.{rules_after}
-use Rattle.eh_frame.specs.Entries.{EhFde, EhEntry, Content, PassedOver, Common, Description, eh_entries}
+use Rattle.eh_frame.specs.Entries.{EhFde, EhEntry, EhContent, PassedOver, Common, Description, eh_entries}
 use Rattle.eh_frame.specs.Translation.{translation}
 
 abbrev pub in_debug_frame : Result Frames FrameFault → Result Frames SectionFault
@@ -73,7 +73,7 @@ abbrev pub eh_described : EhFde → FrameDescription
 eh_described fde = record { range = eh_range_of fde; rules = λ address. eh_rules_of address fde }
 
 -- an entry as an FDE whose range counts
-abbrev pub eh_content_counted : List Segment → Content → Option EhFde
+abbrev pub eh_content_counted : List Segment → EhContent → Option EhFde
 eh_content_counted segments PassedOver = None
 eh_content_counted segments (Common cie instructions) = None
 eh_content_counted segments (Description fde) =

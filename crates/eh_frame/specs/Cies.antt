@@ -1,4 +1,5 @@
--- Common information entries of .eh_frame (LSB, core specification, "The Common Information Entry Format").
+-- Common information entries of .eh_frame (LSB, core specification, "The Common Information Entry Format"; the letter S
+-- is an extension of GNU's).
 use Rattle.std.specs.Prelude.{ℕ, ℤ, ◌-◌, ◌==◌, ◌||◌, ◌&&◌, Bool, true, false, nat_lt, List, [], ◌∷◌, length}
 use Rattle.std.specs.Prelude.{Option, Some, None, option_map, Result, Ok, Err, if◌then◌else◌}
 use Rattle.std.specs.List.{list_any, list_all}
@@ -29,7 +30,7 @@ abbrev pub is_read_augmentation : List ℕ → Bool
 is_read_augmentation [] = true
 is_read_augmentation (first ∷ letters) = first == LETTER_DATA && list_all is_letter letters
 
--- the application unless there is none of that encoding
+-- the application, where the pointer's format is supported
 abbrev pub kept : Application → Bool → Option Application
 kept application true = Some application
 kept application false = None
@@ -57,11 +58,11 @@ unless_passed None next = Ok None
 unless_passed (Some x) next = next x
 
 -- the application of addresses after all letters
-unfoldable pub starts_from : List ℕ → Application → Input FrameFault → Result (Option Application) FrameFault
-starts_from [] application input = Ok (Some application)
-starts_from (letter ∷ others) application input = do
+unfoldable pub application_from : List ℕ → Application → Input FrameFault → Result (Option Application) FrameFault
+application_from [] application input = Ok (Some application)
+application_from (letter ∷ others) application input = do
   (found, input) ← letter_from letter others application input
-  unless_passed found (λ next. starts_from others next input)
+  unless_passed found (λ next. application_from others next input)
 
 -- ---- a CIE's fields. Nothing where it is passed over: the fields after the one that shows it are not read
 
@@ -85,7 +86,7 @@ unfoldable pub cie_from_letters : ℕ → AlignmentFactors → ℕ → List ℕ 
 cie_from_letters end factors register letters input = do
   (size, within) ← uleb_from input
   (bytes, behind) ← bytes_from size within
-  application ← starts_from letters applications.Absolute (until behind within)
+  application ← application_from letters applications.Absolute (until behind within)
   Ok (option_map (eh_cie_with end factors register true behind) application)
 
 abbrev pub cie_from_data : ℕ → AlignmentFactors → ℕ → List ℕ → Input FrameFault → Result (Option EhCie) FrameFault

@@ -34,15 +34,15 @@ pub record EhFde : Type 0 where
   pub address_range : ℕ
   pub instructions : List CallFrameInstruction
 
-pub data Content : Type 0 where
-  PassedOver : Content
-  Common : EhCie → List CallFrameInstruction → Content
-  Description : EhFde → Content
+pub data EhContent : Type 0 where
+  PassedOver : EhContent
+  Common : EhCie → List CallFrameInstruction → EhContent
+  Description : EhFde → EhContent
 
 -- an entry, and where it lies
 pub record EhEntry : Type 0 where
   pub extent : Extent
-  pub content : Content
+  pub content : EhContent
 
 abbrev pub is_eh_id : Reading ℕ → Bool
 is_eh_id (Err fault) = false
@@ -67,7 +67,7 @@ unfoldable pub cie_back : List ℕ → List Extent → Extent → ℕ → Option
 cie_back section extents e distance =
     find (λ c. c.offset + distance == e.offset + 4 && is_cie_before section e c) extents
 
-abbrev pub content_of_cie : List ℕ → ℕ → Option EhCie → Result Content FrameFault
+abbrev pub content_of_cie : List ℕ → ℕ → Option EhCie → Result EhContent FrameFault
 content_of_cie section address None = Ok PassedOver
 content_of_cie section address (Some cie) = do
   instructions ← cie_instructions section address cie
@@ -100,7 +100,7 @@ eh_fde_with cie offset initial fields instructions = record {
 }
 
 -- an FDE of a CIE, with which it is passed over
-abbrev pub content_of_fde : List ℕ → ℕ → ℕ → Input FrameFault → Option EhCie → Result Content FrameFault
+abbrev pub content_of_fde : List ℕ → ℕ → ℕ → Input FrameFault → Option EhCie → Result EhContent FrameFault
 content_of_fde section address offset input None = Ok PassedOver
 content_of_fde section address offset input (Some cie) = do
   (fields, input) ← eh_fields_from address cie input
@@ -109,14 +109,14 @@ content_of_fde section address offset input (Some cie) = do
   Ok (Description (eh_fde_with cie offset initial.0 fields own.0))
 
 -- the distance leads to a CIE before the FDE
-abbrev pub content_by : List ℕ → ℕ → Extent → Input FrameFault → Option Extent → Result Content FrameFault
+abbrev pub content_by : List ℕ → ℕ → Extent → Input FrameFault → Option Extent → Result EhContent FrameFault
 content_by section address e input None = Err (record { offset = e.offset })
 content_by section address e input (Some c) = do
   cie ← eh_cie_of section c
   content_of_fde section address c.offset input cie
 
 -- an entry is read, where these are the section's entries
-unfoldable pub entry_content : List ℕ → ℕ → List Extent → Extent → Result Content FrameFault
+unfoldable pub entry_content : List ℕ → ℕ → List Extent → Extent → Result EhContent FrameFault
 entry_content section address extents e = do
   (id, input) ← number_from 4 (body_of section e)
   if id == EH_CIE_ID then (do
@@ -124,7 +124,7 @@ entry_content section address extents e = do
     content_of_cie section address cie)
       else content_by section address e input (cie_back section extents e id)
 
-abbrev pub entry_with : Extent → Content → EhEntry
+abbrev pub entry_with : Extent → EhContent → EhEntry
 entry_with e content = record { extent = e; content = content }
 
 abbrev pub entry_of : List ℕ → ℕ → List Extent → Extent → Result EhEntry FrameFault

@@ -14,7 +14,7 @@ use Rattle.cfi_table.specs.declared.rules.Rule.{Rule}
 use Rattle.cfi_table.specs.Instructions.{instruction_from}
 use Rattle.cfi_table.specs.Rules.{FrameState, execute, run_all}
 use Rattle.cfi_table.specs.Frames.{rules_at}
-use Rattle.eh_frame.specs.declared.address.Addresses.{Addresses}
+use Rattle.eh_frame.specs.declared.address.AddressEncoding.{AddressEncoding}
 use Rattle.eh_frame.specs.Runs.{listed_by, listed_instructions, rules_after}
 use Rattle.eh_frame.specs.Translation.{register_byte, encoded}
 use Rattle.eh_frame.specs.Both.{frames_with_eh, descriptions_of_both, frame_ranges, described_ranges, rules_by}
@@ -79,7 +79,7 @@ InstructionsReadBack = (i : CallFrameInstruction) (input : Input FrameFault) (re
 -- as much room as there are bytes is enough for the list of an entry's instructions: with any larger room it is the
 -- same
 abbrev pub ListsHaveRoom : Type 0
-ListsHaveRoom = (room : ℕ) (initial : List Rule) (addresses : Addresses) (factors : AlignmentFactors)
+ListsHaveRoom = (room : ℕ) (initial : List Rule) (addresses : AddressEncoding) (factors : AlignmentFactors)
     (input : Input FrameFault) (s : FrameState)
     → length (left_of input.at) ≤ room → listed_by (execute initial) room addresses factors input s
     ≡ listed_instructions initial addresses factors input s

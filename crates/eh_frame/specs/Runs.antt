@@ -14,12 +14,13 @@ use Rattle.cfi_table.specs.declared.rules.Rule.{Rule}
 use Rattle.cfi_table.specs.Instructions.{Reading, instruction_after_opcode}
 use Rattle.cfi_table.specs.Rules.{FrameState, execute, is_past, fault_here, no_rules, all_same_value}
 use Rattle.cfi_table.specs.Entries.{instructions_of}
-use Rattle.eh_frame.specs.declared.address.Addresses.{Addresses}
+use Rattle.eh_frame.specs.declared.address.AddressEncoding.{AddressEncoding}
 use Rattle.eh_frame.specs.declared.cie.EhCie.{EhCie}
 use Rattle.eh_frame.specs.Addresses.{address_from}
 
 -- an instruction, and the input after it
-unfoldable pub eh_instruction_from : Addresses → AlignmentFactors → Input FrameFault → Reading CallFrameInstruction
+unfoldable pub eh_instruction_from : AddressEncoding → AlignmentFactors → Input FrameFault
+    → Reading CallFrameInstruction
 eh_instruction_from addresses factors input = do
   (byte, input) ← number_from 1 input
   if byte == DW_CFA_set_loc then (do
@@ -28,7 +29,7 @@ eh_instruction_from addresses factors input = do
       else instruction_after_opcode factors byte input
 
 -- an instruction, and the state after it is carried out; its fault is its offset
-unfoldable pub eh_step_by : {S : Type 0} → (CallFrameInstruction → S → Option S) → Addresses → AlignmentFactors
+unfoldable pub eh_step_by : {S : Type 0} → (CallFrameInstruction → S → Option S) → AddressEncoding → AlignmentFactors
     → Input FrameFault → S → Reading (CallFrameInstruction × S)
 eh_step_by execution addresses factors input s = do
   (instruction, next) ← eh_instruction_from addresses factors (record input { missing = fault_here input })
@@ -47,7 +48,7 @@ before_all instruction (Err fault) = Err fault
 
 -- the instructions in their order, and the state after they are carried out, or the fault of the first that has one.
 -- At most `room` are read: as many as there are bytes are enough
-unfoldable pub listed_by : {S : Type 0} → (CallFrameInstruction → S → Option S) → ℕ → Addresses → AlignmentFactors
+unfoldable pub listed_by : {S : Type 0} → (CallFrameInstruction → S → Option S) → ℕ → AddressEncoding → AlignmentFactors
     → Input FrameFault → S → Result (List CallFrameInstruction × S) FrameFault
 listed_by execution zero addresses factors input s = Ok ([], s)
 listed_by execution (suc room) addresses factors input s =
@@ -56,14 +57,14 @@ listed_by execution (suc room) addresses factors input s =
     >>= λ done. before_all done.0.0 (listed_by execution room addresses factors done.1 done.0.1)
 
 -- `initial` are the rules after the CIE's instructions, to which restore goes back
-abbrev pub listed_instructions : List Rule → Addresses → AlignmentFactors → Input FrameFault → FrameState
+abbrev pub listed_instructions : List Rule → AddressEncoding → AlignmentFactors → Input FrameFault → FrameState
     → Result (List CallFrameInstruction × FrameState) FrameFault
 listed_instructions initial addresses factors input s =
     listed_by (execute initial) (length (left_of input.at)) addresses factors input s
 
 -- how addresses are read in entries of a CIE
-abbrev pub addresses_of : ℕ → EhCie → Addresses
-addresses_of address cie = record { section = address; application = cie.application }
+abbrev pub addresses_of : ℕ → EhCie → AddressEncoding
+addresses_of address cie = record { section_address = address; application = cie.application }
 
 -- a CIE's instructions, and the rules after them
 unfoldable pub cie_instructions : List ℕ → ℕ → EhCie → Result (List CallFrameInstruction × FrameState) FrameFault

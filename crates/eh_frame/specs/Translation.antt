@@ -19,7 +19,7 @@ use Rattle.cfi_table.specs.declared.instruction.CallFrameInstruction.TheVariants
 use Rattle.cfi_table.specs.Frames.{size_of}
 use Rattle.eh_frame.specs.declared.fault.EhFault.{EhFault}
 use Rattle.eh_frame.specs.declared.constants.TheConstants.{CIE_VERSION, EMPTY_AUGMENTATION, FACTOR_OF_ONE}
-use Rattle.eh_frame.specs.Entries.{EhEntry, Content, PassedOver, Common, Description, eh_entries}
+use Rattle.eh_frame.specs.Entries.{EhEntry, EhContent, PassedOver, Common, Description, eh_entries}
 
 -- ---- instructions
 
@@ -75,7 +75,7 @@ abbrev pub translated_offset : ℕ → ℕ → ℕ
 translated_offset base offset = base + 8 * offset
 
 -- what stands after an entry's length; nothing where it is passed over
-abbrev pub entry_body : ℕ → Content → List ℕ
+abbrev pub entry_body : ℕ → EhContent → List ℕ
 entry_body base PassedOver = []
 entry_body base (Common cie own) = cie_head cie.return_address_register ++ flat_map encoded own
 entry_body base (Description fde) =

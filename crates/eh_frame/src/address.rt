@@ -20,10 +20,10 @@ pub(crate) enum Application {
     PcRelative,
 }
 
-/// How addresses are read: the address of the section's first byte, and what they count from.
+/// How addresses are encoded: the address of the section's first byte, and what they count from.
 #[derive(Clone, Copy)]
-pub(crate) struct Addresses {
-    pub(crate) section: u32,
+pub(crate) struct AddressEncoding {
+    pub(crate) section_address: u32,
     pub(crate) application: Application,
 }
 
@@ -64,7 +64,7 @@ pub(crate) fn application_of(encoding: u8) -> Option<Application>
 /// An address.
 #[tactic(auto, unfolding(crate::specs::Addresses::address_from))]
 pub(crate) fn address(
-    addresses: &Addresses,
+    addresses: &AddressEncoding,
     reader: &mut Reader<'_, FrameFault>,
 ) -> Result<u32, FrameFault>
     requires { length reader.old.at.whole < 2 ^ 32 }
@@ -75,7 +75,10 @@ pub(crate) fn address(
     let value = reader.u32()?;
     match addresses.application {
         Application::Absolute => Ok(value),
-        Application::PcRelative => Ok(addresses.section.wrapping_add(offset).wrapping_add(value)),
+        Application::PcRelative => {
+            let start = addresses.section_address.wrapping_add(offset);
+            Ok(start.wrapping_add(value))
+        }
     }
 }
 

@@ -2,7 +2,7 @@
 ghost use Rattle.std.specs.Prelude.{◌≡◌, ◌==◌};
 ghost use Rattle.std.specs.List.{list_any, list_all};
 ghost use Rattle.prof_bytes.specs.Outcome.{GivesAt};
-ghost use Rattle.eh_frame.specs.Cies.{is_letter, is_read_augmentation, letter_from, starts_from};
+ghost use Rattle.eh_frame.specs.Cies.{is_letter, is_read_augmentation, letter_from, application_from};
 ghost use Rattle.eh_frame.specs.declared.address.Application.TheVariants as applications;
 ghost use Rattle.eh_frame.specs.declared.constants.TheConstants.{LETTER_ADDRESSES};
 
@@ -75,12 +75,12 @@ fn letter(
 }
 
 /// The application of addresses after the letters; `None` where the CIE is passed over.
-#[tactic(auto, unfolding(crate::specs::Cies::starts_from))]
+#[tactic(auto, unfolding(crate::specs::Cies::application_from))]
 pub(crate) fn application(
     letters: &[u8],
     reader: &mut Reader<'_, FrameFault>,
 ) -> Result<Option<Application>, FrameFault>
-    ensures { result ≡ starts_from letters.now applications.Absolute reader.old }
+    ensures { result ≡ application_from letters.now applications.Absolute reader.old }
 {
     let mut application = Application::Absolute;
     let mut left = letters;

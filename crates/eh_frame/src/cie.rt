@@ -133,7 +133,7 @@ fn from_augmentation(
     }
 }
 
-/// The CIE's fields after its id, up to `end`. `None` if the CIE is skipped.
+/// The CIE's fields after its id, up to `end`. `None` if the CIE is passed over.
 #[tactic(auto, unfolding(crate::specs::Cies::eh_cie_from))]
 pub(crate) fn cie_from(
     end: u32,

@@ -1,5 +1,5 @@
 //! A section's fault.
-ghost use Rattle.std.specs.Prelude.{◌≡◌, ℕ, ◌≤◌, List, Result, IfOk, length};
+ghost use Rattle.std.specs.Prelude.{ℕ, ◌≤◌, List, Result, IfOk, length};
 ghost use Rattle.prof_bytes.specs.Outcome.{Gives};
 ghost use Rattle.cfi_table.specs.declared.fault.FrameFault.{FrameFault};
 ghost use Rattle.eh_frame.specs.Translation.{as_eh_fault};

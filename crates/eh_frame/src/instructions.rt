@@ -1,5 +1,5 @@
 //! Call frame instructions of `.eh_frame`, checked and written as those of `.debug_frame`.
-ghost use Rattle.std.specs.Prelude.{◌≡◌, ◌+◌, ◌*◌, ◌<◌, ◌≤◌, ◌^◌, ◌++◌, ◌∷◌, [], List, IfOk, length};
+ghost use Rattle.std.specs.Prelude.{◌≡◌, ◌+◌, ◌*◌, ◌<◌, ◌≤◌, ◌^◌, ◌++◌, ◌∷◌, [], IfOk, length};
 ghost use Rattle.prof_bytes.specs.Outcome.{Gives, GivesAt, GivesFrom, viewed};
 ghost use Rattle.prof_bytes.specs.Reading.{left_of};
 ghost use Rattle.prof_bytes.specs.Number.{number_bytes};
@@ -8,7 +8,7 @@ ghost use Rattle.eh_frame.specs.Runs.{eh_instruction_from, eh_step_by};
 ghost use Rattle.eh_frame.specs.Translation.{register_byte, offset_bytes, encoded};
 ghost use Rattle.eh_frame.specs.private.Checked.{listed_forms, put_behind};
 
-use crate::address::{Addresses, address};
+use crate::address::{AddressEncoding, address};
 use cfi_table::{
     AlignmentFactors, CallFrameInstruction, Checker, DW_CFA_advance_loc4, DW_CFA_def_cfa,
     DW_CFA_def_cfa_expression, DW_CFA_def_cfa_offset, DW_CFA_def_cfa_register, DW_CFA_expression,
@@ -22,7 +22,7 @@ use prof_bytes::{Fail, Memory, Reader, put_u32};
 /// The instruction that is next.
 #[tactic(auto, unfolding(crate::specs::Runs::eh_instruction_from))]
 fn next_instruction(
-    addresses: &Addresses,
+    addresses: &AddressEncoding,
     factors: &AlignmentFactors,
     reader: &mut Reader<'_, FrameFault>,
 ) -> Result<CallFrameInstruction, FrameFault>
@@ -135,7 +135,7 @@ fn put_instruction(out: &mut Vec<u8>, instruction: CallFrameInstruction) -> Resu
 #[tactic(auto, unfolding(crate::specs::Runs::eh_step_by))]
 fn step(
     checker: &mut Checker<'_>,
-    addresses: &Addresses,
+    addresses: &AddressEncoding,
     factors: &AlignmentFactors,
     reader: &mut Reader<'_, FrameFault>,
 ) -> Result<CallFrameInstruction, Fail<FrameFault>>
@@ -159,7 +159,7 @@ fn step(
 /// the fault.
 pub(crate) fn translate_instructions(
     checker: &mut Checker<'_>,
-    addresses: &Addresses,
+    addresses: &AddressEncoding,
     factors: &AlignmentFactors,
     reader: &mut Reader<'_, FrameFault>,
     out: &mut Vec<u8>,

@@ -1,4 +1,4 @@
-//! The CIEs that were read, each with the forms after its instructions, found by halving.
+//! The CIEs that were read, each with the forms after its instructions, found by binary search.
 ghost use Rattle.std.specs.Prelude.{◌≡◌, ◌==◌, ◌+◌, find, map};
 ghost use Rattle.std.specs.Option.{option_copied};
 ghost use Rattle.cfi_table.specs.private.Placed.{AreRising};
@@ -15,7 +15,7 @@ pub(crate) struct KnownEhCie {
     pub(crate) initial_forms: InitialCfaForms,
 }
 
-/// The CIE with that offset, in time as the logarithm of their number.
+/// The CIE with that offset, in time logarithmic in their number.
 fn cie_at(cies: &[KnownEhCie], offset: u32) -> Option<&KnownEhCie>
     requires { AreRising 0 (map (λ cie. cie.offset) cies.now) }
     ensures { option_copied result ≡ find (λ cie. cie.offset == offset) cies.now }

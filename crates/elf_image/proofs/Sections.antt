@@ -3,7 +3,7 @@ use Rattle.std.proofs.Common.{ℕ, ◌≤◌, List, [], ◌∷◌, length, take,
 use Rattle.std.specs.Option.{option_map_or}
 use Rattle.std.proofs.lemmas.List.{length-take, length-drop}
 use Rattle.elf_image.specs.Fields.{same_bytes}
-use Rattle.elf_image.specs.Image.{Named, bytes_of_name}
+use Rattle.elf_image.specs.Image.{NamedSection, bytes_of_name}
 use Rattle.elf_image.specs.declared.header.SectionHeader.{SectionHeader}
 use Rattle.elf_image.specs.Headers.{has_bytes, is_section, section_bytes, section_of, section_headers, sections}
 
@@ -16,7 +16,7 @@ bytes_small file h =
 small_in : (file : List ℕ) (hs : List SectionHeader) (name : List ℕ) → length (bytes_of_name (map (section_of file) hs) name) ≤ length file
 small_in file [] name = omega arith
 small_in file (h ∷ hs) name =
-    elim (same_bytes (section_of file h).name name) as (λ b. length (option_map_or (λ (s : Named). s.bytes) (cond b (Some (section_of file h)) (find (λ s. same_bytes s.name name) (map (section_of file) hs))) []) ≤ length file) [
+    elim (same_bytes (section_of file h).name name) as (λ b. length (option_map_or (λ (s : NamedSection). s.bytes) (cond b (Some (section_of file h)) (find (λ s. same_bytes s.name name) (map (section_of file) hs))) []) ≤ length file) [
       | true ↦ bytes_small file h
       | false ↦ small_in file hs name
     ]

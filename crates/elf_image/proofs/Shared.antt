@@ -9,7 +9,7 @@ use Rattle.std.proofs.lemmas.List.Folds.{list_any_at, list_any_none}
 use Rattle.std.proofs.lemmas.Iterator.Adapters.{position_from-zero}
 use Rattle.elf_image.specs.declared.header.ProgramHeader.{ProgramHeader}
 use Rattle.address_ranges.specs.Ranges.{holds, IsFirst, IsNotFirst}
-use Rattle.elf_image.specs.Image.{range_of}
+use Rattle.elf_image.specs.Image.{segment_range}
 use Rattle.elf_image.specs.Headers.{segment_of}
 use Rattle.elf_image.specs.Refusals.{share, shares_earlier}
 use Rattle.std.proofs.lemmas.Bool.{false_from_ne_true}
@@ -45,13 +45,13 @@ first_within {X} p j i d (x ∷ xs) within passes = go (p x) refl i within passe
 
 -- an address in a header's segment
 abbrev held_by : ℕ → ProgramHeader → Bool
-held_by address h = holds address (range_of (segment_of h))
+held_by address h = holds address (segment_range (segment_of h))
 
-positions : (address : ℕ) (hs : List ProgramHeader) → position (holds address) (map range_of (map segment_of hs)) ≡ position_from (held_by address) 0 hs
+positions : (address : ℕ) (hs : List ProgramHeader) → position (holds address) (map segment_range (map segment_of hs)) ≡ position_from (held_by address) 0 hs
 positions address hs =
-    position_from-zero (holds address) (map range_of (map segment_of hs))
-    ∙ position_map (holds address) range_of 0 (map segment_of hs)
-    ∙ position_map (λ s. holds address (range_of s)) segment_of 0 hs
+    position_from-zero (holds address) (map segment_range (map segment_of hs))
+    ∙ position_map (holds address) segment_range 0 (map segment_of hs)
+    ∙ position_map (λ s. holds address (segment_range s)) segment_of 0 hs
 
 in_both : (g h : ProgramHeader) → (nat_lt g.offset h.offset && share g h) ≡ true → 0 < g.p_memsz → 0 < h.p_memsz
     → (g.offset < h.offset) × (h.p_vaddr ≤ max g.p_vaddr h.p_vaddr) × (max g.p_vaddr h.p_vaddr < h.p_vaddr + h.p_memsz) × (held_by (max g.p_vaddr h.p_vaddr) g ≡ true)
@@ -73,7 +73,7 @@ held_within : (address : ℕ) (h : ProgramHeader) → h.p_vaddr ≤ address → 
 held_within address h low high = grind (arith, nat_tests)
 
 pub alone : (r : Bool) (hs : List ProgramHeader) (i : ℕ) (d : ProgramHeader) → All (λ h. 0 < h.p_memsz) hs → AllPairs (λ g h. g.offset < h.offset) hs → i < length hs
-    → MatchBool r (IsFirst (map range_of (map segment_of hs)) (get_or hs i d).p_vaddr ((get_or hs i d).p_vaddr + (get_or hs i d).p_memsz) i) (IsNotFirst (map range_of (map segment_of hs)) (get_or hs i d).p_vaddr ((get_or hs i d).p_vaddr + (get_or hs i d).p_memsz) i)
+    → MatchBool r (IsFirst (map segment_range (map segment_of hs)) (get_or hs i d).p_vaddr ((get_or hs i d).p_vaddr + (get_or hs i d).p_memsz) i) (IsNotFirst (map segment_range (map segment_of hs)) (get_or hs i d).p_vaddr ((get_or hs i d).p_vaddr + (get_or hs i d).p_memsz) i)
     → shares_earlier hs (get_or hs i d) ≡ not r
 alone true hs i d some up li first =
     list_any_none (λ g. nat_lt g.offset (get_or hs i d).offset && share g (get_or hs i d)) hs (λ k e lk. false_from_ne_true _ (λ t.

@@ -6,36 +6,40 @@ use Rattle.elf_image.specs.declared.part.Segment.{Segment}
 use Rattle.elf_image.specs.declared.elf.TheConstants.{E_PHOFF, E_PHNUM, E_SHOFF, E_SHNUM, E_SHSTRNDX}
 use Rattle.elf_image.specs.declared.elf.TheConstants.{ELF32_PHDR_SIZE, ELF32_SHDR_SIZE, ELF32_SYM_SIZE, PT_LOAD}
 use Rattle.elf_image.specs.declared.elf.TheConstants.{SHN_UNDEF, SHT_NOBITS, SHT_NULL, SHT_SYMTAB, STT_FUNC}
+use Rattle.elf_image.specs.declared.elf.TheConstants.{P_TYPE, P_OFFSET, P_VADDR, P_FILESZ, P_MEMSZ, P_FLAGS}
+use Rattle.elf_image.specs.declared.elf.TheConstants.{SH_NAME, SH_TYPE, SH_FLAGS, SH_ADDR, SH_OFFSET, SH_SIZE}
+use Rattle.elf_image.specs.declared.elf.TheConstants.{SH_LINK, SH_ENTSIZE}
+use Rattle.elf_image.specs.declared.elf.TheConstants.{ST_NAME, ST_VALUE, ST_SIZE, ST_INFO, ST_SHNDX}
 use Rattle.elf_image.specs.declared.header.ProgramHeader.{ProgramHeader}
 use Rattle.elf_image.specs.declared.header.SectionHeader.{SectionHeader}
 use Rattle.elf_image.specs.declared.header.Symbol.{Symbol}
 use Rattle.elf_image.specs.Fields.{file_byte, half_at, word_at, table_entries, string_in}
-use Rattle.elf_image.specs.Image.{Named, FunctionSymbol, counts}
+use Rattle.elf_image.specs.Image.{NamedSection, FunctionSymbol, counts}
 
 -- a program header of 32 bytes
 abbrev pub program_header_at : List ℕ → ℕ → ProgramHeader
 program_header_at file offset = record {
   offset = offset;
-  p_type = word_at file offset;
-  p_offset = word_at file (offset + 4);
-  p_vaddr = word_at file (offset + 8);
-  p_filesz = word_at file (offset + 16);
-  p_memsz = word_at file (offset + 20);
-  p_flags = word_at file (offset + 24);
+  p_type = word_at file (offset + P_TYPE);
+  p_offset = word_at file (offset + P_OFFSET);
+  p_vaddr = word_at file (offset + P_VADDR);
+  p_filesz = word_at file (offset + P_FILESZ);
+  p_memsz = word_at file (offset + P_MEMSZ);
+  p_flags = word_at file (offset + P_FLAGS);
 }
 
 -- a section header of 40 bytes
 abbrev pub section_header_at : List ℕ → ℕ → SectionHeader
 section_header_at file offset = record {
   offset = offset;
-  sh_name = word_at file offset;
-  sh_type = word_at file (offset + 4);
-  sh_flags = word_at file (offset + 8);
-  sh_addr = word_at file (offset + 12);
-  sh_offset = word_at file (offset + 16);
-  sh_size = word_at file (offset + 20);
-  sh_link = word_at file (offset + 24);
-  sh_entsize = word_at file (offset + 36);
+  sh_name = word_at file (offset + SH_NAME);
+  sh_type = word_at file (offset + SH_TYPE);
+  sh_flags = word_at file (offset + SH_FLAGS);
+  sh_addr = word_at file (offset + SH_ADDR);
+  sh_offset = word_at file (offset + SH_OFFSET);
+  sh_size = word_at file (offset + SH_SIZE);
+  sh_link = word_at file (offset + SH_LINK);
+  sh_entsize = word_at file (offset + SH_ENTSIZE);
 }
 
 -- a symbol's type is the low four bits of st_info
@@ -46,11 +50,11 @@ elf32_st_type st_info = st_info % 16
 abbrev pub symbol_entry : List ℕ → ℕ → Symbol
 symbol_entry file offset = record {
   offset = offset;
-  st_name = word_at file offset;
-  st_value = word_at file (offset + 4);
-  st_size = word_at file (offset + 8);
-  st_type = elf32_st_type (file_byte file (offset + 12));
-  st_shndx = half_at file (offset + 14);
+  st_name = word_at file (offset + ST_NAME);
+  st_value = word_at file (offset + ST_VALUE);
+  st_size = word_at file (offset + ST_SIZE);
+  st_type = elf32_st_type (file_byte file (offset + ST_INFO));
+  st_shndx = half_at file (offset + ST_SHNDX);
 }
 
 -- fields of the file's header
@@ -119,11 +123,11 @@ unfoldable pub section_name_of : List ℕ → SectionHeader → Option (List ℕ
 section_name_of file h =
     if e_shstrndx file == SHN_UNDEF then Some [] else string_in (bytes_of_index file (e_shstrndx file)) h.sh_name
 
-abbrev pub section_of : List ℕ → SectionHeader → Named
+abbrev pub section_of : List ℕ → SectionHeader → NamedSection
 section_of file h =
     record { name = unwrap_or (section_name_of file h) []; address = h.sh_addr; bytes = section_bytes file h }
 
-unfoldable pub sections : List ℕ → List Named
+unfoldable pub sections : List ℕ → List NamedSection
 sections file = map (section_of file) (filter is_section (section_headers file))
 
 -- ---- symbols

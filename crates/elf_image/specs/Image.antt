@@ -12,7 +12,7 @@ use Rattle.elf_image.specs.declared.part.Function.{Function}
 use Rattle.elf_image.specs.declared.part.Section.{Section}
 
 -- a section's name, its address in memory, and its bytes
-pub record Named : Type 0 where
+pub record NamedSection : Type 0 where
   pub name : List ℕ
   pub address : ℕ
   pub bytes : List ℕ
@@ -29,19 +29,19 @@ pub record ProgramImage : Type 0 where
   pub file : List ℕ
   pub entry : ℕ
   pub segments : List Segment
-  pub sections : List Named
+  pub sections : List NamedSection
   pub functions : List FunctionSymbol
 
 -- what contracts see of the code's values
-abbrev pub named : Section → Named
+abbrev pub named : Section → NamedSection
 named s = record { name = s.name.now; address = s.address; bytes = s.bytes.now }
 
 abbrev pub symbol_view : Function → FunctionSymbol
 symbol_view f = record { start = f.start; size = f.size; name = f.name.now }
 
 -- a segment's addresses
-abbrev pub range_of : Segment → AddressRange
-range_of s = record { start = s.start; end = s.end }
+abbrev pub segment_range : Segment → AddressRange
+segment_range s = record { start = s.start; end = s.end }
 
 abbrev pub function_range : FunctionSymbol → AddressRange
 function_range f = record { start = f.start; end = f.start + f.size }
@@ -51,7 +51,7 @@ abbrev pub stacks_begin : ℕ
 stacks_begin = 0xF0000000
 
 abbrev pub in_segment : ℕ → Segment → Bool
-in_segment address s = holds address (range_of s)
+in_segment address s = holds address (segment_range s)
 
 abbrev pub in_function : ℕ → FunctionSymbol → Bool
 in_function address f = holds address (function_range f)
@@ -75,11 +75,11 @@ counts segments low high =
     nat_lt low high && list_any (λ s. is_executable s && nat_le s.start low && nat_le high s.end) segments
 
 -- the bytes of the first section of that name
-abbrev pub bytes_of_name : List Named → List ℕ → List ℕ
+abbrev pub bytes_of_name : List NamedSection → List ℕ → List ℕ
 bytes_of_name sections name = option_map_or (λ s. s.bytes) (find (λ s. same_bytes s.name name) sections) []
 
 -- the address of the first section of that name, or 0
-abbrev pub address_of_name : List Named → List ℕ → ℕ
+abbrev pub address_of_name : List NamedSection → List ℕ → ℕ
 address_of_name sections name = option_map_or (λ s. s.address) (find (λ s. same_bytes s.name name) sections) 0
 
 -- a segment is not empty and lies below the stacks, and the bytes that it takes from the file are there

@@ -4,7 +4,7 @@ ghost use Rattle.std.specs.Prelude.{◌≡◌, ◌<◌, ◌∷◌, []};
 ghost use Rattle.elf_image.specs.Headers.{elf32_st_type};
 ghost use Rattle.elf_image.specs.Image.{has_flag};
 
-/// Offsets of the bytes of `e_ident`, with which the file begins.
+// Offsets of the bytes of `e_ident`, with which the file begins.
 pub const EI_MAG0: u32 = 0;
 
 pub const EI_MAG1: u32 = 1;
@@ -19,7 +19,7 @@ pub const EI_DATA: u32 = 5;
 
 pub const EI_VERSION: u32 = 6;
 
-/// Offsets of the fields of the file's header.
+// Offsets of the fields of the file's header.
 pub const E_TYPE: u32 = 16;
 
 pub const E_MACHINE: u32 = 18;
@@ -44,7 +44,48 @@ pub const E_SHNUM: u32 = 48;
 
 pub const E_SHSTRNDX: u32 = 50;
 
-/// How an ELF file begins (`e_ident`).
+// Offsets of the fields of a program header.
+pub const P_TYPE: u32 = 0;
+
+pub const P_OFFSET: u32 = 4;
+
+pub const P_VADDR: u32 = 8;
+
+pub const P_FILESZ: u32 = 16;
+
+pub const P_MEMSZ: u32 = 20;
+
+pub const P_FLAGS: u32 = 24;
+
+// Offsets of the fields of a section header.
+pub const SH_NAME: u32 = 0;
+
+pub const SH_TYPE: u32 = 4;
+
+pub const SH_FLAGS: u32 = 8;
+
+pub const SH_ADDR: u32 = 12;
+
+pub const SH_OFFSET: u32 = 16;
+
+pub const SH_SIZE: u32 = 20;
+
+pub const SH_LINK: u32 = 24;
+
+pub const SH_ENTSIZE: u32 = 36;
+
+// Offsets of the fields of a symbol.
+pub const ST_NAME: u32 = 0;
+
+pub const ST_VALUE: u32 = 4;
+
+pub const ST_SIZE: u32 = 8;
+
+pub const ST_INFO: u32 = 12;
+
+pub const ST_SHNDX: u32 = 14;
+
+// How an ELF file begins (`e_ident`).
 pub const ELFMAG0: u8 = 0x7f;
 
 pub const ELFMAG1: u8 = b'E';
@@ -53,7 +94,7 @@ pub const ELFMAG2: u8 = b'L';
 
 pub const ELFMAG3: u8 = b'F';
 
-/// `e_ident`: 32-bit objects, little endian, the current version.
+// `e_ident`: 32-bit objects, little endian, the current version.
 pub const ELFCLASS32: u8 = 1;
 
 pub const ELFDATA2LSB: u8 = 1;
@@ -63,13 +104,13 @@ pub const EV_CURRENT: u8 = 1;
 /// `e_type`: an executable file.
 pub const ET_EXEC: u16 = 2;
 
-/// `e_machine`.
+/// `e_machine`: RISC-V.
 pub const EM_RISCV: u16 = 243;
 
 /// `e_flags`: the program has compressed instructions.
 pub const EF_RISCV_RVC: u32 = 1;
 
-/// The sizes in bytes of the file's header, a program header, a section header and a symbol.
+// The sizes in bytes of the file's header, a program header, a section header and a symbol.
 pub const ELF32_EHDR_SIZE: u32 = 52;
 
 pub const ELF32_PHDR_SIZE: u32 = 32;
@@ -81,14 +122,14 @@ pub const ELF32_SYM_SIZE: u32 = 16;
 /// `p_type`: a segment that is loaded.
 pub const PT_LOAD: u32 = 1;
 
-/// `p_flags`: the rights of a segment.
+// `p_flags`: a segment's rights to execute, write and read.
 pub const PF_X: u32 = 1;
 
 pub const PF_W: u32 = 2;
 
 pub const PF_R: u32 = 4;
 
-/// `sh_type`.
+// `sh_type`: no section, bytes of the program, a symbol table, a string table, and a section without bytes.
 pub const SHT_NULL: u32 = 0;
 
 pub const SHT_PROGBITS: u32 = 1;
@@ -122,6 +163,11 @@ pub fn elf_constant_values()
         ≡ 16 ∷ 18 ∷ 20 ∷ 24 ∷ 28 ∷ 32 ∷ 36 ∷ [] }
     ensures table_offsets { E_PHENTSIZE ∷ E_PHNUM ∷ E_SHENTSIZE ∷ E_SHNUM ∷ E_SHSTRNDX ∷ []
         ≡ 42 ∷ 44 ∷ 46 ∷ 48 ∷ 50 ∷ [] }
+    ensures program_header_offsets { P_TYPE ∷ P_OFFSET ∷ P_VADDR ∷ P_FILESZ ∷ P_MEMSZ ∷ P_FLAGS ∷ []
+        ≡ 0 ∷ 4 ∷ 8 ∷ 16 ∷ 20 ∷ 24 ∷ [] }
+    ensures section_header_offsets { SH_NAME ∷ SH_TYPE ∷ SH_FLAGS ∷ SH_ADDR ∷ SH_OFFSET ∷ SH_SIZE ∷ SH_LINK
+        ∷ SH_ENTSIZE ∷ [] ≡ 0 ∷ 4 ∷ 8 ∷ 12 ∷ 16 ∷ 20 ∷ 24 ∷ 36 ∷ [] }
+    ensures symbol_offsets { ST_NAME ∷ ST_VALUE ∷ ST_SIZE ∷ ST_INFO ∷ ST_SHNDX ∷ [] ≡ 0 ∷ 4 ∷ 8 ∷ 12 ∷ 14 ∷ [] }
     ensures ident { ELFMAG0 ∷ ELFMAG1 ∷ ELFMAG2 ∷ ELFMAG3 ∷ ELFCLASS32 ∷ ELFDATA2LSB ∷ EV_CURRENT ∷ []
         ≡ 0x7f ∷ 69 ∷ 76 ∷ 70 ∷ 1 ∷ 1 ∷ 1 ∷ [] }
     ensures header { ET_EXEC ∷ EM_RISCV ∷ EF_RISCV_RVC ∷ SHN_UNDEF ∷ [] ≡ 2 ∷ 243 ∷ 1 ∷ 0 ∷ [] }

@@ -1,7 +1,6 @@
 //! Fields of a file by their offsets, and 0 where a field lies outside the file.
-ghost use Rattle.std.specs.Prelude.{◌≡◌, ◌+◌, ◌<◌, ◌≤◌, length, position, option_map, IfSome};
-ghost use Rattle.std.specs.Option.{option_copied};
-ghost use Rattle.elf_image.specs.Fields.{file_byte, half_at, word_at, lies_within, is_zero, string_in};
+ghost use Rattle.std.specs.Prelude.{◌≡◌, ◌+◌, ◌<◌};
+ghost use Rattle.elf_image.specs.Fields.{file_byte, half_at, word_at, lies_within};
 
 use byteorder::{ByteOrder, LittleEndian};
 

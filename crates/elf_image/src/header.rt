@@ -1,8 +1,6 @@
 //! The file's own header, and the headers and symbols that it leads to.
-ghost use Rattle.std.specs.Prelude.{◌≡◌, ◌+◌, ◌*◌, ◌<◌, ◌≤◌, ◌^◌, IsTrue, IfOk, Ok, length, map};
-ghost use Rattle.std.specs.List.{range_with_len};
+ghost use Rattle.std.specs.Prelude.{◌≡◌, ◌+◌, ◌*◌, ◌<◌, ◌≤◌, ◌^◌, IfOk, Ok, length};
 ghost use Rattle.prof_bytes.specs.Outcome.{Gives};
-ghost use Rattle.elf_image.specs.Fields.{lies_within};
 ghost use Rattle.elf_image.specs.Headers.{program_header_at, section_header_at, symbol_entry, e_phoff, e_phnum};
 ghost use Rattle.elf_image.specs.Headers.{e_shoff};
 ghost use Rattle.elf_image.specs.Headers.{e_shnum, e_shstrndx, program_headers, section_headers};
@@ -13,7 +11,9 @@ use crate::elf::{
     E_FLAGS, E_MACHINE, E_PHENTSIZE, E_PHNUM, E_PHOFF, E_SHENTSIZE, E_SHNUM, E_SHOFF, E_SHSTRNDX,
     E_TYPE, E_VERSION, EF_RISCV_RVC, EI_CLASS, EI_DATA, EI_MAG0, EI_MAG1, EI_MAG2, EI_MAG3,
     EI_VERSION, ELF32_EHDR_SIZE, ELF32_PHDR_SIZE, ELF32_SHDR_SIZE, ELFCLASS32, ELFDATA2LSB,
-    ELFMAG0, ELFMAG1, ELFMAG2, ELFMAG3, EM_RISCV, ET_EXEC, EV_CURRENT, elf32_st_type, has_flag,
+    ELFMAG0, ELFMAG1, ELFMAG2, ELFMAG3, EM_RISCV, ET_EXEC, EV_CURRENT, P_FILESZ, P_FLAGS, P_MEMSZ,
+    P_OFFSET, P_TYPE, P_VADDR, SH_ADDR, SH_ENTSIZE, SH_FLAGS, SH_LINK, SH_NAME, SH_OFFSET, SH_SIZE,
+    SH_TYPE, ST_INFO, ST_NAME, ST_SHNDX, ST_SIZE, ST_VALUE, elf32_st_type, has_flag,
 };
 use crate::fault::{ElfFault, ElfRule, first_of, refuse};
 use crate::field::{byte_at, half_at, lies_within, word_at};
@@ -60,46 +60,46 @@ pub(crate) struct Symbol {
 fn program_header_at(file: &[u8], offset: u32) -> ProgramHeader
     ensures { result ≡ program_header_at file.now offset }
 {
-    let at = offset as usize;
+    let start = offset as usize;
     ProgramHeader {
         offset,
-        p_type: word_at(file, at),
-        p_offset: word_at(file, at + 4),
-        p_vaddr: word_at(file, at + 8),
-        p_filesz: word_at(file, at + 16),
-        p_memsz: word_at(file, at + 20),
-        p_flags: word_at(file, at + 24),
+        p_type: word_at(file, start + P_TYPE as usize),
+        p_offset: word_at(file, start + P_OFFSET as usize),
+        p_vaddr: word_at(file, start + P_VADDR as usize),
+        p_filesz: word_at(file, start + P_FILESZ as usize),
+        p_memsz: word_at(file, start + P_MEMSZ as usize),
+        p_flags: word_at(file, start + P_FLAGS as usize),
     }
 }
 
 fn section_header_at(file: &[u8], offset: u32) -> SectionHeader
     ensures { result ≡ section_header_at file.now offset }
 {
-    let at = offset as usize;
+    let start = offset as usize;
     SectionHeader {
         offset,
-        sh_name: word_at(file, at),
-        sh_type: word_at(file, at + 4),
-        sh_flags: word_at(file, at + 8),
-        sh_addr: word_at(file, at + 12),
-        sh_offset: word_at(file, at + 16),
-        sh_size: word_at(file, at + 20),
-        sh_link: word_at(file, at + 24),
-        sh_entsize: word_at(file, at + 36),
+        sh_name: word_at(file, start + SH_NAME as usize),
+        sh_type: word_at(file, start + SH_TYPE as usize),
+        sh_flags: word_at(file, start + SH_FLAGS as usize),
+        sh_addr: word_at(file, start + SH_ADDR as usize),
+        sh_offset: word_at(file, start + SH_OFFSET as usize),
+        sh_size: word_at(file, start + SH_SIZE as usize),
+        sh_link: word_at(file, start + SH_LINK as usize),
+        sh_entsize: word_at(file, start + SH_ENTSIZE as usize),
     }
 }
 
 pub(crate) fn symbol_entry(file: &[u8], offset: u32) -> Symbol
     ensures { result ≡ symbol_entry file.now offset }
 {
-    let at = offset as usize;
+    let start = offset as usize;
     Symbol {
         offset,
-        st_name: word_at(file, at),
-        st_value: word_at(file, at + 4),
-        st_size: word_at(file, at + 8),
-        st_type: elf32_st_type(byte_at(file, at + 12)),
-        st_shndx: half_at(file, at + 14),
+        st_name: word_at(file, start + ST_NAME as usize),
+        st_value: word_at(file, start + ST_VALUE as usize),
+        st_size: word_at(file, start + ST_SIZE as usize),
+        st_type: elf32_st_type(byte_at(file, start + ST_INFO as usize)),
+        st_shndx: half_at(file, start + ST_SHNDX as usize),
     }
 }
 

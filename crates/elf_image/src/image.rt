@@ -1,14 +1,12 @@
-ghost use Rattle.std.specs.Prelude.{◌≡◌, ◌+◌, ◌≤◌, ◌<◌, ◌^◌, ◌&&◌, IfOk, IfSome, Ok, nat_le, nat_lt, length, find, map};
-ghost use Rattle.std.specs.Prelude.{option_map, All, AllPairs, IsTrue};
-ghost use Rattle.std.specs.List.{list_any};
+ghost use Rattle.std.specs.Prelude.{◌≡◌, ◌+◌, ◌≤◌, ◌<◌, ◌^◌, IfSome, Ok, length, find, map};
+ghost use Rattle.std.specs.Prelude.{option_map, IsTrue};
 ghost use Rattle.std.specs.Option.{option_copied};
 ghost use Rattle.elf_image.specs.Fields.{same_bytes};
 ghost use Rattle.prof_bytes.specs.Outcome.{Gives};
-ghost use Rattle.elf_image.specs.Image.{IsLoaded, IsWithin, are_apart, named, symbol_view, in_segment, in_function};
+ghost use Rattle.elf_image.specs.Image.{IsLoaded, named, symbol_view, in_segment, in_function};
 ghost use Rattle.elf_image.specs.Image.{counts, bytes_of_name, address_of_name};
-ghost use Rattle.elf_image.specs.Headers.{segments, section_headers, sections, symbol_table, functions};
-ghost use Rattle.elf_image.specs.Reading.{checked_header, checked_all_segments, checked_sections, checked_symbols, image_of};
-ghost use Rattle.elf_image.specs.private.Checks.{after};
+ghost use Rattle.elf_image.specs.Headers.{segments, section_headers, sections, functions};
+ghost use Rattle.elf_image.specs.Reading.{image_of};
 
 use crate::elf::E_ENTRY;
 use crate::fault::ElfFault;
@@ -132,10 +130,10 @@ impl<'a> Image<'a> {
     }
 
     /// The segment that holds the address.
-    pub fn segment_at(&self, at: u32) -> Option<Segment>
-        ensures { result ≡ find (in_segment at) self.now.segments }
+    pub fn segment_at(&self, address: u32) -> Option<Segment>
+        ensures { result ≡ find (in_segment address) self.now.segments }
     {
-        segment_at(&self.segments, at)
+        segment_at(&self.segments, address)
     }
 
     /// Whether the range from `low` up to `high` counts: it is nonempty and lies in one executable segment.
@@ -180,7 +178,7 @@ impl<'a> Image<'a> {
     }
 
     /// The first function symbol, in symbol order, that holds the address. Takes no memory, and time
-    /// as the logarithm of the number of symbols. Its end is below 2^32.
+    /// logarithmic in the number of symbols. Its end is below 2^32.
     pub fn function_at(&self, pc: u32) -> Option<Function<'a>>
         ensures function { option_map symbol_view result ≡ find (in_function pc) self.now.functions }
         ensures low { IfSome result (λ f. f.start + f.size < 2 ^ 32) }

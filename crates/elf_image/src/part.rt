@@ -1,6 +1,7 @@
 //! Parts of a program: segments, function symbols and sections.
 ghost use Rattle.std.specs.Prelude.{◌≡◌};
-ghost use Rattle.elf_image.specs.Image.{range_of, function_range, symbol_view, is_executable, is_writable, is_readable};
+ghost use Rattle.elf_image.specs.Image.{segment_range, function_range, symbol_view};
+ghost use Rattle.elf_image.specs.Image.{is_executable, is_writable, is_readable};
 
 use crate::elf::{PF_R, PF_W, PF_X, has_flag};
 use address_ranges::{AddressRange, HasRange};
@@ -41,7 +42,7 @@ impl Segment {
 }
 
 impl HasRange for Segment {
-    ghost range_of = { range_of };
+    ghost range_of = { segment_range };
 
     fn range(&self) -> AddressRange {
         AddressRange {

@@ -1,6 +1,6 @@
 //! Segments, and what is refused in their headers.
-ghost use Rattle.std.specs.Prelude.{◌≡◌, ◌+◌, ◌*◌, ◌<◌, ◌≤◌, ◌^◌, IsTrue, IfOk, Ok, length, map, All, AllPairs};
-ghost use Rattle.std.specs.Prelude.{option_map, find};
+ghost use Rattle.std.specs.Prelude.{◌≡◌, ◌+◌, ◌<◌, ◌≤◌, ◌^◌, IsTrue, IfOk, Ok, length, map, All, AllPairs};
+ghost use Rattle.std.specs.Prelude.{find};
 ghost use Rattle.prof_bytes.specs.Outcome.{Gives};
 ghost use Rattle.elf_image.specs.Image.{IsWithin, are_apart, stacks_begin};
 ghost use Rattle.elf_image.specs.Headers.{is_load, load_headers, segment_of, segments};

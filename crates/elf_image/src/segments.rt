@@ -5,7 +5,8 @@ ghost use Rattle.elf_image.specs.Image.{in_segment, is_executable, are_apart, co
 use crate::part::Segment;
 use address_ranges::RangeTable;
 
-/// The first segment that holds the address. Takes no memory, and time as log n.
+/// The first segment that holds the address. Takes no memory, and time logarithmic in the number of
+/// segments.
 pub(crate) fn segment_at(segments: &RangeTable<Segment>, address: u32) -> Option<Segment>
     ensures { result ≡ find (in_segment address) segments.now }
 {

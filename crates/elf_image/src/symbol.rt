@@ -1,13 +1,11 @@
 //! The symbol table, its function symbols, and what is refused there.
-ghost use Rattle.std.specs.Prelude.{◌≡◌, ◌+◌, ◌*◌, ◌/◌, ◌<◌, ◌≤◌, ◌^◌, ◌&&◌, ◌==◌, not, nat_lt, nat_le, is_none, IfOk};
-ghost use Rattle.std.specs.Prelude.{Ok, Some, None, length, map, option_map, find, filter, IsTrue, All, AllPairs};
-ghost use Rattle.std.specs.List.{list_any, range_with_len};
-ghost use Rattle.std.specs.Option.{option_copied};
+ghost use Rattle.std.specs.Prelude.{◌≡◌, ◌+◌, ◌*◌, ◌/◌, ◌<◌, ◌≤◌, ◌^◌, ◌&&◌, ◌==◌, is_none, IfOk};
+ghost use Rattle.std.specs.Prelude.{Ok, Some, None, length, map, find, IsTrue, All, AllPairs};
 ghost use Rattle.prof_bytes.specs.Outcome.{Gives};
 ghost use Rattle.elf_image.specs.Fields.{string_in};
 ghost use Rattle.elf_image.specs.Image.{symbol_view, are_apart};
 ghost use Rattle.elf_image.specs.Headers.{section_headers, segments, bytes_of_index, symbol_table, symbol_entry};
-ghost use Rattle.elf_image.specs.Headers.{symbols_of, is_function, symbol_name, function_symbol, functions_of};
+ghost use Rattle.elf_image.specs.Headers.{is_function, function_symbol, functions_of};
 ghost use Rattle.elf_image.specs.Headers.{functions};
 ghost use Rattle.elf_image.specs.Refusals.{is_string_table, bad_table, function_with_unterminated_name};
 ghost use Rattle.elf_image.specs.Reading.{checked_sections, checked_symbols};

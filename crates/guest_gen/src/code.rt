@@ -1,11 +1,10 @@
 //! The program's code.
 ghost use Rattle.std.specs.Prelude.{◌≡◌, ◌<◌, ◌≤◌, ◌+◌, ◌*◌, ◌++◌, IfOk, OnOk, length};
-ghost use Rattle.std.specs.List.{flat_map};
 ghost use Rattle.guest_gen.specs.Draws.{draw_state};
-ghost use Rattle.guest_gen.specs.Code.{call_instruction, code, function_bytes, functions_bytes, drawn_function};
+ghost use Rattle.guest_gen.specs.Code.{call_instruction, code, functions_bytes, drawn_function};
 ghost use Rattle.guest_gen.specs.Code.{function_start};
-ghost use Rattle.guest_gen.specs.Code.{function_words, jal, start_words};
-ghost use Rattle.prof_bytes.specs.Number.{word, words};
+ghost use Rattle.guest_gen.specs.Code.{function_words, jal};
+ghost use Rattle.prof_bytes.specs.Number.{words};
 ghost use Rattle.guest_gen.specs.private.Fits.{IsFurther};
 
 use crate::draws::Draws;

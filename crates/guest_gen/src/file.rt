@@ -3,7 +3,7 @@ ghost use Rattle.std.specs.Prelude.{◌≡◌, ◌≤◌, ◌++◌, IfOk, OnOk, 
 ghost use Rattle.std.specs.List.{flat_map};
 ghost use Rattle.guest_gen.specs.Frames.{debug_frame};
 ghost use Rattle.guest_gen.specs.File.{elf_header, guest_file, program_header, section_header_bytes, guest_section_headers};
-ghost use Rattle.guest_gen.specs.File.{code_at, frames_at, headers_at, names_at, plain_header, section_names_at};
+ghost use Rattle.guest_gen.specs.File.{frames_at, headers_at, names_at, plain_header, section_names_at};
 ghost use Rattle.guest_gen.specs.File.{symbols_at, strtab, symtab};
 ghost use Rattle.guest_gen.specs.private.Fits.{AreFew, sized};
 

@@ -1,6 +1,6 @@
 //! The call frame information.
 ghost use Rattle.std.specs.Prelude.{◌≡◌, ◌<◌, ◌≤◌, ◌++◌, IfOk, OnOk, length};
-ghost use Rattle.guest_gen.specs.Frames.{cie, debug_frame, fde, fdes, frame_instructions};
+ghost use Rattle.guest_gen.specs.Frames.{debug_frame, fde, fdes};
 
 use crate::code::{FUNCTION_SIZE, FUNCTIONS, function_start};
 use cfi_table::{

@@ -1,9 +1,8 @@
 //! The guest of a number.
-ghost use Rattle.std.specs.Prelude.{◌≡◌, ◌<◌, ◌≤◌, ◌*◌, ◌++◌, IfOk, OnOk, codes, length};
+ghost use Rattle.std.specs.Prelude.{◌≡◌, ◌<◌, ◌≤◌, ◌++◌, IfOk, OnOk, codes, length};
 ghost use Rattle.guest_gen.specs.Draws.{draw_state};
-ghost use Rattle.guest_gen.specs.Code.{code, function_count};
-ghost use Rattle.guest_gen.specs.File.{guest_file};
-ghost use Rattle.guest_gen.specs.Guest.{guest_of, guest_schedule, drawn_line, slice_lines, slices};
+ghost use Rattle.guest_gen.specs.Code.{code};
+ghost use Rattle.guest_gen.specs.Guest.{guest_of, drawn_line, slice_lines, slices};
 
 use crate::code::code;
 use crate::draws::Draws;

@@ -1,7 +1,7 @@
 -- The addresses of a run's instructions have 32 bits.
-use Rattle.std.proofs.Common.{◌≡◌, ℕ, zero, suc, ◌+◌, ◌*◌, ◌/◌, ◌%◌, ◌^◌, ◌<◌, ◌≤◌, ◌==◌, ◌||◌, ◌&&◌, Bool, true, false, not, cond, nat_lt, nat_le, int_lt, List, [], ◌∷◌, ◌++◌, length, map, filter, get_or, take, min, slice_set, All, Option, Some, None, option_map, refl, sym, ap, subst, ◌∙◌, arith}
-use Rattle.std.specs.List.{AllByRecursion, range_with_len}
-use Rattle.std.proofs.lemmas.List.Elements.{All-append, All-cons, All-filter, All-from_recursion, All-map}
+use Rattle.std.proofs.Common.{ℕ, zero, suc, ◌+◌, ◌*◌, ◌/◌, ◌%◌, ◌^◌, ◌<◌, ◌==◌, ◌||◌, Bool, true, false, not, cond, nat_lt, int_lt, List, [], ◌∷◌, length, map, filter, get_or, take, min, slice_set, All, Option, Some, None, option_map, arith}
+use Rattle.std.specs.List.{AllByRecursion}
+use Rattle.std.proofs.lemmas.List.Elements.{All-append, All-cons, All-filter, All-map}
 use Rattle.prof_bytes.specs.Number.{number_bytes}
 use Rattle.rv_table.specs.declared.inst.Op.{Op}
 use Rattle.rv_table.specs.declared.inst.Op.TheVariants as ops
@@ -18,9 +18,9 @@ use Rattle.rv_hart.specs.Step.{State, rs1_value, rs2_value, address, operand, tr
 use Rattle.rv_run.specs.declared.schedule.Slice.{Slice}
 use Rattle.rv_run.specs.declared.hart.HartEnd.{HartEnd}
 use Rattle.rv_run.specs.declared.hart.HartEnd.TheVariants as ends
-use Rattle.rv_run.specs.State.{HartState, MachineState, first_hart, hart_in, hart_of, no_hart, is_running, step_state, stepped_hart}
+use Rattle.rv_run.specs.State.{HartState, MachineState, first_hart, hart_in, hart_of, is_running, step_state, stepped_hart}
 use Rattle.rv_run.specs.Calls.{Acted, Answered, holds_in, negative, reads, writes, call_numbered, completes, ends_by, ends_all, grouped, with_answer, with_end, only_answers, all_readable, writes_out, room_for, read_into}
-use Rattle.rv_run.specs.Run.{Instant, Run, acts, acts_by, acts_after, finished, preceded, next_instant, state_after, stepped_machine, run_slice, run_slices}
+use Rattle.rv_run.specs.Run.{Instant, Run, acts, acts_by, finished, preceded, next_instant, state_after, stepped_machine, run_slice, run_slices}
 use Rattle.scope_types.specs.Distinct.{HartRaw}
 use Rattle.scope_types.specs.Raw.{HasFrames}
 use Rattle.cfi_unwind.specs.Caller.{Words, Unwinding}

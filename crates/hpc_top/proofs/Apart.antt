@@ -27,7 +27,7 @@ use Rattle.scope_types.specs.Alike.{Alike}
 use Rattle.scope_types.specs.CallPaths.{HartPath}
 use Rattle.scope_types.specs.Distinct.{HartRaw, distinct, each_sample, frames_in, scopes_in}
 use Rattle.scope_types.specs.Expansion.{call_path}
-use Rattle.scope_types.specs.Limits.{most_path_frames, most_path_scopes, most_samples}
+use Rattle.scope_types.specs.Limits.{most_frames_in_all, most_scopes_in_all, most_samples}
 use Rattle.scope_types.specs.Raw.{Raw}
 use Rattle.tree_types.specs.Database.{content_of}
 use Rattle.tree_types.specs.TopDown.{top_down}
@@ -147,12 +147,12 @@ module _ (elf input schedule : List ℕ) (period : ℕ) (p : Profiled) (parts_of
   -- the scopes are as few as those of the samples
   few_scopes_again : distinct (length tables) (each_sample tables) ≡ tables → attributed_by parts_of.scopes tables ≡ Ok again
   few_scopes_again same =
-      tested (nat_lt most_path_scopes (scopes_in again.expand tables)) refl parts_of.attributed_is
+      tested (nat_lt most_scopes_in_all (scopes_in again.expand tables)) refl parts_of.attributed_is
     where
-      tested : (many : Bool) → nat_lt most_path_scopes (scopes_in again.expand tables) ≡ many → scopes_decide harts again.naming again.expand parts_of.samples many ≡ Ok p.attributed → attributed_by parts_of.scopes tables ≡ Ok again
+      tested : (many : Bool) → nat_lt most_scopes_in_all (scopes_in again.expand tables) ≡ many → scopes_decide harts again.naming again.expand parts_of.samples many ≡ Ok p.attributed → attributed_by parts_of.scopes tables ≡ Ok again
       tested true is e = absurd cc
       tested false is e =
-          ap (scopes_decide (length tables) again.naming again.expand (each_sample tables)) (ap (λ (ts : List (List Counted)). nat_lt most_path_scopes (scopes_in again.expand ts)) same ∙ is)
+          ap (scopes_decide (length tables) again.naming again.expand (each_sample tables)) (ap (λ (ts : List (List Counted)). nat_lt most_scopes_in_all (scopes_in again.expand ts)) same ∙ is)
 
   own_program : (image : ProgramImage) → of_program image (head_of image period) ≡ Ok (head_of image period)
   own_program image =
@@ -219,13 +219,13 @@ SamplesAlike = (harts : ℕ) (samples : List HartRaw) (call_path : HartRaw → H
 -- ---- what a measurement may hold
 
 -- few samples are all samples
-few_are : (harts : ℕ) (all samples : List HartRaw) → few_samples harts all ≡ Ok samples → (all ≡ samples) × (length all ≤ most_samples) × (frames_in (distinct harts all) ≤ most_path_frames)
+few_are : (harts : ℕ) (all samples : List HartRaw) → few_samples harts all ≡ Ok samples → (all ≡ samples) × (length all ≤ most_samples) × (frames_in (distinct harts all) ≤ most_frames_in_all)
 few_are harts all samples is =
     let f = bind_ok (within_frames (distinct harts (take most_samples all))) (λ _. within_samples all) samples is in
-    let frames = tested_ok (nat_lt most_path_frames (frames_in (distinct harts (take most_samples all)))) TooManyFrames (distinct harts (take most_samples all)) f.0 f.1 in
+    let frames = tested_ok (nat_lt most_frames_in_all (frames_in (distinct harts (take most_samples all)))) TooManyFrames (distinct harts (take most_samples all)) f.0 f.1 in
     let many = tested_ok (nat_lt most_samples (length all)) TooManySamples all samples f.2 in
     let few : length all ≤ most_samples = at_most most_samples (length all) many.0 in
-    (many.1, few, subst (λ (l : List HartRaw). frames_in (distinct harts l) ≤ most_path_frames) (take_all most_samples all few) (at_most most_path_frames (frames_in (distinct harts (take most_samples all))) frames.0))
+    (many.1, few, subst (λ (l : List HartRaw). frames_in (distinct harts l) ≤ most_frames_in_all) (take_all most_samples all few) (at_most most_frames_in_all (frames_in (distinct harts (take most_samples all))) frames.0))
 
 module _ (elf input schedule : List ℕ) (period : ℕ) (p : Profiled) (parts_of : Parts elf input schedule period p) (bytes : IsBytes elf) (frames : PathsHaveFrames) (words : PathsHaveWords) where
   sampled_are : AreSampled parts_of.slices.harts parts_of.samples

@@ -16,7 +16,7 @@ use Rattle.sample_clock.specs.Samples.{Paths, is_sampled, sample_of}
 use Rattle.sample_clock.specs.Clock.{Sampling, Given, IsOver, samples_to_come}
 use Rattle.scope_types.specs.declared.frame.Counted.{Counted}
 use Rattle.scope_types.specs.Distinct.{HartRaw, distinct, frames_in, samples_in}
-use Rattle.scope_types.specs.Limits.{most_samples, most_path_frames}
+use Rattle.scope_types.specs.Limits.{most_samples, most_frames_in_all}
 use Rattle.thread_cct.specs.declared.ccts.TooManyFrames.{TooManyFrames}
 use Rattle.thread_cct.specs.Adding.{few_frames, too_many}
 use Rattle.hpc_top.specs.declared.status.InputFault.{InputFault}
@@ -47,12 +47,12 @@ is_above a b e = grind (arith, nat_tests)
 -- the same limit under the top call's fault
 pub frames_ok : (tables after : List (List Counted)) → few_frames tables ≡ Ok after → within_frames tables ≡ Ok after
 frames_ok tables after e =
-    let is = tested_ok (nat_lt most_path_frames (frames_in tables)) too_many tables after e in
+    let is = tested_ok (nat_lt most_frames_in_all (frames_in tables)) too_many tables after e in
     ap (λ (b : Bool). tested b TooMany tables) is.0 ∙ ap Ok is.1
 
 pub frames_err : (tables : List (List Counted)) (fault : TooManyFrames) → few_frames tables ≡ Err fault → within_frames tables ≡ Err TooMany
 frames_err tables fault e =
-    let is = tested_err (nat_lt most_path_frames (frames_in tables)) too_many fault tables e in
+    let is = tested_err (nat_lt most_frames_in_all (frames_in tables)) too_many fault tables e in
     ap (λ (b : Bool). tested b TooMany tables) is.0
 
 pub frames_refused : (tables : List (List Counted)) (fail : Fail TooManyFrames) (fault : TooManyFrames) → fail ≡ fails.Fault fault → FailsBy fail (few_frames tables) → within_frames tables ≡ Err TooMany
@@ -70,7 +70,7 @@ pub record SoFar (path_of : Paths) (harts : ℕ) (start now : Sampling) (ccts : 
   pub left_harts : All (λ s. s.hart < harts) (raws_to_come path_of now)
   pub counts : ccts ≡ distinct harts done
   pub count : samples_in ccts ≡ length done
-  pub fits : frames_in ccts ≤ most_path_frames
+  pub fits : frames_in ccts ≤ most_frames_in_all
 
 no_frames : (harts : List ℕ) → sum_by (sum_by (λ (c : Counted). length c.path.frames)) (map (λ (hart : ℕ). []) harts) ≡ 0
 no_frames [] = refl
@@ -148,7 +148,7 @@ module _ (path_of : Paths) (harts : ℕ) (start old new : Sampling) (ccts : List
     so_far_more ccts' last within count =
         let tables : List (List Counted) = distinct harts (sofar.done ++ hart_raw sample ∷ []) in
         let fine : within_frames tables ≡ Ok ccts' = subst (λ (n : ℕ). within_frames (distinct n (sofar.done ++ hart_raw sample ∷ [])) ≡ Ok ccts') long_ccts within in
-        let is = tested_ok (nat_lt most_path_frames (frames_in tables)) TooMany tables ccts' fine in
+        let is = tested_ok (nat_lt most_frames_in_all (frames_in tables)) TooMany tables ccts' fine in
         record {
           done = sofar.done ++ hart_raw sample ∷ [];
           parts = all_parts;
@@ -159,7 +159,7 @@ module _ (path_of : Paths) (harts : ℕ) (start old new : Sampling) (ccts : List
           left_harts = All-tail (λ (s : HartRaw). s.hart < harts) (hart_raw sample) (raws_to_come path_of new) (left sample given);
           counts = sym is.1;
           count = (let was = sofar.count in let long = length-append sofar.done (hart_raw sample ∷ []) in omega (arith, was, long, count));
-          fits = (let few = at_most most_path_frames (frames_in tables) is.0 in let same = ap frames_in is.1 in omega (arith, few, same));
+          fits = (let few = at_most most_frames_in_all (frames_in tables) is.0 in let same = ap frames_in is.1 in omega (arith, few, same));
         }
 
     -- too many frames with it
@@ -171,12 +171,12 @@ module _ (path_of : Paths) (harts : ℕ) (start old new : Sampling) (ccts : List
         let rest : List HartRaw = raws_to_come path_of new in
         let more : List HartRaw = take (most_samples - length front) rest in
         let refused : within_frames (distinct harts front) ≡ Err fault = subst (λ (n : ℕ). within_frames (distinct n front) ≡ Err fault) long_ccts within in
-        let is = tested_err (nat_lt most_path_frames (frames_in (distinct harts front))) TooMany fault (distinct harts front) refused in
-        let over : most_path_frames < frames_in (distinct harts front) = is_above most_path_frames (frames_in (distinct harts front)) is.0 in
+        let is = tested_err (nat_lt most_frames_in_all (frames_in (distinct harts front))) TooMany fault (distinct harts front) refused in
+        let over : most_frames_in_all < frames_in (distinct harts front) = is_above most_frames_in_all (frames_in (distinct harts front)) is.0 in
         let grows : frames_in (distinct harts front) ≤ frames_in (distinct harts (front ++ more)) = grow more (All-take (λ (s : HartRaw). s.hart < harts) (most_samples - length front) rest (All-tail (λ (s : HartRaw). s.hart < harts) (hart_raw sample) rest (left sample given))) in
         let taken : take most_samples (raws_to_come path_of start) ≡ front ++ more = ap (take most_samples) all_parts ∙ take_front most_samples front rest now_few in
-        let many_frames : nat_lt most_path_frames (frames_in (distinct harts (take most_samples (raws_to_come path_of start)))) ≡ true =
-        ap (λ (l : List HartRaw). nat_lt most_path_frames (frames_in (distinct harts l))) taken ∙ lt-ltb most_path_frames (frames_in (distinct harts (front ++ more))) (omega (arith, over, grows)) in
+        let many_frames : nat_lt most_frames_in_all (frames_in (distinct harts (take most_samples (raws_to_come path_of start)))) ≡ true =
+        ap (λ (l : List HartRaw). nat_lt most_frames_in_all (frames_in (distinct harts l))) taken ∙ lt-ltb most_frames_in_all (frames_in (distinct harts (front ++ more))) (omega (arith, over, grows)) in
         ap (λ (b : Bool). tested b TooMany (distinct harts (take most_samples (raws_to_come path_of start))) >>= λ _. within_samples (raws_to_come path_of start)) many_frames ∙ ap Err is.1
       where
         take_front : (n : ℕ) (xs ys : List HartRaw) → length xs ≤ n → take n (xs ++ ys) ≡ xs ++ take (n - length xs) ys
@@ -193,9 +193,9 @@ module _ (path_of : Paths) (harts : ℕ) (start old new : Sampling) (ccts : List
   -- the frames of what was counted fit
   fit : (rest : List HartRaw) → take most_samples (raws_to_come path_of start) ≡ sofar.done → few_samples harts (raws_to_come path_of start) ≡ within_samples (raws_to_come path_of start)
   fit rest front =
-      let few : frames_in (distinct harts (take most_samples (raws_to_come path_of start))) ≤ most_path_frames =
+      let few : frames_in (distinct harts (take most_samples (raws_to_come path_of start))) ≤ most_frames_in_all =
       (let same = ap (λ (l : List HartRaw). frames_in (distinct harts l)) front in let are = ap frames_in sofar.counts in let fits = sofar.fits in omega (arith, same, are, fits)) in
-      ap (λ (b : Bool). tested b TooMany (distinct harts (take most_samples (raws_to_come path_of start))) >>= λ _. within_samples (raws_to_come path_of start)) (le-ltb most_path_frames (frames_in (distinct harts (take most_samples (raws_to_come path_of start)))) few)
+      ap (λ (b : Bool). tested b TooMany (distinct harts (take most_samples (raws_to_come path_of start))) >>= λ _. within_samples (raws_to_come path_of start)) (le-ltb most_frames_in_all (frames_in (distinct harts (take most_samples (raws_to_come path_of start)))) few)
 
   -- none is left
   pub so_far_over : IsOver path_of old new → (to_come new.machine).final ≡ (to_come old.machine).final → AllCounted path_of harts ccts start new

@@ -14,16 +14,7 @@ use Rattle.hpc_top.specs.declared.steps.Want.{Want}
 use Rattle.hpc_top.specs.private.Views.{view_want}
 use Rattle.hpc_top.specs.Task.{Wanted, limited_bytes, contents}
 use Rattle.hpc_top.specs.Outcome.{ReadFailed}
-use Rattle.hpc_top.specs.private.Steps.{Looked, FetchStops, AreWithin}
-
-pub looked_same : (s : ShelfState) → Looked s s
-looked_same s = record { known = refl; files = refl; stores = refl; reads = omega arith }
-
-pub looked_on : (s t u : ShelfState) → Looked s t → Looked t u → Looked s u
-looked_on s t u a b = record { known = b.known ∙ a.known; files = b.files ∙ a.files; stores = b.stores ∙ a.stores; reads = (let x = a.reads in let y = b.reads in omega arith) }
-
-pub told_on : (s t : ShelfState) → Looked s t → IsTrue s.known → IsTrue t.known
-told_on s t looked told = looked.known ∙ told
+use Rattle.hpc_top.specs.private.Steps.{FetchStops, AreWithin}
 
 -- a file more
 contents_more : (files : Files) (ws : List Wanted) (w : Wanted) (texts : List (List ℕ)) (text : List ℕ) → contents files ws ≡ Ok texts → limited_bytes files w ≡ Ok text → contents files (ws ++ w ∷ []) ≡ Ok (texts ++ text ∷ [])
@@ -47,43 +38,43 @@ contents_stops files (v ∷ ws) w vs texts fault so_far one =
     ap (λ (r : Result (List ℕ) InputFault). r >>= λ bytes. contents files (ws ++ w ∷ vs) >>= λ rest. Ok (bytes ∷ rest)) first.1
     ∙ ap (λ (r : Result (List (List ℕ)) InputFault). r >>= λ rest. Ok (first.0 ∷ rest)) (contents_stops files ws w vs later.0 fault later.1 one)
 
--- fetches that went well, and then one that stops
-pub stops_on : {X Y : Type 0} (P Q : Type 0) (s t u : ShelfState) (x : Result X InputFault) (y : Result Y InputFault) → Looked s t → (P → Q) → ((fault : InputFault) → IsTrue s.known → x ≡ Err fault → y ≡ Err fault) → (stop : Stop) → FetchStops P t u x stop → FetchStops Q s u y stop
-stops_on P Q s t u x y looked failed faults (Input fault) h = (looked_on s t u looked h.0, (λ told. faults fault told (h.1 (told_on s t looked told))))
-stops_on P Q s t u x y looked failed faults (Device Read) h = (looked_on s t u looked h.0, failed h.1)
-stops_on P Q s t u x y looked failed faults (Device Store) h = absurd h
-stops_on P Q s t u x y looked failed faults (Device Print) h = absurd h
-stops_on P Q s t u x y looked failed faults (Memory memory) h = looked_on s t u looked h
+-- a fetch that stops, and so all that are wanted
+stops_all : {X Y : Type 0} (P Q : Type 0) (s u : ShelfState) (x : Result X InputFault) (y : Result Y InputFault) → (P → Q) → ((fault : InputFault) → IsTrue s.known → x ≡ Err fault → y ≡ Err fault) → (stop : Stop) → FetchStops P s u x stop → FetchStops Q s u y stop
+stops_all P Q s u x y failed faults (Input fault) h = (h.0, (λ told. faults fault told (h.1 told)))
+stops_all P Q s u x y failed faults (Device Read) h = (h.0, failed h.1)
+stops_all P Q s u x y failed faults (Device Store) h = absurd h
+stops_all P Q s u x y failed faults (Device Print) h = absurd h
+stops_all P Q s u x y failed faults (Memory memory) h = h
 
 -- the wanted file at a place, as the code holds it
 wanted_at : (ws : List Want) (i : ℕ) (w : Want) → i < length ws → w ≡ get_or ws i w → view_want w ≡ get_or (map view_want ws) i (view_want w)
 wanted_at ws i w less is = ap view_want is ∙ sym (get_or-map view_want ws i w (view_want w) less)
 
 -- so far, and one more
-pub fetched_more : (s t u : ShelfState) (ws : List Want) (i : ℕ) (w : Want) (texts texts' : List (List ℕ)) (text : List ℕ) → i < length ws → w ≡ get_or ws i w
-    → Looked s t → (IsTrue s.known → contents s.files (take i (map view_want ws)) ≡ Ok texts)
-    → Looked t u → (IsTrue t.known → limited_bytes t.files (view_want w) ≡ Ok text) → texts' ≡ texts ++ text ∷ []
+pub fetched_more : (s t : ShelfState) (ws : List Want) (i : ℕ) (w : Want) (texts texts' : List (List ℕ)) (text : List ℕ) → i < length ws → w ≡ get_or ws i w
+    → t ≡ s → (IsTrue s.known → contents s.files (take i (map view_want ws)) ≡ Ok texts)
+    → (IsTrue t.known → limited_bytes t.files (view_want w) ≡ Ok text) → texts' ≡ texts ++ text ∷ []
     → IsTrue s.known → contents s.files (take (i + 1) (map view_want ws)) ≡ Ok texts'
-fetched_more s t u ws i w texts texts' text less is looked so_far later one texts_are told =
+fetched_more s t ws i w texts texts' text less is same so_far one texts_are told =
     let all : List Wanted = map view_want ws in
     let inside : i < length all = (let e = length-map ws view_want in omega arith) in
-    let here : limited_bytes s.files (view_want w) ≡ Ok text = subst (λ (files : Files). limited_bytes files (view_want w) ≡ Ok text) looked.files (one (told_on s t looked told)) in
+    let here : limited_bytes s.files (view_want w) ≡ Ok text = subst (λ (v : ShelfState). IsTrue v.known → limited_bytes v.files (view_want w) ≡ Ok text) same one told in
     ap (contents s.files) (take_more all i (view_want w) inside ∙ ap (λ (v : Wanted). take i all ++ v ∷ []) (sym (wanted_at ws i w less is)))
     ∙ contents_more s.files (take i all) (view_want w) texts text (so_far told) here ∙ ap (λ (ts : List (List ℕ)). Ok ts) (sym texts_are)
 
 -- so far, and one that stops
 pub fetch_all_stops : (s t u : ShelfState) (ws : List Want) (i : ℕ) (w : Want) (texts : List (List ℕ)) (stop : Stop) → i < length ws → w ≡ get_or ws i w
-    → Looked s t → (IsTrue s.known → contents s.files (take i (map view_want ws)) ≡ Ok texts)
+    → t ≡ s → (IsTrue s.known → contents s.files (take i (map view_want ws)) ≡ Ok texts)
     → FetchStops (Fails t.reads u.reads (view_want w).name) t u (limited_bytes t.files (view_want w)) stop
     → FetchStops (ReadFailed (map view_want ws) s u) s u (contents s.files (map view_want ws)) stop
-fetch_all_stops s t u ws i w texts stop less is looked so_far stops =
+fetch_all_stops s t u ws i w texts stop less is same so_far stops =
     let all : List Wanted = map view_want ws in
     let inside : i < length all = (let e = length-map ws view_want in omega arith) in
     let parts : all ≡ take i all ++ view_want w ∷ drop (suc i) all =
     sym (take-append-drop i all) ∙ ap (λ (rest : List Wanted). take i all ++ rest) (drop-cons all i (view_want w) inside ∙ ap (λ (v : Wanted). v ∷ drop (suc i) all) (sym (wanted_at ws i w less is))) in
-    stops_on (Fails t.reads u.reads (view_want w).name) (ReadFailed all s u) s t u (limited_bytes t.files (view_want w)) (contents s.files all) looked
+    stops_all (Fails s.reads u.reads (view_want w).name) (ReadFailed all s u) s u (limited_bytes s.files (view_want w)) (contents s.files all)
     (λ failed. record {
-      rose = (let more = looked.reads in let rose = failed.rose in omega arith);
+      rose = failed.rose;
       earlier = take i all;
       failed = view_want w;
       later = drop (suc i) all;
@@ -91,8 +82,9 @@ fetch_all_stops s t u ws i w texts stop less is looked so_far stops =
       named = failed.named;
       within_limits = λ told. ap is_ok (so_far told);
     })
-    (λ fault told refused. ap (contents s.files) parts ∙ contents_stops s.files (take i all) (view_want w) (drop (suc i) all) texts fault (so_far told) (subst (λ (files : Files). limited_bytes files (view_want w) ≡ Err fault) looked.files refused))
-    stop stops
+    (λ fault told refused. ap (contents s.files) parts ∙ contents_stops s.files (take i all) (view_want w) (drop (suc i) all) texts fault (so_far told) refused)
+    stop
+    (subst (λ (v : ShelfState). FetchStops (Fails v.reads u.reads (view_want w).name) v u (limited_bytes v.files (view_want w)) stop) same stops)
 
 -- a text more
 pub within_more : (texts : List (List ℕ)) (ws : List Wanted) (text : List ℕ) (w : Wanted) → AreWithin texts ws → length text ≤ w.limit → AreWithin (texts ++ text ∷ []) (ws ++ w ∷ [])

@@ -10,7 +10,7 @@ use Rattle.hpc_top.specs.Product.{Product}
 use Rattle.hpc_top.specs.Task.{task_of, verdict}
 use Rattle.hpc_top.specs.Words.{Request, DrillWords, Drill}
 use Rattle.hpc_top.specs.Outcome.{Call, Answers, Makes, Finished}
-use Rattle.hpc_top.specs.Follows.{Follows, Drilled, IsUsage, IsRefusal, IsDone, NothingFailed}
+use Rattle.hpc_top.specs.Follows.{Follows, Drilled, UsageOrMemory, RefusalReadOrMemory, DoneOrMemory, NothingFailed}
 
 -- ---- a verdict is one thing
 
@@ -33,7 +33,7 @@ module _ (call : Call) where
   drill : (asked : Option Request) (words : DrillWords) → Answers asked call Done → asked ≡ Some (Drill words) → IsTrue call.before.shelf.known → IsTrue call.before.out.known → Drilled words.number call
   drill asked words row is told shown =
       let made : Makes (task_of (Drill words)) Finished call = subst (λ (a : Option Request). Answers a call Done) is row in
-      record { product = made.0; of_guest = made.1 told; files = made.2.0 told; out = made.2.1 shown }
+      record { product = made.0; of_guest = made.1 told; files = made.2.0 told; out = made.2.2 shown }
 
   usage : (asked : Option Request) → Answers asked call Usage → IsNone asked
   usage None row = refl
@@ -54,11 +54,11 @@ module _ (call : Call) where
 
   print : (asked : Option Request) → Answers asked call (Device Print) → Rose call.before.out.faults call.after.out.faults
   print None row = absurd row
-  print (Some request) row = row.1
+  print (Some request) row = row.1.rose
 
   -- ---- the answers that may come
 
-  invalid : (status : Status) → Answers None call status → IsUsage status
+  invalid : (status : Status) → Answers None call status → UsageOrMemory status
   invalid Usage row = tt
   invalid (Memory memory) row = tt
   invalid Done row = row
@@ -66,7 +66,7 @@ module _ (call : Call) where
   invalid (Device place) row = row
 
   module _ (request : Request) (told : IsTrue call.before.shelf.known) where
-    refused : (fault : InputFault) → verdict (task_of request) call.before.shelf.files ≡ Err fault → (status : Status) → Answers (Some request) call status → IsRefusal fault status
+    refused : (fault : InputFault) → verdict (task_of request) call.before.shelf.files ≡ Err fault → (status : Status) → Answers (Some request) call status → RefusalReadOrMemory fault status
     refused fault is Done row = accepted_or_not (verdict (task_of request) call.before.shelf.files) row.0 fault (row.1 told) is
     refused fault is Usage row = row
     refused fault is (Input other) row = one_refusal (verdict (task_of request) call.before.shelf.files) other fault (row.1 told) is
@@ -75,14 +75,14 @@ module _ (call : Call) where
     refused fault is (Device Print) row = accepted_or_not (verdict (task_of request) call.before.shelf.files) row.0.0 fault (row.0.1 told) is
     refused fault is (Memory memory) row = tt
 
-    complete : IsOk (verdict (task_of request) call.before.shelf.files) → NothingFailed call → (status : Status) → Answers (Some request) call status → IsDone status
+    complete : IsOk (verdict (task_of request) call.before.shelf.files) → NothingFailed call → (status : Status) → Answers (Some request) call status → DoneOrMemory status
     complete ok nothing Done row = tt
     complete ok nothing (Memory memory) row = tt
     complete ok nothing Usage row = row
     complete ok nothing (Input fault) row = not_refused (verdict (task_of request) call.before.shelf.files) fault ok (row.1 told)
     complete ok nothing (Device Read) row = nothing.reads row.1.rose
     complete ok nothing (Device Store) row = nothing.stores row.1.rose
-    complete ok nothing (Device Print) row = nothing.puts row.1
+    complete ok nothing (Device Print) row = nothing.puts row.1.rose
 
   unasked : (asked : Option Request) → IsNone asked → asked ≡ None
   unasked None none = refl

@@ -11,7 +11,7 @@ use Rattle.scope_types.specs.Raw.{Raw}
 use Rattle.scope_types.specs.Expansion.{call_path}
 use Rattle.scope_find.specs.Found.{ProgramScopes, found_at, naming_of}
 use Rattle.scope_types.specs.Distinct.{HartRaw, distinct, samples_in, scopes_in}
-use Rattle.scope_types.specs.Limits.{most_path_scopes}
+use Rattle.scope_types.specs.Limits.{most_scopes_in_all}
 use Rattle.rv_run.specs.State.{MachineState}
 use Rattle.rv_run.specs.Progress.{to_come}
 use Rattle.thread_cct.specs.Adding.{samples_of_hart}
@@ -33,7 +33,7 @@ use Rattle.hpc_top.specs.declared.status.InputFault.TheVariants.{TooManyScopes}
 use Rattle.hpc_top.specs.declared.merged.Merged.{Merged}
 use Rattle.hpc_top.specs.declared.status.Made.{Made}
 use Rattle.hpc_top.specs.declared.run_profile.RunProfile.{RunProfile}
-use Rattle.hpc_top.specs.Made.{view}
+use Rattle.hpc_top.specs.Made.{product_in}
 use Rattle.hpc_top.specs.Merged.{IsMadeOf, MakesBy, Merging, sample_plan}
 use Rattle.hpc_top.specs.Samples.{sampled, few_samples}
 use Rattle.hpc_top.specs.declared.status.Prepared.{Prepared}
@@ -50,7 +50,7 @@ use Rattle.hpc_top.proofs.Lines.{lines_same}
 
 -- ---- where crews merge all
 
-pub whole_product : (merging : Merging) (period : ℕ) (made : Made) (elf input schedule : List ℕ) → IsTrue merging.whole → MakesBy merging period (Ok made) (profiled_of elf input schedule period) → profile_of elf input schedule period ≡ Ok (view made)
+pub whole_product : (merging : Merging) (period : ℕ) (made : Made) (elf input schedule : List ℕ) → IsTrue merging.whole → MakesBy merging period (Ok made) (profiled_of elf input schedule period) → profile_of elf input schedule period ≡ Ok (product_in made)
 unfolding profile_of
 whole_product merging period made elf input schedule whole (p, is, made_of) =
     ap (λ (r : Result Profiled InputFault). r >>= λ p. Ok (product_of period p)) is ∙ ap Ok (sym (made_of.whole whole))
@@ -109,22 +109,22 @@ unplanned ccts false fault e = absurd cc
 -- what is attributed
 pub attributed_as : (harts : ℕ) (naming : Naming) (expand : Raw → List Scope) (samples : List HartRaw) (a : Attributed) → attributed harts naming expand samples ≡ Ok a
     → a ≡ record { harts = harts; naming = naming; expand = expand; samples = samples }
-attributed_as harts naming expand samples a is = tested (nat_lt most_path_scopes (scopes_in expand (distinct harts samples))) is
+attributed_as harts naming expand samples a is = tested (nat_lt most_scopes_in_all (scopes_in expand (distinct harts samples))) is
   where
     tested : (many : Bool) → scopes_decide harts naming expand samples many ≡ Ok a → a ≡ record { harts = harts; naming = naming; expand = expand; samples = samples }
     tested true e = absurd cc
     tested false e = (let same : a ≡ record { harts = harts; naming = naming; expand = expand; samples = samples } = cc in same)
 
 module _ (harts : ℕ) (expand : Raw → List Scope) (ccts : List (List Counted)) (samples : List HartRaw) (counts : ccts ≡ distinct harts samples) where
-  by_scopes : (naming : Naming) (many : Bool) → nat_lt most_path_scopes (scopes_in expand ccts) ≡ many → attributed harts naming expand samples ≡ scopes_decide harts naming expand samples many
-  by_scopes naming many is = ap (scopes_decide harts naming expand samples) (ap (λ (ts : List (List Counted)). nat_lt most_path_scopes (scopes_in expand ts)) (sym counts) ∙ is)
+  by_scopes : (naming : Naming) (many : Bool) → nat_lt most_scopes_in_all (scopes_in expand ccts) ≡ many → attributed harts naming expand samples ≡ scopes_decide harts naming expand samples many
+  by_scopes naming many is = ap (scopes_decide harts naming expand samples) (ap (λ (ts : List (List Counted)). nat_lt most_scopes_in_all (scopes_in expand ts)) (sym counts) ∙ is)
 
   pub plan_harts : (plan : Planned) → few_planned expand ccts ≡ Ok plan → plan.harts ≡ length ccts
-  plan_harts plan planned_by = ap (λ (p : Planned). p.harts) (planned ccts (nat_lt most_path_scopes (scopes_in expand ccts)) plan planned_by).1
+  plan_harts plan planned_by = ap (λ (p : Planned). p.harts) (planned ccts (nat_lt most_scopes_in_all (scopes_in expand ccts)) plan planned_by).1
 
   pub refused_plan : (naming : Naming) (fail : Fail InputFault) → FailsBy fail (few_planned expand ccts) → FailsBy fail (attributed harts naming expand samples)
   refused_plan naming (fails.Fault fault) refused =
-      let is = unplanned ccts (nat_lt most_path_scopes (scopes_in expand ccts)) fault refused in
+      let is = unplanned ccts (nat_lt most_scopes_in_all (scopes_in expand ccts)) fault refused in
       by_scopes naming true is.0 ∙ ap Err (sym is.1)
   refused_plan naming (fails.Memory memory) refused = tt
 
@@ -144,7 +144,7 @@ module _ (by : Merging) (period harts : ℕ) (naming : Naming) (expand : Raw →
       → m.content ≡ content_of period harts naming (named_paths m.crew.stripes) → content_table m.content ≡ top_down period harts naming (named_paths m.crew.stripes)
       → Merges by period (Ok m) (attributed harts naming expand samples)
   merge_is ccts samples counts held own plan m planned_by gives of whole content_is table =
-      let is = planned ccts (nat_lt most_path_scopes (scopes_in expand ccts)) plan planned_by in
+      let is = planned ccts (nat_lt most_scopes_in_all (scopes_in expand ccts)) plan planned_by in
       let a : Attributed = whole_of samples in
       let is_plan : expanded plan expand ≡ sample_plan a = ap (λ (p : Planned). expanded p expand) is.1 ∙ ap (λ (ts : List (List Counted)). expanded (plan_of ts) expand) counts in
       let plan_is : m.crew.stripes.view.plan ≡ sample_plan a = of.plan ∙ is_plan in (

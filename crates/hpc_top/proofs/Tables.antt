@@ -1,12 +1,11 @@
 -- What `view` puts of the content of call paths.
-use Rattle.std.proofs.Common.{◌≡◌, ℕ, ◌<◌, ◌≤◌, true, false, List, [], ◌∷◌, length, All, Result, Ok, ap, subst, sym, true≢false, arith}
+use Rattle.std.proofs.Common.{◌≡◌, ℕ, ◌<◌, ◌≤◌, true, List, [], ◌∷◌, length, All, Result, Ok, ap, subst, sym, true≢false, arith}
 use Rattle.std.proofs.lemmas.List.Elements.{All-weaker}
 use Rattle.prof_bytes.specs.Outcome.{◌>>=◌}
 use Rattle.prof_db.specs.declared.fault.DbFault.{DbFault}
 use Rattle.prof_db.specs.Rules.{database_in}
 use Rattle.prof_db.specs.Spelling.{database_spelling}
 use Rattle.prof_db.specs.Stored.{AreStored, is_call_path}
-use Rattle.scope_types.specs.Limits.{most_path_scopes}
 use Rattle.scope_types.specs.declared.scope.Scope.{Scope}
 use Rattle.scope_types.specs.CallPaths.{HartPath}
 use Rattle.tree_types.specs.declared.content.Content.{Content}
@@ -18,10 +17,8 @@ use Rattle.tree_types.specs.PathsOf.{paths_of}
 use Rattle.tree_types.specs.TopDown.{top_down}
 use Rattle.view_tables.specs.Callers.{callers}
 use Rattle.view_tables.specs.Flat.{flat}
-use Rattle.hpc_top.specs.declared.status.InputFault.{InputFault}
 use Rattle.hpc_top.specs.Attribution.{Attributed, attribution_of, call_paths_of}
 use Rattle.hpc_top.specs.Listed.{only_text}
-use Rattle.hpc_top.specs.Product.{Product}
 use Rattle.hpc_top.specs.Shown.{database_from, most_callers, table_of_paths, table_of, view_product}
 use Rattle.hpc_top.specs.Words.{ViewTable, Top, Callers, Flat}
 

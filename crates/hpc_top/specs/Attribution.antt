@@ -49,7 +49,7 @@ attribution_from period a paths = record {
   text = top_down period a.harts a.naming paths;
 }
 
--- those of all samples
+-- the database and the top-down table of all samples
 abbrev pub attribution_of : ℕ → Attributed → Product
 attribution_of period a = attribution_from period a (call_paths_of a)
 
@@ -69,12 +69,12 @@ of_program image head =
     if head.length == length image.file && head.entry == image.entry then Ok head
     else Err (WrongProgram head.length head.entry (length image.file) image.entry)
 
--- by a program's scopes: each raw path as often as it is counted
+-- the samples of a measurement, attributed by a program's scopes: each raw path as often as it is counted
 abbrev pub attributed_by : ProgramScopes → List (List Counted) → Result Attributed InputFault
 attributed_by scopes tables =
     attributed (length tables) (naming_of scopes) (call_path (found_at scopes)) (each_sample tables)
 
--- by a program whose debug information is not read yet, or its first refusal
+-- the same by a program whose debug information is not read yet, or its first refusal
 abbrev pub attributed_code : ProgramImage → List (List Counted) → Result Attributed InputFault
 attributed_code image tables = do
   scopes ← program_scopes image

@@ -39,7 +39,7 @@ drill_lines number retired samples count database =
 
 -- ---- a drill
 
--- those of a run: its retired instructions, its samples, the nodes of their call paths, and the database of these
+-- the lines of a run: its retired instructions, its samples, the nodes of their call paths, and the database of these
 abbrev pub drill_text : ℕ → ℕ → Profiled → List ℕ
 drill_text number period p =
     drill_lines number (retired_by p.final) (length p.attributed.samples) (length (nodes (call_paths_of p.attributed)))

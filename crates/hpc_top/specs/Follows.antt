@@ -11,31 +11,31 @@ use Rattle.hpc_top.specs.Outcome.{Call, Makes, Finished}
 use Rattle.hpc_top.specs.Product.{Product}
 use Rattle.hpc_top.specs.Drill.{drill_product}
 
--- the answers to an invalid command line
-abbrev pub IsUsage : Status → Type 0
-IsUsage Usage = Unit {0}
-IsUsage (Memory memory) = Unit {0}
-IsUsage Done = ⊥
-IsUsage (Input fault) = ⊥
-IsUsage (Device place) = ⊥
+-- the answers to an invalid command line: `Usage`, or `Memory`
+abbrev pub UsageOrMemory : Status → Type 0
+UsageOrMemory Usage = Unit {0}
+UsageOrMemory (Memory memory) = Unit {0}
+UsageOrMemory Done = ⊥
+UsageOrMemory (Input fault) = ⊥
+UsageOrMemory (Device place) = ⊥
 
--- the answers where the verdict is a refusal
-abbrev pub IsRefusal : InputFault → Status → Type 0
-IsRefusal refusal (Input fault) = fault ≡ refusal
-IsRefusal refusal (Device Read) = Unit {0}
-IsRefusal refusal (Memory memory) = Unit {0}
-IsRefusal refusal (Device Store) = ⊥
-IsRefusal refusal (Device Print) = ⊥
-IsRefusal refusal Usage = ⊥
-IsRefusal refusal Done = ⊥
+-- the answers where the verdict is a refusal: this refusal, a failed read, or `Memory`
+abbrev pub RefusalReadOrMemory : InputFault → Status → Type 0
+RefusalReadOrMemory refusal (Input fault) = fault ≡ refusal
+RefusalReadOrMemory refusal (Device Read) = Unit {0}
+RefusalReadOrMemory refusal (Memory memory) = Unit {0}
+RefusalReadOrMemory refusal (Device Store) = ⊥
+RefusalReadOrMemory refusal (Device Print) = ⊥
+RefusalReadOrMemory refusal Usage = ⊥
+RefusalReadOrMemory refusal Done = ⊥
 
--- the answers where the files are accepted and no device failed
-abbrev pub IsDone : Status → Type 0
-IsDone Done = Unit {0}
-IsDone (Memory memory) = Unit {0}
-IsDone Usage = ⊥
-IsDone (Input fault) = ⊥
-IsDone (Device place) = ⊥
+-- the answers where the files are accepted and no device failed: `Done`, or `Memory`
+abbrev pub DoneOrMemory : Status → Type 0
+DoneOrMemory Done = Unit {0}
+DoneOrMemory (Memory memory) = Unit {0}
+DoneOrMemory Usage = ⊥
+DoneOrMemory (Input fault) = ⊥
+DoneOrMemory (Device place) = ⊥
 
 -- no count of failures rose
 pub record NothingFailed (call : Call) : Type 0 where
@@ -58,16 +58,16 @@ pub record Follows (asked : Option Request) (call : Call) (status : Status) : Ty
       → IsTrue call.before.out.known → Drilled words.number call
   -- the words alone decide on `Usage`
   pub usage : status ≡ Usage → IsNone asked
-  pub invalid : IsNone asked → IsUsage status
+  pub invalid : IsNone asked → UsageOrMemory status
   -- a refusal is the verdict on the files
   pub input : (fault : InputFault) → status ≡ Input fault → IsSomeAnd asked (λ request.
       IsTrue call.before.shelf.known → verdict (task_of request) call.before.shelf.files ≡ Err fault)
   -- and where the verdict is a refusal, it is answered, unless a read failed or memory ran out
   pub refused : (request : Request) (fault : InputFault) → asked ≡ Some request → IsTrue call.before.shelf.known
-      → verdict (task_of request) call.before.shelf.files ≡ Err fault → IsRefusal fault status
+      → verdict (task_of request) call.before.shelf.files ≡ Err fault → RefusalReadOrMemory fault status
   -- where the files are accepted and no device failed, the answer is `Done`, unless memory ran out
   pub complete : (request : Request) → asked ≡ Some request → IsTrue call.before.shelf.known
-      → IsOk (verdict (task_of request) call.before.shelf.files) → NothingFailed call → IsDone status
+      → IsOk (verdict (task_of request) call.before.shelf.files) → NothingFailed call → DoneOrMemory status
   -- a failure of a device is one of this call
   pub read : status ≡ Device Read → Rose call.before.shelf.reads.count call.after.shelf.reads.count
   pub store : status ≡ Device Store → Rose call.before.shelf.stores.count call.after.shelf.stores.count

@@ -2,11 +2,13 @@
 use Rattle.std.specs.Prelude.{◌<◌, ◌≤◌, length}
 use Rattle.hpc_top.specs.declared.main_job.Job.{Job}
 use Rattle.hpc_top.specs.Task.{program_limit, schedule_limit}
+use Rattle.hpc_top.specs.Words.{most_workers}
 
--- the program and the schedule are within their limits, the period is above 0, and there are one to sixteen workers
+-- the program and the schedule are within their limits, the period is above 0, and there is at least one worker and at
+-- most as many as a command may have
 pub record IsJob (job : Job) : Type 0 where
   pub program : length job.elf.now ≤ program_limit
   pub schedule : length job.schedule.now ≤ schedule_limit
   pub period : 0 < job.period
   pub some : 1 ≤ job.workers
-  pub workers : job.workers ≤ 16
+  pub workers : job.workers ≤ most_workers

@@ -12,7 +12,7 @@ use Rattle.hpc_top.specs.Scopes.{program_scopes}
 abbrev pub only_text : List ℕ → Product
 only_text text = record { stored = []; text = text }
 
--- of a program whose debug information is not read yet
+-- the listing of a program whose debug information is not read yet, or its first refusal
 abbrev pub listed_code : ProgramImage → Result Product InputFault
 listed_code image = do
   scopes ← program_scopes image

@@ -2,5 +2,5 @@
 use Rattle.hpc_top.specs.declared.status.Made.{Made}
 use Rattle.hpc_top.specs.Product.{Product}
 
-abbrev pub view : Made → Product
-view made = record { stored = made.database; text = made.report }
+abbrev pub product_in : Made → Product
+product_in made = record { stored = made.database; text = made.report }

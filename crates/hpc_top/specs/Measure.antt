@@ -29,7 +29,7 @@ measured_run path_of period harts run = do
   samples ← few_samples harts (sampled path_of period run)
   Ok (record { harts = harts; samples = samples; final = run.final })
 
--- of a program whose call frame information was read
+-- what is measured of a program whose call frame information was read
 abbrev pub measured_program : ProgramImage → Described → Scheduled → List ℕ → ℕ → Result Measured InputFault
 measured_program image described schedule input period =
     measured_run (unwound_by (unwinding_of described image)) period schedule.harts (run_of image schedule input)

@@ -10,7 +10,7 @@ use Rattle.merge_crew.specs.declared.merge.Crew.{Crew}
 use Rattle.merge_crew.specs.Merged.{IsOfPlan, IsWhole}
 use Rattle.hpc_top.specs.declared.status.InputFault.{InputFault}
 use Rattle.hpc_top.specs.declared.status.Made.{Made}
-use Rattle.hpc_top.specs.Made.{view}
+use Rattle.hpc_top.specs.Made.{product_in}
 use Rattle.hpc_top.specs.Attribution.{Attributed}
 use Rattle.hpc_top.specs.Profile.{Profiled, product_from, product_of}
 
@@ -37,9 +37,9 @@ merging gives whole workers = record { gives = gives; whole = whole; workers = w
 pub record IsMadeOf (merging : Merging) (period : ℕ) (p : Profiled) (made : Made) : Type 0 where
   pub gives : merging.gives made.crew
   pub plan : IsOfPlan (run_plan p) made.crew
-  pub product : view made ≡ product_from period p (named_paths made.crew.stripes)
+  pub product : product_in made ≡ product_from period p (named_paths made.crew.stripes)
   pub crew : IsTrue merging.whole → IsWhole (run_plan p) merging.workers made.crew
-  pub whole : IsTrue merging.whole → view made ≡ product_of period p
+  pub whole : IsTrue merging.whole → product_in made ≡ product_of period p
 
 -- what is made of a run that is profiled, or its refusal, unless memory ran out
 abbrev pub MakesBy : Merging → ℕ → Result Made (Fail InputFault) → Result Profiled InputFault → Type 0

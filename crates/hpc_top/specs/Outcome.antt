@@ -35,26 +35,39 @@ abbrev pub KeepsPart : Option (List ℕ) → Call → List ℕ → Type 0
 KeepsPart None call bytes = call.after.shelf.files ≡ call.before.shelf.files
 KeepsPart (Some name) call bytes = HoldsPart call.before.shelf.files call.after.shelf.files name bytes
 
--- all files and the output are as before
+-- nothing but the failed reads has changed
 abbrev pub Untouched : Call → Type 0
-Untouched call = (call.after.shelf.files ≡ call.before.shelf.files) × (call.after.out ≡ call.before.out)
+Untouched call =
+    (call.after.shelf ≡ record call.before.shelf { reads = call.after.shelf.reads })
+    × (call.after.out ≡ call.before.out)
 
--- the product's file is partly stored, and the output is as before
+-- no read and no store failed, and nothing of the shelf but its files has changed
+abbrev pub NoFileFailed : Call → Type 0
+NoFileFailed call = call.after.shelf ≡ record call.before.shelf { files = call.after.shelf.files }
+
+-- no put failed, and nothing of the output but its bytes has changed
+abbrev pub NoPutFailed : Call → Type 0
+NoPutFailed call = call.after.out ≡ record call.before.out { taken = call.after.out.taken }
+
+-- the product's file is partly stored, and nothing but it and the failed stores has changed
 abbrev pub Storing : Option (List ℕ) → Product → Call → Type 0
 Storing name product call =
-    (IsTrue call.before.shelf.known → KeepsPart name call product.stored) × (call.after.out ≡ call.before.out)
+    (IsTrue call.before.shelf.known → KeepsPart name call product.stored)
+    × (call.after.shelf ≡ record call.before.shelf { files = call.after.shelf.files; stores = call.after.shelf.stores })
+    × (call.after.out ≡ call.before.out)
 
 -- the file is whole, and a front of the product's text was put
 abbrev pub Printing : Option (List ℕ) → Product → Call → Type 0
 Printing name product call =
-    (IsTrue call.before.shelf.known → Keeps name call product.stored)
+    (IsTrue call.before.shelf.known → Keeps name call product.stored) × NoFileFailed call
     × (IsTrue call.before.out.known → AppendsPart call.before.out.taken call.after.out.taken product.text)
 
--- the file and the text are whole
+-- the file and the text are whole, and no call failed
 abbrev pub Finished : Option (List ℕ) → Product → Call → Type 0
 Finished name product call =
-    (IsTrue call.before.shelf.known → Keeps name call product.stored)
+    (IsTrue call.before.shelf.known → Keeps name call product.stored) × NoFileFailed call
     × (IsTrue call.before.out.known → Appends call.before.out.taken call.after.out.taken product.text)
+    × NoPutFailed call
 
 -- this stands of some product. Where the shelf shows its files, they are accepted, and it is the definition's
 abbrev pub Makes : Task → (Option (List ℕ) → Product → Call → Type 0) → Call → Type 0
@@ -79,18 +92,24 @@ pub record StoreFailed (name : Option (List ℕ)) (old new : ShelfState) : Type 
   pub rose : Rose old.stores.count new.stores.count
   pub named : name ≡ Some new.stores.name
 
+-- a put of the output failed, and none ran out of memory
+pub record PrintFailed (old new : SinkState) : Type 0 where
+  pub rose : Rose old.faults new.faults
+  pub shortages : new.shortages ≡ old.shortages
+
 -- a row for each answer to a valid command line
 abbrev pub Outcome : Task → Call → Status → Type 0
 Outcome task call Done = Makes task Finished call
 Outcome task call Usage = ⊥
 Outcome task call (Input fault) =
-    Untouched call × (IsTrue call.before.shelf.known → verdict task call.before.shelf.files ≡ Err fault)
+    (call.after ≡ call.before)
+    × (IsTrue call.before.shelf.known → verdict task call.before.shelf.files ≡ Err fault)
 Outcome task call (Device Read) = Untouched call × ReadFailed task.wants call.before.shelf call.after.shelf
 Outcome task call (Device Store) = Makes task Storing call × StoreFailed task.stores call.before.shelf call.after.shelf
-Outcome task call (Device Print) = Makes task Printing call × Rose call.before.out.faults call.after.out.faults
+Outcome task call (Device Print) = Makes task Printing call × PrintFailed call.before.out call.after.out
 Outcome task call (Memory memory) = Untouched call ⊎ Makes task Storing call ⊎ Makes task Printing call
 
--- an invalid command line: no file was fetched or stored, and nothing was put
+-- an invalid command line: what shelf and output show is as before
 abbrev pub Refuses : Call → Status → Type 0
 Refuses call Usage = call.after ≡ call.before
 Refuses call (Memory memory) = call.after ≡ call.before

@@ -36,13 +36,14 @@ profiled_run path_of period harts expand naming run = do
   a ← attributed harts naming expand samples
   Ok (record { attributed = a; final = run.final })
 
--- of a program whose call frame information and debug information were read
+-- what is profiled of a program whose call frame information and debug information were read
 abbrev pub profiled_program : Described → ProgramScopes → Scheduled → List ℕ → ℕ → Result Profiled InputFault
 profiled_program described scopes schedule input period =
     profiled_run (unwound_by (unwinding_of described scopes.image)) period schedule.harts (call_path (found_at scopes))
     (naming_of scopes) (run_of scopes.image schedule input)
 
--- of a program whose call frame information was read, or the first refusal of its debug information or of its run
+-- the same of a program whose call frame information alone was read, or the first refusal of its debug information or
+-- of its run
 abbrev pub profiled_code : ProgramImage → Described → Scheduled → List ℕ → ℕ → Result Profiled InputFault
 profiled_code image described schedule input period = do
   scopes ← program_scopes image

@@ -6,7 +6,7 @@ use Rattle.scope_types.specs.declared.scope.Scope.{Scope}
 use Rattle.scope_types.specs.CallPaths.{HartPath}
 use Rattle.scope_types.specs.Raw.{Raw}
 use Rattle.scope_types.specs.Distinct.{HartRaw, distinct, frames_in, scopes_in}
-use Rattle.scope_types.specs.Limits.{most_samples, most_path_frames, most_path_scopes}
+use Rattle.scope_types.specs.Limits.{most_samples, most_frames_in_all, most_scopes_in_all}
 use Rattle.sample_clock.specs.declared.clock.Sample.{Sample}
 use Rattle.sample_clock.specs.Samples.{Paths, samples}
 use Rattle.rv_run.specs.Run.{Run}
@@ -22,7 +22,7 @@ sample_path expand s = record { hart = s.hart; path = expand s.raw }
 -- ---- the samples that are taken
 
 abbrev pub within_frames : List (List Counted) → Result (List (List Counted)) InputFault
-within_frames tables = if nat_lt most_path_frames (frames_in tables) then Err TooManyFrames else Ok tables
+within_frames tables = if nat_lt most_frames_in_all (frames_in tables) then Err TooManyFrames else Ok tables
 
 abbrev pub within_samples : List HartRaw → Result (List HartRaw) InputFault
 within_samples all = if nat_lt most_samples (length all) then Err TooManySamples else Ok all
@@ -36,7 +36,7 @@ few_samples harts all = do
 -- the third limit: too many scopes of the call paths of distinct raw paths
 abbrev pub within_scopes : (Raw → List Scope) → ℕ → List HartRaw → Result (List HartRaw) InputFault
 within_scopes expand harts all =
-    if nat_lt most_path_scopes (scopes_in expand (distinct harts all)) then Err TooManyScopes else Ok all
+    if nat_lt most_scopes_in_all (scopes_in expand (distinct harts all)) then Err TooManyScopes else Ok all
 
 -- a sample as its hart and its raw path
 abbrev pub hart_raw : Sample → HartRaw

@@ -2,6 +2,7 @@
 use Rattle.std.specs.Prelude.{ℕ, List, [], ◌∷◌, length, Option, Some, None, Result, Ok, Err, if◌then◌else◌, nat_lt}
 use Rattle.prof_bytes.specs.Outcome.{◌>>=◌}
 use Rattle.prof_devices.specs.Files.{Files, file_bytes}
+use Rattle.measure_file.specs.Spelling.{measurement_limit}
 use Rattle.hpc_top.specs.declared.status.FileKind.{FileKind}
 use Rattle.hpc_top.specs.declared.status.FileKind.TheVariants as kinds
 use Rattle.hpc_top.specs.declared.status.InputFault.{InputFault}
@@ -57,9 +58,6 @@ input_limit = 1048576
 
 abbrev pub schedule_limit : ℕ
 schedule_limit = 4194304
-
-abbrev pub measurement_limit : ℕ
-measurement_limit = 33554432
 
 abbrev pub database_limit : ℕ
 database_limit = 2147483648

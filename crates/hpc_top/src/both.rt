@@ -17,7 +17,7 @@ use view_tables::{top_down_length, top_down_length_by_two};
 /// With fewer nodes than these one thread makes both: another takes longer to start.
 const WORTH_A_THREAD: usize = 8_192;
 
-/// The content's database, and its table after the lines, of which two threads make one each.
+/// The content's database, and its table after the lines, of many nodes by a thread each.
 pub fn database_and_report<R: Threads + Sync>(
     rt: &R,
     alloc: Global,

@@ -82,7 +82,7 @@ pub fn hpc_main<R: Threads + Sync + AllocGlobal, F: Shelf, O: Sink, E: Sink, G: 
         (call_of (F.shown shelf.old) (F.shown shelf.new) (O.shown out.old) (O.shown out.new)) result }
     // The one line of each answer but `Done`, which leaves `err` as it was.
     ensures line { Says (E.shown err.old) (E.shown err.new) result }
-    // For an invalid command line neither files nor output are called.
+    // For an invalid command line shelf and output are the very same, also where they show nothing.
     ensures untouched { IsNone (request_of words.now) → (shelf.new ≡ shelf.old) × (out.new ≡ out.old) }
     // What follows from the first: the headline, and each answer with its cause, one sentence each.
     ensures follows { Follows (request_of words.now)

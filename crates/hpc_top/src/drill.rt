@@ -1,6 +1,5 @@
 //! What `drill` makes: the guest of a number, profiled, in four lines.
 ghost use Rattle.std.specs.Prelude.{◌≡◌, ◌≤◌, ◌++◌, decimal, fold, IfOk, IsTrue, length, OnOk};
-ghost use Rattle.guest_gen.specs.Guest.{guest_of};
 ghost use Rattle.prof_bytes.specs.Outcome.{Gives};
 ghost use Rattle.prof_db.specs.Spelling.{database_spelling};
 ghost use Rattle.scope_types.specs.Key.{fnv};

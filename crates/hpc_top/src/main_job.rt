@@ -8,7 +8,7 @@ ghost use Rattle.rv_run.specs.Run.{run_of};
 ghost use Rattle.rv_run.specs.Progress.{to_come};
 ghost use Rattle.cfi_unwind.specs.Path.{path_of as unwound_by};
 ghost use Rattle.hpc_top.specs.Job.{IsJob};
-ghost use Rattle.hpc_top.specs.Made.{view};
+ghost use Rattle.hpc_top.specs.Made.{product_in};
 ghost use Rattle.hpc_top.specs.Profile.{profile_of, profiled_code, profiled_of, profiled_program, profiled_run};
 ghost use Rattle.hpc_top.specs.Program.{program, scheduled};
 ghost use Rattle.hpc_top.specs.Merged.{MakesBy, merging};
@@ -247,7 +247,7 @@ pub fn profile<R: Threads + Sync + AllocGlobal, C: Crews>(
     ensures merged { MakesBy (merging (C.gives crews.now) (C.whole crews.now) job.now.workers) job.now.period
         result
         (profiled_of job.now.elf.now job.now.input.now job.now.schedule.now job.now.period) }
-    ensures whole { IsTrue (C.whole crews.now) → Gives view result
+    ensures whole { IsTrue (C.whole crews.now) → Gives product_in result
         (profile_of job.now.elf.now job.now.input.now job.now.schedule.now job.now.period) }
 {
     counts_decide();

@@ -262,7 +262,6 @@ fn prepare_view<R: AllocGlobal, F: Shelf>(
 }
 
 /// What `drill` makes, which fetches no file: whatever a shelf shows, it stays as it is.
-#[tactic(auto, using(crate::proofs::Fetching::looked_same))]
 fn prepare_drill<R: Threads + Sync + AllocGlobal, G: Gate>(
     rt: &R,
     words: DrillWords,

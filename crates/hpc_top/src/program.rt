@@ -1,5 +1,5 @@
 //! A program and its schedule, read.
-ghost use Rattle.std.specs.Prelude.{◌≡◌, ◌≤◌, ◌^◌, length};
+ghost use Rattle.std.specs.Prelude.{◌≤◌, ◌^◌, length};
 ghost use Rattle.prof_bytes.specs.Outcome.{Gives};
 ghost use Rattle.hpc_top.specs.Program.{frame_information, program, scheduled};
 

@@ -1,5 +1,5 @@
 //! A run and its profile as text.
-ghost use Rattle.std.specs.Prelude.{◌≡◌, ◌<◌, ◌≤◌, ◌^◌, ◌++◌, ◌*◌, ◌-◌, length, min, codes, decimal, IfOk, OnOk};
+ghost use Rattle.std.specs.Prelude.{◌≡◌, ◌<◌, ◌≤◌, ◌^◌, ◌++◌, ◌*◌, ◌-◌, length, min, decimal, IfOk, OnOk};
 ghost use Rattle.scope_types.specs.Distinct.{samples_in};
 ghost use Rattle.scope_types.specs.Limits.{most_samples};
 ghost use Rattle.thread_cct.specs.Adding.{samples_of_hart};

@@ -1,5 +1,5 @@
 ghost use Rattle.std.specs.Prelude.{◌≡◌};
-ghost use Rattle.hpc_top.specs.Made.{view};
+ghost use Rattle.hpc_top.specs.Made.{product_in};
 ghost use Rattle.hpc_top.specs.private.Steps.{ready};
 ghost use Rattle.hpc_top.specs.private.Stop.{IsStopOf, answer_of};
 ghost use Rattle.hpc_top.specs.declared.status.Stop.TheVariants as stops;
@@ -111,7 +111,7 @@ pub struct Prepared {
 
 /// What was made, ready to be stored and put.
 pub fn made_ready(made: Made) -> Prepared
-    ensures { ready result ≡ view made }
+    ensures { ready result ≡ product_in made }
 {
     let Made {
         database,

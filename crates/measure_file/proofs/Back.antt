@@ -1,5 +1,5 @@
 -- What was read has just these bytes: words and frames.
-use Rattle.std.proofs.Common.{◌≡◌, ℕ, zero, suc, ◌+◌, ◌^◌, ◌<◌, ◌≤◌, Bool, true, List, [], length, Result, Ok, refl, arith}
+use Rattle.std.proofs.Common.{◌≡◌, ℕ, zero, suc, ◌+◌, ◌^◌, ◌<◌, ◌≤◌, Bool, true, List, [], Result, Ok, refl, arith}
 use Rattle.std.proofs.lemmas.Bool.{and_parts, leb-true}
 use Rattle.byteorder.specs.Numbers.{little_from-lt}
 use Rattle.prof_bytes.specs.Number.{IsBytes, number_in, word}
@@ -9,8 +9,8 @@ use Rattle.prof_bytes.specs.Repeated.{adding, times}
 use Rattle.prof_bytes.proofs.Lists.{ItemsTook, items_took}
 use Rattle.prof_bytes.proofs.Outcomes.{bind_ok, pass_ok}
 use Rattle.prof_bytes.proofs.Took.{Took, bytes_left, bytes_on, given, number_moved, number_took}
-use Rattle.scope_types.specs.Limits.{most_path_frames, most_samples}
-use Rattle.scope_types.specs.Raw.{most_frames}
+use Rattle.scope_types.specs.Limits.{most_frames_in_all, most_samples}
+use Rattle.scope_types.specs.Raw.{most_frames_of_path}
 use Rattle.scope_types.specs.declared.frame.Frame.{Frame}
 use Rattle.measure_file.specs.declared.fault.MeasureFault.{MeasureFault}
 use Rattle.measure_file.specs.Fields.{starting_at, word_by, word_from}
@@ -66,11 +66,11 @@ frames_back n frames at next bytes is = items_took measured_frame_from frame_byt
 pub count_rule : (before n : ℕ) → is_count before n ≡ true → (1 ≤ n) × (before + n ≤ most_samples)
 count_rule before n e = (let parts = and_parts _ _ e in (leb-true 1 n parts.0, leb-true (before + n) most_samples parts.1))
 
-pub length_rule : (before n : ℕ) → is_length before n ≡ true → (1 ≤ n) × (n ≤ most_frames) × (before + n ≤ most_path_frames)
+pub length_rule : (before n : ℕ) → is_length before n ≡ true → (1 ≤ n) × (n ≤ most_frames_of_path) × (before + n ≤ most_frames_in_all)
 length_rule before n e =
     let parts = and_parts _ _ e in
     let first = and_parts _ _ parts.0 in
-    (leb-true 1 n first.0, leb-true n most_frames first.1, leb-true (before + n) most_path_frames parts.1)
+    (leb-true 1 n first.0, leb-true n most_frames_of_path first.1, leb-true (before + n) most_frames_in_all parts.1)
 
 pub end_again : (n : ℕ) → is_end_number n ≡ true → end_number (path_end n) ≡ n
 end_again zero e = refl

@@ -1,15 +1,15 @@
 -- What was read has just these bytes: the whole file.
-use Rattle.std.proofs.Common.{◌≡◌, ℕ, ◌≤◌, Bool, true, not, ◌||◌, nat_eq, nat_lt, List, [], ◌++◌, length, take, drop, replicate, All, Ok, refl, sym, ap, subst, ◌∙◌, append_assoc, append-nil, arith}
+use Rattle.std.proofs.Common.{◌≡◌, ℕ, ◌≤◌, true, nat_lt, List, [], ◌++◌, length, replicate, All, Ok, refl, sym, ap, subst, ◌∙◌, append-nil, arith}
 use Rattle.std.specs.List.{flat_map}
-use Rattle.std.proofs.lemmas.Bool.{and_parts, leb-true, ltb-false, or_parts, not-false}
-use Rattle.std.proofs.lemmas.List.{length-replicate, nil_from_length, take-append-drop}
+use Rattle.std.proofs.lemmas.Bool.{and_parts, leb-true, ltb-false}
+use Rattle.std.proofs.lemmas.List.{length-replicate, nil_from_length}
 use Rattle.std.proofs.lemmas.List.Elements.{All-replicate, All-nil}
 use Rattle.prof_bytes.specs.Number.{IsBytes, word}
 use Rattle.prof_bytes.specs.Reading.{At, left_of}
 use Rattle.scope_types.specs.declared.frame.Counted.{Counted}
 use Rattle.measure_file.specs.declared.head.MeasureHead.{MeasureHead}
 use Rattle.prof_bytes.specs.Repeated.{times}
-use Rattle.measure_file.specs.Fields.{fault_at, starting_at, word_from}
+use Rattle.measure_file.specs.Fields.{fault_at, starting_at}
 use Rattle.measure_file.specs.Measurable.{AreDistinct, AreMeasured, IsCounted, IsHead, IsMeasurable}
 use Rattle.measure_file.specs.Reading.{hart_from, is_harts, is_period, measurement_in, tables_from}
 use Rattle.measure_file.specs.Spelling.{magic, hart_bytes, measurement_spelling}

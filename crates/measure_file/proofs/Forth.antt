@@ -1,7 +1,7 @@
 -- What was written is read as the same: words, frames, paths and harts.
-use Rattle.std.proofs.Common.{◌≡◌, ℕ, ◌+◌, ◌^◌, ◌<◌, ◌≤◌, Bool, true, false, cond, nat_lt, List, [], ◌∷◌, ◌++◌, length, drop, replicate, sum_by, All, Result, Ok, Err, if◌then◌else◌, refl, sym, ap, subst, ◌∙◌, append_assoc, append-nil, arith}
+use Rattle.std.proofs.Common.{◌≡◌, ℕ, ◌+◌, ◌^◌, ◌<◌, ◌≤◌, Bool, true, false, cond, List, [], ◌∷◌, ◌++◌, length, replicate, sum_by, All, Ok, Err, refl, sym, ap, subst, ◌∙◌, append_assoc, append-nil, arith}
 use Rattle.std.specs.List.{flat_map}
-use Rattle.std.proofs.lemmas.Bool.{and_from, le-leb, le-ltb, or_from, or_parts}
+use Rattle.std.proofs.lemmas.Bool.{and_from, le-leb, or_from, or_parts}
 use Rattle.std.proofs.lemmas.List.{length-append, map-id}
 use Rattle.std.proofs.lemmas.List.Elements.{All-head, All-tail}
 use Rattle.std.proofs.lemmas.List.Folds.{list_any-append}
@@ -16,12 +16,11 @@ use Rattle.scope_types.specs.declared.frame.End.{End}
 use Rattle.scope_types.specs.declared.frame.End.TheVariants.{Whole, Partial}
 use Rattle.scope_types.specs.declared.frame.PartialCause.TheVariants.{NoFde, NoCfa, Expression, Unmapped, Depth}
 use Rattle.scope_types.specs.Distinct.{frames_in, samples_in}
-use Rattle.scope_types.specs.Limits.{most_path_frames, most_samples}
-use Rattle.scope_types.specs.Raw.{most_frames, same_raw}
+use Rattle.scope_types.specs.Limits.{most_frames_in_all, most_samples}
+use Rattle.scope_types.specs.Raw.{most_frames_of_path, same_raw}
 use Rattle.scope_types.specs.private.SameRaw.{raw_equiv}
 use Rattle.thread_cct.specs.Adding.{has_path, of_hart, with_path}
 use Rattle.thread_cct.proofs.Paths.{paths_below}
-use Rattle.measure_file.specs.declared.fault.MeasureFault.{MeasureFault}
 use Rattle.prof_bytes.specs.Repeated.{adding, times}
 use Rattle.measure_file.specs.Fields.{fault_at, starting_at, word_from, word_by}
 use Rattle.measure_file.specs.Measurable.{AreDistinct, HasWord, IsCounted}
@@ -79,7 +78,7 @@ put_forth done rest own c offset new =
     ∙ ap (λ (b : Bool). cond b (Err (fault_at offset)) (Ok (with_path tables hart c))) absent ∙ ap (λ (t : Tables). Ok t) (own_put done rest own c)
 
 path_forth : (done rest : Tables) (own : List Counted) (c : Counted) (at : At) (text : List ℕ) → IsCounted c → has_path c.path own ≡ false
-    → samples_in (done ++ own ∷ rest) + c.count ≤ most_samples → frames_in (done ++ own ∷ rest) + length c.path.frames ≤ most_path_frames
+    → samples_in (done ++ own ∷ rest) + c.count ≤ most_samples → frames_in (done ++ own ∷ rest) + length c.path.frames ≤ most_frames_in_all
     → left_of at ≡ path_bytes c ++ text → Comes (measured_path_from (length done) (done ++ own ∷ rest) at) (done ++ (own ++ c ∷ []) ∷ rest) text
 unfolding measured_path_from
 path_forth done rest own c at text is new few short left =
@@ -91,7 +90,7 @@ path_forth done rest own c at text is new few short left =
     let five = end_few c.path.end in
     let counts : is_count (samples_in tables) c.count ≡ true = and_from _ _ (le-leb 1 c.count is.count) (le-leb (samples_in tables + c.count) most_samples few) in
     let lengths : is_length (frames_in tables) many ≡ true =
-    and_from _ _ (and_from _ _ (le-leb 1 many is.frames.some) (le-leb many most_frames most)) (le-leb (frames_in tables + many) most_path_frames short) in
+    and_from _ _ (and_from _ _ (le-leb 1 many is.frames.some) (le-leb many most_frames_of_path most)) (le-leb (frames_in tables + many) most_frames_in_all short) in
     let text3 : List ℕ = flat_map frame_bytes frames ++ text in
     let a = ruled_forth (is_count (samples_in tables)) at c.count (word end ++ (word many ++ text3)) counts (omega (arith, few)) left in
     let b = ruled_forth is_end_number a.0 end (word many ++ text3) (le-leb end 5 five) (omega (arith, five)) a.2 in
@@ -108,7 +107,7 @@ new_behind (d ∷ own) cs c are =
     or_from (same_raw c.path d.path) (has_path c.path own) (raw_equiv.symm c.path d.path ∙ apart.0) (new_behind own cs c are.1)
 
 paths_forth : (cs : List Counted) (i : ℕ) (done rest : Tables) (own : List Counted) (at : At) (text : List ℕ) → All IsCounted cs → AreDistinct (own ++ cs)
-    → samples_in (done ++ own ∷ rest) + sum_by count_of cs ≤ most_samples → frames_in (done ++ own ∷ rest) + sum_by frames_of cs ≤ most_path_frames
+    → samples_in (done ++ own ∷ rest) + sum_by count_of cs ≤ most_samples → frames_in (done ++ own ∷ rest) + sum_by frames_of cs ≤ most_frames_in_all
     → left_of at ≡ flat_map path_bytes cs ++ text → Comes (times (λ i. measured_path_from (length done)) (length cs) i (done ++ own ∷ rest) at) (done ++ (own ++ cs) ∷ rest) text
 unfolding times
 paths_forth [] i done rest own at text are apart few short left = (at, ap (λ (l : List Counted). Ok (done ++ l ∷ rest, at)) (sym (append-nil own)), left)
@@ -131,7 +130,7 @@ paths_forth (c ∷ cs) i done rest own at text are apart few short left =
 -- ---- harts
 
 hart_forth : (cs : List Counted) (done rest : Tables) (at : At) (text : List ℕ) → All IsCounted cs → AreDistinct cs
-    → samples_in (done ++ [] ∷ rest) + sum_by count_of cs ≤ most_samples → frames_in (done ++ [] ∷ rest) + sum_by frames_of cs ≤ most_path_frames
+    → samples_in (done ++ [] ∷ rest) + sum_by count_of cs ≤ most_samples → frames_in (done ++ [] ∷ rest) + sum_by frames_of cs ≤ most_frames_in_all
     → left_of at ≡ hart_bytes cs ++ text → Comes (hart_from (length done) (done ++ [] ∷ rest) at) (done ++ cs ∷ rest) text
 unfolding hart_from
 hart_forth cs done rest at text are apart few short left =
@@ -141,7 +140,7 @@ hart_forth cs done rest at text are apart few short left =
     (paths.0, rw read.1 paths.1, paths.2)
 
 pub harts_forth : (more done : Tables) (at : At) (text : List ℕ) → All (All IsCounted) more → All AreDistinct more → samples_in done + samples_in more ≤ most_samples
-    → frames_in done + frames_in more ≤ most_path_frames → left_of at ≡ flat_map hart_bytes more ++ text
+    → frames_in done + frames_in more ≤ most_frames_in_all → left_of at ≡ flat_map hart_bytes more ++ text
     → Comes (times hart_from (length more) (length done) (done ++ replicate (length more) []) at) (done ++ more) text
 unfolding times
 harts_forth [] done at text are apart few short left = (at, refl, left)

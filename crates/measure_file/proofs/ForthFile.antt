@@ -1,8 +1,7 @@
 -- What was written is read as the same: the whole file.
-use Rattle.std.proofs.Common.{◌≡◌, ℕ, Bool, true, false, cond, not, ◌||◌, nat_eq, nat_lt, List, [], ◌++◌, length, take, drop, Result, Ok, Err, refl, sym, ap, ◌∙◌, append-nil, arith}
+use Rattle.std.proofs.Common.{◌≡◌, ℕ, List, [], ◌++◌, length, Ok, refl, sym, ◌∙◌, append-nil, arith}
 use Rattle.std.specs.List.{flat_map}
-use Rattle.std.proofs.lemmas.Bool.{and_from, le-leb, le-ltb, or_from}
-use Rattle.std.proofs.lemmas.List.{length-append}
+use Rattle.std.proofs.lemmas.Bool.{and_from, le-leb}
 use Rattle.prof_bytes.specs.Format.{magic_or}
 use Rattle.prof_bytes.proofs.Written.{magic_comes}
 use Rattle.prof_bytes.specs.Reading.{At, left_of}

@@ -7,9 +7,9 @@ use Rattle.std.proofs.lemmas.List.Sums.{sum_by-cons}
 use Rattle.scope_types.specs.declared.frame.Counted.{Counted}
 use Rattle.scope_types.specs.declared.frame.Frame.{Frame}
 use Rattle.scope_types.specs.Distinct.{frames_in, samples_in}
-use Rattle.scope_types.specs.Limits.{most_path_frames, most_samples}
+use Rattle.scope_types.specs.Limits.{most_frames_in_all, most_samples}
 use Rattle.measure_file.specs.declared.head.MeasureHead.{MeasureHead}
-use Rattle.measure_file.specs.Spelling.{end_number, frame_bytes, path_bytes, hart_bytes, head_bytes, measurement_spelling, most_bytes}
+use Rattle.measure_file.specs.Spelling.{end_number, frame_bytes, path_bytes, hart_bytes, head_bytes, measurement_spelling, measurement_limit}
 use Rattle.prof_bytes.specs.Number.{word}
 
 abbrev HasCount : Counted → Type 0
@@ -55,7 +55,7 @@ harts_long (table ∷ tables) all =
     let frames = sum_by-cons (sum_by frames_of) table tables in
     omega (arith, parts, own, one, rest, counts, frames)
 
-pub spelling_short : (head : MeasureHead) (tables : List (List Counted)) (text : List ℕ) → text ≡ measurement_spelling head tables → length tables ≤ 16 → samples_in tables ≤ most_samples → All (All (λ c. 0 < c.count)) tables → frames_in tables ≤ most_path_frames → length text ≤ most_bytes
+pub spelling_short : (head : MeasureHead) (tables : List (List Counted)) (text : List ℕ) → text ≡ measurement_spelling head tables → length tables ≤ 16 → samples_in tables ≤ most_samples → All (All (λ c. 0 < c.count)) tables → frames_in tables ≤ most_frames_in_all → length text ≤ measurement_limit
 unfolding measurement_spelling
 spelling_short head tables text is few samples counted frames =
     let long = ap (λ (l : List ℕ). length l) is in

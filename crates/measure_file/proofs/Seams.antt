@@ -9,7 +9,7 @@ use Rattle.std.proofs.lemmas.List.Folds.{list_any-append}
 use Rattle.std.proofs.lemmas.List.Sums.{sum_by-cons, sum_by-append}
 use Rattle.scope_types.specs.declared.frame.Counted.{Counted}
 use Rattle.scope_types.specs.Distinct.{frames_in, samples_in}
-use Rattle.scope_types.specs.Limits.{most_path_frames, most_samples}
+use Rattle.scope_types.specs.Limits.{most_frames_in_all, most_samples}
 use Rattle.scope_types.specs.Raw.{same_raw}
 use Rattle.scope_types.specs.private.SameRaw.{raw_equiv}
 use Rattle.thread_cct.specs.Adding.{has_path, of_hart, with_path}
@@ -68,7 +68,7 @@ distinct_more (d ∷ cs) c new are =
     (first, distinct_more cs c parts.1 are.1)
 
 pub measured_more : (done rest : Tables) (own : List Counted) (c : Counted) → AreMeasured (done ++ own ∷ rest) → IsCounted c → has_path c.path own ≡ false
-    → samples_in (done ++ own ∷ rest) + c.count ≤ most_samples → frames_in (done ++ own ∷ rest) + length c.path.frames ≤ most_path_frames
+    → samples_in (done ++ own ∷ rest) + c.count ≤ most_samples → frames_in (done ++ own ∷ rest) + length c.path.frames ≤ most_frames_in_all
     → AreMeasured (done ++ (own ++ c ∷ []) ∷ rest)
 measured_more done rest own c are counted new few short =
     let now = length-append done (own ∷ rest) in

@@ -5,7 +5,7 @@ use Rattle.scope_types.specs.declared.frame.Counted.{Counted}
 use Rattle.scope_types.specs.declared.frame.Frame.{Frame}
 use Rattle.scope_types.specs.Raw.{HasFrames}
 use Rattle.scope_types.specs.Distinct.{HartRaw, distinct, frames_in, samples_in}
-use Rattle.scope_types.specs.Limits.{most_path_frames, most_profile_harts, most_samples}
+use Rattle.scope_types.specs.Limits.{most_frames_in_all, most_profile_harts, most_samples}
 use Rattle.thread_cct.specs.Adding.{has_path}
 use Rattle.measure_file.specs.declared.head.MeasureHead.{MeasureHead}
 
@@ -37,7 +37,7 @@ pub record AreMeasured (tables : List (List Counted)) : Type 0 where
   pub paths : All (All IsCounted) tables
   pub distinct : All AreDistinct tables
   pub samples : samples_in tables ≤ most_samples
-  pub frames : frames_in tables ≤ most_path_frames
+  pub frames : frames_in tables ≤ most_frames_in_all
 
 -- a measurement that can be written and read back
 pub record IsMeasurable (head : MeasureHead) (tables : List (List Counted)) : Type 0 where
@@ -52,4 +52,4 @@ pub record AreSampled (harts : ℕ) (samples : List HartRaw) : Type 0 where
   pub paths : All (λ s. HasFrames s.raw.frames) samples
   pub addresses : All (λ s. All HasWord s.raw.frames) samples
   pub sampled : length samples ≤ most_samples
-  pub frames : frames_in (distinct harts samples) ≤ most_path_frames
+  pub frames : frames_in (distinct harts samples) ≤ most_frames_in_all

@@ -9,9 +9,9 @@ use Rattle.scope_types.specs.declared.frame.Frame.{Frame}
 use Rattle.scope_types.specs.declared.frame.End.{End}
 use Rattle.scope_types.specs.declared.frame.End.TheVariants.{Whole, Partial}
 use Rattle.scope_types.specs.declared.frame.PartialCause.TheVariants.{NoFde, NoCfa, Expression, Unmapped, Depth}
-use Rattle.scope_types.specs.Raw.{most_frames}
+use Rattle.scope_types.specs.Raw.{most_frames_of_path}
 use Rattle.scope_types.specs.Distinct.{frames_in, samples_in}
-use Rattle.scope_types.specs.Limits.{most_path_frames, most_profile_harts, most_samples}
+use Rattle.scope_types.specs.Limits.{most_frames_in_all, most_profile_harts, most_samples}
 use Rattle.thread_cct.specs.Adding.{has_path, of_hart, with_path}
 use Rattle.measure_file.specs.declared.fault.MeasureFault.{MeasureFault}
 use Rattle.measure_file.specs.declared.head.MeasureHead.{MeasureHead}
@@ -33,7 +33,7 @@ is_count before n = nat_le 1 n && nat_le (before + n) most_samples
 
 -- as many frames as a path may have, and with those before at most 4,194,304
 abbrev pub is_length : ℕ → ℕ → Bool
-is_length before n = nat_le 1 n && nat_le n most_frames && nat_le (before + n) most_path_frames
+is_length before n = nat_le 1 n && nat_le n most_frames_of_path && nat_le (before + n) most_frames_in_all
 
 abbrev pub is_end_number : ℕ → Bool
 is_end_number n = nat_le n 5

@@ -40,5 +40,5 @@ unfoldable pub measurement_spelling : MeasureHead → List (List Counted) → Li
 measurement_spelling head tables = head_bytes head (length tables) ++ flat_map hart_bytes tables
 
 -- the most bytes of a measurement that any command reads
-abbrev pub most_bytes : ℕ
-most_bytes = 33554432
+abbrev pub measurement_limit : ℕ
+measurement_limit = 33554432

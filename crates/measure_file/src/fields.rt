@@ -1,7 +1,7 @@
 //! The single words of a measurement file.
 ghost use Rattle.std.specs.Prelude.{◌≡◌, ◌+◌, ◌≤◌, length, IfOk, []};
 ghost use Rattle.prof_bytes.specs.Outcome.{GivesAt, GivesFrom};
-ghost use Rattle.scope_types.specs.Limits.{most_path_frames, most_samples};
+ghost use Rattle.scope_types.specs.Limits.{most_frames_in_all, most_samples};
 ghost use Rattle.prof_bytes.specs.Repeated.{adding, times};
 ghost use Rattle.measure_file.specs.Fields.{word_from, word_by};
 ghost use Rattle.measure_file.specs.Reading.{is_count, is_end_number, is_length, is_period, is_harts, path_end};
@@ -16,10 +16,10 @@ use std::alloc::Global;
 const MOST_SAMPLES: u32 = 1_048_576;
 
 /// The most frames of all its distinct raw paths.
-const MOST_PATH_FRAMES: u32 = 4_194_304;
+const MOST_FRAMES_IN_ALL: u32 = 4_194_304;
 
 /// The most frames of one path.
-const MOST_FRAMES: u32 = 512;
+const MOST_FRAMES_OF_PATH: u32 = 512;
 
 pub(crate) fn fault_at(offset: usize) -> MeasureFault
     ensures { result ≡ record { offset = offset } }
@@ -103,13 +103,13 @@ pub(crate) fn read_end(cursor: &mut Cursor<'_>) -> Result<u32, MeasureFault>
 
 /// How many frames a path has, where the paths before it have `frames` frames.
 pub(crate) fn read_length(cursor: &mut Cursor<'_>, frames: u32) -> Result<u32, MeasureFault>
-    requires { frames ≤ most_path_frames }
+    requires { frames ≤ most_frames_in_all }
     ensures read { GivesAt (λ n. n) result cursor.new (word_by (is_length frames) cursor.old) }
-    ensures fits { IfOk result (λ n. (1 ≤ n) × (n ≤ 512) × (frames + n ≤ most_path_frames)) }
+    ensures fits { IfOk result (λ n. (1 ≤ n) × (n ≤ 512) × (frames + n ≤ most_frames_in_all)) }
 {
     let offset = cursor.place();
     let length = read_word(cursor)?;
-    if length == 0 || length > MOST_FRAMES || length > MOST_PATH_FRAMES - frames {
+    if length == 0 || length > MOST_FRAMES_OF_PATH || length > MOST_FRAMES_IN_ALL - frames {
         return Err(fault_at(offset));
     }
     Ok(length)

@@ -2,7 +2,7 @@
 ghost use Rattle.std.specs.Prelude.{◌≡◌, ◌+◌, ◌<◌, ◌≤◌, [], length, replicate, IfOk, OnOk};
 ghost use Rattle.prof_bytes.specs.Outcome.{Gives};
 ghost use Rattle.scope_types.specs.Distinct.{frames_in, samples_in};
-ghost use Rattle.scope_types.specs.Limits.{most_path_frames, most_samples};
+ghost use Rattle.scope_types.specs.Limits.{most_frames_in_all, most_samples};
 ghost use Rattle.measure_file.specs.Reading.{new_path};
 
 use crate::fault::MeasureFault;
@@ -58,7 +58,7 @@ impl Paths {
     /// How many frames they have.
     pub(crate) fn frames(&self) -> u32
         ensures sum { result ≡ frames_in self.now }
-        ensures few { result ≤ most_path_frames }
+        ensures few { result ≤ most_frames_in_all }
     {
         self.frames
     }
@@ -74,7 +74,7 @@ impl Paths {
         requires hart { hart < length self.old }
         requires count { 0 < count }
         requires few { samples_in self.old + count ≤ most_samples }
-        requires frames { frames_in self.old + length raw.frames ≤ most_path_frames }
+        requires frames { frames_in self.old + length raw.frames ≤ most_frames_in_all }
         ensures put { Gives (λ done. self.new) result
             (new_path hart offset (record { path = raw; count = count }) self.old) }
         ensures harts { OnOk result (length self.new ≡ length self.old) }

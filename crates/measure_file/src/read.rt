@@ -1,7 +1,7 @@
 //! What the bytes of a measurement say.
 ghost use Rattle.std.specs.Prelude.{◌≡◌, ◌<◌, length, IfOk, OnOk};
 ghost use Rattle.prof_bytes.specs.Format.{magic_or};
-ghost use Rattle.prof_bytes.specs.Outcome.{Gives, GivesAt, GivesFrom};
+ghost use Rattle.prof_bytes.specs.Outcome.{Gives, GivesFrom};
 ghost use Rattle.prof_bytes.specs.Repeated.{times};
 ghost use Rattle.measure_file.specs.Measurable.{IsMeasurable};
 ghost use Rattle.measure_file.specs.Fields.{fault_at};

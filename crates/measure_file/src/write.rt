@@ -2,7 +2,7 @@
 ghost use Rattle.std.specs.Prelude.{◌≡◌, ◌<◌, ◌≤◌, ◌++◌, length, IfOk, OnOk};
 ghost use Rattle.std.specs.List.{flat_map};
 ghost use Rattle.thread_cct.specs.Adding.{of_hart};
-ghost use Rattle.measure_file.specs.Spelling.{end_number, frame_bytes, head_bytes, hart_bytes, most_bytes};
+ghost use Rattle.measure_file.specs.Spelling.{end_number, frame_bytes, head_bytes, hart_bytes, measurement_limit};
 ghost use Rattle.measure_file.specs.Spelling.{path_bytes, measurement_spelling};
 
 use crate::head::MeasureHead;
@@ -102,7 +102,7 @@ pub fn write_measure(alloc: Global, head: &MeasureHead, ccts: &Ccts) -> Result<T
     requires some { 0 < length ccts.now }
     requires few { length ccts.now ≤ 16 }
     ensures spelled { IfOk result (λ text. text ≡ measurement_spelling head.now ccts.now) }
-    ensures short { IfOk result (λ text. length text ≤ most_bytes) }
+    ensures short { IfOk result (λ text. length text ≤ measurement_limit) }
 {
     let text = spelled(alloc, head, ccts, ccts.harts())?;
     Ok(text)

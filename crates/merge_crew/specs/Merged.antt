@@ -14,11 +14,10 @@ pub record IsOfPlan (chunks : Chunks) (crew : Crew) : Type 0 where
 abbrev pub NamesEach : Chunks → Crew → Type 0
 NamesEach plan crew = (s c : ℕ) → s < 16 → c < length plan → occurrences c (stripe_names crew.stripes.stripes s) ≡ 1
 
--- every chunk's piece is in each stripe, by a given number of workers or by the caller: the passes merged `merged`
--- pieces, and the caller settled the others of the sixteen of each chunk, no more than the workers left busy or found
--- there
--- already. The passes found a stripe held or changed 64 times for each piece left busy, and no piece is left busy by a
--- worker that is alone
+-- every chunk's piece is in each stripe, by a given number of workers or by the caller: there was one pass for each
+-- worker. The passes merged `merged` pieces, and the caller settled the others of the sixteen of each chunk, no more
+-- than the workers left busy or found there already. The passes found a stripe held or changed at least 64 times for
+-- each piece left busy, and no piece is left busy by a worker that is alone
 pub record IsWhole (plan : Chunks) (workers : ℕ) (crew : Crew) : Type 0 where
   pub names : NamesEach plan crew
   pub merged : crew.merged ≡ length crew.stripes.view.puts
@@ -27,6 +26,7 @@ pub record IsWhole (plan : Chunks) (workers : ℕ) (crew : Crew) : Type 0 where
   pub present : crew.present ≡ crew.stripes.view.met
   pub settled : crew.settled ≤ crew.busy_left + crew.present
   pub alone : workers ≡ 1 → crew.busy_left ≡ 0
+  pub passes : crew.stripes.view.splits + 1 ≡ workers
 
 -- stripes of an expanded plan that no worker filled
 pub record IsUnfilled (chunks : Chunks) (crew : Crew) : Type 0 where

@@ -1,5 +1,5 @@
 //! Crews of workers as their caller sees them, who doesn't know which one it has.
-ghost use Rattle.std.specs.Prelude.{◌≡◌, ℕ, ◌≤◌, Bool, IsTrue, IfOk, Result};
+ghost use Rattle.std.specs.Prelude.{◌≡◌, ◌≤◌, Bool, IsTrue, IfOk, Result};
 ghost use Rattle.thread_cct.specs.Plan.{FitsExpansion, expanded};
 ghost use Rattle.merge_crew.specs.Merged.{IsOfPlan, IsUnfilled, IsWhole};
 ghost use Rattle.prof_bytes.specs.declared.fail.Memory.{Memory};
@@ -10,6 +10,7 @@ use prof_bytes::Memory;
 use prof_devices::Gate;
 use scope_types::Expand;
 use std::alloc::Global;
+use std::marker::Model;
 use std::thread::Threads;
 use thread_cct::Plan;
 
@@ -24,6 +25,7 @@ pub trait Crews: Sync {
     /// What it hands out.
     ghost gives: { Self → Crew → Type 0 };
 
+    /// The gate that its workers pass.
     fn gate(&self) -> &Self::Gate;
 
     /// Hands out the stripes that workers filled, or others of the same plan. `unfilled` makes some that have no
@@ -66,20 +68,29 @@ pub trait Crews: Sync {
     }
 }
 
-/// Workers that pass a gate, and whose stripes are handed out as they are.
+/// Workers that pass a gate, and whose stripes are handed out as they are. Contracts see the gate.
 #[derive(Drop)]
 pub struct WorkCrew<'a, G> {
     gate: &'a G,
 }
 
+impl<'a, G> Model for WorkCrew<'a, G> {
+    ghost Value = { G };
+
+    ghost view = { λ crew. crew.gate.now };
+}
+
 impl<'a, G: Gate> WorkCrew<'a, G> {
-    pub fn of(gate: &'a G) -> WorkCrew<'a, G> {
+    /// Workers that pass this gate.
+    pub fn of(gate: &'a G) -> WorkCrew<'a, G>
+        ensures { result ≡ gate.now }
+    {
         WorkCrew { gate }
     }
 }
 
 impl<'a, G: Gate> Crews for WorkCrew<'a, G> {
-    ghost use Rattle.std.specs.Prelude.{true};
+    ghost use Rattle.std.specs.Prelude.{◌≡◌, true};
 
     type Gate = G;
 
@@ -87,7 +98,9 @@ impl<'a, G: Gate> Crews for WorkCrew<'a, G> {
 
     ghost gives = { λ _ _. Unit {0} };
 
-    fn gate(&self) -> &G {
+    fn gate(&self) -> &G
+        ensures { result.now ≡ self.now }
+    {
         self.gate
     }
 

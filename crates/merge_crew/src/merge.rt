@@ -48,6 +48,7 @@ pub fn merge_all<R: Threads + Sync, E: Expand + Sync, G: Gate>(
     ensures present { IfOk result (λ crew. crew.present ≡ crew.stripes.view.met) }
     ensures settled { IfOk result (λ crew. crew.settled ≤ crew.busy_left + crew.present) }
     ensures alone { IfOk result (λ crew. workers ≡ 1 → crew.busy_left ≡ 0) }
+    ensures passes { IfOk result (λ crew. crew.stripes.view.splits + 1 ≡ workers) }
 {
     let (stripes, first) = Stripes::start(alloc, plan, expand)?;
     let all = run(rt, alloc, &stripes, first, workers, plan, expand, gate)?;

@@ -85,7 +85,8 @@ fn is_marked(marks: &[Marks], stripe: u32, chunk: u32) -> bool
 /// Whether each stripe has a mark of the chunk.
 fn all_have(marks: &[Marks], chunk: u32) -> bool
     requires { (s : ℕ) → s < length marks.now → chunk < length (slice_index_or marks.now s []) }
-    ensures { result ≡ true → (s : ℕ) → s < length marks.now → chunk_mark marks.now s chunk ≡ true }
+    ensures all { result ≡ true → (s : ℕ) → s < length marks.now → chunk_mark marks.now s chunk ≡ true }
+    ensures missing { result ≡ false → (s : ℕ) × (s < length marks.now) × (chunk_mark marks.now s chunk ≡ false) }
 {
     for i in 0..marks.len() {
         if !marks[i].has(chunk) {

@@ -1,6 +1,6 @@
 //! Workers side by side. The first worker has the pass that `start` gave: it makes the passes of the others, and takes
 //! them in at the end.
-ghost use Rattle.std.specs.Prelude.{◌≡◌, ℕ, ◌+◌, ◌-◌, ◌*◌, ◌<◌, ◌≤◌, ◌++◌, ◌∷◌, [], true, All, IfOk, None};
+ghost use Rattle.std.specs.Prelude.{◌≡◌, ℕ, ◌+◌, ◌-◌, ◌<◌, ◌≤◌, All, IfOk, None};
 ghost use Rattle.std.specs.Prelude.{length, slice_index_or};
 ghost use Rattle.stripe_table.specs.Values.{IsPassOf};
 ghost use Rattle.stripe_table.specs.Views.{first_view};

@@ -1,6 +1,5 @@
 //! The ancestors of the node that a walk is at, from the root down, each with what its children hand up.
-ghost use Rattle.std.specs.Prelude.{◌≡◌, ◌≤◌, length, All, IfOk, OnOk};
-ghost use Rattle.metric_sums.specs.declared.hart_sums.Sum.{Sum};
+ghost use Rattle.std.specs.Prelude.{◌≡◌, length, All, IfOk, OnOk};
 ghost use Rattle.metric_sums.specs.private.Sums.{IsSmall};
 ghost use Rattle.metric_sums.specs.private.Ancestors.{HandsUp, LeavesAncestors, SumsOf, ends_with};
 

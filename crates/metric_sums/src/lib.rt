@@ -5,7 +5,7 @@
 //! goes over the nodes from the last to the first. Since a node's children stand after it, and all nodes up to a
 //! child lie below its parent, the nodes that still wait for a child are ancestors of one another. Each has sums,
 //! one for each hart: those of its last child become its own, and those of its other children are added to them.
-//! Below stand `tree_types` and `scope_types`.
+//! Below stand `tree_types`, `scope_types` and `prof_bytes`.
 #![tactic(auto)]
 
 mod ancestors;

@@ -4,7 +4,7 @@ use Rattle.std.proofs.lemmas.Bool.{eq-eqb, ne_eqb}
 use Rattle.std.proofs.lemmas.Cmp.{tied_itself}
 use Rattle.std.proofs.lemmas.List.{same_lists, length-map, get_or-map, get_or_default}
 use Rattle.std.proofs.lemmas.List.Sums.{position_or_len_is}
-use Rattle.scope_types.specs.Limits.{most_path_scopes}
+use Rattle.scope_types.specs.Limits.{most_scopes_in_all}
 use Rattle.scope_types.specs.Order.{path_order}
 use Rattle.scope_types.proofs.Orders.{path_order_total}
 use Rattle.tree_types.specs.declared.content.Node.{Node}
@@ -24,7 +24,7 @@ number_at ns i lt once =
     (λ k below. path_false (get_or ns i []) (get_or ns k []) (λ e. (let same = once k (omega arith) (sym e) in absurd (omega arith))))
     (λ k. ap is_eq (tied_itself path_order_total (get_or ns i [])))
 
-module _ (nodes : List Node) (l : Rooted nodes) (few : length nodes ≤ most_path_scopes) where
+module _ (nodes : List Node) (l : Rooted nodes) (few : length nodes ≤ most_scopes_in_all) where
   abbrev paths : List Path
   paths = tree_paths nodes
 

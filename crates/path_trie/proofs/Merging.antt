@@ -6,7 +6,7 @@ use Rattle.std.proofs.lemmas.List.Concat.{flat_map-append}
 use Rattle.std.proofs.lemmas.List.Elements.{All-nil, All-head, All-tail, All-push, All-weaker}
 use Rattle.std.proofs.lemmas.List.Sums.{fold-append, sum_by_more, sum_by-append}
 use Rattle.scope_types.specs.declared.path.Entry.{Entry}
-use Rattle.scope_types.specs.Limits.{most_samples, most_path_scopes}
+use Rattle.scope_types.specs.Limits.{most_samples, most_scopes_in_all}
 use Rattle.tree_types.specs.declared.content.Node.{Node}
 use Rattle.tree_types.specs.Paths.{Path, prefixes}
 use Rattle.tree_types.specs.PathsOf.{tree_paths}
@@ -106,7 +106,7 @@ module _ (old nodes : List Node) (bs more : Branches) (ends all : List PathEnd) 
 
   pub fits_all : Linked nodes more → All (λ e. IsIndex e.node (length nodes)) all → entries_at nodes all ≡ entries_at old ends ++ take k entries
       → tree_paths nodes ≡ fold with_node (tree_paths old) (all_prefixes (take k entries))
-      → length nodes ≤ length old + entry_scopes (take k entries) → length old + entry_scopes entries ≤ most_path_scopes
+      → length nodes ≤ length old + entry_scopes (take k entries) → length old + entry_scopes entries ≤ most_scopes_in_all
       → samples_of (entries_at old ends) + samples_of entries ≤ most_samples → IsTrie nodes more all
   fits_all linked indices is paths len few samples = record {
     linked = linked;

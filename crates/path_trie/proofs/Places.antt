@@ -11,7 +11,7 @@ use Rattle.std.proofs.lemmas.List.{length-append}
 use Rattle.std.proofs.lemmas.Option.{get_or_from_slice_get, slice_get_read}
 use Rattle.std.proofs.lemmas.List.Sums.{fold-append}
 use Rattle.scope_types.specs.declared.scope.Scope.{Scope}
-use Rattle.scope_types.specs.Limits.{most_path_scopes}
+use Rattle.scope_types.specs.Limits.{most_scopes_in_all}
 use Rattle.scope_types.specs.Order.{path_order}
 use Rattle.scope_types.proofs.Orders.{path_order_total, path_order_tells}
 use Rattle.tree_types.specs.declared.content.Node.{Node}
@@ -49,7 +49,7 @@ key_itself a = ap₂ (λ (s t : Bool). s && t) (eq-eqb a.0 a.0 refl) ((scope_dec
 pub place_cases : (p n : ℕ) → IsIndex p n → (p ≡ no_parent) ⊎ (p < n)
 place_cases p n is = elim (cases_eq p no_parent) [ inl e ↦ inl e | inr apart ↦ inr (is apart) ]
 
-pub next_of : (p : ℕ) → p < most_path_scopes → next_index p ≡ p + 1
+pub next_of : (p : ℕ) → p < most_scopes_in_all → next_index p ≡ p + 1
 next_of p lt = mod-eq_of_lt (omega arith)
 
 pub none_listed : (nodes : List Node) (bs : Branches) (parent : ℕ) (scope : Scope) → Linked nodes bs → (linked_node nodes (next_index parent) ≡ node_with parent scope → ⊥) → branch_at bs (parent, scope) ≡ None → IsAbsent nodes parent scope
@@ -68,7 +68,7 @@ none_listed nodes bs parent scope l apart none i lt is =
 pub path_none : (paths : List Path) (p : ℕ) → p ≡ no_parent → path_at paths p ≡ []
 path_none paths p e = ap (λ b. cond b [] (get_or paths p [])) (eq-eqb p no_parent e)
 
-pub path_some : (paths : List Path) (p : ℕ) → p < most_path_scopes → path_at paths p ≡ get_or paths p []
+pub path_some : (paths : List Path) (p : ℕ) → p < most_scopes_in_all → path_at paths p ≡ get_or paths p []
 path_some paths p lt = ap (λ b. cond b [] (get_or paths p [])) (ne_eqb p no_parent (λ e. absurd (omega arith)))
 
 pub not_empty : (a : Path) (s : Scope) → a ++ s ∷ [] ≡ [] → ⊥
@@ -84,7 +84,7 @@ snoc_same (x ∷ a) (y ∷ b) s t e =
     let rest = snoc_same a b s t (cc) in
     (ap₂ (λ (z : Scope) (c : Path). z ∷ c) first rest.0, rest.1)
 
-module _ (nodes : List Node) (l : Rooted nodes) (few : length nodes ≤ most_path_scopes) where
+module _ (nodes : List Node) (l : Rooted nodes) (few : length nodes ≤ most_scopes_in_all) where
   pub place_once : (p q : ℕ) → IsIndex p (length nodes) → IsIndex q (length nodes) → path_at (tree_paths nodes) p ≡ path_at (tree_paths nodes) q → p ≡ q
   place_once p q p_place q_place e =
       let paths : List Path = tree_paths nodes in
@@ -154,7 +154,7 @@ tree_paths_push nodes n = fold-append (λ paths n. paths ++ path_below paths n �
 pub last_cases : (i n : ℕ) → i < n + 1 → (i < n) ⊎ (i ≡ n)
 last_cases i n lt = elim (cases_lt i n) [ inl less ↦ inl less | inr least ↦ inr (omega arith) ]
 
-module _ (nodes : List Node) (bs more : Branches) (parent : ℕ) (scope : Scope) (l : Linked nodes bs) (few : length nodes < most_path_scopes) (index : IsIndex parent (length nodes)) (absent : IsAbsent nodes parent scope)
+module _ (nodes : List Node) (bs more : Branches) (parent : ℕ) (scope : Scope) (l : Linked nodes bs) (few : length nodes < most_scopes_in_all) (index : IsIndex parent (length nodes)) (absent : IsAbsent nodes parent scope)
     (lookups : (q : Key) → branch_at more q ≡ with_branch (next_index parent == length nodes) (parent, scope) (length nodes) (branch_at bs q) q) where
   abbrev node_new : Node
   node_new = node_with parent scope
@@ -312,7 +312,7 @@ module _ (nodes : List Node) (bs more : Branches) (parent : ℕ) (scope : Scope)
     same = λ p p_place. ap (λ (ps : List Path). path_at ps p) paths_are ∙ path_stays p (subst (IsIndex p) l.rooted.long p_place);
   }
 
-pub there_paths : (nodes : List Node) (bs : Branches) (parent : ℕ) (scope : Scope) (i : ℕ) → Linked nodes bs → length nodes < most_path_scopes → i < length nodes → linked_node nodes i ≡ node_with parent scope
+pub there_paths : (nodes : List Node) (bs : Branches) (parent : ℕ) (scope : Scope) (i : ℕ) → Linked nodes bs → length nodes < most_scopes_in_all → i < length nodes → linked_node nodes i ≡ node_with parent scope
     → tree_paths nodes ≡ with_node (tree_paths nodes) (path_at (tree_paths nodes) parent ++ scope ∷ [])
 there_paths nodes bs parent scope i l few lt is =
     let paths : List Path = tree_paths nodes in
@@ -340,7 +340,7 @@ none_linked = record {
 pub pushed : {X E : Type 0} (after old more : List X) (r : Result (Unit {0}) E) (u : Unit {0}) → after ≡ cond (is_ok r) more old → r ≡ Ok u → after ≡ more
 pushed after old more r u is ok = is ∙ ap (λ r. cond (is_ok r) more old) ok
 
-module _ (nodes after : List Node) (bs more : Branches) (parent : ℕ) (scope : Scope) (at : ℕ) (l : Linked nodes bs) (few : length nodes < most_path_scopes) (index : IsIndex parent (length nodes)) (absent : IsAbsent nodes parent scope)
+module _ (nodes after : List Node) (bs more : Branches) (parent : ℕ) (scope : Scope) (at : ℕ) (l : Linked nodes bs) (few : length nodes < most_scopes_in_all) (index : IsIndex parent (length nodes)) (absent : IsAbsent nodes parent scope)
     (at_is : at ≡ length nodes) (is : after ≡ nodes ++ node_with parent scope ∷ [])
     (lookups : (q : Key) → branch_at more q ≡ with_branch (next_index parent == at) (parent, scope) at (branch_at bs q) q) where
   lookups_at : (q : Key) → branch_at more q ≡ with_branch (next_index parent == length nodes) (parent, scope) (length nodes) (branch_at bs q) q

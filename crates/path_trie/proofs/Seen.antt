@@ -6,7 +6,7 @@ use Rattle.std.proofs.lemmas.List.Elements.{All-head, All-tail, All-weaker}
 use Rattle.std.proofs.lemmas.List.Sums.{sum_by-cons, sum_by_more_le}
 use Rattle.prof_bytes.proofs.Tests.{and_swap}
 use Rattle.scope_types.specs.declared.path.Entry.{Entry}
-use Rattle.scope_types.specs.Limits.{most_samples, most_path_scopes}
+use Rattle.scope_types.specs.Limits.{most_samples, most_scopes_in_all}
 use Rattle.tree_types.specs.declared.content.Node.{Node}
 use Rattle.tree_types.specs.Paths.{Path}
 use Rattle.tree_types.specs.PathsOf.{tree_paths}
@@ -69,7 +69,7 @@ counts_same paths test own (e ∷ ends) same =
       | false ↦ rest
     ]
 
-same_test : (nodes : List Node) (bs : Branches) (node : ℕ) (e : PathEnd) → Linked nodes bs → length nodes ≤ most_path_scopes → node < length nodes → IsIndex e.node (length nodes)
+same_test : (nodes : List Node) (bs : Branches) (node : ℕ) (e : PathEnd) → Linked nodes bs → length nodes ≤ most_scopes_in_all → node < length nodes → IsIndex e.node (length nodes)
     → same_path (nth_path (tree_paths nodes) node) (path_at (tree_paths nodes) e.node) ≡ (e.node == node)
 same_test nodes bs node e l few lt index =
     let paths : List Path = tree_paths nodes in

@@ -2,7 +2,7 @@
 ghost use Rattle.std.specs.Prelude.{◌≡◌, ◌+◌, ◌<◌, ◌≤◌, ◌==◌, ◌∷◌, ◌++◌, [], length, fold, MatchOption};
 ghost use Rattle.std.specs.Prelude.{vec_len, vec_capacity, OnOk};
 ghost use Rattle.indexmap.specs.IndexMap.{spare};
-ghost use Rattle.scope_types.specs.Limits.{most_path_scopes};
+ghost use Rattle.scope_types.specs.Limits.{most_scopes_in_all};
 ghost use Rattle.tree_types.specs.Paths.{prefixes};
 ghost use Rattle.tree_types.specs.PathsOf.{tree_paths};
 ghost use Rattle.path_trie.specs.Trie.{IsIndex, path_at, with_node};
@@ -50,7 +50,7 @@ impl NodeTable {
     /// The child of a node with this scope; of no node, a root.
     fn child(&self, parent: u32, scope: Scope) -> Option<u32>
         requires linked { Linked self.now.nodes.items self.now.branches.entries }
-        requires few { length self.now.nodes.items ≤ most_path_scopes }
+        requires few { length self.now.nodes.items ≤ most_scopes_in_all }
         ensures { MatchOption result (IsAbsent self.now.nodes.items parent scope)
             (λ i. (i < length self.now.nodes.items) × (linked_node self.now.nodes.items i ≡ node_with parent scope)) }
     {
@@ -67,7 +67,7 @@ impl NodeTable {
     fn enter(&mut self, parent: u32, scope: Scope) -> u32
         requires linked { Linked self.old.nodes.items self.old.branches.entries }
         requires index { IsIndex parent (length self.old.nodes.items) }
-        requires few { length self.old.nodes.items < most_path_scopes }
+        requires few { length self.old.nodes.items < most_scopes_in_all }
         requires room { length self.old.nodes.items < vec_capacity self.old.nodes }
         requires branch_room { 0 < spare self.old.branches + last_one self.old.nodes.items parent }
         ensures linked { Linked self.new.nodes.items self.new.branches.entries }
@@ -94,7 +94,7 @@ impl NodeTable {
     /// Puts in each prefix of a path. The index of the last, or `NO_PARENT` where there is none.
     pub fn put_path(&mut self, path: &[Scope]) -> u32
         requires linked { Linked self.old.nodes.items self.old.branches.entries }
-        requires few { length self.old.nodes.items + length path.now ≤ most_path_scopes }
+        requires few { length self.old.nodes.items + length path.now ≤ most_scopes_in_all }
         requires room { length self.old.nodes.items + length path.now ≤ vec_capacity self.old.nodes }
         requires branch_room { 0 < spare self.old.branches }
         ensures linked { Linked self.new.nodes.items self.new.branches.entries }

@@ -1,7 +1,7 @@
 ghost use Rattle.std.specs.Prelude.{◌≡◌, ℕ, ◌+◌, ◌<◌, ◌≤◌, ◌≢◌, ◌||◌, [], ◌++◌, length, map, sum_by, filter, All};
 ghost use Rattle.std.specs.Prelude.{vec_capacity, OnOk, OnErr};
 ghost use Rattle.indexmap.specs.IndexMap.{spare};
-ghost use Rattle.scope_types.specs.Limits.{most_samples, most_path_scopes};
+ghost use Rattle.scope_types.specs.Limits.{most_samples, most_scopes_in_all};
 ghost use Rattle.tree_types.specs.Nodes.{no_parent};
 ghost use Rattle.tree_types.specs.Paths.{Path};
 ghost use Rattle.tree_types.specs.PathsOf.{tree_paths};
@@ -45,7 +45,7 @@ impl Model for Trie {
 
 /// How many scopes the entries' paths have together.
 fn scope_count(entries: &[Entry]) -> usize
-    requires { entry_scopes entries.now ≤ most_path_scopes }
+    requires { entry_scopes entries.now ≤ most_scopes_in_all }
     ensures { result ≡ entry_scopes entries.now }
 {
     entries.iter().map(|entry| entry.path.scopes().len()).sum()
@@ -56,7 +56,7 @@ fn put_entries(table: &mut NodeTable, ends: &mut Vec<PathEnd>, entries: &[Entry]
     requires fits { IsTrie table.old.nodes.items table.old.branches.entries ends.old.items }
     requires samples { samples_of (entries_at table.old.nodes.items ends.old.items) + samples_of entries.now
         ≤ most_samples }
-    requires nodes { length table.old.nodes.items + entry_scopes entries.now ≤ most_path_scopes }
+    requires nodes { length table.old.nodes.items + entry_scopes entries.now ≤ most_scopes_in_all }
     requires room { length table.old.nodes.items + entry_scopes entries.now ≤ vec_capacity table.old.nodes }
     requires branch_room { length entries.now ≤ spare table.old.branches }
     requires end_room { length ends.old.items + length entries.now ≤ vec_capacity ends.old }
@@ -93,7 +93,7 @@ impl Trie {
     #[tactic(auto, using(crate::proofs::Nodes::merge_steps))]
     pub fn merge(&mut self, piece: &Piece) -> Result<(), Memory>
         requires samples { samples_of self.old + samples_of piece.now.entries ≤ most_samples }
-        requires nodes { length (trie_nodes self.old) + entry_scopes piece.now.entries ≤ most_path_scopes }
+        requires nodes { length (trie_nodes self.old) + entry_scopes piece.now.entries ≤ most_scopes_in_all }
         ensures ok { OnOk result (self.new ≡ self.old ++ piece.now.entries) }
         ensures err { OnErr result (self.new ≡ self.old) }
         ensures counts { OnOk result ((hart : ℕ) (path : Path)
@@ -131,7 +131,7 @@ impl Trie {
         ensures nodes { result.now ≡ map (trie_node (trie_nodes self.now)) (trie_nodes self.now) }
         ensures paths { tree_paths result.now ≡ trie_nodes self.now }
         ensures before { StandBefore result.now }
-        ensures few { length result.now ≤ most_path_scopes }
+        ensures few { length result.now ≤ most_scopes_in_all }
     {
         self.table.nodes.as_slice()
     }

@@ -3,8 +3,7 @@ ghost use Rattle.prof_bytes.specs.declared.fail.Fail.TheVariants as fails;
 
 use std::alloc::{AllocError, AllocFailed};
 
-/// Out of memory. A value of this type is made of an allocation that failed, and of nothing else, so an
-/// answer that carries one never comes where memory was found.
+/// Out of memory, made of the allocator's error.
 #[derive(Clone, Copy, Debug, PartialEq, Eq)]
 pub struct Memory {
     failed: AllocError,

@@ -5,7 +5,7 @@ use crate::fail::Memory;
 use byteorder::{ByteOrder, LittleEndian};
 use itoa::Buffer;
 
-/// Appends the four bytes of the number. After want of memory nothing was appended.
+/// Appends the four bytes of the number. If memory runs out, nothing is appended.
 pub fn put_u32(out: &mut Vec<u8>, number: u32) -> Result<(), Memory>
     ensures ok { OnOk result (out.new.items ≡ out.old.items ++ word number) }
     ensures err { OnErr result (out.new.items ≡ out.old.items) }
@@ -16,7 +16,7 @@ pub fn put_u32(out: &mut Vec<u8>, number: u32) -> Result<(), Memory>
     Ok(())
 }
 
-/// Appends the four bytes of each number.
+/// Appends the four bytes of each number. If memory runs out, a front of them may be appended.
 pub fn put_words(out: &mut Vec<u8>, numbers: &[u32]) -> Result<(), Memory>
     ensures { OnOk result (out.new.items ≡ out.old.items ++ words numbers.now) }
 {
@@ -26,7 +26,7 @@ pub fn put_words(out: &mut Vec<u8>, numbers: &[u32]) -> Result<(), Memory>
     Ok(())
 }
 
-/// Appends the eight bytes of the number. After want of memory nothing was appended.
+/// Appends the eight bytes of the number. If memory runs out, nothing is appended.
 pub fn put_u64(out: &mut Vec<u8>, number: u64) -> Result<(), Memory>
     ensures ok { OnOk result (out.new.items ≡ out.old.items ++ number_bytes 8 number) }
     ensures err { OnErr result (out.new.items ≡ out.old.items) }
@@ -37,7 +37,7 @@ pub fn put_u64(out: &mut Vec<u8>, number: u64) -> Result<(), Memory>
     Ok(())
 }
 
-/// Appends the number's decimal digits. After want of memory nothing was appended.
+/// Appends the number's decimal digits. If memory runs out, nothing is appended.
 pub fn put_decimal(out: &mut Vec<u8>, number: u64) -> Result<(), Memory>
     ensures ok { OnOk result (out.new.items ≡ out.old.items ++ decimal number) }
     ensures err { OnErr result (out.new.items ≡ out.old.items) }

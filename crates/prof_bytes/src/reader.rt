@@ -1,4 +1,4 @@
-ghost use Rattle.std.specs.Prelude.{◌≡◌, ◌≤◌, ◌+◌, length, IfOk};
+ghost use Rattle.std.specs.Prelude.{◌≡◌, ◌≤◌, length, IfOk};
 ghost use Rattle.prof_bytes.specs.Outcome.{viewed};
 ghost use Rattle.prof_bytes.specs.Reading.{left_of, up_to};
 ghost use Rattle.prof_bytes.specs.Fields.{answered, number_from, uleb_from, sleb_from, bytes_from, text_from};
@@ -52,13 +52,6 @@ impl<'a, F: Copy> Reader<'a, F> {
         self.cursor.fork()
     }
 
-    /// Continues at the cursor's offset.
-    pub fn set_cursor(&mut self, cursor: Cursor<'a>)
-        ensures { self.new ≡ record self.old { at = cursor.entry } }
-    {
-        self.cursor = cursor;
-    }
-
     /// A second reader of the same bytes, at the same offset, which moves by itself.
     pub fn fork(&self) -> Reader<'a, F>
         ensures { result ≡ self.now }
@@ -80,14 +73,14 @@ impl<'a, F: Copy> Reader<'a, F> {
         }
     }
 
-    /// Sets the fault of a truncated field.
+    /// Sets the fault of a field that is truncated or malformed.
     pub fn set_missing(&mut self, missing: F)
         ensures { self.new ≡ record self.old { missing = missing } }
     {
         self.missing = missing;
     }
 
-    /// The fault of a truncated field.
+    /// The fault of a field that is truncated or malformed.
     pub fn missing(&self) -> F
         ensures { result ≡ self.now.missing }
     {

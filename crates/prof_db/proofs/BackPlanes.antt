@@ -11,7 +11,8 @@ use Rattle.prof_db.specs.declared.raw.RawEntry.{RawEntry}
 use Rattle.prof_bytes.specs.Repeated.{adding, times}
 use Rattle.prof_db.specs.Fields.{DbRead, fault, not_whole, number_field, word_field}
 use Rattle.prof_db.specs.Layout.{column_from, stored_entry_from, past_column, past_entry}
-use Rattle.prof_db.specs.Spelling.{context_entry_bytes, kind_number, long, profile_entry_bytes, with_count}
+use Rattle.tree_types.specs.NodeValues.{kind_rank}
+use Rattle.prof_db.specs.Spelling.{context_entry_bytes, long, profile_entry_bytes, with_count}
 use Rattle.prof_db.specs.ValueRules.{ValueField, column_fields, context_fields, fields_kept, plane_fields, profile_fields, stands_at}
 use Rattle.prof_bytes.proofs.Took.{Took, given, number_moved, stands_took, took_both, took_none}
 use Rattle.prof_db.proofs.FieldSteps.{fields_append}
@@ -176,8 +177,8 @@ plane_bytes {X} fields spelled each columns =
 
 pub profile_bytes : (columns : List (List ProfileEntry)) → flat_map field_bytes (plane_fields profile_fields columns) ≡ flat_map (with_count profile_entry_bytes) columns
 profile_bytes columns =
-    plane_bytes profile_fields profile_entry_bytes (λ e. ap (λ (l : List ℕ). word e.node ++ word (kind_number e.kind) ++ l) (append-nil (long e.value))) columns
+    plane_bytes profile_fields profile_entry_bytes (λ e. ap (λ (l : List ℕ). word e.node ++ word (kind_rank e.kind) ++ l) (append-nil (long e.value))) columns
 
 pub context_bytes : (columns : List (List ContextEntry)) → flat_map field_bytes (plane_fields context_fields columns) ≡ flat_map (with_count context_entry_bytes) columns
 context_bytes columns =
-    plane_bytes context_fields context_entry_bytes (λ e. ap (λ (l : List ℕ). word (kind_number e.kind) ++ word e.hart ++ l) (append-nil (long e.value))) columns
+    plane_bytes context_fields context_entry_bytes (λ e. ap (λ (l : List ℕ). word (kind_rank e.kind) ++ word e.hart ++ l) (append-nil (long e.value))) columns

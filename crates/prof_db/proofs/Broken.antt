@@ -1,6 +1,6 @@
 -- A place that is broken, or is not.
 use Rattle.prof_db.specs.declared.fault.DbFault.{DbFault}
-use Rattle.prof_db.specs.Broken.{Kept}
+use Rattle.prof_db.specs.Broken.{RuleCheck}
 use Rattle.std.proofs.Common.{Err, ◌≡◌, ◌||◌, ◌&&◌, not, Bool, sym, ◌∙◌}
 
 pub broken_is : (b w u wrong used : Bool) → b ≡ (w || not u) → w ≡ wrong → u ≡ used → (wrong || not used) ≡ b
@@ -12,5 +12,5 @@ either_is b s u statement used is statement_is used_is = is ∙ (λ i. statement
 pub lacking_is : (b s u statement used : Bool) → b ≡ (s && not u) → s ≡ statement → u ≡ used → (statement && not used) ≡ b
 lacking_is b s u statement used is statement_is used_is = (λ i. sym statement_is i && not (sym used_is i)) ∙ sym is
 
-abbrev pub failed : DbFault → Kept
+abbrev pub failed : DbFault → RuleCheck
 failed found = Err found

@@ -2,11 +2,11 @@
 use Rattle.std.proofs.Common.{◌≡◌, ℕ, zero, suc, ap, inl, inr, ◌-◌, ◌+◌, ◌≤◌, ◌<◌, Bool, true, false, Ok, Err, sym, ◌∙◌, refl, arith}
 use Rattle.std.proofs.lemmas.Bool.{cases_eq}
 use Rattle.prof_bytes.proofs.Outcomes.{guard_ok}
-use Rattle.prof_db.specs.Broken.{Kept, first_broken}
+use Rattle.prof_db.specs.Broken.{RuleCheck, first_broken}
 use Rattle.prof_db.specs.Fields.{fault}
 
 -- one more is not broken
-pub passes_on : (rule : ℕ) (is_broken : ℕ → Bool) (offset : ℕ → ℕ) (n i : ℕ) (total : Kept)
+pub passes_on : (rule : ℕ) (is_broken : ℕ → Bool) (offset : ℕ → ℕ) (n i : ℕ) (total : RuleCheck)
     → i < n → is_broken i ≡ false → first_broken rule is_broken offset i (n - i) ≡ total → first_broken rule is_broken offset (i + 1) (n - (i + 1)) ≡ total
 unfolding first_broken
 passes_on rule is_broken offset n i total lt whole so_far =
@@ -15,7 +15,7 @@ passes_on rule is_broken offset n i total lt whole so_far =
     sym one ∙ so_far
 
 -- one is broken
-pub breaks_at : (rule : ℕ) (is_broken : ℕ → Bool) (offset : ℕ → ℕ) (n i : ℕ) (total : Kept)
+pub breaks_at : (rule : ℕ) (is_broken : ℕ → Bool) (offset : ℕ → ℕ) (n i : ℕ) (total : RuleCheck)
     → i < n → is_broken i ≡ true → first_broken rule is_broken offset i (n - i) ≡ total → total ≡ Err (fault rule (offset i))
 unfolding first_broken
 breaks_at rule is_broken offset n i total lt broken so_far =
@@ -24,7 +24,7 @@ breaks_at rule is_broken offset n i total lt broken so_far =
     sym so_far ∙ one
 
 -- none is
-pub all_pass : (rule : ℕ) (is_broken : ℕ → Bool) (offset : ℕ → ℕ) (n i : ℕ) (total : Kept)
+pub all_pass : (rule : ℕ) (is_broken : ℕ → Bool) (offset : ℕ → ℕ) (n i : ℕ) (total : RuleCheck)
     → n ≤ i → first_broken rule is_broken offset i (n - i) ≡ total → total ≡ Ok tt
 unfolding first_broken
 all_pass rule is_broken offset n i total le so_far =

@@ -14,7 +14,8 @@ use Rattle.prof_db.specs.declared.raw.RawEntry.{RawEntry}
 use Rattle.prof_bytes.specs.Repeated.{times}
 use Rattle.prof_db.specs.Fields.{DbRead, fault, not_whole}
 use Rattle.prof_db.specs.Layout.{column_from, stored_entry_from, past_column, past_entry}
-use Rattle.prof_db.specs.Spelling.{context_entry_bytes, kind_number, profile_entry_bytes, with_count}
+use Rattle.tree_types.specs.NodeValues.{kind_rank}
+use Rattle.prof_db.specs.Spelling.{context_entry_bytes, profile_entry_bytes, with_count}
 use Rattle.prof_db.specs.Stored.{IsWord}
 use Rattle.prof_db.specs.ValueRules.{ValueField, column_fields, context_fields, fields_kept, plane_fields, profile_fields, stands_at}
 use Rattle.prof_db.proofs.BackPlanes.{field_bytes}
@@ -22,7 +23,7 @@ use Rattle.prof_db.proofs.ForthItems.{word_forth}
 use Rattle.prof_bytes.proofs.Lists.{Reads, items_come}
 use Rattle.prof_bytes.proofs.Written.{Comes, number_comes, number_stands}
 
-kind_fits : (kind : Kind) → IsWord (kind_number kind)
+kind_fits : (kind : Kind) → IsWord (kind_rank kind)
 kind_fits Exclusive = omega arith
 kind_fits Frame = omega arith
 kind_fits Inclusive = omega arith
@@ -30,7 +31,7 @@ kind_fits Inclusive = omega arith
 -- ---- the profile plane
 
 abbrev pub raw_entry : ℕ → ProfileEntry → RawEntry
-raw_entry hart e = record { offset = 0; hart = hart; node = e.node; kind = kind_number e.kind; value = e.value }
+raw_entry hart e = record { offset = 0; hart = hart; node = e.node; kind = kind_rank e.kind; value = e.value }
 
 abbrev pub bare_entry : RawEntry → RawEntry
 bare_entry e = record { offset = 0; hart = e.hart; node = e.node; kind = e.kind; value = e.value }
@@ -48,10 +49,10 @@ unfolding stored_entry_from
 entry_forth hart at e rest fits left =
     let few = fits.value in
     let a = word_forth at e.node _ fits.node left in
-    let b = word_forth a.0 (kind_number e.kind) _ (kind_fits e.kind) a.2 in
+    let b = word_forth a.0 (kind_rank e.kind) _ (kind_fits e.kind) a.2 in
     let c = number_comes not_whole 8 b.0 e.value rest (omega (arith, few)) b.2 in
     record {
-      value = record { offset = at.offset; hart = hart; node = e.node; kind = kind_number e.kind; value = e.value };
+      value = record { offset = at.offset; hart = hart; node = e.node; kind = kind_rank e.kind; value = e.value };
       next = c.0;
       is = rw (a.1, b.1, c.1) refl;
       same = refl;
@@ -109,7 +110,7 @@ past_forth : (i : ℕ) (at : At) (e : ContextEntry) (rest : List ℕ) → PastFi
 unfolding past_entry
 past_forth i at e rest fits left =
     let few = fits.value in
-    let a = word_forth at (kind_number e.kind) _ (kind_fits e.kind) left in
+    let a = word_forth at (kind_rank e.kind) _ (kind_fits e.kind) left in
     let b = word_forth a.0 e.hart _ fits.hart a.2 in
     let c = number_comes not_whole 8 b.0 e.value rest (omega (arith, few)) b.2 in
     (c.0, rw (a.1, b.1, c.1) refl, c.2)
@@ -175,9 +176,9 @@ module _ {X : Type 0} (fields : X → List ValueField) (Fits : X → Type 0) (ow
 pub profile_fields_fit : (columns : List (List ProfileEntry)) → All ColumnFits columns → All FieldFits (plane_fields profile_fields columns)
 profile_fields_fit columns fit =
     entries_fit (column_fields profile_fields) ColumnFits (λ xs own. column_fits profile_fields EntryFits
-    (λ e f. three (4, e.node) (4, kind_number e.kind) (8, e.value) (word_field_fits e.node f.node) (word_field_fits (kind_number e.kind) (kind_fits e.kind)) (long_field_fits e.value f.value)) xs own.short own.entries) columns fit
+    (λ e f. three (4, e.node) (4, kind_rank e.kind) (8, e.value) (word_field_fits e.node f.node) (word_field_fits (kind_rank e.kind) (kind_fits e.kind)) (long_field_fits e.value f.value)) xs own.short own.entries) columns fit
 
 pub context_fields_fit : (columns : List (List ContextEntry)) → All PastColumnFits columns → All FieldFits (plane_fields context_fields columns)
 context_fields_fit columns fit =
     entries_fit (column_fields context_fields) PastColumnFits (λ xs own. column_fits context_fields PastFits
-    (λ e f. three (4, kind_number e.kind) (4, e.hart) (8, e.value) (word_field_fits (kind_number e.kind) (kind_fits e.kind)) (word_field_fits e.hart f.hart) (long_field_fits e.value f.value)) xs own.short own.entries) columns fit
+    (λ e f. three (4, kind_rank e.kind) (4, e.hart) (8, e.value) (word_field_fits (kind_rank e.kind) (kind_fits e.kind)) (word_field_fits e.hart f.hart) (long_field_fits e.value f.value)) xs own.short own.entries) columns fit

@@ -41,7 +41,6 @@ use Rattle.tree_types.proofs.ValuePlanes.{contexts_are, profiles_are}
 use Rattle.tree_types.proofs.WholeValues.{are_values}
 use Rattle.prof_db.specs.declared.raw.RawEntry.{RawEntry}
 use Rattle.prof_db.specs.NodeRules.{is_statement}
-use Rattle.prof_db.specs.Spelling.{kind_number}
 use Rattle.prof_db.specs.Stored.{IsStored}
 use Rattle.prof_db.specs.ValueRules.{entry_count, entries_ascend, entry_at, entry_breaks, is_exclusive_entry, is_value, entry_samples, tree_of}
 use Rattle.prof_db.proofs.Exclusive.{first_up, samples_are, second_up, third_up}
@@ -69,7 +68,7 @@ module _ (period : ℕ) (ns : List Node) where
   column_paths hart (e ∷ es) =
       entries_append (raw_entry hart e ∷ []) (map (raw_entry hart) es) ∙ ap₂ (λ (a b : List HartPath). a ++ b) (one e.kind) (column_paths hart es)
     where
-      one : (kind : Kind) → of_entries (record { offset = 0; hart = hart; node = e.node; kind = kind_number kind; value = e.value } ∷ [])
+      one : (kind : Kind) → of_entries (record { offset = 0; hart = hart; node = e.node; kind = kind_rank kind; value = e.value } ∷ [])
           ≡ entry_paths period (tree_paths ns) hart (record { node = e.node; kind = kind; value = e.value })
       one Exclusive = append-nil (replicate (e.value / period) (record { hart = hart; path = node_path ns e.node }))
       one Frame = refl
@@ -132,17 +131,12 @@ last_two_up a b c x y z e same = elim (cases_order a x) [
   | inr (inr more) ↦ absurd (never_less (sym (ap (λ o. ordering_then o (ordering_then (nat_cmp b y) (ordering_then (nat_cmp c z) Equal))) (is_greater a x more)) ∙ e))
 ]
 
-kinds_same : (kind : Kind) → kind_number kind ≡ kind_rank kind
-kinds_same Exclusive = refl
-kinds_same Frame = refl
-kinds_same Inclusive = refl
-
-kind_few : (kind : Kind) → kind_number kind < 3
+kind_few : (kind : Kind) → kind_rank kind < 3
 kind_few Exclusive = omega arith
 kind_few Frame = omega arith
 kind_few Inclusive = omega arith
 
-exclusive_is : (kind : Kind) → kind_number kind ≡ 0 → kind ≡ Exclusive
+exclusive_is : (kind : Kind) → kind_rank kind ≡ 0 → kind ≡ Exclusive
 exclusive_is Exclusive e = refl
 exclusive_is Frame e = absurd (omega arith)
 exclusive_is Inclusive e = absurd (omega arith)
@@ -290,7 +284,7 @@ module _ (c : Content) (s : IsStored c) where
         hart = subst (λ (h : ℕ). h < c.harts) at is.hart;
         kind = kind_few v.kind;
         some = is.some;
-        exclusive = λ e. exclusive_ends v is (exclusive_is v.kind (eqb-true (kind_number v.kind) 0 e));
+        exclusive = λ e. exclusive_ends v is (exclusive_is v.kind (eqb-true (kind_rank v.kind) 0 e));
       })
 
   pub good : All IsGood entries
@@ -310,10 +304,10 @@ module _ (c : Content) (s : IsStored c) where
       let same_v : v.hart ≡ hart = eqb-true v.hart hart (filter_passes (λ (v : NodeValue). v.hart == hart) values i d (omega arith)) in
       let same_w : w.hart ≡ hart = eqb-true w.hart hart (filter_passes (λ (v : NodeValue). v.hart == hart) values j d lt) in
       elim (last_two_up v.node v.hart (kind_rank v.kind) w.node w.hart (kind_rank w.kind) up (same_v ∙ sym same_w)) [
-        | inl first ↦ second_up hart v.node (kind_number v.kind) hart w.node (kind_number w.kind) refl first
+        | inl first ↦ second_up hart v.node (kind_rank v.kind) hart w.node (kind_rank w.kind) refl first
         | inr (same, last) ↦
-            third_up hart v.node (kind_number v.kind) hart w.node (kind_number w.kind) refl same
-            (let a = kinds_same v.kind in let b = kinds_same w.kind in omega (arith, a, b, last))
+            third_up hart v.node (kind_rank v.kind) hart w.node (kind_rank w.kind) refl same
+            (omega (arith, last))
       ])
 
   pub ascend : AllPairs Up entries

@@ -1,4 +1,4 @@
--- The database and the table of a program of twenty statements, each of its four samples at another one.
+-- The length of the database of twenty samples, each at another statement.
 use Rattle.std.proofs.Common.{◌≡◌, ℕ, List, [], ◌∷◌, codes, length, refl}
 use Rattle.scope_types.specs.CallPaths.{HartPath}
 use Rattle.scope_types.specs.declared.scope.RootKind.TheVariants.{Thread}

@@ -22,12 +22,12 @@ use Rattle.prof_db.specs.declared.raw.RawScope.{RawScope}
 use Rattle.prof_db.specs.declared.raw.RawScope.TheVariants.{Root, Proc, Inline, Call, Stmt}
 use Rattle.prof_db.specs.declared.raw.RawNode.{RawNode}
 use Rattle.prof_db.specs.Fields.{fault}
-use Rattle.prof_db.specs.Broken.{Kept, first_broken}
+use Rattle.prof_db.specs.Broken.{RuleCheck, first_broken}
 
 -- ---- the third rule: a period of at least 1, 1 to 16 harts, and fewer nodes than the number that stands for no
 -- parent, which any file below 48 GiB has: by the second rule it holds all its nodes
 
-abbrev pub head_kept : ℕ → ℕ → ℕ → Kept
+abbrev pub head_kept : ℕ → ℕ → ℕ → RuleCheck
 head_kept period harts nodes = if period == 0 then Err (fault 3 8)
     else if harts == 0 || nat_lt most_profile_harts harts then Err (fault 3 12)
     else if nat_le no_parent nodes then Err (fault 3 24) else Ok tt
@@ -104,13 +104,13 @@ proc_breaks procs used i = proc_is_wrong procs i || not (is_among used i)
 abbrev pub file_breaks : List RawFile → List ℕ → ℕ → Bool
 file_breaks files used i = file_is_wrong files i || not (is_among used i)
 
-abbrev pub procs_kept : List RawProc → List ℕ → Kept
+abbrev pub procs_kept : List RawProc → List ℕ → RuleCheck
 procs_kept procs used = first_broken 4 (proc_breaks procs used) (λ i. (proc_at procs i).offset) 0 (length procs)
 
-abbrev pub files_kept : List RawFile → List ℕ → Kept
+abbrev pub files_kept : List RawFile → List ℕ → RuleCheck
 files_kept files used = first_broken 4 (file_breaks files used) (λ i. (file_at files i).offset) 0 (length files)
 
-abbrev pub names_kept : Layout → Kept
+abbrev pub names_kept : Layout → RuleCheck
 names_kept layout = do
   done ← procs_kept layout.procs (used_procs layout.nodes)
   files_kept layout.files (used_files layout.nodes)

@@ -21,7 +21,7 @@ use Rattle.prof_db.specs.declared.raw.RawLine.TheVariants.{Row, Address}
 use Rattle.prof_db.specs.declared.raw.RawScope.{RawScope}
 use Rattle.prof_db.specs.declared.raw.RawScope.TheVariants.{Root, Proc, Inline, Call, Stmt}
 use Rattle.prof_db.specs.declared.raw.RawNode.{RawNode}
-use Rattle.prof_db.specs.Broken.{Kept, first_broken}
+use Rattle.prof_db.specs.Broken.{RuleCheck, first_broken}
 use Rattle.prof_db.specs.NameRules.{is_among}
 
 -- ---- scopes by their indices
@@ -131,6 +131,6 @@ abbrev pub node_breaks : ℕ → ℕ → List RawNode → List Node → ℕ → 
 node_breaks procs files raws nodes i = node_is_wrong procs files raws nodes i
     || not (is_statement (node_at nodes i).scope || is_among (parents_of nodes) i)
 
-abbrev pub nodes_kept : ℕ → ℕ → List RawNode → List Node → Kept
+abbrev pub nodes_kept : ℕ → ℕ → List RawNode → List Node → RuleCheck
 nodes_kept procs files raws nodes =
     first_broken 5 (node_breaks procs files raws nodes) (λ i. (raw_node_at raws i).offset) 0 (length nodes)

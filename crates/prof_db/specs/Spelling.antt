@@ -11,14 +11,13 @@ use Rattle.scope_types.specs.declared.scope.Scope.TheVariants.{Root, Proc, Inlin
 use Rattle.scope_types.specs.Words.{root_words, proc_words}
 use Rattle.tree_types.specs.declared.content.Content.{Content}
 use Rattle.tree_types.specs.declared.content.ContextEntry.{ContextEntry}
-use Rattle.tree_types.specs.declared.content.Kind.{Kind}
-use Rattle.tree_types.specs.declared.content.Kind.TheVariants.{Exclusive, Frame, Inclusive}
 use Rattle.tree_types.specs.declared.content.Names.{Names}
 use Rattle.tree_types.specs.declared.content.Node.{Node}
 use Rattle.tree_types.specs.declared.content.ProfileEntry.{ProfileEntry}
 use Rattle.tree_types.specs.declared.content.FileName.{FileName}
 use Rattle.tree_types.specs.declared.content.ProcName.{ProcName}
 use Rattle.tree_types.specs.Naming.{proc_order, file_order}
+use Rattle.tree_types.specs.NodeValues.{kind_rank}
 
 abbrev pub long : ℕ → List ℕ
 long n = number_bytes 8 n
@@ -54,16 +53,11 @@ scope_numbers names (Stmt line) = 4 ∷ line_numbers names line
 abbrev pub node_bytes : Names → Node → List ℕ
 node_bytes names n = word n.parent ++ words (scope_numbers names n.scope)
 
-abbrev pub kind_number : Kind → ℕ
-kind_number Exclusive = 0
-kind_number Frame = 1
-kind_number Inclusive = 2
-
 abbrev pub profile_entry_bytes : ProfileEntry → List ℕ
-profile_entry_bytes e = word e.node ++ word (kind_number e.kind) ++ long e.value
+profile_entry_bytes e = word e.node ++ word (kind_rank e.kind) ++ long e.value
 
 abbrev pub context_entry_bytes : ContextEntry → List ℕ
-context_entry_bytes e = word (kind_number e.kind) ++ word e.hart ++ long e.value
+context_entry_bytes e = word (kind_rank e.kind) ++ word e.hart ++ long e.value
 
 -- how many there are, and each
 abbrev pub with_count : {X : Type 0} → (X → List ℕ) → List X → List ℕ

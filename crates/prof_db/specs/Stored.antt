@@ -2,7 +2,7 @@
 -- written.
 use Rattle.std.specs.Prelude.{◌≡◌, ◌≤◌, ◌<◌, ◌^◌, ◌&&◌, ℕ, Bool, true, false, List, [], ◌∷◌, length, All}
 use Rattle.scope_types.specs.CallPaths.{HartPath}
-use Rattle.scope_types.specs.Limits.{most_name_bytes, most_path_scopes, most_profile_harts, most_samples}
+use Rattle.scope_types.specs.Limits.{most_name_bytes, most_scopes_in_all, most_profile_harts, most_samples}
 use Rattle.scope_types.specs.Words.{scope_words}
 use Rattle.scope_types.specs.declared.scope.ProcId.{ProcId}
 use Rattle.scope_types.specs.declared.scope.ProcId.TheVariants.{Nameless}
@@ -68,7 +68,7 @@ pub record AreStored (period harts : ℕ) (naming : Naming) (paths : List HartPa
   pub most_harts : harts ≤ most_profile_harts
   pub below : All (λ p. p.hart < harts) paths
   pub few_samples : length paths ≤ most_samples
-  pub few_nodes : length (nodes paths) ≤ most_path_scopes
+  pub few_nodes : length (nodes paths) ≤ most_scopes_in_all
   pub call_paths : All (λ p. is_call_path p.path ≡ true) paths
   pub scopes : All (λ p. All HasWordNumbers p.path) paths
   pub procs : (id : ProcId) → IsShort (naming.proc_name id)

@@ -11,12 +11,12 @@ use Rattle.tree_types.specs.declared.content.Node.{Node}
 use Rattle.tree_types.specs.declared.content.ProfileEntry.{ProfileEntry}
 use Rattle.tree_types.specs.declared.counted_tree.NodeCount.{NodeCount}
 use Rattle.prof_db.specs.declared.raw.RawEntry.{RawEntry}
-use Rattle.prof_db.specs.Broken.{Kept, first_broken}
+use Rattle.prof_db.specs.Broken.{RuleCheck, first_broken}
 use Rattle.prof_db.specs.Fields.{DbRead, fault}
 use Rattle.prof_db.specs.NameRules.{is_among, pair_less}
 use Rattle.prof_db.specs.NodeRules.{is_statement, raw_node_at}
 use Rattle.prof_db.specs.declared.raw.RawNode.{RawNode}
-use Rattle.prof_db.specs.Spelling.{kind_number}
+use Rattle.tree_types.specs.NodeValues.{kind_rank}
 
 -- ---- the sixth rule, first: each entry of the profile plane by itself
 
@@ -48,7 +48,7 @@ entry_breaks period harts nodes entries i =
     && ((i == 0 || entries_ascend (entry_at entries (i - 1)) (entry_at entries i))
     && nat_le (sum_by (entry_samples period) (take (i + 1) entries)) most_samples))
 
-abbrev pub entries_kept : ℕ → ℕ → List Node → List RawEntry → Kept
+abbrev pub entries_kept : ℕ → ℕ → List Node → List RawEntry → RuleCheck
 entries_kept period harts nodes entries =
     first_broken 6 (entry_breaks period harts nodes entries) (λ i. (entry_at entries i).offset) 0 (length entries)
 
@@ -75,10 +75,10 @@ abbrev pub field_of_word : ℕ → ValueField
 field_of_word n = (4, n)
 
 abbrev pub profile_fields : ProfileEntry → List ValueField
-profile_fields e = field_of_word e.node ∷ field_of_word (kind_number e.kind) ∷ (8, e.value) ∷ []
+profile_fields e = field_of_word e.node ∷ field_of_word (kind_rank e.kind) ∷ (8, e.value) ∷ []
 
 abbrev pub context_fields : ContextEntry → List ValueField
-context_fields e = field_of_word (kind_number e.kind) ∷ field_of_word e.hart ∷ (8, e.value) ∷ []
+context_fields e = field_of_word (kind_rank e.kind) ∷ field_of_word e.hart ∷ (8, e.value) ∷ []
 
 -- how many entries a column has, and each
 abbrev pub column_fields : {X : Type 0} → (X → List ValueField) → List X → List ValueField
@@ -105,6 +105,6 @@ sampled_nodes entries = map (λ e. e.node) (filter is_exclusive_entry entries)
 abbrev pub statement_breaks : List Node → List ℕ → ℕ → Bool
 statement_breaks nodes numbers i = is_statement (node_at nodes i).scope && not (is_among numbers i)
 
-abbrev pub statements_kept : List RawNode → List Node → List ℕ → Kept
+abbrev pub statements_kept : List RawNode → List Node → List ℕ → RuleCheck
 statements_kept raws nodes numbers =
     first_broken 6 (statement_breaks nodes numbers) (λ i. (raw_node_at raws i).offset) 0 (length nodes)

@@ -1,5 +1,4 @@
 //! The entries of a database's lists, each by itself.
-ghost use Rattle.std.specs.Prelude.{◌≡◌};
 ghost use Rattle.prof_bytes.specs.Outcome.{GivesAt, GivesFrom};
 ghost use Rattle.prof_db.specs.Layout.{call_from, file_from, head_from, inline_from, line_from, node_from, past_entry};
 ghost use Rattle.prof_db.specs.Layout.{proc_from, root_from, scope_from, stmt_from, stored_address_from};

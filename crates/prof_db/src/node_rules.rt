@@ -4,7 +4,7 @@ ghost use Rattle.scope_types.specs.declared.scope.RootKind.TheVariants.{Thread, 
 ghost use Rattle.std.specs.List.{list_any};
 ghost use Rattle.prof_bytes.specs.Outcome.{Gives};
 ghost use Rattle.tree_types.specs.Tree.{node_at};
-ghost use Rattle.prof_db.specs.NodeRules.{file_numbered, in_preorder, in_range, is_placed, is_root, is_statement};
+ghost use Rattle.prof_db.specs.NodeRules.{in_preorder, in_range, is_placed, is_root, is_statement};
 ghost use Rattle.prof_db.specs.NodeRules.{line_in_range, line_id, line_up, node_is_wrong, node_of, nodes_kept};
 ghost use Rattle.prof_db.specs.NodeRules.{raw_node_at};
 ghost use Rattle.prof_db.specs.NodeRules.{parents_of, proc_numbered, scope_of, siblings_ascend, stands_under};

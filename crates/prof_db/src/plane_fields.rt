@@ -3,7 +3,6 @@ ghost use Rattle.std.specs.Prelude.{◌≡◌, ◌<◌, ◌^◌, ◌∷◌, [], 
 ghost use Rattle.std.specs.List.{flat_map};
 ghost use Rattle.prof_bytes.specs.Outcome.{GivesAt};
 ghost use Rattle.prof_db.specs.private.Marks.{Stands};
-ghost use Rattle.prof_db.specs.Spelling.{kind_number};
 ghost use Rattle.prof_db.specs.ValueRules.{column_fields, context_fields, fields_kept, plane_fields, profile_fields};
 ghost use Rattle.prof_db.specs.ValueRules.{field_of_word};
 

@@ -156,8 +156,7 @@ fn read_content(alloc: Global, bytes: &[u8]) -> Result<Content, Fail<DbFault>>
 }
 
 /// The content of a database, which a profile may have; or the first of the seven rules that is broken, with the least
-/// offset. In time linear in the bytes, and n log n in the exclusive
-/// values.
+/// offset. In time linear in the bytes, and n log n in the exclusive values.
 pub fn read_db(alloc: Global, bytes: &[u8]) -> Result<Content, Fail<DbFault>>
     ensures exact { Gives (λ c. c) result (database_in bytes.now) }
     ensures profile { IfOk result (λ c. IsProfile c) }

@@ -1,13 +1,13 @@
 //! A database as bytes.
-ghost use Rattle.std.specs.Prelude.{◌≡◌, ◌<◌, ◌≤◌, ◌^◌, ◌++◌, length, IfOk, IfSome, OnOk, ◌∷◌, [], position};
-ghost use Rattle.std.specs.List.{flat_map, position_or_len};
-ghost use Rattle.std.specs.Ordering.{is_eq};
+ghost use Rattle.std.specs.Prelude.{◌≡◌, ◌<◌, ◌^◌, ◌++◌, length, IfOk, OnOk, ◌∷◌, []};
+ghost use Rattle.std.specs.List.{flat_map};
 ghost use Rattle.scope_types.specs.Words.{root_words, proc_words};
 ghost use Rattle.tree_types.specs.NamesAscend.{NamesAscend};
+ghost use Rattle.tree_types.specs.NodeValues.{kind_rank};
 ghost use Rattle.prof_db.specs.Writable.{IsWritable};
 ghost use Rattle.prof_db.specs.Spelling.{text_bytes, procedure_bytes, file_name_bytes, node_bytes};
 ghost use Rattle.prof_bytes.specs.Number.{word, words};
-ghost use Rattle.prof_db.specs.Spelling.{kind_number, line_numbers, scope_numbers, proc_index, file_index};
+ghost use Rattle.prof_db.specs.Spelling.{line_numbers, scope_numbers, proc_index, file_index};
 ghost use Rattle.prof_db.specs.Spelling.{profile_entry_bytes, context_entry_bytes, with_count, database_head};
 ghost use Rattle.prof_db.specs.Spelling.{database_spelling};
 
@@ -180,7 +180,7 @@ fn put_nodes(out: &mut Vec<u8>, names: &Names, nodes: &[Node]) -> Result<(), Mem
 }
 
 pub(crate) fn kind_word(kind: Kind) -> u32
-    ensures { result ≡ kind_number kind }
+    ensures { result ≡ kind_rank kind }
 {
     match kind {
         Kind::Exclusive => 0,
@@ -272,8 +272,8 @@ fn put_head(out: &mut Vec<u8>, content: &Content) -> Result<(), Memory>
     Ok(())
 }
 
-/// The bytes of a database with this content. Names are looked up by halving; the time grows as the number of nodes and
-/// entries otherwise.
+/// The bytes of a database with this content. Names are looked up by binary search; the time grows as the number of
+/// nodes and entries otherwise.
 #[tactic(auto, using(crate::proofs::Writing::six_parts), unfolding(crate::specs::Spelling::database_spelling))]
 pub fn write_db(alloc: Global, content: &Content) -> Result<Text, Memory>
     requires { IsWritable content.now }

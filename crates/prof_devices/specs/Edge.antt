@@ -54,3 +54,14 @@ FetchesFrom known limit (fetches.Whole bytes) = (length bytes ≤ limit) × IfSo
 FetchesFrom known limit fetches.TooLong = IfSome known (λ left. limit < length left)
 FetchesFrom known limit fetches.Fault = Unit {0}
 FetchesFrom known limit (fetches.Memory memory) = Unit {0}
+
+-- a fact, where the answer says what was read: the whole file, or that it is too long
+abbrev pub OnRead : Fetch → Type 0 → Type 0
+OnRead (fetches.Whole bytes) Fact = Fact
+OnRead fetches.TooLong Fact = Fact
+OnRead fetches.Fault Fact = Unit {0}
+OnRead (fetches.Memory memory) Fact = Unit {0}
+
+-- at most so many bytes were taken, where they are known
+abbrev pub TakesAtMost : Option (List ℕ) → Option (List ℕ) → ℕ → Type 0
+TakesAtMost known left most = (bytes : List ℕ) × Consumes known left bytes × (length bytes ≤ most)

@@ -122,13 +122,13 @@ SureFetches old new name limit fetches.TooLong = (new ≡ old) × (limit < lengt
 SureFetches old new name limit fetches.Fault = ⊥
 SureFetches old new name limit (fetches.Memory memory) = new ≡ old
 
--- a store is whole, or for want of memory nothing
+-- a store is whole, or nothing where memory runs out
 abbrev pub SureStores : Files → Files → List ℕ → List ℕ → Put → Type 0
 SureStores old new name bytes Done = Holds old new name bytes
 SureStores old new name bytes Fault = ⊥
 SureStores old new name bytes (Memory memory) = new ≡ old
 
--- a put is whole, or for want of memory nothing
+-- a put is whole, or nothing where memory runs out
 abbrev pub SurePuts : SureSinkState → SureSinkState → List ℕ → Put → Type 0
 SurePuts old new bytes Done = new ≡ record old { taken = old.taken ++ bytes }
 SurePuts old new bytes Fault = ⊥

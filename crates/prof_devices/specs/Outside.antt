@@ -1,5 +1,5 @@
 -- What calls on a shelf or a sink may do to its state.
-use Rattle.std.specs.Prelude.{◌≡◌, ℕ, ◌+◌, ◌-◌, ◌^◌, ◌<◌, ◌≤◌, ◌⊎◌, List, ◌++◌, length, take, min, Bool, IsTrue}
+use Rattle.std.specs.Prelude.{◌≡◌, ℕ, ◌+◌, ◌-◌, ◌^◌, ◌<◌, ◌≤◌, List, ◌++◌, length, take, min, Bool, IsTrue}
 use Rattle.prof_devices.specs.declared.shelf.Fetch.{Fetch}
 use Rattle.prof_devices.specs.declared.shelf.Fetch.TheVariants as fetches
 use Rattle.prof_devices.specs.declared.shelf.Put.{Put}
@@ -29,50 +29,35 @@ pub record SinkState : Type 0 where
 abbrev pub last_count : ℕ
 last_count = 2 ^ 64 - 1
 
--- a count rose, or stood at its type's end
+-- a count rose, or stood at its type's end. It never falls
 abbrev pub Rose : ℕ → ℕ → Type 0
-Rose before now = min (before + 1) last_count ≤ now
+Rose before now = (before ≤ now) × (min (before + 1) last_count ≤ now)
 
--- a count never falls, and where it rose the name is that of this call's file
-pub record Advances (old new : Failures) (name : List ℕ) : Type 0 where
-  pub never_falls : old.count ≤ new.count
-  pub named : (new ≡ old) ⊎ (Rose old.count new.count × (new.name ≡ name))
-
--- a call that failed
+-- a call that failed: the count rose, and the name is that of this call's file
 pub record Fails (old new : Failures) (name : List ℕ) : Type 0 where
   pub rose : Rose old.count new.count
   pub named : new.name ≡ name
 
--- a fetch changes no file
-pub record Reads (old new : ShelfState) (name : List ℕ) : Type 0 where
-  pub known : new.known ≡ old.known
-  pub files : new.files ≡ old.files
-  pub stores : new.stores ≡ old.stores
-  pub reads : Advances old.reads new.reads name
-
--- what a fetch leaves, and what its answer says of the files where they are known
+-- what a fetch leaves, and what its answer says of the files where they are known. A fetch that fails changes the
+-- failed reads, and any other fetch nothing
 abbrev pub Fetched : ShelfState → ShelfState → List ℕ → ℕ → Fetch → Type 0
 Fetched old new name limit (fetches.Whole bytes) =
-    Reads old new name × (IsTrue old.known → (bytes ≡ file_bytes old.files name) × (length bytes ≤ limit))
+    (new ≡ old) × (IsTrue old.known → (bytes ≡ file_bytes old.files name) × (length bytes ≤ limit))
 Fetched old new name limit fetches.TooLong =
-    Reads old new name × (IsTrue old.known → limit < length (file_bytes old.files name))
-Fetched old new name limit fetches.Fault = Reads old new name × Fails old.reads new.reads name
-Fetched old new name limit (fetches.Memory memory) = Reads old new name
+    (new ≡ old) × (IsTrue old.known → limit < length (file_bytes old.files name))
+Fetched old new name limit fetches.Fault =
+    (new ≡ record old { reads = new.reads }) × Fails old.reads new.reads name
+Fetched old new name limit (fetches.Memory memory) = new ≡ old
 
--- a store changes no more than the files and the failed stores
-pub record Writes (old new : ShelfState) (name : List ℕ) : Type 0 where
-  pub known : new.known ≡ old.known
-  pub reads : new.reads ≡ old.reads
-  pub stores : Advances old.stores new.stores name
-
--- what a store leaves
+-- what a store leaves. A store that fails changes the files and the failed stores, and any other store the files alone
 abbrev pub Stored : ShelfState → ShelfState → List ℕ → List ℕ → Put → Type 0
-Stored old new name bytes Done = Writes old new name × (IsTrue old.known → Holds old.files new.files name bytes)
+Stored old new name bytes Done =
+    (new ≡ record old { files = new.files }) × (IsTrue old.known → Holds old.files new.files name bytes)
 Stored old new name bytes Fault =
-    Writes old new name × Fails old.stores new.stores name
+    (new ≡ record old { files = new.files; stores = new.stores }) × Fails old.stores new.stores name
     × (IsTrue old.known → HoldsPart old.files new.files name bytes)
 Stored old new name bytes (Memory memory) =
-    Writes old new name × (IsTrue old.known → HoldsPart old.files new.files name bytes)
+    (new ≡ record old { files = new.files }) × (IsTrue old.known → HoldsPart old.files new.files name bytes)
 
 -- all of the bytes were added
 abbrev pub Appends : List ℕ → List ℕ → List ℕ → Type 0
@@ -82,16 +67,14 @@ Appends old new bytes = new ≡ old ++ bytes
 abbrev pub AppendsPart : List ℕ → List ℕ → List ℕ → Type 0
 AppendsPart old new bytes = (n : ℕ) × (new ≡ old ++ take n bytes)
 
--- a sink's counts never fall
-pub record Counts (old new : SinkState) : Type 0 where
-  pub known : new.known ≡ old.known
-  pub faults : old.faults ≤ new.faults
-  pub shortages : old.shortages ≤ new.shortages
-
--- what a put leaves
+-- what a put leaves. Beside the bytes taken, a put that fails changes the count of faults, one for which memory ran out
+-- that of shortages, and any other put nothing
 abbrev pub Taken : SinkState → SinkState → List ℕ → Put → Type 0
-Taken old new bytes Done = Counts old new × (IsTrue old.known → Appends old.taken new.taken bytes)
+Taken old new bytes Done =
+    (new ≡ record old { taken = new.taken }) × (IsTrue old.known → Appends old.taken new.taken bytes)
 Taken old new bytes Fault =
-    Counts old new × Rose old.faults new.faults × (IsTrue old.known → AppendsPart old.taken new.taken bytes)
+    (new ≡ record old { taken = new.taken; faults = new.faults }) × Rose old.faults new.faults
+    × (IsTrue old.known → AppendsPart old.taken new.taken bytes)
 Taken old new bytes (Memory memory) =
-    Counts old new × Rose old.shortages new.shortages × (IsTrue old.known → AppendsPart old.taken new.taken bytes)
+    (new ≡ record old { taken = new.taken; shortages = new.shortages }) × Rose old.shortages new.shortages
+    × (IsTrue old.known → AppendsPart old.taken new.taken bytes)

@@ -1,4 +1,4 @@
-ghost use Rattle.std.specs.Prelude.{◌≡◌, ◌≤◌, ◌++◌, [], take};
+ghost use Rattle.std.specs.Prelude.{◌≡◌, ◌≤◌, []};
 ghost use Rattle.prof_devices.specs.Outside.{Taken, last_count};
 ghost use Rattle.prof_devices.specs.InMemory.{MemorySink, MemoryPuts, counted_put, is_failing, raised, shown_sink};
 ghost use Rattle.prof_devices.specs.private.Parts.{FrontPut};

@@ -1,7 +1,8 @@
 //! Reading a whole file, or seeing that it is too long.
 ghost use Rattle.std.specs.Prelude.{◌≡◌, ◌+◌, ◌<◌, ◌≤◌, ◌||◌, [], true, false, IfOk, IfErr, IfSome, OnOk};
 ghost use Rattle.std.specs.Prelude.{length, is_none};
-ghost use Rattle.prof_devices.specs.Edge.{FetchesFrom, GivesSome, is_fault};
+ghost use Rattle.prof_devices.specs.Edge.{FetchesFrom, GivesSome, OnRead, TakesAtMost, is_fault};
+ghost use Rattle.prof_devices.specs.declared.read.ReadStop.TheVariants as stops;
 ghost use Rattle.prof_devices.specs.private.Parts.{TakesFrom, AtEnd, is_failure};
 
 use crate::shelf::Fetch;
@@ -76,6 +77,8 @@ pub(crate) enum ReadStop {
 }
 
 impl From<Memory> for ReadStop {
+    ghost from_gives = { λ memory stop. stop ≡ stops.Memory memory };
+
     fn from(memory: Memory) -> ReadStop {
         ReadStop::Memory(memory)
     }
@@ -124,6 +127,7 @@ fn read_front<S: Source>(alloc: Global, source: &mut S, limit: u64) -> Result<Ve
 /// `Fault` comes exactly where the source fails.
 pub fn fetch_from<S: Source>(alloc: Global, source: &mut S, limit: u64) -> Fetch
     ensures answer { FetchesFrom (S.left source.old) limit result }
+    ensures few { OnRead result (TakesAtMost (S.left source.old) (S.left source.new) (limit + 1)) }
     ensures failed { S.has_failed source.new ≡ (S.has_failed source.old || is_fault result) }
 {
     match read_front(alloc, source, limit) {

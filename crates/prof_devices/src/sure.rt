@@ -1,4 +1,4 @@
-ghost use Rattle.std.specs.Prelude.{◌≡◌, None, Some, []};
+ghost use Rattle.std.specs.Prelude.{◌≡◌, []};
 ghost use Rattle.std.specs.Option.{option_copied};
 ghost use Rattle.prof_devices.specs.Files.{Files, file_of};
 ghost use Rattle.prof_devices.specs.Outside.{Fetched, Stored, Taken};

@@ -1,9 +1,8 @@
 //! Reports of programs with debug information: inlined procedures, source lines, and what has neither. The reports are
 //! written by hand from the entries and the rows of the line tables.
 use crate::debug_programs::{WITH_ENTRIES, WITH_INLINES, WITH_OLDER_UNITS};
-use crate::programs::{files, puts_over};
+use crate::runs::{RUN, Run, other_run};
 use std::test::Fail;
-use std::thread::Threads;
 
 /// Inlined code in two pieces and of two levels; the entries have calls, and the line table three rows.
 const INLINED: &str = "\
@@ -60,22 +59,12 @@ hart 0 retired 49 samples 1 end exit 0
               31  100.0               31                              0x00010024
 ";
 
-/// A program, the words and the schedule of its run, and the report.
-#[derive(Clone, Copy)]
-struct Run {
-    name: &'static str,
-    file: &'static [u8],
-    words: &'static str,
-    schedule: &'static [u8],
-    report: &'static str,
-}
-
 const INLINED_RUN: Run = Run {
     name: "inlined procedures",
     file: WITH_INLINES,
     words: "profile p i s 2 1 d",
-    schedule: b"harts 1\n0 100000\n",
     report: INLINED,
+    ..RUN
 };
 
 static RUNS: [Run; 5] = [
@@ -96,29 +85,19 @@ static RUNS: [Run; 5] = [
         words: "profile p i s 1 1 d",
         schedule: b"harts 1\n0 7\n",
         report: LINES,
+        ..RUN
     },
     Run {
         name: "units of older versions",
         file: WITH_OLDER_UNITS,
         words: "profile p i s 31 1 d",
         report: OLDER,
-        ..INLINED_RUN
+        ..RUN
     },
 ];
 
-/// The first run that puts another report.
-fn other_run(rt: &(impl Threads + Sync + AllocGlobal)) -> Result<Option<&'static str>, Fail> {
-    for run in &RUNS {
-        let files = files(rt.alloc(), run.file, b"", run.schedule)?;
-        if !puts_over(rt, run.words, files, run.report)? {
-            return Ok(Some(run.name));
-        }
-    }
-    Ok(None)
-}
-
 #[test]
 fn reports_of_programs_with_debug_information(rt: HostRuntime) -> Result<(), Fail> {
-    assert_eq!(rt; other_run(&rt)?, None);
+    assert_eq!(rt; other_run(&rt, &RUNS)?, None);
     Ok(())
 }

@@ -4,10 +4,10 @@
 use crate::databases::EMPTY_DATABASE;
 use crate::programs::{ADDING, program};
 use crate::reports::NO_SAMPLES;
+use crate::runs::{RUN, Run, other_run};
 use hpc_top::{Job, Made, profile};
 use merge_crew::{Crews, WorkCrew};
 use prof_devices::OpenGate;
-use std::alloc::Global;
 use std::test::Fail;
 use std::thread::Threads;
 
@@ -107,88 +107,58 @@ hart 0 retired 5 samples 1 end stopped
                5  100.0                5              0x00010018
 ";
 
-/// A program with changes of single bytes, its schedule and period, and the report.
-#[derive(Clone, Copy)]
-struct Unwound {
-    name: &'static str,
-    file: &'static [u8],
-    changes: &'static [(usize, u8)],
-    schedule: &'static [u8],
-    period: u32,
-    report: &'static str,
-}
-
-const UNWOUND: Unwound = Unwound {
+const RECURSION_RUN: Run = Run {
     name: "a recursion of seven frames",
     file: RECURSION,
-    changes: &[],
-    schedule: b"harts 1\n0 1000\n",
-    period: 31,
+    words: "profile p i s 31 1 d",
     report: SEVEN_FRAMES,
+    ..RUN
+};
+
+/// A sample before x2 moves, and one right after.
+const MOVING_RUN: Run = Run {
+    name: "a sample before x2 moves, and one right after",
+    file: RECURSION,
+    schedule: b"harts 1\n0 4\n",
+    words: "profile p i s 1 1 d",
+    report: MOVED_FRAME,
+    ..RUN
 };
 
 /// In the CIE, `DW_CFA_def_cfa_register` x2 and `DW_CFA_nop` in place of `DW_CFA_def_cfa` x2, 0.
 const REGISTER_ALONE: &[(usize, u8)] = &[(145, 0x0d)];
 
-static ALL_UNWOUND: [Unwound; 7] = [
-    UNWOUND,
-    Unwound {
-        name: "a sample before x2 moves, and one right after",
-        schedule: b"harts 1\n0 4\n",
-        period: 1,
-        report: MOVED_FRAME,
-        ..UNWOUND
-    },
-    Unwound {
+static RUNS: [Run; 7] = [
+    RECURSION_RUN,
+    MOVING_RUN,
+    Run {
         name: "the CFA's register alone, and a recursion",
         changes: REGISTER_ALONE,
-        ..UNWOUND
+        ..RECURSION_RUN
     },
-    Unwound {
+    Run {
         name: "the CFA's register alone, before x2 moves and right after",
         changes: REGISTER_ALONE,
-        schedule: b"harts 1\n0 4\n",
-        period: 1,
-        report: MOVED_FRAME,
-        ..UNWOUND
+        ..MOVING_RUN
     },
-    Unwound {
+    Run {
         name: "`.eh_frame`, and a recursion",
         file: RECURSION_WITH_EH_FRAME,
-        ..UNWOUND
+        ..RECURSION_RUN
     },
-    Unwound {
+    Run {
         name: "`.eh_frame`, before x2 moves and right after",
         file: RECURSION_WITH_EH_FRAME,
-        schedule: b"harts 1\n0 4\n",
-        period: 1,
-        report: MOVED_FRAME,
-        ..UNWOUND
+        ..MOVING_RUN
     },
-    Unwound {
+    Run {
         name: "a return address where the sampled procedure begins",
         file: LAST_CALL,
         schedule: b"harts 1\n0 5\n",
-        period: 5,
         report: AT_ITS_START,
-        ..UNWOUND
+        ..RUN
     },
 ];
-
-/// A file with these bytes changed.
-pub(crate) fn changed(
-    alloc: Global,
-    file: &[u8],
-    changes: &[(usize, u8)],
-) -> Result<Vec<u8>, Fail> {
-    let mut file = Vec::from_slice(alloc, file)?;
-    for (at, byte) in changes {
-        if *at < file.len() {
-            file[*at] = *byte;
-        }
-    }
-    Ok(file)
-}
 
 /// What a crew makes of a program, with no input and one worker.
 pub(crate) fn made<C: Crews>(
@@ -211,27 +181,9 @@ pub(crate) fn made<C: Crews>(
     Ok(profile(rt, &job, crews).ok().ok_or("refused")?)
 }
 
-/// Whether the profile of a program has the row's report.
-fn is_unwound(rt: &(impl Threads + Sync + AllocGlobal), row: &Unwound) -> Result<bool, Fail> {
-    let crews = WorkCrew::of(&OpenGate);
-    let elf = changed(rt.alloc(), row.file, row.changes)?;
-    let made = made(rt, elf.as_slice(), row.schedule, row.period, &crews)?;
-    Ok(made.report.bytes() == row.report.as_bytes())
-}
-
-/// The first program whose profile has another report.
-fn other_unwound(rt: &(impl Threads + Sync + AllocGlobal)) -> Result<Option<&'static str>, Fail> {
-    for row in &ALL_UNWOUND {
-        if !is_unwound(rt, row)? {
-            return Ok(Some(row.name));
-        }
-    }
-    Ok(None)
-}
-
 #[test]
 fn call_paths_of_programs(rt: HostRuntime) -> Result<(), Fail> {
-    assert_eq!(rt; other_unwound(&rt)?, None);
+    assert_eq!(rt; other_run(&rt, &RUNS)?, None);
     Ok(())
 }
 

@@ -1,8 +1,11 @@
 //! A call of a device that fails: the answer, and what stands then in the file and on the output.
 use crate::databases::database_of_four;
-use crate::measurements::TABLE;
-use crate::programs::{ADDING, answer, database_alone, files, program};
+use crate::debug_programs::WITH_INLINES;
+use crate::drills::LINES as DRILL_LINES;
+use crate::measurements::{FOUR_PATHS, LINES, TABLE, files_of, files_with};
+use crate::programs::{ADDING, answer, database_alone};
 use crate::reports::FOUR_SAMPLES;
+use crate::structures::STRUCTURE;
 use hpc_top::{Place, Status};
 use prof_bytes::Text;
 use prof_devices::{MemShelf, MemSink, SureSink};
@@ -10,207 +13,388 @@ use std::alloc::Global;
 use std::test::Fail;
 use std::thread::Threads;
 
-/// A run in which one call fails.
+#[derive(Clone, Copy)]
+enum Command {
+    /// Fetches the program, the input and the schedule, and stores `d`.
+    Profile,
+    /// Fetches the same, and stores `m`.
+    Run,
+    /// Fetches the program and the measurement, and stores `d`.
+    Prof,
+    /// Fetches the program.
+    Struct,
+    /// Fetches the database `d`.
+    View,
+    /// Fetches nothing.
+    Drill,
+}
+
+impl Command {
+    fn line(self) -> &'static str {
+        match self {
+            Command::Profile => "profile p i s 5 1 d",
+            Command::Run => "run p i s 5 m",
+            Command::Prof => "prof p m 1 d",
+            Command::Struct => "struct p",
+            Command::View => "view d top",
+            Command::Drill => "drill 0 1",
+        }
+    }
+
+    /// What it puts.
+    fn text(self) -> &'static str {
+        match self {
+            Command::Profile => FOUR_SAMPLES,
+            Command::Run => LINES,
+            Command::Prof | Command::View => TABLE,
+            Command::Struct => STRUCTURE,
+            Command::Drill => DRILL_LINES,
+        }
+    }
+
+    /// The file that it stores; where it stores none, one that stays.
+    fn kept_file(self) -> &'static [u8] {
+        match self {
+            Command::Run => b"m",
+            _ => b"d",
+        }
+    }
+}
+
+/// How much of a file or of a text is written.
+#[derive(Clone, Copy)]
+enum Written {
+    /// What stood before is still there.
+    Nothing,
+    Front(usize),
+    Whole,
+}
+
+/// A command in which calls fail.
 #[derive(Clone, Copy)]
 struct Failure {
     name: &'static str,
+    command: Command,
     /// Which call of the shelf fails, and which of the output; 0 for none.
     shelf_call: u64,
     print_call: u64,
     /// How many bytes a call that fails keeps.
     kept: usize,
-    /// The answer, and how many bytes the file and the output have then.
     status: Status,
-    stored: usize,
-    printed: usize,
+    stored: Written,
+    put: Written,
 }
 
 const NO_FAILURE: Failure = Failure {
     name: "no call fails",
+    command: Command::Profile,
     shelf_call: 0,
     print_call: 0,
     kept: 0,
     status: Status::Done,
-    stored: 655,
-    printed: 472,
+    stored: Written::Whole,
+    put: Written::Whole,
 };
 
 /// A call that reads fails: the file that stood before stays.
 const NOT_READ: Failure = Failure {
-    name: "the program is not read",
+    kept: 3,
     status: Status::Device(Place::Read),
-    stored: 6,
-    printed: 0,
+    stored: Written::Nothing,
+    put: Written::Nothing,
     ..NO_FAILURE
 };
 
-static FAILURES: [Failure; 7] = [
+const FRONT_STORED: Failure = Failure {
+    kept: 10,
+    status: Status::Device(Place::Store),
+    stored: Written::Front(10),
+    put: Written::Nothing,
+    ..NO_FAILURE
+};
+
+const EMPTY_STORED: Failure = Failure {
+    kept: 0,
+    stored: Written::Front(0),
+    ..FRONT_STORED
+};
+
+const FRONT_PUT: Failure = Failure {
+    print_call: 1,
+    kept: 7,
+    status: Status::Device(Place::Print),
+    put: Written::Front(7),
+    ..NO_FAILURE
+};
+
+/// The calls after a command's last ones would fail.
+const NEXT_FAILS: Failure = Failure {
+    print_call: 2,
+    kept: 3,
+    ..NO_FAILURE
+};
+
+static FAILURES: [Failure; 27] = [
     NO_FAILURE,
     Failure {
+        name: "profile: the program is not read",
+        command: Command::Profile,
         shelf_call: 1,
-        kept: 3,
         ..NOT_READ
     },
     Failure {
-        name: "the input is not read",
+        name: "profile: the input is not read",
+        command: Command::Profile,
         shelf_call: 2,
         ..NOT_READ
     },
     Failure {
-        name: "the schedule is not read",
+        name: "profile: the schedule is not read",
+        command: Command::Profile,
         shelf_call: 3,
         ..NOT_READ
     },
     Failure {
-        name: "a front of the database is stored",
+        name: "profile: a front of the database is stored",
+        command: Command::Profile,
         shelf_call: 4,
-        kept: 10,
-        status: Status::Device(Place::Store),
-        stored: 10,
-        printed: 0,
-        ..NO_FAILURE
+        ..FRONT_STORED
     },
     Failure {
-        name: "nothing of the database is stored",
+        name: "profile: an empty database is stored",
+        command: Command::Profile,
         shelf_call: 4,
-        status: Status::Device(Place::Store),
-        stored: 0,
-        printed: 0,
-        ..NO_FAILURE
+        ..EMPTY_STORED
     },
     Failure {
-        name: "a front of the report is put",
-        print_call: 1,
-        kept: 7,
-        status: Status::Device(Place::Print),
-        printed: 7,
-        ..NO_FAILURE
+        name: "profile: a front of the text is put",
+        command: Command::Profile,
+        ..FRONT_PUT
+    },
+    Failure {
+        name: "profile: nothing is fetched, stored or put twice",
+        command: Command::Profile,
+        shelf_call: 5,
+        ..NEXT_FAILS
+    },
+    Failure {
+        name: "run: the program is not read",
+        command: Command::Run,
+        shelf_call: 1,
+        ..NOT_READ
+    },
+    Failure {
+        name: "run: the input is not read",
+        command: Command::Run,
+        shelf_call: 2,
+        ..NOT_READ
+    },
+    Failure {
+        name: "run: the schedule is not read",
+        command: Command::Run,
+        shelf_call: 3,
+        ..NOT_READ
+    },
+    Failure {
+        name: "run: a front of the measurement is stored",
+        command: Command::Run,
+        shelf_call: 4,
+        ..FRONT_STORED
+    },
+    Failure {
+        name: "run: an empty measurement is stored",
+        command: Command::Run,
+        shelf_call: 4,
+        ..EMPTY_STORED
+    },
+    Failure {
+        name: "run: a front of the text is put",
+        command: Command::Run,
+        ..FRONT_PUT
+    },
+    Failure {
+        name: "run: nothing is fetched, stored or put twice",
+        command: Command::Run,
+        shelf_call: 5,
+        ..NEXT_FAILS
+    },
+    Failure {
+        name: "prof: the program is not read",
+        command: Command::Prof,
+        shelf_call: 1,
+        ..NOT_READ
+    },
+    Failure {
+        name: "prof: the measurement is not read",
+        command: Command::Prof,
+        shelf_call: 2,
+        ..NOT_READ
+    },
+    Failure {
+        name: "prof: a front of the database is stored",
+        command: Command::Prof,
+        shelf_call: 3,
+        ..FRONT_STORED
+    },
+    Failure {
+        name: "prof: an empty database is stored",
+        command: Command::Prof,
+        shelf_call: 3,
+        ..EMPTY_STORED
+    },
+    Failure {
+        name: "prof: a front of the text is put",
+        command: Command::Prof,
+        ..FRONT_PUT
+    },
+    Failure {
+        name: "prof: nothing is fetched, stored or put twice",
+        command: Command::Prof,
+        shelf_call: 4,
+        ..NEXT_FAILS
+    },
+    Failure {
+        name: "struct: the program is not read",
+        command: Command::Struct,
+        shelf_call: 1,
+        ..NOT_READ
+    },
+    Failure {
+        name: "struct: a front of the text is put",
+        command: Command::Struct,
+        ..FRONT_PUT
+    },
+    Failure {
+        name: "struct: nothing is stored, nor fetched or put twice",
+        command: Command::Struct,
+        shelf_call: 2,
+        ..NEXT_FAILS
+    },
+    Failure {
+        name: "view: the database is not read",
+        command: Command::View,
+        shelf_call: 1,
+        ..NOT_READ
+    },
+    Failure {
+        name: "view: a front of the text is put",
+        command: Command::View,
+        ..FRONT_PUT
+    },
+    Failure {
+        name: "view: nothing is stored, nor fetched or put twice",
+        command: Command::View,
+        shelf_call: 2,
+        ..NEXT_FAILS
     },
 ];
 
-fn is_front(found: Option<&[u8]>, whole: &[u8], length: usize) -> bool {
-    match found {
-        Some(bytes) => bytes.len() == length && whole.starts_with(bytes),
-        None => false,
+/// Of a drill, whose run is long.
+static DRILL_FAILURES: [Failure; 2] = [
+    Failure {
+        name: "drill: a front of the text is put",
+        command: Command::Drill,
+        ..FRONT_PUT
+    },
+    Failure {
+        name: "drill: nothing is fetched or stored, nor put twice",
+        command: Command::Drill,
+        shelf_call: 1,
+        ..NEXT_FAILS
+    },
+];
+
+/// Whether so much of the new bytes stands in place of those that stood before; these, where nothing is written.
+fn is_written(found: Option<&[u8]>, before: &[u8], whole: &[u8], written: Written) -> bool {
+    match written {
+        Written::Nothing => found == Some(before),
+        Written::Front(length) => found.is_some() && found == whole.get(..length),
+        Written::Whole => found == Some(whole),
     }
 }
 
-/// A view of the database of four samples in which one call fails.
-static VIEW_FAILURES: [Failure; 3] = [
-    Failure {
-        name: "the database is not read",
-        shelf_call: 1,
-        kept: 3,
-        status: Status::Device(Place::Read),
-        printed: 0,
-        ..NO_FAILURE
-    },
-    Failure {
-        name: "a front of the table is put",
-        print_call: 1,
-        kept: 7,
-        status: Status::Device(Place::Print),
-        printed: 7,
-        ..NO_FAILURE
-    },
-    Failure {
-        name: "nothing is stored, nor put twice",
-        shelf_call: 2,
-        print_call: 2,
-        kept: 3,
-        printed: 396,
-        ..NO_FAILURE
-    },
-];
-
-/// Whether a given number of bytes of the database stand in its file; 6 are those that stood there before.
-fn is_stored(alloc: Global, shelf: &MemShelf, length: usize) -> Result<bool, Fail> {
-    let database = database_of_four(alloc)?;
-    let expected = if length == 6 {
-        b"before"
-    } else {
-        database.as_slice()
-    };
-    Ok(is_front(shelf.file(b"d"), expected, length))
-}
-
-/// A shelf of these files of which one call fails.
-fn failing_shelf(
+/// Whether so much of what the command stores stands in its file.
+fn is_stored(
     alloc: Global,
-    files: Vec<(Text, Text)>,
-    failure: &Failure,
-) -> Result<MemShelf, Fail> {
-    let failing = Vec::from_slice(alloc, &[failure.shelf_call])?;
-    Ok(MemShelf::of(alloc, files, failing, failure.kept))
+    command: Command,
+    shelf: &MemShelf,
+    written: Written,
+) -> Result<bool, Fail> {
+    let database = database_of_four(alloc)?;
+    let (before, whole) = match command {
+        Command::Profile | Command::Prof => (b"before".as_slice(), database.as_slice()),
+        Command::Run => (b"before".as_slice(), FOUR_PATHS),
+        Command::View => (database.as_slice(), database.as_slice()),
+        Command::Struct | Command::Drill => (b"before".as_slice(), b"before".as_slice()),
+    };
+    Ok(is_written(shelf.file(command.kept_file()), before, whole, written))
 }
 
-/// Whether a command over this shelf has the row's answer, and puts as much of this text.
+/// The files of the view of four samples.
+fn view_files(alloc: Global) -> Result<Vec<(Text, Text)>, Fail> {
+    let database = database_of_four(alloc)?;
+    database_alone(alloc, database.as_slice())
+}
+
+/// The files over which a command is run.
+fn command_files(alloc: Global, command: Command) -> Result<Vec<(Text, Text)>, Fail> {
+    match command {
+        Command::Profile | Command::Run | Command::Drill => files_of(alloc, &ADDING, b"before"),
+        Command::Prof => files_of(alloc, &ADDING, FOUR_PATHS),
+        Command::Struct => files_with(alloc, WITH_INLINES, b"before"),
+        Command::View => view_files(alloc),
+    }
+}
+
+/// A shelf of the command's files of which one call fails.
+fn failing_shelf(alloc: Global, row: &Failure) -> Result<MemShelf, Fail> {
+    let files = command_files(alloc, row.command)?;
+    let failing = Vec::from_slice(alloc, &[row.shelf_call])?;
+    Ok(MemShelf::of(alloc, files, failing, row.kept))
+}
+
+/// Whether a command over this shelf has the row's answer, and puts as much of its text.
 fn answers(
     rt: &(impl Threads + Sync + AllocGlobal),
-    line: &str,
+    row: &Failure,
     shelf: &mut MemShelf,
-    failure: &Failure,
-    text: &str,
 ) -> Result<bool, Fail> {
-    let failing = Vec::from_slice(rt.alloc(), &[failure.print_call])?;
-    let mut out = MemSink::of(rt.alloc(), failing, failure.kept);
+    let failing = Vec::from_slice(rt.alloc(), &[row.print_call])?;
+    let mut out = MemSink::of(rt.alloc(), failing, row.kept);
     let mut err = SureSink::new(rt.alloc());
-    let status = answer(rt, line, shelf, &mut out, &mut err)?;
-    Ok(status == failure.status && is_front(Some(out.taken()), text.as_bytes(), failure.printed))
+    let status = answer(rt, row.command.line(), shelf, &mut out, &mut err)?;
+    let text = row.command.text().as_bytes();
+    Ok(status == row.status && is_written(Some(out.taken()), b"", text, row.put))
 }
 
-/// Whether a command over these files, with one call that fails, has the row's answer, and stores and puts as much of
-/// the database and of this text. A file `d` of 6 bytes is what stood there before.
-fn is_failure(
-    rt: &(impl Threads + Sync + AllocGlobal),
-    line: &str,
-    files: Vec<(Text, Text)>,
-    failure: &Failure,
-    text: &str,
-) -> Result<bool, Fail> {
-    let mut shelf = failing_shelf(rt.alloc(), files, failure)?;
-    let is_answer = answers(rt, line, &mut shelf, failure, text)?;
-    Ok(is_answer && is_stored(rt.alloc(), &shelf, failure.stored)?)
+/// Whether a command has the row's answer, and stores and puts as much.
+fn is_failure(rt: &(impl Threads + Sync + AllocGlobal), row: &Failure) -> Result<bool, Fail> {
+    let mut shelf = failing_shelf(rt.alloc(), row)?;
+    let is_answer = answers(rt, row, &mut shelf)?;
+    Ok(is_answer && is_stored(rt.alloc(), row.command, &shelf, row.stored)?)
 }
 
-/// The first call of a profile whose failure has another outcome.
+/// The first row with another outcome.
 fn other_failure(
     rt: &(impl Threads + Sync + AllocGlobal),
-    elf: &[u8],
+    rows: &'static [Failure],
 ) -> Result<Option<&'static str>, Fail> {
-    for failure in &FAILURES {
-        let files = files(rt.alloc(), elf, b"", b"harts 1\n0 100000\n")?;
-        if !is_failure(rt, "profile p i s 5 1 d", files, failure, FOUR_SAMPLES)? {
-            return Ok(Some(failure.name));
+    for row in rows {
+        if !is_failure(rt, row)? {
+            return Ok(Some(row.name));
         }
     }
     Ok(None)
 }
 
 #[test]
-fn one_failing_call(rt: HostRuntime) -> Result<(), Fail> {
-    let elf = program(rt.alloc(), &ADDING)?;
-    assert_eq!(rt; other_failure(&rt, elf.as_slice())?, None);
+fn calls_that_fail(rt: HostRuntime) -> Result<(), Fail> {
+    assert_eq!(rt; other_failure(&rt, &FAILURES)?, None);
     Ok(())
 }
 
-/// The first call of a view whose failure has another outcome.
-fn other_view_failure(
-    rt: &(impl Threads + Sync + AllocGlobal),
-    database: &[u8],
-) -> Result<Option<&'static str>, Fail> {
-    for failure in &VIEW_FAILURES {
-        let files = database_alone(rt.alloc(), database)?;
-        if !is_failure(rt, "view d top", files, failure, TABLE)? {
-            return Ok(Some(failure.name));
-        }
-    }
-    Ok(None)
-}
-
 #[test]
-fn one_failing_call_of_a_view(rt: HostRuntime) -> Result<(), Fail> {
-    let database = database_of_four(rt.alloc())?;
-    assert_eq!(rt; other_view_failure(&rt, database.as_slice())?, None);
+fn calls_of_a_drill_that_fail(rt: HostRuntime) -> Result<(), Fail> {
+    assert_eq!(rt; other_failure(&rt, &DRILL_FAILURES)?, None);
     Ok(())
 }

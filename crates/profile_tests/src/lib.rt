@@ -30,11 +30,15 @@ mod made_databases;
 #[cfg(test)]
 mod measurements;
 #[cfg(test)]
+mod messages;
+#[cfg(test)]
 mod programs;
 #[cfg(test)]
 mod refusals;
 #[cfg(test)]
 mod reports;
+#[cfg(test)]
+mod runs;
 #[cfg(test)]
 mod scopes;
 #[cfg(test)]
@@ -43,3 +47,5 @@ mod structures;
 mod view_faults;
 #[cfg(test)]
 mod views;
+#[cfg(test)]
+mod workers;

@@ -11,7 +11,7 @@ use std::test::Fail;
 use std::thread::Threads;
 
 /// The measurement of four samples: each has a path of its own, of one frame.
-const FOUR_PATHS: &[u8] = b"\
+pub(crate) const FOUR_PATHS: &[u8] = b"\
 HPCRUNM1\xa8\0\0\0\0\0\x01\0\x05\0\0\0\x01\0\0\0\x04\0\0\0\
 \x01\0\0\0\0\0\0\0\x01\0\0\0\x10\0\x01\0\
 \x01\0\0\0\0\0\0\0\x01\0\0\0\x24\0\x01\0\
@@ -19,7 +19,7 @@ HPCRUNM1\xa8\0\0\0\0\0\x01\0\x05\0\0\0\x01\0\0\0\x04\0\0\0\
 \x01\0\0\0\0\0\0\0\x01\0\0\0\x4c\0\x01\0";
 
 /// The lines on its run.
-const LINES: &str = "\
+pub(crate) const LINES: &str = "\
 harts 1 period 5 samples 4 total 20
 hart 0 retired 20 samples 4 end exit 19
 ";
@@ -35,14 +35,22 @@ pub(crate) const TABLE: &str = "       inclusive      %            frame  scope
 ";
 
 /// The files of a program's run, with a measurement `m`.
-fn files_with(alloc: Global, elf: &[u8], measurement: &[u8]) -> Result<Vec<(Text, Text)>, Fail> {
+pub(crate) fn files_with(
+    alloc: Global,
+    elf: &[u8],
+    measurement: &[u8],
+) -> Result<Vec<(Text, Text)>, Fail> {
     let mut files = files(alloc, elf, b"", b"harts 1\n0 100000\n")?;
     files.push(file(alloc, b"m", measurement)?)?;
     Ok(files)
 }
 
 /// Those of the run of a program with this code.
-fn files_of(alloc: Global, code: &[u32], measurement: &[u8]) -> Result<Vec<(Text, Text)>, Fail> {
+pub(crate) fn files_of(
+    alloc: Global,
+    code: &[u32],
+    measurement: &[u8],
+) -> Result<Vec<(Text, Text)>, Fail> {
     let elf = program(alloc, code)?;
     files_with(alloc, elf.as_slice(), measurement)
 }

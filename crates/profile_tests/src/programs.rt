@@ -80,6 +80,21 @@ pub(crate) fn program(alloc: Global, code: &[u32]) -> Result<Vec<u8>, Fail> {
     Ok(elf)
 }
 
+/// A file with these bytes changed.
+pub(crate) fn changed(
+    alloc: Global,
+    file: &[u8],
+    changes: &[(usize, u8)],
+) -> Result<Vec<u8>, Fail> {
+    let mut file = Vec::from_slice(alloc, file)?;
+    for (at, byte) in changes {
+        if *at < file.len() {
+            file[*at] = *byte;
+        }
+    }
+    Ok(file)
+}
+
 fn text(alloc: Global, bytes: &[u8]) -> Result<Text, Fail> {
     Ok(Text::of(alloc, bytes).ok().ok_or("memory")?)
 }

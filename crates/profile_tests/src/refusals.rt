@@ -1,7 +1,7 @@
 //! What is refused in the words and in the files, by its place, with the line on standard error.
-use crate::call_paths::{RECURSION, RECURSION_WITH_EH_FRAME, changed};
+use crate::call_paths::{RECURSION, RECURSION_WITH_EH_FRAME};
 use crate::debug_programs::{WITH_ENTRIES, WITH_INLINES};
-use crate::programs::{ADDING, files, is_refused, program};
+use crate::programs::{ADDING, changed, files, is_refused, program};
 use dwarf_info::InfoFault;
 use dwarf_inline::StructureFault;
 use elf_image::{ElfFault, ElfRule};

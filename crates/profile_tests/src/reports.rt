@@ -2,9 +2,8 @@
 //! way in which a hart ends. The reports are written by hand from their layout. That 1,048,576 samples are
 //! taken and one more is refused is tried with the built program alone (`.ci/checks`): before they are proved
 //! tests are interpreted, and a run of that many samples then takes minutes.
-use crate::programs::{ADDING, BRANCHING, ECHO, GROUP, files, program, puts_over};
-use prof_bytes::Text;
-use std::alloc::Global;
+use crate::programs::{ADDING, BRANCHING, ECHO, GROUP};
+use crate::runs::{RUN, Run, other_run, reports};
 use std::test::Fail;
 use std::thread::Threads;
 
@@ -109,106 +108,68 @@ hart 0 retired 11 samples 2 end exit 3
                5   50.0                5      0x00010024
 ";
 
-#[derive(Clone, Copy)]
-struct Run {
-    name: &'static str,
-    code: &'static [u32],
-    input: &'static [u8],
-    schedule: &'static [u8],
-    period: &'static str,
-    report: &'static str,
-}
-
-const RUN: Run = Run {
+const ADDING_RUN: Run = Run {
     name: "four samples",
     code: &ADDING,
-    input: b"",
-    schedule: b"harts 1\n0 100000\n",
-    period: "5",
     report: FOUR_SAMPLES,
+    ..RUN
 };
 
 static RUNS: [Run; 8] = [
-    RUN,
+    ADDING_RUN,
     Run {
         name: "no sample, and a schedule without a line feed at its end",
-        period: "21",
+        words: "profile p i s 21 1 d",
         schedule: b"harts 1\n0 100000",
         report: NO_SAMPLES,
-        ..RUN
+        ..ADDING_RUN
     },
     Run {
         name: "every instruction sampled",
-        period: "1",
+        words: "profile p i s 1 1 d",
         report: TWENTY_SAMPLES,
-        ..RUN
+        ..ADDING_RUN
     },
     Run {
         name: "a schedule that ends before the program",
         schedule: b"harts 1\n0 7\n",
         report: CUT_SHORT,
-        ..RUN
+        ..ADDING_RUN
     },
     Run {
         name: "ordinals counted by hart",
         schedule: b"harts 2\n0 7\n1 3\n",
         report: TWO_HARTS,
-        ..RUN
+        ..ADDING_RUN
     },
     Run {
         name: "a trap of one hart",
         code: &BRANCHING,
         schedule: b"harts 2\n0 9\n1 9\n",
-        period: "1",
+        words: "profile p i s 1 1 d",
         report: ONE_TRAPS,
-        ..RUN
+        ..ADDING_RUN
     },
     Run {
         name: "an exit of all harts",
         code: &GROUP,
         schedule: b"harts 2\n0 1\n1 2\n0 5\n",
-        period: "1",
+        words: "profile p i s 1 1 d",
         report: GROUP_ENDS,
-        ..RUN
+        ..ADDING_RUN
     },
     Run {
         name: "output without a line feed at its end",
         code: &ECHO,
         input: b"hi",
         report: ECHOED,
-        ..RUN
+        ..ADDING_RUN
     },
 ];
 
-/// The files of a run.
-fn files_of(alloc: Global, run: &Run) -> Result<Vec<(Text, Text)>, Fail> {
-    let elf = program(alloc, run.code)?;
-    files(alloc, elf.as_slice(), run.input, run.schedule)
-}
-
-/// Whether a run puts this report.
-fn reports(
-    rt: &(impl Threads + Sync + AllocGlobal),
-    run: &Run,
-    report: &str,
-) -> Result<bool, Fail> {
-    let line = format!(in rt.alloc(); "profile p i s {} 1 d", run.period)?;
-    puts_over(rt, line.as_str(), files_of(rt.alloc(), run)?, report)
-}
-
-/// The first run that puts another report.
-fn other_run(rt: &(impl Threads + Sync + AllocGlobal)) -> Result<Option<&'static str>, Fail> {
-    for run in &RUNS {
-        if !reports(rt, run, run.report)? {
-            return Ok(Some(run.name));
-        }
-    }
-    Ok(None)
-}
-
 #[test]
 fn reports_of_runs(rt: HostRuntime) -> Result<(), Fail> {
-    assert_eq!(rt; other_run(&rt)?, None);
+    assert_eq!(rt; other_run(&rt, &RUNS)?, None);
     Ok(())
 }
 
@@ -246,7 +207,7 @@ fn ends_so(
     let run = Run {
         code,
         schedule: b"harts 1\n0 9\n",
-        period: "4294967295",
+        words: "profile p i s 4294967295 1 d",
         ..RUN
     };
     let report = format!(in rt.alloc();

@@ -4,7 +4,7 @@ use crate::programs::{files, puts_over};
 use std::test::Fail;
 
 /// A subprogram, and two levels of inlined calls.
-const STRUCTURE: &str = "\
+pub(crate) const STRUCTURE: &str = "\
 proc main 0x00010000..0x00010054
   inline outer called at /s/a.c:3 0x00010008..0x00010010,0x00010020..0x00010030
     inline inner called at /s/a.c:11 0x00010024..0x0001002c

@@ -1,8 +1,7 @@
 //! Databases that break a rule of the format, which `view` refuses. Offsets and rules are those of
 //! `checks/database_rules`.
-use crate::call_paths::changed;
 use crate::databases::database_of_four;
-use crate::programs::{database_alone, is_refused};
+use crate::programs::{changed, database_alone, is_refused};
 use hpc_top::{InputFault, Status};
 use std::alloc::Global;
 use std::test::Fail;

@@ -101,17 +101,13 @@ fn numbers_come(cursor: &mut Cursor<'_>) -> bool {
         && cursor.u64() == Some(0x1211_100f_0e0d_0c0b)
 }
 
-/// Whether the text comes after them, and none where too few bytes are left.
-fn text_comes(cursor: &mut Cursor<'_>) -> bool {
+/// Whether the texts come after them, and nothing where too few bytes are left.
+fn texts_come(cursor: &mut Cursor<'_>) -> bool {
     cursor.cstr() == Some(b"main".as_slice())
         && cursor.take(5).is_none()
         && cursor.left() == 4
         && cursor.cstr().is_none()
-}
-
-/// Whether the bytes of the other come after it, and no number where too few bytes are left.
-fn rest_comes(cursor: &mut Cursor<'_>) -> bool {
-    cursor.u64().is_none()
+        && cursor.u64().is_none()
         && cursor.take(4) == Some(b"rest".as_slice())
         && cursor.u8().is_none()
         && cursor.place() == 27
@@ -121,7 +117,7 @@ fn rest_comes(cursor: &mut Cursor<'_>) -> bool {
 fn fixed_numbers_and_texts(rt: HostRuntime) {
     let mut cursor = Cursor::at(BYTES, 0);
     assert!(rt; numbers_come(&mut cursor));
-    assert!(rt; text_comes(&mut cursor) && rest_comes(&mut cursor));
+    assert!(rt; texts_come(&mut cursor));
 }
 
 /// A text with two numbers after it.

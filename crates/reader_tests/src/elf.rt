@@ -1,5 +1,5 @@
 use crate::rows::{bytes_of, changed, cut};
-use elf_image::{ElfFault, Function, Image, read_image};
+use elf_image::{Function, Image, read_image};
 use prof_bytes::Memory;
 use std::alloc::Global;
 use std::fmt::Write;
@@ -8,22 +8,16 @@ use std::test::Fail;
 mod files;
 mod refused;
 
-fn acceptance(alloc: Global) -> Result<String, Memory> {
-    Ok(String::from_str(alloc, "accepted")?)
-}
-
-fn refusal(alloc: Global, fault: &ElfFault) -> Result<String, Memory> {
-    Ok(format!(in alloc; "{:?} {}", fault.rule, fault.offset)?)
-}
-
 fn answer(alloc: Global, file: &[u8]) -> Result<String, Memory> {
     if file.len() > 1 << 26 {
         return Ok(String::new(alloc));
     }
     match read_image(alloc, file) {
-        Ok(_) => acceptance(alloc),
+        Ok(_) => Ok(String::from_str(alloc, "accepted")?),
         Err(prof_bytes::Fail::Memory(memory)) => Err(memory),
-        Err(prof_bytes::Fail::Fault(fault)) => refusal(alloc, &fault),
+        Err(prof_bytes::Fail::Fault(fault)) => {
+            Ok(format!(in alloc; "{:?} {}", fault.rule, fault.offset)?)
+        }
     }
 }
 
@@ -109,7 +103,7 @@ fn cut_sections_are_refused(alloc: Global) -> Result<bool, Memory> {
     answer_is(alloc, file.get(..473).unwrap_or(&[]), b"HeaderPlace 32")
 }
 
-/// The first of two files that is not refused by the place of its sections or segments.
+/// The first of two files that is not refused for where its section headers or segments lie.
 fn other_file(alloc: Global) -> Result<Option<&'static str>, Memory> {
     if !cut_sections_are_refused(alloc)? {
         return Ok(Some("cut within the section headers"));

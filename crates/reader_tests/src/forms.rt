@@ -120,40 +120,24 @@ static MEANINGS: [(&str, u64, Value<'static>, usize); 27] = [
     ("sdata", DW_FORM_sdata, Signed(5), 1),
 ];
 
-fn same_offset(a: &Value<'_>, b: &Value<'_>) -> bool {
+fn same(a: &Value<'_>, b: &Value<'_>) -> bool {
     match (*a, *b) {
         (Address(x), Address(y))
         | (StrAt(x), StrAt(y))
         | (LineStrAt(x), LineStrAt(y))
         | (InfoRef(x), InfoRef(y))
         | (Section(x), Section(y)) => x == y,
-        _ => false,
-    }
-}
-
-fn same_number(a: &Value<'_>, b: &Value<'_>) -> bool {
-    match (*a, *b) {
         (Number(x), Number(y))
         | (StrIndex(x), StrIndex(y))
         | (AddrIndex(x), AddrIndex(y))
         | (UnitRef(x), UnitRef(y))
         | (ListIndex(x), ListIndex(y)) => x == y,
-        _ => false,
-    }
-}
-
-fn same_data(a: &Value<'_>, b: &Value<'_>) -> bool {
-    match (*a, *b) {
         (Signed(x), Signed(y)) => x == y,
         (Bytes(x), Bytes(y)) | (Name(x), Name(y)) => x == y,
         (Flag(x), Flag(y)) => x == y,
         (Passed, Passed) => true,
         _ => false,
     }
-}
-
-fn same(a: &Value<'_>, b: &Value<'_>) -> bool {
-    same_offset(a, b) || same_number(a, b) || same_data(a, b)
 }
 
 fn reads(bytes: &[u8], form: u64, wanted: &Value<'_>, count: usize) -> bool {
@@ -224,7 +208,7 @@ static SHORT: [(&str, u64, &[u8]); 6] = [
     ),
     ("string without its 0", DW_FORM_string, &[0x61, 0x62]),
     (
-        "udata above 2^64",
+        "udata of 2^64",
         DW_FORM_udata,
         &[0x80, 0x80, 0x80, 0x80, 0x80, 0x80, 0x80, 0x80, 0x80, 2],
     ),

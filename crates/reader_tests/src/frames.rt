@@ -8,6 +8,7 @@ use std::fmt::Write;
 use std::test::Fail;
 
 mod changes;
+mod exceptions;
 mod sections;
 
 /// A program of one segment, executable, from 0x10000 up to 0x11000, and nothing in it.
@@ -24,50 +25,30 @@ fn with_offset(out: &mut String, letter: &str, offset: u32) -> Result<(), Memory
     Ok(())
 }
 
-fn register_cfa(out: &mut String, reg: u8, offset: u32) -> Result<(), Memory> {
-    write!(out, "{reg}")?;
-    with_offset(out, "", offset)
-}
-
-fn no_cfa(out: &mut String) -> Result<(), Memory> {
-    out.push_str("none")?;
-    Ok(())
-}
-
 fn cfa(out: &mut String, cfa: Cfa) -> Result<(), Memory> {
     match cfa {
-        Cfa::Missing => no_cfa(out),
-        Cfa::Register { reg, offset } => register_cfa(out, reg, offset),
-        Cfa::Expression => expression(out),
+        Cfa::Missing => out.push_str("none")?,
+        Cfa::Register { reg, offset } => {
+            write!(out, "{reg}")?;
+            with_offset(out, "", offset)?;
+        }
+        Cfa::Expression => out.push_str("exp")?,
     }
-}
-
-fn copied(out: &mut String, source: u8) -> Result<(), Memory> {
-    write!(out, "r{source}")?;
     Ok(())
 }
 
-fn expression(out: &mut String) -> Result<(), Memory> {
-    out.push_str("exp")?;
-    Ok(())
-}
-
-fn rule(out: &mut String, rule: Rule) -> Result<(), Memory> {
-    match rule {
-        Rule::Saved(offset) => with_offset(out, "c", offset),
-        Rule::Sum(offset) => with_offset(out, "v", offset),
-        Rule::Copy(source) => copied(out, source),
-        _ => expression(out),
-    }
-}
-
-/// A register with its rule, where it has one.
-fn register_rule(out: &mut String, register: usize, one: Rule) -> Result<(), Memory> {
-    if one == Rule::Kept || one == Rule::Undefined {
+fn rule(out: &mut String, register: usize, rule: Rule) -> Result<(), Memory> {
+    if rule == Rule::Kept || rule == Rule::Undefined {
         return Ok(());
     }
     write!(out, " {register}=")?;
-    rule(out, one)
+    match rule {
+        Rule::Saved(offset) => with_offset(out, "c", offset)?,
+        Rule::Sum(offset) => with_offset(out, "v", offset)?,
+        Rule::Copy(source) => write!(out, "r{source}")?,
+        _ => out.push_str("exp")?,
+    }
+    Ok(())
 }
 
 /// The rules at an address, as the rows have them.
@@ -76,7 +57,7 @@ fn shown(alloc: Global, table: &FrameTable, pc: u32) -> Result<String, Memory> {
     if let Some(rules) = table.rules_at(pc)? {
         cfa(&mut out, rules.cfa)?;
         for (register, one) in rules.regs.iter().enumerate() {
-            register_rule(&mut out, register, *one)?;
+            rule(&mut out, register, *one)?;
         }
     }
     Ok(out)
@@ -161,6 +142,17 @@ fn rules_of_every_directive(rt: HostRuntime) -> Result<(), Fail> {
     Ok(())
 }
 
+#[test]
+fn rules_where_locations_move(rt: HostRuntime) -> Result<(), Fail> {
+    let other = failing_rules(
+        rt.alloc(),
+        sections::locations(),
+        &sections::LOCATIONS_RULES,
+    )?;
+    assert_eq!(rt; other, None);
+    Ok(())
+}
+
 /// An FDE, and the rules at 0x10018, as text.
 fn fde_and_rules(alloc: Global, table: &FrameTable, fde: u32) -> Result<String, Memory> {
     let rules = shown(alloc, table, 0x10018)?;
@@ -225,7 +217,7 @@ fn other_change(alloc: Global) -> Result<Option<&'static str>, Unread> {
 }
 
 #[test]
-fn faults_by_their_places(rt: HostRuntime) -> Result<(), Fail> {
+fn faults_by_their_offsets(rt: HostRuntime) -> Result<(), Fail> {
     assert_eq!(rt; other_change(rt.alloc())?, None);
     Ok(())
 }

@@ -2,7 +2,8 @@
 //!
 //! It has no code of its own: a crate with tests is proved twice, and these prove none of the readers
 //! again. The expected values come from other tools (readelf, nm, gcc, clang, binutils, LLVM) and from
-//! the standards' examples. Below stand all crates that read a program's file.
+//! the standards. Below stand the crates that read a program's file, and those that unwind, expand and list by
+//! what they read.
 #![tactic(auto)]
 
 #[cfg(test)]

@@ -64,7 +64,7 @@ fn other_address(table: &RangeTable<Named>) -> Option<u32> {
     None
 }
 
-/// Parts of the range from 20 to 30: the index of an item, and whether that is the first that holds the part.
+/// Indices of items, and whether each is the first to hold all addresses from 20 up to 30.
 static FIRST: [(usize, bool); 2] = [(0, true), (1, false)];
 
 /// The first index of which the table says otherwise.

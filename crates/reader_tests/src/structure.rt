@@ -16,9 +16,9 @@ use scope_types::LineId;
 use std::alloc::Global;
 use std::test::Fail;
 
-/// What an item is to be: its offset, where its last descendant's number ends, its identity, the line of its call if it is
-/// an inlined subroutine, the number of its first range, its name, and its ranges. A call's line is of the file 0 of the
-/// table at 0.
+/// What an item is to be: its offset, the number of the first later item that is not its descendant, its identity, the
+/// line of its call if it is an inlined subroutine, the number of its first range, its name, and its ranges. A call's
+/// line is of the file 0 of the table at 0.
 type Row = (
     u32,
     u32,
@@ -200,6 +200,8 @@ fn shape_holds(alloc: Global, shape: &Shape) -> Result<bool, Unread> {
     holds(alloc, &sections, &shape.3)
 }
 
+/// The first inlined subroutine stands at 14, so the 63rd at 76; the chain begins after the null entries, at 15 without
+/// levels and at 17 with one.
 static SHAPES: [Shape; 6] = [
     ("62 levels", 62, 0, Count(64)),
     (

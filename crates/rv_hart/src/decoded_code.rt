@@ -1,13 +1,10 @@
 //! Words that are decoded once: those of regions that may be executed and not written, which no store reaches.
-ghost use Rattle.std.specs.Prelude.{◌≡◌, ◌≢◌, false, ◌+◌, ◌*◌, ◌<◌, ◌≤◌, ◌%◌, ℕ, true, IfOk, IfSome, Some, length, option_map};
+ghost use Rattle.std.specs.Prelude.{◌≡◌, ◌≢◌, false, ◌+◌, ◌*◌, ◌<◌, ◌≤◌, ◌%◌, ℕ, true, IfOk, IfSome, Some, length};
 ghost use Rattle.std.specs.Prelude.{slice_index, take, drop};
-ghost use Rattle.std.specs.Option.{option_copied};
 ghost use Rattle.std.specs.List.{slice_index_or};
-ghost use Rattle.elf_image.specs.Image.{range_of};
+ghost use Rattle.elf_image.specs.Image.{segment_range};
 ghost use Rattle.prof_bytes.specs.Number.{number_in};
 ghost use Rattle.rv_table.specs.declared.inst.Inst.{Inst};
-ghost use Rattle.rv_table.specs.Table.{HasRegisters, decoded};
-ghost use Rattle.rv_hart.specs.Step.{fetched_at};
 ghost use Rattle.rv_hart.specs.private.Decoding.{first_in, AreKept, IsCode, AreCode, IsInstruction, IsKeptAt, Begins};
 ghost use Rattle.rv_hart.specs.private.Paging.{IsPaged, covers_all, memory_of, word_address};
 
@@ -31,7 +28,7 @@ pub(crate) struct DecodedCode {
 }
 
 impl HasRange for DecodedCode {
-    ghost range_of = { λ code. range_of code.home };
+    ghost range_of = { λ code. segment_range code.home };
 
     fn range(&self) -> AddressRange {
         self.home.range()

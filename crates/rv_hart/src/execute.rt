@@ -8,7 +8,7 @@ ghost use Rattle.prof_bytes.specs.Number.{word_sum};
 ghost use Rattle.rv_hart.specs.Arithmetic.{computed};
 ghost use Rattle.rv_hart.specs.private.Going.{step_ended, Goes, GoesBy};
 ghost use Rattle.rv_hart.specs.private.Paging.{IsPaged, memory_of, word_address, indexed_state, state_at};
-ghost use Rattle.rv_hart.specs.Step.{State, state, rs1_value, rs2_value, address, operand, computes, jumps, branches};
+ghost use Rattle.rv_hart.specs.Step.{State, state, rs1_value, rs2_value, operand, computes, jumps, branches};
 ghost use Rattle.rv_hart.specs.Step.{continues_at};
 ghost use Rattle.rv_hart.specs.Step.{loads, finishes_store, stores, carried_out, is_store};
 

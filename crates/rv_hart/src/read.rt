@@ -2,7 +2,7 @@
 ghost use Rattle.std.specs.Prelude.{◌≡◌, ◌+◌, ◌<◌, ◌≤◌, ◌^◌, ◌*◌, ℕ, true, IfSome, length, map, slice_index, Some};
 ghost use Rattle.std.specs.List.{range_with_len, list_all};
 ghost use Rattle.prof_bytes.specs.Number.{number_in};
-ghost use Rattle.rv_hart.specs.AddressSpace.{region_at, may, byte_in, is_size, loaded};
+ghost use Rattle.rv_hart.specs.AddressSpace.{may, byte_in, is_size, loaded};
 ghost use Rattle.rv_hart.specs.private.Paging.{paged_byte, covers_all, IsHome, IsPaged, bit_of, memory_of};
 
 use crate::page::PAGE_SIZE;

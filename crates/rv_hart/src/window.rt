@@ -1,5 +1,5 @@
 //! Instructions of one hart, one after another, as long as their words are kept decoded.
-ghost use Rattle.std.specs.Prelude.{◌≡◌, ◌-◌, ◌%◌, ◌<◌, ◌≤◌, IfOk, Ok, OnErr, length};
+ghost use Rattle.std.specs.Prelude.{◌≡◌, ◌-◌, ◌%◌, ◌<◌, ◌≤◌, IfOk, Ok, OnErr};
 ghost use Rattle.rv_hart.specs.Running.{Ran};
 ghost use Rattle.rv_hart.specs.Step.{step_of, StoresNow};
 ghost use Rattle.rv_hart.specs.private.Decoding.{AreWords, Begins};

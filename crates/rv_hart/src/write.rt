@@ -1,10 +1,9 @@
 //! Writing: pages are made when they are first written, and hold what their addresses had.
-ghost use Rattle.std.specs.Prelude.{◌≡◌, ◌==◌, [], ◌+◌, ◌*◌, ◌/◌, ◌%◌, ◌<◌, ◌≤◌, ◌^◌, ℕ, true, false, if◌then◌else◌};
-ghost use Rattle.std.specs.Prelude.{IfOk, OnOk, OnErr, ◌-◌, drop, length, min, slice_index, take, Some};
-ghost use Rattle.std.specs.List.{slice_index_or, range_with_len, list_all};
+ghost use Rattle.std.specs.Prelude.{◌≡◌, ◌+◌, ◌*◌, ◌/◌, ◌%◌, ◌<◌, ◌≤◌, ◌^◌, ℕ, true, false};
+ghost use Rattle.std.specs.Prelude.{IfOk, ◌-◌, drop, length, min, slice_index, take, Some};
+ghost use Rattle.std.specs.List.{range_with_len, list_all};
 ghost use Rattle.elf_image.specs.declared.elf.TheConstants.{PF_W};
 ghost use Rattle.rv_hart.specs.AddressSpace.{byte_in, may};
-ghost use Rattle.rv_hart.specs.private.Pages.{page_at, page_in, with_bytes, IsSetAt};
 ghost use Rattle.rv_hart.specs.private.Paging.{page_numbered, page_of, paged_byte, value_after, covers_all, IsHome};
 ghost use Rattle.rv_hart.specs.private.Paging.{IsPaged};
 

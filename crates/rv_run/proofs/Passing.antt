@@ -15,7 +15,7 @@ use Rattle.rv_run.specs.Schedule.{instructions, most_instructions}
 use Rattle.rv_run.specs.State.{HartState, MachineState, hart_of, no_hart, runs, is_running, step_state, stepped_hart}
 use Rattle.rv_run.specs.Calls.{Acted}
 use Rattle.rv_run.specs.Run.{Instant, Run, acts, state_after, next_instant, finished, preceded, joined, run_slice, run_slices, stepped_machine}
-use Rattle.rv_run.specs.Progress.{Progress, CountsRetired, IsBetween, Carried, Passed, Broke, WentOn, plus_one, to_come, count_of_first, due_of, first_due, is_plain, retires_plainly, plain_count, some_of, pass_length}
+use Rattle.rv_run.specs.Progress.{Progress, CountsRetired, IsBetween, Carried, PassDone, Broke, WentOn, plus_one, to_come, count_of_first, due_of, first_due, is_plain, retires_plainly, plain_count, some_of, pass_length}
 use Rattle.rv_run.specs.private.Queue.{Passing, less, HaveRoom, IsNext, StandsAt}
 use Rattle.rv_run.proofs.Counting.{acts-as, counts-of}
 use Rattle.rv_run.proofs.Slices.{IsDue, less-by}
@@ -197,7 +197,7 @@ carried-one hart most moment old new went counts some =
     one zero d few = record { own = refl; low = omega arith; high = omega arith }
     one (suc k) d few = absurd (omega arith)
 
-pub passed-one : (hart most : ℕ) (moment : Moment) (old new : Progress) → WentOn moment old new → CountsRetired moment.hart moment.retired old.state new.state → moment.hart ≡ hart → 0 < most → retires_plainly hart old.state ≡ false → Passed hart most old new
+pub passed-one : (hart most : ℕ) (moment : Moment) (old new : Progress) → WentOn moment old new → CountsRetired moment.hart moment.retired old.state new.state → moment.hart ≡ hart → 0 < most → retires_plainly hart old.state ≡ false → PassDone hart most old new
 passed-one hart most moment old new went counts same some stops =
     let none : plain_count (min most (count_of_first old.left)) hart old.state ≡ 0 = none-plain (min most (count_of_first old.left)) hart old.state stops in
     record {
@@ -242,11 +242,11 @@ slice-hart s left due slice is first =
 -- a pass of the first slice, where it ended as it was to
 pub passed-many : (hart many asked most : ℕ) (s new : MachineState) (left less_left skipped : List Slice) (slice : Slice) → Passing slice.hart many s new → first_or_none left ≡ Some slice → slice.hart ≡ hart → asked ≡ min most slice.count → many ≤ asked → 0 < many
     → (many ≡ asked) ⊎ (retires_plainly slice.hart new ≡ false) → less_left ≡ less many left → run_slices skipped new ≡ run_slices less_left new
-    → Passed hart most (record { state = s; left = left }) (record { state = new; left = skipped })
+    → PassDone hart most (record { state = s; left = left }) (record { state = new; left = skipped })
 passed-many hart many asked most s new left less_left skipped slice p first of_hart is few some stops taken run =
     let whole : count_of_first left ≡ slice.count = first-count left slice first in
     let all : asked ≡ min most (count_of_first left) = is ∙ ap (min most) (sym whole) in
-    subst (λ (h : ℕ). Passed h most (record { state = s; left = left }) (record { state = new; left = skipped })) of_hart
+    subst (λ (h : ℕ). PassDone h most (record { state = s; left = left }) (record { state = new; left = skipped })) of_hart
     (record {
       passed = p.passed;
       long = long-many slice.hart many most s new left p some (omega arith) (subst (λ (n : ℕ). (many ≡ n) ⊎ (retires_plainly slice.hart new ≡ false)) all stops);

@@ -110,7 +110,7 @@ pub record Carried (hart most : ℕ) (passed : List Instant) (old new : Progress
   pub harts : length new.state.harts ≡ length old.state.harts
 
 -- all instructions of the pass were carried out
-pub record Passed (hart most : ℕ) (old new : Progress) : Type 0 where
+pub record PassDone (hart most : ℕ) (old new : Progress) : Type 0 where
   pub passed : List Instant
   pub long : length passed ≡ pass_length hart most old
   pub carried : Carried hart most passed old new

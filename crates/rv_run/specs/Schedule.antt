@@ -2,7 +2,7 @@
 -- slice by slice.
 use Rattle.std.specs.Prelude.{ℕ, ◌+◌, ◌-◌, ◌<◌, ◌≤◌, ◌==◌, Bool, true, not, List, [], ◌∷◌, ◌++◌, map, filter, length}
 use Rattle.std.specs.Prelude.{take, drop, position, sum, Option, Some, None, Result, Ok, Err, if◌then◌else◌, nat_eq}
-use Rattle.std.specs.Prelude.{All}
+use Rattle.std.specs.Prelude.{All, codes}
 use Rattle.std.specs.List.{starts_with}
 use Rattle.prof_bytes.specs.Outcome.{◌>>=◌}
 use Rattle.rv_run.specs.declared.schedule.Slice.{Slice}
@@ -50,9 +50,8 @@ is_entry line = not (is_ignored line.bytes)
 abbrev pub entries : List NumberedLine → List NumberedLine
 entries all = filter is_entry all
 
--- `harts ` in ASCII
 abbrev pub harts_word : List ℕ
-harts_word = 104 ∷ 97 ∷ 114 ∷ 116 ∷ 115 ∷ 32 ∷ []
+harts_word = codes "harts "
 
 -- the line `harts N`
 abbrev pub harts_in : List ℕ → Option ℕ

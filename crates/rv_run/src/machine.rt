@@ -3,7 +3,7 @@ ghost use Rattle.std.specs.Prelude.{All, ◌≡◌, ◌+◌, ◌<◌, ◌≤◌,
 ghost use Rattle.rv_run.specs.Schedule.{most_instructions};
 ghost use Rattle.rv_run.specs.State.{first_state, hart_of};
 ghost use Rattle.rv_run.specs.Run.{finished};
-ghost use Rattle.rv_run.specs.Progress.{IsFresh, Passed, Broke, Went, CountsBy, first_due, to_come};
+ghost use Rattle.rv_run.specs.Progress.{IsFresh, PassDone, Broke, Went, CountsBy, first_due, to_come};
 
 use crate::environment::Environment;
 use crate::hart::HartEnd;
@@ -123,7 +123,7 @@ impl<'a> Machine<'a> {
     pub fn pass(&mut self, due: &Due, most: u32) -> Result<(), Memory>
         requires due { Some due.now ≡ first_due (to_come self.old).instants }
         requires some { 0 < most }
-        ensures ok { OnOk result (Passed due.now.hart most self.old self.new) }
+        ensures ok { OnOk result (PassDone due.now.hart most self.old self.new) }
         ensures err { OnErr result (Broke due.now.hart most self.old self.new) }
     {
         let Some(slice) = self.queue.first() else {

@@ -2,8 +2,8 @@
 ghost use Rattle.std.specs.Prelude.{◌≡◌, ◌==◌, ◌-◌, ◌≤◌, ◌<◌, ◌^◌, All, IfOk, IfSome, length, position};
 ghost use Rattle.prof_bytes.specs.Outcome.{Gives};
 ghost use Rattle.rv_run.specs.Schedule.{IsSchedule, IsSlice, Scheduled, harts_in, schedule_of, slice_in, slices_of};
-ghost use Rattle.rv_run.specs.Schedule.{entries, instructions, most_harts, most_instructions};
-ghost use Rattle.rv_run.specs.private.Reading.{all_lines, to_read};
+ghost use Rattle.rv_run.specs.Schedule.{entries, instructions, most_instructions};
+ghost use Rattle.rv_run.specs.private.Reading.{to_read};
 
 use crate::lines::Lines;
 use crate::numerals::decimal;

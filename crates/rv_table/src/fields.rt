@@ -1,8 +1,8 @@
 //! The fields of a word ("Base Instruction Formats", "Immediate Encoding Variants").
-ghost use Rattle.std.specs.Prelude.{◌≡◌, ◌+◌, ◌*◌, ◌^◌, ◌<◌};
+ghost use Rattle.std.specs.Prelude.{◌≡◌, ◌+◌, ◌*◌};
 ghost use Rattle.rv_table.specs.Fields as fields;
 ghost use Rattle.rv_table.specs.private.Layout.{inst_of};
-ghost use Rattle.rv_table.specs.Fields.{bits, opcode, sign_extended, laid_out, R, I, S, B, U, J, shift, bare};
+ghost use Rattle.rv_table.specs.Fields.{opcode, laid_out, R, I, S, B, U, J, shift, bare};
 
 use crate::inst::{Inst, Op};
 

@@ -1,4 +1,5 @@
 //! The numbers that tell instructions apart, by the manual's names ("RV32/64G Instruction Set Listings").
+ghost use Rattle.std.specs.Prelude.{◌≡◌, ◌∷◌, []};
 
 /// Opcodes of the base: bits 6 to 0 of a word.
 pub const LOAD: u32 = 0b0000011;
@@ -30,3 +31,11 @@ pub const MULDIV: u32 = 0b0000001;
 pub const ECALL: u32 = 0x0000_0073;
 
 pub const EBREAK: u32 = 0x0010_0073;
+
+/// The numbers that the definitions cite by their names are those of the manual.
+pub fn opcode_constant_values()
+    ensures opcodes { LOAD ∷ MISC_MEM ∷ OP_IMM ∷ AUIPC ∷ STORE ∷ OP ∷ LUI ∷ BRANCH ∷ JALR ∷ JAL ∷ SYSTEM ∷ []
+        ≡ 0x03 ∷ 0x0f ∷ 0x13 ∷ 0x17 ∷ 0x23 ∷ 0x33 ∷ 0x37 ∷ 0x63 ∷ 0x67 ∷ 0x6f ∷ 0x73 ∷ [] }
+    ensures multiplication { MULDIV ≡ 1 }
+    ensures words { ECALL ∷ EBREAK ∷ [] ≡ 0x73 ∷ 0x100073 ∷ [] }
+{}

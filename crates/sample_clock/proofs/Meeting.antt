@@ -1,7 +1,7 @@
 -- Samples that are met, and instructions that are not sampled.
-use Rattle.std.proofs.Common.{◌≡◌, ◌≢◌, inl, inr, ℕ, zero, suc, ◌+◌, ◌-◌, ◌%◌, ◌<◌, ◌≤◌, ◌==◌, ◌&&◌, Bool, true, false, not, cond, List, [], ◌∷◌, ◌++◌, length, min, filter, get_or, replicate, slice_set, Some, refl, sym, ap, ap₂, subst, ◌∙◌, append_assoc, arith, rules, Fits, w32, ◌^◌}
+use Rattle.std.proofs.Common.{◌≡◌, ◌≢◌, inl, inr, ℕ, zero, suc, ◌+◌, ◌-◌, ◌%◌, ◌<◌, ◌≤◌, ◌==◌, ◌&&◌, Bool, true, false, cond, List, [], ◌∷◌, ◌++◌, length, min, filter, get_or, replicate, slice_set, Some, refl, sym, ap, ap₂, subst, ◌∙◌, arith, rules, Fits, w32, ◌^◌}
 use Rattle.std.specs.List.{All}
-use Rattle.std.proofs.lemmas.Bool.{ne_eqb, not-false}
+use Rattle.std.proofs.lemmas.Bool.{ne_eqb}
 use Rattle.std.proofs.lemmas.Bool.Decides.{eqb_tells}
 use Rattle.std.proofs.lemmas.List.{get_or-set_same, get_or-set_other, get_or-replicate}
 use Rattle.std.proofs.lemmas.List.Elements.{filter-append}
@@ -11,7 +11,7 @@ use Rattle.rv_run.specs.State.{hart_of}
 use Rattle.rv_run.specs.Run.{Instant, Run, preceded, next_instant, instant}
 use Rattle.rv_run.specs.declared.machine.Moment.{Moment}
 use Rattle.rv_run.specs.declared.machine.Due.{Due}
-use Rattle.rv_run.specs.Progress.{Progress, to_come, WentOn, CountsRetired, due_of, first_due, IsFresh, IsBetween, Carried, Passed, Broke, plain_count, some_of, count_of_first}
+use Rattle.rv_run.specs.Progress.{Progress, to_come, WentOn, CountsRetired, due_of, first_due, IsFresh, IsBetween, Carried, PassDone, Broke, plain_count, some_of, count_of_first}
 use Rattle.rv_run.proofs.Passing.{preceded-twice}
 use Rattle.sample_clock.specs.Samples.{is_sampled}
 use Rattle.sample_clock.specs.Clock.{Sampling, Unsampled}
@@ -158,7 +158,7 @@ pass-some zero = omega arith
 pass-some (suc n) = omega arith
 
 pub some-passed : (period met most : ℕ) (old new : Progress) (next : List ℕ) (due : Due) → IsClock (record { machine = old; period = period; met = met }) next → due.ordinal ≡ (hart_of old.state due.hart).retired + 1
-    → due.hart < length old.state.harts → most ≡ get_or next due.hart 0 - due.ordinal → 0 < most → Passed due.hart most old new
+    → due.hart < length old.state.harts → most ≡ get_or next due.hart 0 - due.ordinal → 0 < most → PassDone due.hart most old new
     → SomeUnsampled (record { machine = old; period = period; met = met }) (record { machine = new; period = period; met = met })
 some-passed period met most old new next due clock at within is some went =
     record {

@@ -2,7 +2,6 @@
 ghost use Rattle.std.specs.Prelude.{◌≡◌, map, IfOk};
 ghost use Rattle.std.specs.Option.{option_to_list};
 ghost use Rattle.scope_find.specs.Found.{naming_of};
-ghost use Rattle.tree_types.specs.Ascending.{ascending};
 ghost use Rattle.tree_types.specs.Naming.{line_files, scope_files, scope_procs};
 ghost use Rattle.scope_expand.specs.TreeNames.{named_file, named_proc, node_names, node_files, node_procs};
 

@@ -62,7 +62,8 @@ inlined_into s address i = inlined_before s address i.1.next_after_subtree (drop
 
 -- ---- scopes
 
--- what an inlined subroutine calls, and where. One that holds an address has a range, and so the place of its call
+-- the procedure that is inlined, and the line of its call. An inlined subroutine that holds an address has a range that
+-- counts, and so has a call
 abbrev pub inline_scope : Subroutine → ProcId × LineId
 inline_scope item = (Die item.identity, unwrap_or item.call (Address 0))
 

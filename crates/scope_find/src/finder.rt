@@ -112,8 +112,8 @@ fn line_of(table: &LineTable<'_>, pc: u32) -> LineId
 }
 
 impl<'a> Finder<'a> {
-    /// The finder of a program's scopes. Takes time n log n in the number of ranges, for each of the calls that are
-    /// inlined at an address.
+    /// The finder of a program's scopes. Takes time n log n in the number of ranges, times the greatest number
+    /// of calls that are inlined at one address.
     pub fn of(
         alloc: Global,
         structure: &'a Structure<'a>,
@@ -161,7 +161,7 @@ impl<'a> Finder<'a> {
         })
     }
 
-    /// The name of a procedure, of at most `MAX_NAME_BYTES` bytes. Takes time linear in the number of function symbols
+    /// The name of a procedure, of at most 4,096 bytes. Takes time linear in the number of function symbols
     /// where the procedure is known by a symbol alone.
     pub fn proc_name(&self, id: ProcId) -> Result<Text, Memory>
         ensures { IfOk result (λ name. name ≡ (naming_of self.now).proc_name id) }
@@ -173,7 +173,7 @@ impl<'a> Finder<'a> {
         }
     }
 
-    /// The name of a file of a line table, of at most `MAX_NAME_BYTES` bytes.
+    /// The name of a file of a line table, of at most 4,096 bytes.
     pub fn file_name(&self, table: u32, file: u32) -> Result<Text, Memory>
         ensures { IfOk result (λ name. name ≡ (naming_of self.now).file_name table file) }
     {

@@ -122,8 +122,8 @@ fn sweep(
     put_interval(alloc, structure, held, event.address, found)
 }
 
-/// The intervals of all addresses. Takes time n log n in the number of ranges, for each of the calls that are inlined
-/// at an address.
+/// The intervals of all addresses. Takes time n log n in the number of ranges, times the greatest number of calls that
+/// are inlined at one address.
 pub(crate) fn intervals_of(
     alloc: Global,
     structure: &Structure<'_>,

@@ -1,8 +1,7 @@
 //! The ranges of items, and where each starts and ends.
-ghost use Rattle.std.specs.Prelude.{◌≡◌, ◌<◌, ◌++◌, ◌∷◌, [], length, slice_get, IfOk, OnOk};
+ghost use Rattle.std.specs.Prelude.{◌≡◌, ◌<◌, ◌++◌, ◌∷◌, [], slice_get, IfOk, OnOk};
 ghost use Rattle.std.specs.List.Sorted.{IsNonDecreasingBy};
 ghost use Rattle.dwarf_inline.specs.Structure.{IsWholeStructure};
-ghost use Rattle.scope_find.specs.Found.{item_ranges};
 ghost use Rattle.scope_find.specs.private.Spans.{starting, ending, item_events, AreEventsOf};
 
 use dwarf_inline::{Structure, Subroutine};

@@ -6,12 +6,12 @@ abbrev pub most_samples : ℕ
 most_samples = 1048576
 
 -- and how many frames its distinct raw paths may have together
-abbrev pub most_path_frames : ℕ
-most_path_frames = 4194304
+abbrev pub most_frames_in_all : ℕ
+most_frames_in_all = 4194304
 
 -- and how many scopes the call paths of its distinct raw paths may have together
-abbrev pub most_path_scopes : ℕ
-most_path_scopes = 8388608
+abbrev pub most_scopes_in_all : ℕ
+most_scopes_in_all = 8388608
 
 -- and how many harts
 abbrev pub most_profile_harts : ℕ

@@ -13,12 +13,12 @@ pub record Raw : Type 0 where
   pub frames : List Frame
 
 -- how many frames a path may have
-abbrev pub most_frames : ℕ
-most_frames = 512
+abbrev pub most_frames_of_path : ℕ
+most_frames_of_path = 512
 
 pub record HasFrames (frames : List Frame) : Type 0 where
   pub some : 1 ≤ length frames
-  pub few : length frames ≤ most_frames
+  pub few : length frames ≤ most_frames_of_path
 
 -- ---- which raw paths are the same
 

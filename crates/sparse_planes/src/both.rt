@@ -1,4 +1,5 @@
-//! Both planes at once: each needs the values alone, so a thread of its own fills each, and touches its pages first.
+//! Both planes at once: each needs the values alone, so of many values a thread of its own fills each, and touches its
+//! pages first.
 ghost use Rattle.std.specs.Prelude.{◌≡◌, ℕ, ◌≤◌, List, length, IfOk};
 ghost use Rattle.scope_types.specs.Alike.{Alike};
 ghost use Rattle.scope_types.specs.CallPaths.{HartPath};
@@ -43,7 +44,7 @@ fn both_filled<R: Threads + Sync>(
     Ok((profiles?, contexts?))
 }
 
-/// Both planes of the values of a tree, of which two threads fill one each: what `by_profile` and `by_context` give.
+/// Both planes of the values of a tree, of many values by a thread each: what `by_profile` and `by_context` give.
 #[tactic(auto, using(crate::proofs::ByHart::as_many_harts, crate::proofs::ByNode::as_many_nodes))]
 pub fn both_planes<R: Threads + Sync>(
     rt: &R,

@@ -3,7 +3,7 @@
 //!
 //! It promises that each plane has just the values other than 0, in order: a hart's by node, then kind, and a node's by
 //! kind, then hart. Both are made in time as there are values, nodes and harts, and each is one list. Below stand
-//! `tree_types` and `scope_types`.
+//! `tree_types`, `scope_types` and `prof_bytes`.
 #![tactic(auto)]
 
 mod both;

@@ -6,7 +6,7 @@ use native.Mathlib.Decide.{ℕ_discrete}
 use lib.ListN.{get_elem?}
 use lib.Seq.{set-get_or}
 use prog.Atomic.{either}
-use Rattle.atomic_table.specs.Table.{State, Me, step, keeps, gives, stepped, Allows, Splits, Joins, Final, Seen}
+use Rattle.atomic_table.specs.Table.{Me, step, keeps, gives, stepped, Allows, Splits, Joins, Final, Seen}
 use Rattle.atomic_table.specs.Table as act
 use Rattle.atomic_table.proofs.Lists.{at_set}
 use Rattle.stripe_table.specs.Limits.{Chunks}

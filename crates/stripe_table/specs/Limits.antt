@@ -2,7 +2,7 @@
 use Rattle.std.specs.Prelude.{ℕ, ◌≡◌, ◌<◌, ◌≤◌, List, length, sum_by}
 use Rattle.scope_types.specs.declared.path.Entry.{Entry}
 use Rattle.scope_types.specs.declared.path.Piece.{Piece}
-use Rattle.scope_types.specs.Limits.{most_samples, most_path_scopes}
+use Rattle.scope_types.specs.Limits.{most_samples, most_scopes_in_all}
 use Rattle.thread_cct.specs.Plan.{piece_of, most_chunks, stripes}
 use Rattle.path_trie.specs.Trie.{samples_of, entry_scopes}
 
@@ -14,7 +14,7 @@ Chunks = List (List Entry)
 pub record IsLimited (plan : Chunks) : Type 0 where
   pub chunks : length plan ≤ most_chunks
   pub samples : sum_by samples_of plan ≤ most_samples
-  pub scopes : sum_by entry_scopes plan ≤ most_path_scopes
+  pub scopes : sum_by entry_scopes plan ≤ most_scopes_in_all
 
 -- the entries that chunk c deals to stripe s
 abbrev pub dealt : Chunks → ℕ → ℕ → List Entry

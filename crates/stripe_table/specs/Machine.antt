@@ -1,4 +1,5 @@
--- The merge as a machine: its eight kinds of step on words, stripes and passes, and the tables that they reach.
+-- The merge as a machine: its eight kinds of step (put back has two constructors) on words, stripes and passes, and
+-- the tables that they reach.
 use Rattle.std.specs.Prelude.{◌≡◌, ◌≢◌, ℕ, ◌+◌, ◌*◌, ◌%◌, ◌^◌, ◌<◌, true, false, [], ◌∷◌, ◌++◌, replicate}
 use Rattle.std.specs.Prelude.{slice_index, slice_set}
 use mathlib.Core.Option.{Option, none, some}

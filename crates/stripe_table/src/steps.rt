@@ -1,5 +1,5 @@
 //! Single steps of a pass: each atomic operation, and what it does to the pass's seat at the table.
-ghost use Rattle.std.specs.Prelude.{◌≡◌, ◌≢◌, ℕ, ◌<◌, ◌≤◌, ◌+◌, ◌*◌, ◌%◌, ◌^◌, true, [], ◌∷◌, length, slice_index};
+ghost use Rattle.std.specs.Prelude.{◌≡◌, ℕ, ◌<◌, ◌+◌, ◌*◌, ◌%◌, ◌^◌, [], ◌∷◌, length, slice_index};
 ghost use Rattle.stripe_table.specs.private.Adding.{AddedAs};
 ghost use Rattle.stripe_table.specs.private.Found.{LaidSlot, TookSlot};
 ghost use Rattle.stripe_table.specs.Limits.{IsLimited, IsPieceOf};

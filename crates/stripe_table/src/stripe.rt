@@ -1,10 +1,8 @@
 //! What lies in a slot of the table.
-ghost use Rattle.std.specs.Prelude.{◌≡◌, ◌≢◌, ℕ, ◌<◌, ◌≤◌, ◌+◌, ◌^◌, ◌++◌, ◌∷◌, [], length, slice_index};
+ghost use Rattle.std.specs.Prelude.{◌≡◌, ◌<◌, ◌^◌, length, slice_index};
 ghost use Rattle.std.specs.Prelude.{slice_index_or, slice_set, true, false, MatchOption, OnErr, IfOk, OnOk};
-ghost use Rattle.path_trie.specs.Trie.{samples_of, entry_scopes, trie_nodes};
-ghost use Rattle.scope_types.specs.Limits.{most_samples, most_path_scopes};
 ghost use Rattle.stripe_table.specs.Stripe.{empty_stripe};
-ghost use Rattle.stripe_table.specs.private.Adding.{pointing_at, HasRoom, TakesIn};
+ghost use Rattle.stripe_table.specs.private.Adding.{HasRoom, TakesIn};
 ghost use Rattle.stripe_table.specs.Views.{occurrences};
 ghost use Rattle.stripe_table.specs.private.Adding.{AddedAs};
 

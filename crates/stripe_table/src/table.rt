@@ -1,5 +1,5 @@
 //! The stripes, the passes, and their calls. None of them waits.
-ghost use Rattle.std.specs.Prelude.{◌≡◌, ℕ, ◌<◌, ◌≤◌, ◌+◌, true, false, length, IfSome, MatchOption};
+ghost use Rattle.std.specs.Prelude.{◌≡◌, ℕ, ◌<◌, ◌≤◌, true, false, length, IfSome, MatchOption};
 ghost use Rattle.stripe_table.specs.Calls.{LaidAs, Took};
 ghost use Rattle.stripe_table.specs.Limits.{IsPieceOf};
 ghost use Rattle.stripe_table.specs.Values.{IsPassOf};

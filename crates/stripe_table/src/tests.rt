@@ -1,7 +1,6 @@
 //! Two passes at one stripe: what they find there while one of them holds it, which no call of another crate shows.
-ghost use Rattle.std.specs.Prelude.{◌≡◌, ◌≢◌, ℕ, ◌<◌, ◌+◌, ◌∷◌, [], IfOk, Some, length, slice_get, slice_index_or};
+ghost use Rattle.std.specs.Prelude.{◌≡◌, ℕ, ◌<◌, ◌+◌, ◌∷◌, [], Some, length, slice_get, slice_index_or};
 ghost use Rattle.std.specs.Prelude.{true};
-ghost use Rattle.scope_types.specs.Distinct.{samples_in};
 ghost use Rattle.stripe_table.specs.Limits.{IsPieceOf};
 ghost use Rattle.stripe_table.specs.Values.{IsPassOf};
 ghost use Rattle.stripe_table.specs.Views.{owes};

@@ -11,7 +11,8 @@ use Rattle.dwarf_inline.specs.declared.subroutine.Subroutine.{Subroutine}
 use Rattle.dwarf_inline.specs.Structure.{ProgramStructure, IsWholeStructure}
 use Rattle.dwarf_inline.proofs.Lists.{count_filter}
 use Rattle.scope_find.specs.Found.{Numbered, ProgramScopes, numbered}
-use Rattle.struct_listing.specs.Listing.{inline_line, inline_lines, inlined_level, is_inlined_beyond, is_listed_inline, items_below}
+use Rattle.scope_find.specs.Laws.{item_descendants}
+use Rattle.struct_listing.specs.Listing.{inline_line, inline_lines, inlined_level, is_inlined_beyond, is_listed_inline}
 use Rattle.struct_listing.specs.private.Parts.{AreOpenFrom, inline_part, opened_after}
 use Rattle.struct_listing.proofs.Lists.{flat_filter, numbered_at, numbered_within}
 
@@ -112,4 +113,4 @@ lines_more p subprogram number item start now after le there so_far one =
 pub all_lines : (p : ProgramScopes) (subprogram : ℕ) (item : Subroutine) (number : ℕ) → number ≡ item.next_after_subtree → lines_before p subprogram number ≡ inline_lines p (subprogram, item)
 all_lines p subprogram item number is =
     ap (λ (n : ℕ). lines_before p subprogram n) is
-    ∙ sym (flat_filter is_listed_inline (λ j. inline_line p (inlined_level p.structure subprogram j.0) j.1) (items_below p.structure (subprogram, item)))
+    ∙ sym (flat_filter is_listed_inline (λ j. inline_line p (inlined_level p.structure subprogram j.0) j.1) (item_descendants p.structure (subprogram, item)))

@@ -10,6 +10,7 @@ use Rattle.dwarf_inline.specs.declared.subroutine.Subroutine.{Subroutine}
 use Rattle.dwarf_forms.specs.declared.name.TheConstants.{MAX_NAME_BYTES}
 use Rattle.dwarf_inline.specs.Structure.{ProgramStructure, proc_name}
 use Rattle.scope_find.specs.Found.{Numbered, ProgramScopes, item_ranges, naming_of, numbered, subprogram_at}
+use Rattle.scope_find.specs.Laws.{item_descendants}
 
 -- ---- ranges
 
@@ -38,10 +39,6 @@ is_listed_subprogram i = not i.1.inlined && has_ranges i.1
 abbrev pub is_listed_inline : Numbered → Bool
 is_listed_inline i = i.1.inlined && has_ranges i.1
 
--- the items below an item, those below nested subprograms too
-abbrev pub items_below : ProgramStructure → Numbered → List Numbered
-items_below s i = take (i.1.next_after_subtree - (i.0 + 1)) (drop (i.0 + 1) (numbered s))
-
 -- the items after a subprogram, up to the one with a number
 abbrev pub items_up_to : ProgramStructure → ℕ → ℕ → List Subroutine
 items_up_to s subprogram number = take (number - subprogram) (drop (subprogram + 1) s.items)
@@ -67,7 +64,7 @@ inline_line p level item = spaces (2 * level) ++ codes "inline " ++ printed (pro
 abbrev pub inline_lines : ProgramScopes → Numbered → List ℕ
 inline_lines p i =
     flat_map (λ j. inline_line p (inlined_level p.structure i.0 j.0) j.1)
-    (filter is_listed_inline (items_below p.structure i))
+    (filter is_listed_inline (item_descendants p.structure i))
 
 abbrev pub subprogram_lines : ProgramScopes → Numbered → List ℕ
 subprogram_lines p i = subprogram_line p i.1 ++ inline_lines p i

@@ -1,5 +1,5 @@
 //! The listing of a program's structure.
-ghost use Rattle.std.specs.Prelude.{◌≡◌, ◌++◌, IfOk};
+ghost use Rattle.std.specs.Prelude.{◌≡◌, IfOk};
 ghost use Rattle.struct_listing.specs.Listing.{structure_listing};
 
 use crate::program::Program;

@@ -14,7 +14,7 @@ use Rattle.scope_types.specs.declared.path.Entry.{Entry}
 use Rattle.scope_types.specs.declared.scope.Scope.{Scope}
 use Rattle.scope_types.specs.Raw.{Raw}
 use Rattle.scope_types.specs.Distinct.{path_scopes, scopes_in, samples_in}
-use Rattle.scope_types.specs.Limits.{most_path_scopes, most_samples}
+use Rattle.scope_types.specs.Limits.{most_scopes_in_all, most_samples}
 use Rattle.thread_cct.specs.Plan.{PlannedPath, Planned, paths_of_hart, plan_of, planned_scopes, few_scopes, too_many_scopes, FitsExpansion, expanded, expanded_path}
 use Rattle.thread_cct.specs.private.Index.{first_paths, IsIndexed, IsLastFrom}
 use Rattle.thread_cct.proofs.Paths.{HasCount, count_of, paths_below}
@@ -237,23 +237,23 @@ numbers_rise tables numbers paths index i j d le lt =
 
 -- ---- the plan itself
 
-pub refused : (call_path : Raw → List Scope) (tables : Tables) (hart scopes : ℕ) → length tables ≤ hart → scopes ≡ min (sum_by (sum_by (path_scopes call_path)) (take hart tables)) (2 ^ 64 - 1) → most_path_scopes < scopes
+pub refused : (call_path : Raw → List Scope) (tables : Tables) (hart scopes : ℕ) → length tables ≤ hart → scopes ≡ min (sum_by (sum_by (path_scopes call_path)) (take hart tables)) (2 ^ 64 - 1) → most_scopes_in_all < scopes
     → few_scopes call_path tables ≡ Err too_many_scopes
 refused call_path tables hart scopes le is many =
     let all = ap (λ (ts : Tables). scopes_in call_path ts) (take_all hart tables le) in
-    let lots : most_path_scopes < scopes_in call_path tables = omega (arith, all, is, many) in
-    ap (λ b. cond b (Err too_many_scopes) (Ok (plan_of tables))) (lt-ltb most_path_scopes (scopes_in call_path tables) lots)
+    let lots : most_scopes_in_all < scopes_in call_path tables = omega (arith, all, is, many) in
+    ap (λ b. cond b (Err too_many_scopes) (Ok (plan_of tables))) (lt-ltb most_scopes_in_all (scopes_in call_path tables) lots)
 
-small_enough : (n scopes : ℕ) → scopes ≡ min n top → scopes ≤ most_path_scopes → n ≤ most_path_scopes
+small_enough : (n scopes : ℕ) → scopes ≡ min n top → scopes ≤ most_scopes_in_all → n ≤ most_scopes_in_all
 small_enough n scopes is few = omega arith
 
-pub accepted : (call_path : Raw → List Scope) (tables : Tables) (hart scopes : ℕ) → length tables ≤ hart → scopes ≡ min (sum_by (sum_by (path_scopes call_path)) (take hart tables)) (2 ^ 64 - 1) → scopes ≤ most_path_scopes
+pub accepted : (call_path : Raw → List Scope) (tables : Tables) (hart scopes : ℕ) → length tables ≤ hart → scopes ≡ min (sum_by (sum_by (path_scopes call_path)) (take hart tables)) (2 ^ 64 - 1) → scopes ≤ most_scopes_in_all
     → (few_scopes call_path tables ≡ Ok (plan_of tables)) × FitsExpansion (plan_of tables) call_path
 accepted call_path tables hart scopes le is few =
     let all = ap (λ (ts : Tables). scopes_in call_path ts) (take_all hart tables le) in
-    let some : scopes_in call_path tables ≤ most_path_scopes = small_enough (scopes_in call_path tables) scopes (is ∙ ap (λ (n : ℕ). min n (2 ^ 64 - 1)) all) few in
+    let some : scopes_in call_path tables ≤ most_scopes_in_all = small_enough (scopes_in call_path tables) scopes (is ∙ ap (λ (n : ℕ). min n (2 ^ 64 - 1)) all) few in
     let planned_few = scopes_planned call_path tables in
-    (ap (λ b. cond b (Err too_many_scopes) (Ok (plan_of tables))) (le-ltb most_path_scopes (scopes_in call_path tables) some), record { few = omega (arith, some, planned_few) })
+    (ap (λ b. cond b (Err too_many_scopes) (Ok (plan_of tables))) (le-ltb most_scopes_in_all (scopes_in call_path tables) some), record { few = omega (arith, some, planned_few) })
 
 pub indexed : (tables : Tables) (hart paths : ℕ) (numbers : List ℕ) → length tables ≤ hart → length tables < 2 ^ 32 → numbers ≡ first_paths 0 (take hart tables) → paths ≡ sum_by (λ t. length t) (take hart tables)
     → samples_in tables ≤ most_samples → All (All (λ c. 0 < c.count)) tables → IsIndexed tables numbers paths

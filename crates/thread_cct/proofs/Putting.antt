@@ -9,7 +9,7 @@ use Rattle.indexmap.specs.IndexMap.{insert_entry}
 use Rattle.scope_types.specs.declared.frame.Counted.{Counted}
 use Rattle.scope_types.specs.Raw.{Raw, same_raw}
 use Rattle.scope_types.specs.Distinct.{frames_in, samples_in}
-use Rattle.scope_types.specs.Limits.{most_path_frames, most_samples}
+use Rattle.scope_types.specs.Limits.{most_frames_in_all, most_samples}
 use Rattle.thread_cct.specs.Adding.{has_path, of_hart, with_path}
 use Rattle.thread_cct.specs.private.Fields.{FramesFit, counted_of, counted_in}
 use Rattle.thread_cct.proofs.Paths.{count_of, frames_of, HasSome, HasCount}
@@ -58,11 +58,11 @@ one_more : (P : Counted → Type 0) (tables : Tables) (hart : ℕ) (c : Counted)
 one_more P tables hart c own one all =
     All-set (All P) tables hart (of_hart tables hart ++ c ∷ []) (All-append P (of_hart tables hart) (c ∷ []) (All-get_or (All P) tables hart [] own all) (All-cons P c [] one (All-nil P))) all
 
-pub put_within : (tables now new : Tables) (hart : ℕ) (c : Counted) (frames more : ℕ) → tables ≡ now → hart < length now → FramesFit tables frames → 0 < c.count → 0 < length c.path.frames → samples_in now + c.count ≤ most_samples → frames_in now + length c.path.frames ≤ most_path_frames → more ≡ length c.path.frames → new ≡ with_path tables hart c → FramesFit new (frames + more)
+pub put_within : (tables now new : Tables) (hart : ℕ) (c : Counted) (frames more : ℕ) → tables ≡ now → hart < length now → FramesFit tables frames → 0 < c.count → 0 < length c.path.frames → samples_in now + c.count ≤ most_samples → frames_in now + length c.path.frames ≤ most_frames_in_all → more ≡ length c.path.frames → new ≡ with_path tables hart c → FramesFit new (frames + more)
 put_within tables now new hart c frames more view own_now within count long few_now fits_now is_more is =
     let own : hart < length tables = subst (λ (t : Tables). hart < length t) (sym view) own_now in
     let few : samples_in tables + c.count ≤ most_samples = subst (λ (t : Tables). samples_in t + c.count ≤ most_samples) (sym view) few_now in
-    let fits : frames_in tables + length c.path.frames ≤ most_path_frames = subst (λ (t : Tables). frames_in t + length c.path.frames ≤ most_path_frames) (sym view) fits_now in
+    let fits : frames_in tables + length c.path.frames ≤ most_frames_in_all = subst (λ (t : Tables). frames_in t + length c.path.frames ≤ most_frames_in_all) (sym view) fits_now in
     let old = within.is in
     let many = within.harts in
     let same = put_harts tables new hart c is in

@@ -11,7 +11,7 @@ use Rattle.std.proofs.lemmas.List.Sums.{sum_by-cons, sum_by-set, get_or-le-sum_b
 use Rattle.scope_types.specs.declared.frame.Counted.{Counted}
 use Rattle.scope_types.specs.Raw.{Raw}
 use Rattle.scope_types.specs.Distinct.{HartRaw, raws_of, counted_paths, distinct, frames_in, samples_in}
-use Rattle.scope_types.specs.Limits.{most_path_frames, most_samples}
+use Rattle.scope_types.specs.Limits.{most_frames_in_all, most_samples}
 use Rattle.thread_cct.specs.declared.ccts.TooManyFrames.{TooManyFrames}
 use Rattle.thread_cct.specs.Adding.{has_path, count_one, of_hart, count_sample, too_many, with_sample, few_frames}
 use Rattle.thread_cct.specs.private.Fields.{FramesFit}
@@ -99,30 +99,30 @@ frames_more tables s own = sum_more frames_of (frames_new tables s) tables s own
 
 -- a path that is known
 pub known : (tables : Tables) (s : HartRaw) → has_path s.raw (of_hart tables s.hart) ≡ true → with_sample tables s ≡ Ok (count_sample tables s)
-known tables s there = ap (λ (b : Bool). cond (not b && nat_lt most_path_frames (frames_in tables + length s.raw.frames)) (Err too_many) (Ok (count_sample tables s))) there
+known tables s there = ap (λ (b : Bool). cond (not b && nat_lt most_frames_in_all (frames_in tables + length s.raw.frames)) (Err too_many) (Ok (count_sample tables s))) there
 
 -- a new one
 abbrev by_frames : Tables → HartRaw → ℕ → Result Tables TooManyFrames
-by_frames tables s frames = cond (nat_lt most_path_frames frames) (Err too_many) (Ok (count_sample tables s))
+by_frames tables s frames = cond (nat_lt most_frames_in_all frames) (Err too_many) (Ok (count_sample tables s))
 
 new_path : (tables : Tables) (s : HartRaw) → has_path s.raw (of_hart tables s.hart) ≡ false → with_sample tables s ≡ by_frames tables s (frames_in tables + length s.raw.frames)
-new_path tables s new = ap (λ (b : Bool). cond (not b && nat_lt most_path_frames (frames_in tables + length s.raw.frames)) (Err too_many) (Ok (count_sample tables s))) new
+new_path tables s new = ap (λ (b : Bool). cond (not b && nat_lt most_frames_in_all (frames_in tables + length s.raw.frames)) (Err too_many) (Ok (count_sample tables s))) new
 
-not_above : (n : ℕ) → n ≤ most_path_frames → nat_lt most_path_frames n ≡ false
-not_above n few = le-ltb most_path_frames n few
+not_above : (n : ℕ) → n ≤ most_frames_in_all → nat_lt most_frames_in_all n ≡ false
+not_above n few = le-ltb most_frames_in_all n few
 
-pub too_much : (tables : Tables) (s : HartRaw) (frames more : ℕ) → frames ≡ frames_in tables → has_path s.raw (of_hart tables s.hart) ≡ false → more ≡ length s.raw.frames → most_path_frames < frames + more → with_sample tables s ≡ Err too_many
+pub too_much : (tables : Tables) (s : HartRaw) (frames more : ℕ) → frames ≡ frames_in tables → has_path s.raw (of_hart tables s.hart) ≡ false → more ≡ length s.raw.frames → most_frames_in_all < frames + more → with_sample tables s ≡ Err too_many
 too_much tables s frames more is new long many =
     let total : frames_in tables + length s.raw.frames ≡ frames + more = omega (arith, is, long) in
-    new_path tables s new ∙ ap (by_frames tables s) total ∙ ap (λ (b : Bool). cond b (Err too_many) (Ok (count_sample tables s))) (lt-ltb most_path_frames (frames + more) many)
+    new_path tables s new ∙ ap (by_frames tables s) total ∙ ap (λ (b : Bool). cond b (Err too_many) (Ok (count_sample tables s))) (lt-ltb most_frames_in_all (frames + more) many)
 
-pub few_enough : (tables : Tables) (s : HartRaw) (frames more : ℕ) → frames ≡ frames_in tables → has_path s.raw (of_hart tables s.hart) ≡ false → more ≡ length s.raw.frames → frames + more ≤ most_path_frames → with_sample tables s ≡ Ok (count_sample tables s)
+pub few_enough : (tables : Tables) (s : HartRaw) (frames more : ℕ) → frames ≡ frames_in tables → has_path s.raw (of_hart tables s.hart) ≡ false → more ≡ length s.raw.frames → frames + more ≤ most_frames_in_all → with_sample tables s ≡ Ok (count_sample tables s)
 few_enough tables s frames more is new long few =
     let total : frames_in tables + length s.raw.frames ≡ frames + more = omega (arith, is, long) in
     new_path tables s new ∙ ap (by_frames tables s) total ∙ ap (λ (b : Bool). cond b (Err too_many) (Ok (count_sample tables s))) (not_above (frames + more) few)
 
 -- a sample is refused exactly where all distinct paths have too many frames with it
-added_few : (tables : Tables) (s : HartRaw) → s.hart < length tables → frames_in tables ≤ most_path_frames → with_sample tables s ≡ few_frames (count_sample tables s)
+added_few : (tables : Tables) (s : HartRaw) → s.hart < length tables → frames_in tables ≤ most_frames_in_all → with_sample tables s ≡ few_frames (count_sample tables s)
 added_few tables s own few =
     elim (has_path s.raw (of_hart tables s.hart)) as (λ b. has_path s.raw (of_hart tables s.hart) ≡ b → with_sample tables s ≡ few_frames (count_sample tables s)) [
       | true ↦ λ there.
@@ -137,7 +137,7 @@ added_few tables s own few =
 pub all_counted : (tables : Tables) (s : HartRaw) (frames : ℕ) (given : Result Tables TooManyFrames) → s.hart < length tables → FramesFit tables frames → with_sample tables s ≡ given
     → (samples : List HartRaw) → tables ≡ distinct (length tables) samples → few_frames (distinct (length tables) (samples ++ s ∷ [])) ≡ given
 all_counted tables s frames given own within one samples is =
-    let few : frames_in tables ≤ most_path_frames = (let a = within.is in let b = within.few in omega (arith, a, b)) in
+    let few : frames_in tables ≤ most_frames_in_all = (let a = within.is in let b = within.few in omega (arith, a, b)) in
     sym (added_few tables s own few ∙ ap few_frames (ap (λ (t : Tables). count_sample t s) is ∙ distinct_more (length tables) samples s own)) ∙ one
 
 -- the same of fields that contracts see as `now`
@@ -154,7 +154,7 @@ stay tables s own one some = All-set (All HasSome) tables s.hart (count_one s.ra
 own_some : (tables : Tables) (s : HartRaw) → s.hart < length tables → All (All HasSome) tables → All HasSome (of_hart tables s.hart)
 own_some tables s own some = All-get_or (All HasSome) tables s.hart [] own some
 
-within_one : (tables : Tables) (s : HartRaw) (frames more : ℕ) → s.hart < length tables → FramesFit tables frames → samples_in tables < most_samples → frames_new tables s ≡ more → frames + more ≤ most_path_frames → All HasSome (count_one s.raw (of_hart tables s.hart)) → FramesFit (count_sample tables s) (frames + more)
+within_one : (tables : Tables) (s : HartRaw) (frames more : ℕ) → s.hart < length tables → FramesFit tables frames → samples_in tables < most_samples → frames_new tables s ≡ more → frames + more ≤ most_frames_in_all → All HasSome (count_one s.raw (of_hart tables s.hart)) → FramesFit (count_sample tables s) (frames + more)
 within_one tables s frames more own within room adds fits one =
     let total = frames_more tables s own in
     let old = within.is in
@@ -172,13 +172,13 @@ within_one tables s frames more own within room adds fits one =
 
 pub within_known : (tables new : Tables) (s : HartRaw) (frames : ℕ) → s.hart < length tables → FramesFit tables frames → samples_in tables < most_samples → has_path s.raw (of_hart tables s.hart) ≡ true → new ≡ count_sample tables s → FramesFit new frames
 within_known tables new s frames own within room there is =
-    let few : frames + 0 ≤ most_path_frames = (let f = within.few in omega (arith, f)) in
+    let few : frames + 0 ≤ most_frames_in_all = (let f = within.few in omega (arith, f)) in
     let one = some_known s.raw (of_hart tables s.hart) there (own_some tables s own within.some) in
     let all : FramesFit (count_sample tables s) (frames + 0) = within_one tables s frames 0 own within room (ap (λ (b : Bool). cond b 0 (length s.raw.frames)) there) few one in
     let same : frames + 0 ≡ frames = omega arith in
     subst (λ (t : Tables). FramesFit t frames) (sym is) (subst (FramesFit (count_sample tables s)) same all)
 
-pub within_new : (tables new : Tables) (s : HartRaw) (frames more : ℕ) → s.hart < length tables → FramesFit tables frames → samples_in tables < most_samples → has_path s.raw (of_hart tables s.hart) ≡ false → 0 < length s.raw.frames → more ≡ length s.raw.frames → frames + more ≤ most_path_frames → new ≡ count_sample tables s → FramesFit new (frames + more)
+pub within_new : (tables new : Tables) (s : HartRaw) (frames more : ℕ) → s.hart < length tables → FramesFit tables frames → samples_in tables < most_samples → has_path s.raw (of_hart tables s.hart) ≡ false → 0 < length s.raw.frames → more ≡ length s.raw.frames → frames + more ≤ most_frames_in_all → new ≡ count_sample tables s → FramesFit new (frames + more)
 within_new tables new s frames more own within room apart has long fits is =
     let one = some_frames s.raw (of_hart tables s.hart) has (own_some tables s own within.some) in
     subst (λ (t : Tables). FramesFit t (frames + more)) (sym is) (within_one tables s frames more own within room (ap (λ (b : Bool). cond b 0 (length s.raw.frames)) apart ∙ sym long) fits one)

@@ -6,7 +6,7 @@ use Rattle.std.specs.List.{list_any}
 use Rattle.scope_types.specs.declared.frame.Counted.{Counted}
 use Rattle.scope_types.specs.Raw.{Raw, same_raw}
 use Rattle.scope_types.specs.Distinct.{HartRaw, frames_in}
-use Rattle.scope_types.specs.Limits.{most_path_frames}
+use Rattle.scope_types.specs.Limits.{most_frames_in_all}
 use Rattle.thread_cct.specs.declared.ccts.TooManyFrames.{TooManyFrames}
 
 -- whether a raw path is there
@@ -34,7 +34,7 @@ count_sample tables s = slice_set tables s.hart (count_one s.raw (of_hart tables
 -- whether the path is new to its hart, and all distinct paths would have too many frames with it
 abbrev pub is_too_much : List (List Counted) → HartRaw → Bool
 is_too_much tables s = not (has_path s.raw (of_hart tables s.hart))
-    && nat_lt most_path_frames (frames_in tables + length s.raw.frames)
+    && nat_lt most_frames_in_all (frames_in tables + length s.raw.frames)
 
 abbrev pub too_many : TooManyFrames
 too_many = record {}
@@ -45,7 +45,7 @@ with_sample tables s = if is_too_much tables s then Err too_many else Ok (count_
 
 -- counted paths, unless they have too many frames
 abbrev pub few_frames : List (List Counted) → Result (List (List Counted)) TooManyFrames
-few_frames tables = if nat_lt most_path_frames (frames_in tables) then Err too_many else Ok tables
+few_frames tables = if nat_lt most_frames_in_all (frames_in tables) then Err too_many else Ok tables
 
 -- a counted path put last in its hart's
 abbrev pub with_path : List (List Counted) → ℕ → Counted → List (List Counted)

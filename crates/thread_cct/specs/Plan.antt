@@ -9,7 +9,7 @@ use Rattle.scope_types.specs.declared.scope.Scope.{Scope}
 use Rattle.scope_types.specs.Raw.{Raw}
 use Rattle.scope_types.specs.Distinct.{scopes_in}
 use Rattle.scope_types.specs.Key.{stripe}
-use Rattle.scope_types.specs.Limits.{most_path_scopes}
+use Rattle.scope_types.specs.Limits.{most_scopes_in_all}
 use Rattle.thread_cct.specs.declared.merge_plan.TooManyScopes.{TooManyScopes}
 
 -- a distinct raw path of a hart, and how many samples have it
@@ -39,14 +39,14 @@ planned_scopes call_path plan = sum_by (λ p. length (call_path p.path)) plan.pa
 
 -- whether a plan fits what expands raw paths: the call paths have few enough scopes
 pub record FitsExpansion (plan : Planned) (call_path : Raw → List Scope) : Type 0 where
-  pub few : planned_scopes call_path plan ≤ most_path_scopes
+  pub few : planned_scopes call_path plan ≤ most_scopes_in_all
 
 abbrev pub too_many_scopes : TooManyScopes
 too_many_scopes = record {}
 
 -- the plan of counted paths, unless their call paths have too many scopes
 abbrev pub few_scopes : (Raw → List Scope) → List (List Counted) → Result Planned TooManyScopes
-few_scopes call_path tables = if nat_lt most_path_scopes (scopes_in call_path tables) then Err too_many_scopes
+few_scopes call_path tables = if nat_lt most_scopes_in_all (scopes_in call_path tables) then Err too_many_scopes
     else Ok (plan_of tables)
 
 -- ---- chunks and pieces

@@ -2,7 +2,7 @@ ghost use Rattle.std.specs.Prelude.{◌≡◌, ◌+◌, ◌<◌, ◌∷◌, ◌+
 ghost use Rattle.std.specs.Prelude.{Some, IfOk, OnOk, OnErr, All, ◌≤◌, replicate};
 ghost use Rattle.prof_bytes.specs.Outcome.{Gives};
 ghost use Rattle.scope_types.specs.Distinct.{HartRaw, distinct, frames_in, samples_in};
-ghost use Rattle.scope_types.specs.Limits.{most_path_frames, most_samples};
+ghost use Rattle.scope_types.specs.Limits.{most_frames_in_all, most_samples};
 ghost use Rattle.thread_cct.specs.Adding.{with_path, with_sample, count_sample, few_frames, has_path, of_hart};
 ghost use Rattle.thread_cct.specs.Adding.{samples_of_hart};
 
@@ -13,7 +13,7 @@ use std::alloc::Global;
 use std::marker::Model;
 
 /// The most frames that all distinct raw paths may have together.
-const MOST_PATH_FRAMES: u64 = 4_194_304;
+const MOST_FRAMES_IN_ALL: u64 = 4_194_304;
 
 /// A new raw path would make the frames of all distinct raw paths more than 4,194,304.
 #[derive(Clone, Copy, Debug, PartialEq, Eq, Drop)]
@@ -121,7 +121,7 @@ impl Ccts {
         ensures harts { result ≡ length self.now }
         ensures samples { samples_in self.now ≤ most_samples }
         ensures counted { All (All (λ c. 0 < c.count)) self.now }
-        ensures frames { frames_in self.now ≤ most_path_frames }
+        ensures frames { frames_in self.now ≤ most_frames_in_all }
     {
         self.tables.len() as u32
     }
@@ -147,7 +147,7 @@ impl Ccts {
             return Ok(());
         }
         let frames = self.frames + raw.frames().len() as u64;
-        if frames > MOST_PATH_FRAMES {
+        if frames > MOST_FRAMES_IN_ALL {
             return Err(Fail::Fault(TooManyFrames));
         }
         let path = copied(self.alloc, raw)?;
@@ -171,7 +171,7 @@ impl Ccts {
         requires new { has_path raw (of_hart self.old hart) ≡ false }
         requires count { 0 < count }
         requires few { samples_in self.old + count ≤ most_samples }
-        requires frames { frames_in self.old + length raw.frames ≤ most_path_frames }
+        requires frames { frames_in self.old + length raw.frames ≤ most_frames_in_all }
         ensures ok { OnOk result (self.new ≡ with_path self.old hart (record { path = raw; count = count })) }
         ensures err { OnErr result (self.new ≡ self.old) }
         ensures harts { length self.new ≡ length self.old }

@@ -18,7 +18,7 @@ use std::alloc::Global;
 use std::marker::Model;
 
 /// The most scopes that the call paths of all distinct raw paths may have together.
-const MOST_PATH_SCOPES: u64 = 8_388_608;
+const MOST_SCOPES_IN_ALL: u64 = 8_388_608;
 
 /// How many paths a chunk of the plan has; the last may have fewer.
 const CHUNK_PATHS: u32 = 64;
@@ -102,7 +102,7 @@ impl<'a> Plan<'a> {
             paths += ccts.len(hart);
             scopes = scopes.saturating_add(scopes_of(ccts, expand, hart));
         }
-        if scopes > MOST_PATH_SCOPES {
+        if scopes > MOST_SCOPES_IN_ALL {
             return Err(Fail::Fault(TooManyScopes));
         }
         Ok(Plan {

@@ -1,7 +1,7 @@
 ghost use Rattle.std.specs.Prelude.{◌≡◌, ℕ, ◌<◌, List, length, map, sum_by, All};
 ghost use Rattle.std.specs.List.{flat_map};
 ghost use Rattle.scope_types.specs.Alike.{Alike};
-ghost use Rattle.scope_types.specs.CallPaths.{HartPath, each_path};
+ghost use Rattle.scope_types.specs.CallPaths.{each_path};
 ghost use Rattle.scope_types.specs.Distinct.{HartRaw, distinct, each_sample, scopes_in};
 ghost use Rattle.scope_types.specs.Raw.{Raw};
 ghost use Rattle.scope_types.specs.declared.frame.Counted.{Counted};

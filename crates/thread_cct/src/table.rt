@@ -24,7 +24,7 @@ pub struct PathTable {
 }
 
 impl Model for PathTable {
-    ghost use Rattle.std.specs.Prelude.{List, map};
+    ghost use Rattle.std.specs.Prelude.{List};
     ghost use Rattle.scope_types.specs.declared.frame.Counted.{Counted};
     ghost use Rattle.thread_cct.specs.private.Fields.{counted_in};
 

@@ -10,7 +10,7 @@ use Rattle.std.proofs.lemmas.List.Elements.{All-get_or, Contains-get_or}
 use Rattle.std.proofs.lemmas.Map.Keys.{sorted_from_all_adjacent}
 use Rattle.std.proofs.lemmas.Option.{slice_get-get_or}
 use Rattle.scope_types.specs.declared.path.Entry.{Entry}
-use Rattle.scope_types.specs.Limits.{most_path_scopes}
+use Rattle.scope_types.specs.Limits.{most_scopes_in_all}
 use Rattle.scope_types.specs.Order.{path_order}
 use Rattle.scope_types.proofs.Orders.{path_order_total, path_order_tells}
 use Rattle.tree_types.specs.Ascending.{ascending}
@@ -40,7 +40,7 @@ use Rattle.tree_join.proofs.Walking.{kid_path, through, at_index, has_from}
 
 -- ---- the nodes of a trie
 
-pub nodes_of_trie : (nodes : List Node) (es : List Entry) → tree_paths nodes ≡ trie_nodes es → StandBefore nodes → length nodes ≤ most_path_scopes → AreNodes nodes
+pub nodes_of_trie : (nodes : List Node) (es : List Entry) → tree_paths nodes ≡ trie_nodes es → StandBefore nodes → length nodes ≤ most_scopes_in_all → AreNodes nodes
 nodes_of_trie nodes es is stand few = record {
   few = few;
   rooted = rooted_from nodes (λ i lt. stand i (linked_node nodes i) (slice_get-get_or nodes i no_node lt)) (λ i j i_lt j_lt e.
@@ -102,7 +102,7 @@ module _ (nodes : List Node) (are : AreNodes nodes) (kids : List ℕ) (children 
   }
 
 module _ (children : Children) (nodes : List Node) (es : List Entry) (ends : List PathEnd) (numbers stack none : List ℕ) (same : children.nodes.now ≡ nodes)
-    (groups : Groups nodes children.flags.items children.siblings.items) (paths_are : tree_paths nodes ≡ trie_nodes es) (before : StandBefore nodes) (few : length nodes ≤ most_path_scopes)
+    (groups : Groups nodes children.flags.items children.siblings.items) (paths_are : tree_paths nodes ≡ trie_nodes es) (before : StandBefore nodes) (few : length nodes ≤ most_scopes_in_all)
     (ends_are : map (counted_entry (trie_nodes es)) ends ≡ es) (ends_in : All (λ e. IsIndex e.node (length (trie_nodes es))) ends) where
   pub entries_are : map (counted_entry (tree_paths children.nodes.now)) ends ≡ es
   entries_are = ap (λ (ns : List Node). map (counted_entry (tree_paths ns)) ends) same ∙ ap (λ (ps : List Path). map (counted_entry ps) ends) paths_are ∙ ends_are

@@ -16,7 +16,7 @@ use Rattle.std.proofs.lemmas.List.Quantifiers.{all_pairs_push}
 use Rattle.std.proofs.lemmas.List.Sorted.{sorted_far, IsNonDecreasingBy-take, IsNonDecreasingBy-drop, Contains-permutation, All-permutation, IsPermutation-reverse}
 use Rattle.std.proofs.lemmas.Map.Keys.{IsDistinct-from_apart, IsDistinct-IsPermutation, apart_from_distinct}
 use Rattle.scope_types.specs.declared.scope.Scope.{Scope}
-use Rattle.scope_types.specs.Limits.{most_path_scopes}
+use Rattle.scope_types.specs.Limits.{most_scopes_in_all}
 use Rattle.scope_types.specs.Order.{scope_order}
 use Rattle.scope_types.proofs.Orders.{scope_order_total, scope_order_tells}
 use Rattle.tree_types.specs.declared.content.Node.{Node}
@@ -157,7 +157,7 @@ map_has xs x has = (has.0, (let lt = has.1 in omega (arith, length-map xs index_
 
 -- ---- children
 
-next_once : (p q n : ℕ) → IsIndex p n → IsIndex q n → n ≤ most_path_scopes → next_index p ≡ next_index q → p ≡ q
+next_once : (p q n : ℕ) → IsIndex p n → IsIndex q n → n ≤ most_scopes_in_all → next_index p ≡ next_index q → p ≡ q
 next_once p q n p_place q_place few same =
     elim (place_cases p n p_place) [
       | inl p_none ↦ elim (place_cases q n q_place) [

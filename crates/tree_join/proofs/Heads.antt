@@ -3,7 +3,7 @@ use Rattle.std.proofs.Common.{◌≡◌, ℕ, ◌+◌, ◌<◌, ◌≤◌, ◌==
 use Rattle.std.specs.Ordering.{is_lt, ordering_reverse}
 use Rattle.std.proofs.lemmas.Bool.{cases_order, eq-eqb, ne_eqb, lt-ltb, le-ltb}
 use Rattle.scope_types.specs.declared.scope.Scope.{Scope}
-use Rattle.scope_types.specs.Limits.{most_path_scopes}
+use Rattle.scope_types.specs.Limits.{most_scopes_in_all}
 use Rattle.scope_types.specs.Order.{scope_order, path_order}
 use Rattle.scope_types.proofs.Orders.{scope_order_total, scope_order_tells}
 use Rattle.tree_types.specs.declared.content.Node.{Node}
@@ -95,7 +95,7 @@ pub record Next (order : List Node) (n : Node) (own : Path) : Type 0 where
   pub path : path_below (tree_paths order) n ≡ own
   pub ahead : (i : ℕ) → i < length order → path_order (path_or_none (tree_paths order) i) own ≡ Less
 
-module _ (order : List Node) (ascend : AllPairs (λ a b. path_order a b ≡ Less) (tree_paths order)) (some : (i : ℕ) → i < length order → path_or_none (tree_paths order) i ≡ [] → ⊥) (few : length order ≤ most_path_scopes) where
+module _ (order : List Node) (ascend : AllPairs (λ a b. path_order a b ≡ Less) (tree_paths order)) (some : (i : ℕ) → i < length order → path_or_none (tree_paths order) i ≡ [] → ⊥) (few : length order ≤ most_scopes_in_all) where
   abbrev done : List Path
   done = tree_paths order
 

@@ -6,7 +6,7 @@ use Rattle.std.proofs.lemmas.List.Concat.{length-flat_map}
 use Rattle.std.proofs.lemmas.List.Elements.{All-nil, All-append, All-cons, All-head, All-tail, All-map, All-weaker}
 use Rattle.std.proofs.lemmas.List.Sums.{sum_by-append, sum_by-cons}
 use Rattle.scope_types.specs.declared.path.Entry.{Entry}
-use Rattle.scope_types.specs.Limits.{most_samples, most_path_scopes}
+use Rattle.scope_types.specs.Limits.{most_samples, most_scopes_in_all}
 use Rattle.tree_types.specs.declared.content.Node.{Node}
 use Rattle.tree_types.specs.declared.counted_tree.NodeCount.{NodeCount}
 use Rattle.tree_types.specs.Nodes.{no_parent}
@@ -178,14 +178,14 @@ samples_few walkers few = (let le = less walkers in omega arith)
         let all = sum_by-cons samples_of (walked_entries w) (map walked_entries ws) in
         omega arith
 
-pub begin : (walkers : List Walker) → All (IsWalker []) walkers → sum_by (λ es. length (trie_nodes es)) (map walked_entries walkers) ≤ most_path_scopes → Walking (map walked_entries walkers) walkers []
+pub begin : (walkers : List Walker) → All (IsWalker []) walkers → sum_by (λ es. length (trie_nodes es)) (map walked_entries walkers) ≤ most_scopes_in_all → Walking (map walked_entries walkers) walkers []
 begin walkers each few = record {
   parts_are = refl;
   each = each;
   ascend = λ i j d below lt. (let none = as_many_paths [] in absurd (omega arith));
   before = λ i lt. absurd (omega arith);
   among = λ i lt. absurd (omega arith);
-  few = subst (λ (n : ℕ). n ≤ most_path_scopes) (sym (length-flat_map trie_nodes (map walked_entries walkers))) few;
+  few = subst (λ (n : ℕ). n ≤ most_scopes_in_all) (sym (length-flat_map trie_nodes (map walked_entries walkers))) few;
 }
 
 module _ (parts : List (List Entry)) (walkers : List Walker) (order : List Node) (is : Walking parts walkers order) where

@@ -12,7 +12,7 @@ use Rattle.scope_types.specs.declared.path.Entry.{Entry}
 use Rattle.scope_types.specs.Alike.{Alike}
 use Rattle.scope_types.specs.CallPaths.{HartPath, entry_path, each_path}
 use Rattle.scope_types.specs.Key.{stripe}
-use Rattle.scope_types.specs.Limits.{most_samples, most_path_scopes}
+use Rattle.scope_types.specs.Limits.{most_samples, most_scopes_in_all}
 use Rattle.thread_cct.specs.Plan.{CountsSamples, IsMergeable}
 use Rattle.tree_types.specs.Database.{node_list}
 use Rattle.tree_types.specs.Nodes.{nodes, no_parent}
@@ -136,7 +136,7 @@ module _ (set : SetValue) (fit : AllFit set.view.plan set.stripes) where
         at_most : (a b c d : ℕ) → a ≡ b → b ≤ c → c ≤ d → a ≤ d
         at_most a b c d is le few = omega arith
 
-    pub parts_nodes : sum_by (λ es. length (trie_nodes es)) (stripe_parts set) ≤ most_path_scopes
+    pub parts_nodes : sum_by (λ es. length (trie_nodes es)) (stripe_parts set) ≤ most_scopes_in_all
     unfolding stripe_parts
     parts_nodes =
         at_most _ _ _ _ _ (sum_parts (λ es. length (trie_nodes es)) (trie_of set.stripes) (range_with_len 0 16))
@@ -152,9 +152,9 @@ module _ (set : SetValue) (ts : List (Bor (List Entry))) (tries : parts_of ts �
   pub tries_samples : sum_by (λ t. samples_of t.now) ts ≤ most_samples
   tries_samples = subst (λ (n : ℕ). n ≤ most_samples) (ap (sum_by samples_of) (sym tries) ∙ sum_parts samples_of entries_in ts) (parts_samples set fit limited)
 
-  pub tries_nodes : sum_by (λ t. length (trie_nodes t.now)) ts ≤ most_path_scopes
+  pub tries_nodes : sum_by (λ t. length (trie_nodes t.now)) ts ≤ most_scopes_in_all
   tries_nodes =
-      subst (λ (n : ℕ). n ≤ most_path_scopes) (ap (sum_by (λ (es : List Entry). length (trie_nodes es))) (sym tries) ∙ sum_parts (λ es. length (trie_nodes es)) entries_in ts)
+      subst (λ (n : ℕ). n ≤ most_scopes_in_all) (ap (sum_by (λ (es : List Entry). length (trie_nodes es))) (sym tries) ∙ sum_parts (λ es. length (trie_nodes es)) entries_in ts)
       (parts_nodes set fit limited)
 
   module _ (harts : ℕ) (plan : IsMergeable set.view.plan harts) where

@@ -11,7 +11,7 @@ use Rattle.std.proofs.lemmas.List.Folds.{length-flat_map-take}
 use Rattle.std.proofs.lemmas.List.Quantifiers.{all_pairs_push}
 use Rattle.std.proofs.lemmas.Option.{get_or_from_slice_get, slice_get_within, slice_get-get_or}
 use Rattle.scope_types.specs.declared.path.Entry.{Entry}
-use Rattle.scope_types.specs.Limits.{most_path_scopes}
+use Rattle.scope_types.specs.Limits.{most_scopes_in_all}
 use Rattle.scope_types.specs.Order.{path_order}
 use Rattle.scope_types.proofs.Orders.{path_order_total}
 use Rattle.tree_types.specs.declared.content.Node.{Node}
@@ -113,7 +113,7 @@ module _ (order : List Node) (w : Walker) (is : IsWalker order w) where
     }
 
   -- the walk goes on
-  pub goes_on : (v : Walker) (n : Node) → length order ≤ most_path_scopes → head_node w ≡ Some n → Advances (length order) w v → IsWalker (order ++ n ∷ []) v
+  pub goes_on : (v : Walker) (n : Node) → length order ≤ most_scopes_in_all → head_node w ≡ Some n → Advances (length order) w v → IsWalker (order ++ n ∷ []) v
   goes_on v n few head a =
       let top = top_of n head in
       let place_is : a.index ≡ top.index = sym (ap (λ (x : List ℕ). get_or x (length a.rest) 0) a.popped ∙ get_or-append_seam a.rest a.index [] 0)
@@ -136,7 +136,7 @@ module _ (order : List Node) (w : Walker) (is : IsWalker order w) where
       (subst (λ (x : List ℕ). WalksTrie w.children w.ends.now (set w.numbers.items a.index (length order)) x (order ++ n ∷ [])) (sym a.stack) new)))
 
   -- the walk stays, where the node stands before all that is next in it
-  module _ (ascend : AllPairs (λ a b. path_order a b ≡ Less) (tree_paths order)) (some : (i : ℕ) → i < length order → path_or_none (tree_paths order) i ≡ [] → ⊥) (few : length order ≤ most_path_scopes)
+  module _ (ascend : AllPairs (λ a b. path_order a b ≡ Less) (tree_paths order)) (some : (i : ℕ) → i < length order → path_or_none (tree_paths order) i ≡ [] → ⊥) (few : length order ≤ most_scopes_in_all)
       (n : Node) (own : Path) (next : Next order n own) (before : Leads n w) where
     leads_head : (o : Option Node) → head_node w ≡ o → IfSome o (λ h. node_before n h ≡ true) → (j : ℕ) → j < length stack → path_order own (path_or_none paths (get_or stack j 0)) ≡ Less
     leads_head None e l j lt = (let none = none_left e in absurd (omega arith))
@@ -166,7 +166,7 @@ module _ (parts : List (List Entry)) (walkers : List Walker) (order : List Node)
   abbrev done : List Path
   done = tree_paths order
 
-  pub order_few : length order ≤ most_path_scopes
+  pub order_few : length order ≤ most_scopes_in_all
   order_few =
       let long = as_many_paths order in
       let le = count_among (flat_map trie_nodes parts) done is.ascend (λ i lt. is.among i (omega arith)) in

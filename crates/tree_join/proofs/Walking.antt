@@ -11,7 +11,7 @@ use Rattle.std.proofs.lemmas.List.Elements.{All-get_or}
 use Rattle.std.proofs.lemmas.Map.Keys.{IsDistinct-from_apart}
 use Rattle.std.proofs.lemmas.Map.Made.{length-le_from_is_member}
 use Rattle.scope_types.specs.declared.scope.Scope.{Scope}
-use Rattle.scope_types.specs.Limits.{most_path_scopes}
+use Rattle.scope_types.specs.Limits.{most_scopes_in_all}
 use Rattle.scope_types.specs.Order.{path_order}
 use Rattle.scope_types.proofs.Orders.{path_order_total, path_order_tells}
 use Rattle.tree_types.proofs.Sorting.{Contains-from_has}
@@ -147,7 +147,7 @@ module _ (nodes : List Node) (are : AreNodes nodes) where
 
     -- ---- one node more
 
-    module _ (kids : List ℕ) (children : AreChildren nodes p kids) (few : length order ≤ most_path_scopes) where
+    module _ (kids : List ℕ) (children : AreChildren nodes p kids) (few : length order ≤ most_scopes_in_all) where
       abbrev after : List ℕ
       after = rest ++ kids
 

@@ -4,7 +4,7 @@ use Rattle.std.proofs.lemmas.Bool.{cases_eq}
 use Rattle.std.proofs.lemmas.List.{get_or_default, length-set, map-append, take_more}
 use Rattle.std.proofs.lemmas.List.Elements.{All-push}
 use Rattle.scope_types.specs.declared.path.Entry.{Entry}
-use Rattle.scope_types.specs.Limits.{most_path_scopes}
+use Rattle.scope_types.specs.Limits.{most_scopes_in_all}
 use Rattle.tree_types.specs.declared.content.Node.{Node}
 use Rattle.path_trie.proofs.Places.{last_cases}
 use Rattle.tree_join.specs.declared.walker.Walker.{Walker}
@@ -123,7 +123,7 @@ run_leads at first walkers start order limit node run but before i d i_lt apart 
     by_limit (Some x) but before lt = leads_all x.1 before (head_node (get_or first i d)) (but.2 i d lt apart)
 
 -- fewer nodes are left
-pub fewer_left : (parts : List (List Entry)) (new : List Walker) (order more last : List Node) (node : Node) → Walking parts new last → more ≡ order ++ node ∷ [] → length more ≤ length last → most_path_scopes - length last < most_path_scopes - length order
+pub fewer_left : (parts : List (List Entry)) (new : List Walker) (order more last : List Node) (node : Node) → Walking parts new last → more ≡ order ++ node ∷ [] → length more ≤ length last → most_scopes_in_all - length last < most_scopes_in_all - length order
 fewer_left parts new order more last node is more_is longer =
     (let few = order_few parts new last is in let size = ap (λ (x : List Node). length x) more_is ∙ length-append order (node ∷ []) in omega arith)
 

@@ -3,7 +3,7 @@
 ghost use Rattle.std.specs.Prelude.{◌≡◌, ◌+◌, ◌≤◌, ◌++◌, ◌==◌, ◌&&◌, nat_lt, length, map, reverse, filter, AllPairs};
 ghost use Rattle.std.specs.Prelude.{IfOk, OnOk};
 ghost use Rattle.std.specs.declared.cmp.Ordering.TheVariants.{Less};
-ghost use Rattle.scope_types.specs.Limits.{most_path_scopes};
+ghost use Rattle.scope_types.specs.Limits.{most_scopes_in_all};
 ghost use Rattle.std.specs.List.Sorted.{IsPermutation, IsSorted};
 ghost use Rattle.path_trie.specs.Trie.{IsIndex, StandBefore};
 ghost use Rattle.path_trie.specs.private.Linked.{linked_node};
@@ -26,7 +26,7 @@ pub struct Sibling {
 /// For each index, whether a node that stands elsewhere has its parent right before that index.
 fn branching_slots(alloc: Global, nodes: &[Node]) -> Result<Vec<bool>, Memory>
     requires before { StandBefore nodes.now }
-    requires few { length nodes.now ≤ most_path_scopes }
+    requires few { length nodes.now ≤ most_scopes_in_all }
     ensures len { IfOk result (λ flags. length flags.items ≡ length nodes.now + 1) }
     ensures marks { IfOk result (λ flags. MarksBranches nodes.now flags.items) }
 {
@@ -43,7 +43,7 @@ fn branching_slots(alloc: Global, nodes: &[Node]) -> Result<Vec<bool>, Memory>
 /// The nodes whose parents branch, in their order.
 fn siblings_of(alloc: Global, nodes: &[Node], flags: &[bool]) -> Result<Vec<Sibling>, Memory>
     requires before { StandBefore nodes.now }
-    requires few { length nodes.now ≤ most_path_scopes }
+    requires few { length nodes.now ≤ most_scopes_in_all }
     requires long { length flags.now ≡ length nodes.now + 1 }
     ensures { IfOk result (λ siblings. siblings.items ≡ siblings_below nodes.now flags.now (length nodes.now)) }
 {
@@ -95,7 +95,7 @@ fn sort(siblings: &mut Vec<Sibling>)
 /// The siblings of the nodes at whose parents' next indices a flag stands, in order.
 fn sorted_siblings(alloc: Global, nodes: &[Node], flags: &[bool]) -> Result<Vec<Sibling>, Memory>
     requires before { StandBefore nodes.now }
-    requires few { length nodes.now ≤ most_path_scopes }
+    requires few { length nodes.now ≤ most_scopes_in_all }
     requires long { length flags.now ≡ length nodes.now + 1 }
     requires marks { MarksBranches nodes.now flags.now }
     ensures { IfOk result (λ siblings. Groups nodes.now flags.now siblings.items) }
@@ -117,7 +117,7 @@ impl<'a> Children<'a> {
     /// The children of these nodes.
     pub fn of(alloc: Global, nodes: &'a [Node]) -> Result<Children<'a>, Memory>
         requires before { StandBefore nodes.now }
-        requires few { length nodes.now ≤ most_path_scopes }
+        requires few { length nodes.now ≤ most_scopes_in_all }
         ensures nodes { IfOk result (λ children. children.nodes.now ≡ nodes.now) }
         ensures groups { IfOk result (λ children. Groups nodes.now children.flags.items children.siblings.items) }
     {
@@ -134,7 +134,7 @@ impl<'a> Children<'a> {
     pub fn push(&self, parent: u32, stack: &mut Vec<u32>) -> Result<(), Memory>
         requires groups { Groups self.now.nodes.now self.now.flags.items self.now.siblings.items }
         requires index { IsIndex parent (length self.now.nodes.now) }
-        requires few { length self.now.nodes.now ≤ most_path_scopes }
+        requires few { length self.now.nodes.now ≤ most_scopes_in_all }
         ensures { OnOk result (stack.new.items ≡ stack.old.items
             ++ children_of self.now.nodes.now self.now.flags.items self.now.siblings.items parent) }
     {

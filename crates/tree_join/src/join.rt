@@ -4,7 +4,7 @@ ghost use Rattle.std.specs.List.{flat_map};
 ghost use Rattle.scope_types.specs.Alike.{Alike};
 ghost use Rattle.scope_types.specs.CallPaths.{each_path};
 ghost use Rattle.thread_cct.specs.Plan.{CountsSamples};
-ghost use Rattle.scope_types.specs.Limits.{most_samples, most_path_scopes};
+ghost use Rattle.scope_types.specs.Limits.{most_samples, most_scopes_in_all};
 ghost use Rattle.tree_types.specs.Database.{node_list};
 ghost use Rattle.tree_types.specs.Nodes.{no_parent};
 ghost use Rattle.tree_types.specs.Tree.{count_at, paths_in};
@@ -43,7 +43,7 @@ pub fn join_trie(alloc: Global, trie: &Trie, harts: u32) -> Result<Tree, Memory>
 fn tree_of(alloc: Global, walkers: &mut [Walker], harts: u32) -> Result<Tree, Memory>
     requires each { All (IsWalker []) walkers.old }
     requires samples { sum_by samples_of (map walked_entries walkers.old) ≤ most_samples }
-    requires nodes { sum_by (λ es. length (trie_nodes es)) (map walked_entries walkers.old) ≤ most_path_scopes }
+    requires nodes { sum_by (λ es. length (trie_nodes es)) (map walked_entries walkers.old) ≤ most_scopes_in_all }
     requires harts { All (λ es. All (λ e. 0 < e.count → e.hart < harts) es) (map walked_entries walkers.old) }
     ensures { IfOk result (IsTreeOf (map walked_entries walkers.old) harts) }
 {
@@ -68,7 +68,7 @@ fn walkers_of<'a>(alloc: Global, tries: &[&'a Trie]) -> Result<Vec<Walker<'a>>, 
 /// sums of their counts.
 pub fn join_tries(alloc: Global, tries: &[&Trie], harts: u32) -> Result<Tree, Memory>
     requires samples { sum_by (λ t. samples_of t.now) tries.now ≤ most_samples }
-    requires nodes { sum_by (λ t. length (trie_nodes t.now)) tries.now ≤ most_path_scopes }
+    requires nodes { sum_by (λ t. length (trie_nodes t.now)) tries.now ≤ most_scopes_in_all }
     requires harts { All (λ t. All (λ e. 0 < e.count → e.hart < harts) t.now) tries.now }
     ensures harts { IfOk result (λ tree. tree.harts ≡ harts) }
     ensures nodes { let parts = map (λ t. t.now) tries.now in

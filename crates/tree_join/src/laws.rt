@@ -1,6 +1,6 @@
-ghost use Rattle.std.specs.Prelude.{◌≡◌, ℕ, ◌<◌, List, map, sum_by, All, Contains};
+ghost use Rattle.std.specs.Prelude.{◌≡◌, ℕ, ◌<◌, List, sum_by, All, Contains};
 ghost use Rattle.scope_types.specs.Alike.{Alike};
-ghost use Rattle.scope_types.specs.CallPaths.{HartPath, each_path};
+ghost use Rattle.scope_types.specs.CallPaths.{each_path};
 ghost use Rattle.scope_types.specs.Distinct.{HartRaw, distinct};
 ghost use Rattle.scope_types.specs.Key.{stripe};
 ghost use Rattle.scope_types.specs.Raw.{Raw};

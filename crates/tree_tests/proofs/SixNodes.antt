@@ -1,5 +1,5 @@
 -- The tree of the test is one.
-use Rattle.std.proofs.Common.{◌≡◌, ℕ, zero, suc, ◌<◌, List, [], ◌∷◌, length, get_or, All, AllPairs, refl, subst, sym, arith}
+use Rattle.std.proofs.Common.{◌≡◌, ℕ, zero, suc, ◌<◌, List, [], ◌∷◌, get_or, All, refl, subst, sym, arith}
 use Rattle.std.specs.Prelude.{◌≢◌}
 use Rattle.std.specs.List.Sorted.{IsStrictlySortedBy}
 use Rattle.std.proofs.lemmas.List.Elements.{All-nil, All-cons}
@@ -11,7 +11,7 @@ use Rattle.scope_types.specs.Order.{path_order}
 use Rattle.tree_types.specs.declared.content.Node.{Node}
 use Rattle.tree_types.specs.declared.counted_tree.NodeCount.{NodeCount}
 use Rattle.tree_types.specs.PathsOf.{tree_paths}
-use Rattle.tree_types.specs.Tree.{CountedTree, IsPreorder, IsTree, count_order}
+use Rattle.tree_types.specs.Tree.{IsTree, count_order}
 use Rattle.tree_types.proofs.NodeLaws.{pairs_from_sorted}
 
 abbrev pub six : List Node

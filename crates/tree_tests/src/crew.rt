@@ -1,6 +1,6 @@
-//! Merges by workers: which pieces they merge, that two of them run side by side, and a crew that hands out other
-//! stripes than its workers filled.
-ghost use Rattle.std.specs.Prelude.{◌≡◌, ◌≤◌, IfOk};
+//! Merges by workers: which pieces they merge, what the gate is told, that four of them run side by side, and a crew
+//! that hands out other stripes than its workers filled.
+ghost use Rattle.std.specs.Prelude.{◌≡◌, IfOk};
 ghost use Rattle.merge_crew.specs.Merged.{IsOfPlan, IsWhole};
 ghost use Rattle.thread_cct.specs.Plan.{FitsExpansion, expanded};
 
@@ -12,6 +12,7 @@ use scope_types::{Expand, LineId, ProcId, RawPath, RootKind, Scope, ScopePath};
 use std::alloc::Global;
 use std::sync::atomic::{AtomicBool, AtomicU32, Ordering};
 use std::test::Fail as Failed;
+use std::thread;
 use std::thread::Threads;
 use thread_cct::{Ccts, Plan, TooManyFrames, TooManyScopes};
 
@@ -52,29 +53,59 @@ impl Expand for Nameless {
     }
 }
 
-/// One hart with 128 paths of one frame: two chunks, whose pieces are empty but for stripe 6.
-fn paths(alloc: Global) -> Result<Ccts, Fail<TooManyFrames>> {
-    one_hart(alloc, 0x1_0000, 4, 128)
+/// One hart with 64 paths of one frame for each chunk, of up to seven. The pieces are empty but for stripe 6.
+fn paths(alloc: Global, chunks: u32) -> Result<Ccts, Fail<TooManyFrames>> {
+    one_hart(alloc, 0x1_0000, 4, chunks.min(7) * 64)
 }
 
-/// The first stripe that doesn't name the two chunks.
-fn unnamed(crew: &Crew) -> Option<u32> {
+/// The first stripe that doesn't name each of the chunks once.
+fn unnamed(crew: &Crew, chunks: u32) -> Option<u32> {
     for stripe in 0..16u32 {
         let names = crew.stripes.names(stripe);
-        if names != [0, 1].as_slice() && names != [1, 0].as_slice() {
+        if names.len() != chunks as usize || !(0..chunks).all(|chunk| names.contains(&chunk)) {
             return Some(stripe);
         }
     }
     None
 }
 
-/// Lets the first worker that passes wait until another has passed too, for at most 200,000,000 turns.
+/// Counts how often it is passed, and adds up a power of two for each piece, by its number 16 * chunk + stripe.
+#[derive(Drop)]
+struct Tally {
+    passes: AtomicU32,
+    pieces: AtomicU32,
+    /// Whether a pass was of another piece than the one that has its number.
+    unordered: AtomicBool,
+}
+
+impl Tally {
+    fn new() -> Tally {
+        Tally {
+            passes: AtomicU32::new(0),
+            pieces: AtomicU32::new(0),
+            unordered: AtomicBool::new(false),
+        }
+    }
+}
+
+impl Gate for Tally {
+    fn pass(&self, _worker: u32, chunk: u32, stripe: u32) {
+        let piece = chunk.wrapping_mul(16).wrapping_add(stripe);
+        self.pieces
+            .fetch_add(1u32.wrapping_shl(piece), Ordering::SeqCst);
+        if self.passes.fetch_add(1, Ordering::SeqCst) != piece {
+            self.unordered.store(true, Ordering::SeqCst);
+        }
+    }
+}
+
+/// Lets each of four workers wait until all four have passed, for at most 20,000,000 turns.
 #[derive(Drop)]
 struct Meeting {
-    /// The first worker's number and 1 more, or 0.
-    first: AtomicU32,
-    /// Whether another worker passed.
-    met: AtomicBool,
+    /// Which of the workers 0 to 3 have passed.
+    passed: [AtomicBool; 4],
+    /// Whether a worker with another number passed.
+    other: AtomicBool,
     /// Whether the turns ran out.
     missed: AtomicBool,
 }
@@ -82,17 +113,29 @@ struct Meeting {
 impl Meeting {
     fn new() -> Meeting {
         Meeting {
-            first: AtomicU32::new(0),
-            met: AtomicBool::new(false),
+            passed: [
+                AtomicBool::new(false),
+                AtomicBool::new(false),
+                AtomicBool::new(false),
+                AtomicBool::new(false),
+            ],
+            other: AtomicBool::new(false),
             missed: AtomicBool::new(false),
         }
     }
 
+    fn all_passed(&self) -> bool {
+        self.passed
+            .iter()
+            .all(|passed| passed.load(Ordering::SeqCst))
+    }
+
     fn wait(&self) {
-        for _ in 0..200_000_000u32 {
-            if self.met.load(Ordering::SeqCst) {
+        for _ in 0..20_000_000u32 {
+            if self.all_passed() || self.missed.load(Ordering::SeqCst) {
                 return;
             }
+            thread::yield_now();
         }
         self.missed.store(true, Ordering::SeqCst);
     }
@@ -100,14 +143,12 @@ impl Meeting {
 
 impl Gate for Meeting {
     fn pass(&self, worker: u32, _chunk: u32, _stripe: u32) {
-        let own = worker.wrapping_add(1);
-        match self
-            .first
-            .compare_exchange(0, own, Ordering::SeqCst, Ordering::SeqCst)
-        {
-            Ok(_) => self.wait(),
-            Err(first) if first != own => self.met.store(true, Ordering::SeqCst),
-            Err(_) => {}
+        match self.passed.get(worker as usize) {
+            Some(passed) => {
+                passed.store(true, Ordering::SeqCst);
+                self.wait();
+            }
+            None => self.other.store(true, Ordering::SeqCst),
         }
     }
 }
@@ -140,7 +181,7 @@ impl Crews for EmptyCrew {
     }
 }
 
-/// Merges by workers, as a caller that hands out what they filled.
+/// Merges by four workers, as a caller that hands out what they filled.
 fn merge_by<R: Threads + Sync, E: Expand + Sync, G: Gate>(
     rt: &R,
     alloc: Global,
@@ -150,22 +191,23 @@ fn merge_by<R: Threads + Sync, E: Expand + Sync, G: Gate>(
 ) -> Result<Crew, Memory>
     requires { FitsExpansion plan.now (E.call_path expand.now) }
     ensures plan { IfOk result (IsOfPlan (expanded plan.now (E.call_path expand.now))) }
-    ensures whole { IfOk result (IsWhole (expanded plan.now (E.call_path expand.now)) 2) }
+    ensures whole { IfOk result (IsWhole (expanded plan.now (E.call_path expand.now)) 4) }
 {
-    WorkCrew::of(gate).merge(rt, alloc, plan, expand, 2)
+    WorkCrew::of(gate).merge(rt, alloc, plan, expand, 4)
 }
 
-/// What a given number of workers, at most 16, merge of paths.
-fn merged<R: Threads + Sync>(
+/// What a given number of workers, at most 16, merge of paths when they pass a gate.
+fn merged<R: Threads + Sync, G: Gate>(
     rt: &R,
     alloc: Global,
     ccts: &Ccts,
     workers: u32,
+    gate: &G,
 ) -> Result<Crew, Fail<TooManyScopes>> {
     let expand = Nameless { alloc };
     let plan = Plan::of(alloc, ccts, &expand)?;
     let workers = workers.min(16).max(1);
-    Ok(merge_all(rt, alloc, &plan, &expand, workers, &OpenGate)?)
+    Ok(merge_all(rt, alloc, &plan, &expand, workers, gate)?)
 }
 
 /// What of all pieces a crew of a given number of workers has otherwise.
@@ -173,7 +215,7 @@ fn other_piece(crew: &Crew, workers: u32) -> Option<&'static str> {
     if crew.merged.saturating_add(crew.settled) != 32 {
         return Some("the number of pieces");
     }
-    if unnamed(crew).is_some() {
+    if unnamed(crew, 2).is_some() {
         return Some("the chunks that a stripe names");
     }
     if crew.stripes.trie(6).len() != 130 {
@@ -192,7 +234,7 @@ fn other_merge<R: Threads + Sync>(
     ccts: &Ccts,
     workers: u32,
 ) -> Result<Option<&'static str>, Fail<TooManyScopes>> {
-    let crew = merged(rt, alloc, ccts, workers)?;
+    let crew = merged(rt, alloc, ccts, workers, &OpenGate)?;
     Ok(other_piece(&crew, workers))
 }
 
@@ -212,12 +254,59 @@ fn other_workers<R: Threads + Sync>(
 
 #[test]
 fn workers_merge_all_pieces(rt: HostRuntime) -> Result<(), Failed> {
-    let ccts = paths(rt.alloc())?;
+    let ccts = paths(rt.alloc(), 2)?;
     assert_eq!(rt; other_workers(&rt, rt.alloc(), &ccts)?, None);
     Ok(())
 }
 
-/// What two workers that pass a gate merge of paths.
+/// What of the passes of a given number of workers over two chunks is otherwise: each of the pieces 0 to 31 is passed
+/// once, and by one worker in order.
+fn other_pass(gate: &Tally, workers: u32) -> Option<&'static str> {
+    if gate.passes.load(Ordering::SeqCst) != 32 {
+        return Some("how often the gate is passed");
+    }
+    if gate.pieces.load(Ordering::SeqCst) != u32::MAX {
+        return Some("which pieces pass the gate");
+    }
+    if workers == 1 && gate.unordered.load(Ordering::SeqCst) {
+        return Some("the order of one worker's pieces");
+    }
+    None
+}
+
+fn other_passes<R: Threads + Sync>(
+    rt: &R,
+    alloc: Global,
+    ccts: &Ccts,
+    workers: u32,
+) -> Result<Option<&'static str>, Fail<TooManyScopes>> {
+    let gate = Tally::new();
+    let _crew = merged(rt, alloc, ccts, workers, &gate)?;
+    Ok(other_pass(&gate, workers))
+}
+
+/// The first number of workers whose passes are otherwise, and in what.
+fn other_tally<R: Threads + Sync>(
+    rt: &R,
+    alloc: Global,
+    ccts: &Ccts,
+) -> Result<Option<(u32, &'static str)>, Fail<TooManyScopes>> {
+    for workers in [1, 2, 16] {
+        if let Some(other) = other_passes(rt, alloc, ccts, workers)? {
+            return Ok(Some((workers, other)));
+        }
+    }
+    Ok(None)
+}
+
+#[test]
+fn gate_is_passed_once_for_each_piece(rt: HostRuntime) -> Result<(), Failed> {
+    let ccts = paths(rt.alloc(), 2)?;
+    assert_eq!(rt; other_tally(&rt, rt.alloc(), &ccts)?, None);
+    Ok(())
+}
+
+/// What four workers that pass a gate merge of paths.
 fn merged_through<R: Threads + Sync>(
     rt: &R,
     alloc: Global,
@@ -229,23 +318,27 @@ fn merged_through<R: Threads + Sync>(
     Ok(merge_by(rt, alloc, &plan, &expand, gate)?)
 }
 
-/// Whether two workers missed one another, how many pieces they found in their stripes, and the first stripe that
-/// doesn't name the chunks.
+/// Whether four workers over four chunks missed one another, whether one had a number above 3, how many pieces they
+/// found in their stripes, and the first stripe that doesn't name the chunks.
 fn side_by_side<R: Threads + Sync>(
     rt: &R,
     alloc: Global,
     ccts: &Ccts,
-) -> Result<(bool, u64, Option<u32>), Fail<TooManyScopes>> {
+) -> Result<(bool, bool, u64, Option<u32>), Fail<TooManyScopes>> {
     let gate = Meeting::new();
     let crew = merged_through(rt, alloc, ccts, &gate)?;
     let missed = gate.missed.load(Ordering::SeqCst);
-    Ok((missed, crew.present, unnamed(&crew)))
+    let other = gate.other.load(Ordering::SeqCst);
+    Ok((missed, other, crew.present, unnamed(&crew, 4)))
 }
 
 #[test]
-fn two_workers_run_side_by_side(rt: HostRuntime) -> Result<(), Failed> {
-    let ccts = paths(rt.alloc())?;
-    assert_eq!(rt; side_by_side(&rt, rt.alloc(), &ccts)?, (false, 0, None));
+fn workers_0_to_3_run_side_by_side(rt: HostRuntime) -> Result<(), Failed> {
+    let ccts = paths(rt.alloc(), 4)?;
+    assert_eq!(rt;
+        side_by_side(&rt, rt.alloc(), &ccts)?,
+        (false, false, 0, None)
+    );
     Ok(())
 }
 
@@ -274,7 +367,7 @@ fn is_empty<R: Threads + Sync>(
 
 #[test]
 fn other_stripes_are_handed_out(rt: HostRuntime) -> Result<(), Failed> {
-    let ccts = paths(rt.alloc())?;
+    let ccts = paths(rt.alloc(), 2)?;
     assert!(rt; is_empty(&rt, rt.alloc(), &ccts)?);
     Ok(())
 }

@@ -1,5 +1,5 @@
 -- The parts of a content that is that of its own paths.
-use Rattle.std.proofs.Common.{◌≡◌, ◌+◌, ◌≤◌, Bool, true, ℕ, All, List, [], ◌∷◌, count_by, length, map, get_or, AllPairs, Ordering, Less, refl, sym, ap, subst, ◌∙◌, ◌<◌, arith}
+use Rattle.std.proofs.Common.{◌≡◌, ◌≤◌, true, ℕ, All, List, [], ◌∷◌, count_by, length, map, get_or, AllPairs, Ordering, Less, refl, sym, ap, subst, ◌∙◌, ◌<◌, arith}
 use Rattle.std.proofs.lemmas.List.{get_or-map, length-map}
 use Rattle.std.proofs.lemmas.List.FromFn.{length-map-range_with_len}
 use Rattle.scope_types.specs.CallPaths.{HartPath}

@@ -1,5 +1,5 @@
 -- The columns of a tree's values are the planes of its paths.
-use Rattle.std.proofs.Common.{◌≡◌, ℕ, ◌+◌, ◌<◌, ◌≤◌, ◌==◌, ◌&&◌, Bool, true, false, not, cond, List, [], ◌∷◌, ◌++◌, length, get_or, map, filter, refl, sym, ap, ◌∙◌, arith}
+use Rattle.std.proofs.Common.{◌≡◌, ℕ, ◌+◌, ◌<◌, ◌≤◌, ◌==◌, ◌&&◌, Bool, true, false, not, cond, List, [], ◌∷◌, ◌++◌, length, map, filter, refl, sym, ap, ◌∙◌, arith}
 use Rattle.std.specs.Prelude.{◌≢◌}
 use Rattle.std.specs.List.{flat_map, range_with_len, enumerate_from}
 use Rattle.std.proofs.lemmas.Bool.{eq-eqb, ne_eqb}
@@ -9,8 +9,6 @@ use Rattle.scope_types.specs.CallPaths.{HartPath}
 use Rattle.tree_types.specs.declared.content.Content.{Content}
 use Rattle.tree_types.specs.declared.content.Kind.{Kind}
 use Rattle.tree_types.specs.declared.content.Kind.TheVariants.{Exclusive, Frame, Inclusive}
-use Rattle.tree_types.specs.declared.content.Node.{Node}
-use Rattle.tree_types.specs.declared.content.ProfileEntry.{ProfileEntry}
 use Rattle.tree_types.specs.declared.content.ContextEntry.{ContextEntry}
 use Rattle.tree_types.specs.declared.node_values.NodeValue.{NodeValue}
 use Rattle.tree_types.specs.Database.{content_of, node_list}
@@ -19,7 +17,7 @@ use Rattle.tree_types.specs.Nodes.{nodes, no_parent}
 use Rattle.tree_types.specs.NodeValues.{kind_rank, node_value, values_for_hart, values_at_node, nonzero, values_of}
 use Rattle.tree_types.specs.Paths.{Path}
 use Rattle.tree_types.specs.PathsOf.{tree_paths}
-use Rattle.tree_types.specs.Planes.{node_values, other_than_zero, context_entry, hart_column, kind_column, node_column, profile_plane, context_plane}
+use Rattle.tree_types.specs.Planes.{node_values, other_than_zero, hart_column, kind_column, node_column, profile_plane, context_plane}
 use Rattle.tree_types.specs.Tree.{CountedTree, node_path, paths_in}
 use Rattle.tree_types.specs.ValueColumns.{in_profile, in_context, hart_entries, kind_entries, node_entries, columns_by_hart, columns_by_node}
 use Rattle.tree_types.specs.Values.{value, harts_below}

@@ -1,5 +1,5 @@
 //! The whole content of a list of call paths, by the plain bodies.
-ghost use Rattle.std.specs.Prelude.{◌≡◌, ◌<◌, ◌≤◌, ◌^◌, ◌++◌, ◌∷◌, [], length, map, IfOk, OnOk};
+ghost use Rattle.std.specs.Prelude.{◌≡◌, ◌<◌, ◌≤◌, ◌++◌, ◌∷◌, [], length, map, IfOk, OnOk};
 ghost use Rattle.scope_types.specs.CallPaths.{each_path};
 ghost use Rattle.scope_types.specs.Limits.{most_samples};
 ghost use Rattle.tree_types.specs.Columns.{AreStarts, cut};

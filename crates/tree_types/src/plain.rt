@@ -1,7 +1,7 @@
 //! Nodes and values by plain search: each answer walks the whole list of entries. Slow on purpose: it is
 //! what the definitions say, and what a faster form is compared with.
-ghost use Rattle.std.specs.Prelude.{◌≡◌, ℕ, ◌+◌, ◌*◌, ◌<◌, ◌≤◌, ◌^◌, ◌==◌, ◌&&◌, List, length, fold, insert, IfOk};
-ghost use Rattle.std.specs.Prelude.{IfNone, IfSome, OnOk, option_map, map, take, count_by, position};
+ghost use Rattle.std.specs.Prelude.{◌≡◌, ◌+◌, ◌*◌, ◌<◌, ◌≤◌, ◌^◌, ◌==◌, ◌&&◌, length, insert, IfOk};
+ghost use Rattle.std.specs.Prelude.{IfNone, IfSome, OnOk, option_map, map, position};
 ghost use Rattle.std.specs.Ordering.{is_eq};
 ghost use Rattle.scope_types.specs.Order.{path_order};
 ghost use Rattle.scope_types.specs.CallPaths.{each_path};
@@ -10,7 +10,7 @@ ghost use Rattle.tree_types.specs.Ascending.{put};
 ghost use Rattle.tree_types.specs.private.Putting.{put_all};
 ghost use Rattle.tree_types.specs.Paths.{after_prefix, is_proc, prefixes, rest_passes};
 ghost use Rattle.tree_types.specs.Nodes.{nodes, no_parent, node_number, own_scope, parent_number};
-ghost use Rattle.tree_types.specs.Values.{counts_for, count_below, value, within_frame};
+ghost use Rattle.tree_types.specs.Values.{counts_for, value, within_frame};
 
 use crate::content::{Kind, NO_PARENT, Node};
 use prof_bytes::{Listed, Memory};

@@ -1,12 +1,11 @@
 //! The columns of the two planes, a value at a time.
-ghost use Rattle.std.specs.Prelude.{◌≡◌, ℕ, ◌+◌, ◌*◌, ◌<◌, ◌≤◌, ◌^◌, ◌++◌, ◌∷◌, [], ◌==◌, not, List, length, map};
-ghost use Rattle.std.specs.Prelude.{filter, OnOk, IfOk, slice_index_or};
-ghost use Rattle.std.specs.List.{flat_map, enumerate_from};
+ghost use Rattle.std.specs.Prelude.{◌≡◌, ◌+◌, ◌<◌, ◌≤◌, ◌^◌, ◌++◌, ◌∷◌, [], ◌==◌, not, length};
+ghost use Rattle.std.specs.Prelude.{filter, OnOk, IfOk};
 ghost use Rattle.scope_types.specs.CallPaths.{each_path};
 ghost use Rattle.scope_types.specs.Limits.{most_samples};
 ghost use Rattle.tree_types.specs.Nodes.{nodes};
 ghost use Rattle.tree_types.specs.Values.{value};
-ghost use Rattle.tree_types.specs.Planes.{profile_entry, context_entry, hart_column, node_column, kind_column};
+ghost use Rattle.tree_types.specs.Planes.{profile_entry, hart_column, node_column, kind_column};
 ghost use Rattle.tree_types.specs.Planes.{node_values, other_than_zero};
 ghost use Rattle.tree_types.specs.declared.content.Kind.TheVariants.{Exclusive, Frame, Inclusive};
 

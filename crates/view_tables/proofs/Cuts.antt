@@ -17,7 +17,7 @@ use Rattle.view_tables.specs.declared.occurrence.Occurrence.{Occurrence}
 use Rattle.view_tables.specs.declared.occurrence.Split.{Split}
 use Rattle.view_tables.specs.declared.occurrence.View.{View}
 use Rattle.view_tables.specs.declared.occurrence.View.TheVariants.{Callers, Flat}
-use Rattle.view_tables.specs.Views.{Item, Procedure, Sample}
+use Rattle.view_tables.specs.Views.{Item, Procedure, Sequences}
 use Rattle.view_tables.specs.Flat.{call_line, frame_at, frame_proc, frames_up, line_file_item, line_item}
 use Rattle.view_tables.specs.private.Occurrences.{Held, cut_of, cut_one, cuts, first_sequence, has_frame, held, is_some_list, frame_items, items_left, view_sample, ups}
 use Rattle.tree_types.proofs.ContentParts.{own_names_ascend}
@@ -36,10 +36,10 @@ drop_none (suc n) = refl
 -- ---- frames
 
 -- the frame's items, by its line and the procedures found
-abbrev pub frame_of : Naming → LineId → List ProcId → Sample
+abbrev pub frame_of : Naming → LineId → List ProcId → Sequences
 frame_of naming line ids = map (λ id. line_file_item naming line ∷ Procedure id ∷ line_item line ∷ []) ids
 
-abbrev pub frames_of : Naming → List LineId → Path → Sample
+abbrev pub frames_of : Naming → List LineId → Path → Sequences
 frames_of naming lines outer = flat_map (λ line. frame_at naming line outer) lines
 
 frames_none : (naming : Naming) (lines : List LineId) (outer : Path) → lines ≡ [] → frames_of naming lines outer ≡ []
@@ -59,16 +59,16 @@ frame_past naming scopes level e = ap (λ (p : Path). frame_items Flat naming p 
 
 pub frame_no_line : (naming : Naming) (scopes : Path) (s : Scope) (outer : Path) (level : ℕ) → scopes ≡ s ∷ outer → call_line s ≡ [] → frame_items Flat naming scopes level ≡ []
 frame_no_line naming scopes s outer level e f =
-    ap (λ (p : Path). frame_items Flat naming p level) e ∙ ap (λ (fs : Sample). drop level (first_sequence fs)) (frames_none naming (call_line s) outer f) ∙ drop_none level
+    ap (λ (p : Path). frame_items Flat naming p level) e ∙ ap (λ (fs : Sequences). drop level (first_sequence fs)) (frames_none naming (call_line s) outer f) ∙ drop_none level
 
 pub frame_no_proc : (naming : Naming) (scopes : Path) (s : Scope) (outer : Path) (level : ℕ) (line : LineId) → scopes ≡ s ∷ outer → call_line s ≡ line ∷ [] → frame_proc outer ≡ [] → frame_items Flat naming scopes level ≡ []
 frame_no_proc naming scopes s outer level line e f g =
-    ap (λ (p : Path). frame_items Flat naming p level) e ∙ ap (λ (fs : Sample). drop level (first_sequence fs)) (frames_no_proc naming (call_line s) line outer f g) ∙ drop_none level
+    ap (λ (p : Path). frame_items Flat naming p level) e ∙ ap (λ (fs : Sequences). drop level (first_sequence fs)) (frames_no_proc naming (call_line s) line outer f g) ∙ drop_none level
 
 pub frame_is : (naming : Naming) (scopes : Path) (s : Scope) (outer : Path) (level : ℕ) (line : LineId) (id : ProcId) → scopes ≡ s ∷ outer → call_line s ≡ line ∷ [] → frame_proc outer ≡ id ∷ []
     → frame_items Flat naming scopes level ≡ drop level (line_file_item naming line ∷ Procedure id ∷ line_item line ∷ [])
 frame_is naming scopes s outer level line id e f g =
-    ap (λ (p : Path). frame_items Flat naming p level) e ∙ ap (λ (fs : Sample). drop level (first_sequence fs)) (frames_one naming (call_line s) line id outer f g)
+    ap (λ (p : Path). frame_items Flat naming p level) e ∙ ap (λ (fs : Sequences). drop level (first_sequence fs)) (frames_one naming (call_line s) line id outer f g)
 
 pub ruleset split_steps = (own_names_ascend, ups_past, ups_node, cut_none, cut_some, frame_past, frame_no_line, frame_no_proc, frame_is)
 
@@ -95,13 +95,13 @@ frame_skipped Callers naming (Stmt line) outer e = refl
 frame_skipped Flat naming (Root kind) outer e = refl
 frame_skipped Flat naming (Proc id) outer e = refl
 frame_skipped Flat naming (Inline callee call) outer e = refl
-frame_skipped Flat naming (Call line) outer e = ap (λ (fs : Sample). fs ++ frames_up naming outer) (frames_no_proc naming (line ∷ []) line outer refl (no_list (frame_proc outer) e))
-frame_skipped Flat naming (Stmt line) outer e = ap (λ (fs : Sample). fs ++ frames_up naming outer) (frames_no_proc naming (line ∷ []) line outer refl (no_list (frame_proc outer) e))
+frame_skipped Flat naming (Call line) outer e = ap (λ (fs : Sequences). fs ++ frames_up naming outer) (frames_no_proc naming (line ∷ []) line outer refl (no_list (frame_proc outer) e))
+frame_skipped Flat naming (Stmt line) outer e = ap (λ (fs : Sequences). fs ++ frames_up naming outer) (frames_no_proc naming (line ∷ []) line outer refl (no_list (frame_proc outer) e))
 
 frame_ends : (naming : Naming) (line : LineId) (outer : Path) → is_some_list (frame_proc outer) ≡ true → frames_of naming (line ∷ []) outer ++ frames_up naming outer ≡ drop 0 (first_sequence (frames_of naming (line ∷ []) outer)) ∷ frames_up naming outer
 frame_ends naming line outer e =
     let one = one_proc outer e in
-    subst (λ (fs : Sample). fs ++ frames_up naming outer ≡ drop 0 (first_sequence fs) ∷ frames_up naming outer) (sym (frames_one naming (line ∷ []) line one.0 outer refl one.1)) refl
+    subst (λ (fs : Sequences). fs ++ frames_up naming outer ≡ drop 0 (first_sequence fs) ∷ frames_up naming outer) (sym (frames_one naming (line ∷ []) line one.0 outer refl one.1)) refl
 
 pub frame_taken : (view : View) (naming : Naming) (s : Scope) (outer : Path) → has_frame view (s ∷ outer) ≡ true → view_sample view naming (s ∷ outer) ≡ frame_items view naming (s ∷ outer) 0 ∷ view_sample view naming outer
 frame_taken Callers naming (Root kind) outer e = absurd (true≢false (sym e))

@@ -17,7 +17,7 @@ use Rattle.view_tables.specs.declared.item.ItemRef.{ItemRef}
 use Rattle.view_tables.specs.declared.item.RowRef.{RowRef}
 use Rattle.view_tables.specs.declared.occurrence.Split.{Split}
 use Rattle.view_tables.specs.declared.occurrence.View.{View}
-use Rattle.view_tables.specs.Views.{Item, ViewRow, Sample, all_items, begins_with, holds_chain, item_order, row_at, row_order, rows_under, same_item}
+use Rattle.view_tables.specs.Views.{Item, ViewRow, Sequences, all_items, begins_with, holds_chain, item_order, row_at, row_order, rows_under, same_item}
 use Rattle.view_tables.specs.private.Frames.{AreFrames, covered}
 use Rattle.view_tables.specs.private.Occurrences.{AreSplits, item_seen, items_seen, row_seen, content_samples}
 use Rattle.view_tables.proofs.Narrowed.{group, group_covers, group_frames}
@@ -71,7 +71,7 @@ any_both t xs ys inside h =
     list_any_at t ys there.0 a.1 there.1 (ap t there.2 ∙ a.4)
 
 module _ (view : View) (c : Content) (chain : List Item) (splits : List Split) (profile : IsProfile c) (frames : Frames) (all : AreFrames view c frames) (are : AreSplits view c chain splits) where
-  abbrev samples : List Sample
+  abbrev samples : List Sequences
   samples = content_samples view c
 
   abbrev row : Item → ViewRow
@@ -89,9 +89,9 @@ module _ (view : View) (c : Content) (chain : List Item) (splits : List Split) (
       let deep : list_any (λ sample. list_any (λ items. list_any (same_item item) items) sample) samples ≡ true =
       list_any_weaker (holds_chain (chain ++ item ∷ [])) (λ sample. list_any (λ items. list_any (same_item item) items) sample)
       (λ sample. list_any_weaker (begins_with (chain ++ item ∷ [])) (λ items. list_any (same_item item) items) (inside chain item) sample) samples counts in
-      let flat_one : (sample : Sample) → list_any (same_item item) (flat_map (λ items. items) sample) ≡ list_any (λ items. list_any (same_item item) items) sample = λ sample. list_any_flat (same_item item) (λ (items : List Item). items) sample in
+      let flat_one : (sample : Sequences) → list_any (same_item item) (flat_map (λ items. items) sample) ≡ list_any (λ items. list_any (same_item item) items) sample = λ sample. list_any_flat (same_item item) (λ (items : List Item). items) sample in
       Contains-from_has item_order_total item_order_tells item (all_items samples)
-      (list_any_flat (same_item item) (λ (sample : Sample). flat_map (λ items. items) sample) samples ∙ (λ i. list_any (λ sample. flat_one sample i) samples) ∙ deep)
+      (list_any_flat (same_item item) (λ (sample : Sequences). flat_map (λ items. items) sample) samples ∙ (λ i. list_any (λ sample. flat_one sample i) samples) ∙ deep)
 
   in_found : (item : Item) → some (row item) ≡ true → Contains found item
   in_found item h =

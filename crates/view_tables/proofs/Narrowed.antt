@@ -16,7 +16,7 @@ use Rattle.tree_types.proofs.PathsAgain.{sum_by-map}
 use Rattle.view_tables.specs.declared.frames.Frames.{Frames}
 use Rattle.view_tables.specs.declared.occurrence.Split.{Split}
 use Rattle.view_tables.specs.declared.occurrence.View.{View}
-use Rattle.view_tables.specs.Views.{Item, Sample, begins_with, ends, holds_chain, same_item}
+use Rattle.view_tables.specs.Views.{Item, Sequences, begins_with, ends, holds_chain, same_item}
 use Rattle.view_tables.specs.private.Frames.{AreFrames, AreRanges, covered, parent_at, sum_below, weight_if}
 use Rattle.view_tables.specs.private.Occurrences.{AreSplits, Held, cut_of, cut_one, cuts, has_frame, held, item_seen, narrowed, node_items, of_item, occurrence_at, sample_at, content_samples, ups}
 use Rattle.view_tables.proofs.Covered.{covered_is, sum_more, sum_none, sum_rises, sum_same}
@@ -179,7 +179,7 @@ module _ (view : View) (c : Content) (chain : List Item) (profile : IsProfile c)
             nothing true = refl
             nothing false = refl
 
-    value_few : (t : Sample → Bool) → c.period * count_by t (content_samples view c) ≤ 2 ^ 52
+    value_few : (t : Sequences → Bool) → c.period * count_by t (content_samples view c) ≤ 2 ^ 52
     value_few t =
         let some = count_by-le-length t (content_samples view c) in
         let all : length (content_samples view c) ≡ length (paths_of c) = length-map (paths_of c) _ in

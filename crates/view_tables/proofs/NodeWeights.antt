@@ -24,7 +24,7 @@ use Rattle.tree_types.proofs.Totals.{times}
 use Rattle.tree_types.proofs.TreePaths.{tree_paths_is}
 use Rattle.view_tables.specs.declared.occurrence.View.{View}
 use Rattle.view_tables.specs.declared.occurrence.View.TheVariants.{Callers, Flat}
-use Rattle.view_tables.specs.Views.{Sample}
+use Rattle.view_tables.specs.Views.{Sequences}
 use Rattle.view_tables.specs.private.Frames.{AreCosts, AreSums, AreWeights, weight_moved, parent_at, sum_below, weight_if, weighed}
 use Rattle.view_tables.specs.private.Occurrences.{has_frame, sample_at, view_sample, ups}
 use Rattle.view_tables.specs.private.Rows.{amount, path_of_node, total_value}
@@ -129,7 +129,7 @@ pub weights_first : (view : View) (c : Content) (costs : List ℕ) (from : ℕ) 
 weights_first view c costs from profile are long end = record {
   long = long;
   samples = λ test none.
-      ap (λ n. c.period * n) (sum_by-map (λ (s : Sample). one (test s)) (λ (p : HartPath). view_sample view (naming_in c.names) (reverse p.path)) (paths_of c))
+      ap (λ n. c.period * n) (sum_by-map (λ (s : Sequences). one (test s)) (λ (p : HartPath). view_sample view (naming_in c.names) (reverse p.path)) (paths_of c))
       ∙ costs_weigh c costs (λ p. test (view_sample view (naming_in c.names) p)) profile are long;
   none = λ number low plain. get_or-eq_default costs 0 (omega (arith, long, low, end));
   few = (

@@ -36,7 +36,7 @@ use Rattle.tree_types.proofs.Sorting.{has, has_ascending, has-from_Contains, sam
 use Rattle.tree_types.proofs.TreePaths.{own_scope_last}
 use Rattle.view_tables.specs.Callers.{scope_item, procs_up, tails, call_chains, callers}
 use Rattle.view_tables.specs.Flat.{line_file_item, line_item, frame_proc, frame_at, frames_up, frames, flat}
-use Rattle.view_tables.specs.Views.{Item, FileName, Procedure, Sample, ViewRow, holds_chain, ends, row_at, row_order, all_items, rows_under, item_label, mark_at, view_row, view_rows, view_header, view_table}
+use Rattle.view_tables.specs.Views.{Item, File, Procedure, Sequences, ViewRow, holds_chain, ends, row_at, row_order, all_items, rows_under, item_label, mark_at, view_row, view_rows, view_header, view_table}
 use Rattle.view_tables.proofs.ViewOrders.{row_order_total, row_order_tells}
 
 -- ---- lists
@@ -104,7 +104,7 @@ abbrev is_some : ViewRow → Bool
 is_some r = not (r.inclusive == 0)
 
 module _ (period : ℕ) where
-  rows_alike : (ss ts : List Sample) (chain : List Item) → Alike ss ts → rows_under period ss chain ≡ rows_under period ts chain
+  rows_alike : (ss ts : List Sequences) (chain : List Item) → Alike ss ts → rows_under period ss chain ≡ rows_under period ts chain
   unfolding rows_under
   rows_alike ss ts chain alike =
       let row : row_at period ss chain ≡ row_at period ts chain =
@@ -113,13 +113,13 @@ module _ (period : ℕ) where
       ap (λ (f : Item → ViewRow). ascending row_order (filter is_some (map f (all_items ss)))) row
       ∙ same_ascending row_order_total row_order_tells (filter is_some (map g (all_items ss))) (filter is_some (map g (all_items ts))) (λ q.
       let t : Item → Bool = λ item. is_some (g item) && eq_by_cmp row_order q (g item) in
-      let of_sample : Sample → Bool = λ sample. list_any t (flat_map (λ items. items) sample) in
+      let of_sample : Sequences → Bool = λ sample. list_any t (flat_map (λ items. items) sample) in
       any_selected (eq_by_cmp row_order q) is_some g (all_items ss) ∙ list_any-flat_map t (λ sample. flat_map (λ items. items) sample) ss
       ∙ any_alike of_sample ss ts alike
       ∙ sym (list_any-flat_map t (λ sample. flat_map (λ items. items) sample) ts) ∙ sym (any_selected (eq_by_cmp row_order q) is_some g (all_items ts)))
 
   -- the item of a row is one of the samples'
-  item_of_row : (ss : List Sample) (chain : List Item) (r : ViewRow) → Contains (rows_under period ss chain) r → Contains (all_items ss) r.item
+  item_of_row : (ss : List Sequences) (chain : List Item) (r : ViewRow) → Contains (rows_under period ss chain) r → Contains (all_items ss) r.item
   unfolding rows_under
   item_of_row ss chain r c =
       let g : Item → ViewRow = row_at period ss chain in
@@ -133,13 +133,13 @@ module _ (period : ℕ) where
       let is : r ≡ g a.1 = row_order_tells r (g a.1) (equal_from_is (row_order r (g a.1)) tied.1) in
       subst (λ (item : Item). Contains (all_items ss) item) (sym (ap (λ (r : ViewRow). r.item) is)) (a.0, a.2, a.3)
 
-  rows_text_alike : (naming : Naming) (mark : List ℕ) (ss ts : List Sample) → Alike ss ts → (levels : ℕ) (chain : List Item) → view_rows period naming mark ss levels chain ≡ view_rows period naming mark ts levels chain
+  rows_text_alike : (naming : Naming) (mark : List ℕ) (ss ts : List Sequences) → Alike ss ts → (levels : ℕ) (chain : List Item) → view_rows period naming mark ss levels chain ≡ view_rows period naming mark ts levels chain
   unfolding view_rows
   rows_text_alike naming mark ss ts alike zero chain = refl
   rows_text_alike naming mark ss ts alike (suc levels) chain =
       λ i. flat_map (λ r. view_row naming mark (period * long_alike ss ts alike i) (length chain) r ++ rows_text_alike naming mark ss ts alike levels (chain ++ r.item ∷ []) i) (rows_alike ss ts chain alike i)
 
-  rows_text_named : (a b : Naming) (mark : List ℕ) (ss : List Sample) → ((item : Item) → Contains (all_items ss) item → item_label a item ≡ item_label b item)
+  rows_text_named : (a b : Naming) (mark : List ℕ) (ss : List Sequences) → ((item : Item) → Contains (all_items ss) item → item_label a item ≡ item_label b item)
       → (levels : ℕ) (chain : List Item) → view_rows period a mark ss levels chain ≡ view_rows period b mark ss levels chain
   unfolding view_rows
   rows_text_named a b mark ss same zero chain = refl
@@ -210,7 +210,7 @@ module _ (a b : Naming) where
       all_both SameLabels (frame_at naming line outer ++ []) (frames_up naming outer) (all_both SameLabels (frame_at naming line outer) [] (frame_labels naming line outer all.1) tt) (frames_labels naming outer all.1)
 
   file_same : (line : LineId) → AllByRecursion (λ f. a.file_name f.0 f.1 ≡ b.file_name f.0 f.1) (line_files line) → line_file_item a line ≡ line_file_item b line
-  file_same (Row table file line) all = ap FileName all.0
+  file_same (Row table file line) all = ap File all.0
   file_same (Address address) all = refl
 
   frames_same : (scopes : Path) → AllByRecursion SameNames scopes → frames_up a scopes ≡ frames_up b scopes
@@ -222,7 +222,7 @@ module _ (a b : Naming) where
   frames_same (Stmt line ∷ outer) all = λ i. (map (λ id. file_same line all.0.1 i ∷ Procedure id ∷ line_item line ∷ []) (frame_proc outer) ++ []) ++ frames_same outer all.1 i
 
   -- all items of samples, each sample's labels being the same
-  items_labels : (f : HartPath → Sample) (ps : List HartPath) → AllByRecursion (λ p. AllByRecursion SameLabels (f p)) ps → (item : Item) → Contains (all_items (map f ps)) item → SameLabel item
+  items_labels : (f : HartPath → Sequences) (ps : List HartPath) → AllByRecursion (λ p. AllByRecursion SameLabels (f p)) ps → (item : Item) → Contains (all_items (map f ps)) item → SameLabel item
   items_labels f ps all item c = all_at (all_items (map f ps)) (all_joined SameLabel (λ sample. flat_map (λ items. items) sample) (map f ps)
       (all_mapped (λ sample. SameLabels (flat_map (λ items. items) sample)) f ps
       (all_weaker (λ p. AllByRecursion SameLabels (f p)) (λ p. SameLabels (flat_map (λ items. items) (f p))) (λ p h. all_joined SameLabel (λ items. items) (f p) h) ps all))) c.0 item c.1 c.2
@@ -248,7 +248,7 @@ module _ (a b : Naming) where
   flat_named period ps all =
       let same : map (frames a) ps ≡ map (frames b) ps =
       map_same (frames a) (frames b) ps (all_weaker (λ p. AllByRecursion SameNames (reverse p.path)) (λ p. frames a p ≡ frames b p) (λ p h. frames_same (reverse p.path) h) ps all) in
-      ap (λ (samples : List Sample). view_table period a [] samples 3) same
+      ap (λ (samples : List Sequences). view_table period a [] samples 3) same
       ∙ ap (λ (text : List ℕ). view_header ++ text) (rows_text_named period a b [] (map (frames b) ps)
       (items_labels (frames b) ps (all_weaker (λ p. AllByRecursion SameNames (reverse p.path)) (λ p. AllByRecursion SameLabels (frames b p)) (λ p h. frames_labels b (reverse p.path) h) ps all))
       3 [])

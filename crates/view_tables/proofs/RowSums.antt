@@ -17,7 +17,7 @@ use Rattle.tree_types.proofs.Sorting.{bool_same, equal_from_is, has, has_ascendi
 use Rattle.tree_types.proofs.PathsAgain.{count_some}
 use Rattle.tree_types.proofs.Totals.{times}
 use Rattle.view_tables.specs.Sums.{goes_on}
-use Rattle.view_tables.specs.Views.{Item, Sample, ViewRow, all_items, begins_with, ends, holds_chain, item_order, row_at, row_order, rows_under, same_item}
+use Rattle.view_tables.specs.Views.{Item, Sequences, ViewRow, all_items, begins_with, ends, holds_chain, item_order, row_at, row_order, rows_under, same_item}
 use Rattle.view_tables.proofs.ViewOrders.{item_order_tells, item_order_total, row_order_tells, row_order_total}
 
 -- ---- lists
@@ -147,7 +147,7 @@ same_is x y e = item_order_tells x y (equal_from_is (item_order x y) e)
 
 -- ---- the rows
 
-module _ (period : ℕ) (samples : List Sample) (chain : List Item) where
+module _ (period : ℕ) (samples : List Sequences) (chain : List Item) where
   abbrev row : Item → ViewRow
   row = row_at period samples chain
 
@@ -209,10 +209,10 @@ module _ (period : ℕ) (samples : List Sample) (chain : List Item) where
 
   -- ---- a sample counts for one row, where it goes on
 
-  abbrev counts : Sample → ViewRow → Bool
+  abbrev counts : Sequences → ViewRow → Bool
   counts sample r = ends (chain ++ r.item ∷ []) sample
 
-  first_counts : (items : List Item) (rest : Sample) (i : ℕ) → i < length samples → get_or samples i [] ≡ items ∷ rest → 0 < period → (o : Option Item) → next_item chain items ≡ o
+  first_counts : (items : List Item) (rest : Sequences) (i : ℕ) → i < length samples → get_or samples i [] ≡ items ∷ rest → 0 < period → (o : Option Item) → next_item chain items ≡ o
       → count_by (λ r. is_next r.item o || false) rows ≡ one (is_some o || false)
   unfolding is_next is_some
   first_counts items rest i lt at positive None next = count_never (λ (r : ViewRow). false || false) rows (λ r. refl)
@@ -233,12 +233,12 @@ module _ (period : ℕ) (samples : List Sample) (chain : List Item) where
       there : list_any (λ x. is_row y (row x)) (all_items samples) ≡ true
       there =
           let t : Item → Bool = λ x. is_row y (row x) in
-          let f : Sample → List Item = λ sample. flat_map (λ items. items) sample in
+          let f : Sequences → List Item = λ sample. flat_map (λ items. items) sample in
           let own : list_any t (f (items ∷ rest)) ≡ true =
           list_any-append t items (flat_map (λ items. items) rest) ∙ or_left (list_any t items) (list_any t (flat_map (λ items. items) rest)) (next_there chain items y t next (own_row y)) in
-          list_any-flat_map t f samples ∙ list_any_at (λ sample. list_any t (f sample)) samples i [] lt (ap (λ (sample : Sample). list_any t (f sample)) at ∙ own)
+          list_any-flat_map t f samples ∙ list_any_at (λ sample. list_any t (f sample)) samples i [] lt (ap (λ (sample : Sequences). list_any t (f sample)) at ∙ own)
 
-  sample_counts : (sample : Sample) (i : ℕ) → i < length samples → get_or samples i [] ≡ sample → 0 < period → count_by (counts sample) rows ≡ one (goes_on chain sample)
+  sample_counts : (sample : Sequences) (i : ℕ) → i < length samples → get_or samples i [] ≡ sample → 0 < period → count_by (counts sample) rows ≡ one (goes_on chain sample)
   sample_counts [] i lt at positive = count_never (counts []) rows (λ r. refl)
   sample_counts (items ∷ rest) i lt at positive =
       (λ t. count_by (λ r. begins_next chain items r.item t || false) rows)
@@ -259,7 +259,7 @@ module _ (period : ℕ) (samples : List Sample) (chain : List Item) where
 
   -- ---- inclusive values
 
-  holds_front : (x : Item) (sample : Sample) → holds_chain (chain ++ x ∷ []) sample ≡ true → holds_chain chain sample ≡ true
+  holds_front : (x : Item) (sample : Sequences) → holds_chain (chain ++ x ∷ []) sample ≡ true → holds_chain chain sample ≡ true
   holds_front x [] e = e
   holds_front x (items ∷ rest) e = either (begins_with (chain ++ x ∷ []) items) refl e (holds_front x rest)
     where
@@ -274,7 +274,7 @@ module _ (period : ℕ) (samples : List Sample) (chain : List Item) where
       either true is e later = or_left (begins_with chain items) (list_any (begins_with chain) rest) (front chain items is)
       either false is e later = or_right (begins_with chain items) (list_any (begins_with chain) rest) (later e)
 
-  ends_held : (c : List Item) (sample : Sample) → ends c sample ≡ true → holds_chain c sample ≡ true
+  ends_held : (c : List Item) (sample : Sequences) → ends c sample ≡ true → holds_chain c sample ≡ true
   ends_held c [] e = e
   ends_held c (items ∷ rest) e = or_left (begins_with c items) (list_any (begins_with c) rest) (only (begins_with c items) e)
     where

@@ -7,7 +7,7 @@ use Rattle.std.specs.FinMap.{IsAntisymmetric, nat_cmp-IsAntisymmetric, slice_cmp
 use Rattle.std.proofs.lemmas.Cmp.{on_total, back_total, then_total, nat_cmp_total, nat_list_cmp_total}
 use Rattle.scope_types.specs.declared.scope.ProcId.{ProcId}
 use Rattle.scope_types.specs.declared.scope.ProcId.TheVariants.{Die, Sym, Nameless}
-use Rattle.view_tables.specs.Views.{Item, FileName, Procedure, SourceLine, Instruction, ViewRow, item_words, item_order, row_order}
+use Rattle.view_tables.specs.Views.{Item, File, Procedure, SourceLine, Instruction, ViewRow, item_words, item_order, row_order}
 
 pub item_order_total : IsTotalOrder item_order
 item_order_total = on_total item_words nat_list_cmp_total
@@ -24,13 +24,13 @@ number_spelled (n ∷ ws) = n
 
 abbrev item_spelled : List ℕ → Item
 item_spelled [] = SourceLine 0
-item_spelled (zero ∷ ws) = FileName ws
+item_spelled (zero ∷ ws) = File ws
 item_spelled (suc zero ∷ ws) = Procedure (proc_spelled ws)
 item_spelled (suc (suc zero) ∷ ws) = SourceLine (number_spelled ws)
 item_spelled (suc (suc (suc n)) ∷ ws) = Instruction (number_spelled ws)
 
 spelled : (a : Item) → item_spelled (item_words a) ≡ a
-spelled (FileName name) = refl
+spelled (File name) = refl
 spelled (Procedure (Die offset)) = refl
 spelled (Procedure (Sym address)) = refl
 spelled (Procedure Nameless) = refl

@@ -18,7 +18,7 @@ use Rattle.tree_types.proofs.Counting.{count_by-cons, one}
 use Rattle.view_tables.specs.Callers.{call_chains, procs_up, tails}
 use Rattle.view_tables.specs.Flat.{call_line, frame_at, frame_proc, frames, frames_up, line_file_item, line_item}
 use Rattle.view_tables.specs.Sums.{HasFrame, ends_frame, exclusive_at, goes_on}
-use Rattle.view_tables.specs.Views.{Item, Sample, Procedure, ViewRow, begins_with, ends, rows_under}
+use Rattle.view_tables.specs.Views.{Item, Sequences, Procedure, ViewRow, begins_with, ends, rows_under}
 use Rattle.view_tables.proofs.RowSums.{IsRow, add_up, are_rows, count_same, sum_same}
 
 -- each element passes
@@ -81,7 +81,7 @@ module _ (naming : Naming) where
   triples (s ∷ outer) = All-append IsTriple (flat_map (λ line. frame_at naming line outer) (call_line s)) (frames_up naming outer) (scope_triples s outer) (triples outer)
 
   -- where the chain is shorter than each sequence, what begins with it goes on
-  begun_goes_on : (chain : List Item) (sample : Sample) → length chain < 3 → All IsTriple sample → goes_on chain sample ≡ ends chain sample
+  begun_goes_on : (chain : List Item) (sample : Sequences) → length chain < 3 → All IsTriple sample → goes_on chain sample ≡ ends chain sample
   begun_goes_on chain [] short all = refl
   begun_goes_on chain (items ∷ rest) short all =
       let long = All-head IsTriple items rest all in
@@ -96,10 +96,10 @@ module _ (naming : Naming) where
   row_adds_up period ps chain short =
       add_up period (map (frames naming) ps) chain
       ∙ ap (λ (n : ℕ). period * n) (count_same (goes_on chain) (ends chain) (map (frames naming) ps)
-      (All-map (λ (sample : Sample). goes_on chain sample ≡ ends chain sample) (frames naming) ps (λ i d lt. begun_goes_on chain (frames naming (get_or ps i d)) short (triples (reverse (get_or ps i d).path)))))
+      (All-map (λ (sample : Sequences). goes_on chain sample ≡ ends chain sample) (frames naming) ps (λ i d lt. begun_goes_on chain (frames naming (get_or ps i d)) short (triples (reverse (get_or ps i d).path)))))
 
   module _ (period : ℕ) (ps : List HartPath) where
-    abbrev samples : List Sample
+    abbrev samples : List Sequences
     samples = map (frames naming) ps
 
     level_adds_up : (level : ℕ) (chain : List Item) → length chain + level < 3 → exclusive_at period samples level chain ≡ period * count_by (ends chain) samples
@@ -115,7 +115,7 @@ module _ (naming : Naming) where
     has_first [] e = absurd (true≢false (sym e))
     has_first (s ∷ outer) e = by_scope s (and_parts (nat_lt 0 (length (call_line s))) (nat_lt 0 (length (frame_proc outer))) e).0 (frame_below s outer e)
       where
-        first : (line : LineId) (ids : List ProcId) (rest : Sample) → 0 < length ids → ends [] ((map (λ id. line_file_item naming line ∷ Procedure id ∷ line_item line ∷ []) ids ++ []) ++ rest) ≡ true
+        first : (line : LineId) (ids : List ProcId) (rest : Sequences) → 0 < length ids → ends [] ((map (λ id. line_file_item naming line ∷ Procedure id ∷ line_item line ∷ []) ids ++ []) ++ rest) ≡ true
         first line [] rest some = absurd (omega arith)
         first line (id ∷ ids) rest some = refl
 

@@ -13,7 +13,7 @@ use Rattle.view_tables.specs.declared.item.RowRef.{RowRef}
 use Rattle.view_tables.specs.declared.occurrence.Occurrence.{Occurrence}
 use Rattle.view_tables.specs.declared.occurrence.Split.{Split}
 use Rattle.view_tables.specs.declared.occurrence.View.{View}
-use Rattle.view_tables.specs.Views.{Item, ViewRow, Sample, rows_under, same_item, view_row, view_rows, view_table}
+use Rattle.view_tables.specs.Views.{Item, ViewRow, Sequences, rows_under, same_item, view_row, view_rows, view_table}
 use Rattle.view_tables.specs.private.Occurrences.{AreOccurrences, AreSplits, all_occurrences, held, item_seen, items_seen, mark_of, narrowed, row_seen, view_sample, content_samples}
 use Rattle.view_tables.specs.declared.occurrence.View.TheVariants.{Callers, Flat}
 use Rattle.view_tables.specs.Callers.{callers}
@@ -33,7 +33,7 @@ module _ (view : View) (c : Content) where
 
   -- ---- text
 
-  abbrev samples : List Sample
+  abbrev samples : List Sequences
   samples = content_samples view c
 
   pub as_many_samples : length samples ≡ length (paths_of c)

@@ -6,7 +6,7 @@ use Rattle.scope_types.specs.declared.scope.Scope.{Scope}
 use Rattle.scope_types.specs.declared.scope.Scope.TheVariants.{Proc}
 use Rattle.tree_types.specs.Naming.{Naming}
 use Rattle.tree_types.specs.Paths.{Path}
-use Rattle.view_tables.specs.Views.{Item, Sample, Procedure, view_table}
+use Rattle.view_tables.specs.Views.{Item, Sequences, Procedure, view_table}
 
 -- the procedure of a frame's first scope
 abbrev pub scope_item : Scope → List Item
@@ -18,13 +18,13 @@ abbrev pub procs_up : Path → List Item
 procs_up scopes = flat_map scope_item scopes
 
 -- what is left of the list from each of its elements on
-abbrev pub tails : List Item → Sample
+abbrev pub tails : List Item → Sequences
 tails [] = []
 tails (a ∷ items) = (a ∷ items) ∷ tails items
 
 -- each frame's procedure, with its callers: the run pk, .., p1, p0 stands in a path where one of these lists begins
 -- with p0, p1, .., pk, and the path ends with it where the innermost frame's list does
-abbrev pub call_chains : HartPath → Sample
+abbrev pub call_chains : HartPath → Sequences
 call_chains p = tails (procs_up (reverse p.path))
 
 -- the heads, and the rows of the chains p0, .., pk with k at most the depth

@@ -10,12 +10,12 @@ use Rattle.scope_types.specs.declared.scope.Scope.{Scope}
 use Rattle.scope_types.specs.declared.scope.Scope.TheVariants.{Proc, Call, Stmt}
 use Rattle.tree_types.specs.Naming.{Naming}
 use Rattle.tree_types.specs.Paths.{Path}
-use Rattle.view_tables.specs.Views.{Item, Sample, FileName, Procedure, SourceLine, Instruction, view_table}
+use Rattle.view_tables.specs.Views.{Item, Sequences, File, Procedure, SourceLine, Instruction, view_table}
 
 -- the file of a line; addresses have one of their own
 abbrev pub line_file_item : Naming → LineId → Item
-line_file_item naming (Row table file line) = FileName (naming.file_name table file)
-line_file_item naming (Address address) = FileName (codes "<unknown file>")
+line_file_item naming (Row table file line) = File (naming.file_name table file)
+line_file_item naming (Address address) = File (codes "<unknown file>")
 
 -- the line in its file
 abbrev pub line_item : LineId → Item
@@ -31,7 +31,7 @@ frame_proc (Stmt line ∷ outer) = []
 frame_proc (s ∷ outer) = frame_proc outer
 
 -- the file, the procedure and the line of the frame that ends at a line, if one does
-abbrev pub frame_at : Naming → LineId → Path → Sample
+abbrev pub frame_at : Naming → LineId → Path → Sequences
 frame_at naming line outer =
     map (λ id. line_file_item naming line ∷ Procedure id ∷ line_item line ∷ []) (frame_proc outer)
 
@@ -42,11 +42,11 @@ call_line (Stmt line) = line ∷ []
 call_line s = []
 
 -- the frames, from the innermost scope up. A frame is what stands from a procedure down to its call or statement
-abbrev pub frames_up : Naming → Path → Sample
+abbrev pub frames_up : Naming → Path → Sequences
 frames_up naming [] = []
 frames_up naming (s ∷ outer) = flat_map (λ line. frame_at naming line outer) (call_line s) ++ frames_up naming outer
 
-abbrev pub frames : Naming → HartPath → Sample
+abbrev pub frames : Naming → HartPath → Sequences
 frames naming p = frames_up naming (reverse p.path)
 
 -- the heads, and the rows of the files, of their procedures and of their lines

@@ -17,14 +17,14 @@ use Rattle.tree_types.specs.TopDown.{address_text, percent, printed, table_row}
 
 -- a file by its name, a procedure, a line of source text, or an instruction by its address
 pub data Item : Type 0 where
-  FileName : List ℕ → Item
+  File : List ℕ → Item
   Procedure : ProcId → Item
   SourceLine : ℕ → Item
   Instruction : ℕ → Item
 
 -- an item as a list of numbers, without loss: first which variant it is, then its fields
 abbrev pub item_words : Item → List ℕ
-item_words (FileName name) = 0 ∷ name
+item_words (File name) = 0 ∷ name
 item_words (Procedure id) = 1 ∷ proc_words id
 item_words (SourceLine line) = 2 ∷ line ∷ []
 item_words (Instruction address) = 3 ∷ address ∷ []
@@ -38,9 +38,9 @@ same_item a b = is_eq (item_order a b)
 
 -- ---- samples
 
--- what a sample is grouped by: the sequences of items of its frames, the innermost first
-abbrev pub Sample : Type 0
-Sample = List (List Item)
+-- the sequences of items that a sample gives, one for each of its frames, the innermost first
+abbrev pub Sequences : Type 0
+Sequences = List (List Item)
 
 -- whether the chain stands at the front of the items
 abbrev pub begins_with : List Item → List Item → Bool
@@ -49,11 +49,11 @@ begins_with (a ∷ chain) [] = false
 begins_with (a ∷ chain) (b ∷ items) = same_item a b && begins_with chain items
 
 -- whether a sequence of the sample begins with the chain
-abbrev pub holds_chain : List Item → Sample → Bool
+abbrev pub holds_chain : List Item → Sequences → Bool
 holds_chain chain sample = list_any (begins_with chain) sample
 
--- whether that of its innermost frame does
-abbrev pub ends : List Item → Sample → Bool
+-- whether the sequence of its innermost frame begins with the chain
+abbrev pub ends : List Item → Sequences → Bool
 ends chain sample = list_any (begins_with chain) (take 1 sample)
 
 -- ---- rows
@@ -65,7 +65,7 @@ pub record ViewRow : Type 0 where
   pub exclusive : ℕ
 
 -- the row of the chain and one item more, by the period times the numbers of samples; each counts once
-abbrev pub row_at : ℕ → List Sample → List Item → Item → ViewRow
+abbrev pub row_at : ℕ → List Sequences → List Item → Item → ViewRow
 row_at period samples chain item = record {
   inclusive = period * count_by (holds_chain (chain ++ item ∷ [])) samples;
   item = item;
@@ -78,11 +78,11 @@ row_order a b = ordering_then (nat_cmp b.inclusive a.inclusive)
     (ordering_then (item_order a.item b.item) (nat_cmp a.exclusive b.exclusive))
 
 -- all items of the samples' sequences
-abbrev pub all_items : List Sample → List Item
+abbrev pub all_items : List Sequences → List Item
 all_items samples = flat_map (λ sample. flat_map (λ items. items) sample) samples
 
 -- the rows right under that of the chain: those whose inclusive value is not 0, in order
-unfoldable pub rows_under : ℕ → List Sample → List Item → List ViewRow
+unfoldable pub rows_under : ℕ → List Sequences → List Item → List ViewRow
 rows_under period samples chain = ascending row_order
     (filter (λ r. not (r.inclusive == 0)) (map (row_at period samples chain) (all_items samples)))
 
@@ -90,7 +90,7 @@ rows_under period samples chain = ascending row_order
 
 -- how an item is called
 abbrev pub item_label : Naming → Item → List ℕ
-item_label naming (FileName name) = printed name
+item_label naming (File name) = printed name
 item_label naming (Procedure id) = printed (naming.proc_name id)
 item_label naming (SourceLine line) = codes "line " ++ decimal line
 item_label naming (Instruction address) = address_text address
@@ -105,7 +105,7 @@ view_row naming mark total level r = table_row (decimal r.inclusive) (percent r.
     (decimal r.exclusive) level (mark_at mark level ++ item_label naming r.item)
 
 -- the rows under that of the chain, a given number of levels of them, each row under that of its chain without the last
-unfoldable pub view_rows : ℕ → Naming → List ℕ → List Sample → ℕ → List Item → List ℕ
+unfoldable pub view_rows : ℕ → Naming → List ℕ → List Sequences → ℕ → List Item → List ℕ
 view_rows period naming mark samples zero chain = []
 view_rows period naming mark samples (suc levels) chain =
     flat_map (λ r. view_row naming mark (period * length samples) (length chain) r
@@ -116,5 +116,5 @@ abbrev pub view_header : List ℕ
 view_header = table_row (codes "inclusive") (codes "%") (codes "exclusive") 0 (codes "scope")
 
 -- the heads, and the rows of a given number of levels
-abbrev pub view_table : ℕ → Naming → List ℕ → List Sample → ℕ → List ℕ
+abbrev pub view_table : ℕ → Naming → List ℕ → List Sequences → ℕ → List ℕ
 view_table period naming mark samples levels = view_header ++ view_rows period naming mark samples levels []

@@ -1,6 +1,6 @@
 //! What the tables need of each node of a content: where the search for a procedure ends, where its descendants end,
 //! and how much it weighs.
-ghost use Rattle.std.specs.Prelude.{◌≡◌, ◌≤◌, ◌^◌, IfOk};
+ghost use Rattle.std.specs.Prelude.{◌≤◌, ◌^◌, IfOk};
 ghost use Rattle.tree_types.specs.OfContent.{IsProfile};
 ghost use Rattle.view_tables.specs.private.Frames.{AreFrames};
 ghost use Rattle.view_tables.specs.private.Rows.{total_value};

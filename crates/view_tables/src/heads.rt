@@ -1,5 +1,5 @@
 //! For each node, where the search for the procedure of a frame ends, from it up.
-ghost use Rattle.std.specs.Prelude.{◌≡◌, ◌+◌, ◌<◌, ◌≤◌, ◌∷◌, [], length, IfOk, MatchOption};
+ghost use Rattle.std.specs.Prelude.{◌≡◌, ◌<◌, ◌≤◌, ◌∷◌, [], length, IfOk, MatchOption};
 ghost use Rattle.tree_types.specs.OfContent.{IsProfile};
 ghost use Rattle.tree_types.specs.Tree.{node_at};
 ghost use Rattle.view_tables.specs.Callers.{procs_up};

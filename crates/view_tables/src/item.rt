@@ -1,7 +1,7 @@
 //! What the rows of a view stand for, and their order.
 ghost use Rattle.std.specs.Prelude.{◌≡◌};
-ghost use Rattle.view_tables.specs.Views.{item_order, row_order};
-ghost use Rattle.view_tables.specs.private.Occurrences.{item_seen, row_seen};
+ghost use Rattle.view_tables.specs.Views.{item_order};
+ghost use Rattle.view_tables.specs.private.Occurrences.{item_seen};
 
 use scope_types::ProcId;
 use std::cmp::{Ordering, Reverse};
@@ -9,7 +9,7 @@ use std::cmp::{Ordering, Reverse};
 /// A file by its name, a procedure, a line of source text, or an instruction by its address.
 #[derive(Clone, Copy, Debug, PartialEq, Eq, PartialOrd, Ord, Drop)]
 pub enum ItemRef<'a> {
-    FileName(&'a [u8]),
+    File(&'a [u8]),
     Procedure(ProcId),
     SourceLine(u32),
     Instruction(u32),
@@ -27,13 +27,6 @@ pub struct RowRef<'a> {
 /// The order of items.
 pub fn compare_items(a: &ItemRef<'_>, b: &ItemRef<'_>) -> Ordering
     ensures { result ≡ item_order (item_seen a.now) (item_seen b.now) }
-{
-    Ord::cmp(a, b)
-}
-
-/// The order of rows.
-pub fn compare_rows(a: &RowRef<'_>, b: &RowRef<'_>) -> Ordering
-    ensures { result ≡ row_order (row_seen a.now) (row_seen b.now) }
 {
     Ord::cmp(a, b)
 }

@@ -9,7 +9,7 @@ ghost use Rattle.tree_types.specs.PathsOf.{paths_of};
 ghost use Rattle.view_tables.specs.Callers.{call_chains, callers};
 ghost use Rattle.view_tables.specs.Flat.{flat, frames};
 ghost use Rattle.view_tables.specs.Sums.{HasFrame, exclusive_at, goes_on};
-ghost use Rattle.view_tables.specs.Views.{Item, Sample, ends, holds_chain, rows_under};
+ghost use Rattle.view_tables.specs.Views.{Item, Sequences, ends, holds_chain, rows_under};
 
 /// The callers table and the flat table of a content are those of the call paths that it was made of.
 #[tactic(auto, using(crate::proofs::OwnTables::own_tables))]
@@ -32,7 +32,7 @@ pub fn tables_are_of_call_paths()
 /// and of all lines of these; and those under a row of the flat table to that row's. The paths of a program end in a
 /// frame.
 pub fn exclusive_values_add_up()
-    ensures under { (period : ℕ) (samples : List Sample) (chain : List Item)
+    ensures under { (period : ℕ) (samples : List Sequences) (chain : List Item)
         → sum_by (λ r. r.exclusive) (rows_under period samples chain) ≡ period * count_by (goes_on chain) samples }
     ensures callers { (period : ℕ) (paths : List HartPath) → All HasFrame paths
         → sum_by (λ r. r.exclusive) (rows_under period (map call_chains paths) []) ≡ period * length paths }
@@ -48,10 +48,10 @@ pub fn exclusive_values_add_up()
 /// A row's inclusive value is at least its exclusive one, and at most that of the chain which it stands under.
 /// Inclusive values don't add up, since a sample counts for each of the rows that its frames' sequences hold.
 pub fn inclusive_values_are_within()
-    ensures exclusive { (period : ℕ) (samples : List Sample) (chain : List Item)
+    ensures exclusive { (period : ℕ) (samples : List Sequences) (chain : List Item)
         → All (λ r. r.exclusive ≤ r.inclusive) (rows_under period samples chain) }
-    ensures chain { (period : ℕ) (samples : List Sample) (chain : List Item)
+    ensures chain { (period : ℕ) (samples : List Sequences) (chain : List Item)
         → All (λ r. r.inclusive ≤ period * count_by (holds_chain chain) samples) (rows_under period samples chain) }
-    ensures total { (period : ℕ) (samples : List Sample) (chain : List Item)
+    ensures total { (period : ℕ) (samples : List Sequences) (chain : List Item)
         → All (λ r. r.inclusive ≤ period * length samples) (rows_under period samples chain) }
 {}

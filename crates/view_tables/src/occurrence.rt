@@ -57,8 +57,8 @@ fn file_of(names: &Names, line: LineId) -> ItemRef<'_>
             table,
             file,
             line: _,
-        } => ItemRef::FileName(file_name(names, table, file)),
-        LineId::Address(_) => ItemRef::FileName(b"<unknown file>"),
+        } => ItemRef::File(file_name(names, table, file)),
+        LineId::Address(_) => ItemRef::File(b"<unknown file>"),
     }
 }
 

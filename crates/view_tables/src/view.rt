@@ -40,7 +40,7 @@ fn put_item_label(out: &mut Vec<u8>, names: &Names, item: ItemRef<'_>) -> Result
     ensures { OnOk result (out.new.items ≡ out.old.items ++ item_label (naming_in names.now) (item_seen item.entry)) }
 {
     match item {
-        ItemRef::FileName(name) => put_printed(out, name),
+        ItemRef::File(name) => put_printed(out, name),
         ItemRef::Procedure(id) => put_printed(out, proc_name(names, id)),
         ItemRef::SourceLine(line) => {
             out.extend_from_slice(b"line ")?;

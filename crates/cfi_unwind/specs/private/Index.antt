@@ -9,13 +9,13 @@ use Rattle.cfi_unwind.specs.declared.index.Index.{Index}
 use Rattle.scope_types.specs.declared.frame.End.TheVariants.{Whole}
 use Rattle.cfi_unwind.specs.declared.unwind_rule.UnwindRule.TheVariants.{Ends}
 use Rattle.cfi_unwind.specs.Caller.{Words, Unwinding, caller_of}
-use Rattle.cfi_unwind.specs.private.UnwindRules.{Follows, unwound_by}
+use Rattle.cfi_unwind.specs.private.UnwindRules.{FollowsRules, unwound_by}
 
 -- at the id stands an unwind rule that follows the rules
 pub record IsAt (unwind_rules : List UnwindRule) (id : ℕ) (found : Option Rules) : Type 0 where
   pub unwind_rule : UnwindRule
   pub stands : slice_get unwind_rules id ≡ Some unwind_rule
-  pub follows : Follows unwind_rule found
+  pub follows : FollowsRules unwind_rule found
 
 -- each unwind rule stays where it stands
 abbrev pub KeepsRules : List UnwindRule → List UnwindRule → Type 0
@@ -34,14 +34,14 @@ AreIds frames first ids unwind_rules = (k : ℕ) → k < length ids
     → IsId unwind_rules (get_or ids k 0) (rules_at frames (4 * (first + k)))
 
 -- the first unwind rule is that of addresses that no FDE holds
-pub record IsIndex (frames : Frames) (index : Index) : Type 0 where
+pub record IsIndexOf (frames : Frames) (index : Index) : Type 0 where
   pub ids : AreIds frames index.first index.ids.items index.unwind_rules.items
   pub nowhere : 0 < length index.ids.items → IsAt index.unwind_rules.items 0 None
   pub few : length index.unwind_rules.items ≤ 2 ^ 20
 
 -- it stays an index
 abbrev pub KeepsIndex : Frames → Index → Index → Type 0
-KeepsIndex frames index after = IsIndex frames index → IsIndex frames after
+KeepsIndex frames index after = IsIndexOf frames index → IsIndexOf frames after
 
 -- the rules are those at the row's addresses
 abbrev pub IsRowIn : Frames → Row → Option Rules → Type 0

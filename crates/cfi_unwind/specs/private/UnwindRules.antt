@@ -101,6 +101,6 @@ abbrev pub FollowsSome : UnwindRule → Rules → Type 0
 FollowsSome unwind_rule found = (words : Words) (registers : List ℕ) → length registers ≡ 32
     → unwound_by words registers unwind_rule ≡ caller_from words registers found
 
-abbrev pub Follows : UnwindRule → Option Rules → Type 0
-Follows unwind_rule found = (words : Words) (registers : List ℕ) → length registers ≡ 32
+abbrev pub FollowsRules : UnwindRule → Option Rules → Type 0
+FollowsRules unwind_rule found = (words : Words) (registers : List ℕ) → length registers ≡ 32
     → unwound_by words registers unwind_rule ≡ caller_if words registers found

@@ -7,7 +7,7 @@ use Rattle.dwarf_info.specs.declared.entry.InfoEntry.{InfoEntry}
 use Rattle.dwarf_info.specs.Sections.{Sections}
 use Rattle.dwarf_info.specs.Entries.{entries_from}
 use Rattle.dwarf_info.specs.Units.{declared_in, unit_body, entries_in}
-use Rattle.dwarf_info.specs.private.Starts.{IsSplit}
+use Rattle.dwarf_info.specs.private.Starts.{IsCountUpTo}
 
 abbrev pub offsets_of : List InfoEntry → List ℕ
 offsets_of entries = map (λ e. e.offset) entries
@@ -26,7 +26,7 @@ pub record AreMarked (sections : Sections) (old new : List ℕ) (context : UnitC
 pub record AreFirsts (entries : List InfoEntry) (firsts : List ℕ) : Type 0 where
   pub rise : IsNonDecreasingBy (λ n. n) firsts
   pub within : (k d : ℕ) → k < length firsts → slice_index_or firsts k d ≤ length entries
-  pub units : (i : ℕ) (e : InfoEntry) → slice_get entries i ≡ Some e → IsSplit i firsts (e.«unit» + 1)
+  pub units : (i : ℕ) (e : InfoEntry) → slice_get entries i ≡ Some e → IsCountUpTo i firsts (e.«unit» + 1)
 
 -- the offsets of the entries of all units, and the index of each unit's first
 pub record AreIndexed (sections : Sections) (units : List UnitContext) (offsets firsts : List ℕ) : Type 0 where

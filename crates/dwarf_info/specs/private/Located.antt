@@ -1,5 +1,5 @@
 -- An entry that was found by its index.
-use Rattle.std.specs.Prelude.{◌≡◌, ℕ, Option, Some, option_map}
+use Rattle.std.specs.Prelude.{◌≡◌, ℕ, Some, option_map}
 use Rattle.dwarf_info.specs.declared.entry.UnitContext.{UnitContext}
 use Rattle.dwarf_info.specs.declared.info.Located.{Located}
 use Rattle.dwarf_info.specs.Queries.{UnitEntry, unit_entry}

@@ -10,8 +10,8 @@ use Rattle.dwarf_info.specs.private.Tables.{AreTables, HaveTables}
 
 -- the units as callers see them, the tables of all units, and the offsets of all entries with the index of each unit's
 -- first; the offsets and the bytes of the sections are few
-pub record IsWhole (sections : Sections) (units : List Unit) (contexts : List UnitContext) (offsets firsts : List ℕ)
-    (tables : Tables) : Type 0 where
+pub record AreInfoParts (sections : Sections) (units : List Unit) (contexts : List UnitContext)
+    (offsets firsts : List ℕ) (tables : Tables) : Type 0 where
   pub shown : units ≡ map unit_of contexts
   pub are : AreTables sections.abbrev_bytes tables
   pub have : HaveTables tables contexts

@@ -29,7 +29,7 @@ pub record AreCounts (flags : List Bool) (counts : List ℕ) : Type 0 where
   pub few : length flags < 2 ^ 31
 
 -- of numbers that don't fall, the first `count` are at most a number, and the others above it
-pub record IsSplit (most : ℕ) (numbers : List ℕ) (count : ℕ) : Type 0 where
+pub record IsCountUpTo (most : ℕ) (numbers : List ℕ) (count : ℕ) : Type 0 where
   pub within : count ≤ length numbers
   pub below : (i : ℕ) (d : ℕ) → i < count → slice_index_or numbers i d ≤ most
   pub above : (i : ℕ) (d : ℕ) → count ≤ i → i < length numbers → most < slice_index_or numbers i d

@@ -43,7 +43,7 @@ IsFound section tables (found.End suffix) offset = IsSuffix section tables.read.
 IsFound section tables (found.Read table) offset = table_at section offset ≡ Ok table
 
 -- the table at an offset is known too
-pub record IsKnown (section : List ℕ) (old new : Tables) (offset : ℕ) : Type 0 where
+pub record IsTableKnown (section : List ℕ) (old new : Tables) (offset : ℕ) : Type 0 where
   pub are : AreTables section new
   pub keep : KeepTables old new
   pub has : is_some (table_in new offset) ≡ true

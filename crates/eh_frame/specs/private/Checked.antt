@@ -12,7 +12,7 @@ use Rattle.cfi_table.specs.Rules.{FrameState}
 use Rattle.cfi_table.specs.private.Checking.{CfaForms, execute_forms, forms_of}
 use Rattle.cfi_table.specs.private.KnownCies.{forms_seen}
 use Rattle.cfi_table.specs.private.Placed.{IsWithin}
-use Rattle.eh_frame.specs.declared.address.Addresses.{Addresses}
+use Rattle.eh_frame.specs.declared.address.AddressEncoding.{AddressEncoding}
 use Rattle.eh_frame.specs.declared.cie.EhCie.{EhCie}
 use Rattle.eh_frame.specs.declared.known_eh_cie.KnownEhCie.{KnownEhCie}
 use Rattle.eh_frame.specs.Runs.{listed_by, cie_instructions}
@@ -20,7 +20,7 @@ use Rattle.eh_frame.specs.Entries.{eh_cie_of}
 use Rattle.eh_frame.specs.Translation.{encoded}
 
 -- the instructions, and the forms after them
-abbrev pub listed_forms : Addresses → AlignmentFactors → Input FrameFault → CfaForms
+abbrev pub listed_forms : AddressEncoding → AlignmentFactors → Input FrameFault → CfaForms
     → Result (List CallFrameInstruction × CfaForms) FrameFault
 listed_forms addresses factors input k = listed_by execute_forms (length (left_of input.at)) addresses factors input k
 

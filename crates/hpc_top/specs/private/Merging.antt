@@ -1,12 +1,12 @@
 -- Counted samples as they are planned and merged.
-use Rattle.std.specs.Prelude.{◌≡◌, ℕ, ◌++◌, Bool, IsTrue, List, length, Result, Ok, Err, if◌then◌else◌, nat_lt}
+use Rattle.std.specs.Prelude.{◌≡◌, ℕ, ◌++◌, IsTrue, List, length, Result, Ok, Err, if◌then◌else◌, nat_lt}
 use Rattle.prof_bytes.specs.declared.fail.Fail.{Fail}
 use Rattle.prof_bytes.specs.Outcome.{◌>>=◌, FailsBy}
 use Rattle.scope_types.specs.declared.frame.Counted.{Counted}
 use Rattle.scope_types.specs.declared.scope.Scope.{Scope}
 use Rattle.scope_types.specs.Alike.{Alike}
 use Rattle.scope_types.specs.Distinct.{HartRaw, samples_in, scopes_in}
-use Rattle.scope_types.specs.Limits.{most_path_scopes}
+use Rattle.scope_types.specs.Limits.{most_scopes_in_all}
 use Rattle.scope_types.specs.Raw.{Raw}
 use Rattle.rv_run.specs.State.{MachineState}
 use Rattle.stripe_table.specs.Ends.{named_paths}
@@ -16,7 +16,6 @@ use Rattle.tree_types.specs.Database.{content_of}
 use Rattle.tree_types.specs.Naming.{Naming}
 use Rattle.tree_types.specs.OfContent.{content_table}
 use Rattle.tree_types.specs.TopDown.{top_down}
-use Rattle.merge_crew.specs.declared.merge.Crew.{Crew}
 use Rattle.merge_crew.specs.Merged.{IsOfPlan, IsWhole}
 use Rattle.hpc_top.specs.declared.merged.Merged.{Merged}
 use Rattle.hpc_top.specs.declared.status.InputFault.{InputFault}
@@ -29,7 +28,7 @@ use Rattle.hpc_top.specs.Report.{closed, total_line, hart_lines}
 -- the plan of counted samples, unless their call paths have too many scopes
 abbrev pub few_planned : (Raw → List Scope) → List (List Counted) → Result Planned InputFault
 few_planned expand tables =
-    if nat_lt most_path_scopes (scopes_in expand tables) then Err TooManyScopes else Ok (plan_of tables)
+    if nat_lt most_scopes_in_all (scopes_in expand tables) then Err TooManyScopes else Ok (plan_of tables)
 
 -- a run with few enough samples, unless these have too many scopes
 abbrev pub profiled : ℕ → Naming → (Raw → List Scope) → MachineState → List HartRaw → Result Profiled InputFault

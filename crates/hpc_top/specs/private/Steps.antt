@@ -1,7 +1,7 @@
 -- What the steps of a command do: its fetches, what is made of them, and the store and the put at its end.
 use Rattle.std.specs.Prelude.{◌≡◌, ℕ, ◌≤◌, ◌⊎◌, List, [], ◌∷◌, length, Option, Result, Ok, Err, IsTrue}
 use Rattle.prof_bytes.specs.declared.text.Text.{Text}
-use Rattle.prof_devices.specs.Outside.{ShelfState, SinkState, Fails, Rose, Appends, AppendsPart}
+use Rattle.prof_devices.specs.Outside.{ShelfState, SinkState, Fails, Appends, AppendsPart}
 use Rattle.hpc_top.specs.declared.status.InputFault.{InputFault}
 use Rattle.hpc_top.specs.declared.status.Stop.{Stop}
 use Rattle.hpc_top.specs.declared.status.Stop.TheVariants.{Input, Device, Memory}
@@ -9,29 +9,23 @@ use Rattle.hpc_top.specs.declared.status.Place.TheVariants.{Read, Store, Print}
 use Rattle.hpc_top.specs.declared.status.Prepared.{Prepared}
 use Rattle.hpc_top.specs.Product.{Product}
 use Rattle.hpc_top.specs.Task.{Task, Wanted, limited_bytes, contents, verdict}
-use Rattle.hpc_top.specs.Outcome.{Call, Storing, Printing, Finished, ReadFailed, StoreFailed}
+use Rattle.hpc_top.specs.Outcome.{Call, Storing, Printing, Finished, ReadFailed, StoreFailed, PrintFailed}
 
 -- ---- fetches
 
--- fetches change no file and no failed store, and the count of failed reads never falls
-pub record Looked (old new : ShelfState) : Type 0 where
-  pub known : new.known ≡ old.known
-  pub files : new.files ≡ old.files
-  pub stores : new.stores ≡ old.stores
-  pub reads : old.reads.count ≤ new.reads.count
-
--- why fetches stop, where the definition of what they give is `wanted`, and a read that failed is a fact `Failed`
+-- why fetches stop, where the definition of what they give is `wanted`, and a read that failed is a fact `Failed`. They
+-- change nothing but the failed reads
 abbrev pub FetchStops : {X : Type 0} → Type 0 → ShelfState → ShelfState → Result X InputFault → Stop → Type 0
-FetchStops Failed old new wanted (Input fault) = Looked old new × (IsTrue old.known → wanted ≡ Err fault)
-FetchStops Failed old new wanted (Device Read) = Looked old new × Failed
+FetchStops Failed old new wanted (Input fault) = (new ≡ old) × (IsTrue old.known → wanted ≡ Err fault)
+FetchStops Failed old new wanted (Device Read) = (new ≡ record old { reads = new.reads }) × Failed
 FetchStops Failed old new wanted (Device Store) = ⊥
 FetchStops Failed old new wanted (Device Print) = ⊥
-FetchStops Failed old new wanted (Memory memory) = Looked old new
+FetchStops Failed old new wanted (Memory memory) = new ≡ old
 
 -- one file is fetched
 abbrev pub Fetches : ShelfState → ShelfState → Wanted → Result Text Stop → Type 0
 Fetches old new w (Ok text) =
-    Looked old new × (length text ≤ w.limit) × (IsTrue old.known → limited_bytes old.files w ≡ Ok text)
+    (new ≡ old) × (length text ≤ w.limit) × (IsTrue old.known → limited_bytes old.files w ≡ Ok text)
 Fetches old new w (Err stop) = FetchStops (Fails old.reads new.reads w.name) old new (limited_bytes old.files w) stop
 
 -- one text for each file, and within its limit
@@ -44,7 +38,7 @@ AreWithin (text ∷ texts) [] = ⊥
 -- all files of a command are fetched, in their order
 abbrev pub FetchesAll : ShelfState → ShelfState → List Wanted → Result (List (List ℕ)) Stop → Type 0
 FetchesAll old new wants (Ok texts) =
-    Looked old new × AreWithin texts wants × (IsTrue old.known → contents old.files wants ≡ Ok texts)
+    (new ≡ old) × AreWithin texts wants × (IsTrue old.known → contents old.files wants ≡ Ok texts)
 FetchesAll old new wants (Err stop) = FetchStops (ReadFailed wants old new) old new (contents old.files wants) stop
 
 -- what is to be stored and put
@@ -53,7 +47,7 @@ ready prepared = record { stored = prepared.stored; text = prepared.text }
 
 -- the fetches of a command and what is made of them
 abbrev pub Prepares : Task → ShelfState → ShelfState → Result Prepared Stop → Type 0
-Prepares task old new (Ok made) = Looked old new × (IsTrue old.known → verdict task old.files ≡ Ok (ready made))
+Prepares task old new (Ok made) = (new ≡ old) × (IsTrue old.known → verdict task old.files ≡ Ok (ready made))
 Prepares task old new (Err stop) = FetchStops (ReadFailed task.wants old new) old new (verdict task old.files) stop
 
 -- ---- the end of a command
@@ -63,12 +57,13 @@ TextStops out out' text (Input fault) = ⊥
 TextStops out out' text (Device Read) = ⊥
 TextStops out out' text (Device Store) = ⊥
 TextStops out out' text (Device Print) =
-    (IsTrue out.known → AppendsPart out.taken out'.taken text) × Rose out.faults out'.faults
+    (IsTrue out.known → AppendsPart out.taken out'.taken text) × PrintFailed out out'
 TextStops out out' text (Memory memory) = IsTrue out.known → AppendsPart out.taken out'.taken text
 
 -- a text is put, or why not
 abbrev pub PutsText : SinkState → SinkState → List ℕ → Result (Unit {0}) Stop → Type 0
-PutsText out out' text (Ok _) = IsTrue out.known → Appends out.taken out'.taken text
+PutsText out out' text (Ok _) =
+    (IsTrue out.known → Appends out.taken out'.taken text) × (out' ≡ record out { taken = out'.taken })
 PutsText out out' text (Err stop) = TextStops out out' text stop
 
 abbrev pub DeliveryStops : Option (List ℕ) → Product → Call → Stop → Type 0
@@ -77,7 +72,7 @@ DeliveryStops name product call (Device Read) = ⊥
 DeliveryStops name product call (Device Store) =
     Storing name product call × StoreFailed name call.before.shelf call.after.shelf
 DeliveryStops name product call (Device Print) =
-    Printing name product call × Rose call.before.out.faults call.after.out.faults
+    Printing name product call × PrintFailed call.before.out call.after.out
 DeliveryStops name product call (Memory memory) = Storing name product call ⊎ Printing name product call
 
 -- its file is stored, where it has one, and then its text is put

@@ -6,7 +6,7 @@ use Rattle.scope_types.specs.declared.scope.RootKind.TheVariants.{Thread}
 use Rattle.scope_types.specs.declared.scope.Scope.{Scope}
 use Rattle.scope_types.specs.declared.scope.Scope.TheVariants.{Root}
 use Rattle.scope_types.specs.declared.path.Entry.{Entry}
-use Rattle.scope_types.specs.Limits.{most_samples, most_path_scopes}
+use Rattle.scope_types.specs.Limits.{most_samples, most_scopes_in_all}
 use Rattle.scope_types.specs.contracts.scope.ScopePartialEq.TheImpl.{ghosts as scopes}
 use Rattle.tree_types.specs.declared.content.Node.{Node}
 use Rattle.tree_types.specs.Paths.{Path}
@@ -88,5 +88,5 @@ pub record IsTrie (nodes : List Node) (branches : Branches) (ends : List PathEnd
   pub linked : Linked nodes branches
   pub indices : All (λ e. IsIndex e.node (length nodes)) ends
   pub nodes_are : tree_paths nodes ≡ trie_nodes (entries_at nodes ends)
-  pub few_nodes : length nodes ≤ most_path_scopes
+  pub few_nodes : length nodes ≤ most_scopes_in_all
   pub few_samples : samples_of (entries_at nodes ends) ≤ most_samples

@@ -75,7 +75,8 @@ pub(super) static HEADER_ROWS: [Row; 23] = [
     ),
 ];
 
-/// Segments that take more bytes than addresses, lie outside the file, too high, or over one another.
+/// Segments that take more bytes than addresses, lie outside the file, too high, or over one another. The program
+/// headers stand at 52, 84, 116, 148 and 180; in each p_offset is at 4, p_vaddr at 8, p_filesz at 16, p_memsz at 20.
 pub(super) static SEGMENT_ROWS: [Row; 16] = [
     ("as they are", "", "accepted"),
     ("p_filesz above p_memsz", "68=9", "SegmentPlace 52"),
@@ -147,7 +148,9 @@ pub(super) static SEGMENT_ROWS: [Row; 16] = [
     ),
 ];
 
-/// Sections outside the file, names that do not end, and compressed ones: the nine that are read first.
+/// Sections outside the file, names that do not end, and compressed ones: the nine that are read first. The section
+/// headers stand at 202, 242, 282 and 322; in each sh_name is at 0, sh_type at 4, sh_flags at 8, sh_offset at 16,
+/// sh_size at 20.
 pub(super) static SECTION_ROWS: [Row; 26] = [
     ("compressed .debug_info", "242=1", "CompressedSection 242"),
     (
@@ -245,7 +248,8 @@ pub(super) static SECTION_ROWS: [Row; 26] = [
     ("e_shnum 0: e_shstrndx is free", "48=0 50=4", "accepted"),
 ];
 
-/// The symbol table, and names of function symbols and of others.
+/// The symbol table, and names of function symbols and of others. The symbols stand at 176, 192 (`_start`) and 208
+/// (`f`), the header of their table at 354.
 pub(super) static SYMBOL_ROWS: [Row; 14] = [
     ("as they are", "", "accepted"),
     (

@@ -35,7 +35,8 @@ const STMT_LIST: &[u8] = &[DW_AT_stmt_list as u8, DW_FORM_sec_offset as u8];
 
 const END: &[u8] = &[0, 0, 0];
 
-/// A name, fields of `.debug_info` and `.debug_abbrev`, and the fault in them.
+/// A name, fields of `.debug_info` and `.debug_abbrev`, and the fault in them. The first entry stands at 12, after
+/// unit_length and HEADER.
 static FAULTS: [(&str, &[&[u8]], &[&[u8]], InfoFault); 18] = [
     (
         "unit_length that is not whole",

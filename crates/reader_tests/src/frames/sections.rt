@@ -2,8 +2,9 @@
 //! `riscv64-unknown-elf-readelf --debug-dump=frames-interp` (binutils 2.40) says of them: from an
 //! address up to another the canonical frame address and each register that has a rule, by their
 //! numbers. GCC is a C program of eleven functions by riscv64-unknown-elf-gcc 12.2 (-march=rv32im -O1
-//! -g1 -fno-optimize-sibling-calls), CLANG the same by clang 14 (-fno-omit-frame-pointer besides), and
-//! DIRECTIVES one assembler function with every directive and instruction there is.
+//! -g1 -fno-optimize-sibling-calls), CLANG the same by clang 14 (-fno-omit-frame-pointer besides).
+//! DIRECTIVES is one assembler function with every directive there is, and LOCATIONS one with set_loc and each
+//! advance_loc that has an operand, by `.cfi_escape`: each instruction of DWARF 5 stands in one of the two.
 
 /// One CIE and one FDE, as gcc writes them.
 pub(super) fn recursive() -> &'static [u8] {
@@ -11,7 +12,7 @@ pub(super) fn recursive() -> &'static [u8] {
     0c000000ffffffff0300017c010c020018000000000000001000010020000000440e1044810150c1440e0000"
 }
 
-/// The section.
+/// `.debug_frame` of the program by gcc.
 pub(super) fn gcc() -> &'static [u8] {
     b"\
     0c000000ffffffff0300017c010d02000c000000000000000000010010000000200000000000000010000100\
@@ -91,7 +92,7 @@ pub(super) static GCC_RULES: [&str; 62] = [
     "1025c-102bc 2+16 1=c-4 8=c-8",
 ];
 
-/// The section.
+/// `.debug_frame` of the program by clang.
 pub(super) fn clang() -> &'static [u8] {
     b"\
     10000000ffffffff04000400017c010c020000001800000000000000c40001002c000000440e104881018802\
@@ -153,7 +154,7 @@ pub(super) static CLANG_RULES: [&str; 44] = [
     "103dc-10454 8+0 1=c-4 8=c-8 9=c-12",
 ];
 
-/// The section.
+/// `.debug_frame` of the assembler function.
 pub(super) fn directives() -> &'static [u8] {
     b"\
     0c000000ffffffff0300017c010d02005800000000000000000001008c020000440e204481018802440a0c08\
@@ -177,4 +178,20 @@ pub(super) static DIRECTIVES_RULES: [&str; 14] = [
     "1002c-10030 2+16 8=c-8 18=v-12 19=exp 20=exp 21=c+4 22=v-12 23=v+12",
     "10030-10288 2+16 18=v-12 19=exp 20=exp 21=c+4 22=v-12 23=v+12 24=c-24",
     "10288-1028c exp 18=v-12 19=exp 20=exp 21=c+4 22=v-12 23=v+12 24=c-24",
+];
+
+/// `.debug_frame` of the assembler function where locations move.
+pub(super) fn locations() -> &'static [u8] {
+    b"\
+    0c000000ffffffff0300017c010d02002400000000000000000001004000000002080e10041000000081010128\
+    000100c10308000e000000"
+}
+
+/// What readelf says of it: a range of addresses and the rules there.
+pub(super) static LOCATIONS_RULES: [&str; 5] = [
+    "10000-10008 2+0",
+    "10008-10018 2+16",
+    "10018-10028 2+16 1=c-4",
+    "10028-10030 2+16",
+    "10030-10040 2+0",
 ];

@@ -152,7 +152,7 @@ pub(super) static ROWS: [Rows; 18] = [
         ],
     ),
     (
-        "extended opcodes that are skipped",
+        "DW_LNE_lo_user, DW_LNE_set_discriminator and the reserved code 3",
         HEADER,
         &[
             &[0, 5, DW_LNE_set_address, 0, 0, 1, 0],
@@ -311,7 +311,7 @@ pub(super) static ROWS: [Rows; 18] = [
         &[(0x10000, Some((1, 1))), (0x10004, None)],
     ),
     (
-        "a line range of 1",
+        "line_range 1",
         "050004002400000001010103010d000101010100000001000001010108012f7300020108020b01612e630000",
         &[
             &[0, 5, DW_LNE_set_address, 0, 0, 1, 0],

@@ -82,7 +82,7 @@ pub(super) static HEADER_CHANGES: [(&str, &str); 6] = [
     ("address_size 8", "2=8"),
     ("segment_selector_size 1", "3=1"),
     ("line_range 0", "12=0"),
-    ("the program past the end", "4=200"),
+    ("header_length past the table", "4=200"),
 ];
 
 /// A name, fields after line_range of a header that is at fault, and `.debug_str` after S.
@@ -93,7 +93,7 @@ pub(super) static HEADER_FAULTS: [(&str, &[&[u8]], &[u8]); 10] = [
         b"",
     ),
     (
-        "lengths past the table",
+        "standard_opcode_lengths past the table",
         &[
             &[0xff, 0],
             DIRECTORY_FORMAT,
@@ -223,7 +223,7 @@ pub(super) static PROGRAM_FAULTS: [(&str, &[&[u8]], u32); 7] = [
         0,
     ),
     (
-        "DW_LNE_set_address of four bytes",
+        "DW_LNE_set_address with an address of three bytes",
         &[&[0, 4, DW_LNE_set_address, 0, 0, 1]],
         0,
     ),

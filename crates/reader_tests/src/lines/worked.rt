@@ -45,15 +45,10 @@ const RECURSIVE: Program = Program {
     names: &[],
 };
 
-/// A name, changes of `.debug_line` of the worked program, offsets of tables, and the offset of the first table at fault, in
-/// ascending order.
+/// A name, changes of `.debug_line` of the worked program, offsets of tables, in ascending order, and the offset of
+/// the first of them that is at fault.
 pub(super) static FAULTS: [(&str, &[u8], &[u32], u32); 3] = [
     ("an offset after the section's end", b"", &[80], 80),
     ("the lower of two offsets", b"", &[4, 80], 4),
-    (
-        "2 as the greatest number of operations of an instruction",
-        b"13=2",
-        &[0],
-        0,
-    ),
+    ("maximum_operations_per_instruction 2", b"13=2", &[0], 0),
 ];

@@ -2,8 +2,9 @@
 //! symbols, and `.debug_frame` as gcc and GNU as make it.
 
 /// `_start` (0x10000, 16 bytes) calls `f` (0x10010, 32 bytes) at 0x10004, and `f` itself at 0x10020.
-/// The stack moves down by 16 at 0x10010 and up before 0x1002c. Segment flags stand at byte 76, the
-/// frame entries from 132 on, the kind of `_start`'s symbol at 204 and that of `f`'s at 220.
+/// The stack moves down by 16 at 0x10010 and up before 0x1002c. e_entry stands at byte 24, p_flags at 76, the frame
+/// entries from 132 on; of the FDE initial_location at 156 and address_range at 160; of `_start`'s symbol st_size at
+/// 200 and st_info at 204, of `f`'s st_value at 212, st_size at 216 and st_info at 220.
 pub(super) const RECURSION: &[u8] = b"\
     7f454c460101010000000000000000000200f30001000000000001003400000012010000000000003400200001002800\
     05000400010000005400000000000100000001003000000030000000050000000400000013055000ef00c0009308d005\

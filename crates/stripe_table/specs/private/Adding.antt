@@ -1,7 +1,7 @@
 -- A piece that is added to a stripe.
 use Rattle.std.specs.Prelude.{ℕ, ◌≡◌, ◌+◌, ◌<◌, ◌≤◌, ◌||◌, [], ◌∷◌, ◌++◌, length, slice_index}
 use Rattle.scope_types.specs.declared.path.Piece.{Piece}
-use Rattle.scope_types.specs.Limits.{most_samples, most_path_scopes}
+use Rattle.scope_types.specs.Limits.{most_samples, most_scopes_in_all}
 use Rattle.tree_types.specs.Paths.{Path}
 use Rattle.path_trie.specs.Trie.{count_of, has_node, all_prefixes, trie_nodes, samples_of, entry_scopes}
 use Rattle.stripe_table.specs.declared.stripe.Addition.{Addition}
@@ -16,7 +16,7 @@ pointing_at p x = record { names = x.names; index = p; trie = x.trie }
 -- the stripe and the piece are together within the limits of a trie
 pub record HasRoom (x : StripeValue) (piece : Piece) : Type 0 where
   pub samples : samples_of x.trie + samples_of piece.entries ≤ most_samples
-  pub nodes : length (trie_nodes x.trie) + entry_scopes piece.entries ≤ most_path_scopes
+  pub nodes : length (trie_nodes x.trie) + entry_scopes piece.entries ≤ most_scopes_in_all
 
 -- y is x with the piece: its chunk is the last name, and the trie has its entries too
 pub record TakesIn (x : StripeValue) (piece : Piece) (y : StripeValue) : Type 0 where

@@ -3,7 +3,7 @@ use Rattle.std.specs.Prelude.{◌≡◌, ℕ, ◌<◌, ◌≤◌, ◌^◌, List,
 use Rattle.scope_types.specs.declared.frame.Counted.{Counted}
 use Rattle.scope_types.specs.Raw.{Raw, same_raw}
 use Rattle.scope_types.specs.Distinct.{frames_in, samples_in}
-use Rattle.scope_types.specs.Limits.{most_path_frames, most_samples}
+use Rattle.scope_types.specs.Limits.{most_frames_in_all, most_samples}
 
 -- the counted paths of the table's entries
 abbrev pub counted_of : Raw × ℕ → Counted
@@ -23,7 +23,7 @@ IsPathAt raw (c ∷ counted) (suc index) = (same_raw raw c.path ≡ false) × Is
 pub record FramesFit (tables : List (List Counted)) (frames : ℕ) : Type 0 where
   pub harts : length tables < 2 ^ 32
   pub is : frames ≡ frames_in tables
-  pub few : frames ≤ most_path_frames
+  pub few : frames ≤ most_frames_in_all
   pub some : All (All (λ c. 0 < length c.path.frames)) tables
   pub samples : samples_in tables ≤ most_samples
   pub counted : All (All (λ c. 0 < c.count)) tables

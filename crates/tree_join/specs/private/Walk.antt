@@ -7,7 +7,7 @@ use Rattle.std.specs.Ordering.{is_lt}
 use Rattle.std.specs.declared.cmp.Ordering.TheVariants.{Less}
 use Rattle.scope_types.specs.declared.scope.Scope.{Scope}
 use Rattle.scope_types.specs.declared.path.Entry.{Entry}
-use Rattle.scope_types.specs.Limits.{most_path_scopes}
+use Rattle.scope_types.specs.Limits.{most_scopes_in_all}
 use Rattle.scope_types.specs.Order.{scope_order, path_order}
 use Rattle.tree_types.specs.declared.content.Node.{Node}
 use Rattle.tree_types.specs.Nodes.{no_parent}
@@ -41,7 +41,7 @@ path_or_none paths i = slice_index_or paths i []
 
 -- nodes of a trie: with each path there is what comes before its end
 pub record AreNodes (nodes : List Node) : Type 0 where
-  pub few : length nodes ≤ most_path_scopes
+  pub few : length nodes ≤ most_scopes_in_all
   pub rooted : Rooted nodes
   pub closed : (i : ℕ) (f r : Path) (s : Scope) → i < length nodes → path_or_none (tree_paths nodes) i ≡ f ++ s ∷ r
       → (c : ℕ) × (c < length nodes) × (path_or_none (tree_paths nodes) c ≡ f ++ s ∷ [])
@@ -100,7 +100,7 @@ head_node w = next_node (nodes_in w) w.numbers.items (slice_get w.stack.items (l
 -- what a walker is read by
 pub record IsReady (w : Walker) : Type 0 where
   pub groups : Groups (nodes_in w) w.children.flags.items w.children.siblings.items
-  pub few : length (nodes_in w) ≤ most_path_scopes
+  pub few : length (nodes_in w) ≤ most_scopes_in_all
   pub long : length w.numbers.items ≡ length (nodes_in w)
   pub indices : All (λ p. p < length (nodes_in w)) w.stack.items
   pub before : (i : ℕ) → i < length (nodes_in w) → IsIndex (linked_node (nodes_in w) i).parent i
@@ -124,7 +124,7 @@ pub record Walking (parts : List (List Entry)) (walkers : List Walker) (order : 
   pub ascend : AllPairs (λ a b. path_order a b ≡ Less) (tree_paths order)
   pub before : (i : ℕ) → i < length order → IsIndex (linked_node order i).parent i
   pub among : (i : ℕ) → i < length order → Contains (flat_map trie_nodes parts) (path_or_none (tree_paths order) i)
-  pub few : length (flat_map trie_nodes parts) ≤ most_path_scopes
+  pub few : length (flat_map trie_nodes parts) ≤ most_scopes_in_all
 
 -- whether a node stands before another, where both are next: the one whose parent is deeper, and below one parent
 -- the one with the smaller scope

@@ -13,7 +13,7 @@ use Rattle.tree_types.specs.Tree.{node_at}
 use Rattle.view_tables.specs.declared.frames.Frames.{Frames}
 use Rattle.view_tables.specs.declared.occurrence.View.{View}
 use Rattle.view_tables.specs.declared.occurrence.View.TheVariants.{Callers, Flat}
-use Rattle.view_tables.specs.Views.{Sample}
+use Rattle.view_tables.specs.Views.{Sequences}
 use Rattle.view_tables.specs.Callers.{procs_up}
 use Rattle.view_tables.specs.Flat.{frame_proc}
 use Rattle.view_tables.specs.private.Occurrences.{has_frame, sample_at, content_samples, ups}
@@ -90,7 +90,7 @@ pub record AreCosts (c : Content) (costs : List ℕ) : Type 0 where
 -- weights that stand for the samples, where from a number on only frames have some
 pub record AreWeights (view : View) (c : Content) (from : ℕ) (weights : List ℕ) : Type 0 where
   pub long : length weights ≡ length c.nodes
-  pub samples : (test : Sample → Bool) → test [] ≡ false → c.period * count_by test (content_samples view c)
+  pub samples : (test : Sequences → Bool) → test [] ≡ false → c.period * count_by test (content_samples view c)
       ≡ weighed (λ number. test (sample_at view c number)) weights (length c.nodes)
   pub none : (number : ℕ) → from ≤ number → has_frame view (ups c number) ≡ false → slice_index weights number ≡ 0
   pub few : sum_below (slice_index weights) (length c.nodes) ≤ total_value c

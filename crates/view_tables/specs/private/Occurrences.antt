@@ -9,13 +9,13 @@ use Rattle.tree_types.specs.Naming.{Naming}
 use Rattle.tree_types.specs.Paths.{Path, is_proc}
 use Rattle.tree_types.specs.PathsOf.{paths_of, tree_paths}
 use Rattle.view_tables.specs.declared.item.ItemRef.{ItemRef}
-use Rattle.view_tables.specs.declared.item.ItemRef.TheVariants.{FileName, Procedure, SourceLine, Instruction}
+use Rattle.view_tables.specs.declared.item.ItemRef.TheVariants.{File, Procedure, SourceLine, Instruction}
 use Rattle.view_tables.specs.declared.item.RowRef.{RowRef}
 use Rattle.view_tables.specs.declared.occurrence.Occurrence.{Occurrence}
 use Rattle.view_tables.specs.declared.occurrence.Split.{Split}
 use Rattle.view_tables.specs.declared.occurrence.View.{View}
 use Rattle.view_tables.specs.declared.occurrence.View.TheVariants.{Callers, Flat}
-use Rattle.view_tables.specs.Views.{Item, Sample, ViewRow, item_order, same_item}
+use Rattle.view_tables.specs.Views.{Item, Sequences, ViewRow, item_order, same_item}
 use Rattle.view_tables.specs.Views as views
 use Rattle.view_tables.specs.Callers.{procs_up, tails}
 use Rattle.view_tables.specs.Flat.{call_line, frame_at, frame_proc, frames_up}
@@ -23,7 +23,7 @@ use Rattle.view_tables.specs.Flat.{call_line, frame_at, frame_proc, frames_up}
 -- ---- items and rows of the code
 
 abbrev pub item_seen : ItemRef → Item
-item_seen (FileName name) = views.FileName name.now
+item_seen (File name) = views.File name.now
 item_seen (Procedure id) = views.Procedure id
 item_seen (SourceLine line) = views.SourceLine line
 item_seen (Instruction address) = views.Instruction address
@@ -41,15 +41,15 @@ abbrev pub ups : Content → ℕ → Path
 ups c number = reverse (slice_index_or (tree_paths c.nodes) number [])
 
 -- the sequences of a path, given from its innermost scope up
-abbrev pub view_sample : View → Naming → Path → Sample
+abbrev pub view_sample : View → Naming → Path → Sequences
 view_sample Callers naming scopes = tails (procs_up scopes)
 view_sample Flat naming scopes = frames_up naming scopes
 
 -- those of a node's path
-abbrev pub sample_at : View → Content → ℕ → Sample
+abbrev pub sample_at : View → Content → ℕ → Sequences
 sample_at view c number = view_sample view (naming_in c.names) (ups c number)
 
-abbrev pub first_sequence : Sample → List Item
+abbrev pub first_sequence : Sequences → List Item
 first_sequence [] = []
 first_sequence (items ∷ sample) = items
 
@@ -116,7 +116,7 @@ abbrev pub all_occurrences : View → Content → List Held
 all_occurrences view c = flat_map (occurrence_at view c) (range_with_len 0 (length c.nodes))
 
 -- the samples of a content
-abbrev pub content_samples : View → Content → List Sample
+abbrev pub content_samples : View → Content → List Sequences
 content_samples view c = map (λ p. view_sample view (naming_in c.names) (reverse p.path)) (paths_of c)
 
 -- the occurrences that a chain leaves

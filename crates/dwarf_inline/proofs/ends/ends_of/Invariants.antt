@@ -2,11 +2,11 @@ use Rattle.std.proofs.Common.{length, ◌≤◌}
 use Rattle.dwarf_inline.specs.private.Ends.{AreEndsFrom}
 use Rattle.dwarf_inline.proofs.ends.ends_of.Given as goal
 
-abbrev pub invariant-loop-at : goal.invariant-loop-at
-invariant-loop-at l = record {
-  within : l.at ≤ length l.entries;
-  ends : AreEndsFrom l.entries l.at l.ends.items;
+abbrev pub invariant-loop-index : goal.invariant-loop-index
+invariant-loop-index l = record {
+  within : l.index ≤ length l.entries;
+  ends : AreEndsFrom l.entries l.index l.ends.items;
 }
 
-abbrev pub decreases-loop-at : goal.decreases-loop-at
-decreases-loop-at l = l.at
+abbrev pub decreases-loop-index : goal.decreases-loop-index
+decreases-loop-index l = l.index

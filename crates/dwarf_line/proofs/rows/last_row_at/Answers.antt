@@ -10,5 +10,5 @@ pub loop-row-preserved : goal.loop-row-preserved
 loop-row-preserved c =
     let d : LineRow = record { address = 0; file = 0; line = 0; end_sequence = false } in
     let y : LineRow = get_or c.args.rows.now c.loop-row.row-index d in
-    c.better-best.ensures ∙ ap (λ (b : BestRow). better c.args.at b y) c.loop-row.invariant ∙ best_push c.args.at (take c.loop-row.row-index c.args.rows.now) y
-    ∙ ap (best_of c.args.at) (sym (take_more c.args.rows.now c.loop-row.row-index d c.loop-row-test.true))
+    c.better-best.ensures ∙ ap (λ (b : BestRow). better c.args.address b y) c.loop-row.invariant ∙ best_push c.args.address (take c.loop-row.row-index c.args.rows.now) y
+    ∙ ap (best_of c.args.address) (sym (take_more c.args.rows.now c.loop-row.row-index d c.loop-row-test.true))

@@ -3,4 +3,4 @@ use Rattle.dwarf_line.proofs.BestRows.{best_of}
 use Rattle.dwarf_line.proofs.rows.last_row_at.Given as goal
 
 abbrev pub invariant-loop-row : goal.invariant-loop-row
-invariant-loop-row l = l.best ≡ best_of l.at (take l.row-index l.rows)
+invariant-loop-row l = l.best ≡ best_of l.address (take l.row-index l.rows)

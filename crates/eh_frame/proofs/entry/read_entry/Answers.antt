@@ -6,7 +6,7 @@ use Rattle.cfi_table.specs.Entries.{body_of}
 use Rattle.cfi_table.proofs.Chains.{number_read, number_fault}
 use Rattle.cfi_table.proofs.Entries.{copied_holds}
 use Rattle.eh_frame.specs.declared.entry.ReadEntry.{ReadEntry}
-use Rattle.eh_frame.specs.Entries.{Content, is_eh_cie, entry_content}
+use Rattle.eh_frame.specs.Entries.{EhContent, is_eh_cie, entry_content}
 use Rattle.eh_frame.specs.Translation.{entry_body}
 use Rattle.eh_frame.specs.private.Checked.{known_eh, seen_eh_cie, IsKnownEh}
 use Rattle.eh_frame.proofs.Entries.{without_id, of_cie_fault, of_cie, of_no_cie, of_fde, known_by, ok_more}
@@ -16,14 +16,14 @@ pub returns-in_err-id-clause-content : goal.returns-in_err-id-clause-content
 returns-in_err-id-clause-content c extents each =
     let is = number_fault c.body-reader.result (body_of c.args.section.now c.args.extent.now) c.u32.new.self c.u32.result c.in_err-id.field-0.0 c.body-reader.ensures c.u32.ensures c.in_err-id.was in
     let failed : viewed (entry_body c.args.base) (entry_content c.args.section.now c.args.address extents c.args.extent.now) ≡ Err c.in_err-id.field-0.0 =
-    ap (λ (r : Result Content FrameFault). viewed (entry_body c.args.base) r) (without_id c.args.section.now c.args.address extents c.args.extent.now c.in_err-id.field-0.0 is) in
+    ap (λ (r : Result EhContent FrameFault). viewed (entry_body c.args.base) r) (without_id c.args.section.now c.args.address extents c.args.extent.now c.in_err-id.field-0.0 is) in
     search rules
 
 pub returns-in_err-cie-clause-content : goal.returns-in_err-cie-clause-content
 returns-in_err-cie-clause-content c extents each =
     let is = number_read c.body-reader.result (body_of c.args.section.now c.args.extent.now) c.u32.new.self c.u32.result c.in_ok-id.id c.body-reader.ensures c.u32.ensures c.in_ok-id.was in
     let failed : viewed (entry_body c.args.base) (entry_content c.args.section.now c.args.address extents c.args.extent.now) ≡ Err c.in_err-cie.field-0.0 =
-    ap (λ (r : Result Content FrameFault). viewed (entry_body c.args.base) r)
+    ap (λ (r : Result EhContent FrameFault). viewed (entry_body c.args.base) r)
     (of_cie_fault c.args.section.now c.args.address extents c.args.extent.now c.in_ok-id.id c.u32.new.self c.in_err-cie.field-0.0 is c.if-id-eq-EH_CIE_ID.true (sym c.cie_from.ensures.cie ∙ c.in_err-cie.was)) in
     search rules
 
@@ -66,5 +66,5 @@ returns-in_ok-body-in-Some-clause-content c extents each =
 pub returns-in-None-clause-content : goal.returns-in-None-clause-content
 returns-in-None-clause-content c extents each =
     let is = number_read c.body-reader.result (body_of c.args.section.now c.args.extent.now) c.u32.new.self c.u32.result c.in_ok-id.id c.body-reader.ensures c.u32.ensures c.in_ok-id.was in
-    ap (λ (r : Result Content FrameFault). viewed (entry_body c.args.base) r)
+    ap (λ (r : Result EhContent FrameFault). viewed (entry_body c.args.base) r)
     (of_no_cie c.args.section.now c.args.address extents c.args.extent.now c.in_ok-id.id c.u32.new.self c.args.cies.now c.cie_back.result is c.if-id-eq-EH_CIE_ID.false c.cie_back.ensures c.in-None.is each)

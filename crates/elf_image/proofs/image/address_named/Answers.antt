@@ -3,11 +3,11 @@ use Rattle.std.specs.Prelude.{find, option_map}
 use Rattle.std.specs.Option.{option_map_or}
 use Rattle.elf_image.specs.declared.part.Section.{Section}
 use Rattle.elf_image.specs.Fields.{same_bytes}
-use Rattle.elf_image.specs.Image.{Named, named, address_of_name}
+use Rattle.elf_image.specs.Image.{NamedSection, named, address_of_name}
 use Rattle.elf_image.proofs.Tables.{find_map}
 use Rattle.elf_image.proofs.image.address_named.Goals as goal
 
-abbrev address_in : Option Named → ℕ
+abbrev address_in : Option NamedSection → ℕ
 address_in o = option_map_or (λ s. s.address) o 0
 
 -- the address of what was found among the code's sections

@@ -3,11 +3,11 @@ use Rattle.std.specs.Prelude.{find, option_map}
 use Rattle.std.specs.Option.{option_map_or}
 use Rattle.elf_image.specs.declared.part.Section.{Section}
 use Rattle.elf_image.specs.Fields.{same_bytes}
-use Rattle.elf_image.specs.Image.{Named, named, bytes_of_name}
+use Rattle.elf_image.specs.Image.{NamedSection, named, bytes_of_name}
 use Rattle.elf_image.proofs.Tables.{find_map}
 use Rattle.elf_image.proofs.image.section_named.Goals as goal
 
-abbrev bytes_in : Option Named → List ℕ
+abbrev bytes_in : Option NamedSection → List ℕ
 bytes_in o = option_map_or (λ s. s.bytes) o []
 
 -- the bytes of what was found among the code's sections

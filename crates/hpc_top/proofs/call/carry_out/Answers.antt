@@ -1,5 +1,6 @@
 use Rattle.std.proofs.Common.{List, ℕ, Option, subst}
 use Rattle.std.proofs.lemmas.Result.{err_from_is_err_and}
+use Rattle.prof_devices.specs.Outside.{ShelfState}
 use Rattle.hpc_top.specs.Outcome.{call_of}
 use Rattle.hpc_top.specs.private.Steps.{Delivers, ready}
 use Rattle.hpc_top.specs.Task.{task_of}
@@ -14,7 +15,12 @@ returns-in_err-made g c =
 
 pub returns : goal.returns
 returns g c =
-    delivered (task_of (view_request c.args.request)) (g.F.Shelf.shown c.args.shelf.now) (g.F.Shelf.shown c.prepare.new.shelf) (g.F.Shelf.shown c.deliver.new.shelf) (g.O.Sink.shown c.args.out.now) (g.O.Sink.shown c.deliver.new.out) (ready c.in_ok-made.made) c.in_ok-made.ensures.0 c.in_ok-made.ensures.1 c.deliver.result
+    let s = g.F.Shelf.shown c.args.shelf.now in
+    let u = g.F.Shelf.shown c.deliver.new.shelf in
+    let o = g.O.Sink.shown c.args.out.now in
+    let o' = g.O.Sink.shown c.deliver.new.out in
+    delivered (task_of (view_request c.args.request)) (call_of s u o o') (ready c.in_ok-made.made) c.in_ok-made.ensures.1 c.deliver.result
+    (subst (λ (t : ShelfState). Delivers (task_of (view_request c.args.request)).stores (ready c.in_ok-made.made) (call_of t u o o') c.deliver.result) c.in_ok-made.ensures.0
     (subst
-    (λ (name : Option (List ℕ)). Delivers name (ready c.in_ok-made.made) (call_of (g.F.Shelf.shown c.prepare.new.shelf) (g.F.Shelf.shown c.deliver.new.shelf) (g.O.Sink.shown c.args.out.now) (g.O.Sink.shown c.deliver.new.out)) c.deliver.result)
-    c.stored_name.ensures c.deliver.ensures)
+    (λ (name : Option (List ℕ)). Delivers name (ready c.in_ok-made.made) (call_of (g.F.Shelf.shown c.prepare.new.shelf) u o o') c.deliver.result)
+    c.stored_name.ensures c.deliver.ensures))

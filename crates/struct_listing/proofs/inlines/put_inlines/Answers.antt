@@ -1,4 +1,4 @@
-use Rattle.std.proofs.Common.{◌≡◌, ◌+◌, ◌<◌, ◌≤◌, ◌++◌, ◌∷◌, [], ℕ, List, cond, length, ap, ◌∙◌, arith, rules}
+use Rattle.std.proofs.Common.{◌≡◌, ◌+◌, ◌++◌, ◌∷◌, [], ℕ, List, cond, ap, ◌∙◌, arith, rules}
 use Rattle.struct_listing.specs.private.Parts.{opened_after, scopes_of}
 use Rattle.struct_listing.proofs.InlineLines.{none_open, open_more, level_is, no_lines, lines_more, all_lines}
 use Rattle.struct_listing.proofs.inlines.put_inlines.Goals as goal

@@ -1,5 +1,4 @@
 use Rattle.std.proofs.Common.{sym, subst}
-use Rattle.scope_types.specs.declared.path.Entry.{Entry}
 use Rattle.thread_cct.specs.Plan.{IsMergeable}
 use Rattle.stripe_table.specs.Limits.{Chunks}
 use Rattle.tree_tests.proofs.stripes.joined.Goals as goal

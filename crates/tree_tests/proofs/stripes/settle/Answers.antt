@@ -1,4 +1,4 @@
-use Rattle.std.proofs.Common.{◌≡◌, ap, sym, subst, ◌∙◌}
+use Rattle.std.proofs.Common.{ap, sym, ◌∙◌}
 use Rattle.std.specs.List.{list_any}
 use Rattle.tree_tests.proofs.Missing.{times_none}
 use Rattle.tree_tests.proofs.stripes.settle.Goals as goal

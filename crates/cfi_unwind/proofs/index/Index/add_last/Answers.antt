@@ -8,4 +8,4 @@ returns-then-is_behind c is =
     let after : Index = record { first = c.args.self.now.first; ids = c.fill.new.ids; unwind_rules = c.args.self.now.unwind_rules } in
     let low = c.if-low-count.true in
     let all = c.len-count.ensures in
-    keeps_last c.args.table.now c.args.self.now after c.last_unset-low.result c.len-count.result refl refl c.fill.ensures (omega arith) (omega arith) (c.is_behind.ensures c.if-is_behind.true) is
+    keeps_last c.args.table.now c.args.self.now after c.unset_from-low.result c.len-count.result refl refl c.fill.ensures (omega arith) (omega arith) (c.is_behind.ensures c.if-is_behind.true) is

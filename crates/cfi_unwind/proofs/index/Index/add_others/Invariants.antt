@@ -1,5 +1,5 @@
 use Rattle.std.proofs.Common.{◌≡◌, ◌<◌, ◌≤◌, ◌^◌, length}
-use Rattle.cfi_unwind.specs.private.Index.{IsAt, IsIndex, KeepsIndex}
+use Rattle.cfi_unwind.specs.private.Index.{IsAt, IsIndexOf, KeepsIndex}
 use Rattle.cfi_unwind.proofs.index.Index.add_others.Given as goal
 
 abbrev pub invariant-loop-number : goal.invariant-loop-number
@@ -7,5 +7,5 @@ invariant-loop-number l = record {
   as_many : length l.self.ids.items ≡ length l.initial.self.ids.items;
   few : length l.self.unwind_rules.items ≤ 2 ^ 20;
   keeps : KeepsIndex l.table l.initial.self l.self;
-  latest : IsIndex l.table l.initial.self → 0 < length l.self.ids.items → IsAt l.self.unwind_rules.items l.latest.id l.latest.rules;
+  latest : IsIndexOf l.table l.initial.self → 0 < length l.self.ids.items → IsAt l.self.unwind_rules.items l.latest.id l.latest.rules;
 }

@@ -5,7 +5,7 @@ use Rattle.rv_run.specs.declared.schedule.Slice.{Slice}
 use Rattle.rv_run.specs.declared.machine.Moment.{Moment}
 use Rattle.rv_run.specs.State.{MachineState}
 use Rattle.rv_run.specs.private.Reading.{first_or_none}
-use Rattle.rv_run.specs.Progress.{Progress, Went, CountsBy, Passed, Broke, count_of_first, first_due, to_come, retires_plainly}
+use Rattle.rv_run.specs.Progress.{Progress, Went, CountsBy, PassDone, Broke, count_of_first, first_due, to_come, retires_plainly}
 use Rattle.rv_run.specs.private.Queue.{AreOfHarts, HaveRoom, IsNext, Passing, StopsBy, less}
 use Rattle.rv_run.proofs.Slices.{IsDue, due-is, less-are-of}
 use Rattle.rv_run.proofs.Passing.{went-hart, slice-hart, stands-first, stops-first, passed-one, passed-many, broke-many, room-passed, first-count}
@@ -81,7 +81,7 @@ returns-clause-ok c =
     due-is c.self.inside.environment c.self.inside.queue c.args.due.now c.self.invariant.stands (c.requires.due ∙ ap (λ (p : Progress). first_due (to_come p).instants) (sym c.self.view_is)) in
     let first : first_or_none c.self.inside.queue ≡ Some c.in-Some.slice = sym c.first.ensures ∙ c.in-Some.is in
     let next : IsNext c.self.inside.environment c.in-Some.slice = stands-first c.self.inside.environment c.self.inside.queue c.in-Some.slice c.self.invariant.stands first in
-    subst (λ (p : Progress). Passed c.args.due.now.hart c.args.most p (record { state = c.steps-count.new.self; left = c.skip_idle.new.self })) c.self.view_is
+    subst (λ (p : Progress). PassDone c.args.due.now.hart c.args.most p (record { state = c.steps-count.new.self; left = c.skip_idle.new.self })) c.self.view_is
     (passed-many c.args.due.now.hart c.steps-count.result.0 c.min.result c.args.most c.self.inside.environment c.steps-count.new.self c.self.inside.queue c.take_off.new.self c.skip_idle.new.self c.in-Some.slice
     (c.steps-count.ensures.passed next.1) first (slice-hart c.self.inside.environment c.self.inside.queue c.args.due.now c.in-Some.slice due first) c.min.ensures c.steps-count.ensures.few (omega (arith, c.if-count-eq0.false))
     (subst (λ (r : Result Stepped Memory). StopsBy r c.steps-count.result.0 c.min.result c.in-Some.slice.hart c.steps-count.new.self) c.in_ok-last-2.was c.steps-count.ensures.stops) c.take_off.ensures c.skip_idle.ensures.run)

@@ -1,7 +1,7 @@
 use Rattle.std.proofs.Common.{◌≡◌, ◌+◌, ◌<◌, ◌≤◌, ℕ, Bool, true, false, cond, Ok, length, subst, sym, ap, ◌∙◌, arith}
 use Rattle.scope_types.specs.Raw.{Raw}
 use Rattle.scope_types.specs.Distinct.{HartRaw, samples_in}
-use Rattle.scope_types.specs.Limits.{most_path_frames, most_samples}
+use Rattle.scope_types.specs.Limits.{most_frames_in_all, most_samples}
 use Rattle.thread_cct.specs.Adding.{count_sample}
 use Rattle.thread_cct.proofs.Tables.{Tables, all_for, known, too_much, few_enough, harts_stay, samples_more, within_known, within_new}
 use Rattle.thread_cct.proofs.ccts.Ccts.add.Goals as goal
@@ -49,12 +49,12 @@ returns-then-count_again-clause-all c samples is =
     let given = known tables s (sym c.count_again.ensures.found ∙ c.if-count_again.true) ∙ ap Ok (sym (counted_is tables _ s _ c.count_again.ensures.counted c.if-count_again.true)) in
     all_for tables c.args.self.now s c.self.inside.frames _ c.self.view_is c.requires.hart c.self.invariant given samples is
 
-pub returns-then-frames-gt-MOST_PATH_FRAMES-clause-all : goal.returns-then-frames-gt-MOST_PATH_FRAMES-clause-all
-returns-then-frames-gt-MOST_PATH_FRAMES-clause-all c samples is =
+pub returns-then-frames-gt-MOST_FRAMES_IN_ALL-clause-all : goal.returns-then-frames-gt-MOST_FRAMES_IN_ALL-clause-all
+returns-then-frames-gt-MOST_FRAMES_IN_ALL-clause-all c samples is =
     let tables : Tables = c.self.inside.tables.items in
     let s : HartRaw = record { hart = c.args.hart; raw = c.args.raw.now } in
     let new = sym c.count_again.ensures.found ∙ c.if-count_again.false in
-    let many : most_path_frames < c.self.inside.frames + length c.frames.result.now = (let test = c.if-frames-gt-MOST_PATH_FRAMES.true in omega (arith, test)) in
+    let many : most_frames_in_all < c.self.inside.frames + length c.frames.result.now = (let test = c.if-frames-gt-MOST_FRAMES_IN_ALL.true in omega (arith, test)) in
     let given = too_much tables s c.self.inside.frames (length c.frames.result.now) c.self.invariant.is new (ap length c.frames.ensures.frames) many in
     all_for tables c.args.self.now s c.self.inside.frames _ c.self.view_is c.requires.hart c.self.invariant given samples is
 
@@ -63,7 +63,7 @@ invariant_of-self-2 c =
     let tables : Tables = c.self.inside.tables.items in
     let s : HartRaw = record { hart = c.args.hart; raw = c.args.raw.now } in
     let same = stays tables _ s _ c.count_again.ensures.counted c.if-count_again.false in
-    let fits : c.self.inside.frames + length c.frames.result.now ≤ most_path_frames = (let test = c.if-frames-gt-MOST_PATH_FRAMES.false in omega (arith, test)) in
+    let fits : c.self.inside.frames + length c.frames.result.now ≤ most_frames_in_all = (let test = c.if-frames-gt-MOST_FRAMES_IN_ALL.false in omega (arith, test)) in
     within_new tables _ s c.self.inside.frames (length c.frames.result.now) (own_in tables _ c.args.hart c.self.view_is c.requires.hart) c.self.invariant (room_in tables _ c.self.view_is c.requires.few)
     (sym c.count_again.ensures.found ∙ c.if-count_again.false) c.frames.ensures.count.some (ap length c.frames.ensures.frames) fits
     (put_is tables _ _ c.args.hart c.args.raw.now _ same c.in_ok-path.ensures c.in_ok-put_path.ensures.ok)
@@ -88,7 +88,7 @@ returns-clause-all c samples is =
     let tables : Tables = c.self.inside.tables.items in
     let s : HartRaw = record { hart = c.args.hart; raw = c.args.raw.now } in
     let same = stays tables _ s _ c.count_again.ensures.counted c.if-count_again.false in
-    let fits : c.self.inside.frames + length c.frames.result.now ≤ most_path_frames = (let test = c.if-frames-gt-MOST_PATH_FRAMES.false in omega (arith, test)) in
+    let fits : c.self.inside.frames + length c.frames.result.now ≤ most_frames_in_all = (let test = c.if-frames-gt-MOST_FRAMES_IN_ALL.false in omega (arith, test)) in
     let given =
     few_enough tables s c.self.inside.frames (length c.frames.result.now) c.self.invariant.is (sym c.count_again.ensures.found ∙ c.if-count_again.false) (ap length c.frames.ensures.frames) fits
     ∙ ap Ok (sym (put_is tables _ _ c.args.hart c.args.raw.now _ same c.in_ok-path.ensures c.in_ok-put_path.ensures.ok)) in

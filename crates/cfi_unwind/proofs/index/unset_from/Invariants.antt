@@ -1,5 +1,5 @@
 use Rattle.std.proofs.Common.{◌≤◌, length}
-use Rattle.cfi_unwind.proofs.index.last_unset.Given as goal
+use Rattle.cfi_unwind.proofs.index.unset_from.Given as goal
 
 abbrev pub invariant-loop-low : goal.invariant-loop-low
 invariant-loop-low l = l.low ≤ length l.ids
