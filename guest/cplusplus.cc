@@ -2,7 +2,9 @@
 #include <stddef.h>
 #include <stdlib.h>
 
-void *operator new(size_t size)
+#include "guest.h"
+
+LIBRARY void *operator new(size_t size)
 {
     void *place = malloc(size > 0 ? size : 1);
     if (place == nullptr)
@@ -10,32 +12,32 @@ void *operator new(size_t size)
     return place;
 }
 
-void *operator new[](size_t size)
+LIBRARY void *operator new[](size_t size)
 {
     return operator new(size);
 }
 
-void operator delete(void *place) noexcept
+LIBRARY void operator delete(void *place) noexcept
 {
     free(place);
 }
 
-void operator delete[](void *place) noexcept
+LIBRARY void operator delete[](void *place) noexcept
 {
     free(place);
 }
 
-void operator delete(void *place, size_t) noexcept
+LIBRARY void operator delete(void *place, size_t) noexcept
 {
     free(place);
 }
 
-void operator delete[](void *place, size_t) noexcept
+LIBRARY void operator delete[](void *place, size_t) noexcept
 {
     free(place);
 }
 
-extern "C" void __cxa_pure_virtual()
+extern "C" LIBRARY void __cxa_pure_virtual()
 {
     abort();
 }

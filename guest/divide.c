@@ -2,6 +2,8 @@
    After Knuth, The Art of Computer Programming 2, 4.3.1, algorithm D, by the machine's division of 32 bits. */
 #include <stdint.h>
 
+#include "guest.h"
+
 uint64_t __udivdi3(uint64_t number, uint64_t divisor);
 uint64_t __umoddi3(uint64_t number, uint64_t divisor);
 int64_t __divdi3(int64_t number, int64_t divisor);
@@ -69,26 +71,26 @@ static uint64_t size(int64_t number)
     return number < 0 ? -(uint64_t)number : (uint64_t)number;
 }
 
-uint64_t __udivdi3(uint64_t number, uint64_t divisor)
+LIBRARY uint64_t __udivdi3(uint64_t number, uint64_t divisor)
 {
     uint64_t rest;
     return divide(number, divisor, &rest);
 }
 
-uint64_t __umoddi3(uint64_t number, uint64_t divisor)
+LIBRARY uint64_t __umoddi3(uint64_t number, uint64_t divisor)
 {
     uint64_t rest;
     divide(number, divisor, &rest);
     return rest;
 }
 
-int64_t __divdi3(int64_t number, int64_t divisor)
+LIBRARY int64_t __divdi3(int64_t number, int64_t divisor)
 {
     uint64_t quotient = __udivdi3(size(number), size(divisor));
     return (int64_t)((number < 0) != (divisor < 0) ? -quotient : quotient);
 }
 
-int64_t __moddi3(int64_t number, int64_t divisor)
+LIBRARY int64_t __moddi3(int64_t number, int64_t divisor)
 {
     uint64_t rest = __umoddi3(size(number), size(divisor));
     return (int64_t)(number < 0 ? -rest : rest);

@@ -2,7 +2,27 @@
 #ifndef GUEST_H
 #define GUEST_H
 
+/* guest.ld has a block of thread-local storage for each. */
 enum { MOST_HARTS = 64 };
+
+/* What the guest defines a program may define for itself. */
+#define LIBRARY __attribute__((weak))
+
+/* Descriptor 0 is the input, 1 and 2 are the output. There are no others. */
+enum { DESCRIPTORS = 3 };
+
+/* The number of harts, as program.c sets it; 0 where that is not linked. */
+extern int guest_harts;
+
+/* Writes what the harts printed since their last line feeds. Of stdio.c, and null where that is not linked. */
+__attribute__((weak)) void guest_flush_lines(unsigned first, unsigned last);
+
+/* A lock for harts that share memory without atomic instructions (lock.c). */
+struct __lock {
+    volatile unsigned char wants[MOST_HARTS + 1];
+    volatile unsigned char first, second, owner;
+    unsigned depth;
+};
 
 /* An environment call, as Linux numbers them. */
 static inline long guest_call(long number, long first, long second, long third)

@@ -1,9 +1,9 @@
 # Where each hart begins: a0 holds its number, a1 the number of harts, sp its own stack.
 # The caller's return address is undefined here, so that every call path ends at this procedure.
 #
-# __guest_main is main itself, unless the program uses stdin or stdout or is C++: then stdio.c is linked, whose
-# __guest_main runs what stands around main. (The linker script provides the first; the reference is weak, so that
-# it alone doesn't link stdio.c.)
+# __guest_main is that of program.c, which runs what is around main. Where a program is linked without that file, it is
+# main itself, as the linker script provides it; so a program of assembly alone, or one that needs nothing around main,
+# can do with this file and the script.
         .cfi_sections .debug_frame
         .section .text.start, "ax", @progbits
         .globl  _start

@@ -4,6 +4,8 @@
 #include <stdint.h>
 #include <string.h>
 
+#include "guest.h"
+
 typedef uint32_t __attribute__((may_alias)) word;
 
 enum { WORD = sizeof(word) };
@@ -13,7 +15,7 @@ static int is_aligned(const void *place)
     return ((uintptr_t)place & (WORD - 1)) == 0;
 }
 
-void *memset(void *place, int byte, size_t length)
+LIBRARY void *memset(void *place, int byte, size_t length)
 {
     unsigned char *to = place;
     for (; length > 0 && !is_aligned(to); length--)
@@ -30,7 +32,7 @@ void *memset(void *place, int byte, size_t length)
     return place;
 }
 
-void *memcpy(void *restrict place, const void *restrict source, size_t length)
+LIBRARY void *memcpy(void *restrict place, const void *restrict source, size_t length)
 {
     unsigned char *to = place;
     const unsigned char *from = source;
@@ -51,7 +53,7 @@ void *memcpy(void *restrict place, const void *restrict source, size_t length)
     return place;
 }
 
-void *memmove(void *place, const void *source, size_t length)
+LIBRARY void *memmove(void *place, const void *source, size_t length)
 {
     unsigned char *to = place;
     const unsigned char *from = source;
@@ -73,7 +75,7 @@ void *memmove(void *place, const void *source, size_t length)
     return place;
 }
 
-int memcmp(const void *left, const void *right, size_t length)
+LIBRARY int memcmp(const void *left, const void *right, size_t length)
 {
     const unsigned char *a = left, *b = right;
     for (; length > 0; length--, a++, b++)
@@ -82,7 +84,7 @@ int memcmp(const void *left, const void *right, size_t length)
     return 0;
 }
 
-size_t strlen(const char *text)
+LIBRARY size_t strlen(const char *text)
 {
     const char *end = text;
     while (*end != 0)
@@ -90,7 +92,7 @@ size_t strlen(const char *text)
     return (size_t)(end - text);
 }
 
-int strcmp(const char *left, const char *right)
+LIBRARY int strcmp(const char *left, const char *right)
 {
     while (*left != 0 && *left == *right)
         left++, right++;

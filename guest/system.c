@@ -1,8 +1,6 @@
-/* The lower edge of picolibc: read, write, the memory behind malloc, the end, and the library's lock. */
+/* The environment calls as picolibc wants them: read, write and the end; and the memory behind malloc. */
 #include <errno.h>
 #include <stddef.h>
-#include <stdlib.h>
-#include <sys/lock.h>
 #include <unistd.h>
 
 #include "guest.h"
@@ -10,6 +8,8 @@
 #ifndef HEAP_BYTES
 #define HEAP_BYTES (64 << 20)
 #endif
+
+int guest_harts;
 
 /* Gives what an environment call gave, and where it failed sets errno. */
 static long answer(long result)
@@ -20,31 +20,29 @@ static long answer(long result)
     return -1;
 }
 
-ssize_t read(int descriptor, void *place, size_t length)
+LIBRARY ssize_t read(int descriptor, void *place, size_t length)
 {
     return answer(guest_call(63, descriptor, (long)place, (long)length));
 }
 
-ssize_t write(int descriptor, const void *place, size_t length)
+/* The machine takes what there is room for in its output, and in the end nothing. */
+LIBRARY ssize_t write(int descriptor, const void *place, size_t length)
 {
-    return answer(guest_call(64, descriptor, (long)place, (long)length));
+    long written = guest_call(64, descriptor, (long)place, (long)length);
+    return answer(written == 0 && length > 0 ? -ENOSPC : written);
 }
 
-/* Ends all harts. A hart whose main returns ends itself alone. */
-__attribute__((weak)) void _exit(int status)
+/* Ends all harts; a hart that is alone ends itself. */
+LIBRARY void _exit(int status)
 {
+    if (guest_flush_lines)
+        guest_flush_lines(0, MOST_HARTS - 1);
     for (;;)
-        guest_call(94, status, 0, 0);
-}
-
-/* Without signals: the library's would want kill and getpid. */
-void abort(void)
-{
-    _exit(134);
+        guest_call(guest_harts == 1 ? 93 : 94, status, 0, 0);
 }
 
 /* Takes memory from an array, of which a page costs nothing until it is written. */
-void *sbrk(ptrdiff_t size)
+LIBRARY void *sbrk(ptrdiff_t size)
 {
     static char heap[HEAP_BYTES] __attribute__((aligned(16)));
     static size_t used;
@@ -55,60 +53,4 @@ void *sbrk(ptrdiff_t size)
     char *place = heap + used;
     used += (size_t)size;
     return place;
-}
-
-/* The library's lock (malloc, atexit), for harts that share memory without atomic instructions: Lamport's fast
-   mutual exclusion, which is seven loads and stores where no other hart is in the way.
-   Numbers of harts count from 1 here, so that 0 is nobody. */
-struct __lock {
-    volatile unsigned char wants[MOST_HARTS + 1];
-    volatile unsigned char first, second, owner;
-    unsigned depth;
-};
-
-struct __lock __lock___libc_recursive_mutex;
-
-static void acquire(struct __lock *lock, unsigned char self)
-{
-    for (;;) {
-        lock->wants[self] = 1;
-        lock->first = self;
-        if (lock->second != 0) {
-            lock->wants[self] = 0;
-            while (lock->second != 0)
-                ;
-            continue;
-        }
-        lock->second = self;
-        if (lock->first == self)
-            return;
-        lock->wants[self] = 0;
-        for (unsigned other = 1; other <= MOST_HARTS; other++)
-            while (lock->wants[other] != 0)
-                ;
-        if (lock->second == self)
-            return;
-        while (lock->second != 0)
-            ;
-    }
-}
-
-void __retarget_lock_acquire_recursive(_LOCK_T lock)
-{
-    unsigned char self = (unsigned char)(guest_hart() + 1);
-    if (lock->owner != self) {
-        acquire(lock, self);
-        lock->owner = self;
-    }
-    lock->depth++;
-}
-
-void __retarget_lock_release_recursive(_LOCK_T lock)
-{
-    if (--lock->depth > 0)
-        return;
-    unsigned char self = lock->owner;
-    lock->owner = 0;
-    lock->second = 0;
-    lock->wants[self] = 0;
 }
