@@ -7,15 +7,16 @@ also where the path has the call several times (recursion). `calls=` counts samp
 `<thread root>` and `<partial call paths>` are procedures that call the outermost ones.
 """
 from collections import defaultdict
+from itertools import compress
 
-from .contexts import ROOT_NAMES, Labels, encoded, ends, exclusive, inclusive, procedure_nodes
+from .contexts import ROOT_NAMES, Labels, encoded, ends, is_place
 from .database import CALL, INLINE, PROC, ROOT, STMT
 
 UNKNOWN = "???"
 
 
 def write(out, database, options):
-    profile = _Profile(database, options.harts)
+    profile = _Profile(database, options.shown)
     has_address, has_row = profile.positions()
     columns = " ".join(name for name, has in (("instr", has_address), ("line", has_row or not has_address)) if has)
     head = (
@@ -35,59 +36,72 @@ class _Profile:
     """The costs by function. A function is a procedure's place in the list, or -1 - kind for a root. A block of a
     function is (whether it is inlined, its file)."""
 
-    def __init__(self, database, harts):
+    def __init__(self, database, shown):
         self.nodes, self.labels = database.nodes, Labels(database)
-        self.own = exclusive(database, harts)
-        self.all = inclusive(database, harts)
+        self.own = shown.exclusive(database)
+        self.all = shown.inclusive(database)
         self.period = database.period
         self.total = sum(self.own)
-        self.files = {}
         # Function, block, line: cost. Function, block, line, called function: cost and samples.
         self.costs = defaultdict(lambda: defaultdict(lambda: defaultdict(int)))
         self.calls = defaultdict(lambda: defaultdict(lambda: defaultdict(int)))
-        self._gather()
+        self.function_of = self._functions()
+        self.files = self._files()
+        self._gather_costs()
+        self._gather_calls()
         self.functions = {-1 - kind for kind, scope in zip(self.nodes.operand, self.nodes.scope) if scope == ROOT}
         self.functions |= set(self.costs) | set(self.calls)
         self.functions |= {called for blocks in self.calls.values() for calls in blocks.values() for _, called in calls}
 
-    def function(self, node):
-        operand = self.nodes.operand[node]
-        return -1 - operand if self.nodes.scope[node] == ROOT else operand
+    def _functions(self):
+        """For each node the function that it lies in."""
+        found, nodes = [0] * len(self.nodes), self.nodes
+        for node, (scope, parent, operand) in enumerate(zip(nodes.scope, nodes.parent, nodes.operand)):
+            found[node] = found[parent] if scope > PROC else operand if scope == PROC else -1 - operand
+        return found
+
+    def _files(self):
+        """Each function's file: that of the first place that is its own, not of what is inlined in it."""
+        nodes = self.nodes
+        is_own = bytes(scope in (CALL, STMT) for scope in nodes.scope)
+        own = [
+            (function, file)
+            for function, file, parent in compress(zip(self.function_of, nodes.line_file, nodes.parent), is_own)
+            if file >= 0 and nodes.scope[parent] == PROC
+        ]
+        # Of two the first one stays.
+        return dict(reversed(own))
 
     def name(self, function):
         return ROOT_NAMES[-1 - function] if function < 0 else self.labels.procedures[function]
 
     def positions(self):
         """Whether places are addresses, and whether they are rows of line tables."""
-        places = {file >= 0 for file, scope in zip(self.nodes.line_file, self.nodes.scope) if scope in (CALL, STMT)}
+        places = {file >= 0 for file, scope in set(zip(self.nodes.line_file, self.nodes.scope)) if is_place(scope)}
         return False in places, True in places
 
-    def _gather(self):
-        nodes, end, above, covered = self.nodes, ends(self.nodes), procedure_nodes(self.nodes), {}
-        for node, parent in enumerate(nodes.parent):
-            scope, value = nodes.scope[node], self.all[node]
-            if scope in (CALL, STMT):
-                self._place(node, self.function(above[node]), self.own[node])
-            elif scope == PROC and value:
-                caller = self.function(above[parent])
-                key = caller, nodes.line_file[parent], nodes.line[parent], self.function(node)
+    def _gather_costs(self):
+        for node, cost in enumerate(self.own):
+            if cost:
+                self.costs[self.function_of[node]][self._block(node)][self.nodes.line[node]] += cost
+
+    def _gather_calls(self):
+        nodes, end, covered = self.nodes, ends(self.nodes), {}
+        for node in compress(range(len(nodes)), bytes(scope == PROC for scope in nodes.scope)):
+            value = self.all[node]
+            if value:
+                parent = nodes.parent[node]
+                caller, called = self.function_of[parent], self.function_of[node]
+                key = caller, nodes.line_file[parent], nodes.line[parent], called
                 if node >= covered.get(key, 0):
                     covered[key] = end[node]
-                    call = nodes.line[parent], self.function(node)
-                    self.calls[caller][self._block(parent)][call] += value
+                    self.calls[caller][self._block(parent)][nodes.line[parent], called] += value
 
     def _block(self, node):
         """The block of a Call or Stmt, or of a root."""
         nodes = self.nodes
         is_inlined = nodes.parent[node] >= 0 and nodes.scope[nodes.parent[node]] == INLINE
         return is_inlined, nodes.line_file[node]
-
-    def _place(self, node, function, cost):
-        is_inlined, file = self._block(node)
-        if not is_inlined and file >= 0:
-            self.files.setdefault(function, file)
-        if cost:
-            self.costs[function][is_inlined, file][self.nodes.line[node]] += cost
 
 
 class _Writer:

@@ -1,7 +1,9 @@
-"""What several formats need of a database: names as text, values summed over harts, and the tree's shape."""
+"""What several formats need of a database: names as text, the values that are shown, and the tree's shape."""
 from array import array
+from dataclasses import dataclass
+from typing import List
 
-from .database import CALL, EXCLUSIVE, INCLUSIVE, INLINE, PROC, ROOT
+from .database import CALL, INLINE, PROC, ROOT, STMT
 
 ROOT_NAMES = ("<thread root>", "<partial call paths>")
 
@@ -50,38 +52,68 @@ class Labels:
         return f"call at {self.place(node)}" if scope == CALL else self.place(node)
 
 
-def summed(database, harts, kind):
-    """Each node's value of a kind, summed over these harts."""
-    values = array("Q", bytes(8 * len(database.nodes)))
-    for hart in harts:
-        plane = database.planes[hart]
-        for node, found, value in zip(plane.node, plane.kind, plane.value):
-            if found == kind:
-                values[node] += value
-    return values
+@dataclass
+class Shown:
+    """Which of a database's values are shown: today those of some harts, summed. The writers ask here alone, and the
+    page has the same choice (page/shown.js)."""
 
+    harts: List[int]
 
-def exclusive(database, harts):
-    return summed(database, harts, EXCLUSIVE)
+    def sampled(self, database):
+        """The nodes with exclusive values and these values, hart by hart."""
+        for hart in self.harts:
+            yield from zip(database.planes[hart].node, database.planes[hart].value)
 
+    def exclusive(self, database):
+        """Each node's exclusive value."""
+        values = [0] * len(database.nodes)
+        for node, value in self.sampled(database):
+            values[node] += value
+        return values
 
-def inclusive(database, harts):
-    return summed(database, harts, INCLUSIVE)
+    def inclusive(self, database):
+        """Each node's inclusive value."""
+        values = self.exclusive(database)
+        values.append(0)
+        node = len(database.nodes)
+        for parent in reversed(database.nodes.parent):
+            node -= 1
+            values[parent] += values[node]
+        values.pop()
+        return values
+
+    def total(self, database):
+        return sum(sum(database.planes[hart].value) for hart in self.harts)
+
+    def kept(self, database, percent):
+        """For each node whether it has this share of the total or more. Roots are kept, and all where it is 0."""
+        least = percent * self.total(database) / 100
+        if not least:
+            return bytes([1]) * len(database.nodes)
+        scopes = database.nodes.scope
+        return bytes([value >= least or scope == ROOT for value, scope in zip(self.inclusive(database), scopes)])
 
 
 def ends(nodes):
     """For each node the first one behind all that lie below it."""
-    end = array("q", range(1, len(nodes) + 1))
-    for node in range(len(nodes) - 1, -1, -1):
-        parent = nodes.parent[node]
-        if parent >= 0 and end[node] > end[parent]:
+    end = array("q", bytes(8 * (len(nodes) + 1)))
+    node = len(nodes)
+    for parent in reversed(nodes.parent):
+        node -= 1
+        if not end[node]:
+            end[node] = node + 1
+        if not end[parent]:
             end[parent] = end[node]
     return end
+
+
+def is_place(scope):
+    return scope in (CALL, STMT)
 
 
 def procedure_nodes(nodes):
     """For each node the nearest Proc at or above it, or the root where there is none."""
     found = array("q", bytes(8 * len(nodes)))
-    for node, parent in enumerate(nodes.parent):
-        found[node] = node if nodes.scope[node] in (ROOT, PROC) else found[parent]
+    for node, (parent, scope) in enumerate(zip(nodes.parent, nodes.scope)):
+        found[node] = node if scope <= PROC else found[parent]
     return found

@@ -1,14 +1,13 @@
-"""The fields of a database, docs/FORMATS.md, version 1: nothing of the proved program is called.
+"""A database in memory, and what its readers share.
 
-`read_fields` gives a Database, or raises Malformed with an offset where a field is broken: rules 1 and 2 of rules.py.
-A million nodes are read in seconds: words are kept in arrays.
+Nothing of the proved program is called. A million nodes are read in about two seconds: what is numbers is kept in
+arrays, and as much as can be is done by the library's loops over whole arrays.
 """
 import sys
 from array import array
-from dataclasses import dataclass, field
+from dataclasses import dataclass
 from typing import List
 
-MAGIC = b"HPCPROF1"
 NONE = 0xFFFFFFFF
 
 # Scopes of a node.
@@ -31,7 +30,7 @@ class Malformed(Exception):
 
 @dataclass
 class Procedure:
-    """Its identity, DIE, SYMBOL or NAMELESS with a number, and the offset of its entry."""
+    """Its identity, DIE, SYMBOL or NAMELESS with a number, and the offset of its entry in the file."""
 
     kind: int
     number: int
@@ -41,7 +40,7 @@ class Procedure:
 
 @dataclass
 class File:
-    """A line table's offset, the number of the file in it, and the offset of its entry."""
+    """A line table's offset, the number of the file in it, and the offset of its entry in the file."""
 
     table: int
     number: int
@@ -52,37 +51,52 @@ class File:
 @dataclass
 class Nodes:
     """The nodes in preorder, a column for each field. The parent of a root is -1. `operand` is the root's kind, or the
-    place of the procedure; `line_file` is the place of the line's file, or -1 where the line is an address; `line` is
-    the line's number or address. Fields that a scope doesn't have are -1."""
+    place of the procedure, and has no meaning for calls and statements; `line_file` is the place of the line's file, or
+    -1 where the line is an address or there is none; `line` is the line's number or address. `fields` are those of
+    each node behind its parent, of one length, which compare as siblings do. They begin in the file at `offset`."""
 
-    parent: array = field(default_factory=lambda: array("q"))
-    scope: bytearray = field(default_factory=bytearray)
-    operand: array = field(default_factory=lambda: array("q"))
-    line_file: array = field(default_factory=lambda: array("q"))
-    line: array = field(default_factory=lambda: array("q"))
-    offset: array = field(default_factory=lambda: array("q"))
+    parent: array
+    scope: bytes
+    operand: array
+    line_file: array
+    line: array
+    fields: list
+    offset: int
 
     def __len__(self):
         return len(self.scope)
 
+    def offset_of(self, node):
+        """Where a node's fields begin in the file."""
+        lengths = {ROOT: 12, PROC: 12, INLINE: 24, CALL: 20, STMT: 20}
+        of_addresses = sum(scope >= INLINE and file < 0 for scope, file in zip(self.scope[:node], self.line_file))
+        return self.offset + sum(map(lengths.__getitem__, self.scope[:node])) - 4 * of_addresses
+
 
 @dataclass
 class Plane:
-    """One hart's entries: columns of nodes, kinds and values, and the offset of its number of entries."""
+    """One hart's samples: the nodes that have some, ascending, their values, and how many samples these are; and the
+    plane's entries as bytes, with the offset of its number of entries."""
 
     offset: int
+    data: bytes
     node: array
-    kind: array
     value: array
+    samples: array
 
     @property
     def entries(self):
         return self.offset + 4
 
+    def columns(self):
+        """The columns of the entries: nodes, kinds and values."""
+        words = numbers("I", self.data)
+        return words[0::4], words[1::4], numbers("Q", self.data)[1::2]
+
 
 @dataclass
 class Context:
-    """The bytes of the context plane, and the offset where they begin."""
+    """The bytes from the context plane on, and the offset where they begin."""
 
     offset: int
     data: bytes
@@ -90,6 +104,8 @@ class Context:
 
 @dataclass
 class Database:
+    """`planes` has one for each hart; values are samples times the period."""
+
     period: int
     harts: int
     procedures: List[Procedure]
@@ -99,128 +115,10 @@ class Database:
     context: Context
 
 
-def read_fields(data):
-    """The database whose fields these bytes are."""
-    if data[:8] != MAGIC:
-        raise Malformed(1, 0)
-    reader = _Reader(data, 8)
-    period, harts, procedures, files, nodes = (reader.word() for _ in range(5))
-    found = Database(
-        period,
-        harts,
-        [_read_name(reader, Procedure) for _ in range(procedures)],
-        [_read_name(reader, File) for _ in range(files)],
-        _read_nodes(reader, nodes),
-        [_read_plane(reader) for _ in range(harts)],
-        _read_context(reader, nodes),
-    )
-    if reader.at != len(data):
-        raise Malformed(2, reader.at)
-    return found
-
-
-# ---- rule 2: the fields
-
-
-def _words(data):
-    """Little endian words of 4 bytes."""
-    words = array("I")
-    words.frombytes(data)
+def numbers(kind, data):
+    """The little endian numbers of these bytes, of 4 bytes (`I`) or 8 (`Q`)."""
+    found = array(kind)
+    found.frombytes(data)
     if sys.byteorder == "big":
-        words.byteswap()
-    return words
-
-
-class _Reader:
-    """A place in the bytes."""
-
-    def __init__(self, data, at):
-        self.data, self.at = data, at
-
-    def need(self, length):
-        """Refuses a field of this length that runs past the end."""
-        if self.at + length > len(self.data):
-            raise Malformed(2, self.at)
-
-    def word(self):
-        self.need(4)
-        self.at += 4
-        return int.from_bytes(self.data[self.at - 4 : self.at], "little")
-
-    def text(self, length):
-        self.need(length)
-        self.at += length
-        return self.data[self.at - length : self.at]
-
-
-def _read_name(reader, entry):
-    """A procedure or a file: two words and a name."""
-    offset = reader.at
-    first, second = reader.word(), reader.word()
-    return entry(first, second, reader.text(reader.word()), offset)
-
-
-def _read_nodes(reader, count):
-    nodes, start = Nodes(), reader.at
-    words = _words(reader.data[start : start + (len(reader.data) - start) // 4 * 4])
-    at, most = 0, len(words)
-    parents, scopes, operands = nodes.parent.append, nodes.scope.append, nodes.operand.append
-    line_files, lines, offsets = nodes.line_file.append, nodes.line.append, nodes.offset.append
-    for _ in range(count):
-        offsets(start + 4 * at)
-        if at + 2 > most:
-            raise Malformed(2, start + 4 * most)
-        parent, scope = words[at], words[at + 1]
-        if scope > STMT:
-            raise Malformed(2, start + 4 * (at + 1))
-        has_line = scope >= INLINE
-        line_at = at + 2 + (scope <= INLINE)
-        if line_at + has_line > most:
-            raise Malformed(2, start + 4 * most)
-        parents(-1 if parent == NONE else parent)
-        scopes(scope)
-        operands(words[at + 2] if scope <= INLINE else -1)
-        at = line_at
-        if not has_line:
-            line_files(-1)
-            lines(-1)
-            continue
-        kind = words[at]
-        if kind > ADDRESS:
-            raise Malformed(2, start + 4 * at)
-        at += 3 if kind == ROW else 2
-        if at > most:
-            raise Malformed(2, start + 4 * most)
-        line_files(words[at - 2] if kind == ROW else -1)
-        lines(words[at - 1])
-    reader.at = start + 4 * at
-    return nodes
-
-
-def _read_plane(reader):
-    offset = reader.at
-    count = reader.word()
-    whole = (len(reader.data) - reader.at) // 16
-    if count > whole:
-        rest = (len(reader.data) - reader.at) % 16
-        raise Malformed(2, reader.at + 16 * whole + (rest // 4 * 4 if rest < 8 else 8))
-    words = _words(reader.text(16 * count))
-    values = array("Q", [low | high << 32 for low, high in zip(words[2::4], words[3::4])])
-    return Plane(offset, words[0::4], words[1::4], values)
-
-
-def _read_context(reader, nodes):
-    """The context plane as bytes: its numbers of entries must lie in the file, what they are is rule 7's."""
-    start, data = reader.at, reader.data
-    words = _words(data[start : start + (len(data) - start) // 4 * 4])
-    at, most = 0, len(words)
-    for _ in range(nodes):
-        if at >= most:
-            raise Malformed(2, start + 4 * most)
-        count = words[at]
-        if at + 1 + 4 * count > most:
-            entries, rest = divmod(most - at - 1, 4)
-            raise Malformed(2, start + 4 * (at + 1 + 4 * entries + min(rest, 2)))
-        at += 1 + 4 * count
-    reader.at = start + 4 * at
-    return Context(start, data[start : reader.at])
+        found.byteswap()
+    return found

@@ -2,45 +2,64 @@
 
 As flamegraph.pl, inferno and speedscope read them: frames are separated by `;`, the cost stands behind a space. Inlined
 procedures end by `_[i]`, as flamegraph.pl expects. With places the places of calls and the sampled statements are
-frames too. Stacks of one text are one line, in the order in which they come first.
+frames too. Stacks of one text are one line, in the order in which they come first, or by falling cost.
 """
-from .contexts import Labels, encoded, exclusive
-from .database import CALL, INLINE, STMT
+from .contexts import ROOT_NAMES, Labels, encoded
+from .database import CALL, INLINE, PROC, STMT
 
 
 def write(out, database, options):
-    labels = Labels(database)
-    for stack, cost in _stacks(database, labels, exclusive(database, options.harts), options.with_places):
-        out.write(b"%s %d\n" % (encoded(stack), cost))
+    above, frames, costs = _stacks(database, options)
+    stacks = [stack for stack, cost in enumerate(costs) if cost]
+    if options.by_cost:
+        stacks.sort(key=costs.__getitem__, reverse=True)
+    for stack in stacks:
+        out.write(encoded(f"{_text(above, frames, stack)} {costs[stack]}\n"))
 
 
-def _stacks(database, labels, values, with_places):
-    """Each distinct stack with its cost.
+def _stacks(database, options):
+    """The distinct stacks: for each the stack above it (-1 where there is none), its last frame and its cost.
 
     A stack has a number, which its last frame and the number of what is above it give. So the text of a stack is made
     only where it is written.
     """
-    nodes = database.nodes
+    nodes, kept = database.nodes, options.shown.kept(database, options.min_percent)
+    frame_of = _Frames(database)
     numbers, above, frames, costs = {}, [], [], []
-    stack_of = [0] * len(nodes)
-    for node, parent in enumerate(nodes.parent):
-        stack = stack_of[parent] if parent >= 0 else -1
-        if with_places or nodes.scope[node] not in (CALL, STMT):
-            key = stack, _frame(nodes, labels, node)
-            if key not in numbers:
-                numbers[key] = len(above)
+    stack_of = [-1] * (len(nodes) + 1)
+    below = STMT + 1 if options.with_places else CALL
+    for node, (parent, scope, keeps) in enumerate(zip(nodes.parent, nodes.scope, kept)):
+        stack = stack_of[parent]
+        if scope < below and keeps:
+            frame = frame_of[node] if scope >= CALL else frame_of[scope, nodes.operand[node]]
+            key = stack, frame
+            found = numbers.get(key)
+            if found is None:
+                found = numbers[key] = len(above)
                 above.append(stack)
-                frames.append(key[1])
-                costs.append(0)
-            stack = numbers[key]
+                frames.append(frame)
+            stack = found
         stack_of[node] = stack
-        costs[stack] += values[node]
-    return ((_text(above, frames, stack), cost) for stack, cost in enumerate(costs) if cost)
+    costs = [0] * len(above)
+    for node, value in options.shown.sampled(database):
+        costs[stack_of[node]] += value
+    return above, frames, costs
 
 
-def _frame(nodes, labels, node):
-    name = labels.procedure(node) + "_[i]" if nodes.scope[node] == INLINE else labels[node]
-    return name.replace(";", ":")
+class _Frames(dict):
+    """The text of a frame, by a scope and its procedure, or for a place by its node."""
+
+    def __init__(self, database):
+        super().__init__()
+        self.labels = Labels(database)
+        for place, name in enumerate(self.labels.procedures):
+            self[PROC, place] = name.replace(";", ":")
+            self[INLINE, place] = name.replace(";", ":") + "_[i]"
+
+    def __missing__(self, key):
+        if isinstance(key, tuple):
+            return ROOT_NAMES[key[1]]
+        return self.labels[key].replace(";", ":")
 
 
 def _text(above, frames, stack):

@@ -1,7 +1,7 @@
-"""One page for a browser, without any network: page.html with the database in it.
+"""One page for a browser, without any network: the files of page/ put together, with the database in it.
 
 The page gets the nodes and the exclusive counts of samples; all sums are its own. They are columns of numbers, deflated
-and in base64; the names are JSON.
+and in base64; the names are JSON, and so are the sources that were found, deflated too.
 """
 import base64
 import json
@@ -12,19 +12,26 @@ from array import array
 from pathlib import Path
 
 from .contexts import readable
-from .database import EXCLUSIVE
 
-TEMPLATE = Path(__file__).with_name("page.html")
+FOLDER = Path(__file__).with_name("page")
+# One script of the page each, in this order.
+SCRIPTS = (
+    "profile.js", "shown.js", "graph.js", "colors.js", "icicle.js", "rows.js", "tables.js", "grid.js", "search.js",
+    "source.js", "filters.js", "panes.js", "link.js", "view.js", "main.js",
+)
 
 
 def write(out, database, options):
     contents = {
         "TITLE": _escaped(options.title),
+        "STYLE": (FOLDER / "style.css").read_text("utf-8"),
+        "SCRIPT": "\n".join((FOLDER / name).read_text("utf-8") for name in SCRIPTS),
         "NAMES": _names(database, options),
-        "COLUMNS": _columns(database, options),
+        "SOURCES": _packed([_json(_sources(database, options)).encode()]),
+        "COLUMNS": _packed(_columns(database, options)),
     }
     # Text and marks in turn.
-    parts = re.split("@(TITLE|NAMES|COLUMNS)@", TEMPLATE.read_text("utf-8"))
+    parts = re.split("@(TITLE|STYLE|SCRIPT|NAMES|SOURCES|COLUMNS)@", (FOLDER / "body.html").read_text("utf-8"))
     for place, part in enumerate(parts):
         out.write((contents[part] if place % 2 else part).encode())
 
@@ -33,44 +40,56 @@ def _escaped(text):
     return text.replace("&", "&amp;").replace("<", "&lt;")
 
 
+def _json(value):
+    return json.dumps(value, separators=(",", ":"))
+
+
 def _names(database, options):
+    planes = [database.planes[hart] for hart in options.shown.harts]
     names = {
         "title": options.title,
+        "version": 1,
         "period": database.period,
-        "harts": options.harts,
+        "harts": options.shown.harts,
         "procedures": [readable(procedure.name) for procedure in database.procedures],
         "files": [readable(file.name) for file in database.files],
         "nodes": len(database.nodes),
-        "samples": [sum(counts) for _, counts in _samples(database, options)],
-        "entries": [len(counts) for _, counts in _samples(database, options)],
+        "samples": [sum(plane.samples) for plane in planes],
+        "entries": [len(plane.node) for plane in planes],
+        "minimum": options.min_percent,
+        "partial": options.causes,
     }
     # Within a script element nothing may look like its end.
-    return json.dumps(names, separators=(",", ":")).replace("<", "\\u003c")
+    return _json(names).replace("<", "\\u003c")
 
 
-def _samples(database, options):
-    """For each hart the nodes with exclusive samples, and their numbers of samples."""
-    for hart in options.harts:
-        plane, nodes, counts = database.planes[hart], array("I"), array("I")
-        for node, kind, value in zip(plane.node, plane.kind, plane.value):
-            if kind == EXCLUSIVE:
-                nodes.append(node)
-                counts.append(value // database.period)
-        yield nodes, counts
+def _sources(database, options):
+    """The lines of each file that is found, by its place in the list of files."""
+    found = {}
+    for place, file in enumerate(database.files):
+        lines = options.sources.lines(readable(file.name))
+        if lines is not None:
+            found[place] = lines
+    return found
 
 
 def _columns(database, options):
-    """Columns of 4 bytes each: parent, operand, file of the line, line (the first three -1 where there is none); for
-    each hart its nodes and counts; and at last the scopes of a byte each."""
+    """Columns of 4 bytes each: how far the parent stands before (0 where there is none), operand, file of the line (-1
+    where there is none), line; for each hart its nodes and counts; and at last the scopes of a byte each."""
     nodes = database.nodes
-    columns = [array("i", column) for column in (nodes.parent, nodes.operand, nodes.line_file)]
-    columns.append(array("I", [max(line, 0) for line in nodes.line]))
-    for pair in _samples(database, options):
-        columns += pair
+    parent = [node - above if above >= 0 else 0 for node, above in enumerate(nodes.parent)]
+    columns = [array("i", column) for column in (parent, nodes.operand, nodes.line_file)]
+    columns.append(array("I", [line if line > 0 else 0 for line in nodes.line]))
+    for hart in options.shown.harts:
+        plane = database.planes[hart]
+        columns += array("I", plane.node), array("I", plane.samples)
     if sys.byteorder == "big":
         for column in columns:
             column.byteswap()
-    packer = zlib.compressobj(6)
-    packed = [packer.compress(column.tobytes()) for column in columns]
-    packed += [packer.compress(bytes(nodes.scope)), packer.flush()]
-    return base64.b64encode(b"".join(packed)).decode()
+    return [column.tobytes() for column in columns] + [nodes.scope]
+
+
+def _packed(parts):
+    packer = zlib.compressobj(4)
+    packed = [packer.compress(part) for part in parts]
+    return base64.b64encode(b"".join(packed) + packer.flush()).decode()

@@ -1,29 +1,46 @@
 """The command hpc-export."""
 import argparse
 import contextlib
+import gc
 import os
 import stat
 import sys
 import tempfile
-from dataclasses import dataclass
+from dataclasses import dataclass, field
 from typing import List
 
-from . import callgrind, folded, html, speedscope
+from . import callgrind, folded, html, linkage_names, measurement, source, speedscope
+from .contexts import Shown
 from .database import Malformed
-from .rules import read
+from .reader import read
+from .sources import Sources
 
-WRITERS = {"folded": folded, "speedscope": speedscope, "callgrind": callgrind, "html": html}
+WRITERS = {"folded": folded, "speedscope": speedscope, "callgrind": callgrind, "html": html, "source": source}
+# Which formats have which options.
+ONLY = {
+    "--min-percent": ("folded", "speedscope", "html", "source"),
+    "--by-cost": ("folded",),
+    "--source": ("html", "source"),
+    "--measurement": ("html",),
+}
 
-MALFORMED, DEVICE = 3, 4
+INVALID, MALFORMED, DEVICE = 2, 3, 4
 
 
 @dataclass
 class Options:
-    """What a format may be told: its title, the harts, and whether places of calls and statements are frames."""
+    """What a format may be told: its title, which values are shown, whether places of calls and statements are frames,
+    the share of the total below which scopes are left out, whether the costliest comes first, where sources are, the
+    file whose source is written, and why call paths are partial (texts with numbers of samples)."""
 
     title: str
-    harts: List[int]
-    with_places: bool
+    shown: Shown
+    with_places: bool = False
+    min_percent: float = 0
+    by_cost: bool = False
+    sources: Sources = None
+    file: str = ""
+    causes: List = field(default_factory=list)
 
 
 class Refused(Exception):
@@ -37,18 +54,39 @@ def _arguments():
         prog="hpc-export",
         description="Exports a profiler's database for other tools, or as a page for a browser.",
         epilog="folded: collapsed stacks for flamegraph.pl, inferno, speedscope. speedscope: its own format. "
-        "callgrind: for KCachegrind and callgrind_annotate. html: a page of its own, without any network. "
+        "callgrind: for KCachegrind and callgrind_annotate. html: a page of its own, without any network. source: the "
+        "text of FILE with the cost of each line. "
         "Status: 0 done, 2 an invalid command line, 3 a malformed database, 4 a file that can't be read or written.",
     )
     parser.add_argument("database", metavar="DB", help="the database that `hpc profile` stored")
     parser.add_argument("format", metavar="FORMAT", choices=list(WRITERS), help=" | ".join(WRITERS))
+    parser.add_argument("file", metavar="FILE", nargs="?", help="source: the file, by its name or the end of it")
     parser.add_argument("-o", dest="output", metavar="FILE", help="write to FILE in place of standard output")
     parser.add_argument("--hart", type=int, action="append", metavar="H", help="this hart alone (may be repeated)")
-    parser.add_argument(
-        "--places", action="store_true", help="folded and speedscope: places of calls and statements are frames too"
-    )
     parser.add_argument("--title", help="the title of what is written (default: the database's name)")
+    parser.add_argument("--elf", metavar="PROGRAM", help="name procedures as PROGRAM's linkage names do: classes too")
+    parser.add_argument(
+        "--places", action="store_true", help="folded, speedscope: places of calls and statements are frames too"
+    )
+    parser.add_argument("--by-cost", action="store_true", help="folded: the costliest stack first")
+    parser.add_argument(
+        "--min-percent", type=_percent, default=0, metavar="P",
+        help="folded, speedscope: scopes with less of the total are left out, their cost is the scope's above; "
+        "html: the page begins so; source: lines with less have no figures",
+    )
+    parser.add_argument(
+        "--source", action="append", metavar="FOLDER|FROM=TO",
+        help="html, source: where sources lie, or how names begin there (may be repeated)",
+    )
+    parser.add_argument("--measurement", metavar="MEASURE", help="html: say why call paths are partial")
     return parser
+
+
+def _percent(word):
+    share = float(word)
+    if not 0 <= share <= 100:
+        raise ValueError(word)
+    return share
 
 
 def _read_file(name):
@@ -87,19 +125,71 @@ def _umask():
     return mask
 
 
-def _export(words):
+def _database(words):
     try:
         database = read(_read_file(words.database))
     except Malformed as error:
         raise Refused(MALFORMED, f"{words.database}: {error}") from error
+    if words.elf is None:
+        return database
+    try:
+        return linkage_names.with_linkage_names(database, words.elf)
+    except OSError as error:
+        raise Refused(DEVICE, f"{words.elf}: {error.strerror}") from error
+    except linkage_names.NoNames as error:
+        raise Refused(INVALID, str(error)) from error
+
+
+def _causes(words, database):
+    """Why call paths are partial, the most samples first."""
+    if words.measurement is None:
+        return []
+    try:
+        measured = measurement.read(_read_file(words.measurement))
+    except measurement.Malformed as error:
+        raise Refused(MALFORMED, f"{words.measurement}: {error}") from error
+    counted = sum(path.samples for paths in measured.harts for path in paths)
+    samples = sum(sum(plane.samples) for plane in database.planes)
+    if (measured.period, counted) != (database.period, samples):
+        raise Refused(MALFORMED, f"{words.measurement}: the measurement of another database")
+    return [[measurement.CAUSES[end], count] for end, count in measurement.causes(measured).most_common()]
+
+
+def _options(words, database):
     harts = sorted(set(words.hart)) if words.hart else list(range(database.harts))
     if not set(harts) <= set(range(database.harts)):
-        raise Refused(2, f"{words.database}: harts are 0 to {database.harts - 1}")
-    title = words.title or os.path.basename(words.database)
+        raise Refused(INVALID, f"{words.database}: harts are 0 to {database.harts - 1}")
+    return Options(
+        title=words.title or os.path.basename(words.database),
+        shown=Shown(harts),
+        with_places=words.places,
+        min_percent=words.min_percent,
+        by_cost=words.by_cost,
+        sources=Sources(words.source or []),
+        file=words.file,
+        causes=_causes(words, database),
+    )
+
+
+def _check_words(words):
+    """Refuses options that the format doesn't have."""
+    for option, formats in ONLY.items():
+        if getattr(words, option[2:].replace("-", "_")) and words.format not in formats:
+            raise Refused(INVALID, f"{words.format} has no {option}")
+    if (words.file is not None) != (words.format == "source"):
+        raise Refused(INVALID, "source wants a FILE" if words.format == "source" else f"{words.format} takes no FILE")
+
+
+def _export(words):
+    _check_words(words)
+    database = _database(words)
+    options = _options(words, database)
     try:
         with _opened(words.output) as out:
-            WRITERS[words.format].write(out, database, Options(title, harts, words.places))
+            WRITERS[words.format].write(out, database, options)
             out.flush()
+    except source.NotFound as error:
+        raise Refused(INVALID, str(error)) from error
     except BrokenPipeError:
         # The reader has what it wanted (`| head`).
         sys.stdout = None
@@ -109,6 +199,8 @@ def _export(words):
 
 def main():
     words = _arguments().parse_args()
+    # Nothing here refers to itself, and millions of objects would be looked at again and again.
+    gc.disable()
     try:
         _export(words)
     except Refused as refusal:

@@ -9,7 +9,7 @@ from collections import defaultdict
 import databases
 from exporter import TOP, complain, exported, printed, same
 
-SCHEMA = json.loads((TOP / "checks" / "speedscope.schema.json").read_text())
+SCHEMA = json.loads((TOP / "checks" / "exports" / "speedscope.schema.json").read_text())
 
 
 # ---- folded stacks

@@ -22,19 +22,21 @@ def look_at_page(name, database, profile, period, harts):
     for mark in ("http:", "https:", "src=", "href=", "@import", "url("):
         if mark in text:
             complain(f"{name}: the page has {mark}, though it has no network")
-    same(f"{name}: scripts of the page", text.count("</script>"), 3)
+    same(f"{name}: scripts of the page", text.count("</script>"), 4)
     names, columns = page_columns(text)
     nodes = databases.tree(profile)
     same(f"{name}: the page's nodes", names["nodes"], len(nodes))
-    parents = [-1 if node.parent.number is None else node.parent.number for node in nodes]
-    same(f"{name}: the page's parents", list(struct.unpack_from(f"<{len(nodes)}i", columns)), parents)
+    before = [0 if node.parent.number is None else node.number - node.parent.number for node in nodes]
+    found = list(struct.unpack_from(f"<{len(nodes)}i", columns))
+    same(f"{name}: how far the page's parents stand before", found, before)
     samples = [sum(count for owner, count, _ in profile if owner == hart) for hart in range(harts)]
     same(f"{name}: the page's samples", names["samples"], samples)
     same(f"{name}: the page's period", names["period"], period)
 
 
 ALL_TABLES = """
-const tables = () => ({top: hpc.table("top"), callers: hpc.table("callers", %d), flat: hpc.table("flat")});
+const tables = () => ({top: hpc.table("top"), callers: hpc.table("callers", %d), callees: hpc.table("callees", %d),
+  flat: hpc.table("flat")});
 const found = {all: tables()};
 for (let hart = 0; hart < profile.harts.length; hart++) { view.setHart(hart); found[hart] = tables(); }
 view.setHart(-1);
@@ -76,12 +78,13 @@ def shown(rows):
 
 def look_in_browser(window, name, page, profile, period, words):
     window.open(page)
-    for hart, tables in window.run(ALL_TABLES % CALLERS_DEPTH).items():
+    for hart, tables in window.run(ALL_TABLES % (CALLERS_DEPTH, CALLERS_DEPTH)).items():
         part = [entry for entry in profile if hart == "all" or entry[0] == int(hart)]
         if part:
             wanted = {
                 "top": databases.top_down(part, period),
                 "callers": databases.callers(part, period, CALLERS_DEPTH),
+                "callees": databases.callees(part, period, CALLERS_DEPTH),
                 "flat": databases.flat(part, period),
             }
             for kind, rows in wanted.items():
@@ -124,7 +127,7 @@ def look_at_graph(window, name, profile, words):
 def look_at_tables(window, name, profile):
     """Keys unfold and fold the tables; they sort; their exclusive costs are the total."""
     total = sum(count for _, count, _ in profile)
-    for kind in ("top", "callers", "flat"):
+    for kind in ("top", "callers", "callees", "flat"):
         window.run(f"document.getElementById('tab-{kind}').click(); view.grid.foldAll(); view.grid.element.focus();")
         folded = window.run(GRID)
         window.press("ArrowRight")

@@ -3,7 +3,7 @@ import pathlib
 import re
 import subprocess
 
-TOP = pathlib.Path(__file__).resolve().parent.parent
+TOP = pathlib.Path(__file__).resolve().parents[2]
 EXPORT = TOP / "tools" / "hpc-export"
 
 failures = []

@@ -56,7 +56,7 @@ def look_at_changes(good):
     """Every front of a database, and every byte changed, is refused or read, and nothing else."""
     sys.path.insert(0, str(TOP / "tools"))
     from hpc_export.database import Malformed
-    from hpc_export.rules import read
+    from hpc_export.reader import read
 
     accepted = []
     changes = [(at, value) for at in range(len(good)) for value in {good[at] ^ 1, 0, 255, good[at] ^ 4} - {good[at]}]

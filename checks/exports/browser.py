@@ -13,9 +13,9 @@ WORDS = ["--headless", "--no-sandbox", "--disable-gpu", "--hide-scrollbars", "--
          "--remote-debugging-pipe", "--no-first-run", "--disable-extensions", "--disable-background-networking"]
 
 LIGHT, DARK = "light", "dark"
-DESKTOP, PHONE = (1280, 900), (390, 844)
+DESKTOP, TABLET, PHONE = (1280, 900), (768, 1024), (390, 844)
 
-KEYS = {"Enter": 13, "Escape": 27, " ": 32, "PageUp": 33, "PageDown": 34, "End": 35, "Home": 36,
+KEYS = {"Tab": 9, "Enter": 13, "Escape": 27, " ": 32, "PageUp": 33, "PageDown": 34, "End": 35, "Home": 36,
         "ArrowLeft": 37, "ArrowUp": 38, "ArrowRight": 39, "ArrowDown": 40}
 
 
@@ -23,7 +23,7 @@ class Browser:
     """A running browser with one page."""
 
     def __init__(self):
-        self.number, self.session, self.rest = 0, None, b""
+        self.number, self.session, self.rest, self.is_pressed = 0, None, b"", False
         self.folder = tempfile.mkdtemp()
         to_read, self.to = os.pipe()
         self.source, to_write = os.pipe()
@@ -74,13 +74,15 @@ class Browser:
         first, _, self.rest = self.rest.partition(b"\0")
         return json.loads(first)
 
-    def open(self, page, size=DESKTOP, scheme=LIGHT):
-        """Opens a page of an export, and waits until it is ready. Gives the seconds that this took."""
+    def open(self, page, size=DESKTOP, scheme=LIGHT, fragment=""):
+        """Opens a page of an export anew, and waits until it is ready. Gives the seconds that this took."""
         screen = {"width": size[0], "height": size[1], "deviceScaleFactor": 1, "mobile": size == PHONE}
         self.ask("Emulation.setDeviceMetricsOverride", **screen)
         self.ask("Emulation.setEmulatedMedia", features=[{"name": "prefers-color-scheme", "value": scheme}])
+        # Another fragment alone is no other page.
+        self.ask("Page.navigate", url="about:blank")
         start = time.monotonic()
-        self.ask("Page.navigate", url=page.as_uri())
+        self.ask("Page.navigate", url=page.as_uri() + fragment)
         while not self.run("return typeof hpc !== 'undefined';"):
             time.sleep(0.05)
         self.run("await hpc.ready; await new Promise(done => requestAnimationFrame(() => setTimeout(done)));")
@@ -106,9 +108,27 @@ class Browser:
     def write(self, text):
         self.ask("Input.insertText", text=text)
 
+    def mouse(self, kind, x, y):
+        """`mouseMoved`, `mousePressed` or `mouseReleased`."""
+        self.is_pressed = kind == "mousePressed" or kind == "mouseMoved" and self.is_pressed
+        words = {"button": "none"} if kind == "mouseMoved" and not self.is_pressed else {"button": "left", "clickCount": 1}
+        self.ask("Input.dispatchMouseEvent", type=kind, x=x, y=y, buttons=int(self.is_pressed), **words)
+
     def click(self, x, y):
         for kind in ("mousePressed", "mouseReleased"):
-            self.ask("Input.dispatchMouseEvent", type=kind, x=x, y=y, button="left", clickCount=1)
+            self.mouse(kind, x, y)
+
+    def click_on(self, selector):
+        """A click in the middle of an element."""
+        box = f"const box = document.querySelector({json.dumps(selector)}).getBoundingClientRect();"
+        self.click(*self.run(box + "return [box.left + box.width / 2, box.top + box.height / 2];"))
+
+    def named(self):
+        """The roles and names of what has the focus in turn, as a screen reader has them."""
+        nodes = self.ask("Accessibility.getFullAXTree")["nodes"]
+        focusable = [node for node in nodes if any(p["name"] == "focusable" and p["value"]["value"]
+                                                   for p in node.get("properties", []))]
+        return [(node["role"]["value"], node.get("name", {}).get("value", "")) for node in focusable]
 
     def picture(self, target):
         # The page draws once more before it is taken.

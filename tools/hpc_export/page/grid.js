@@ -1,0 +1,279 @@
+// The table on the page: rows that unfold and sort, of which those are drawn that are seen.
+
+const HEIGHT = 24, PART = 500000;
+// Widths of the table from which it has all columns, and whole figures.
+const WIDE = 760, MEDIUM = 540;
+
+class Grid {
+  constructor() {
+    this.element = document.getElementById("grid");
+    this.head = document.getElementById("head");
+    this.body = document.getElementById("rows");
+    this.sort = {column: "inclusive", down: true};
+    this.least = 0;
+    this.element.addEventListener("scroll", () => this.draw());
+    this.element.addEventListener("keydown", event => this.key(event));
+    this.body.addEventListener("click", event => this.click(event));
+    this.body.addEventListener("dblclick", event => this.click(event, true));
+    this.body.addEventListener("mousemove", event => this.hover(event));
+    this.body.addEventListener("mouseleave", () => view.icicle.hover(-1));
+    new ResizeObserver(() => this.draw()).observe(this.element);
+  }
+
+  show(kind, samples) {
+    this.kind = kind;
+    this.samples = samples;
+    this.table = TABLES[kind];
+    if (!["scope", ...this.table.columns].includes(this.sort.column)) this.sort = {column: "inclusive", down: true};
+    this.rows = this.sorted(this.table.make(samples), this.table.inOrder).map(row => ({...row, level: 0}));
+    this.at = 0;
+    this.header();
+    if (kind === "around") for (let place = this.rows.length - 1; place >= 0; place--) this.unfold(place);
+    // Who calls, and who is called, is asked of one procedure: nothing is unfolded before.
+    if (kind === "top" || kind === "flat") this.hotPath(0, false);
+    this.at = 0;
+    this.element.scrollTop = 0;
+    this.element.setAttribute("aria-label", `${this.table.title} table: ${this.table.about}`);
+    this.draw();
+  }
+
+  // The rows that have the least share, in the order that is chosen.
+  sorted(rows, isInOrder = false) {
+    const {column, down} = this.sort, value = VALUE[column], sign = down ? -1 : 1;
+    const shown = this.least ? rows.filter(row => row.inclusive >= this.least) : rows;
+    if (isInOrder) return shown.sort(inOrder);
+    if (column === "scope") return shown.sort((a, b) => -sign * inOrder(a, b));
+    return shown.sort((a, b) => sign * (a[value] - b[value]) || inOrder(a, b));
+  }
+
+  header() {
+    const columns = ["scope", ...this.table.columns];
+    this.head.replaceChildren(...columns.map((column, place) => {
+      const cell = document.createElement("div"), button = document.createElement("button");
+      const sorts = this.sort.column === column;
+      cell.setAttribute("role", "columnheader");
+      cell.setAttribute("aria-sort", sorts ? (this.sort.down ? "descending" : "ascending") : "none");
+      if (place === 4) cell.className = "more";
+      button.type = "button";
+      button.textContent = (HEADS[column] || "Scope") + (sorts ? (this.sort.down ? " ▾" : " ▴") : "");
+      if (column.endsWith("share")) button.setAttribute("aria-label", column + ", percent");
+      button.onclick = () => this.sortBy(column);
+      cell.append(button);
+      return cell;
+    }));
+  }
+
+  // Sorts siblings anew; what is unfolded stays so.
+  sortBy(column, down = this.sort.column === column ? !this.sort.down : true) {
+    this.sort = {column, down};
+    const chosen = this.rows[this.at], sorted = [];
+    const waiting = this.sorted(this.rows.filter(row => row.level === 0), this.table.inOrder).reverse();
+    while (waiting.length) {
+      const row = waiting.pop();
+      sorted.push(row);
+      if (row.open) waiting.push(...this.sorted(row.below).reverse());
+    }
+    this.rows = sorted;
+    this.at = Math.max(0, sorted.indexOf(chosen));
+    this.header();
+    this.draw();
+    view.changed();
+  }
+
+  unfold(place) {
+    const row = this.rows[place];
+    if (!row || !row.has || row.open) return;
+    row.below = row.below || this.sorted(row.make()).map(below => ({...below, level: row.level + 1}));
+    row.open = true;
+    // Rows below that were unfolded before are unfolded again.
+    const shown = [], waiting = row.below.slice().reverse();
+    while (waiting.length) {
+      const next = waiting.pop();
+      shown.push(next);
+      if (next.open) for (let k = next.below.length - 1; k >= 0; k--) waiting.push(next.below[k]);
+    }
+    this.rows = this.rows.slice(0, place + 1).concat(shown, this.rows.slice(place + 1));
+  }
+
+  fold(place) {
+    const row = this.rows[place];
+    if (!row || !row.open) return;
+    let end = place + 1;
+    while (end < this.rows.length && this.rows[end].level > row.level) end++;
+    this.rows = this.rows.slice(0, place + 1).concat(this.rows.slice(end));
+    row.open = false;
+  }
+
+  turn(place) {
+    if (this.rows[place].open) this.fold(place); else this.unfold(place);
+    this.draw();
+  }
+
+  foldAll() {
+    this.rows = this.rows.filter(row => row.level === 0);
+    this.rows.forEach(row => { row.open = false; row.below = null; });
+    this.choose(0);
+  }
+
+  // Unfolds the costliest row below, as long as it has more than half of its parent's cost.
+  hotPath(place, moves = true) {
+    for (let steps = 0; steps < 2000; steps++) {
+      const row = this.rows[place];
+      if (!row || !row.has) break;
+      this.unfold(place);
+      let best = -1;
+      for (let k = place + 1; k < this.rows.length && this.rows[k].level > row.level; k++) {
+        const below = this.rows[k];
+        if (below.level === row.level + 1 && (best < 0 || below.inclusive > this.rows[best].inclusive)) best = k;
+      }
+      if (best < 0 || this.rows[best].inclusive * 2 <= row.inclusive) break;
+      place = best;
+      if (!moves && this.rows[place].level > 12) break;
+    }
+    if (moves) this.choose(place);
+  }
+
+  // Unfolds and chooses the row to which these orders lead, the outermost first, as far as there is one.
+  follow(orders, leads = false) {
+    let place = -1, from = 0;
+    for (const [level, order] of orders.entries()) {
+      if (place >= 0) this.unfold(place);
+      const isIt = row => row.level === level && row.order === order;
+      let k = from;
+      while (k < this.rows.length && this.rows[k].level >= level && !isIt(this.rows[k])) k++;
+      if (k >= this.rows.length || !isIt(this.rows[k])) break;
+      place = k;
+      from = k + 1;
+    }
+    if (place >= 0) this.choose(place, leads);
+  }
+
+  // The orders that lead to a row.
+  orders(place) {
+    const found = [];
+    for (let level = this.rows[place] ? this.rows[place].level : -1; level >= 0; level--) {
+      while (this.rows[place].level > level) place--;
+      found.unshift(this.rows[place].order);
+    }
+    return found;
+  }
+
+  // Chooses a row; the graph and the source follow where this is what leads.
+  choose(place, leads = true) {
+    this.at = Math.max(0, Math.min(place, this.rows.length - 1));
+    const top = this.at * HEIGHT, head = this.head.offsetHeight, {element} = this;
+    // What is scrolled has its height first.
+    this.body.style.height = `${Math.min(this.rows.length, PART) * HEIGHT}px`;
+    element.scrollTop = Math.min(element.scrollTop, top);
+    element.scrollTop = Math.max(element.scrollTop, top + HEIGHT + head - element.clientHeight);
+    this.draw();
+    view.rowChosen(this.rows[this.at], leads);
+  }
+
+  // A browser's element has a greatest height: of more rows than that a part is shown, and said to be one.
+  draw() {
+    if (!this.rows) return;
+    const {element, body} = this, shown = Math.min(this.rows.length, PART), all = grouped.format(this.rows.length);
+    const about = document.getElementById("about"), isPart = shown < this.rows.length;
+    about.textContent = isPart ? `the first ${grouped.format(PART)} of ${all} rows: fold some` : this.table.about;
+    about.classList.toggle("says", isPart);
+    body.style.height = `${shown * HEIGHT}px`;
+    const from = Math.max(0, Math.floor(element.scrollTop / HEIGHT) - 4);
+    const to = Math.min(shown, Math.ceil((element.scrollTop + element.clientHeight) / HEIGHT) + 4);
+    element.setAttribute("aria-rowcount", this.rows.length + 1);
+    this.isNarrow = element.clientWidth < MEDIUM;
+    element.classList.toggle("narrow", this.isNarrow);
+    element.classList.toggle("medium", !this.isNarrow && element.clientWidth < WIDE);
+    this.nameWidth = this.head.firstElementChild.clientWidth;
+    const elements = [];
+    for (let place = from; place < to; place++) elements.push(this.rowElement(place));
+    body.replaceChildren(...elements);
+    const chosen = document.getElementById(`row-${this.at}`);
+    if (chosen) element.setAttribute("aria-activedescendant", chosen.id);
+    else element.removeAttribute("aria-activedescendant");
+  }
+
+  rowElement(place) {
+    const row = this.rows[place], element = document.createElement("div");
+    element.className = "row" + (place === this.at ? " selected" : "");
+    element.id = `row-${place}`;
+    element.style.top = `${place * HEIGHT}px`;
+    element.setAttribute("role", "row");
+    element.setAttribute("aria-level", row.level + 1);
+    element.setAttribute("aria-rowindex", place + 2);
+    element.setAttribute("aria-selected", place === this.at);
+    if (row.has) element.setAttribute("aria-expanded", !!row.open);
+    const cells = this.table.columns.map((column, k) => this.valueCell(row[VALUE[column]], column, k));
+    element.append(this.nameCell(row), ...cells);
+    return element;
+  }
+
+  nameCell(row) {
+    const name = document.createElement("div"), twist = document.createElement("span");
+    name.setAttribute("role", "gridcell");
+    name.className = "name" + (row.isPlace ? " place" : "") + (view.search.matches(row.name) ? " match" : "");
+    // Deep rows move no further right than they can be read; their level is said. A name is cut to the letters of this
+    // font that are left.
+    const {nameWidth} = this, [step, letter] = this.isNarrow ? [6, 7.25] : [14, 7.85];
+    const indent = Math.min(row.level * step, Math.floor(nameWidth * 0.4));
+    const letters = Math.max(6, Math.floor((nameWidth - indent - 32) / letter));
+    name.style.setProperty("--indent", `${indent}px`);
+    name.title = row.level * step > indent ? `${row.name} (level ${row.level})` : row.name;
+    twist.className = "twist";
+    twist.setAttribute("aria-hidden", "true");
+    twist.textContent = row.has ? (row.open ? "▾" : "▸") : "";
+    name.append(twist, shortened(row.shown || row.name, letters));
+    return name;
+  }
+
+  valueCell(value, column, k) {
+    const cell = document.createElement("div"), {total} = this.samples;
+    cell.setAttribute("role", "gridcell");
+    cell.classList.add("figure");
+    cell.classList.toggle("zero", !value);
+    cell.classList.toggle("share", column.endsWith("share"));
+    cell.classList.toggle("more", k === 3);
+    if (column.endsWith("share")) {
+      cell.style.setProperty("--part", `${100 * value / (total || 1)}%`);
+      cell.textContent = share(value, total);
+    } else {
+      cell.textContent = this.isNarrow ? shortFigure(value) : figure(value);
+      if (this.isNarrow) cell.title = figure(value);
+    }
+    return cell;
+  }
+
+  placeOf(event) {
+    const element = event.target.closest(".row");
+    return element ? Number(element.id.slice(4)) : -1;
+  }
+
+  click(event, twice = false) {
+    const place = this.placeOf(event);
+    if (place < 0) return;
+    if (twice || event.target.className === "twist") this.turn(place);
+    this.choose(place);
+  }
+
+  hover(event) {
+    const row = this.rows[this.placeOf(event)];
+    if (row) view.icicle.hover(view.graphNodeOf(row));
+  }
+
+  key(event) {
+    if (event.target !== this.element || event.ctrlKey || event.metaKey || event.altKey) return;
+    const place = this.at, row = this.rows[place];
+    const page = Math.max(1, Math.floor(this.element.clientHeight / HEIGHT) - 2);
+    if (!row) return;
+    const step = {ArrowDown: 1, ArrowUp: -1, PageDown: page, PageUp: -page, Home: -Infinity, End: Infinity}[event.key];
+    if (step !== undefined) this.choose(place + step);
+    else if (event.key === "ArrowRight") { if (row.open) this.choose(place + 1); else this.turn(place); }
+    else if (event.key === "ArrowLeft") {
+      if (row.open) this.turn(place);
+      else { let up = place; while (up > 0 && this.rows[up].level >= row.level) up--; if (row.level) this.choose(up); }
+    } else if (event.key === "Enter" || event.key === " ") this.turn(place);
+    else if (event.key === "g") view.showInGraph(row);
+    else return;
+    event.preventDefault();
+  }
+}

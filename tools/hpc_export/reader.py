@@ -1,0 +1,17 @@
+"""Where databases are read: each version of the format (docs/FORMATS.md) has its reader.
+
+Each gives a Database, so that a format that is written, and the page, need not know of versions.
+"""
+from . import rules
+from .database import Malformed
+
+# By the first 8 bytes.
+VERSIONS = {b"HPCPROF1": rules.read}
+
+
+def read(data):
+    """The database that these bytes are, or Malformed: rule 1 where no version begins so."""
+    reader = VERSIONS.get(data[:8])
+    if reader is None:
+        raise Malformed(1, 0)
+    return reader(data)
