@@ -63,7 +63,7 @@ merged (suc n) x xs y ys =
     record { start = start; holder = option_or (past start x xs).0 (past start y ys).0 }
     ∷ merged n (past start x xs).0 (past start x xs).1 (past start y ys).0 (past start y ys).1) (next_start xs ys) []
 
--- the head of a table stands at the next start, or after it
+-- the head of a table is at the next start, or after it
 IsNextOf : ℕ → List Step → Type 0
 IsNextOf start [] = Unit {0}
 IsNextOf start (s ∷ steps) = start ≤ s.start

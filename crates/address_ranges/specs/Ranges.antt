@@ -6,11 +6,12 @@ use Rattle.address_ranges.specs.declared.ranges.AddressRange.{AddressRange}
 abbrev pub holds : ℕ → AddressRange → Bool
 holds address r = nat_le r.start address && nat_lt address r.end
 
--- the range with that number is the first to hold each address from `low` up to `high`, or is not
+-- the range with that number is the first to hold each address from `low` up to `high`
 abbrev pub IsFirst : List AddressRange → ℕ → ℕ → ℕ → Type 0
 IsFirst ranges low high number =
     (address : ℕ) → low ≤ address → address < high → position (holds address) ranges ≡ Some number
 
+-- an address from `low` up to `high` has another range as the first that holds it, or none
 abbrev pub IsNotFirst : List AddressRange → ℕ → ℕ → ℕ → Type 0
 IsNotFirst ranges low high number =
     (address : ℕ) × (low ≤ address) × (address < high) × (position (holds address) ranges ≢ Some number)

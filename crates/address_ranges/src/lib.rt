@@ -2,7 +2,7 @@
 //!
 //! It promises that the element that is found for an address is the first whose range holds it, in the
 //! order in which they were given, however the ranges nest and overlap. It follows no standard, and
-//! stands on no other crate.
+//! is built on no other crate.
 #![tactic(auto)]
 
 mod ranges;

@@ -72,8 +72,8 @@ without_id section extents e fault is = rw is refl
 own_cie : (section : List ℕ) (extents : List Extent) (e : Extent) (id offset : ℕ) (input : Input FrameFault) → number_from 4 (body_of section e) ≡ Ok (id, input) → id ≡ DW_CIE_ID → offset ≡ cond (id == DW_CIE_ID) e.offset id
     → find (λ x. x.offset == e.offset) extents ≡ Some e → cie_at section extents offset ≡ Some e
 unfolding cie_at
-own_cie section extents e id offset input is mark stands own =
-    let here : offset ≡ e.offset = rw mark at stands in
+own_cie section extents e id offset input is mark offset_is own =
+    let here : offset ≡ e.offset = rw mark at offset_is in
     let marked : is_cie section e ≡ true = rw (is, mark) refl in
     rw here (find_both (λ (x : Extent). x.offset == e.offset) (is_cie section) extents e own marked)
 
@@ -85,9 +85,9 @@ pub of_cie : (section : List ℕ) (extents : List Extent) (e : Extent) (id offse
     → offset ≡ cond (id == DW_CIE_ID) e.offset id → find (λ x. x.offset == e.offset) extents ≡ Some e → option_copied r ≡ find (λ cie. cie.offset == offset) cies → r ≡ Some c
     → map seen_cie cies ≡ map (known section) (filter (is_cie section) extents) → read_entry section extents e ≡ entry_of_cie section c.now.cie
 unfolding read_entry
-of_cie section extents e id offset input cies r c is mark stands own found some each =
+of_cie section extents e id offset input cies r c is mark offset_is own found some each =
     let p = present_cie section extents cies offset r c found some each in
-    let same : e ≡ p.0 = some_same e p.0 (sym (own_cie section extents e id offset input is mark stands own) ∙ p.1) in
+    let same : e ≡ p.0 = some_same e p.0 (sym (own_cie section extents e id offset input is mark offset_is own) ∙ p.1) in
     let said : cie_from e.end input ≡ c.now.cie = sym (cie_read section e id input is) ∙ ap (cie_of section) same ∙ sym (ap (λ (k : Known). k.cie) p.2) in
     rw (is, mark, said) refl
 
@@ -95,9 +95,9 @@ pub of_no_cie : (section : List ℕ) (extents : List Extent) (e : Extent) (id of
     → offset ≡ cond (id == DW_CIE_ID) e.offset id → find (λ x. x.offset == e.offset) extents ≡ Some e → option_copied r ≡ find (λ cie. cie.offset == offset) cies → r ≡ None
     → map seen_cie cies ≡ map (known section) (filter (is_cie section) extents) → read_entry section extents e ≡ Err (record { offset = e.offset })
 unfolding read_entry
-of_no_cie section extents e id offset input cies r is stands own found none each = elim (cases_eq id DW_CIE_ID) [
-  | inl mark ↦ let there = sym absent ∙ own_cie section extents e id offset input is mark stands own in absurd cc
-  | inr ne ↦ let here : offset ≡ id = rw (other id DW_CIE_ID ne) at stands in rw (is, other id DW_CIE_ID ne, rw here at absent) refl
+of_no_cie section extents e id offset input cies r is offset_is own found none each = elim (cases_eq id DW_CIE_ID) [
+  | inl mark ↦ let there = sym absent ∙ own_cie section extents e id offset input is mark offset_is own in absurd cc
+  | inr ne ↦ let here : offset ≡ id = rw (other id DW_CIE_ID ne) at offset_is in rw (is, other id DW_CIE_ID ne, rw here at absent) refl
 ]
   where
     absent : cie_at section extents offset ≡ None
@@ -107,8 +107,8 @@ pub of_fde : (section : List ℕ) (extents : List Extent) (e : Extent) (id offse
     → offset ≡ cond (id == DW_CIE_ID) e.offset id → option_copied r ≡ find (λ cie. cie.offset == offset) cies → r ≡ Some c
     → map seen_cie cies ≡ map (known section) (filter (is_cie section) extents) → read_entry section extents e ≡ fde_of section e input c.now.cie
 unfolding read_entry
-of_fde section extents e id offset input cies r c is ne stands found some each =
-    let here : offset ≡ id = rw (other id DW_CIE_ID ne) at stands in
+of_fde section extents e id offset input cies r c is ne offset_is found some each =
+    let here : offset ≡ id = rw (other id DW_CIE_ID ne) at offset_is in
     let p = present_cie section extents cies id r c (rw here at found) some each in
     rw (is, other id DW_CIE_ID ne, p.1) (ap (fde_of section e input) (sym (ap (λ (k : Known). k.cie) p.2)))
 

@@ -12,3 +12,4 @@ pub mod Undone
 pub mod Resuming
 pub mod Walking
 pub mod Changed
+pub mod Described

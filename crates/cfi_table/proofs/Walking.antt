@@ -203,8 +203,8 @@ first_holder fdes number fde is first address held =
 abbrev pub Made : List ℕ → Fde → Result (Option FdeRows) Memory → Type 0
 Made section fde r = IfOk r (λ rows. MatchOption rows (IsErr (after_cie section fde.cie)) (λ rows. rows ≡ record { section = section; fde = fde; next = row_from fde fde.initial_location; rules = None }))
 
-stands_at : (frames : Frames) (fdes : List Fde) (fde : Fde) (found : Option Fde) (number : ℕ) → fdes ≡ frames.fdes → found ≡ slice_get fdes number → found ≡ Some fde → slice_get frames.fdes number ≡ Some fde
-stands_at frames fdes fde found number all at is = sym (ap (λ (fs : List Fde). slice_get fs number) all) ∙ sym at ∙ is
+fde_is_at : (frames : Frames) (fdes : List Fde) (fde : Fde) (found : Option Fde) (number : ℕ) → fdes ≡ frames.fdes → found ≡ slice_get fdes number → found ≡ Some fde → slice_get frames.fdes number ≡ Some fde
+fde_is_at frames fdes fde found number all at is = sym (ap (λ (fs : List Fde). slice_get fs number) all) ∙ sym at ∙ is
 
 pub first_of : (frames : Frames) (section : List ℕ) (fdes : List Fde) (fde : Fde) (found : Option Fde) (range : AddressRange) (number : ℕ) (r : Result (Option FdeRows) Memory) → section ≡ frames.section → fdes ≡ frames.fdes
     → found ≡ slice_get fdes number → found ≡ Some fde → range ≡ fde_range fde → IsFirst (map fde_range frames.fdes) range.start range.end number
@@ -213,7 +213,7 @@ first_of frames section fdes fde found range number (Err memory) same all at is 
 first_of frames section fdes fde found range number (Ok None) same all at is range_is first made = tt
 first_of frames section fdes fde found range number (Ok (Some rows)) same all at is range_is first made =
     let P : AddressRange → Type 0 = λ r. IsFirst (map fde_range frames.fdes) r.start r.end number in
-    subst (AreFirst frames) (sym made) (record { section = same; first = first_holder frames.fdes number fde (stands_at frames fdes fde found number all at is) (subst P range_is first); next = refl })
+    subst (AreFirst frames) (sym made) (record { section = same; first = first_holder frames.fdes number fde (fde_is_at frames fdes fde found number all at is) (subst P range_is first); next = refl })
 
 -- ---- whose rows are given
 
@@ -222,6 +222,6 @@ pub given_of : (frames : Frames) (section : List ℕ) (fdes : List Fde) (fde : F
 given_of frames section fdes fde found number (Err memory) same all at is made = tt
 given_of frames section fdes fde found number (Ok None) same all at is made =
     let P : List ℕ → Type 0 = λ bs. IsErr (after_cie bs fde.cie) in
-    inr (record { fde = fde; stands = stands_at frames fdes fde found number all at is; why = inr (subst P same made) })
+    inr (record { fde = fde; is = fde_is_at frames fdes fde found number all at is; why = inr (subst P same made) })
 given_of frames section fdes fde found number (Ok (Some rows)) same all at is made =
-    stands_at frames fdes fde found number all at is ∙ sym (ap (λ (w : FdeRows). Some w.fde) made)
+    fde_is_at frames fdes fde found number all at is ∙ sym (ap (λ (w : FdeRows). Some w.fde) made)

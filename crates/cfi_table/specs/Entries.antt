@@ -10,6 +10,7 @@ use Rattle.cfi_table.specs.declared.fault.FrameFault.{FrameFault}
 use Rattle.cfi_table.specs.declared.extent.Extent.{Extent}
 use Rattle.cfi_table.specs.declared.extent.ZeroLength.{ZeroLength}
 use Rattle.cfi_table.specs.declared.extent.ZeroLength.TheVariants as zero_lengths
+use Rattle.cfi_table.specs.declared.instruction.AlignmentFactors.{AlignmentFactors}
 use Rattle.cfi_table.specs.declared.cie.Cie.{Cie}
 use Rattle.cfi_table.specs.declared.fde.Fde.{Fde}
 use Rattle.cfi_table.specs.declared.entry.FrameEntry.{FrameEntry}
@@ -23,7 +24,7 @@ use Rattle.cfi_table.specs.Rules.{FrameState, no_rules, all_same_value, fault_he
 abbrev pub before_others : Extent → List Extent × Option FrameFault → List Extent × Option FrameFault
 before_others e others = (e ∷ others.0, others.1)
 
--- what stands from a length of 0 on, where these are the entries after it
+-- the entries from a length of 0 on, where these are those after it
 abbrev pub at_zero : ZeroLength → List Extent × Option FrameFault → List Extent × Option FrameFault
 at_zero zero_lengths.PassedOver others = others
 at_zero zero_lengths.EndsList others = ([], None)
@@ -55,6 +56,10 @@ extents_by z section = chain_from z (length section)
 abbrev pub extents_of : List ℕ → List Extent × Option FrameFault
 extents_of section = extents_by zero_lengths.PassedOver section
 
+-- the last bytes up to an end, so many of them
+abbrev pub last_bytes : ℕ → ℕ → Extent
+last_bytes end count = record { offset = end - count; end = end }
+
 -- an entry's bytes after its length; a truncated field is a fault at the entry's offset
 abbrev pub body_of : List ℕ → Extent → Input FrameFault
 body_of section e = record {
@@ -64,27 +69,39 @@ body_of section e = record {
 
 -- ---- a CIE's fields. Nothing where it is passed over: its other fields are not read then
 
+-- the return address register has one byte in version 1
 abbrev pub register_from : ℕ → Input FrameFault → Reading ℕ
 register_from version input = if version == 1 then number_from 1 input else uleb_from input
 
--- the initial instructions are the bytes that are left, up to the entry's end
-abbrev pub cie_with : ℕ → ℕ → ℤ → ℕ → Input FrameFault → Option Cie
-cie_with end code_factor data_factor register input =
-    if nat_lt register 32 then Some (record {
-      factors = record {
-        code_alignment_factor = low_32_bits code_factor;
-        data_alignment_factor = word_of_signed data_factor;
-      };
-      return_address_register = register;
-      initial_instructions = record { offset = end - length (left_of input.at); end = end };
-    }) else None
+-- the factors of a CIE, modulo 2^32
+abbrev pub factors_of : ℕ → ℤ → AlignmentFactors
+factors_of code_factor data_factor = record {
+  code_alignment_factor = low_32_bits code_factor;
+  data_alignment_factor = word_of_signed data_factor;
+}
 
-unfoldable pub cie_from_factors : ℕ → ℕ → Input FrameFault → Result (Option Cie) FrameFault
-cie_from_factors end version input = do
+-- the alignment factors, and the return address register
+unfoldable pub factors_from : ℕ → Input FrameFault → Reading (AlignmentFactors × ℕ)
+factors_from version input = do
   (code_factor, input) ← uleb_from input
   (data_factor, input) ← sleb_from input
   (register, input) ← register_from version input
-  Ok (cie_with end code_factor data_factor register input)
+  Ok ((factors_of code_factor data_factor, register), input)
+
+-- no return address register above 31. The initial instructions are the bytes that are left, up to the entry's end
+abbrev pub cie_with : ℕ → AlignmentFactors → ℕ → Input FrameFault → Option Cie
+cie_with end factors register input =
+    if nat_lt register 32 then Some (record {
+      factors = factors;
+      return_address_register = register;
+      initial_instructions = last_bytes end (length (left_of input.at));
+    }) else None
+
+-- the fields from code_alignment_factor on
+unfoldable pub cie_from_factors : ℕ → ℕ → Input FrameFault → Result (Option Cie) FrameFault
+cie_from_factors end version input = do
+  (read, input) ← factors_from version input
+  Ok (cie_with end read.0 read.1 input)
 
 -- segment_selector_size is 0
 unfoldable pub cie_from_segment : ℕ → ℕ → Input FrameFault → Result (Option Cie) FrameFault
@@ -132,6 +149,7 @@ continued limit section fde initial =
     run_all limit initial.regs fde.cie.factors (instructions_of section fde.instructions)
     (record initial { location = fde.initial_location })
 
+-- the rules after a CIE's instructions and then its FDE's, up to the limit (section 6.4.3)
 unfoldable pub after_fde : Option ℕ → List ℕ → Fde → Result FrameState FrameFault
 after_fde limit section fde = do
   initial ← after_cie section fde.cie
@@ -139,6 +157,7 @@ after_fde limit section fde = do
 
 -- ---- what an entry is, or its fault
 
+-- a word that was read is CIE_id
 abbrev pub is_id : Reading ℕ → Bool
 is_id (Err fault) = false
 is_id (Ok found) = found.0 == DW_CIE_ID
@@ -151,6 +170,7 @@ is_cie section e = is_id (number_from 4 (body_of section e))
 unfoldable pub cie_at : List ℕ → List Extent → ℕ → Option Extent
 cie_at section extents offset = find (λ e. e.offset == offset && is_cie section e) extents
 
+-- what an entry says as a CIE
 unfoldable pub cie_of : List ℕ → Extent → Result (Option Cie) FrameFault
 cie_of section e = do
   (id, input) ← number_from 4 (body_of section e)
@@ -183,7 +203,7 @@ fde_with e cie fields input = record {
   offset = e.offset;
   initial_location = fields.0;
   address_range = fields.1;
-  instructions = record { offset = e.end - length (left_of input.at); end = e.end };
+  instructions = last_bytes e.end (length (left_of input.at));
   cie = cie;
 }
 
@@ -211,7 +231,7 @@ read_entry section extents e = do
     checked_cie section cie)
       else fde_by section e input (cie_at section extents id)
 
--- a faulty length may stand after the entries
+-- a faulty length may follow the entries
 abbrev pub at_end : {X : Type 0} → Option FrameFault → List (Result X FrameFault)
 at_end None = []
 at_end (Some fault) = Err fault ∷ []

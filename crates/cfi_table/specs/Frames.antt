@@ -1,10 +1,10 @@
 -- A section's call frames, and the rules at an address (DWARF 5, section 6.4).
-use Rattle.std.specs.Prelude.{ℕ, ◌+◌, ◌-◌, nat_lt, min, List, [], ◌∷◌, find, Option, Some, None}
+use Rattle.std.specs.Prelude.{ℕ, ◌+◌, ◌-◌, nat_lt, min, List, [], ◌∷◌, map, find, Option, Some, None}
 use Rattle.std.specs.Prelude.{Result, Ok, Err}
 use Rattle.std.specs.Prelude.{if◌then◌else◌}
 use Rattle.std.specs.List.{filter_map}
 use Rattle.std.specs.Option.{option_and_then}
-use Rattle.prof_bytes.specs.Outcome.{◌>>=◌}
+use Rattle.prof_bytes.specs.Outcome.{◌>>=◌, viewed}
 use Rattle.address_ranges.specs.declared.ranges.AddressRange.{AddressRange}
 use Rattle.address_ranges.specs.Ranges.{holds}
 use Rattle.elf_image.specs.declared.part.Segment.{Segment}
@@ -64,9 +64,34 @@ rules_with cie (Ok s) = Some (record { cfa = s.cfa; regs = s.regs; return_regist
 unfoldable pub rules_of : List ℕ → ℕ → Fde → Option Rules
 rules_of section address fde = rules_with fde.cie (after_fde (Some address) section fde)
 
--- the rules at an address, by the first FDE that holds it
-abbrev pub rules_at : Frames → ℕ → Option Rules
-rules_at frames address = option_and_then (rules_of frames.section address) (fde_at frames address)
+-- ---- as frame descriptions
+
+-- a frame description: its addresses, and the rules at each of them (section 6.4.3)
+pub record FrameDescription : Type 0 where
+  pub range : AddressRange
+  pub rules : ℕ → Option Rules
+
+-- that of an FDE of the section
+abbrev pub described : List ℕ → Fde → FrameDescription
+described section fde = record { range = fde_range fde; rules = λ address. rules_of section address fde }
+
+-- those of the FDEs, in section order
+abbrev pub descriptions : Frames → List FrameDescription
+descriptions frames = map (described frames.section) frames.fdes
+
+-- the frame descriptions of `.debug_frame`, or its first fault
+abbrev pub descriptions_of : List ℕ → List Segment → Result (List FrameDescription) FrameFault
+descriptions_of section segments = viewed descriptions (frames_of section segments)
+
+-- the rules at an address, by the first description that holds it
+abbrev pub rules_at : List FrameDescription → ℕ → Option Rules
+rules_at all address = option_and_then (λ d. d.rules address) (find (λ d. holds address d.range) all)
+
+-- where they start
+abbrev pub starts_of : List FrameDescription → List ℕ
+starts_of all = map (λ d. d.range.start) all
+
+-- ---- numbers
 
 -- how many bytes an extent has
 abbrev pub size_of : Extent → ℕ
@@ -76,6 +101,7 @@ size_of e = e.end - e.offset
 abbrev pub instruction_bytes : Fde → ℕ
 instruction_bytes fde = size_of fde.instructions + size_of fde.cie.initial_instructions
 
+-- the lesser of a number and another, if there is one
 abbrev pub lesser : ℕ → Option ℕ → Option ℕ
 lesser m None = Some m
 lesser m (Some n) = Some (min m n)

@@ -38,25 +38,29 @@ Reading X = Result (X × Input FrameFault) FrameFault
 abbrev pub low_32_bits : ℕ → ℕ
 low_32_bits number = number % 2 ^ 32
 
+-- a signed number in two's complement, modulo 2^32
 abbrev pub word_of_signed : ℤ → ℕ
 word_of_signed number = low_32_bits (cast_unsigned w64 number)
 
+-- a number times a factor, modulo 2^32
 abbrev pub scaled : ℕ → ℕ → ℕ
 scaled number factor = number * factor % 2 ^ 32
 
 -- ---- operands
 
--- an offset as it stands, and one times the data alignment factor
+-- an offset that is not multiplied by a factor
 unfoldable pub offset_from : Input FrameFault → Reading ℕ
 offset_from input = do
   (offset, input) ← uleb_from input
   Ok (low_32_bits offset, input)
 
+-- an unsigned offset times the data alignment factor
 unfoldable pub factored_from : AlignmentFactors → Input FrameFault → Reading ℕ
 factored_from factors input = do
   (offset, input) ← uleb_from input
   Ok (scaled (low_32_bits offset) factors.data_alignment_factor, input)
 
+-- a signed offset times the data alignment factor
 unfoldable pub factored_sf_from : AlignmentFactors → Input FrameFault → Reading ℕ
 factored_sf_from factors input = do
   (offset, input) ← sleb_from input
@@ -127,6 +131,7 @@ rule_from factors opcode register input =
       (size, input) ← block_from input
       Ok (ValExpression register, input))
 
+-- the opcodes that give a register's rule, which their first operand names
 abbrev pub is_rule : ℕ → Bool
 is_rule opcode =
     opcode == DW_CFA_undefined || opcode == DW_CFA_same_value || opcode == DW_CFA_offset_extended
@@ -170,6 +175,7 @@ extended_from factors opcode input =
 abbrev pub primary_opcode : ℕ → ℕ
 primary_opcode byte = byte - byte % 64
 
+-- the operand of a primary opcode (section 7.24)
 abbrev pub primary_operand : ℕ → ℕ
 primary_operand byte = byte % 64
 

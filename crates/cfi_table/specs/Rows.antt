@@ -46,7 +46,7 @@ AreOf frames number rows = slice_get frames.fdes number ≡ Some rows.fde
 -- instructions are at fault
 pub record HasNoRows (frames : Frames) (number : ℕ) : Type 0 where
   pub fde : Fde
-  pub stands : slice_get frames.fdes number ≡ Some fde
+  pub is : slice_get frames.fdes number ≡ Some fde
   pub why : IsNotFirst (map fde_range frames.fdes) (fde_range fde).start (fde_range fde).end number
       ⊎ IsErr (after_cie frames.section fde.cie)
 

@@ -33,6 +33,7 @@ pub record FrameState : Type 0 where
 abbrev pub all_same_value : List Rule
 all_same_value = replicate 32 rules.Kept
 
+-- the state before the first instruction of a CIE
 abbrev pub no_rules : FrameState
 no_rules = record { location = 0; cfa = cfas.Missing; regs = all_same_value; remembered = [] }
 
@@ -42,6 +43,7 @@ no_rules = record { location = 0; cfa = cfas.Missing; regs = all_same_value; rem
 abbrev pub with_rule : ℕ → Rule → FrameState → FrameState
 with_rule register rule s = if nat_lt register 32 then record s { regs = slice_set s.regs register rule } else s
 
+-- a register's rule
 abbrev pub rule_at : List Rule → ℕ → Rule
 rule_at regs register = unwrap_or (slice_get regs register) rules.Kept
 
@@ -72,10 +74,12 @@ with_source register source s =
     if nat_lt register 32 then (if nat_lt source 32 then Some (with_rule register (rules.Copy source) s) else None)
     else Some s
 
+-- restore_state goes back to the latest of the remembered rules, of which there must be one
 abbrev pub with_remembered : List Remembered → FrameState → Option FrameState
 with_remembered [] s = None
 with_remembered (r ∷ older) s = Some (record s { cfa = r.cfa; regs = r.regs; remembered = older })
 
+-- remember_state
 abbrev pub remembering : FrameState → FrameState
 remembering s = record s { remembered = record { cfa = s.cfa; regs = s.regs } ∷ s.remembered }
 

@@ -44,7 +44,7 @@ impl<'a> Model for Checker<'a> {
 
 impl<'a> Checker<'a> {
     /// No rule is in force.
-    pub fn none(alloc: Global) -> Checker<'static>
+    pub fn new(alloc: Global) -> Checker<'static>
         ensures { result ≡ no_forms }
     {
         Checker {

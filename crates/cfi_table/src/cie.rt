@@ -4,11 +4,11 @@ ghost use Rattle.prof_bytes.specs.Reading.{left_of};
 ghost use Rattle.prof_bytes.specs.Fields.{Input};
 ghost use Rattle.prof_bytes.specs.Outcome.{GivesAt};
 ghost use Rattle.cfi_table.specs.declared.fault.FrameFault.{FrameFault};
-ghost use Rattle.cfi_table.specs.Entries.{register_from, cie_with, cie_from_factors, cie_from_segment, cie_from_sizes};
-ghost use Rattle.cfi_table.specs.Entries.{cie_from_augmentation, cie_from, cie_of};
+ghost use Rattle.cfi_table.specs.Entries.{register_from, factors_from, cie_with, cie_from_factors, cie_from_segment};
+ghost use Rattle.cfi_table.specs.Entries.{cie_from_sizes, cie_from_augmentation, cie_from, cie_of};
 ghost use Rattle.cfi_table.specs.private.Placed.{IsUpTo, IsPlaced, IsCieIn};
 
-use crate::extent::{Extent, body};
+use crate::extent::{Extent, body, last_bytes};
 use crate::fault::FrameFault;
 use crate::instruction::{AlignmentFactors, word_of, word_of_signed};
 use prof_bytes::Reader;
@@ -22,7 +22,7 @@ pub(crate) struct Cie {
 }
 
 /// The return address register. In version 1 it has one byte.
-pub fn return_address_register(
+fn return_address_register(
     version: u8,
     reader: &mut Reader<'_, FrameFault>,
 ) -> Result<u64, FrameFault>
@@ -35,24 +35,36 @@ pub fn return_address_register(
     }
 }
 
-fn cie_with(end: u32, code_factor: u64, data_factor: i64, register: u64, left: usize) -> Option<Cie>
+/// The alignment factors, and the return address register.
+#[tactic(auto, unfolding(crate::specs::Entries::factors_from))]
+pub fn read_factors(
+    version: u8,
+    reader: &mut Reader<'_, FrameFault>,
+) -> Result<(AlignmentFactors, u64), FrameFault>
+    ensures { GivesAt (λ read. (read.0, read.1)) result reader.new (factors_from version reader.old) }
+{
+    let code_factor = reader.uleb()?;
+    let data_factor = reader.sleb()?;
+    let register = return_address_register(version, reader)?;
+    let factors = AlignmentFactors {
+        code_alignment_factor: word_of(code_factor),
+        data_alignment_factor: word_of_signed(data_factor),
+    };
+    Ok((factors, register))
+}
+
+fn cie_with(end: u32, factors: AlignmentFactors, register: u64, left: usize) -> Option<Cie>
     ensures cie { (input : Input FrameFault) → left ≡ length (left_of input.at) → result
-        ≡ cie_with end code_factor data_factor register input }
+        ≡ cie_with end factors register input }
     ensures placed { IfSome result (λ c. IsUpTo end c.initial_instructions) }
 {
     if register >= 32 {
         return None;
     }
     Some(Cie {
-        factors: AlignmentFactors {
-            code_alignment_factor: word_of(code_factor),
-            data_alignment_factor: word_of_signed(data_factor),
-        },
+        factors,
         return_address_register: register as u8,
-        initial_instructions: Extent {
-            offset: (end as usize).saturating_sub(left) as u32,
-            end,
-        },
+        initial_instructions: last_bytes(end, left),
     })
 }
 
@@ -65,10 +77,8 @@ fn from_factors(
     ensures cie { result ≡ cie_from_factors end version reader.old }
     ensures placed { IfOk result (λ cie. IfSome cie (λ c. IsUpTo end c.initial_instructions)) }
 {
-    let code_factor = reader.uleb()?;
-    let data_factor = reader.sleb()?;
-    let register = return_address_register(version, reader)?;
-    Ok(cie_with(end, code_factor, data_factor, register, reader.left()))
+    let (factors, register) = read_factors(version, reader)?;
+    Ok(cie_with(end, factors, register, reader.left()))
 }
 
 #[tactic(auto, unfolding(crate::specs::Entries::cie_from_segment))]

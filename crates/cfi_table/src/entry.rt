@@ -16,7 +16,7 @@ ghost use Rattle.cfi_table.specs.private.KnownCies.{forms_seen, known, seen_cie,
 use crate::checker::{Checker, InitialCfaForms};
 use crate::cie::Cie;
 use crate::constants::DW_CIE_ID;
-use crate::extent::{Extent, body, instructions};
+use crate::extent::{Extent, body, instructions, last_bytes};
 use crate::fault::FrameFault;
 use crate::fde::{Fde, fde_fields};
 use crate::known_cie::{KnownCie, cie_at};
@@ -76,10 +76,7 @@ fn fde_with(extent: &Extent, cie: Cie, fields: (u32, u32), reader: &Reader<'_, F
         offset: extent.offset,
         initial_location: fields.0,
         address_range: fields.1,
-        instructions: Extent {
-            offset: (extent.end as usize).saturating_sub(reader.left()) as u32,
-            end: extent.end,
-        },
+        instructions: last_bytes(extent.end, reader.left()),
         cie,
     }
 }

@@ -1,8 +1,8 @@
 //! Where the entries of a section lie, and their instructions.
 ghost use Rattle.std.specs.Prelude.{◌≡◌, ◌+◌, ◌<◌, ◌^◌, Some, None, IfOk, All, length};
-ghost use Rattle.cfi_table.specs.Entries.{body_of, instructions_of, extents_by};
+ghost use Rattle.cfi_table.specs.Entries.{last_bytes, body_of, instructions_of, extents_by};
 ghost use Rattle.cfi_table.specs.Frames.{size_of};
-ghost use Rattle.cfi_table.specs.private.Placed.{IsPlaced, IsWithin};
+ghost use Rattle.cfi_table.specs.private.Placed.{IsPlaced, IsUpTo, IsWithin};
 
 use crate::fault::FrameFault;
 use prof_bytes::{Memory, Reader};
@@ -22,6 +22,17 @@ pub enum ZeroLength {
     PassedOver,
     /// It ends the list of entries, as in `.eh_frame` (LSB, core specification, "Exception Frames").
     EndsList,
+}
+
+/// The last bytes up to an end, so many of them.
+pub fn last_bytes(end: u32, count: usize) -> Extent
+    ensures bytes { result ≡ last_bytes end count }
+    ensures placed { IsUpTo end result }
+{
+    Extent {
+        offset: (end as usize).saturating_sub(count) as u32,
+        end,
+    }
 }
 
 /// The bytes of an entry after its length. A truncated field is a fault at the entry's offset.

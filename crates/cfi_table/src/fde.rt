@@ -10,7 +10,7 @@ use crate::fault::FrameFault;
 use address_ranges::{AddressRange, HasRange};
 use prof_bytes::Reader;
 
-/// A frame description entry (FDE), and the offset at which it stands in the section.
+/// A frame description entry (FDE), and its offset in the section.
 #[derive(Clone, Copy, Debug, PartialEq, Eq)]
 pub(crate) struct Fde {
     pub(crate) offset: u32,

@@ -4,8 +4,8 @@ ghost use Rattle.std.specs.Prelude.{slice_get, MatchOption};
 ghost use Rattle.std.specs.Option.{option_map_or};
 ghost use Rattle.prof_bytes.specs.Outcome.{Gives};
 ghost use Rattle.cfi_table.specs.Entries.{after_fde};
-ghost use Rattle.cfi_table.specs.Frames.{frames_of, fde_at, rules_of, rules_at, instruction_bytes};
-ghost use Rattle.cfi_table.specs.Frames.{least_above, lesser};
+ghost use Rattle.cfi_table.specs.Frames.{frames_of, fde_at, rules_of, descriptions, rules_at};
+ghost use Rattle.cfi_table.specs.Frames.{instruction_bytes, starts_of, least_above, lesser};
 ghost use Rattle.cfi_table.specs.Rows.{AreFirst, AreNone, AreOf};
 ghost use Rattle.cfi_table.specs.private.Placed.{IsFdeIn};
 
@@ -53,7 +53,8 @@ fn table_of(alloc: Global, section: &[u8], fdes: Vec<Fde>) -> Result<FrameTable,
 }
 
 /// The frames of `.debug_frame` (DWARF 5, section 6.4.1), or its first fault in section order. The section has fewer
-/// than 2^31 bytes. Of the image the segments are looked at, by which ranges count.
+/// than 2^31 bytes. Of the image only the segments are used: they say which
+/// ranges count.
 #[tactic(auto, unfolding(crate::specs::Frames::frames_of))]
 pub fn read_frames(
     alloc: Global,
@@ -84,11 +85,11 @@ fn state_at(
     requires { IsFdeIn section.now fde.now }
     ensures { Gives (λ interpreter. interpreter) result (after_fde (Some pc) section.now fde.now) }
 {
-    let mut interpreter = Interpreter::none(alloc);
+    let mut interpreter = Interpreter::new(alloc);
     let mut reader = instructions(section, &fde.cie.initial_instructions);
     interpreter.run(None, &[Rule::Kept; 32], &fde.cie.factors, &mut reader)?;
     let initial = interpreter.regs();
-    interpreter.go_to(fde.initial_location);
+    interpreter.set_location(fde.initial_location);
     let mut reader = instructions(section, &fde.instructions);
     interpreter.run(Some(pc), &initial, &fde.cie.factors, &mut reader)?;
     Ok(interpreter)
@@ -139,7 +140,7 @@ fn fde_at_index(fdes: &[Fde], number: usize) -> Option<Fde>
 }
 
 impl FrameTable {
-    fn holder(&self, pc: u32) -> Option<Fde>
+    fn first_fde(&self, pc: u32) -> Option<Fde>
         ensures fde { result ≡ fde_at self.now pc }
         ensures placed { IfSome result (IsFdeIn self.now.section) }
     {
@@ -151,12 +152,13 @@ impl FrameTable {
     pub fn fde_at(&self, pc: u32) -> Option<u32>
         ensures { result ≡ option_map (λ fde. fde.offset) (fde_at self.now pc) }
     {
-        Some(self.holder(pc)?.offset)
+        Some(self.first_fde(pc)?.offset)
     }
 
     /// The least start above `low` of an FDE whose range counts.
+    #[tactic(auto, using(crate::proofs::Described::starts_of_fdes))]
     pub fn starts_above(&self, low: u32) -> Option<u32>
-        ensures { result ≡ least_above low (map (λ fde. fde.initial_location) self.now.fdes) }
+        ensures { result ≡ least_above low (starts_of (descriptions self.now)) }
     {
         least_start_above(self.fdes.items(), low)
     }
@@ -166,7 +168,7 @@ impl FrameTable {
     pub fn instruction_bytes(&self, pc: u32) -> u64
         ensures { result ≡ option_map_or instruction_bytes (fde_at self.now pc) 0 }
     {
-        match self.holder(pc) {
+        match self.first_fde(pc) {
             Some(fde) => size_of(&fde.instructions) + size_of(&fde.cie.initial_instructions),
             None => 0,
         }
@@ -197,10 +199,11 @@ impl FrameTable {
 
     /// The rules at an address, by the first FDE that holds it. The instructions are run from the
     /// start, in time linear in the number of their bytes.
+    #[tactic(auto, using(crate::proofs::Described::rules_by_fde))]
     pub fn rules_at(&self, pc: u32) -> Result<Option<Rules>, Memory>
-        ensures { IfOk result (λ rules. rules ≡ rules_at self.now pc) }
+        ensures { IfOk result (λ rules. rules ≡ rules_at (descriptions self.now) pc) }
     {
-        let Some(fde) = self.holder(pc) else {
+        let Some(fde) = self.first_fde(pc) else {
             return Ok(None);
         };
         let alloc = *self.section.allocator();

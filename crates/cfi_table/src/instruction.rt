@@ -52,14 +52,14 @@ pub struct AlignmentFactors {
 }
 
 /// The low 32 bits.
-pub fn word_of(number: u64) -> u32
+pub(crate) fn word_of(number: u64) -> u32
     ensures { result ≡ low_32_bits number }
 {
     (number % (1 << 32)) as u32
 }
 
 /// The low 32 bits, in two's complement.
-pub fn word_of_signed(number: i64) -> u32
+pub(crate) fn word_of_signed(number: i64) -> u32
     ensures { result ≡ word_of_signed number }
 {
     word_of(number.cast_unsigned())
@@ -282,7 +282,7 @@ pub fn instruction_after_opcode(
 /// too wide.
 #[inline(always)]
 #[tactic(auto, unfolding(crate::specs::Instructions::instruction_from))]
-pub fn next_instruction(
+pub(crate) fn next_instruction(
     factors: &AlignmentFactors,
     reader: &mut Reader<'_, FrameFault>,
 ) -> Result<CallFrameInstruction, FrameFault>

@@ -37,13 +37,13 @@ impl Model for Interpreter {
 }
 
 impl Interpreter {
-    pub(crate) fn none(alloc: Global) -> Interpreter
+    pub(crate) fn new(alloc: Global) -> Interpreter
         ensures { result ≡ no_rules }
     {
         Interpreter {
             location: 0,
             cfa: Cfa::Missing,
-            rules: RegisterRules::kept(alloc),
+            rules: RegisterRules::all_same_value(alloc),
         }
     }
 
@@ -252,7 +252,7 @@ impl Interpreter {
     }
 
     /// Goes on from this address.
-    pub(crate) fn go_to(&mut self, address: u32)
+    pub(crate) fn set_location(&mut self, address: u32)
         ensures { self.new ≡ record self.old { location = address } }
     {
         self.location = address;

@@ -38,7 +38,7 @@ fn run_cie(alloc: Global, section: &[u8], cie: &Cie) -> Result<Checker<'static>,
     requires { IsWithin section.now cie.now.initial_instructions }
     ensures { Gives (λ checker. checker) result (forms_after (after_cie section.now cie.now)) }
 {
-    let mut checker = Checker::none(alloc);
+    let mut checker = Checker::new(alloc);
     let mut reader = instructions(section, &cie.initial_instructions);
     checker.run(&cie.factors, &mut reader)?;
     Ok(checker)
@@ -54,7 +54,7 @@ fn initial_forms_of(
     ensures { IfOk result (λ forms. viewed forms_seen forms ≡ forms_of_cie section.now cie.now) }
 {
     let Ok(Some(cie)) = cie else {
-        return Ok(Ok(Checker::none(alloc).forms(alloc)?));
+        return Ok(Ok(Checker::new(alloc).forms(alloc)?));
     };
     match run_cie(alloc, section, cie) {
         Ok(checker) => Ok(Ok(checker.forms(alloc)?)),

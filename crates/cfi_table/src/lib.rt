@@ -2,7 +2,7 @@
 //!
 //! It promises that the rules of an address are those that the instructions of its CIE and of its
 //! FDE make when they are run from their start, or the first fault of the section at its offset. It
-//! follows DWARF 5, section 6.4, for `.debug_frame` of 32-bit programs. Below stand `prof_bytes`,
+//! follows DWARF 5, section 6.4, for `.debug_frame` of 32-bit programs. It uses `prof_bytes`,
 //! `elf_image` and `address_ranges`.
 #![tactic(auto)]
 
@@ -25,7 +25,7 @@ mod rule_map;
 mod rules;
 
 pub use checker::{CfaForm, Checker, InitialCfaForms};
-pub use cie::return_address_register;
+pub use cie::read_factors;
 pub use constants::{
     DW_CFA_GNU_args_size, DW_CFA_advance_loc, DW_CFA_advance_loc1, DW_CFA_advance_loc2,
     DW_CFA_advance_loc4, DW_CFA_def_cfa, DW_CFA_def_cfa_expression, DW_CFA_def_cfa_offset,
@@ -35,12 +35,11 @@ pub use constants::{
     DW_CFA_same_value, DW_CFA_set_loc, DW_CFA_undefined, DW_CFA_val_expression, DW_CFA_val_offset,
     DW_CFA_val_offset_sf, DW_CIE_ID, call_frame_constant_values,
 };
-pub use extent::{Extent, ZeroLength, all_extents, body, instructions};
+pub use extent::{Extent, ZeroLength, all_extents, body, instructions, last_bytes};
 pub use fault::FrameFault;
 pub use frames::{FrameTable, read_frames};
 pub use instruction::{
-    AlignmentFactors, CallFrameInstruction, instruction_after_opcode, pass_block, word_of,
-    word_of_signed,
+    AlignmentFactors, CallFrameInstruction, instruction_after_opcode, pass_block,
 };
 pub use laws::counts_are_at_most_bytes;
 pub use rows::{Row, Rows};

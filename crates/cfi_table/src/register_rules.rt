@@ -10,7 +10,7 @@ use prof_bytes::Memory;
 use std::alloc::Global;
 use std::marker::Model;
 
-/// What takes back a step.
+/// An entry of the undo log.
 #[derive(Clone, Copy)]
 pub(crate) enum Undo {
     /// The rules were remembered, and this rule for the canonical frame address with them.
@@ -19,8 +19,8 @@ pub(crate) enum Undo {
     Change { register: u8, rule: Rule },
 }
 
-/// The rules of the registers, and what takes them back to each state that was remembered, the latest
-/// last. A state that is remembered takes no copy of the rules, and a change one step to take it back.
+/// The rules of the registers, and an undo log that leads back to each remembered state, the latest last. Remembering
+/// a state copies no rules, and a change adds one entry to the log.
 #[derive(Drop)]
 pub(crate) struct RegisterRules {
     regs: RuleMap,
@@ -43,7 +43,7 @@ impl Model for RegisterRules {
 }
 
 /// Keeps the register's rule before it is changed, where a state was remembered.
-fn keep(undo: &mut Vec<Undo>, regs: &RuleMap, register: u8) -> Result<(), Memory>
+fn push_change(undo: &mut Vec<Undo>, regs: &RuleMap, register: u8) -> Result<(), Memory>
     requires { register < 32 }
     ensures same { IfOk result (λ done. (rule : Rule)
         → remembered_of (slice_set regs.now register rule) (reverse undo.new.items)
@@ -59,7 +59,7 @@ fn keep(undo: &mut Vec<Undo>, regs: &RuleMap, register: u8) -> Result<(), Memory
 }
 
 /// Goes back to the state that was remembered last, and gives its rule for the canonical frame address.
-fn undone(regs: &mut RuleMap, undo: &mut Vec<Undo>) -> Option<Cfa>
+fn undo_changes(regs: &mut RuleMap, undo: &mut Vec<Undo>) -> Option<Cfa>
     requires { IsMarked (reverse undo.old.items) }
     ensures state { MatchOption result ((remembered_of regs.old (reverse undo.old.items) ≡ []) × (regs.new ≡ regs.old)
         × (undo.new.items ≡ []))
@@ -81,11 +81,11 @@ fn undone(regs: &mut RuleMap, undo: &mut Vec<Undo>) -> Option<Cfa>
 
 impl RegisterRules {
     /// Every register keeps its value, and nothing is remembered.
-    pub(crate) fn kept(alloc: Global) -> RegisterRules
+    pub(crate) fn all_same_value(alloc: Global) -> RegisterRules
         ensures { result ≡ record { regs = all_same_value; remembered = [] } }
     {
         RegisterRules {
-            regs: RuleMap::kept(),
+            regs: RuleMap::all_same_value(),
             undo: Vec::new(alloc),
         }
     }
@@ -110,7 +110,7 @@ impl RegisterRules {
         if register >= 32 {
             return Ok(());
         }
-        keep(&mut self.undo, &self.regs, register as u8)?;
+        push_change(&mut self.undo, &self.regs, register as u8)?;
         self.regs.set(register as u8, rule);
         Ok(())
     }
@@ -128,6 +128,6 @@ impl RegisterRules {
         ensures { MatchOption result ((self.old.remembered ≡ []) × (self.new ≡ self.old))
             (λ cfa. self.old.remembered ≡ record { cfa = cfa; regs = self.new.regs } ∷ self.new.remembered) }
     {
-        undone(&mut self.regs, &mut self.undo)
+        undo_changes(&mut self.regs, &mut self.undo)
     }
 }

@@ -96,7 +96,7 @@ impl<'a> Rows<'a> {
               rules = None;
             })) }
     {
-        let mut state = Interpreter::none(alloc);
+        let mut state = Interpreter::new(alloc);
         let mut reader = instructions(section, &fde.cie.initial_instructions);
         match state.run(None, &[Rule::Kept; 32], &fde.cie.factors, &mut reader) {
             Ok(()) => {}
@@ -104,7 +104,7 @@ impl<'a> Rows<'a> {
             Err(Fail::Memory(memory)) => return Err(memory),
         }
         let initial = state.regs();
-        state.go_to(fde.initial_location);
+        state.set_location(fde.initial_location);
         Ok(Some(Rows {
             section,
             fde: *fde,

@@ -40,7 +40,7 @@ fn changed_by(changed: u32, register: u8, rule: Rule) -> u32
 
 impl RuleMap {
     /// Each register has the same value.
-    pub(crate) fn kept() -> RuleMap
+    pub(crate) fn all_same_value() -> RuleMap
         ensures { result ≡ all_same_value }
     {
         RuleMap {

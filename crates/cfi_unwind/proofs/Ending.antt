@@ -7,7 +7,6 @@ use Rattle.scope_types.specs.declared.frame.End.TheVariants.{Whole, Partial}
 use Rattle.scope_types.specs.declared.frame.PartialCause.TheVariants as causes
 use Rattle.cfi_table.specs.declared.rules.Rules.{Rules}
 use Rattle.cfi_table.specs.Rules.{rule_at}
-use Rattle.cfi_table.specs.Frames.{rules_at}
 use Rattle.cfi_unwind.specs.declared.caller.Activation.{Activation}
 use Rattle.cfi_unwind.specs.declared.caller.Unwound.{Unwound}
 use Rattle.cfi_unwind.specs.declared.caller.Unwound.TheVariants.{Ends}
@@ -67,14 +66,14 @@ by_rules words here (Some found) =
     one_test expression (Partial causes.Expression) memory caller
     ∙ ap (λ (x : Unwound). cond expression (Ends (Partial causes.Expression)) x) (by_cfa words here.registers found cfa))
 
-pub one_by_one : (u : Unwinding) (words : Words) (here : Activation) → caller_of u words here ≡ cond (is_in u.region here.pc) (Ends Whole) (caller_if words here.registers (rules_at u.frames here.pc))
+pub one_by_one : (u : Unwinding) (words : Words) (here : Activation) → caller_of u words here ≡ cond (is_in u.region here.pc) (Ends Whole) (caller_if words here.registers (u.rules here.pc))
 unfolding caller_of
 one_by_one u words here =
-    one_test (is_in u.region here.pc) Whole (later_tests words here (rules_at u.frames here.pc)) (caller_by words here (rules_or_none (rules_at u.frames here.pc)))
-    ∙ ap (λ (x : Unwound). cond (is_in u.region here.pc) (Ends Whole) x) (by_rules words here (rules_at u.frames here.pc))
+    one_test (is_in u.region here.pc) Whole (later_tests words here (u.rules here.pc)) (caller_by words here (rules_or_none (u.rules here.pc)))
+    ∙ ap (λ (x : Unwound). cond (is_in u.region here.pc) (Ends Whole) x) (by_rules words here (u.rules here.pc))
 
-pub outside_region : (u : Unwinding) (words : Words) (here : Activation) → is_in u.region here.pc ≡ false → caller_of u words here ≡ caller_if words here.registers (rules_at u.frames here.pc)
-outside_region u words here e = one_by_one u words here ∙ ap (λ (b : Bool). cond b (Ends Whole) (caller_if words here.registers (rules_at u.frames here.pc))) e
+pub outside_region : (u : Unwinding) (words : Words) (here : Activation) → is_in u.region here.pc ≡ false → caller_of u words here ≡ caller_if words here.registers (u.rules here.pc)
+outside_region u words here e = one_by_one u words here ∙ ap (λ (b : Bool). cond b (Ends Whole) (caller_if words here.registers (u.rules here.pc))) e
 
 pub inside_region : (u : Unwinding) (words : Words) (here : Activation) → is_in u.region here.pc ≡ true → caller_of u words here ≡ Ends Whole
-inside_region u words here e = one_by_one u words here ∙ ap (λ (b : Bool). cond b (Ends Whole) (caller_if words here.registers (rules_at u.frames here.pc))) e
+inside_region u words here e = one_by_one u words here ∙ ap (λ (b : Bool). cond b (Ends Whole) (caller_if words here.registers (u.rules here.pc))) e

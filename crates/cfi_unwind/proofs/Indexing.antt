@@ -10,8 +10,9 @@ use Rattle.prof_bytes.proofs.Tests.{some_same}
 use Rattle.cfi_table.specs.declared.fde.Fde.{Fde}
 use Rattle.cfi_table.specs.declared.rows.Row.{Row}
 use Rattle.cfi_table.specs.declared.rules.Rules.{Rules}
-use Rattle.cfi_table.specs.Frames.{Frames, fde_at, fde_range, rules_of, rules_at, least_above, lesser}
+use Rattle.cfi_table.specs.Frames.{Frames, descriptions, fde_at, fde_range, rules_of, rules_at, starts_of, least_above, lesser}
 use Rattle.cfi_table.specs.Rows.{FdeRows, row_from, IsNextRow, AreFirst}
+use Rattle.cfi_table.proofs.Described.{rules_by_fde, starts_of_fdes}
 use Rattle.cfi_unwind.specs.declared.index.Index.{Index}
 use Rattle.cfi_unwind.specs.declared.unwind_rule.UnwindRule.{UnwindRule}
 use Rattle.scope_types.specs.declared.frame.End.TheVariants.{Whole}
@@ -55,12 +56,12 @@ still_id unwind_rules after id found keeps (inl none) = inl none
 still_id unwind_rules after id found keeps (inr at) = inr (keeps id found at)
 
 -- and some ids are set to that of an unwind rule that follows the rules there
-pub keeps_filled : (frames : Frames) (index after : Index) (low high id : ℕ) → after.first ≡ index.first → IsFilled index.ids.items after.ids.items low high id → KeepsRules index.unwind_rules.items after.unwind_rules.items
-    → length after.unwind_rules.items ≤ 2 ^ 20 → ((k : ℕ) → low ≤ k → k < high → IsAt after.unwind_rules.items id (rules_at frames (4 * (index.first + k))))
-    → KeepsIndex frames index after
-keeps_filled frames index after low high id first filled keeps few follows is = record {
+pub keeps_filled : (rules : ℕ → Option Rules) (index after : Index) (low high id : ℕ) → after.first ≡ index.first → IsFilled index.ids.items after.ids.items low high id → KeepsRules index.unwind_rules.items after.unwind_rules.items
+    → length after.unwind_rules.items ≤ 2 ^ 20 → ((k : ℕ) → low ≤ k → k < high → IsAt after.unwind_rules.items id (rules (4 * (index.first + k))))
+    → KeepsIndex rules index after
+keeps_filled rules index after low high id first filled keeps few follows is = record {
   ids = λ k lt.
-      let P : ℕ → Type 0 = λ f. IsId after.unwind_rules.items (get_or after.ids.items k 0) (rules_at frames (4 * (f + k))) in
+      let P : ℕ → Type 0 = λ f. IsId after.unwind_rules.items (get_or after.ids.items k 0) (rules (4 * (f + k))) in
       let len = filled.as_many in
       subst P (sym first) (there k (omega arith) (cases_lt k low) (cases_lt k high));
   nowhere = λ some.
@@ -70,10 +71,10 @@ keeps_filled frames index after low high id first filled keeps few follows is = 
 }
   where
     Here : ℕ → ℕ → Type 0
-    Here k n = IsId after.unwind_rules.items n (rules_at frames (4 * (index.first + k)))
+    Here k n = IsId after.unwind_rules.items n (rules (4 * (index.first + k)))
 
     stays : (k : ℕ) → k < length index.ids.items → Here k (get_or index.ids.items k 0)
-    stays k lt = still_id index.unwind_rules.items after.unwind_rules.items (get_or index.ids.items k 0) (rules_at frames (4 * (index.first + k))) keeps (is.ids k lt)
+    stays k lt = still_id index.unwind_rules.items after.unwind_rules.items (get_or index.ids.items k 0) (rules (4 * (index.first + k))) keeps (is.ids k lt)
 
     there : (k : ℕ) → k < length index.ids.items → (k < low) ⊎ (low ≤ k) → (k < high) ⊎ (high ≤ k) → Here k (get_or after.ids.items k 0)
     there k lt (inl under) side = subst (Here k) (sym (filled.below k under)) (stays k lt)
@@ -83,12 +84,12 @@ keeps_filled frames index after low high id first filled keeps few follows is = 
 -- ---- rows
 
 -- one id is set, or is not
-pub keeps_one : (frames : Frames) (index after : Index) (k id pc : ℕ) → after.first ≡ index.first → after.ids.items ≡ set index.ids.items k id → k < length index.ids.items → KeepsRules index.unwind_rules.items after.unwind_rules.items
-    → length after.unwind_rules.items ≤ 2 ^ 20 → pc ≡ 4 * (index.first + k) → IsAt after.unwind_rules.items id (rules_at frames pc) → KeepsIndex frames index after
-keeps_one frames index after k id pc first ids lt keeps few number at =
+pub keeps_one : (rules : ℕ → Option Rules) (index after : Index) (k id pc : ℕ) → after.first ≡ index.first → after.ids.items ≡ set index.ids.items k id → k < length index.ids.items → KeepsRules index.unwind_rules.items after.unwind_rules.items
+    → length after.unwind_rules.items ≤ 2 ^ 20 → pc ≡ 4 * (index.first + k) → IsAt after.unwind_rules.items id (rules pc) → KeepsIndex rules index after
+keeps_one rules index after k id pc first ids lt keeps few number at =
     let one : IsFilled index.ids.items (set index.ids.items k id) k (k + 1) id = fills_next index.ids.items index.ids.items k k id (omega arith) lt (fills_nothing index.ids.items k id) in
-    let P : ℕ → Type 0 = λ n. IsAt after.unwind_rules.items id (rules_at frames n) in
-    keeps_filled frames index after k (k + 1) id first (subst (λ (ps : List ℕ). IsFilled index.ids.items ps k (k + 1) id) (sym ids) one) keeps few (λ j le less.
+    let P : ℕ → Type 0 = λ n. IsAt after.unwind_rules.items id (rules n) in
+    keeps_filled rules index after k (k + 1) id first (subst (λ (ps : List ℕ). IsFilled index.ids.items ps k (k + 1) id) (sym ids) one) keeps few (λ j le less.
     let is : pc ≡ 4 * (index.first + j) = omega arith in
     subst P is at)
 
@@ -96,7 +97,7 @@ in_range : (low high n : ℕ) → low ≤ n → n < high → (nat_le low n && na
 in_range low high n le lt = grind (arith, nat_tests)
 
 -- what the next row of an FDE that is the first to hold its addresses says
-pub row_is_in : (frames : Frames) (rows before after : FdeRows) (row : Row) (found : Option Rules) → AreFirst frames rows → before.section ≡ rows.section → before.fde ≡ rows.fde → IsNextRow before after row → found ≡ after.rules → IsRowIn frames row found
+pub row_is_in : (frames : Frames) (rows before after : FdeRows) (row : Row) (found : Option Rules) → AreFirst frames rows → before.section ≡ rows.section → before.fde ≡ rows.fde → IsNextRow before after row → found ≡ after.rules → IsRowIn (rules_at (descriptions frames)) row found
 row_is_in frames rows before after row found first section fde next is address from to =
     let low = next.is.low in
     let high = next.is.within in
@@ -106,7 +107,8 @@ row_is_in frames rows before after row found first section fde next is address f
     let a : (fde_range rows.fde).start ≤ address = omega arith in
     let b : address < (fde_range rows.fde).end = omega arith in
     let held = in_range (fde_range rows.fde).start (fde_range rows.fde).end address a b in
-    ap (λ (o : Option Fde). option_and_then (rules_of frames.section address) o) (first.first address held)
+    rules_by_fde frames address
+    ∙ ap (λ (o : Option Fde). option_and_then (rules_of frames.section address) o) (first.first address held)
     ∙ ap (λ (s : List ℕ). rules_of s address rows.fde) (sym (section ∙ first.section))
     ∙ ap (λ (f : Fde). rules_of before.section address f) (sym fde)
     ∙ own
@@ -162,17 +164,20 @@ held_by_none_from (fde ∷ fdes) pc address le none above = go (held_by_none_fro
     go rest false true is at found up = absurd (some (least_above pc (map (λ (f : Fde). f.initial_location) fdes)) up)
     go rest false false is at found up = rw (not_held pc address fde le is at) (rest found up)
 
-no_rules : (frames : Frames) (address : ℕ) → fde_at frames address ≡ None → rules_at frames address ≡ None
-no_rules frames address none = ap (λ (o : Option Fde). option_and_then (rules_of frames.section address) o) none
+no_rules : (frames : Frames) (address : ℕ) → fde_at frames address ≡ None → rules_at (descriptions frames) address ≡ None
+no_rules frames address none = rules_by_fde frames address ∙ ap (λ (o : Option Fde). option_and_then (rules_of frames.section address) o) none
 
 no_fde : (o : Option Fde) → option_map (λ (f : Fde). f.offset) o ≡ None → o ≡ None
 no_fde None e = refl
 no_fde (Some fde) e = absurd cc
 
-pub no_rules_from : (frames : Frames) (pc address : ℕ) → pc ≤ address → option_map (λ (f : Fde). f.offset) (fde_at frames pc) ≡ None → least_above pc (map (λ (f : Fde). f.initial_location) frames.fdes) ≡ None
-    → rules_at frames address ≡ None
+pub no_rules_at : (frames : Frames) (address : ℕ) → option_map (λ (f : Fde). f.offset) (fde_at frames address) ≡ None → rules_at (descriptions frames) address ≡ None
+no_rules_at frames address none = no_rules frames address (no_fde (fde_at frames address) none)
+
+pub no_rules_from : (frames : Frames) (pc address : ℕ) → pc ≤ address → option_map (λ (f : Fde). f.offset) (fde_at frames pc) ≡ None → least_above pc (starts_of (descriptions frames)) ≡ None
+    → rules_at (descriptions frames) address ≡ None
 no_rules_from frames pc address le none above =
-    no_rules frames address (held_by_none_from frames.fdes pc address le (no_fde (fde_at frames pc) none) above)
+    no_rules frames address (held_by_none_from frames.fdes pc address le (no_fde (fde_at frames pc) none) (sym (ap (least_above pc) (starts_of_fdes frames)) ∙ above))
 
 pub none_if : {X : Type 0} (o : Option X) (b : Bool) → is_some o ≡ not b → b ≡ true → o ≡ None
 none_if None b e is = refl
@@ -180,11 +185,11 @@ none_if (Some x) true e is = absurd cc
 none_if (Some x) false e is = absurd cc
 
 -- words after all FDEs get the first unwind rule
-pub keeps_last : (frames : Frames) (index after : Index) (low count : ℕ) → after.first ≡ index.first → after.unwind_rules.items ≡ index.unwind_rules.items → IsFilled index.ids.items after.ids.items low count 0 → low < length index.ids.items → count ≤ length index.ids.items
-    → ((address : ℕ) → 4 * (index.first + low) ≤ address → rules_at frames address ≡ None) → KeepsIndex frames index after
-keeps_last frames index after low count first items filled some within none is =
+pub keeps_after_fdes : (rules : ℕ → Option Rules) (index after : Index) (low count : ℕ) → after.first ≡ index.first → after.unwind_rules.items ≡ index.unwind_rules.items → IsFilled index.ids.items after.ids.items low count 0 → low < length index.ids.items → count ≤ length index.ids.items
+    → ((address : ℕ) → 4 * (index.first + low) ≤ address → rules address ≡ None) → KeepsIndex rules index after
+keeps_after_fdes rules index after low count first items filled some within none is =
     let few = is.few in
-    keeps_filled frames index after low count 0 first filled (λ id found at. subst (λ (rs : List UnwindRule). IsAt rs id found) (sym items) at) (let long = ap (λ (rs : List UnwindRule). length rs) items in omega arith)
+    keeps_filled rules index after low count 0 first filled (λ id found at. subst (λ (rs : List UnwindRule). IsAt rs id found) (sym items) at) (let long = ap (λ (rs : List UnwindRule). length rs) items in omega arith)
     (λ k le lt. subst (λ (o : Option Rules). IsAt after.unwind_rules.items 0 o) (sym (none (4 * (index.first + k)) (omega arith))) (subst (λ (rs : List UnwindRule). IsAt rs 0 None) (sym items) (is.nowhere (omega arith)))) is
 
 -- ---- the entry region
@@ -196,7 +201,7 @@ no_region low high n (inr over) = grind (arith, nat_tests)
 -- paths end whole at the addresses of the region, and elsewhere the rules are followed
 pub ends_in : (u : Unwinding) (index after : Index) (start end low high id : ℕ) → after.first ≡ index.first → IsFilled index.ids.items after.ids.items low high id → KeepsRules index.unwind_rules.items after.unwind_rules.items
     → length after.unwind_rules.items ≤ 2 ^ 20 → EndsWhole after.unwind_rules.items id → u.region.0 ≤ 4 * start → 4 * start < u.region.0 + 4 → u.region.1 ≤ 4 * end → 4 * end < u.region.1 + 4
-    → high ≡ min (end - index.first) (length index.ids.items) → low ≡ min (start - index.first) high → IsIndexOf u.frames index → IsReady u after
+    → high ≡ min (end - index.first) (length index.ids.items) → low ≡ min (start - index.first) high → IsIndexOf u.rules index → IsReady u after
 ends_in u index after start end low high id first filled keeps few ends start_from start_to end_from end_to at_high at_low is = record {
   few = few;
   ids = λ k lt.
@@ -208,20 +213,20 @@ ends_in u index after start end low high id first filled keeps few ends start_fr
     Found : ℕ → ℕ → Type 0
     Found pc n = (n ≡ no_id) ⊎ IsFinding u pc after.unwind_rules.items n
 
-    followed : (pc n : ℕ) → is_in u.region pc ≡ false → IsId index.unwind_rules.items n (rules_at u.frames pc) → Found pc n
+    followed : (pc n : ℕ) → is_in u.region pc ≡ false → IsId index.unwind_rules.items n (u.rules pc) → Found pc n
     followed pc n outside (inl none) = inl none
     followed pc n outside (inr at) =
-        let still = keeps n (rules_at u.frames pc) at in
+        let still = keeps n (u.rules pc) at in
         inr (record {
           unwind_rule = still.unwind_rule;
-          stands = still.stands;
+          has = still.has;
           finds = λ words registers all. still.follows words registers all ∙ sym (outside_region u words (record { pc = pc; registers = registers }) outside);
         })
 
     ended : (pc : ℕ) → is_in u.region pc ≡ true → IsFinding u pc after.unwind_rules.items id
     ended pc within = record {
       unwind_rule = Ends Whole;
-      stands = ends;
+      has = ends;
       finds = λ words registers all. sym (inside_region u words (record { pc = pc; registers = registers }) within);
     }
 
@@ -241,43 +246,43 @@ rule_there : (u : Unwinding) (pc : ℕ) (unwind_rules : List UnwindRule) (id : �
 rule_there u pc unwind_rules id None few at e = tt
 rule_there u pc unwind_rules id (Some unwind_rule) few (inr at) e =
     let P : UnwindRule → Type 0 = λ s. FindsCallers u pc s in
-    subst P (sym (some_same unwind_rule.now at.unwind_rule (e ∙ at.stands))) at.finds
+    subst P (sym (some_same unwind_rule.now at.unwind_rule (e ∙ at.has))) at.finds
 rule_there u pc unwind_rules id (Some unwind_rule) few (inl none) e =
     let wrong : Some unwind_rule.now ≡ None = e ∙ slice_get_past unwind_rules id (omega arith) in
     absurd cc
 
 pub rule_with : (u : Unwinding) (index : Index) (pc k id : ℕ) (r : Option (Bor UnwindRule)) → IsReady u index → Some id ≡ slice_get index.ids.items k → 4 * (index.first + k) ≡ pc
     → option_copied r ≡ slice_get index.unwind_rules.items id → IfSome r (λ unwind_rule. FindsCallers u pc unwind_rule.now)
-rule_with u index pc k id r is stands number found = go (cases_lt k (length index.ids.items))
+rule_with u index pc k id r is id_is number found = go (cases_lt k (length index.ids.items))
   where
     here : get_or index.ids.items k 0 ≡ id
-    here = sym (unwrap_or-slice_get index.ids.items k 0) ∙ ap (λ (o : Option ℕ). unwrap_or o 0) (sym stands)
+    here = sym (unwrap_or-slice_get index.ids.items k 0) ∙ ap (λ (o : Option ℕ). unwrap_or o 0) (sym id_is)
 
     go : (k < length index.ids.items) ⊎ (length index.ids.items ≤ k) → IfSome r (λ unwind_rule. FindsCallers u pc unwind_rule.now)
     go (inl lt) =
         let P : ℕ → Type 0 = λ n. (n ≡ no_id) ⊎ IsFinding u (4 * (index.first + k)) index.unwind_rules.items n in
         let Q : ℕ → Type 0 = λ n. (id ≡ no_id) ⊎ IsFinding u n index.unwind_rules.items id in
         rule_there u pc index.unwind_rules.items id r is.few (subst Q number (subst P here (is.ids k lt))) found
-    go (inr past) = let wrong : Some id ≡ None = stands ∙ slice_get_past index.ids.items k past in absurd cc
+    go (inr past) = let wrong : Some id ≡ None = id_is ∙ slice_get_past index.ids.items k past in absurd cc
 
 -- ---- an address's unwind rule that is made anew
 
 -- it stays an index, and the latest rules have their unwind rule
-pub record Grows (frames : Frames) (start after : Index) (id : ℕ) (found : Option Rules) : Type 0 where
+pub record Grows (rules : ℕ → Option Rules) (start after : Index) (id : ℕ) (found : Option Rules) : Type 0 where
   pub as_many : length after.ids.items ≡ length start.ids.items
-  pub keeps : KeepsIndex frames start after
-  pub latest : IsIndexOf frames start → 0 < length after.ids.items → IsAt after.unwind_rules.items id found
+  pub keeps : KeepsIndex rules start after
+  pub latest : IsIndexOf rules start → 0 < length after.ids.items → IsAt after.unwind_rules.items id found
 
-pub grows_one : (frames : Frames) (start index after : Index) (k pc id last next : ℕ) (found latest : Option Rules) → k < length index.ids.items → length index.ids.items ≡ length start.ids.items
-    → KeepsIndex frames start index → (IsIndexOf frames start → 0 < length index.ids.items → IsAt index.unwind_rules.items last found)
+pub grows_one : (rules : ℕ → Option Rules) (start index after : Index) (k pc id last next : ℕ) (found latest : Option Rules) → k < length index.ids.items → length index.ids.items ≡ length start.ids.items
+    → KeepsIndex rules start index → (IsIndexOf rules start → 0 < length index.ids.items → IsAt index.unwind_rules.items last found)
     → after.first ≡ index.first → after.ids.items ≡ set index.ids.items k id → KeepsRules index.unwind_rules.items after.unwind_rules.items → length after.unwind_rules.items ≤ 2 ^ 20 → pc ≡ 4 * (index.first + k)
-    → (IsAt index.unwind_rules.items 0 None → IsAt index.unwind_rules.items last found → IsAt after.unwind_rules.items id (rules_at frames pc)) → (IsAt index.unwind_rules.items last found → IsAt after.unwind_rules.items next latest)
-    → Grows frames start after next latest
-grows_one frames start index after k pc id last next found latest lt many keeps_so_far at_last first ids keeps few number at to_next =
+    → (IsAt index.unwind_rules.items 0 None → IsAt index.unwind_rules.items last found → IsAt after.unwind_rules.items id (rules pc)) → (IsAt index.unwind_rules.items last found → IsAt after.unwind_rules.items next latest)
+    → Grows rules start after next latest
+grows_one rules start index after k pc id last next found latest lt many keeps_so_far at_last first ids keeps few number at to_next =
     let some : 0 < length index.ids.items = omega arith in
     let len : length after.ids.items ≡ length index.ids.items = ap (λ (ps : List ℕ). length ps) ids ∙ length-set index.ids.items k id in
     record {
       as_many = len ∙ many;
-      keeps = λ is. keeps_one frames index after k id pc first ids lt keeps few number (at ((keeps_so_far is).nowhere some) (at_last is some)) (keeps_so_far is);
+      keeps = λ is. keeps_one rules index after k id pc first ids lt keeps few number (at ((keeps_so_far is).nowhere some) (at_last is some)) (keeps_so_far is);
       latest = λ is there. to_next (at_last is some);
     }

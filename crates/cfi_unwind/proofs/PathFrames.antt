@@ -5,7 +5,6 @@ use Rattle.std.proofs.lemmas.List.Elements.{All-from_recursion}
 use Rattle.scope_types.specs.declared.frame.End.{End}
 use Rattle.scope_types.specs.declared.frame.Frame.{Frame}
 use Rattle.scope_types.specs.Raw.{HasFrames}
-use Rattle.cfi_table.specs.Frames.{rules_at}
 use Rattle.cfi_unwind.specs.declared.caller.Activation.{Activation}
 use Rattle.cfi_unwind.specs.Caller.{Words, Unwinding, caller_of, caller_by, end_tests, first_end, rules_or_none, unwound_as}
 use Rattle.cfi_unwind.specs.Path.{outside, path_from, path_of}
@@ -28,7 +27,7 @@ path_words : (n : ℕ) (u : Unwinding) (words : Words) (here : Activation) → I
 unfolding path_from caller_of
 path_words zero u words here low = tt
 path_words (suc n) u words here low =
-    (low, outer_words u words n (first_end (end_tests u words here (rules_at u.frames here.pc))) (caller_by words here (rules_or_none (rules_at u.frames here.pc))) (mod_word _) (λ c within. path_words n u words c within))
+    (low, outer_words u words n (first_end (end_tests u words here (u.rules here.pc))) (caller_by words here (rules_or_none (u.rules here.pc))) (mod_word _) (λ c within. path_words n u words c within))
 
 one_frame : (frame : Frame) (frames : List Frame) → 1 ≤ length (frame ∷ frames)
 one_frame frame frames = omega arith
@@ -45,7 +44,7 @@ unfolding path_from caller_of
 path_few zero u words here = omega arith
 path_few (suc n) u words here =
     frame_more (record { pc = here.pc }) _ n
-    (outer_few u words n (first_end (end_tests u words here (rules_at u.frames here.pc))) (caller_by words here (rules_or_none (rules_at u.frames here.pc))) (λ c. path_few n u words c))
+    (outer_few u words n (first_end (end_tests u words here (u.rules here.pc))) (caller_by words here (rules_or_none (u.rules here.pc))) (λ c. path_few n u words c))
 
 path_some : (n : ℕ) (u : Unwinding) (words : Words) (here : Activation) → 1 ≤ length (path_from (suc n) u words here).frames
 unfolding path_from

@@ -5,9 +5,9 @@ use Rattle.elf_image.specs.declared.part.Segment.{Segment}
 use Rattle.elf_image.specs.Image.{ProgramImage}
 use Rattle.cfi_table.specs.Instructions.{offset_from, factored_from, rule_from, cfa_from, extended_from, instruction_after_opcode, instruction_from}
 use Rattle.cfi_table.specs.Rules.{run_by}
-use Rattle.cfi_table.specs.Entries.{chain_from, cie_from, cie_from_augmentation, cie_from_factors, cie_from_segment, cie_from_sizes, cie_of, cie_at}
+use Rattle.cfi_table.specs.Entries.{chain_from, cie_from, cie_from_augmentation, factors_from, cie_from_factors, cie_from_segment, cie_from_sizes, cie_of, cie_at}
 use Rattle.cfi_table.specs.Entries.{fde_fields_from, after_cie, after_fde, read_entry, entries_of}
-use Rattle.cfi_table.specs.Frames.{Frames, frames_of, rules_of}
+use Rattle.cfi_table.specs.Frames.{Frames, descriptions, frames_of, rules_of}
 use Rattle.cfi_table.specs.declared.cie.Cie.{Cie}
 use Rattle.cfi_table.specs.declared.fde.Fde.{Fde}
 use Rattle.cfi_unwind.specs.Region.{entry_region}
@@ -46,9 +46,9 @@ abbrev words : ℕ → Option ℕ
 words at = if at == 0xf00fffec then Some 0x10008 else Some 0x10024
 
 pub frames_of_recursion : frames_of section segments ≡ Ok frames
-unfolding offset_from factored_from rule_from cfa_from extended_from instruction_after_opcode instruction_from run_by chain_from cie_from cie_from_augmentation cie_from_factors cie_from_segment cie_from_sizes cie_of cie_at fde_fields_from after_cie after_fde read_entry entries_of frames_of
+unfolding offset_from factored_from rule_from cfa_from extended_from instruction_after_opcode instruction_from run_by chain_from cie_from cie_from_augmentation factors_from cie_from_factors cie_from_segment cie_from_sizes cie_of cie_at fde_fields_from after_cie after_fde read_entry entries_of frames_of
 frames_of_recursion = refl
 
-pub path_of_recursion : path_of (unwinding_of frames image) 0x10024 registers words ≡ record { end = Whole; frames = record { pc = 0x10024 } ∷ record { pc = 0x10020 } ∷ record { pc = 0x10020 } ∷ record { pc = 0x10020 } ∷ record { pc = 0x10020 } ∷ record { pc = 0x10020 } ∷ record { pc = 0x10004 } ∷ [] }
+pub path_of_recursion : path_of (unwinding_of (descriptions frames) image) 0x10024 registers words ≡ record { end = Whole; frames = record { pc = 0x10024 } ∷ record { pc = 0x10020 } ∷ record { pc = 0x10020 } ∷ record { pc = 0x10020 } ∷ record { pc = 0x10020 } ∷ record { pc = 0x10020 } ∷ record { pc = 0x10004 } ∷ [] }
 unfolding offset_from factored_from rule_from cfa_from extended_from instruction_after_opcode instruction_from run_by after_cie after_fde rules_of entry_region caller_of recovered_all path_from
 path_of_recursion = refl

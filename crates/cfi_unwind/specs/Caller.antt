@@ -14,7 +14,6 @@ use Rattle.cfi_table.specs.declared.rules.Rule.{Rule}
 use Rattle.cfi_table.specs.declared.rules.Rule.TheVariants as rules
 use Rattle.cfi_table.specs.declared.rules.Rules.{Rules}
 use Rattle.cfi_table.specs.Rules.{rule_at}
-use Rattle.cfi_table.specs.Frames.{Frames, rules_at}
 use Rattle.cfi_unwind.specs.declared.caller.Activation.{Activation}
 use Rattle.cfi_unwind.specs.declared.caller.Unwound.{Unwound}
 use Rattle.cfi_unwind.specs.declared.caller.Unwound.TheVariants.{Caller, Ends}
@@ -26,6 +25,7 @@ Words = ℕ → Option ℕ
 
 -- ---- what the rules say
 
+-- the rule is undefined: the value is lost
 abbrev pub is_undefined : Rule → Bool
 is_undefined rules.Kept = false
 is_undefined rules.Undefined = true
@@ -34,6 +34,7 @@ is_undefined (rules.Sum offset) = false
 is_undefined (rules.Copy source) = false
 is_undefined rules.Expression = false
 
+-- the rule is an expression
 abbrev pub is_expression : Rule → Bool
 is_expression rules.Kept = false
 is_expression rules.Undefined = false
@@ -42,6 +43,7 @@ is_expression (rules.Sum offset) = false
 is_expression (rules.Copy source) = false
 is_expression rules.Expression = true
 
+-- the CFA's rule is an expression
 abbrev pub is_cfa_expression : Cfa → Bool
 is_cfa_expression cfas.Missing = false
 is_cfa_expression (cfas.Register register offset) = false
@@ -93,18 +95,21 @@ callers_registers words registers cfa regs = slice_set (slice_set (recovered_all
 abbrev pub first_end : List (Bool × End) → Option End
 first_end tests = option_map (λ t. t.1) (find (λ t. t.0) tests)
 
--- what the rules are found by, and the entry region
+-- the rules at each address, and the entry region
 pub record Unwinding : Type 0 where
-  pub frames : Frames
+  pub rules : ℕ → Option Rules
   pub region : ℕ × ℕ
 
--- where no FDE holds the pc, and where no CFA is found, an earlier test holds; what stands for these then says nothing
+-- rules in place of none. Where no FDE holds the pc, and where no CFA is found, an earlier test holds, so that these
+-- values do not matter
 abbrev pub absent_rules : Rules
 absent_rules = record { cfa = cfas.Missing; regs = []; return_register = 0 }
 
+-- the rules, or those in place of none
 abbrev pub rules_or_none : Option Rules → Rules
 rules_or_none found = unwrap_or found absent_rules
 
+-- the canonical frame address, or 0 in place of none
 abbrev pub cfa_or_zero : List ℕ → Rules → ℕ
 cfa_or_zero registers found = unwrap_or (cfa_of registers found.cfa) 0
 
@@ -127,13 +132,14 @@ end_tests u words here found =
     ∷ (return_address words here.registers rules == 0, Whole)
     ∷ []
 
--- the caller stands at its call, which is 4 below the return address
+-- the caller's pc is that of its call, 4 below the return address
 abbrev pub caller_by : Words → Activation → Rules → Activation
 caller_by words here found = record {
   pc = word_sum (return_address words here.registers found) (2 ^ 32 - 4);
   registers = callers_registers words here.registers (cfa_or_zero here.registers found) found.regs;
 }
 
+-- the path ends so, or goes on to the caller
 abbrev pub unwound_as : Option End → Activation → Unwound
 unwound_as None caller = Caller caller
 unwound_as (Some end) caller = Ends end
@@ -141,5 +147,5 @@ unwound_as (Some end) caller = Ends end
 -- the caller of an activation, or how the path ends there (and a path that has no room for the caller is partial)
 unfoldable pub caller_of : Unwinding → Words → Activation → Unwound
 caller_of u words here =
-    unwound_as (first_end (end_tests u words here (rules_at u.frames here.pc)))
-    (caller_by words here (rules_or_none (rules_at u.frames here.pc)))
+    unwound_as (first_end (end_tests u words here (u.rules here.pc)))
+    (caller_by words here (rules_or_none (u.rules here.pc)))

@@ -3,12 +3,14 @@ use Rattle.std.specs.Prelude.{◌≡◌, ◌⊎◌, ◌≤◌, ℕ, List, [], �
 use Rattle.scope_types.specs.declared.frame.Frame.{Frame}
 use Rattle.scope_types.specs.declared.frame.End.TheVariants.{Partial}
 use Rattle.scope_types.specs.declared.frame.PartialCause.TheVariants as causes
-use Rattle.scope_types.specs.Raw.{Raw, most_frames_of_path}
+use Rattle.scope_types.specs.Limits.{most_frames_of_path}
+use Rattle.scope_types.specs.Raw.{Raw}
 use Rattle.cfi_unwind.specs.declared.caller.Activation.{Activation}
 use Rattle.cfi_unwind.specs.declared.caller.Unwound.TheVariants.{Caller, Ends}
 use Rattle.cfi_unwind.specs.Caller.{Words, Unwinding, caller_of}
 use Rattle.cfi_unwind.specs.Path.{path_of}
 
+-- an activation's frame
 abbrev pub frame_of : Activation → Frame
 frame_of here = record { pc = here.pc }
 
@@ -17,6 +19,7 @@ abbrev pub AreCallers : Unwinding → Words → Activation → List Activation �
 AreCallers u words here [] = Unit {0}
 AreCallers u words here (caller ∷ outer) = (caller_of u words here ≡ Caller caller) × AreCallers u words caller outer
 
+-- the last of an activation and those outside of it
 abbrev pub outermost : Activation → List Activation → Activation
 outermost here [] = here
 outermost here (caller ∷ outer) = outermost caller outer

@@ -2,9 +2,10 @@
 use Rattle.std.specs.Prelude.{ℕ, zero, suc, List, [], ◌∷◌}
 use Rattle.scope_types.specs.declared.frame.End.TheVariants.{Partial}
 use Rattle.scope_types.specs.declared.frame.PartialCause.TheVariants as causes
-use Rattle.scope_types.specs.Raw.{Raw, most_frames_of_path}
+use Rattle.scope_types.specs.Limits.{most_frames_of_path}
+use Rattle.scope_types.specs.Raw.{Raw}
 use Rattle.elf_image.specs.Image.{ProgramImage}
-use Rattle.cfi_table.specs.Frames.{Frames}
+use Rattle.cfi_table.specs.Frames.{Frames, FrameDescription, descriptions, rules_at}
 use Rattle.cfi_unwind.specs.declared.caller.Activation.{Activation}
 use Rattle.cfi_unwind.specs.declared.caller.Unwound.{Unwound}
 use Rattle.cfi_unwind.specs.declared.caller.Unwound.TheVariants.{Caller, Ends}
@@ -30,6 +31,21 @@ path_from (suc n) u words here = within here.pc (outside (λ caller. path_from n
 abbrev pub path_of : Unwinding → ℕ → List ℕ → Words → Raw
 path_of u pc registers words = path_from most_frames_of_path u words (record { pc = pc; registers = registers })
 
--- by a program's frames and image
-abbrev pub unwinding_of : Frames → ProgramImage → Unwinding
-unwinding_of frames image = record { frames = frames; region = entry_region frames image }
+-- ---- of a program
+
+-- by its frame descriptions and its image
+abbrev pub unwinding_of : List FrameDescription → ProgramImage → Unwinding
+unwinding_of described image = record { rules = rules_at described; region = entry_region described image }
+
+-- what an unwinder is made of: the frames of a table, and the entry region
+pub record TableUnwinder : Type 0 where
+  pub frames : Frames
+  pub region : ℕ × ℕ
+
+-- by the frame descriptions of its table
+abbrev pub unwinding_by : TableUnwinder → Unwinding
+unwinding_by unwinder = record { rules = rules_at (descriptions unwinder.frames); region = unwinder.region }
+
+-- the path that an unwinder finds
+abbrev pub path_by : TableUnwinder → ℕ → List ℕ → Words → Raw
+path_by unwinder = path_of (unwinding_by unwinder)

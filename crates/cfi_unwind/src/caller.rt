@@ -17,8 +17,7 @@ pub(crate) const RA: u8 = 1;
 /// The number of the register `sp`, the stack pointer (RISC-V psABI).
 pub(crate) const SP: u8 = 2;
 
-/// A call of a procedure that has not returned: the address where it stands, and the registers x0 to
-/// x31 there.
+/// A call of a procedure that has not returned: its pc, and the registers x0 to x31 there.
 #[derive(Clone, Copy, Debug)]
 pub(crate) struct Activation {
     pub(crate) pc: u32,
@@ -116,8 +115,8 @@ fn recovered_all<L: Look>(
     Some(values)
 }
 
-/// Where the caller stands whose registers these are: at its call, which lies 4 below the return
-/// address. `None` where that is 0.
+/// The pc of the caller whose registers these are: its call, 4 below the return address. `None` if that
+/// is 0.
 #[inline(always)]
 pub(crate) fn call_of(registers: &[u32; 32], return_register: u8) -> Option<u32>
     ensures { result ≡ (if get_or registers.now return_register 0 == 0 then None
@@ -143,7 +142,7 @@ fn caller_at(registers: &[u32; 32], return_register: u8) -> Unwound
     }
 }
 
-/// What is found over the canonical frame address.
+/// What is found with this canonical frame address.
 fn caller_over<L: Look>(
     memory: &L,
     registers: &[u32; 32],
@@ -163,7 +162,7 @@ fn caller_over<L: Look>(
     }
 }
 
-/// What is found of an activation with these registers by the rules where it stands.
+/// What is found of an activation with these registers by the rules at its pc.
 fn caller_from<L: Look>(memory: &L, registers: &[u32; 32], rules: &RulesRef<'_>) -> Unwound
     ensures { result ≡ caller_from (L.words memory.now) registers.now rules.now }
 {
@@ -179,8 +178,8 @@ fn caller_from<L: Look>(memory: &L, registers: &[u32; 32], rules: &RulesRef<'_>)
     }
 }
 
-/// Goes to the caller of an activation with these registers by the rules where it stands: its pc, and
-/// its registers in place of those here. Or how the path ends, where the registers stay.
+/// Goes to the caller of an activation with these registers by the rules at its pc: the caller's pc, and
+/// its registers in place of those here. Or how the path ends; the registers are then unchanged.
 pub(crate) fn caller_to<L: Look>(
     memory: &L,
     registers: &mut [u32; 32],

@@ -4,7 +4,7 @@ ghost use Rattle.std.specs.Prelude.{◌≡◌, ◌+◌, ◌<◌, ◌≤◌, ◌^
 use crate::unwind_rules::MOST_RULES;
 use elf_image::{Image, Segment};
 
-/// The addresses, from the first up to the second, of the executable segment that has most of them.
+/// The addresses of the largest executable segment, from the first up to the second.
 fn code_of(segments: &[Segment]) -> (u32, u32) {
     let mut code = (0u32, 0u32);
     for segment in segments {

@@ -1,8 +1,9 @@
 //! The unwind rules at a program's addresses, made ready before any path is looked for.
-ghost use Rattle.std.specs.Prelude.{◌≡◌, ℕ, None, ◌+◌, ◌≤◌, ◌^◌, ◌*◌, IfOk, IfSome, length, replicate, slice_get};
+ghost use Rattle.std.specs.Prelude.{◌≡◌, ℕ, Option, None, ◌+◌, ◌≤◌, ◌^◌, ◌*◌, IfOk, IfSome, length, replicate, slice_get};
 ghost use Rattle.std.specs.Prelude.{true};
 ghost use Rattle.cfi_unwind.specs.Caller.{Unwinding};
-ghost use Rattle.cfi_table.specs.Frames.{Frames, rules_at};
+ghost use Rattle.cfi_table.specs.Frames.{Frames, descriptions, rules_at};
+ghost use Rattle.cfi_table.specs.declared.rules.Rules.{Rules};
 ghost use Rattle.cfi_table.specs.Rows.{AreFirst};
 ghost use Rattle.cfi_unwind.specs.private.Index.{no_id, IsIndexOf, IsFilled, IsRowIn, KeepsIndex};
 ghost use Rattle.cfi_unwind.specs.private.Index.{FindsCallers, IsReady};
@@ -10,22 +11,22 @@ ghost use Rattle.cfi_unwind.specs.private.Index.{FindsCallers, IsReady};
 use crate::code_words::{address_of, words_below, words_of};
 use crate::unwind_rule::UnwindRule;
 use crate::unwind_rules::{
-    Latest, MOST_RULES, first_rule, id_anew, push_ending, push_rule, rule_with,
+    Latest, MOST_RULES, first_rule, id_at_address, push_ending, push_rule, rule_with,
 };
 use cfi_table::{FrameTable, Row, Rows, RulesRef};
 use elf_image::Image;
 use prof_bytes::Memory;
 use std::alloc::Global;
 
-/// How many bytes of call frame instructions are carried out for them at most, those of a CIE as often as it
-/// has FDEs.
+/// The most bytes of call frame instructions that are carried out for an index. Those of a CIE count once for each of
+/// its FDEs.
 const MOST_BYTES: u64 = 1 << 27;
 
 /// In place of an id, where none is made ready.
 const NO_ID: u32 = u32::MAX;
 
-/// For each fourth address from 4 times `first` on the id of its unwind rule. The first
-/// of these is that of addresses that no FDE holds.
+/// The id of the unwind rule at each word of code, from the word `first` on. The first unwind rule is that of addresses
+/// that no FDE holds.
 #[derive(Debug, Drop)]
 pub(crate) struct Index {
     first: u32,
@@ -54,6 +55,7 @@ fn id_at(ids: &[u32], number: usize) -> Option<u32>
 fn no_ids(alloc: Global, count: usize) -> Result<Vec<u32>, Memory>
     ensures { IfOk result (λ ids. ids.items ≡ replicate count no_id) }
 {
+    // room: `count`, an id for each word of the code
     Ok(vec![in alloc; NO_ID; count]?)
 }
 
@@ -69,8 +71,9 @@ fn unset_from(ids: &[u32]) -> usize
 }
 
 /// Whether no FDE holds the word of that number or an address after it.
-fn is_behind(table: &FrameTable, first: u32, number: usize) -> bool
-    ensures { result ≡ true → (address : ℕ) → 4 * (first + number) ≤ address → rules_at table.now address ≡ None }
+fn is_after_fdes(table: &FrameTable, first: u32, number: usize) -> bool
+    ensures { result ≡ true → (address : ℕ) → 4 * (first + number) ≤ address
+        → rules_at (descriptions table.now) address ≡ None }
 {
     match address_of(first, number) {
         Some(pc) => table.fde_at(pc).is_none() && table.starts_above(pc).is_none(),
@@ -81,7 +84,7 @@ fn is_behind(table: &FrameTable, first: u32, number: usize) -> bool
 impl Index {
     /// No unwind rule is made ready.
     fn none(alloc: Global) -> Index
-        ensures index { (frames : Frames) → IsIndexOf frames result }
+        ensures index { (rules : ℕ → Option Rules) → IsIndexOf rules result }
         ensures ready { (u : Unwinding) → IsReady u result }
     {
         Index {
@@ -91,9 +94,9 @@ impl Index {
         }
     }
 
-    /// The index of `count` words of code from the first on, for none of which an unwind rule is made ready.
+    /// The index of `count` words of code from the first on, none of which has an unwind rule yet.
     fn unset(alloc: Global, first: u32, count: usize) -> Index
-        ensures { (frames : Frames) → IsIndexOf frames result }
+        ensures { (rules : ℕ → Option Rules) → IsIndexOf rules result }
     {
         match (no_ids(alloc, count), first_rule(alloc)) {
             (Ok(ids), Ok(unwind_rules)) => Index {
@@ -112,7 +115,7 @@ impl Index {
         row: Row,
         rules: Option<RulesRef<'_>>,
     ) -> Result<(), Memory>
-        ensures { (frames : Frames) → IsRowIn frames row rules.entry → KeepsIndex frames self.old self.new }
+        ensures { (all : ℕ → Option Rules) → IsRowIn all row rules.entry → KeepsIndex all self.old self.new }
     {
         let first = u64::from(self.first);
         let count = self.ids.len();
@@ -128,7 +131,8 @@ impl Index {
 
     /// Adds the rows of an FDE.
     fn add_rows(&mut self, alloc: Global, rows: &mut Rows<'_>) -> Result<(), Memory>
-        ensures { (frames : Frames) → AreFirst frames rows.old → KeepsIndex frames self.old self.new }
+        ensures { (frames : Frames) → AreFirst frames rows.old
+            → KeepsIndex (rules_at (descriptions frames)) self.old self.new }
     {
         while let Some(row) = rows.next_row()? {
             self.add_row(alloc, row, rows.rules())?;
@@ -138,7 +142,7 @@ impl Index {
 
     /// Adds the rows of each FDE that is the first to hold its addresses.
     fn add_fdes(&mut self, alloc: Global, table: &FrameTable, left: &mut u64) -> Result<(), Memory>
-        ensures { KeepsIndex table.now self.old self.new }
+        ensures { KeepsIndex (rules_at (descriptions table.now)) self.old self.new }
     {
         for number in 0..table.fde_count() {
             if let Some(rows) = table.rows_of(number)? {
@@ -154,26 +158,33 @@ impl Index {
     }
 
     /// Sets the ids after the last FDE, which none holds.
-    fn add_last(&mut self, table: &FrameTable)
-        ensures { KeepsIndex table.now self.old self.new }
+    fn add_after_fdes(&mut self, table: &FrameTable)
+        ensures { KeepsIndex (rules_at (descriptions table.now)) self.old self.new }
     {
         let count = self.ids.len();
         let low = unset_from(&self.ids);
-        if low < count && is_behind(table, self.first, low) {
+        if low < count && is_after_fdes(table, self.first, low) {
             fill(&mut self.ids, low, count, 0);
         }
     }
 
-    /// Adds the unwind rules of the addresses that have none still, one after another. Most of them no FDE holds.
+    /// Adds the unwind rules of the addresses that have none yet, one after another. No FDE holds most of them.
     fn add_others(&mut self, alloc: Global, table: &FrameTable, left: &mut u64) -> Option<()>
         requires { length self.old.unwind_rules.items ≤ 2 ^ 20 }
-        ensures { KeepsIndex table.now self.old self.new }
+        ensures { KeepsIndex (rules_at (descriptions table.now)) self.old self.new }
     {
         let mut latest = Latest { id: 0, rules: None };
         for number in 0..self.ids.len() {
             if self.ids[number] == NO_ID {
                 let pc = address_of(self.first, number)?;
-                let id = id_anew(alloc, table, &mut self.unwind_rules, &mut latest, left, pc)?;
+                let id = id_at_address(
+                    alloc,
+                    table,
+                    &mut self.unwind_rules,
+                    &mut latest,
+                    left,
+                    pc,
+                )?;
                 self.ids[number] = id;
             }
         }
@@ -181,9 +192,9 @@ impl Index {
     }
 
     /// Ends each path whole at the addresses of a region. False if memory runs out or there are too many unwind rules.
-    fn end_whole_in(&mut self, region: (u32, u32)) -> bool
-        ensures { result ≡ true → (frames : Frames) → IsIndexOf frames self.old
-            → IsReady (record { frames = frames; region = region }) self.new }
+    fn end_in_region(&mut self, region: (u32, u32)) -> bool
+        ensures { result ≡ true → (rules : ℕ → Option Rules) → IsIndexOf rules self.old
+            → IsReady (record { rules = rules; region = region }) self.new }
     {
         let first = u64::from(self.first);
         let high = (words_below(u64::from(region.1)).saturating_sub(first) as usize).min(
@@ -203,13 +214,13 @@ impl Index {
     /// instruction of an FDE that is the first to hold its addresses is carried out once; the others anew for each
     /// address, within the bounds above. Takes time linear in the frame descriptions and words of code.
     fn by_rules(alloc: Global, table: &FrameTable, image: &Image<'_>) -> Index
-        ensures { IsIndexOf table.now result }
+        ensures { IsIndexOf (rules_at (descriptions table.now)) result }
     {
         let (first, last) = words_of(image);
         let mut index = Index::unset(alloc, first, last.saturating_sub(first) as usize);
         let mut left = MOST_BYTES;
         if index.add_fdes(alloc, table, &mut left).is_ok() {
-            index.add_last(table);
+            index.add_after_fdes(table);
             index.add_others(alloc, table, &mut left);
         }
         index
@@ -222,10 +233,10 @@ impl Index {
         image: &Image<'_>,
         region: (u32, u32),
     ) -> Index
-        ensures { IsReady (record { frames = table.now; region = region }) result }
+        ensures { IsReady (record { rules = rules_at (descriptions table.now); region = region }) result }
     {
         let mut index = Index::by_rules(alloc, table, image);
-        if index.end_whole_in(region) {
+        if index.end_in_region(region) {
             index
         } else {
             Index::none(alloc)

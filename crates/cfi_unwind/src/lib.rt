@@ -3,7 +3,7 @@
 //! It promises that a path is exactly what the rules say, frame by frame, from the pc, the registers
 //! and the memory before an instruction, up to the program's first procedure or the frame whose caller
 //! can't be found, with the cause. It follows DWARF 5, section 6.4, and the RISC-V psABI's numbers of
-//! registers. Below stand `cfi_table`, `elf_image`, `scope_types` and `prof_bytes`.
+//! registers. It uses `cfi_table`, `elf_image`, `scope_types` and `prof_bytes`.
 #![tactic(auto)]
 
 mod caller;

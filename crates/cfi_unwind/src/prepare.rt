@@ -1,6 +1,6 @@
-//! The unwind rules of rules: where each register is kept or saved, in a form without the others.
+//! Unwind rules made of rules, without the registers that keep their values.
 ghost use Rattle.std.specs.Prelude.{◌≡◌, ◌≤◌, ℕ, List, IfOk, IfSome, map, take, false, true};
-ghost use Rattle.cfi_unwind.specs.private.UnwindRules.{is_kept, saved_rule, usual, returned, unwound_with, unwound_by};
+ghost use Rattle.cfi_unwind.specs.private.UnwindRules.{is_kept, saved_rule, usual_layout, return_address_saved, unwound_with, unwound_by};
 ghost use Rattle.cfi_unwind.specs.private.UnwindRules.{AreSaved, Recovers, FollowsRules, FollowsSome};
 ghost use Rattle.cfi_unwind.specs.Caller.{Words, is_undefined};
 ghost use Rattle.cfi_table.specs.Rules.{rule_at};
@@ -63,14 +63,14 @@ fn saved_of(rules: &RulesRef<'_>) -> Option<SavedRegisters>
 }
 
 fn is_usual(layout: &FrameLayout) -> bool
-    ensures { result ≡ true → layout.now ≡ usual layout.now.cfa_offset }
+    ensures { result ≡ true → layout.now ≡ usual_layout layout.now.cfa_offset }
 {
     layout.cfa_register == SP && layout.return_register == RA
 }
 
 /// The offset at which the return address is saved, where x1 is the only register that is not kept.
 fn return_offset(saved: &[SavedRegister]) -> Option<u32>
-    ensures { IfSome result (λ offset. returned offset ≡ map saved_rule saved.now) }
+    ensures { IfSome result (λ offset. return_address_saved offset ≡ map saved_rule saved.now) }
 {
     match saved {
         [only] if only.register == RA => Some(only.offset),

@@ -1,7 +1,7 @@
 //! Where a program's first procedure lies.
 ghost use Rattle.std.specs.Prelude.{◌≡◌, ◌++◌, ℕ, List, map};
 ghost use Rattle.elf_image.specs.Image.{symbol_view};
-ghost use Rattle.cfi_table.specs.Frames.{least_above};
+ghost use Rattle.cfi_table.specs.Frames.{descriptions, least_above};
 ghost use Rattle.cfi_unwind.specs.Region.{entry_region, at_most, is_in};
 
 use cfi_table::FrameTable;
@@ -38,7 +38,7 @@ fn least_start(functions: &[Function<'_>], low: u32, least: Option<u32>) -> Opti
 /// symbols and frame descriptions.
 #[tactic(auto, unfolding(crate::specs::Region::entry_region))]
 pub(crate) fn entry_region(table: &FrameTable, image: &Image<'_>) -> (u32, u32)
-    ensures { result ≡ entry_region table.now image.now }
+    ensures { result ≡ entry_region (descriptions table.now) image.now }
 {
     let entry = image.entry();
     if let Some(function) = image.function_at(entry) {

@@ -9,7 +9,7 @@ fn is_same_rule(rule: &Rule, other: &Rule) -> bool
     rule == other
 }
 
-fn are_same(regs: &[Rule; 32], others: &[Rule; 32]) -> bool
+fn are_same_registers(regs: &[Rule; 32], others: &[Rule; 32]) -> bool
     ensures { result ≡ true → regs.now ≡ others.now }
 {
     for number in 0..32usize {
@@ -26,19 +26,19 @@ fn is_same_cfa(rule: &Cfa, other: &Cfa) -> bool
     rule == other
 }
 
-fn says_same(rules: &Rules, other: &Rules) -> bool
+fn is_same_rules(rules: &Rules, other: &Rules) -> bool
     ensures { result ≡ true → rules.now ≡ other.now }
 {
     rules.return_register == other.return_register
         && is_same_cfa(&rules.cfa, &other.cfa)
-        && are_same(&rules.regs, &other.regs)
+        && are_same_registers(&rules.regs, &other.regs)
 }
 
 pub(crate) fn is_same(rules: &Option<Rules>, other: &Option<Rules>) -> bool
     ensures { result ≡ true → rules.now ≡ other.now }
 {
     match (rules, other) {
-        (Some(rules), Some(other)) => says_same(rules, other),
+        (Some(rules), Some(other)) => is_same_rules(rules, other),
         (None, None) => true,
         _ => false,
     }

@@ -3,7 +3,7 @@ ghost use Rattle.std.specs.Prelude.{◌≡◌, ◌++◌, ◌∷◌, [], MatchBoo
 
 use std::marker::Model;
 
-/// How many registers are listed at most: x1 and the twelve that a callee saves.
+/// The most registers in a list: x1 and the twelve that a callee saves.
 const MOST_SAVED: usize = 13;
 
 /// A register that is saved in memory, at an offset from the canonical frame address.

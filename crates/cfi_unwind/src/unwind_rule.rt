@@ -1,5 +1,5 @@
-//! The rules at an address in a short form: how the path ends there, or where the caller's values are
-//! of the few registers that are not kept.
+//! The rules at an address in a short form: how the path ends there, or the rules of the few registers that do not keep
+//! their values.
 ghost use Rattle.std.specs.Prelude.{◌≡◌, None, IfSome, MatchBool, map};
 ghost use Rattle.std.specs.Prelude.{false, true};
 ghost use Rattle.std.specs.List.{list_any, slice_set};
@@ -7,7 +7,7 @@ ghost use Rattle.cfi_unwind.specs.private.UnwindRules.{unwound_to, recovered_eac
 ghost use Rattle.cfi_unwind.specs.Caller.{Words};
 ghost use Rattle.scope_types.specs.Memory.{HasWords};
 ghost use Rattle.cfi_unwind.specs.declared.caller.Unwound.TheVariants.{Caller};
-ghost use Rattle.cfi_unwind.specs.private.UnwindRules.{cfa_by, usual, returned, left_with, unwound_with, unwound_by};
+ghost use Rattle.cfi_unwind.specs.private.UnwindRules.{cfa_by, usual_layout, return_address_saved, caller_with_cfa, unwound_with, unwound_by};
 
 use crate::caller::{RA, SP, call_of, recovered, value_of};
 use crate::saved_registers::{SavedRegister, SavedRegisters};
@@ -21,8 +21,7 @@ pub(crate) struct RegisterRule {
     pub(crate) rule: Rule,
 }
 
-/// Of which register's value the canonical frame address is how many bytes away, and which register has the
-/// return address in the caller.
+/// CFA = register + offset, and the register that has the return address in the caller.
 #[derive(Clone, Copy, Debug)]
 pub(crate) struct FrameLayout {
     pub(crate) cfa_register: u8,
@@ -47,8 +46,8 @@ pub(crate) enum UnwindRule {
 /// The usual layout, in which the canonical frame address is `cfa_offset` bytes above the stack pointer x2 and x1
 /// has the return address.
 #[inline(always)]
-fn usual(cfa_offset: u32) -> FrameLayout
-    ensures { result ≡ usual cfa_offset }
+fn usual_layout(cfa_offset: u32) -> FrameLayout
+    ensures { result ≡ usual_layout cfa_offset }
 {
     FrameLayout {
         cfa_register: SP,
@@ -58,7 +57,7 @@ fn usual(cfa_offset: u32) -> FrameLayout
 }
 
 #[inline(always)]
-fn put(registers: &mut [u32; 32], number: u8, value: u32)
+fn set_register(registers: &mut [u32; 32], number: u8, value: u32)
     ensures { registers.new ≡ slice_set registers.old number value }
 {
     if number < 32 {
@@ -67,7 +66,7 @@ fn put(registers: &mut [u32; 32], number: u8, value: u32)
 }
 
 /// Recovers the registers from the values before. False where one is saved where no word can be loaded; the
-/// registers are then of no use.
+/// registers are then unspecified.
 fn recover_each<L: Look>(
     memory: &L,
     registers: &mut [u32; 32],
@@ -82,54 +81,54 @@ fn recover_each<L: Look>(
     for each in rules {
         let own = value_of(&before, each.register);
         match recovered(memory, &before, cfa, own, &each.rule) {
-            Some(value) => put(registers, each.register, value),
+            Some(value) => set_register(registers, each.register, value),
             None => return false,
         }
     }
     true
 }
 
-/// The word at an address that does not lie in the bytes that are near, and bytes about it.
+/// The word at an address that lies outside of the slice, and a slice about it.
 #[cold]
 #[inline(never)]
-fn word_far<'m, L: Look>(memory: &'m L, at: u32) -> (MemorySlice<'m>, Option<u32>)
-    ensures near { HasWords (L.words memory.now) result.0 }
+fn slice_and_word<'m, L: Look>(memory: &'m L, at: u32) -> (MemorySlice<'m>, Option<u32>)
+    ensures slice { HasWords (L.words memory.now) result.0 }
     ensures word { result.1 ≡ L.words memory.now at }
 {
-    let near = memory.slice(at);
-    match near.word(at) {
-        Some(word) => (near, Some(word)),
-        None => (near, memory.word(at)),
+    let slice = memory.slice(at);
+    match slice.word(at) {
+        Some(word) => (slice, Some(word)),
+        None => (slice, memory.word(at)),
     }
 }
 
-/// The word at an address: from the bytes that are near, where it lies in them. Else bytes about it are near then.
+/// The word at an address, from the slice if it lies there. If not, a slice about the address takes its place.
 #[inline(always)]
-fn word_near<'m, L: Look>(memory: &'m L, near: &mut MemorySlice<'m>, at: u32) -> Option<u32>
-    requires { HasWords (L.words memory.now) near.old }
-    ensures near { HasWords (L.words memory.now) near.new }
+fn load_word<'m, L: Look>(memory: &'m L, slice: &mut MemorySlice<'m>, at: u32) -> Option<u32>
+    requires { HasWords (L.words memory.now) slice.old }
+    ensures slice { HasWords (L.words memory.now) slice.new }
     ensures word { result ≡ L.words memory.now at }
 {
-    if let Some(word) = near.word(at) {
+    if let Some(word) = slice.word(at) {
         return Some(word);
     }
-    let (bytes, word) = word_far(memory, at);
-    *near = bytes;
+    let (bytes, word) = slice_and_word(memory, at);
+    *slice = bytes;
     word
 }
 
 /// Loads the registers in their place, since what is loaded follows from memory alone. False where no word can
-/// be loaded; the registers are then of no use.
+/// be loaded; the registers are then unspecified.
 #[inline(always)]
 fn load_each<'m, L: Look>(
     memory: &'m L,
-    near: &mut MemorySlice<'m>,
+    slice: &mut MemorySlice<'m>,
     registers: &mut [u32; 32],
     cfa: u32,
     saved: &[SavedRegister],
 ) -> bool
-    requires { HasWords (L.words memory.now) near.old }
-    ensures near { HasWords (L.words memory.now) near.new }
+    requires { HasWords (L.words memory.now) slice.old }
+    ensures slice { HasWords (L.words memory.now) slice.new }
     ensures loaded { MatchBool result
         ((list_any (is_unmapped_register (L.words memory.now) cfa) (map saved_rule saved.now) ≡ false)
         × (registers.new ≡ recovered_each (L.words memory.now) registers.old cfa (map saved_rule saved.now)
@@ -137,8 +136,8 @@ fn load_each<'m, L: Look>(
         (list_any (is_unmapped_register (L.words memory.now) cfa) (map saved_rule saved.now) ≡ true) }
 {
     for each in saved {
-        match word_near(memory, near, cfa.wrapping_add(each.offset)) {
-            Some(value) => put(registers, each.register, value),
+        match load_word(memory, slice, cfa.wrapping_add(each.offset)) {
+            Some(value) => set_register(registers, each.register, value),
             None => return false,
         }
     }
@@ -155,8 +154,8 @@ impl FrameLayout {
 
     /// Goes to the caller whose registers these are but x0 and x2.
     #[inline(always)]
-    fn leave(&self, registers: &mut [u32; 32], cfa: u32) -> Result<u32, End>
-        ensures { unwound_to result registers.new ≡ left_with registers.old cfa self.now.return_register }
+    fn to_caller(&self, registers: &mut [u32; 32], cfa: u32) -> Result<u32, End>
+        ensures { unwound_to result registers.new ≡ caller_with_cfa registers.old cfa self.now.return_register }
     {
         registers[0] = 0;
         registers[SP as usize] = cfa;
@@ -167,28 +166,28 @@ impl FrameLayout {
     }
 
     #[inline(always)]
-    fn go_by_saved<'m, L: Look>(
+    fn step_by_saved<'m, L: Look>(
         &self,
         memory: &'m L,
-        near: &mut MemorySlice<'m>,
+        slice: &mut MemorySlice<'m>,
         registers: &mut [u32; 32],
         saved: &[SavedRegister],
     ) -> Result<u32, End>
-        requires { HasWords (L.words memory.now) near.old }
-        ensures near { HasWords (L.words memory.now) near.new }
+        requires { HasWords (L.words memory.now) slice.old }
+        ensures slice { HasWords (L.words memory.now) slice.new }
         ensures caller { unwound_to result registers.new
             ≡ unwound_with (L.words memory.now) registers.old self.now (map saved_rule saved.now) }
     {
         let cfa = self.cfa(registers);
-        if !load_each(memory, near, registers, cfa, saved) {
+        if !load_each(memory, slice, registers, cfa, saved) {
             return Err(End::Partial(PartialCause::Unmapped));
         }
-        self.leave(registers, cfa)
+        self.to_caller(registers, cfa)
     }
 
     /// Copies the registers once.
     #[inline(never)]
-    fn go_by_rules<L: Look>(
+    fn step_by_rules<L: Look>(
         &self,
         memory: &L,
         registers: &mut [u32; 32],
@@ -201,26 +200,26 @@ impl FrameLayout {
         if !recover_each(memory, registers, cfa, rules) {
             return Err(End::Partial(PartialCause::Unmapped));
         }
-        self.leave(registers, cfa)
+        self.to_caller(registers, cfa)
     }
 }
 
-/// Goes to the caller by the usual layout, where the return address alone is saved and is near. Nothing, where it is
-/// not near or is 0; the registers then stay.
+/// Goes to the caller by the usual layout, where only the return address is saved, and it lies in the slice. `None` if
+/// it lies elsewhere or is 0; the registers are then unchanged.
 #[inline(always)]
-pub(crate) fn go_near(
-    near: &MemorySlice<'_>,
+pub(crate) fn step_in_slice(
+    slice: &MemorySlice<'_>,
     registers: &mut [u32; 32],
     cfa_offset: u32,
     offset: u32,
 ) -> Option<u32>
-    ensures some { IfSome result (λ pc. (words : Words) → HasWords words near.now
+    ensures some { IfSome result (λ pc. (words : Words) → HasWords words slice.now
         → Caller (record { pc = pc; registers = registers.new })
-        ≡ unwound_with words registers.old (usual cfa_offset) (returned offset)) }
+        ≡ unwound_with words registers.old (usual_layout cfa_offset) (return_address_saved offset)) }
     ensures none { result ≡ None → registers.new ≡ registers.old }
 {
     let cfa = registers[SP as usize].wrapping_add(cfa_offset);
-    let address = near.word(cfa.wrapping_add(offset))?;
+    let address = slice.word(cfa.wrapping_add(offset))?;
     if address == 0 {
         return None;
     }
@@ -232,24 +231,24 @@ pub(crate) fn go_near(
 
 /// Goes to the caller by the usual layout, where the return address alone is saved.
 #[inline(always)]
-fn go_by_return<'m, L: Look>(
+fn step_by_return_address<'m, L: Look>(
     memory: &'m L,
-    near: &mut MemorySlice<'m>,
+    slice: &mut MemorySlice<'m>,
     registers: &mut [u32; 32],
     cfa_offset: u32,
     offset: u32,
 ) -> Result<u32, End>
-    requires { HasWords (L.words memory.now) near.old }
-    ensures near { HasWords (L.words memory.now) near.new }
+    requires { HasWords (L.words memory.now) slice.old }
+    ensures slice { HasWords (L.words memory.now) slice.new }
     ensures caller { unwound_to result registers.new
-        ≡ unwound_with (L.words memory.now) registers.old (usual cfa_offset) (returned offset) }
+        ≡ unwound_with (L.words memory.now) registers.old (usual_layout cfa_offset) (return_address_saved offset) }
 {
-    let layout = usual(cfa_offset);
+    let layout = usual_layout(cfa_offset);
     let cfa = layout.cfa(registers);
-    match word_near(memory, near, cfa.wrapping_add(offset)) {
+    match load_word(memory, slice, cfa.wrapping_add(offset)) {
         Some(address) => {
-            put(registers, RA, address);
-            layout.leave(registers, cfa)
+            set_register(registers, RA, address);
+            layout.to_caller(registers, cfa)
         }
         None => Err(End::Partial(PartialCause::Unmapped)),
     }
@@ -257,33 +256,33 @@ fn go_by_return<'m, L: Look>(
 
 impl UnwindRule {
     /// Goes to the caller: its pc, and its registers in place of those here. Or how the path ends, where
-    /// the registers are then of no use.
+    /// the registers are then unspecified.
     #[inline(always)]
-    pub(crate) fn go<'m, L: Look>(
+    pub(crate) fn step<'m, L: Look>(
         &self,
         memory: &'m L,
-        near: &mut MemorySlice<'m>,
+        slice: &mut MemorySlice<'m>,
         registers: &mut [u32; 32],
     ) -> Result<u32, End>
-        requires { HasWords (L.words memory.now) near.old }
-        ensures near { HasWords (L.words memory.now) near.new }
+        requires { HasWords (L.words memory.now) slice.old }
+        ensures slice { HasWords (L.words memory.now) slice.new }
         ensures caller { unwound_to result registers.new ≡ unwound_by (L.words memory.now) registers.old self.now }
     {
         match self {
-            UnwindRule::ReturnSaved { cfa_offset, offset } => go_by_return(
+            UnwindRule::ReturnSaved { cfa_offset, offset } => step_by_return_address(
                 memory,
-                near,
+                slice,
                 registers,
                 *cfa_offset,
                 *offset,
             ),
-            UnwindRule::Saved(layout, saved) => layout.go_by_saved(
+            UnwindRule::Saved(layout, saved) => layout.step_by_saved(
                 memory,
-                near,
+                slice,
                 registers,
                 saved.as_slice(),
             ),
-            UnwindRule::Mixed(layout, rules) => layout.go_by_rules(
+            UnwindRule::Mixed(layout, rules) => layout.step_by_rules(
                 memory,
                 registers,
                 rules.as_slice(),

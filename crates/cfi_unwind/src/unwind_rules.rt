@@ -1,7 +1,7 @@
 //! The unwind rules that are made ready, and the id of each, which is its index among them.
 ghost use Rattle.std.specs.Prelude.{◌≡◌, None, ◌+◌, ◌<◌, ◌≤◌, ◌^◌, IfOk, IfSome, length, slice_get};
 ghost use Rattle.std.specs.Option.{option_copied};
-ghost use Rattle.cfi_table.specs.Frames.{rules_at};
+ghost use Rattle.cfi_table.specs.Frames.{descriptions, rules_at};
 ghost use Rattle.cfi_unwind.specs.private.Index.{IsAt, KeepsRules, EndsWhole};
 
 use crate::prepare::prepare;
@@ -12,7 +12,7 @@ use prof_bytes::Memory;
 use scope_types::End;
 use std::alloc::Global;
 
-/// How many addresses have an unwind rule made ready at most, and how many different ones there are.
+/// The most words of code that have an unwind rule, and the most different unwind rules.
 pub(crate) const MOST_RULES: usize = 1 << 20;
 
 /// Rules, and the id of an unwind rule that follows them.
@@ -80,7 +80,7 @@ pub(crate) fn rule_with(unwind_rules: &[UnwindRule], id: u32) -> Option<&UnwindR
 /// The rules at an address; `None` if its instructions have more bytes than are left to be carried out, or memory
 /// runs out.
 fn rules_within(table: &FrameTable, pc: u32, left: &mut u64) -> Option<Option<Rules>>
-    ensures { IfSome result (λ rules. rules ≡ rules_at table.now pc) }
+    ensures { IfSome result (λ rules. rules ≡ rules_at (descriptions table.now) pc) }
 {
     *left = left.checked_sub(table.instruction_bytes(pc))?;
     table.rules_at(pc).ok()
@@ -128,7 +128,7 @@ fn id_by_rules(
     ensures keeps { KeepsRules unwind_rules.old.items unwind_rules.new.items }
     ensures few { length unwind_rules.new.items ≤ 2 ^ 20 }
     ensures id { IsAt unwind_rules.old.items latest.old.id latest.old.rules
-        → IfSome result (λ id. IsAt unwind_rules.new.items id (rules_at table.now pc)) }
+        → IfSome result (λ id. IsAt unwind_rules.new.items id (rules_at (descriptions table.now) pc)) }
     ensures latest { IsAt unwind_rules.old.items latest.old.id latest.old.rules
         → IsAt unwind_rules.new.items latest.new.id latest.new.rules }
 {
@@ -137,7 +137,7 @@ fn id_by_rules(
 }
 
 /// The id of the unwind rule at an address, as `id_by_rules` finds it; that of addresses that no FDE holds is 0.
-pub(crate) fn id_anew(
+pub(crate) fn id_at_address(
     alloc: Global,
     table: &FrameTable,
     unwind_rules: &mut Vec<UnwindRule>,
@@ -149,7 +149,7 @@ pub(crate) fn id_anew(
     ensures keeps { KeepsRules unwind_rules.old.items unwind_rules.new.items }
     ensures few { length unwind_rules.new.items ≤ 2 ^ 20 }
     ensures id { IsAt unwind_rules.old.items 0 None → IsAt unwind_rules.old.items latest.old.id latest.old.rules
-        → IfSome result (λ id. IsAt unwind_rules.new.items id (rules_at table.now pc)) }
+        → IfSome result (λ id. IsAt unwind_rules.new.items id (rules_at (descriptions table.now) pc)) }
     ensures latest { IsAt unwind_rules.old.items latest.old.id latest.old.rules
         → IsAt unwind_rules.new.items latest.new.id latest.new.rules }
 {

@@ -5,24 +5,24 @@ ghost use Rattle.cfi_unwind.specs.Caller.{caller_of};
 ghost use Rattle.cfi_unwind.specs.private.UnwindRules.{unwound_to};
 ghost use Rattle.cfi_unwind.specs.private.Index.{FindsCallers};
 ghost use Rattle.cfi_unwind.specs.declared.unwind_rule.UnwindRule.TheVariants.{Ends};
-ghost use Rattle.cfi_unwind.specs.Path.{path_of, unwinding_of};
+ghost use Rattle.cfi_table.specs.Frames.{descriptions};
+ghost use Rattle.cfi_unwind.specs.Path.{path_by, unwinding_by, unwinding_of};
+ghost use Rattle.scope_types.specs.Limits.{most_frames_of_path};
 ghost use Rattle.scope_types.specs.Memory.{HasWords};
 
 use crate::caller::caller_to;
 use crate::index::Index;
 use crate::region::{entry_region, is_in};
-use crate::unwind_rule::{UnwindRule, go_near};
+use crate::unwind_rule::{UnwindRule, step_in_slice};
 use cfi_table::FrameTable;
 use elf_image::Image;
 use prof_bytes::Memory;
+use scope_types::limits::MOST_FRAMES_OF_PATH;
 use scope_types::{End, Frame, Look, MemorySlice, PartialCause, RawPath, Unwind};
 use std::alloc::Global;
 use std::marker::Model;
 
-/// How many frames a path has at most.
-const MOST_FRAMES_OF_PATH: usize = 512;
-
-/// For how many frames there is room from the start. Most paths have fewer.
+/// The room for frames at the start. Most paths have fewer.
 const MANY_FRAMES: usize = 128;
 
 /// What finds the call paths of a program's instructions, by its call frame information.
@@ -35,15 +35,15 @@ pub struct Unwinder<'a> {
 }
 
 impl<'a> Model for Unwinder<'a> {
-    ghost use Rattle.cfi_unwind.specs.Caller.{Unwinding};
+    ghost use Rattle.cfi_unwind.specs.Path.{TableUnwinder, unwinding_by};
     ghost use Rattle.cfi_unwind.specs.private.Index.{IsReady};
 
-    ghost Value = { Unwinding };
+    ghost Value = { TableUnwinder };
 
     ghost view = { λ unwinder. record { frames = unwinder.table.now; region = unwinder.region } };
 
-    ghost invariant = { λ unwinder. IsReady (record { frames = unwinder.table.now; region = unwinder.region })
-        unwinder.index };
+    ghost invariant = { λ unwinder. IsReady
+        (unwinding_by (record { frames = unwinder.table.now; region = unwinder.region })) unwinder.index };
 }
 
 impl<'a> Unwinder<'a> {
@@ -52,7 +52,8 @@ impl<'a> Unwinder<'a> {
     /// there is no memory for these, paths are found in more time. Takes time linear in the program's code,
     /// function symbols and frame descriptions.
     pub fn of(alloc: Global, table: &'a FrameTable, image: &Image<'_>) -> Unwinder<'a>
-        ensures { result ≡ unwinding_of table.now image.now }
+        ensures frames { result.frames ≡ table.now }
+        ensures unwinding { unwinding_by result ≡ unwinding_of (descriptions table.now) image.now }
     {
         let region = entry_region(table, image);
         let index = Index::of(alloc, table, image, region);
@@ -74,7 +75,7 @@ impl<'a> Unwinder<'a> {
 
     /// The unwind rule at an address, if it was made ready.
     fn ready_at(&self, pc: u32) -> Option<&UnwindRule>
-        ensures { IfSome result (λ unwind_rule. FindsCallers self.now pc unwind_rule.now) }
+        ensures { IfSome result (λ unwind_rule. FindsCallers (unwinding_by self.now) pc unwind_rule.now) }
     {
         self.index.at(pc)
     }
@@ -86,8 +87,8 @@ impl<'a> Unwinder<'a> {
         here: u32,
         ready: Option<&'b UnwindRule>,
     ) -> Option<&'b UnwindRule>
-        requires { IfSome ready (λ unwind_rule. FindsCallers self.now here unwind_rule.now) }
-        ensures { IfSome result (λ unwind_rule. FindsCallers self.now caller unwind_rule.now) }
+        requires { IfSome ready (λ unwind_rule. FindsCallers (unwinding_by self.now) here unwind_rule.now) }
+        ensures { IfSome result (λ unwind_rule. FindsCallers (unwinding_by self.now) caller unwind_rule.now) }
     {
         if caller == here {
             return ready;
@@ -95,17 +96,17 @@ impl<'a> Unwinder<'a> {
         self.ready_at(caller)
     }
 
-    /// The same as `next` at each address, by the rules as they are made anew there.
+    /// The same as `step` at each address, by the rules that the table gives there.
     #[inline(never)]
     #[tactic(auto, using(crate::proofs::Ending::one_by_one))]
-    fn next_anew<L: Look>(
+    fn step_by_table<L: Look>(
         &self,
         memory: &L,
         pc: u32,
         registers: &mut [u32; 32],
     ) -> Result<Result<u32, End>, Memory>
         ensures { IfOk result (λ next. unwound_to next registers.new
-            ≡ caller_of self.now (L.words memory.now) (record { pc = pc; registers = registers.old })) }
+            ≡ caller_of (unwinding_by self.now) (L.words memory.now) (record { pc = pc; registers = registers.old })) }
     {
         if is_in(self.region, pc) {
             return Ok(Err(End::Whole));
@@ -117,43 +118,43 @@ impl<'a> Unwinder<'a> {
     }
 
     /// Goes to the caller of the activation at `pc` with these registers: its pc, and its registers in
-    /// place of those here. Or how the path ends, where the registers are then of no use.
+    /// place of those here. Or how the path ends, where the registers are then unspecified.
     #[inline(always)]
-    fn next<'m, L: Look>(
+    fn step<'m, L: Look>(
         &self,
         memory: &'m L,
-        near: &mut MemorySlice<'m>,
+        slice: &mut MemorySlice<'m>,
         pc: u32,
         ready: Option<&UnwindRule>,
         registers: &mut [u32; 32],
     ) -> Result<Result<u32, End>, Memory>
-        requires ready { IfSome ready (λ unwind_rule. FindsCallers self.now pc unwind_rule.now) }
-        requires near { HasWords (L.words memory.now) near.old }
-        ensures near { HasWords (L.words memory.now) near.new }
+        requires ready { IfSome ready (λ unwind_rule. FindsCallers (unwinding_by self.now) pc unwind_rule.now) }
+        requires slice { HasWords (L.words memory.now) slice.old }
+        ensures slice { HasWords (L.words memory.now) slice.new }
         ensures caller { IfOk result (λ next. unwound_to next registers.new
-            ≡ caller_of self.now (L.words memory.now) (record { pc = pc; registers = registers.old })) }
+            ≡ caller_of (unwinding_by self.now) (L.words memory.now) (record { pc = pc; registers = registers.old })) }
     {
         match ready {
-            Some(unwind_rule) => Ok(unwind_rule.go(memory, near, registers)),
-            None => self.next_anew(memory, pc, registers),
+            Some(unwind_rule) => Ok(unwind_rule.step(memory, slice, registers)),
+            None => self.step_by_table(memory, pc, registers),
         }
     }
 
-    /// Goes on over frames of the usual layout whose return addresses are near, as far as these follow one another:
-    /// where the walk then stands, and the unwind rule there.
-    fn go_usual<'b>(
+    /// Walks over the frames of the usual layout that follow one another and whose return addresses lie in the slice.
+    /// Gives the pc after them, and the unwind rule there.
+    fn walk_usual<'b>(
         &'b self,
-        near: &MemorySlice<'_>,
+        slice: &MemorySlice<'_>,
         frames: &mut Vec<Frame>,
         registers: &mut [u32; 32],
         pc: u32,
         ready: Option<&'b UnwindRule>,
     ) -> Result<(u32, Option<&'b UnwindRule>), Memory>
-        requires ready { IfSome ready (λ unwind_rule. FindsCallers self.now pc unwind_rule.now) }
-        requires few { length frames.old.items ≤ 512 }
-        ensures ready { IfOk result (λ to. IfSome to.1 (λ unwind_rule. FindsCallers self.now to.0 unwind_rule.now)) }
-        ensures few { IfOk result (λ to. length frames.new.items ≤ 512) }
-        ensures walks { IfOk result (λ to. GoesOn self.now near.now
+        requires ready { IfSome ready (λ unwind_rule. FindsCallers (unwinding_by self.now) pc unwind_rule.now) }
+        requires few { length frames.old.items ≤ most_frames_of_path }
+        ensures ready { IfOk result (λ to. IfSome to.1 (λ unwind_rule. FindsCallers (unwinding_by self.now) to.0 unwind_rule.now)) }
+        ensures few { IfOk result (λ to. length frames.new.items ≤ most_frames_of_path) }
+        ensures walks { IfOk result (λ to. GoesOn (unwinding_by self.now) slice.now
             frames.old.items (record { pc = pc; registers = registers.old })
             frames.new.items (record { pc = to.0; registers = registers.new })) }
         ensures more { IfOk result (λ to. length frames.old.items ≤ length frames.new.items) }
@@ -167,7 +168,7 @@ impl<'a> Unwinder<'a> {
             let UnwindRule::ReturnSaved { cfa_offset, offset } = unwind_rule else {
                 break;
             };
-            let Some(caller) = go_near(near, registers, *cfa_offset, *offset) else {
+            let Some(caller) = step_in_slice(slice, registers, *cfa_offset, *offset) else {
                 break;
             };
             frames.push(Frame { pc: here })?;
@@ -181,16 +182,16 @@ impl<'a> Unwinder<'a> {
 /// Whether a path may have one frame more.
 #[inline(always)]
 fn has_room(frames: &Vec<Frame>) -> bool
-    ensures { result ≡ nat_lt (length frames.now.items) 512 }
+    ensures { result ≡ nat_lt (length frames.now.items) most_frames_of_path }
 {
-    frames.len() < MOST_FRAMES_OF_PATH
+    frames.len() < MOST_FRAMES_OF_PATH as usize
 }
 
 impl<'a> Unwinder<'a> {
     /// How each path from an address ends there, if that was made ready.
     #[inline(always)]
     fn end_at(&self, pc: u32) -> Option<End>
-        ensures { IfSome result (λ end. FindsCallers self.now pc (Ends end)) }
+        ensures { IfSome result (λ end. FindsCallers (unwinding_by self.now) pc (Ends end)) }
     {
         match self.ready_at(pc) {
             Some(UnwindRule::Ends(end)) => Some(*end),
@@ -208,19 +209,19 @@ impl<'a> Unwinder<'a> {
         list: Vec<Frame>,
     ) -> Result<RawPath, Memory>
         requires { list.items ≡ [] }
-        ensures { IfOk result (λ path. path ≡ path_of self.now pc regs.now (L.words memory.now)) }
+        ensures { IfOk result (λ path. path ≡ path_by self.now pc regs.now (L.words memory.now)) }
     {
         let mut frames = list;
         let mut registers = *regs;
-        let mut near = MemorySlice::empty();
+        let mut slice = MemorySlice::empty();
         let mut here = pc;
         let mut ready = self.ready_at(pc);
         while has_room(&frames) {
             frames.push(Frame { pc: here })?;
-            match self.next(memory, &mut near, here, ready, &mut registers)? {
+            match self.step(memory, &mut slice, here, ready, &mut registers)? {
                 Ok(caller) => {
                     let after = self.ready_after(caller, here, ready);
-                    let to = self.go_usual(&near, &mut frames, &mut registers, caller, after)?;
+                    let to = self.walk_usual(&slice, &mut frames, &mut registers, caller, after)?;
                     here = to.0;
                     ready = to.1;
                 }
@@ -232,9 +233,10 @@ impl<'a> Unwinder<'a> {
 }
 
 impl<'a> Unwind for Unwinder<'a> {
-    ghost path_of = { path_of };
+    ghost path_of = { path_by };
 
     fn path<L: Look>(&self, pc: u32, regs: &[u32; 32], memory: &L) -> Result<RawPath, Memory> {
+        // room: `MANY_FRAMES`, the frames of most paths, which are let go with the sample
         let list = Vec::with_capacity(self.alloc, MANY_FRAMES)?;
         self.path_in(pc, regs, memory, list)
     }

@@ -61,7 +61,7 @@ or_nothing (Some x) b e = absurd cc
 split_find : {X : Type 0} (p : X → Bool) (xs : List X) (n : ℕ) → find p xs ≡ option_or (find p (take n xs)) (find p (drop n xs))
 split_find p xs n = ap (find p) (sym (take-append-drop n xs)) ∙ find-append p (take n xs) (drop n xs)
 
--- where the first one stands at an index or after it, it is the first from there on
+-- where the first one is at an index or after it, it is the first from there on
 pub find_behind : {X : Type 0} (p : X → Bool) (xs : List X) (n i : ℕ) → position p xs ≡ Some i → n ≤ i → slice_get xs i ≡ find p (drop n xs)
 find_behind p xs n i e le =
     sym (find_there p xs i e) ∙ split_find p xs n ∙ or_none (find p (take n xs)) (find p (drop n xs)) (find_before p xs n i e le)

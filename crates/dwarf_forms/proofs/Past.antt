@@ -1,4 +1,4 @@
--- Past the end of a section nothing stands.
+-- There is nothing past the end of a section.
 use Rattle.std.proofs.Common.{◌≡◌, ℕ, ◌<◌, List, length, None, refl, ap, ◌∙◌, arith}
 use Rattle.std.proofs.Math.ListN.{drop_of_length-le}
 use Rattle.std.specs.Prelude.{option_map}

@@ -19,7 +19,7 @@ Read = Result (Option Abbrev × Input BadTable) BadTable
 abbrev Table : Type 0
 Table = Result (List Abbrev × Input BadTable) BadTable
 
--- ---- a declaration stands where it was read
+-- ---- a declaration is where it was read
 
 abbrev StandsAt : ℕ → Read → Type 0
 StandsAt offset (Ok (Some d, after)) = d.offset ≡ offset
@@ -103,7 +103,7 @@ unfolding listed
 was_read (Ok r) table e = let same : r.0 ≡ table = cc in (r.1, ap (λ (ds : List Abbrev). Ok (ds, r.1)) same)
 was_read (Err fault) table e = absurd cc
 
--- a table stands within its section
+-- a table lies within its section
 within : (section : List ℕ) (start : ℕ) (table : List Abbrev) → table_at section start ≡ Ok table → (end : Input BadTable) × (table_from (input_from section start) ≡ Ok (table, end))
 unfolding listed
 within section start table e = by (nat_le start (length section)) refl

@@ -22,6 +22,7 @@ implicit_from form input = if form == DW_FORM_implicit_const then sleb_from inpu
 abbrev pub unless_closing : Spec → Option Spec
 unless_closing spec = if (spec.attribute == 0) && (spec.form == 0) then None else Some spec
 
+-- an attribute's name and form, with its constant; none for the pair that closes the list
 unfoldable pub attribute_from : Input BadTable → Result (Option Spec × Input BadTable) BadTable
 attribute_from input = do
   (attribute, input) ← uleb_from input

@@ -73,6 +73,6 @@ forms =
 abbrev pub encoding_of : ℕ → Option Encoding
 encoding_of form = option_map (λ row. row.1) (find (λ row. row.0 == form) forms)
 
--- a form whose value stands in place by itself, with no constant of a declaration
+-- a form whose value lies in the entry itself, with no constant of a declaration
 abbrev pub is_value_form : ℕ → Bool
 is_value_form form = is_some (encoding_of form) && not (form == DW_FORM_implicit_const)

@@ -1,4 +1,4 @@
--- What stands at an offset of a section.
+-- What is at an offset of a section.
 use Rattle.std.specs.Prelude.{ℕ, nat_le, List, length, drop, Option, option_map, Result, Ok, Err, if◌then◌else◌}
 use Rattle.prof_bytes.specs.Fields.{Input}
 use Rattle.prof_bytes.specs.Reading.{text_at}

@@ -9,6 +9,7 @@ use Rattle.dwarf_forms.specs.declared.encoding.Encoding.TheVariants as encodings
 use Rattle.dwarf_forms.specs.declared.declaration.Spec.{Spec}
 use Rattle.dwarf_forms.specs.Forms.{encoding_of}
 
+-- the number of bytes of a number; a LEB128 number has no fixed one
 abbrev pub number_size : Size → Option ℕ
 number_size One = Some 1
 number_size Two = Some 2

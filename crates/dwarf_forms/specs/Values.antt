@@ -37,6 +37,7 @@ pub data FormValue : Type 0 where
   ListIndex : ℕ → FormValue
   Passed : FormValue
 
+-- what contracts see of a value: its numbers, and the bytes that it refers to
 abbrev pub form_value : Value → FormValue
 form_value (values.Address n) = Address n
 form_value (values.Number n) = Number n
@@ -54,7 +55,7 @@ form_value (values.Section n) = Section n
 form_value (values.ListIndex n) = ListIndex n
 form_value values.Passed = Passed
 
--- what a number is, by the class of its form
+-- what a number of four bytes is, by the class of its form
 abbrev pub word_value : WordClass → ℕ → FormValue
 word_value words.Address n = Address n
 word_value words.StrAt n = StrAt n
@@ -62,6 +63,7 @@ word_value words.LineStrAt n = LineStrAt n
 word_value words.InfoRef n = InfoRef n
 word_value words.Section n = Section n
 
+-- what a number of another size is, by the class of its form; a flag is false where it is 0
 abbrev pub number_value : NumberClass → ℕ → FormValue
 number_value numbers.Number n = Number n
 number_value numbers.Flag n = Flag (not (n == 0))

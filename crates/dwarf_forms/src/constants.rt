@@ -87,9 +87,9 @@ pub const DW_FORM_addrx3: u64 = 0x2b;
 
 pub const DW_FORM_addrx4: u64 = 0x2c;
 
-/// No entries stand below one of this declaration (DWARF 5, section 7.5.3).
+/// No entries are below one of this declaration (DWARF 5, section 7.5.3).
 pub const DW_CHILDREN_no: u8 = 0x00;
-/// Entries stand below one of this declaration.
+/// Entries are below one of this declaration.
 pub const DW_CHILDREN_yes: u8 = 0x01;
 
 /// The numbers of these names, of which the definitions cite most, are those of the standard.

@@ -254,7 +254,7 @@ impl<'a> Declarations<'a> {
     }
 
     /// The index among them of the declaration at an offset of `.debug_abbrev`, from which on they are the table at
-    /// that offset. `None` where none stands there, or where the table declares a code twice: no clause says so, and
+    /// that offset. `None` where there is none, or where the table declares a code twice: no clause says so, and
     /// the table at that offset is then read for itself.
     #[tactic(auto, using(crate::proofs::Suffixes::suffix_at))]
     pub fn index_at(&self, offset: u32) -> Option<usize>

@@ -2,14 +2,13 @@
 //!
 //! It promises that each value is the one that the table of forms gives for the bytes at an offset, with
 //! every cause of refusal exact, and that an abbreviation table is the list of declarations that its
-//! bytes spell. The standard is DWARF 5, sections 7.5.3 to 7.5.6. Below stands `prof_bytes` alone.
+//! bytes spell. The standard is DWARF 5, sections 7.5.3 to 7.5.6. Below is `prof_bytes` alone.
 #![tactic(auto)]
 
 pub mod constants;
 mod declaration;
 mod encoding;
 mod laws;
-mod name;
 mod read;
 mod section;
 mod sizes;
@@ -20,7 +19,6 @@ mod words;
 pub use declaration::{Abbrev, Abbrevs, BadTable, Declarations, Spec, Specs};
 pub use encoding::is_value_form;
 pub use laws::declaration_count_is_at_most_bytes;
-pub use name::{MAX_NAME_BYTES, cut_name};
 pub use read::{read_form, read_value};
 pub use section::{reader_at, text_in};
 pub use table::read_abbrevs;

@@ -113,7 +113,7 @@ fn value<'a, F: Copy>(
     direct(reader, form, implicit, unknown)
 }
 
-/// The value of this form (DWARF 5, section 7.5.6); the reader then stands after it. `unknown` is the fault of a form
+/// The value of this form (DWARF 5, section 7.5.6); the reader is then after it. `unknown` is the fault of a form
 /// that is not one of DWARF 5, or that `DW_FORM_indirect` may not name. `implicit` is the constant that the attribute's
 /// declaration has for the form `DW_FORM_implicit_const`.
 pub fn read_form<'a, F: Copy>(
@@ -128,7 +128,7 @@ pub fn read_form<'a, F: Copy>(
     value(reader, form, implicit, unknown)
 }
 
-/// The value of this form at the cursor, which then stands after it (DWARF 5, section 7.5.6). `implicit` is the
+/// The value of this form at the cursor, which is then after it (DWARF 5, section 7.5.6). `implicit` is the
 /// constant that the attribute's declaration has for the form `DW_FORM_implicit_const`. After a fault the cursor is
 /// where it was.
 pub fn read_value<'a>(

@@ -1,4 +1,4 @@
-//! What stands at an offset of a section.
+//! What is at an offset of a section.
 ghost use Rattle.std.specs.Prelude.{◌≡◌, option_copied};
 ghost use Rattle.dwarf_forms.specs.Sections.{input_at, text_in};
 

@@ -19,7 +19,7 @@ pub enum Value<'a> {
     Signed(i64),
     /// A block, an expression, or a constant of sixteen bytes.
     Bytes(&'a [u8]),
-    /// A string that stands in the entry itself, without the 0 byte that ends it.
+    /// A string that lies in the entry itself, without the 0 byte that ends it.
     Name(&'a [u8]),
     /// A flag.
     Flag(bool),

@@ -1,4 +1,4 @@
--- What stands before or after other items, and what fails first.
+-- What is before or after other items, and what fails first.
 use Rattle.std.proofs.Common.{◌≡◌, List, [], ◌∷◌, ◌++◌, length, Result, Ok, Err, refl}
 use Rattle.std.specs.Prelude.{slice_get}
 use Rattle.prof_bytes.specs.Outcome.{◌>>=◌, FailsBy}

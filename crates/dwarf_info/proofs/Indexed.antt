@@ -228,7 +228,7 @@ pub some_number : (found : Option UnitContext) (index number : ℕ) → index �
 some_number None index number same is = tt
 some_number (Some u) index number same is = is ∙ same
 
--- a unit whose first entry would stand after its bytes has none
+-- a unit whose first entry would lie after its bytes has none
 pub none_past : (sections : Sections) (context : UnitContext) (bytes : List ℕ) → bytes ≡ take context.header.end sections.info → length bytes < context.header.first_entry → entries_in sections context ≡ []
 unfolding run_from
 none_past sections context bytes front past =

@@ -94,7 +94,7 @@ were_seen first old new (Ok es) same =
 
 -- ---- where the bytes of a unit lie
 
--- the part and what is after it stand at an offset or after it, and the part ends where the other begins
+-- the part and what is after it lie at an offset or after it, and the part ends where the other begins
 abbrev PartsOn : {F : Type 0} → ℕ → Result (Input F × Input F) F → Type 0
 PartsOn from (Ok r) = (from ≤ r.0.at.offset) × (length r.0.at.whole ≤ r.1.at.offset) × (from ≤ r.1.at.offset)
 PartsOn from (Err fault) = Unit {0}
@@ -125,7 +125,7 @@ part_on {F = F} from input le = sized (number_from 4 input) (taken_on from input
 pub part_lies : {F : Type 0} (input part next : Input F) → part_from input ≡ Ok (part, next) → (input.at.offset ≤ part.at.offset) × (length part.at.whole ≤ next.at.offset) × (input.at.offset ≤ next.at.offset)
 part_lies {F = F} input part next read = subst (λ (r : Result (Input F × Input F) F). PartsOn input.at.offset r) read (part_on input.at.offset input (omega arith))
 
--- the first entry of a unit stands after its header
+-- the first entry of a unit follows its header
 pub first_lies : (offset end : ℕ) (part after : Input InfoFault) (header : UnitHeader) → unit_header_from offset end part ≡ Ok (Some header, after) → IsAtEntries offset end part after header
     → part.at.offset ≤ header.first_entry
 first_lies offset end part after header read stands =

@@ -31,6 +31,7 @@ attribute_value info attribute e =
     (entry_values (declared_in info.sections e.context)
     (section_up_to e.context.header.end info.sections.info e.entry.offset Short))
 
+-- the text of one of its attributes (section 7.5.5, class string)
 abbrev pub attribute_text : DebugInfo → ℕ → UnitEntry → Option (List ℕ)
 attribute_text info attribute e =
     option_and_then (text_value info.sections e.context.str_offsets_base) (attribute_value info attribute e)
@@ -51,6 +52,7 @@ reference_value start other = None
 abbrev pub index_at : List InfoEntry → ℕ → Option ℕ
 index_at entries offset = position (λ e. e.offset == offset) entries
 
+-- the index of the entry that one of its attributes refers to (section 7.5.5, class reference)
 abbrev pub attribute_entry : DebugInfo → ℕ → UnitEntry → Option ℕ
 attribute_entry info attribute e =
     option_and_then (index_at info.entries)
@@ -63,6 +65,7 @@ link_of info i =
     (λ e. option_or (attribute_entry info DW_AT_abstract_origin e) (attribute_entry info DW_AT_specification e))
     (unit_entry info i)
 
+-- the number of one of its attributes (section 7.5.5, class constant)
 abbrev pub attribute_number : DebugInfo → ℕ → ℕ → Option ℕ
 attribute_number info attribute i =
     option_and_then (λ e. option_and_then constant_value (attribute_value info attribute e)) (unit_entry info i)

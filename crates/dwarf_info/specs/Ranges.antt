@@ -28,6 +28,7 @@ absent = record {}
 
 -- ---- entries of range lists
 
+-- a value that is there, else the list counts as absent
 abbrev pub or_absent : {X : Type 0} → Option X → Result X Absent
 or_absent (Some x) = Ok x
 or_absent None = Err absent
@@ -80,6 +81,7 @@ kind_from sections addr_base kind input =
     else (if kind == DW_RLE_start_length then two_fields target_address_from uleb_from start_length input
     else Err absent)))))))
 
+-- an entry of a list, by the byte of its kind (section 7.25); none for the one that ends the list
 unfoldable pub range_entry_from : Sections → Option ℕ → Input Absent
     → Result (Option RangeListEntry × Input Absent) Absent
 range_entry_from sections addr_base input = do
@@ -99,6 +101,7 @@ ranges_by base (BaseAddress address) = []
 ranges_by base (StartEnd start end) = (start, end) ∷ []
 ranges_by base (OffsetPair start end) = (word_sum base start, word_sum base end) ∷ []
 
+-- the base after an entry: DW_RLE_base_address and DW_RLE_base_addressx set it
 abbrev pub base_by : ℕ → RangeListEntry → ℕ
 base_by base (BaseAddress address) = address
 base_by base other = base
@@ -140,6 +143,7 @@ attribute_ranges info e =
     option_and_then (ranges_at info.sections e.context.addr_base (unwrap_or e.context.low_pc 0))
     (option_and_then (rnglist_offset info.sections e.context.rnglists_base) (attribute_value info DW_AT_ranges e))
 
+-- the address that DW_AT_low_pc gives
 abbrev pub low_pc_of : DebugInfo → UnitEntry → Option ℕ
 low_pc_of info e =
     option_and_then (address_value info.sections e.context.addr_base) (attribute_value info DW_AT_low_pc e)
@@ -157,10 +161,11 @@ abbrev pub one_or_none : Option (ℕ × ℕ) → List (ℕ × ℕ)
 one_or_none None = []
 one_or_none (Some range) = range ∷ []
 
--- the list of DW_AT_ranges where it stands, else the range from DW_AT_low_pc to DW_AT_high_pc
+-- the list of DW_AT_ranges unless it counts as absent, else the range from DW_AT_low_pc to DW_AT_high_pc
 abbrev pub entry_ranges : DebugInfo → Option UnitEntry → List (ℕ × ℕ)
 entry_ranges info None = []
 entry_ranges info (Some e) = unwrap_or (attribute_ranges info e) (one_or_none (low_high_of info e))
 
+-- the ranges of the entry with an index
 abbrev pub ranges_of : DebugInfo → ℕ → List (ℕ × ℕ)
 ranges_of info i = entry_ranges info (unit_entry info i)

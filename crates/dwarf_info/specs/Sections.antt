@@ -1,9 +1,10 @@
--- The sections of debug information as lists of bytes, and what stands at offsets of them.
+-- The sections of debug information as lists of bytes, and what is at offsets of them.
 use Rattle.std.specs.Prelude.{ℕ, ◌+◌, ◌*◌, List, take, drop, Option, option_map, option_and_then}
 use Rattle.prof_bytes.specs.Number.{number_at}
 use Rattle.prof_bytes.specs.Fields.{Input}
 use Rattle.elf_image.specs.declared.debug_parts.DebugParts.{DebugParts}
 
+-- .debug_info, .debug_abbrev, .debug_str, .debug_line_str, .debug_str_offsets, .debug_addr and .debug_rnglists
 pub record Sections : Type 0 where
   pub info : List ℕ
   pub abbrev_bytes : List ℕ
@@ -13,6 +14,7 @@ pub record Sections : Type 0 where
   pub addr : List ℕ
   pub rnglists : List ℕ
 
+-- the sections as contracts see them
 abbrev pub sections_of : DebugParts → Sections
 sections_of parts = record {
   info = parts.info.now;

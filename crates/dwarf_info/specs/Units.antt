@@ -48,6 +48,7 @@ unit_context sections index header values = record {
       option_and_then (address_value sections (sec_offset_of DW_AT_addr_base values)) (value_of DW_AT_low_pc values);
 }
 
+-- the offset of the first entry
 abbrev pub first_offset : List InfoEntry → Option ℕ
 first_offset entries = option_map (λ e. e.offset) (slice_get entries 0)
 
@@ -93,6 +94,7 @@ info_input sections = record { at = record { whole = sections.info; offset = 0 }
 abbrev pub units_of : Sections → Result (List UnitContext) InfoFault
 units_of sections = run_to_end (unit_from sections) 0 (info_input sections)
 
+-- what was read, and nothing where there is a fault
 abbrev pub or_none : {X F : Type 0} → Result (List X) F → List X
 or_none (Ok xs) = xs
 or_none (Err fault) = []

@@ -36,6 +36,7 @@ abbrev pub declared_values : Option Abbrev → Input FormFault → List (ℕ × 
 declared_values None input = []
 declared_values (Some d) input = values_from d.specs input
 
+-- the values after a code, by the first declaration of it
 abbrev pub coded_values : List Abbrev → Result (ℕ × Input FormFault) FormFault → List (ℕ × FormValue)
 coded_values declared (Ok code) = declared_values (declaration_of declared code.0) code.1
 coded_values declared (Err fault) = []

@@ -1,5 +1,5 @@
 //! The entries of a unit (DWARF 5, sections 2.3 and 7.5.3).
-ghost use Rattle.std.specs.Prelude.{◌≡◌, ◌+◌, ◌<◌, ◌≤◌, ◌++◌, ◌^◌, ℕ, OnOk, IfOk, IfSome, option_to_list, length};
+ghost use Rattle.std.specs.Prelude.{◌≡◌, ◌+◌, ◌<◌, ◌≤◌, ◌++◌, ◌^◌, ℕ, IfOk, IfSome, option_to_list, length};
 ghost use Rattle.std.specs.Prelude.{option_map, Option, List};
 ghost use Rattle.std.specs.Option.{option_or};
 ghost use Rattle.prof_bytes.specs.Outcome.{Gives, viewed};
@@ -14,7 +14,7 @@ use crate::starts::Starts;
 use crate::unit_header::offset_of;
 use crate::values::pass_values;
 use dwarf_forms::{Abbrev, Declarations};
-use prof_bytes::{Fail, Memory, Reader};
+use prof_bytes::{Fail, Memory, Reader, push_some};
 
 /// An entry by its declaration, and the depth of what follows it.
 fn declared_entry(
@@ -75,15 +75,6 @@ fn read_entry(
             declared_entry(reader, entry, declared)
         }
     }
-}
-
-pub(crate) fn push_some<T: Drop>(items: &mut Vec<T>, item: Option<T>) -> Result<(), Memory>
-    ensures { OnOk result (items.new.items ≡ items.old.items ++ option_to_list item) }
-{
-    if let Some(item) = item {
-        items.push(item)?;
-    }
-    Ok(())
 }
 
 /// The entries up to the end of the reader's bytes, appended.

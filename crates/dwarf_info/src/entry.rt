@@ -14,7 +14,7 @@ pub struct Unit {
 pub struct InfoEntry {
     /// Its offset in `.debug_info`.
     pub offset: u32,
-    /// The number of entries that it stands below in its unit.
+    /// The number of entries above it in its unit.
     pub depth: u32,
     /// Its tag (DWARF 5, section 7.5.3), as the abbreviation table has it; `constants` has only some.
     pub tag: u64,

@@ -3,7 +3,7 @@
 //!
 //! It promises that the entries are the flat list that the section's bytes give, or the first fault in
 //! section order, and that each attribute that is asked for is what its form, its offset and its base
-//! give, or absent. The standard is DWARF 5, chapters 2, 3 and 7. Below stand `dwarf_forms`,
+//! give, or absent. The standard is DWARF 5, chapters 2, 3 and 7. Below are `dwarf_forms`,
 //! `elf_image` and `prof_bytes`.
 #![tactic(auto)]
 

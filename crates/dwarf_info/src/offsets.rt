@@ -35,7 +35,7 @@ fn counts_of(alloc: Global, flags: &[bool]) -> Result<Vec<u32>, Memory>
     Ok(counts)
 }
 
-/// The offset of the flag with an index among those that are set, where the first flag stands at an offset.
+/// The offset of the flag with an index among those that are set, where the first flag is that of an offset.
 fn nth_set(flags: &[bool], from: u32, index: u32) -> Option<u32>
     requires { from + length flags.now < 2 ^ 31 }
     ensures { result ≡ slice_get (set_from from flags.now) index }

@@ -37,6 +37,7 @@ impl Starts {
         requires { bytes < 2 ^ 31 }
         ensures { IfOk result (λ s. s ≡ record { offsets = []; end = 0; bytes = bytes }) }
     {
+        // room: `bytes`, a flag for each byte of .debug_info
         let flags = vec![in alloc; false; bytes]?;
         Ok(Starts {
             flags,

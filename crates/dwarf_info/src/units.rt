@@ -21,7 +21,7 @@ use crate::attributes::{address_value, bytes_before, section_value};
 use crate::constants::{
     DW_AT_addr_base, DW_AT_low_pc, DW_AT_rnglists_base, DW_AT_stmt_list, DW_AT_str_offsets_base,
 };
-use crate::entries::{mark_entries, push_some};
+use crate::entries::mark_entries;
 use crate::entry::UnitContext;
 use crate::fault::InfoFault;
 use crate::starts::Starts;
@@ -30,7 +30,7 @@ use crate::unit_header::{UnitHeader, offset_of, read_header};
 use crate::values::entry_value;
 use dwarf_forms::{BadTable, Declarations, FormFault, Value, reader_at};
 use elf_image::DebugParts;
-use prof_bytes::{Fail, Memory, Reader};
+use prof_bytes::{Fail, Memory, Reader, push_some};
 use std::alloc::Global;
 
 /// The first value of an attribute of the entry at an offset, in a unit that ends at `end`.

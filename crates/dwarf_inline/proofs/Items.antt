@@ -1,4 +1,4 @@
--- The items of debug information stand in the order of their indices.
+-- The items of debug information are in the order of their indices.
 use Rattle.std.proofs.Common.{◌≡◌, ℕ, ◌+◌, ◌<◌, ◌≤◌, Bool, true, cond, List, [], ◌∷◌, ◌++◌, length, take, drop, map, get_or, inl, inr, refl, sym, ap, ◌∙◌, subst, arith, zero-add, length-take, length-drop}
 use Rattle.std.specs.Prelude.{All, AllPairs, filter, count_by, sum_by, slice_get, Some, nat_lt}
 use Rattle.std.specs.List.{enumerate_from, flat_map}
@@ -151,7 +151,7 @@ counted info i =
     ∙ ap (count_by is_item) (take-map (λ (e : Indexed). e.1) i (indexed info))
     ∙ count_map is_item (λ (e : Indexed). e.1) (take i (indexed info)) ∙ sym (length-filter passes (take i (indexed info)))
 
--- as many items stand before an item as its number says
+-- as many items are before an item as its number says
 pub number_is : (info : DebugInfo) (k : ℕ) (d : Indexed) → k < length (item_entries info) → items_before info (get_or (item_entries info) k d).0 ≡ k
 number_is info k d lt =
     let items : List Indexed = item_entries info in

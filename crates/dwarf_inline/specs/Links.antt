@@ -4,15 +4,17 @@ use Rattle.std.specs.Prelude.{ℕ, zero, suc, ◌==◌, ◌||◌, Bool, List, fi
 use Rattle.std.specs.Prelude.{unwrap_or, codes}
 use Rattle.std.specs.List.{enumerate_from}
 use Rattle.std.specs.Option.{option_map_or}
-use Rattle.dwarf_forms.specs.declared.name.TheConstants.{MAX_NAME_BYTES}
+use Rattle.scope_types.specs.Limits.{most_name_bytes}
 use Rattle.dwarf_info.specs.declared.constants.TheConstants.{DW_TAG_subprogram, DW_TAG_inlined_subroutine}
 use Rattle.dwarf_info.specs.declared.entry.InfoEntry.{InfoEntry}
 use Rattle.dwarf_info.specs.Units.{DebugInfo}
 use Rattle.dwarf_info.specs.Queries.{name_of, link_of}
 
+-- DW_TAG_subprogram (section 3.3)
 abbrev pub is_subprogram : InfoEntry → Bool
 is_subprogram e = e.tag == DW_TAG_subprogram
 
+-- DW_TAG_inlined_subroutine (section 3.3.8.2)
 abbrev pub is_inlined : InfoEntry → Bool
 is_inlined e = e.tag == DW_TAG_inlined_subroutine
 
@@ -52,6 +54,7 @@ identity info i = linked info most_links i
 abbrev pub has_more_links : DebugInfo → ℕ → Bool
 has_more_links info i = is_some (link_of info (identity info i))
 
+-- the offset of the entry with an index in .debug_info
 abbrev pub entry_offset : DebugInfo → ℕ → ℕ
 entry_offset info i = option_map_or (λ e. e.offset) (slice_get info.entries i) 0
 
@@ -61,9 +64,10 @@ identity_offset info i = entry_offset info (identity info i)
 
 -- ---- names
 
+-- the name of what has none
 abbrev pub unnamed : List ℕ
 unnamed = codes "<unnamed>"
 
 -- the name of an entry's identity, cut
 abbrev pub entry_name : DebugInfo → ℕ → List ℕ
-entry_name info i = take MAX_NAME_BYTES (unwrap_or (name_of info (identity info i)) unnamed)
+entry_name info i = take most_name_bytes (unwrap_or (name_of info (identity info i)) unnamed)

@@ -5,6 +5,7 @@ use Rattle.dwarf_info.specs.declared.entry.InfoEntry.{InfoEntry}
 use Rattle.dwarf_info.specs.Units.{DebugInfo}
 use Rattle.dwarf_inline.specs.Links.{Indexed, indexed, is_item, is_inlined}
 
+-- an entry is deeper than a depth
 abbrev pub is_deeper : ℕ → InfoEntry → Bool
 is_deeper depth e = nat_lt depth e.depth
 
@@ -16,7 +17,7 @@ descendants info e = take_while (is_deeper e.1.depth) (drop (e.0 + 1) info.entri
 abbrev pub end_of : DebugInfo → Indexed → ℕ
 end_of info e = e.0 + 1 + length (descendants info e)
 
--- how many items stand before an index
+-- how many items are before an index
 abbrev pub items_before : DebugInfo → ℕ → ℕ
 items_before info i = count_by is_item (take i info.entries)
 

@@ -91,6 +91,7 @@ pub record ProgramStructure : Type 0 where
   pub names : List (List ℕ)
   pub ranges : List (ℕ × ℕ)
 
+-- the structure, or the first fault of an item
 unfoldable pub structure_of : DebugInfo → Lines → ProgramImage → Result ProgramStructure StructureFault
 structure_of info lines image = do
   _ ← checked_items info (item_entries info)

@@ -29,6 +29,7 @@ pub(crate) fn ends_of(alloc: Global, entries: &[InfoEntry]) -> Result<Vec<u32>, 
     requires { length entries.now < 2 ^ 31 }
     ensures { IfOk result (λ ends. AreEndsFrom entries.now 0 ends.items) }
 {
+    // room: `entries.len()`, an end for each entry
     let mut ends = vec![in alloc; 0u32; entries.len()]?;
     let mut index = entries.len();
     while index > 0 {

@@ -2,7 +2,7 @@
 //! addresses that count, their identities, calls and names (what HPCToolkit's hpcstruct recovers).
 //!
 //! It promises that the items are the subprograms and inlined subroutines of `.debug_info` in section order, or the
-//! first fault. The standard is DWARF 5, section 3.3. Below stand `dwarf_info`, `dwarf_line`, `dwarf_forms`,
+//! first fault. The standard is DWARF 5, section 3.3. Below are `dwarf_info`, `dwarf_line`, `dwarf_forms`,
 //! `elf_image`, `scope_types` and `prof_bytes`.
 #![tactic(auto)]
 

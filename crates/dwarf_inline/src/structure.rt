@@ -72,7 +72,7 @@ impl<'a> Structure<'a> {
         self.ranges[index as usize]
     }
 
-    /// The name of the procedure with an identity, of at most `MAX_NAME_BYTES` bytes (DWARF 5, section 2.15);
+    /// The name of the procedure with an identity, of at most `MOST_NAME_BYTES` bytes (DWARF 5, section 2.15);
     /// `<unnamed>` where it has no name, or no item has this identity. Takes no memory.
     pub fn proc_name(&self, offset: u32) -> &'a [u8]
         ensures { result.now ≡ proc_name self.now offset }

@@ -8,12 +8,11 @@ ghost use Rattle.dwarf_inline.specs.Structure.{item_of};
 
 use crate::links::is_inlined;
 use crate::subroutine::Subroutine;
-use dwarf_forms::cut_name;
 use dwarf_info::{Info, InfoEntry};
 use dwarf_line::LineTable;
 use elf_image::Image;
 use prof_bytes::Memory;
-use scope_types::LineId;
+use scope_types::{LineId, cut_name};
 use std::alloc::Global;
 
 /// What a structure is read from.

@@ -1,4 +1,4 @@
--- The program of a table stands within the bytes of its section.
+-- The program of a table lies within the bytes of its section.
 use Rattle.std.proofs.Common.{◌≡◌, ◌+◌, ◌==◌, ◌||◌, ◌&&◌, ◌≤◌, ℕ, Bool, true, false, List, length, Option, Some, None, Result, Ok, Err, refl, ap, ◌∙◌, arith}
 use Rattle.std.proofs.lemmas.List.{length-take}
 use Rattle.std.specs.Prelude.{if◌then◌else◌, nat_le, nat_lt}

@@ -9,7 +9,7 @@ use Rattle.dwarf_line.specs.Names.{LineRead, Texts, NamedPath, checked, names_fr
 -- how the program is encoded
 pub record ProgramEncoding : Type 0 where
   pub minimum_instruction_length : ℕ
-  -- a signed byte, as it stands
+  -- a signed byte, as its number from 0 to 255
   pub line_base : ℕ
   pub line_range : ℕ
   pub opcode_base : ℕ
@@ -31,6 +31,7 @@ abbrev pub is_supported : ℕ → ℕ → ℕ → Bool
 is_supported maximum_operations_per_instruction line_range opcode_base =
     (maximum_operations_per_instruction == 1) && not (line_range == 0) && not (opcode_base == 0)
 
+-- the fields from minimum_instruction_length to standard_opcode_lengths; default_is_stmt is not kept
 unfoldable pub line_encoding_from : Input LineFault → LineRead ProgramEncoding
 line_encoding_from input = do
   (minimum_instruction_length, input) ← number_from 1 input

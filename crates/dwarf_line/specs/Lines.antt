@@ -4,7 +4,7 @@ use Rattle.std.specs.Prelude.{slice_index, Option, Some, None, option_map, unwra
 use Rattle.std.specs.Option.{option_and_then}
 use Rattle.std.specs.List.{flat_map}
 use Rattle.prof_bytes.specs.Outcome.{◌>>=◌}
-use Rattle.dwarf_forms.specs.declared.name.TheConstants.{MAX_NAME_BYTES}
+use Rattle.scope_types.specs.Limits.{most_name_bytes}
 use Rattle.dwarf_forms.specs.Sections.{input_at}
 use Rattle.elf_image.specs.declared.part.Segment.{Segment}
 use Rattle.dwarf_line.specs.declared.fault.LineFault.{LineFault}
@@ -27,6 +27,7 @@ pub record TableRead : Type 0 where
   pub names : TableNames
   pub sequences : List Sequence
 
+-- the directories and files that a header gives
 abbrev pub table_names_of : ℕ → Header → TableNames
 table_names_of offset header =
     record { offset = offset; directories = header.directories; file_names = header.file_names }
@@ -61,6 +62,7 @@ pub record Lines : Type 0 where
   pub tables : List TableNames
   pub sequences : List Sequence
 
+-- tables as one: their names, and the sequences of all in the order of the tables
 abbrev pub lines_of_tables : List TableRead → Lines
 lines_of_tables tables = record { tables = map (λ t. t.names) tables; sequences = flat_map (λ t. t.sequences) tables }
 
@@ -72,9 +74,11 @@ lines_at line texts segments offsets = do
 
 -- ---- names of files
 
+-- the first table with that offset
 abbrev pub table_with : List TableNames → ℕ → Option TableNames
 table_with tables offset = find (λ t. t.offset == offset) tables
 
+-- the name of a file that no table has
 abbrev pub unknown_file : List ℕ
 unknown_file = codes "<unknown file>"
 
@@ -83,14 +87,15 @@ abbrev pub joined_path : List ℕ → List ℕ → List ℕ
 joined_path directory path =
     if (length directory == 0) || (slice_index path 0 == 47) then path else directory ++ 47 ∷ path
 
+-- the path of the directory with an index; empty where there is none
 abbrev pub directory_path : List NamedPath → Option ℕ → List ℕ
 directory_path directories index =
     unwrap_or (option_map (λ d. d.path) (option_and_then (slice_get directories) index)) []
 
--- the name of a file of a table, of at most `MAX_NAME_BYTES` bytes
+-- the name of a file of a table, of at most `most_name_bytes` bytes
 abbrev pub file_in : TableNames → ℕ → Option (List ℕ)
 file_in table file =
-    option_map (λ f. take MAX_NAME_BYTES (joined_path (directory_path table.directories f.directory_index) f.path))
+    option_map (λ f. take most_name_bytes (joined_path (directory_path table.directories f.directory_index) f.path))
     (slice_get table.file_names file)
 
 -- the name of a file of the table at an offset

@@ -42,6 +42,7 @@ pub record Texts : Type 0 where
   pub str_bytes : List ℕ
   pub line_str : List ℕ
 
+-- the sections of texts as contracts see them
 abbrev pub texts_of : DebugParts → Texts
 texts_of parts = record { str_bytes = parts.str_bytes.now; line_str = parts.line_str.now }
 

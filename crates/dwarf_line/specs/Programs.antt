@@ -27,21 +27,24 @@ use Rattle.dwarf_line.specs.Headers.{ProgramEncoding}
 abbrev pub start : LineRegisters
 start = record { address = 0; file = 1; line = 1 }
 
--- sums of 32 bits
+-- the address after an advance, modulo 2^32
 abbrev pub at_address : ℕ → LineRegisters → LineRegisters
 at_address more registers = record registers { address = (registers.address + more) % 2 ^ 32 }
 
+-- the line after an advance, modulo 2^32
 abbrev pub at_line : ℕ → LineRegisters → LineRegisters
 at_line more registers = record registers { line = (registers.line + more) % 2 ^ 32 }
 
+-- a row of the registers, which ends a sequence or not
 abbrev pub row_ending : Bool → LineRegisters → LineRow
 row_ending ends registers =
     record { address = registers.address; file = registers.file; line = registers.line; end_sequence = ends }
 
--- the row that is appended, and the one that ends a sequence
+-- the row that is appended within a sequence
 abbrev pub plain_row : LineRegisters → LineRow
 plain_row registers = row_ending false registers
 
+-- the row that ends a sequence
 abbrev pub end_row_of : LineRegisters → LineRow
 end_row_of registers = row_ending true registers
 
@@ -59,34 +62,41 @@ no_row_appended registers = record { row = None; registers = registers }
 abbrev pub signed_byte : ℕ → ℕ
 signed_byte byte = if nat_lt byte 128 then byte else 2 ^ 32 - 256 + byte
 
+-- how far an adjusted opcode moves the address
 abbrev pub address_advance : ProgramEncoding → ℕ → ℕ
 address_advance encoding adjusted = adjusted / encoding.line_range * encoding.minimum_instruction_length
 
+-- how far an adjusted opcode moves the line, modulo 2^32
 abbrev pub line_advance : ProgramEncoding → ℕ → ℕ
 line_advance encoding adjusted = signed_byte encoding.line_base + adjusted % encoding.line_range
 
+-- a special opcode moves the address and the line, and appends a row
 abbrev pub special : ProgramEncoding → ℕ → LineRegisters → OpcodeEffect
 special encoding adjusted registers =
     row_appended (at_line (line_advance encoding adjusted) (at_address (address_advance encoding adjusted) registers))
 
 -- ---- standard opcodes: section 6.2.5.2
 
+-- DW_LNS_advance_pc: an unsigned LEB128 number of instructions of the minimum length
 abbrev pub advance_pc_from : ProgramEncoding → LineRegisters → Input LineFault → LineRead LineRegisters
 advance_pc_from encoding registers input = do
   (advance, input) ← uleb_from input
   Ok (at_address (advance * encoding.minimum_instruction_length) registers, input)
 
+-- DW_LNS_advance_line: a signed LEB128 number
 abbrev pub advance_line_from : LineRegisters → Input LineFault → LineRead LineRegisters
 advance_line_from registers input = do
   (advance, input) ← sleb_from input
   Ok (at_line (low_word_signed advance) registers, input)
 
+-- DW_LNS_set_file: an unsigned LEB128 number, of 32 bits
 abbrev pub set_file_from : LineRegisters → Input LineFault → LineRead LineRegisters
 set_file_from registers input = do
   (file, input) ← uleb_from input
   input ← checked (nat_lt file (2 ^ 32)) input
   Ok (record registers { file = file }, input)
 
+-- DW_LNS_fixed_advance_pc: a number of two bytes, which is not multiplied
 abbrev pub fixed_advance_pc_from : LineRegisters → Input LineFault → LineRead LineRegisters
 fixed_advance_pc_from registers input = do
   (advance, input) ← number_from 2 input
@@ -113,6 +123,7 @@ registers_from encoding opcode registers input =
     || (opcode == DW_LNS_set_prologue_end) || (opcode == DW_LNS_set_epilogue_begin) then Ok (registers, input)
     else skipped_from (slice_index encoding.standard_opcode_lengths (opcode - 1)) registers input
 
+-- a standard opcode; DW_LNS_copy alone appends a row
 abbrev pub standard_from : ProgramEncoding → ℕ → LineRegisters → Input LineFault → LineRead OpcodeEffect
 standard_from encoding opcode registers input =
     if opcode == DW_LNS_copy then Ok (row_appended registers, input)
@@ -124,6 +135,7 @@ standard_from encoding opcode registers input =
 abbrev pub sequence_ended : LineRegisters → OpcodeEffect
 sequence_ended registers = record { row = Some (end_row_of registers); registers = start }
 
+-- DW_LNE_set_address
 abbrev pub address_set : ℕ → LineRegisters → OpcodeEffect
 address_set address registers = no_row_appended (record registers { address = address })
 
@@ -146,6 +158,7 @@ extended_opcode_from registers input = do
 
 -- ---- the program
 
+-- an opcode is special from the opcode base on; 0 begins an extended one; the others are standard
 abbrev pub by_opcode : ProgramEncoding → ℕ → LineRegisters → Input LineFault → LineRead OpcodeEffect
 by_opcode encoding opcode registers input =
     if nat_le encoding.opcode_base opcode then Ok (special encoding (opcode - encoding.opcode_base) registers, input)

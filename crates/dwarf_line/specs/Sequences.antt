@@ -19,11 +19,12 @@ sequences_from table before (row ∷ rows) =
     if row.end_sequence then record { table = table; rows = before; end = row.address } ∷ sequences_from table [] rows
     else sequences_from table (before ++ row ∷ []) rows
 
--- a sequence goes from its first row's address up to its end
+-- the addresses from the first row up to an end; none without rows
 abbrev pub rows_range : ℕ → List LineRow → AddressRange
 rows_range end [] = record { start = 0; end = 0 }
 rows_range end (first ∷ rows) = record { start = first.address; end = end }
 
+-- a sequence goes from its first row's address up to its end
 abbrev pub sequence_range : Sequence → AddressRange
 sequence_range q = rows_range q.end q.rows
 
@@ -39,6 +40,7 @@ greatest at rows = fold max 0 (map (λ r. r.address) (filter (λ r. nat_le r.add
 abbrev pub last_row_at : ℕ → List LineRow → Option LineRow
 last_row_at at rows = find (λ r. (r.address == greatest at rows) && nat_le r.address at) (reverse rows)
 
+-- a row's file and line, as those of a table
 abbrev pub row_line : ℕ → LineRow → LineId
 row_line table row = lines.Row table row.file row.line
 

@@ -2,8 +2,6 @@
 ghost use Rattle.std.specs.Prelude.{◌≡◌, ℕ, ◌≤◌, length};
 ghost use Rattle.prof_bytes.specs.Fields.{Input};
 ghost use Rattle.prof_bytes.specs.Reading.{left_of};
-ghost use Rattle.dwarf_forms.specs.declared.name.TheConstants.{MAX_NAME_BYTES};
-ghost use Rattle.scope_types.specs.Limits.{most_name_bytes};
 ghost use Rattle.dwarf_line.specs.declared.fault.LineFault.{LineFault};
 ghost use Rattle.dwarf_line.specs.declared.registers.LineRegisters.{LineRegisters};
 ghost use Rattle.dwarf_line.specs.Headers.{ProgramEncoding};
@@ -16,10 +14,4 @@ pub fn row_count_is_at_most_bytes()
         → length (left_of program.at) ≤ room
         → rows_from encoding room registers program
         ≡ rows_from encoding (length (left_of program.at)) registers program }
-{}
-
-/// A name is cut at the most bytes that a profile may have of one.
-pub fn names_are_cut_at_the_limit()
-    ensures same { MAX_NAME_BYTES ≡ most_name_bytes }
-    ensures bytes { most_name_bytes ≡ 4096 }
 {}

@@ -1,7 +1,7 @@
 //! Line tables: the rows of line number programs and the names of files, by DWARF 5, section 6.2.
 //!
 //! It promises that the line of an address is that of the row in force there, over the whole matrix of
-//! every table, or the first fault in the order of the offsets that are given. Below stand `dwarf_forms`,
+//! every table, or the first fault in the order of the offsets that are given. Below are `dwarf_forms`,
 //! `elf_image`, `address_ranges`, `scope_types`, `prof_bytes` and `byteorder`.
 #![tactic(auto)]
 
@@ -20,5 +20,5 @@ mod sequence;
 mod tables;
 
 pub use fault::LineFault;
-pub use laws::{names_are_cut_at_the_limit, row_count_is_at_most_bytes};
+pub use laws::row_count_is_at_most_bytes;
 pub use lines::{LineTable, read_lines};

@@ -1,8 +1,9 @@
 //! The line tables at some offsets, and the rows and file names that they give.
-ghost use Rattle.std.specs.Prelude.{◌≡◌, ◌<◌, ◌^◌, ◌++◌, ◌∷◌, [], option_to_list, IfOk, OnOk, is_some, length, take};
+ghost use Rattle.std.specs.Prelude.{◌≡◌, ◌<◌, ◌^◌, ◌++◌, ◌∷◌, [], option_to_list, IfOk, is_some, length, take};
 ghost use Rattle.std.specs.Prelude.{unwrap_or};
 ghost use Rattle.std.specs.Option.{option_copied};
 ghost use Rattle.prof_bytes.specs.Outcome.{Gives};
+ghost use Rattle.scope_types.specs.Limits.{most_name_bytes};
 ghost use Rattle.dwarf_line.specs.Names.{texts_of};
 ghost use Rattle.dwarf_line.specs.Lines.{table_by, line_table_of, line_tables_of, lines_at, table_with, joined_path};
 ghost use Rattle.dwarf_line.specs.Lines.{directory_path, file_in, file_name_of, unknown_file};
@@ -16,10 +17,11 @@ use crate::run::run;
 use crate::sequence::{Collector, Sequence};
 use crate::tables::Table;
 use address_ranges::RangeTable;
-use dwarf_forms::{MAX_NAME_BYTES, reader_at};
+use dwarf_forms::reader_at;
 use elf_image::{DebugParts, Image};
-use prof_bytes::{Fail, Memory, Text};
+use prof_bytes::{Fail, Memory, Text, push_some};
 use scope_types::LineId;
+use scope_types::limits::MOST_NAME_BYTES;
 use std::alloc::Global;
 use std::marker::Model;
 
@@ -69,7 +71,7 @@ impl<'a> LineTable<'a> {
         })
     }
 
-    /// The name of a file of the table at an offset, of at most `MAX_NAME_BYTES` bytes (DWARF 5, section 6.2.4);
+    /// The name of a file of the table at an offset, of at most `MOST_NAME_BYTES` bytes (DWARF 5, section 6.2.4);
     /// `<unknown file>` where there is no such table or file. The table is found in time logarithmic in the number of
     /// tables.
     pub fn file_name(&self, alloc: Global, table: u32, file: u32) -> Result<Text, Memory>
@@ -95,7 +97,7 @@ fn directory_path<'a>(directories: &[NamedPath<'a>], index: Option<u64>) -> &'a 
 }
 
 fn joined_path(alloc: Global, directory: &[u8], path: &[u8]) -> Result<Text, Memory>
-    ensures { IfOk result (λ name. name ≡ take MAX_NAME_BYTES (joined_path directory.now path.now)) }
+    ensures { IfOk result (λ name. name ≡ take most_name_bytes (joined_path directory.now path.now)) }
 {
     let mut name = Vec::new(alloc);
     if !directory.is_empty() && path.first() != Some(&b'/') {
@@ -103,7 +105,7 @@ fn joined_path(alloc: Global, directory: &[u8], path: &[u8]) -> Result<Text, Mem
         name.push(b'/')?;
     }
     name.extend_from_slice(path)?;
-    name.truncate(MAX_NAME_BYTES);
+    name.truncate(MOST_NAME_BYTES);
     Ok(Text::from_vec(name))
 }
 
@@ -190,15 +192,6 @@ fn read_tables<'a>(
         rest = others;
     }
     Ok(tables)
-}
-
-fn push_some<'a>(tables: &mut Vec<Table<'a>>, table: Option<Table<'a>>) -> Result<(), Memory>
-    ensures { OnOk result (tables.new.items ≡ tables.old.items ++ option_to_list table.entry) }
-{
-    if let Some(table) = table {
-        tables.push(table)?;
-    }
-    Ok(())
 }
 
 /// The line tables at these offsets of `.debug_line` (DWARF 5, section 6.2), or the first fault in their

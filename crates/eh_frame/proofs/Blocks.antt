@@ -148,8 +148,8 @@ unless_passed (Description fde) e = e ∷ []
 abbrev pub extents_in : ℕ → EhEntry → List Extent
 extents_in base entry = unless_passed entry.content (translated_extent base entry)
 
-abbrev pub Stands : List ℕ → ℕ → EhEntry → List ℕ → Type 0
-Stands section base entry rest = Block section (translated_offset base entry.extent.offset) (size_of entry.extent) (entry_body base entry.content) rest
+abbrev pub LiesAt : List ℕ → ℕ → EhEntry → List ℕ → Type 0
+LiesAt section base entry rest = Block section (translated_offset base entry.extent.offset) (size_of entry.extent) (entry_body base entry.content) rest
 
 some_padded : (body : List ℕ) → 0 < length body → 0 < length (aligned body)
 some_padded body some = let long = padded_length body in omega arith
@@ -166,22 +166,22 @@ entry_chain section base e (Description fde) rest es b then =
 
 -- ---- all blocks
 
--- the entries in the blocks from an offset on, and where each of them stands
+-- the entries in the blocks from an offset on, and where each of them lies
 pub record Laid (section : List ℕ) (base start : ℕ) (all : List EhEntry) : Type 0 where
   pub chain : Chain section (translated_offset base start) (flat_map (extents_in base) all)
-  pub stands : (x : EhEntry) → IsIn x all → (rest : List ℕ) × Stands section base x rest
+  pub lies : (x : EhEntry) → IsIn x all → (rest : List ℕ) × LiesAt section base x rest
 
 pub blocks_laid : (section : List ℕ) (base start : ℕ) (all : List EhEntry) → length section < 2 ^ 31 → AreAdjoining start (map (λ x. x.extent) all) → ((x : EhEntry) → IsIn x all → FitsIn x.extent x.content)
     → drop (translated_offset base start) section ≡ flat_map (block_of base) all → Laid section base start all
 blocks_laid section base start [] small adjoin fit is =
     let none : length (drop (base + 8 * start) section) ≡ 0 = ap (λ (xs : List ℕ). length xs) is in
-    record { chain = chain_end section (translated_offset base start) (omega (arith, length-drop (base + 8 * start) section)); stands = λ x there. absurd there }
+    record { chain = chain_end section (translated_offset base start) (omega (arith, length-drop (base + 8 * start) section)); lies = λ x there. absurd there }
 blocks_laid section base start (x ∷ all) small adjoin fit is = with_first (blocks_laid section base x.extent.end all small adjoin.2 (λ y there. fit y (inr there)) behind)
   where
     same : translated_offset base x.extent.offset ≡ translated_offset base start
     same = ap (translated_offset base) adjoin.0
 
-    b : Stands section base x (flat_map (block_of base) all)
+    b : LiesAt section base x (flat_map (block_of base) all)
     b = block_at section (translated_offset base x.extent.offset) (size_of x.extent) (entry_body base x.content) (flat_map (block_of base) all) small (fit x (inl refl) base) (ap (λ (n : ℕ). drop n section) same ∙ is)
 
     next : translated_offset base x.extent.offset + 8 * size_of x.extent ≡ translated_offset base x.extent.end
@@ -193,9 +193,9 @@ blocks_laid section base start (x ∷ all) small adjoin fit is = with_first (blo
     behind : drop (translated_offset base x.extent.end) section ≡ flat_map (block_of base) all
     behind = ap (λ (n : ℕ). drop n section) (sym next) ∙ block_behind section (translated_offset base x.extent.offset) (size_of x.extent) (entry_body base x.content) (flat_map (block_of base) all) b
 
-    there : Laid section base x.extent.end all → (y : EhEntry) → IsIn y (x ∷ all) → (rest : List ℕ) × Stands section base y rest
-    there more y (inl e) = let P : EhEntry → Type 0 = λ z. (rest : List ℕ) × Stands section base z rest in subst P e (flat_map (block_of base) all, b)
-    there more y (inr further) = more.stands y further
+    there : Laid section base x.extent.end all → (y : EhEntry) → IsIn y (x ∷ all) → (rest : List ℕ) × LiesAt section base y rest
+    there more y (inl e) = let P : EhEntry → Type 0 = λ z. (rest : List ℕ) × LiesAt section base z rest in subst P e (flat_map (block_of base) all, b)
+    there more y (inr further) = more.lies y further
 
     with_first : Laid section base x.extent.end all → Laid section base start (x ∷ all)
     with_first more = record {
@@ -203,7 +203,7 @@ blocks_laid section base start (x ∷ all) small adjoin fit is = with_first (blo
           chain_moved section (translated_offset base x.extent.offset) (translated_offset base start) (flat_map (extents_in base) (x ∷ all)) same
           (entry_chain section base x.extent x.content (flat_map (block_of base) all) (flat_map (extents_in base) all) b
           (chain_moved section (translated_offset base x.extent.end) (translated_offset base x.extent.offset + 8 * size_of x.extent) (flat_map (extents_in base) all) (sym next) more.chain));
-      stands = there more;
+      lies = there more;
     }
 
 -- ---- the entries that were read

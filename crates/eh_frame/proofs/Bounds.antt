@@ -12,13 +12,13 @@ use Rattle.cfi_table.specs.declared.instruction.AlignmentFactors.{AlignmentFacto
 use Rattle.cfi_table.specs.declared.instruction.CallFrameInstruction.{CallFrameInstruction}
 use Rattle.cfi_table.specs.Instructions.{Reading, block_from}
 use Rattle.cfi_table.specs.Rules.{FrameState, execute, no_rules, all_same_value}
-use Rattle.cfi_table.specs.Entries.{register_from, instructions_of}
+use Rattle.cfi_table.specs.Entries.{register_from, factors_from, instructions_of}
 use Rattle.cfi_table.proofs.Moves.{Moves, AllMove, stays, binds, number_moves, takes, uleb_moves, sleb_moves, bytes_move, block_moves, either}
 use Rattle.eh_frame.specs.declared.address.Application.{Application}
 use Rattle.eh_frame.specs.declared.address.Application.TheVariants as applications
 use Rattle.eh_frame.specs.declared.cie.EhCie.{EhCie}
 use Rattle.eh_frame.specs.Addresses.{address_from}
-use Rattle.eh_frame.specs.Cies.{is_read_augmentation, application_from, until, eh_cie_with, factors_of, cie_from_letters, cie_from_data, eh_cie_from_factors, eh_cie_from_augmentation, eh_cie_from}
+use Rattle.eh_frame.specs.Cies.{is_read_augmentation, application_from, until, eh_cie_with, cie_from_letters, cie_from_data, eh_cie_from_factors, eh_cie_from_augmentation, eh_cie_from}
 use Rattle.eh_frame.specs.Runs.{listed_by, addresses_of, cie_instructions, fde_instructions}
 use Rattle.eh_frame.specs.Entries.{past_data, eh_fields_from}
 use Rattle.eh_frame.specs.Translation.{encoded}
@@ -74,14 +74,19 @@ data_sound end f register (first ∷ letters) input small = letters_sound end f 
 register_moves : (version : ℕ) (input : Input FrameFault) → AllMove input (register_from version input)
 register_moves version input = either input (version == 1) _ _ (number_moves 1 input) (uleb_moves input)
 
+factors_move : (version : ℕ) (input : Input FrameFault) → AllMove input (factors_from version input)
+unfolding factors_from
+factors_move version input =
+    binds input (uleb_from input) _ (uleb_moves input) (λ c. binds c.1 (sleb_from c.1) _ (sleb_moves c.1) (λ d. binds d.1 (register_from version d.1) _ (register_moves version d.1) (λ r. stays r.1)))
+
 low : (n : ℕ) → nat_lt n 32 ≡ true → n < 32
 low n e = grind (arith, nat_tests)
 
 factors_sound : (end version : ℕ) (augmentation : List ℕ) (input : Input FrameFault) → AllSound end (length (left_of input.at)) (eh_cie_from_factors end version augmentation input)
 unfolding eh_cie_from_factors
 factors_sound end version augmentation input =
-    sound_bind end input (uleb_from input) _ (uleb_moves input) (λ c. sound_bind end c.1 (sleb_from c.1) _ (sleb_moves c.1) (λ d. sound_bind end d.1 (register_from version d.1) _ (register_moves version d.1) (λ r.
-    sound_either end (length (left_of r.1.at)) (nat_lt r.0 32) _ _ (λ is. data_sound end (factors_of c.0 d.0) r.0 augmentation r.1 (low r.0 is)) tt)))
+    sound_bind end input (factors_from version input) _ (factors_move version input)
+    (λ r. sound_either end (length (left_of r.1.at)) (nat_lt r.0.1 32) _ _ (λ is. data_sound end r.0.0 r.0.1 augmentation r.1 (low r.0.1 is)) tt)
 
 augmentation_sound : (end version : ℕ) (input : Input FrameFault) → AllSound end (length (left_of input.at)) (eh_cie_from_augmentation end version input)
 unfolding eh_cie_from_augmentation

@@ -80,7 +80,7 @@ Facts section address extents PassedOver = Unit {0}
 Facts section address extents (Common cie own) = CommonRead section address cie own
 Facts section address extents (Description fde) = DescriptionRead section address extents fde
 
--- what stands for it in the translation fits in its block
+-- its translation fits in its block
 abbrev pub FitsIn : Extent → EhContent → Type 0
 FitsIn e content = (base : ℕ) → length (entry_body base content) + 7 ≤ 8 * size_of e
 

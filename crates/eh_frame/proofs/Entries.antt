@@ -121,7 +121,7 @@ take_rises low zero ns up = tt
 take_rises low (suc k) [] up = tt
 take_rises low (suc k) (e ∷ es) up = (up.0, take_rises (e.offset + 1) k es up.1)
 
--- none of those from an offset on stands before it
+-- none of those from an offset on lies before it
 none_before : (start : ℕ) (es : List Extent) (low : ℕ) (p : Extent → Bool) → AreAdjoining start es → low ≤ start → filter (λ c. nat_lt c.offset low && p c) es ≡ []
 none_before start [] low p up le = refl
 none_before start (e ∷ es) low p up le =
@@ -148,7 +148,7 @@ before_it start (e ∷ es) (suc k) d p up lt =
     let lower : nat_lt e.offset (get_or es k d).offset ≡ true = grind (arith, nat_tests) in
     rw lower (ap (λ (cs : List Extent). cond (p e) (e ∷ cs) cs) (before_it e.end es k d p up.2 (omega arith)))
 
--- the CIEs stand as the entries do
+-- the CIEs have the order of the entries
 pub cies_rise : (section : List ℕ) (extents : List Extent) (k : ℕ) (cies : List KnownEhCie) → map seen_eh_cie cies ≡ map (known_eh section) (filter (is_eh_cie section) (take k extents)) → AreAdjoining 0 extents → AreRising 0 (map (λ cie. cie.offset) cies)
 cies_rise section extents k cies each up =
     seen_rise (λ (k : KnownEh). k.offset) seen_eh_cie (known_eh section) cies (filter (is_eh_cie section) (take k extents)) each

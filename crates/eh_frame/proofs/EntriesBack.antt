@@ -16,7 +16,7 @@ use Rattle.cfi_table.specs.declared.fde.Fde.{Fde}
 use Rattle.cfi_table.specs.declared.instruction.CallFrameInstruction.{CallFrameInstruction}
 use Rattle.cfi_table.specs.declared.rules.Rule.{Rule}
 use Rattle.cfi_table.specs.Rules.{FrameState, execute, is_past, no_rules, all_same_value}
-use Rattle.cfi_table.specs.Entries.{body_of, instructions_of, cie_from_factors, cie_from_sizes, cie_from_augmentation, cie_from, after_cie, continued, is_cie, cie_at, cie_of, checked_cie, checked_fde, fde_fields_from, fde_with, read_entry}
+use Rattle.cfi_table.specs.Entries.{body_of, instructions_of, factors_from, cie_from_factors, cie_from_sizes, cie_from_augmentation, cie_from, after_cie, continued, is_cie, cie_at, cie_of, checked_cie, checked_fde, fde_fields_from, fde_with, read_entry}
 use Rattle.eh_frame.specs.Runs.{rules_after}
 use Rattle.eh_frame.specs.Translation.{encoded, cie_head, fde_head, aligned}
 use Rattle.eh_frame.specs.Laws.{ones, HasWordOperands}
@@ -46,7 +46,7 @@ plain_cie end register input = record {
 }
 
 cie_fields : (end register : ℕ) (input : Input FrameFault) (rest : List ℕ) → register < 32 → left_of input.at ≡ 1 ∷ 0 ∷ 1 ∷ 1 ∷ register ∷ rest → cie_from end input ≡ Ok (Some (plain_cie end register (sixth input)))
-unfolding cie_from cie_from_augmentation cie_from_sizes cie_from_factors
+unfolding cie_from cie_from_augmentation cie_from_sizes cie_from_factors factors_from
 cie_fields end register input rest small is =
     let a = behind input (1 ∷ []) (0 ∷ 1 ∷ 1 ∷ register ∷ rest) is in
     let b = behind (on 1 input) (0 ∷ []) (1 ∷ 1 ∷ register ∷ rest) a in

@@ -1,29 +1,29 @@
 -- The frames of both sections as one are the frame descriptions of both.
-use Rattle.std.proofs.Common.{◌≡◌, ℕ, zero, suc, ◌+◌, ◌*◌, ◌≤◌, ◌<◌, ◌^◌, Bool, true, false, cond, List, [], ◌∷◌, ◌++◌, length, length-append, drop, map, Option, Some, None, Result, Ok, Err, inl, inr, refl, sym, ap, subst, ◌∙◌, arith}
-use Rattle.std.specs.Prelude.{All, find}
+use Rattle.std.proofs.Common.{◌≡◌, ℕ, zero, suc, ◌+◌, ◌*◌, ◌≤◌, ◌<◌, ◌^◌, Bool, true, false, cond, List, [], ◌∷◌, ◌++◌, length, length-append, drop, map, Option, Some, None, Result, Ok, Err, inl, inr, refl, sym, ap, ap₂, subst, ◌∙◌, arith}
+use Rattle.std.specs.Prelude.{All}
 use Rattle.std.specs.List.{filter_map, flat_map}
-use Rattle.std.specs.Option.{option_and_then}
 use Rattle.std.proofs.lemmas.List.{append-nil, map-append}
 use Rattle.std.proofs.lemmas.List.Elements.{filter_map-append}
+use Rattle.std.proofs.Math.Path.{fun_ext}
 use Rattle.std.proofs.Math.Seq.{drop-append_seam}
 use Rattle.prof_bytes.specs.Outcome.{viewed}
 use Rattle.prof_bytes.specs.Number.{IsBytes}
 use Rattle.address_ranges.specs.declared.ranges.AddressRange.{AddressRange}
-use Rattle.address_ranges.specs.Ranges.{holds}
 use Rattle.elf_image.specs.declared.part.Segment.{Segment}
 use Rattle.cfi_table.specs.declared.fault.FrameFault.{FrameFault}
 use Rattle.cfi_table.specs.declared.extent.Extent.{Extent}
 use Rattle.cfi_table.specs.declared.extent.ZeroLength.TheVariants.{PassedOver}
 use Rattle.cfi_table.specs.declared.fde.Fde.{Fde}
+use Rattle.cfi_table.specs.declared.rules.Rules.{Rules}
 use Rattle.cfi_table.specs.Entries.{extents_of, at_end, read_entry, entries_of}
-use Rattle.cfi_table.specs.Frames.{Frames, all_ok, counted_fde, frames_of, fde_range, rules_of, rules_at}
+use Rattle.cfi_table.specs.Frames.{Frames, FrameDescription, all_ok, counted_fde, described, descriptions, frames_of, fde_range}
 use Rattle.cfi_table.specs.private.Placed.{IsPlaced, AreRising}
 use Rattle.cfi_table.proofs.Chains.{in_order}
 use Rattle.eh_frame.specs.Entries.{EhFde, EhEntry, eh_extents, entry_of, eh_entries}
-use Rattle.eh_frame.specs.Translation.{translated_offset, block_of, translated, translation}
+use Rattle.eh_frame.specs.Descriptions.{described_entries, eh_described, eh_counted, descriptions_of_both}
+use Rattle.eh_frame.specs.Translation.{translated_offset, block_of, translated, translation, frames_with_eh}
 use Rattle.eh_frame.specs.private.Adjoining.{AreAdjoining}
-use Rattle.eh_frame.specs.Both.{FrameDescription, described, eh_described, eh_range_of, eh_counted, frames_with_eh, descriptions_of_both, frame_ranges, described_ranges, rules_by}
-use Rattle.eh_frame.specs.Laws.{RangesAreBoth, RulesAreBoth}
+use Rattle.eh_frame.specs.Laws.{FramesAreOfBoth}
 use Rattle.prof_bytes.proofs.Outcomes.{bind_ok, ok_same}
 use Rattle.cfi_table.proofs.AllOk.{ok_append, ok_parts}
 use Rattle.eh_frame.proofs.Members.{IsIn, in_back, ok_of, in_filtered}
@@ -32,7 +32,7 @@ use Rattle.eh_frame.proofs.Adjoining.{adjoin, eh_placed}
 use Rattle.eh_frame.proofs.Kept.{Entry, FdeIn, rules_joined, entry_kept, all_kept}
 use Rattle.eh_frame.proofs.Described.{Facts, FitsIn, facts_of}
 use Rattle.eh_frame.proofs.Blocks.{extents_in, Laid, blocks_laid, extents_same, WasRead, was_read, few_bytes}
-use Rattle.eh_frame.proofs.JoinedReads.{Matches, Joined, Read, all_read}
+use Rattle.eh_frame.proofs.JoinedReads.{Same, Matches, Joined, Read, all_read}
 
 -- ---- each section that was read
 
@@ -41,6 +41,7 @@ none_broken None ys e = (refl, ok_same {F = FrameFault} [] ys e)
 none_broken (Some fault) ys e = absurd cc
 
 pub record Front (section : List ℕ) (segments : List Segment) (own : Frames) : Type 0 where
+  pub same : own.section ≡ section
   pub extents : List Extent
   pub is : extents_of section ≡ (extents, None)
   pub reads : List Entry
@@ -57,6 +58,7 @@ front_of section segments own is =
     let whole = none_broken (extents_of section).1 parts.1 parts.3 in
     let all : found.0 ≡ parts.0 = parts.4 ∙ ap (λ (ys : List Entry). parts.0 ++ ys) (sym whole.1) ∙ append-nil parts.0 in
     record {
+      same = sym (ap (λ (f : Frames). f.section) (ok_same {F = FrameFault} (record { section = section; fdes = filter_map (counted_fde segments) found.0 }) own found.2));
       extents = X;
       is = ap (λ (b : Option FrameFault). (X, b)) whole.0;
       reads = parts.0;
@@ -177,7 +179,7 @@ whole_of section eh address segments own all small bytes own_read all_are = reco
       read = listed;
       facts = λ x is. (facts x is).0;
       within = λ x is. (let p = eh_placed eh x.extent (was x is).there in let order = p.order in let inside = p.within in omega arith);
-      stand = laid.stands;
+      lies = laid.lies;
     }
 
     read : Read (section ++ flat_map (block_of (length section)) all) segments (front.extents ++ flat_map (extents_in (length section)) all) (flat_map (extents_in (length section)) all) all
@@ -192,65 +194,39 @@ fdes_inside section segments own front f is =
     let from = ok_of (read_entry section front.extents) front.extents front.reads there.0 front.read there.1 in
     (entry_kept section [] front.extents [] from.0 there.0 front.within (front.within from.0 from.1) from.2).1 segments f there.2
 
--- ---- the rules at an address, and the ranges
+-- ---- the frame descriptions
 
-rules_back : (joined : List ℕ) (pc : ℕ) (fs : List Fde) (gs : List EhFde) → Matches joined fs gs
-    → option_and_then (rules_of joined pc) (find (λ fde. holds pc (fde_range fde)) fs) ≡ rules_by (map eh_described gs) pc
-rules_back joined pc [] [] same = refl
-rules_back joined pc [] (g ∷ gs) same = absurd same
-rules_back joined pc (f ∷ fs) [] same = absurd same
-rules_back joined pc (f ∷ fs) (g ∷ gs) same =
-    ap (λ (b : Bool). option_and_then (rules_of joined pc) (cond b (Some f) (find (λ fde. holds pc (fde_range fde)) fs))) (ap (λ (r : AddressRange). holds pc r) same.0.range)
-    ∙ go (holds pc (eh_range_of g)) (rules_back joined pc fs gs same.1)
-  where
-    go : (b : Bool) → option_and_then (rules_of joined pc) (find (λ fde. holds pc (fde_range fde)) fs) ≡ rules_by (map eh_described gs) pc
-        → option_and_then (rules_of joined pc) (cond b (Some f) (find (λ fde. holds pc (fde_range fde)) fs)) ≡ option_and_then (λ (d : FrameDescription). d.rules pc) (cond b (Some (eh_described g)) (find (λ d. holds pc d.range) (map eh_described gs)))
-    go true rest = same.0.rules pc
-    go false rest = rest
+same_description : (joined : List ℕ) (f : Fde) (g : EhFde) → Same joined f g → described joined f ≡ eh_described g
+same_description joined f g same = ap₂ (λ (range : AddressRange) (rules : ℕ → Option Rules). (let d : FrameDescription = record { range = range; rules = rules } in d)) same.range (fun_ext same.rules)
 
-rules_both : (section behind : List ℕ) (pc : ℕ) (own fs : List Fde) (gs : List EhFde) → ((f : Fde) → IsIn f own → FdeIn section f) → Matches (section ++ behind) fs gs
-    → option_and_then (rules_of (section ++ behind) pc) (find (λ fde. holds pc (fde_range fde)) (own ++ fs)) ≡ rules_by (map (described section) own ++ map eh_described gs) pc
-rules_both section behind pc [] fs gs inside same = rules_back (section ++ behind) pc fs gs same
-rules_both section behind pc (f ∷ own) fs gs inside same = go (holds pc (fde_range f)) (rules_both section behind pc own fs gs (λ g there. inside g (inr there)) same)
-  where
-    go : (b : Bool) → option_and_then (rules_of (section ++ behind) pc) (find (λ fde. holds pc (fde_range fde)) (own ++ fs)) ≡ rules_by (map (described section) own ++ map eh_described gs) pc
-        → option_and_then (rules_of (section ++ behind) pc) (cond b (Some f) (find (λ fde. holds pc (fde_range fde)) (own ++ fs)))
-        ≡ option_and_then (λ (d : FrameDescription). d.rules pc) (cond b (Some (described section f)) (find (λ d. holds pc d.range) (map (described section) own ++ map eh_described gs)))
-    go true rest = rules_joined section behind pc f (inside f (inl refl))
-    go false rest = rest
+back_described : (joined : List ℕ) (fs : List Fde) (gs : List EhFde) → Matches joined fs gs → map (described joined) fs ≡ map eh_described gs
+back_described joined [] [] same = refl
+back_described joined [] (g ∷ gs) same = absurd same
+back_described joined (f ∷ fs) [] same = absurd same
+back_described joined (f ∷ fs) (g ∷ gs) same = ap₂ (λ (d : FrameDescription) (ds : List FrameDescription). d ∷ ds) (same_description joined f g same.0) (back_described joined fs gs same.1)
 
-ranges_back : (joined : List ℕ) (fs : List Fde) (gs : List EhFde) → Matches joined fs gs → map fde_range fs ≡ described_ranges (map eh_described gs)
-ranges_back joined [] [] same = refl
-ranges_back joined [] (g ∷ gs) same = absurd same
-ranges_back joined (f ∷ fs) [] same = absurd same
-ranges_back joined (f ∷ fs) (g ∷ gs) same = rw (same.0.range, ranges_back joined fs gs same.1) refl
-
-ranges_both : (section joined : List ℕ) (own fs : List Fde) (gs : List EhFde) → Matches joined fs gs → map fde_range (own ++ fs) ≡ described_ranges (map (described section) own ++ map eh_described gs)
-ranges_both section joined [] fs gs same = ranges_back joined fs gs same
-ranges_both section joined (f ∷ own) fs gs same = ap (λ (rs : List AddressRange). fde_range f ∷ rs) (ranges_both section joined own fs gs same)
+own_described : (section behind : List ℕ) (own : List Fde) → ((f : Fde) → IsIn f own → FdeIn section f) → map (described (section ++ behind)) own ≡ map (described section) own
+own_described section behind [] inside = refl
+own_described section behind (f ∷ own) inside =
+    ap₂ (λ (d : FrameDescription) (ds : List FrameDescription). d ∷ ds)
+    (ap (λ (rules : ℕ → Option Rules). (let d : FrameDescription = record { range = fde_range f; rules = rules } in d)) (fun_ext (λ pc. rules_joined section behind pc f (inside f (inl refl)))))
+    (own_described section behind own (λ g there. inside g (inr there)))
 
 -- ---- both definitions, or their faults
 
-by_cases : {Y : Type 0} (view : Frames → Y) (seen : List FrameDescription → Y) (section eh : List ℕ) (address : ℕ) (segments : List Segment) → length section + 8 * length eh < 2 ^ 31 → IsBytes eh
-    → ((own : Frames) (all : List EhEntry) (back : List Fde) → Front section segments own → Matches (section ++ flat_map (block_of (length section)) all) back (filter_map (eh_counted segments) all)
-    → view (record { section = section ++ flat_map (block_of (length section)) all; fdes = own.fdes ++ back }) ≡ seen (map (described section) own.fdes ++ map eh_described (filter_map (eh_counted segments) all)))
-    → viewed view (frames_with_eh section eh address segments) ≡ viewed seen (descriptions_of_both section eh address segments)
+pub frames_are_of_both : FramesAreOfBoth
 unfolding frames_with_eh descriptions_of_both translation translated
-by_cases {Y} view seen section eh address segments small bytes same = go (frames_of section segments) refl (eh_entries eh address) refl
+frames_are_of_both section eh address segments small bytes = go (frames_of section segments) refl (eh_entries eh address) refl
   where
-    go : (r : Result Frames FrameFault) → frames_of section segments ≡ r → (q : Result (List EhEntry) FrameFault) → eh_entries eh address ≡ q → viewed view (frames_with_eh section eh address segments) ≡ viewed seen (descriptions_of_both section eh address segments)
+    go : (r : Result Frames FrameFault) → frames_of section segments ≡ r → (q : Result (List EhEntry) FrameFault) → eh_entries eh address ≡ q → viewed descriptions (frames_with_eh section eh address segments) ≡ descriptions_of_both section eh address segments
     go (Err fault) is q are = rw is refl
     go (Ok own) is (Err fault) are = rw (is, are) refl
     go (Ok own) is (Ok all) are =
         let whole = whole_of section eh address segments own all small bytes is are in
-        rw (is, are, whole.is) (ap (λ (y : Y). Ok y) (same own all whole.back (front_of section segments own is) whole.matches))
-
-pub ranges_are_both : RangesAreBoth
-ranges_are_both section eh address segments small bytes =
-    by_cases frame_ranges described_ranges section eh address segments small bytes
-    (λ own all back front matches. ranges_both section (section ++ flat_map (block_of (length section)) all) own.fdes back (filter_map (eh_counted segments) all) matches)
-
-pub rules_are_both : RulesAreBoth
-rules_are_both section eh address segments pc small bytes =
-    by_cases (λ frames. rules_at frames pc) (λ descriptions. rules_by descriptions pc) section eh address segments small bytes
-    (λ own all back front matches. rules_both section (flat_map (block_of (length section)) all) pc own.fdes back (filter_map (eh_counted segments) all) (fdes_inside section segments own front) matches)
+        let front = front_of section segments own is in
+        let behind = flat_map (block_of (length section)) all in
+        rw (is, are, whole.is)
+        (ap (λ (ds : List FrameDescription). Ok ds) (
+        map-append (described (section ++ behind)) own.fdes whole.back
+        ∙ ap₂ (λ (ds es : List FrameDescription). ds ++ es) (own_described section behind own.fdes (fdes_inside section segments own front)) (back_described (section ++ behind) whole.back (filter_map (eh_counted segments) all) whole.matches)
+        ∙ ap (λ (s : List ℕ). map (described s) own.fdes ++ described_entries segments all) (sym front.same)))

@@ -1,4 +1,4 @@
--- The entries of a translation, read where it stands after a section's bytes.
+-- The entries of a translation, read where it follows a section's bytes.
 use Rattle.std.proofs.Common.{◌≡◌, ℕ, ◌+◌, ◌*◌, ◌≤◌, ◌<◌, ◌^◌, Bool, true, false, cond, List, [], ◌∷◌, length, map, Option, Some, None, Result, Ok, Err, inl, inr, refl, sym, ap, subst, ◌∙◌, arith}
 use Rattle.std.specs.Prelude.{All, option_map}
 use Rattle.std.specs.List.{filter_map, cons_option, flat_map}
@@ -21,7 +21,7 @@ use Rattle.eh_frame.specs.declared.cie.EhCie.{EhCie}
 use Rattle.eh_frame.specs.Runs.{rules_after}
 use Rattle.eh_frame.specs.Entries.{EhFde, EhEntry, EhContent, PassedOver, Common, Description, entry_content, entry_with, entry_of}
 use Rattle.eh_frame.specs.Translation.{translated_offset, entry_body}
-use Rattle.eh_frame.specs.Both.{eh_range_of, eh_rules_with, eh_rules_from, eh_rules_of, eh_content_counted, eh_counted}
+use Rattle.eh_frame.specs.Descriptions.{eh_range_of, eh_rules_with, eh_rules_from, eh_rules_of, eh_content_counted, eh_counted}
 use Rattle.eh_frame.specs.Laws.{HasWordOperands}
 use Rattle.eh_frame.proofs.Kept.{Entry}
 use Rattle.prof_bytes.proofs.Outcomes.{ok_same}
@@ -29,7 +29,7 @@ use Rattle.cfi_table.proofs.AllOk.{cons_ok}
 use Rattle.eh_frame.proofs.Members.{IsIn, in_flat, find_one, ok_in}
 use Rattle.eh_frame.proofs.Described.{CommonRead, DescriptionRead, Facts, initial_rules, initial_words, cie_content}
 use Rattle.eh_frame.proofs.EntriesBack.{CieBack, cie_back, cie_ran, FdeBack, fde_back, fde_ran, rules_up_to}
-use Rattle.eh_frame.proofs.Blocks.{translated_extent, extents_in, Stands, block_body, block_within}
+use Rattle.eh_frame.proofs.Blocks.{translated_extent, extents_in, LiesAt, block_body, block_within}
 
 -- ---- an FDE, and what it says by both definitions
 
@@ -53,15 +53,15 @@ pub record Joined (section eh : List ℕ) (address base : ℕ) (all : List EhEnt
   pub read : all_ok (map (entry_of eh address extents) extents) ≡ Ok all
   pub facts : (x : EhEntry) → IsIn x all → Facts eh address extents x.content
   pub within : (x : EhEntry) → IsIn x all → x.extent.offset ≤ length eh
-  pub stand : (x : EhEntry) → IsIn x all → (rest : List ℕ) × Stands section base x rest
+  pub lies : (x : EhEntry) → IsIn x all → (rest : List ℕ) × LiesAt section base x rest
 
 -- a CIE
 common_back : (section eh : List ℕ) (address base : ℕ) (all : List EhEntry) (extents es : List Extent) (e : Extent) (cie : EhCie) (own : List CallFrameInstruction) (rest : List ℕ) → CommonRead eh address cie own
-    → Stands section base (record { extent = e; content = Common cie own }) rest → CieBack section (translated_extent base (record { extent = e; content = Common cie own })) cie.return_address_register own
-common_back section eh address base all extents es e cie own rest read stands =
+    → LiesAt section base (record { extent = e; content = Common cie own }) rest → CieBack section (translated_extent base (record { extent = e; content = Common cie own })) cie.return_address_register own
+common_back section eh address base all extents es e cie own rest read lies =
     cie_back section (translated_extent base (record { extent = e; content = Common cie own })) cie.return_address_register own read.register
-    (block_within section (translated_offset base e.offset) (size_of e) (entry_body base (Common cie own)) rest stands)
-    (block_body section (translated_offset base e.offset) (size_of e) (entry_body base (Common cie own)) rest stands)
+    (block_within section (translated_offset base e.offset) (size_of e) (entry_body base (Common cie own)) rest lies)
+    (block_body section (translated_offset base e.offset) (size_of e) (entry_body base (Common cie own)) rest lies)
 
 -- an entry that is read, and the FDE that counts in it, if one does
 abbrev CountsAs : (List Segment → Option Fde) → Result Entry FrameFault → Type 0
@@ -89,7 +89,7 @@ pub common_reads : (section eh : List ℕ) (address base : ℕ) (all : List EhEn
 common_reads section eh address base all extents es e cie own j is =
     let x : EhEntry = record { extent = e; content = Common cie own } in
     let read : CommonRead eh address cie own = j.facts x is in
-    let s = j.stand x is in
+    let s = j.lies x is in
     let back = common_back section eh address base all extents es e cie own s.0 read s.1 in
     let ran = cie_ran section (translated_extent base x) cie.return_address_register own read.final back (initial_words eh address cie own read.final j.bytes read.ran) (initial_rules eh address cie own read.final read.ran) in
     let P : Result Entry FrameFault → Type 0 = λ q. ReadsAs nothing q in
@@ -122,10 +122,10 @@ abbrev pub Described : List ℕ → List Extent → Extent → EhFde → Type 0
 Described section es e g = (f : Fde) × ReadsAs (only f) (read_entry section es e) × Same section f g
 
 fde_by_cie : (section eh : List ℕ) (address base : ℕ) (extents es : List Extent) (e c : Extent) (g : EhFde) (rest : List ℕ) (d : DescriptionRead eh address extents g) → base + 8 * length eh < 2 ^ 31 → IsBytes eh → d.c.offset ≤ length eh → c.offset ≡ translated_offset base d.c.offset
-    → AreRising 0 (map (λ e. e.offset) es) → IsIn c es → CieBack section c g.cie.return_address_register g.initial → Stands section base (record { extent = e; content = Description g }) rest
+    → AreRising 0 (map (λ e. e.offset) es) → IsIn c es → CieBack section c g.cie.return_address_register g.initial → LiesAt section base (record { extent = e; content = Description g }) rest
     → Described section es (translated_extent base (record { extent = e; content = Description g })) g
 unfolding cie_at
-fde_by_cie section eh address base extents es e c g rest d small bytes within moved rising there back stands = (
+fde_by_cie section eh address base extents es e c g rest d small bytes within moved rising there back lies = (
   f.fde,
   (let P : Result Entry FrameFault → Type 0 = λ q. ReadsAs (only f.fde) q in subst P (sym f.read) (checked_as section f.fde (after_cie section back.cie) d.initial d.own ran whole)),
   record {
@@ -150,8 +150,8 @@ fde_by_cie section eh address base extents es e c g rest d small bytes within mo
     f : FdeBack section es (translated_extent base (record { extent = e; content = Description g })) g.initial_location g.address_range back.cie g.instructions
     f = fde_back section es (translated_extent base (record { extent = e; content = Description g })) c (translated_offset base g.cie_offset) g.initial_location g.address_range back.cie g.instructions
         (let same = d.offset in omega arith) d.start d.range
-        (block_within section (translated_offset base e.offset) (size_of e) (entry_body base (Description g)) rest stands)
-        (block_body section (translated_offset base e.offset) (size_of e) (entry_body base (Description g)) rest stands)
+        (block_within section (translated_offset base e.offset) (size_of e) (entry_body base (Description g)) rest lies)
+        (block_body section (translated_offset base e.offset) (size_of e) (entry_body base (Description g)) rest lies)
         found back.is
 
     whole : continued None section f.fde d.initial ≡ Ok d.own
@@ -179,8 +179,8 @@ description_reads section eh address base all extents es e g j is =
     let y : EhEntry = record { extent = d.c; content = Common g.cie g.initial } in
     let in_all : IsIn y all = common_of section eh address base all extents es g j d in
     let read : CommonRead eh address g.cie g.initial = j.facts y in_all in
-    let t = j.stand y in_all in
-    let s = j.stand x is in
+    let t = j.lies y in_all in
+    let s = j.lies x is in
     fde_by_cie section eh address base extents es e (translated_extent base y) g s.0 d j.small j.bytes (j.within y in_all) refl j.rising
     (j.there (translated_extent base y) (in_flat (extents_in base) y (translated_extent base y) all in_all (inl refl)))
     (common_back section eh address base all extents es d.c g.cie g.initial t.0 read t.1) s.1

@@ -1,4 +1,4 @@
--- The entries of a section are as they were where bytes stand after it.
+-- The entries of a section are the same where bytes follow it.
 use Rattle.std.proofs.Common.{◌≡◌, ℕ, ◌+◌, ◌-◌, ◌≤◌, Bool, true, false, cond, List, [], ◌∷◌, ◌++◌, length, map, Option, Some, None, Result, Ok, Err, inl, inr, refl, sym, ap, subst, ◌∙◌, arith}
 use Rattle.std.specs.Prelude.{ℤ, ◌==◌, ◌&&◌, ◌||◌, IfOk, IfSome, nat_lt}
 use Rattle.std.proofs.lemmas.List.{take-append-le}
@@ -12,9 +12,10 @@ use Rattle.cfi_table.specs.declared.cie.Cie.{Cie}
 use Rattle.cfi_table.specs.declared.fde.Fde.{Fde}
 use Rattle.elf_image.specs.declared.part.Segment.{Segment}
 use Rattle.elf_image.specs.Image.{counts}
-use Rattle.cfi_table.specs.Instructions.{Reading, low_32_bits, word_of_signed}
+use Rattle.cfi_table.specs.declared.instruction.AlignmentFactors.{AlignmentFactors}
+use Rattle.cfi_table.specs.Instructions.{Reading}
 use Rattle.cfi_table.specs.Rules.{FrameState}
-use Rattle.cfi_table.specs.Entries.{body_of, register_from, cie_with, cie_from_factors, cie_from_segment, cie_from_sizes, cie_from_augmentation, cie_from}
+use Rattle.cfi_table.specs.Entries.{body_of, factors_from, cie_with, cie_from_factors, cie_from_segment, cie_from_sizes, cie_from_augmentation, cie_from}
 use Rattle.cfi_table.specs.Entries.{after_cie, continued, after_fde, is_cie, cie_at, cie_of, checked_cie, checked_fde, fde_fields_from, fde_with, fde_of, fde_by, read_entry}
 use Rattle.cfi_table.specs.Frames.{all_ok, counted_fde, rules_with, rules_of}
 use Rattle.prof_bytes.proofs.Outcomes.{bind_ok, ok_same}
@@ -34,12 +35,12 @@ ends_either : (end : ℕ) (b : Bool) (x y : Result (Option Cie) FrameFault) → 
 ends_either end true x y p q = p
 ends_either end false x y p q = q
 
-with_ends : (end code : ℕ) (factor : ℤ) (register : ℕ) (input : Input FrameFault) → EndsAt end (Ok (cie_with end code factor register input))
-with_ends end code factor register input = go (nat_lt register 32)
+with_ends : (end : ℕ) (factors : AlignmentFactors) (register : ℕ) (input : Input FrameFault) → EndsAt end (Ok (cie_with end factors register input))
+with_ends end factors register input = go (nat_lt register 32)
   where
     cie : Cie
     cie = record {
-      factors = record { code_alignment_factor = low_32_bits code; data_alignment_factor = word_of_signed factor };
+      factors = factors;
       return_address_register = register;
       initial_instructions = record { offset = end - length (left_of input.at); end = end };
     }
@@ -50,8 +51,7 @@ with_ends end code factor register input = go (nat_lt register 32)
 
 factors_ends : (end version : ℕ) (input : Input FrameFault) → EndsAt end (cie_from_factors end version input)
 unfolding cie_from_factors
-factors_ends end version input =
-    ends_bind end (uleb_from input) _ (λ c. ends_bind end (sleb_from c.1) _ (λ d. ends_bind end (register_from version d.1) _ (λ r. with_ends end c.0 d.0 r.0 r.1)))
+factors_ends end version input = ends_bind end (factors_from version input) _ (λ r. with_ends end r.0.0 r.0.1 r.1)
 
 segment_ends : (end version : ℕ) (input : Input FrameFault) → EndsAt end (cie_from_segment end version input)
 unfolding cie_from_segment

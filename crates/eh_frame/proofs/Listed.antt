@@ -33,7 +33,7 @@ use Rattle.eh_frame.specs.Addresses.{address_from}
 use Rattle.eh_frame.specs.Runs.{eh_instruction_from, eh_step_by, before_all, listed_by, listed_instructions, addresses_of, cie_instructions, fde_instructions}
 use Rattle.eh_frame.specs.declared.cie.EhCie.{EhCie}
 use Rattle.eh_frame.specs.Translation.{encoded}
-use Rattle.eh_frame.specs.private.Checked.{listed_forms, put_behind}
+use Rattle.eh_frame.specs.private.Checked.{listed_forms, written_after}
 use Rattle.eh_frame.proofs.Outcomes.{gives_viewed}
 
 -- ---- an instruction takes bytes
@@ -152,18 +152,18 @@ fails_here x a f first input s0 s out0 out fault some is kept =
     sym kept.so_far ∙ ap (λ r. viewed (after_done kept.done) r) (ap (λ (n : ℕ). listed_by x n a f input s) one ∙ list_fault x (kept.count - 1) a f input s fault some is)
 
 pub fails_by : {S : Type 0} (x : CallFrameInstruction → S → Option S) (a : AddressEncoding) (f : AlignmentFactors) (first input : Input FrameFault) (s0 s : S) (out0 out : List ℕ) (fail : Fail FrameFault) → 0 < length (left_of input.at) → FailsBy fail (eh_step_by x a f input s)
-    → KeepsList x a f first input s0 s out0 out → FailsBy fail (viewed (put_behind out0) (listed_by x (length (left_of first.at)) a f first s0))
+    → KeepsList x a f first input s0 s out0 out → FailsBy fail (viewed (written_after out0) (listed_by x (length (left_of first.at)) a f first s0))
 fails_by x a f first input s0 s out0 out (fails.Memory memory) some is kept = tt
-fails_by x a f first input s0 s out0 out (fails.Fault fault) some is kept = ap (λ r. viewed (put_behind out0) r) (fails_here x a f first input s0 s out0 out fault some is kept)
+fails_by x a f first input s0 s out0 out (fails.Fault fault) some is kept = ap (λ r. viewed (written_after out0) r) (fails_here x a f first input s0 s out0 out fault some is kept)
 
 pub list_done : {S : Type 0} (x : CallFrameInstruction → S → Option S) (a : AddressEncoding) (f : AlignmentFactors) (first input : Input FrameFault) (s0 s : S) (out0 out : List ℕ) → length (left_of input.at) ≡ 0
     → (kept : KeepsList x a f first input s0 s out0 out) → listed_by x (length (left_of first.at)) a f first s0 ≡ Ok (kept.done ++ [], s)
 list_done x a f first input s0 s out0 out none kept = sym kept.so_far ∙ ap (λ r. viewed (after_done kept.done) r) (list_end x kept.count a f input s none)
 
 pub ends_here : {S : Type 0} (x : CallFrameInstruction → S → Option S) (a : AddressEncoding) (f : AlignmentFactors) (first input : Input FrameFault) (s0 s : S) (out0 out : List ℕ) → length (left_of input.at) ≡ 0
-    → KeepsList x a f first input s0 s out0 out → viewed (put_behind out0) (listed_by x (length (left_of first.at)) a f first s0) ≡ Ok (out, s)
+    → KeepsList x a f first input s0 s out0 out → viewed (written_after out0) (listed_by x (length (left_of first.at)) a f first s0) ≡ Ok (out, s)
 ends_here x a f first input s0 s out0 out none kept =
-    ap (λ r. viewed (put_behind out0) r) (list_done x a f first input s0 s out0 out none kept)
+    ap (λ r. viewed (written_after out0) r) (list_done x a f first input s0 s out0 out none kept)
     ∙ ap (λ (is : List CallFrameInstruction). Ok (out0 ++ flat_map encoded is, s)) (append-nil kept.done)
     ∙ ap (λ (bs : List ℕ). Ok (bs, s)) (sym kept.put)
 
@@ -217,17 +217,17 @@ listed_short {S} x (suc m) a f input s = go (length (left_of input.at) == 0) ref
     go true left r is short = omega arith
     go false left r is short = steps r is (left_some _ left) short
 
-pub put_short : {S : Type 0} (x : CallFrameInstruction → S → Option S) (a : AddressEncoding) (f : AlignmentFactors) (input : Input FrameFault) (s t : S) (out0 out : List ℕ) → viewed (put_behind out0) (listed_by x (length (left_of input.at)) a f input s) ≡ Ok (out, t)
+pub put_short : {S : Type 0} (x : CallFrameInstruction → S → Option S) (a : AddressEncoding) (f : AlignmentFactors) (input : Input FrameFault) (s t : S) (out0 out : List ℕ) → viewed (written_after out0) (listed_by x (length (left_of input.at)) a f input s) ≡ Ok (out, t)
     → length out ≤ length out0 + 7 * length (left_of input.at)
 put_short {S} x a f input s t out0 out e = from (listed_by x (length (left_of input.at)) a f input s) (listed_short x (length (left_of input.at)) a f input s) e
   where
     same : (p q : List ℕ × S) → (let r : Result (List ℕ × S) FrameFault = Ok p in r) ≡ Ok q → p.0 ≡ q.0
     same p q e = cc
 
-    from : (r : Result (List CallFrameInstruction × S) FrameFault) → Short input r → viewed (put_behind out0) r ≡ Ok (out, t) → length out ≤ length out0 + 7 * length (left_of input.at)
+    from : (r : Result (List CallFrameInstruction × S) FrameFault) → Short input r → viewed (written_after out0) r ≡ Ok (out, t) → length out ≤ length out0 + 7 * length (left_of input.at)
     from (Err fault) short e = absurd cc
     from (Ok r) short e =
-        let is : length (out0 ++ flat_map encoded r.0) ≡ length out = ap (λ (bs : List ℕ). length bs) (same (put_behind out0 r) (out, t) e) in
+        let is : length (out0 ++ flat_map encoded r.0) ≡ length out = ap (λ (bs : List ℕ). length bs) (same (written_after out0 r) (out, t) e) in
         let both = length-append out0 (flat_map encoded r.0) in
         omega arith
 
@@ -282,50 +282,50 @@ list_as_forms (suc m) initial a f input s = go (length (left_of input.at) == 0) 
 
 -- what the checker put is what the rules list
 pub put_as_forms : (initial : List Rule) (a : AddressEncoding) (f : AlignmentFactors) (input : Input FrameFault) (s : FrameState) (out : List ℕ) → viewed (λ (r : List CallFrameInstruction × FrameState). out ++ flat_map encoded r.0) (listed_instructions initial a f input s)
-    ≡ viewed (λ (p : List ℕ × CfaForms). p.0) (viewed (put_behind out) (listed_forms a f input (forms_of s)))
+    ≡ viewed (λ (p : List ℕ × CfaForms). p.0) (viewed (written_after out) (listed_forms a f input (forms_of s)))
 put_as_forms initial a f input s out =
     seen (listed_instructions initial a f input s)
-    ∙ ap (λ (r : Result (List CallFrameInstruction × CfaForms) FrameFault). viewed (λ (p : List ℕ × CfaForms). p.0) (viewed (put_behind out) r)) (list_as_forms (length (left_of input.at)) initial a f input s)
+    ∙ ap (λ (r : Result (List CallFrameInstruction × CfaForms) FrameFault). viewed (λ (p : List ℕ × CfaForms). p.0) (viewed (written_after out) r)) (list_as_forms (length (left_of input.at)) initial a f input s)
   where
-    seen : (r : Result (List CallFrameInstruction × FrameState) FrameFault) → viewed (λ (r : List CallFrameInstruction × FrameState). out ++ flat_map encoded r.0) r ≡ viewed (λ (p : List ℕ × CfaForms). p.0) (viewed (put_behind out) (viewed forms_list r))
+    seen : (r : Result (List CallFrameInstruction × FrameState) FrameFault) → viewed (λ (r : List CallFrameInstruction × FrameState). out ++ flat_map encoded r.0) r ≡ viewed (λ (p : List ℕ × CfaForms). p.0) (viewed (written_after out) (viewed forms_list r))
     seen (Ok r) = refl
     seen (Err fault) = refl
 
 -- where the checker ended well, so do the rules, with the same forms
-pub ends_as_forms : (initial : List Rule) (a : AddressEncoding) (f : AlignmentFactors) (input : Input FrameFault) (s : FrameState) (out : List ℕ) (p : List ℕ × CfaForms) → viewed (put_behind out) (listed_forms a f input (forms_of s)) ≡ Ok p
+pub ends_as_forms : (initial : List Rule) (a : AddressEncoding) (f : AlignmentFactors) (input : Input FrameFault) (s : FrameState) (out : List ℕ) (p : List ℕ × CfaForms) → viewed (written_after out) (listed_forms a f input (forms_of s)) ≡ Ok p
     → (r : List CallFrameInstruction × FrameState) × (listed_instructions initial a f input s ≡ Ok r) × (p.1 ≡ forms_of r.1)
-ends_as_forms initial a f input s out p e = from (listed_instructions initial a f input s) refl (ap (λ (r : Result (List CallFrameInstruction × CfaForms) FrameFault). viewed (put_behind out) r) (list_as_forms (length (left_of input.at)) initial a f input s) ∙ e)
+ends_as_forms initial a f input s out p e = from (listed_instructions initial a f input s) refl (ap (λ (r : Result (List CallFrameInstruction × CfaForms) FrameFault). viewed (written_after out) r) (list_as_forms (length (left_of input.at)) initial a f input s) ∙ e)
   where
     same : (p q : List ℕ × CfaForms) → (let r : Result (List ℕ × CfaForms) FrameFault = Ok p in r) ≡ Ok q → q.1 ≡ p.1
     same p q e = cc
 
-    from : (r : Result (List CallFrameInstruction × FrameState) FrameFault) → listed_instructions initial a f input s ≡ r → viewed (put_behind out) (viewed forms_list r) ≡ Ok p → (r : List CallFrameInstruction × FrameState) × (listed_instructions initial a f input s ≡ Ok r) × (p.1 ≡ forms_of r.1)
+    from : (r : Result (List CallFrameInstruction × FrameState) FrameFault) → listed_instructions initial a f input s ≡ r → viewed (written_after out) (viewed forms_list r) ≡ Ok p → (r : List CallFrameInstruction × FrameState) × (listed_instructions initial a f input s ≡ Ok r) × (p.1 ≡ forms_of r.1)
     from (Err fault) is e = absurd cc
-    from (Ok r) is e = (r, is, same (put_behind out (forms_list r)) p e)
+    from (Ok r) is e = (r, is, same (written_after out (forms_list r)) p e)
 
 -- ---- what the checker puts, as the definitions have it
 
-put_seen : (initial : List Rule) (a : AddressEncoding) (f : AlignmentFactors) (input : Input FrameFault) (s : FrameState) (out after : List ℕ) (k : CfaForms) (r : Result (Unit {0}) (Fail FrameFault)) → Gives (λ done. (after, k)) r (viewed (put_behind out) (listed_forms a f input (forms_of s)))
+put_seen : (initial : List Rule) (a : AddressEncoding) (f : AlignmentFactors) (input : Input FrameFault) (s : FrameState) (out after : List ℕ) (k : CfaForms) (r : Result (Unit {0}) (Fail FrameFault)) → Gives (λ done. (after, k)) r (viewed (written_after out) (listed_forms a f input (forms_of s)))
     → Gives (λ done. after) r (viewed (λ (r : List CallFrameInstruction × FrameState). out ++ flat_map encoded r.0) (listed_instructions initial a f input s))
 put_seen initial a f input s out after k r e =
     let P : Result (List ℕ) FrameFault → Type 0 = λ w. Gives (λ (done : Unit {0}). after) r w in
     subst P (sym (put_as_forms initial a f input s out))
-    (gives_viewed (λ (done : Unit {0}). (after, k)) (λ (p : List ℕ × CfaForms). p.0) r (viewed (put_behind out) (listed_forms a f input (forms_of s))) e)
+    (gives_viewed (λ (done : Unit {0}). (after, k)) (λ (p : List ℕ × CfaForms). p.0) r (viewed (written_after out) (listed_forms a f input (forms_of s))) e)
 
 pub own_gives : (address : ℕ) (cie : EhCie) (start : ℕ) (input : Input FrameFault) (initial : FrameState) (k0 k : CfaForms) (out after : List ℕ) (r : Result (Unit {0}) (Fail FrameFault)) → k0 ≡ forms_of initial
-    → Gives (λ done. (after, k)) r (viewed (put_behind out) (listed_forms (addresses_of address cie) cie.factors input k0))
+    → Gives (λ done. (after, k)) r (viewed (written_after out) (listed_forms (addresses_of address cie) cie.factors input k0))
     → Gives (λ done. after) r (viewed (λ (r : List CallFrameInstruction × FrameState). out ++ flat_map encoded r.0) (fde_instructions address cie start input initial))
 own_gives address cie start input initial k0 k out after r same e =
-    let P : CfaForms → Type 0 = λ x. Gives (λ (done : Unit {0}). (after, k)) r (viewed (put_behind out) (listed_forms (addresses_of address cie) cie.factors input x)) in
+    let P : CfaForms → Type 0 = λ x. Gives (λ (done : Unit {0}). (after, k)) r (viewed (written_after out) (listed_forms (addresses_of address cie) cie.factors input x)) in
     put_seen initial.regs (addresses_of address cie) cie.factors input (record initial { location = start }) out after k r (subst P same e)
 
 pub cie_gives : (section : List ℕ) (address : ℕ) (cie : EhCie) (out after : List ℕ) (k : CfaForms) (r : Result (Unit {0}) (Fail FrameFault))
-    → Gives (λ done. (after, k)) r (viewed (put_behind out) (listed_forms (addresses_of address cie) cie.factors (instructions_of section cie.initial_instructions) no_forms))
+    → Gives (λ done. (after, k)) r (viewed (written_after out) (listed_forms (addresses_of address cie) cie.factors (instructions_of section cie.initial_instructions) no_forms))
     → Gives (λ done. after) r (viewed (λ (r : List CallFrameInstruction × FrameState). out ++ flat_map encoded r.0) (cie_instructions section address cie))
 unfolding cie_instructions
 cie_gives section address cie out after k r e = put_seen all_same_value (addresses_of address cie) cie.factors (instructions_of section cie.initial_instructions) no_rules out after k r e
 
-pub cie_ends : (section : List ℕ) (address : ℕ) (cie : EhCie) (out : List ℕ) (p : List ℕ × CfaForms) → viewed (put_behind out) (listed_forms (addresses_of address cie) cie.factors (instructions_of section cie.initial_instructions) no_forms) ≡ Ok p
+pub cie_ends : (section : List ℕ) (address : ℕ) (cie : EhCie) (out : List ℕ) (p : List ℕ × CfaForms) → viewed (written_after out) (listed_forms (addresses_of address cie) cie.factors (instructions_of section cie.initial_instructions) no_forms) ≡ Ok p
     → (r : List CallFrameInstruction × FrameState) × (cie_instructions section address cie ≡ Ok r) × (p.1 ≡ forms_of r.1)
 unfolding cie_instructions
 cie_ends section address cie out p e = ends_as_forms all_same_value (addresses_of address cie) cie.factors (instructions_of section cie.initial_instructions) no_rules out p e

@@ -13,7 +13,7 @@ use Rattle.cfi_table.specs.declared.instruction.CallFrameInstruction.{CallFrameI
 use Rattle.cfi_table.specs.declared.instruction.CallFrameInstruction.TheVariants as instructions
 use Rattle.cfi_table.specs.Instructions.{Reading, low_32_bits, scaled, offset_from, factored_from, block_from, cfa_from, rule_from, register_rule_from, extended_from, instruction_after_opcode, instruction_from}
 use Rattle.eh_frame.specs.Translation.{register_byte, offset_bytes, encoded}
-use Rattle.eh_frame.specs.Laws.{ones, HasWordOperands, kept_register, ReadsBack, InstructionsReadBack}
+use Rattle.eh_frame.specs.Laws.{ones, HasWordOperands, with_register_bytes, ReadsBack, InstructionsReadBack}
 
 -- ---- an input further on
 
@@ -132,7 +132,7 @@ with_two op register n make reader input tail rest is then finds =
     let found = finds first.0 first.2 in
     (found.0, rw (byte_read input op (register_byte register ∷ tail) is, then, first.1, found.1) refl, found.2)
 
-pub instruction_read : (i : CallFrameInstruction) (input : Input FrameFault) (rest : List ℕ) → HasWordOperands i → left_of input.at ≡ encoded i ++ rest → ReadsBack (kept_register i) input rest
+pub instruction_read : (i : CallFrameInstruction) (input : Input FrameFault) (rest : List ℕ) → HasWordOperands i → left_of input.at ≡ encoded i ++ rest → ReadsBack (with_register_bytes i) input rest
 unfolding instruction_after_opcode extended_from cfa_from register_rule_from rule_from
 instruction_read instructions.Nop input rest words is = alone 0 instructions.Nop input rest is refl
 instruction_read (instructions.SetLoc address) input rest words is = with_one 1 address instructions.SetLoc (λ i. number_from 4 i) input _ rest is refl (word_found (second input) address rest words)

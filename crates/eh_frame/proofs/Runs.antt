@@ -24,7 +24,7 @@ use Rattle.cfi_table.proofs.Runs.{run_end}
 use Rattle.eh_frame.specs.declared.address.AddressEncoding.{AddressEncoding}
 use Rattle.eh_frame.specs.Runs.{eh_step_by, before_all, listed_by, rules_after}
 use Rattle.eh_frame.specs.Translation.{register_byte, encoded}
-use Rattle.eh_frame.specs.Laws.{ones, HasWordOperands, kept_register, ReadsBack, RunsReadBack}
+use Rattle.eh_frame.specs.Laws.{ones, HasWordOperands, with_register_bytes, ReadsBack, RunsReadBack}
 use Rattle.eh_frame.proofs.Listed.{few, step_ran}
 use Rattle.eh_frame.proofs.ReadBack.{instruction_read}
 
@@ -62,7 +62,7 @@ alike_source r source s =
     alike (λ (n : ℕ). with_source n (register_byte source) s) r (λ e. rw (still_high r e, e) refl)
     ∙ alike (λ (n : ℕ). with_source r n s) source (λ e. rw (still_high source e, e) refl)
 
-pub kept_alike : (initial : List Rule) (i : CallFrameInstruction) (s : FrameState) → execute initial (kept_register i) s ≡ execute initial i s
+pub kept_alike : (initial : List Rule) (i : CallFrameInstruction) (s : FrameState) → execute initial (with_register_bytes i) s ≡ execute initial i s
 kept_alike initial instructions.Nop s = refl
 kept_alike initial (instructions.SetLoc address) s = refl
 kept_alike initial (instructions.AdvanceLoc delta) s = refl
@@ -89,7 +89,7 @@ Steps initial input s t rest = (next : Input FrameFault) × (step_by (execute in
 
 steps : (initial : List Rule) (i : CallFrameInstruction) (rest : List ℕ) (input : Input FrameFault) (s t : FrameState) → HasWordOperands i → left_of input.at ≡ encoded i ++ rest → execute initial i s ≡ Some t → Steps initial input s t rest
 steps initial i rest input s t words is done =
-    let read : ReadsBack (kept_register i) (marked input) rest = instruction_read i (marked input) rest words is in
+    let read : ReadsBack (with_register_bytes i) (marked input) rest = instruction_read i (marked input) rest words is in
     (read.0, rw (read.1, kept_alike initial i s, done) refl, read.2)
 
 run_more : (limit : Option ℕ) (initial : List Rule) (room : ℕ) (input next : Input FrameFault) (s t : FrameState) → 0 < length (left_of input.at) → step_by (execute initial) ones input s ≡ Ok (t, next) → is_past limit t ≡ false

@@ -21,11 +21,12 @@ has_four_bytes format = format == DW_EH_PE_absptr || format == DW_EH_PE_udata4 |
 abbrev pub format_of : ℕ → ℕ
 format_of encoding = encoding % 16
 
+-- the application of an encoding
 abbrev pub application_bits : ℕ → ℕ
 application_bits encoding = encoding - encoding % 16
 
--- the encodings by which addresses are read: such a format, and an application, which is the address itself or counts
--- from where it stands
+-- the encodings by which addresses are read: such a format, and an application: the value is the address itself, or
+-- counts from its own address
 abbrev pub application_of : ℕ → Option Application
 application_of encoding =
     if has_four_bytes (format_of encoding) then
@@ -34,12 +35,13 @@ application_of encoding =
     else None)
     else None
 
--- an address of that value, which stands at an offset in the section
+-- the address that a value at an offset in the section gives
 abbrev pub applied : AddressEncoding → Application → ℕ → ℕ → ℕ
 applied addresses applications.Absolute offset value = value
 applied addresses applications.PcRelative offset value =
     ((addresses.section_address + offset) % 2 ^ 32 + value) % 2 ^ 32
 
+-- an encoded address; what it counts from is the address of its first byte
 unfoldable pub address_from : AddressEncoding → Input FrameFault → Reading ℕ
 address_from addresses input = do
   (value, next) ← number_from 4 input

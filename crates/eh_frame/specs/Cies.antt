@@ -8,8 +8,8 @@ use Rattle.prof_bytes.specs.Outcome.{◌>>=◌}
 use Rattle.prof_bytes.specs.Fields.{Input, number_from, uleb_from, sleb_from, text_from, bytes_from}
 use Rattle.cfi_table.specs.declared.fault.FrameFault.{FrameFault}
 use Rattle.cfi_table.specs.declared.instruction.AlignmentFactors.{AlignmentFactors}
-use Rattle.cfi_table.specs.Instructions.{Reading, low_32_bits, word_of_signed}
-use Rattle.cfi_table.specs.Entries.{register_from}
+use Rattle.cfi_table.specs.Instructions.{Reading}
+use Rattle.cfi_table.specs.Entries.{last_bytes, factors_from}
 use Rattle.eh_frame.specs.declared.constants.TheConstants.{LETTER_DATA, LETTER_ADDRESSES, LETTER_LANGUAGE_DATA}
 use Rattle.eh_frame.specs.declared.constants.TheConstants.{LETTER_PERSONALITY, LETTER_SIGNAL_FRAME}
 use Rattle.eh_frame.specs.declared.address.Application.{Application}
@@ -31,12 +31,12 @@ is_read_augmentation [] = true
 is_read_augmentation (first ∷ letters) = first == LETTER_DATA && list_all is_letter letters
 
 -- the application, where the pointer's format is supported
-abbrev pub kept : Application → Bool → Option Application
-kept application true = Some application
-kept application false = None
+abbrev pub if_supported : Application → Bool → Option Application
+if_supported application true = Some application
+if_supported application false = None
 
--- what stands for a letter, where others follow it: the application of addresses after it. Nothing where the CIE is
--- passed over. Of several encodings of addresses the last one counts
+-- the data of a letter, where others follow it: the application of addresses after it. Nothing where the CIE is
+-- passed over. The last of several encodings of addresses counts
 unfoldable pub letter_from : ℕ → List ℕ → Application → Input FrameFault → Reading (Option Application)
 letter_from letter others application input =
     if letter == LETTER_ADDRESSES then (do
@@ -48,7 +48,7 @@ letter_from letter others application input =
     else if letter == LETTER_PERSONALITY then (do
       (encoding, input) ← number_from 1 input
       (known, input) ← pointer_from (format_of encoding) input
-      Ok (kept application known, input))
+      Ok (if_supported application known, input))
     else Ok (Some application, input)
 
 -- what comes next, unless the CIE is passed over
@@ -73,14 +73,14 @@ eh_cie_with end factors register has_data input application = record {
   return_address_register = register;
   application = application;
   has_data = has_data;
-  initial_instructions = record { offset = end - length (left_of input.at); end = end };
+  initial_instructions = last_bytes end (length (left_of input.at));
 }
 
 -- the bytes up to where another input begins
 abbrev pub until : Input FrameFault → Input FrameFault → Input FrameFault
 until behind input = record input { at = up_to behind.at.offset input.at }
 
--- the augmentation data have a length, and the letters say what stands in them
+-- the augmentation data have a length, and the letters say what they are
 unfoldable pub cie_from_letters : ℕ → AlignmentFactors → ℕ → List ℕ → Input FrameFault
     → Result (Option EhCie) FrameFault
 cie_from_letters end factors register letters input = do
@@ -89,26 +89,19 @@ cie_from_letters end factors register letters input = do
   application ← application_from letters applications.Absolute (until behind within)
   Ok (option_map (eh_cie_with end factors register true behind) application)
 
+-- the fields from the augmentation data on, if there are any
 abbrev pub cie_from_data : ℕ → AlignmentFactors → ℕ → List ℕ → Input FrameFault → Result (Option EhCie) FrameFault
 cie_from_data end factors register [] input =
     Ok (Some (eh_cie_with end factors register false input applications.Absolute))
 cie_from_data end factors register (first ∷ letters) input = cie_from_letters end factors register letters input
 
-abbrev pub factors_of : ℕ → ℤ → AlignmentFactors
-factors_of code_factor data_factor = record {
-  code_alignment_factor = low_32_bits code_factor;
-  data_alignment_factor = word_of_signed data_factor;
-}
-
 -- no return address register above 31
 unfoldable pub eh_cie_from_factors : ℕ → ℕ → List ℕ → Input FrameFault → Result (Option EhCie) FrameFault
 eh_cie_from_factors end version augmentation input = do
-  (code_factor, input) ← uleb_from input
-  (data_factor, input) ← sleb_from input
-  (register, input) ← register_from version input
-  if nat_lt register 32 then cie_from_data end (factors_of code_factor data_factor) register augmentation input
-      else Err input.missing
+  (read, input) ← factors_from version input
+  if nat_lt read.1 32 then cie_from_data end read.0 read.1 augmentation input else Err input.missing
 
+-- the fields from the augmentation on
 unfoldable pub eh_cie_from_augmentation : ℕ → ℕ → Input FrameFault → Result (Option EhCie) FrameFault
 eh_cie_from_augmentation end version input = do
   (augmentation, input) ← text_from input

@@ -24,7 +24,7 @@ eh_extents section = extents_by EndsList section
 
 -- ---- what an entry is, or its fault
 
--- an FDE: its CIE, with the offset at which it stands and its instructions; the addresses from initial_location on, as
+-- an FDE: its CIE, with its offset and its instructions; the addresses from initial_location on, as
 -- many as address_range says; and its own instructions
 pub record EhFde : Type 0 where
   pub cie : EhCie
@@ -34,6 +34,7 @@ pub record EhFde : Type 0 where
   pub address_range : ℕ
   pub instructions : List CallFrameInstruction
 
+-- what an entry is: passed over with its FDEs, a CIE with its instructions, or an FDE
 pub data EhContent : Type 0 where
   PassedOver : EhContent
   Common : EhCie → List CallFrameInstruction → EhContent
@@ -44,6 +45,7 @@ pub record EhEntry : Type 0 where
   pub extent : Extent
   pub content : EhContent
 
+-- a word that was read is the id of a CIE
 abbrev pub is_eh_id : Reading ℕ → Bool
 is_eh_id (Err fault) = false
 is_eh_id (Ok found) = found.0 == EH_CIE_ID
@@ -62,11 +64,12 @@ eh_cie_of section e = do
 abbrev pub is_cie_before : List ℕ → Extent → Extent → Bool
 is_cie_before section e c = nat_lt c.offset e.offset && is_eh_cie section c
 
--- the CIE before an entry at that distance from the entry's word, which stands after its length
+-- the CIE before an entry at that distance from the entry's word, which follows its length
 unfoldable pub cie_back : List ℕ → List Extent → Extent → ℕ → Option Extent
 cie_back section extents e distance =
     find (λ c. c.offset + distance == e.offset + 4 && is_cie_before section e c) extents
 
+-- a CIE, whose instructions are carried out
 abbrev pub content_of_cie : List ℕ → ℕ → Option EhCie → Result EhContent FrameFault
 content_of_cie section address None = Ok PassedOver
 content_of_cie section address (Some cie) = do
@@ -89,6 +92,7 @@ eh_fields_from address cie input = do
   input ← past_data cie.has_data input
   Ok ((initial_location, address_range), input)
 
+-- an FDE of its parts
 abbrev pub eh_fde_with : EhCie → ℕ → List CallFrameInstruction → ℕ × ℕ → List CallFrameInstruction → EhFde
 eh_fde_with cie offset initial fields instructions = record {
   cie = cie;
@@ -124,9 +128,11 @@ entry_content section address extents e = do
     content_of_cie section address cie)
       else content_by section address e input (cie_back section extents e id)
 
+-- an entry of its parts
 abbrev pub entry_with : Extent → EhContent → EhEntry
 entry_with e content = record { extent = e; content = content }
 
+-- an entry that is read, or its fault
 abbrev pub entry_of : List ℕ → ℕ → List Extent → Extent → Result EhEntry FrameFault
 entry_of section address extents e = do
   content ← entry_content section address extents e

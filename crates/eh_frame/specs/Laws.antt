@@ -13,11 +13,11 @@ use Rattle.cfi_table.specs.declared.instruction.CallFrameInstruction.TheVariants
 use Rattle.cfi_table.specs.declared.rules.Rule.{Rule}
 use Rattle.cfi_table.specs.Instructions.{instruction_from}
 use Rattle.cfi_table.specs.Rules.{FrameState, execute, run_all}
-use Rattle.cfi_table.specs.Frames.{rules_at}
+use Rattle.cfi_table.specs.Frames.{descriptions}
 use Rattle.eh_frame.specs.declared.address.AddressEncoding.{AddressEncoding}
 use Rattle.eh_frame.specs.Runs.{listed_by, listed_instructions, rules_after}
-use Rattle.eh_frame.specs.Translation.{register_byte, encoded}
-use Rattle.eh_frame.specs.Both.{frames_with_eh, descriptions_of_both, frame_ranges, described_ranges, rules_by}
+use Rattle.eh_frame.specs.Descriptions.{descriptions_of_both}
+use Rattle.eh_frame.specs.Translation.{register_byte, encoded, frames_with_eh}
 
 -- the factors of the translation
 abbrev pub ones : AlignmentFactors
@@ -43,28 +43,28 @@ HasWordOperands (instructions.Restore register) = Unit {0}
 HasWordOperands instructions.RememberState = Unit {0}
 HasWordOperands instructions.RestoreState = Unit {0}
 
--- the same with each register from 32 on as 32
-abbrev pub kept_register : CallFrameInstruction → CallFrameInstruction
-kept_register instructions.Nop = instructions.Nop
-kept_register (instructions.SetLoc address) = instructions.SetLoc address
-kept_register (instructions.AdvanceLoc delta) = instructions.AdvanceLoc delta
-kept_register (instructions.DefCfa register offset) = instructions.DefCfa (register_byte register) offset
-kept_register (instructions.DefCfaRegister register) = instructions.DefCfaRegister (register_byte register)
-kept_register (instructions.DefCfaOffset offset) = instructions.DefCfaOffset offset
-kept_register instructions.DefCfaExpression = instructions.DefCfaExpression
-kept_register (instructions.Undefined register) = instructions.Undefined (register_byte register)
-kept_register (instructions.SameValue register) = instructions.SameValue (register_byte register)
-kept_register (instructions.Offset register offset) = instructions.Offset (register_byte register) offset
-kept_register (instructions.ValOffset register offset) = instructions.ValOffset (register_byte register) offset
-kept_register (instructions.Register register source) =
+-- the same with each register as `register_byte` writes it: those from 32 on as 32
+abbrev pub with_register_bytes : CallFrameInstruction → CallFrameInstruction
+with_register_bytes instructions.Nop = instructions.Nop
+with_register_bytes (instructions.SetLoc address) = instructions.SetLoc address
+with_register_bytes (instructions.AdvanceLoc delta) = instructions.AdvanceLoc delta
+with_register_bytes (instructions.DefCfa register offset) = instructions.DefCfa (register_byte register) offset
+with_register_bytes (instructions.DefCfaRegister register) = instructions.DefCfaRegister (register_byte register)
+with_register_bytes (instructions.DefCfaOffset offset) = instructions.DefCfaOffset offset
+with_register_bytes instructions.DefCfaExpression = instructions.DefCfaExpression
+with_register_bytes (instructions.Undefined register) = instructions.Undefined (register_byte register)
+with_register_bytes (instructions.SameValue register) = instructions.SameValue (register_byte register)
+with_register_bytes (instructions.Offset register offset) = instructions.Offset (register_byte register) offset
+with_register_bytes (instructions.ValOffset register offset) = instructions.ValOffset (register_byte register) offset
+with_register_bytes (instructions.Register register source) =
     instructions.Register (register_byte register) (register_byte source)
-kept_register (instructions.Expression register) = instructions.Expression (register_byte register)
-kept_register (instructions.ValExpression register) = instructions.ValExpression (register_byte register)
-kept_register (instructions.Restore register) = instructions.Restore (register_byte register)
-kept_register instructions.RememberState = instructions.RememberState
-kept_register instructions.RestoreState = instructions.RestoreState
+with_register_bytes (instructions.Expression register) = instructions.Expression (register_byte register)
+with_register_bytes (instructions.ValExpression register) = instructions.ValExpression (register_byte register)
+with_register_bytes (instructions.Restore register) = instructions.Restore (register_byte register)
+with_register_bytes instructions.RememberState = instructions.RememberState
+with_register_bytes instructions.RestoreState = instructions.RestoreState
 
--- the instruction stands at the input's front, and these bytes after it
+-- the instruction is read at the input's front, and these bytes follow it
 abbrev pub ReadsBack : CallFrameInstruction → Input FrameFault → List ℕ → Type 0
 ReadsBack i input rest =
     (next : Input FrameFault) × (instruction_from ones input ≡ Ok (i, next)) × (left_of next.at ≡ rest)
@@ -72,7 +72,7 @@ ReadsBack i input rest =
 -- a written instruction reads back as the one that was meant
 abbrev pub InstructionsReadBack : Type 0
 InstructionsReadBack = (i : CallFrameInstruction) (input : Input FrameFault) (rest : List ℕ)
-    → HasWordOperands i → left_of input.at ≡ encoded i ++ rest → ReadsBack (kept_register i) input rest
+    → HasWordOperands i → left_of input.at ≡ encoded i ++ rest → ReadsBack (with_register_bytes i) input rest
 
 -- ---- lists of instructions
 
@@ -95,17 +95,10 @@ RunsReadBack = (limit : Option ℕ) (initial : List Rule) (all : List CallFrameI
 
 -- ---- both sections
 
--- the frames that are read of `.debug_frame` and the translation after it have the ranges of both sections' frame
--- descriptions, or the same fault
-abbrev pub RangesAreBoth : Type 0
-RangesAreBoth = (debug_frame eh_frame : List ℕ) (address : ℕ) (segments : List Segment)
+-- the frames that are read of `.debug_frame` and the translation after it have the frame descriptions of both sections,
+-- or the same fault
+abbrev pub FramesAreOfBoth : Type 0
+FramesAreOfBoth = (debug_frame eh_frame : List ℕ) (address : ℕ) (segments : List Segment)
     → length debug_frame + 8 * length eh_frame < 2 ^ 31 → IsBytes eh_frame
-    → viewed frame_ranges (frames_with_eh debug_frame eh_frame address segments)
-    ≡ viewed described_ranges (descriptions_of_both debug_frame eh_frame address segments)
-
--- and at each address they have the rules of the first of both sections' frame descriptions that holds it
-abbrev pub RulesAreBoth : Type 0
-RulesAreBoth = (debug_frame eh_frame : List ℕ) (address : ℕ) (segments : List Segment) (pc : ℕ)
-    → length debug_frame + 8 * length eh_frame < 2 ^ 31 → IsBytes eh_frame
-    → viewed (λ frames. rules_at frames pc) (frames_with_eh debug_frame eh_frame address segments)
-    ≡ viewed (λ descriptions. rules_by descriptions pc) (descriptions_of_both debug_frame eh_frame address segments)
+    → viewed descriptions (frames_with_eh debug_frame eh_frame address segments)
+    ≡ descriptions_of_both debug_frame eh_frame address segments

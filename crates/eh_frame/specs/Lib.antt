@@ -2,7 +2,7 @@ pub mod Addresses
 pub mod Cies
 pub mod Runs
 pub mod Entries
+pub mod Descriptions
 pub mod Translation
-pub mod Both
 pub mod Laws
 pub mod private

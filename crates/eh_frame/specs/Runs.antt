@@ -41,6 +41,7 @@ abbrev pub instruction_before : {S : Type 0} → CallFrameInstruction → List C
     → List CallFrameInstruction × S
 instruction_before instruction others = (instruction ∷ others.0, others.1)
 
+-- the same where those after it may be at fault
 abbrev pub before_all : {S F : Type 0} → CallFrameInstruction → Result (List CallFrameInstruction × S) F
     → Result (List CallFrameInstruction × S) F
 before_all instruction (Ok others) = Ok (instruction_before instruction others)

@@ -16,7 +16,7 @@ use prof_bytes::Reader;
 pub(crate) enum Application {
     /// DW_EH_PE_absptr: it is the address itself.
     Absolute,
-    /// DW_EH_PE_pcrel: it counts from the address at which it stands.
+    /// DW_EH_PE_pcrel: it counts from its own address.
     PcRelative,
 }
 

@@ -44,7 +44,7 @@ fn has_addresses(letters: &[u8]) -> bool
     letters.iter().any(|l| *l == LETTER_ADDRESSES)
 }
 
-/// What stands for a letter: the application of addresses after it, and `None` where the CIE is passed over.
+/// The data of a letter: the application of addresses after it, and `None` where the CIE is passed over.
 #[tactic(auto, unfolding(crate::specs::Cies::letter_from))]
 fn letter(
     letter: u8,

@@ -1,10 +1,9 @@
 //! The frames of `.debug_frame` and of `.eh_frame` in one table.
-ghost use Rattle.std.specs.Prelude.{◌≡◌, ℕ, ◌+◌, ◌*◌, ◌<◌, ◌≤◌, ◌^◌, ◌++◌, IfOk, length};
-ghost use Rattle.prof_bytes.specs.Outcome.{Gives, viewed};
-ghost use Rattle.cfi_table.specs.Frames.{frames_of, rules_at};
-ghost use Rattle.eh_frame.specs.Translation.{translation};
-ghost use Rattle.eh_frame.specs.Both.{in_debug_frame, in_eh_frame, frames_with_eh, descriptions_of_both};
-ghost use Rattle.eh_frame.specs.Both.{frame_ranges, described_ranges, rules_by};
+ghost use Rattle.std.specs.Prelude.{◌≡◌, ◌+◌, ◌*◌, ◌<◌, ◌≤◌, ◌^◌, ◌++◌, IfOk, length};
+ghost use Rattle.prof_bytes.specs.Outcome.{Gives};
+ghost use Rattle.cfi_table.specs.Frames.{frames_of, descriptions};
+ghost use Rattle.eh_frame.specs.Descriptions.{in_debug_frame, in_eh_frame, descriptions_of_both};
+ghost use Rattle.eh_frame.specs.Translation.{translation, frames_with_eh};
 
 use crate::fault::EhFault;
 use crate::section::translate;
@@ -61,7 +60,7 @@ fn joined(alloc: Global, first: &[u8], second: &[u8]) -> Result<Vec<u8>, Memory>
 }
 
 /// The frames of `.debug_frame` with the translation of `.eh_frame` after it, if that has any bytes.
-#[tactic(auto, unfolding(crate::specs::Both::frames_with_eh))]
+#[tactic(auto, unfolding(crate::specs::Translation::frames_with_eh))]
 fn translated_frames(
     alloc: Global,
     debug_frame: &[u8],
@@ -83,7 +82,9 @@ fn translated_frames(
 }
 
 /// The frames of `.debug_frame` (DWARF 5, section 6.4.1), and after them those of `.eh_frame` (LSB, core
-/// specification, "Exception Frames"), whose first byte has that address; or the first fault.
+/// specification, "Exception Frames"), whose first byte has that address; or the first fault. The table has the
+/// frame descriptions of both sections. It keeps `.eh_frame` as bytes of `.debug_frame`, to which the offsets of its
+/// FDEs belong.
 pub fn read_both_frames(
     alloc: Global,
     debug_frame: &[u8],
@@ -92,13 +93,10 @@ pub fn read_both_frames(
     image: &Image<'_>,
 ) -> Result<FrameTable, Fail<SectionFault>>
     requires { length debug_frame.now + 8 * length eh_frame.now < 2 ^ 31 }
+    ensures descriptions { Gives descriptions result
+        (descriptions_of_both debug_frame.now eh_frame.now address image.now.segments) }
     ensures frames { Gives (λ table. table) result
         (frames_with_eh debug_frame.now eh_frame.now address image.now.segments) }
-    ensures ranges { Gives (λ table. frame_ranges table) result (viewed described_ranges
-        (descriptions_of_both debug_frame.now eh_frame.now address image.now.segments)) }
-    ensures rules { (pc : ℕ) → Gives (λ table. rules_at table pc) result
-        (viewed (λ descriptions. rules_by descriptions pc)
-        (descriptions_of_both debug_frame.now eh_frame.now address image.now.segments)) }
 {
     translated_frames(alloc, debug_frame, eh_frame, address, image)
 }

@@ -9,9 +9,7 @@ ghost use Rattle.eh_frame.specs.Cies.{eh_cie_from_augmentation, eh_cie_from};
 
 use crate::address::Application;
 use crate::augmentation::{application, is_read};
-use cfi_table::{
-    AlignmentFactors, Extent, FrameFault, return_address_register, word_of, word_of_signed,
-};
+use cfi_table::{AlignmentFactors, Extent, FrameFault, last_bytes, read_factors};
 use prof_bytes::Reader;
 
 /// A common information entry (CIE).
@@ -42,10 +40,7 @@ fn cie_with(
         return_address_register: register,
         application,
         has_data,
-        initial_instructions: Extent {
-            offset: (end as usize).saturating_sub(left) as u32,
-            end,
-        },
+        initial_instructions: last_bytes(end, left),
     }
 }
 
@@ -103,16 +98,10 @@ fn from_factors(
     ensures cie { result ≡ eh_cie_from_factors end version augmentation.now reader.old }
     ensures placed { IfOk result (λ cie. IfSome cie (λ c. IsUpTo end c.initial_instructions)) }
 {
-    let code_factor = reader.uleb()?;
-    let data_factor = reader.sleb()?;
-    let register = return_address_register(version, reader)?;
+    let (factors, register) = read_factors(version, reader)?;
     if register >= 32 {
         return Err(reader.missing());
     }
-    let factors = AlignmentFactors {
-        code_alignment_factor: word_of(code_factor),
-        data_alignment_factor: word_of_signed(data_factor),
-    };
     from_data(end, factors, register as u8, augmentation, reader)
 }
 

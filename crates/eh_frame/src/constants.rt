@@ -25,7 +25,7 @@ pub const DW_EH_PE_sdata4: u8 = 0x0b;
 
 pub const DW_EH_PE_sdata8: u8 = 0x0c;
 
-/// The application by which a value counts from the address at which it stands.
+/// The application by which a value counts from its own address.
 pub const DW_EH_PE_pcrel: u8 = 0x10;
 
 /// `z` begins an augmentation with a length of augmentation data.

@@ -22,7 +22,7 @@ use cfi_table::{Checker, DW_CIE_ID, Extent, FrameFault, InitialCfaForms, body, i
 use prof_bytes::{Fail, Memory, Reader, put_u32};
 use std::alloc::Global;
 
-/// An entry that was read: what stands after its length in the translation, and the CIE that it is.
+/// An entry that was read: its bytes after the length in the translation, and the CIE that it is.
 #[derive(Drop)]
 pub(crate) struct ReadEntry {
     pub(crate) body: Vec<u8>,
@@ -54,7 +54,7 @@ fn put_fde_head(out: &mut Vec<u8>, pointer: u32, start: u32, range: u32) -> Resu
 }
 
 /// Checks a CIE's instructions and appends them, and gives the forms after them.
-fn put_initial(
+fn put_cie_instructions(
     alloc: Global,
     section: &[u8],
     address: u32,
@@ -67,7 +67,7 @@ fn put_initial(
     ensures forms { IfOk result (AreInitialForms section.now address (Some cie.now)) }
     ensures short { IfOk result (λ forms. length out.new.items ≤ length out.old.items + 7 * length section.now) }
 {
-    let mut checker = Checker::none(alloc);
+    let mut checker = Checker::new(alloc);
     let mut reader = instructions(section, &cie.initial_instructions);
     let addresses = addresses_of(address, cie);
     translate_instructions(&mut checker, &addresses, &cie.factors, &mut reader, out)?;
@@ -93,10 +93,10 @@ fn read_cie(
 {
     let mut body = Vec::new(alloc);
     let initial_forms = match &cie {
-        None => Checker::none(alloc).forms(alloc)?,
+        None => Checker::new(alloc).forms(alloc)?,
         Some(read) => {
             put_cie_head(&mut body, read.return_address_register)?;
-            put_initial(alloc, section, address, read, &mut body)?
+            put_cie_instructions(alloc, section, address, read, &mut body)?
         }
     };
     let cie = Some(KnownEhCie {
@@ -108,7 +108,7 @@ fn read_cie(
 }
 
 /// Checks an FDE's instructions, which follow its CIE's, and appends them.
-fn put_own(
+fn put_fde_instructions(
     alloc: Global,
     address: u32,
     cie: &EhCie,
@@ -148,7 +148,7 @@ fn read_fde(
     if let Some(cie) = &known.cie {
         let (start, range) = fde_fields(address, cie, reader)?;
         put_fde_head(&mut body, base + 8 * known.offset, start, range)?;
-        put_own(alloc, address, cie, &known.initial_forms, reader, &mut body)?;
+        put_fde_instructions(alloc, address, cie, &known.initial_forms, reader, &mut body)?;
     }
     Ok(body)
 }

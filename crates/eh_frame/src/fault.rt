@@ -2,7 +2,7 @@
 ghost use Rattle.std.specs.Prelude.{ℕ, ◌≤◌, List, Result, IfOk, length};
 ghost use Rattle.prof_bytes.specs.Outcome.{Gives};
 ghost use Rattle.cfi_table.specs.declared.fault.FrameFault.{FrameFault};
-ghost use Rattle.eh_frame.specs.Translation.{as_eh_fault};
+ghost use Rattle.eh_frame.specs.Descriptions.{as_eh_fault};
 
 use cfi_table::FrameFault;
 use prof_bytes::{Fail, Text};

@@ -6,7 +6,7 @@ ghost use Rattle.prof_bytes.specs.Number.{number_bytes};
 ghost use Rattle.cfi_table.specs.private.Checking.{execute_forms};
 ghost use Rattle.eh_frame.specs.Runs.{eh_instruction_from, eh_step_by};
 ghost use Rattle.eh_frame.specs.Translation.{register_byte, offset_bytes, encoded};
-ghost use Rattle.eh_frame.specs.private.Checked.{listed_forms, put_behind};
+ghost use Rattle.eh_frame.specs.private.Checked.{listed_forms, written_after};
 
 use crate::address::{AddressEncoding, address};
 use cfi_table::{
@@ -54,7 +54,7 @@ fn offset_bytes(offset: u32) -> [u8; 5]
     ]
 }
 
-fn put_number(out: &mut Vec<u8>, opcode: u8, number: u32) -> Result<(), Memory>
+fn put_word(out: &mut Vec<u8>, opcode: u8, number: u32) -> Result<(), Memory>
     ensures { IfOk result (λ done. out.new.items ≡ out.old.items ++ (opcode ∷ number_bytes 4 number)) }
 {
     out.push(opcode)?;
@@ -75,7 +75,12 @@ fn put_register(out: &mut Vec<u8>, opcode: u8, register: u64) -> Result<(), Memo
 }
 
 /// Appends an opcode, a register and an offset.
-fn put_rule(out: &mut Vec<u8>, opcode: u8, register: u64, offset: u32) -> Result<(), Memory>
+fn put_register_and_offset(
+    out: &mut Vec<u8>,
+    opcode: u8,
+    register: u64,
+    offset: u32,
+) -> Result<(), Memory>
     ensures { IfOk result (λ done. out.new.items
         ≡ out.old.items ++ (opcode ∷ register_byte register ∷ offset_bytes offset)) }
 {
@@ -91,7 +96,12 @@ fn put_offset(out: &mut Vec<u8>, opcode: u8, offset: u32) -> Result<(), Memory>
 }
 
 /// Appends an opcode, a register, and a byte after it.
-fn put_two(out: &mut Vec<u8>, opcode: u8, register: u64, second: u8) -> Result<(), Memory>
+fn put_register_and_byte(
+    out: &mut Vec<u8>,
+    opcode: u8,
+    register: u64,
+    second: u8,
+) -> Result<(), Memory>
     ensures { IfOk result (λ done. out.new.items
         ≡ out.old.items ++ (opcode ∷ register_byte register ∷ second ∷ [])) }
 {
@@ -104,10 +114,10 @@ fn put_instruction(out: &mut Vec<u8>, instruction: CallFrameInstruction) -> Resu
 {
     match instruction {
         CallFrameInstruction::Nop => put_bytes(out, &[DW_CFA_nop]),
-        CallFrameInstruction::SetLoc(to) => put_number(out, DW_CFA_set_loc, to),
-        CallFrameInstruction::AdvanceLoc(by) => put_number(out, DW_CFA_advance_loc4, by),
+        CallFrameInstruction::SetLoc(to) => put_word(out, DW_CFA_set_loc, to),
+        CallFrameInstruction::AdvanceLoc(by) => put_word(out, DW_CFA_advance_loc4, by),
         CallFrameInstruction::DefCfa { register, offset } => {
-            put_rule(out, DW_CFA_def_cfa, register, offset)
+            put_register_and_offset(out, DW_CFA_def_cfa, register, offset)
         }
         CallFrameInstruction::DefCfaRegister(r) => put_register(out, DW_CFA_def_cfa_register, r),
         CallFrameInstruction::DefCfaOffset(o) => put_offset(out, DW_CFA_def_cfa_offset, o),
@@ -115,16 +125,21 @@ fn put_instruction(out: &mut Vec<u8>, instruction: CallFrameInstruction) -> Resu
         CallFrameInstruction::Undefined(r) => put_register(out, DW_CFA_undefined, r),
         CallFrameInstruction::SameValue(r) => put_register(out, DW_CFA_same_value, r),
         CallFrameInstruction::Offset { register, offset } => {
-            put_rule(out, DW_CFA_offset_extended, register, offset)
+            put_register_and_offset(out, DW_CFA_offset_extended, register, offset)
         }
         CallFrameInstruction::ValOffset { register, offset } => {
-            put_rule(out, DW_CFA_val_offset, register, offset)
+            put_register_and_offset(out, DW_CFA_val_offset, register, offset)
         }
         CallFrameInstruction::Register { register, source } => {
-            put_two(out, DW_CFA_register, register, register_byte(source))
+            put_register_and_byte(out, DW_CFA_register, register, register_byte(source))
         }
-        CallFrameInstruction::Expression(r) => put_two(out, DW_CFA_expression, r, 0),
-        CallFrameInstruction::ValExpression(r) => put_two(out, DW_CFA_val_expression, r, 0),
+        CallFrameInstruction::Expression(r) => put_register_and_byte(out, DW_CFA_expression, r, 0),
+        CallFrameInstruction::ValExpression(r) => put_register_and_byte(
+            out,
+            DW_CFA_val_expression,
+            r,
+            0,
+        ),
         CallFrameInstruction::Restore(r) => put_register(out, DW_CFA_restore_extended, r),
         CallFrameInstruction::RememberState => put_bytes(out, &[DW_CFA_remember_state]),
         CallFrameInstruction::RestoreState => put_bytes(out, &[DW_CFA_restore_state]),
@@ -166,7 +181,7 @@ pub(crate) fn translate_instructions(
 ) -> Result<(), Fail<FrameFault>>
     requires { length reader.old.at.whole < 2 ^ 32 }
     ensures gives { Gives (λ done. (out.new.items, checker.new)) result
-        (viewed (put_behind out.old.items) (listed_forms addresses.now factors.now reader.old checker.old)) }
+        (viewed (written_after out.old.items) (listed_forms addresses.now factors.now reader.old checker.old)) }
     ensures short { IfOk result (λ done. length out.new.items
         ≤ length out.old.items + 7 * length (left_of reader.old.at)) }
 {

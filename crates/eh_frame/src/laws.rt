@@ -1,5 +1,5 @@
 //! What the translation's instructions and entries mean.
-ghost use Rattle.eh_frame.specs.Laws.{InstructionsReadBack, ListsHaveRoom, RunsReadBack, RangesAreBoth, RulesAreBoth};
+ghost use Rattle.eh_frame.specs.Laws.{InstructionsReadBack, ListsHaveRoom, RunsReadBack, FramesAreOfBoth};
 
 /// An instruction that is written for the translation reads back as the one that was meant, with each register
 /// from 32 on as 32.
@@ -18,10 +18,8 @@ pub fn runs_read_back()
     ensures { RunsReadBack }
 {}
 
-/// The frames that are read of `.debug_frame` and the translation after it are the frame descriptions of both
-/// sections: they have the same ranges in the same order, at each address the same rules, and the same first
-/// fault.
+/// The frames that are read of `.debug_frame` and the translation after it have the frame descriptions of both
+/// sections, or the same first fault.
 pub fn frames_are_of_both()
-    ensures ranges { RangesAreBoth }
-    ensures rules { RulesAreBoth }
+    ensures { FramesAreOfBoth }
 {}

@@ -2,7 +2,7 @@
 //!
 //! It promises bytes of `.debug_frame` that say the same, or the section's first fault at its offset. It
 //! follows the LSB's core specification, "Exception Frames", and DWARF 5, section 6.4, for 32-bit programs.
-//! Below stand `cfi_table`, whose definitions say what the bytes mean, `elf_image`, `address_ranges`, `prof_bytes` and
+//! It uses `cfi_table`, whose definitions say what the bytes mean, `elf_image`, `address_ranges`, `prof_bytes` and
 //! `byteorder`.
 #![tactic(auto)]
 

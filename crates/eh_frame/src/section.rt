@@ -30,7 +30,7 @@ fn size_of(extent: &Extent) -> usize
     extent.end.saturating_sub(extent.offset) as usize
 }
 
-/// Appends what stands in place of an entry of that size.
+/// Appends the translation of an entry of that size.
 fn put_block(out: &mut Vec<u8>, size: usize, body: &[u8]) -> Result<(), Memory>
     requires size { size < 2 ^ 32 }
     requires body { length body.now < 2 ^ 31 }
@@ -89,7 +89,7 @@ fn translated(
     }
 }
 
-/// The bytes of `.eh_frame`, whose first byte has the address, as bytes of `.debug_frame` that stand at the
+/// The bytes of `.eh_frame`, whose first byte has the address, as bytes of `.debug_frame` at the
 /// offset `base` of their section; or the section's first fault. They are at most eight times as many.
 #[tactic(auto, unfolding(crate::specs::Translation::translation))]
 pub fn translate(

@@ -1,4 +1,4 @@
--- Where the first 0 byte stands: in the block of an index, or after it.
+-- Where the first 0 byte is: in the block of an index, or after it.
 use Rattle.std.proofs.Common.{◌≡◌, ℕ, zero, suc, ◌+◌, ◌-◌, ◌<◌, ◌≤◌, Bool, true, false, cond, not, List, [], ◌∷◌, length, get_or, take, drop, Some, None, refl, ap, arith, length-take, length-drop}
 use Rattle.std.specs.Prelude.{nat_lt}
 use Rattle.std.specs.List.{position_or_len}

@@ -1,4 +1,4 @@
--- Tables of entries that stand one after the other, as they are read.
+-- Tables of entries that follow one another, as they are read.
 use Rattle.std.proofs.Common.{◌≡◌, ℕ, zero, suc, ◌+◌, ◌<◌, Bool, true, false, cond, List, [], ◌∷◌, ◌++◌, length, take, get_or, map, Option, Some, None, refl, sym, ap, ◌∙◌, arith}
 use Rattle.std.specs.Prelude.{All, IfSome, find, filter, option_map}
 use Rattle.std.specs.List.{range_with_len}

@@ -9,12 +9,15 @@ use Rattle.prof_bytes.specs.Number.{number_in}
 unfoldable pub number_of : ℕ → List ℕ → ℕ → ℕ
 number_of count file offset = if nat_le (offset + count) (length file) then number_in count (drop offset file) else 0
 
+-- the byte at an offset
 abbrev pub file_byte : List ℕ → ℕ → ℕ
 file_byte file offset = slice_index file offset
 
+-- an Elf32_Half, which has two bytes
 abbrev pub half_at : List ℕ → ℕ → ℕ
 half_at file offset = number_of 2 file offset
 
+-- an Elf32_Word, Elf32_Addr or Elf32_Off, which have four bytes
 abbrev pub word_at : List ℕ → ℕ → ℕ
 word_at file offset = number_of 4 file offset
 
@@ -26,6 +29,7 @@ lies_within file offset size = size == 0 || nat_le (offset + size) (length file)
 abbrev pub table_entries : {X : Type 0} → (ℕ → X) → ℕ → ℕ → ℕ → List X
 table_entries entry_at first size count = map (λ k. entry_at (first + size * k)) (range_with_len 0 count)
 
+-- the byte that ends a string
 abbrev pub is_zero : ℕ → Bool
 is_zero byte = byte == 0
 

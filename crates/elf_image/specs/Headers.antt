@@ -57,25 +57,31 @@ symbol_entry file offset = record {
   st_shndx = half_at file (offset + ST_SHNDX);
 }
 
--- fields of the file's header
+-- the offset of the program header table
 abbrev pub e_phoff : List ℕ → ℕ
 e_phoff file = word_at file E_PHOFF
 
+-- the number of program headers
 abbrev pub e_phnum : List ℕ → ℕ
 e_phnum file = half_at file E_PHNUM
 
+-- the offset of the section header table
 abbrev pub e_shoff : List ℕ → ℕ
 e_shoff file = word_at file E_SHOFF
 
+-- the number of section headers
 abbrev pub e_shnum : List ℕ → ℕ
 e_shnum file = half_at file E_SHNUM
 
+-- the index of the section name string table
 abbrev pub e_shstrndx : List ℕ → ℕ
 e_shstrndx file = half_at file E_SHSTRNDX
 
+-- the program header table (System V ABI, chapter 5)
 unfoldable pub program_headers : List ℕ → List ProgramHeader
 program_headers file = table_entries (program_header_at file) (e_phoff file) ELF32_PHDR_SIZE (e_phnum file)
 
+-- the section header table (System V ABI, chapter 4)
 unfoldable pub section_headers : List ℕ → List SectionHeader
 section_headers file = table_entries (section_header_at file) (e_shoff file) ELF32_SHDR_SIZE (e_shnum file)
 
@@ -85,9 +91,11 @@ section_headers file = table_entries (section_header_at file) (e_shoff file) ELF
 abbrev pub is_load : ProgramHeader → Bool
 is_load h = h.p_type == PT_LOAD && nat_lt 0 h.p_memsz
 
+-- the headers of loadable segments, in file order
 unfoldable pub load_headers : List ℕ → List ProgramHeader
 load_headers file = filter is_load (program_headers file)
 
+-- a header's segment; `filled` is the number of bytes that it has in the file
 abbrev pub segment_of : ProgramHeader → Segment
 segment_of h =
     record {
@@ -98,6 +106,7 @@ segment_of h =
       filled = h.p_filesz;
     }
 
+-- the segments that a program has in memory, in file order
 unfoldable pub segments : List ℕ → List Segment
 segments file = map segment_of (load_headers file)
 
@@ -111,6 +120,7 @@ is_section h = not (h.sh_type == SHT_NULL)
 abbrev pub has_bytes : SectionHeader → Bool
 has_bytes h = not (h.sh_type == SHT_NULL) && not (h.sh_type == SHT_NOBITS)
 
+-- a section's bytes in the file
 abbrev pub section_bytes : List ℕ → SectionHeader → List ℕ
 section_bytes file h = if has_bytes h then take h.sh_size (drop h.sh_offset file) else []
 
@@ -123,10 +133,12 @@ unfoldable pub section_name_of : List ℕ → SectionHeader → Option (List ℕ
 section_name_of file h =
     if e_shstrndx file == SHN_UNDEF then Some [] else string_in (bytes_of_index file (e_shstrndx file)) h.sh_name
 
+-- a section by its header; one whose name does not end has an empty name here
 abbrev pub section_of : List ℕ → SectionHeader → NamedSection
 section_of file h =
     record { name = unwrap_or (section_name_of file h) []; address = h.sh_addr; bytes = section_bytes file h }
 
+-- all sections, in file order
 unfoldable pub sections : List ℕ → List NamedSection
 sections file = map (section_of file) (filter is_section (section_headers file))
 
@@ -136,6 +148,7 @@ sections file = map (section_of file) (filter is_section (section_headers file))
 unfoldable pub symbol_table : List ℕ → Option SectionHeader
 symbol_table file = find (λ h. h.sh_type == SHT_SYMTAB) (section_headers file)
 
+-- the symbols of a table of entries of 16 bytes
 abbrev pub symbols_of : List ℕ → SectionHeader → List Symbol
 symbols_of file table =
     table_entries (symbol_entry file) table.sh_offset ELF32_SYM_SIZE (table.sh_size / ELF32_SYM_SIZE)
@@ -149,14 +162,17 @@ is_function loaded s =
 abbrev pub symbol_name : List ℕ → SectionHeader → Symbol → Option (List ℕ)
 symbol_name file table s = string_in (bytes_of_index file table.sh_link) s.st_name
 
+-- a function by its symbol; one whose name does not end has an empty name here
 abbrev pub function_symbol : List ℕ → SectionHeader → Symbol → FunctionSymbol
 function_symbol file table s =
     record { start = s.st_value; size = s.st_size; name = unwrap_or (symbol_name file table s) [] }
 
+-- the functions that a symbol table has, in its order
 abbrev pub functions_of : List ℕ → Option SectionHeader → List FunctionSymbol
 functions_of file None = []
 functions_of file (Some table) =
     map (function_symbol file table) (filter (is_function (segments file)) (symbols_of file table))
 
+-- the functions of the file's symbol table; none where the file has no such table
 unfoldable pub functions : List ℕ → List FunctionSymbol
 functions file = functions_of file (symbol_table file)

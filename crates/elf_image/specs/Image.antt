@@ -6,7 +6,7 @@ use Rattle.std.specs.Option.{option_map_or}
 use Rattle.elf_image.specs.Fields.{same_bytes}
 use Rattle.address_ranges.specs.Ranges.{holds}
 use Rattle.address_ranges.specs.declared.ranges.AddressRange.{AddressRange}
-use Rattle.elf_image.specs.declared.elf.TheConstants.{PF_R, PF_W, PF_X}
+use Rattle.elf_image.specs.declared.elf.TheConstants.{PF_W, PF_X}
 use Rattle.elf_image.specs.declared.part.Segment.{Segment}
 use Rattle.elf_image.specs.declared.part.Function.{Function}
 use Rattle.elf_image.specs.declared.part.Section.{Section}
@@ -32,10 +32,11 @@ pub record ProgramImage : Type 0 where
   pub sections : List NamedSection
   pub functions : List FunctionSymbol
 
--- what contracts see of the code's values
+-- a section as contracts see it
 abbrev pub named : Section → NamedSection
 named s = record { name = s.name.now; address = s.address; bytes = s.bytes.now }
 
+-- a function symbol as contracts see it
 abbrev pub symbol_view : Function → FunctionSymbol
 symbol_view f = record { start = f.start; size = f.size; name = f.name.now }
 
@@ -43,6 +44,7 @@ symbol_view f = record { start = f.start; size = f.size; name = f.name.now }
 abbrev pub segment_range : Segment → AddressRange
 segment_range s = record { start = s.start; end = s.end }
 
+-- a function symbol's addresses
 abbrev pub function_range : FunctionSymbol → AddressRange
 function_range f = record { start = f.start; end = f.start + f.size }
 
@@ -50,9 +52,11 @@ function_range f = record { start = f.start; end = f.start + f.size }
 abbrev pub stacks_begin : ℕ
 stacks_begin = 0xF0000000
 
+-- a segment has an address
 abbrev pub in_segment : ℕ → Segment → Bool
 in_segment address s = holds address (segment_range s)
 
+-- the range of a function symbol holds an address
 abbrev pub in_function : ℕ → FunctionSymbol → Bool
 in_function address f = holds address (function_range f)
 
@@ -60,14 +64,13 @@ in_function address f = holds address (function_range f)
 abbrev pub has_flag : ℕ → ℕ → Bool
 has_flag flag flags = flags / flag % 2 == 1
 
+-- the flag PF_X (System V ABI, chapter 5, Segment Permissions)
 abbrev pub is_executable : Segment → Bool
 is_executable s = has_flag PF_X s.flags
 
+-- the flag PF_W
 abbrev pub is_writable : Segment → Bool
 is_writable s = has_flag PF_W s.flags
-
-abbrev pub is_readable : Segment → Bool
-is_readable s = has_flag PF_R s.flags
 
 -- a range counts where it is nonempty and lies in one executable segment
 abbrev pub counts : List Segment → ℕ → ℕ → Bool

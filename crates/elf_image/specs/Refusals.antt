@@ -61,14 +61,17 @@ header_tests file =
     ∷ (differs (e_shnum file) 0 && nat_le (e_shnum file) (e_shstrndx file), E_SHSTRNDX)
     ∷ []
 
+-- the offset of the first of these fields that is wrong
 unfoldable pub header_place : List ℕ → Option ℕ
 header_place file = first_of (header_tests file)
 
 -- ---- segments
 
+-- the offset of the first program header of which a test holds
 abbrev pub first_program : (ProgramHeader → Bool) → List ProgramHeader → Option ℕ
 first_program test headers = option_map (λ h. h.offset) (find test headers)
 
+-- two segments share an address
 abbrev pub share : ProgramHeader → ProgramHeader → Bool
 share g h = nat_lt g.p_vaddr (h.p_vaddr + h.p_memsz) && nat_lt h.p_vaddr (g.p_vaddr + g.p_memsz)
 
@@ -76,26 +79,33 @@ share g h = nat_lt g.p_vaddr (h.p_vaddr + h.p_memsz) && nat_lt h.p_vaddr (g.p_va
 abbrev pub shares_earlier : List ProgramHeader → ProgramHeader → Bool
 shares_earlier headers h = list_any (λ g. nat_lt g.offset h.offset && share g h) headers
 
+-- the first segment that has more bytes in the file than in memory (p_filesz and p_memsz)
 unfoldable pub overfilled : List ProgramHeader → Option ℕ
 overfilled headers = first_program (λ h. nat_lt h.p_memsz h.p_filesz) headers
 
+-- the first segment of which bytes lie outside of the file
 unfoldable pub unfilled : List ℕ → List ProgramHeader → Option ℕ
 unfilled file headers = first_program (λ h. not (lies_within file h.p_offset h.p_filesz)) headers
 
+-- the first segment that ends above the address where stacks begin
 unfoldable pub too_high : List ProgramHeader → Option ℕ
 too_high headers = first_program (λ h. nat_lt stacks_begin (h.p_vaddr + h.p_memsz)) headers
 
+-- the first segment that shares an address with an earlier one
 unfoldable pub shared : List ProgramHeader → Option ℕ
 shared headers = first_program (shares_earlier headers) headers
 
 -- ---- sections
 
+-- the offset of the first section header of which a test holds
 abbrev pub first_section : (SectionHeader → Bool) → List SectionHeader → Option ℕ
 first_section test headers = option_map (λ h. h.offset) (find test headers)
 
+-- the first section of which bytes lie outside of the file
 unfoldable pub section_outside : List ℕ → List SectionHeader → Option ℕ
 section_outside file headers = first_section (λ h. has_bytes h && not (lies_within file h.sh_offset h.sh_size)) headers
 
+-- the first section whose name does not end within the section name string table
 unfoldable pub unterminated_name : List ℕ → List SectionHeader → Option ℕ
 unterminated_name file headers = first_section (λ h. is_section h && is_none (section_name_of file h)) headers
 
@@ -106,6 +116,7 @@ debug_section_names =
     codes ".debug_info" ∷ codes ".debug_abbrev" ∷ codes ".debug_line" ∷ codes ".debug_str" ∷ codes ".debug_line_str"
     ∷ codes ".debug_str_offsets" ∷ codes ".debug_addr" ∷ codes ".debug_rnglists" ∷ codes ".debug_frame" ∷ []
 
+-- the name of one of these sections
 unfoldable pub is_debug_section_name : List ℕ → Bool
 is_debug_section_name name = list_any (same_bytes name) debug_section_names
 
@@ -118,6 +129,7 @@ is_debug_section (Some name) = is_debug_section_name name
 abbrev pub is_compressed : SectionHeader → Bool
 is_compressed h = has_flag SHF_COMPRESSED h.sh_flags
 
+-- the first compressed section of debug information
 unfoldable pub compressed_section : List ℕ → List SectionHeader → Option ℕ
 compressed_section file headers =
     first_section (λ h. is_section h && is_compressed h && is_debug_section (section_name_of file h)) headers
@@ -136,6 +148,7 @@ bad_table file table = first_of (
     ∷ (not (is_string_table (section_headers file) table.sh_link), table.offset)
     ∷ [])
 
+-- the first function whose name does not end within the table's string table
 unfoldable pub function_with_unterminated_name : List ℕ → SectionHeader → Option ℕ
 function_with_unterminated_name file table =
     option_map (λ s. s.offset) (find (λ s. is_function (segments file) s

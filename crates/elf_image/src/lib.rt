@@ -2,7 +2,7 @@
 //!
 //! It promises that an image is exactly what the file's header fields say: segments, sections,
 //! function symbols and the entry; or else the first refusal, with its offset. Ranges of addresses
-//! are looked up by binary search. Below stand `address_ranges`, `prof_bytes` and `byteorder`.
+//! are looked up by binary search. Below are `address_ranges`, `prof_bytes` and `byteorder`.
 #![tactic(auto)]
 
 mod debug_parts;

@@ -1,9 +1,9 @@
 //! Parts of a program: segments, function symbols and sections.
 ghost use Rattle.std.specs.Prelude.{◌≡◌};
 ghost use Rattle.elf_image.specs.Image.{segment_range, function_range, symbol_view};
-ghost use Rattle.elf_image.specs.Image.{is_executable, is_writable, is_readable};
+ghost use Rattle.elf_image.specs.Image.{is_executable, is_writable};
 
-use crate::elf::{PF_R, PF_W, PF_X, has_flag};
+use crate::elf::{PF_W, PF_X, has_flag};
 use address_ranges::{AddressRange, HasRange};
 
 /// A segment that is loaded (System V ABI, chapter 5, Program Header): the addresses from `start` up to
@@ -31,13 +31,6 @@ impl Segment {
         ensures { result ≡ is_writable self.now }
     {
         has_flag(PF_W, self.flags)
-    }
-
-    /// Whether its bytes can be read.
-    pub fn is_readable(&self) -> bool
-        ensures { result ≡ is_readable self.now }
-    {
-        has_flag(PF_R, self.flags)
     }
 }
 

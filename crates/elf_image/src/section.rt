@@ -17,8 +17,8 @@ use crate::fault::{ElfFault, ElfRule, refuse};
 use crate::field::lies_within;
 use crate::header::{SectionHeader, e_shstrndx};
 use crate::part::Section;
-use crate::string_table::{StringTable, bytes_from, first_bytes};
-use prof_bytes::{Fail, Memory};
+use crate::string_table::{StringTable, bytes_from};
+use prof_bytes::{Fail, Memory, first_bytes};
 use std::alloc::Global;
 
 fn is_section(header: &SectionHeader) -> bool

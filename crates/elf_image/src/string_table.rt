@@ -1,5 +1,5 @@
 //! String tables: strings that end with a 0 byte (System V ABI, chapter 4, String Table).
-ghost use Rattle.std.specs.Prelude.{◌≡◌, ◌+◌, ◌-◌, ◌*◌, ◌/◌, ◌<◌, ◌≤◌, ◌^◌, length, min, drop, take, IfOk};
+ghost use Rattle.std.specs.Prelude.{◌≡◌, ◌+◌, ◌-◌, ◌*◌, ◌/◌, ◌<◌, ◌≤◌, ◌^◌, length, min, drop, IfOk};
 ghost use Rattle.std.specs.List.{position_or_len};
 ghost use Rattle.std.specs.Option.{option_copied};
 ghost use Rattle.elf_image.specs.Fields.{is_zero, string_in};
@@ -20,16 +20,6 @@ pub(crate) fn bytes_from(bytes: &[u8], offset: usize) -> &[u8]
         return &[];
     }
     &bytes[offset..]
-}
-
-/// The first `count` bytes, or all where there are fewer.
-pub(crate) fn first_bytes(bytes: &[u8], count: usize) -> &[u8]
-    ensures { result.now ≡ take count bytes.now }
-{
-    if count > bytes.len() {
-        return bytes;
-    }
-    &bytes[..count]
 }
 
 fn zero_or_end(bytes: &[u8]) -> usize

@@ -36,6 +36,8 @@ impl<T> GhostValue<T> {
     }
 }
 
+// unsafe: it has no bytes, so it may go from thread to thread whatever T is
 unsafe impl<T> Send for GhostValue<T> {}
 
+// unsafe: it has no bytes, so threads may share it whatever T is
 unsafe impl<T> Sync for GhostValue<T> {}

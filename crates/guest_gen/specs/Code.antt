@@ -9,13 +9,15 @@ use Rattle.guest_gen.specs.Draws.{draw, draw_state}
 abbrev pub function_count : ℕ
 function_count = 48
 
--- where the program begins, and where each function does, whose code is 13 words
+-- where the program begins
 abbrev pub entry : ℕ
 entry = 0x10000
 
+-- the bytes of a function: 13 words
 abbrev pub function_size : ℕ
 function_size = 52
 
+-- where a function begins; the first one follows the four words of the start
 abbrev pub function_start : ℕ → ℕ
 function_start i = 0x10010 + function_size * i
 
@@ -66,5 +68,6 @@ function_bytes s i = words (function_words i (drawn_function (draw_state (3 * i)
 unfoldable pub functions_bytes : ℕ → ℕ → List ℕ
 functions_bytes s count = flat_map (function_bytes s) (range_with_len 0 count)
 
+-- the whole code, with draws from a state on
 abbrev pub code : ℕ → List ℕ
 code s = words start_words ++ functions_bytes s function_count

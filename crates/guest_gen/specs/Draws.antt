@@ -1,6 +1,7 @@
 -- Numbers that are drawn from a state of 32 bits: the linear congruential generator of Numerical Recipes, section 7.1.
 use Rattle.std.specs.Prelude.{ℕ, zero, suc, ◌+◌, ◌*◌, ◌/◌, ◌%◌, ◌^◌}
 
+-- the state after a draw
 abbrev pub next_state : ℕ → ℕ
 next_state s = (1664525 * s + 1013904223) % 2 ^ 32
 

@@ -12,9 +12,11 @@ use Rattle.guest_gen.specs.declared.file.SectionHeader.{SectionHeader}
 use Rattle.guest_gen.specs.Code.{entry, function_count, function_size, function_start}
 use Rattle.guest_gen.specs.Frames.{debug_frame}
 
+-- an Elf32_Half: two bytes, the low one first
 abbrev pub half : ℕ → List ℕ
 half n = number_bytes 2 n
 
+-- several of them
 abbrev pub halves : List ℕ → List ℕ
 halves ns = flat_map half ns
 
@@ -24,6 +26,7 @@ halves ns = flat_map half ns
 abbrev pub name_bytes : List ℕ → List ℕ
 name_bytes name = name ++ 0 ∷ []
 
+-- a string table: an empty string, and then the names (System V ABI, chapter 4, String Table)
 abbrev pub string_table : List (List ℕ) → List ℕ
 string_table names = 0 ∷ flat_map name_bytes names
 
@@ -35,15 +38,19 @@ name_offset names k = 1 + sum_by (λ name. length name + 1) (take k names)
 abbrev pub function_name : ℕ → List ℕ
 function_name i = codes "f" ++ decimal i
 
+-- the names of the symbols: of the start, and of the functions
 abbrev pub symbol_names : List (List ℕ)
 symbol_names = codes "_start" ∷ map function_name (range_with_len 0 function_count)
 
+-- the symbols' string table
 unfoldable pub strtab : List ℕ
 strtab = string_table symbol_names
 
+-- the names of the sections
 abbrev pub section_names : List (List ℕ)
 section_names = codes ".debug_frame" ∷ codes ".symtab" ∷ codes ".strtab" ∷ codes ".shstrtab" ∷ []
 
+-- the section name string table
 abbrev pub shstrtab : List ℕ
 shstrtab = string_table section_names
 
@@ -53,6 +60,7 @@ shstrtab = string_table section_names
 abbrev pub symbol_bytes : ℕ → ℕ → ℕ → List ℕ
 symbol_bytes name value size = words (name ∷ value ∷ size ∷ []) ++ (16 * STB_GLOBAL + STT_FUNC) ∷ 0 ∷ half SHN_ABS
 
+-- a function's symbol; its name comes after that of the start
 abbrev pub drawn_symbol : ℕ → List ℕ
 drawn_symbol i = symbol_bytes (name_offset symbol_names (i + 1)) (function_start i) function_size
 
@@ -61,28 +69,35 @@ unfoldable pub symtab : List ℕ
 symtab = replicate ELF32_SYM_SIZE 0 ++ symbol_bytes (name_offset symbol_names 0) entry 16
     ++ flat_map drawn_symbol (range_with_len 0 function_count)
 
--- ---- where the parts stand: the file's header, the program header, the code, the sections and their headers
+-- ---- where the parts begin: the file's header, the program header, the code, the sections and their headers
 
+-- the code follows the headers of the file and of the segment
 abbrev pub code_at : ℕ
 code_at = ELF32_EHDR_SIZE + ELF32_PHDR_SIZE
 
+-- the call frame information follows the code
 abbrev pub frames_at : Sizes → ℕ
 frames_at s = code_at + s.code
 
+-- the symbols follow the call frame information
 abbrev pub symbols_at : Sizes → ℕ
 symbols_at s = frames_at s + s.frames
 
+-- the symbols' names follow them
 abbrev pub names_at : Sizes → ℕ
 names_at s = symbols_at s + s.symbols
 
+-- the sections' names follow those of the symbols
 abbrev pub section_names_at : Sizes → ℕ
 section_names_at s = names_at s + s.names
 
+-- the section headers come last
 abbrev pub headers_at : Sizes → ℕ
 headers_at s = section_names_at s + s.section_names
 
 -- ---- headers
 
+-- the first sixteen bytes: the magic number, 32 bits, the low byte first, version 1, and nine zeros
 abbrev pub e_ident : List ℕ
 e_ident = ELFMAG0 ∷ ELFMAG1 ∷ ELFMAG2 ∷ ELFMAG3 ∷ ELFCLASS32 ∷ ELFDATA2LSB ∷ EV_CURRENT ∷ replicate 9 0
 
@@ -130,6 +145,7 @@ guest_section_headers s =
 
 -- ---- the whole file
 
+-- the sizes of the parts of a guest with this code
 abbrev pub sizes_of : List ℕ → Sizes
 sizes_of code = record {
   code = length code;
@@ -139,6 +155,7 @@ sizes_of code = record {
   section_names = length shstrtab;
 }
 
+-- the parts, one after the other
 unfoldable pub guest_file : List ℕ → List ℕ
 guest_file code = elf_header (sizes_of code) ++ program_header (sizes_of code) ++ code
     ++ debug_frame ++ symtab ++ strtab

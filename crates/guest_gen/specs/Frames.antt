@@ -26,8 +26,10 @@ frame_instructions =
 unfoldable pub fde : ℕ → List ℕ
 fde i = words (28 ∷ 0 ∷ function_start i ∷ function_size ∷ []) ++ frame_instructions
 
+-- the FDEs of a given number of functions
 unfoldable pub fdes : ℕ → List ℕ
 fdes count = flat_map fde (range_with_len 0 count)
 
+-- the section: the CIE, and the FDEs of all functions
 abbrev pub debug_frame : List ℕ
 debug_frame = cie ++ fdes function_count

@@ -26,9 +26,11 @@ slices = 4000
 
 -- ---- the guest. The functions draw first, three times each
 
+-- four harts, and the slices, which draw after the functions: three times for each of these
 abbrev pub guest_schedule : ℕ → List ℕ
 guest_schedule number = codes "harts 4\n" ++ slice_lines (draw_state (3 * function_count) number) slices
 
+-- the guest of a number; it reads no input, and its period is 97
 abbrev pub guest_of : ℕ → GuestFiles
 guest_of number = record {
   elf = guest_file (code number);

@@ -41,7 +41,7 @@ pub(crate) struct SectionHeader {
     pub(crate) sh_entsize: u32,
 }
 
-/// Where the code stands.
+/// Where the code begins.
 const CODE_AT: u32 = ELF32_EHDR_SIZE + ELF32_PHDR_SIZE;
 
 /// `.shstrtab`; its names begin at 1, 14, 22 and 30.

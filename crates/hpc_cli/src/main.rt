@@ -19,6 +19,7 @@ const MOST_BYTES: usize = 131_072;
 /// word of a command can be there are none, which is an invalid command line.
 fn words_of<R: Env + AllocGlobal>(rt: &R) -> Result<Vec<Text>, Memory> {
     let mut word = Vec::new(rt.alloc());
+    // room: `MOST_BYTES`, the bytes of one word
     word.resize(MOST_BYTES, 0u8)?;
     let mut words = Vec::new(rt.alloc());
     for number in 1..usize::MAX {

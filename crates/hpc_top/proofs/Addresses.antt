@@ -13,7 +13,7 @@ use Rattle.rv_hart.specs.declared.outcome.Stepped.TheVariants as stepped
 use Rattle.rv_hart.specs.declared.outcome.Cause.TheVariants as cause
 use Rattle.prof_bytes.specs.Number.{word_sum}
 use Rattle.rv_hart.specs.Arithmetic.{signed}
-use Rattle.rv_hart.specs.AddressSpace.{AddressSpace, stored}
+use Rattle.rv_memory.specs.AddressSpace.{AddressSpace, stored}
 use Rattle.rv_hart.specs.Step.{State, rs1_value, rs2_value, address, operand, trapped, retired, jumps, continues_at, branches, loads, finishes_store, executed, fetched, after_fetch, step_of}
 use Rattle.rv_run.specs.declared.schedule.Slice.{Slice}
 use Rattle.rv_run.specs.declared.hart.HartEnd.{HartEnd}
@@ -21,14 +21,14 @@ use Rattle.rv_run.specs.declared.hart.HartEnd.TheVariants as ends
 use Rattle.rv_run.specs.State.{HartState, MachineState, first_hart, hart_in, hart_of, is_running, step_state, stepped_hart}
 use Rattle.rv_run.specs.Calls.{Acted, Answered, holds_in, negative, reads, writes, call_numbered, completes, ends_by, ends_all, grouped, with_answer, with_end, only_answers, all_readable, writes_out, room_for, read_into}
 use Rattle.rv_run.specs.Run.{Instant, Run, acts, acts_by, finished, preceded, next_instant, state_after, stepped_machine, run_slice, run_slices}
-use Rattle.scope_types.specs.Distinct.{HartRaw}
+use Rattle.scope_types.specs.Distinct.{ColumnRaw}
 use Rattle.scope_types.specs.Raw.{HasFrames}
 use Rattle.cfi_unwind.specs.Caller.{Words, Unwinding}
 use Rattle.cfi_unwind.specs.Path.{path_of as unwound_by}
 use Rattle.sample_clock.specs.declared.clock.Sample.{Sample}
 use Rattle.sample_clock.specs.Samples.{is_sampled, sample_of, words_of}
 use Rattle.measure_file.specs.Measurable.{HasWord}
-use Rattle.hpc_top.specs.Samples.{hart_raw, sampled}
+use Rattle.hpc_top.specs.Samples.{column_raw, sampled}
 
 abbrev pub IsWord : ℕ → Type 0
 IsWord n = n < 2 ^ 32
@@ -223,14 +223,14 @@ abbrev pub PathsHaveWords : Type 0
 PathsHaveWords = (u : Unwinding) (pc : ℕ) (registers : List ℕ) (words : Words) → pc < 2 ^ 32 → All HasWord (unwound_by u pc registers words).frames
 
 module _ (u : Unwinding) (period n : ℕ) (run : Run) (all : All (IsOf n) run.instants) where
-  each_sample_of : (P : HartRaw → Type 0) → ((i : Instant) → IsOf n i → P (hart_raw (sample_of (unwound_by u) i))) → All P (sampled (unwound_by u) period run)
+  each_sample_of : (P : ColumnRaw → Type 0) → ((i : Instant) → IsOf n i → P (column_raw (sample_of (unwound_by u) i))) → All P (sampled (unwound_by u) period run)
   each_sample_of P holds =
-      All-map P hart_raw (map (sample_of (unwound_by u)) (filter (is_sampled period) run.instants))
-      (All-map (λ (s : Sample). P (hart_raw s)) (sample_of (unwound_by u)) (filter (is_sampled period) run.instants)
-      (All-filter (is_sampled period) (λ (i : Instant). P (hart_raw (sample_of (unwound_by u) i))) run.instants (λ k d lt. holds (get_or run.instants k d) (all k d lt))))
+      All-map P column_raw (map (sample_of (unwound_by u)) (filter (is_sampled period) run.instants))
+      (All-map (λ (s : Sample). P (column_raw s)) (sample_of (unwound_by u)) (filter (is_sampled period) run.instants)
+      (All-filter (is_sampled period) (λ (i : Instant). P (column_raw (sample_of (unwound_by u) i))) run.instants (λ k d lt. holds (get_or run.instants k d) (all k d lt))))
 
-  pub samples_own : All (λ s. s.hart < n) (sampled (unwound_by u) period run)
-  samples_own = each_sample_of (λ s. s.hart < n) (λ i is. is.0)
+  pub samples_own : All (λ s. s.column < n) (sampled (unwound_by u) period run)
+  samples_own = each_sample_of (λ s. s.column < n) (λ i is. is.0)
 
   pub samples_frames : PathsHaveFrames → All (λ s. HasFrames s.raw.frames) (sampled (unwound_by u) period run)
   samples_frames frames = each_sample_of (λ s. HasFrames s.raw.frames) (λ i is. frames u i.moment.pc i.registers (words_of i.memory))

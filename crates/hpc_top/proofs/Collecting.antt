@@ -15,13 +15,13 @@ use Rattle.sample_clock.specs.declared.clock.Sample.{Sample}
 use Rattle.sample_clock.specs.Samples.{Paths, is_sampled, sample_of}
 use Rattle.sample_clock.specs.Clock.{Sampling, Given, IsOver, samples_to_come}
 use Rattle.scope_types.specs.declared.frame.Counted.{Counted}
-use Rattle.scope_types.specs.Distinct.{HartRaw, distinct, frames_in, samples_in}
+use Rattle.scope_types.specs.Distinct.{ColumnRaw, distinct, frames_in, samples_in}
 use Rattle.scope_types.specs.Limits.{most_samples, most_frames_in_all}
 use Rattle.thread_cct.specs.declared.ccts.TooManyFrames.{TooManyFrames}
 use Rattle.thread_cct.specs.Adding.{few_frames, too_many}
-use Rattle.hpc_top.specs.declared.status.InputFault.{InputFault}
-use Rattle.hpc_top.specs.declared.status.InputFault.TheVariants.{TooManySamples, TooManyFrames as TooMany}
-use Rattle.hpc_top.specs.Samples.{hart_raw, within_frames, within_samples, few_samples}
+use Rattle.command_line.specs.declared.status.InputFault.{InputFault}
+use Rattle.command_line.specs.declared.status.InputFault.TheVariants.{TooManySamples, TooManyFrames as TooMany}
+use Rattle.hpc_top.specs.Samples.{column_raw, within_frames, within_samples, few_samples}
 use Rattle.hpc_top.specs.private.Collecting.{AllCounted, Exceeds, GivesNext, Stops, raws_to_come}
 
 -- ---- the limits
@@ -61,13 +61,13 @@ frames_refused tables fail fault is refused = frames_err tables fault (subst (λ
 -- ---- so far
 
 pub record SoFar (path_of : Paths) (harts : ℕ) (start now : Sampling) (ccts : List (List Counted)) : Type 0 where
-  pub done : List HartRaw
+  pub done : List ColumnRaw
   pub parts : raws_to_come path_of start ≡ done ++ raws_to_come path_of now
   pub met : now.met ≡ length done
   pub few : length done ≤ most_samples
   pub at_end : (to_come now.machine).final ≡ (to_come start.machine).final
-  pub done_harts : All (λ s. s.hart < harts) done
-  pub left_harts : All (λ s. s.hart < harts) (raws_to_come path_of now)
+  pub done_harts : All (λ s. s.column < harts) done
+  pub left_harts : All (λ s. s.column < harts) (raws_to_come path_of now)
   pub counts : ccts ≡ distinct harts done
   pub count : samples_in ccts ≡ length done
   pub fits : frames_in ccts ≤ most_frames_in_all
@@ -83,9 +83,9 @@ none_counted : (harts : ℕ) → frames_in (distinct harts []) ≡ 0
 unfolding distinct
 none_counted harts = no_frames (range_with_len 0 harts)
 
-samples_harts : (path_of : Paths) (harts period : ℕ) (instants : List Instant) → All (λ i. i.moment.hart < harts) instants → All (λ s. s.hart < harts) (map hart_raw (map (sample_of path_of) (filter (is_sampled period) instants)))
+samples_harts : (path_of : Paths) (harts period : ℕ) (instants : List Instant) → All (λ i. i.moment.hart < harts) instants → All (λ s. s.column < harts) (map column_raw (map (sample_of path_of) (filter (is_sampled period) instants)))
 samples_harts path_of harts period instants all =
-    All-map (λ (s : HartRaw). s.hart < harts) hart_raw (map (sample_of path_of) (filter (is_sampled period) instants))
+    All-map (λ (s : ColumnRaw). s.column < harts) column_raw (map (sample_of path_of) (filter (is_sampled period) instants))
     (All-map (λ (s : Sample). s.hart < harts) (sample_of path_of) (filter (is_sampled period) instants) (All-filter (is_sampled period) (λ (i : Instant). i.moment.hart < harts) instants all))
 
 pub so_far_first : (path_of : Paths) (harts : ℕ) (start : Sampling) (ccts : List (List Counted)) → start.met ≡ 0 → All (λ i. i.moment.hart < harts) (to_come start.machine).instants → ccts ≡ distinct harts [] → samples_in ccts ≡ 0
@@ -105,16 +105,16 @@ so_far_first path_of harts start ccts none all are count =
     }
 
 -- the next sample's
-next_raws : (path_of : Paths) (sample : Sample) (old new : Sampling) → Given path_of sample old new → raws_to_come path_of old ≡ hart_raw sample ∷ raws_to_come path_of new
-next_raws path_of sample old new given = ap (map hart_raw) given.to_come
+next_raws : (path_of : Paths) (sample : Sample) (old new : Sampling) → Given path_of sample old new → raws_to_come path_of old ≡ column_raw sample ∷ raws_to_come path_of new
+next_raws path_of sample old new given = ap (map column_raw) given.to_come
 
 module _ (path_of : Paths) (harts : ℕ) (start old new : Sampling) (ccts : List (List Counted)) (sofar : SoFar path_of harts start old ccts) where
-  left : (sample : Sample) → Given path_of sample old new → All (λ s. s.hart < harts) (hart_raw sample ∷ raws_to_come path_of new)
-  left sample given = subst (All (λ (s : HartRaw). s.hart < harts)) (next_raws path_of sample old new given) sofar.left_harts
+  left : (sample : Sample) → Given path_of sample old new → All (λ s. s.column < harts) (column_raw sample ∷ raws_to_come path_of new)
+  left sample given = subst (All (λ (s : ColumnRaw). s.column < harts)) (next_raws path_of sample old new given) sofar.left_harts
 
   pub so_far_hart : (sample : Sample) → Given path_of sample old new → length (distinct harts sofar.done) ≡ harts → sample.hart < length ccts
   so_far_hart sample given many =
-      let lt : sample.hart < harts = All-head (λ (s : HartRaw). s.hart < harts) (hart_raw sample) (raws_to_come path_of new) (left sample given) in
+      let lt : sample.hart < harts = All-head (λ (s : ColumnRaw). s.column < harts) (column_raw sample) (raws_to_come path_of new) (left sample given) in
       let long : length ccts ≡ harts = ap (λ (ts : List (List Counted)). length ts) sofar.counts ∙ many in
       omega (arith, lt, long)
 
@@ -128,13 +128,13 @@ module _ (path_of : Paths) (harts : ℕ) (start old new : Sampling) (ccts : List
 
   -- those that were counted, with this sample
   module _ (sample : Sample) (given : Given path_of sample old new) (many : length (distinct harts sofar.done) ≡ harts) where
-    all_parts : raws_to_come path_of start ≡ (sofar.done ++ hart_raw sample ∷ []) ++ raws_to_come path_of new
-    all_parts = sofar.parts ∙ ap (λ (l : List HartRaw). sofar.done ++ l) (next_raws path_of sample old new given) ∙ sym (append_assoc sofar.done (hart_raw sample ∷ []) (raws_to_come path_of new))
+    all_parts : raws_to_come path_of start ≡ (sofar.done ++ column_raw sample ∷ []) ++ raws_to_come path_of new
+    all_parts = sofar.parts ∙ ap (λ (l : List ColumnRaw). sofar.done ++ l) (next_raws path_of sample old new given) ∙ sym (append_assoc sofar.done (column_raw sample ∷ []) (raws_to_come path_of new))
 
-    now_long : new.met ≡ length (sofar.done ++ hart_raw sample ∷ [])
-    now_long = (let long = length-append sofar.done (hart_raw sample ∷ []) in let met = sofar.met in let one = given.met in omega (arith, long, met, one))
+    now_long : new.met ≡ length (sofar.done ++ column_raw sample ∷ [])
+    now_long = (let long = length-append sofar.done (column_raw sample ∷ []) in let met = sofar.met in let one = given.met in omega (arith, long, met, one))
 
-    now_few : length (sofar.done ++ hart_raw sample ∷ []) ≤ most_samples
+    now_few : length (sofar.done ++ column_raw sample ∷ []) ≤ most_samples
     now_few = (let long = now_long in let few = given.few in omega (arith, long, few))
 
     long_ccts : length ccts ≡ harts
@@ -143,87 +143,87 @@ module _ (path_of : Paths) (harts : ℕ) (start old new : Sampling) (ccts : List
     pub so_far_counts : ccts ≡ distinct (length ccts) sofar.done
     so_far_counts = sofar.counts ∙ ap (λ (n : ℕ). distinct n sofar.done) (sym long_ccts)
 
-    pub so_far_more : (ccts' : List (List Counted)) → (to_come new.machine).final ≡ (to_come old.machine).final → within_frames (distinct (length ccts) (sofar.done ++ hart_raw sample ∷ [])) ≡ Ok ccts' → samples_in ccts' ≡ samples_in ccts + 1
+    pub so_far_more : (ccts' : List (List Counted)) → (to_come new.machine).final ≡ (to_come old.machine).final → within_frames (distinct (length ccts) (sofar.done ++ column_raw sample ∷ [])) ≡ Ok ccts' → samples_in ccts' ≡ samples_in ccts + 1
         → SoFar path_of harts start new ccts'
     so_far_more ccts' last within count =
-        let tables : List (List Counted) = distinct harts (sofar.done ++ hart_raw sample ∷ []) in
-        let fine : within_frames tables ≡ Ok ccts' = subst (λ (n : ℕ). within_frames (distinct n (sofar.done ++ hart_raw sample ∷ [])) ≡ Ok ccts') long_ccts within in
+        let tables : List (List Counted) = distinct harts (sofar.done ++ column_raw sample ∷ []) in
+        let fine : within_frames tables ≡ Ok ccts' = subst (λ (n : ℕ). within_frames (distinct n (sofar.done ++ column_raw sample ∷ [])) ≡ Ok ccts') long_ccts within in
         let is = tested_ok (nat_lt most_frames_in_all (frames_in tables)) TooMany tables ccts' fine in
         record {
-          done = sofar.done ++ hart_raw sample ∷ [];
+          done = sofar.done ++ column_raw sample ∷ [];
           parts = all_parts;
           met = now_long;
           few = now_few;
           at_end = last ∙ sofar.at_end;
-          done_harts = All-append (λ (s : HartRaw). s.hart < harts) sofar.done (hart_raw sample ∷ []) sofar.done_harts (All-take (λ (s : HartRaw). s.hart < harts) 1 (hart_raw sample ∷ raws_to_come path_of new) (left sample given));
-          left_harts = All-tail (λ (s : HartRaw). s.hart < harts) (hart_raw sample) (raws_to_come path_of new) (left sample given);
+          done_harts = All-append (λ (s : ColumnRaw). s.column < harts) sofar.done (column_raw sample ∷ []) sofar.done_harts (All-take (λ (s : ColumnRaw). s.column < harts) 1 (column_raw sample ∷ raws_to_come path_of new) (left sample given));
+          left_harts = All-tail (λ (s : ColumnRaw). s.column < harts) (column_raw sample) (raws_to_come path_of new) (left sample given);
           counts = sym is.1;
-          count = (let was = sofar.count in let long = length-append sofar.done (hart_raw sample ∷ []) in omega (arith, was, long, count));
+          count = (let was = sofar.count in let long = length-append sofar.done (column_raw sample ∷ []) in omega (arith, was, long, count));
           fits = (let few = at_most most_frames_in_all (frames_in tables) is.0 in let same = ap frames_in is.1 in omega (arith, few, same));
         }
 
     -- too many frames with it
-    pub so_far_frames : (fault : InputFault) → within_frames (distinct (length ccts) (sofar.done ++ hart_raw sample ∷ [])) ≡ Err fault
-        → ((more : List HartRaw) → All (λ s. s.hart < harts) more → frames_in (distinct harts (sofar.done ++ hart_raw sample ∷ [])) ≤ frames_in (distinct harts ((sofar.done ++ hart_raw sample ∷ []) ++ more)))
+    pub so_far_frames : (fault : InputFault) → within_frames (distinct (length ccts) (sofar.done ++ column_raw sample ∷ [])) ≡ Err fault
+        → ((more : List ColumnRaw) → All (λ s. s.column < harts) more → frames_in (distinct harts (sofar.done ++ column_raw sample ∷ [])) ≤ frames_in (distinct harts ((sofar.done ++ column_raw sample ∷ []) ++ more)))
         → few_samples harts (raws_to_come path_of start) ≡ Err fault
     so_far_frames fault within grow =
-        let front : List HartRaw = sofar.done ++ hart_raw sample ∷ [] in
-        let rest : List HartRaw = raws_to_come path_of new in
-        let more : List HartRaw = take (most_samples - length front) rest in
+        let front : List ColumnRaw = sofar.done ++ column_raw sample ∷ [] in
+        let rest : List ColumnRaw = raws_to_come path_of new in
+        let more : List ColumnRaw = take (most_samples - length front) rest in
         let refused : within_frames (distinct harts front) ≡ Err fault = subst (λ (n : ℕ). within_frames (distinct n front) ≡ Err fault) long_ccts within in
         let is = tested_err (nat_lt most_frames_in_all (frames_in (distinct harts front))) TooMany fault (distinct harts front) refused in
         let over : most_frames_in_all < frames_in (distinct harts front) = is_above most_frames_in_all (frames_in (distinct harts front)) is.0 in
-        let grows : frames_in (distinct harts front) ≤ frames_in (distinct harts (front ++ more)) = grow more (All-take (λ (s : HartRaw). s.hart < harts) (most_samples - length front) rest (All-tail (λ (s : HartRaw). s.hart < harts) (hart_raw sample) rest (left sample given))) in
+        let grows : frames_in (distinct harts front) ≤ frames_in (distinct harts (front ++ more)) = grow more (All-take (λ (s : ColumnRaw). s.column < harts) (most_samples - length front) rest (All-tail (λ (s : ColumnRaw). s.column < harts) (column_raw sample) rest (left sample given))) in
         let taken : take most_samples (raws_to_come path_of start) ≡ front ++ more = ap (take most_samples) all_parts ∙ take_front most_samples front rest now_few in
         let many_frames : nat_lt most_frames_in_all (frames_in (distinct harts (take most_samples (raws_to_come path_of start)))) ≡ true =
-        ap (λ (l : List HartRaw). nat_lt most_frames_in_all (frames_in (distinct harts l))) taken ∙ lt-ltb most_frames_in_all (frames_in (distinct harts (front ++ more))) (omega (arith, over, grows)) in
+        ap (λ (l : List ColumnRaw). nat_lt most_frames_in_all (frames_in (distinct harts l))) taken ∙ lt-ltb most_frames_in_all (frames_in (distinct harts (front ++ more))) (omega (arith, over, grows)) in
         ap (λ (b : Bool). tested b TooMany (distinct harts (take most_samples (raws_to_come path_of start))) >>= λ _. within_samples (raws_to_come path_of start)) many_frames ∙ ap Err is.1
       where
-        take_front : (n : ℕ) (xs ys : List HartRaw) → length xs ≤ n → take n (xs ++ ys) ≡ xs ++ take (n - length xs) ys
+        take_front : (n : ℕ) (xs ys : List ColumnRaw) → length xs ≤ n → take n (xs ++ ys) ≡ xs ++ take (n - length xs) ys
         take_front n [] ys le = ap (λ (k : ℕ). take k ys) (let e : n ≡ n - 0 = omega arith in e)
         take_front zero (x ∷ xs) ys le = absurd (omega arith)
-        take_front (suc n) (x ∷ xs) ys le = ap (λ (l : List HartRaw). x ∷ l) (take_front n xs ys (omega arith) ∙ ap (λ (k : ℕ). xs ++ take k ys) (let e : n - length xs ≡ suc n - length (x ∷ xs) = omega arith in e))
+        take_front (suc n) (x ∷ xs) ys le = ap (λ (l : List ColumnRaw). x ∷ l) (take_front n xs ys (omega arith) ∙ ap (λ (k : ℕ). xs ++ take k ys) (let e : n - length xs ≡ suc n - length (x ∷ xs) = omega arith in e))
 
-    pub so_far_refused : (fail : Fail InputFault) → FailsBy fail (within_frames (distinct (length ccts) (sofar.done ++ hart_raw sample ∷ [])))
-        → ((more : List HartRaw) → All (λ s. s.hart < harts) more → frames_in (distinct harts (sofar.done ++ hart_raw sample ∷ [])) ≤ frames_in (distinct harts ((sofar.done ++ hart_raw sample ∷ []) ++ more)))
+    pub so_far_refused : (fail : Fail InputFault) → FailsBy fail (within_frames (distinct (length ccts) (sofar.done ++ column_raw sample ∷ [])))
+        → ((more : List ColumnRaw) → All (λ s. s.column < harts) more → frames_in (distinct harts (sofar.done ++ column_raw sample ∷ [])) ≤ frames_in (distinct harts ((sofar.done ++ column_raw sample ∷ []) ++ more)))
         → FailsBy fail (few_samples harts (raws_to_come path_of start))
     so_far_refused (fails.Fault fault) within grow = so_far_frames fault within grow
     so_far_refused (fails.Memory memory) within grow = tt
 
   -- the frames of what was counted fit
-  fit : (rest : List HartRaw) → take most_samples (raws_to_come path_of start) ≡ sofar.done → few_samples harts (raws_to_come path_of start) ≡ within_samples (raws_to_come path_of start)
+  fit : (rest : List ColumnRaw) → take most_samples (raws_to_come path_of start) ≡ sofar.done → few_samples harts (raws_to_come path_of start) ≡ within_samples (raws_to_come path_of start)
   fit rest front =
       let few : frames_in (distinct harts (take most_samples (raws_to_come path_of start))) ≤ most_frames_in_all =
-      (let same = ap (λ (l : List HartRaw). frames_in (distinct harts l)) front in let are = ap frames_in sofar.counts in let fits = sofar.fits in omega (arith, same, are, fits)) in
+      (let same = ap (λ (l : List ColumnRaw). frames_in (distinct harts l)) front in let are = ap frames_in sofar.counts in let fits = sofar.fits in omega (arith, same, are, fits)) in
       ap (λ (b : Bool). tested b TooMany (distinct harts (take most_samples (raws_to_come path_of start))) >>= λ _. within_samples (raws_to_come path_of start)) (le-ltb most_frames_in_all (frames_in (distinct harts (take most_samples (raws_to_come path_of start)))) few)
 
   -- none is left
   pub so_far_over : IsOver path_of old new → (to_come new.machine).final ≡ (to_come old.machine).final → AllCounted path_of harts ccts start new
   so_far_over over last =
-      let all : raws_to_come path_of start ≡ sofar.done = sofar.parts ∙ ap (λ (l : List Sample). sofar.done ++ map hart_raw l) over.none ∙ append-nil sofar.done in
+      let all : raws_to_come path_of start ≡ sofar.done = sofar.parts ∙ ap (λ (l : List Sample). sofar.done ++ map column_raw l) over.none ∙ append-nil sofar.done in
       let front : take most_samples (raws_to_come path_of start) ≡ sofar.done = ap (take most_samples) all ∙ take_all most_samples sofar.done sofar.few in
-      let long : length (raws_to_come path_of start) ≤ most_samples = (let same = ap (λ (l : List HartRaw). length l) all in let few = sofar.few in omega (arith, same, few)) in
+      let long : length (raws_to_come path_of start) ≤ most_samples = (let same = ap (λ (l : List ColumnRaw). length l) all in let few = sofar.few in omega (arith, same, few)) in
       record {
         few = fit [] front ∙ ap (λ (b : Bool). tested b TooManySamples (raws_to_come path_of start)) (le-ltb most_samples (length (raws_to_come path_of start)) long);
         counts = sofar.counts ∙ ap (distinct harts) (sym all);
-        all = sofar.count ∙ ap (λ (l : List HartRaw). length l) (sym all);
-        of_harts = subst (All (λ (s : HartRaw). s.hart < harts)) (sym all) sofar.done_harts;
+        all = sofar.count ∙ ap (λ (l : List ColumnRaw). length l) (sym all);
+        of_harts = subst (All (λ (s : ColumnRaw). s.column < harts)) (sym all) sofar.done_harts;
         ended = sym (ap (λ (r : Run). r.final) over.ended) ∙ last ∙ sofar.at_end;
       }
 
   -- one more than there may be
   pub so_far_many : (fault : InputFault) → Exceeds path_of fault old new → few_samples harts (raws_to_come path_of start) ≡ Err fault
   so_far_many fault exceeds =
-      let rest : List HartRaw = raws_to_come path_of old in
+      let rest : List ColumnRaw = raws_to_come path_of old in
       let long : most_samples ≤ length sofar.done = (let met = sofar.met in let full = exceeds.many.full in omega (arith, met, full)) in
       let front : take most_samples (raws_to_come path_of start) ≡ sofar.done = ap (take most_samples) sofar.parts ∙ take-append-le most_samples sofar.done rest long ∙ take_all most_samples sofar.done sofar.few in
-      let total : length (raws_to_come path_of start) ≡ length sofar.done + length rest = ap (λ (l : List HartRaw). length l) sofar.parts ∙ length-append sofar.done rest in
+      let total : length (raws_to_come path_of start) ≡ length sofar.done + length rest = ap (λ (l : List ColumnRaw). length l) sofar.parts ∙ length-append sofar.done rest in
       let more : most_samples < length (raws_to_come path_of start) =
       (let met = sofar.met in let few = sofar.few in let now = exceeds.many.over in let all = exceeds.many.all in let a = raws_long old in omega (arith, total, long, met, few, now, all, a)) in
       fit rest front ∙ ap (λ (b : Bool). tested b TooManySamples (raws_to_come path_of start)) (lt-ltb most_samples (length (raws_to_come path_of start)) more) ∙ ap Err (sym exceeds.is)
     where
       raws_long : (s : Sampling) → length (raws_to_come path_of s) ≡ length (samples_to_come path_of s)
-      raws_long s = length-map (samples_to_come path_of s) hart_raw
+      raws_long s = length-map (samples_to_come path_of s) column_raw
 
   pub so_far_stops : (fail : Fail InputFault) → Stops path_of fail old new → FailsBy fail (few_samples harts (raws_to_come path_of start))
   so_far_stops (fails.Fault fault) stops = so_far_many fault stops

@@ -1,18 +1,19 @@
 -- Files fetched one after the other.
-use Rattle.std.proofs.Common.{◌≡◌, ℕ, suc, ◌+◌, ◌<◌, ◌≤◌, List, [], ◌∷◌, ◌++◌, length, get_or, map, take, drop, refl, sym, ap, subst, ◌∙◌, arith, Result, Ok, Err, IsTrue, is_ok}
+use Rattle.std.proofs.Common.{◌≡◌, ℕ, suc, ◌+◌, ◌<◌, ◌≤◌, List, [], ◌∷◌, ◌++◌, length, get_or, map, take, drop, sym, ap, subst, ◌∙◌, arith, Result, Ok, Err, IsTrue, is_ok}
 use Rattle.std.proofs.lemmas.List.{take_more, take-append-drop, length-map, get_or-map}
 use Rattle.std.proofs.Math.Seq.{drop-cons}
 use Rattle.prof_bytes.specs.Outcome.{◌>>=◌}
 use Rattle.prof_bytes.proofs.Outcomes.{bind_ok}
 use Rattle.prof_devices.specs.Files.{Files}
 use Rattle.prof_devices.specs.Outside.{ShelfState, Fails}
-use Rattle.hpc_top.specs.declared.status.InputFault.{InputFault}
+use Rattle.command_line.specs.declared.status.InputFault.{InputFault}
 use Rattle.hpc_top.specs.declared.status.Stop.{Stop}
 use Rattle.hpc_top.specs.declared.status.Stop.TheVariants.{Input, Device, Memory}
-use Rattle.hpc_top.specs.declared.status.Place.TheVariants.{Read, Store, Print}
-use Rattle.hpc_top.specs.declared.steps.Want.{Want}
-use Rattle.hpc_top.specs.private.Views.{view_want}
-use Rattle.hpc_top.specs.Task.{Wanted, limited_bytes, contents}
+use Rattle.command_line.specs.declared.status.Place.TheVariants.{Read, Store, Print}
+use Rattle.command_line.specs.declared.kind.Want.{Want}
+use Rattle.command_line.specs.declared.kind.FileKind.{FileKind}
+use Rattle.command_line.specs.Kind.{Wanted, file_limit, kinds_of, view_want}
+use Rattle.hpc_top.specs.Verdict.{limited_bytes, contents}
 use Rattle.hpc_top.specs.Outcome.{ReadFailed}
 use Rattle.hpc_top.specs.private.Steps.{FetchStops, AreWithin}
 
@@ -87,21 +88,20 @@ fetch_all_stops s t u ws i w texts stop less is same so_far stops =
     (subst (λ (v : ShelfState). FetchStops (Fails v.reads u.reads (view_want w).name) v u (limited_bytes v.files (view_want w)) stop) same stops)
 
 -- a text more
-pub within_more : (texts : List (List ℕ)) (ws : List Wanted) (text : List ℕ) (w : Wanted) → AreWithin texts ws → length text ≤ w.limit → AreWithin (texts ++ text ∷ []) (ws ++ w ∷ [])
+pub within_more : (texts : List (List ℕ)) (ws : List Wanted) (text : List ℕ) (w : Wanted) → AreWithin texts (kinds_of ws) → length text ≤ file_limit w.file → AreWithin (texts ++ text ∷ []) (kinds_of (ws ++ w ∷ []))
 within_more [] [] text w all one = (one, tt)
 within_more (t ∷ ts) (v ∷ vs) text w all one = (all.0, within_more ts vs text w all.1 one)
 within_more [] (v ∷ vs) text w all one = absurd all
 within_more (t ∷ ts) [] text w all one = absurd all
 
-pub fetched_within : (ws : List Want) (i : ℕ) (w : Want) (texts texts' : List (List ℕ)) (text : List ℕ) → i < length ws → w ≡ get_or ws i w → AreWithin texts (take i (map view_want ws)) → length text ≤ w.limit → texts' ≡ texts ++ text ∷ [] → AreWithin texts' (take (i + 1) (map view_want ws))
+pub fetched_within : (ws : List Want) (i : ℕ) (w : Want) (texts texts' : List (List ℕ)) (text : List ℕ) → i < length ws → w ≡ get_or ws i w → AreWithin texts (kinds_of (take i (map view_want ws))) → length text ≤ file_limit w.file → texts' ≡ texts ++ text ∷ []
+    → AreWithin texts' (kinds_of (take (i + 1) (map view_want ws)))
 fetched_within ws i w texts texts' text less is so_far one texts_are =
     let all : List Wanted = map view_want ws in
     let inside : i < length all = (let e = length-map ws view_want in omega arith) in
-    subst (λ (ts : List (List ℕ)). AreWithin ts (take (i + 1) all)) (sym texts_are)
-    (subst (λ (vs : List Wanted). AreWithin (texts ++ text ∷ []) vs) (sym (take_more all i (view_want w) inside ∙ ap (λ (v : Wanted). take i all ++ v ∷ []) (sym (wanted_at ws i w less is)))) (within_more texts (take i all) text (view_want w) so_far one))
+    subst (λ (ts : List (List ℕ)). AreWithin ts (kinds_of (take (i + 1) all))) (sym texts_are)
+    (subst (λ (vs : List Wanted). AreWithin (texts ++ text ∷ []) (kinds_of vs)) (sym (take_more all i (view_want w) inside ∙ ap (λ (v : Wanted). take i all ++ v ∷ []) (sym (wanted_at ws i w less is)))) (within_more texts (take i all) text (view_want w) so_far one))
 
-pub within_length : (texts : List (List ℕ)) (ws : List Wanted) → AreWithin texts ws → length texts ≡ length ws
-within_length [] [] all = refl
-within_length (t ∷ ts) (v ∷ vs) all = ap suc (within_length ts vs all.1)
-within_length [] (v ∷ vs) all = absurd all
-within_length (t ∷ ts) [] all = absurd all
+-- the texts of the files of a command are within the limits of its kinds
+pub of_kinds : (texts : List (List ℕ)) (ws : List Wanted) (files : List FileKind) → AreWithin texts (kinds_of ws) → kinds_of ws ≡ files → AreWithin texts files
+of_kinds texts ws files within same = subst (AreWithin texts) same within

@@ -1,14 +1,15 @@
 -- What follows from the table of answers.
-use Rattle.std.proofs.Common.{◌≡◌, Option, Some, None, Result, Ok, Err, IsTrue, IsOk, is_ok, true, false, refl, ap, sym, subst, ◌∙◌}
+use Rattle.std.proofs.Common.{◌≡◌, ℕ, Option, Some, None, Result, Ok, Err, IsTrue, IsOk, is_ok, true, false, refl, ap, sym, subst, ◌∙◌}
 use Rattle.std.specs.Prelude.{IsNone, IsSomeAnd}
 use Rattle.prof_devices.specs.Outside.{Rose}
-use Rattle.hpc_top.specs.declared.status.InputFault.{InputFault}
-use Rattle.hpc_top.specs.declared.status.Status.{Status}
-use Rattle.hpc_top.specs.declared.status.Status.TheVariants.{Done, Usage, Input, Device, Memory}
-use Rattle.hpc_top.specs.declared.status.Place.TheVariants.{Read, Store, Print}
+use Rattle.command_line.specs.declared.status.InputFault.{InputFault}
+use Rattle.command_line.specs.declared.status.Status.{Status}
+use Rattle.command_line.specs.declared.status.Status.TheVariants.{Done, Usage, Input, Device, Memory}
+use Rattle.command_line.specs.declared.status.Place.TheVariants.{Read, Store, Print}
 use Rattle.hpc_top.specs.Product.{Product}
-use Rattle.hpc_top.specs.Task.{task_of, verdict}
-use Rattle.hpc_top.specs.Words.{Request, DrillWords, Drill}
+use Rattle.command_line.specs.Request.{Request}
+use Rattle.command_line.specs.Words.{drill_request}
+use Rattle.hpc_top.specs.Verdict.{verdict}
 use Rattle.hpc_top.specs.Outcome.{Call, Answers, Makes, Finished}
 use Rattle.hpc_top.specs.Follows.{Follows, Drilled, UsageOrMemory, RefusalReadOrMemory, DoneOrMemory, NothingFailed}
 
@@ -26,13 +27,13 @@ not_refused r fault ok refused = let e : is_ok r ≡ false = ap is_ok refused in
 module _ (call : Call) where
   -- ---- the rows of single answers
 
-  done : (asked : Option Request) → Answers asked call Done → IsSomeAnd asked (λ request. Makes (task_of request) Finished call)
+  done : (asked : Option Request) → Answers asked call Done → IsSomeAnd asked (λ request. Makes request Finished call)
   done None row = absurd row
   done (Some request) row = row
 
-  drill : (asked : Option Request) (words : DrillWords) → Answers asked call Done → asked ≡ Some (Drill words) → IsTrue call.before.shelf.known → IsTrue call.before.out.known → Drilled words.number call
-  drill asked words row is told shown =
-      let made : Makes (task_of (Drill words)) Finished call = subst (λ (a : Option Request). Answers a call Done) is row in
+  drill : (asked : Option Request) (number workers : ℕ) → Answers asked call Done → asked ≡ Some (drill_request number workers) → IsTrue call.before.shelf.known → IsTrue call.before.out.known → Drilled number call
+  drill asked number workers row is told shown =
+      let made : Makes (drill_request number workers) Finished call = subst (λ (a : Option Request). Answers a call Done) is row in
       record { product = made.0; of_guest = made.1 told; files = made.2.0 told; out = made.2.2 shown }
 
   usage : (asked : Option Request) → Answers asked call Usage → IsNone asked
@@ -40,7 +41,7 @@ module _ (call : Call) where
   usage (Some request) row = absurd row
 
   input : (asked : Option Request) (fault : InputFault) → Answers asked call (Input fault)
-      → IsSomeAnd asked (λ request. IsTrue call.before.shelf.known → verdict (task_of request) call.before.shelf.files ≡ Err fault)
+      → IsSomeAnd asked (λ request. IsTrue call.before.shelf.known → verdict request call.before.shelf.files ≡ Err fault)
   input None fault row = absurd row
   input (Some request) fault row = row.1
 
@@ -66,20 +67,20 @@ module _ (call : Call) where
   invalid (Device place) row = row
 
   module _ (request : Request) (told : IsTrue call.before.shelf.known) where
-    refused : (fault : InputFault) → verdict (task_of request) call.before.shelf.files ≡ Err fault → (status : Status) → Answers (Some request) call status → RefusalReadOrMemory fault status
-    refused fault is Done row = accepted_or_not (verdict (task_of request) call.before.shelf.files) row.0 fault (row.1 told) is
+    refused : (fault : InputFault) → verdict request call.before.shelf.files ≡ Err fault → (status : Status) → Answers (Some request) call status → RefusalReadOrMemory fault status
+    refused fault is Done row = accepted_or_not (verdict request call.before.shelf.files) row.0 fault (row.1 told) is
     refused fault is Usage row = row
-    refused fault is (Input other) row = one_refusal (verdict (task_of request) call.before.shelf.files) other fault (row.1 told) is
+    refused fault is (Input other) row = one_refusal (verdict request call.before.shelf.files) other fault (row.1 told) is
     refused fault is (Device Read) row = tt
-    refused fault is (Device Store) row = accepted_or_not (verdict (task_of request) call.before.shelf.files) row.0.0 fault (row.0.1 told) is
-    refused fault is (Device Print) row = accepted_or_not (verdict (task_of request) call.before.shelf.files) row.0.0 fault (row.0.1 told) is
+    refused fault is (Device Store) row = accepted_or_not (verdict request call.before.shelf.files) row.0.0 fault (row.0.1 told) is
+    refused fault is (Device Print) row = accepted_or_not (verdict request call.before.shelf.files) row.0.0 fault (row.0.1 told) is
     refused fault is (Memory memory) row = tt
 
-    complete : IsOk (verdict (task_of request) call.before.shelf.files) → NothingFailed call → (status : Status) → Answers (Some request) call status → DoneOrMemory status
+    complete : IsOk (verdict request call.before.shelf.files) → NothingFailed call → (status : Status) → Answers (Some request) call status → DoneOrMemory status
     complete ok nothing Done row = tt
     complete ok nothing (Memory memory) row = tt
     complete ok nothing Usage row = row
-    complete ok nothing (Input fault) row = not_refused (verdict (task_of request) call.before.shelf.files) fault ok (row.1 told)
+    complete ok nothing (Input fault) row = not_refused (verdict request call.before.shelf.files) fault ok (row.1 told)
     complete ok nothing (Device Read) row = nothing.reads row.1.rose
     complete ok nothing (Device Store) row = nothing.stores row.1.rose
     complete ok nothing (Device Print) row = nothing.puts row.1.rose
@@ -91,7 +92,7 @@ module _ (call : Call) where
   pub follows : (asked : Option Request) (status : Status) → Answers asked call status → Follows asked call status
   follows asked status row = record {
     done = λ is. done asked (subst (Answers asked call) is row);
-    drill = λ words is_drill is told shown. drill asked words (subst (Answers asked call) is row) is_drill told shown;
+    drill = λ number workers is_drill is told shown. drill asked number workers (subst (Answers asked call) is row) is_drill told shown;
     usage = λ is. usage asked (subst (Answers asked call) is row);
     invalid = λ none. invalid status (subst (λ (a : Option Request). Answers a call status) (unasked asked none) row);
     input = λ fault is. input asked fault (subst (Answers asked call) is row);

@@ -1,13 +1,12 @@
+pub mod Faults
 pub mod Following
 pub mod Outcomes
-pub mod Line
 pub mod Fetching
-pub mod Lines
+pub mod Counted
 pub mod Products
 pub mod Collecting
 pub mod Contents
 pub mod Drilling
-pub mod Measuring
 pub mod Addresses
 pub mod Scheduled
 pub mod Apart

@@ -1,39 +1,41 @@
 -- From the steps of a command to its outcome.
 use Rattle.std.proofs.Common.{◌≡◌, inl, inr, Option, Some, None, Result, Ok, Err, IsTrue, refl, sym, ap, subst}
+use Rattle.prof_bytes.specs.declared.fail.Memory.{Memory as Token}
 use Rattle.prof_devices.specs.Outside.{ShelfState, SinkState}
-use Rattle.hpc_top.specs.declared.status.Status.{Status}
-use Rattle.hpc_top.specs.declared.status.Status.TheVariants as answers
+use Rattle.command_line.specs.declared.status.Status.{Status}
+use Rattle.command_line.specs.declared.status.Status.TheVariants as answers
 use Rattle.hpc_top.specs.declared.status.Stop.{Stop}
 use Rattle.hpc_top.specs.declared.status.Stop.TheVariants.{Input, Device, Memory}
-use Rattle.hpc_top.specs.declared.status.Place.TheVariants.{Read, Store, Print}
+use Rattle.command_line.specs.declared.status.Place.TheVariants.{Read, Store, Print}
 use Rattle.hpc_top.specs.Product.{Product}
-use Rattle.hpc_top.specs.Task.{Task, verdict}
-use Rattle.hpc_top.specs.Words.{Request}
+use Rattle.command_line.specs.Request.{Request}
+use Rattle.hpc_top.specs.Verdict.{verdict}
 use Rattle.hpc_top.specs.Outcome.{World, Call, call_of, Untouched, ReadFailed, Outcome, Answers}
 use Rattle.hpc_top.specs.private.Steps.{FetchStops, Delivers}
-use Rattle.hpc_top.specs.private.Stop.{StaysOrMemory, answer_of, stopped}
+use Rattle.command_line.specs.Message.{StaysOrMemory}
+use Rattle.hpc_top.specs.private.Stop.{answer_of, stopped}
 
 -- where nothing has changed, nothing but the failed reads has
 same_world : (call : Call) → call.after ≡ call.before → Untouched call
 same_world call same = (subst (λ (w : World). w.shelf ≡ record call.before.shelf { reads = w.shelf.reads }) (sym same) refl, ap (λ (w : World). w.out) same)
 
 -- the fetches stop, or what was fetched is refused
-pub unprepared : (task : Task) (s t : ShelfState) (o : SinkState) (stop : Stop) → FetchStops (ReadFailed task.wants s t) s t (verdict task s.files) stop → Outcome task (call_of s t o o) (stopped stop)
-unprepared task s t o (Input fault) h = (ap (λ (u : ShelfState). let w : World = record { shelf = u; out = o } in w) h.0, h.1)
-unprepared task s t o (Device Read) h = ((h.0, refl), h.1)
-unprepared task s t o (Device Store) h = absurd h
-unprepared task s t o (Device Print) h = absurd h
-unprepared task s t o (Memory memory) h = inl (same_world (call_of s t o o) (ap (λ (u : ShelfState). let w : World = record { shelf = u; out = o } in w) h))
+pub unprepared : (request : Request) (s t : ShelfState) (o : SinkState) (stop : Stop) → FetchStops (ReadFailed request.reads s t) s t (verdict request s.files) stop → Outcome request (call_of s t o o) (stopped stop)
+unprepared request s t o (Input fault) h = (ap (λ (u : ShelfState). let w : World = record { shelf = u; out = o } in w) h.0, h.1)
+unprepared request s t o (Device Read) h = ((h.0, refl), h.1)
+unprepared request s t o (Device Store) h = absurd h
+unprepared request s t o (Device Print) h = absurd h
+unprepared request s t o (Memory memory) h = inl (same_world (call_of s t o o) (ap (λ (u : ShelfState). let w : World = record { shelf = u; out = o } in w) h))
 
 -- what was made is delivered, whole or in part
-pub delivered : (task : Task) (call : Call) (p : Product) → (IsTrue call.before.shelf.known → verdict task call.before.shelf.files ≡ Ok p) → (end : Result (Unit {0}) Stop) → Delivers task.stores p call end → Outcome task call (answer_of end)
-delivered task call p made (Ok _) h = (p, made, h)
-delivered task call p made (Err (Input fault)) h = absurd h
-delivered task call p made (Err (Device Read)) h = absurd h
-delivered task call p made (Err (Device Store)) h = ((p, made, h.0), h.1)
-delivered task call p made (Err (Device Print)) h = ((p, made, h.0), h.1)
-delivered task call p made (Err (Memory memory)) (inl h) = inr (inl (p, made, h))
-delivered task call p made (Err (Memory memory)) (inr h) = inr (inr (p, made, h))
+pub delivered : (request : Request) (call : Call) (p : Product) → (IsTrue call.before.shelf.known → verdict request call.before.shelf.files ≡ Ok p) → (end : Result (Unit {0}) Stop) → Delivers request.stores p call end → Outcome request call (answer_of end)
+delivered request call p made (Ok _) h = (p, made, h)
+delivered request call p made (Err (Input fault)) h = absurd h
+delivered request call p made (Err (Device Read)) h = absurd h
+delivered request call p made (Err (Device Store)) h = ((p, made, h.0), h.1)
+delivered request call p made (Err (Device Print)) h = ((p, made, h.0), h.1)
+delivered request call p made (Err (Memory memory)) (inl h) = inr (inl (p, made, h))
+delivered request call p made (Err (Memory memory)) (inr h) = inr (inr (p, made, h))
 
 -- any answer but `Done` may become `Memory`
 pub or_memory : (asked : Option Request) (call : Call) (before after : Status) → Answers asked call before → StaysOrMemory before after → Answers asked call after
@@ -51,3 +53,8 @@ or_memory (Some request) call (answers.Input fault) after row (inr is) = subst (
 or_memory (Some request) call (answers.Device Read) after row (inr is) = subst (Answers (Some request) call) (sym is.1) (inl row.0)
 or_memory (Some request) call (answers.Device Store) after row (inr is) = subst (Answers (Some request) call) (sym is.1) (inr (inl row.0))
 or_memory (Some request) call (answers.Device Print) after row (inr is) = subst (Answers (Some request) call) (sym is.1) (inr (inr row.0))
+
+-- no memory for the request itself
+pub no_request : (asked : Option Request) (call : Call) (memory : Token) → call.after ≡ call.before → Answers asked call (answers.Memory memory)
+no_request None call memory same = same
+no_request (Some request) call memory same = inl (same_world call same)

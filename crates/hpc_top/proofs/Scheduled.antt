@@ -1,5 +1,5 @@
 -- What is so of every schedule and of every program that was read.
-use Rattle.std.proofs.Common.{◌≡◌, ℕ, ◌+◌, ◌-◌, ◌<◌, ◌≤◌, ◌^◌, ◌==◌, ◌&&◌, Bool, true, false, cond, nat_eq, nat_le, List, [], ◌∷◌, ◌++◌, length, take, drop, Option, Some, None, Result, Ok, Err, refl, sym, ap, subst, arith}
+use Rattle.std.proofs.Common.{◌≡◌, ℕ, ◌+◌, ◌-◌, ◌<◌, ◌≤◌, ◌^◌, ◌==◌, ◌&&◌, Bool, true, false, cond, nat_eq, nat_le, List, [], ◌∷◌, ◌++◌, length, take, drop, Option, Some, None, Ok, refl, sym, ap, subst, arith}
 use Rattle.std.specs.List.{AllByRecursion, starts_with}
 use Rattle.std.specs.Prelude.{position}
 use Rattle.std.proofs.lemmas.Bool.{leb-true}
@@ -7,16 +7,18 @@ use Rattle.std.proofs.lemmas.List.{get_or-drop}
 use Rattle.byteorder.specs.Numbers.{little_from-lt}
 use Rattle.prof_bytes.specs.Number.{IsBytes, number_in}
 use Rattle.prof_bytes.specs.Outcome.{◌>>=◌}
-use Rattle.elf_image.specs.declared.fault.ElfFault.{ElfFault}
 use Rattle.elf_image.specs.Fields.{number_of, word_at}
 use Rattle.elf_image.specs.Image.{ProgramImage}
 use Rattle.elf_image.specs.Reading.{checked_header, image_of, image_of_file, checked_sections, checked_all_segments, checked_symbols}
 use Rattle.elf_image.specs.Headers.{symbol_table}
 use Rattle.rv_run.specs.declared.schedule.Slice.{Slice}
 use Rattle.rv_run.specs.declared.schedule.ScheduleFault.{ScheduleFault}
-use Rattle.rv_run.specs.Numerals.{decimal_in, decimal_value, is_decimal}
-use Rattle.rv_run.specs.Schedule.{NumberedLine, Scheduled, slices_before, entries, harts_in, harts_word, lines, most_harts, most_instructions, numbered_lines, on_line, schedule_in, schedule_of, slice_by, slice_cut, slice_in, slices_of}
-use Rattle.hpc_top.specs.Program.{program, program_from, scheduled, scheduled_from}
+use Rattle.prof_bytes.specs.Numerals.{decimal_in, decimal_value, is_decimal}
+use Rattle.scope_types.specs.Limits.{most_harts}
+use Rattle.rv_run.specs.Schedule.{NumberedLine, Scheduled, slices_before, entries, harts_in, harts_word, lines, most_instructions, numbered_lines, on_line, schedule_in, schedule_of, slice_by, slice_cut, slice_in, slices_of}
+use Rattle.command_line.specs.declared.status.InputFault.TheVariants.{Schedule, Program}
+use Rattle.hpc_top.specs.Program.{program, scheduled}
+use Rattle.hpc_top.proofs.Faults.{from_faulted}
 use Rattle.prof_bytes.proofs.Outcomes.{bind_ok, ok_same}
 
 some_same : {X : Type 0} (x y : X) → ◌≡◌ {A = Option X} (Some x) (Some y) → x ≡ y
@@ -92,18 +94,10 @@ schedule_own end (first ∷ rest) s is =
     let b = harts_bounds first.bytes h.0 (fault_ok first.number (harts_in first.bytes) h.0 h.1) in
     subst IsOwn (ok_same (record { harts = h.0; slices = l.0 }) s l.2) (record { some = b.0; few = b.1; slices = slices_own h.0 0 rest l.0 b.0 l.1 })
 
-schedule_from : (r : Result Scheduled ScheduleFault) (s : Scheduled) → scheduled_from r ≡ Ok s → r ≡ Ok s
-schedule_from (Ok x) s is = ap Ok (ok_same x s is)
-schedule_from (Err fault) s is = absurd cc
-
 pub scheduled_own : (bytes : List ℕ) (s : Scheduled) → scheduled bytes ≡ Ok s → IsOwn s
-scheduled_own bytes s is = schedule_own (length (lines bytes) + 1) (entries (numbered_lines 1 (lines bytes))) s (schedule_from (schedule_of bytes) s is)
+scheduled_own bytes s is = schedule_own (length (lines bytes) + 1) (entries (numbered_lines 1 (lines bytes))) s (from_faulted (λ (fault : ScheduleFault). Schedule fault.line) (schedule_of bytes) s is)
 
 -- ---- programs
-
-image_from : (r : Result ProgramImage ElfFault) (image : ProgramImage) → program_from r ≡ Ok image → r ≡ Ok image
-image_from (Ok x) image is = ap Ok (ok_same x image is)
-image_from (Err fault) image is = absurd cc
 
 image_loaded : (elf : List ℕ) (image : ProgramImage) → image_of elf ≡ Ok image → image_of_file elf ≡ image
 unfolding image_of
@@ -115,7 +109,7 @@ image_loaded elf image is =
     ok_same (image_of_file elf) image d.2
 
 pub program_loaded : (elf : List ℕ) (image : ProgramImage) → program elf ≡ Ok image → image_of_file elf ≡ image
-program_loaded elf image is = image_loaded elf image (image_from (image_of elf) image is)
+program_loaded elf image is = image_loaded elf image (from_faulted Program (image_of elf) image is)
 
 word_low : (file : List ℕ) (offset : ℕ) → IsBytes file → word_at file offset < 2 ^ 32
 unfolding number_of

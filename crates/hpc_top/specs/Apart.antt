@@ -2,11 +2,11 @@
 use Rattle.std.specs.Prelude.{◌≡◌, ◌≤◌, ℕ, List, ◌++◌, length, Ok}
 use Rattle.prof_bytes.specs.Number.{IsBytes}
 use Rattle.hpc_top.specs.Product.{Product}
-use Rattle.hpc_top.specs.Measure.{run_product}
-use Rattle.hpc_top.specs.Attribution.{prof_product}
-use Rattle.hpc_top.specs.Profile.{profile_of}
-use Rattle.hpc_top.specs.Task.{program_limit}
-use Rattle.hpc_top.specs.Words.{most_period}
+use Rattle.hpc_top.specs.commands.Run.{run_product}
+use Rattle.hpc_top.specs.commands.Prof.{prof_product}
+use Rattle.hpc_top.specs.commands.Profile.{profile_of}
+use Rattle.hpc_top.specs.Verdict.{program_limit}
+use Rattle.command_line.specs.Words.{most_period}
 
 -- `run` is accepted on the profile's files, and `prof` on the program and what `run` stores. It stores the profile's
 -- database, and the profile's text is what `run` puts with what `prof` puts after it

@@ -1,15 +1,16 @@
 -- What follows from the table of answers, one sentence each, for readers and callers.
 use Rattle.std.specs.Prelude.{◌≡◌, ℕ, Option, Some, Ok, Err, IsTrue, IsNone, IsOk, IsSomeAnd}
 use Rattle.prof_devices.specs.Outside.{Rose, Appends}
-use Rattle.hpc_top.specs.declared.status.InputFault.{InputFault}
-use Rattle.hpc_top.specs.declared.status.Status.{Status}
-use Rattle.hpc_top.specs.declared.status.Status.TheVariants.{Done, Usage, Input, Device, Memory}
-use Rattle.hpc_top.specs.declared.status.Place.TheVariants.{Read, Store, Print}
-use Rattle.hpc_top.specs.Words.{Request, DrillWords, Drill}
-use Rattle.hpc_top.specs.Task.{task_of, verdict}
+use Rattle.command_line.specs.declared.status.InputFault.{InputFault}
+use Rattle.command_line.specs.declared.status.Status.{Status}
+use Rattle.command_line.specs.declared.status.Status.TheVariants.{Done, Usage, Input, Device, Memory}
+use Rattle.command_line.specs.declared.status.Place.TheVariants.{Read, Store, Print}
+use Rattle.command_line.specs.Request.{Request}
+use Rattle.command_line.specs.Words.{drill_request}
+use Rattle.hpc_top.specs.Verdict.{verdict}
 use Rattle.hpc_top.specs.Outcome.{Call, Makes, Finished}
 use Rattle.hpc_top.specs.Product.{Product}
-use Rattle.hpc_top.specs.Drill.{drill_product}
+use Rattle.hpc_top.specs.commands.Drill.{drill_product}
 
 -- the answers to an invalid command line: `Usage`, or `Memory`
 abbrev pub UsageOrMemory : Status → Type 0
@@ -50,24 +51,25 @@ pub record Drilled (number : ℕ) (call : Call) : Type 0 where
   pub files : call.after.shelf.files ≡ call.before.shelf.files
   pub out : Appends call.before.out.taken call.after.out.taken product.text
 
+-- what follows from the row of an answer
 pub record Follows (asked : Option Request) (call : Call) (status : Status) : Type 0 where
   -- the headline: after `Done` the database and the report are the definition's, and all other files are as before
-  pub done : status ≡ Done → IsSomeAnd asked (λ request. Makes (task_of request) Finished call)
+  pub done : status ≡ Done → IsSomeAnd asked (λ request. Makes request Finished call)
   -- after `Done` of a drill its lines were put, which its number alone decides
-  pub drill : (words : DrillWords) → asked ≡ Some (Drill words) → status ≡ Done → IsTrue call.before.shelf.known
-      → IsTrue call.before.out.known → Drilled words.number call
+  pub drill : (number workers : ℕ) → asked ≡ Some (drill_request number workers) → status ≡ Done
+      → IsTrue call.before.shelf.known → IsTrue call.before.out.known → Drilled number call
   -- the words alone decide on `Usage`
   pub usage : status ≡ Usage → IsNone asked
   pub invalid : IsNone asked → UsageOrMemory status
   -- a refusal is the verdict on the files
   pub input : (fault : InputFault) → status ≡ Input fault → IsSomeAnd asked (λ request.
-      IsTrue call.before.shelf.known → verdict (task_of request) call.before.shelf.files ≡ Err fault)
+      IsTrue call.before.shelf.known → verdict request call.before.shelf.files ≡ Err fault)
   -- and where the verdict is a refusal, it is answered, unless a read failed or memory ran out
   pub refused : (request : Request) (fault : InputFault) → asked ≡ Some request → IsTrue call.before.shelf.known
-      → verdict (task_of request) call.before.shelf.files ≡ Err fault → RefusalReadOrMemory fault status
+      → verdict request call.before.shelf.files ≡ Err fault → RefusalReadOrMemory fault status
   -- where the files are accepted and no device failed, the answer is `Done`, unless memory ran out
   pub complete : (request : Request) → asked ≡ Some request → IsTrue call.before.shelf.known
-      → IsOk (verdict (task_of request) call.before.shelf.files) → NothingFailed call → DoneOrMemory status
+      → IsOk (verdict request call.before.shelf.files) → NothingFailed call → DoneOrMemory status
   -- a failure of a device is one of this call
   pub read : status ≡ Device Read → Rose call.before.shelf.reads.count call.after.shelf.reads.count
   pub store : status ≡ Device Store → Rose call.before.shelf.stores.count call.after.shelf.stores.count

@@ -1,8 +1,8 @@
 -- Which jobs are carried out.
 use Rattle.std.specs.Prelude.{◌<◌, ◌≤◌, length}
-use Rattle.hpc_top.specs.declared.main_job.Job.{Job}
-use Rattle.hpc_top.specs.Task.{program_limit, schedule_limit}
-use Rattle.hpc_top.specs.Words.{most_workers}
+use Rattle.hpc_top.specs.declared.commands.profile.Job.{Job}
+use Rattle.scope_types.specs.Limits.{most_workers}
+use Rattle.hpc_top.specs.Verdict.{program_limit, schedule_limit}
 
 -- the program and the schedule are within their limits, the period is above 0, and there is at least one worker and at
 -- most as many as a command may have

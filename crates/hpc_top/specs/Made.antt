@@ -2,5 +2,6 @@
 use Rattle.hpc_top.specs.declared.status.Made.{Made}
 use Rattle.hpc_top.specs.Product.{Product}
 
+-- its database and its report
 abbrev pub product_in : Made → Product
 product_in made = record { stored = made.database; text = made.report }

@@ -2,12 +2,13 @@
 use Rattle.std.specs.Prelude.{◌≡◌, ◌⊎◌, List, ℕ, ◌∷◌, ◌++◌, Option, Some, None, Ok, Err, IsTrue, IsOk}
 use Rattle.prof_devices.specs.Files.{Holds, HoldsPart}
 use Rattle.prof_devices.specs.Outside.{ShelfState, SinkState, Rose, Appends, AppendsPart}
-use Rattle.hpc_top.specs.declared.status.Status.{Status}
-use Rattle.hpc_top.specs.declared.status.Status.TheVariants.{Done, Usage, Input, Device, Memory}
-use Rattle.hpc_top.specs.declared.status.Place.TheVariants.{Read, Store, Print}
+use Rattle.command_line.specs.declared.status.Status.{Status}
+use Rattle.command_line.specs.declared.status.Status.TheVariants.{Done, Usage, Input, Device, Memory}
+use Rattle.command_line.specs.declared.status.Place.TheVariants.{Read, Store, Print}
 use Rattle.hpc_top.specs.Product.{Product}
-use Rattle.hpc_top.specs.Task.{Task, Wanted, task_of, contents, verdict}
-use Rattle.hpc_top.specs.Words.{Request}
+use Rattle.command_line.specs.Kind.{Wanted}
+use Rattle.command_line.specs.Request.{Request}
+use Rattle.hpc_top.specs.Verdict.{contents, verdict}
 
 -- what the shelf of files and the output show
 pub record World : Type 0 where
@@ -19,6 +20,7 @@ pub record Call : Type 0 where
   pub before : World
   pub after : World
 
+-- a call, by the shelf before and after it, and the output before and after it
 abbrev pub call_of : ShelfState → ShelfState → SinkState → SinkState → Call
 call_of shelf shelf' out out' =
     record { before = record { shelf = shelf; out = out }; after = record { shelf = shelf'; out = out' } }
@@ -70,10 +72,10 @@ Finished name product call =
     × NoPutFailed call
 
 -- this stands of some product. Where the shelf shows its files, they are accepted, and it is the definition's
-abbrev pub Makes : Task → (Option (List ℕ) → Product → Call → Type 0) → Call → Type 0
-Makes task Stands call =
-    (product : Product) × (IsTrue call.before.shelf.known → verdict task call.before.shelf.files ≡ Ok product)
-    × Stands task.stores product call
+abbrev pub Makes : Request → (Option (List ℕ) → Product → Call → Type 0) → Call → Type 0
+Makes request Stands call =
+    (product : Product) × (IsTrue call.before.shelf.known → verdict request call.before.shelf.files ≡ Ok product)
+    × Stands request.stores product call
 
 -- ---- the answers
 
@@ -98,16 +100,16 @@ pub record PrintFailed (old new : SinkState) : Type 0 where
   pub shortages : new.shortages ≡ old.shortages
 
 -- a row for each answer to a valid command line
-abbrev pub Outcome : Task → Call → Status → Type 0
-Outcome task call Done = Makes task Finished call
-Outcome task call Usage = ⊥
-Outcome task call (Input fault) =
+abbrev pub Outcome : Request → Call → Status → Type 0
+Outcome request call Done = Makes request Finished call
+Outcome request call Usage = ⊥
+Outcome request call (Input fault) =
     (call.after ≡ call.before)
-    × (IsTrue call.before.shelf.known → verdict task call.before.shelf.files ≡ Err fault)
-Outcome task call (Device Read) = Untouched call × ReadFailed task.wants call.before.shelf call.after.shelf
-Outcome task call (Device Store) = Makes task Storing call × StoreFailed task.stores call.before.shelf call.after.shelf
-Outcome task call (Device Print) = Makes task Printing call × PrintFailed call.before.out call.after.out
-Outcome task call (Memory memory) = Untouched call ⊎ Makes task Storing call ⊎ Makes task Printing call
+    × (IsTrue call.before.shelf.known → verdict request call.before.shelf.files ≡ Err fault)
+Outcome request call (Device Read) = Untouched call × ReadFailed request.reads call.before.shelf call.after.shelf
+Outcome request call (Device Store) = Makes request Storing call × StoreFailed request.stores call.before.shelf call.after.shelf
+Outcome request call (Device Print) = Makes request Printing call × PrintFailed call.before.out call.after.out
+Outcome request call (Memory memory) = Untouched call ⊎ Makes request Storing call ⊎ Makes request Printing call
 
 -- an invalid command line: what shelf and output show is as before
 abbrev pub Refuses : Call → Status → Type 0
@@ -120,4 +122,4 @@ Refuses call (Device place) = ⊥
 -- when each answer comes, and what it leaves
 abbrev pub Answers : Option Request → Call → Status → Type 0
 Answers None call status = Refuses call status
-Answers (Some request) call status = Outcome (task_of request) call status
+Answers (Some request) call status = Outcome request call status

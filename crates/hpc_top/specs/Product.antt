@@ -1,11 +1,11 @@
--- What a command makes of its files.
+-- What a command makes of its files: what is stored, where the command stores a file, and what is put.
 use Rattle.std.specs.Prelude.{ℕ, List, []}
-
--- what is stored, where the command stores a file, and what is put
-pub record Product : Type 0 where
-  pub stored : List ℕ
-  pub text : List ℕ
+pub use Rattle.hpc_top.specs.declared.product.Product.{Product}
 
 -- nothing at all
 abbrev pub no_product : Product
 no_product = record { stored = []; text = [] }
+
+-- a text that is put; nothing is stored
+abbrev pub only_text : List ℕ → Product
+only_text text = record { stored = []; text = text }

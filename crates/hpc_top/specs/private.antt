@@ -1,8 +1,9 @@
 -- What only private functions and proofs use.
 pub mod Stop
-pub mod Views
 pub mod Steps
 pub mod Collecting
+pub mod Counting
 pub mod Merging
-pub mod Running
-pub mod Measuring
+pub mod Products
+pub mod Profiling
+pub mod Refusing

@@ -5,7 +5,7 @@ ghost use Rattle.prof_db.specs.Spelling.{database_spelling};
 ghost use Rattle.prof_db.specs.Writable.{IsWritable};
 ghost use Rattle.tree_types.specs.OfContent.{IsProfile, content_table};
 
-use crate::report::report;
+use crate::table::report;
 use prof_bytes::{Memory, Text};
 use prof_db::{profiles_are_writable, write_db};
 use rayon::join;

@@ -1,35 +1,33 @@
 //! The top call: the words, the command, and its answer.
 ghost use Rattle.std.specs.Prelude.{◌≡◌, IsNone};
-ghost use Rattle.hpc_top.specs.Words.{request_of};
-ghost use Rattle.hpc_top.specs.Task.{task_of};
+ghost use Rattle.command_line.specs.Request.{IsValid, view_request};
+ghost use Rattle.command_line.specs.Words.{request_of};
 ghost use Rattle.hpc_top.specs.Outcome.{Outcome, Answers, call_of};
-ghost use Rattle.hpc_top.specs.Message.{Says};
+ghost use Rattle.command_line.specs.Message.{Says};
 ghost use Rattle.hpc_top.specs.Follows.{Follows};
 ghost use Rattle.hpc_top.specs.private.Stop.{answer_of};
-ghost use Rattle.hpc_top.specs.private.Views.{view_request};
 
-use crate::message::tell;
-use crate::prepare::{prepare, stored_name};
-use crate::request::Request;
-use crate::status::{Status, Stop, status_of};
+use crate::prepare::prepare;
+use crate::status::{Stop, status_of};
 use crate::steps::deliver;
-use crate::words::read_words;
+use command_line::{Request, Status, read_words, tell};
 use prof_bytes::Text;
 use prof_devices::{Gate, Shelf, Sink};
 use std::thread::Threads;
 
 fn carry_out<R: Threads + Sync + AllocGlobal, F: Shelf, O: Sink, G: Gate>(
     rt: &R,
-    request: Request<'_>,
+    request: &Request<'_>,
     shelf: &mut F,
     out: &mut O,
     gate: &G,
 ) -> Result<(), Stop>
-    ensures { Outcome (task_of (view_request request.entry))
+    requires valid { IsValid (view_request request.now) }
+    ensures { Outcome (view_request request.now)
         (call_of (F.shown shelf.old) (F.shown shelf.new) (O.shown out.old) (O.shown out.new)) (answer_of result) }
 {
     let made = prepare(rt, request, shelf, gate)?;
-    deliver(shelf, out, stored_name(request), &made)
+    deliver(shelf, out, request.stores, &made)
 }
 
 fn answer<R: Threads + Sync + AllocGlobal, F: Shelf, O: Sink, G: Gate>(
@@ -43,9 +41,10 @@ fn answer<R: Threads + Sync + AllocGlobal, F: Shelf, O: Sink, G: Gate>(
         (call_of (F.shown shelf.old) (F.shown shelf.new) (O.shown out.old) (O.shown out.new)) result }
     ensures untouched { IsNone (request_of words.now) → (shelf.new ≡ shelf.old) × (out.new ≡ out.old) }
 {
-    match read_words(words) {
-        Some(request) => status_of(carry_out(rt, request, shelf, out, gate)),
-        None => Status::Usage,
+    match read_words(rt.alloc(), words) {
+        Ok(Some(request)) => status_of(carry_out(rt, &request, shelf, out, gate)),
+        Ok(None) => Status::Usage,
+        Err(memory) => Status::Memory(memory),
     }
 }
 

@@ -1,14 +1,14 @@
-//! The samples of a run, counted hart by hart by their raw paths.
+//! The samples of a run, counted column by column by their raw paths.
 ghost use Rattle.std.specs.Prelude.{◌≡◌, ◌+◌, ◌<◌, ◌++◌, ◌∷◌, [], All, IfOk, List, length, OnOk};
 ghost use Rattle.prof_bytes.specs.Outcome.{Gives};
 ghost use Rattle.rv_run.specs.Progress.{to_come};
 ghost use Rattle.rv_run.specs.State.{first_state};
-ghost use Rattle.scope_types.specs.Distinct.{HartRaw, distinct, samples_in};
+ghost use Rattle.scope_types.specs.Distinct.{ColumnRaw, distinct, samples_in};
 ghost use Rattle.scope_types.specs.Limits.{most_samples};
-ghost use Rattle.hpc_top.specs.Samples.{hart_raw, within_frames};
+ghost use Rattle.hpc_top.specs.Samples.{column_raw, within_frames};
 ghost use Rattle.hpc_top.specs.private.Collecting.{Collects, GivesNext};
 
-use crate::status::InputFault;
+use command_line::InputFault;
 use elf_image::Image;
 use prof_bytes::{Fail, Memory};
 use rv_run::{Machine, Schedule};
@@ -43,8 +43,8 @@ pub fn start_samples<'a>(
 fn count_sample(ccts: &mut Ccts, sample: &Sample) -> Result<(), Fail<InputFault>>
     requires hart { sample.now.hart < length ccts.old }
     requires few { samples_in ccts.old < most_samples }
-    ensures counts { (done : List HartRaw) → ccts.old ≡ distinct (length ccts.old) done →
-        Gives (λ _. ccts.new) result (within_frames (distinct (length ccts.old) (done ++ hart_raw sample.now ∷ []))) }
+    ensures counts { (done : List ColumnRaw) → ccts.old ≡ distinct (length ccts.old) done →
+        Gives (λ _. ccts.new) result (within_frames (distinct (length ccts.old) (done ++ column_raw sample.now ∷ []))) }
     ensures samples { OnOk result (samples_in ccts.new ≡ samples_in ccts.old + 1) }
 {
     match ccts.add(sample.hart, &sample.path) {
@@ -69,7 +69,7 @@ fn next_sample<U: Unwind>(
     }
 }
 
-/// Runs the machine to its end, and counts its samples hart by hart.
+/// Runs the machine to its end, and counts its samples column by column.
 pub fn collect<U: Unwind>(
     alloc: Global,
     harts: u32,

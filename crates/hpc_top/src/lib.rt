@@ -6,32 +6,27 @@
 //! machine and its samples, scopes and the tree.
 #![tactic(auto)]
 
-mod attribution;
 mod both;
 mod call;
 mod collect;
-mod drill;
+mod commands;
+mod counting;
 mod laws;
-mod listed;
-mod main_job;
-mod measure;
 mod merged;
-mod message;
 mod prepare;
+mod product;
+mod profiling;
 mod program;
-mod report;
-mod request;
-mod run_profile;
+mod refusal;
 mod scopes;
-mod shown;
 mod shown_laws;
 mod status;
 mod steps;
-mod words;
+mod table;
 
 pub use call::hpc_main;
+pub use command_line::{FileKind, InputFault, Place, Status, out_of_memory};
+pub use commands::profile::{Job, profile};
 pub use laws::profile_is_run_then_prof;
-pub use main_job::{Job, profile};
-pub use message::out_of_memory;
 pub use shown_laws::views_are_of_call_paths;
-pub use status::{FileKind, InputFault, Made, Place, Status};
+pub use status::Made;

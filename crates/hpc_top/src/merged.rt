@@ -2,7 +2,7 @@
 ghost use Rattle.std.specs.Prelude.{◌≡◌, ◌<◌, ◌≤◌, All, IfOk, List, length};
 ghost use Rattle.prof_bytes.specs.Outcome.{Gives};
 ghost use Rattle.scope_find.specs.Found.{found_at, naming_of};
-ghost use Rattle.scope_types.specs.Distinct.{HartRaw, distinct};
+ghost use Rattle.scope_types.specs.Distinct.{ColumnRaw, distinct};
 ghost use Rattle.scope_types.specs.Expansion.{call_path};
 ghost use Rattle.stripe_table.specs.Ends.{named_paths};
 ghost use Rattle.thread_cct.specs.Plan.{FitsExpansion, IsMergeable};
@@ -13,7 +13,7 @@ ghost use Rattle.hpc_top.specs.Attribution.{attributed};
 ghost use Rattle.hpc_top.specs.Merged.{merging};
 ghost use Rattle.hpc_top.specs.private.Merging.{Merges, few_planned};
 
-use crate::status::InputFault;
+use command_line::InputFault;
 use merge_crew::{Crew, Crews};
 use metric_sums::sums;
 use prof_bytes::{Fail, Listed, Memory};
@@ -86,7 +86,7 @@ fn content_named<R: Threads + Sync>(
     let (profiles, contexts) = planes;
     Ok(Content {
         period,
-        harts: tree.harts(),
+        columns: tree.columns(),
         names,
         nodes: Listed::of(tree.into_nodes()),
         profiles,
@@ -104,11 +104,11 @@ pub fn merge_samples<R: Threads + Sync, C: Crews>(
 ) -> Result<Merged, Fail<InputFault>>
     requires period { 0 < merge.now.period }
     requires workers { (1 ≤ merge.now.workers) × (merge.now.workers ≤ 16) }
-    ensures merged { (samples : List HartRaw) → ccts.now ≡ distinct (length ccts.now) samples
-        → All (λ s. s.hart < length ccts.now) samples
+    ensures merged { (samples : List ColumnRaw) → ccts.now ≡ distinct (length ccts.now) samples
+        → All (λ s. s.column < length ccts.now) samples
         → Merges (merging (C.gives merge.now.crews.now) (C.whole merge.now.crews.now) merge.now.workers)
         merge.now.period result
-        (attributed (length ccts.now) (naming_of finder.now) (call_path (found_at finder.now)) samples) }
+        (attributed finder.now (length ccts.now) samples) }
     ensures profile { IfOk result (λ merged. IsProfile merged.content) }
 {
     call_paths_have_roots();
@@ -123,7 +123,7 @@ pub fn merge_samples<R: Threads + Sync, C: Crews>(
         rt,
         alloc,
         merge.period,
-        plan.harts(),
+        plan.columns(),
         &expander,
         &crew.stripes,
     )?;

@@ -2,9 +2,12 @@
 ghost use Rattle.std.specs.Prelude.{◌≡◌, IfOk, filter_map};
 ghost use Rattle.prof_bytes.specs.Outcome.{Gives};
 ghost use Rattle.dwarf_inline.specs.Structure.{structure_of as structure_by};
-ghost use Rattle.hpc_top.specs.Scopes.{debug_entries, line_tables, program_scopes, structure_from, table_offsets};
+ghost use Rattle.hpc_top.specs.Scopes.{debug_entries, line_tables, program_scopes, table_offsets};
+ghost use Rattle.hpc_top.specs.Faulted.{faulted};
+ghost use Rattle.command_line.specs.declared.status.InputFault.TheVariants as inputs;
 
-use crate::status::InputFault;
+use crate::refusal::as_input;
+use command_line::InputFault;
 use dwarf_info::{DebugParts, Info, Unit, read_info};
 use dwarf_inline::{Structure, read_structure};
 use dwarf_line::{LineTable, read_lines};
@@ -14,14 +17,14 @@ use std::alloc::Global;
 use tree_types::ascend;
 
 /// The units and entries of a program, or their first fault.
+#[tactic(auto, using(crate::proofs::Faults::input_steps))]
 fn info_of<'a>(alloc: Global, image: &Image<'a>) -> Result<Info<'a>, Fail<InputFault>>
     ensures { Gives (λ info. info) result (debug_entries image.now) }
 {
-    match read_info(alloc, DebugParts::of(image)) {
-        Ok(info) => Ok(info),
-        Err(Fail::Fault(fault)) => Err(Fail::Fault(InputFault::Entries(fault))),
-        Err(Fail::Memory(memory)) => Err(Fail::Memory(memory)),
-    }
+    as_input(
+        read_info(alloc, DebugParts::of(image)),
+        |fault| InputFault::Entries(fault),
+    )
 }
 
 /// The offsets of the line tables that units name.
@@ -42,6 +45,7 @@ fn table_offsets(alloc: Global, units: &[Unit]) -> Result<Vec<u32>, Memory>
 }
 
 /// The line tables that units name, or their first fault.
+#[tactic(auto, using(crate::proofs::Faults::input_steps))]
 fn lines_of<'a>(
     alloc: Global,
     image: &Image<'a>,
@@ -51,36 +55,30 @@ fn lines_of<'a>(
 {
     let offsets = table_offsets(alloc, units)?;
     let line = image.section(b".debug_line");
-    match read_lines(
-        alloc,
-        line,
-        DebugParts::of(image),
-        image,
-        offsets.as_slice(),
-    ) {
-        Ok(lines) => Ok(lines),
-        Err(Fail::Fault(fault)) => {
-            let offset = fault.offset;
-            Err(Fail::Fault(InputFault::Lines { offset }))
-        }
-        Err(Fail::Memory(memory)) => Err(Fail::Memory(memory)),
-    }
+    let parts = DebugParts::of(image);
+    as_input(
+        read_lines(alloc, line, parts, image, offsets.as_slice()),
+        |fault| InputFault::Lines {
+            offset: fault.offset,
+        },
+    )
 }
 
 /// The structure of a program, or its first fault.
+#[tactic(auto, using(crate::proofs::Faults::input_steps))]
 fn structure_of<'a>(
     alloc: Global,
     image: &Image<'a>,
     info: &Info<'a>,
     lines: &LineTable<'a>,
 ) -> Result<Structure<'a>, Fail<InputFault>>
-    ensures { Gives (λ structure. structure) result (structure_from (structure_by info.now lines.now image.now)) }
+    ensures { Gives (λ structure. structure) result
+        (faulted inputs.Structure (structure_by info.now lines.now image.now)) }
 {
-    match read_structure(alloc, info, lines, image) {
-        Ok(structure) => Ok(structure),
-        Err(Fail::Fault(fault)) => Err(Fail::Fault(InputFault::Structure(fault))),
-        Err(Fail::Memory(memory)) => Err(Fail::Memory(memory)),
-    }
+    as_input(
+        read_structure(alloc, info, lines, image),
+        |fault| InputFault::Structure(fault),
+    )
 }
 
 /// The line tables and the structure of a program, or the first refusal of its debug information.

@@ -1,98 +1,10 @@
 ghost use Rattle.std.specs.Prelude.{◌≡◌};
-ghost use Rattle.hpc_top.specs.Made.{product_in};
-ghost use Rattle.hpc_top.specs.private.Steps.{ready};
 ghost use Rattle.hpc_top.specs.private.Stop.{IsStopOf, answer_of};
 ghost use Rattle.hpc_top.specs.declared.status.Stop.TheVariants as stops;
 
-use dwarf_info::InfoFault;
-use dwarf_inline::StructureFault;
-use elf_image::ElfFault;
+use command_line::{InputFault, Place, Status};
 use merge_crew::Crew;
 use prof_bytes::{Fail, Memory, Text};
-
-/// The files that commands fetch.
-#[derive(Clone, Copy, Debug, PartialEq, Eq)]
-pub enum FileKind {
-    Program,
-    Input,
-    Schedule,
-    Measurement,
-    Database,
-}
-
-/// What is refused in the files, and where.
-#[derive(Clone, Copy, Debug, PartialEq, Eq)]
-pub enum InputFault {
-    /// The file has more bytes than its limit.
-    TooLong {
-        file: FileKind,
-        limit: u64,
-    },
-    /// The first bad line of the schedule, from 1; the number of lines plus 1 where no line has the harts.
-    Schedule {
-        line: u32,
-    },
-    /// The program's file breaks a rule, at an offset in it.
-    Program(ElfFault),
-    /// The call frame information breaks a rule, at an offset in `.debug_frame`.
-    Frames {
-        offset: u32,
-    },
-    /// The call frame information for exceptions breaks a rule, at an offset in `.eh_frame`.
-    EhFrames {
-        offset: u32,
-    },
-    /// The units or the entries break a rule, at an offset in `.debug_info`.
-    Entries(InfoFault),
-    /// A line table breaks a rule, at an offset in `.debug_line`.
-    Lines {
-        offset: u32,
-    },
-    /// An entry is nested or linked too deep, at an offset in `.debug_info`.
-    Structure(StructureFault),
-    /// The run has more than 1,048,576 samples.
-    TooManySamples,
-    /// The distinct call paths of the samples have more than 4,194,304 frames together.
-    TooManyFrames,
-    /// The distinct call paths of the samples have more than 8,388,608 scopes together.
-    TooManyScopes,
-    /// The measurement breaks a rule, at an offset in its file.
-    Measurement {
-        offset: u64,
-    },
-    /// The measurement is of another program: the length and the entry address that it keeps are not those that were
-    /// found in the program's file.
-    WrongProgram {
-        kept_length: u32,
-        kept_entry: u32,
-        found_length: u32,
-        found_entry: u32,
-    },
-    /// The database breaks one of its format's seven rules, from 1 to 7, at an offset in its file.
-    Database {
-        offset: u64,
-        rule: u32,
-    },
-}
-
-/// Which device failed: a read or a store of a file, or the output.
-#[derive(Clone, Copy, Debug, PartialEq, Eq)]
-pub enum Place {
-    Read,
-    Store,
-    Print,
-}
-
-/// What the program answers: done, an invalid command line, files that are refused, a device that failed, or
-/// out of memory.
-#[derive(Clone, Copy, Debug, PartialEq, Eq)]
-pub enum Status {
-    Done,
-    Usage,
-    Input(InputFault),
-    Device(Place),
-    Memory(Memory),
-}
 
 /// What is made of a run: a database, the report on it, and what the crew that merged it has done.
 #[derive(Drop)]
@@ -100,28 +12,6 @@ pub struct Made {
     pub database: Text,
     pub report: Text,
     pub crew: Crew,
-}
-
-/// What a command has ready: the bytes of the file that it stores, where it stores one, and the text that it puts.
-#[derive(Drop)]
-pub struct Prepared {
-    pub stored: Text,
-    pub text: Text,
-}
-
-/// What was made, ready to be stored and put.
-pub fn made_ready(made: Made) -> Prepared
-    ensures { ready result ≡ product_in made }
-{
-    let Made {
-        database,
-        report,
-        ..
-    } = made;
-    Prepared {
-        stored: database,
-        text: report,
-    }
 }
 
 /// Why a command stops early.

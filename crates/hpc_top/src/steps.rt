@@ -2,28 +2,22 @@
 ghost use Rattle.std.specs.Prelude.{◌≡◌, ◌++◌, ◌∷◌, [], map, OnOk};
 ghost use Rattle.std.specs.Option.{option_copied};
 ghost use Rattle.hpc_top.specs.Outcome.{call_of};
-ghost use Rattle.hpc_top.specs.private.Steps.{Fetches, FetchesAll, PutsText, Delivers, ready};
-ghost use Rattle.hpc_top.specs.private.Views.{view_want};
+ghost use Rattle.hpc_top.specs.private.Steps.{Fetches, FetchesAll, PutsText, Delivers};
+ghost use Rattle.command_line.specs.Kind.{view_want};
 
-use crate::status::{FileKind, InputFault, Place, Prepared, Stop};
+use crate::product::Product;
+use crate::status::Stop;
+use command_line::{InputFault, Place, Want, row_of};
 use prof_bytes::{Listed, Memory, Text};
 use prof_devices::{Fetch, Put, Shelf, Sink};
 use std::alloc::Global;
-
-/// A file to be fetched, and the most bytes that it may have.
-#[derive(Clone, Copy)]
-pub struct Want<'a> {
-    pub file: FileKind,
-    pub name: &'a [u8],
-    pub limit: u64,
-}
 
 /// One file of a command, or why the command stops here.
 fn fetch_file<F: Shelf>(shelf: &mut F, want: &Want<'_>) -> Result<Text, Stop>
     ensures { Fetches (F.shown shelf.old) (F.shown shelf.new) (view_want want.now) result }
 {
     let file = want.file;
-    let limit = want.limit;
+    let limit = row_of(file).limit;
     match shelf.fetch(want.name, limit) {
         Fetch::Whole(text) if text.bytes().len() as u64 <= limit => Ok(text),
         Fetch::Whole(_) | Fetch::TooLong => Err(Stop::Input(InputFault::TooLong { file, limit })),
@@ -70,9 +64,9 @@ pub fn deliver<F: Shelf, O: Sink>(
     shelf: &mut F,
     out: &mut O,
     name: Option<&[u8]>,
-    made: &Prepared,
+    made: &Product,
 ) -> Result<(), Stop>
-    ensures { Delivers (option_copied name.entry) (ready made.now)
+    ensures { Delivers (option_copied name.entry) made.now
         (call_of (F.shown shelf.old) (F.shown shelf.new) (O.shown out.old) (O.shown out.new)) result }
 {
     let Some(name) = name else {

@@ -1,5 +1,5 @@
-//! The guests of numbers, byte for byte: the lengths and folds of their files are those of `checks/guest`, which makes
-//! them in plain Python.
+//! The guests of numbers, byte for byte: the lengths and folds of their files are those of `checks/files/guest`, which
+//! makes them in plain Python.
 use guest_gen::{GuestFiles, guest};
 use prof_bytes::{Memory, Text};
 use std::alloc::Global;

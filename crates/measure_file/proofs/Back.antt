@@ -9,8 +9,7 @@ use Rattle.prof_bytes.specs.Repeated.{adding, times}
 use Rattle.prof_bytes.proofs.Lists.{ItemsTook, items_took}
 use Rattle.prof_bytes.proofs.Outcomes.{bind_ok, pass_ok}
 use Rattle.prof_bytes.proofs.Took.{Took, bytes_left, bytes_on, given, number_moved, number_took}
-use Rattle.scope_types.specs.Limits.{most_frames_in_all, most_samples}
-use Rattle.scope_types.specs.Raw.{most_frames_of_path}
+use Rattle.scope_types.specs.Limits.{most_frames_in_all, most_frames_of_path, most_samples}
 use Rattle.scope_types.specs.declared.frame.Frame.{Frame}
 use Rattle.measure_file.specs.declared.fault.MeasureFault.{MeasureFault}
 use Rattle.measure_file.specs.Fields.{starting_at, word_by, word_from}

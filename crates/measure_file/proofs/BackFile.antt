@@ -11,56 +11,56 @@ use Rattle.measure_file.specs.declared.head.MeasureHead.{MeasureHead}
 use Rattle.prof_bytes.specs.Repeated.{times}
 use Rattle.measure_file.specs.Fields.{fault_at, starting_at}
 use Rattle.measure_file.specs.Measurable.{AreDistinct, AreMeasured, IsCounted, IsHead, IsMeasurable}
-use Rattle.measure_file.specs.Reading.{hart_from, is_harts, is_period, measurement_in, tables_from}
-use Rattle.measure_file.specs.Spelling.{magic, hart_bytes, measurement_spelling}
+use Rattle.measure_file.specs.Reading.{column_from, is_harts, is_period, measurement_in, tables_from}
+use Rattle.measure_file.specs.Spelling.{magic, column_bytes, measurement_spelling}
 use Rattle.prof_bytes.proofs.Outcomes.{bind_ok, guard_ok, ok_same}
 use Rattle.prof_bytes.specs.Format.{magic_or}
 use Rattle.prof_bytes.specs.Outcome.{◌>>=◌}
 use Rattle.prof_bytes.proofs.Took.{Took, magic_took, took_both}
 use Rattle.measure_file.proofs.Back.{ruled_behind, word_behind}
-use Rattle.measure_file.proofs.BackPaths.{harts_back}
+use Rattle.measure_file.proofs.BackPaths.{columns_back}
 use Rattle.measure_file.proofs.Seams.{Tables}
 use Rattle.measure_file.proofs.Sums.{no_sums}
 
 -- no paths of 1 to 16 harts
-measured_none : (harts : ℕ) → 1 ≤ harts → harts ≤ 16 → AreMeasured (replicate harts [])
-measured_none harts some few =
-    let long = length-replicate {A = List Counted} harts [] in
-    let sums = no_sums (replicate harts []) harts refl in
+measured_none : (columns : ℕ) → 1 ≤ columns → columns ≤ 16 → AreMeasured (replicate columns [])
+measured_none columns some few =
+    let long = length-replicate {A = List Counted} columns [] in
+    let sums = no_sums (replicate columns []) columns refl in
     let samples = sums.samples in
     let frames = sums.frames in
     record {
       some = omega (arith, long, some);
       few = omega (arith, long, few);
-      paths = All-replicate (All IsCounted) harts [] (All-nil IsCounted);
-      distinct = All-replicate AreDistinct harts [] tt;
+      paths = All-replicate (All IsCounted) columns [] (All-nil IsCounted);
+      distinct = All-replicate AreDistinct columns [] tt;
       samples = omega (arith, samples);
       frames = omega (arith, frames);
     }
 
--- the paths of all harts up to the end of the file
-record RestBack (harts : ℕ) (at : At) (tables : Tables) : Type 0 where
+-- the paths of all columns up to the end of the file
+record RestBack (columns : ℕ) (at : At) (tables : Tables) : Type 0 where
   pub measured : AreMeasured tables
-  pub many : length tables ≡ harts
-  pub left : left_of at ≡ flat_map hart_bytes tables
+  pub many : length tables ≡ columns
+  pub left : left_of at ≡ flat_map column_bytes tables
 
-rest_back : (harts : ℕ) (at : At) (tables : Tables) → IsBytes at.whole → 1 ≤ harts → harts ≤ 16 → tables_from harts at ≡ Ok tables → RestBack harts at tables
+rest_back : (columns : ℕ) (at : At) (tables : Tables) → IsBytes at.whole → 1 ≤ columns → columns ≤ 16 → tables_from columns at ≡ Ok tables → RestBack columns at tables
 unfolding tables_from
-rest_back harts at tables bytes some few is =
-    let read = bind_ok (times hart_from harts 0 (replicate harts []) at) _ _ is in
+rest_back columns at tables bytes some few is =
+    let read = bind_ok (times column_from columns 0 (replicate columns []) at) _ _ is in
     let found : Tables = read.0.0 in
     let end : At = read.0.1 in
     let whole = guard_ok (nat_lt 0 (length (left_of end))) (starting_at end) (Ok found) tables read.2 in
     let found_is : found ≡ tables = ok_same found tables whole.1 in
     let short : length (left_of end) ≤ 0 = ltb-false 0 (length (left_of end)) whole.0 in
     let none : left_of end ≡ [] = nil_from_length (left_of end) (omega (arith, short)) in
-    let harts_is = harts_back harts [] at end found bytes (measured_none harts some few) read.1 in
-    let more : Tables = harts_is.0 in
-    let more_is : more ≡ tables = sym harts_is.1.is ∙ found_is in
+    let columns_is = columns_back columns [] at end found bytes (measured_none columns some few) read.1 in
+    let more : Tables = columns_is.0 in
+    let more_is : more ≡ tables = sym columns_is.1.is ∙ found_is in
     record {
-      measured = subst AreMeasured more_is harts_is.1.measured;
-      many = subst (λ (t : Tables). length t ≡ harts) more_is harts_is.1.many;
-      left = harts_is.1.took.left ∙ ap (λ (l : List ℕ). flat_map hart_bytes more ++ l) none ∙ append-nil (flat_map hart_bytes more) ∙ ap (λ (t : Tables). flat_map hart_bytes t) more_is;
+      measured = subst AreMeasured more_is columns_is.1.measured;
+      many = subst (λ (t : Tables). length t ≡ columns) more_is columns_is.1.many;
+      left = columns_is.1.took.left ∙ ap (λ (l : List ℕ). flat_map column_bytes more ++ l) none ∙ append-nil (flat_map column_bytes more) ∙ ap (λ (t : Tables). flat_map column_bytes t) more_is;
     }
 
 harts_rule : (n : ℕ) → is_harts n ≡ true → (1 ≤ n) × (n ≤ 16)

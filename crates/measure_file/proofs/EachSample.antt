@@ -7,35 +7,35 @@ use Rattle.std.proofs.lemmas.List.Elements.{All-append, All-head, All-nil, All-r
 use Rattle.std.proofs.lemmas.List.FromFn.{length-map-range_with_len, get_or-map-range_with_len}
 use Rattle.std.proofs.lemmas.List.Sums.{sum_by-append, sum_by-cons}
 use Rattle.scope_types.specs.declared.frame.Counted.{Counted}
-use Rattle.scope_types.specs.Distinct.{HartRaw, counted_paths, distinct, each_of_hart, each_sample, raws_of, samples_in}
+use Rattle.scope_types.specs.Distinct.{ColumnRaw, counted_paths, distinct, each_of_column, each_sample, raws_of, samples_in}
 use Rattle.scope_types.specs.Raw.{Raw, same_raw}
 use Rattle.scope_types.specs.private.SameRaw.{raw_decides}
 use Rattle.thread_cct.specs.Adding.{has_path}
 use Rattle.measure_file.specs.Measurable.{AreDistinct, AreMeasured, IsCounted}
 use Rattle.measure_file.proofs.Seams.{Tables, count_of}
 
-abbrev numbered : ℕ → Tables → List HartRaw
-numbered first tables = flat_map each_of_hart (enumerate_from first tables)
+abbrev numbered : ℕ → Tables → List ColumnRaw
+numbered first tables = flat_map each_of_column (enumerate_from first tables)
 
-abbrev copies : ℕ → Counted → List HartRaw
-copies hart c = replicate c.count (record { hart = hart; raw = c.path })
+abbrev copies : ℕ → Counted → List ColumnRaw
+copies column c = replicate c.count (record { column = column; raw = c.path })
 
 -- ---- how many they are
 
-hart_many : (hart : ℕ) (cs : List Counted) → length (each_of_hart (hart, cs)) ≡ sum_by count_of cs
-hart_many hart [] = refl
-hart_many hart (c ∷ cs) =
-    let parts = length-append (copies hart c) (each_of_hart (hart, cs)) in
-    let one = length-replicate {A = HartRaw} c.count (record { hart = hart; raw = c.path }) in
-    let rest = hart_many hart cs in
+column_many : (column : ℕ) (cs : List Counted) → length (each_of_column (column, cs)) ≡ sum_by count_of cs
+column_many column [] = refl
+column_many column (c ∷ cs) =
+    let parts = length-append (copies column c) (each_of_column (column, cs)) in
+    let one = length-replicate {A = ColumnRaw} c.count (record { column = column; raw = c.path }) in
+    let rest = column_many column cs in
     let sum = sum_by-cons count_of c cs in
     omega (arith, parts, one, rest, sum)
 
 numbered_many : (first : ℕ) (tables : Tables) → length (numbered first tables) ≡ samples_in tables
 numbered_many first [] = refl
 numbered_many first (t ∷ tables) =
-    let parts = length-append (each_of_hart (first, t)) (numbered (first + 1) tables) in
-    let one = hart_many first t in
+    let parts = length-append (each_of_column (first, t)) (numbered (first + 1) tables) in
+    let one = column_many first t in
     let rest = numbered_many (first + 1) tables in
     let sum = sum_by-cons (sum_by count_of) t tables in
     omega (arith, parts, one, rest, sum)
@@ -45,73 +45,73 @@ samples_many tables = numbered_many 0 tables
 
 -- ---- whose they are
 
-abbrev IsOf : ℕ → HartRaw → Type 0
-IsOf hart s = s.hart ≡ hart
+abbrev IsOf : ℕ → ColumnRaw → Type 0
+IsOf column s = s.column ≡ column
 
-hart_own : (hart : ℕ) (cs : List Counted) → All (IsOf hart) (each_of_hart (hart, cs))
-hart_own hart [] = All-nil (IsOf hart)
-hart_own hart (c ∷ cs) = All-append (IsOf hart) (copies hart c) (each_of_hart (hart, cs)) (All-replicate (IsOf hart) c.count (record { hart = hart; raw = c.path }) refl) (hart_own hart cs)
+column_own : (column : ℕ) (cs : List Counted) → All (IsOf column) (each_of_column (column, cs))
+column_own column [] = All-nil (IsOf column)
+column_own column (c ∷ cs) = All-append (IsOf column) (copies column c) (each_of_column (column, cs)) (All-replicate (IsOf column) c.count (record { column = column; raw = c.path }) refl) (column_own column cs)
 
--- from a hart on, and below another
-abbrev IsWithin : ℕ → ℕ → HartRaw → Type 0
-IsWithin first end s = (first ≤ s.hart) × (s.hart < end)
+-- from a column on, and below another
+abbrev IsWithin : ℕ → ℕ → ColumnRaw → Type 0
+IsWithin first end s = (first ≤ s.column) × (s.column < end)
 
 numbered_own : (first end : ℕ) (tables : Tables) → first + length tables ≤ end → All (IsWithin first end) (numbered first tables)
 numbered_own first end [] within = All-nil (IsWithin first end)
 numbered_own first end (t ∷ tables) within =
-    let own = hart_own first t in
+    let own = column_own first t in
     let rest = numbered_own (first + 1) end tables (omega (arith, within)) in
-    All-append (IsWithin first end) (each_of_hart (first, t)) (numbered (first + 1) tables) (λ k d lt. (let e = own k d lt in (omega (arith, e), omega (arith, e, within))))
+    All-append (IsWithin first end) (each_of_column (first, t)) (numbered (first + 1) tables) (λ k d lt. (let e = own k d lt in (omega (arith, e), omega (arith, e, within))))
     (λ k d lt. (let r = rest k d lt in (let low = r.0 in omega (arith, low), r.1)))
 
-pub samples_own : (tables : Tables) → All (λ s. s.hart < length tables) (each_sample tables)
+pub samples_own : (tables : Tables) → All (λ s. s.column < length tables) (each_sample tables)
 samples_own tables = (let own = numbered_own 0 (length tables) tables (omega arith) in λ k d lt. (own k d lt).1)
 
--- ---- the raw paths of one hart
+-- ---- the raw paths of one column
 
 abbrev each_raw : List Counted → List Raw
 each_raw cs = flat_map (λ c. replicate c.count c.path) cs
 
-none_of : (hart : ℕ) (samples : List HartRaw) → All (λ s. (s.hart == hart) ≡ false) samples → raws_of samples hart ≡ []
-none_of hart [] other = refl
-none_of hart (s ∷ samples) other =
-    ap (λ (b : Bool). map (λ (s : HartRaw). s.raw) (cond b (s ∷ filter (λ s. s.hart == hart) samples) (filter (λ s. s.hart == hart) samples))) (All-head (λ (s : HartRaw). (s.hart == hart) ≡ false) s samples other)
-    ∙ none_of hart samples (All-tail (λ (s : HartRaw). (s.hart == hart) ≡ false) s samples other)
+none_of : (column : ℕ) (samples : List ColumnRaw) → All (λ s. (s.column == column) ≡ false) samples → raws_of samples column ≡ []
+none_of column [] other = refl
+none_of column (s ∷ samples) other =
+    ap (λ (b : Bool). map (λ (s : ColumnRaw). s.raw) (cond b (s ∷ filter (λ s. s.column == column) samples) (filter (λ s. s.column == column) samples))) (All-head (λ (s : ColumnRaw). (s.column == column) ≡ false) s samples other)
+    ∙ none_of column samples (All-tail (λ (s : ColumnRaw). (s.column == column) ≡ false) s samples other)
 
-raws_both : (a b : List HartRaw) (hart : ℕ) → raws_of (a ++ b) hart ≡ raws_of a hart ++ raws_of b hart
-raws_both a b hart =
-    ap (λ (l : List HartRaw). map (λ (s : HartRaw). s.raw) l) (filter-append (λ s. s.hart == hart) a b) ∙ map-append (λ s. s.raw) (filter (λ s. s.hart == hart) a) (filter (λ s. s.hart == hart) b)
+raws_both : (a b : List ColumnRaw) (column : ℕ) → raws_of (a ++ b) column ≡ raws_of a column ++ raws_of b column
+raws_both a b column =
+    ap (λ (l : List ColumnRaw). map (λ (s : ColumnRaw). s.raw) l) (filter-append (λ s. s.column == column) a b) ∙ map-append (λ s. s.raw) (filter (λ s. s.column == column) a) (filter (λ s. s.column == column) b)
 
-itself : (hart : ℕ) → (hart == hart) ≡ true
-itself hart = eq-eqb hart hart refl
+itself : (column : ℕ) → (column == column) ≡ true
+itself column = eq-eqb column column refl
 
-copies_raws : (hart n : ℕ) (raw : Raw) → raws_of (replicate n (record { hart = hart; raw = raw })) hart ≡ replicate n raw
-copies_raws hart zero raw = refl
-copies_raws hart (suc n) raw =
-    let rest : List HartRaw = filter (λ s. s.hart == hart) (replicate n (record { hart = hart; raw = raw })) in
-    ap (λ (b : Bool). map (λ (s : HartRaw). s.raw) (cond b (record { hart = hart; raw = raw } ∷ rest) rest)) (itself hart) ∙ ap (λ (l : List Raw). raw ∷ l) (copies_raws hart n raw)
+copies_raws : (column n : ℕ) (raw : Raw) → raws_of (replicate n (record { column = column; raw = raw })) column ≡ replicate n raw
+copies_raws column zero raw = refl
+copies_raws column (suc n) raw =
+    let rest : List ColumnRaw = filter (λ s. s.column == column) (replicate n (record { column = column; raw = raw })) in
+    ap (λ (b : Bool). map (λ (s : ColumnRaw). s.raw) (cond b (record { column = column; raw = raw } ∷ rest) rest)) (itself column) ∙ ap (λ (l : List Raw). raw ∷ l) (copies_raws column n raw)
 
-own_raws : (hart : ℕ) (cs : List Counted) → raws_of (each_of_hart (hart, cs)) hart ≡ each_raw cs
-own_raws hart [] = refl
-own_raws hart (c ∷ cs) =
-    raws_both (copies hart c) (each_of_hart (hart, cs)) hart ∙ ap₂ (λ (a b : List Raw). a ++ b) (copies_raws hart c.count c.path) (own_raws hart cs)
+own_raws : (column : ℕ) (cs : List Counted) → raws_of (each_of_column (column, cs)) column ≡ each_raw cs
+own_raws column [] = refl
+own_raws column (c ∷ cs) =
+    raws_both (copies column c) (each_of_column (column, cs)) column ∙ ap₂ (λ (a b : List Raw). a ++ b) (copies_raws column c.count c.path) (own_raws column cs)
 
-above_none : (first hart : ℕ) (tables : Tables) → hart < first → raws_of (numbered first tables) hart ≡ []
-above_none first hart tables above =
+above_none : (first column : ℕ) (tables : Tables) → column < first → raws_of (numbered first tables) column ≡ []
+above_none first column tables above =
     let own = numbered_own first (first + length tables) tables (omega arith) in
-    none_of hart (numbered first tables) (λ k d lt. ne_eqb _ hart (λ e. (let low = (own k d lt).0 in absurd (omega (arith, low, e, above)))))
+    none_of column (numbered first tables) (λ k d lt. ne_eqb _ column (λ e. (let low = (own k d lt).0 in absurd (omega (arith, low, e, above)))))
 
 numbered_raws : (first k : ℕ) (d : List Counted) (tables : Tables) → k < length tables → raws_of (numbered first tables) (first + k) ≡ each_raw (get_or tables k d)
 numbered_raws first k d [] within = absurd (omega arith)
 numbered_raws first zero d (t ∷ tables) within =
     let at : first + 0 ≡ first = omega arith in
-    ap (λ (hart : ℕ). raws_of (numbered first (t ∷ tables)) hart) at ∙ raws_both (each_of_hart (first, t)) (numbered (first + 1) tables) first
+    ap (λ (column : ℕ). raws_of (numbered first (t ∷ tables)) column) at ∙ raws_both (each_of_column (first, t)) (numbered (first + 1) tables) first
     ∙ ap₂ (λ (a b : List Raw). a ++ b) (own_raws first t) (above_none (first + 1) first tables (omega arith)) ∙ append-nil (each_raw t)
 numbered_raws first (suc k) d (t ∷ tables) within =
     let at : first + suc k ≡ first + 1 + k = omega arith in
-    let own = hart_own first t in
-    let none : raws_of (each_of_hart (first, t)) (first + 1 + k) ≡ [] = none_of (first + 1 + k) (each_of_hart (first, t)) (λ i e lt. ne_eqb _ (first + 1 + k) (λ same. (let is = own i e lt in absurd (omega (arith, is, same))))) in
-    ap (λ (hart : ℕ). raws_of (numbered first (t ∷ tables)) hart) at ∙ raws_both (each_of_hart (first, t)) (numbered (first + 1) tables) (first + 1 + k)
+    let own = column_own first t in
+    let none : raws_of (each_of_column (first, t)) (first + 1 + k) ≡ [] = none_of (first + 1 + k) (each_of_column (first, t)) (λ i e lt. ne_eqb _ (first + 1 + k) (λ same. (let is = own i e lt in absurd (omega (arith, is, same))))) in
+    ap (λ (column : ℕ). raws_of (numbered first (t ∷ tables)) column) at ∙ raws_both (each_of_column (first, t)) (numbered (first + 1) tables) (first + 1 + k)
     ∙ ap₂ (λ (a b : List Raw). a ++ b) none (numbered_raws (first + 1) k d tables (omega (arith, within)))
 
 -- ---- counted again
@@ -192,11 +192,11 @@ counted_again (c ∷ cs) are apart =
 pub samples_distinct : (tables : Tables) → AreMeasured tables → distinct (length tables) (each_sample tables) ≡ tables
 unfolding distinct
 samples_distinct tables are =
-    let column : ℕ → List Counted = λ hart. counted_paths (raws_of (each_sample tables) hart) in
-    let long : length (map column (range_with_len 0 (length tables))) ≡ length tables = length-map-range_with_len column 0 (length tables) in
-    same_lists (map column (range_with_len 0 (length tables))) tables long (λ k d lt.
+    let table_of : ℕ → List Counted = λ column. counted_paths (raws_of (each_sample tables) column) in
+    let long : length (map table_of (range_with_len 0 (length tables))) ≡ length tables = length-map-range_with_len table_of 0 (length tables) in
+    same_lists (map table_of (range_with_len 0 (length tables))) tables long (λ k d lt.
     (let within : k < length tables = omega (arith, long, lt) in
     let at : 0 + k ≡ k = omega arith in
-    get_or-map-range_with_len column 0 (length tables) k k d within at
-    ∙ ap counted_paths (ap (λ (hart : ℕ). raws_of (each_sample tables) hart) (sym at) ∙ numbered_raws 0 k d tables within)
+    get_or-map-range_with_len table_of 0 (length tables) k k d within at
+    ∙ ap counted_paths (ap (λ (column : ℕ). raws_of (each_sample tables) column) (sym at) ∙ numbered_raws 0 k d tables within)
     ∙ counted_again (get_or tables k d) (are.paths k d within) (are.distinct k d within)))

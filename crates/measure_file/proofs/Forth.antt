@@ -1,4 +1,4 @@
--- What was written is read as the same: words, frames, paths and harts.
+-- What was written is read as the same: words, frames, paths and columns.
 use Rattle.std.proofs.Common.{◌≡◌, ℕ, ◌+◌, ◌^◌, ◌<◌, ◌≤◌, Bool, true, false, cond, List, [], ◌∷◌, ◌++◌, length, replicate, sum_by, All, Ok, Err, refl, sym, ap, subst, ◌∙◌, append_assoc, append-nil, arith}
 use Rattle.std.specs.List.{flat_map}
 use Rattle.std.proofs.lemmas.Bool.{and_from, le-leb, or_from, or_parts}
@@ -16,16 +16,16 @@ use Rattle.scope_types.specs.declared.frame.End.{End}
 use Rattle.scope_types.specs.declared.frame.End.TheVariants.{Whole, Partial}
 use Rattle.scope_types.specs.declared.frame.PartialCause.TheVariants.{NoFde, NoCfa, Expression, Unmapped, Depth}
 use Rattle.scope_types.specs.Distinct.{frames_in, samples_in}
-use Rattle.scope_types.specs.Limits.{most_frames_in_all, most_samples}
-use Rattle.scope_types.specs.Raw.{most_frames_of_path, same_raw}
+use Rattle.scope_types.specs.Limits.{most_frames_in_all, most_frames_of_path, most_samples}
+use Rattle.scope_types.specs.Raw.{same_raw}
 use Rattle.scope_types.specs.private.SameRaw.{raw_equiv}
-use Rattle.thread_cct.specs.Adding.{has_path, of_hart, with_path}
+use Rattle.thread_cct.specs.Adding.{has_path, of_column, with_path}
 use Rattle.thread_cct.proofs.Paths.{paths_below}
 use Rattle.prof_bytes.specs.Repeated.{adding, times}
 use Rattle.measure_file.specs.Fields.{fault_at, starting_at, word_from, word_by}
 use Rattle.measure_file.specs.Measurable.{AreDistinct, HasWord, IsCounted}
-use Rattle.measure_file.specs.Reading.{measured_frame_from, hart_from, is_count, is_end_number, is_length, path_end, new_path, measured_path_from}
-use Rattle.measure_file.specs.Spelling.{end_number, frame_bytes, path_bytes, hart_bytes}
+use Rattle.measure_file.specs.Reading.{measured_frame_from, column_from, is_count, is_end_number, is_length, path_end, new_path, measured_path_from}
+use Rattle.measure_file.specs.Spelling.{end_number, frame_bytes, path_bytes, column_bytes}
 use Rattle.measure_file.proofs.Seams.{Tables, count_of, frames_of, own_of, own_put, own_sum, sum_more}
 use Rattle.measure_file.proofs.Sums.{no_sums}
 
@@ -72,10 +72,10 @@ put_forth : (done rest : Tables) (own : List Counted) (c : Counted) (offset : �
     → new_path (length done) offset (record { path = record { end = path_end (end_number c.path.end); frames = c.path.frames }; count = c.count }) (done ++ own ∷ rest) ≡ Ok (done ++ (own ++ c ∷ []) ∷ rest)
 put_forth done rest own c offset new =
     let tables : Tables = done ++ own ∷ rest in
-    let hart : ℕ = length done in
-    let absent : has_path c.path (of_hart tables hart) ≡ false = subst (λ (cs : List Counted). has_path c.path cs ≡ false) (sym (own_of done rest own)) new in
-    ap (λ (end : End). new_path hart offset (record { path = record { end = end; frames = c.path.frames }; count = c.count }) tables) (end_back c.path.end)
-    ∙ ap (λ (b : Bool). cond b (Err (fault_at offset)) (Ok (with_path tables hart c))) absent ∙ ap (λ (t : Tables). Ok t) (own_put done rest own c)
+    let column : ℕ = length done in
+    let absent : has_path c.path (of_column tables column) ≡ false = subst (λ (cs : List Counted). has_path c.path cs ≡ false) (sym (own_of done rest own)) new in
+    ap (λ (end : End). new_path column offset (record { path = record { end = end; frames = c.path.frames }; count = c.count }) tables) (end_back c.path.end)
+    ∙ ap (λ (b : Bool). cond b (Err (fault_at offset)) (Ok (with_path tables column c))) absent ∙ ap (λ (t : Tables). Ok t) (own_put done rest own c)
 
 path_forth : (done rest : Tables) (own : List Counted) (c : Counted) (at : At) (text : List ℕ) → IsCounted c → has_path c.path own ≡ false
     → samples_in (done ++ own ∷ rest) + c.count ≤ most_samples → frames_in (done ++ own ∷ rest) + length c.path.frames ≤ most_frames_in_all
@@ -127,24 +127,24 @@ paths_forth (c ∷ cs) i done rest own at text are apart few short left =
       more.2,
     )
 
--- ---- harts
+-- ---- columns
 
-hart_forth : (cs : List Counted) (done rest : Tables) (at : At) (text : List ℕ) → All IsCounted cs → AreDistinct cs
+column_forth : (cs : List Counted) (done rest : Tables) (at : At) (text : List ℕ) → All IsCounted cs → AreDistinct cs
     → samples_in (done ++ [] ∷ rest) + sum_by count_of cs ≤ most_samples → frames_in (done ++ [] ∷ rest) + sum_by frames_of cs ≤ most_frames_in_all
-    → left_of at ≡ hart_bytes cs ++ text → Comes (hart_from (length done) (done ++ [] ∷ rest) at) (done ++ cs ∷ rest) text
-unfolding hart_from
-hart_forth cs done rest at text are apart few short left =
+    → left_of at ≡ column_bytes cs ++ text → Comes (column_from (length done) (done ++ [] ∷ rest) at) (done ++ cs ∷ rest) text
+unfolding column_from
+column_forth cs done rest at text are apart few short left =
     let below = paths_below cs (λ k d lt. (are k d lt).count) in
     let read = word_forth at (length cs) (flat_map path_bytes cs ++ text) (omega (arith, below, few)) left in
     let paths = paths_forth cs 0 done rest [] read.0 text are apart few short read.2 in
     (paths.0, rw read.1 paths.1, paths.2)
 
-pub harts_forth : (more done : Tables) (at : At) (text : List ℕ) → All (All IsCounted) more → All AreDistinct more → samples_in done + samples_in more ≤ most_samples
-    → frames_in done + frames_in more ≤ most_frames_in_all → left_of at ≡ flat_map hart_bytes more ++ text
-    → Comes (times hart_from (length more) (length done) (done ++ replicate (length more) []) at) (done ++ more) text
+pub columns_forth : (more done : Tables) (at : At) (text : List ℕ) → All (All IsCounted) more → All AreDistinct more → samples_in done + samples_in more ≤ most_samples
+    → frames_in done + frames_in more ≤ most_frames_in_all → left_of at ≡ flat_map column_bytes more ++ text
+    → Comes (times column_from (length more) (length done) (done ++ replicate (length more) []) at) (done ++ more) text
 unfolding times
-harts_forth [] done at text are apart few short left = (at, refl, left)
-harts_forth (cs ∷ more) done at text are apart few short left =
+columns_forth [] done at text are apart few short left = (at, refl, left)
+columns_forth (cs ∷ more) done at text are apart few short left =
     let rest : Tables = replicate (length more) [] in
     let none = no_sums rest (length more) refl in
     let no_samples = none.samples in
@@ -153,17 +153,17 @@ harts_forth (cs ∷ more) done at text are apart few short left =
     let frames = sum_by-cons (sum_by frames_of) cs more in
     let start_counts = own_sum count_of done rest [] in
     let start_frames = own_sum frames_of done rest [] in
-    let first = hart_forth cs done rest at (flat_map hart_bytes more ++ text) (All-head (All IsCounted) cs more are) (All-head AreDistinct cs more apart)
-    (omega (arith, no_samples, counts, start_counts, few)) (omega (arith, no_frames, frames, start_frames, short)) (left ∙ append_assoc (hart_bytes cs) (flat_map hart_bytes more) text) in
+    let first = column_forth cs done rest at (flat_map column_bytes more ++ text) (All-head (All IsCounted) cs more are) (All-head AreDistinct cs more apart)
+    (omega (arith, no_samples, counts, start_counts, few)) (omega (arith, no_frames, frames, start_frames, short)) (left ∙ append_assoc (column_bytes cs) (flat_map column_bytes more) text) in
     let mid : At = first.0 in
     let seam : done ++ cs ∷ rest ≡ (done ++ cs ∷ []) ++ rest = sym (append_assoc done (cs ∷ []) rest) in
     let later : length done + 1 ≡ length (done ++ cs ∷ []) = (let parts = length-append done (cs ∷ []) in omega (arith, parts)) in
     let new_counts = own_sum count_of done [] cs in
     let new_frames = own_sum frames_of done [] cs in
-    let others = harts_forth more (done ++ cs ∷ []) mid text (All-tail (All IsCounted) cs more are) (All-tail AreDistinct cs more apart) (omega (arith, counts, new_counts, few))
+    let others = columns_forth more (done ++ cs ∷ []) mid text (All-tail (All IsCounted) cs more are) (All-tail AreDistinct cs more apart) (omega (arith, counts, new_counts, few))
     (omega (arith, frames, new_frames, short)) first.2 in (
       others.0,
-      rw first.1 (ap (λ (t : Tables). times hart_from (length more) (length done + 1) t mid) seam ∙ ap (λ (k : ℕ). times hart_from (length more) k ((done ++ cs ∷ []) ++ rest) mid) later
+      rw first.1 (ap (λ (t : Tables). times column_from (length more) (length done + 1) t mid) seam ∙ ap (λ (k : ℕ). times column_from (length more) k ((done ++ cs ∷ []) ++ rest) mid) later
           ∙ others.1 ∙ ap (λ (t : Tables). Ok (t, others.0)) (append_assoc done (cs ∷ []) more)),
       others.2,
     )

@@ -9,17 +9,17 @@ use Rattle.measure_file.specs.declared.head.MeasureHead.{MeasureHead}
 use Rattle.measure_file.specs.Fields.{fault_at}
 use Rattle.measure_file.specs.Measurable.{AreMeasured, IsMeasurable}
 use Rattle.measure_file.specs.Reading.{is_harts, is_period, measurement_in, tables_from}
-use Rattle.measure_file.specs.Spelling.{magic, hart_bytes, measurement_spelling}
+use Rattle.measure_file.specs.Spelling.{magic, column_bytes, measurement_spelling}
 use Rattle.prof_bytes.specs.Number.{word}
-use Rattle.measure_file.proofs.Forth.{word_forth, ruled_forth, harts_forth}
+use Rattle.measure_file.proofs.Forth.{word_forth, ruled_forth, columns_forth}
 use Rattle.measure_file.proofs.Seams.{Tables}
 
-rest_forth : (tables : Tables) (at : At) → AreMeasured tables → left_of at ≡ flat_map hart_bytes tables → tables_from (length tables) at ≡ Ok tables
+rest_forth : (tables : Tables) (at : At) → AreMeasured tables → left_of at ≡ flat_map column_bytes tables → tables_from (length tables) at ≡ Ok tables
 unfolding tables_from
 rest_forth tables at are left =
     let few = are.samples in
     let short = are.frames in
-    let read = harts_forth tables [] at [] are.paths are.distinct (omega (arith, few)) (omega (arith, short)) (left ∙ sym (append-nil (flat_map hart_bytes tables))) in
+    let read = columns_forth tables [] at [] are.paths are.distinct (omega (arith, few)) (omega (arith, short)) (left ∙ sym (append-nil (flat_map column_bytes tables))) in
     rw (read.1, read.2) refl
 
 pub written_read : (head : MeasureHead) (tables : Tables) → IsMeasurable head tables → measurement_in (measurement_spelling head tables) ≡ Ok (head, tables)
@@ -27,7 +27,7 @@ unfolding measurement_in measurement_spelling
 written_read head tables is =
     let some = is.counts.some in
     let few = is.counts.few in
-    let text : List ℕ = flat_map hart_bytes tables in
+    let text : List ℕ = flat_map column_bytes tables in
     let rest : List ℕ = word head.length ++ (word head.entry ++ (word head.period ++ (word (length tables) ++ text))) in
     let front : magic_or (fault_at 0) magic (magic ++ rest) ≡ Ok (record { whole = magic ++ rest; offset = 8 }) = magic_comes (fault_at 0) magic rest refl refl in
     let a = word_forth (record { whole = magic ++ rest; offset = 8 }) head.length _ is.words.length refl in

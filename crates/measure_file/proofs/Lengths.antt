@@ -9,7 +9,7 @@ use Rattle.scope_types.specs.declared.frame.Frame.{Frame}
 use Rattle.scope_types.specs.Distinct.{frames_in, samples_in}
 use Rattle.scope_types.specs.Limits.{most_frames_in_all, most_samples}
 use Rattle.measure_file.specs.declared.head.MeasureHead.{MeasureHead}
-use Rattle.measure_file.specs.Spelling.{end_number, frame_bytes, path_bytes, hart_bytes, head_bytes, measurement_spelling, measurement_limit}
+use Rattle.measure_file.specs.Spelling.{end_number, frame_bytes, path_bytes, column_bytes, head_bytes, measurement_spelling, measurement_limit}
 use Rattle.prof_bytes.specs.Number.{word}
 
 abbrev HasCount : Counted → Type 0
@@ -44,13 +44,13 @@ paths_long (c ∷ cs) all =
     let frames = sum_by-cons frames_of c cs in
     omega (arith, parts, one, rest, some, counts, frames)
 
-harts_long : (tables : List (List Counted)) → All (All HasCount) tables → length (flat_map hart_bytes tables) ≤ 4 * length tables + 12 * samples_in tables + 4 * frames_in tables
-harts_long [] all = omega arith
-harts_long (table ∷ tables) all =
-    let parts = length-append (hart_bytes table) (flat_map hart_bytes tables) in
+columns_long : (tables : List (List Counted)) → All (All HasCount) tables → length (flat_map column_bytes tables) ≤ 4 * length tables + 12 * samples_in tables + 4 * frames_in tables
+columns_long [] all = omega arith
+columns_long (table ∷ tables) all =
+    let parts = length-append (column_bytes table) (flat_map column_bytes tables) in
     let own = length-append (word (length table)) (flat_map path_bytes table) in
     let one = paths_long table (All-head (All HasCount) table tables all) in
-    let rest = harts_long tables (All-tail (All HasCount) table tables all) in
+    let rest = columns_long tables (All-tail (All HasCount) table tables all) in
     let counts = sum_by-cons (sum_by count_of) table tables in
     let frames = sum_by-cons (sum_by frames_of) table tables in
     omega (arith, parts, own, one, rest, counts, frames)
@@ -59,7 +59,7 @@ pub spelling_short : (head : MeasureHead) (tables : List (List Counted)) (text :
 unfolding measurement_spelling
 spelling_short head tables text is few samples counted frames =
     let long = ap (λ (l : List ℕ). length l) is in
-    let parts = length-append (head_bytes head (length tables)) (flat_map hart_bytes tables) in
-    let rest = harts_long tables counted in
+    let parts = length-append (head_bytes head (length tables)) (flat_map column_bytes tables) in
+    let rest = columns_long tables counted in
     let front : length (head_bytes head (length tables)) ≡ 24 = refl in
     omega (arith, long, parts, rest, front, few, samples, frames)

@@ -6,14 +6,14 @@ use Rattle.std.proofs.lemmas.List.{length-map}
 use Rattle.std.proofs.lemmas.List.Elements.{All-cons, All-filter, All-head, All-map, All-nil, All-tail}
 use Rattle.std.proofs.lemmas.List.Sums.{sum_by-cons}
 use Rattle.scope_types.specs.declared.frame.Counted.{Counted}
-use Rattle.scope_types.specs.CallPaths.{HartPath}
-use Rattle.scope_types.specs.Distinct.{HartRaw, counted_paths, distinct, each_sample, raws_of, samples_in}
+use Rattle.scope_types.specs.CallPaths.{ColumnPath}
+use Rattle.scope_types.specs.Distinct.{ColumnRaw, counted_paths, distinct, each_sample, raws_of, samples_in}
 use Rattle.scope_types.specs.Raw.{HasFrames, Raw, same_raw}
 use Rattle.thread_cct.proofs.Samples.{length_is, samples_alike}
 use Rattle.measure_file.specs.Measurable.{AreDistinct, AreMeasured, AreSampled, HasWord, IsCounted}
 use Rattle.measure_file.proofs.EachSample.{samples_many}
 
--- ---- the paths of one hart
+-- ---- the paths of one column
 
 abbrev IsRaw : Raw → Type 0
 IsRaw raw = HasFrames raw.frames × All HasWord raw.frames
@@ -65,32 +65,32 @@ count_all : {X : Type 0} (xs : List X) → count_by (λ x. true) xs ≡ length x
 count_all [] = refl
 count_all {X} (x ∷ xs) = (let parts = sum_by-cons (λ (x : X). 1) x xs in let rest = count_all xs in omega (arith, parts, rest))
 
-abbrev pathless : HartRaw → HartPath
-pathless s = record { hart = s.hart; path = [] }
+abbrev pathless : ColumnRaw → ColumnPath
+pathless s = record { column = s.column; path = [] }
 
-all_counted : (harts : ℕ) (samples : List HartRaw) → All (λ s. s.hart < harts) samples → samples_in (distinct harts samples) ≡ length samples
-all_counted harts samples own =
-    let each : List HartRaw = each_sample (distinct harts samples) in
-    sym (samples_many (distinct harts samples)) ∙ sym (length-map each pathless) ∙ sym (count_all (map pathless each))
-    ∙ (samples_alike harts samples pathless own).same (λ p. true) ∙ count_all (map pathless samples) ∙ length-map samples pathless
+all_counted : (columns : ℕ) (samples : List ColumnRaw) → All (λ s. s.column < columns) samples → samples_in (distinct columns samples) ≡ length samples
+all_counted columns samples own =
+    let each : List ColumnRaw = each_sample (distinct columns samples) in
+    sym (samples_many (distinct columns samples)) ∙ sym (length-map each pathless) ∙ sym (count_all (map pathless each))
+    ∙ (samples_alike columns samples pathless own).same (λ p. true) ∙ count_all (map pathless samples) ∙ length-map samples pathless
 
-pub sampled_measured : (harts : ℕ) (samples : List HartRaw) → AreSampled harts samples → AreMeasured (distinct harts samples)
+pub sampled_measured : (columns : ℕ) (samples : List ColumnRaw) → AreSampled columns samples → AreMeasured (distinct columns samples)
 unfolding distinct
-sampled_measured harts samples are =
-    let many = length_is harts samples in
+sampled_measured columns samples are =
+    let many = length_is columns samples in
     let some = are.some in
     let few = are.few in
-    let all = all_counted harts samples are.own in
+    let all = all_counted columns samples are.own in
     let most = are.sampled in
-    let column : ℕ → List Counted = λ hart. counted_paths (raws_of samples hart) in
-    let raws : (hart : ℕ) → All IsRaw (raws_of samples hart) = λ hart.
-    All-map IsRaw (λ (s : HartRaw). s.raw) (filter (λ s. s.hart == hart) samples)
-    (All-filter (λ s. s.hart == hart) (λ (s : HartRaw). IsRaw s.raw) samples (λ k d lt. (are.paths k d lt, are.addresses k d lt))) in
+    let table_of : ℕ → List Counted = λ column. counted_paths (raws_of samples column) in
+    let raws : (column : ℕ) → All IsRaw (raws_of samples column) = λ column.
+    All-map IsRaw (λ (s : ColumnRaw). s.raw) (filter (λ s. s.column == column) samples)
+    (All-filter (λ s. s.column == column) (λ (s : ColumnRaw). IsRaw s.raw) samples (λ k d lt. (are.paths k d lt, are.addresses k d lt))) in
     record {
       some = omega (arith, many, some);
       few = omega (arith, many, few);
-      paths = All-map (All IsCounted) column (range_with_len 0 harts) (λ k d lt. paths_counted (raws_of samples _) (raws _));
-      distinct = All-map AreDistinct column (range_with_len 0 harts) (λ k d lt. paths_distinct (raws_of samples _));
+      paths = All-map (All IsCounted) table_of (range_with_len 0 columns) (λ k d lt. paths_counted (raws_of samples _) (raws _));
+      distinct = All-map AreDistinct table_of (range_with_len 0 columns) (λ k d lt. paths_distinct (raws_of samples _));
       samples = omega (arith, all, most);
       frames = are.frames;
     }

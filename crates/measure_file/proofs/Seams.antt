@@ -1,4 +1,4 @@
--- The paths of one hart among those of all harts.
+-- The paths of one column among those of all columns.
 use Rattle.std.proofs.Common.{◌≡◌, ℕ, ◌+◌, ◌<◌, ◌≤◌, false, List, [], ◌∷◌, ◌++◌, length, sum_by, All, refl, ap, subst, ◌∙◌, arith}
 use Rattle.std.specs.Prelude.{slice_set}
 use Rattle.std.proofs.Math.Seq.{set-append_seam, get_or-append_seam}
@@ -12,7 +12,7 @@ use Rattle.scope_types.specs.Distinct.{frames_in, samples_in}
 use Rattle.scope_types.specs.Limits.{most_frames_in_all, most_samples}
 use Rattle.scope_types.specs.Raw.{same_raw}
 use Rattle.scope_types.specs.private.SameRaw.{raw_equiv}
-use Rattle.thread_cct.specs.Adding.{has_path, of_hart, with_path}
+use Rattle.thread_cct.specs.Adding.{has_path, of_column, with_path}
 use Rattle.measure_file.specs.Measurable.{AreDistinct, AreMeasured, IsCounted}
 
 abbrev pub Tables : Type 0
@@ -24,9 +24,9 @@ count_of c = c.count
 abbrev pub frames_of : Counted → ℕ
 frames_of c = length c.path.frames
 
--- ---- one hart's
+-- ---- one column's
 
-pub own_of : (done rest : Tables) (own : List Counted) → of_hart (done ++ own ∷ rest) (length done) ≡ own
+pub own_of : (done rest : Tables) (own : List Counted) → of_column (done ++ own ∷ rest) (length done) ≡ own
 own_of done rest own = get_or-append_seam done own rest []
 
 pub own_put : (done rest : Tables) (own : List Counted) (c : Counted) → with_path (done ++ own ∷ rest) (length done) c ≡ done ++ (own ++ c ∷ []) ∷ rest
@@ -48,14 +48,14 @@ sum_more f done rest own c =
     let last = sum_by-cons f c [] in
     omega (arith, new, old, parts, last)
 
--- where one hart's are others
+-- where one column's are others
 pub own_changed : (P : List Counted → Type 0) (done rest : Tables) (own new : List Counted) → (P own → P new) → All P (done ++ own ∷ rest) → All P (done ++ new ∷ rest)
 own_changed P done rest own new change all =
     let within : length done < length (done ++ own ∷ rest) = (let parts = length-append done (own ∷ rest) in omega (arith, parts)) in
     let before : P own = subst P (get_or-append_seam done own rest []) (all (length done) [] within) in
     subst (All P) (set-append_seam done own rest new) (All-set P (done ++ own ∷ rest) (length done) new (change before) all)
 
--- ---- a path that is new to its hart
+-- ---- a path that is new to its column
 
 pub distinct_more : (cs : List Counted) (c : Counted) → has_path c.path cs ≡ false → AreDistinct cs → AreDistinct (cs ++ c ∷ [])
 distinct_more [] c new are = (refl, tt)

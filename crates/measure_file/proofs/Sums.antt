@@ -5,14 +5,14 @@ use Rattle.scope_types.specs.declared.frame.Counted.{Counted}
 use Rattle.scope_types.specs.Distinct.{frames_in, samples_in}
 use Rattle.measure_file.specs.private.Sums.{AreSums}
 
-none : (f : Counted → ℕ) (harts : ℕ) → sum_by (sum_by f) (replicate harts []) ≡ 0
+none : (f : Counted → ℕ) (columns : ℕ) → sum_by (sum_by f) (replicate columns []) ≡ 0
 none f zero = refl
-none f (suc harts) = (let parts = sum_by-cons (sum_by f) [] (replicate harts []) in let rest = none f harts in omega (arith, parts, rest))
+none f (suc columns) = (let parts = sum_by-cons (sum_by f) [] (replicate columns []) in let rest = none f columns in omega (arith, parts, rest))
 
-pub no_sums : (tables : List (List Counted)) (harts : ℕ) → tables ≡ replicate harts [] → AreSums tables 0 0
-no_sums tables harts is =
-    let samples : samples_in tables ≡ 0 = ap samples_in is ∙ none (λ c. c.count) harts in
-    let frames : frames_in tables ≡ 0 = ap frames_in is ∙ none (λ c. length c.path.frames) harts in
+pub no_sums : (tables : List (List Counted)) (columns : ℕ) → tables ≡ replicate columns [] → AreSums tables 0 0
+no_sums tables columns is =
+    let samples : samples_in tables ≡ 0 = ap samples_in is ∙ none (λ c. c.count) columns in
+    let frames : frames_in tables ≡ 0 = ap frames_in is ∙ none (λ c. length c.path.frames) columns in
     record {
       samples = omega (arith, samples);
       few_samples = omega arith;

@@ -10,6 +10,7 @@ use Rattle.measure_file.specs.declared.fault.MeasureFault.{MeasureFault}
 abbrev pub MeasureRead : Type 0 → Type 0
 MeasureRead X = Result (X × At) MeasureFault
 
+-- the fault of the field at an offset
 abbrev pub fault_at : ℕ → MeasureFault
 fault_at offset = record { offset = offset }
 

@@ -4,8 +4,8 @@ use Rattle.std.specs.Prelude.{◌≡◌, ℕ, ◌<◌, ◌≤◌, ◌^◌, false
 use Rattle.scope_types.specs.declared.frame.Counted.{Counted}
 use Rattle.scope_types.specs.declared.frame.Frame.{Frame}
 use Rattle.scope_types.specs.Raw.{HasFrames}
-use Rattle.scope_types.specs.Distinct.{HartRaw, distinct, frames_in, samples_in}
-use Rattle.scope_types.specs.Limits.{most_frames_in_all, most_profile_harts, most_samples}
+use Rattle.scope_types.specs.Distinct.{ColumnRaw, distinct, frames_in, samples_in}
+use Rattle.scope_types.specs.Limits.{most_frames_in_all, most_harts, most_samples}
 use Rattle.thread_cct.specs.Adding.{has_path}
 use Rattle.measure_file.specs.declared.head.MeasureHead.{MeasureHead}
 
@@ -16,6 +16,7 @@ pub record IsHead (head : MeasureHead) : Type 0 where
   pub period : head.period < 2 ^ 32
   pub some : 1 ≤ head.period
 
+-- an address of 32 bits
 abbrev pub HasWord : Frame → Type 0
 HasWord frame = frame.pc < 2 ^ 32
 
@@ -25,7 +26,7 @@ pub record IsCounted (counted : Counted) : Type 0 where
   pub frames : HasFrames counted.path.frames
   pub addresses : All HasWord counted.path.frames
 
--- no raw path stands twice: each is none of those after it
+-- no raw path is there twice: each is none of those after it
 abbrev pub AreDistinct : List Counted → Type 0
 AreDistinct [] = Unit {0}
 AreDistinct (c ∷ paths) = (has_path c.path paths ≡ false) × AreDistinct paths
@@ -33,7 +34,7 @@ AreDistinct (c ∷ paths) = (has_path c.path paths ≡ false) × AreDistinct pat
 -- 1 to 16 harts, each with distinct counted paths; and the sums of counts and of frames are in their limits
 pub record AreMeasured (tables : List (List Counted)) : Type 0 where
   pub some : 1 ≤ length tables
-  pub few : length tables ≤ most_profile_harts
+  pub few : length tables ≤ most_harts
   pub paths : All (All IsCounted) tables
   pub distinct : All AreDistinct tables
   pub samples : samples_in tables ≤ most_samples
@@ -45,11 +46,11 @@ pub record IsMeasurable (head : MeasureHead) (tables : List (List Counted)) : Ty
   pub counts : AreMeasured tables
 
 -- samples of 1 to 16 harts whose counted paths are such
-pub record AreSampled (harts : ℕ) (samples : List HartRaw) : Type 0 where
-  pub some : 1 ≤ harts
-  pub few : harts ≤ most_profile_harts
-  pub own : All (λ s. s.hart < harts) samples
+pub record AreSampled (columns : ℕ) (samples : List ColumnRaw) : Type 0 where
+  pub some : 1 ≤ columns
+  pub few : columns ≤ most_harts
+  pub own : All (λ s. s.column < columns) samples
   pub paths : All (λ s. HasFrames s.raw.frames) samples
   pub addresses : All (λ s. All HasWord s.raw.frames) samples
   pub sampled : length samples ≤ most_samples
-  pub frames : frames_in (distinct harts samples) ≤ most_frames_in_all
+  pub frames : frames_in (distinct columns samples) ≤ most_frames_in_all

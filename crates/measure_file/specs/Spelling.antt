@@ -13,6 +13,7 @@ use Rattle.measure_file.specs.declared.head.MeasureHead.{MeasureHead}
 abbrev pub magic : List ℕ
 magic = codes "HPCRUNM1"
 
+-- the number of how a path ends
 abbrev pub end_number : End → ℕ
 end_number Whole = 0
 end_number (Partial NoFde) = 1
@@ -21,6 +22,7 @@ end_number (Partial Expression) = 3
 end_number (Partial Unmapped) = 4
 end_number (Partial Depth) = 5
 
+-- a frame's address
 abbrev pub frame_bytes : Frame → List ℕ
 frame_bytes frame = word frame.pc
 
@@ -29,15 +31,17 @@ abbrev pub path_bytes : Counted → List ℕ
 path_bytes c = word c.count ++ word (end_number c.path.end) ++ word (length c.path.frames)
     ++ flat_map frame_bytes c.path.frames
 
--- how many distinct raw paths a hart has, and each
-abbrev pub hart_bytes : List Counted → List ℕ
-hart_bytes paths = word (length paths) ++ flat_map path_bytes paths
+-- how many distinct raw paths a column has, and each
+abbrev pub column_bytes : List Counted → List ℕ
+column_bytes paths = word (length paths) ++ flat_map path_bytes paths
 
+-- the head: the program's length and entry, the period, and the number of harts
 abbrev pub head_bytes : MeasureHead → ℕ → List ℕ
 head_bytes head harts = magic ++ word head.length ++ word head.entry ++ word head.period ++ word harts
 
+-- all bytes of a measurement: its head, and the paths of each hart, which is a column
 unfoldable pub measurement_spelling : MeasureHead → List (List Counted) → List ℕ
-measurement_spelling head tables = head_bytes head (length tables) ++ flat_map hart_bytes tables
+measurement_spelling head tables = head_bytes head (length tables) ++ flat_map column_bytes tables
 
 -- the most bytes of a measurement that any command reads
 abbrev pub measurement_limit : ℕ

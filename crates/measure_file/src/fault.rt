@@ -5,7 +5,7 @@ ghost use Rattle.prof_bytes.specs.declared.fail.Fail.TheVariants as fails;
 use prof_bytes::Fail;
 
 /// The first fault of a measurement file: the offset in bytes of the first field that isn't whole or breaks a rule.
-/// For a raw path that its hart has already it is the offset of its first pc, and for bytes after the last field the
+/// For a raw path that its column has already it is the offset of its first pc, and for bytes after the last field the
 /// end of that field.
 #[derive(Clone, Copy, Debug, PartialEq, Eq)]
 pub struct MeasureFault {

@@ -1,7 +1,7 @@
 //! The single words of a measurement file.
 ghost use Rattle.std.specs.Prelude.{◌≡◌, ◌+◌, ◌≤◌, length, IfOk, []};
 ghost use Rattle.prof_bytes.specs.Outcome.{GivesAt, GivesFrom};
-ghost use Rattle.scope_types.specs.Limits.{most_frames_in_all, most_samples};
+ghost use Rattle.scope_types.specs.Limits.{most_frames_in_all, most_frames_of_path, most_harts, most_samples};
 ghost use Rattle.prof_bytes.specs.Repeated.{adding, times};
 ghost use Rattle.measure_file.specs.Fields.{word_from, word_by};
 ghost use Rattle.measure_file.specs.Reading.{is_count, is_end_number, is_length, is_period, is_harts, path_end};
@@ -9,17 +9,9 @@ ghost use Rattle.measure_file.specs.Reading.{measured_frame_from};
 
 use crate::fault::MeasureFault;
 use prof_bytes::{Cursor, Fail};
+use scope_types::limits::{MOST_FRAMES_IN_ALL, MOST_FRAMES_OF_PATH, MOST_HARTS, MOST_SAMPLES};
 use scope_types::{End, Frame, PartialCause};
 use std::alloc::Global;
-
-/// The most samples of a measurement.
-const MOST_SAMPLES: u32 = 1_048_576;
-
-/// The most frames of all its distinct raw paths.
-const MOST_FRAMES_IN_ALL: u32 = 4_194_304;
-
-/// The most frames of one path.
-const MOST_FRAMES_OF_PATH: u32 = 512;
 
 pub(crate) fn fault_at(offset: usize) -> MeasureFault
     ensures { result ≡ record { offset = offset } }
@@ -52,11 +44,11 @@ pub(crate) fn read_period(cursor: &mut Cursor<'_>) -> Result<u32, MeasureFault>
 
 pub(crate) fn read_harts(cursor: &mut Cursor<'_>) -> Result<u32, MeasureFault>
     ensures read { GivesAt (λ n. n) result cursor.new (word_by is_harts cursor.old) }
-    ensures few { IfOk result (λ n. n ≤ 16) }
+    ensures few { IfOk result (λ n. n ≤ most_harts) }
 {
     let offset = cursor.place();
     let harts = read_word(cursor)?;
-    if harts == 0 || harts > 16 {
+    if harts == 0 || harts > MOST_HARTS as u32 {
         return Err(fault_at(offset));
     }
     Ok(harts)
@@ -105,7 +97,7 @@ pub(crate) fn read_end(cursor: &mut Cursor<'_>) -> Result<u32, MeasureFault>
 pub(crate) fn read_length(cursor: &mut Cursor<'_>, frames: u32) -> Result<u32, MeasureFault>
     requires { frames ≤ most_frames_in_all }
     ensures read { GivesAt (λ n. n) result cursor.new (word_by (is_length frames) cursor.old) }
-    ensures fits { IfOk result (λ n. (1 ≤ n) × (n ≤ 512) × (frames + n ≤ most_frames_in_all)) }
+    ensures fits { IfOk result (λ n. (1 ≤ n) × (n ≤ most_frames_of_path) × (frames + n ≤ most_frames_in_all)) }
 {
     let offset = cursor.place();
     let length = read_word(cursor)?;

@@ -1,6 +1,6 @@
 ghost use Rattle.std.specs.Prelude.{◌≡◌, ℕ, ◌<◌, List, length, All, Ok};
 ghost use Rattle.prof_bytes.specs.Number.{IsBytes};
-ghost use Rattle.scope_types.specs.Distinct.{HartRaw, distinct, each_sample, samples_in};
+ghost use Rattle.scope_types.specs.Distinct.{ColumnRaw, distinct, each_sample, samples_in};
 ghost use Rattle.scope_types.specs.declared.frame.Counted.{Counted};
 ghost use Rattle.measure_file.specs.declared.head.MeasureHead.{MeasureHead};
 ghost use Rattle.measure_file.specs.Measurable.{AreMeasured, AreSampled, IsMeasurable};
@@ -21,18 +21,18 @@ pub fn read_is_written()
         → measurement_in bytes ≡ Ok m → bytes ≡ measurement_spelling m.0 m.1 }
 {}
 
-/// The samples of a measurement are each path of the file, hart by hart, as often as its count: as many as are
-/// counted, each of a hart that the file has. Counted again they give the measurement's paths.
+/// The samples of a measurement are each path of the file, column by column, as often as its count: as many as are
+/// counted, each of a column that the file has. Counted again they give the measurement's paths.
 pub fn measurements_count_samples()
     ensures distinct { (tables : List (List Counted)) → AreMeasured tables
         → distinct (length tables) (each_sample tables) ≡ tables }
     ensures many { (tables : List (List Counted)) → length (each_sample tables) ≡ samples_in tables }
-    ensures harts { (tables : List (List Counted)) → All (λ s. s.hart < length tables) (each_sample tables) }
+    ensures columns { (tables : List (List Counted)) → All (λ s. s.column < length tables) (each_sample tables) }
 {}
 
 /// The counted paths of samples are those of a measurement, where there are 1 to 16 harts, samples and frames within
 /// their limits, and paths of 1 to 512 frames whose addresses have 32 bits.
 pub fn samples_are_measured()
-    ensures { (harts : ℕ) (samples : List HartRaw) → AreSampled harts samples
-        → AreMeasured (distinct harts samples) }
+    ensures { (columns : ℕ) (samples : List ColumnRaw) → AreSampled columns samples
+        → AreMeasured (distinct columns samples) }
 {}

@@ -1,7 +1,7 @@
 //! The measurement file: what a run of a program counted, as bytes, in this project's format of version 1.
 //!
 //! It promises that what is written is byte for byte the spelling of the head and the counted paths, and that what is
-//! read is just what the bytes say, or the offset of their first fault. Below stand `thread_cct`, `scope_types` and
+//! read is just what the bytes say, or the offset of their first fault. Below lie `thread_cct`, `scope_types` and
 //! `prof_bytes`.
 #![tactic(auto)]
 

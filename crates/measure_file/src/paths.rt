@@ -34,12 +34,12 @@ impl Model for Paths {
 }
 
 impl Paths {
-    /// No paths, for `harts` harts.
+    /// No paths, for `columns` columns.
     #[tactic(auto, using(crate::proofs::Sums::no_sums))]
-    pub(crate) fn start(alloc: Global, harts: u32) -> Result<Paths, Memory>
-        ensures { IfOk result (λ paths. paths ≡ replicate harts []) }
+    pub(crate) fn start(alloc: Global, columns: u32) -> Result<Paths, Memory>
+        ensures { IfOk result (λ paths. paths ≡ replicate columns []) }
     {
-        let ccts = Ccts::start(alloc, harts)?;
+        let ccts = Ccts::start(alloc, columns)?;
         Ok(Paths {
             ccts,
             samples: 0,
@@ -63,27 +63,27 @@ impl Paths {
         self.frames
     }
 
-    /// Puts a path of a hart that was read with its count, and whose first pc is at this offset.
+    /// Puts a path of a column that was read with its count, and whose first pc is at this offset.
     pub(crate) fn put(
         &mut self,
-        hart: u32,
+        column: u32,
         raw: RawPath,
         count: u32,
         offset: usize,
     ) -> Result<(), Fail<MeasureFault>>
-        requires hart { hart < length self.old }
+        requires column { column < length self.old }
         requires count { 0 < count }
         requires few { samples_in self.old + count ≤ most_samples }
         requires frames { frames_in self.old + length raw.frames ≤ most_frames_in_all }
         ensures put { Gives (λ done. self.new) result
-            (new_path hart offset (record { path = raw; count = count }) self.old) }
-        ensures harts { OnOk result (length self.new ≡ length self.old) }
+            (new_path column offset (record { path = raw; count = count }) self.old) }
+        ensures columns { OnOk result (length self.new ≡ length self.old) }
     {
-        if self.ccts.has(hart, &raw) {
+        if self.ccts.has(column, &raw) {
             return Err(Fail::Fault(fault_at(offset)));
         }
         let frames = raw.frames().len() as u32;
-        self.ccts.put(hart, raw, count)?;
+        self.ccts.put(column, raw, count)?;
         self.samples += count;
         self.frames += frames;
         Ok(())

@@ -5,7 +5,7 @@ ghost use Rattle.prof_bytes.specs.Outcome.{Gives, GivesFrom};
 ghost use Rattle.prof_bytes.specs.Repeated.{times};
 ghost use Rattle.measure_file.specs.Measurable.{IsMeasurable};
 ghost use Rattle.measure_file.specs.Fields.{fault_at};
-ghost use Rattle.measure_file.specs.Reading.{measured_path_from, hart_from, measurement_in, tables_from};
+ghost use Rattle.measure_file.specs.Reading.{measured_path_from, column_from, measurement_in, tables_from};
 ghost use Rattle.measure_file.specs.Spelling.{magic};
 
 use crate::fault::MeasureFault;
@@ -20,84 +20,88 @@ use scope_types::RawPath;
 use std::alloc::Global;
 use thread_cct::Ccts;
 
-/// A path of a hart.
+/// A path of a column.
 #[tactic(auto, unfolding(crate::specs::Reading::measured_path_from))]
 fn read_path(
     alloc: Global,
     cursor: &mut Cursor<'_>,
     paths: &mut Paths,
-    hart: u32,
+    column: u32,
 ) -> Result<(), Fail<MeasureFault>>
-    requires { hart < length paths.old }
-    ensures read { GivesFrom (λ done. paths.new) result cursor.new (measured_path_from hart paths.old cursor.old) }
-    ensures harts { OnOk result (length paths.new ≡ length paths.old) }
+    requires { column < length paths.old }
+    ensures read { GivesFrom (λ done. paths.new) result cursor.new (measured_path_from column paths.old cursor.old) }
+    ensures columns { OnOk result (length paths.new ≡ length paths.old) }
 {
     let count = read_count(cursor, paths.samples())?;
     let end = read_end(cursor)?;
     let length = read_length(cursor, paths.frames())?;
     let first_pc = cursor.place();
     let frames = read_frames(alloc, cursor, length)?;
-    paths.put(hart, RawPath::of(path_end(end), frames), count, first_pc)
+    paths.put(column, RawPath::of(path_end(end), frames), count, first_pc)
 }
 
-/// `count` paths of a hart.
+/// `count` paths of a column.
 fn read_paths(
     alloc: Global,
     cursor: &mut Cursor<'_>,
     paths: &mut Paths,
-    hart: u32,
+    column: u32,
     count: u32,
 ) -> Result<(), Fail<MeasureFault>>
-    requires { hart < length paths.old }
+    requires { column < length paths.old }
     ensures read { GivesFrom (λ done. paths.new) result cursor.new
-        (times (λ i. measured_path_from hart) count 0 paths.old cursor.old) }
-    ensures harts { OnOk result (length paths.new ≡ length paths.old) }
+        (times (λ i. measured_path_from column) count 0 paths.old cursor.old) }
+    ensures columns { OnOk result (length paths.new ≡ length paths.old) }
 {
     for _ in 0..count {
-        read_path(alloc, cursor, paths, hart)?;
+        read_path(alloc, cursor, paths, column)?;
     }
     Ok(())
 }
 
-/// The paths of a hart, their number before them.
-#[tactic(auto, unfolding(crate::specs::Reading::hart_from))]
-fn read_hart(
+/// The paths of a column, their number before them.
+#[tactic(auto, unfolding(crate::specs::Reading::column_from))]
+fn read_column(
     alloc: Global,
     cursor: &mut Cursor<'_>,
     paths: &mut Paths,
-    hart: u32,
+    column: u32,
 ) -> Result<(), Fail<MeasureFault>>
-    requires { hart < length paths.old }
-    ensures read { GivesFrom (λ done. paths.new) result cursor.new (hart_from hart paths.old cursor.old) }
-    ensures harts { OnOk result (length paths.new ≡ length paths.old) }
+    requires { column < length paths.old }
+    ensures read { GivesFrom (λ done. paths.new) result cursor.new (column_from column paths.old cursor.old) }
+    ensures columns { OnOk result (length paths.new ≡ length paths.old) }
 {
     let count = read_word(cursor)?;
-    read_paths(alloc, cursor, paths, hart, count)
+    read_paths(alloc, cursor, paths, column, count)
 }
 
-/// The paths of all harts.
+/// The paths of all columns.
 fn read_tables(
     alloc: Global,
     cursor: &mut Cursor<'_>,
     paths: &mut Paths,
-    harts: u32,
+    columns: u32,
 ) -> Result<(), Fail<MeasureFault>>
-    requires { length paths.old ≡ harts }
-    ensures { GivesFrom (λ done. paths.new) result cursor.new (times hart_from harts 0 paths.old cursor.old) }
+    requires { length paths.old ≡ columns }
+    ensures { GivesFrom (λ done. paths.new) result cursor.new (times column_from columns 0 paths.old cursor.old) }
 {
-    for hart in 0..harts {
-        read_hart(alloc, cursor, paths, hart)?;
+    for column in 0..columns {
+        read_column(alloc, cursor, paths, column)?;
     }
     Ok(())
 }
 
-/// The paths of `harts` harts, and nothing after them.
+/// The paths of `columns` columns, and nothing after them.
 #[tactic(auto, unfolding(crate::specs::Reading::tables_from))]
-fn read_rest(alloc: Global, cursor: &mut Cursor<'_>, harts: u32) -> Result<Ccts, Fail<MeasureFault>>
-    ensures { Gives (λ ccts. ccts) result (tables_from harts cursor.old) }
+fn read_rest(
+    alloc: Global,
+    cursor: &mut Cursor<'_>,
+    columns: u32,
+) -> Result<Ccts, Fail<MeasureFault>>
+    ensures { Gives (λ ccts. ccts) result (tables_from columns cursor.old) }
 {
-    let mut paths = Paths::start(alloc, harts)?;
-    read_tables(alloc, cursor, &mut paths, harts)?;
+    let mut paths = Paths::start(alloc, columns)?;
+    read_tables(alloc, cursor, &mut paths, columns)?;
     if cursor.left() > 0 {
         return Err(Fail::Fault(fault_at(cursor.place())));
     }

@@ -1,8 +1,9 @@
 //! A measurement as bytes.
 ghost use Rattle.std.specs.Prelude.{◌≡◌, ◌<◌, ◌≤◌, ◌++◌, length, IfOk, OnOk};
 ghost use Rattle.std.specs.List.{flat_map};
-ghost use Rattle.thread_cct.specs.Adding.{of_hart};
-ghost use Rattle.measure_file.specs.Spelling.{end_number, frame_bytes, head_bytes, hart_bytes, measurement_limit};
+ghost use Rattle.scope_types.specs.Limits.{most_harts};
+ghost use Rattle.thread_cct.specs.Adding.{of_column};
+ghost use Rattle.measure_file.specs.Spelling.{end_number, frame_bytes, head_bytes, column_bytes, measurement_limit};
 ghost use Rattle.measure_file.specs.Spelling.{path_bytes, measurement_spelling};
 
 use crate::head::MeasureHead;
@@ -44,31 +45,31 @@ fn put_path(out: &mut Vec<u8>, counted: &Counted) -> Result<(), Memory>
     Ok(())
 }
 
-fn put_paths(out: &mut Vec<u8>, ccts: &Ccts, hart: u32) -> Result<(), Memory>
-    requires { hart < length ccts.now }
-    ensures { OnOk result (out.new.items ≡ out.old.items ++ flat_map path_bytes (of_hart ccts.now hart)) }
+fn put_paths(out: &mut Vec<u8>, ccts: &Ccts, column: u32) -> Result<(), Memory>
+    requires { column < length ccts.now }
+    ensures { OnOk result (out.new.items ≡ out.old.items ++ flat_map path_bytes (of_column ccts.now column)) }
 {
-    for index in 0..ccts.len(hart) {
-        let counted = ccts.path(hart, index)?;
+    for index in 0..ccts.len(column) {
+        let counted = ccts.path(column, index)?;
         put_path(out, &counted)?;
     }
     Ok(())
 }
 
-fn put_hart(out: &mut Vec<u8>, ccts: &Ccts, hart: u32) -> Result<(), Memory>
-    requires { hart < length ccts.now }
-    ensures { OnOk result (out.new.items ≡ out.old.items ++ hart_bytes (of_hart ccts.now hart)) }
+fn put_column(out: &mut Vec<u8>, ccts: &Ccts, column: u32) -> Result<(), Memory>
+    requires { column < length ccts.now }
+    ensures { OnOk result (out.new.items ≡ out.old.items ++ column_bytes (of_column ccts.now column)) }
 {
-    put_u32(out, ccts.len(hart))?;
-    put_paths(out, ccts, hart)?;
+    put_u32(out, ccts.len(column))?;
+    put_paths(out, ccts, column)?;
     Ok(())
 }
 
-fn put_harts(out: &mut Vec<u8>, ccts: &Ccts) -> Result<(), Memory>
-    ensures { OnOk result (out.new.items ≡ out.old.items ++ flat_map hart_bytes ccts.now) }
+fn put_columns(out: &mut Vec<u8>, ccts: &Ccts) -> Result<(), Memory>
+    ensures { OnOk result (out.new.items ≡ out.old.items ++ flat_map column_bytes ccts.now) }
 {
-    for hart in 0..ccts.harts() {
-        put_hart(out, ccts, hart)?;
+    for column in 0..ccts.columns() {
+        put_column(out, ccts, column)?;
     }
     Ok(())
 }
@@ -84,15 +85,15 @@ fn put_head(out: &mut Vec<u8>, head: &MeasureHead, harts: u32) -> Result<(), Mem
     Ok(())
 }
 
-/// The bytes of a measurement of `harts` harts.
+/// The bytes of a measurement of `columns` columns.
 #[tactic(auto, unfolding(crate::specs::Spelling::measurement_spelling))]
-fn spelled(alloc: Global, head: &MeasureHead, ccts: &Ccts, harts: u32) -> Result<Text, Memory>
-    requires { harts ≡ length ccts.now }
+fn spelled(alloc: Global, head: &MeasureHead, ccts: &Ccts, columns: u32) -> Result<Text, Memory>
+    requires { columns ≡ length ccts.now }
     ensures { IfOk result (λ text. text ≡ measurement_spelling head.now ccts.now) }
 {
     let mut out = Vec::new(alloc);
-    put_head(&mut out, head, harts)?;
-    put_harts(&mut out, ccts)?;
+    put_head(&mut out, head, columns)?;
+    put_columns(&mut out, ccts)?;
     Ok(Text::from_vec(out))
 }
 
@@ -100,10 +101,10 @@ fn spelled(alloc: Global, head: &MeasureHead, ccts: &Ccts, harts: u32) -> Result
 pub fn write_measure(alloc: Global, head: &MeasureHead, ccts: &Ccts) -> Result<Text, Memory>
     requires period { 0 < head.now.period }
     requires some { 0 < length ccts.now }
-    requires few { length ccts.now ≤ 16 }
+    requires few { length ccts.now ≤ most_harts }
     ensures spelled { IfOk result (λ text. text ≡ measurement_spelling head.now ccts.now) }
     ensures short { IfOk result (λ text. length text ≤ measurement_limit) }
 {
-    let text = spelled(alloc, head, ccts, ccts.harts())?;
+    let text = spelled(alloc, head, ccts, ccts.columns())?;
     Ok(text)
 }

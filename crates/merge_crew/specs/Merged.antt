@@ -1,5 +1,6 @@
 -- What the workers of a merge leave.
 use Rattle.std.specs.Prelude.{◌≡◌, ℕ, ◌+◌, ◌*◌, ◌<◌, ◌≤◌, length}
+use Rattle.scope_types.specs.Limits.{stripe_count}
 use Rattle.stripe_table.specs.Limits.{Chunks}
 use Rattle.stripe_table.specs.Ends.{AllFit, stripe_names}
 use Rattle.stripe_table.specs.Views.{occurrences}
@@ -12,7 +13,8 @@ pub record IsOfPlan (chunks : Chunks) (crew : Crew) : Type 0 where
 
 -- each stripe names each chunk of the plan, once
 abbrev pub NamesEach : Chunks → Crew → Type 0
-NamesEach plan crew = (s c : ℕ) → s < 16 → c < length plan → occurrences c (stripe_names crew.stripes.stripes s) ≡ 1
+NamesEach plan crew = (s c : ℕ) → s < stripe_count → c < length plan
+    → occurrences c (stripe_names crew.stripes.stripes s) ≡ 1
 
 -- every chunk's piece is in each stripe, by a given number of workers or by the caller: there was one pass for each
 -- worker. The passes merged `merged` pieces, and the caller settled the others of the sixteen of each chunk, no more
@@ -21,7 +23,7 @@ NamesEach plan crew = (s c : ℕ) → s < 16 → c < length plan → occurrences
 pub record IsWhole (plan : Chunks) (workers : ℕ) (crew : Crew) : Type 0 where
   pub names : NamesEach plan crew
   pub merged : crew.merged ≡ length crew.stripes.view.puts
-  pub sum : crew.merged + crew.settled ≡ 16 * length plan
+  pub sum : crew.merged + crew.settled ≡ stripe_count * length plan
   pub busy : 64 * crew.busy_left ≤ crew.stripes.view.busy
   pub present : crew.present ≡ crew.stripes.view.met
   pub settled : crew.settled ≤ crew.busy_left + crew.present
@@ -31,7 +33,7 @@ pub record IsWhole (plan : Chunks) (workers : ℕ) (crew : Crew) : Type 0 where
 -- stripes of an expanded plan that no worker filled
 pub record IsUnfilled (chunks : Chunks) (crew : Crew) : Type 0 where
   pub of : IsOfPlan chunks crew
-  pub none : (s : ℕ) → s < 16 → length (stripe_names crew.stripes.stripes s) ≡ 0
+  pub none : (s : ℕ) → s < stripe_count → length (stripe_names crew.stripes.stripes s) ≡ 0
   pub merged : crew.merged ≡ 0
   pub busy_left : crew.busy_left ≡ 0
   pub present : crew.present ≡ 0

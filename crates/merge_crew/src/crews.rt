@@ -3,6 +3,7 @@ ghost use Rattle.std.specs.Prelude.{◌≡◌, ◌≤◌, Bool, IsTrue, IfOk, Re
 ghost use Rattle.thread_cct.specs.Plan.{FitsExpansion, expanded};
 ghost use Rattle.merge_crew.specs.Merged.{IsOfPlan, IsUnfilled, IsWhole};
 ghost use Rattle.prof_bytes.specs.declared.fail.Memory.{Memory};
+ghost use Rattle.scope_types.specs.Limits.{most_workers};
 ghost use Rattle.merge_crew.specs.declared.merge.Crew.{Crew};
 
 use crate::merge::{Crew, merge_all, unfilled};
@@ -52,7 +53,7 @@ pub trait Crews: Sync {
         expand: &E,
         workers: u32,
     ) -> Result<Crew, Memory>
-        requires workers { (1 ≤ workers) × (workers ≤ 16) }
+        requires workers { (1 ≤ workers) × (workers ≤ most_workers) }
         requires fits { FitsExpansion plan.now (E.call_path expand.now) }
         ensures gives { IfOk result (gives self.now) }
         ensures plan { IfOk result (IsOfPlan (expanded plan.now (E.call_path expand.now))) }

@@ -1,5 +1,5 @@
 ghost use Rattle.std.specs.Prelude.{◌≡◌, ℕ, ◌+◌, ◌*◌, ◌<◌, ◌≤◌, IfOk, length};
-ghost use Rattle.stripe_table.specs.Ends.{AllFit, stripe_names};
+ghost use Rattle.scope_types.specs.Limits.{most_workers, stripe_count};
 ghost use Rattle.thread_cct.specs.Plan.{FitsExpansion, expanded};
 ghost use Rattle.merge_crew.specs.Merged.{IsOfPlan, IsUnfilled, NamesEach};
 
@@ -37,13 +37,13 @@ pub fn merge_all<R: Threads + Sync, E: Expand + Sync, G: Gate>(
     workers: u32,
     gate: &G,
 ) -> Result<Crew, Memory>
-    requires workers { (1 ≤ workers) × (workers ≤ 16) }
+    requires workers { (1 ≤ workers) × (workers ≤ most_workers) }
     requires fits { FitsExpansion plan.now (E.call_path expand.now) }
     ensures plan { IfOk result (IsOfPlan (expanded plan.now (E.call_path expand.now))) }
     ensures whole { IfOk result (NamesEach (expanded plan.now (E.call_path expand.now))) }
     ensures merged { IfOk result (λ crew. crew.merged ≡ length crew.stripes.view.puts) }
     ensures sum { IfOk result (λ crew. crew.merged + crew.settled
-        ≡ 16 * length (expanded plan.now (E.call_path expand.now))) }
+        ≡ stripe_count * length (expanded plan.now (E.call_path expand.now))) }
     ensures busy { IfOk result (λ crew. 64 * crew.busy_left ≤ crew.stripes.view.busy) }
     ensures present { IfOk result (λ crew. crew.present ≡ crew.stripes.view.met) }
     ensures settled { IfOk result (λ crew. crew.settled ≤ crew.busy_left + crew.present) }
@@ -74,23 +74,6 @@ pub fn merge_all<R: Threads + Sync, E: Expand + Sync, G: Gate>(
     })
 }
 
-/// Stripes of a plan that are closed as soon as they are started.
-fn unfilled_stripes<E: Expand>(
-    alloc: Global,
-    plan: &Plan<'_>,
-    expand: &E,
-) -> Result<StripeSet, Memory>
-    requires fits { FitsExpansion plan.now (E.call_path expand.now) }
-    ensures plan { IfOk result (λ set. set.view.plan ≡ expanded plan.now (E.call_path expand.now)) }
-    ensures fit { IfOk result (λ set. AllFit set.view.plan set.stripes) }
-    ensures none { IfOk result (λ set. (s : ℕ) → s < 16 → length (stripe_names set.stripes s) ≡ 0) }
-{
-    let (stripes, first) = Stripes::start(alloc, plan, expand)?;
-    let set = stripes.close(first);
-    let _none = set.names(0);
-    Ok(set)
-}
-
 /// What workers leave that do nothing.
 pub(crate) fn unfilled<E: Expand>(
     alloc: Global,
@@ -100,8 +83,9 @@ pub(crate) fn unfilled<E: Expand>(
     requires fits { FitsExpansion plan.now (E.call_path expand.now) }
     ensures unfilled { IfOk result (IsUnfilled (expanded plan.now (E.call_path expand.now))) }
 {
+    let (stripes, first) = Stripes::start(alloc, plan, expand)?;
     Ok(Crew {
-        stripes: unfilled_stripes(alloc, plan, expand)?,
+        stripes: stripes.close(first),
         merged: 0,
         busy_left: 0,
         present: 0,

@@ -1,6 +1,7 @@
 //! What is left at the end: pieces that their stripes don't name, which the caller merges.
 ghost use Rattle.std.specs.Prelude.{◌≡◌, ℕ, ◌+◌, ◌*◌, ◌<◌, ◌≤◌, [], true, false, IfOk, Some};
 ghost use Rattle.std.specs.Prelude.{length, slice_get, slice_index_or, slice_set};
+ghost use Rattle.scope_types.specs.Limits.{stripe_count};
 ghost use Rattle.stripe_table.specs.Ends.{AllFit, stripe_names};
 ghost use Rattle.stripe_table.specs.Limits.{IsPieceOf};
 ghost use Rattle.stripe_table.specs.Views.{occurrences};
@@ -9,14 +10,12 @@ ghost use Rattle.merge_crew.specs.private.Settling.{MarkIsExact, MarksAll, Marks
 ghost use Rattle.merge_crew.specs.private.Settling.{name_count};
 
 use prof_bytes::Memory;
+use scope_types::limits::STRIPES;
 use scope_types::{Expand, Piece};
 use std::alloc::Global;
 use std::marker::Model;
 use stripe_table::StripeSet;
 use thread_cct::{Pieces, Plan, pieces_make_the_plan};
-
-/// How many stripes there are.
-const STRIPES: u32 = 16;
 
 /// For each chunk, whether a stripe names it. Contracts see the list.
 #[derive(Drop)]
@@ -45,6 +44,7 @@ impl Marks {
     fn of(alloc: Global, names: &[u32], chunks: u32) -> Result<Marks, Memory>
         ensures { IfOk result (MarksChunks chunks names.now) }
     {
+        // room: `chunks as usize`, a mark for each chunk of the plan
         let mut marks = vec![in alloc; false; chunks as usize]?;
         for i in 0..names.len() {
             mark(&mut marks, names[i]);
@@ -67,7 +67,7 @@ fn marks_of(alloc: Global, set: &StripeSet, chunks: u32) -> Result<Vec<Marks>, M
     ensures fits { IfOk result (λ _. AllFit set.now.view.plan set.now.stripes) }
 {
     let mut marks = Vec::new(alloc);
-    for stripe in 0..STRIPES {
+    for stripe in 0..STRIPES as u32 {
         marks.push(Marks::of(alloc, set.names(stripe), chunks)?)?;
     }
     Ok(marks)
@@ -124,16 +124,18 @@ fn settle_pieces(
 ) -> Result<u64, Memory>
     requires fits { AllFit set.old.view.plan set.old.stripes }
     requires chunk { _chunk < length set.old.view.plan }
-    requires pieces { (s : ℕ) → s < 16 → slice_get pieces.now s ≡ Some (piece_of set.old.view.plan _chunk s) }
-    requires marks { (s : ℕ) → s < 16 → MarkIsExact set.old.stripes marks.now s _chunk }
+    requires pieces { (s : ℕ) → s < stripe_count → slice_get pieces.now s ≡ Some (piece_of set.old.view.plan _chunk s) }
+    requires marks { (s : ℕ) → s < stripe_count → MarkIsExact set.old.stripes marks.now s _chunk }
     ensures view { set.new.view ≡ set.old.view }
     ensures fits { AllFit set.new.view.plan set.new.stripes }
-    ensures named { IfOk result (λ _. (s : ℕ) → s < 16 → 0 < occurrences _chunk (stripe_names set.new.stripes s)) }
+    ensures named { IfOk result (λ _. (s : ℕ) → s < stripe_count
+        → 0 < occurrences _chunk (stripe_names set.new.stripes s)) }
     ensures others { (c : ℕ) → (c ≡ _chunk → ⊥) → SameNames set.old.stripes set.new.stripes c }
-    ensures count { IfOk result (λ k. (name_count set.new.stripes ≡ name_count set.old.stripes + k) × (k ≤ 16)) }
+    ensures count { IfOk result (λ k. (name_count set.new.stripes ≡ name_count set.old.stripes + k)
+        × (k ≤ stripe_count)) }
 {
     let mut settled = 0;
-    for stripe in 0..STRIPES {
+    for stripe in 0..STRIPES as u32 {
         settled += settle_piece(set, marks, pieces.piece(stripe))?;
     }
     Ok(settled)
@@ -153,14 +155,16 @@ fn settle_chunk<E: Expand>(
     requires chunk { chunk < length set.old.view.plan }
     requires plan { set.old.view.plan ≡ expanded plan.now (E.call_path expand.now) }
     requires memo { E.fits expand.now memo.old }
-    requires count { length marks.now ≡ 16 }
-    requires marks { (s : ℕ) → s < 16 → MarkIsExact set.old.stripes marks.now s chunk }
+    requires count { length marks.now ≡ stripe_count }
+    requires marks { (s : ℕ) → s < stripe_count → MarkIsExact set.old.stripes marks.now s chunk }
     ensures memo { E.fits expand.now memo.new }
     ensures view { set.new.view ≡ set.old.view }
     ensures fits { AllFit set.new.view.plan set.new.stripes }
-    ensures named { IfOk result (λ _. (s : ℕ) → s < 16 → 0 < occurrences chunk (stripe_names set.new.stripes s)) }
+    ensures named { IfOk result (λ _. (s : ℕ) → s < stripe_count
+        → 0 < occurrences chunk (stripe_names set.new.stripes s)) }
     ensures others { (c : ℕ) → (c ≡ chunk → ⊥) → SameNames set.old.stripes set.new.stripes c }
-    ensures count { IfOk result (λ k. (name_count set.new.stripes ≡ name_count set.old.stripes + k) × (k ≤ 16)) }
+    ensures count { IfOk result (λ k. (name_count set.new.stripes ≡ name_count set.old.stripes + k)
+        × (k ≤ stripe_count)) }
 {
     if all_have(marks, chunk) {
         return Ok(0);
@@ -183,7 +187,7 @@ fn settle_all<E: Expand>(
     requires marks { MarksAll (length set.old.view.plan) set.old.stripes marks.now }
     ensures view { set.new.view ≡ set.old.view }
     ensures fits { AllFit set.new.view.plan set.new.stripes }
-    ensures named { IfOk result (λ _. (c s : ℕ) → c < length set.old.view.plan → s < 16
+    ensures named { IfOk result (λ _. (c s : ℕ) → c < length set.old.view.plan → s < stripe_count
         → 0 < occurrences c (stripe_names set.new.stripes s)) }
     ensures count { IfOk result (λ k. name_count set.new.stripes ≡ name_count set.old.stripes + k) }
 {
@@ -207,9 +211,9 @@ pub(crate) fn settle_rest<E: Expand>(
     requires plan { set.old.view.plan ≡ expanded plan.now (E.call_path expand.now) }
     ensures view { set.new.view ≡ set.old.view }
     ensures fits { IfOk result (λ _. AllFit set.new.view.plan set.new.stripes) }
-    ensures named { IfOk result (λ _. (s c : ℕ) → s < 16 → c < length set.old.view.plan
+    ensures named { IfOk result (λ _. (s c : ℕ) → s < stripe_count → c < length set.old.view.plan
         → occurrences c (stripe_names set.new.stripes s) ≡ 1) }
-    ensures count { IfOk result (λ k. name_count set.old.stripes + k ≡ 16 * length set.old.view.plan) }
+    ensures count { IfOk result (λ k. name_count set.old.stripes + k ≡ stripe_count * length set.old.view.plan) }
 {
     pieces_make_the_plan();
     let marks = marks_of(alloc, set, plan.chunks())?;

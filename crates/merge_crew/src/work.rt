@@ -3,6 +3,7 @@
 ghost use Rattle.std.specs.Prelude.{◌≡◌, ℕ, ◌+◌, ◌-◌, ◌<◌, ◌≤◌, ◌^◌, ◌++◌, ◌∷◌, [], None, ltb, length, map};
 ghost use Rattle.std.specs.Prelude.{if◌then◌else◌, OnOk};
 ghost use Rattle.std.specs.VecDeque.{deque_capacity, deque_len};
+ghost use Rattle.scope_types.specs.Limits.{stripe_count};
 ghost use Rattle.stripe_table.specs.Limits.{IsPieceOf};
 ghost use Rattle.stripe_table.specs.Values.{IsPassOf};
 ghost use Rattle.stripe_table.specs.Views.{chunk_pieces, owes, times_piece};
@@ -194,9 +195,9 @@ fn offer_chunk<G: Gate>(
     pieces: Pieces,
     gate: &G,
 )
-    requires counts { Counts stripes.now (length queue.old.items + 16) worker.old }
+    requires counts { Counts stripes.now (length queue.old.items + stripe_count) worker.old }
     requires waits { Waits stripes.now.plan queue.old.items worker.old.pass.view worker.old.busy_left }
-    requires owed { (c s : ℕ) → times_waiting c s queue.old.items + times_piece c s (chunk_pieces _chunk 16)
+    requires owed { (c s : ℕ) → times_waiting c s queue.old.items + times_piece c s (chunk_pieces _chunk stripe_count)
         ≤ owes c s worker.old.pass.view }
     requires chunk { _chunk < length stripes.now.plan }
     requires pieces { pieces ≡ pieces_of stripes.now.plan _chunk }
@@ -229,11 +230,11 @@ fn merge_chunk<E: Expand, G: Gate>(
     gate: &G,
     chunk: u32,
 )
-    requires counts { Counts stripes.now (length queue.old.items + 16) worker.old }
+    requires counts { Counts stripes.now (length queue.old.items + stripe_count) worker.old }
     requires waits { Waits stripes.now.plan queue.old.items worker.old.pass.view worker.old.busy_left }
     requires memo { E.fits expand.now memo.old }
     requires plan { stripes.now.plan ≡ expanded plan.now (E.call_path expand.now) }
-    requires owed { (c s : ℕ) → times_waiting c s queue.old.items + times_piece c s (chunk_pieces chunk 16)
+    requires owed { (c s : ℕ) → times_waiting c s queue.old.items + times_piece c s (chunk_pieces chunk stripe_count)
         ≤ owes c s worker.old.pass.view }
     requires chunk { chunk < length stripes.now.plan }
     requires few { worker.old.pass.view.got < 2 ^ 32 }

@@ -2,6 +2,7 @@
 //! them in at the end.
 ghost use Rattle.std.specs.Prelude.{◌≡◌, ℕ, ◌+◌, ◌-◌, ◌<◌, ◌≤◌, All, IfOk, None};
 ghost use Rattle.std.specs.Prelude.{length, slice_index_or};
+ghost use Rattle.scope_types.specs.Limits.{most_workers};
 ghost use Rattle.stripe_table.specs.Values.{IsPassOf};
 ghost use Rattle.stripe_table.specs.Views.{first_view};
 ghost use Rattle.thread_cct.specs.Plan.{expanded};
@@ -12,14 +13,12 @@ use crate::work::{Worker, work};
 use prof_bytes::Memory;
 use prof_devices::Gate;
 use scope_types::Expand;
+use scope_types::limits::MOST_WORKERS;
 use std::alloc::Global;
 use std::thread;
 use std::thread::Threads;
 use stripe_table::{Pass, Stripes};
 use thread_cct::Plan;
-
-/// The most workers that there are.
-const MOST_WORKERS: usize = 16;
 
 /// A worker that has not begun.
 fn idle(pass: Pass, number: u32) -> Worker
@@ -124,7 +123,7 @@ fn work_all<R: Threads + Sync, E: Expand + Sync, G: Gate>(
 /// The first worker takes in another.
 fn take_in(stripes: &Stripes, first: &mut Worker, other: Worker)
     requires first { IsFirstWorker stripes.now first.old }
-    requires few { first.old.pass.view.joins < 16 }
+    requires few { first.old.pass.view.joins < most_workers }
     requires other { HasEnded stripes.now other }
     ensures first { IsFirstWorker stripes.now first.new }
     ensures splits { first.new.pass.view.splits ≡ first.old.pass.view.splits }
@@ -151,7 +150,7 @@ fn take_in(stripes: &Stripes, first: &mut Worker, other: Worker)
 fn take_in_all(stripes: &Stripes, first: &mut Worker, mut others: Vec<Worker>)
     requires first { IsFirstWorker stripes.now first.old }
     requires joins { first.old.pass.view.joins ≡ 0 }
-    requires few { length others.items < 16 }
+    requires few { length others.items < most_workers }
     requires others { All (HasEnded stripes.now) others.items }
     ensures first { IsFirstWorker stripes.now first.new }
     ensures splits { first.new.pass.view.splits ≡ first.old.pass.view.splits }
@@ -175,7 +174,7 @@ pub(crate) fn run<R: Threads + Sync, E: Expand + Sync, G: Gate>(
 ) -> Result<Worker, Memory>
     requires of { IsPassOf stripes.now first }
     requires fresh { first.view ≡ first_view stripes.now.plan }
-    requires workers { (1 ≤ workers) × (workers ≤ 16) }
+    requires workers { (1 ≤ workers) × (workers ≤ most_workers) }
     requires plan { stripes.now.plan ≡ expanded plan.now (E.call_path expand.now) }
     ensures first { IfOk result (IsFirstWorker stripes.now) }
     ensures splits { IfOk result (λ w. w.pass.view.splits + 1 ≡ workers) }

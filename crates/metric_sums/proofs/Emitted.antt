@@ -1,4 +1,4 @@
--- The values of sums, from the last hart to the first.
+-- The values of sums, from the last column to the first.
 use Rattle.std.proofs.Common.{◌≡◌, ℕ, suc, ◌+◌, ◌-◌, ◌<◌, ◌==◌, not, List, ◌++◌, length, get_or, sym, ap, ◌∙◌, arith, append_assoc}
 use Rattle.std.specs.Prelude.{reverse}
 use Rattle.std.specs.List.{flat_map, range_with_len}
@@ -6,24 +6,24 @@ use Rattle.std.proofs.lemmas.List.{get_or_default}
 use Rattle.std.proofs.lemmas.List.Elements.{filter-append}
 use Rattle.tree_types.specs.declared.node_values.NodeValue.{NodeValue}
 use Rattle.tree_types.specs.NodeValues.{nonzero}
-use Rattle.metric_sums.specs.declared.hart_sums.Sum.{Sum}
+use Rattle.metric_sums.specs.declared.column_sums.Sum.{Sum}
 use Rattle.metric_sums.specs.private.Sums.{no_paths}
 use Rattle.metric_sums.specs.private.Ancestors.{values_of_sums, sum_values}
 
-pub one_hart_more : (period node : ℕ) (sums : List Sum) (done hart : ℕ) (s : Sum) (out new old : List NodeValue) → done < length sums → hart ≡ length sums - 1 - done → s ≡ get_or sums hart s
-    → reverse out ≡ values_of_sums period node sums (length sums - done) done ++ old → reverse new ≡ nonzero (sum_values period node hart s) ++ reverse out
+pub one_column_more : (period node : ℕ) (sums : List Sum) (done column : ℕ) (s : Sum) (out new old : List NodeValue) → done < length sums → column ≡ length sums - 1 - done → s ≡ get_or sums column s
+    → reverse out ≡ values_of_sums period node sums (length sums - done) done ++ old → reverse new ≡ nonzero (sum_values period node column s) ++ reverse out
     → reverse new ≡ values_of_sums period node sums (length sums - (done + 1)) (done + 1) ++ old
-one_hart_more period node sums done hart s out new old lt at is so_far put =
+one_column_more period node sums done column s out new old lt at is so_far put =
     let f : ℕ → List NodeValue = λ h. sum_values period node h (get_or sums h no_paths) in
-    let next : length sums - done ≡ hart + 1 = omega arith in
-    let here : length sums - (done + 1) ≡ hart = omega arith in
+    let next : length sums - done ≡ column + 1 = omega arith in
+    let here : length sums - (done + 1) ≡ column = omega arith in
     let more : done + 1 ≡ suc done = omega arith in
-    let inside : hart < length sums = omega arith in
-    let own : sum_values period node hart s ≡ f hart = ap (sum_values period node hart) (is ∙ get_or_default sums hart s no_paths inside) in
+    let inside : column < length sums = omega arith in
+    let own : sum_values period node column s ≡ f column = ap (sum_values period node column) (is ∙ get_or_default sums column s no_paths inside) in
     put
     ∙ (λ i. nonzero (own i) ++ so_far i)
-    ∙ ap (λ (n : ℕ). nonzero (f hart) ++ (values_of_sums period node sums n done ++ old)) next
-    ∙ sym (append_assoc (nonzero (f hart)) (values_of_sums period node sums (hart + 1) done) old)
-    ∙ ap (λ (vs : List NodeValue). vs ++ old) (sym (filter-append (λ (v : NodeValue). not (v.value == 0)) (f hart) (flat_map f (range_with_len (hart + 1) done))))
-    ∙ ap (λ (n : ℕ). values_of_sums period node sums hart n ++ old) (sym more)
+    ∙ ap (λ (n : ℕ). nonzero (f column) ++ (values_of_sums period node sums n done ++ old)) next
+    ∙ sym (append_assoc (nonzero (f column)) (values_of_sums period node sums (column + 1) done) old)
+    ∙ ap (λ (vs : List NodeValue). vs ++ old) (sym (filter-append (λ (v : NodeValue). not (v.value == 0)) (f column) (flat_map f (range_with_len (column + 1) done))))
+    ∙ ap (λ (n : ℕ). values_of_sums period node sums column n ++ old) (sym more)
     ∙ ap (λ (n : ℕ). values_of_sums period node sums n (done + 1) ++ old) (sym here)

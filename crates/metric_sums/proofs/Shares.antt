@@ -10,7 +10,7 @@ use Rattle.tree_types.specs.Tree.{CountedTree, IsTree, count_at, counts_in, node
 use Rattle.tree_types.specs.Values.{anything, ends_here, within_frame}
 use Rattle.tree_types.proofs.TreeLaws.{counts_are_paths}
 use Rattle.tree_types.proofs.TreeValues.{inclusive_counts, frame_counts, count_few}
-use Rattle.metric_sums.specs.declared.hart_sums.Sum.{Sum}
+use Rattle.metric_sums.specs.declared.column_sums.Sum.{Sum}
 use Rattle.metric_sums.specs.private.Sums.{IsSmall, handed_up, sum_of_both, no_paths, with_own}
 use Rattle.metric_sums.specs.private.Walking.{passing, in_frame, whole_sum, frame_share, inclusive_share, pending}
 

@@ -14,13 +14,13 @@ use Rattle.tree_types.specs.declared.content.Node.{Node}
 use Rattle.tree_types.specs.declared.counted_tree.NodeCount.{NodeCount}
 use Rattle.tree_types.specs.declared.node_values.NodeValue.{NodeValue}
 use Rattle.tree_types.specs.Nodes.{no_parent}
-use Rattle.tree_types.specs.NodeValues.{nonzero, values_for_hart, values_at_node, values_of}
+use Rattle.tree_types.specs.NodeValues.{nonzero, values_for_column, values_at_node, values_of}
 use Rattle.tree_types.specs.Tree.{CountedTree, IsTree, count_order, count_at, counts_in, node_at}
 use Rattle.tree_types.proofs.Enclosed.{enclosed}
 use Rattle.tree_types.proofs.TreeLaws.{counts_are_paths}
-use Rattle.metric_sums.specs.declared.hart_sums.Sum.{Sum}
+use Rattle.metric_sums.specs.declared.column_sums.Sum.{Sum}
 use Rattle.metric_sums.specs.declared.ancestors.OpenNode.{OpenNode}
-use Rattle.metric_sums.specs.private.Sums.{IsSmall, handed_up, sum_of_both, no_paths, count_of_hart, with_own}
+use Rattle.metric_sums.specs.private.Sums.{IsSmall, handed_up, sum_of_both, no_paths, count_of_column, with_own}
 use Rattle.metric_sums.specs.private.Ancestors.{SumsOf, HandsUp, values_of_sums, sum_values}
 use Rattle.metric_sums.specs.private.Walking.{whole_sum, pending, IsOpen, At}
 use Rattle.metric_sums.proofs.Lasts.{fronts, all_last, all_more, pairs_last, pairs_front, pairs_more, all_before}
@@ -31,16 +31,16 @@ Rising ancestors = AllPairs (λ a b. a.node < b.node) ancestors
 
 -- ---- counts
 
-pub same_counts : (cs : List NodeCount) (i h : ℕ) → All (λ c. c.node ≡ i) cs → count_at cs i h ≡ count_of_hart cs h
+pub same_counts : (cs : List NodeCount) (i h : ℕ) → All (λ c. c.node ≡ i) cs → count_at cs i h ≡ count_of_column cs h
 same_counts [] i h own = refl
 same_counts (c ∷ cs) i h own =
     let here : c.node ≡ i = All-head (λ (c : NodeCount). c.node ≡ i) c cs own in
     let rest = same_counts cs i h (All-tail (λ (c : NodeCount). c.node ≡ i) c cs own) in
-    ap (λ b. sum_by (λ c. c.count) (cond (b && c.hart == h) (c ∷ filter (λ c. c.node == i && c.hart == h) cs) (filter (λ c. c.node == i && c.hart == h) cs))) (eq-eqb c.node i here)
-    ∙ elim (c.hart == h) as (λ b. sum_by (λ c. c.count) (cond b (c ∷ filter (λ c. c.node == i && c.hart == h) cs) (filter (λ c. c.node == i && c.hart == h) cs)) ≡ sum_by (λ c. c.count) (cond b (c ∷ filter (λ c. c.hart == h) cs) (filter (λ c. c.hart == h) cs))) [
+    ap (λ b. sum_by (λ c. c.count) (cond (b && c.column == h) (c ∷ filter (λ c. c.node == i && c.column == h) cs) (filter (λ c. c.node == i && c.column == h) cs))) (eq-eqb c.node i here)
+    ∙ elim (c.column == h) as (λ b. sum_by (λ c. c.count) (cond b (c ∷ filter (λ c. c.node == i && c.column == h) cs) (filter (λ c. c.node == i && c.column == h) cs)) ≡ sum_by (λ c. c.count) (cond b (c ∷ filter (λ c. c.column == h) cs) (filter (λ c. c.column == h) cs))) [
       | true ↦
-          let a = sum_by-cons (λ (c : NodeCount). c.count) c (filter (λ c. c.node == i && c.hart == h) cs) in
-          let b = sum_by-cons (λ (c : NodeCount). c.count) c (filter (λ c. c.hart == h) cs) in
+          let a = sum_by-cons (λ (c : NodeCount). c.count) c (filter (λ c. c.node == i && c.column == h) cs) in
+          let b = sum_by-cons (λ (c : NodeCount). c.count) c (filter (λ c. c.column == h) cs) in
           omega (arith, a, b, rest)
       | false ↦ rest
     ]
@@ -48,19 +48,19 @@ same_counts (c ∷ cs) i h own =
 other_counts : (cs : List NodeCount) (i h : ℕ) → All (λ c. c.node ≢ i) cs → count_at cs i h ≡ 0
 other_counts [] i h apart = refl
 other_counts (c ∷ cs) i h apart =
-    ap (λ b. sum_by (λ c. c.count) (cond (b && c.hart == h) (c ∷ filter (λ c. c.node == i && c.hart == h) cs) (filter (λ c. c.node == i && c.hart == h) cs))) (ne_eqb c.node i (All-head (λ (c : NodeCount). c.node ≢ i) c cs apart))
+    ap (λ b. sum_by (λ c. c.count) (cond (b && c.column == h) (c ∷ filter (λ c. c.node == i && c.column == h) cs) (filter (λ c. c.node == i && c.column == h) cs))) (ne_eqb c.node i (All-head (λ (c : NodeCount). c.node ≢ i) c cs apart))
     ∙ other_counts cs i h (All-tail (λ (c : NodeCount). c.node ≢ i) c cs apart)
 
 counts_joined : (xs ys : List NodeCount) (i h : ℕ) → count_at (xs ++ ys) i h ≡ count_at xs i h + count_at ys i h
 counts_joined xs ys i h =
-    ap (sum_by (λ c. c.count)) (filter-append (λ c. c.node == i && c.hart == h) xs ys)
-    ∙ sum_by-append (λ (c : NodeCount). c.count) (filter (λ c. c.node == i && c.hart == h) xs) (filter (λ c. c.node == i && c.hart == h) ys)
+    ap (sum_by (λ c. c.count)) (filter-append (λ c. c.node == i && c.column == h) xs ys)
+    ∙ sum_by-append (λ (c : NodeCount). c.count) (filter (λ c. c.node == i && c.column == h) xs) (filter (λ c. c.node == i && c.column == h) ys)
 
 in_order : (a b : NodeCount) → count_order a b ≡ Less → a.node ≤ b.node
 in_order a b less = elim (cases_lt b.node a.node) [
   | inl lt ↦
       let more : nat_cmp a.node b.node ≡ Greater = grind (arith, nat_tests) in
-      let f : Greater ≡ Less = sym (ap (λ o. ordering_then o (ordering_then (nat_cmp a.hart b.hart) Equal)) more) ∙ less in absurd cc
+      let f : Greater ≡ Less = sym (ap (λ o. ordering_then o (ordering_then (nat_cmp a.column b.column) Equal)) more) ∙ less in absurd cc
   | inr ge ↦ ge
 ]
 
@@ -95,7 +95,7 @@ module _ (period : ℕ) (t : CountedTree) (tree : IsTree t) (few : counts_in t.c
 
   own_counts : (i h left first : ℕ) → Found i left first → left ≤ length t.counts → ((k : ℕ) (d : NodeCount) → k < left → (get_or t.counts k d).node < i + 1)
       → ((k : ℕ) (d : NodeCount) → left ≤ k → k < length t.counts → i + 1 ≤ (get_or t.counts k d).node)
-      → count_of_hart (take (left - first) (drop first t.counts)) h ≡ count_at t.counts i h
+      → count_of_column (take (left - first) (drop first t.counts)) h ≡ count_at t.counts i h
   own_counts i h left first f inside low high =
       let within = f.within in
       let front : List NodeCount = take first t.counts in
@@ -110,7 +110,7 @@ module _ (period : ℕ) (t : CountedTree) (tree : IsTree t) (few : counts_in t.c
       let long = length-take first t.counts in
       let n = earlier i left first f inside low k d (omega (arith, lt, long)) in
       λ e. let here = ap (λ (c : NodeCount). c.node) (get_or-take first t.counts k d (omega (arith, lt, long))) in absurd (omega (arith, here, n, e))) in
-      let b : count_at mine i h ≡ count_of_hart mine h = same_counts mine i h (λ k d lt.
+      let b : count_at mine i h ≡ count_of_column mine h = same_counts mine i h (λ k d lt.
       let long = length-take (left - first) rest in
       let here = ap (λ (c : NodeCount). c.node) (get_or-take (left - first) rest k d (omega (arith, lt, long)) ∙ get_or-drop first t.counts k d) in
       here ∙ f.own (first + k) d (omega arith) (omega (arith, lt, long))) in
@@ -122,9 +122,9 @@ module _ (period : ℕ) (t : CountedTree) (tree : IsTree t) (few : counts_in t.c
       λ e. absurd (omega (arith, here, n, e))) in
       omega (arith, all, more, whole, parts, a, b, c)
 
-  pub own_harts : (harts left first : ℕ) → harts ≡ t.harts → All (λ c. c.hart < harts) (take (left - first) (drop first t.counts))
-  own_harts harts left first is =
-      All-take (λ (c : NodeCount). c.hart < harts) (left - first) (drop first t.counts) (All-drop (λ (c : NodeCount). c.hart < harts) first t.counts (λ k d lt. let l = tree.harts k d lt in omega (arith, l, is)))
+  pub own_columns : (columns left first : ℕ) → columns ≡ t.columns → All (λ c. c.column < columns) (take (left - first) (drop first t.counts))
+  own_columns columns left first is =
+      All-take (λ (c : NodeCount). c.column < columns) (left - first) (drop first t.counts) (All-drop (λ (c : NodeCount). c.column < columns) first t.counts (λ k d lt. let l = tree.columns k d lt in omega (arith, l, is)))
 
   pub own_few : (left first : ℕ) → counts_in (take (left - first) (drop first t.counts)) ≤ most_samples
   own_few left first =
@@ -142,10 +142,10 @@ module _ (period : ℕ) (t : CountedTree) (tree : IsTree t) (few : counts_in t.c
     pub parents : All (IsFar i) ancestors
     pub rise : Rising ancestors
     pub none : (node h : ℕ) → node < i → All (λ o. o.node ≢ node) ancestors → pending t (i + 1) node h ≡ no_paths
-    pub long : length sums ≡ t.harts
-    pub each : (h : ℕ) (d : Sum) → h < t.harts → get_or sums h d ≡ pending t (i + 1) i h
+    pub long : length sums ≡ t.columns
+    pub each : (h : ℕ) (d : Sum) → h < t.columns → get_or sums h d ≡ pending t (i + 1) i h
 
-  pub opened : (i left : ℕ) (old new : List OpenNode) (sums : List Sum) (out : List NodeValue) → i < size → At period t (i + 1) old left out → SumsOf t.harts i old new sums → Opened i new sums
+  pub opened : (i left : ℕ) (old new : List OpenNode) (sums : List Sum) (out : List NodeValue) → i < size → At period t (i + 1) old left out → SumsOf t.columns i old new sums → Opened i new sums
   opened i left old new sums out lt at (inl e) =
       let o : OpenNode = record { node = i; sums = sums } in
       let parents : All (IsOpen t (i + 1)) (new ++ o ∷ []) = subst (λ (l : List OpenNode). All (IsOpen t (i + 1)) l) e at.parents in
@@ -167,9 +167,9 @@ module _ (period : ℕ) (t : CountedTree) (tree : IsTree t) (few : counts_in t.c
         parents = subst (λ (l : List OpenNode). All (IsFar i) l) (sym same) (λ k d inside. (at.parents k d inside, before k d inside));
         rise = subst Rising (sym same) at.rise;
         none = λ node h less apart. at.none node h (omega arith) (subst (λ (l : List OpenNode). All (λ o. o.node ≢ node) l) same apart);
-        long = ap (λ (r : List Sum). length r) zeros ∙ length-replicate t.harts no_paths;
+        long = ap (λ (r : List Sum). length r) zeros ∙ length-replicate t.columns no_paths;
         each = λ h d inside.
-            ap (λ (r : List Sum). get_or r h d) zeros ∙ get_or-replicate t.harts h no_paths d inside
+            ap (λ (r : List Sum). get_or r h d) zeros ∙ get_or-replicate t.columns h no_paths d inside
             ∙ sym (at.none i h (omega arith) (All-weaker (λ (o : OpenNode). o.node < i) (λ o. o.node ≢ i) (λ o less same. absurd (omega arith)) old before));
       }
 
@@ -190,11 +190,11 @@ module _ (period : ℕ) (t : CountedTree) (tree : IsTree t) (few : counts_in t.c
     pub parents : All (IsFar i) ancestors
     pub rise : Rising ancestors
     pub none : (node h : ℕ) → node < i → All (λ o. o.node ≢ node) ancestors → pending t (i + 1) node h ≡ no_paths
-    pub long : length sums ≡ t.harts
-    pub each : (h : ℕ) (d : Sum) → h < t.harts → get_or sums h d ≡ whole_sum t i h
+    pub long : length sums ≡ t.columns
+    pub each : (h : ℕ) (d : Sum) → h < t.columns → get_or sums h d ≡ whole_sum t i h
 
   pub summed : (i left first : ℕ) (old ancestors : List OpenNode) (sums new : List Sum) (out : List NodeValue) → i < size → At period t (i + 1) old left out → Opened i ancestors sums → Found i left first
-      → length new ≡ length sums → ((h : ℕ) (d : Sum) → h < length new → get_or new h d ≡ with_own (count_of_hart (take (left - first) (drop first t.counts)) h) (get_or sums h d))
+      → length new ≡ length sums → ((h : ℕ) (d : Sum) → h < length new → get_or new h d ≡ with_own (count_of_column (take (left - first) (drop first t.counts)) h) (get_or sums h d))
       → Summed i ancestors new
   summed i left first old ancestors sums new out lt at o f same counted = record {
     parents = o.parents;
@@ -228,18 +228,18 @@ module _ (period : ℕ) (t : CountedTree) (tree : IsTree t) (few : counts_in t.c
   flat_same f g a zero same = refl
   flat_same f g a (suc n) same = λ i. same a (omega arith) (omega arith) i ++ flat_same f g (a + 1) n (λ j le lt. same j (omega arith) (omega arith)) i
 
-  hart_values : (i h : ℕ) → i < size → sum_values period i h (whole_sum t i h) ≡ values_for_hart period t i h
-  hart_values i h lt =
+  column_values : (i h : ℕ) → i < size → sum_values period i h (whole_sum t i h) ≡ values_for_column period t i h
+  column_values i h lt =
       let own = counts_are_paths t i h tree lt in
-      λ k. record { node = i; hart = h; kind = Exclusive; value = period * own k }
-      ∷ record { node = i; hart = h; kind = Frame; value = period * (whole_sum t i h).frame }
-      ∷ record { node = i; hart = h; kind = Inclusive; value = period * (whole_sum t i h).inclusive } ∷ []
+      λ k. record { node = i; column = h; kind = Exclusive; value = period * own k }
+      ∷ record { node = i; column = h; kind = Frame; value = period * (whole_sum t i h).frame }
+      ∷ record { node = i; column = h; kind = Inclusive; value = period * (whole_sum t i h).inclusive } ∷ []
 
   pub node_values : (i : ℕ) (ancestors : List OpenNode) (sums : List Sum) → i < size → Summed i ancestors sums → values_of_sums period i sums 0 (length sums) ≡ nonzero (values_at_node period t i)
   node_values i ancestors sums lt s =
       ap (values_of_sums period i sums 0) s.long
-      ∙ ap nonzero (flat_same (λ h. sum_values period i h (get_or sums h no_paths)) (values_for_hart period t i) 0 t.harts (λ h le inside.
-      ap (sum_values period i h) (s.each h no_paths (omega arith)) ∙ hart_values i h lt))
+      ∙ ap nonzero (flat_same (λ h. sum_values period i h (get_or sums h no_paths)) (values_for_column period t i) 0 t.columns (λ h le inside.
+      ap (sum_values period i h) (s.each h no_paths (omega arith)) ∙ column_values i h lt))
 
   pub all_values : (i : ℕ) (ancestors : List OpenNode) (sums : List Sum) (old new : List NodeValue) → i < size → Summed i ancestors sums
       → reverse old ≡ nonzero (flat_map (values_at_node period t) (range_with_len (i + 1) (size - (i + 1))))
@@ -289,7 +289,7 @@ module _ (period : ℕ) (t : CountedTree) (tree : IsTree t) (few : counts_in t.c
     -- the parent's sums with what node i hands up
     handed : (rest : List OpenNode) (new : List Sum) → All (IsFar i) rest → Rising rest → All (λ o. o.node < p) rest
         → ((node h : ℕ) → node < i → All (λ o. o.node ≢ node) rest → node ≢ p → pending t (i + 1) node h ≡ no_paths)
-        → length new ≡ t.harts → ((h : ℕ) (d : Sum) → h < t.harts → get_or new h d ≡ pending t i p h)
+        → length new ≡ t.columns → ((h : ℕ) (d : Sum) → h < t.columns → get_or new h d ≡ pending t i p h)
         → Passed i (rest ++ record { node = p; sums = new } ∷ [])
     handed rest new far rise below none long each =
         let o : OpenNode = record { node = p; sums = new } in
@@ -357,29 +357,29 @@ module _ (period : ℕ) (t : CountedTree) (tree : IsTree t) (few : counts_in t.c
     pub own : (k : ℕ) (d : NodeCount) → first ≤ k → k < left → (get_or shown k d).node ≡ i
     pub before : (d : NodeCount) → 0 < first → (get_or shown (first - 1) d).node ≢ i
     pub same : length new ≡ length sums
-    pub counted : (h : ℕ) (d : Sum) → h < length new → get_or new h d ≡ with_own (count_of_hart (take (left - first) (drop first shown)) h) (get_or sums h d)
+    pub counted : (h : ℕ) (d : Sum) → h < length new → get_or new h d ≡ with_own (count_of_column (take (left - first) (drop first shown)) h) (get_or sums h d)
 
-  pub sums_opened : (i left harts : ℕ) (old ancestors : List OpenNode) (sums : List Sum) (out : List NodeValue) → i < size → At period t (i + 1) old left out → harts ≡ t.harts → SumsOf harts i old ancestors sums → Opened i ancestors sums
-  sums_opened i left harts old ancestors sums out lt at is r = opened i left old ancestors sums out lt at (subst (λ (n : ℕ). SumsOf n i old ancestors sums) is r)
+  pub sums_opened : (i left columns : ℕ) (old ancestors : List OpenNode) (sums : List Sum) (out : List NodeValue) → i < size → At period t (i + 1) old left out → columns ≡ t.columns → SumsOf columns i old ancestors sums → Opened i ancestors sums
+  sums_opened i left columns old ancestors sums out lt at is r = opened i left old ancestors sums out lt at (subst (λ (n : ℕ). SumsOf n i old ancestors sums) is r)
 
   pub few_shown : (shown : List NodeCount) (left first : ℕ) → shown ≡ t.counts → counts_in (take (left - first) (drop first shown)) ≤ most_samples
   few_shown shown left first is = subst (λ (cs : List NodeCount). counts_in (take (left - first) (drop first cs)) ≤ most_samples) (sym is) (own_few left first)
 
-  pub sums_summed : (i left first harts : ℕ) (old ancestors : List OpenNode) (sums new : List Sum) (out : List NodeValue) (shown : List NodeCount) → i < size → At period t (i + 1) old left out → harts ≡ t.harts → SumsOf harts i old ancestors sums
+  pub sums_summed : (i left first columns : ℕ) (old ancestors : List OpenNode) (sums new : List Sum) (out : List NodeValue) (shown : List NodeCount) → i < size → At period t (i + 1) old left out → columns ≡ t.columns → SumsOf columns i old ancestors sums
       → shown ≡ t.counts → Walked shown i left first sums new → Summed i ancestors new
-  sums_summed i left first harts old ancestors sums new out shown lt at is r same w =
+  sums_summed i left first columns old ancestors sums new out shown lt at is r same w =
       let real : Walked t.counts i left first sums new = subst (λ (cs : List NodeCount). Walked cs i left first sums new) same w in
-      summed i left first old ancestors sums new out lt at (sums_opened i left harts old ancestors sums out lt at is r) (record { within = real.within; own = real.own; before = real.before }) real.same real.counted
+      summed i left first old ancestors sums new out lt at (sums_opened i left columns old ancestors sums out lt at is r) (record { within = real.within; own = real.own; before = real.before }) real.same real.counted
 
-  pub walked_on : {T E : Type 0} (r : Result T E) (i left first harts : ℕ) (old ancestors new_ancestors : List OpenNode) (sums new : List Sum) (out_old out_new : List NodeValue) (shown : List NodeCount) (n : Node) → i < size
-      → At period t (i + 1) old left out_old → harts ≡ t.harts → SumsOf harts i old ancestors sums → shown ≡ t.counts → Walked shown i left first sums new
+  pub walked_on : {T E : Type 0} (r : Result T E) (i left first columns : ℕ) (old ancestors new_ancestors : List OpenNode) (sums new : List Sum) (out_old out_new : List NodeValue) (shown : List NodeCount) (n : Node) → i < size
+      → At period t (i + 1) old left out_old → columns ≡ t.columns → SumsOf columns i old ancestors sums → shown ≡ t.counts → Walked shown i left first sums new
       → reverse out_new ≡ values_of_sums period i new 0 (length new) ++ reverse out_old → n ≡ node_at t.nodes i
       → OnOk r (n.parent ≡ no_parent → new_ancestors ≡ ancestors) → OnOk r (n.parent ≢ no_parent → HandsUp n.parent n.scope new ancestors new_ancestors)
       → OnOk r (At period t i new_ancestors first out_new)
-  walked_on (Err e) i left first harts old ancestors new_ancestors sums new out_old out_new shown n lt at is r same w put own root inner = tt
-  walked_on (Ok x) i left first harts old ancestors new_ancestors sums new out_old out_new shown n lt at is r same w put own root inner =
+  walked_on (Err e) i left first columns old ancestors new_ancestors sums new out_old out_new shown n lt at is r same w put own root inner = tt
+  walked_on (Ok x) i left first columns old ancestors new_ancestors sums new out_old out_new shown n lt at is r same w put own root inner =
       let real : Walked t.counts i left first sums new = subst (λ (cs : List NodeCount). Walked cs i left first sums new) same w in
-      let s = sums_summed i left first harts old ancestors sums new out_old shown lt at is r same w in
+      let s = sums_summed i left first columns old ancestors sums new out_old shown lt at is r same w in
       let passed : Passed i new_ancestors = elim (cases_eq n.parent no_parent) [
         | inl none ↦ subst (Passed i) (sym (root none)) (at_root i ancestors new lt s (sym (ap (λ (n : Node). n.parent) own) ∙ none))
         | inr some ↦ passed_up i new lt (λ e. some (ap (λ (n : Node). n.parent) own ∙ e)) ancestors new_ancestors s (subst (λ (m : Node). HandsUp m.parent m.scope new ancestors new_ancestors) own (inner some))
@@ -408,10 +408,10 @@ module _ (period : ℕ) (t : CountedTree) (tree : IsTree t) (few : counts_in t.c
       subst (λ (n : ℕ). At period t n ancestors left out) (sym is)
       (subst (λ (l : List OpenNode). At period t size l left out) (sym no_ancestors) (subst (λ (vs : List NodeValue). At period t size [] left vs) (sym no_out) (beginning left all)))
 
-  pub all_made : (n done harts left : ℕ) (ancestors : List OpenNode) (out entries : List NodeValue) → n ≡ size → n ≤ done → At period t (n - done) ancestors left out → harts ≡ t.harts → entries ≡ reverse out
-      → values_of period t ≡ record { nodes = n; harts = harts; entries = entries }
+  pub all_made : (n done columns left : ℕ) (ancestors : List OpenNode) (out entries : List NodeValue) → n ≡ size → n ≤ done → At period t (n - done) ancestors left out → columns ≡ t.columns → entries ≡ reverse out
+      → values_of period t ≡ record { nodes = n; columns = columns; entries = entries }
   unfolding values_of
-  all_made n done harts left ancestors out entries is over at own turned =
+  all_made n done columns left ancestors out entries is over at own turned =
       let first : n - done ≡ 0 = omega arith in
       let all = turned ∙ ended ancestors left out (subst (λ (k : ℕ). At period t k ancestors left out) first at) in
-      λ k. record { nodes = sym is k; harts = sym own k; entries = sym all k }
+      λ k. record { nodes = sym is k; columns = sym own k; entries = sym all k }

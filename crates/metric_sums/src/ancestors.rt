@@ -3,16 +3,16 @@ ghost use Rattle.std.specs.Prelude.{◌≡◌, length, All, IfOk, OnOk};
 ghost use Rattle.metric_sums.specs.private.Sums.{IsSmall};
 ghost use Rattle.metric_sums.specs.private.Ancestors.{HandsUp, LeavesAncestors, SumsOf, ends_with};
 
-use crate::hart_sums::HartSums;
+use crate::column_sums::ColumnSums;
 use prof_bytes::Memory;
 use scope_types::Scope;
 use std::alloc::Global;
 
-/// A node some of whose children are summed up: what they hand up, for each hart.
+/// A node some of whose children are summed up: what they hand up, for each column.
 #[derive(Debug, Drop)]
 pub(crate) struct OpenNode {
     pub node: u32,
-    pub sums: HartSums,
+    pub sums: ColumnSums,
 }
 
 fn ends_with(ancestors: &[OpenNode], node: u32) -> bool
@@ -25,7 +25,7 @@ fn ends_with(ancestors: &[OpenNode], node: u32) -> bool
 }
 
 /// Takes the sums of the last of the ancestors, if that is the node.
-fn leave(ancestors: &mut Vec<OpenNode>, node: u32) -> Option<HartSums>
+fn leave(ancestors: &mut Vec<OpenNode>, node: u32) -> Option<ColumnSums>
     ensures { LeavesAncestors node ancestors.old.items ancestors.new.items result }
 {
     if !ends_with(ancestors.as_slice(), node) {
@@ -39,27 +39,27 @@ fn leave(ancestors: &mut Vec<OpenNode>, node: u32) -> Option<HartSums>
 pub(crate) fn sums_of(
     alloc: Global,
     ancestors: &mut Vec<OpenNode>,
-    spare: &mut Vec<HartSums>,
-    harts: u32,
+    spare: &mut Vec<ColumnSums>,
+    columns: u32,
     node: u32,
-) -> Result<HartSums, Memory>
-    ensures { IfOk result (λ sums. SumsOf harts node ancestors.old.items ancestors.new.items sums) }
+) -> Result<ColumnSums, Memory>
+    ensures { IfOk result (λ sums. SumsOf columns node ancestors.old.items ancestors.new.items sums) }
 {
     if let Some(sums) = leave(ancestors, node) {
         return Ok(sums);
     }
-    let mut sums = spare.pop().unwrap_or(HartSums::new(alloc));
-    sums.reset(harts)?;
+    let mut sums = spare.pop().unwrap_or(ColumnSums::new(alloc));
+    sums.reset(columns)?;
     Ok(sums)
 }
 
 /// Hands sums up to the parent's, which is the last of the ancestors, or makes them the parent's.
 pub(crate) fn hand_up(
     ancestors: &mut Vec<OpenNode>,
-    spare: &mut Vec<HartSums>,
+    spare: &mut Vec<ColumnSums>,
     parent: u32,
     scope: Scope,
-    sums: HartSums,
+    sums: ColumnSums,
 ) -> Result<(), Memory>
     requires long { All (λ o. length o.sums ≡ length sums) ancestors.old.items }
     requires small { All (λ o. All IsSmall o.sums) ancestors.old.items }

@@ -4,7 +4,7 @@ ghost use Rattle.tree_types.specs.NodeValues.{nonzero};
 ghost use Rattle.metric_sums.specs.private.Ancestors.{value_of_kind, values_of_sums, sum_values};
 ghost use Rattle.tree_types.specs.declared.content.Kind.TheVariants.{Exclusive, Frame, Inclusive};
 
-use crate::hart_sums::Sum;
+use crate::column_sums::Sum;
 use prof_bytes::Memory;
 use tree_types::{Kind, NodeValue};
 
@@ -18,48 +18,48 @@ fn put_value(out: &mut Vec<NodeValue>, value: NodeValue) -> Result<(), Memory>
     Ok(())
 }
 
-/// Puts the value of a node for a hart, in retired instructions: the period times the number of its paths.
+/// Puts the value of a node for a column, in retired instructions: the period times the number of its paths.
 fn put_kind(
     out: &mut Vec<NodeValue>,
     period: u32,
     node: u32,
-    hart: u32,
+    column: u32,
     kind: Kind,
     paths: u32,
 ) -> Result<(), Memory>
     ensures { OnOk result
-        (reverse out.new.items ≡ nonzero (value_of_kind period node hart kind paths ∷ []) ++ reverse out.old.items) }
+        (reverse out.new.items ≡ nonzero (value_of_kind period node column kind paths ∷ []) ++ reverse out.old.items) }
 {
     let value = u64::from(period) * u64::from(paths);
     put_value(
         out,
         NodeValue {
             node,
-            hart,
+            column,
             kind,
             value,
         },
     )
 }
 
-/// Puts the three values of a node for a hart, the last one first.
+/// Puts the three values of a node for a column, the last one first.
 fn put_sum(
     out: &mut Vec<NodeValue>,
     period: u32,
     node: u32,
-    hart: u32,
+    column: u32,
     sum: Sum,
 ) -> Result<(), Memory>
     ensures { OnOk result
-        (reverse out.new.items ≡ nonzero (sum_values period node hart sum) ++ reverse out.old.items) }
+        (reverse out.new.items ≡ nonzero (sum_values period node column sum) ++ reverse out.old.items) }
 {
-    put_kind(out, period, node, hart, Kind::Inclusive, sum.inclusive)?;
-    put_kind(out, period, node, hart, Kind::Frame, sum.frame)?;
-    put_kind(out, period, node, hart, Kind::Exclusive, sum.exclusive)
+    put_kind(out, period, node, column, Kind::Inclusive, sum.inclusive)?;
+    put_kind(out, period, node, column, Kind::Frame, sum.frame)?;
+    put_kind(out, period, node, column, Kind::Exclusive, sum.exclusive)
 }
 
-/// Puts the values of a node, hart by hart, the last one first.
-#[tactic(auto, using(crate::proofs::Emitted::one_hart_more))]
+/// Puts the values of a node, column by column, the last one first.
+#[tactic(auto, using(crate::proofs::Emitted::one_column_more))]
 pub(crate) fn put_sums(
     out: &mut Vec<NodeValue>,
     period: u32,
@@ -71,8 +71,8 @@ pub(crate) fn put_sums(
         (reverse out.new.items ≡ values_of_sums period node sums.now 0 (length sums.now) ++ reverse out.old.items) }
 {
     for done in 0..sums.len() {
-        let hart = sums.len() - 1 - done;
-        put_sum(out, period, node, hart as u32, sums[hart])?;
+        let column = sums.len() - 1 - done;
+        put_sum(out, period, node, column as u32, sums[column])?;
     }
     Ok(())
 }

@@ -13,7 +13,7 @@ ghost use Rattle.metric_sums.specs.private.Sums.{IsSmall};
 ghost use Rattle.metric_sums.specs.private.Walking.{At};
 
 use crate::ancestors::{OpenNode, hand_up, sums_of};
-use crate::hart_sums::HartSums;
+use crate::column_sums::ColumnSums;
 use crate::put::put_sums;
 use prof_bytes::Memory;
 use std::alloc::Global;
@@ -24,7 +24,7 @@ use tree_types::{NO_PARENT, Node, NodeCount, NodeValue, Tree, Values};
 #[derive(Debug, Drop)]
 struct Walk {
     ancestors: Vec<OpenNode>,
-    spare: Vec<HartSums>,
+    spare: Vec<ColumnSums>,
     left: usize,
     out: Vec<NodeValue>,
 }
@@ -46,9 +46,9 @@ fn first_own(counts: &[NodeCount], end: usize, node: u32) -> usize
 /// Passes a node's sums on to its parent, if it has one.
 fn pass_on(
     ancestors: &mut Vec<OpenNode>,
-    spare: &mut Vec<HartSums>,
+    spare: &mut Vec<ColumnSums>,
     node: Node,
-    sums: HartSums,
+    sums: ColumnSums,
 ) -> Result<(), Memory>
     requires long { All (λ o. length o.sums ≡ length sums) ancestors.old.items }
     requires small { All (λ o. All IsSmall o.sums) ancestors.old.items }
@@ -76,7 +76,7 @@ fn step(alloc: Global, tree: &Tree, period: u32, node: u32, walk: &mut Walk) -> 
         alloc,
         &mut walk.ancestors,
         &mut walk.spare,
-        tree.harts(),
+        tree.columns(),
         node,
     )?;
     let first = first_own(counts, walk.left, node);
@@ -100,15 +100,15 @@ fn turned(values: Vec<NodeValue>) -> Vec<NodeValue>
     turned
 }
 
-/// The values of the nodes of a tree, in one walk over the nodes, in time as there are nodes times harts. The period
+/// The values of the nodes of a tree, in one walk over the nodes, in time as there are nodes times columns. The period
 /// is in retired instructions.
 pub fn sums(alloc: Global, tree: &Tree, period: u32) -> Result<Values, Memory>
     requires { counts_in tree.now.counts ≤ most_samples }
     ensures values { IfOk result (λ values. values ≡ values_of period tree.now) }
-    ensures each { IfOk result (λ values. (node hart : ℕ) (kind : Kind)
-        → node < length tree.now.nodes → hart < tree.now.harts
-        → value_at values.entries node hart kind
-        ≡ value period (paths_in tree.now) hart (node_path tree.now.nodes node) kind) }
+    ensures each { IfOk result (λ values. (node column : ℕ) (kind : Kind)
+        → node < length tree.now.nodes → column < tree.now.columns
+        → value_at values.entries node column kind
+        ≡ value period (paths_in tree.now) column (node_path tree.now.nodes node) kind) }
 {
     let nodes = tree.nodes().len();
     let mut walk = Walk {
@@ -120,5 +120,5 @@ pub fn sums(alloc: Global, tree: &Tree, period: u32) -> Result<Values, Memory>
     for done in 0..nodes {
         step(alloc, tree, period, (nodes - 1 - done) as u32, &mut walk)?;
     }
-    Ok(Values::of(nodes as u32, tree.harts(), turned(walk.out)))
+    Ok(Values::of(nodes as u32, tree.columns(), turned(walk.out)))
 }

@@ -16,7 +16,7 @@ use Rattle.path_trie.specs.private.Linked.{Branches, Linked, Extends, IsTrie, en
 use Rattle.path_trie.proofs.Places.{none_linked}
 
 abbrev pub entry_with : ℕ → ℕ → Path → Entry
-entry_with hart count path = record { hart = hart; count = count; path = path }
+entry_with column count path = record { column = column; count = count; path = path }
 
 no_fields : IsTrie [] [] []
 unfolding tree_paths trie_nodes
@@ -41,14 +41,14 @@ pub map_same : (ps qs : List Path) (n : ℕ) (ends : List PathEnd) → ((p : ℕ
 map_same ps qs n [] same indices = refl
 map_same ps qs n (e ∷ ends) same indices =
     let P : PathEnd → Type 0 = λ e. IsIndex e.node n in
-    ap₂ (λ (x : Path) (rest : List Entry). entry_with e.hart e.count x ∷ rest) (same e.node (All-head P e ends indices)) (map_same ps qs n ends same (All-tail P e ends indices))
+    ap₂ (λ (x : Path) (rest : List Entry). entry_with e.column e.count x ∷ rest) (same e.node (All-head P e ends indices)) (map_same ps qs n ends same (All-tail P e ends indices))
 
 module _ (old nodes : List Node) (bs more : Branches) (ends : List PathEnd) (start : List Path) (after : List PathEnd) (entries from : List Entry) (e : Entry) (k node : ℕ) (path : Path)
     (l : Linked old bs) (m : Linked nodes more) (indices : All (λ e. IsIndex e.node (length old)) ends)
     (wide : Extends (tree_paths old) (tree_paths nodes)) (lt : k < length entries) (is : e ≡ get_or entries k e)
-    (given : path ≡ e.path) (pushed : after ≡ ends ++ record { node = node; hart = e.hart; count = e.count } ∷ []) where
+    (given : path ≡ e.path) (pushed : after ≡ ends ++ record { node = node; column = e.column; count = e.count } ∷ []) where
   abbrev end_new : PathEnd
-  end_new = record { node = node; hart = e.hart; count = e.count }
+  end_new = record { node = node; column = e.column; count = e.count }
 
   all_places : IsIndex node (length nodes) → All (λ e. IsIndex e.node (length nodes)) (ends ++ end_new ∷ [])
   all_places index =
@@ -59,7 +59,7 @@ module _ (old nodes : List Node) (bs more : Branches) (ends : List PathEnd) (sta
   all_entries : entries_at old ends ≡ from ++ take k entries → path_at (tree_paths nodes) node ≡ e.path → entries_at nodes (ends ++ end_new ∷ []) ≡ from ++ take (k + 1) entries
   all_entries so_far path_is =
       map-append (counted_entry (tree_paths nodes)) ends (end_new ∷ [])
-      ∙ ap₂ (λ (x : List Entry) (p : Path). x ++ entry_with e.hart e.count p ∷ [])
+      ∙ ap₂ (λ (x : List Entry) (p : Path). x ++ entry_with e.column e.count p ∷ [])
       (map_same (tree_paths old) (tree_paths nodes) (length old) ends (λ p index. wide.same p (subst (IsIndex p) (sym l.rooted.long) index)) indices ∙ so_far) path_is
       ∙ append_assoc from (take k entries) (e ∷ [])
       ∙ ap (λ (x : List Entry). from ++ x) (ap (λ (x : Entry). take k entries ++ x ∷ []) is ∙ sym (take_more entries k e lt))

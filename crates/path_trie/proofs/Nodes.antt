@@ -11,7 +11,7 @@ use Rattle.scope_types.specs.declared.path.Entry.{Entry}
 use Rattle.scope_types.proofs.Orders.{path_order_total, path_order_tells}
 use Rattle.tree_types.specs.Laws.{IsNonemptyPrefix}
 use Rattle.tree_types.specs.Paths.{Path, prefixes}
-use Rattle.tree_types.proofs.Putting.{length-prefixes}
+use Rattle.tree_types.proofs.Prefixes.{length-prefixes}
 use Rattle.tree_types.proofs.Prefixes.{has-from_prefix, prefix_from_has}
 use Rattle.tree_types.proofs.Sorting.{has-from_Contains, Contains-from_has}
 use Rattle.path_trie.specs.Trie.{same_path, has_node, with_node, all_prefixes, trie_nodes, entries_with_path, count_of, samples_of, entry_scopes}
@@ -135,10 +135,10 @@ nodes_merged old new more is n = ap (λ (es : List Entry). has_node (trie_nodes 
 pub samples_merged : (old new more : List Entry) → new ≡ old ++ more → samples_of new ≡ samples_of old + samples_of more
 samples_merged old new more is = ap samples_of is ∙ sum_by-append (λ (e : Entry). e.count) old more
 
-pub counts_merged : (old new more : List Entry) → new ≡ old ++ more → (hart : ℕ) (path : Path) → count_of new hart path ≡ count_of old hart path + count_of more hart path
-counts_merged old new more is hart path =
-    ap (λ (es : List Entry). count_of es hart path) is ∙ ap samples_of (filter-append (λ (e : Entry). (e.hart == hart) && same_path path e.path) old more)
-    ∙ sum_by-append (λ (e : Entry). e.count) (entries_with_path old hart path) (entries_with_path more hart path)
+pub counts_merged : (old new more : List Entry) → new ≡ old ++ more → (column : ℕ) (path : Path) → count_of new column path ≡ count_of old column path + count_of more column path
+counts_merged old new more is column path =
+    ap (λ (es : List Entry). count_of es column path) is ∙ ap samples_of (filter-append (λ (e : Entry). (e.column == column) && same_path path e.path) old more)
+    ∙ sum_by-append (λ (e : Entry). e.count) (entries_with_path old column path) (entries_with_path more column path)
 
 pub ruleset merge_steps = (nodes_grow, nodes_stay, nodes_merged, samples_merged, counts_merged)
 

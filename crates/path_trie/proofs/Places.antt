@@ -138,7 +138,7 @@ node_apart nodes i node other test xs same lt there told apart is =
     let at : linked_node nodes i ≡ node = ap (λ (l : List Node). get_or l i no_node) (sym same) ∙ get_or_from_slice_get xs i node no_node found in
     true≢false (sym ((node_decides node other).1 (sym at ∙ is)) ∙ sym told ∙ apart)
 
--- what stands right after its parent, or is listed
+-- what lies right after its parent, or is listed
 pub branch_given : (nodes : List Node) (bs : Branches) (parent : ℕ) (scope : Scope) (o : Option ℕ) → Linked nodes bs → branch_at bs (parent, scope) ≡ o
     → (linked_node nodes (next_index parent) ≡ node_with parent scope → ⊥)
     → MatchOption o (IsAbsent nodes parent scope) (λ i. (i < length nodes) × (linked_node nodes i ≡ node_with parent scope))

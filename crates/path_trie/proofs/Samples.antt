@@ -6,7 +6,7 @@ use Rattle.std.proofs.lemmas.List.Concat.{flat_map-append}
 use Rattle.std.proofs.lemmas.List.Elements.{All-head, All-tail}
 use Rattle.std.proofs.lemmas.List.Folds.{list_any-append}
 use Rattle.std.proofs.lemmas.List.Sums.{sum_by-cons, sum_by-append}
-use Rattle.scope_types.specs.CallPaths.{HartPath, entry_path, each_path}
+use Rattle.scope_types.specs.CallPaths.{ColumnPath, entry_path, each_path}
 use Rattle.scope_types.specs.declared.path.Entry.{Entry}
 use Rattle.scope_types.specs.Order.{path_order, scope_order}
 use Rattle.scope_types.proofs.Orders.{path_order_total, path_order_tells}
@@ -20,14 +20,14 @@ use Rattle.path_trie.specs.Trie.{same_path, has_node, all_prefixes, trie_nodes, 
 use Rattle.path_trie.proofs.Nodes.{has_trie, counts_merged}
 use Rattle.prof_bytes.proofs.Tests.{or_false}
 
-abbrev every_prefix : List HartPath → List Path
+abbrev every_prefix : List ColumnPath → List Path
 every_prefix ps = flat_map (λ p. prefixes p.path) ps
 
 or_same : (b : Bool) → (b || b) ≡ b
 or_same true = refl
 or_same false = refl
 
-has_once : (q : Path) (p : HartPath) (n : ℕ) → 0 < n → has_node (every_prefix (replicate n p)) q ≡ has_node (prefixes p.path) q
+has_once : (q : Path) (p : ColumnPath) (n : ℕ) → 0 < n → has_node (every_prefix (replicate n p)) q ≡ has_node (prefixes p.path) q
 has_once q p zero some = absurd (omega arith)
 has_once q p (suc zero) some = list_any-append (same_path q) (prefixes p.path) [] ∙ or_false (has_node (prefixes p.path) q)
 has_once q p (suc (suc n)) some =
@@ -41,7 +41,7 @@ has_every : (es : List Entry) (q : Path) → All IsCounted es → has_node (ever
 unfolding each_path
 has_every [] q counted = refl
 has_every (e ∷ es) q counted =
-    ap (λ (ns : List Path). has_node ns q) (flat_map-append (λ (p : HartPath). prefixes p.path) (replicate e.count (entry_path e)) (each_path es))
+    ap (λ (ns : List Path). has_node ns q) (flat_map-append (λ (p : ColumnPath). prefixes p.path) (replicate e.count (entry_path e)) (each_path es))
     ∙ list_any-append (same_path q) (every_prefix (replicate e.count (entry_path e))) (every_prefix (each_path es))
     ∙ ap₂ (λ (a b : Bool). a || b) (has_once q (entry_path e) e.count (All-head IsCounted e es counted)) (has_every es q (All-tail IsCounted e es counted))
     ∙ sym (list_any-append (same_path q) (prefixes e.path) (all_prefixes es))
@@ -65,10 +65,10 @@ ends_same (s ∷ n) (t ∷ path) =
       | Greater ↦ refl
     ]
 
-abbrev passes : ℕ → Path → HartPath → Bool
-passes hart path p = (p.hart == hart) && rest_passes ends_here (after_prefix path p.path)
+abbrev passes : ℕ → Path → ColumnPath → Bool
+passes column path p = (p.column == column) && rest_passes ends_here (after_prefix path p.path)
 
-count_replicate : (t : HartPath → Bool) (p : HartPath) (n : ℕ) → count_by t (replicate n p) ≡ cond (t p) n 0
+count_replicate : (t : ColumnPath → Bool) (p : ColumnPath) (n : ℕ) → count_by t (replicate n p) ≡ cond (t p) n 0
 count_replicate t p zero = none (t p)
   where
     none : (b : Bool) → zero ≡ cond b zero zero
@@ -84,32 +84,32 @@ count_replicate t p (suc n) =
 abbrev count_in : Entry → ℕ
 count_in e = e.count
 
-samples_here : (es : List Entry) (hart : ℕ) (path : Path) → count_of es hart path ≡ count_by (passes hart path) (each_path es)
+samples_here : (es : List Entry) (column : ℕ) (path : Path) → count_of es column path ≡ count_by (passes column path) (each_path es)
 unfolding each_path
-samples_here [] hart path = refl
-samples_here (e ∷ es) hart path =
-    let t : HartPath → Bool = passes hart path in
-    let own : (((e.hart == hart) && same_path path e.path) ≡ t (entry_path e)) = ap (λ (b : Bool). (e.hart == hart) && b) (sym (ends_same path e.path)) in
-    ap (λ (b : Bool). samples_of (cond b (e ∷ entries_with_path es hart path) (entries_with_path es hart path))) own
-    ∙ first (t (entry_path e)) e (entries_with_path es hart path)
-    ∙ ap₂ (λ (a b : ℕ). a + b) (sym (count_replicate t (entry_path e) e.count)) (samples_here es hart path)
-    ∙ sym (sum_by-append (λ (p : HartPath). one (t p)) (replicate e.count (entry_path e)) (each_path es))
+samples_here [] column path = refl
+samples_here (e ∷ es) column path =
+    let t : ColumnPath → Bool = passes column path in
+    let own : (((e.column == column) && same_path path e.path) ≡ t (entry_path e)) = ap (λ (b : Bool). (e.column == column) && b) (sym (ends_same path e.path)) in
+    ap (λ (b : Bool). samples_of (cond b (e ∷ entries_with_path es column path) (entries_with_path es column path))) own
+    ∙ first (t (entry_path e)) e (entries_with_path es column path)
+    ∙ ap₂ (λ (a b : ℕ). a + b) (sym (count_replicate t (entry_path e) e.count)) (samples_here es column path)
+    ∙ sym (sum_by-append (λ (p : ColumnPath). one (t p)) (replicate e.count (entry_path e)) (each_path es))
   where
     first : (b : Bool) (e : Entry) (rest : List Entry) → samples_of (cond b (e ∷ rest) rest) ≡ cond b e.count 0 + samples_of rest
     first true e rest = sum_by-cons count_in e rest
     first false e rest = omega arith
 
-pub counts_of_samples : (es : List Entry) (hart : ℕ) (path : Path) → count_of es hart path ≡ count_below ends_here (each_path es) hart path
+pub counts_of_samples : (es : List Entry) (column : ℕ) (path : Path) → count_of es column path ≡ count_below ends_here (each_path es) column path
 unfolding count_below
-counts_of_samples es hart path = samples_here es hart path
+counts_of_samples es column path = samples_here es column path
 
 -- ---- parts
 
-pub counts_of_parts : (parts : List (List Entry)) (hart : ℕ) (path : Path) → count_of (flat_map (λ es. es) parts) hart path ≡ sum_by (λ es. count_of es hart path) parts
-counts_of_parts [] hart path = refl
-counts_of_parts (es ∷ parts) hart path =
-    counts_merged es (flat_map (λ es. es) (es ∷ parts)) (flat_map (λ es. es) parts) refl hart path
-    ∙ ap (λ (n : ℕ). count_of es hart path + n) (counts_of_parts parts hart path) ∙ sym (sum_by-cons (λ (es : List Entry). count_of es hart path) es parts)
+pub counts_of_parts : (parts : List (List Entry)) (column : ℕ) (path : Path) → count_of (flat_map (λ es. es) parts) column path ≡ sum_by (λ es. count_of es column path) parts
+counts_of_parts [] column path = refl
+counts_of_parts (es ∷ parts) column path =
+    counts_merged es (flat_map (λ es. es) (es ∷ parts)) (flat_map (λ es. es) parts) refl column path
+    ∙ ap (λ (n : ℕ). count_of es column path + n) (counts_of_parts parts column path) ∙ sym (sum_by-cons (λ (es : List Entry). count_of es column path) es parts)
 
 has_parts : (parts : List (List Entry)) (q : Path) → has_node (all_prefixes (flat_map (λ es. es) parts)) q ≡ has_node (flat_map trie_nodes parts) q
 has_parts [] q = refl

@@ -52,9 +52,9 @@ filtered_le p (x ∷ xs) =
     ]
 
 -- what a walk has counted, and one end more
-pub total_small : (ends : List PathEnd) (node hart k total : ℕ) (d : PathEnd) → k < length ends → total ≡ sum_by end_count (filter (ends_at node hart) (take k ends)) → sum_by end_count ends ≤ most_samples → total + (get_or ends k d).count < 2 ^ 64
-total_small ends node hart k total d lt so_far few =
-    let part = filtered_le (ends_at node hart) (take k ends) in
+pub total_small : (ends : List PathEnd) (node column k total : ℕ) (d : PathEnd) → k < length ends → total ≡ sum_by end_count (filter (ends_at node column) (take k ends)) → sum_by end_count ends ≤ most_samples → total + (get_or ends k d).count < 2 ^ 64
+total_small ends node column k total d lt so_far few =
+    let part = filtered_le (ends_at node column) (take k ends) in
     let more = sum_by_more_le end_count ends k d lt in
     omega arith
 
@@ -81,16 +81,16 @@ same_test nodes bs node e l few lt index =
           ∙ sym (ne_eqb e.node node apart)
     ]
 
-pub counts_seen : (nodes : List Node) (bs : Branches) (ends xs : List PathEnd) (now : List Entry) (node hart total : ℕ) → IsTrie nodes bs ends → entries_at nodes ends ≡ now → node < length (trie_nodes now) → xs ≡ ends
-    → total ≡ sum_by end_count (filter (ends_at node hart) xs) → total ≡ count_of now hart (nth_path (trie_nodes now) node)
-counts_seen nodes bs ends xs now node hart total fits is lt same counted =
+pub counts_seen : (nodes : List Node) (bs : Branches) (ends xs : List PathEnd) (now : List Entry) (node column total : ℕ) → IsTrie nodes bs ends → entries_at nodes ends ≡ now → node < length (trie_nodes now) → xs ≡ ends
+    → total ≡ sum_by end_count (filter (ends_at node column) xs) → total ≡ count_of now column (nth_path (trie_nodes now) node)
+counts_seen nodes bs ends xs now node column total fits is lt same counted =
     let paths : List Path = tree_paths nodes in
     let q : Path = nth_path paths node in
-    let test : Entry → Bool = λ x. (x.hart == hart) && same_path q x.path in
+    let test : Entry → Bool = λ x. (x.column == column) && same_path q x.path in
     let count = count_seen nodes bs ends now fits is in
     let within : node < length nodes = omega arith in
-    counted ∙ ap (λ (x : List PathEnd). sum_by end_count (filter (ends_at node hart) x)) same
-    ∙ counts_same paths test (ends_at node hart) ends
-    (All-weaker (λ e. IsIndex e.node (length nodes)) (λ e. test (counted_entry paths e) ≡ ends_at node hart e)
-    (λ e index. ap (λ (b : Bool). (e.hart == hart) && b) (same_test nodes bs node e fits.linked fits.few_nodes within index) ∙ and_swap (e.hart == hart) (e.node == node)) ends fits.indices)
-    ∙ ap₂ (λ (ps : List Path) (x : List Entry). count_of x hart (nth_path ps node)) (paths_seen nodes bs ends now fits is) is
+    counted ∙ ap (λ (x : List PathEnd). sum_by end_count (filter (ends_at node column) x)) same
+    ∙ counts_same paths test (ends_at node column) ends
+    (All-weaker (λ e. IsIndex e.node (length nodes)) (λ e. test (counted_entry paths e) ≡ ends_at node column e)
+    (λ e index. ap (λ (b : Bool). (e.column == column) && b) (same_test nodes bs node e fits.linked fits.few_nodes within index) ∙ and_swap (e.column == column) (e.node == node)) ends fits.indices)
+    ∙ ap₂ (λ (ps : List Path) (x : List Entry). count_of x column (nth_path ps node)) (paths_seen nodes bs ends now fits is) is

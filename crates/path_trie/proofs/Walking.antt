@@ -4,7 +4,7 @@ use Rattle.std.proofs.lemmas.List.{take_more}
 use Rattle.std.proofs.lemmas.List.Sums.{fold_more}
 use Rattle.scope_types.specs.declared.scope.Scope.{Scope}
 use Rattle.tree_types.specs.Paths.{Path, prefixes}
-use Rattle.tree_types.proofs.Putting.{length-prefixes, prefix_at}
+use Rattle.tree_types.proofs.Prefixes.{length-prefixes, prefix_at}
 use Rattle.path_trie.specs.Trie.{with_node}
 use Rattle.path_trie.specs.private.Linked.{Extends}
 

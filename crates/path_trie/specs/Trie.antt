@@ -43,7 +43,7 @@ trie_node ns n = record { parent = parent_number ns n; scope = own_scope n }
 abbrev pub IsIndex : ℕ → ℕ → Type 0
 IsIndex index n = index ≢ no_parent → index < n
 
--- parents stand before their children
+-- parents come before their children
 abbrev pub StandBefore : List Node → Type 0
 StandBefore nodes = (i : ℕ) (n : Node) → slice_get nodes i ≡ Some n → IsIndex n.parent i
 
@@ -53,19 +53,19 @@ path_at ns index = if index == no_parent then [] else slice_index_or ns index []
 
 -- the entry that an end counts
 abbrev pub counted_entry : List Path → PathEnd → Entry
-counted_entry ns e = record { hart = e.hart; count = e.count; path = path_at ns e.node }
+counted_entry ns e = record { column = e.column; count = e.count; path = path_at ns e.node }
 
--- the entries of a hart and a path
+-- the entries of a column and a path
 abbrev pub entries_with_path : List Entry → ℕ → Path → List Entry
-entries_with_path entries hart path = filter (λ e. e.hart == hart && same_path path e.path) entries
+entries_with_path entries column path = filter (λ e. e.column == column && same_path path e.path) entries
 
 -- how many samples entries count
 abbrev pub samples_of : List Entry → ℕ
 samples_of entries = sum_by (λ e. e.count) entries
 
--- and of these, how many samples of a hart have a path
+-- and of these, how many samples of a column have a path
 abbrev pub count_of : List Entry → ℕ → Path → ℕ
-count_of entries hart path = samples_of (entries_with_path entries hart path)
+count_of entries column path = samples_of (entries_with_path entries column path)
 
 -- how many scopes the entries' paths have together
 abbrev pub entry_scopes : List Entry → ℕ

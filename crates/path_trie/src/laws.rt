@@ -20,14 +20,14 @@ pub fn trie_nodes_are_prefixes()
     ensures once { (es : List Entry) → AllPairs (λ m n. m ≡ n → ⊥) (trie_nodes es) }
 {}
 
-/// A trie has the nodes of its samples' paths, where each entry counts some, and as many samples of a hart at
+/// A trie has the nodes of its samples' paths, where each entry counts some, and as many samples of a column at
 /// a path as end there.
 #[tactic(auto, using(crate::proofs::Samples::sample_laws))]
 pub fn trie_is_of_samples()
     ensures nodes { (es : List Entry) → All (λ e. 0 < e.count) es
         → ascending path_order (trie_nodes es) ≡ nodes (each_path es) }
-    ensures counts { (es : List Entry) (hart : ℕ) (path : Path)
-        → count_of es hart path ≡ count_below ends_here (each_path es) hart path }
+    ensures counts { (es : List Entry) (column : ℕ) (path : Path)
+        → count_of es column path ≡ count_below ends_here (each_path es) column path }
 {}
 
 /// What is merged in parts has the nodes of all parts, each once, and the sums of their counts.
@@ -35,6 +35,6 @@ pub fn trie_is_of_samples()
 pub fn parts_add_up()
     ensures nodes { (parts : List (List Entry)) → ascending path_order (trie_nodes (flat_map (λ es. es) parts))
         ≡ ascending path_order (flat_map trie_nodes parts) }
-    ensures counts { (parts : List (List Entry)) (hart : ℕ) (path : Path)
-        → count_of (flat_map (λ es. es) parts) hart path ≡ sum_by (λ es. count_of es hart path) parts }
+    ensures counts { (parts : List (List Entry)) (column : ℕ) (path : Path)
+        → count_of (flat_map (λ es. es) parts) column path ≡ sum_by (λ es. count_of es column path) parts }
 {}

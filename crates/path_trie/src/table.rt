@@ -15,7 +15,7 @@ use scope_types::Scope;
 use std::alloc::Global;
 use tree_types::{NO_PARENT, Node};
 
-/// Nodes in order of first appearance, each after its parent; and the indices of those that do not stand right
+/// Nodes in order of first appearance, each after its parent; and the indices of those that do not lie right
 /// after their parents, by parent and scope.
 #[derive(Drop)]
 pub struct NodeTable {
@@ -42,7 +42,9 @@ impl NodeTable {
         ensures room { OnOk result (vec_len self.new.nodes + nodes ≤ vec_capacity self.new.nodes) }
         ensures branch_room { OnOk result (branches ≤ spare self.new.branches) }
     {
+        // room: `nodes`, for just the nodes that may come, so that putting them can't fail
         self.nodes.reserve(nodes)?;
+        // room: `branches`, for just the branches that may come
         self.branches.reserve(branches)?;
         Ok(())
     }
@@ -115,7 +117,7 @@ impl NodeTable {
     }
 }
 
-/// Puts a node among the branches, unless it stands right after its parent.
+/// Puts a node among the branches, unless it lies right after its parent.
 fn put_branch(branches: &mut IndexMap<(u32, Scope), u32>, parent: u32, scope: Scope, index: u32)
     requires { (next_index parent ≡ index → ⊥) → 0 < spare branches.old }
     ensures branches { (q : Key) → branch_at branches.new.entries q

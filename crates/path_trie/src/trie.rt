@@ -16,11 +16,11 @@ use std::alloc::Global;
 use std::marker::Model;
 use tree_types::Node;
 
-/// Samples of a hart whose path ends at a node: the node's index, or `NO_PARENT` where the path has no scopes.
+/// Samples of a column whose path ends at a node: the node's index, or `NO_PARENT` where the path has no scopes.
 #[derive(Clone, Copy, Debug, PartialEq, Eq, Drop)]
 pub struct PathEnd {
     pub node: u32,
-    pub hart: u32,
+    pub column: u32,
     pub count: u32,
 }
 
@@ -68,7 +68,7 @@ fn put_entries(table: &mut NodeTable, ends: &mut Vec<PathEnd>, entries: &[Entry]
         let node = table.put_path(entry.path.scopes());
         ends.push(PathEnd {
             node,
-            hart: entry.hart,
+            column: entry.column,
             count: entry.count,
         })
         .unwrap();
@@ -88,7 +88,7 @@ impl Trie {
         }
     }
 
-    /// Merges a piece's entries: each count grows by the piece's for its hart and path, and the nodes become those
+    /// Merges a piece's entries: each count grows by the piece's for its column and path, and the nodes become those
     /// that were there and the nonempty prefixes of the piece's paths. Where memory runs out the trie stays as it is.
     #[tactic(auto, using(crate::proofs::Nodes::merge_steps))]
     pub fn merge(&mut self, piece: &Piece) -> Result<(), Memory>
@@ -96,15 +96,17 @@ impl Trie {
         requires nodes { length (trie_nodes self.old) + entry_scopes piece.now.entries ≤ most_scopes_in_all }
         ensures ok { OnOk result (self.new ≡ self.old ++ piece.now.entries) }
         ensures err { OnErr result (self.new ≡ self.old) }
-        ensures counts { OnOk result ((hart : ℕ) (path : Path)
-            → count_of self.new hart path ≡ count_of self.old hart path + count_of piece.now.entries hart path) }
+        ensures counts { OnOk result ((column : ℕ) (path : Path)
+            → count_of self.new column path ≡ count_of self.old column path + count_of piece.now.entries column path) }
         ensures nodes { OnOk result ((n : Path) → has_node (trie_nodes self.new) n
             ≡ (has_node (trie_nodes self.old) n || has_node (all_prefixes piece.now.entries) n)) }
         ensures grow { length (trie_nodes self.new) ≤ length (trie_nodes self.old) + entry_scopes piece.now.entries }
         ensures samples { OnOk result (samples_of self.new ≡ samples_of self.old + samples_of piece.now.entries) }
     {
         let entries = piece.entries.items();
+        // room: `scope_count(entries), entries.len()`, the most that the piece makes
         self.table.reserve(scope_count(entries), entries.len())?;
+        // room: `entries.len()`, an end for each entry of the piece
         self.ends.reserve(entries.len())?;
         put_entries(&mut self.table, &mut self.ends, entries);
         Ok(())
@@ -145,22 +147,22 @@ impl Trie {
         self.ends.as_slice()
     }
 
-    /// How many samples of a hart end at a node. The time is that of a walk over all ends.
-    pub fn count(&self, node: u32, hart: u32) -> u64
+    /// How many samples of a column end at a node. The time is that of a walk over all ends.
+    pub fn count(&self, node: u32, column: u32) -> u64
         requires { node < length (trie_nodes self.now) }
-        ensures { result ≡ count_of self.now hart (nth_path (trie_nodes self.now) node) }
+        ensures { result ≡ count_of self.now column (nth_path (trie_nodes self.now) node) }
     {
-        count_ends(self.ends.as_slice(), node, hart)
+        count_ends(self.ends.as_slice(), node, column)
     }
 }
 
-fn count_ends(ends: &[PathEnd], node: u32, hart: u32) -> u64
+fn count_ends(ends: &[PathEnd], node: u32, column: u32) -> u64
     requires { sum_by (λ e. e.count) ends.now ≤ most_samples }
-    ensures { result ≡ sum_by (λ e. e.count) (filter (ends_at node hart) ends.now) }
+    ensures { result ≡ sum_by (λ e. e.count) (filter (ends_at node column) ends.now) }
 {
     let mut total = 0;
     for end in ends {
-        if end.node == node && end.hart == hart {
+        if end.node == node && end.column == column {
             total += u64::from(end.count);
         }
     }

@@ -1,6 +1,7 @@
 pub mod Again
 pub mod Spans
 pub mod Appending
+pub mod DigitSteps
 pub mod Groups
 pub mod Outcomes
 pub mod Took

@@ -11,7 +11,7 @@ use Rattle.prof_bytes.proofs.Took.{Took, bytes_on, given, took_both, took_none}
 
 -- ---- what was written is read as the same
 
--- what was read of something, but where it stood
+-- what was read of something, but where it was
 pub record Reads {X Z F : Type 0} (bare : X → Z) (read : Result (X × At) F) (z : Z) (rest : List ℕ) : Type 0 where
   pub value : X
   pub next : At

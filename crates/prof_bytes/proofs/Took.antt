@@ -29,7 +29,7 @@ bytes_on took bytes = subst IsBytes (sym took.whole) bytes
 pub bytes_left : (at : At) → IsBytes at.whole → IsBytes (left_of at)
 bytes_left at bytes i = subst (λ (b : ℕ). b < 256) (sym (get_or-drop at.offset at.whole i 0)) (bytes (at.offset + i))
 
--- what stands there and what follows it
+-- what is there and what follows it
 pub stands_took : (width : ℕ) (at : At) (n : ℕ) → IsBytes at.whole → width ≤ length (left_of at) → number_in width (left_of at) ≡ n → Took at (moved width at) (number_bytes width n)
 stands_took width at n bytes long is =
     let again : number_bytes width n ≡ take width (left_of at) = ap (number_bytes width) (sym is) ∙ number_again width (left_of at) long (bytes_left at bytes) in

@@ -1,4 +1,4 @@
--- A file whose fields stand one after the other. What it lacks is at fault where it begins.
+-- A file whose fields follow one another. What it lacks is at fault where it begins.
 use Rattle.std.specs.Prelude.{ℕ, ◌||◌, not, nat_eq, nat_lt, List, length, take, Result, Ok, Err, if◌then◌else◌}
 use Rattle.std.specs.Cmp.Lexicographic.{pointwise}
 use Rattle.prof_bytes.specs.Number.{number_in}
@@ -9,7 +9,7 @@ abbrev pub number_or : {F : Type 0} → (At → F) → ℕ → At → Result (�
 number_or missing width at = if nat_lt (length (left_of at)) width then Err (missing at)
     else Ok (number_in width (left_of at), moved width at)
 
--- a given number of bytes as they stand
+-- a given number of bytes as they are
 abbrev pub bytes_or : {F : Type 0} → (At → F) → ℕ → At → Result (List ℕ × At) F
 bytes_or missing count at = if nat_lt (length (left_of at)) count then Err (missing at)
     else Ok (take count (left_of at), moved count at)

@@ -6,7 +6,7 @@ use Rattle.std.specs.Prelude.{Option, Some, None, option_map, option_and_then, i
 abbrev pub is_last : ℕ → Bool
 is_last byte = nat_lt byte 128
 
--- the bytes of the number that stands at the front, up to its last one
+-- the bytes of the number at the front, up to its last one
 abbrev pub leb_group : List ℕ → Option (List ℕ)
 leb_group bytes = option_map (λ index. take (index + 1) bytes) (position is_last bytes)
 

@@ -1,4 +1,6 @@
 pub mod Number
+pub mod Numerals
+pub mod Printing
 pub mod Leb
 pub mod Reading
 pub mod Outcome

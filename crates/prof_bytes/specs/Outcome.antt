@@ -3,8 +3,8 @@ use Rattle.std.specs.Prelude.{◌≡◌, Result, Ok, Err}
 use Rattle.prof_bytes.specs.declared.fail.Fail.{Fail}
 use Rattle.prof_bytes.specs.declared.fail.Fail.TheVariants as fails
 
--- what comes next, unless there is a fault already
 infixl 10 ◌>>=◌
+-- what comes next, unless there is a fault already
 abbrev pub ◌>>=◌ : {X Y F : Type 0} → Result X F → (X → Result Y F) → Result Y F
 (Ok x) >>= next = next x
 (Err fault) >>= next = Err fault

@@ -1,4 +1,4 @@
-//! What stands at the front of bytes, and how many bytes of it: each read of a cursor is one of these.
+//! What is at the front of bytes, and how many bytes of it: each read of a cursor is one of these.
 ghost use Rattle.std.specs.Prelude.{◌≡◌, ◌==◌, ◌+◌, ◌<◌, IfSome, length, option_map, position, take};
 ghost use Rattle.prof_bytes.specs.Number.{number_at, number_bytes};
 ghost use Rattle.prof_bytes.specs.Reading.{bytes_at, text_at};

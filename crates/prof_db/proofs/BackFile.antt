@@ -15,7 +15,7 @@ use Rattle.prof_db.specs.declared.raw.RawNode.{RawNode}
 use Rattle.prof_db.specs.declared.raw.RawProc.{RawProc}
 use Rattle.prof_bytes.specs.Repeated.{adding, times}
 use Rattle.prof_db.specs.Fields.{fault, not_whole}
-use Rattle.prof_db.specs.Layout.{body_from, column_from, file_from, head_from, layout_in, node_from, past_column, proc_from}
+use Rattle.prof_db.specs.Layout.{body_from, list_from, file_from, head_from, layout_in, node_from, past_list, proc_from}
 use Rattle.prof_db.specs.NameRules.{file_name, names_in, raw_proc_name, used_files, used_procs}
 use Rattle.prof_db.specs.NodeRules.{in_range, node_of}
 use Rattle.prof_db.specs.Rules.{database_in}
@@ -26,7 +26,7 @@ use Rattle.prof_bytes.proofs.Lists.{list_took}
 use Rattle.prof_bytes.proofs.Took.{Took, behind, bytes_on, given, magic_took, took_both}
 use Rattle.prof_db.proofs.BackItems.{word_behind, file_back, node_back, proc_back, raw_file_bytes, raw_node_bytes, raw_proc_bytes}
 use Rattle.prof_db.proofs.BackNames.{files_spelled, nodes_spelled, procs_spelled}
-use Rattle.prof_db.proofs.BackPlanes.{column_moved, columns_end, context_bytes, field_bytes, fields_took, past_column_moved, profile_bytes}
+use Rattle.prof_db.proofs.BackPlanes.{list_moved, lists_end, context_bytes, field_bytes, fields_took, past_list_moved, profile_bytes}
 use Rattle.prof_db.proofs.Contents.{contexts_long, profiles_long}
 use Rattle.prof_bytes.proofs.Outcomes.{bind_ok, guard_ok, ok_same}
 use Rattle.prof_db.proofs.Owned.{ranged}
@@ -36,7 +36,7 @@ use Rattle.prof_db.proofs.Passed.{Passed, own_content, own_nodes, passed}
 -- ---- the head
 
 abbrev head_numbers : Head → List ℕ
-head_numbers h = h.period ∷ h.harts ∷ h.procs ∷ h.files ∷ h.nodes ∷ []
+head_numbers h = h.period ∷ h.columns ∷ h.procs ∷ h.files ∷ h.nodes ∷ []
 
 head_back : (at next : At) (h : Head) → IsBytes at.whole → head_from at ≡ Ok (h, next) → Took at next (words (head_numbers h))
 unfolding head_from
@@ -46,7 +46,7 @@ head_back at next h bytes is =
     let c = word_behind b.next _ _ b.bytes b.is in
     let d = word_behind c.next _ _ c.bytes c.is in
     let e = word_behind d.next _ _ d.bytes d.is in
-    let made : Head = record { period = a.value; harts = b.value; procs = c.value; files = d.value; nodes = e.value } in
+    let made : Head = record { period = a.value; columns = b.value; procs = c.value; files = d.value; nodes = e.value } in
     given (λ h next. Took at next (words (head_numbers h))) made h e.next next e.is (took_both a.took (took_both b.took (took_both c.took (took_both d.took e.took))))
 
 -- ---- the lists, and the planes
@@ -54,7 +54,7 @@ head_back at next h bytes is =
 abbrev pub made_of : Head → List RawProc → List RawFile → List RawNode → List RawEntry → At → At → Layout
 made_of head procs files nodes entries profiles contexts = record {
   period = head.period;
-  harts = head.harts;
+  columns = head.columns;
   procs = procs;
   files = files;
   nodes = nodes;
@@ -68,14 +68,14 @@ lists_bytes layout = flat_map raw_proc_bytes layout.procs ++ (flat_map raw_file_
 
 record BodyBack (head : Head) (at : At) (layout : Layout) : Type 0 where
   period : layout.period ≡ head.period
-  harts : layout.harts ≡ head.harts
+  columns : layout.columns ≡ head.columns
   procs : length layout.procs ≡ head.procs
   files : length layout.files ≡ head.files
   nodes : length layout.nodes ≡ head.nodes
   took : Took at layout.profiles (lists_bytes layout)
-  columns : times column_from head.harts 0 [] layout.profiles ≡ Ok (layout.entries, layout.contexts)
+  lists : times list_from head.columns 0 [] layout.profiles ≡ Ok (layout.entries, layout.contexts)
   behind_all : At
-  past : times past_column head.nodes 0 tt layout.contexts ≡ Ok (tt, behind_all)
+  past : times past_list head.nodes 0 tt layout.contexts ≡ Ok (tt, behind_all)
   none : left_of behind_all ≡ []
 
 body_back : (head : Head) (at : At) (layout : Layout) → IsBytes at.whole → body_from head at ≡ Ok layout → BodyBack head at layout
@@ -89,19 +89,19 @@ body_back head at layout bytes is =
     let bytes2 = bytes_on files.1 bytes1 in
     let c = bind_ok (times (adding node_from) head.nodes 0 [] b.0.1) _ _ b.2 in
     let nodes = list_took node_from raw_node_bytes node_back head.nodes c.0.0 b.0.1 c.0.1 bytes2 c.1 in
-    let d = bind_ok (times column_from head.harts 0 [] c.0.1) _ _ c.2 in
+    let d = bind_ok (times list_from head.columns 0 [] c.0.1) _ _ c.2 in
     let made : Layout = made_of head a.0.0 b.0.0 c.0.0 d.0.0 c.0.1 d.0.1 in
-    let e = bind_ok (times past_column head.nodes 0 tt d.0.1) _ _ d.2 in
+    let e = bind_ok (times past_list head.nodes 0 tt d.0.1) _ _ d.2 in
     let whole = guard_ok (nat_lt 0 (length (left_of e.0.1))) (not_whole e.0.1) (Ok made) layout e.2 in
     let short : length (left_of e.0.1) ≤ 0 = ltb-false 0 (length (left_of e.0.1)) whole.0 in
     let back : BodyBack head at made = record {
       period = refl;
-      harts = refl;
+      columns = refl;
       procs = procs.0;
       files = files.0;
       nodes = nodes.0;
       took = took_both procs.1 (took_both files.1 nodes.1);
-      columns = d.1;
+      lists = d.1;
       behind_all = e.0.1;
       past = e.1;
       none = nil_from_length (left_of e.0.1) (omega (arith, short));
@@ -122,12 +122,12 @@ module _ (layout : Layout) (c : Content) (p : Passed layout c) (head : Head) (at
 
   profiles_end : p.behind_profiles ≡ layout.contexts
   profiles_end =
-      columns_end 6 profile_fields (λ e. refl) column_from (λ hart b a at next read. column_moved hart b a at next read) own.profiles head.harts 0 [] layout.entries layout.profiles layout.contexts p.behind_profiles
-      (profiles_long layout names (own_nodes layout) own refl ∙ back.harts) back.columns p.profiles
+      lists_end 6 profile_fields (λ e. refl) list_from (λ column b a at next read. list_moved column b a at next read) own.profiles head.columns 0 [] layout.entries layout.profiles layout.contexts p.behind_profiles
+      (profiles_long layout names (own_nodes layout) own refl ∙ back.columns) back.lists p.profiles
 
   contexts_end : p.behind_contexts ≡ back.behind_all
   contexts_end =
-      columns_end 7 context_fields (λ e. refl) past_column past_column_moved own.contexts head.nodes 0 tt tt layout.contexts back.behind_all p.behind_contexts
+      lists_end 7 context_fields (λ e. refl) past_list past_list_moved own.contexts head.nodes 0 tt tt layout.contexts back.behind_all p.behind_contexts
       (contexts_long layout names (own_nodes layout) own refl ∙ length-map layout.nodes (node_of names) ∙ back.nodes) back.past p.contexts
 
   abbrev profile_plane : List ℕ
@@ -168,10 +168,10 @@ module _ (layout : Layout) (c : Content) (p : Passed layout c) (head : Head) (at
   many_nodes = length-map layout.nodes (node_of names) ∙ back.nodes
 
   abbrev own_numbers : List ℕ
-  own_numbers = own.period ∷ own.harts ∷ length names.procs ∷ length names.files ∷ length own.nodes ∷ []
+  own_numbers = own.period ∷ own.columns ∷ length names.procs ∷ length names.files ∷ length own.nodes ∷ []
 
   numbers_are : head_numbers head ≡ own_numbers
-  numbers_are = λ i. sym back.period i ∷ sym back.harts i ∷ sym many_procs i ∷ sym many_files i ∷ sym many_nodes i ∷ []
+  numbers_are = λ i. sym back.period i ∷ sym back.columns i ∷ sym many_procs i ∷ sym many_files i ∷ sym many_nodes i ∷ []
 
   nodes_are : flat_map (node_bytes names) own.nodes ≡ flat_map raw_node_bytes layout.nodes
   nodes_are =

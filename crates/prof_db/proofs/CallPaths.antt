@@ -1,4 +1,4 @@
--- The scopes of a call path: each may stand under the one before it, and a statement is the last.
+-- The scopes of a call path: each may lie under the one before it, and a statement is the last.
 use Rattle.std.proofs.Common.{◌≡◌, true, false, [], ◌∷◌, ◌++◌, true≢false, refl, sym, ◌∙◌}
 use Rattle.std.proofs.lemmas.Bool.{and_parts}
 use Rattle.scope_types.specs.declared.scope.Scope.{Scope}
@@ -19,7 +19,7 @@ stands_below : (above : Scope) (q : Path) (s : Scope) (rest : Path) → leads_to
 stands_below above [] s rest e = (and_parts (stands_under above s) (leads_to_statement s rest) e).0
 stands_below above (t ∷ q) s rest e = stands_below t q s rest (and_parts (stands_under above t) (leads_to_statement t (q ++ s ∷ rest)) e).1
 
--- what follows a part of a path stands under its last scope
+-- what follows a part of a path lies under its last scope
 pub stands_behind : (q : Path) (s : Scope) (rest : Path) → (q ≡ [] → ⊥) → is_call_path (q ++ s ∷ rest) ≡ true → stands_under (own_scope q) s ≡ true
 stands_behind [] s rest some e = absurd (some refl)
 stands_behind (t ∷ q) s rest some e = stands_below t q s rest (leads t (q ++ s ∷ rest) e)

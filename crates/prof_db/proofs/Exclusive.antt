@@ -17,7 +17,7 @@ use Rattle.std.proofs.lemmas.List.MinMax.{ranks_by}
 use Rattle.std.proofs.lemmas.List.Sorted.{sorted_far, All-permutation, sum_by-IsPermutation}
 use Rattle.std.proofs.lemmas.List.Sums.{sum_by-append, sum_by-cons, sum_by_more}
 use Rattle.std.proofs.lemmas.Map.Keys.{IsDistinct-from_apart, IsDistinct-IsPermutation, apart_from_distinct}
-use Rattle.scope_types.specs.CallPaths.{HartPath}
+use Rattle.scope_types.specs.CallPaths.{ColumnPath}
 use Rattle.scope_types.specs.Limits.{most_samples}
 use Rattle.tree_types.specs.declared.content.Node.{Node}
 use Rattle.tree_types.specs.declared.counted_tree.NodeCount.{NodeCount}
@@ -26,7 +26,7 @@ use Rattle.tree_types.specs.Nodes.{no_parent}
 use Rattle.tree_types.specs.Paths.{Path, after_prefix, rest_passes}
 use Rattle.tree_types.specs.Planes.{kinds}
 use Rattle.tree_types.specs.Tree.{CountedTree, node_at, IsPreorder, IsTree, count_order, counted_path, counts_in, node_path, paths_in}
-use Rattle.tree_types.specs.Values.{count_below, counts_for, harts_below}
+use Rattle.tree_types.specs.Values.{count_below, counts_for, columns_below}
 use Rattle.tree_types.proofs.Counting.{one}
 use Rattle.prof_db.specs.declared.raw.RawEntry.{RawEntry}
 use Rattle.prof_db.specs.NameRules.{pair_less}
@@ -38,13 +38,13 @@ use Rattle.prof_db.proofs.FirstBroken.{none_broken}
 -- ---- sorting
 
 count_order_total : IsTotalOrder count_order
-count_order_total = on_total (λ (c : NodeCount). c.node ∷ c.hart ∷ []) nat_list_cmp_total
+count_order_total = on_total (λ (c : NodeCount). c.node ∷ c.column ∷ []) nat_list_cmp_total
 
 abbrev pair_order : NodeCount → NodeCount → Ordering
-pair_order a b = ordering_then (nat_cmp a.node b.node) (nat_cmp a.hart b.hart)
+pair_order a b = ordering_then (nat_cmp a.node b.node) (nat_cmp a.column b.column)
 
 pair_same : (a b : NodeCount) → pair_order a b ≡ count_order a b
-pair_same a b = ap (ordering_then (nat_cmp a.node b.node)) (no_more (nat_cmp a.hart b.hart))
+pair_same a b = ap (ordering_then (nat_cmp a.node b.node)) (no_more (nat_cmp a.column b.column))
   where
     no_more : (o : Ordering) → o ≡ ordering_then o Equal
     no_more Less = refl
@@ -58,22 +58,22 @@ sorted_pairs xs up i j d below lt less =
     true≢false (sym (ap is_lt less) ∙ not_less)
 
 abbrev same_pair : NodeCount → NodeCount → Bool
-same_pair a b = a.node == b.node && a.hart == b.hart
+same_pair a b = a.node == b.node && a.column == b.column
 
 tied : (a b : NodeCount) → count_order a b ≡ Equal → same_pair a b ≡ true
 tied a b e =
-    let lists : (a.node ∷ a.hart ∷ []) ≡ (b.node ∷ b.hart ∷ []) = slice_cmp-IsAntisymmetric nat_cmp-IsAntisymmetric (a.node ∷ a.hart ∷ []) (b.node ∷ b.hart ∷ []) e in
+    let lists : (a.node ∷ a.column ∷ []) ≡ (b.node ∷ b.column ∷ []) = slice_cmp-IsAntisymmetric nat_cmp-IsAntisymmetric (a.node ∷ a.column ∷ []) (b.node ∷ b.column ∷ []) e in
     let nodes : a.node ≡ b.node = cc in
-    let harts : a.hart ≡ b.hart = cc in
-    (λ i. eq-eqb a.node b.node nodes i && eq-eqb a.hart b.hart harts i)
+    let columns : a.column ≡ b.column = cc in
+    (λ i. eq-eqb a.node b.node nodes i && eq-eqb a.column b.column columns i)
 
 flips : (a b : NodeCount) → same_pair a b ≡ same_pair b a
-flips a b = λ i. turned a.node b.node i && turned a.hart b.hart i
+flips a b = λ i. turned a.node b.node i && turned a.column b.column i
   where
     turned : (m n : ℕ) → (m == n) ≡ (n == m)
     turned m n = elim (cases_eq m n) [ inl is ↦ eq-eqb m n is ∙ sym (eq-eqb n m (sym is)) | inr apart ↦ ne_eqb m n apart ∙ sym (ne_eqb n m (λ e. apart (sym e))) ]
 
--- what is sorted and has each node and hart once ascends strictly
+-- what is sorted and has each node and column once ascends strictly
 sorted_up : (xs : List NodeCount) → AllPairs (λ a b. count_order b a ≢ Less) xs → IsDistinct same_pair xs → AllPairs (λ a b. count_order a b ≡ Less) xs
 sorted_up xs up distinct i j d below lt =
     let a : NodeCount = get_or xs i d in
@@ -160,7 +160,7 @@ samples_are period (e ∷ es) =
 
 -- ---- what the rule says
 
-module _ (period harts : ℕ) (nodes : List Node) (entries : List RawEntry) (kept : entries_kept period harts nodes entries ≡ Ok tt) where
+module _ (period columns : ℕ) (nodes : List Node) (entries : List RawEntry) (kept : entries_kept period columns nodes entries ≡ Ok tt) where
   abbrev at : ℕ → RawEntry
   at i = entry_at entries i
 
@@ -177,8 +177,8 @@ module _ (period harts : ℕ) (nodes : List Node) (entries : List RawEntry) (kep
   abbrev has_kind : RawEntry → Bool
   has_kind e = nat_lt e.kind 3 && is_some e
 
-  abbrev has_hart : RawEntry → Bool
-  has_hart e = nat_lt e.hart harts && has_kind e
+  abbrev has_column : RawEntry → Bool
+  has_column e = nat_lt e.column columns && has_kind e
 
   abbrev is_next : ℕ → Bool
   is_next i = i == 0 || entries_ascend (entry_at entries (i - 1)) (at i)
@@ -186,14 +186,14 @@ module _ (period harts : ℕ) (nodes : List Node) (entries : List RawEntry) (kep
   abbrev has_room : ℕ → Bool
   has_room i = nat_le (sum_by (entry_samples period) (take (i + 1) entries)) most_samples
 
-  whole : (i : ℕ) → i < length entries → (is_value period harts nodes (at i) && (is_next i && has_room i)) ≡ true
-  whole i lt = not-false (is_value period harts nodes (at i) && (is_next i && has_room i)) (none_broken 6 (entry_breaks period harts nodes entries) (λ i. (entry_at entries i).offset) 0 (length entries) i kept (omega arith) (omega arith))
+  whole : (i : ℕ) → i < length entries → (is_value period columns nodes (at i) && (is_next i && has_room i)) ≡ true
+  whole i lt = not-false (is_value period columns nodes (at i) && (is_next i && has_room i)) (none_broken 6 (entry_breaks period columns nodes entries) (λ i. (entry_at entries i).offset) 0 (length entries) i kept (omega arith) (omega arith))
 
-  value_ok : (i : ℕ) → i < length entries → is_value period harts nodes (at i) ≡ true
-  value_ok i lt = (and_parts (is_value period harts nodes (at i)) (is_next i && has_room i) (whole i lt)).0
+  value_ok : (i : ℕ) → i < length entries → is_value period columns nodes (at i) ≡ true
+  value_ok i lt = (and_parts (is_value period columns nodes (at i)) (is_next i && has_room i) (whole i lt)).0
 
   order_ok : (i : ℕ) → i < length entries → (is_next i ≡ true) × (has_room i ≡ true)
-  order_ok i lt = and_parts (is_next i) (has_room i) (and_parts (is_value period harts nodes (at i)) (is_next i && has_room i) (whole i lt)).1
+  order_ok i lt = and_parts (is_next i) (has_room i) (and_parts (is_value period columns nodes (at i)) (is_next i && has_room i) (whole i lt)).1
 
   total_ok : (i : ℕ) → i < length entries → sum_by (entry_samples period) (take (i + 1) entries) ≤ most_samples
   total_ok i lt = leb-true (sum_by (entry_samples period) (take (i + 1) entries)) most_samples (order_ok i lt).1
@@ -210,7 +210,7 @@ module _ (period harts : ℕ) (nodes : List Node) (entries : List RawEntry) (kep
       never i e = absurd (omega arith)
 
   chain : (e f g : RawEntry) → entries_ascend e f ≡ true → entries_ascend f g ≡ true → entries_ascend e g ≡ true
-  chain e f g up on = chained e.hart e.node e.kind f.hart f.node f.kind g.hart g.node g.kind up on
+  chain e f g up on = chained e.column e.node e.kind f.column f.node f.kind g.column g.node g.kind up on
 
   all_up : (i j : ℕ) → i < j → j < length entries → entries_ascend (at i) (at j) ≡ true
   all_up i zero below lt = absurd (omega arith)
@@ -220,7 +220,7 @@ module _ (period harts : ℕ) (nodes : List Node) (entries : List RawEntry) (kep
   ]
 
   abbrev none : RawEntry
-  none = record { offset = 0; hart = 0; node = 0; kind = 0; value = 0 }
+  none = record { offset = 0; column = 0; node = 0; kind = 0; value = 0 }
 
   ascend : AllPairs (λ e f. entries_ascend e f ≡ true) entries
   ascend i j d below lt =
@@ -234,7 +234,7 @@ module _ (period harts : ℕ) (nodes : List Node) (entries : List RawEntry) (kep
   counts = map (entry_count period) exclusive
 
   apart : (e f : RawEntry) → entries_ascend e f ≡ true → is_exclusive_entry e ≡ true → is_exclusive_entry f ≡ true → same_pair (entry_count period e) (entry_count period f) ≡ false
-  apart e f up first second = differ e.hart e.node e.kind f.hart f.node f.kind up (eqb-true e.kind 0 first) (eqb-true f.kind 0 second)
+  apart e f up first second = differ e.column e.node e.kind f.column f.node f.kind up (eqb-true e.kind 0 first) (eqb-true f.kind 0 second)
 
   distinct : IsDistinct same_pair counts
   distinct = IsDistinct-from_apart same_pair counts (λ i j d below lt.
@@ -251,17 +251,17 @@ module _ (period harts : ℕ) (nodes : List Node) (entries : List RawEntry) (kep
 
   -- each exclusive value, as a count
   abbrev IsGood : RawEntry → Type 0
-  IsGood e = is_value period harts nodes e ≡ true
+  IsGood e = is_value period columns nodes e ≡ true
 
   all_good : All IsGood entries
   all_good = All-from_get_or IsGood entries none value_ok
 
   module _ (some : 0 < period) where
     good_node : (e : RawEntry) → IsGood e → e.node < length nodes
-    good_node e ok = ltb-true (e.node) (length nodes) (and_parts (nat_lt e.node (length nodes)) (has_hart e) ok).0
+    good_node e ok = ltb-true (e.node) (length nodes) (and_parts (nat_lt e.node (length nodes)) (has_column e) ok).0
 
-    good_hart : (e : RawEntry) → IsGood e → e.hart < harts
-    good_hart e ok = ltb-true e.hart harts (and_parts (nat_lt e.hart harts) (has_kind e) (and_parts (nat_lt e.node (length nodes)) (has_hart e) ok).1).0
+    good_column : (e : RawEntry) → IsGood e → e.column < columns
+    good_column e ok = ltb-true e.column columns (and_parts (nat_lt e.column columns) (has_kind e) (and_parts (nat_lt e.node (length nodes)) (has_column e) ok).1).0
 
     -- a value of whole samples, other than 0, has some
     has_some : (v : ℕ) → v ≢ 0 → v % period ≡ 0 → 0 < v / period
@@ -276,7 +276,7 @@ module _ (period harts : ℕ) (nodes : List Node) (entries : List RawEntry) (kep
 
     good_count : (e : RawEntry) → IsGood e → is_exclusive_entry e ≡ true → 0 < e.value / period
     good_count e ok excl =
-        let kind = (and_parts (nat_lt e.hart harts) (has_kind e) (and_parts (nat_lt e.node (length nodes)) (has_hart e) ok).1).1 in
+        let kind = (and_parts (nat_lt e.column columns) (has_kind e) (and_parts (nat_lt e.node (length nodes)) (has_column e) ok).1).1 in
         let rest = (and_parts (nat_lt e.kind 3) (is_some e) kind).1 in
         let both = and_parts (not (e.value == 0)) (may_stand e) rest in
         let other : e.value ≢ 0 = λ z. true≢false (sym both.0 ∙ ap not (eq-eqb e.value 0 z)) in
@@ -291,24 +291,24 @@ module _ (period harts : ℕ) (nodes : List Node) (entries : List RawEntry) (kep
     some_counts : All (λ e. 0 < e.value / period) exclusive
     some_counts = λ i d lt. good_count (get_or exclusive i d) (good i d lt) (filter_passes is_exclusive_entry entries i d lt)
 
-    -- each count is that of a node and a hart that there are, and counts some samples
+    -- each count is that of a node and a column that there are, and counts some samples
     pub counts_inside : All (λ c. c.node < length nodes) counts
     counts_inside = All-map (λ (c : NodeCount). c.node < length nodes) (entry_count period) exclusive (λ i d lt. good_node (get_or exclusive i d) (good i d lt))
 
-    pub counts_harts : All (λ c. c.hart < harts) counts
-    counts_harts = All-map (λ (c : NodeCount). c.hart < harts) (entry_count period) exclusive (λ i d lt. good_hart (get_or exclusive i d) (good i d lt))
+    pub counts_columns : All (λ c. c.column < columns) counts
+    counts_columns = All-map (λ (c : NodeCount). c.column < columns) (entry_count period) exclusive (λ i d lt. good_column (get_or exclusive i d) (good i d lt))
 
     pub counts_some : All (λ c. 0 < c.count) counts
     counts_some = All-map (λ (c : NodeCount). 0 < c.count) (entry_count period) exclusive some_counts
 
     -- the tree of the sorted counts
     module _ (sorted : List NodeCount) (moved : IsPermutation counts sorted) (up : AllPairs (λ a b. count_order b a ≢ Less) sorted) (few : length nodes < no_parent) (preorder : IsPreorder nodes) where
-      pub sorted_tree : IsTree (record { harts = harts; nodes = nodes; counts = sorted })
+      pub sorted_tree : IsTree (record { columns = columns; nodes = nodes; counts = sorted })
       sorted_tree = record {
         few = few;
         preorder = preorder;
         nodes = All-permutation (λ c. c.node < length nodes) counts sorted moved counts_inside;
-        harts = All-permutation (λ c. c.hart < harts) counts sorted moved counts_harts;
+        columns = All-permutation (λ c. c.column < columns) counts sorted moved counts_columns;
         some = All-permutation (λ c. 0 < c.count) counts sorted moved counts_some;
         ascend = sorted_up sorted up (IsDistinct-IsPermutation same_pair flips counts sorted moved distinct);
       }
@@ -334,40 +334,40 @@ few_moved cs ds moved few = let same = sum_by-IsPermutation (λ (c : NodeCount).
 -- ---- in any order the counts have the same values
 
 module _ (nodes : List Node) where
-  spread : (q : HartPath → Bool) (cs : List NodeCount) → count_by q (flat_map (λ c. replicate c.count (counted_path nodes c)) cs) ≡ sum_by (λ c. c.count * one (q (counted_path nodes c))) cs
+  spread : (q : ColumnPath → Bool) (cs : List NodeCount) → count_by q (flat_map (λ c. replicate c.count (counted_path nodes c)) cs) ≡ sum_by (λ c. c.count * one (q (counted_path nodes c))) cs
   spread q [] = refl
   spread q (c ∷ cs) =
-      sum_by-append (λ (p : HartPath). one (q p)) (replicate c.count (counted_path nodes c)) (flat_map (λ c. replicate c.count (counted_path nodes c)) cs)
-      ∙ ap (λ (n : ℕ). n + count_by q (flat_map (λ c. replicate c.count (counted_path nodes c)) cs)) (sum_by-replicate (λ (p : HartPath). one (q p)) c.count (counted_path nodes c))
+      sum_by-append (λ (p : ColumnPath). one (q p)) (replicate c.count (counted_path nodes c)) (flat_map (λ c. replicate c.count (counted_path nodes c)) cs)
+      ∙ ap (λ (n : ℕ). n + count_by q (flat_map (λ c. replicate c.count (counted_path nodes c)) cs)) (sum_by-replicate (λ (p : ColumnPath). one (q p)) c.count (counted_path nodes c))
       ∙ ap (λ (n : ℕ). c.count * one (q (counted_path nodes c)) + n) (spread q cs)
       ∙ sym (sum_by-cons (λ (c : NodeCount). c.count * one (q (counted_path nodes c))) c cs)
 
-  module _ (period harts : ℕ) (cs ds : List NodeCount) (moved : IsPermutation cs ds) where
+  module _ (period columns : ℕ) (cs ds : List NodeCount) (moved : IsPermutation cs ds) where
     abbrev tree : List NodeCount → CountedTree
-    tree counts = record { harts = harts; nodes = nodes; counts = counts }
+    tree counts = record { columns = columns; nodes = nodes; counts = counts }
 
-    same_counts : (test : Path → Bool) (hart : ℕ) (n : Path) → count_below test (paths_in (tree ds)) hart n ≡ count_below test (paths_in (tree cs)) hart n
+    same_counts : (test : Path → Bool) (column : ℕ) (n : Path) → count_below test (paths_in (tree ds)) column n ≡ count_below test (paths_in (tree cs)) column n
     unfolding count_below paths_in
-    same_counts test hart n =
-        spread (λ p. p.hart == hart && rest_passes test (after_prefix n p.path)) ds
-        ∙ sum_by-IsPermutation (λ (c : NodeCount). c.count * one ((λ (p : HartPath). p.hart == hart && rest_passes test (after_prefix n p.path)) (counted_path nodes c))) cs ds moved
-        ∙ sym (spread (λ p. p.hart == hart && rest_passes test (after_prefix n p.path)) cs)
+    same_counts test column n =
+        spread (λ p. p.column == column && rest_passes test (after_prefix n p.path)) ds
+        ∙ sum_by-IsPermutation (λ (c : NodeCount). c.count * one ((λ (p : ColumnPath). p.column == column && rest_passes test (after_prefix n p.path)) (counted_path nodes c))) cs ds moved
+        ∙ sym (spread (λ p. p.column == column && rest_passes test (after_prefix n p.path)) cs)
 
     pub same_values : values_of period (tree ds) ≡ values_of period (tree cs)
     unfolding values_of
     same_values = λ i. record {
       nodes = length nodes;
-      harts = harts;
-      entries = nonzero (flat_map (λ node. flat_map (λ hart. map (λ kind. record { node = node; hart = hart; kind = kind; value = period * same_counts (counts_for kind) hart (node_path nodes node) i }) kinds) (harts_below harts)) (range_with_len 0 (length nodes)));
+      columns = columns;
+      entries = nonzero (flat_map (λ node. flat_map (λ column. map (λ kind. record { node = node; column = column; kind = kind; value = period * same_counts (counts_for kind) column (node_path nodes node) i }) kinds) (columns_below columns)) (range_with_len 0 (length nodes)));
     }
 
 pub moved_from : (old is new : List NodeCount) → old ≡ is → IsPermutation old new → IsPermutation is new
 moved_from old is new same moved = subst (λ (cs : List NodeCount). IsPermutation cs new) same moved
 
 -- after an entry that is not broken the samples are few
-pub passed_sum : (period harts : ℕ) (nodes : List Node) (entries : List RawEntry) (i : ℕ) → entry_breaks period harts nodes entries i ≡ false → sum_by (entry_samples period) (take (i + 1) entries) ≤ most_samples
-passed_sum period harts nodes entries i whole =
-    let value : Bool = is_value period harts nodes (entry_at entries i) in
+pub passed_sum : (period columns : ℕ) (nodes : List Node) (entries : List RawEntry) (i : ℕ) → entry_breaks period columns nodes entries i ≡ false → sum_by (entry_samples period) (take (i + 1) entries) ≤ most_samples
+passed_sum period columns nodes entries i whole =
+    let value : Bool = is_value period columns nodes (entry_at entries i) in
     let next : Bool = i == 0 || entries_ascend (entry_at entries (i - 1)) (entry_at entries i) in
     let room : Bool = nat_le (sum_by (entry_samples period) (take (i + 1) entries)) most_samples in
     leb-true (sum_by (entry_samples period) (take (i + 1) entries)) most_samples (and_parts next room (and_parts value (next && room) (not-false (value && (next && room)) whole)).1).1

@@ -31,7 +31,7 @@ module _ {X : Type 0} (rule : ℕ) (f : X → List ValueField) (xs : List X) (i 
   next_is : i < length xs → x ≡ get_or xs i d → flat_map f (drop i xs) ≡ f x ++ flat_map f (drop (i + 1) xs)
   next_is lt is = rw (add-one, is) (ap (flat_map f) (drop-cons xs i d lt))
 
-  -- an entry's fields stand there
+  -- an entry's fields are there
   pub fields_more : (next : At) → i < length xs → x ≡ get_or xs i d → fields_kept rule (f x) at ≡ Ok (tt, next) → fields_kept rule (flat_map f (drop i xs)) at ≡ total → fields_kept rule (flat_map f (drop (i + 1) xs)) next ≡ total
   fields_more next lt is kept so_far =
       sym (both_stand rule (f x) (flat_map f (drop (i + 1) xs)) at next kept) ∙ ap (λ (l : List ValueField). fields_kept rule l at) (sym (next_is lt is)) ∙ so_far
@@ -47,12 +47,12 @@ none_left [] (suc i) le = refl
 none_left (x ∷ xs) zero le = absurd (omega arith)
 none_left (x ∷ xs) (suc i) le = none_left xs i (omega arith)
 
--- all of them stand there
+-- all of them are there
 pub fields_end : {X : Type 0} (rule : ℕ) (f : X → List ValueField) (xs : List X) (i : ℕ) (at : At) (total : Done) → length xs ≤ i → fields_kept rule (flat_map f (drop i xs)) at ≡ total → total ≡ Ok (tt, at)
 unfolding fields_kept
 fields_end rule f xs i at total le so_far = sym so_far ∙ ap (λ l. fields_kept rule (flat_map f l) at) (none_left xs i le)
 
--- two lists of fields, of which the first stands there
+-- two lists of fields, of which the first is there
 pub gives_both : (rule : ℕ) (a b : List ValueField) (at next after : At) (r : Result (Unit {0}) DbFault) → fields_kept rule a at ≡ Ok (tt, next)
     → GivesAt (λ (d : Unit {0}). d) r after (fields_kept rule b next) → GivesAt (λ (d : Unit {0}). d) r after (fields_kept rule (a ++ b) at)
 gives_both rule a b at next after r stood rest = subst (λ (w : Done). GivesAt (λ (d : Unit {0}). d) r after w) (sym (both_stand rule a b at next stood)) rest

@@ -11,7 +11,7 @@ use Rattle.prof_db.specs.declared.raw.RawNode.{RawNode}
 use Rattle.prof_db.specs.declared.raw.RawProc.{RawProc}
 use Rattle.prof_bytes.specs.Repeated.{times}
 use Rattle.prof_db.specs.Fields.{fault}
-use Rattle.prof_db.specs.Layout.{body_from, file_from, head_from, layout_in, node_from, past_column, proc_from}
+use Rattle.prof_db.specs.Layout.{body_from, file_from, head_from, layout_in, node_from, past_list, proc_from}
 use Rattle.prof_db.specs.NameRules.{file_name}
 use Rattle.prof_db.specs.Spelling.{database_magic, context_entry_bytes, file_name_bytes, node_bytes, procedure_bytes, profile_entry_bytes, database_spelling, with_count}
 use Rattle.prof_bytes.specs.Number.{words}
@@ -21,7 +21,7 @@ use Rattle.prof_bytes.specs.Format.{magic_or}
 use Rattle.prof_bytes.proofs.Lists.{items_come}
 use Rattle.prof_bytes.proofs.Written.{Comes, magic_comes}
 use Rattle.prof_db.proofs.ForthItems.{word_forth, FileFits, NodeFits, ProcFits, bare_node, bare_proc, file_forth, node_forth, proc_forth, raw_node, raw_proc}
-use Rattle.prof_db.proofs.ForthPlanes.{ColumnFits, PastColumnFits, PlaneRead, bare_entry, past_plane_forth, plane_forth, raw_column}
+use Rattle.prof_db.proofs.ForthPlanes.{ListFits, PastListFits, PlaneRead, bare_entry, past_plane_forth, plane_forth, raw_list}
 
 abbrev pub profile_plane : Content → List ℕ
 profile_plane c = flat_map (with_count profile_entry_bytes) c.profiles
@@ -32,22 +32,22 @@ context_plane c = flat_map (with_count context_entry_bytes) c.contexts
 -- a content of which each number has its bytes
 pub record ContentFits (c : Content) : Type 0 where
   pub period : IsWord c.period
-  pub harts : length c.profiles ≡ c.harts
-  pub columns : length c.contexts ≡ length c.nodes
-  pub many_harts : IsWord c.harts
+  pub columns : length c.profiles ≡ c.columns
+  pub lists : length c.contexts ≡ length c.nodes
+  pub many_columns : IsWord c.columns
   pub many_procs : IsWord (length c.names.procs)
   pub many_files : IsWord (length c.names.files)
   pub many_nodes : IsWord (length c.nodes)
   pub procs : All ProcFits c.names.procs
   pub files : All FileFits c.names.files
   pub nodes : All (NodeFits c.names) c.nodes
-  pub profiles : All ColumnFits c.profiles
-  pub contexts : All PastColumnFits c.contexts
+  pub profiles : All ListFits c.profiles
+  pub contexts : All PastListFits c.contexts
 
 abbrev pub head_of : Content → Head
-head_of c = record { period = c.period; harts = c.harts; procs = length c.names.procs; files = length c.names.files; nodes = length c.nodes }
+head_of c = record { period = c.period; columns = c.columns; procs = length c.names.procs; files = length c.names.files; nodes = length c.nodes }
 
--- the content's fields, as they stand in the file
+-- the content's fields, as they are in the file
 pub record IsLaid (c : Content) : Type 0 where
   pub procs : List RawProc
   pub files : List RawFile
@@ -58,7 +58,7 @@ pub record IsLaid (c : Content) : Type 0 where
   pub same_procs : map bare_proc procs ≡ map raw_proc c.names.procs
   pub same_files : map file_name files ≡ map (λ f. f) c.names.files
   pub same_nodes : map bare_node nodes ≡ map (raw_node c.names) c.nodes
-  pub same_entries : map bare_entry entries ≡ flat_map raw_column (enumerate_from 0 c.profiles)
+  pub same_entries : map bare_entry entries ≡ flat_map raw_list (enumerate_from 0 c.profiles)
   pub profiles_left : left_of profiles ≡ profile_plane c ++ context_plane c
   pub contexts_left : left_of contexts ≡ context_plane c ++ []
 
@@ -90,11 +90,11 @@ module _ (c : Content) (fits : ContentFits c) where
   abbrev proc_part : List ℕ
   proc_part = flat_map procedure_bytes c.names.procs ++ file_part
 
-  head_forth : (at : At) (rest : List ℕ) → left_of at ≡ words (c.period ∷ c.harts ∷ procs ∷ files ∷ many ∷ []) ++ rest → Comes (head_from at) head rest
+  head_forth : (at : At) (rest : List ℕ) → left_of at ≡ words (c.period ∷ c.columns ∷ procs ∷ files ∷ many ∷ []) ++ rest → Comes (head_from at) head rest
   unfolding head_from
   head_forth at rest left =
       let a = word_forth at c.period _ fits.period left in
-      let b = word_forth a.0 c.harts _ fits.many_harts a.2 in
+      let b = word_forth a.0 c.columns _ fits.many_columns a.2 in
       let d = word_forth b.0 procs _ fits.many_procs b.2 in
       let e = word_forth d.0 files _ fits.many_files d.2 in
       let f = word_forth e.0 many rest fits.many_nodes e.2 in
@@ -106,11 +106,11 @@ module _ (c : Content) (fits : ContentFits c) where
       let a = items_come proc_from bare_proc raw_proc procedure_bytes ProcFits proc_forth c.names.procs 0 [] at file_part fits.procs left in
       let b = items_come file_from file_name (λ f. f) file_name_bytes FileFits file_forth c.names.files 0 [] a.next node_part fits.files a.left in
       let n = items_come node_from bare_node (raw_node c.names) (node_bytes c.names) (NodeFits c.names) (node_forth c.names) c.nodes 0 [] b.next (profile_plane c ++ context_plane c) fits.nodes b.left in
-      let e : PlaneRead c.harts 0 [] n.next c.profiles (context_plane c) =
-      subst (λ (k : ℕ). PlaneRead k 0 [] n.next c.profiles (context_plane c)) fits.harts (plane_forth c.profiles 0 [] n.next (context_plane c) fits.profiles n.left) in
+      let e : PlaneRead c.columns 0 [] n.next c.profiles (context_plane c) =
+      subst (λ (k : ℕ). PlaneRead k 0 [] n.next c.profiles (context_plane c)) fits.columns (plane_forth c.profiles 0 [] n.next (context_plane c) fits.profiles n.left) in
       let left_all : left_of e.next ≡ context_plane c ++ [] = e.left ∙ sym (append-nil (context_plane c)) in
-      let p : Comes (times past_column many 0 tt e.next) tt [] =
-      subst (λ (k : ℕ). Comes (times past_column k 0 tt e.next) tt []) fits.columns (past_plane_forth c.contexts e.next [] fits.contexts left_all) in (
+      let p : Comes (times past_list many 0 tt e.next) tt [] =
+      subst (λ (k : ℕ). Comes (times past_list k 0 tt e.next) tt []) fits.lists (past_plane_forth c.contexts e.next [] fits.contexts left_all) in (
         record {
           procs = a.xs;
           files = b.xs;
@@ -131,7 +131,7 @@ module _ (c : Content) (fits : ContentFits c) where
   pub layout_forth : (laid : IsLaid c) × (layout_in (database_spelling c) ≡ Ok (layout_of c laid))
   unfolding database_spelling layout_in
   layout_forth =
-      let numbers : List ℕ = words (c.period ∷ c.harts ∷ procs ∷ files ∷ many ∷ []) in
+      let numbers : List ℕ = words (c.period ∷ c.columns ∷ procs ∷ files ∷ many ∷ []) in
       let parted : database_spelling c ≡ database_magic ++ (numbers ++ proc_part) =
       seams database_magic numbers (flat_map procedure_bytes c.names.procs) (flat_map file_name_bytes c.names.files) (flat_map (node_bytes c.names) c.nodes) (profile_plane c) (context_plane c) in
       let magic : magic_or (fault 1 0) database_magic (database_spelling c) ≡ Ok (record { whole = database_spelling c; offset = 8 }) =

@@ -60,7 +60,7 @@ proc_words_are (Die offset) = refl
 proc_words_are (Sym address) = refl
 proc_words_are Nameless = refl
 
--- a procedure as it stands in a file, but where
+-- a procedure as it is in a file, but where
 abbrev pub raw_proc : ProcName → RawProc
 raw_proc p = record { offset = 0; kind = proc_kind p.id; number = proc_number p.id; name = p.name }
 

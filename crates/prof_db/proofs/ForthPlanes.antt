@@ -13,11 +13,11 @@ use Rattle.tree_types.specs.declared.content.ProfileEntry.{ProfileEntry}
 use Rattle.prof_db.specs.declared.raw.RawEntry.{RawEntry}
 use Rattle.prof_bytes.specs.Repeated.{times}
 use Rattle.prof_db.specs.Fields.{DbRead, fault, not_whole}
-use Rattle.prof_db.specs.Layout.{column_from, stored_entry_from, past_column, past_entry}
+use Rattle.prof_db.specs.Layout.{list_from, stored_entry_from, past_list, past_entry}
 use Rattle.tree_types.specs.NodeValues.{kind_rank}
 use Rattle.prof_db.specs.Spelling.{context_entry_bytes, profile_entry_bytes, with_count}
 use Rattle.prof_db.specs.Stored.{IsWord}
-use Rattle.prof_db.specs.ValueRules.{ValueField, column_fields, context_fields, fields_kept, plane_fields, profile_fields, stands_at}
+use Rattle.prof_db.specs.ValueRules.{ValueField, list_fields, context_fields, fields_kept, plane_fields, profile_fields, stands_at}
 use Rattle.prof_db.proofs.BackPlanes.{field_bytes}
 use Rattle.prof_db.proofs.ForthItems.{word_forth}
 use Rattle.prof_bytes.proofs.Lists.{Reads, items_come}
@@ -31,67 +31,67 @@ kind_fits Inclusive = omega arith
 -- ---- the profile plane
 
 abbrev pub raw_entry : ℕ → ProfileEntry → RawEntry
-raw_entry hart e = record { offset = 0; hart = hart; node = e.node; kind = kind_rank e.kind; value = e.value }
+raw_entry column e = record { offset = 0; column = column; node = e.node; kind = kind_rank e.kind; value = e.value }
 
 abbrev pub bare_entry : RawEntry → RawEntry
-bare_entry e = record { offset = 0; hart = e.hart; node = e.node; kind = e.kind; value = e.value }
+bare_entry e = record { offset = 0; column = e.column; node = e.node; kind = e.kind; value = e.value }
 
--- a hart's column, and those of all harts
-abbrev pub raw_column : ℕ × List ProfileEntry → List RawEntry
-raw_column column = map (raw_entry column.0) column.1
+-- the entries of a column, and those of all lists
+abbrev pub raw_list : ℕ × List ProfileEntry → List RawEntry
+raw_list list = map (raw_entry list.0) list.1
 
 pub record EntryFits (e : ProfileEntry) : Type 0 where
   pub node : IsWord e.node
   pub value : e.value < 2 ^ 64
 
-entry_forth : (hart : ℕ) (at : At) (e : ProfileEntry) (rest : List ℕ) → EntryFits e → left_of at ≡ profile_entry_bytes e ++ rest → Reads bare_entry (stored_entry_from hart at) (raw_entry hart e) rest
+entry_forth : (column : ℕ) (at : At) (e : ProfileEntry) (rest : List ℕ) → EntryFits e → left_of at ≡ profile_entry_bytes e ++ rest → Reads bare_entry (stored_entry_from column at) (raw_entry column e) rest
 unfolding stored_entry_from
-entry_forth hart at e rest fits left =
+entry_forth column at e rest fits left =
     let few = fits.value in
     let a = word_forth at e.node _ fits.node left in
     let b = word_forth a.0 (kind_rank e.kind) _ (kind_fits e.kind) a.2 in
     let c = number_comes not_whole 8 b.0 e.value rest (omega (arith, few)) b.2 in
     record {
-      value = record { offset = at.offset; hart = hart; node = e.node; kind = kind_rank e.kind; value = e.value };
+      value = record { offset = at.offset; column = column; node = e.node; kind = kind_rank e.kind; value = e.value };
       next = c.0;
       is = rw (a.1, b.1, c.1) refl;
       same = refl;
       left = c.2;
     }
 
-pub record ColumnFits (column : List ProfileEntry) : Type 0 where
-  pub short : IsWord (length column)
-  pub entries : All EntryFits column
+pub record ListFits (list : List ProfileEntry) : Type 0 where
+  pub short : IsWord (length list)
+  pub entries : All EntryFits list
 
-record ColumnRead (hart : ℕ) (before : List RawEntry) (at : At) (column : List ProfileEntry) (rest : List ℕ) : Type 0 where
+record ListRead (column : ℕ) (before : List RawEntry) (at : At) (list : List ProfileEntry) (rest : List ℕ) : Type 0 where
   xs : List RawEntry
   next : At
-  is : column_from hart before at ≡ Ok (before ++ xs, next)
-  same : map bare_entry xs ≡ map (raw_entry hart) column
+  is : list_from column before at ≡ Ok (before ++ xs, next)
+  same : map bare_entry xs ≡ map (raw_entry column) list
   left : left_of next ≡ rest
 
-column_forth : (hart : ℕ) (before : List RawEntry) (at : At) (column : List ProfileEntry) (rest : List ℕ) → ColumnFits column → left_of at ≡ with_count profile_entry_bytes column ++ rest → ColumnRead hart before at column rest
-unfolding column_from
-column_forth hart before at column rest fits left =
-    let a = word_forth at (length column) (flat_map profile_entry_bytes column ++ rest) fits.short (left ∙ append_assoc (word (length column)) (flat_map profile_entry_bytes column) rest) in
-    let b = items_come (stored_entry_from hart) bare_entry (raw_entry hart) profile_entry_bytes EntryFits (entry_forth hart) column 0 before a.0 rest fits.entries a.2 in
+list_forth : (column : ℕ) (before : List RawEntry) (at : At) (list : List ProfileEntry) (rest : List ℕ) → ListFits list → left_of at ≡ with_count profile_entry_bytes list ++ rest → ListRead column before at list rest
+unfolding list_from
+list_forth column before at list rest fits left =
+    let a = word_forth at (length list) (flat_map profile_entry_bytes list ++ rest) fits.short (left ∙ append_assoc (word (length list)) (flat_map profile_entry_bytes list) rest) in
+    let b = items_come (stored_entry_from column) bare_entry (raw_entry column) profile_entry_bytes EntryFits (entry_forth column) list 0 before a.0 rest fits.entries a.2 in
     record { xs = b.xs; next = b.next; is = rw a.1 b.is; same = b.same; left = b.left }
 
-pub record PlaneRead (n hart : ℕ) (before : List RawEntry) (at : At) (columns : List (List ProfileEntry)) (rest : List ℕ) : Type 0 where
+pub record PlaneRead (n column : ℕ) (before : List RawEntry) (at : At) (lists : List (List ProfileEntry)) (rest : List ℕ) : Type 0 where
   pub xs : List RawEntry
   pub next : At
-  pub is : times column_from n hart before at ≡ Ok (before ++ xs, next)
-  pub same : map bare_entry xs ≡ flat_map raw_column (enumerate_from hart columns)
+  pub is : times list_from n column before at ≡ Ok (before ++ xs, next)
+  pub same : map bare_entry xs ≡ flat_map raw_list (enumerate_from column lists)
   pub left : left_of next ≡ rest
 
-pub plane_forth : (columns : List (List ProfileEntry)) (hart : ℕ) (before : List RawEntry) (at : At) (rest : List ℕ) → All ColumnFits columns
-    → left_of at ≡ flat_map (with_count profile_entry_bytes) columns ++ rest → PlaneRead (length columns) hart before at columns rest
+pub plane_forth : (lists : List (List ProfileEntry)) (column : ℕ) (before : List RawEntry) (at : At) (rest : List ℕ) → All ListFits lists
+    → left_of at ≡ flat_map (with_count profile_entry_bytes) lists ++ rest → PlaneRead (length lists) column before at lists rest
 unfolding times
-plane_forth [] hart before at rest fit left = record { xs = []; next = at; is = ap (λ (l : List RawEntry). Ok (l, at)) (sym (append-nil before)); same = refl; left = left }
-plane_forth (column ∷ columns) hart before at rest fit left =
-    let behind : List ℕ = flat_map (with_count profile_entry_bytes) columns in
-    let a = column_forth hart before at column (behind ++ rest) (All-head ColumnFits column columns fit) (left ∙ append_assoc (with_count profile_entry_bytes column) behind rest) in
-    let b = plane_forth columns (hart + 1) (before ++ a.xs) a.next rest (All-tail ColumnFits column columns fit) a.left in
+plane_forth [] column before at rest fit left = record { xs = []; next = at; is = ap (λ (l : List RawEntry). Ok (l, at)) (sym (append-nil before)); same = refl; left = left }
+plane_forth (list ∷ lists) column before at rest fit left =
+    let behind : List ℕ = flat_map (with_count profile_entry_bytes) lists in
+    let a = list_forth column before at list (behind ++ rest) (All-head ListFits list lists fit) (left ∙ append_assoc (with_count profile_entry_bytes list) behind rest) in
+    let b = plane_forth lists (column + 1) (before ++ a.xs) a.next rest (All-tail ListFits list lists fit) a.left in
     record {
       xs = a.xs ++ b.xs;
       next = b.next;
@@ -103,7 +103,7 @@ plane_forth (column ∷ columns) hart before at rest fit left =
 -- ---- the context plane is passed over
 
 pub record PastFits (e : ContextEntry) : Type 0 where
-  pub hart : IsWord e.hart
+  pub column : IsWord e.column
   pub value : e.value < 2 ^ 64
 
 past_forth : (i : ℕ) (at : At) (e : ContextEntry) (rest : List ℕ) → PastFits e → left_of at ≡ context_entry_bytes e ++ rest → Comes (past_entry i tt at) tt rest
@@ -111,7 +111,7 @@ unfolding past_entry
 past_forth i at e rest fits left =
     let few = fits.value in
     let a = word_forth at (kind_rank e.kind) _ (kind_fits e.kind) left in
-    let b = word_forth a.0 e.hart _ fits.hart a.2 in
+    let b = word_forth a.0 e.column _ fits.column a.2 in
     let c = number_comes not_whole 8 b.0 e.value rest (omega (arith, few)) b.2 in
     (c.0, rw (a.1, b.1, c.1) refl, c.2)
 
@@ -126,22 +126,22 @@ module _ {X : Type 0} (step : ℕ → Unit {0} → At → DbRead (Unit {0})) (sp
       let b = passed_forth xs (i + 1) a.0 rest (All-tail Fits x xs fit) a.2 in
       (b.0, rw a.1 b.1, b.2)
 
-pub record PastColumnFits (column : List ContextEntry) : Type 0 where
-  pub short : IsWord (length column)
-  pub entries : All PastFits column
+pub record PastListFits (list : List ContextEntry) : Type 0 where
+  pub short : IsWord (length list)
+  pub entries : All PastFits list
 
-past_column_forth : (i : ℕ) (at : At) (column : List ContextEntry) (rest : List ℕ) → PastColumnFits column → left_of at ≡ with_count context_entry_bytes column ++ rest → Comes (past_column i tt at) tt rest
-unfolding past_column
-past_column_forth i at column rest fits left =
-    let a = word_forth at (length column) (flat_map context_entry_bytes column ++ rest) fits.short (left ∙ append_assoc (word (length column)) (flat_map context_entry_bytes column) rest) in
-    let b = passed_forth past_entry context_entry_bytes PastFits past_forth column 0 a.0 rest fits.entries a.2 in
+past_list_forth : (i : ℕ) (at : At) (list : List ContextEntry) (rest : List ℕ) → PastListFits list → left_of at ≡ with_count context_entry_bytes list ++ rest → Comes (past_list i tt at) tt rest
+unfolding past_list
+past_list_forth i at list rest fits left =
+    let a = word_forth at (length list) (flat_map context_entry_bytes list ++ rest) fits.short (left ∙ append_assoc (word (length list)) (flat_map context_entry_bytes list) rest) in
+    let b = passed_forth past_entry context_entry_bytes PastFits past_forth list 0 a.0 rest fits.entries a.2 in
     (b.0, rw a.1 b.1, b.2)
 
-pub past_plane_forth : (columns : List (List ContextEntry)) (at : At) (rest : List ℕ) → All PastColumnFits columns → left_of at ≡ flat_map (with_count context_entry_bytes) columns ++ rest
-    → Comes (times past_column (length columns) 0 tt at) tt rest
-past_plane_forth columns at rest fit left = passed_forth past_column (with_count context_entry_bytes) PastColumnFits past_column_forth columns 0 at rest fit left
+pub past_plane_forth : (lists : List (List ContextEntry)) (at : At) (rest : List ℕ) → All PastListFits lists → left_of at ≡ flat_map (with_count context_entry_bytes) lists ++ rest
+    → Comes (times past_list (length lists) 0 tt at) tt rest
+past_plane_forth lists at rest fit left = passed_forth past_list (with_count context_entry_bytes) PastListFits past_list_forth lists 0 at rest fit left
 
--- ---- fields that stand there
+-- ---- fields that are there
 
 abbrev FieldFits : ValueField → Type 0
 FieldFits f = f.1 < 256 ^ f.0
@@ -170,15 +170,15 @@ module _ {X : Type 0} (fields : X → List ValueField) (Fits : X → Type 0) (ow
   entries_fit [] fit = All-nil FieldFits
   entries_fit (x ∷ xs) fit = All-append FieldFits (fields x) (flat_map fields xs) (own x (All-head Fits x xs fit)) (entries_fit xs (All-tail Fits x xs fit))
 
-  column_fits : (xs : List X) → IsWord (length xs) → All Fits xs → All FieldFits (column_fields fields xs)
-  column_fits xs short fit = All-cons FieldFits (4, length xs) (flat_map fields xs) (word_field_fits (length xs) short) (entries_fit xs fit)
+  list_fits : (xs : List X) → IsWord (length xs) → All Fits xs → All FieldFits (list_fields fields xs)
+  list_fits xs short fit = All-cons FieldFits (4, length xs) (flat_map fields xs) (word_field_fits (length xs) short) (entries_fit xs fit)
 
-pub profile_fields_fit : (columns : List (List ProfileEntry)) → All ColumnFits columns → All FieldFits (plane_fields profile_fields columns)
-profile_fields_fit columns fit =
-    entries_fit (column_fields profile_fields) ColumnFits (λ xs own. column_fits profile_fields EntryFits
-    (λ e f. three (4, e.node) (4, kind_rank e.kind) (8, e.value) (word_field_fits e.node f.node) (word_field_fits (kind_rank e.kind) (kind_fits e.kind)) (long_field_fits e.value f.value)) xs own.short own.entries) columns fit
+pub profile_fields_fit : (lists : List (List ProfileEntry)) → All ListFits lists → All FieldFits (plane_fields profile_fields lists)
+profile_fields_fit lists fit =
+    entries_fit (list_fields profile_fields) ListFits (λ xs own. list_fits profile_fields EntryFits
+    (λ e f. three (4, e.node) (4, kind_rank e.kind) (8, e.value) (word_field_fits e.node f.node) (word_field_fits (kind_rank e.kind) (kind_fits e.kind)) (long_field_fits e.value f.value)) xs own.short own.entries) lists fit
 
-pub context_fields_fit : (columns : List (List ContextEntry)) → All PastColumnFits columns → All FieldFits (plane_fields context_fields columns)
-context_fields_fit columns fit =
-    entries_fit (column_fields context_fields) PastColumnFits (λ xs own. column_fits context_fields PastFits
-    (λ e f. three (4, kind_rank e.kind) (4, e.hart) (8, e.value) (word_field_fits (kind_rank e.kind) (kind_fits e.kind)) (word_field_fits e.hart f.hart) (long_field_fits e.value f.value)) xs own.short own.entries) columns fit
+pub context_fields_fit : (lists : List (List ContextEntry)) → All PastListFits lists → All FieldFits (plane_fields context_fields lists)
+context_fields_fit lists fit =
+    entries_fit (list_fields context_fields) PastListFits (λ xs own. list_fits context_fields PastFits
+    (λ e f. three (4, kind_rank e.kind) (4, e.column) (8, e.value) (word_field_fits (kind_rank e.kind) (kind_fits e.kind)) (word_field_fits e.column f.column) (long_field_fits e.value f.value)) xs own.short own.entries) lists fit

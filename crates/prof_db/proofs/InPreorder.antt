@@ -1,4 +1,4 @@
--- Nodes that stand in preorder pass the fifth rule's order.
+-- Nodes that are in preorder pass the fifth rule's order.
 use Rattle.std.proofs.Common.{◌≡◌, ℕ, zero, suc, ◌<◌, ◌==◌, inl, inr, Bool, true, cond, List, [], ◌∷◌, ◌++◌, length, Less, Equal, Greater, Ordering, refl, sym, ap, ◌∙◌, arith}
 use Rattle.std.specs.Prelude.{◌≢◌}
 use Rattle.std.specs.List.{list_any}
@@ -31,7 +31,7 @@ part_last (u ∷ q) s t e =
 
 module _ (ns : List Node) (few : length ns < no_parent) (preorder : IsPreorder ns) where
   abbrev t : CountedTree
-  t = record { harts = 0; nodes = ns; counts = [] }
+  t = record { columns = 0; nodes = ns; counts = [] }
 
   tree : IsTree t
   tree = bare_tree ns few preorder

@@ -10,7 +10,7 @@ module _ (nodes : List Node) where
   abbrev parent : ℕ → ℕ
   parent i = (node_at nodes i).parent
 
-  -- no node stands there
+  -- no node is there
   nothing_there : (most i : ℕ) → nat_lt i (length nodes) ≡ false → line_up nodes most i ≡ []
   nothing_there zero i out = refl
   nothing_there (suc most) i out = ap (λ (b : Bool). cond b (i ∷ line_up nodes most (parent i)) []) out

@@ -11,7 +11,7 @@ use Rattle.std.proofs.lemmas.List.{get_or_default, get_or-map, length-map, same_
 use Rattle.std.proofs.lemmas.List.Elements.{All-append, All-cons, All-head, All-nil, All-tail, Contains-get_or}
 use Rattle.std.proofs.lemmas.List.Folds.{Any-from_list_any, flat_map-map}
 use Rattle.scope_types.specs.Limits.{most_name_bytes}
-use Rattle.scope_types.specs.CallPaths.{HartPath}
+use Rattle.scope_types.specs.CallPaths.{ColumnPath}
 use Rattle.scope_types.specs.Words.{proc_words}
 use Rattle.scope_types.specs.declared.scope.ProcId.{ProcId}
 use Rattle.scope_types.specs.declared.scope.ProcId.TheVariants.{Die, Sym, Nameless}
@@ -325,7 +325,7 @@ file_inside procs files (raws.Stmt line) ok = line_inside files line ok
 
 module _ (layout : Layout) (procs_ok : procs_kept layout.procs (used_procs layout.nodes) ≡ Ok tt) (files_ok : files_kept layout.files (used_files layout.nodes) ≡ Ok tt)
     (ranged : All (λ r. in_range (length layout.procs) (length layout.files) r.scope ≡ true) layout.nodes)
-    (ps : List HartPath) (same : tree_paths (map (node_of (names_in layout)) layout.nodes) ≡ nodes ps)
+    (ps : List ColumnPath) (same : tree_paths (map (node_of (names_in layout)) layout.nodes) ≡ nodes ps)
     (own : (i : ℕ) → i < length (map (node_of (names_in layout)) layout.nodes)
     → own_scope (node_path (map (node_of (names_in layout)) layout.nodes) i) ≡ (node_at (map (node_of (names_in layout)) layout.nodes) i).scope) where
   abbrev names : Names

@@ -5,7 +5,7 @@ use Rattle.std.specs.List.{flat_map}
 use Rattle.std.proofs.lemmas.Bool.{cases_eq, ne_eqb}
 use Rattle.std.proofs.lemmas.List.{get_or_default, get_or-map, length-replicate, same_lists}
 use Rattle.std.proofs.lemmas.List.Elements.{All-nil, All-head, All-tail, All-append, All-replicate, All-contains, Contains-get_or, Contains-append_left, Contains-append_right}
-use Rattle.scope_types.specs.CallPaths.{HartPath}
+use Rattle.scope_types.specs.CallPaths.{ColumnPath}
 use Rattle.scope_types.specs.declared.scope.Scope.{Scope}
 use Rattle.tree_types.specs.declared.content.Node.{Node}
 use Rattle.tree_types.specs.declared.counted_tree.NodeCount.{NodeCount}
@@ -37,10 +37,10 @@ again (suc n) x lt = (0, (let long = length-replicate (suc n) x in omega (arith,
 -- ---- the paths that end in a tree
 
 module _ (ns : List Node) where
-  abbrev counted : List NodeCount → List HartPath
+  abbrev counted : List NodeCount → List ColumnPath
   counted cs = flat_map (λ c. replicate c.count (counted_path ns c)) cs
 
-  each_counted : (P : HartPath → Type 0) (cs : List NodeCount) → All (λ c. P (counted_path ns c)) cs → All P (counted cs)
+  each_counted : (P : ColumnPath → Type 0) (cs : List NodeCount) → All (λ c. P (counted_path ns c)) cs → All P (counted cs)
   each_counted P [] all = All-nil P
   each_counted P (c ∷ cs) all =
       All-append P (replicate c.count (counted_path ns c)) (counted cs)
@@ -49,7 +49,7 @@ module _ (ns : List Node) where
 
 module _ (t : CountedTree) where
   -- what holds of each count's path holds of each path
-  pub paths_all : (P : HartPath → Type 0) → All (λ c. P (counted_path t.nodes c)) t.counts → All P (paths_in t)
+  pub paths_all : (P : ColumnPath → Type 0) → All (λ c. P (counted_path t.nodes c)) t.counts → All P (paths_in t)
   unfolding paths_in
   paths_all P all = each_counted t.nodes P t.counts all
 
@@ -61,14 +61,14 @@ module _ (t : CountedTree) where
 
 module _ (ns : List Node) (few : length ns < no_parent) (preorder : IsPreorder ns) where
   abbrev bare : CountedTree
-  bare = record { harts = 0; nodes = ns; counts = [] }
+  bare = record { columns = 0; nodes = ns; counts = [] }
 
   pub bare_tree : IsTree bare
   bare_tree = record {
     few = few;
     preorder = preorder;
     nodes = λ i d lt. absurd (omega arith);
-    harts = λ i d lt. absurd (omega arith);
+    columns = λ i d lt. absurd (omega arith);
     some = λ i d lt. absurd (omega arith);
     ascend = λ i j d below lt. absurd (omega arith);
   }
@@ -130,14 +130,14 @@ module _ (ns : List Node) (few : length ns < no_parent) (preorder : IsPreorder n
 
   -- ---- nodes of which each lies on a counted path
 
-  module _ (harts : ℕ) (counts : List NodeCount) (counted_here : All (λ c. c.node < length ns) counts)
+  module _ (columns : ℕ) (counts : List NodeCount) (counted_here : All (λ c. c.node < length ns) counts)
       (sampled : (i : ℕ) → i < length ns → is_statement (scope i) ≡ true → (c : NodeCount) × Contains counts c × (c.node ≡ i) × (0 < c.count))
       (child : (i : ℕ) → i < length ns → is_statement (scope i) ≡ false → (j : ℕ) × (j < length ns) × (parent j ≡ i)) where
     abbrev tree : CountedTree
-    tree = record { harts = harts; nodes = ns; counts = counts }
+    tree = record { columns = columns; nodes = ns; counts = counts }
 
     abbrev Below : ℕ → Type 0
-    Below i = (p : HartPath) × Contains (paths_in tree) p × IsNonemptyPrefix (path i) p.path
+    Below i = (p : ColumnPath) × Contains (paths_in tree) p × IsNonemptyPrefix (path i) p.path
 
     ends_here : (i : ℕ) → i < length ns → (c : NodeCount) × Contains counts c × (c.node ≡ i) × (0 < c.count) → Below i
     ends_here i lt (c, there, at, some) = (
@@ -177,7 +177,7 @@ module _ (ns : List Node) (few : length ns < no_parent) (preorder : IsPreorder n
               through i c.0 lt c.1 c.2 (below fuel c.0 (omega (arith, far, less)) c.1)
         ] refl
 
-    abbrev HasPrefixes : HartPath → Type 0
+    abbrev HasPrefixes : ColumnPath → Type 0
     HasPrefixes p = (m : Path) → IsNonemptyPrefix m p.path → Contains (tree_paths ns) m
 
     prefixes_here : All HasPrefixes (paths_in tree)
@@ -206,7 +206,7 @@ module _ (ns : List Node) (few : length ns < no_parent) (preorder : IsPreorder n
   abbrev listed : List Path → Path → Node
   listed all n = record { parent = parent_number all n; scope = own_scope n }
 
-  module _ (ps : List HartPath) (same : tree_paths ns ≡ nodes ps) where
+  module _ (ps : List ColumnPath) (same : tree_paths ns ≡ nodes ps) where
     as_many : length ns ≡ length (nodes ps)
     as_many = sym (as_many_paths ns) ∙ ap (λ (xs : List Path). length xs) same
 

@@ -5,7 +5,7 @@ use Rattle.std.proofs.lemmas.List.{get_or-map, length-map}
 use Rattle.std.proofs.lemmas.List.Elements.{All-contains, All-from_get_or}
 use Rattle.prof_bytes.specs.Outcome.{Gives}
 use Rattle.prof_bytes.specs.declared.fail.Fail.{Fail}
-use Rattle.scope_types.specs.CallPaths.{HartPath}
+use Rattle.scope_types.specs.CallPaths.{ColumnPath}
 use Rattle.scope_types.specs.Limits.{most_samples}
 use Rattle.scope_types.specs.declared.scope.RootKind.TheVariants.{Thread}
 use Rattle.scope_types.specs.declared.scope.Scope.TheVariants as scopes
@@ -31,7 +31,7 @@ use Rattle.prof_db.specs.NameRules.{is_among, names_in}
 use Rattle.prof_db.specs.NodeRules.{in_preorder, in_range, is_placed, is_statement, node_breaks, node_is_wrong, node_of, parents_of, raw_node_at}
 use Rattle.prof_db.specs.Rules.{database_in}
 use Rattle.prof_db.specs.ValueRules.{entry_count, is_exclusive_entry, sampled_nodes, statement_breaks, tree_of}
-use Rattle.prof_db.proofs.Exclusive.{counts_harts, counts_inside, counts_some, few_samples}
+use Rattle.prof_db.proofs.Exclusive.{counts_columns, counts_inside, counts_some, few_samples}
 use Rattle.prof_db.proofs.OwnNames.{among_at, contains_map, names_own}
 use Rattle.prof_db.proofs.OwnPaths.{listed_own, nodes_own, own_is, paths_all, some_scope}
 use Rattle.prof_db.proofs.Passed.{Passed, head_is, own_content, own_nodes, passed}
@@ -55,10 +55,10 @@ module _ (layout : Layout) (c : Content) (p : Passed layout c) where
   many = length-map layout.nodes (node_of names)
 
   few : length ns < no_parent
-  few = (let a = many in let b = (head_is layout.period layout.harts (length layout.nodes) p.head).few in omega (arith, a, b))
+  few = (let a = many in let b = (head_is layout.period layout.columns (length layout.nodes) p.head).few in omega (arith, a, b))
 
   period_some : 0 < layout.period
-  period_some = (head_is layout.period layout.harts (length layout.nodes) p.head).some_period
+  period_some = (head_is layout.period layout.columns (length layout.nodes) p.head).some_period
 
   pub preorder : IsPreorder ns
   preorder = preorder_of_rule procs files layout.nodes ns few p.nodes
@@ -109,27 +109,27 @@ module _ (layout : Layout) (c : Content) (p : Passed layout c) where
       let a = among_at (sampled_nodes layout.entries) i there in
       let long = length-map exclusive (λ (e : RawEntry). e.node) in
       let within : a.0 < length exclusive = (let less = a.1 in omega (arith, less, long)) in
-      let d : RawEntry = record { offset = 0; hart = 0; node = 0; kind = 0; value = 0 } in
+      let d : RawEntry = record { offset = 0; column = 0; node = 0; kind = 0; value = 0 } in
       let has : Contains counts (entry_count layout.period (get_or exclusive a.0 d)) = contains_map (entry_count layout.period) exclusive a.0 d within in (
         entry_count layout.period (get_or exclusive a.0 d),
         has,
         sym (get_or-map (λ (e : RawEntry). e.node) exclusive a.0 d 0 within) ∙ a.2,
-        All-contains (λ (k : NodeCount). 0 < k.count) counts (entry_count layout.period (get_or exclusive a.0 d)) (counts_some layout.period layout.harts ns layout.entries p.entries period_some) has,
+        All-contains (λ (k : NodeCount). 0 < k.count) counts (entry_count layout.period (get_or exclusive a.0 d)) (counts_some layout.period layout.columns ns layout.entries p.entries period_some) has,
       )
 
   -- ---- the paths
 
   abbrev tree : CountedTree
-  tree = tree_of layout.period layout.harts ns layout.entries
+  tree = tree_of layout.period layout.columns ns layout.entries
 
-  abbrev ps : List HartPath
+  abbrev ps : List ColumnPath
   ps = paths_in tree
 
   inside : All (λ k. k.node < length ns) counts
-  inside = counts_inside layout.period layout.harts ns layout.entries p.entries period_some
+  inside = counts_inside layout.period layout.columns ns layout.entries p.entries period_some
 
   same : tree_paths ns ≡ nodes ps
-  same = nodes_own ns few preorder layout.harts counts inside statement_sampled child
+  same = nodes_own ns few preorder layout.columns counts inside statement_sampled child
 
   listed : ns ≡ node_list ps
   listed = listed_own ns few preorder ps same
@@ -143,23 +143,23 @@ module _ (layout : Layout) (c : Content) (p : Passed layout c) where
   some : All (λ q. 0 < length q.path) ps
   some = paths_all tree (λ q. 0 < length q.path) (λ i d lt. some_scope ns few preorder (get_or counts i d).node (inside i d lt))
 
-  harts_below : All (λ q. q.hart < layout.harts) ps
-  harts_below = paths_all tree (λ q. q.hart < layout.harts) (counts_harts layout.period layout.harts ns layout.entries p.entries period_some)
+  columns_below : All (λ q. q.column < layout.columns) ps
+  columns_below = paths_all tree (λ q. q.column < layout.columns) (counts_columns layout.period layout.columns ns layout.entries p.entries period_some)
 
   samples : length ps ≤ most_samples
-  samples = (let a = paths_in_tree tree in let b = few_samples layout.period layout.harts ns layout.entries p.entries in omega (arith, a, b))
+  samples = (let a = paths_in_tree tree in let b = few_samples layout.period layout.columns ns layout.entries p.entries in omega (arith, a, b))
 
-  content_own : content_of layout.period layout.harts (naming_in names) ps ≡ own_content layout
+  content_own : content_of layout.period layout.columns (naming_in names) ps ≡ own_content layout
   unfolding content_of
   content_own =
-      let by_hart = profiles_are layout.period tree ps (record { same = λ t. refl }) listed few_paths in
+      let by_column = profiles_are layout.period tree ps (record { same = λ t. refl }) listed few_paths in
       let by_node = contexts_are layout.period tree ps (record { same = λ t. refl }) listed few_paths in
-      λ i. record { period = layout.period; harts = layout.harts; names = names_are i; nodes = sym listed i; profiles = sym by_hart i; contexts = sym by_node i }
+      λ i. record { period = layout.period; columns = layout.columns; names = names_are i; nodes = sym listed i; profiles = sym by_column i; contexts = sym by_node i }
 
   pub owned : IsProfile c
   owned =
       subst IsProfile (content_own ∙ p.is)
-      (profile_of_paths layout.period layout.harts (naming_in names) ps period_some few_paths some harts_below samples)
+      (profile_of_paths layout.period layout.columns (naming_in names) ps period_some few_paths some columns_below samples)
 
 -- what is read of a database is a profile
 pub read_owned : (bytes : List ℕ) (c : Content) → database_in bytes ≡ Ok c → IsProfile c

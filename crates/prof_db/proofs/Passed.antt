@@ -26,11 +26,11 @@ own_content layout = content_in layout (names_in layout) (own_nodes layout)
 
 -- a layout that passes the rules, and its content
 pub record Passed (layout : Layout) (c : Content) : Type 0 where
-  pub head : head_kept layout.period layout.harts (length layout.nodes) ≡ Ok tt
+  pub head : head_kept layout.period layout.columns (length layout.nodes) ≡ Ok tt
   pub procs : procs_kept layout.procs (used_procs layout.nodes) ≡ Ok tt
   pub files : files_kept layout.files (used_files layout.nodes) ≡ Ok tt
   pub nodes : nodes_kept (length layout.procs) (length layout.files) layout.nodes (own_nodes layout) ≡ Ok tt
-  pub entries : entries_kept layout.period layout.harts (own_nodes layout) layout.entries ≡ Ok tt
+  pub entries : entries_kept layout.period layout.columns (own_nodes layout) layout.entries ≡ Ok tt
   pub behind_profiles : At
   pub profiles : fields_kept 6 (plane_fields profile_fields (own_content layout).profiles) layout.profiles ≡ Ok (tt, behind_profiles)
   pub statements : statements_kept layout.nodes (own_nodes layout) (sampled_nodes layout.entries) ≡ Ok tt
@@ -43,11 +43,11 @@ unfolding database_in nodes_in values_in planes_in
 passed bytes c read =
     let a = bind_ok (layout_in bytes) _ _ read in
     let layout : Layout = a.0 in
-    let head = bind_ok (head_kept layout.period layout.harts (length layout.nodes)) _ _ a.2 in
+    let head = bind_ok (head_kept layout.period layout.columns (length layout.nodes)) _ _ a.2 in
     let names = bind_ok (names_kept layout) _ _ head.2 in
     let both = bind_ok (procs_kept layout.procs (used_procs layout.nodes)) (λ done. files_kept layout.files (used_files layout.nodes)) tt names.1 in
     let nodes = bind_ok (nodes_kept (length layout.procs) (length layout.files) layout.nodes (own_nodes layout)) _ _ names.2 in
-    let entries = bind_ok (entries_kept layout.period layout.harts (own_nodes layout) layout.entries) _ _ nodes.2 in
+    let entries = bind_ok (entries_kept layout.period layout.columns (own_nodes layout) layout.entries) _ _ nodes.2 in
     let profiles = bind_ok (fields_kept 6 (plane_fields profile_fields (own_content layout).profiles) layout.profiles) _ _ entries.2 in
     let statements = bind_ok (statements_kept layout.nodes (own_nodes layout) (sampled_nodes layout.entries)) _ _ profiles.2 in
     let contexts = bind_ok (fields_kept 7 (plane_fields context_fields (own_content layout).contexts) layout.contexts) _ _ statements.2 in (
@@ -70,22 +70,22 @@ passed bytes c read =
 
 -- ---- the head
 
-pub record IsHead (period harts nodes : ℕ) : Type 0 where
+pub record IsHead (period columns nodes : ℕ) : Type 0 where
   pub some_period : 0 < period
-  pub some_harts : 1 ≤ harts
-  pub most_harts : harts ≤ 16
+  pub some_columns : 1 ≤ columns
+  pub most_harts : columns ≤ 16
   pub few : nodes < no_parent
 
-pub head_is : (period harts nodes : ℕ) → head_kept period harts nodes ≡ Ok tt → IsHead period harts nodes
-head_is period harts nodes kept =
+pub head_is : (period columns nodes : ℕ) → head_kept period columns nodes ≡ Ok tt → IsHead period columns nodes
+head_is period columns nodes kept =
     let a = guard_ok (period == 0) (fault 3 8) _ tt kept in
-    let b = guard_ok (harts == 0 || nat_lt 16 harts) (fault 3 12) _ tt a.1 in
+    let b = guard_ok (columns == 0 || nat_lt 16 columns) (fault 3 12) _ tt a.1 in
     let c = guard_ok (nat_le no_parent nodes) (fault 3 24) (Ok tt) tt b.1 in
-    let parts = or_parts (harts == 0) (nat_lt 16 harts) b.0 in
+    let parts = or_parts (columns == 0) (nat_lt 16 columns) b.0 in
     record {
       some_period = positive period (eqb-false period 0 a.0);
-      some_harts = positive harts (eqb-false harts 0 parts.0);
-      most_harts = ltb-false 16 harts parts.1;
+      some_columns = positive columns (eqb-false columns 0 parts.0);
+      most_harts = ltb-false 16 columns parts.1;
       few = leb-false no_parent nodes c.0;
     }
   where

@@ -1,4 +1,4 @@
--- Nodes that the fifth rule passes stand in preorder.
+-- Nodes that the fifth rule passes are in preorder.
 use Rattle.std.proofs.Common.{◌≡◌, ℕ, zero, suc, ◌<◌, ◌≤◌, ◌==◌, ◌&&◌, ◌||◌, nat_lt, Ok, inl, inr, Bool, true, false, cond, List, [], ◌∷◌, ◌++◌, length, get_or, Less, Equal, Greater, Ordering, refl, sym, ap, subst, ◌∙◌, arith, true≢false, append-nil, append_assoc}
 use Rattle.std.specs.Prelude.{◌≢◌}
 use Rattle.std.specs.List.{list_any}

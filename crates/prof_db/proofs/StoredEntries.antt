@@ -13,16 +13,16 @@ use Rattle.std.proofs.lemmas.List.Elements.{All-append, All-filter, All-get_or, 
 use Rattle.std.proofs.lemmas.List.Folds.{Any-from_list_any}
 use Rattle.std.proofs.lemmas.List.Kept.{AllPairs-cons, AllPairs-filter}
 use Rattle.std.proofs.lemmas.List.Sums.{count_by-le-length, sum_by-take-le}
-use Rattle.scope_types.specs.CallPaths.{HartPath}
+use Rattle.scope_types.specs.CallPaths.{ColumnPath}
 use Rattle.scope_types.specs.Limits.{most_samples}
-use Rattle.tree_types.specs.NodeValues.{kind_rank, node_value, value_order, values_at_node, values_for_hart, values_of}
+use Rattle.tree_types.specs.NodeValues.{kind_rank, node_value, value_order, values_at_node, values_for_column, values_of}
 use Rattle.tree_types.specs.Nodes.{no_parent, nodes}
 use Rattle.tree_types.specs.Paths.{Path, after_prefix, rest_passes}
 use Rattle.tree_types.specs.PathsOf.{entry_paths, paths_of, tree_paths}
 use Rattle.tree_types.specs.Planes.{kinds}
 use Rattle.tree_types.specs.Tree.{CountedTree, counted_path, node_at, node_path, paths_in}
-use Rattle.tree_types.specs.ValueColumns.{columns_by_hart, columns_by_node, hart_entries, in_profile, node_entries}
-use Rattle.tree_types.specs.Values.{count_below, counts_for, ends_here, harts_below, value}
+use Rattle.tree_types.specs.ValuePlanes.{entries_by_column, entries_by_node, column_entries, in_profile, node_entries}
+use Rattle.tree_types.specs.Values.{count_below, counts_for, ends_here, columns_below, value}
 use Rattle.tree_types.specs.declared.content.Content.{Content}
 use Rattle.tree_types.specs.declared.content.Kind.{Kind}
 use Rattle.tree_types.specs.declared.content.Kind.TheVariants.{Exclusive, Frame, Inclusive}
@@ -44,17 +44,17 @@ use Rattle.prof_db.specs.NodeRules.{is_statement}
 use Rattle.prof_db.specs.Stored.{IsStored}
 use Rattle.prof_db.specs.ValueRules.{entry_count, entries_ascend, entry_at, entry_breaks, is_exclusive_entry, is_value, entry_samples, tree_of}
 use Rattle.prof_db.proofs.Exclusive.{first_up, samples_are, second_up, third_up}
-use Rattle.prof_db.proofs.ForthPlanes.{raw_column, raw_entry}
+use Rattle.prof_db.proofs.ForthPlanes.{raw_list, raw_entry}
 use Rattle.prof_db.proofs.OwnNames.{all_lists, pairs_map}
 use Rattle.prof_db.proofs.StoredNodes.{ends_at_statement, few_paths}
 
 -- ---- entries, and the paths that they count
 
 module _ (period : ℕ) (ns : List Node) where
-  abbrev copies : NodeCount → List HartPath
+  abbrev copies : NodeCount → List ColumnPath
   copies c = replicate c.count (counted_path ns c)
 
-  abbrev of_entries : List RawEntry → List HartPath
+  abbrev of_entries : List RawEntry → List ColumnPath
   of_entries es = flat_map copies (map (entry_count period) (filter is_exclusive_entry es))
 
   entries_append : (a b : List RawEntry) → of_entries (a ++ b) ≡ of_entries a ++ of_entries b
@@ -63,21 +63,21 @@ module _ (period : ℕ) (ns : List Node) where
       ∙ ap (flat_map copies) (map-append (entry_count period) (filter is_exclusive_entry a) (filter is_exclusive_entry b))
       ∙ flat_map-append copies (map (entry_count period) (filter is_exclusive_entry a)) (map (entry_count period) (filter is_exclusive_entry b))
 
-  column_paths : (hart : ℕ) (es : List ProfileEntry) → of_entries (map (raw_entry hart) es) ≡ flat_map (entry_paths period (tree_paths ns) hart) es
-  column_paths hart [] = refl
-  column_paths hart (e ∷ es) =
-      entries_append (raw_entry hart e ∷ []) (map (raw_entry hart) es) ∙ ap₂ (λ (a b : List HartPath). a ++ b) (one e.kind) (column_paths hart es)
+  list_paths : (column : ℕ) (es : List ProfileEntry) → of_entries (map (raw_entry column) es) ≡ flat_map (entry_paths period (tree_paths ns) column) es
+  list_paths column [] = refl
+  list_paths column (e ∷ es) =
+      entries_append (raw_entry column e ∷ []) (map (raw_entry column) es) ∙ ap₂ (λ (a b : List ColumnPath). a ++ b) (one e.kind) (list_paths column es)
     where
-      one : (kind : Kind) → of_entries (record { offset = 0; hart = hart; node = e.node; kind = kind_rank kind; value = e.value } ∷ [])
-          ≡ entry_paths period (tree_paths ns) hart (record { node = e.node; kind = kind; value = e.value })
-      one Exclusive = append-nil (replicate (e.value / period) (record { hart = hart; path = node_path ns e.node }))
+      one : (kind : Kind) → of_entries (record { offset = 0; column = column; node = e.node; kind = kind_rank kind; value = e.value } ∷ [])
+          ≡ entry_paths period (tree_paths ns) column (record { node = e.node; kind = kind; value = e.value })
+      one Exclusive = append-nil (replicate (e.value / period) (record { column = column; path = node_path ns e.node }))
       one Frame = refl
       one Inclusive = refl
 
-  plane_paths : (columns : List (ℕ × List ProfileEntry)) → of_entries (flat_map raw_column columns) ≡ flat_map (λ column. flat_map (entry_paths period (tree_paths ns) column.0) column.1) columns
+  plane_paths : (lists : List (ℕ × List ProfileEntry)) → of_entries (flat_map raw_list lists) ≡ flat_map (λ numbered. flat_map (entry_paths period (tree_paths ns) numbered.0) numbered.1) lists
   plane_paths [] = refl
-  plane_paths (column ∷ columns) =
-      entries_append (raw_column column) (flat_map raw_column columns) ∙ ap₂ (λ (a b : List HartPath). a ++ b) (column_paths column.0 column.1) (plane_paths columns)
+  plane_paths (list ∷ lists) =
+      entries_append (raw_list list) (flat_map raw_list lists) ∙ ap₂ (λ (a b : List ColumnPath). a ++ b) (list_paths list.0 list.1) (plane_paths lists)
 
 -- ---- lists by a rising number
 
@@ -145,14 +145,14 @@ module _ (c : Content) (s : IsStored c) where
   abbrev ns : List Node
   ns = c.nodes
 
-  abbrev ps : List HartPath
+  abbrev ps : List ColumnPath
   ps = paths_of c
 
   abbrev pub entries : List RawEntry
-  entries = flat_map raw_column (enumerate_from 0 c.profiles)
+  entries = flat_map raw_list (enumerate_from 0 c.profiles)
 
   abbrev pub tree : CountedTree
-  tree = tree_of c.period c.harts ns entries
+  tree = tree_of c.period c.columns ns entries
 
   pub paths_are : paths_in tree ≡ ps
   unfolding paths_in paths_of
@@ -161,12 +161,12 @@ module _ (c : Content) (s : IsStored c) where
   few : length (nodes ps) ≤ no_parent
   few = few_paths c s
 
-  pub by_hart : columns_by_hart (values_of c.period tree) ≡ c.profiles
-  by_hart =
+  pub by_column : entries_by_column (values_of c.period tree) ≡ c.profiles
+  by_column =
       profiles_are c.period tree ps (record { same = λ t. ap (count_by t) paths_are }) (own_nodes c s.profile.own) few
       ∙ sym (own_profiles c s.profile.own)
 
-  pub by_node : columns_by_node (values_of c.period tree) ≡ c.contexts
+  pub by_node : entries_by_node (values_of c.period tree) ≡ c.contexts
   by_node =
       contexts_are c.period tree ps (record { same = λ t. ap (count_by t) paths_are }) (own_nodes c s.profile.own) few
       ∙ sym (own_contexts c s.profile.own)
@@ -176,16 +176,16 @@ module _ (c : Content) (s : IsStored c) where
   abbrev pub values : List NodeValue
   values = (values_of c.period tree).entries
 
-  pub profiles_by_value : c.profiles ≡ map (hart_entries values) (harts_below c.harts)
-  unfolding columns_by_hart values_of
-  profiles_by_value = sym by_hart
+  pub profiles_by_value : c.profiles ≡ map (column_entries values) (columns_below c.columns)
+  unfolding entries_by_column values_of
+  profiles_by_value = sym by_column
 
   pub contexts_by_value : c.contexts ≡ map (node_entries values) (range_with_len 0 (length ns))
-  unfolding columns_by_node values_of
+  unfolding entries_by_node values_of
   contexts_by_value = sym by_node
 
   abbrev pub IsOwn : NodeValue → Type 0
-  IsOwn v = v.value ≡ value c.period (paths_in tree) v.hart (node_path ns v.node) v.kind
+  IsOwn v = v.value ≡ value c.period (paths_in tree) v.column (node_path ns v.node) v.kind
 
   own_values : All IsOwn values
   unfolding values_of
@@ -194,12 +194,12 @@ module _ (c : Content) (s : IsStored c) where
       (all_lists IsOwn (values_at_node c.period tree) (range_with_len 0 (length ns)) (λ i d lt. at_node (get_or (range_with_len 0 (length ns)) i d)))
     where
       at_node : (node : ℕ) → All IsOwn (values_at_node c.period tree node)
-      at_node node = all_lists IsOwn (values_for_hart c.period tree node) (harts_below c.harts) (λ i d lt.
-          All-map IsOwn (node_value c.period tree node (get_or (harts_below c.harts) i d)) kinds (λ k e less. refl))
+      at_node node = all_lists IsOwn (values_for_column c.period tree node) (columns_below c.columns) (λ i d lt.
+          All-map IsOwn (node_value c.period tree node (get_or (columns_below c.columns) i d)) kinds (λ k e less. refl))
 
   pub record IsValue (v : NodeValue) : Type 0 where
     pub node : v.node < length ns
-    pub hart : v.hart < c.harts
+    pub column : v.column < c.columns
     pub some : 0 < v.value
     pub own : IsOwn v
 
@@ -207,7 +207,7 @@ module _ (c : Content) (s : IsStored c) where
   unfolding values_of
   are_own i d lt =
       let are = are_values c.period tree in
-      record { node = are.nodes i d lt; hart = are.harts i d lt; some = are.some i d lt; own = own_values i d lt }
+      record { node = are.nodes i d lt; column = are.columns i d lt; some = are.some i d lt; own = own_values i d lt }
 
   few_samples : length (paths_in tree) ≤ most_samples
   few_samples = (let long = ap length paths_are in let samples = s.profile.samples in omega (arith, long, samples))
@@ -216,8 +216,8 @@ module _ (c : Content) (s : IsStored c) where
   unfolding count_below
   value_small v is =
       let most = few_samples in
-      let some = count_by-le-length (λ (p : HartPath). p.hart == v.hart && rest_passes (counts_for v.kind) (after_prefix (node_path ns v.node) p.path)) (paths_in tree) in
-      let product = small_product c.period (count_below (counts_for v.kind) (paths_in tree) v.hart (node_path ns v.node)) s.period (omega (arith, some, most)) in
+      let some = count_by-le-length (λ (p : ColumnPath). p.column == v.column && rest_passes (counts_for v.kind) (after_prefix (node_path ns v.node) p.path)) (paths_in tree) in
+      let product = small_product c.period (count_below (counts_for v.kind) (paths_in tree) v.column (node_path ns v.node)) s.period (omega (arith, some, most)) in
       let own = is.own in
       omega (arith, product, own)
 
@@ -226,15 +226,15 @@ module _ (c : Content) (s : IsStored c) where
   unfolding count_below
   exclusive_ends v is kind =
       let n : Path = node_path ns v.node in
-      let test : HartPath → Bool = λ p. p.hart == v.hart && rest_passes ends_here (after_prefix n p.path) in
-      let count : ℕ = count_below ends_here (paths_in tree) v.hart n in
-      let amount : v.value ≡ c.period * count = is.own ∙ ap (λ (k : Kind). value c.period (paths_in tree) v.hart n k) kind in
+      let test : ColumnPath → Bool = λ p. p.column == v.column && rest_passes ends_here (after_prefix n p.path) in
+      let count : ℕ = count_below ends_here (paths_in tree) v.column n in
+      let amount : v.value ≡ c.period * count = is.own ∙ ap (λ (k : Kind). value c.period (paths_in tree) v.column n k) kind in
       let some = is.some in (
         elim (list_any test (paths_in tree)) as (λ b. list_any test (paths_in tree) ≡ b → is_statement (node_at ns v.node).scope ≡ true) [
           | true ↦ λ e.
               let a = Any-from_list_any test (paths_in tree) e in
-              let there : Contains ps a.1 = subst (λ (l : List HartPath). Contains l a.1) paths_are (a.0, a.2, a.3) in
-              ends_at_statement c s v.node is.node a.1 there (path_is n a.1.path (and_parts (a.1.hart == v.hart) (rest_passes ends_here (after_prefix n a.1.path)) a.4).1)
+              let there : Contains ps a.1 = subst (λ (l : List ColumnPath). Contains l a.1) paths_are (a.0, a.2, a.3) in
+              ends_at_statement c s v.node is.node a.1 there (path_is n a.1.path (and_parts (a.1.column == v.column) (rest_passes ends_here (after_prefix n a.1.path)) a.4).1)
           | false ↦ λ e. absurd (nothing c.period v.value count amount (count_none test (paths_in tree) e) some)
         ] refl,
         ap (λ (k : ℕ). k % c.period) amount ∙ mul-mod_right c.period count,
@@ -254,71 +254,71 @@ module _ (c : Content) (s : IsStored c) where
 
   -- ---- the entries
 
-  abbrev hart_raws : ℕ → List RawEntry
-  hart_raws hart = map (λ v. raw_entry hart (in_profile v)) (filter (λ v. v.hart == hart) values)
+  abbrev column_raws : ℕ → List RawEntry
+  column_raws column = map (λ v. raw_entry column (in_profile v)) (filter (λ v. v.column == column) values)
 
-  entries_are : entries ≡ flat_map hart_raws (harts_below c.harts)
+  entries_are : entries ≡ flat_map column_raws (columns_below c.columns)
   entries_are =
-      ap (λ (columns : List (List ProfileEntry)). flat_map raw_column (enumerate_from 0 columns)) profiles_by_value
-      ∙ ap (flat_map raw_column) (enumerated (hart_entries values) 0 c.harts)
-      ∙ flat_map_of_map raw_column (λ h. (h, hart_entries values h)) (range_with_len 0 c.harts)
-      ∙ (λ i. flat_map (λ h. map_of_map (raw_entry h) in_profile (filter (λ (v : NodeValue). v.hart == h) values) i) (range_with_len 0 c.harts))
+      ap (λ (lists : List (List ProfileEntry)). flat_map raw_list (enumerate_from 0 lists)) profiles_by_value
+      ∙ ap (flat_map raw_list) (enumerated (column_entries values) 0 c.columns)
+      ∙ flat_map_of_map raw_list (λ h. (h, column_entries values h)) (range_with_len 0 c.columns)
+      ∙ (λ i. flat_map (λ h. map_of_map (raw_entry h) in_profile (filter (λ (v : NodeValue). v.column == h) values) i) (range_with_len 0 c.columns))
 
   pub record IsGood (e : RawEntry) : Type 0 where
     pub node : e.node < length ns
-    pub hart : e.hart < c.harts
+    pub column : e.column < c.columns
     pub kind : e.kind < 3
     pub some : 0 < e.value
     pub exclusive : is_exclusive_entry e ≡ true → (is_statement (node_at ns e.node).scope ≡ true) × (e.value % c.period ≡ 0)
 
   abbrev mine : ℕ → List NodeValue
-  mine hart = filter (λ (v : NodeValue). v.hart == hart) values
+  mine column = filter (λ (v : NodeValue). v.column == column) values
 
-  own_good : (hart : ℕ) → All IsGood (hart_raws hart)
-  own_good hart = All-map IsGood (λ v. raw_entry hart (in_profile v)) (mine hart) (λ i d lt.
-      let v : NodeValue = get_or (mine hart) i d in
-      let is : IsValue v = All-filter (λ (v : NodeValue). v.hart == hart) IsValue values are_own i d lt in
-      let at : v.hart ≡ hart = eqb-true v.hart hart (filter_passes (λ (v : NodeValue). v.hart == hart) values i d lt) in
+  own_good : (column : ℕ) → All IsGood (column_raws column)
+  own_good column = All-map IsGood (λ v. raw_entry column (in_profile v)) (mine column) (λ i d lt.
+      let v : NodeValue = get_or (mine column) i d in
+      let is : IsValue v = All-filter (λ (v : NodeValue). v.column == column) IsValue values are_own i d lt in
+      let at : v.column ≡ column = eqb-true v.column column (filter_passes (λ (v : NodeValue). v.column == column) values i d lt) in
       record {
         node = is.node;
-        hart = subst (λ (h : ℕ). h < c.harts) at is.hart;
+        column = subst (λ (h : ℕ). h < c.columns) at is.column;
         kind = kind_few v.kind;
         some = is.some;
         exclusive = λ e. exclusive_ends v is (exclusive_is v.kind (eqb-true (kind_rank v.kind) 0 e));
       })
 
   pub good : All IsGood entries
-  good = subst (All IsGood) (sym entries_are) (all_lists IsGood hart_raws (harts_below c.harts) (λ i d lt. own_good (get_or (harts_below c.harts) i d)))
+  good = subst (All IsGood) (sym entries_are) (all_lists IsGood column_raws (columns_below c.columns) (λ i d lt. own_good (get_or (columns_below c.columns) i d)))
 
   abbrev Up : RawEntry → RawEntry → Type 0
   Up e f = entries_ascend e f ≡ true
 
   abbrev none : NodeValue
-  none = record { node = 0; hart = 0; kind = Exclusive; value = 0 }
+  none = record { node = 0; column = 0; kind = Exclusive; value = 0 }
 
-  own_up : (hart : ℕ) → AllPairs Up (hart_raws hart)
-  own_up hart = pairs_map Up (λ v. raw_entry hart (in_profile v)) (mine hart) none (λ i j d less lt.
-      let v : NodeValue = get_or (mine hart) i d in
-      let w : NodeValue = get_or (mine hart) j d in
-      let up : value_order v w ≡ Less = AllPairs-filter (λ a b. value_order a b ≡ Less) (λ (v : NodeValue). v.hart == hart) values (are_values c.period tree).ascend i j d less lt in
-      let same_v : v.hart ≡ hart = eqb-true v.hart hart (filter_passes (λ (v : NodeValue). v.hart == hart) values i d (omega arith)) in
-      let same_w : w.hart ≡ hart = eqb-true w.hart hart (filter_passes (λ (v : NodeValue). v.hart == hart) values j d lt) in
-      elim (last_two_up v.node v.hart (kind_rank v.kind) w.node w.hart (kind_rank w.kind) up (same_v ∙ sym same_w)) [
-        | inl first ↦ second_up hart v.node (kind_rank v.kind) hart w.node (kind_rank w.kind) refl first
+  own_up : (column : ℕ) → AllPairs Up (column_raws column)
+  own_up column = pairs_map Up (λ v. raw_entry column (in_profile v)) (mine column) none (λ i j d less lt.
+      let v : NodeValue = get_or (mine column) i d in
+      let w : NodeValue = get_or (mine column) j d in
+      let up : value_order v w ≡ Less = AllPairs-filter (λ a b. value_order a b ≡ Less) (λ (v : NodeValue). v.column == column) values (are_values c.period tree).ascend i j d less lt in
+      let same_v : v.column ≡ column = eqb-true v.column column (filter_passes (λ (v : NodeValue). v.column == column) values i d (omega arith)) in
+      let same_w : w.column ≡ column = eqb-true w.column column (filter_passes (λ (v : NodeValue). v.column == column) values j d lt) in
+      elim (last_two_up v.node v.column (kind_rank v.kind) w.node w.column (kind_rank w.kind) up (same_v ∙ sym same_w)) [
+        | inl first ↦ second_up column v.node (kind_rank v.kind) column w.node (kind_rank w.kind) refl first
         | inr (same, last) ↦
-            third_up hart v.node (kind_rank v.kind) hart w.node (kind_rank w.kind) refl same
+            third_up column v.node (kind_rank v.kind) column w.node (kind_rank w.kind) refl same
             (omega (arith, last))
       ])
 
   pub ascend : AllPairs Up entries
   ascend =
       subst (AllPairs Up) (sym entries_are)
-      (ranged_pairs Up (λ e. e.hart) hart_raws (λ e f lt. first_up e.hart e.node e.kind f.hart f.node f.kind lt)
-      (λ hart. All-map (λ (e : RawEntry). e.hart ≡ hart) (λ v. raw_entry hart (in_profile v)) (mine hart) (λ i d lt. refl)) own_up 0 c.harts)
+      (ranged_pairs Up (λ e. e.column) column_raws (λ e f lt. first_up e.column e.node e.kind f.column f.node f.kind lt)
+      (λ column. All-map (λ (e : RawEntry). e.column ≡ column) (λ v. raw_entry column (in_profile v)) (mine column) (λ i d lt. refl)) own_up 0 c.columns)
 
   -- ---- the sixth rule, first
 
-  pub none_breaks : (i : ℕ) → i < length entries → entry_breaks c.period c.harts ns entries i ≡ false
+  pub none_breaks : (i : ℕ) → i < length entries → entry_breaks c.period c.columns ns entries i ≡ false
   none_breaks i lt =
       let e : RawEntry = entry_at entries i in
       let g : IsGood e = All-get_or IsGood entries i _ lt good in
@@ -327,8 +327,8 @@ module _ (c : Content) (s : IsStored c) where
         | false ↦ λ is. refl
       ] refl in
       let some : not (e.value == 0) ≡ true = (let more = g.some in ap not (ne_eqb e.value 0 (λ z. absurd (omega (arith, z, more))))) in
-      let value_is : is_value c.period c.harts ns e ≡ true =
-      and_from _ _ (lt-ltb e.node (length ns) g.node) (and_from _ _ (lt-ltb e.hart c.harts g.hart) (and_from _ _ (lt-ltb e.kind 3 g.kind) (and_from _ _ some excl))) in
+      let value_is : is_value c.period c.columns ns e ≡ true =
+      and_from _ _ (lt-ltb e.node (length ns) g.node) (and_from _ _ (lt-ltb e.column c.columns g.column) (and_from _ _ (lt-ltb e.kind 3 g.kind) (and_from _ _ some excl))) in
       let next : (i == 0 || entries_ascend (entry_at entries (i - 1)) e) ≡ true = is_next i lt in
       let room : nat_le (sum_by (entry_samples c.period) (take (i + 1) entries)) most_samples ≡ true = le-leb (sum_by (entry_samples c.period) (take (i + 1) entries)) most_samples (enough i) in
       ap not (and_from _ _ value_is (and_from _ _ next room))

@@ -1,11 +1,11 @@
--- The nodes of a content whose paths are call paths stand where they may.
+-- The nodes of a content whose paths are call paths are where they may.
 use Rattle.std.proofs.Common.{◌≡◌, ℕ, ◌<◌, ◌≤◌, ◌==◌, ◌&&◌, nat_lt, inl, inr, Bool, true, false, cond, List, [], ◌∷◌, ◌++◌, length, get_or, Contains, true≢false, sym, ap, subst, ◌∙◌, arith, append-nil, append_assoc}
 use Rattle.std.specs.Prelude.{◌≢◌}
 use Rattle.std.proofs.lemmas.Bool.{and_from, cases_eq, eq-eqb, lt-ltb, ne_eqb}
 use Rattle.std.proofs.lemmas.List.{get_or_default, get_or-map, length-map}
 use Rattle.std.proofs.lemmas.List.Elements.{All-contains, Contains-get_or}
 use Rattle.std.proofs.lemmas.List.Folds.{list_any_at}
-use Rattle.scope_types.specs.CallPaths.{HartPath}
+use Rattle.scope_types.specs.CallPaths.{ColumnPath}
 use Rattle.scope_types.specs.declared.scope.RootKind.TheVariants.{Thread}
 use Rattle.scope_types.specs.declared.scope.Scope.{Scope}
 use Rattle.scope_types.specs.declared.scope.Scope.TheVariants as scopes
@@ -36,7 +36,7 @@ module _ (c : Content) (s : IsStored c) where
   abbrev ns : List Node
   ns = c.nodes
 
-  abbrev ps : List HartPath
+  abbrev ps : List ColumnPath
   ps = paths_of c
 
   pub few_paths : length (nodes ps) ≤ no_parent
@@ -49,7 +49,7 @@ module _ (c : Content) (s : IsStored c) where
   same_paths = ap tree_paths (own_nodes c s.profile.own) ∙ tree_paths_is ps few_paths
 
   abbrev t : CountedTree
-  t = record { harts = 0; nodes = ns; counts = [] }
+  t = record { columns = 0; nodes = ns; counts = [] }
 
   tree : IsTree t
   tree = bare_tree ns s.nodes preorder
@@ -65,7 +65,7 @@ module _ (c : Content) (s : IsStored c) where
 
   -- a call path that passes a node
   record Passes (i : ℕ) : Type 0 where
-    whole : HartPath
+    whole : ColumnPath
     there : Contains ps whole
     rest : Path
     parts : whole.path ≡ path i ++ rest
@@ -81,7 +81,7 @@ module _ (c : Content) (s : IsStored c) where
         there = p.1;
         rest = p.2.rest;
         parts = p.2.parts;
-        is_path = subst (λ (q : Path). is_call_path q ≡ true) p.2.parts (All-contains (λ (q : HartPath). is_call_path q.path ≡ true) ps p.0 s.paths p.1);
+        is_path = subst (λ (q : Path). is_call_path q ≡ true) p.2.parts (All-contains (λ (q : ColumnPath). is_call_path q.path ≡ true) ps p.0 s.paths p.1);
       }
 
   some : (i : ℕ) → i < length ns → path i ≡ [] → ⊥
@@ -90,7 +90,7 @@ module _ (c : Content) (s : IsStored c) where
   own : (i : ℕ) → i < length ns → own_scope (path i) ≡ scope i
   own i lt = own_is ns s.nodes preorder i lt
 
-  -- ---- where nodes stand
+  -- ---- where nodes are
 
   root_first : (i : ℕ) → i < length ns → parent i ≡ no_parent → is_root (scope i) ≡ true
   root_first i lt root =
@@ -140,7 +140,7 @@ module _ (c : Content) (s : IsStored c) where
   child : (i : ℕ) → i < length ns → is_statement (scope i) ≡ false → (j : ℕ) × (j < length ns) × (parent j ≡ i)
   child i lt none = (let p = passes i lt in by_rest p.whole p.there p.rest p.parts p.is_path)
     where
-      by_rest : (p : HartPath) → Contains ps p → (rest : Path) → p.path ≡ path i ++ rest → is_call_path (path i ++ rest) ≡ true → (j : ℕ) × (j < length ns) × (parent j ≡ i)
+      by_rest : (p : ColumnPath) → Contains ps p → (rest : Path) → p.path ≡ path i ++ rest → is_call_path (path i ++ rest) ≡ true → (j : ℕ) × (j < length ns) × (parent j ≡ i)
       by_rest p there [] parts ok =
           absurd (true≢false (sym (last_is_statement (path i) (ap is_call_path (sym (append-nil (path i))) ∙ ok)) ∙ ap is_statement (own i lt) ∙ none))
       by_rest p there (u ∷ rest) parts ok =
@@ -162,14 +162,14 @@ module _ (c : Content) (s : IsStored c) where
       list_any_at (λ (k : ℕ). k == i) (parents_of ns) c.0 0 (let lt = c.1 in omega (arith, lt, long)) (eq-eqb (get_or (parents_of ns) c.0 0) i is)
 
   -- a call path that passes a statement ends there
-  pub statement_ends : (i : ℕ) → i < length ns → is_statement (scope i) ≡ true → (p : HartPath) × Contains ps p × (p.path ≡ path i)
+  pub statement_ends : (i : ℕ) → i < length ns → is_statement (scope i) ≡ true → (p : ColumnPath) × Contains ps p × (p.path ≡ path i)
   statement_ends i lt is =
       let p = passes i lt in
       let none : p.rest ≡ [] = ends_with_statement (path i) p.rest (some i lt) p.is_path (ap is_statement (own i lt) ∙ is) in
       (p.whole, p.there, p.parts ∙ ap (λ (r : Path). path i ++ r) none ∙ append-nil (path i))
 
   -- a node where a call path ends is a statement
-  pub ends_at_statement : (i : ℕ) → i < length ns → (p : HartPath) → Contains ps p → p.path ≡ path i → is_statement (scope i) ≡ true
+  pub ends_at_statement : (i : ℕ) → i < length ns → (p : ColumnPath) → Contains ps p → p.path ≡ path i → is_statement (scope i) ≡ true
   ends_at_statement i lt p there is =
       sym (ap is_statement (own i lt))
-      ∙ last_is_statement (path i) (subst (λ (q : Path). is_call_path q ≡ true) is (All-contains (λ (q : HartPath). is_call_path q.path ≡ true) ps p s.paths there))
+      ∙ last_is_statement (path i) (subst (λ (q : Path). is_call_path q ≡ true) is (All-contains (λ (q : ColumnPath). is_call_path q.path ≡ true) ps p s.paths there))

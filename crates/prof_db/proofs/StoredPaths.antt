@@ -6,7 +6,7 @@ use Rattle.std.proofs.lemmas.List.{length-append, length-map}
 use Rattle.std.proofs.lemmas.List.Elements.{All-contains, All-cons, All-head, All-map, All-nil, All-tail, All-weaker, Contains-get_or}
 use Rattle.std.proofs.lemmas.List.Sums.{count_by-le-length, length-filter}
 use Rattle.scope_types.specs.Alike.{Alike}
-use Rattle.scope_types.specs.CallPaths.{HartPath}
+use Rattle.scope_types.specs.CallPaths.{ColumnPath}
 use Rattle.scope_types.specs.Expansion.{FoundAt, call_path, expansion, frame_scopes, pc_of, root_of}
 use Rattle.scope_types.specs.Raw.{Raw}
 use Rattle.scope_types.specs.declared.scope.LineId.{LineId}
@@ -20,9 +20,9 @@ use Rattle.tree_types.specs.Nodes.{no_parent, nodes, own_scope}
 use Rattle.tree_types.specs.OfContent.{content_table}
 use Rattle.tree_types.specs.Paths.{Path}
 use Rattle.tree_types.specs.PathsOf.{paths_of}
-use Rattle.tree_types.specs.Planes.{hart_column, node_values}
+use Rattle.tree_types.specs.Planes.{profile_entries, node_values}
 use Rattle.tree_types.specs.TopDown.{top_down}
-use Rattle.tree_types.specs.Values.{harts_below}
+use Rattle.tree_types.specs.Values.{columns_below}
 use Rattle.tree_types.specs.declared.content.FileName.{FileName}
 use Rattle.tree_types.specs.declared.content.Node.{Node}
 use Rattle.tree_types.specs.declared.content.ProfileEntry.{ProfileEntry}
@@ -117,13 +117,13 @@ numbered_length : {X : Type 0} (a : ℕ) (xs : List X) → length (enumerate_fro
 numbered_length a [] = refl
 numbered_length a (x ∷ xs) = (let rest = numbered_length (a + 1) xs in omega (arith, rest))
 
-column_short : (period : ℕ) (ps : List HartPath) (hart : ℕ) → length (hart_column period ps hart) ≤ 3 * length (nodes ps)
-unfolding hart_column
-column_short period ps hart =
-    let all : List ProfileEntry = flat_map (node_values period ps hart) (enumerate_from 0 (nodes ps)) in
+list_short : (period : ℕ) (ps : List ColumnPath) (column : ℕ) → length (profile_entries period ps column) ≤ 3 * length (nodes ps)
+unfolding profile_entries
+list_short period ps column =
+    let all : List ProfileEntry = flat_map (node_values period ps column) (enumerate_from 0 (nodes ps)) in
     let kept = length-filter (λ (e : ProfileEntry). not (e.value == 0)) all in
     let few = count_by-le-length (λ (e : ProfileEntry). not (e.value == 0)) all in
-    let three = three_each (node_values period ps hart) (λ n. refl) (enumerate_from 0 (nodes ps)) in
+    let three = three_each (node_values period ps column) (λ n. refl) (enumerate_from 0 (nodes ps)) in
     let many = numbered_length 0 (nodes ps) in
     omega (arith, kept, few, three, many)
 
@@ -133,7 +133,7 @@ last_there P [] rest some all = absurd (omega arith)
 last_there P (s ∷ []) rest some all = All-head P s rest all
 last_there P (s ∷ t ∷ n) rest some all = last_there P (t ∷ n) rest (omega arith) (All-tail P s (t ∷ n ++ rest) all)
 
-module _ (period harts : ℕ) (naming : Naming) (ps : List HartPath) (s : AreStored period harts naming ps) where
+module _ (period columns : ℕ) (naming : Naming) (ps : List ColumnPath) (s : AreStored period columns naming ps) where
   few : length (nodes ps) ≤ no_parent
   few = (let nodes = s.few_nodes in omega (arith, nodes))
 
@@ -142,37 +142,37 @@ module _ (period harts : ℕ) (naming : Naming) (ps : List HartPath) (s : AreSto
   some_path (s ∷ p) e = omega arith
 
   some : All (λ p. 0 < length p.path) ps
-  some = All-weaker (λ (p : HartPath). is_call_path p.path ≡ true) (λ p. 0 < length p.path) (λ p e. some_path p.path e) ps s.call_paths
+  some = All-weaker (λ (p : ColumnPath). is_call_path p.path ≡ true) (λ p. 0 < length p.path) (λ p e. some_path p.path e) ps s.call_paths
 
   scopes_few : All (λ n. HasWordNumbers (own_scope n)) (nodes ps)
   scopes_few i d lt =
       let n : Path = get_or (nodes ps) i d in
       let p = node_is_prefix ps n (Contains-get_or (nodes ps) i d lt) in
-      last_there HasWordNumbers n p.2.rest p.2.some (subst (All HasWordNumbers) p.2.parts (All-contains (λ (p : HartPath). All HasWordNumbers p.path) ps p.0 s.scopes p.1))
+      last_there HasWordNumbers n p.2.rest p.2.some (subst (All HasWordNumbers) p.2.parts (All-contains (λ (p : ColumnPath). All HasWordNumbers p.path) ps p.0 s.scopes p.1))
 
-  pub content_stored : IsStored (content_of period harts naming ps)
+  pub content_stored : IsStored (content_of period columns naming ps)
   unfolding content_of
   content_stored =
       let nodes_few = s.few_nodes in
       let long = nodes_listed ps in
       record {
-        profile = profile_of_paths period harts naming ps s.some_period few some s.below s.few_samples;
+        profile = profile_of_paths period columns naming ps s.some_period few some s.below s.few_samples;
         period = s.small_period;
-        some_harts = s.some_harts;
+        some_columns = s.some_columns;
         most_harts = s.most_harts;
         nodes = omega (arith, long, nodes_few);
-        columns = All-map (λ (column : List ProfileEntry). IsWord (length column)) (hart_column period ps) (harts_below harts)
-            (λ i d lt. (let short = column_short period ps (get_or (harts_below harts) i d) in omega (arith, short, nodes_few)));
-        paths = all_alike (λ (p : HartPath). is_call_path p.path) (paths_of (content_of period harts naming ps)) ps (paths_alike period harts naming ps s.some_period few some s.below) s.call_paths;
+        lists = All-map (λ (list : List ProfileEntry). IsWord (length list)) (profile_entries period ps) (columns_below columns)
+            (λ i d lt. (let short = list_short period ps (get_or (columns_below columns) i d) in omega (arith, short, nodes_few)));
+        paths = all_alike (λ (p : ColumnPath). is_call_path p.path) (paths_of (content_of period columns naming ps)) ps (paths_alike period columns naming ps s.some_period few some s.below) s.call_paths;
         scopes = All-map (λ (n : Node). HasWordNumbers n.scope) _ (nodes ps) scopes_few;
         procs = All-map IsNamed _ (procs_used (nodes ps)) (λ i d lt. record { short = s.procs (get_or (procs_used (nodes ps)) i d); nameless = λ e. ap naming.proc_name e ∙ s.nameless });
         files = All-map (λ (f : FileName). IsShort f.name) _ (files_used (nodes ps)) (λ i d lt. s.files (get_or (files_used (nodes ps)) i d).0 (get_or (files_used (nodes ps)) i d).1);
       }
 
   -- it is read as it was written, and has the paths' table
-  pub content_read : database_in (database_spelling (content_of period harts naming ps)) ≡ Ok (content_of period harts naming ps)
-  content_read = stored_read (content_of period harts naming ps) content_stored
+  pub content_read : database_in (database_spelling (content_of period columns naming ps)) ≡ Ok (content_of period columns naming ps)
+  content_read = stored_read (content_of period columns naming ps) content_stored
 
-  pub content_tabled : IfOk (database_in (database_spelling (content_of period harts naming ps))) (λ c. content_table c ≡ top_down period harts naming ps)
+  pub content_tabled : IfOk (database_in (database_spelling (content_of period columns naming ps))) (λ c. content_table c ≡ top_down period columns naming ps)
   content_tabled =
-      subst (λ r. IfOk r (λ c. content_table c ≡ top_down period harts naming ps)) (sym content_read) (table_is period harts naming ps s.some_period few some s.below)
+      subst (λ r. IfOk r (λ c. content_table c ≡ top_down period columns naming ps)) (sym content_read) (table_is period columns naming ps s.some_period few some s.below)

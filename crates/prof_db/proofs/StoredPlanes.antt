@@ -10,9 +10,9 @@ use Rattle.tree_types.specs.NodeValues.{kind_rank}
 use Rattle.tree_types.specs.Nodes.{no_parent, nodes}
 use Rattle.tree_types.specs.Paths.{Path}
 use Rattle.tree_types.specs.PathsOf.{paths_of}
-use Rattle.tree_types.specs.Planes.{context_entry, kind_column, kinds, node_column}
-use Rattle.tree_types.specs.ValueColumns.{hart_entries, in_context, in_profile, kind_entries, node_entries}
-use Rattle.tree_types.specs.Values.{harts_below, value}
+use Rattle.tree_types.specs.Planes.{context_entry, context_entries_of_kind, kinds, context_entries}
+use Rattle.tree_types.specs.ValuePlanes.{column_entries, in_context, in_profile, kind_entries, node_entries}
+use Rattle.tree_types.specs.Values.{columns_below, value}
 use Rattle.tree_types.specs.declared.content.Content.{Content}
 use Rattle.tree_types.specs.declared.content.ContextEntry.{ContextEntry}
 use Rattle.tree_types.specs.declared.content.Kind.{Kind}
@@ -20,7 +20,7 @@ use Rattle.tree_types.specs.declared.content.Kind.TheVariants.{Exclusive, Frame,
 use Rattle.tree_types.specs.declared.content.Node.{Node}
 use Rattle.tree_types.specs.declared.content.ProfileEntry.{ProfileEntry}
 use Rattle.tree_types.specs.declared.node_values.NodeValue.{NodeValue}
-use Rattle.tree_types.proofs.ContentParts.{own_column_count, own_contexts, own_hart_count}
+use Rattle.tree_types.proofs.ContentParts.{own_list_count, own_contexts, own_column_count}
 use Rattle.prof_db.specs.Stored.{IsStored, IsWord}
 use Rattle.prof_db.proofs.ForthFile.{ContentFits}
 use Rattle.prof_db.proofs.ForthPlanes.{EntryFits, PastFits}
@@ -35,50 +35,50 @@ module _ (c : Content) (s : IsStored c) where
   vs = values c s
 
   abbrev AllFit : List ProfileEntry → Type 0
-  AllFit column = All EntryFits column
+  AllFit list = All EntryFits list
 
   entries_fit : All AllFit c.profiles
-  entries_fit = subst (All AllFit) (sym (profiles_by_value c s)) (All-map AllFit (hart_entries vs) (harts_below c.harts) (λ i d lt. column (get_or (harts_below c.harts) i d)))
+  entries_fit = subst (All AllFit) (sym (profiles_by_value c s)) (All-map AllFit (column_entries vs) (columns_below c.columns) (λ i d lt. list (get_or (columns_below c.columns) i d)))
     where
-      column : (hart : ℕ) → AllFit (hart_entries vs hart)
-      column hart = All-map EntryFits in_profile (filter (λ (v : NodeValue). v.hart == hart) vs) (λ i d lt.
-          let v : NodeValue = get_or (filter (λ (v : NodeValue). v.hart == hart) vs) i d in
-          let is : IsValue c s v = All-filter (λ (v : NodeValue). v.hart == hart) (IsValue c s) vs (are_own c s) i d lt in
+      list : (column : ℕ) → AllFit (column_entries vs column)
+      list column = All-map EntryFits in_profile (filter (λ (v : NodeValue). v.column == column) vs) (λ i d lt.
+          let v : NodeValue = get_or (filter (λ (v : NodeValue). v.column == column) vs) i d in
+          let is : IsValue c s v = All-filter (λ (v : NodeValue). v.column == column) (IsValue c s) vs (are_own c s) i d lt in
           let less = is.node in
           let nodes = s.nodes in
           record { node = omega (arith, less, nodes); value = value_small c s v is })
 
   abbrev AllPast : List ContextEntry → Type 0
-  AllPast column = All PastFits column
+  AllPast list = All PastFits list
 
   past_fit : All AllPast c.contexts
-  past_fit = subst (All AllPast) (sym (contexts_by_value c s)) (All-map AllPast (node_entries vs) (range_with_len 0 (length c.nodes)) (λ i d lt. column (get_or (range_with_len 0 (length c.nodes)) i d)))
+  past_fit = subst (All AllPast) (sym (contexts_by_value c s)) (All-map AllPast (node_entries vs) (range_with_len 0 (length c.nodes)) (λ i d lt. list (get_or (range_with_len 0 (length c.nodes)) i d)))
     where
       of_kind : (node : ℕ) (kind : Kind) → AllPast (kind_entries vs node kind)
       of_kind node kind = (let test : NodeValue → Bool = λ v. v.node == node && kind_rank v.kind == kind_rank kind in All-map PastFits in_context (filter test vs) (λ i d lt.
           let v : NodeValue = get_or (filter test vs) i d in
           let is : IsValue c s v = All-filter test (IsValue c s) vs (are_own c s) i d lt in
-          let less = is.hart in
+          let less = is.column in
           let most = s.most_harts in
-          record { hart = omega (arith, less, most); value = value_small c s v is }))
+          record { column = omega (arith, less, most); value = value_small c s v is }))
 
-      column : (node : ℕ) → AllPast (node_entries vs node)
-      column node = all_lists PastFits (kind_entries vs node) kinds (λ i d lt. of_kind node (get_or kinds i d))
+      list : (node : ℕ) → AllPast (node_entries vs node)
+      list node = all_lists PastFits (kind_entries vs node) kinds (λ i d lt. of_kind node (get_or kinds i d))
 
-  -- a node has at most three values for each hart
-  kind_short : (n : Path) (kind : Kind) → length (kind_column c.period c.harts (paths_of c) n kind) ≤ c.harts
+  -- a node has at most three values for each column
+  kind_short : (n : Path) (kind : Kind) → length (context_entries_of_kind c.period c.columns (paths_of c) n kind) ≤ c.columns
   kind_short n kind =
-      let f : ℕ → ContextEntry = λ hart. context_entry kind hart (value c.period (paths_of c) hart n kind) in
-      let all : List ContextEntry = map f (harts_below c.harts) in
+      let f : ℕ → ContextEntry = λ column. context_entry kind column (value c.period (paths_of c) column n kind) in
+      let all : List ContextEntry = map f (columns_below c.columns) in
       let kept = length-filter (λ (e : ContextEntry). not (e.value == 0)) all in
       let few = count_by-le-length (λ (e : ContextEntry). not (e.value == 0)) all in
-      let long = length-map-range_with_len f 0 c.harts in
+      let long = length-map-range_with_len f 0 c.columns in
       omega (arith, kept, few, long)
 
-  node_short : (n : Path) → length (node_column c.period c.harts (paths_of c) n) ≤ 3 * c.harts
-  unfolding node_column
+  node_short : (n : Path) → length (context_entries c.period c.columns (paths_of c) n) ≤ 3 * c.columns
+  unfolding context_entries
   node_short n =
-      let of : Kind → List ContextEntry = kind_column c.period c.harts (paths_of c) n in
+      let of : Kind → List ContextEntry = context_entries_of_kind c.period c.columns (paths_of c) n in
       let a = kind_short n Exclusive in
       let b = kind_short n Frame in
       let d = kind_short n Inclusive in
@@ -87,9 +87,9 @@ module _ (c : Content) (s : IsStored c) where
       let third = length-append (of Inclusive) [] in
       omega (arith, a, b, d, first, second, third)
 
-  columns_short : All (λ column. IsWord (length column)) c.contexts
-  columns_short = subst (All (λ (column : List ContextEntry). IsWord (length column))) (sym (own_contexts c s.profile.own))
-      (All-map (λ (column : List ContextEntry). IsWord (length column)) (node_column c.period c.harts (paths_of c)) (nodes (paths_of c))
+  lists_short : All (λ list. IsWord (length list)) c.contexts
+  lists_short = subst (All (λ (list : List ContextEntry). IsWord (length list))) (sym (own_contexts c s.profile.own))
+      (All-map (λ (list : List ContextEntry). IsWord (length list)) (context_entries c.period c.columns (paths_of c)) (nodes (paths_of c))
       (λ i d lt. (let few = node_short (get_or (nodes (paths_of c)) i d) in let most = s.most_harts in omega (arith, few, most))))
 
   parent_word : (i : ℕ) (d : Node) → i < length c.nodes → IsWord (get_or c.nodes i d).parent
@@ -107,15 +107,15 @@ module _ (c : Content) (s : IsStored c) where
       let files = few_files c s in
       record {
         period = s.period;
-        harts = own_hart_count c s.profile.own;
         columns = own_column_count c s.profile.own;
-        many_harts = omega (arith, most);
+        lists = own_list_count c s.profile.own;
+        many_columns = omega (arith, most);
         many_procs = omega (arith, procs, nodes);
         many_files = omega (arith, files, nodes);
         many_nodes = omega (arith, nodes);
         procs = procs_fit c s;
         files = files_fit c s;
         nodes = λ i d lt. record { parent = parent_word i d lt; scope = scope_fits c s (get_or c.nodes i d).scope (found c s i d lt) (s.scopes i d lt) };
-        profiles = λ i d lt. record { short = s.columns i d lt; entries = entries_fit i d lt };
-        contexts = λ i d lt. record { short = columns_short i d lt; entries = past_fit i d lt };
+        profiles = λ i d lt. record { short = s.lists i d lt; entries = entries_fit i d lt };
+        contexts = λ i d lt. record { short = lists_short i d lt; entries = past_fit i d lt };
       }

@@ -10,7 +10,7 @@ use Rattle.std.proofs.lemmas.List.Elements.{All-contains, All-filter, All-head, 
 use Rattle.std.proofs.lemmas.List.Folds.{flat_map-map, list_any_at}
 use Rattle.prof_bytes.proofs.Tests.{and_false}
 use Rattle.prof_bytes.specs.Reading.{At}
-use Rattle.scope_types.specs.CallPaths.{HartPath}
+use Rattle.scope_types.specs.CallPaths.{ColumnPath}
 use Rattle.scope_types.specs.Limits.{most_name_bytes, most_samples}
 use Rattle.scope_types.specs.declared.scope.ProcId.{ProcId}
 use Rattle.scope_types.specs.declared.scope.ProcId.TheVariants.{Die, Sym, Nameless}
@@ -19,7 +19,7 @@ use Rattle.tree_types.specs.NodeValues.{values_of}
 use Rattle.tree_types.specs.Nodes.{no_parent}
 use Rattle.tree_types.specs.PathsOf.{paths_of, tree_paths}
 use Rattle.tree_types.specs.Tree.{CountedTree, counted_path, node_at, node_path}
-use Rattle.tree_types.specs.ValueColumns.{columns_by_hart, columns_by_node}
+use Rattle.tree_types.specs.ValuePlanes.{entries_by_column, entries_by_node}
 use Rattle.tree_types.specs.declared.content.Content.{Content}
 use Rattle.tree_types.specs.declared.content.FileName.{FileName}
 use Rattle.tree_types.specs.declared.content.Names.{Names}
@@ -48,7 +48,7 @@ use Rattle.prof_db.proofs.ForthItems.{bare_node, bare_proc, proc_kind, proc_numb
 use Rattle.prof_db.proofs.ForthPlanes.{bare_entry, context_fields_fit, fields_forth, profile_fields_fit}
 use Rattle.prof_db.proofs.InPreorder.{in_order}
 use Rattle.prof_db.proofs.OwnPaths.{paths_all}
-use Rattle.prof_db.proofs.StoredEntries.{is_greater, less_is, never_less, only_less, by_hart, by_node, entries, good, none_breaks, paths_are, tree}
+use Rattle.prof_db.proofs.StoredEntries.{is_greater, less_is, never_less, only_less, by_column, by_node, entries, good, none_breaks, paths_are, tree}
 use Rattle.prof_db.proofs.StoredNames.{file_used, files_of_nodes, files_up, found, no_file, no_proc, node_again, proc_used, procs_of_nodes, procs_up, scope_ranged, used_file_numbers, used_proc_numbers}
 use Rattle.prof_db.proofs.StoredNodes.{has_child, placed, preorder, statement_ends}
 use Rattle.prof_db.proofs.StoredPlanes.{content_fits}
@@ -110,18 +110,18 @@ one_before (suc i) t next =
     let k : suc i - 1 ≡ i = omega arith in
     ap (λ b. nat_lt 0 (suc i) && not b) (ap t k ∙ next i refl) ∙ and_false (nat_lt 0 (suc i))
 
--- ---- entries, but where they stand
+-- ---- entries, but where they are
 
 bare_at : (es : List RawEntry) (k : ℕ) → entry_at (map bare_entry es) k ≡ bare_entry (entry_at es k)
 bare_at [] k = refl
 bare_at (e ∷ es) zero = refl
 bare_at (e ∷ es) (suc k) = bare_at es k
 
-bare_breaks : (period harts : ℕ) (nodes : List Node) (es : List RawEntry) (i : ℕ) → entry_breaks period harts nodes (map bare_entry es) i ≡ entry_breaks period harts nodes es i
-bare_breaks period harts nodes es i =
+bare_breaks : (period columns : ℕ) (nodes : List Node) (es : List RawEntry) (i : ℕ) → entry_breaks period columns nodes (map bare_entry es) i ≡ entry_breaks period columns nodes es i
+bare_breaks period columns nodes es i =
     let sums : sum_by (entry_samples period) (take (i + 1) (map bare_entry es)) ≡ sum_by (entry_samples period) (take (i + 1) es) =
     ap (sum_by (entry_samples period)) (take-map bare_entry (i + 1) es) ∙ sum_by-map (entry_samples period) bare_entry (take (i + 1) es) in
-    λ t. not (is_value period harts nodes (bare_at es i t) && ((i == 0 || entries_ascend (bare_at es (i - 1) t) (bare_at es i t)) && nat_le (sums t) most_samples))
+    λ t. not (is_value period columns nodes (bare_at es i t) && ((i == 0 || entries_ascend (bare_at es (i - 1) t) (bare_at es i t)) && nat_le (sums t) most_samples))
 
 bare_counts : (period : ℕ) (es : List RawEntry) → map (entry_count period) (filter is_exclusive_entry (map bare_entry es)) ≡ map (entry_count period) (filter is_exclusive_entry es)
 bare_counts period es =
@@ -139,17 +139,17 @@ module _ (c : Content) (s : IsStored c) (laid : IsLaid c) where
 
   -- ---- the head
 
-  head_ok : head_kept c.period c.harts (length laid.nodes) ≡ Ok tt
+  head_ok : head_kept c.period c.columns (length laid.nodes) ≡ Ok tt
   head_ok =
       let some = s.profile.period in
-      let harts = s.some_harts in
+      let columns = s.some_columns in
       let most = s.most_harts in
       let few = s.nodes in
       let many = same_many bare_node (raw_node names) laid.nodes c.nodes laid.same_nodes in
-      ap (λ b. cond b (Err (fault 3 8)) (cond (c.harts == 0 || nat_lt 16 c.harts) (Err (fault 3 12)) (cond (nat_le no_parent (length laid.nodes)) (Err (fault 3 24)) (Ok tt))))
+      ap (λ b. cond b (Err (fault 3 8)) (cond (c.columns == 0 || nat_lt 16 c.columns) (Err (fault 3 12)) (cond (nat_le no_parent (length laid.nodes)) (Err (fault 3 24)) (Ok tt))))
       (ne_eqb c.period 0 (λ z. absurd (omega (arith, z, some))))
       ∙ ap (λ b. cond b (Err (fault 3 12)) (cond (nat_le no_parent (length laid.nodes)) (Err (fault 3 24)) (Ok tt)))
-      (or_from (c.harts == 0) (nat_lt 16 c.harts) (ne_eqb c.harts 0 (λ z. absurd (omega (arith, z, harts)))) (le-ltb 16 c.harts most))
+      (or_from (c.columns == 0) (nat_lt 16 c.columns) (ne_eqb c.columns 0 (λ z. absurd (omega (arith, z, columns)))) (le-ltb 16 c.columns most))
       ∙ ap (λ b. cond b (Err (fault 3 24)) (Ok tt)) (lt-leb no_parent (length laid.nodes) (omega (arith, many, few)))
 
   -- ---- the names
@@ -261,23 +261,23 @@ module _ (c : Content) (s : IsStored c) (laid : IsLaid c) where
 
   -- ---- the values
 
-  entries_ok : entries_kept c.period c.harts c.nodes laid.entries ≡ Ok tt
+  entries_ok : entries_kept c.period c.columns c.nodes laid.entries ≡ Ok tt
   entries_ok =
       let many : length laid.entries ≡ length (entries c s) = sym (length-map laid.entries bare_entry) ∙ ap length laid.same_entries in
-      none_fails 6 (entry_breaks c.period c.harts c.nodes laid.entries) (λ i. (entry_at laid.entries i).offset) 0 (length laid.entries) (λ k lt.
-      sym (bare_breaks c.period c.harts c.nodes laid.entries k)
-      ∙ ap (λ (es : List RawEntry). entry_breaks c.period c.harts c.nodes es k) laid.same_entries ∙ none_breaks c s k (omega (arith, many, lt)))
+      none_fails 6 (entry_breaks c.period c.columns c.nodes laid.entries) (λ i. (entry_at laid.entries i).offset) 0 (length laid.entries) (λ k lt.
+      sym (bare_breaks c.period c.columns c.nodes laid.entries k)
+      ∙ ap (λ (es : List RawEntry). entry_breaks c.period c.columns c.nodes es k) laid.same_entries ∙ none_breaks c s k (omega (arith, many, lt)))
 
-  tree_is : tree_of c.period c.harts c.nodes laid.entries ≡ tree c s
+  tree_is : tree_of c.period c.columns c.nodes laid.entries ≡ tree c s
   tree_is =
       let same = sym (bare_counts c.period laid.entries) ∙ ap (λ (es : List RawEntry). map (entry_count c.period) (filter is_exclusive_entry es)) laid.same_entries in
-      λ i. record { harts = c.harts; nodes = c.nodes; counts = same i }
+      λ i. record { columns = c.columns; nodes = c.nodes; counts = same i }
 
   content_is : content_in layout names c.nodes ≡ c
   content_is =
-      let by_hart_is = ap (λ (t : CountedTree). columns_by_hart (values_of c.period t)) tree_is ∙ by_hart c s in
-      let by_node_is = ap (λ (t : CountedTree). columns_by_node (values_of c.period t)) tree_is ∙ by_node c s in
-      λ i. record { period = c.period; harts = c.harts; names = names; nodes = c.nodes; profiles = by_hart_is i; contexts = by_node_is i }
+      let by_column_is = ap (λ (t : CountedTree). entries_by_column (values_of c.period t)) tree_is ∙ by_column c s in
+      let by_node_is = ap (λ (t : CountedTree). entries_by_node (values_of c.period t)) tree_is ∙ by_node c s in
+      λ i. record { period = c.period; columns = c.columns; names = names; nodes = c.nodes; profiles = by_column_is i; contexts = by_node_is i }
 
   profiles_ok : (next : At) × (fields_kept 6 (plane_fields profile_fields c.profiles) laid.profiles ≡ Ok (tt, next))
   profiles_ok =
@@ -291,14 +291,14 @@ module _ (c : Content) (s : IsStored c) (laid : IsLaid c) where
 
   -- ---- each statement has samples
 
-  abbrev IsSampled : ℕ → HartPath → Type 0
+  abbrev IsSampled : ℕ → ColumnPath → Type 0
   IsSampled i p = p.path ≡ node_path c.nodes i → is_among (sampled_nodes (entries c s)) i ≡ true
 
   abbrev exclusive : List RawEntry
   exclusive = filter is_exclusive_entry (entries c s)
 
   abbrev no_entry : RawEntry
-  no_entry = record { offset = 0; hart = 0; node = 0; kind = 0; value = 0 }
+  no_entry = record { offset = 0; column = 0; node = 0; kind = 0; value = 0 }
 
   statement_sampled : (i : ℕ) → i < length c.nodes → is_statement (node_at c.nodes i).scope ≡ true → is_among (sampled_nodes (entries c s)) i ≡ true
   statement_sampled i lt is =

@@ -9,6 +9,7 @@ use Rattle.prof_db.specs.declared.fault.DbFault.{DbFault}
 abbrev pub DbRead : Type 0 → Type 0
 DbRead X = Result (X × At) DbFault
 
+-- the fault of a rule at an offset
 abbrev pub fault : ℕ → ℕ → DbFault
 fault rule offset = record { offset = offset; rule = rule }
 
@@ -20,9 +21,10 @@ not_whole at = fault 2 at.offset
 abbrev pub number_field : ℕ → At → DbRead ℕ
 number_field width at = number_or not_whole width at
 
+-- a word, or a file that is not whole
 abbrev pub word_field : At → DbRead ℕ
 word_field at = number_field 4 at
 
--- `count` bytes as they stand
+-- `count` bytes as they are
 abbrev pub bytes_field : ℕ → At → DbRead (List ℕ)
 bytes_field count at = bytes_or not_whole count at

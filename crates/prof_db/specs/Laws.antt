@@ -5,7 +5,7 @@ use Rattle.tree_types.specs.Tree.{node_at}
 use Rattle.tree_types.specs.declared.content.Node.{Node}
 use Rattle.prof_db.specs.NodeRules.{line_up}
 
--- up to node i, a parent that is one of the nodes stands before its node
+-- up to node i, a parent that is one of the nodes comes before its node
 abbrev pub ParentsBefore : List Node → ℕ → Type 0
 ParentsBefore nodes i = (j : ℕ) → j ≤ i → (node_at nodes j).parent < length nodes → (node_at nodes j).parent < j
 

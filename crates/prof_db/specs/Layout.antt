@@ -22,14 +22,15 @@ use Rattle.prof_db.specs.Spelling.{database_magic}
 -- ---- the second rule: each field is whole, each scope has a tag from 0 to 4 and each line one of 0 or 1, and nothing
 -- follows
 
+-- the head: the period, and how many columns, procedures, files and nodes there are
 unfoldable pub head_from : At → DbRead Head
 head_from at = do
   (period, next) ← word_field at
-  (harts, next) ← word_field next
+  (columns, next) ← word_field next
   (procs, next) ← word_field next
   (files, next) ← word_field next
   (nodes, next) ← word_field next
-  Ok (record { period = period; harts = harts; procs = procs; files = files; nodes = nodes }, next)
+  Ok (record { period = period; columns = columns; procs = procs; files = files; nodes = nodes }, next)
 
 -- the length, and the bytes
 unfoldable pub stored_text_from : At → DbRead (List ℕ)
@@ -37,6 +38,7 @@ stored_text_from at = do
   (size, next) ← word_field at
   bytes_field size next
 
+-- a procedure: its identity in two words, and its name
 unfoldable pub proc_from : At → DbRead RawProc
 proc_from at = do
   (kind, next) ← word_field at
@@ -44,6 +46,7 @@ proc_from at = do
   (name, next) ← stored_text_from next
   Ok (record { offset = at.offset; kind = kind; number = number; name = name }, next)
 
+-- a file: its line table, its number in that, and its name
 unfoldable pub file_from : At → DbRead RawFile
 file_from at = do
   (table, next) ← word_field at
@@ -58,6 +61,7 @@ stored_row_from at = do
   (line, next) ← word_field next
   Ok (Row file line, next)
 
+-- a line that is an address
 unfoldable pub stored_address_from : At → DbRead RawLine
 stored_address_from at = do
   (address, next) ← word_field at
@@ -69,27 +73,32 @@ line_from at = do
   (kind, next) ← word_field at
   if kind == 0 then stored_row_from next else if kind == 1 then stored_address_from next else Err (not_whole at)
 
+-- the root of a thread, or that of the partial paths
 unfoldable pub root_from : At → DbRead RawScope
 root_from at = do
   (kind, next) ← word_field at
   Ok (Root kind, next)
 
+-- a procedure, by its index
 unfoldable pub stored_frame_from : At → DbRead RawScope
 stored_frame_from at = do
   (p, next) ← word_field at
   Ok (Proc p, next)
 
+-- an inlined procedure, by its index, and the line of its call
 unfoldable pub inline_from : At → DbRead RawScope
 inline_from at = do
   (p, next) ← word_field at
   (line, next) ← line_from next
   Ok (Inline p line, next)
 
+-- a call, by its line
 unfoldable pub call_from : At → DbRead RawScope
 call_from at = do
   (line, next) ← line_from at
   Ok (Call line, next)
 
+-- a statement, by its line
 unfoldable pub stmt_from : At → DbRead RawScope
 stmt_from at = do
   (line, next) ← line_from at
@@ -102,36 +111,38 @@ scope_from at = do
   if tag == 0 then root_from next else if tag == 1 then stored_frame_from next else if tag == 2 then inline_from next
       else if tag == 3 then call_from next else if tag == 4 then stmt_from next else Err (not_whole at)
 
+-- a node: its parent's number, and its scope
 unfoldable pub node_from : At → DbRead RawNode
 node_from at = do
   (parent, next) ← word_field at
   (scope, next) ← scope_from next
   Ok (record { offset = at.offset; parent = parent; scope = scope }, next)
 
--- an entry of a hart's column
+-- an entry of a column
 unfoldable pub stored_entry_from : ℕ → At → DbRead RawEntry
-stored_entry_from hart at = do
+stored_entry_from column at = do
   (node, next) ← word_field at
   (kind, next) ← word_field next
   (value, next) ← number_field 8 next
-  Ok (record { offset = at.offset; hart = hart; node = node; kind = kind; value = value }, next)
+  Ok (record { offset = at.offset; column = column; node = node; kind = kind; value = value }, next)
 
--- a hart's column, after the entries of those before: how many entries, and each
-unfoldable pub column_from : ℕ → List RawEntry → At → DbRead (List RawEntry)
-column_from hart before at = do
+-- the entries of a column, after those of the lists before: how many entries, and each
+unfoldable pub list_from : ℕ → List RawEntry → At → DbRead (List RawEntry)
+list_from column before at = do
   (count, next) ← word_field at
-  times (adding (stored_entry_from hart)) count 0 before next
+  times (adding (stored_entry_from column)) count 0 before next
 
--- an entry of a node's column, which the seventh rule speaks of: two words and eight bytes
+-- an entry of a node's list, which the seventh rule speaks of: two words and eight bytes
 unfoldable pub past_entry : ℕ → Unit {0} → At → DbRead (Unit {0})
 past_entry i before at = do
   (kind, next) ← word_field at
-  (hart, next) ← word_field next
+  (column, next) ← word_field next
   (value, next) ← number_field 8 next
   Ok (tt, next)
 
-unfoldable pub past_column : ℕ → Unit {0} → At → DbRead (Unit {0})
-past_column i before at = do
+-- the entries of a node: how many, and each
+unfoldable pub past_list : ℕ → Unit {0} → At → DbRead (Unit {0})
+past_list i before at = do
   (count, next) ← word_field at
   times past_entry count 0 tt next
 
@@ -141,11 +152,11 @@ body_from head at = do
   (procs, next) ← times (adding proc_from) head.procs 0 [] at
   (files, next) ← times (adding file_from) head.files 0 [] next
   (nodes, profiles) ← times (adding node_from) head.nodes 0 [] next
-  (entries, contexts) ← times column_from head.harts 0 [] profiles
-  (done, end) ← times past_column head.nodes 0 tt contexts
+  (entries, contexts) ← times list_from head.columns 0 [] profiles
+  (done, end) ← times past_list head.nodes 0 tt contexts
   ended_or not_whole (record {
     period = head.period;
-    harts = head.harts;
+    columns = head.columns;
     procs = procs;
     files = files;
     nodes = nodes;

@@ -7,7 +7,7 @@ use Rattle.std.specs.Cmp.Lexicographic.{pointwise}
 use Rattle.prof_bytes.specs.Outcome.{◌>>=◌}
 use Rattle.scope_types.specs.declared.scope.ProcId.{ProcId}
 use Rattle.scope_types.specs.declared.scope.ProcId.TheVariants.{Die, Sym, Nameless}
-use Rattle.scope_types.specs.Limits.{most_name_bytes, most_profile_harts}
+use Rattle.scope_types.specs.Limits.{most_name_bytes, most_harts}
 use Rattle.tree_types.specs.Naming.{unknown_procedure}
 use Rattle.tree_types.specs.Nodes.{no_parent}
 use Rattle.tree_types.specs.declared.content.Names.{Names}
@@ -27,9 +27,10 @@ use Rattle.prof_db.specs.Broken.{RuleCheck, first_broken}
 -- ---- the third rule: a period of at least 1, 1 to 16 harts, and fewer nodes than the number that stands for no
 -- parent, which any file below 48 GiB has: by the second rule it holds all its nodes
 
+-- whether the head keeps the third rule, else its first fault
 abbrev pub head_kept : ℕ → ℕ → ℕ → RuleCheck
-head_kept period harts nodes = if period == 0 then Err (fault 3 8)
-    else if harts == 0 || nat_lt most_profile_harts harts then Err (fault 3 12)
+head_kept period columns nodes = if period == 0 then Err (fault 3 8)
+    else if columns == 0 || nat_lt most_harts columns then Err (fault 3 12)
     else if nat_le no_parent nodes then Err (fault 3 24) else Ok tt
 
 -- ---- the fourth rule: procedures and files strictly ascend, have short names, and are used
@@ -51,6 +52,7 @@ scope_proc (Inline p line) = p ∷ []
 scope_proc (Call line) = []
 scope_proc (Stmt line) = []
 
+-- the file that a scope uses, if it is on a line of one
 abbrev pub scope_file : RawScope → List ℕ
 scope_file (Root kind) = []
 scope_file (Proc p) = []
@@ -62,15 +64,19 @@ scope_file (Stmt line) = line_file line
 abbrev pub used_procs : List RawNode → List ℕ
 used_procs nodes = flat_map (λ n. scope_proc n.scope) nodes
 
+-- the files that the nodes use, node by node
 abbrev pub used_files : List RawNode → List ℕ
 used_files nodes = flat_map (λ n. scope_file n.scope) nodes
 
+-- whether a number is in a list
 abbrev pub is_among : List ℕ → ℕ → Bool
 is_among numbers i = list_any (λ k. k == i) numbers
 
+-- the procedure with an index
 abbrev pub proc_at : List RawProc → ℕ → RawProc
 proc_at procs i = slice_index_or procs i (record { offset = 0; kind = 0; number = 0; name = [] })
 
+-- the file with an index
 abbrev pub file_at : List RawFile → ℕ → RawFile
 file_at files i = slice_index_or files i (record { offset = 0; table = 0; file = 0; name = [] })
 
@@ -93,23 +99,29 @@ proc_is_wrong procs i =
     (nat_lt 0 i && not (procs_ascend (proc_at procs (i - 1)) (proc_at procs i)))
     || (not (is_valid_proc (proc_at procs i)) || nat_lt most_name_bytes (length (proc_at procs i).name))
 
+-- a file whose name is too long
 abbrev pub file_is_wrong : List RawFile → ℕ → Bool
 file_is_wrong files i =
     (nat_lt 0 i && not (files_ascend (file_at files (i - 1)) (file_at files i)))
     || nat_lt most_name_bytes (length (file_at files i).name)
 
+-- whether a procedure breaks the fourth rule: it is none, does not follow the one before it, or no node uses it
 abbrev pub proc_breaks : List RawProc → List ℕ → ℕ → Bool
 proc_breaks procs used i = proc_is_wrong procs i || not (is_among used i)
 
+-- whether a file breaks the fourth rule, in the same way
 abbrev pub file_breaks : List RawFile → List ℕ → ℕ → Bool
 file_breaks files used i = file_is_wrong files i || not (is_among used i)
 
+-- the first procedure that breaks it
 abbrev pub procs_kept : List RawProc → List ℕ → RuleCheck
 procs_kept procs used = first_broken 4 (proc_breaks procs used) (λ i. (proc_at procs i).offset) 0 (length procs)
 
+-- the first file that breaks it
 abbrev pub files_kept : List RawFile → List ℕ → RuleCheck
 files_kept files used = first_broken 4 (file_breaks files used) (λ i. (file_at files i).offset) 0 (length files)
 
+-- the whole fourth rule: the procedures, and then the files
 abbrev pub names_kept : Layout → RuleCheck
 names_kept layout = do
   done ← procs_kept layout.procs (used_procs layout.nodes)
@@ -117,14 +129,18 @@ names_kept layout = do
 
 -- ---- the names
 
+-- the identity that two words say
 abbrev pub proc_id : ℕ → ℕ → ProcId
 proc_id kind number = if kind == 0 then Die number else if kind == 1 then Sym number else Nameless
 
+-- a procedure and its name
 abbrev pub raw_proc_name : RawProc → ProcName
 raw_proc_name p = record { id = proc_id p.kind p.number; name = p.name }
 
+-- a file and its name
 abbrev pub file_name : RawFile → FileName
 file_name f = record { table = f.table; file = f.file; name = f.name }
 
+-- the names that the file says
 abbrev pub names_in : Layout → Names
 names_in layout = record { procs = map raw_proc_name layout.procs; files = map file_name layout.files }

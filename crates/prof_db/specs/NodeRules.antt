@@ -1,4 +1,4 @@
--- The fifth rule of a database in this project's format (docs/FORMATS.md, Database): the nodes stand in preorder.
+-- The fifth rule of a database in this project's format (docs/FORMATS.md, Database): the nodes are in preorder.
 use Rattle.std.specs.Prelude.{ℕ, zero, suc, ◌==◌, ◌&&◌, ◌||◌, not, Bool, true, false, nat_lt, List, [], ◌∷◌, length}
 use Rattle.std.specs.Prelude.{map, slice_index_or, if◌then◌else◌}
 use Rattle.std.specs.List.{list_any}
@@ -30,13 +30,16 @@ use Rattle.prof_db.specs.NameRules.{is_among}
 abbrev pub proc_numbered : Names → ℕ → ProcId
 proc_numbered names p = (slice_index_or names.procs p (record { id = Nameless; name = [] })).id
 
+-- the file with an index in the list of names
 abbrev pub file_numbered : Names → ℕ → FileName
 file_numbered names f = slice_index_or names.files f (record { table = 0; file = 0; name = [] })
 
+-- the line that a file's line says
 abbrev pub line_id : Names → RawLine → LineId
 line_id names (Row f line) = lines.Row (file_numbered names f).table (file_numbered names f).file line
 line_id names (Address address) = lines.Address address
 
+-- the scope that a file's scope says
 abbrev pub scope_of : Names → RawScope → Scope
 scope_of names (Root kind) = scopes.Root (if kind == 0 then Thread else Partial)
 scope_of names (Proc p) = scopes.Proc (proc_numbered names p)
@@ -44,6 +47,7 @@ scope_of names (Inline p line) = scopes.Inline (proc_numbered names p) (line_id 
 scope_of names (Call line) = scopes.Call (line_id names line)
 scope_of names (Stmt line) = scopes.Stmt (line_id names line)
 
+-- the node that a file's node says
 abbrev pub node_of : Names → RawNode → Node
 node_of names n = record { parent = n.parent; scope = scope_of names n.scope }
 
@@ -52,6 +56,7 @@ abbrev pub line_in_range : ℕ → RawLine → Bool
 line_in_range files (Row f line) = nat_lt f files
 line_in_range files (Address address) = true
 
+-- whether the indices of a scope are below the numbers of procedures and of files
 abbrev pub in_range : ℕ → ℕ → RawScope → Bool
 in_range procs files (Root kind) = nat_lt kind 2
 in_range procs files (Proc p) = nat_lt p procs
@@ -61,7 +66,7 @@ in_range procs files (Stmt line) = line_in_range files line
 
 -- ---- preorder
 
--- a node, its parent, that one's parent, and so on, up to a root: at most `most` of them. Where parents stand before
+-- a node, its parent, that one's parent, and so on, up to a root: at most `most` of them. Where parents come before
 -- their nodes, i + 1 are enough (`LinesHaveRoom` in Laws)
 abbrev pub line_up : List Node → ℕ → ℕ → List ℕ
 line_up nodes zero i = []
@@ -79,8 +84,9 @@ in_preorder nodes (suc i) =
     (node_at nodes (suc i)).parent == i
     || list_any (λ k. siblings_ascend (node_at nodes k) (node_at nodes (suc i))) (line_up nodes (suc i) i)
 
--- ---- which scope stands under which
+-- ---- which scope lies under which
 
+-- a thread's root, or that of the partial paths
 abbrev pub is_root : Scope → Bool
 is_root (scopes.Root kind) = true
 is_root (scopes.Proc p) = false
@@ -88,6 +94,7 @@ is_root (scopes.Inline p line) = false
 is_root (scopes.Call line) = false
 is_root (scopes.Stmt line) = false
 
+-- a statement
 abbrev pub is_statement : Scope → Bool
 is_statement (scopes.Root kind) = false
 is_statement (scopes.Proc p) = false
@@ -95,7 +102,7 @@ is_statement (scopes.Inline p line) = false
 is_statement (scopes.Call line) = false
 is_statement (scopes.Stmt line) = true
 
--- a procedure stands under a root or a call; what is inlined, a call and a statement under a procedure or what is
+-- a procedure lies under a root or a call; what is inlined, a call and a statement under a procedure or what is
 -- inlined
 abbrev pub stands_under : Scope → Scope → Bool
 stands_under (scopes.Root kind) (scopes.Proc p) = true
@@ -108,7 +115,7 @@ stands_under (scopes.Inline q call) (scopes.Call line) = true
 stands_under (scopes.Inline q call) (scopes.Stmt line) = true
 stands_under above scope = false
 
--- a root scope without a parent, and any other under a scope that it may stand under
+-- a root scope without a parent, and any other under a scope that it may lie under
 abbrev pub is_placed : List Node → Node → Bool
 is_placed nodes n = if n.parent == no_parent then is_root n.scope
     else nat_lt n.parent (length nodes) && stands_under (node_at nodes n.parent).scope n.scope
@@ -117,6 +124,7 @@ is_placed nodes n = if n.parent == no_parent then is_root n.scope
 abbrev pub parents_of : List Node → List ℕ
 parents_of nodes = map (λ n. n.parent) nodes
 
+-- the node of the file with a number
 abbrev pub raw_node_at : List RawNode → ℕ → RawNode
 raw_node_at raws i = slice_index_or raws i (record { offset = 0; parent = 0; scope = Root 0 })
 
@@ -131,6 +139,7 @@ abbrev pub node_breaks : ℕ → ℕ → List RawNode → List Node → ℕ → 
 node_breaks procs files raws nodes i = node_is_wrong procs files raws nodes i
     || not (is_statement (node_at nodes i).scope || is_among (parents_of nodes) i)
 
+-- the first node that breaks the fifth rule
 abbrev pub nodes_kept : ℕ → ℕ → List RawNode → List Node → RuleCheck
 nodes_kept procs files raws nodes =
     first_broken 5 (node_breaks procs files raws nodes) (λ i. (raw_node_at raws i).offset) 0 (length nodes)

@@ -6,7 +6,7 @@ use Rattle.tree_types.specs.declared.content.Content.{Content}
 use Rattle.tree_types.specs.declared.content.Names.{Names}
 use Rattle.tree_types.specs.declared.content.Node.{Node}
 use Rattle.tree_types.specs.NodeValues.{values_of}
-use Rattle.tree_types.specs.ValueColumns.{columns_by_hart, columns_by_node}
+use Rattle.tree_types.specs.ValuePlanes.{entries_by_column, entries_by_node}
 use Rattle.prof_db.specs.declared.fault.DbFault.{DbFault}
 use Rattle.prof_db.specs.declared.raw.Layout.{Layout}
 use Rattle.prof_db.specs.Layout.{layout_in}
@@ -19,11 +19,11 @@ use Rattle.prof_db.specs.ValueRules.{sampled_nodes, statements_kept}
 abbrev pub content_in : Layout → Names → List Node → Content
 content_in layout names nodes = record {
   period = layout.period;
-  harts = layout.harts;
+  columns = layout.columns;
   names = names;
   nodes = nodes;
-  profiles = columns_by_hart (values_of layout.period (tree_of layout.period layout.harts nodes layout.entries));
-  contexts = columns_by_node (values_of layout.period (tree_of layout.period layout.harts nodes layout.entries));
+  profiles = entries_by_column (values_of layout.period (tree_of layout.period layout.columns nodes layout.entries));
+  contexts = entries_by_node (values_of layout.period (tree_of layout.period layout.columns nodes layout.entries));
 }
 
 -- the sixth rule's second and third parts, and the seventh
@@ -37,7 +37,7 @@ planes_in layout content = do
 -- the sixth rule's first part, and what comes after it
 unfoldable pub values_in : Layout → Content → Result Content DbFault
 values_in layout content = do
-  done ← entries_kept layout.period layout.harts content.nodes layout.entries
+  done ← entries_kept layout.period layout.columns content.nodes layout.entries
   planes_in layout content
 
 -- the fifth rule, and those after it
@@ -46,9 +46,10 @@ nodes_in layout names nodes = do
   done ← nodes_kept (length layout.procs) (length layout.files) layout.nodes nodes
   values_in layout (content_in layout names nodes)
 
+-- the content that bytes say, or the first of the seven rules that they break
 unfoldable pub database_in : List ℕ → Result Content DbFault
 database_in bytes = do
   layout ← layout_in bytes
-  done ← head_kept layout.period layout.harts (length layout.nodes)
+  done ← head_kept layout.period layout.columns (length layout.nodes)
   done ← names_kept layout
   nodes_in layout (names_in layout) (map (node_of (names_in layout)) layout.nodes)

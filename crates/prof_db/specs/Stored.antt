@@ -1,8 +1,8 @@
 -- The contents that are read of their databases, in this project's format (docs/FORMATS.md, Database), as they were
 -- written.
 use Rattle.std.specs.Prelude.{◌≡◌, ◌≤◌, ◌<◌, ◌^◌, ◌&&◌, ℕ, Bool, true, false, List, [], ◌∷◌, length, All}
-use Rattle.scope_types.specs.CallPaths.{HartPath}
-use Rattle.scope_types.specs.Limits.{most_name_bytes, most_scopes_in_all, most_profile_harts, most_samples}
+use Rattle.scope_types.specs.CallPaths.{ColumnPath}
+use Rattle.scope_types.specs.Limits.{most_name_bytes, most_scopes_in_all, most_harts, most_samples}
 use Rattle.scope_types.specs.Words.{scope_words}
 use Rattle.scope_types.specs.declared.scope.ProcId.{ProcId}
 use Rattle.scope_types.specs.declared.scope.ProcId.TheVariants.{Nameless}
@@ -17,7 +17,7 @@ use Rattle.prof_db.specs.NodeRules.{is_root, is_statement, stands_under}
 
 -- ---- call paths
 
--- each scope may stand under the one before it, and a statement ends the path: nothing stands under one
+-- each scope may lie under the one before it, and a statement ends the path: nothing lies under one
 abbrev pub leads_to_statement : Scope → List Scope → Bool
 leads_to_statement above [] = is_statement above
 leads_to_statement above (scope ∷ rest) = stands_under above scope && leads_to_statement scope rest
@@ -37,6 +37,7 @@ IsWord n = n < 2 ^ 32
 abbrev pub HasWordNumbers : Scope → Type 0
 HasWordNumbers scope = All IsWord (scope_words scope)
 
+-- a name of at most as many bytes as a name may have
 abbrev pub IsShort : List ℕ → Type 0
 IsShort name = length name ≤ most_name_bytes
 
@@ -51,22 +52,22 @@ pub record IsNamed (p : ProcName) : Type 0 where
 pub record IsStored (c : Content) : Type 0 where
   pub profile : IsProfile c
   pub period : IsWord c.period
-  pub some_harts : 1 ≤ c.harts
-  pub most_harts : c.harts ≤ most_profile_harts
+  pub some_columns : 1 ≤ c.columns
+  pub most_harts : c.columns ≤ most_harts
   pub nodes : length c.nodes < no_parent
-  pub columns : All (λ column. IsWord (length column)) c.profiles
+  pub lists : All (λ list. IsWord (length list)) c.profiles
   pub paths : All (λ p. is_call_path p.path ≡ true) (paths_of c)
   pub scopes : All (λ n. HasWordNumbers n.scope) c.nodes
   pub procs : All IsNamed c.names.procs
   pub files : All (λ f. IsShort f.name) c.names.files
 
 -- call paths within the limits of a profile, with names that the format has room for
-pub record AreStored (period harts : ℕ) (naming : Naming) (paths : List HartPath) : Type 0 where
+pub record AreStored (period columns : ℕ) (naming : Naming) (paths : List ColumnPath) : Type 0 where
   pub some_period : 0 < period
   pub small_period : IsWord period
-  pub some_harts : 1 ≤ harts
-  pub most_harts : harts ≤ most_profile_harts
-  pub below : All (λ p. p.hart < harts) paths
+  pub some_columns : 1 ≤ columns
+  pub most_harts : columns ≤ most_harts
+  pub below : All (λ p. p.column < columns) paths
   pub few_samples : length paths ≤ most_samples
   pub few_nodes : length (nodes paths) ≤ most_scopes_in_all
   pub call_paths : All (λ p. is_call_path p.path ≡ true) paths

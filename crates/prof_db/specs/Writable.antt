@@ -4,10 +4,10 @@ use Rattle.tree_types.specs.declared.content.Content.{Content}
 use Rattle.tree_types.specs.NamesAscend.{NamesAscend}
 use Rattle.tree_types.specs.Nodes.{no_parent}
 
--- names that ascend, a column for each hart, and one for each node, of which there are few enough that each has a
+-- names that ascend, a list for each column, and one for each node, of which there are few enough that each has a
 -- number other than no parent's
 pub record IsWritable (c : Content) : Type 0 where
   pub names : NamesAscend c.names
-  pub harts : length c.profiles ≡ c.harts
-  pub columns : length c.contexts ≡ length c.nodes
+  pub columns : length c.profiles ≡ c.columns
+  pub lists : length c.contexts ≡ length c.nodes
   pub nodes : length c.nodes ≤ no_parent

@@ -17,11 +17,9 @@ use crate::name_rules::pair_less;
 use crate::node_rules::{is_statement, node_offset, statement_at};
 use crate::raw::{RawEntry, RawNode};
 use prof_bytes::{Fail, Memory};
+use scope_types::limits::MOST_SAMPLES;
 use std::alloc::Global;
 use tree_types::{Node, NodeCount};
-
-/// The most samples of a database.
-const MOST_SAMPLES: u64 = 1_048_576;
 
 fn is_exclusive(e: RawEntry) -> bool
     ensures { result ≡ is_exclusive_entry e }
@@ -40,7 +38,7 @@ fn entry_samples(period: u32, e: RawEntry) -> u64
     }
 }
 
-/// Whether an exclusive value may stand at its node.
+/// Whether an exclusive value may be at its node.
 fn is_whole(period: u32, nodes: &[Node], e: RawEntry) -> bool
     requires period { 0 < period }
     requires node { e.node < length nodes.now }
@@ -51,24 +49,24 @@ fn is_whole(period: u32, nodes: &[Node], e: RawEntry) -> bool
         || (is_statement(nodes[e.node as usize].scope) && e.value % u64::from(period) == 0)
 }
 
-fn is_value(period: u32, harts: u32, nodes: &[Node], e: RawEntry) -> bool
+fn is_value(period: u32, columns: u32, nodes: &[Node], e: RawEntry) -> bool
     requires { 0 < period }
-    ensures { result ≡ is_value period harts nodes.now e }
+    ensures { result ≡ is_value period columns nodes.now e }
 {
     (e.node as usize) < nodes.len()
-        && (e.hart < harts && (e.kind < 3 && (e.value != 0 && is_whole(period, nodes, e))))
+        && (e.column < columns && (e.kind < 3 && (e.value != 0 && is_whole(period, nodes, e))))
 }
 
 fn entries_ascend(e: RawEntry, f: RawEntry) -> bool
     ensures { result ≡ entries_ascend e f }
 {
-    e.hart < f.hart || (e.hart == f.hart && pair_less(e.node, e.kind, f.node, f.kind))
+    e.column < f.column || (e.column == f.column && pair_less(e.node, e.kind, f.node, f.kind))
 }
 
 /// Whether entry `i` breaks the rule, where those before it count `samples` samples.
 fn entry_is_broken(
     period: u32,
-    harts: u32,
+    columns: u32,
     nodes: &[Node],
     entries: &[RawEntry],
     i: usize,
@@ -78,27 +76,27 @@ fn entry_is_broken(
     requires index { i < length entries.now }
     requires samples { samples ≡ sum_by (entry_samples period) (take i entries.now) }
     requires few { samples ≤ most_samples }
-    ensures { result ≡ entry_breaks period harts nodes.now entries.now i }
+    ensures { result ≡ entry_breaks period columns nodes.now entries.now i }
 {
     let e = entries[i];
-    !(is_value(period, harts, nodes, e)
+    !(is_value(period, columns, nodes, e)
         && ((i == 0 || entries_ascend(entries[i - 1], e))
-            && entry_samples(period, e) <= MOST_SAMPLES - samples))
+            && entry_samples(period, e) <= u64::from(MOST_SAMPLES) - samples))
 }
 
 /// Each entry by itself, and the sum of all samples.
 pub(crate) fn judge_entries(
     period: u32,
-    harts: u32,
+    columns: u32,
     nodes: &[Node],
     entries: &[RawEntry],
 ) -> Result<(), DbFault>
     requires { 0 < period }
-    ensures { entries_kept period harts nodes.now entries.now ≡ result }
+    ensures { entries_kept period columns nodes.now entries.now ≡ result }
 {
     let mut samples: u64 = 0;
     for i in 0..entries.len() {
-        if entry_is_broken(period, harts, nodes, entries, i, samples) {
+        if entry_is_broken(period, columns, nodes, entries, i, samples) {
             return Err(fault_at(6, entry_offset(entries, i)));
         }
         samples += samples_at(period, entries, i);
@@ -115,14 +113,14 @@ fn put_count(counts: &mut Vec<NodeCount>, period: u32, e: RawEntry) -> Result<()
     if is_exclusive(e) {
         counts.push(NodeCount {
             node: e.node,
-            hart: e.hart,
+            column: e.column,
             count: (e.value / u64::from(period)) as u32,
         })?;
     }
     Ok(())
 }
 
-/// How many samples end at each node for each hart, in the order of the file.
+/// How many samples end at each node for each column, in the order of the file.
 pub(crate) fn counts_in(
     alloc: Global,
     period: u32,

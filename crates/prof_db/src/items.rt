@@ -15,13 +15,13 @@ pub(crate) fn read_head(cursor: &mut Cursor<'_>) -> Result<Head, DbFault>
     ensures { GivesAt (λ head. head) result cursor.new (head_from cursor.old) }
 {
     let period = read_word(cursor)?;
-    let harts = read_word(cursor)?;
+    let columns = read_word(cursor)?;
     let procs = read_word(cursor)?;
     let files = read_word(cursor)?;
     let nodes = read_word(cursor)?;
     Ok(Head {
         period,
-        harts,
+        columns,
         procs,
         files,
         nodes,
@@ -160,8 +160,8 @@ pub(crate) fn read_node(cursor: &mut Cursor<'_>) -> Result<RawNode, DbFault>
 }
 
 #[tactic(auto, unfolding(crate::specs::Layout::stored_entry_from))]
-pub(crate) fn read_entry(cursor: &mut Cursor<'_>, hart: u32) -> Result<RawEntry, DbFault>
-    ensures { GivesAt (λ entry. entry) result cursor.new (stored_entry_from hart cursor.old) }
+pub(crate) fn read_entry(cursor: &mut Cursor<'_>, column: u32) -> Result<RawEntry, DbFault>
+    ensures { GivesAt (λ entry. entry) result cursor.new (stored_entry_from column cursor.old) }
 {
     let offset = cursor.place() as u64;
     let node = read_word(cursor)?;
@@ -169,7 +169,7 @@ pub(crate) fn read_entry(cursor: &mut Cursor<'_>, hart: u32) -> Result<RawEntry,
     let value = read_long(cursor)?;
     Ok(RawEntry {
         offset,
-        hart,
+        column,
         node,
         kind,
         value,
@@ -182,7 +182,7 @@ pub(crate) fn pass_entry(cursor: &mut Cursor<'_>) -> Result<(), DbFault>
     ensures { GivesAt (λ done. done) result cursor.new (past_entry 0 tt cursor.old) }
 {
     let _kind = read_word(cursor)?;
-    let _hart = read_word(cursor)?;
+    let _column = read_word(cursor)?;
     let _value = read_long(cursor)?;
     Ok(())
 }

@@ -1,6 +1,6 @@
 ghost use Rattle.std.specs.Prelude.{◌≡◌, ℕ, ◌<◌, true, List, length, Ok, IfOk};
 ghost use Rattle.prof_bytes.specs.Number.{IsBytes};
-ghost use Rattle.scope_types.specs.CallPaths.{HartPath};
+ghost use Rattle.scope_types.specs.CallPaths.{ColumnPath};
 ghost use Rattle.scope_types.specs.Expansion.{FoundAt, call_path};
 ghost use Rattle.scope_types.specs.Raw.{Raw};
 ghost use Rattle.tree_types.specs.Database.{content_of};
@@ -43,18 +43,21 @@ pub fn stored_contents_are_read()
 pub fn call_paths_are_stored()
     ensures paths { (found_at : ℕ → FoundAt) (raw : Raw) → 0 < length raw.frames
         → is_call_path (call_path found_at raw) ≡ true }
-    ensures stored { (period harts : ℕ) (naming : Naming) (paths : List HartPath) → AreStored period harts naming paths
-        → IsStored (content_of period harts naming paths) }
-    ensures read { (period harts : ℕ) (naming : Naming) (paths : List HartPath) → AreStored period harts naming paths
-        → database_in (database_spelling (content_of period harts naming paths))
-        ≡ Ok (content_of period harts naming paths) }
-    ensures table { (period harts : ℕ) (naming : Naming) (paths : List HartPath) → AreStored period harts naming paths
-        → IfOk (database_in (database_spelling (content_of period harts naming paths)))
-        (λ c. content_table c ≡ top_down period harts naming paths) }
+    ensures stored { (period columns : ℕ) (naming : Naming) (paths : List ColumnPath)
+        → AreStored period columns naming paths
+        → IsStored (content_of period columns naming paths) }
+    ensures read { (period columns : ℕ) (naming : Naming) (paths : List ColumnPath)
+        → AreStored period columns naming paths
+        → database_in (database_spelling (content_of period columns naming paths))
+        ≡ Ok (content_of period columns naming paths) }
+    ensures table { (period columns : ℕ) (naming : Naming) (paths : List ColumnPath)
+        → AreStored period columns naming paths
+        → IfOk (database_in (database_spelling (content_of period columns naming paths)))
+        (λ c. content_table c ≡ top_down period columns naming paths) }
 {}
 
 /// The definition of a node's line upwards takes a number of steps at most: one more than the node's number. Where
-/// parents stand before their nodes, it says the same with any larger number.
+/// parents come before their nodes, it says the same with any larger number.
 pub fn ancestor_count_is_at_most_number()
     ensures { LinesHaveRoom }
 {}

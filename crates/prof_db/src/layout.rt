@@ -4,9 +4,9 @@ ghost use Rattle.prof_bytes.specs.Format.{magic_or};
 ghost use Rattle.prof_bytes.specs.Outcome.{Gives, GivesAt, GivesFrom};
 ghost use Rattle.prof_bytes.specs.Repeated.{adding, times};
 ghost use Rattle.prof_db.specs.Fields.{fault};
-ghost use Rattle.prof_db.specs.Layout.{body_from, column_from, file_from, layout_in, stored_entry_from};
+ghost use Rattle.prof_db.specs.Layout.{body_from, list_from, file_from, layout_in, stored_entry_from};
 ghost use Rattle.prof_db.specs.Layout.{node_from};
-ghost use Rattle.prof_db.specs.Layout.{past_column, past_entry, proc_from};
+ghost use Rattle.prof_db.specs.Layout.{past_list, past_entry, proc_from};
 ghost use Rattle.prof_db.specs.Spelling.{database_magic};
 
 use crate::fault::DbFault;
@@ -64,48 +64,48 @@ fn read_nodes(
     Ok(nodes)
 }
 
-/// `count` entries of a hart, after those that were read before.
+/// `count` entries of a column, after those that were read before.
 fn read_entries(
     cursor: &mut Cursor<'_>,
     entries: &mut Vec<RawEntry>,
-    hart: u32,
+    column: u32,
     count: u32,
 ) -> Result<(), Fail<DbFault>>
     ensures { GivesFrom (λ done. entries.new.items) result cursor.new
-        (times (adding (stored_entry_from hart)) count 0 entries.old.items cursor.old) }
+        (times (adding (stored_entry_from column)) count 0 entries.old.items cursor.old) }
 {
     for _ in 0..count {
-        let e = read_entry(cursor, hart)?;
+        let e = read_entry(cursor, column)?;
         entries.push(e)?;
     }
     Ok(())
 }
 
-/// A hart's column.
-#[tactic(auto, unfolding(crate::specs::Layout::column_from))]
-fn read_column(
+/// The entries of a column.
+#[tactic(auto, unfolding(crate::specs::Layout::list_from))]
+fn read_list(
     cursor: &mut Cursor<'_>,
     entries: &mut Vec<RawEntry>,
-    hart: u32,
+    column: u32,
 ) -> Result<(), Fail<DbFault>>
     ensures { GivesFrom (λ done. entries.new.items) result cursor.new
-        (column_from hart entries.old.items cursor.old) }
+        (list_from column entries.old.items cursor.old) }
 {
     let count = read_word(cursor)?;
-    read_entries(cursor, entries, hart, count)
+    read_entries(cursor, entries, column, count)
 }
 
-/// The columns of `harts` harts.
-fn read_columns(
+/// The lists of `columns` columns.
+fn read_lists(
     alloc: Global,
     cursor: &mut Cursor<'_>,
-    harts: u32,
+    columns: u32,
 ) -> Result<Vec<RawEntry>, Fail<DbFault>>
-    ensures { GivesFrom (λ v. v.items) result cursor.new (times column_from harts 0 [] cursor.old) }
+    ensures { GivesFrom (λ v. v.items) result cursor.new (times list_from columns 0 [] cursor.old) }
 {
     let mut entries = Vec::new(alloc);
-    for hart in 0..harts {
-        read_column(cursor, &mut entries, hart)?;
+    for column in 0..columns {
+        read_list(cursor, &mut entries, column)?;
     }
     Ok(entries)
 }
@@ -120,21 +120,21 @@ fn pass_entries(cursor: &mut Cursor<'_>, count: u32) -> Result<(), DbFault>
     Ok(())
 }
 
-/// Skips a node's column.
-#[tactic(auto, unfolding(crate::specs::Layout::past_column))]
-fn pass_column(cursor: &mut Cursor<'_>) -> Result<(), DbFault>
-    ensures { GivesAt (λ done. done) result cursor.new (past_column 0 tt cursor.old) }
+/// Skips a node's list.
+#[tactic(auto, unfolding(crate::specs::Layout::past_list))]
+fn pass_list(cursor: &mut Cursor<'_>) -> Result<(), DbFault>
+    ensures { GivesAt (λ done. done) result cursor.new (past_list 0 tt cursor.old) }
 {
     let count = read_word(cursor)?;
     pass_entries(cursor, count)
 }
 
-/// Skips the columns of `nodes` nodes.
-fn pass_columns(cursor: &mut Cursor<'_>, nodes: u32) -> Result<(), DbFault>
-    ensures { GivesAt (λ done. done) result cursor.new (times past_column nodes 0 tt cursor.old) }
+/// Skips the lists of `nodes` nodes.
+fn pass_lists(cursor: &mut Cursor<'_>, nodes: u32) -> Result<(), DbFault>
+    ensures { GivesAt (λ done. done) result cursor.new (times past_list nodes 0 tt cursor.old) }
 {
     for _ in 0..nodes {
-        pass_column(cursor)?;
+        pass_list(cursor)?;
     }
     Ok(())
 }
@@ -152,15 +152,15 @@ fn read_body<'a>(
     let files = read_files(alloc, cursor, head.files)?;
     let nodes = read_nodes(alloc, cursor, head.nodes)?;
     let profiles = cursor.fork();
-    let entries = read_columns(alloc, cursor, head.harts)?;
+    let entries = read_lists(alloc, cursor, head.columns)?;
     let contexts = cursor.fork();
-    pass_columns(cursor, head.nodes)?;
+    pass_lists(cursor, head.nodes)?;
     if cursor.left() > 0 {
         return Err(Fail::Fault(not_whole(cursor.place())));
     }
     Ok(Layout {
         period: head.period,
-        harts: head.harts,
+        columns: head.columns,
         procs: Listed::of(procs),
         files: Listed::of(files),
         nodes: Listed::of(nodes),

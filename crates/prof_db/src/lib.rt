@@ -1,7 +1,7 @@
 //! The database file: a content as bytes, by this project's format of version 1.
 //!
 //! It promises that what is written is byte for byte the content's spelling, and that what is read is just what the
-//! bytes say, or the first of the format's seven rules that they break, with its offset. Below stand `sparse_planes`
+//! bytes say, or the first of the format's seven rules that they break, with its offset. Below lie `sparse_planes`
 //! and `metric_sums`, which make the planes that the bytes are compared with, `tree_types`, `scope_types` and
 //! `prof_bytes`.
 #![tactic(auto)]

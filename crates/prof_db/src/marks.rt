@@ -22,6 +22,7 @@ pub(crate) fn marks(alloc: Global, numbers: &[u32], count: usize) -> Result<Vec<
     ensures { IfOk result (λ marks. AreMarks numbers.now count marks.items) }
 {
     let mut marks = Vec::new(alloc);
+    // room: `count`, a mark for each name of the database
     marks.resize(count, false)?;
     for number in numbers {
         mark(&mut marks, *number as usize);

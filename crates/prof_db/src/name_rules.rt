@@ -14,21 +14,19 @@ use crate::marks::{is_marked, marks};
 use crate::raw::{Layout, RawFile, RawLine, RawNode, RawProc, RawScope};
 use prof_bytes::{Fail, Listed, Memory, Text};
 use scope_types::ProcId;
+use scope_types::limits::{MOST_HARTS, MOST_NAME_BYTES};
 use std::alloc::Global;
 use tree_types::{FileName, NO_PARENT, Names, ProcName};
 
-/// The most bytes of a name.
-const MOST_NAME_BYTES: usize = 4096;
-
-pub(crate) fn judge_head(period: u32, harts: u32, nodes: usize) -> Result<(), DbFault>
-    ensures kept { head_kept period harts nodes ≡ result }
+pub(crate) fn judge_head(period: u32, columns: u32, nodes: usize) -> Result<(), DbFault>
+    ensures kept { head_kept period columns nodes ≡ result }
     ensures period { OnOk result (0 < period) }
     ensures nodes { OnOk result (nodes < no_parent) }
 {
     if period == 0 {
         return Err(fault_at(3, 8));
     }
-    if harts == 0 || harts > 16 {
+    if columns == 0 || columns > MOST_HARTS as u32 {
         return Err(fault_at(3, 12));
     }
     if nodes >= NO_PARENT as usize {

@@ -1,4 +1,4 @@
-//! The fifth rule of a database: the nodes stand in preorder.
+//! The fifth rule of a database: the nodes are in preorder.
 ghost use Rattle.std.specs.Prelude.{◌≡◌, ◌+◌, ◌<◌, ◌==◌, ◌||◌, if◌then◌else◌, length, map, IfOk};
 ghost use Rattle.scope_types.specs.declared.scope.RootKind.TheVariants.{Thread, Partial};
 ghost use Rattle.std.specs.List.{list_any};
@@ -87,6 +87,7 @@ pub(crate) fn nodes_of(alloc: Global, names: &Names, raws: &[RawNode]) -> Result
     ensures nodes { IfOk result (λ nodes. nodes.items ≡ map (node_of names.now) raws.now) }
     ensures many { IfOk result (λ nodes. length raws.now ≡ length nodes.items) }
 {
+    // room: `raws.len()`, as many as the bytes have nodes
     let mut nodes = Vec::with_capacity(alloc, raws.len())?;
     for raw in raws {
         nodes.push(Node {
@@ -226,6 +227,7 @@ fn node_is_wrong(procs: usize, files: usize, raws: &[RawNode], nodes: &[Node], i
 fn parents_of(alloc: Global, nodes: &[Node]) -> Result<Vec<u32>, Memory>
     ensures { IfOk result (λ parents. parents.items ≡ parents_of nodes.now) }
 {
+    // room: `nodes.len()`, a parent for each node
     let mut parents = Vec::with_capacity(alloc, nodes.len())?;
     for n in nodes {
         parents.push(n.parent)?;

@@ -3,7 +3,7 @@ ghost use Rattle.std.specs.Prelude.{◌≡◌, ◌<◌, ◌^◌, ◌∷◌, [], 
 ghost use Rattle.std.specs.List.{flat_map};
 ghost use Rattle.prof_bytes.specs.Outcome.{GivesAt};
 ghost use Rattle.prof_db.specs.private.Marks.{Stands};
-ghost use Rattle.prof_db.specs.ValueRules.{column_fields, context_fields, fields_kept, plane_fields, profile_fields};
+ghost use Rattle.prof_db.specs.ValueRules.{list_fields, context_fields, fields_kept, plane_fields, profile_fields};
 ghost use Rattle.prof_db.specs.ValueRules.{field_of_word};
 
 use crate::fault::DbFault;
@@ -50,7 +50,7 @@ fn same_context_entry(cursor: &mut Cursor<'_>, e: ContextEntry) -> Result<(), Db
     ensures { GivesAt (λ done. done) result cursor.new (fields_kept 7 (context_fields e) cursor.old) }
 {
     same_word(cursor, 7, u64::from(kind_word(e.kind)))?;
-    same_word(cursor, 7, u64::from(e.hart))?;
+    same_word(cursor, 7, u64::from(e.column))?;
     same_long(cursor, 7, e.value)
 }
 
@@ -74,66 +74,66 @@ fn same_context_entries(cursor: &mut Cursor<'_>, entries: &[ContextEntry]) -> Re
     Ok(())
 }
 
-fn same_profile_column(cursor: &mut Cursor<'_>, entries: &[ProfileEntry]) -> Result<(), DbFault>
+fn same_profile_list(cursor: &mut Cursor<'_>, entries: &[ProfileEntry]) -> Result<(), DbFault>
     ensures { GivesAt (λ done. done) result cursor.new
-        (fields_kept 6 (column_fields profile_fields entries.now) cursor.old) }
+        (fields_kept 6 (list_fields profile_fields entries.now) cursor.old) }
 {
     same_word(cursor, 6, entries.len() as u64)?;
     same_profile_entries(cursor, entries)
 }
 
-fn same_context_column(cursor: &mut Cursor<'_>, entries: &[ContextEntry]) -> Result<(), DbFault>
+fn same_context_list(cursor: &mut Cursor<'_>, entries: &[ContextEntry]) -> Result<(), DbFault>
     ensures { GivesAt (λ done. done) result cursor.new
-        (fields_kept 7 (column_fields context_fields entries.now) cursor.old) }
+        (fields_kept 7 (list_fields context_fields entries.now) cursor.old) }
 {
     same_word(cursor, 7, entries.len() as u64)?;
     same_context_entries(cursor, entries)
 }
 
-fn same_profile_columns(
+fn same_profile_lists(
     cursor: &mut Cursor<'_>,
-    harts: u32,
+    columns: u32,
     plane: &ProfilePlane,
 ) -> Result<(), DbFault>
-    requires { length plane.now ≡ harts }
+    requires { length plane.now ≡ columns }
     ensures { GivesAt (λ done. done) result cursor.new
         (fields_kept 6 (plane_fields profile_fields plane.now) cursor.old) }
 {
-    for hart in 0..harts {
-        same_profile_column(cursor, plane.hart(hart))?;
+    for column in 0..columns {
+        same_profile_list(cursor, plane.column(column))?;
     }
     Ok(())
 }
 
-fn same_context_columns(cursor: &mut Cursor<'_>, plane: &ContextPlane) -> Result<(), DbFault>
+fn same_context_lists(cursor: &mut Cursor<'_>, plane: &ContextPlane) -> Result<(), DbFault>
     requires { length plane.now < 2 ^ 32 }
     ensures { GivesAt (λ done. done) result cursor.new
         (fields_kept 7 (plane_fields context_fields plane.now) cursor.old) }
 {
     for node in 0..plane.nodes() {
-        same_context_column(cursor, plane.node(node))?;
+        same_context_list(cursor, plane.node(node))?;
     }
     Ok(())
 }
 
-/// The profile plane's fields stand there, or the first that differs is at fault.
+/// The profile plane's fields are there, or the first that differs is at fault.
 pub(crate) fn judge_profiles(
     cursor: &Cursor<'_>,
-    harts: u32,
+    columns: u32,
     plane: &ProfilePlane,
 ) -> Result<(), DbFault>
-    requires { length plane.now ≡ harts }
+    requires { length plane.now ≡ columns }
     ensures { Stands result (fields_kept 6 (plane_fields profile_fields plane.now) cursor.now) }
 {
     let mut ahead = cursor.fork();
-    same_profile_columns(&mut ahead, harts, plane)
+    same_profile_lists(&mut ahead, columns, plane)
 }
 
-/// The context plane's fields stand there, or the first that differs is at fault.
+/// The context plane's fields are there, or the first that differs is at fault.
 pub(crate) fn judge_contexts(cursor: &Cursor<'_>, plane: &ContextPlane) -> Result<(), DbFault>
     requires { length plane.now < 2 ^ 32 }
     ensures { Stands result (fields_kept 7 (plane_fields context_fields plane.now) cursor.now) }
 {
     let mut ahead = cursor.fork();
-    same_context_columns(&mut ahead, plane)
+    same_context_lists(&mut ahead, plane)
 }

@@ -1,4 +1,4 @@
-//! A database as its bytes are cut into fields: the numbers as they stand, and the offset of each entry.
+//! A database as its bytes are cut into fields: the numbers as they are, and the offset of each entry.
 
 use prof_bytes::{Cursor, Listed, Text};
 
@@ -6,7 +6,7 @@ use prof_bytes::{Cursor, Listed, Text};
 #[derive(Clone, Copy, Drop)]
 pub struct Head {
     pub period: u32,
-    pub harts: u32,
+    pub columns: u32,
     pub procs: u32,
     pub files: u32,
     pub nodes: u32,
@@ -55,21 +55,22 @@ pub struct RawNode {
     pub scope: RawScope,
 }
 
-/// An entry of the profile plane, with the hart in whose column it stands.
+/// An entry of the profile plane, with the column in whose list it is.
 #[derive(Clone, Copy, Drop)]
 pub struct RawEntry {
     pub offset: u64,
-    pub hart: u32,
+    pub column: u32,
     pub node: u32,
     pub kind: u32,
     pub value: u64,
 }
 
-/// All of it, but the entries of the context plane; and where the two planes begin.
+/// All of it, but the entries of the context plane; and where the two planes begin. In version 1 of the format each
+/// hart has a column, so that the number of harts in the head is that of columns.
 #[derive(Drop)]
 pub struct Layout<'a> {
     pub period: u32,
-    pub harts: u32,
+    pub columns: u32,
     pub procs: Listed<RawProc>,
     pub files: Listed<RawFile>,
     pub nodes: Listed<RawNode>,

@@ -20,32 +20,32 @@ use crate::plane_fields::{judge_contexts, judge_profiles};
 use crate::raw::Layout;
 use metric_sums::sums;
 use prof_bytes::{Fail, Listed, Memory};
-use sparse_planes::{context_columns, profile_columns};
+use sparse_planes::{context_lists, profile_lists};
 use std::alloc::Global;
 use tree_types::{Content, Names, Node, NodeCount, Tree, Values};
 
-/// Sorts counts by node, then hart.
+/// Sorts counts by node, then column.
 fn sort(counts: &mut Vec<NodeCount>)
     ensures moved { IsPermutation counts.old.items counts.new.items }
     ensures sorted { AllPairs (λ a b. count_order b a ≢ Less) counts.new.items }
 {
-    counts.sort_unstable_by_key(|c| (c.node, c.hart));
+    counts.sort_unstable_by_key(|c| (c.node, c.column));
 }
 
 /// The tree of the nodes and of the exclusive values.
 fn tree_of(alloc: Global, layout: &Layout<'_>, nodes: Vec<Node>) -> Result<Tree, Memory>
     requires period { 0 < layout.now.period }
-    requires kept { entries_kept layout.now.period layout.now.harts nodes.items layout.now.entries ≡ Ok tt }
+    requires kept { entries_kept layout.now.period layout.now.columns nodes.items layout.now.entries ≡ Ok tt }
     requires few { length nodes.items < no_parent }
     requires preorder { IsPreorder nodes.items }
     ensures nodes { IfOk result (λ tree. tree.nodes ≡ nodes.items) }
     ensures samples { IfOk result (λ tree. counts_in tree.counts ≤ most_samples) }
     ensures values { IfOk result (λ tree. values_of layout.now.period tree
-        ≡ values_of layout.now.period (tree_of layout.now.period layout.now.harts nodes.items layout.now.entries)) }
+        ≡ values_of layout.now.period (tree_of layout.now.period layout.now.columns nodes.items layout.now.entries)) }
 {
     let mut counts = counts_in(alloc, layout.period, layout.entries.items())?;
     sort(&mut counts);
-    Ok(Tree::of(layout.harts, nodes, counts))
+    Ok(Tree::of(layout.columns, nodes, counts))
 }
 
 /// The content, where both planes have just the values of the tree.
@@ -56,18 +56,18 @@ fn content_of(
     nodes: Vec<Node>,
 ) -> Result<Content, Memory>
     requires period { 0 < layout.now.period }
-    requires kept { entries_kept layout.now.period layout.now.harts nodes.items layout.now.entries ≡ Ok tt }
+    requires kept { entries_kept layout.now.period layout.now.columns nodes.items layout.now.entries ≡ Ok tt }
     requires few { length nodes.items < no_parent }
     requires preorder { IsPreorder nodes.items }
     ensures { IfOk result (λ content. content ≡ content_in layout.now names nodes.items) }
 {
     let tree = tree_of(alloc, layout, nodes)?;
     let values = sums(alloc, &tree, layout.period)?;
-    let profiles = profile_columns(alloc, &values)?;
-    let contexts = context_columns(alloc, &values)?;
+    let profiles = profile_lists(alloc, &values)?;
+    let contexts = context_lists(alloc, &values)?;
     Ok(Content {
         period: layout.period,
-        harts: layout.harts,
+        columns: layout.columns,
         names,
         nodes: Listed::of(tree.into_nodes()),
         profiles,
@@ -82,12 +82,12 @@ fn judge_planes(
     layout: &Layout<'_>,
     content: Content,
 ) -> Result<Content, Fail<DbFault>>
-    requires harts { length content.profiles ≡ layout.now.harts }
+    requires columns { length content.profiles ≡ layout.now.columns }
     requires nodes { length content.contexts < 2 ^ 32 }
     requires numbers { length layout.now.nodes ≡ length content.nodes }
     ensures { Gives (λ c. c) result (planes_in layout.now content) }
 {
-    judge_profiles(&layout.profiles, layout.harts, &content.profiles)?;
+    judge_profiles(&layout.profiles, layout.columns, &content.profiles)?;
     let numbers = sampled_nodes(alloc, layout.entries.items())?;
     judge_statements(
         alloc,
@@ -115,7 +115,7 @@ fn judge_values(
 {
     judge_entries(
         layout.period,
-        layout.harts,
+        layout.columns,
         nodes.as_slice(),
         layout.entries.items(),
     )?;
@@ -148,7 +148,7 @@ fn read_content(alloc: Global, bytes: &[u8]) -> Result<Content, Fail<DbFault>>
     ensures { Gives (λ c. c) result (database_in bytes.now) }
 {
     let layout = read_layout(alloc, bytes)?;
-    judge_head(layout.period, layout.harts, layout.nodes.items().len())?;
+    judge_head(layout.period, layout.columns, layout.nodes.items().len())?;
     judge_names(alloc, &layout)?;
     let names = names_of(alloc, &layout)?;
     let nodes = nodes_of(alloc, &names, layout.nodes.items())?;

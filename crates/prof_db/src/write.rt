@@ -202,7 +202,7 @@ fn put_context_entry(out: &mut Vec<u8>, e: &ContextEntry) -> Result<(), Memory>
     ensures { OnOk result (out.new.items ≡ out.old.items ++ context_entry_bytes e.now) }
 {
     put_u32(out, kind_word(e.kind))?;
-    put_u32(out, e.hart)?;
+    put_u32(out, e.column)?;
     put_u64(out, e.value)?;
     Ok(())
 }
@@ -225,7 +225,7 @@ fn put_context_entries(out: &mut Vec<u8>, entries: &[ContextEntry]) -> Result<()
     Ok(())
 }
 
-fn put_profile_column(out: &mut Vec<u8>, entries: &[ProfileEntry]) -> Result<(), Memory>
+fn put_profile_list(out: &mut Vec<u8>, entries: &[ProfileEntry]) -> Result<(), Memory>
     ensures { OnOk result (out.new.items ≡ out.old.items ++ with_count profile_entry_bytes entries.now) }
 {
     put_u32(out, count(entries.len()))?;
@@ -233,7 +233,7 @@ fn put_profile_column(out: &mut Vec<u8>, entries: &[ProfileEntry]) -> Result<(),
     Ok(())
 }
 
-fn put_context_column(out: &mut Vec<u8>, entries: &[ContextEntry]) -> Result<(), Memory>
+fn put_context_list(out: &mut Vec<u8>, entries: &[ContextEntry]) -> Result<(), Memory>
     ensures { OnOk result (out.new.items ≡ out.old.items ++ with_count context_entry_bytes entries.now) }
 {
     put_u32(out, count(entries.len()))?;
@@ -241,12 +241,12 @@ fn put_context_column(out: &mut Vec<u8>, entries: &[ContextEntry]) -> Result<(),
     Ok(())
 }
 
-fn put_profiles(out: &mut Vec<u8>, harts: u32, plane: &ProfilePlane) -> Result<(), Memory>
-    requires { length plane.now ≡ harts }
+fn put_profiles(out: &mut Vec<u8>, columns: u32, plane: &ProfilePlane) -> Result<(), Memory>
+    requires { length plane.now ≡ columns }
     ensures { OnOk result (out.new.items ≡ out.old.items ++ flat_map (with_count profile_entry_bytes) plane.now) }
 {
-    for hart in 0..harts {
-        put_profile_column(out, plane.hart(hart))?;
+    for column in 0..columns {
+        put_profile_list(out, plane.column(column))?;
     }
     Ok(())
 }
@@ -256,7 +256,7 @@ fn put_contexts(out: &mut Vec<u8>, plane: &ContextPlane) -> Result<(), Memory>
     ensures { OnOk result (out.new.items ≡ out.old.items ++ flat_map (with_count context_entry_bytes) plane.now) }
 {
     for node in 0..plane.nodes() {
-        put_context_column(out, plane.node(node))?;
+        put_context_list(out, plane.node(node))?;
     }
     Ok(())
 }
@@ -268,7 +268,7 @@ fn put_head(out: &mut Vec<u8>, content: &Content) -> Result<(), Memory>
     let files = count(content.names.files.items().len());
     let nodes = count(content.nodes.items().len());
     out.extend_from_slice(b"HPCPROF1")?;
-    put_words(out, &[content.period, content.harts, procs, files, nodes])?;
+    put_words(out, &[content.period, content.columns, procs, files, nodes])?;
     Ok(())
 }
 
@@ -285,7 +285,7 @@ pub fn write_db(alloc: Global, content: &Content) -> Result<Text, Memory>
     put_procs(&mut out, names.procs.items())?;
     put_files(&mut out, names.files.items())?;
     put_nodes(&mut out, names, content.nodes.items())?;
-    put_profiles(&mut out, content.harts, &content.profiles)?;
+    put_profiles(&mut out, content.columns, &content.profiles)?;
     put_contexts(&mut out, &content.contexts)?;
     Ok(Text::from_vec(out))
 }

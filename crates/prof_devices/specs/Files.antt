@@ -16,7 +16,7 @@ abbrev pub file_of : Files → List ℕ → Option (List ℕ)
 file_of [] name = None
 file_of (f ∷ fs) name = if has_name name f then Some f.1 else file_of fs name
 
--- its bytes. A name that no file has stands for an empty file
+-- its bytes. A name that no file has is that of an empty file
 abbrev pub file_bytes : Files → List ℕ → List ℕ
 file_bytes fs name = unwrap_or (file_of fs name) []
 

@@ -29,7 +29,7 @@ pub record SinkState : Type 0 where
 abbrev pub last_count : ℕ
 last_count = 2 ^ 64 - 1
 
--- a count rose, or stood at its type's end. It never falls
+-- a count rose, or was at its type's end. It never falls
 abbrev pub Rose : ℕ → ℕ → Type 0
 Rose before now = (before ≤ now) × (min (before + 1) last_count ≤ now)
 

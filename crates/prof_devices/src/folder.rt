@@ -17,7 +17,7 @@ use std::rt::Files;
 /// fetch reads at most `limit + 1` bytes.
 ///
 /// A store to a regular file, or to a name that no file has, is whole or not at all: a new file is written in the same
-/// folder, brought to the disk, and renamed. After a failure what stood stands, and nothing is left beside it; a
+/// folder, brought to the disk, and renamed. After a failure the old file is there as it was, and no other beside it; a
 /// process that is killed may leave a file `.hpc-store-NUMBER` there. A device, a pipe, and what a symbolic link leads
 /// to is written as it is, and may hold a front of the bytes after a failure.
 #[derive(Drop)]

@@ -2,10 +2,10 @@
 //! each call may do, and the devices that meet them.
 //!
 //! It promises that a failure is answered only where its count rose, that a call which succeeds leaves
-//! all counts as they were, that nothing but the named file or the stream changes, and that what stands
+//! all counts as they were, that nothing but the named file or the stream changes, and that what is there
 //! after a failure is a front of what was to be written. What the devices over memory hold is known, and
 //! they fail on demand; of those over a folder and over the process's streams nothing is known, and they
-//! are the trusted edge. Below stands `prof_bytes`.
+//! are the trusted edge. Below is `prof_bytes`.
 #![tactic(auto)]
 
 mod folder;

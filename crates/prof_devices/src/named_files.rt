@@ -6,7 +6,7 @@ ghost use Rattle.prof_devices.specs.Files.{file_bytes, file_of, has_name, Holds}
 use prof_bytes::{Memory, Text};
 use std::alloc::Global;
 
-/// Where the first file of this name stands.
+/// Where the first file of this name is.
 fn index_of(files: &[(Text, Text)], name: &[u8]) -> Option<usize>
     ensures { result ≡ position (has_name name.now) files.now }
 {
@@ -22,7 +22,7 @@ pub(crate) fn file_in<'a>(files: &'a [(Text, Text)], name: &[u8]) -> Option<&'a 
     }
 }
 
-/// The bytes of the file, where a name that no file has stands for an empty one.
+/// The bytes of the file, where a name that no file has is that of an empty one.
 pub(crate) fn bytes_in<'a>(files: &'a [(Text, Text)], name: &[u8]) -> &'a [u8]
     ensures { result.now ≡ file_bytes files.now name.now }
 {

@@ -10,7 +10,7 @@ use std::{fs, io};
 /// How many names are tried for a new file.
 const MOST_NAMES: u32 = 65_536;
 
-/// What stands under a name.
+/// What has a name.
 #[derive(Drop)]
 enum Standing {
     /// A regular file, which these may read and write.
@@ -114,7 +114,7 @@ fn overwrite<R: Files>(
 }
 
 /// Makes these bytes the file of a name. A new file is written in the same folder, brought to the disk, and renamed: so
-/// the old file stands until the new one is whole, and after a failure. A device, a pipe, and what a symbolic link
+/// the old file is there until the new one is whole, and after a failure. A device, a pipe, and what a symbolic link
 /// leads to is written as it is.
 pub(crate) fn store_file<R: Files>(
     rt: &R,

@@ -1,4 +1,4 @@
-ghost use Rattle.std.specs.Prelude.{◌≡◌, ◌≤◌, [], false, IsTrue};
+ghost use Rattle.std.specs.Prelude.{◌≡◌, ◌≤◌, [], false, true, Bool, IsTrue, if◌then◌else◌};
 ghost use Rattle.core.specs.Str.{IsUtf8};
 ghost use Rattle.prof_devices.specs.Outside.{Taken, last_count};
 ghost use Rattle.prof_devices.specs.Edge.{LinePuts, StreamPuts};
@@ -10,14 +10,14 @@ use std::io;
 use std::io::Write;
 use std::marker::Model;
 
-/// The process's standard output. What it holds is not known.
+/// A stream of the process, and how many of its puts have failed. What it holds is not known.
 #[derive(Drop)]
-pub struct OutSink<'a, R> {
+struct Stream<'a, R> {
     rt: &'a R,
     faults: u64,
 }
 
-impl<'a, R> Model for OutSink<'a, R> {
+impl<'a, R> Model for Stream<'a, R> {
     ghost use Rattle.std.specs.Prelude.{[], false};
     ghost use Rattle.prof_devices.specs.Outside.{SinkState};
 
@@ -26,19 +26,51 @@ impl<'a, R> Model for OutSink<'a, R> {
     ghost view = { λ s. record { known = false; taken = []; faults = s.faults; shortages = 0 } };
 }
 
+impl<'a, R> Stream<'a, R> {
+    /// Nothing has failed yet.
+    fn of(rt: &'a R) -> Stream<'a, R>
+        ensures { result ≡ record { known = false; taken = []; faults = 0; shortages = 0 } }
+    {
+        Stream { rt, faults: 0 }
+    }
+
+    /// The answer of a put, which took all its bytes or failed.
+    fn answer(&mut self, took_all: bool) -> Put
+        ensures answer { result ≡ (if took_all then Put.Done else Put.Fault) }
+        ensures state { self.new ≡ (if took_all then self.old else record self.old { faults = raised self.old.faults }) }
+        ensures counts { self.old.faults ≤ last_count }
+    {
+        let _faults = self.faults;
+        if took_all {
+            return Put::Done;
+        }
+        self.faults = self.faults.saturating_add(1);
+        Put::Fault
+    }
+}
+
+/// The process's standard output. What it holds is not known.
+#[derive(Drop)]
+pub struct OutSink<'a, R> {
+    stream: Stream<'a, R>,
+}
+
+impl<'a, R> Model for OutSink<'a, R> {
+    ghost use Rattle.prof_devices.specs.Outside.{SinkState};
+
+    ghost Value = { SinkState };
+
+    ghost view = { λ s. s.stream };
+}
+
 impl<'a, R> OutSink<'a, R> {
     /// Standard output. Nothing has failed yet.
     pub fn of(rt: &'a R) -> OutSink<'a, R>
         ensures { result ≡ record { known = false; taken = []; faults = 0; shortages = 0 } }
     {
-        OutSink { rt, faults: 0 }
-    }
-
-    fn fail(&mut self)
-        ensures state { self.new ≡ record self.old { faults = raised self.old.faults } }
-        ensures counts { self.old.faults ≤ last_count }
-    {
-        self.faults = self.faults.saturating_add(1);
+        OutSink {
+            stream: Stream::of(rt),
+        }
     }
 }
 
@@ -49,30 +81,23 @@ impl<'a, R: Print> Sink for OutSink<'a, R> {
         ensures answer { Taken self.old self.new bytes.now result }
         ensures exact { StreamPuts self.old self.new result }
     {
-        match io::writer(self.rt).write_all(bytes) {
-            Ok(()) => Put::Done,
-            Err(_) => {
-                self.fail();
-                Put::Fault
-            }
-        }
+        let printed = io::writer(self.stream.rt).write_all(bytes).is_ok();
+        self.stream.answer(printed)
     }
 }
 
 /// The process's standard error, for lines of UTF-8 text: other bytes are a fault. What it holds is not known.
 #[derive(Drop)]
 pub struct ErrSink<'a, R> {
-    rt: &'a R,
-    faults: u64,
+    stream: Stream<'a, R>,
 }
 
 impl<'a, R> Model for ErrSink<'a, R> {
-    ghost use Rattle.std.specs.Prelude.{[], false};
     ghost use Rattle.prof_devices.specs.Outside.{SinkState};
 
     ghost Value = { SinkState };
 
-    ghost view = { λ s. record { known = false; taken = []; faults = s.faults; shortages = 0 } };
+    ghost view = { λ s. s.stream };
 }
 
 impl<'a, R> ErrSink<'a, R> {
@@ -80,14 +105,9 @@ impl<'a, R> ErrSink<'a, R> {
     pub fn of(rt: &'a R) -> ErrSink<'a, R>
         ensures { result ≡ record { known = false; taken = []; faults = 0; shortages = 0 } }
     {
-        ErrSink { rt, faults: 0 }
-    }
-
-    fn fail(&mut self)
-        ensures state { self.new ≡ record self.old { faults = raised self.old.faults } }
-        ensures counts { self.old.faults ≤ last_count }
-    {
-        self.faults = self.faults.saturating_add(1);
+        ErrSink {
+            stream: Stream::of(rt),
+        }
     }
 }
 
@@ -108,10 +128,7 @@ impl<'a, R: Eprint> Sink for ErrSink<'a, R> {
         ensures answer { Taken self.old self.new bytes.now result }
         ensures exact { LinePuts self.old self.new bytes.now result }
     {
-        if print_text(self.rt, bytes) {
-            return Put::Done;
-        }
-        self.fail();
-        Put::Fault
+        let printed = print_text(self.stream.rt, bytes);
+        self.stream.answer(printed)
     }
 }

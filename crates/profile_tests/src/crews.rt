@@ -1,38 +1,8 @@
 //! `profile` by a crew that hands out stripes that nobody filled: its database and table are of no samples.
 use crate::call_paths::made;
 use crate::programs::{ADDING, program};
-use merge_crew::{Crew, Crews};
-use prof_bytes::Memory;
-use prof_devices::OpenGate;
 use std::test::Fail;
-
-/// A crew that hands out stripes that no worker filled.
-#[derive(Drop)]
-struct EmptyCrew {
-    gate: OpenGate,
-}
-
-impl Crews for EmptyCrew {
-    ghost use Rattle.std.specs.Prelude.{◌≡◌, false};
-
-    type Gate = OpenGate;
-
-    ghost whole = { λ _. false };
-
-    ghost gives = { λ _ crew. (crew.merged ≡ 0) × (crew.busy_left ≡ 0) × (crew.present ≡ 0) × (crew.settled ≡ 0) };
-
-    fn gate(&self) -> &OpenGate {
-        &self.gate
-    }
-
-    fn hand_out<F: FnOnce() -> Result<Crew, Memory>>(
-        &self,
-        _crew: Crew,
-        unfilled: F,
-    ) -> Result<Crew, Memory> {
-        unfilled()
-    }
-}
+use test_crews::EmptyCrew;
 
 /// The database without nodes of a period of 5.
 const NO_NODES: &[u8] = b"HPCPROF1\x05\0\0\0\x01\0\0\0\0\0\0\0\0\0\0\0\0\0\0\0\0\0\0\0";
@@ -46,7 +16,7 @@ hart 0 retired 20 samples 4 end exit 19
 #[test]
 fn only_what_the_crew_merged_is_stored(rt: HostRuntime) -> Result<(), Fail> {
     let elf = program(rt.alloc(), &ADDING)?;
-    let crews = EmptyCrew { gate: OpenGate };
+    let crews = EmptyCrew::new();
     let made = made(&rt, elf.as_slice(), b"harts 1\n0 100000\n", 5, &crews)?;
     assert!(rt; made.database.bytes() == NO_NODES);
     assert!(rt; made.report.bytes() == NO_ROWS.as_bytes());

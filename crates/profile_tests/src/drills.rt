@@ -1,5 +1,5 @@
-//! What `drill` puts of a number's guest, by any number of workers. The lines are those of `checks/drill`, which makes,
-//! runs and samples the guest in plain Python.
+//! What `drill` puts of a number's guest, by any number of workers. The lines are those of `checks/files/drill`, which
+//! makes, runs and samples the guest in plain Python.
 use crate::programs::puts_over;
 use std::test::Fail;
 

@@ -1,5 +1,5 @@
 //! Tables of databases that no run made: of two harts, with inlined procedures, a recursion and a path that is cut, and
-//! of a long chain of callers. Their bytes and their tables are those of `checks/databases.py`.
+//! of a long chain of callers. Their bytes and their tables are those of `checks/lib/databases.py`.
 use crate::databases::EMPTY_DATABASE;
 use crate::programs::{database_alone, puts_over};
 use prof_db::read_db;

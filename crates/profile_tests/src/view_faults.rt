@@ -1,5 +1,5 @@
 //! Databases that break a rule of the format, which `view` refuses. Offsets and rules are those of
-//! `checks/database_rules`.
+//! `checks/files/database_rules`.
 use crate::databases::database_of_four;
 use crate::programs::{changed, database_alone, is_refused};
 use hpc_top::{InputFault, Status};

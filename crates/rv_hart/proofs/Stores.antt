@@ -1,23 +1,15 @@
 -- A store that was made, and one that was not.
-use Rattle.std.proofs.Common.{◌≡◌, ℕ, zero, suc, ◌≤◌, Bool, true, List, take, Result, Ok, Err, IfOk, OnErr, refl, sym, ap, ap₂, ◌∙◌, arith}
+use Rattle.std.proofs.Common.{◌≡◌, ℕ, Bool, true, List, Result, Ok, Err, IfOk, OnErr, sym, ap, ap₂, ◌∙◌}
 use Rattle.prof_bytes.specs.Number.{number_bytes}
 use Rattle.rv_table.specs.declared.inst.Inst.{Inst}
 use Rattle.rv_hart.specs.declared.execute.Continuation.{Continuation}
-use Rattle.rv_hart.specs.private.Going.{step_ended}
+use Rattle.rv_hart.specs.private.Continuing.{step_ended}
 use Rattle.rv_hart.specs.declared.outcome.Stepped.{Stepped}
 use Rattle.rv_hart.specs.declared.outcome.Stepped.TheVariants as stepped
 use Rattle.rv_hart.specs.declared.outcome.Cause.TheVariants as cause
 use Rattle.prof_bytes.specs.Number.{word_sum}
-use Rattle.rv_hart.specs.AddressSpace.{AddressSpace, stored}
+use Rattle.rv_memory.specs.AddressSpace.{AddressSpace, stored}
 use Rattle.rv_hart.specs.Step.{State, state, finishes_store, stores, address, rs2_value}
-
-pub lowest : (size number : ℕ) → size ≤ 4 → take size (number_bytes 4 number) ≡ number_bytes size number
-lowest zero number few = refl
-lowest (suc zero) number few = refl
-lowest (suc (suc zero)) number few = refl
-lowest (suc (suc (suc zero))) number few = refl
-lowest (suc (suc (suc (suc zero)))) number few = refl
-lowest (suc (suc (suc (suc (suc n))))) number few = absurd (omega arith)
 
 -- what was written, with the state's memory in its stead
 pub put-yes : (s : State) (after : AddressSpace) (at : ℕ) (bytes : List ℕ) → (true, after) ≡ stored s.memory at bytes → (state (word_sum s.pc 4) s.registers after, stepped.Retired) ≡ finishes_store (stored s.memory at bytes) s

@@ -11,7 +11,7 @@ use Rattle.rv_hart.specs.declared.outcome.Cause.{Cause}
 use Rattle.rv_hart.specs.declared.outcome.Cause.TheVariants as cause
 use Rattle.prof_bytes.specs.Number.{word_sum}
 use Rattle.rv_hart.specs.Arithmetic.{signed}
-use Rattle.rv_hart.specs.AddressSpace.{AddressSpace, stored}
+use Rattle.rv_memory.specs.AddressSpace.{AddressSpace, stored}
 use Rattle.rv_hart.specs.Step.{State, rs1_value, rs2_value, address, operand, trapped, retired, jumps, continues_at, branches, loads, finishes_store, executed, carried_out, fetched, after_fetch, step_of}
 use Rattle.prof_bytes.specs.Number.{number_bytes}
 

@@ -8,10 +8,11 @@ use Rattle.std.specs.Prelude.{int_div, int_rem, int_lt}
 use Rattle.rv_table.specs.declared.inst.Op.{Op}
 use Rattle.rv_table.specs.declared.inst.Op.TheVariants as ops
 
--- a word as a number in two's complement, and back
+-- a word as a number in two's complement
 abbrev pub signed : ℕ → ℤ
 signed word = cast_signed w32 word
 
+-- a number as a word in two's complement
 abbrev pub word_of : ℤ → ℕ
 word_of number = cast_unsigned w32 number
 
@@ -19,9 +20,11 @@ word_of number = cast_unsigned w32 number
 abbrev pub upper_word : ℤ → ℕ
 upper_word product = cast_unsigned w64 product / 2 ^ 32
 
+-- 1 where a comparison holds, and else 0 (SLT and its like)
 abbrev pub flag : Bool → ℕ
 flag test = if test then 1 else 0
 
+-- SUB
 abbrev pub difference : ℕ → ℕ → ℕ
 difference a b = (a + (2 ^ 32 - b)) % 2 ^ 32
 
@@ -29,12 +32,15 @@ difference a b = (a + (2 ^ 32 - b)) % 2 ^ 32
 abbrev pub left_shift : ℕ → ℕ → ℕ
 left_shift a b = a * 2 ^ (b % 32) % 2 ^ 32
 
+-- SRL and SRLI: zeros come in
 abbrev pub right_shift : ℕ → ℕ → ℕ
 right_shift a b = a / 2 ^ (b % 32)
 
+-- SRA and SRAI: copies of the sign come in
 abbrev pub right_shift_signed : ℕ → ℕ → ℕ
 right_shift_signed a b = word_of (int_shr (signed a) (b % 32))
 
+-- MUL ("Multiplication Operations")
 abbrev pub product : ℕ → ℕ → ℕ
 product a b = a * b % 2 ^ 32
 
@@ -43,12 +49,15 @@ product a b = a * b % 2 ^ 32
 abbrev pub quotient_signed : ℕ → ℕ → ℕ
 quotient_signed a b = if b == 0 then 2 ^ 32 - 1 else word_of (int_div (signed a) (signed b))
 
+-- DIVU
 abbrev pub quotient : ℕ → ℕ → ℕ
 quotient a b = if b == 0 then 2 ^ 32 - 1 else a / b
 
+-- REM
 abbrev pub remainder_signed : ℕ → ℕ → ℕ
 remainder_signed a b = if b == 0 then a else word_of (int_rem (signed a) (signed b))
 
+-- REMU
 abbrev pub remainder : ℕ → ℕ → ℕ
 remainder a b = if b == 0 then a else a % b
 

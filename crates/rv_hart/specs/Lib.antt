@@ -1,4 +1,3 @@
-pub mod AddressSpace
 pub mod Arithmetic
 pub mod Running
 pub mod Step

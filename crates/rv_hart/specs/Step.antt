@@ -3,7 +3,6 @@
 use Rattle.std.specs.Prelude.{◌≡◌, ℕ, ◌+◌, ◌*◌, ◌/◌, ◌%◌, ◌==◌, ◌&&◌, not, Bool, true, false, List, slice_index}
 use Rattle.std.specs.Prelude.{slice_set, Option, Some, None, option_map, if◌then◌else◌, nat_le, nat_lt, int_lt}
 use Rattle.prof_bytes.specs.Number.{number_bytes}
-use Rattle.elf_image.specs.declared.part.Segment.{Segment}
 use Rattle.rv_table.specs.declared.inst.Op.{Op}
 use Rattle.rv_table.specs.declared.inst.Op.TheVariants as ops
 use Rattle.rv_table.specs.declared.inst.Inst.{Inst}
@@ -13,34 +12,37 @@ use Rattle.rv_hart.specs.declared.outcome.Stepped.{Stepped}
 use Rattle.rv_hart.specs.declared.outcome.Stepped.TheVariants as stepped
 use Rattle.rv_hart.specs.declared.outcome.Cause.{Cause}
 use Rattle.rv_hart.specs.declared.outcome.Cause.TheVariants as cause
-use Rattle.elf_image.specs.declared.elf.TheConstants.{PF_X}
-use Rattle.rv_hart.specs.AddressSpace.{AddressSpace, has, region_at, memory_number, loaded, stored}
+use Rattle.rv_memory.specs.AddressSpace.{AddressSpace, fetched_at, loaded, stored}
 use Rattle.prof_bytes.specs.Number.{word_sum}
 use Rattle.rv_hart.specs.Arithmetic.{signed, computed}
 
+-- a hart and its memory: the address of the next instruction, x0 to x31, the bytes
 pub record State : Type 0 where
   pub pc : ℕ
   pub registers : List ℕ
   pub memory : AddressSpace
 
+-- a state of these
 abbrev pub state : ℕ → List ℕ → AddressSpace → State
 state pc registers memory = record { pc = pc; registers = registers; memory = memory }
 
--- x0 reads 0
+-- what a register holds: x0 is 0 ("Programmers' Model for Base Integer ISA")
 abbrev pub register : List ℕ → ℕ → ℕ
 register registers number = if number == 0 then 0 else slice_index registers number
 
--- x0 is not written
+-- registers with a value in one of them: x0 is not written
 abbrev pub with_register : List ℕ → ℕ → ℕ → List ℕ
 with_register registers number value = if number == 0 then registers else slice_set registers number value
 
--- the two registers that an instruction reads
+-- what the first register holds that an instruction reads
 abbrev pub rs1_value : Inst → State → ℕ
 rs1_value inst s = register s.registers inst.rs1
 
+-- and the second one
 abbrev pub rs2_value : Inst → State → ℕ
 rs2_value inst s = register s.registers inst.rs2
 
+-- a trap changes nothing ("Exceptions, Traps, and Interrupts")
 abbrev pub trapped : Cause → State → State × Stepped
 trapped why s = (s, stepped.Trap why)
 
@@ -48,37 +50,44 @@ trapped why s = (s, stepped.Trap why)
 abbrev pub retired : Inst → ℕ → ℕ → State → State × Stepped
 retired inst value next s = (state next (with_register s.registers inst.rd value) s.memory, stepped.Retired)
 
+-- a result goes into the destination, and the hart goes on with the next word ("Integer Computational Instructions")
 abbrev pub computes : Inst → ℕ → State → State × Stepped
 computes inst value s = retired inst value (word_sum s.pc 4) s
 
--- a jump leaves the address of the next instruction in the destination
+-- a jump ("Unconditional Jumps") leaves the address of the next instruction in the destination
 abbrev pub jumps : Inst → ℕ → State → State × Stepped
 jumps inst target s = if target % 4 == 0 then retired inst (word_sum s.pc 4) target s else trapped cause.Target s
 
+-- the hart goes on at this pc, and no register is written
 abbrev pub continues_at : ℕ → State → State × Stepped
 continues_at next s = (state next s.registers s.memory, stepped.Retired)
 
+-- a branch: its target where the test holds, and else the next word ("Conditional Branches")
 abbrev pub branches : Inst → Bool → State → State × Stepped
 branches inst test s =
     let target = word_sum s.pc inst.imm in
     if not test then continues_at (word_sum s.pc 4) s
     else (if target % 4 == 0 then continues_at target s else trapped cause.Target s)
 
+-- a load of this number, if it may be made ("Load and Store Instructions")
 abbrev pub loads : Inst → Option ℕ → State → State × Stepped
 loads inst None s = trapped cause.Load s
 loads inst (Some number) s = computes inst number s
 
--- the address that a load or a store means, and the number there
+-- the address that a load or a store means
 abbrev pub address : Inst → State → ℕ
 address inst s = word_sum (rs1_value inst s) inst.imm
 
+-- the number that a load reads
 abbrev pub operand : Inst → ℕ → State → Option ℕ
 operand inst size s = loaded s.memory (address inst s) size
 
+-- a store that was made, or was not
 abbrev pub finishes_store : Bool × AddressSpace → State → State × Stepped
 finishes_store answer s =
     if answer.0 then (state (word_sum s.pc 4) s.registers answer.1, stepped.Retired) else trapped cause.Store s
 
+-- a store of the lowest bytes of the second register
 abbrev pub stores : Inst → ℕ → State → State × Stepped
 stores inst size s = finishes_store (stored s.memory (address inst s) (number_bytes size (rs2_value inst s))) s
 
@@ -108,22 +117,15 @@ executed ops.Ecall inst s = (s, stepped.Ecall)
 executed ops.Ebreak inst s = (s, stepped.Break)
 executed operation inst s = computes inst (computed operation (rs1_value inst s) (rs2_value inst s) inst.imm) s
 
+-- the step of an instruction
 abbrev pub carried_out : Inst → State → State × Stepped
 carried_out inst s = executed inst.op inst s
 
--- the address and the three after it lie in this region, which may be executed
-abbrev pub is_fetched_from : ℕ → Option Segment → Bool
-is_fetched_from pc None = false
-is_fetched_from pc (Some region) = has PF_X region && nat_le (pc + 4) region.end
-
 -- the word at pc, where it may be fetched
-abbrev pub fetched_at : AddressSpace → ℕ → Option ℕ
-fetched_at memory pc =
-    if pc % 4 == 0 && is_fetched_from pc (region_at memory.regions pc) then Some (memory_number memory pc 4) else None
-
 abbrev pub fetched : State → Option ℕ
 fetched s = fetched_at s.memory s.pc
 
+-- the step of the word that was fetched, if one was
 abbrev pub after_fetch : Option ℕ → State → State × Stepped
 after_fetch None s = trapped cause.Fetch s
 after_fetch (Some word) s = carried_out (decoded word) s
@@ -133,12 +135,14 @@ after_fetch (Some word) s = carried_out (decoded word) s
 abbrev pub step_of : State → State × Stepped
 step_of s = after_fetch (fetched s) s
 
+-- the operations that write memory
 abbrev pub is_store : Op → Bool
 is_store ops.Sb = true
 is_store ops.Sh = true
 is_store ops.Sw = true
 is_store _ = false
 
+-- a word that was fetched is one of them
 abbrev pub word_is_store : Option ℕ → Bool
 word_is_store None = false
 word_is_store (Some word) = is_store (decoded word).op

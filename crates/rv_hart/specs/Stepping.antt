@@ -1,6 +1,6 @@
 -- One step of the code's hart.
 use Rattle.rv_hart.specs.declared.hart.Hart.{Hart}
-use Rattle.rv_hart.specs.AddressSpace.{AddressSpace}
+use Rattle.rv_memory.specs.AddressSpace.{AddressSpace}
 use Rattle.rv_hart.specs.Step.{State, state}
 
 -- a hart with the memory that it works on

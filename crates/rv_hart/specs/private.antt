@@ -1,7 +1,4 @@
 -- Definitions that only private functions and proofs rest on.
+pub mod Indexing
 pub mod Decoding
-pub mod Pages
-pub mod Paging
-pub mod Lending
-pub mod Recents
-pub mod Going
+pub mod Continuing

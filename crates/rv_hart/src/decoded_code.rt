@@ -1,18 +1,19 @@
-//! Words that are decoded once: those of regions that may be executed and not written, which no store reaches.
-ghost use Rattle.std.specs.Prelude.{◌≡◌, ◌≢◌, false, ◌+◌, ◌*◌, ◌<◌, ◌≤◌, ◌%◌, ℕ, true, IfOk, IfSome, Some, length};
-ghost use Rattle.std.specs.Prelude.{slice_index, take, drop};
+//! Words that are decoded once: those of regions that may be executed and not written, which no store changes.
+ghost use Rattle.std.specs.Prelude.{◌≡◌, ◌≢◌, ◌+◌, ◌*◌, ◌<◌, ◌≤◌, ◌%◌, true, false, IfOk, IfSome, length};
+ghost use Rattle.std.specs.Prelude.{take, drop};
 ghost use Rattle.std.specs.List.{slice_index_or};
 ghost use Rattle.elf_image.specs.Image.{segment_range};
 ghost use Rattle.prof_bytes.specs.Number.{number_in};
+ghost use Rattle.rv_memory.specs.AddressSpace.{IsRegionOf};
 ghost use Rattle.rv_table.specs.declared.inst.Inst.{Inst};
-ghost use Rattle.rv_hart.specs.private.Decoding.{first_in, AreKept, IsCode, AreCode, IsInstruction, IsKeptAt, Begins};
-ghost use Rattle.rv_hart.specs.private.Paging.{IsPaged, covers_all, memory_of, word_address};
+ghost use Rattle.rv_hart.specs.private.Decoding.{AreDecodedAt, IsCode, AreCode, IsFixedCode, IsInstruction, IsFoundAt};
+ghost use Rattle.rv_hart.specs.private.Decoding.{HasInstructionAt};
+ghost use Rattle.rv_hart.specs.private.Indexing.{word_address};
 
-use crate::paged_memory::PagedMemory;
-use crate::read::number;
-use crate::right::{NOWHERE, Right, covers, grants};
+use byteorder::{ByteOrder, LittleEndian};
 use elf_image::{AddressRange, HasRange, RangeTable, Segment};
 use prof_bytes::Memory;
+use rv_memory::ProgramMemory;
 use rv_table::{Inst, Op, decode};
 use std::alloc::Global;
 
@@ -22,20 +23,20 @@ const MOST_WORDS: usize = 1 << 21;
 /// The first words of a region, decoded: one for each four addresses from `base` on.
 #[derive(Drop)]
 pub(crate) struct DecodedCode {
-    pub(crate) home: Segment,
+    pub(crate) region: Segment,
     pub(crate) base: u32,
     pub(crate) items: Vec<Inst>,
 }
 
 impl HasRange for DecodedCode {
-    ghost range_of = { λ code. segment_range code.home };
+    ghost range_of = { λ code. segment_range code.region };
 
     fn range(&self) -> AddressRange {
-        self.home.range()
+        self.region.range()
     }
 }
 
-/// What stands after the last word: no instruction, so that no run goes past it.
+/// What follows the last word: no instruction, so that no run goes past it.
 pub(crate) const END: Inst = Inst {
     op: Op::Illegal,
     rd: 0,
@@ -44,45 +45,42 @@ pub(crate) const END: Inst = Inst {
     imm: 0,
 };
 
-/// The bytes of the region that the file has, from an address on.
-fn bytes_in_file<'a>(file: &'a [u8], home: &Segment, base: u32) -> &'a [u8]
-    requires { covers_all home.now base 0 ≡ true }
-    ensures covered { covers_all home.now base (length result.now) ≡ true }
-    ensures bytes { (i : ℕ) → i < length result.now
-        → slice_index result.now i ≡ first_in file.now home.now (base + i) }
-{
-    let filled = (home.end - home.start).min(home.filled) as usize;
-    let end = (home.offset as usize + filled).min(file.len());
-    let depth = (base - home.start) as usize;
-    let start = (home.offset as usize + depth).min(end);
-    &file[start..end]
-}
-
 /// The word at an index among the words of these bytes.
 #[inline(always)]
 fn word_in(bytes: &[u8], index: usize) -> u32
     requires { 4 * index + 4 ≤ length bytes.now }
     ensures { result ≡ number_in 4 (take 4 (drop (4 * index) bytes.now)) }
 {
-    number(&bytes[4 * index..4 * index + 4])
+    LittleEndian::read_u32(&bytes[4 * index..4 * index + 4])
+}
+
+/// Whether the region may be executed and not written, and its words begin within it.
+fn has_fixed_code(region: &Segment, base: u32) -> bool
+    ensures { result ≡ true → IsFixedCode region.now base }
+{
+    let (start, end) = (region.start, region.end);
+    region.is_executable() && !region.is_writable() && start <= base && base <= end
 }
 
 /// The words of the region that the file has from an address on, at most a given number, decoded. There are none of a
 /// region that may be written. There is room for one after them.
 fn decoded_words(
     alloc: Global,
-    file: &[u8],
-    home: &Segment,
+    memory: &ProgramMemory<'_>,
+    region: &Segment,
     base: u32,
     most: usize,
 ) -> Result<Vec<Inst>, Memory>
-    ensures { IfOk result (λ words. AreKept file.now home.now base words.items) }
+    requires own { IsRegionOf memory.now.regions region.now }
+    requires base { base % 4 ≡ 0 }
+    ensures { IfOk result (λ words. AreDecodedAt memory.now base words.items) }
 {
-    if !grants(home, Right::Execute) || grants(home, Right::Write) || !covers(home, base, 0) {
+    if !has_fixed_code(region, base) {
         return Ok(Vec::new(alloc));
     }
-    let bytes = bytes_in_file(file, home, base);
+    let bytes = memory.file_bytes(region, base);
     let count = (bytes.len() / 4).min(most);
+    // room: `count + 1`, the words that are decoded, and the one after them
     let mut words = Vec::with_capacity(alloc, count + 1)?;
     for index in 0..count {
         words.push(decode(word_in(bytes, index)))?;
@@ -90,37 +88,58 @@ fn decoded_words(
     Ok(words)
 }
 
-/// The words of the region that holds the address, at most a given number, decoded.
+/// The words of the region, at most a given number, decoded.
 fn decoded_region(
     alloc: Global,
-    paged: &PagedMemory,
-    at: u32,
+    memory: &ProgramMemory<'_>,
+    region: &Segment,
     most: usize,
 ) -> Result<DecodedCode, Memory>
-    requires { IsPaged paged.now }
-    ensures { IfOk result (λ code. IsCode paged.now.file.now paged.now.regions code) }
+    requires { IsRegionOf memory.now.regions region.now }
+    ensures { IfOk result (λ code. IsCode memory.now code.base code.items.items) }
 {
-    let home = paged.region(at).unwrap_or(NOWHERE);
-    let base = home.start.saturating_add(3) / 4 * 4;
-    let mut items = decoded_words(alloc, paged.file, &home, base, most)?;
+    let base = region.start.saturating_add(3) / 4 * 4;
+    let mut items = decoded_words(alloc, memory, region, base, most)?;
     items.push(END)?;
-    Ok(DecodedCode { home, base, items })
+    Ok(DecodedCode {
+        region: *region,
+        base,
+        items,
+    })
+}
+
+/// Appends the words of the region that holds the address, if one does, at most a given number, and says how many more
+/// there may be.
+fn add_region(
+    alloc: Global,
+    memory: &ProgramMemory<'_>,
+    at: u32,
+    most: usize,
+    codes: &mut Vec<DecodedCode>,
+) -> Result<usize, Memory>
+    requires { AreCode memory.now codes.old.items }
+    ensures { IfOk result (λ _. AreCode memory.now codes.new.items) }
+{
+    let Some(region) = memory.region_at(at) else {
+        return Ok(most);
+    };
+    let code = decoded_region(alloc, memory, &region, most)?;
+    let left = most.saturating_sub(code.items.len());
+    codes.push(code)?;
+    Ok(left)
 }
 
 /// The words of all regions that may be executed and not written, decoded, up to the most that are kept.
 pub(crate) fn decoded_regions(
     alloc: Global,
-    paged: &PagedMemory,
+    memory: &ProgramMemory<'_>,
 ) -> Result<Vec<DecodedCode>, Memory>
-    requires { IsPaged paged.now }
-    ensures { IfOk result (λ codes. AreCode paged.now.file.now paged.now.regions codes.items) }
+    ensures { IfOk result (λ codes. AreCode memory.now codes.items) }
 {
     let mut codes = Vec::new(alloc);
     let mut room = MOST_WORDS;
-    for region in paged.regions.items() {
-        let code = decoded_region(alloc, paged, region.start, room)?;
-        room = room.saturating_sub(code.items.len());
-        codes.push(code)?;
+    for region in memory.regions() {
+        room = add_region(alloc, memory, region.start, room, &mut codes)?;
     }
     Ok(codes)
 }
@@ -128,13 +147,13 @@ pub(crate) fn decoded_regions(
 /// What is kept of the region that holds the address.
 fn code_at<'c>(
     codes: &'c RangeTable<DecodedCode>,
-    paged: &PagedMemory<'_>,
+    memory: &ProgramMemory<'_>,
     pc: u32,
 ) -> Option<&'c DecodedCode>
-    requires { AreCode paged.now.file.now paged.now.regions codes.now }
-    ensures { IfSome result (λ code. IsCode paged.now.file.now paged.now.regions code.now) }
+    requires { AreCode memory.now codes.now }
+    ensures { IfSome result (λ code. IsCode memory.now code.now.base code.now.items.items) }
 {
-    let _ = paged;
+    let _ = memory;
     codes.first(pc)
 }
 
@@ -200,13 +219,12 @@ fn is_instruction(items: &[Inst], index: usize) -> bool
 
 /// The index of the word at pc, where it is kept and an instruction.
 #[inline(always)]
-fn first_kept(code: &DecodedCode, paged: &PagedMemory<'_>, pc: u32) -> Option<usize>
-    requires paged { IsPaged paged.now }
-    requires code { IsCode paged.now.file.now paged.now.regions code.now }
+fn decoded_index(code: &DecodedCode, memory: &ProgramMemory<'_>, pc: u32) -> Option<usize>
+    requires { IsCode memory.now code.now.base code.now.items.items }
     ensures pc { IfSome result (λ index. word_address code.now.base index ≡ pc) }
-    ensures first { IfSome result (λ index. Begins (memory_of paged.now) code.now.base code.now.items.items index) }
+    ensures first { IfSome result (λ index. HasInstructionAt memory.now code.now.base code.now.items.items index) }
 {
-    let _ = paged;
+    let _ = memory;
     if pc % 4 != 0 {
         return None;
     }
@@ -219,36 +237,34 @@ fn first_kept(code: &DecodedCode, paged: &PagedMemory<'_>, pc: u32) -> Option<us
 
 /// What is kept of the region that holds the address, and the index of its word, where that is an instruction.
 #[inline(never)]
-fn kept_elsewhere<'c>(
+fn decoded_by_address<'c>(
     codes: &'c RangeTable<DecodedCode>,
-    paged: &PagedMemory<'_>,
+    memory: &ProgramMemory<'_>,
     pc: u32,
 ) -> Option<(&'c DecodedCode, usize)>
-    requires paged { IsPaged paged.now }
-    requires codes { AreCode paged.now.file.now paged.now.regions codes.now }
-    ensures { IfSome result (λ kept. IsKeptAt paged.now kept.0.now kept.1 pc) }
+    requires { AreCode memory.now codes.now }
+    ensures { IfSome result (λ found. IsFoundAt memory.now found.0.now found.1 pc) }
 {
-    let code = code_at(codes, paged, pc)?;
-    let first = first_kept(code, paged, pc)?;
+    let code = code_at(codes, memory, pc)?;
+    let first = decoded_index(code, memory, pc)?;
     Some((code, first))
 }
 
 /// The same. The region with this index is asked first.
 #[inline(always)]
-pub(crate) fn kept_at<'c>(
+pub(crate) fn decoded_at<'c>(
     codes: &'c RangeTable<DecodedCode>,
     likely: usize,
-    paged: &PagedMemory<'_>,
+    memory: &ProgramMemory<'_>,
     pc: u32,
 ) -> Option<(&'c DecodedCode, usize)>
-    requires paged { IsPaged paged.now }
-    requires codes { AreCode paged.now.file.now paged.now.regions codes.now }
-    ensures { IfSome result (λ kept. IsKeptAt paged.now kept.0.now kept.1 pc) }
+    requires { AreCode memory.now codes.now }
+    ensures { IfSome result (λ found. IsFoundAt memory.now found.0.now found.1 pc) }
 {
     if let Some(code) = codes.items().get(likely) {
-        if let Some(first) = first_kept(code, paged, pc) {
+        if let Some(first) = decoded_index(code, memory, pc) {
             return Some((code, first));
         }
     }
-    kept_elsewhere(codes, paged, pc)
+    decoded_by_address(codes, memory, pc)
 }

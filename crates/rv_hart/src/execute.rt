@@ -1,26 +1,24 @@
-//! What an instruction does to its hart and to the memory that is kept.
+//! What an instruction does to its hart and to memory.
 ghost use Rattle.std.specs.Prelude.{◌≡◌, ◌<◌, ◌≤◌, ◌*◌, ◌%◌, ◌^◌, ℕ, List, true, IfOk, IfSome, OnErr, option_map};
 ghost use Rattle.prof_bytes.specs.Number.{number_bytes};
 ghost use Rattle.rv_table.specs.Fields.{sign_extended};
 ghost use Rattle.rv_table.specs.Table.{HasRegisters};
-ghost use Rattle.rv_hart.specs.AddressSpace.{AddressSpace, is_size, stored};
+ghost use Rattle.rv_memory.specs.AddressSpace.{AddressSpace, is_size, stored};
 ghost use Rattle.prof_bytes.specs.Number.{word_sum};
 ghost use Rattle.rv_hart.specs.Arithmetic.{computed};
-ghost use Rattle.rv_hart.specs.private.Going.{step_ended, Goes, GoesBy};
-ghost use Rattle.rv_hart.specs.private.Paging.{IsPaged, memory_of, word_address, indexed_state, state_at};
+ghost use Rattle.rv_hart.specs.private.Continuing.{step_ended, Continues, ContinuesBy};
+ghost use Rattle.rv_hart.specs.private.Indexing.{word_address, state_at};
 ghost use Rattle.rv_hart.specs.Step.{State, state, rs1_value, rs2_value, operand, computes, jumps, branches};
 ghost use Rattle.rv_hart.specs.Step.{continues_at};
 ghost use Rattle.rv_hart.specs.Step.{loads, finishes_store, stores, carried_out, is_store};
 
-use crate::access;
 use crate::compute::compute;
 use crate::decoded_code::{index_of, pc_of};
 use crate::hart::{Hart, read, write};
 use crate::outcome::{Cause, Stepped};
-use crate::paged_memory::PagedMemory;
 use prof_bytes::Memory;
+use rv_memory::ProgramMemory;
 use rv_table::{Inst, Op};
-use std::alloc::Global;
 
 /// How execution continues after one instruction.
 #[derive(Clone, Copy, Debug, PartialEq, Eq)]
@@ -37,11 +35,11 @@ pub(crate) enum Continuation {
 
 /// The hart goes on with the word after this one.
 #[inline(always)]
-fn go_on(index: &mut usize) -> Continuation
+fn to_next(index: &mut usize) -> Continuation
     ensures ends { (base : ℕ) (registers : List ℕ) (m : AddressSpace) →
         let s = state (word_address base index.old) registers m in
         (state (word_address base index.new) registers m, step_ended result) ≡ continues_at (word_sum s.pc 4) s }
-    ensures goes { (count : ℕ) → Goes count index.old index.new result }
+    ensures goes { (count : ℕ) → Continues count index.old index.new result }
 {
     *index = index.wrapping_add(1);
     Continuation::Next
@@ -53,7 +51,7 @@ fn write_back(hart: &mut Hart, index: &mut usize, inst: &Inst, value: u32) -> Co
     requires { HasRegisters inst.now }
     ensures ends { (base : ℕ) (m : AddressSpace) → (state_at base index.new hart.new m, step_ended result)
         ≡ computes inst.now value (state_at base index.old hart.old m) }
-    ensures goes { (count : ℕ) → Goes count index.old index.new result }
+    ensures goes { (count : ℕ) → Continues count index.old index.new result }
 {
     write(hart, inst.rd, value);
     *index = index.wrapping_add(1);
@@ -67,7 +65,7 @@ fn operate(hart: &mut Hart, index: &mut usize, inst: &Inst, op: Op) -> Continuat
     ensures ends { (base : ℕ) (m : AddressSpace) → let s = state_at base index.old hart.old m in
         (state_at base index.new hart.new m, step_ended result)
         ≡ computes inst.now (computed op (rs1_value inst.now s) (rs2_value inst.now s) inst.now.imm) s }
-    ensures goes { (count : ℕ) → Goes count index.old index.new result }
+    ensures goes { (count : ℕ) → Continues count index.old index.new result }
 {
     let a = read(hart, inst.rs1);
     let b = read(hart, inst.rs2);
@@ -76,12 +74,12 @@ fn operate(hart: &mut Hart, index: &mut usize, inst: &Inst, op: Op) -> Continuat
 
 /// The hart goes on with the word at this address.
 #[inline(always)]
-fn go_to(index: &mut usize, base: u32, count: usize, target: u32) -> Continuation
+fn to_target(index: &mut usize, base: u32, count: usize, target: u32) -> Continuation
     requires base { base % 4 ≡ 0 }
     requires target { target % 4 ≡ 0 }
     ensures at { word_address base index.new ≡ target }
     ensures retires { step_ended result ≡ Stepped.Retired }
-    ensures goes { Goes count index.old index.new result }
+    ensures goes { Continues count index.old index.new result }
 {
     *index = index_of(base, target);
     if *index < count {
@@ -104,14 +102,14 @@ fn jump(
     requires base { base % 4 ≡ 0 }
     ensures ends { (m : AddressSpace) → (state_at base index.new hart.new m, step_ended result)
         ≡ jumps inst.now target (state_at base index.old hart.old m) }
-    ensures goes { Goes count index.old index.new result }
+    ensures goes { Continues count index.old index.new result }
 {
     if target % 4 != 0 {
         return Continuation::Stopped(Stepped::Trap(Cause::Target));
     }
     let link = pc_of(base, *index).wrapping_add(4);
     write(hart, inst.rd, link);
-    go_to(index, base, count, target)
+    to_target(index, base, count, target)
 }
 
 #[inline(always)]
@@ -120,7 +118,7 @@ fn branch(index: &mut usize, base: u32, count: usize, inst: &Inst, taken: bool) 
     ensures ends { (registers : List ℕ) (m : AddressSpace) →
         (state (word_address base index.new) registers m, step_ended result)
         ≡ branches inst.now taken (state (word_address base index.old) registers m) }
-    ensures goes { Goes count index.old index.new result }
+    ensures goes { Continues count index.old index.new result }
 {
     if !taken {
         *index = index.wrapping_add(1);
@@ -130,7 +128,7 @@ fn branch(index: &mut usize, base: u32, count: usize, inst: &Inst, taken: bool) 
     if target % 4 != 0 {
         return Continuation::Stopped(Stepped::Trap(Cause::Target));
     }
-    go_to(index, base, count, target)
+    to_target(index, base, count, target)
 }
 
 /// A number that was loaded goes into the destination.
@@ -139,7 +137,7 @@ fn load(hart: &mut Hart, index: &mut usize, inst: &Inst, number: Option<u32>) ->
     requires { HasRegisters inst.now }
     ensures ends { (base : ℕ) (m : AddressSpace) → (state_at base index.new hart.new m, step_ended result)
         ≡ loads inst.now number (state_at base index.old hart.old m) }
-    ensures goes { (count : ℕ) → Goes count index.old index.new result }
+    ensures goes { (count : ℕ) → Continues count index.old index.new result }
 {
     match number {
         Some(number) => write_back(hart, index, inst, number),
@@ -171,52 +169,39 @@ fn signed_half(number: Option<u32>) -> Option<u32>
 
 /// The number that a load means, where it may be loaded.
 #[inline(always)]
-fn loaded(
-    hart: &Hart,
-    paged: &mut PagedMemory,
-    alloc: Global,
-    inst: &Inst,
-    size: u32,
-) -> Option<u32>
-    requires paged { IsPaged paged.old }
+fn loaded(hart: &Hart, memory: &mut ProgramMemory<'_>, inst: &Inst, size: u32) -> Option<u32>
     requires registers { HasRegisters inst.now }
     requires size { is_size size ≡ true }
-    ensures rest { paged.new ≡ record paged.old { pages = paged.new.pages } }
-    ensures paged { IsPaged paged.new }
-    ensures same { memory_of paged.new ≡ memory_of paged.old }
-    ensures number { (pc : ℕ) → result ≡ operand inst.now size (state pc hart.now.regs (memory_of paged.old)) }
+    ensures same { memory.new ≡ memory.old }
+    ensures number { (pc : ℕ) → result ≡ operand inst.now size (state pc hart.now.regs memory.old) }
     ensures fits { IfSome result (λ number. number < 2 ^ (8 * size)) }
 {
     let at = read(hart, inst.rs1).wrapping_add(inst.imm);
-    access::load_paging(paged, alloc, at, size as usize)
+    memory.load_caching(at, size)
 }
 
 /// The lowest bytes of a word go into memory from this address on.
 #[inline(always)]
 fn finish_store(
     index: &mut usize,
-    paged: &mut PagedMemory,
-    alloc: Global,
+    memory: &mut ProgramMemory<'_>,
     at: u32,
     word: u32,
     size: usize,
 ) -> Result<Continuation, Memory>
-    requires paged { IsPaged paged.old }
     requires size { size ≤ 4 }
-    ensures rest { paged.new ≡ record paged.old { pages = paged.new.pages } }
-    ensures paged { IsPaged paged.new }
     ensures ok { (base : ℕ) (registers : List ℕ) →
-        let s = state (word_address base index.old) registers (memory_of paged.old) in
-        IfOk result (λ how. (state (word_address base index.new) registers (memory_of paged.new), step_ended how)
-        ≡ finishes_store (stored (memory_of paged.old) at (number_bytes size word)) s) }
-    ensures goes { IfOk result (λ how. (count : ℕ) → Goes count index.old index.new how) }
+        let s = state (word_address base index.old) registers memory.old in
+        IfOk result (λ how. (state (word_address base index.new) registers memory.new, step_ended how)
+        ≡ finishes_store (stored memory.old at (number_bytes size word)) s) }
+    ensures goes { IfOk result (λ how. (count : ℕ) → Continues count index.old index.new how) }
     ensures err { OnErr result (index.new ≡ index.old) }
-    ensures same { OnErr result (memory_of paged.new ≡ memory_of paged.old) }
-    ensures retires { let after = stored (memory_of paged.old) at (number_bytes size word) in
+    ensures same { OnErr result (memory.new ≡ memory.old) }
+    ensures retires { let after = stored memory.old at (number_bytes size word) in
         (s : State) → OnErr result ((finishes_store after s).1 ≡ Stepped.Retired) }
 {
-    match access::store_word(paged, alloc, at, word, size) {
-        Ok(true) => Ok(go_on(index)),
+    match memory.store_word(at, word, size) {
+        Ok(true) => Ok(to_next(index)),
         Ok(false) => Ok(Continuation::Stopped(Stepped::Trap(Cause::Store))),
         Err(error) => Err(error),
     }
@@ -227,51 +212,43 @@ fn finish_store(
 fn store(
     hart: &Hart,
     index: &mut usize,
-    paged: &mut PagedMemory,
-    alloc: Global,
+    memory: &mut ProgramMemory<'_>,
     inst: &Inst,
     size: usize,
 ) -> Result<Continuation, Memory>
-    requires paged { IsPaged paged.old }
     requires registers { HasRegisters inst.now }
     requires size { size ≤ 4 }
-    ensures rest { paged.new ≡ record paged.old { pages = paged.new.pages } }
-    ensures paged { IsPaged paged.new }
-    ensures ok { (base : ℕ) → IfOk result (λ how. (indexed_state base index.new hart.now paged.new, step_ended how)
-        ≡ stores inst.now size (indexed_state base index.old hart.now paged.old)) }
-    ensures goes { IfOk result (λ how. (count : ℕ) → Goes count index.old index.new how) }
+    ensures ok { (base : ℕ) → IfOk result (λ how. (state_at base index.new hart.now memory.new, step_ended how)
+        ≡ stores inst.now size (state_at base index.old hart.now memory.old)) }
+    ensures goes { IfOk result (λ how. (count : ℕ) → Continues count index.old index.new how) }
     ensures err { OnErr result (index.new ≡ index.old) }
-    ensures same { OnErr result (memory_of paged.new ≡ memory_of paged.old) }
+    ensures same { OnErr result (memory.new ≡ memory.old) }
     ensures retires { (base : ℕ) → OnErr result
-        ((stores inst.now size (indexed_state base index.old hart.now paged.old)).1 ≡ Stepped.Retired) }
+        ((stores inst.now size (state_at base index.old hart.now memory.old)).1 ≡ Stepped.Retired) }
 {
     let at = read(hart, inst.rs1).wrapping_add(inst.imm);
-    finish_store(index, paged, alloc, at, read(hart, inst.rs2), size)
+    finish_store(index, memory, at, read(hart, inst.rs2), size)
 }
 
-/// Carries out the instruction of the word at an index among a given number. The hart's own pc stands still.
+/// Carries out the instruction of the word at an index among a given number. The hart's own pc is not changed.
 #[inline(always)]
 pub(crate) fn carry_out(
     hart: &mut Hart,
     index: &mut usize,
     base: u32,
     count: usize,
-    paged: &mut PagedMemory,
-    alloc: Global,
+    memory: &mut ProgramMemory<'_>,
     inst: &Inst,
 ) -> Result<Continuation, Memory>
-    requires paged { IsPaged paged.old }
     requires registers { HasRegisters inst.now }
     requires base { base % 4 ≡ 0 }
-    ensures rest { paged.new ≡ record paged.old { pages = paged.new.pages } }
-    ensures paged { IsPaged paged.new }
-    ensures ok { IfOk result (λ how. (indexed_state base index.new hart.new paged.new, step_ended how)
-        ≡ carried_out inst.now (indexed_state base index.old hart.old paged.old)) }
-    ensures goes { IfOk result (λ how. GoesBy inst.now.op count index.old index.new how) }
+    ensures ok { IfOk result (λ how. (state_at base index.new hart.new memory.new, step_ended how)
+        ≡ carried_out inst.now (state_at base index.old hart.old memory.old)) }
+    ensures goes { IfOk result (λ how. ContinuesBy inst.now.op count index.old index.new how) }
     ensures err { OnErr result
-        (indexed_state base index.new hart.new paged.new ≡ indexed_state base index.old hart.old paged.old) }
+        (state_at base index.new hart.new memory.new ≡ state_at base index.old hart.old memory.old) }
     ensures retires { OnErr result
-        ((carried_out inst.now (indexed_state base index.old hart.old paged.old)).1 ≡ Stepped.Retired) }
+        ((carried_out inst.now (state_at base index.old hart.old memory.old)).1 ≡ Stepped.Retired) }
     ensures store { OnErr result (is_store inst.now.op ≡ true) }
 {
     Ok(match inst.op {
@@ -345,21 +322,21 @@ pub(crate) fn carry_out(
             hart,
             index,
             inst,
-            signed_byte(loaded(hart, paged, alloc, inst, 1)),
+            signed_byte(loaded(hart, memory, inst, 1)),
         ),
         Op::Lh => load(
             hart,
             index,
             inst,
-            signed_half(loaded(hart, paged, alloc, inst, 2)),
+            signed_half(loaded(hart, memory, inst, 2)),
         ),
-        Op::Lw => load(hart, index, inst, loaded(hart, paged, alloc, inst, 4)),
-        Op::Lbu => load(hart, index, inst, loaded(hart, paged, alloc, inst, 1)),
-        Op::Lhu => load(hart, index, inst, loaded(hart, paged, alloc, inst, 2)),
-        Op::Sb => return store(hart, index, paged, alloc, inst, 1),
-        Op::Sh => return store(hart, index, paged, alloc, inst, 2),
-        Op::Sw => return store(hart, index, paged, alloc, inst, 4),
-        Op::Fence => go_on(index),
+        Op::Lw => load(hart, index, inst, loaded(hart, memory, inst, 4)),
+        Op::Lbu => load(hart, index, inst, loaded(hart, memory, inst, 1)),
+        Op::Lhu => load(hart, index, inst, loaded(hart, memory, inst, 2)),
+        Op::Sb => return store(hart, index, memory, inst, 1),
+        Op::Sh => return store(hart, index, memory, inst, 2),
+        Op::Sw => return store(hart, index, memory, inst, 4),
+        Op::Fence => to_next(index),
         Op::Ecall => Continuation::Stopped(Stepped::Ecall),
         Op::Ebreak => Continuation::Stopped(Stepped::Break),
         Op::Addi => operate(hart, index, inst, Op::Addi),

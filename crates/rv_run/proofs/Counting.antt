@@ -2,7 +2,7 @@
 use Rattle.std.proofs.Common.{◌≡◌, ℕ, zero, suc, ◌+◌, ◌<◌, ◌==◌, ◌||◌, Bool, true, false, cond, List, [], ◌∷◌, map, length, take, min, slice_set, refl, sym, ap, ap₂, subst, ◌∙◌}
 use Rattle.std.proofs.lemmas.List.{get_or-set_same, get_or-set_other}
 use Rattle.std.proofs.Math.ListN.{length-set}
-use Rattle.rv_hart.specs.AddressSpace.{AddressSpace, stored}
+use Rattle.rv_memory.specs.AddressSpace.{AddressSpace, stored}
 use Rattle.rv_hart.specs.Step.{State, step_of}
 use Rattle.rv_hart.specs.declared.outcome.Stepped.{Stepped}
 use Rattle.rv_hart.specs.declared.outcome.Stepped.TheVariants as stepped

@@ -1,6 +1,5 @@
 pub mod Unchanged
 pub mod Counting
-pub mod DigitSteps
 pub mod Slices
 pub mod Lining
 pub mod Ranges

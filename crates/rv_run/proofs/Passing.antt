@@ -16,7 +16,7 @@ use Rattle.rv_run.specs.State.{HartState, MachineState, hart_of, no_hart, runs, 
 use Rattle.rv_run.specs.Calls.{Acted}
 use Rattle.rv_run.specs.Run.{Instant, Run, acts, state_after, next_instant, finished, preceded, joined, run_slice, run_slices, stepped_machine}
 use Rattle.rv_run.specs.Progress.{Progress, CountsRetired, IsBetween, Carried, PassDone, Broke, WentOn, plus_one, to_come, count_of_first, due_of, first_due, is_plain, retires_plainly, plain_count, some_of, pass_length}
-use Rattle.rv_run.specs.private.Queue.{Passing, less, HaveRoom, IsNext, StandsAt}
+use Rattle.rv_run.specs.private.Queue.{Passing, less, HaveRoom, CanGoOn, FirstCanGoOn}
 use Rattle.rv_run.proofs.Counting.{acts-as, counts-of}
 use Rattle.rv_run.proofs.Slices.{IsDue, less-by}
 
@@ -50,7 +50,7 @@ none-asked : (hart : ℕ) (s : MachineState) → plain_count 0 hart s ≡ 0
 unfolding plain_count
 none-asked hart s = refl
 
--- a step that retired is one, and keeps how the hart stands
+-- a step that retired is one, and keeps whether the hart runs
 pub step-plain : (hart : ℕ) (s new : MachineState) (how : Stepped) → hart < length s.harts → new ≡ stepped_machine hart (step_of (step_state (hart_of s hart) s.memory)) s
     → how ≡ (step_of (step_state (hart_of s hart) s.memory)).1 → how ≡ stepped.Retired → Plain hart s new
 step-plain hart s new how within is ends retired =
@@ -268,9 +268,9 @@ broke-many hart many asked most s new left less_left skipped slice p first of_ha
       carried = carried-many slice.hart many most s new left less_left skipped p (first-whole left slice first) (omega arith) (omega arith) taken run;
     })
 
-pub stands-first : (s : MachineState) (left : List Slice) (slice : Slice) → StandsAt s left → first_or_none left ≡ Some slice → IsNext s slice
-stands-first s [] slice stands first = absurd cc
-stands-first s (x ∷ rest) slice stands first = let same : x ≡ slice = cc in subst (IsNext s) same stands
+pub first-can : (s : MachineState) (left : List Slice) (slice : Slice) → FirstCanGoOn s left → first_or_none left ≡ Some slice → CanGoOn s slice
+first-can s [] slice can first = absurd cc
+first-can s (x ∷ rest) slice can first = let same : x ≡ slice = cc in subst (CanGoOn s) same can
 
 -- nothing was done yet, and the first instruction does not retire by itself
 pub stops-first : (hart many asked : ℕ) (s new : MachineState) → new ≡ s → many ≡ 0 → 0 < asked → (many ≡ asked) ⊎ (retires_plainly hart new ≡ false) → retires_plainly hart s ≡ false

@@ -6,17 +6,18 @@ use Rattle.std.proofs.lemmas.Bool.{and_parts, leb-true, le-leb}
 use Rattle.std.proofs.lemmas.Bool.Decides.{eqb_tells}
 use Rattle.std.proofs.lemmas.List.Folds.{list_all_at}
 use Rattle.std.proofs.lemmas.List.FromFn.{get_or-range_with_len, length-range_with_len, length-map-range_with_len, map-range_with_len_more}
-use Rattle.rv_hart.proofs.Near.{all-range}
+use Rattle.rv_memory.proofs.Contiguous.{all-range}
 use Rattle.std.proofs.lemmas.List.Sums.{AllPass-from_list_all}
 use Rattle.elf_image.specs.declared.elf.TheConstants.{PF_R}
-use Rattle.rv_hart.specs.AddressSpace.{AddressSpace, may, may_all, loaded, byte_at, memory_number}
+use Rattle.rv_memory.specs.AddressSpace.{AddressSpace, may, may_all, loaded, byte_at, memory_number}
 use Rattle.elf_image.specs.Image.{ProgramImage}
+use Rattle.scope_types.specs.Limits.{most_harts}
 use Rattle.rv_run.specs.declared.schedule.Slice.{Slice}
 use Rattle.rv_run.specs.Schedule.{Scheduled, IsSchedule, IsSlice}
 use Rattle.rv_run.specs.State.{HartState, MachineState, hart_in, first_hart, first_state, is_running}
 use Rattle.rv_run.specs.Calls.{all_readable, memory_bytes}
 use Rattle.rv_run.specs.Progress.{Progress, IsFresh}
-use Rattle.rv_run.specs.private.Queue.{IsReady, StandsAt}
+use Rattle.rv_run.specs.private.Queue.{IsReady, FirstCanGoOn}
 
 pub one-unreadable : (memory : AddressSpace) (at count place : ℕ) → place < count → may PF_R memory.regions (at + place) ≡ false → may_all PF_R memory at count ≡ false
 one-unreadable memory at count place within unreadable =
@@ -84,7 +85,7 @@ first-running entry harts (n ∷ numbers) (suc hart) = first-running entry harts
 first-length : (entry harts : ℕ) → length (map (first_hart entry harts) (range_with_len 0 harts)) ≡ harts
 first-length entry harts = length-map-range_with_len (first_hart entry harts) 0 harts
 
-pub fresh-start : (program : ProgramImage) (harts : ℕ) (input : List ℕ) → harts ≤ 16 → IsFresh (first_state program harts input)
+pub fresh-start : (program : ProgramImage) (harts : ℕ) (input : List ℕ) → harts ≤ most_harts → IsFresh (first_state program harts input)
 fresh-start program harts input few =
     record { few = omega (arith, first-length program.entry harts); none = λ hart. first-retired program.entry harts (range_with_len 0 harts) hart }
 
@@ -93,10 +94,10 @@ ready-start program schedule input is =
     record {
       harts = λ k d few. subst (λ (n : ℕ). (get_or schedule.slices k d).hart < n) (sym (first-length program.entry schedule.harts)) (is.slices k d few).hart;
       room = λ hart. omega (arith, is.instructions, first-retired program.entry schedule.harts (range_with_len 0 schedule.harts) hart);
-      stands = at schedule.slices is.slices;
+      next = at schedule.slices is.slices;
     }
   where
-    at : (slices : List Slice) → All (IsSlice schedule.harts) slices → StandsAt (first_state program schedule.harts input) slices
+    at : (slices : List Slice) → All (IsSlice schedule.harts) slices → FirstCanGoOn (first_state program schedule.harts input) slices
     at [] all = tt
     at (slice ∷ rest) all = ((all 0 slice (omega arith)).count, first-running program.entry schedule.harts (range_with_len 0 schedule.harts) slice.hart)
 

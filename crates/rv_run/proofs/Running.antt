@@ -2,7 +2,7 @@
 use Rattle.std.proofs.Common.{◌≡◌, ◌⊎◌, inl, inr, ℕ, zero, suc, ◌+◌, ◌<◌, true, false, List, length, Result, Ok, Err, IfOk, OnErr, refl, sym, ap, ap₂, subst, ◌∙◌, set, arith}
 use Rattle.std.proofs.lemmas.List.{get_or-set_same, set-set, set-get_or, length-set}
 use Rattle.prof_bytes.specs.declared.fail.Memory.{Memory}
-use Rattle.rv_hart.specs.AddressSpace.{AddressSpace}
+use Rattle.rv_memory.specs.AddressSpace.{AddressSpace}
 use Rattle.rv_hart.specs.Running.{after_steps, Ran}
 use Rattle.rv_hart.specs.Step.{State, step_of, StoresNow}
 use Rattle.rv_hart.specs.declared.outcome.Stepped.{Stepped}

@@ -10,7 +10,7 @@ use Rattle.rv_run.specs.State.{MachineState, hart_of, is_running}
 use Rattle.rv_run.specs.Calls.{Acted}
 use Rattle.rv_run.specs.Run.{Run, acts, state_after, next_instant, finished, preceded, joined, run_slice, run_slices}
 use Rattle.rv_run.specs.Progress.{CountsRetired, plus_one, count_of_first, due_of, first_due, WentOn}
-use Rattle.rv_run.specs.private.Queue.{with_left, less, AreOfHarts, HaveRoom, IsNext, StandsAt}
+use Rattle.rv_run.specs.private.Queue.{with_left, less, AreOfHarts, HaveRoom, CanGoOn, FirstCanGoOn}
 
 whole : (slices : List Slice) → with_left (count_of_first slices) slices ≡ slices
 whole [] = refl
@@ -38,35 +38,35 @@ one s hart (suc count) rest some runs =
     ap (λ (b : Bool). joined (cond b (preceded (next_instant hart s ∷ []) (run_slice count hart (state_after hart s))) (finished s)) (run_slices rest)) runs
     ∙ ap (λ (n : ℕ). preceded (next_instant hart s ∷ []) (joined (run_slice n hart (state_after hart s)) (run_slices rest))) (let e : count ≡ suc count - 1 = omega arith in e)
 
--- what is due of slices that stand at their next instruction
+-- what is due of slices of a machine before its next instruction
 pub record IsDue (s : MachineState) (left : List Slice) (due : Due) : Type 0 where
   pub some : 0 < count_of_first left
   pub first_due_is : due ≡ due_of (next_instant due.hart s)
   pub run : run_slices left s ≡ preceded (next_instant due.hart s ∷ []) (run_slices (less 1 left) (state_after due.hart s))
   pub first_is : first_or_none left ≡ Some (record { hart = due.hart; count = count_of_first left })
 
-first-run : (s : MachineState) (slice : Slice) (rest : List Slice) → IsNext s slice → run_slices (slice ∷ rest) s ≡ preceded (next_instant slice.hart s ∷ []) (run_slices (less 1 (slice ∷ rest)) (state_after slice.hart s))
+first-run : (s : MachineState) (slice : Slice) (rest : List Slice) → CanGoOn s slice → run_slices (slice ∷ rest) s ≡ preceded (next_instant slice.hart s ∷ []) (run_slices (less 1 (slice ∷ rest)) (state_after slice.hart s))
 unfolding run_slices
 first-run s slice rest next = one s slice.hart slice.count rest next.0 next.1
 
-pub due-first : (s : MachineState) (left : List Slice) (slice : Slice) → StandsAt s left → first_or_none left ≡ Some slice → Some (due_of (next_instant slice.hart s)) ≡ first_due (run_slices left s).instants
-due-first s [] slice stands first = absurd cc
-due-first s (x ∷ rest) slice stands first =
+pub due-first : (s : MachineState) (left : List Slice) (slice : Slice) → FirstCanGoOn s left → first_or_none left ≡ Some slice → Some (due_of (next_instant slice.hart s)) ≡ first_due (run_slices left s).instants
+due-first s [] slice can first = absurd cc
+due-first s (x ∷ rest) slice can first =
     let same : x ≡ slice = cc in
     ap (λ (y : Slice). Some (due_of (next_instant y.hart s))) (sym same)
-    ∙ ap (λ (r : Run). first_due r.instants) (sym (first-run s x rest stands))
+    ∙ ap (λ (r : Run). first_due r.instants) (sym (first-run s x rest can))
 
-pub due-is : (s : MachineState) (left : List Slice) (due : Due) → StandsAt s left → Some due ≡ first_due (run_slices left s).instants → IsDue s left due
+pub due-is : (s : MachineState) (left : List Slice) (due : Due) → FirstCanGoOn s left → Some due ≡ first_due (run_slices left s).instants → IsDue s left due
 unfolding run_slices
-due-is s [] due stands told = absurd (let e : Some due ≡ None = told in cc)
-due-is s (x ∷ rest) due stands told =
-    let here : Some due ≡ Some (due_of (next_instant x.hart s)) = told ∙ ap (λ (r : Run). first_due r.instants) (first-run s x rest stands) in
+due-is s [] due can told = absurd (let e : Some due ≡ None = told in cc)
+due-is s (x ∷ rest) due can told =
+    let here : Some due ≡ Some (due_of (next_instant x.hart s)) = told ∙ ap (λ (r : Run). first_due r.instants) (first-run s x rest can) in
     let same : due ≡ due_of (next_instant x.hart s) = cc in
     let hart : x.hart ≡ due.hart = sym (ap (λ (d : Due). d.hart) same) in
     record {
-      some = stands.0;
+      some = can.0;
       first_due_is = same ∙ ap (λ (h : ℕ). due_of (next_instant h s)) hart;
-      run = first-run s x rest stands ∙ ap (λ (h : ℕ). preceded (next_instant h s ∷ []) (run_slices (less 1 (x ∷ rest)) (state_after h s))) hart;
+      run = first-run s x rest can ∙ ap (λ (h : ℕ). preceded (next_instant h s ∷ []) (run_slices (less 1 (x ∷ rest)) (state_after h s))) hart;
       first_is = ap (λ (h : ℕ). Some (record { hart = h; count = x.count })) hart;
     }
 

@@ -6,7 +6,7 @@ use Rattle.std.specs.Prelude.{take, drop, min, if◌then◌else◌}
 use Rattle.std.specs.List.{range_with_len}
 use Rattle.prof_bytes.specs.Number.{word_sum}
 use Rattle.elf_image.specs.declared.elf.TheConstants.{PF_R}
-use Rattle.rv_hart.specs.AddressSpace.{AddressSpace, may_all, byte_at, stored}
+use Rattle.rv_memory.specs.AddressSpace.{AddressSpace, may_all, byte_at, stored}
 use Rattle.rv_hart.specs.Step.{register, with_register}
 use Rattle.rv_run.specs.declared.hart.HartEnd.{HartEnd}
 use Rattle.rv_run.specs.declared.linux.TheConstants.{SYS_READ, SYS_WRITE, SYS_EXIT, SYS_EXIT_GROUP, EBADF, EFAULT}
@@ -33,6 +33,7 @@ negative error = 2 ^ 32 - error
 abbrev pub most_output : ℕ
 most_output = 1048576
 
+-- a call that changes nothing but for its answer
 abbrev pub only_answers : ℕ → MachineState → Answered
 only_answers answer s = record { state = s; answer = answer }
 
@@ -57,6 +58,7 @@ memory_bytes memory at count = map (byte_at memory) (range_with_len at count)
 abbrev pub room_for : ℕ → List ℕ → ℕ
 room_for count output = min count (most_output - length output)
 
+-- bytes of memory go to the output
 abbrev pub writes_out : ℕ → ℕ → MachineState → Answered
 writes_out at count s =
     record { state = record s { output = s.output ++ memory_bytes s.memory at count }; answer = count }
@@ -82,9 +84,11 @@ with_answer answer hart =
     let registers = with_register hart.registers A0 answer in
     record { pc = word_sum hart.pc 4; registers = registers; retired = hart.retired + 1; end = hart.end }
 
+-- a hart that ended so
 abbrev pub with_end : HartEnd → HartState → HartState
 with_end end hart = record hart { end = end }
 
+-- a call completes with its answer, and is retired
 abbrev pub completes : ℕ → Answered → Acted
 completes hart answered =
     let after = with_answer answered.answer (hart_of answered.state hart) in
@@ -98,6 +102,7 @@ ends_by hart end s = record { state = with_hart hart (with_end end (hart_of s ha
 abbrev pub grouped : ℕ → HartState → HartState
 grouped status hart = if is_running hart then with_end (ends.Group status) hart else hart
 
+-- all harts end, and the instruction is not retired
 abbrev pub ends_all : ℕ → MachineState → Acted
 ends_all status s = record { state = record s { harts = map (grouped status) s.harts }; retired = false }
 
@@ -114,5 +119,6 @@ call_numbered hart number a b c s =
 abbrev pub holds_in : ℕ → MachineState → ℕ → ℕ
 holds_in hart s number = register (hart_of s hart).registers number
 
+-- the call of a hart, by its registers
 abbrev pub calls : ℕ → MachineState → Acted
 calls hart s = call_numbered hart (holds_in hart s A7) (holds_in hart s A0) (holds_in hart s A1) (holds_in hart s A2) s

@@ -1,4 +1,3 @@
-pub mod Numerals
 pub mod Schedule
 pub mod State
 pub mod Calls

@@ -6,11 +6,11 @@ use Rattle.rv_hart.specs.declared.outcome.Stepped.TheVariants as stepped
 use Rattle.rv_run.specs.declared.schedule.Slice.{Slice}
 use Rattle.rv_run.specs.declared.machine.Moment.{Moment}
 use Rattle.rv_run.specs.declared.machine.Due.{Due}
-use Rattle.rv_run.specs.Schedule.{most_harts}
+use Rattle.scope_types.specs.Limits.{most_harts}
 use Rattle.rv_run.specs.State.{MachineState, hart_of, hart_step}
 use Rattle.rv_run.specs.Run.{Instant, Run, finished, preceded, next_instant, state_after, run_slices}
 
--- how the machine stands, and the slices that are left, of which the first may be what is left of one
+-- the state of the machine, and the slices that are left, of which the first may be what is left of one
 pub record Progress : Type 0 where
   pub state : MachineState
   pub left : List Slice
@@ -19,14 +19,16 @@ pub record Progress : Type 0 where
 abbrev pub to_come : Progress → Run
 to_come p = run_slices p.left p.state
 
+-- an instruction before it is carried out
 abbrev pub due_of : Instant → Due
 due_of i = record { hart = i.moment.hart; pc = i.moment.pc; ordinal = i.moment.ordinal }
 
+-- the first of these, if there is one
 abbrev pub first_due : List Instant → Option Due
 first_due [] = None
 first_due (first ∷ rest) = Some (due_of first)
 
--- a machine whose harts, at most 16, retired nothing
+-- a machine of no more harts than there may be, of which none retired an instruction
 pub record IsFresh (s : MachineState) : Type 0 where
   pub few : length s.harts ≤ most_harts
   pub none : (hart : ℕ) → (hart_of s hart).retired ≡ 0
@@ -44,10 +46,12 @@ pub record HasEnded (old new : Progress) : Type 0 where
   pub run : to_come old ≡ finished old.state
   pub same : new ≡ old
 
+-- the machine carried out what it answers
 abbrev pub Went : Option Moment → Progress → Progress → Type 0
 Went None old new = HasEnded old new
 Went (Some moment) old new = WentOn moment old new
 
+-- one more where the instruction retired
 abbrev pub plus_one : Bool → ℕ → ℕ
 plus_one true count = count + 1
 plus_one false count = count
@@ -58,12 +62,14 @@ pub record CountsRetired (hart : ℕ) (is_retired : Bool) (old new : MachineStat
   pub others : (other : ℕ) → ¬ (other ≡ hart) → (hart_of new other).retired ≡ (hart_of old other).retired
   pub harts : length new.harts ≡ length old.harts
 
+-- where an instruction was carried out
 abbrev pub CountsBy : Option Moment → MachineState → MachineState → Type 0
 CountsBy None old new = Unit {0}
 CountsBy (Some moment) old new = CountsRetired moment.hart moment.retired old new
 
 -- ---- many instructions of one hart
 
+-- a step that retired
 abbrev pub is_plain : Stepped → Bool
 is_plain stepped.Retired = true
 is_plain _ = false

@@ -2,7 +2,7 @@
 -- before it; and the state of the machine after them.
 use Rattle.std.specs.Prelude.{ℕ, zero, suc, ◌+◌, Bool, true, List, [], ◌∷◌, ◌++◌, if◌then◌else◌}
 use Rattle.elf_image.specs.Image.{ProgramImage}
-use Rattle.rv_hart.specs.AddressSpace.{AddressSpace}
+use Rattle.rv_memory.specs.AddressSpace.{AddressSpace}
 use Rattle.rv_hart.specs.Step.{State}
 use Rattle.rv_hart.specs.declared.outcome.Stepped.{Stepped}
 use Rattle.rv_hart.specs.declared.outcome.Stepped.TheVariants as stepped
@@ -35,6 +35,7 @@ acts_by stepped.Ecall hart s = calls hart s
 acts_by stepped.Break hart s = ends_by hart (ends.Break (hart_of s hart).pc) s
 acts_by (stepped.Trap cause) hart s = ends_by hart (ends.Trap cause (hart_of s hart).pc) s
 
+-- what is done after a step
 abbrev pub acts_after : ℕ → State × Stepped → MachineState → Acted
 acts_after hart step s = acts_by step.1 hart (stepped_machine hart step s)
 
@@ -53,6 +54,7 @@ instant hart s retired =
 abbrev pub state_after : ℕ → MachineState → MachineState
 state_after hart s = (acts hart s).state
 
+-- and that instruction
 abbrev pub next_instant : ℕ → MachineState → Instant
 next_instant hart s = instant hart s (acts hart s).retired
 
@@ -71,6 +73,7 @@ run_slice (suc count) hart s =
     if is_running (hart_of s hart) then preceded (next_instant hart s ∷ []) (run_slice count hart (state_after hart s))
     else finished s
 
+-- a run, and then one that begins with its last machine
 abbrev pub joined : Run → (MachineState → Run) → Run
 joined first rest = preceded first.instants (rest first.final)
 

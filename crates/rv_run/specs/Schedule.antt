@@ -7,20 +7,19 @@ use Rattle.std.specs.List.{starts_with}
 use Rattle.prof_bytes.specs.Outcome.{◌>>=◌}
 use Rattle.rv_run.specs.declared.schedule.Slice.{Slice}
 use Rattle.rv_run.specs.declared.schedule.ScheduleFault.{ScheduleFault}
-use Rattle.rv_run.specs.Numerals.{decimal_in}
+use Rattle.prof_bytes.specs.Numerals.{decimal_in}
+use Rattle.scope_types.specs.Limits.{most_harts}
 
 -- the number of harts, and the slices in order
 pub record Scheduled : Type 0 where
   pub harts : ℕ
   pub slices : List Slice
 
--- how many harts there may be, and how many instructions all slices together may retire
-abbrev pub most_harts : ℕ
-most_harts = 16
-
+-- how many instructions all slices together may retire
 abbrev pub most_instructions : ℕ
 most_instructions = 4294967295
 
+-- lines with one byte more at the front of the first
 abbrev pub with_first_byte : ℕ → List (List ℕ) → List (List ℕ)
 with_first_byte byte [] = (byte ∷ []) ∷ []
 with_first_byte byte (line ∷ rest) = (byte ∷ line) ∷ rest
@@ -35,6 +34,7 @@ pub record NumberedLine : Type 0 where
   pub number : ℕ
   pub bytes : List ℕ
 
+-- lines with their numbers, from this one on
 unfoldable pub numbered_lines : ℕ → List (List ℕ) → List NumberedLine
 numbered_lines first [] = []
 numbered_lines first (line ∷ rest) = record { number = first; bytes = line } ∷ numbered_lines (first + 1) rest
@@ -44,12 +44,15 @@ abbrev pub is_ignored : List ℕ → Bool
 is_ignored [] = true
 is_ignored (byte ∷ rest) = byte == 35
 
+-- the line counts
 abbrev pub is_entry : NumberedLine → Bool
 is_entry line = not (is_ignored line.bytes)
 
+-- the lines that count
 abbrev pub entries : List NumberedLine → List NumberedLine
 entries all = filter is_entry all
 
+-- how the first of them begins
 abbrev pub harts_word : List ℕ
 harts_word = codes "harts "
 
@@ -57,10 +60,12 @@ harts_word = codes "harts "
 abbrev pub harts_in : List ℕ → Option ℕ
 harts_in line = if starts_with nat_eq line harts_word then decimal_in 1 most_harts (drop 6 line) else None
 
+-- a slice of these numbers, if both are there
 abbrev pub slice_by : Option ℕ → Option ℕ → Option Slice
 slice_by (Some hart) (Some count) = Some (record { hart = hart; count = count })
 slice_by _ _ = None
 
+-- the slice of a line that is cut at its first space, if it has one
 abbrev pub slice_cut : ℕ → ℕ → List ℕ → Option ℕ → Option Slice
 slice_cut harts used line None = None
 slice_cut harts used line (Some space) =
@@ -77,6 +82,7 @@ abbrev pub on_line : {X : Type 0} → ℕ → Option X → Result X ScheduleFaul
 on_line line None = Err (record { line = line })
 on_line line (Some x) = Ok x
 
+-- slices before others, if these are there
 abbrev pub slices_before : List Slice → Result (List Slice) ScheduleFault → Result (List Slice) ScheduleFault
 slices_before slices rest = do
   more ← rest
@@ -101,6 +107,7 @@ schedule_in end (first ∷ rest) = do
 abbrev pub schedule_of : List ℕ → Result Scheduled ScheduleFault
 schedule_of bytes = schedule_in (length (lines bytes) + 1) (entries (numbered_lines 1 (lines bytes)))
 
+-- how many instructions a slice has
 abbrev pub slice_count : Slice → ℕ
 slice_count slice = slice.count
 
@@ -113,6 +120,7 @@ pub record IsSlice (harts : ℕ) (slice : Slice) : Type 0 where
   pub hart : slice.hart < harts
   pub count : 0 < slice.count
 
+-- what is so of every schedule that is read
 pub record IsSchedule (s : Scheduled) : Type 0 where
   pub some : 0 < s.harts
   pub few : s.harts ≤ most_harts

@@ -3,7 +3,7 @@
 use Rattle.std.specs.Prelude.{ℕ, ◌+◌, ◌-◌, ◌==◌, Bool, true, false, List, [], map, slice_set, if◌then◌else◌}
 use Rattle.std.specs.List.{range_with_len, slice_index_or}
 use Rattle.elf_image.specs.Image.{ProgramImage}
-use Rattle.rv_hart.specs.AddressSpace.{AddressSpace, first_memory, stack_of}
+use Rattle.rv_memory.specs.AddressSpace.{AddressSpace, first_memory, stack_of}
 use Rattle.rv_hart.specs.Step.{State, state, step_of}
 use Rattle.rv_hart.specs.declared.outcome.Stepped.{Stepped}
 use Rattle.rv_hart.specs.declared.outcome.Stepped.TheVariants as stepped
@@ -11,13 +11,14 @@ use Rattle.rv_run.specs.declared.hart.HartEnd.{HartEnd}
 use Rattle.rv_run.specs.declared.linux.TheConstants.{SP, A0, A1}
 use Rattle.rv_run.specs.declared.hart.HartEnd.TheVariants as ends
 
--- a hart: its pc, its registers, how many instructions it retired, and how it stands
+-- a hart: its pc, its registers, how many instructions it retired, and whether it runs or how it ended
 pub record HartState : Type 0 where
   pub pc : ℕ
   pub registers : List ℕ
   pub retired : ℕ
   pub end : HartEnd
 
+-- memory, the harts by their numbers, what is left of the input, and what was written
 pub record MachineState : Type 0 where
   pub memory : AddressSpace
   pub harts : List HartState
@@ -28,19 +29,24 @@ pub record MachineState : Type 0 where
 abbrev pub no_hart : HartState
 no_hart = record { pc = 0; registers = []; retired = 0; end = ends.Running }
 
+-- the hart of this number, among harts
 abbrev pub hart_in : List HartState → ℕ → HartState
 hart_in harts hart = slice_index_or harts hart no_hart
 
+-- and in a machine
 abbrev pub hart_of : MachineState → ℕ → HartState
 hart_of s hart = hart_in s.harts hart
 
+-- the machine with another hart of this number
 abbrev pub with_hart : ℕ → HartState → MachineState → MachineState
 with_hart hart new s = record s { harts = slice_set s.harts hart new }
 
+-- a hart with this end has not ended
 abbrev pub runs : HartEnd → Bool
 runs ends.Running = true
 runs _ = false
 
+-- the hart has not ended
 abbrev pub is_running : HartState → Bool
 is_running hart = runs hart.end
 
@@ -52,6 +58,7 @@ step_state hart memory = state hart.pc hart.registers memory
 abbrev pub hart_step : ℕ → MachineState → State × Stepped
 hart_step hart s = step_of (step_state (hart_of s hart) s.memory)
 
+-- how many instructions are retired after a step that ended so
 abbrev pub count_after : Stepped → ℕ → ℕ
 count_after stepped.Retired retired = retired + 1
 count_after _ retired = retired

@@ -2,6 +2,7 @@
 //! which they read, write and exit.
 ghost use Rattle.std.specs.Prelude.{◌≡◌, ◌+◌, true, false, ◌<◌, ◌≤◌, ◌^◌, ◌-◌, IfOk, OnErr, length, map};
 ghost use Rattle.std.specs.List.{range_with_len};
+ghost use Rattle.scope_types.specs.Limits.{most_harts};
 ghost use Rattle.rv_run.specs.State.{first_hart, first_state, hart_of, is_running, hart_step};
 ghost use Rattle.rv_run.specs.Calls.{negative, reads, writes, calls, completes, grouped, ends_by, ends_all};
 ghost use Rattle.rv_run.specs.Calls.{only_answers};
@@ -59,7 +60,7 @@ fn negative(error: u32) -> u32
 
 /// The harts before their first instructions.
 fn first_harts(alloc: Global, entry: u32, harts: u32) -> Result<Vec<MachineHart>, Memory>
-    requires { harts ≤ 16 }
+    requires { harts ≤ most_harts }
     ensures { IfOk result (λ cores. cores.items ≡ map (first_hart entry harts) (range_with_len 0 harts)) }
 {
     let mut cores = Vec::new(alloc);
@@ -87,7 +88,7 @@ impl<'a> Environment<'a> {
         harts: u32,
         input: &[u8],
     ) -> Result<Environment<'a>, Memory>
-        requires { harts ≤ 16 }
+        requires { harts ≤ most_harts }
         ensures { IfOk result (λ environment. environment ≡ first_state image.now harts input.now) }
     {
         let mut kept = Vec::new(alloc);

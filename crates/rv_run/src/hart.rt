@@ -1,5 +1,6 @@
-//! One hart of a machine: what it computes with, how far it came, and how it stands.
+//! One hart of a machine: its pc and registers, how many instructions it retired, and how it ended.
 ghost use Rattle.std.specs.Prelude.{◌≡◌, ◌+◌, ◌<◌, ◌≤◌, ◌^◌, IfOk, Ok, OnErr};
+ghost use Rattle.rv_memory.specs.AddressSpace.{most_stacks};
 ghost use Rattle.rv_hart.specs.Running.{Ran};
 ghost use Rattle.rv_hart.specs.Step.{step_of, register, StoresNow};
 ghost use Rattle.rv_run.specs.State.{first_hart, is_running, step_state, stepped_hart};
@@ -7,10 +8,11 @@ ghost use Rattle.rv_run.specs.Calls.{with_answer, with_end, grouped};
 
 use crate::linux::{A0, A1, SP};
 use prof_bytes::Memory;
-use rv_hart::{Cause, Hart, Space, Stepped, run, stack_of, step};
+use rv_hart::{Cause, Hart, Space, Stepped, run, step};
+use rv_memory::stack_of;
 use std::marker::Model;
 
-/// How a hart stands.
+/// Whether a hart runs, and else how it ended.
 #[derive(Clone, Copy, Debug, PartialEq, Eq)]
 pub enum HartEnd {
     /// It has not ended.
@@ -25,7 +27,7 @@ pub enum HartEnd {
     Break { pc: u32 },
 }
 
-/// A hart, how many instructions it retired, and how it stands.
+/// A hart, how many instructions it retired, and how it ended.
 #[derive(Drop)]
 pub(crate) struct MachineHart {
     hart: Hart,
@@ -44,7 +46,7 @@ impl Model for MachineHart {
 impl MachineHart {
     /// A hart before its first instruction.
     pub(crate) fn first(entry: u32, hart: u32, harts: u32) -> MachineHart
-        requires { hart < 64 }
+        requires { hart < most_stacks }
         ensures { result ≡ first_hart entry harts hart }
     {
         let mut regs = [0; 32];

@@ -3,7 +3,7 @@
 //! It promises that a machine carries out exactly the instructions of the run, in its order: the slices
 //! of the schedule one after another, with the environment calls that read, write and exit. Harts are
 //! those of the RISC-V unprivileged manual; the calls have the numbers and answers of Linux for RISC-V.
-//! Below stand one step of one hart, the program's image, and the bytes.
+//! Below are the steps of one hart, the memory of a program, and its image.
 #![tactic(auto)]
 
 mod environment;
@@ -12,7 +12,6 @@ mod laws;
 mod lines;
 pub mod linux;
 mod machine;
-mod numerals;
 mod output;
 mod schedule;
 mod slice_queue;
@@ -20,5 +19,4 @@ mod slice_queue;
 pub use hart::HartEnd;
 pub use laws::{ended_harts_do_nothing, plain_instructions_end_by_themselves, slices_can_be_cut};
 pub use machine::{Due, Machine, Moment};
-pub use numerals::decimal;
 pub use schedule::{Schedule, ScheduleFault, Slice, read_schedule};

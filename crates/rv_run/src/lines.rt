@@ -47,7 +47,7 @@ fn line_end(bytes: &[u8]) -> Option<usize>
     bytes.iter().position(|byte| *byte == 10)
 }
 
-/// The first line without its line feed, and what stands after it.
+/// The first line without its line feed, and what follows it.
 fn split_line(bytes: &[u8]) -> (&[u8], &[u8])
     requires { 0 < length bytes.now }
     ensures lines { lines bytes.now ≡ result.0.now ∷ lines result.1.now }

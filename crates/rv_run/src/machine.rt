@@ -33,7 +33,7 @@ pub struct Due {
     pub ordinal: u64,
 }
 
-/// A program that runs under a schedule, in the middle of its run. Contracts see how it stands and
+/// A program that runs under a schedule, in the middle of its run. Contracts see its state and
 /// which slices are left, and so the rest of its run.
 #[derive(Drop)]
 pub struct Machine<'a> {
@@ -63,7 +63,7 @@ impl<'a> Machine<'a> {
         ensures fresh { IfOk result (λ machine. IsFresh machine.state) }
         ensures machine { IfOk result (λ machine. machine
             ≡ record { state = first_state image.now schedule.harts input.now; left = schedule.slices }) }
-        // The harts of the schedule stand at the end of the run too.
+        // The harts of the schedule are there at the end of the run too.
         ensures harts { IfOk result (λ machine. length (to_come machine).final.harts ≡ schedule.harts) }
         // Each instruction of the run is one of theirs.
         ensures instants { IfOk result (λ machine.
@@ -95,7 +95,7 @@ impl<'a> Machine<'a> {
     }
 
     /// Carries out the next instruction; `None` exactly where the run has ended. After `Memory` the
-    /// machine stands as before.
+    /// machine is as before.
     #[inline(always)]
     pub fn next(&mut self) -> Result<Option<Moment>, Memory>
         ensures ok { IfOk result (λ moment. Went moment self.old self.new) }
@@ -118,7 +118,7 @@ impl<'a> Machine<'a> {
 
     /// Carries out instructions of the hart that is due: those that retire by themselves, up to `most` and up to
     /// the end of the slice; and where the first does not retire by itself, that one. So it ends before an
-    /// environment call, a breakpoint and a trap, and in no other way. After `Memory` the machine stands before
+    /// environment call, a breakpoint and a trap, and in no other way. After `Memory` the machine is before
     /// the instruction for which none was found.
     pub fn pass(&mut self, due: &Due, most: u32) -> Result<(), Memory>
         requires due { Some due.now ≡ first_due (to_come self.old).instants }
@@ -143,7 +143,7 @@ impl<'a> Machine<'a> {
         Ok(())
     }
 
-    /// The memory as it stands.
+    /// The memory at this point of the run.
     pub fn space(&self) -> &Space<'a>
         ensures { result.now ≡ self.now.state.memory }
     {
@@ -182,7 +182,7 @@ impl<'a> Machine<'a> {
         self.environment.core(hart).retired()
     }
 
-    /// How a hart stands.
+    /// Whether a hart runs, and else how it ended.
     pub fn end(&self, hart: u32) -> HartEnd
         requires { hart < length self.now.state.harts }
         ensures { result ≡ (hart_of self.now.state hart).end }

@@ -1,7 +1,7 @@
 //! What a program writes: bytes of its memory.
 ghost use Rattle.std.specs.Prelude.{◌≡◌, ◌+◌, true, IfOk};
 ghost use Rattle.elf_image.specs.declared.elf.TheConstants.{PF_R};
-ghost use Rattle.rv_hart.specs.AddressSpace.{byte_at, may};
+ghost use Rattle.rv_memory.specs.AddressSpace.{byte_at, may};
 ghost use Rattle.rv_run.specs.Calls.{all_readable, memory_bytes};
 
 use prof_bytes::Memory;

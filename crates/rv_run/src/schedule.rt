@@ -1,13 +1,14 @@
 //! The schedule, and reading it from text.
 ghost use Rattle.std.specs.Prelude.{◌≡◌, ◌==◌, ◌-◌, ◌≤◌, ◌<◌, ◌^◌, All, IfOk, IfSome, length, position};
 ghost use Rattle.prof_bytes.specs.Outcome.{Gives};
+ghost use Rattle.scope_types.specs.Limits.{most_harts};
 ghost use Rattle.rv_run.specs.Schedule.{IsSchedule, IsSlice, Scheduled, harts_in, schedule_of, slice_in, slices_of};
 ghost use Rattle.rv_run.specs.Schedule.{entries, instructions, most_instructions};
 ghost use Rattle.rv_run.specs.private.Reading.{to_read};
 
 use crate::lines::Lines;
-use crate::numerals::decimal;
-use prof_bytes::{Fail, Listed};
+use prof_bytes::{Fail, Listed, decimal};
+use scope_types::limits::MOST_HARTS;
 use std::alloc::Global;
 use std::marker::Model;
 
@@ -25,7 +26,7 @@ pub struct ScheduleFault {
     pub line: u32,
 }
 
-/// How many harts there are, from 1 to 16, and their slices in order, which have at most 4294967295
+/// How many harts there are, from 1 to `MOST_HARTS`, and their slices in order, which have at most 4294967295
 /// instructions together.
 #[derive(Debug, Drop)]
 pub struct Schedule {
@@ -72,12 +73,12 @@ impl Schedule {
 /// The line `harts N`.
 fn harts_line(line: &[u8]) -> Option<u32>
     ensures harts { result ≡ harts_in line.now }
-    ensures range { IfSome result (λ n. (1 ≤ n) × (n ≤ 16)) }
+    ensures range { IfSome result (λ n. (1 ≤ n) × (n ≤ most_harts)) }
 {
     if !line.starts_with(b"harts ") {
         return None;
     }
-    decimal(&line[6..], 1, 16)
+    decimal(&line[6..], 1, MOST_HARTS as u32)
 }
 
 fn space_in(line: &[u8]) -> Option<usize>
@@ -123,7 +124,7 @@ fn read_slices(
 }
 
 /// Reads a schedule. The bytes are cut into lines at line feeds; empty lines and lines that
-/// begin with `#` are ignored. The first other line is `harts N`, with N from 1 to 16, and each
+/// begin with `#` are ignored. The first other line is `harts N`, with N from 1 to `MOST_HARTS`, and each
 /// further one is `H C`: for hart H, below N, up to C instructions, from 1 on. All C together are at
 /// most 4294967295. Numbers are decimal without leading zeros. The fault is the first line that is not
 /// so, by its number from 1, or the number after the last where there is no `harts` line. It takes

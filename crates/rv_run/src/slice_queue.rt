@@ -4,7 +4,7 @@ ghost use Rattle.rv_run.specs.private.Reading.{first_or_none, rest_of};
 ghost use Rattle.rv_run.specs.State.{hart_of, is_running};
 ghost use Rattle.rv_run.specs.Run.{run_slices};
 ghost use Rattle.rv_run.specs.Progress.{count_of_first};
-ghost use Rattle.rv_run.specs.private.Queue.{AreOfHarts, HaveRoom, StandsAt, less};
+ghost use Rattle.rv_run.specs.private.Queue.{AreOfHarts, HaveRoom, FirstCanGoOn, less};
 
 use crate::environment::Environment;
 use crate::schedule::Slice;
@@ -99,7 +99,7 @@ impl SliceQueue {
         ensures run { run_slices self.new environment.now ≡ run_slices self.old environment.now }
         ensures harts { AreOfHarts (length environment.now.harts) self.new }
         ensures room { HaveRoom environment.now self.old → HaveRoom environment.now self.new }
-        ensures stands { StandsAt environment.now self.new }
+        ensures next { FirstCanGoOn environment.now self.new }
     {
         while let Some(slice) = self.first() {
             if can_go_on(environment, slice) {

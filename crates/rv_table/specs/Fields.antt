@@ -8,21 +8,27 @@ use Rattle.rv_table.specs.declared.inst.Inst.{Inst}
 abbrev pub bits : ℕ → ℕ → ℕ → ℕ
 bits word from count = word / 2 ^ from % 2 ^ count
 
+-- bits 0 to 6
 abbrev pub opcode : ℕ → ℕ
 opcode word = word % 2 ^ 7
 
+-- the destination register: bits 7 to 11
 abbrev pub rd : ℕ → ℕ
 rd word = bits word 7 5
 
+-- bits 12 to 14
 abbrev pub funct3 : ℕ → ℕ
 funct3 word = bits word 12 3
 
+-- the first source register: bits 15 to 19
 abbrev pub rs1 : ℕ → ℕ
 rs1 word = bits word 15 5
 
+-- the second source register: bits 20 to 24
 abbrev pub rs2 : ℕ → ℕ
 rs2 word = bits word 20 5
 
+-- bits 25 to 31
 abbrev pub funct7 : ℕ → ℕ
 funct7 word = bits word 25 7
 
@@ -30,19 +36,24 @@ funct7 word = bits word 25 7
 abbrev pub sign_extended : ℕ → ℕ → ℕ
 sign_extended count value = if nat_lt value (2 ^ (count - 1)) then value else value + (2 ^ 32 - 2 ^ count)
 
+-- bits 20 to 31
 abbrev pub i_immediate : ℕ → ℕ
 i_immediate word = sign_extended 12 (bits word 20 12)
 
+-- bits 25 to 31 over bits 7 to 11
 abbrev pub s_immediate : ℕ → ℕ
 s_immediate word = sign_extended 12 (bits word 25 7 * 2 ^ 5 + bits word 7 5)
 
+-- an even offset: bit 31, bit 7, bits 25 to 30, bits 8 to 11, and a 0
 abbrev pub b_immediate : ℕ → ℕ
 b_immediate word =
     sign_extended 13 (bits word 31 1 * 2 ^ 12 + bits word 7 1 * 2 ^ 11 + bits word 25 6 * 2 ^ 5 + bits word 8 4 * 2)
 
+-- bits 12 to 31 in their place, over twelve zeros
 abbrev pub u_immediate : ℕ → ℕ
 u_immediate word = bits word 12 20 * 2 ^ 12
 
+-- an even offset: bit 31, bits 12 to 19, bit 20, bits 21 to 30, and a 0
 abbrev pub j_immediate : ℕ → ℕ
 j_immediate word =
     sign_extended 21 (bits word 31 1 * 2 ^ 20 + bits word 12 8 * 2 ^ 12 + bits word 20 1 * 2 ^ 11 + bits word 21 10 * 2)

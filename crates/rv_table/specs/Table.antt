@@ -17,12 +17,14 @@ pub data Selector : Type 0 where
   functs_are : ℕ → ℕ → Selector
   word_is : ℕ → Selector
 
+-- a row of the listings: which words are of it, by opcode and selector, how they are laid out, and the operation
 pub record Row : Type 0 where
   pub code : ℕ
   pub selector : Selector
   pub format : Format
   pub operation : Op
 
+-- a row by its columns
 abbrev pub row : ℕ → Selector → Format → Op → Row
 row code selector format operation = record { code = code; selector = selector; format = format; operation = operation }
 
@@ -80,6 +82,7 @@ table =
     ∷ row SYSTEM (word_is EBREAK) bare ops.Ebreak
     ∷ []
 
+-- a word has what the selector asks for
 abbrev pub selects : ℕ → Selector → Bool
 selects word any = true
 selects word (funct3_is third) = funct3 word == third
@@ -90,6 +93,7 @@ selects word (word_is whole) = word == whole
 abbrev pub has_encoding : ℕ → Row → Bool
 has_encoding word row = (opcode word == row.code) && selects word row.selector
 
+-- the operation and the fields of a row; `Illegal` without one
 abbrev pub by_row : ℕ → Option Row → Inst
 by_row word None = laid_out bare ops.Illegal word
 by_row word (Some row) = laid_out row.format row.operation word

@@ -2,7 +2,7 @@
 //!
 //! It promises that `decode` gives, for each of the 2^32 words, exactly the operation and the fields
 //! of the word's row in the table of the RISC-V unprivileged manual ("RV32/64G Instruction Set Listings",
-//! RV32I and RV32M), and `Illegal` for a word that has none. Nothing stands below it.
+//! RV32I and RV32M), and `Illegal` for a word that has none. Nothing is below it.
 #![tactic(auto)]
 
 mod fields;

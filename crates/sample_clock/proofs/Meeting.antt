@@ -7,6 +7,7 @@ use Rattle.std.proofs.lemmas.List.{get_or-set_same, get_or-set_other, get_or-rep
 use Rattle.std.proofs.lemmas.List.Elements.{filter-append}
 use Rattle.std.proofs.Math.ListN.{length-set}
 use Rattle.std.proofs.Math.Nat.{mod_self}
+use Rattle.scope_types.specs.declared.limits.TheConstants.{MOST_HARTS}
 use Rattle.rv_run.specs.State.{hart_of}
 use Rattle.rv_run.specs.Run.{Instant, Run, preceded, next_instant, instant}
 use Rattle.rv_run.specs.declared.machine.Moment.{Moment}
@@ -59,14 +60,14 @@ clock-sampled period met old new next hart ordinal clock counts in_harts is mult
 pub none-twice : (p : Instant → Bool) (xs ys : List Instant) → filter p xs ≡ [] → filter p ys ≡ [] → filter p (xs ++ ys) ≡ []
 none-twice p xs ys none also = filter-append p xs ys ∙ ap₂ (λ (a b : List Instant). a ++ b) none also
 
-pub clock-start : (machine : Progress) (period : ℕ) → 0 < period → period < 2 ^ 32 → IsFresh machine.state → IsClock (record { machine = machine; period = period; met = 0 }) (replicate 16 period)
+pub clock-start : (machine : Progress) (period : ℕ) → 0 < period → period < 2 ^ 32 → IsFresh machine.state → IsClock (record { machine = machine; period = period; met = 0 }) (replicate MOST_HARTS period)
 clock-start machine period some fits fresh =
     record {
       some = some;
       fits = fits;
       harts = fresh.few;
       nexts = λ hart within.
-          let first : get_or (replicate 16 period) hart 0 ≡ period = get_or-replicate 16 hart period 0 (omega (arith, fresh.few)) in
+          let first : get_or (replicate MOST_HARTS period) hart 0 ≡ period = get_or-replicate MOST_HARTS hart period 0 (omega (arith, fresh.few)) in
           let none : (hart_of machine.state hart).retired ≡ 0 = fresh.none hart in
           record { multiple = ap (λ (n : ℕ). n % period) first ∙ mod_self period; above = omega arith; least = omega arith };
       met_few = omega arith;
@@ -104,7 +105,7 @@ clock-carried period met old new next due moment clock told went counts retired 
 pub unretired-passed : (due : Due) (old new : Sampling) → CarriedOut due false old new → SomeUnsampled old new
 unretired-passed due old new done =
     record {
-      stands = record {
+      carried = record {
         passed = instant due.hart old.machine.state false ∷ [];
         run = done.run;
         none = not-sampled old.period (instant due.hart old.machine.state false) (unretired old.period (instant due.hart old.machine.state false) refl);
@@ -125,10 +126,10 @@ unsampled-twice a b c was now =
     }
 
 pub none-met-more : (a b c : Sampling) → NoneMet a b → SomeUnsampled b c → NoneMet a c
-none-met-more a b c was now = record { stands = unsampled-twice a b c was.stands now.stands; met = now.met ∙ was.met; few = was.few }
+none-met-more a b c was now = record { carried = unsampled-twice a b c was.carried now.carried; met = now.met ∙ was.met; few = was.few }
 
-pub broken-stands : (a b c : Sampling) → NoneMet a b → BrokeOff b c → Unsampled a c
-broken-stands a b c was now = unsampled-twice a b c was.stands now.stands
+pub broken-reached : (a b c : Sampling) → NoneMet a b → BrokeOff b c → Unsampled a c
+broken-reached a b c was now = unsampled-twice a b c was.carried now.carried
 
 -- instructions between one that is sampled and the next
 pub none-between : (period hart from to next : ℕ) (all : List Instant) → next % period ≡ 0 → to < next → next < from + period → All (IsBetween hart from to) all → filter (is_sampled period) all ≡ []
@@ -162,7 +163,7 @@ pub some-passed : (period met most : ℕ) (old new : Progress) (next : List ℕ)
     → SomeUnsampled (record { machine = old; period = period; met = met }) (record { machine = new; period = period; met = met })
 some-passed period met most old new next due clock at within is some went =
     record {
-      stands = record { passed = went.passed; run = went.carried.run; none = carried-unsampled period met most old new next due went.passed clock at within is some went.carried; period = refl };
+      carried = record { passed = went.passed; run = went.carried.run; none = carried-unsampled period met most old new next due went.passed clock at within is some went.carried; period = refl };
       some = (let long = went.long in let one = pass-some (plain_count (min most (count_of_first old.left)) due.hart old.state) in omega (arith, long, one));
       met = refl;
     }
@@ -172,7 +173,7 @@ pub broke-passed : (period met most : ℕ) (old new : Progress) (next : List ℕ
     → BrokeOff (record { machine = old; period = period; met = met }) (record { machine = new; period = period; met = met })
 broke-passed period met most old new next due clock at within is some went =
     record {
-      stands = record { passed = went.passed; run = went.carried.run; none = carried-unsampled period met most old new next due went.passed clock at within is some went.carried; period = refl };
+      carried = record { passed = went.passed; run = went.carried.run; none = carried-unsampled period met most old new next due went.passed clock at within is some went.carried; period = refl };
       met = refl;
     }
 

@@ -49,6 +49,7 @@ pub record NoneLost (path_of : Paths) (old new : Sampling) : Type 0 where
   pub met : new.met ≡ old.met
   pub few : old.met ≤ most_samples
 
+-- no sample is given
 abbrev pub RefusesSample : Paths → Fail TooManySamples → Sampling → Sampling → Type 0
 RefusesSample path_of (fails.Fault fault) old new = AreTooMany path_of old new
 RefusesSample path_of (fails.Memory memory) old new = NoneLost path_of old new
@@ -59,7 +60,7 @@ AnswersNext path_of (Ok (Some sample)) old new = Given path_of sample old new
 AnswersNext path_of (Ok None) old new = IsOver path_of old new
 AnswersNext path_of (Err fail) old new = RefusesSample path_of fail old new
 
--- ---- where the machine stands then
+-- ---- what the machine carried out
 
 -- the machine carried out some instructions of which none is sampled
 pub record Unsampled (old new : Sampling) : Type 0 where
@@ -82,12 +83,13 @@ pub record WasMet (old new : Sampling) : Type 0 where
   pub over : most_samples < old.met
   pub same : new ≡ old
 
+-- where no sample is given
 abbrev pub FailsAt : Fail TooManySamples → Sampling → Sampling → Type 0
 FailsAt (fails.Fault fault) old new = Met old new ⊎ WasMet old new
 FailsAt (fails.Memory memory) old new = Unsampled old new
 
 -- right after the sampled instruction; at the end of the run; or before the instruction that found no memory
-abbrev pub StandsAfter : Result (Option Sample) (Fail TooManySamples) → Sampling → Sampling → Type 0
-StandsAfter (Ok (Some sample)) old new = Met old new
-StandsAfter (Ok None) old new = Unsampled old new
-StandsAfter (Err fail) old new = FailsAt fail old new
+abbrev pub Reaches : Result (Option Sample) (Fail TooManySamples) → Sampling → Sampling → Type 0
+Reaches (Ok (Some sample)) old new = Met old new
+Reaches (Ok None) old new = Unsampled old new
+Reaches (Err fail) old new = FailsAt fail old new

@@ -2,7 +2,7 @@
 -- of the period, each with the call path of the state before it (HPCToolkit's manual, "Sampling").
 use Rattle.std.specs.Prelude.{ℕ, ◌%◌, ◌==◌, ◌&&◌, Bool, List, Option, map, filter}
 use Rattle.scope_types.specs.Raw.{Raw}
-use Rattle.rv_hart.specs.AddressSpace.{AddressSpace, loaded}
+use Rattle.rv_memory.specs.AddressSpace.{AddressSpace, loaded}
 use Rattle.rv_run.specs.Run.{Instant}
 use Rattle.sample_clock.specs.declared.clock.Sample.{Sample}
 
@@ -14,9 +14,11 @@ Paths = ℕ → List ℕ → (ℕ → Option ℕ) → Raw
 abbrev pub words_of : AddressSpace → ℕ → Option ℕ
 words_of memory at = loaded memory at 4
 
+-- an instruction is sampled
 abbrev pub is_sampled : ℕ → Instant → Bool
 is_sampled period i = i.moment.retired && (i.moment.ordinal % period == 0)
 
+-- the sample that is taken of it
 abbrev pub sample_of : Paths → Instant → Sample
 sample_of path_of i =
     let path = path_of i.moment.pc i.registers (words_of i.memory) in

@@ -4,16 +4,14 @@ ghost use Rattle.rv_run.specs.Schedule.{most_instructions};
 ghost use Rattle.rv_run.specs.State.{hart_of};
 ghost use Rattle.rv_run.specs.Progress.{IsFresh, first_due, to_come};
 ghost use Rattle.sample_clock.specs.Samples.{words_of};
-ghost use Rattle.sample_clock.specs.Clock.{AnswersNext, StandsAfter};
+ghost use Rattle.sample_clock.specs.Clock.{AnswersNext, Reaches};
 ghost use Rattle.sample_clock.specs.private.Advance.{Advances, CarriedOut};
 
 use prof_bytes::{Fail, Memory};
 use rv_run::{Due, Machine};
+use scope_types::limits::{MOST_HARTS, MOST_SAMPLES};
 use scope_types::{Frame, RawPath, Unwind};
 use std::marker::Model;
-
-/// How many samples a run may have.
-const MOST_SAMPLES: u32 = 1 << 20;
 
 /// A retired instruction that is sampled: its hart, its number among those that the hart retired, from
 /// 1, and the call path before it.
@@ -42,7 +40,7 @@ pub struct Samples<'a> {
     machine: Machine<'a>,
     period: u32,
     met: u32,
-    next: [u64; 16],
+    next: [u64; MOST_HARTS],
     list: Option<Vec<Frame>>,
 }
 
@@ -87,7 +85,7 @@ impl<'a> Samples<'a> {
             machine,
             period,
             met: 0,
-            next: [u64::from(period); 16],
+            next: [u64::from(period); MOST_HARTS],
             list: None,
         }
     }
@@ -99,7 +97,7 @@ impl<'a> Samples<'a> {
         self.list = Some(path.into_frames());
     }
 
-    /// The machine as it stands.
+    /// The machine at this point of the run.
     pub fn machine(&self) -> &Machine<'a>
         ensures { result.now ≡ self.now.machine }
     {
@@ -161,12 +159,12 @@ impl<'a> Samples<'a> {
     }
 
     /// The next sample; `None` exactly where the run has ended and none is left. `TooManySamples` comes
-    /// exactly at the 1,048,577th sample, and again from then on; the machine then stands after that
-    /// sample's instruction. After `Memory` it stands before the instruction for which none was found,
+    /// exactly at the 1,048,577th sample, and again from then on; the machine is then after that
+    /// sample's instruction. After `Memory` it is before the instruction for which none was found,
     /// and no sample is lost.
     pub fn next<U: Unwind>(&mut self, unwinder: &U) -> Result<Option<Sample>, Fail<TooManySamples>>
         ensures answer { AnswersNext (U.path_of unwinder.now) result self.old self.new }
-        ensures stands { StandsAfter result self.old self.new }
+        ensures reached { Reaches result self.old self.new }
         ensures last { (to_come self.new.machine).final ≡ (to_come self.old.machine).final }
     {
         if self.met > MOST_SAMPLES {

@@ -4,7 +4,7 @@ use Rattle.std.specs.Prelude.{◌==◌, if◌then◌else◌, slice_index_or, Res
 use Rattle.std.specs.List.{flat_map}
 use Rattle.std.proofs.lemmas.List.Concat.{flat_map-append}
 use Rattle.scope_types.specs.declared.scope.Scope.{Scope}
-use Rattle.scope_types.specs.CallPaths.{HartPath}
+use Rattle.scope_types.specs.CallPaths.{ColumnPath}
 use Rattle.tree_types.specs.declared.content.Names.{Names}
 use Rattle.tree_types.specs.declared.content.Node.{Node}
 use Rattle.tree_types.specs.Ascending.{ascending}
@@ -44,7 +44,7 @@ module _ {A : Type 0} (of : Scope → List A) where
   of_tree ns = from [] ns
 
 -- the names of nodes whose paths are those of call paths
-names_of_paths : (naming : Naming) (ns : List Node) (paths : List HartPath) (names : Names) → tree_paths ns ≡ nodes paths
+names_of_paths : (naming : Naming) (ns : List Node) (paths : List ColumnPath) (names : Names) → tree_paths ns ≡ nodes paths
     → names ≡ node_names naming ns → names ≡ names_used naming paths
 unfolding procs_used files_used
 names_of_paths naming ns paths names same is =
@@ -54,7 +54,7 @@ names_of_paths naming ns paths names same is =
     ap (ascending file_order) (sym (of_tree scope_files ns) ∙ ap (flat_map (λ (n : Path). scope_files (own_scope n))) same) in
     is ∙ (λ i. record { procs = map (named_proc naming) (procs i); files = map (named_file naming) (files i) })
 
-pub names_of_tree : (naming : Naming) (ns : List Node) (paths : List HartPath) {E : Type 0} (result : Result Names E)
+pub names_of_tree : (naming : Naming) (ns : List Node) (paths : List ColumnPath) {E : Type 0} (result : Result Names E)
     → IfOk result (λ names. names ≡ node_names naming ns) → tree_paths ns ≡ nodes paths → IfOk result (λ names. names ≡ names_used naming paths)
 names_of_tree naming ns paths (Ok names) is same = names_of_paths naming ns paths names same is
 names_of_tree naming ns paths (Err e) is same = is

@@ -9,17 +9,19 @@ use Rattle.tree_types.specs.declared.content.FileName.{FileName}
 use Rattle.tree_types.specs.Ascending.{ascending}
 use Rattle.tree_types.specs.Naming.{Naming, FileId, proc_order, file_order, scope_procs, scope_files}
 
--- a procedure with its name, and a file with its
+-- a procedure with its name
 abbrev pub named_proc : Naming → ProcId → ProcName
 named_proc naming id = record { id = id; name = naming.proc_name id }
 
+-- a file with its name
 abbrev pub named_file : Naming → FileId → FileName
 named_file naming file = record { table = file.0; file = file.1; name = naming.file_name file.0 file.1 }
 
--- the procedures that the nodes' own scopes name, and the files of their lines
+-- the procedures that the nodes' own scopes name
 abbrev pub node_procs : List Node → List ProcId
 node_procs nodes = flat_map (λ n. scope_procs n.scope) nodes
 
+-- the files of the lines of the nodes' own scopes
 abbrev pub node_files : List Node → List FileId
 node_files nodes = flat_map (λ n. scope_files n.scope) nodes
 

@@ -1,6 +1,6 @@
 //! What expands raw paths by the scopes at their addresses.
 ghost use Rattle.std.specs.Prelude.{◌≡◌, ◌++◌, List, length, reverse, IfOk, OnOk};
-ghost use Rattle.scope_types.specs.CallPaths.{HartPath};
+ghost use Rattle.scope_types.specs.CallPaths.{ColumnPath};
 ghost use Rattle.scope_types.specs.Expansion.{call_path, frame_scopes, root_of};
 ghost use Rattle.scope_find.specs.Found.{found_at, naming_of};
 ghost use Rattle.scope_find.specs.Views.{found_view};
@@ -43,7 +43,7 @@ impl<'a> Model for Expander<'a> {
     ghost view = { λ expander. expander.finder.now };
 }
 
-/// Where a frame stands in its path.
+/// Where a frame is in its path.
 #[derive(Clone, Copy, Debug, PartialEq, Eq)]
 enum FrameKind {
     /// It calls the next frame.
@@ -138,6 +138,7 @@ fn expand_with(
     ensures path { IfOk result (λ path. path ≡ call_path (found_at finder.now) raw.now) }
 {
     let frames = raw.frames();
+    // room: `1 + 2 * frames.len()`, the root and the least scopes of each frame
     let mut scopes = Vec::with_capacity(alloc, 1 + 2 * frames.len())?;
     scopes.push(Scope::Root(root_of(raw.end())))?;
     let [innermost, callers @ ..] = frames else {
@@ -176,7 +177,7 @@ impl<'a> Expander<'a> {
     /// The procedures and files that a tree's scopes use, ascending, each once, each with its name.
     pub fn names(&self, tree: &Tree) -> Result<Names, Memory>
         ensures nodes { IfOk result (λ names. names ≡ node_names (naming_of self.now) tree.now.nodes) }
-        ensures paths { (paths : List HartPath) → tree_paths tree.now.nodes ≡ nodes paths
+        ensures paths { (paths : List ColumnPath) → tree_paths tree.now.nodes ≡ nodes paths
             → IfOk result (λ names. names ≡ names_used (naming_of self.now) paths) }
     {
         node_names(self.alloc, self.finder, tree.nodes())

@@ -3,7 +3,7 @@
 //!
 //! It promises that each raw path becomes its root and then, for each frame from the outermost in, its procedure, the
 //! calls inlined there, and its call or its statement (HPCToolkit's manual, "Calling Context Tree"), whatever the memo
-//! keeps. Below stand `scope_find`, `tree_types`, `scope_types`, `prof_bytes` and `lru`.
+//! keeps. Below are `scope_find`, `tree_types`, `scope_types`, `prof_bytes` and `lru`.
 #![tactic(auto)]
 
 mod expander;

@@ -3,11 +3,11 @@ use Rattle.std.proofs.Common.{◌≡◌, ℕ, List, Some, None, find, map, take,
 use Rattle.elf_image.specs.declared.part.Function.{Function}
 use Rattle.elf_image.specs.Image.{FunctionSymbol, ProgramImage, symbol_view, in_function}
 use Rattle.scope_types.specs.declared.scope.ProcId.TheVariants.{Sym, Nameless}
-use Rattle.dwarf_forms.specs.declared.name.TheConstants.{MAX_NAME_BYTES}
+use Rattle.scope_types.specs.Limits.{most_name_bytes}
 use Rattle.elf_image.proofs.Tables.{find_map}
 use Rattle.scope_find.specs.Symbols.{name_or_unnamed, symbol_procedure, procedure_by_symbol}
 
-pub symbol_is : (image : ProgramImage) (fs : List Function) (start : ℕ) (f : Function) → map symbol_view fs ≡ image.functions → find (λ function. function.start == start) fs ≡ Some f → take MAX_NAME_BYTES f.name.now ≡ name_or_unnamed (find (λ function. function.start == start) image.functions)
+pub symbol_is : (image : ProgramImage) (fs : List Function) (start : ℕ) (f : Function) → map symbol_view fs ≡ image.functions → find (λ function. function.start == start) fs ≡ Some f → take most_name_bytes f.name.now ≡ name_or_unnamed (find (λ function. function.start == start) image.functions)
 symbol_is image fs start f seen found =
     (λ i. name_or_unnamed (option_map symbol_view (sym found i)))
     ∙ (λ i. name_or_unnamed (sym (find_map (λ (c : FunctionSymbol). c.start == start) symbol_view fs) i))

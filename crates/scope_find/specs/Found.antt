@@ -27,6 +27,7 @@ pub record ProgramScopes : Type 0 where
 abbrev pub Numbered : Type 0
 Numbered = ℕ × Subroutine
 
+-- all items in section order, numbered from 0
 abbrev pub numbered : ProgramStructure → List Numbered
 numbered s = enumerate_from 0 s.items
 
@@ -36,6 +37,7 @@ numbered s = enumerate_from 0 s.items
 abbrev pub item_ranges : ProgramStructure → Subroutine → List (ℕ × ℕ)
 item_ranges s item = take item.range_count (drop item.first_range s.ranges)
 
+-- a range holds an address
 abbrev pub range_holds : ℕ → ℕ × ℕ → Bool
 range_holds address r = holds address (record { start = r.0; end = r.1 })
 
@@ -72,6 +74,7 @@ abbrev pub procedure_at : ProgramScopes → ℕ → Option Numbered → ProcId
 procedure_at p address (Some i) = Die i.1.identity
 procedure_at p address None = procedure_by_symbol p.image address
 
+-- the calls that are inlined at an address, the outermost first; none outside of subprograms
 abbrev pub inlines_at : ProgramScopes → ℕ → Option Numbered → List (ProcId × LineId)
 inlines_at p address (Some i) = map inline_scope (inlined_into p.structure address i)
 inlines_at p address None = []
@@ -86,6 +89,7 @@ found_at p address = record {
 
 -- ---- names
 
+-- a procedure's name: that of its entry, of its symbol, or that of a procedure without one
 abbrev pub name_of_proc : ProgramScopes → ProcId → List ℕ
 name_of_proc p (Die offset) = proc_name p.structure offset
 name_of_proc p (Sym start) = procedure_symbol_name p.image start

@@ -3,7 +3,7 @@ use Rattle.std.specs.Prelude.{ℕ, List, take, find, Option, Some, None, ◌==�
 use Rattle.elf_image.specs.Image.{FunctionSymbol, ProgramImage, in_function}
 use Rattle.scope_types.specs.declared.scope.ProcId.{ProcId}
 use Rattle.scope_types.specs.declared.scope.ProcId.TheVariants.{Sym, Nameless}
-use Rattle.dwarf_forms.specs.declared.name.TheConstants.{MAX_NAME_BYTES}
+use Rattle.scope_types.specs.Limits.{most_name_bytes}
 use Rattle.dwarf_inline.specs.Links.{unnamed}
 
 -- a function symbol's procedure
@@ -17,7 +17,7 @@ procedure_by_symbol image address = symbol_procedure (find (in_function address)
 
 -- a function symbol's name, cut
 abbrev pub name_or_unnamed : Option FunctionSymbol → List ℕ
-name_or_unnamed (Some function) = take MAX_NAME_BYTES function.name
+name_or_unnamed (Some function) = take most_name_bytes function.name
 name_or_unnamed None = unnamed
 
 -- a procedure of a symbol is called as the first function symbol that starts where it does

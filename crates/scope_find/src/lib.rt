@@ -2,7 +2,7 @@
 //! procedures and files.
 //!
 //! It promises that a binary search finds the same as a walk over all subprograms and inlined subroutines, the first in
-//! section order before all others (DWARF 5, sections 3.3.8 and 6.2). Below stand `dwarf_inline`, `dwarf_line`,
+//! section order before all others (DWARF 5, sections 3.3.8 and 6.2). Below are `dwarf_inline`, `dwarf_line`,
 //! `dwarf_forms`, `elf_image`, `address_ranges`, `tree_types`, `scope_types`, `prof_bytes` and `indexmap`.
 #![tactic(auto)]
 

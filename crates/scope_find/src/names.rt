@@ -3,9 +3,8 @@ ghost use Rattle.std.specs.Prelude.{◌≡◌, ◌==◌, find};
 ghost use Rattle.std.specs.Option.{option_copied};
 ghost use Rattle.scope_find.specs.Symbols.{procedure_by_symbol, procedure_symbol_name};
 
-use dwarf_forms::cut_name;
 use elf_image::{Function, Image};
-use scope_types::ProcId;
+use scope_types::{ProcId, cut_name};
 
 /// The first function symbol that starts at an address.
 fn starting<'a, 'f>(functions: &'f [Function<'a>], start: u32) -> Option<&'f Function<'a>>

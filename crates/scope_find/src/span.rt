@@ -8,7 +8,7 @@ use dwarf_inline::{Structure, Subroutine};
 use prof_bytes::Memory;
 use std::alloc::Global;
 
-/// A range of an item that counts. Subprograms stand before inlined subroutines, and then in section order.
+/// A range of an item that counts. Subprograms come before inlined subroutines, and then section order decides.
 #[derive(Clone, Copy, Debug, PartialEq, Eq, PartialOrd, Ord)]
 pub(crate) struct Span {
     pub inlined: bool,

@@ -1,22 +1,34 @@
 -- The limits of a profile.
 use Rattle.std.specs.Prelude.{ℕ}
 
--- how many samples it may have
+-- how many harts a run may have
+abbrev pub most_harts : ℕ
+most_harts = 16
+
+-- how many samples a profile may have
 abbrev pub most_samples : ℕ
 most_samples = 1048576
 
--- and how many frames its distinct raw paths may have together
+-- how many frames one call path may have
+abbrev pub most_frames_of_path : ℕ
+most_frames_of_path = 512
+
+-- how many frames the distinct raw paths of a profile may have together
 abbrev pub most_frames_in_all : ℕ
 most_frames_in_all = 4194304
 
--- and how many scopes the call paths of its distinct raw paths may have together
+-- how many scopes the call paths of its distinct raw paths may have together
 abbrev pub most_scopes_in_all : ℕ
 most_scopes_in_all = 8388608
 
--- and how many harts
-abbrev pub most_profile_harts : ℕ
-most_profile_harts = 16
+-- how many threads may merge
+abbrev pub most_workers : ℕ
+most_workers = 16
 
--- and how many bytes the name of a procedure or of a file
+-- how many parts the tree of a merge has
+abbrev pub stripe_count : ℕ
+stripe_count = 16
+
+-- how many bytes the name of a procedure or of a file may have
 abbrev pub most_name_bytes : ℕ
 most_name_bytes = 4096

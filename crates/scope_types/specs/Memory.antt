@@ -1,4 +1,4 @@
--- Bytes of memory that stand together, and the words in them (System V ABI, RISC-V supplement: the lowest byte first).
+-- Bytes of memory that lie together, and the words in them (System V ABI, RISC-V supplement: the lowest byte first).
 use Rattle.std.specs.Prelude.{◌≡◌, ℕ, ◌+◌, ◌-◌, ◌&&◌, List, length, take, drop, nat_le, Option, Some, None, IfSome}
 use Rattle.std.specs.Prelude.{if◌then◌else◌}
 use Rattle.prof_bytes.specs.Number.{number_in}

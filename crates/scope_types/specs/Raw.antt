@@ -1,6 +1,7 @@
 -- Raw paths, as an unwinder finds them (HPCToolkit's manual, "Call Path Profiling").
 use Rattle.std.specs.Prelude.{ℕ, List, ◌≤◌, ◌==◌, ◌&&◌, length, Bool, true, false}
 use Rattle.std.specs.Cmp.Lexicographic.{pointwise}
+use Rattle.scope_types.specs.Limits.{most_frames_of_path}
 use Rattle.scope_types.specs.declared.frame.Frame.{Frame}
 use Rattle.scope_types.specs.declared.frame.End.{End}
 use Rattle.scope_types.specs.declared.frame.End.TheVariants.{Whole, Partial}
@@ -12,16 +13,14 @@ pub record Raw : Type 0 where
   pub end : End
   pub frames : List Frame
 
--- how many frames a path may have
-abbrev pub most_frames_of_path : ℕ
-most_frames_of_path = 512
-
+-- a path has at least one frame, and no more than the most that a path may have
 pub record HasFrames (frames : List Frame) : Type 0 where
   pub some : 1 ≤ length frames
   pub few : length frames ≤ most_frames_of_path
 
 -- ---- which raw paths are the same
 
+-- the same cause of a partial path
 abbrev pub same_cause : PartialCause → PartialCause → Bool
 same_cause NoFde NoFde = true
 same_cause NoCfa NoCfa = true
@@ -36,6 +35,7 @@ same_end Whole Whole = true
 same_end (Partial a) (Partial b) = same_cause a b
 same_end a b = false
 
+-- the same address
 abbrev pub same_frame : Frame → Frame → Bool
 same_frame a b = a.pc == b.pc
 

@@ -35,10 +35,10 @@ impl ScopePath {
     }
 }
 
-/// A call path of a hart, by the hart's number from 0, and how many samples have it.
+/// A call path of a column, by the column's number from 0, and how many samples have it.
 #[derive(Debug, Drop)]
 pub struct Entry {
-    pub hart: u32,
+    pub column: u32,
     pub count: u32,
     pub path: ScopePath,
 }

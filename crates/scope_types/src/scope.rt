@@ -63,7 +63,7 @@ pub fn order_laws()
     ensures paths_apart { IsAntisymmetric path_order }
 {}
 
-/// The order of paths: the first scope that differs decides, and a prefix stands before what extends it.
+/// The order of paths: the first scope that differs decides, and a prefix comes before what extends it.
 pub fn compare_paths(a: &[Scope], b: &[Scope]) -> Ordering
     ensures { result ≡ path_order a.now b.now }
 {

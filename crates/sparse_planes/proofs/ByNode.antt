@@ -1,4 +1,4 @@
--- The columns of nodes, a node at a time.
+-- The lists of the nodes, a node at a time.
 use Rattle.std.proofs.Common.{◌≡◌, ℕ, suc, ◌+◌, ◌-◌, ◌<◌, ◌≤◌, ◌==◌, ◌&&◌, Bool, true, false, cond, List, [], ◌∷◌, ◌++◌, length, get_or, take, drop, map, filter, Less, Equal, AllPairs, refl, sym, ap, subst, ◌∙◌, arith, inl, inr, append-nil, length-append, length-take, length-drop, take-append-drop}
 use Rattle.std.specs.Prelude.{◌≢◌}
 use Rattle.std.specs.declared.cmp.Ordering.TheVariants.{Greater}
@@ -9,14 +9,14 @@ use Rattle.std.proofs.lemmas.Bool.Decides.{nat_tests}
 use Rattle.std.proofs.lemmas.List.{map-append, get_or-drop, get_or-take, take_more}
 use Rattle.std.proofs.lemmas.List.Elements.{filter-append}
 use Rattle.std.proofs.lemmas.List.FromFn.{map-range_with_len_more, length-map-range_with_len}
-use Rattle.tree_types.specs.Columns.{AreStarts, cut}
+use Rattle.tree_types.specs.Lists.{AreStarts, cut}
 use Rattle.tree_types.specs.declared.content.ContextEntry.{ContextEntry}
 use Rattle.tree_types.specs.declared.content.Kind.{Kind}
 use Rattle.tree_types.specs.declared.node_values.NodeValue.{NodeValue}
 use Rattle.tree_types.specs.NodeValues.{NodeValues, kind_rank, value_order}
 use Rattle.tree_types.specs.Planes.{kinds}
-use Rattle.tree_types.specs.ValueColumns.{in_context, kind_entries, node_entries, columns_by_node}
-use Rattle.tree_types.proofs.Cutting.{no_starts, no_columns, starts_more, cut_more}
+use Rattle.tree_types.specs.ValuePlanes.{in_context, kind_entries, node_entries, entries_by_node}
+use Rattle.tree_types.proofs.Cutting.{no_starts, no_lists, starts_more, cut_more}
 use Rattle.sparse_planes.specs.private.Filling.{of_kind, IsFirstOwn, AtNode}
 
 -- ---- a node's values of a kind
@@ -52,7 +52,7 @@ nodes_rise a b less = elim (cases_order a.node b.node) [
   | inr (inl lower) ↦ omega arith
   | inr (inr higher) ↦ (
       let above : nat_cmp a.node b.node ≡ Greater = grind (arith, nat_tests) in
-      let e : Greater ≡ Less = sym (ap (λ o. ordering_then o (ordering_then (nat_cmp a.hart b.hart) (ordering_then (nat_cmp (kind_rank a.kind) (kind_rank b.kind)) Equal))) above) ∙ less in
+      let e : Greater ≡ Less = sym (ap (λ o. ordering_then o (ordering_then (nat_cmp a.column b.column) (ordering_then (nat_cmp (kind_rank a.kind) (kind_rank b.kind)) Equal))) above) ∙ less in
       absurd cc
       )
 ]
@@ -121,8 +121,8 @@ module _ (values : List NodeValue) (node first end : ℕ)
       above : (a : ℕ) → node < a → a ≢ node
       above a lt e = absurd (omega arith)
 
-  own_column : flat_map (λ kind. map in_context (filter (of_kind kind) part)) kinds ≡ node_entries values node
-  own_column =
+  own_list : flat_map (λ kind. map in_context (filter (of_kind kind) part)) kinds ≡ node_entries values node
+  own_list =
       let same : (kind : Kind) → map in_context (filter (of_kind kind) part) ≡ kind_entries values node kind = λ kind.
       ap (λ (l : List NodeValue). map in_context (filter (of_kind kind) l)) (sym own_part) ∙ ap (map in_context) (sym (both_pass mine (of_kind kind) values)) in
       λ i. flat_map (λ kind. same kind i) kinds
@@ -131,27 +131,27 @@ module _ (values : List NodeValue) (node first end : ℕ)
       → more ≡ out ++ flat_map (λ kind. map in_context (filter (of_kind kind) part)) kinds → last ≡ length more
       → AtNode values (node + 1) end (starts ++ last ∷ []) more
   node_more starts out more last state is count =
-      let column : List ContextEntry = flat_map (λ kind. map in_context (filter (of_kind kind) part)) kinds in
-      let long : length more ≡ length out + length column = ap length is ∙ length-append out column in
+      let list : List ContextEntry = flat_map (λ kind. map in_context (filter (of_kind kind) part)) kinds in
+      let long : length more ≡ length out + length list = ap length is ∙ length-append out list in
       record {
         ordered = subst (λ (n : ℕ). AreStarts (starts ++ last ∷ []) n) count (starts_more starts (length out) last state.ordered (omega arith));
-        columns =
-            ap (cut (starts ++ last ∷ [])) is ∙ cut_more starts out column last state.ordered (count ∙ long)
-            ∙ (λ i. state.columns i ++ own_column i ∷ []) ∙ sym (map-range_with_len_more (node_entries values) 0 node node (omega arith));
+        lists =
+            ap (cut (starts ++ last ∷ [])) is ∙ cut_more starts out list last state.ordered (count ∙ long)
+            ∙ (λ i. state.lists i ++ own_list i ∷ []) ∙ sym (map-range_with_len_more (node_entries values) 0 node node (omega arith));
         behind = next_first;
       }
 
 pub no_node : (values : List NodeValue) → AtNode values 0 0 (0 ∷ []) []
 no_node values = record {
   ordered = no_starts;
-  columns = no_columns [];
+  lists = no_lists [];
   behind = record { within = omega arith; before = λ k d lt. absurd (omega arith); behind = λ k d le lt. omega arith };
 }
 
-pub all_nodes : (values : NodeValues) (first : ℕ) (starts : List ℕ) (out : List ContextEntry) → AtNode values.entries values.nodes first starts out → cut starts out ≡ columns_by_node values
-unfolding columns_by_node
-all_nodes values first starts out state = state.columns
+pub all_nodes : (values : NodeValues) (first : ℕ) (starts : List ℕ) (out : List ContextEntry) → AtNode values.entries values.nodes first starts out → cut starts out ≡ entries_by_node values
+unfolding entries_by_node
+all_nodes values first starts out state = state.lists
 
-pub as_many_nodes : (values : NodeValues) → length (columns_by_node values) ≡ values.nodes
-unfolding columns_by_node
+pub as_many_nodes : (values : NodeValues) → length (entries_by_node values) ≡ values.nodes
+unfolding entries_by_node
 as_many_nodes values = length-map-range_with_len (node_entries values.entries) 0 values.nodes

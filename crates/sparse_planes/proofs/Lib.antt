@@ -1,2 +1,2 @@
 pub mod ByNode
-pub mod ByHart
+pub mod ByColumn

@@ -2,13 +2,13 @@
 //! pages first.
 ghost use Rattle.std.specs.Prelude.{◌≡◌, ℕ, ◌≤◌, List, length, IfOk};
 ghost use Rattle.scope_types.specs.Alike.{Alike};
-ghost use Rattle.scope_types.specs.CallPaths.{HartPath};
+ghost use Rattle.scope_types.specs.CallPaths.{ColumnPath};
 ghost use Rattle.tree_types.specs.Database.{node_list};
 ghost use Rattle.tree_types.specs.NodeValues.{values_of};
 ghost use Rattle.tree_types.specs.Nodes.{nodes, no_parent};
 ghost use Rattle.tree_types.specs.Planes.{context_plane, profile_plane};
 ghost use Rattle.tree_types.specs.Tree.{CountedTree, IsTree, paths_in};
-ghost use Rattle.tree_types.specs.ValueColumns.{columns_by_hart, columns_by_node};
+ghost use Rattle.tree_types.specs.ValuePlanes.{entries_by_column, entries_by_node};
 
 use crate::{contexts, profiles};
 use prof_bytes::Memory;
@@ -20,13 +20,13 @@ use tree_types::{ContextPlane, ProfilePlane, Values, values_make_planes};
 /// With fewer values than these one thread fills both planes: another takes longer to start.
 const WORTH_A_THREAD: usize = 8_192;
 
-/// The columns of all harts, and those of all nodes.
+/// The lists of all columns, and those of all nodes.
 fn both_filled<R: Threads + Sync>(
     rt: &R,
     alloc: Global,
     values: &Values,
 ) -> Result<(ProfilePlane, ContextPlane), Memory>
-    ensures { IfOk result (λ both. (both.0 ≡ columns_by_hart values.now) × (both.1 ≡ columns_by_node values.now)) }
+    ensures { IfOk result (λ both. (both.0 ≡ entries_by_column values.now) × (both.1 ≡ entries_by_node values.now)) }
 {
     if values.entries().len() < WORTH_A_THREAD {
         let profiles = profiles::filled(alloc, values)?;
@@ -35,29 +35,29 @@ fn both_filled<R: Threads + Sync>(
     let (profiles, contexts) = join(
         rt,
         || -> Result<ProfilePlane, Memory>
-            ensures { IfOk result (λ plane. plane ≡ columns_by_hart values.entry.now) }
+            ensures { IfOk result (λ plane. plane ≡ entries_by_column values.entry.now) }
         { profiles::filled(alloc, values) },
         || -> Result<ContextPlane, Memory>
-            ensures { IfOk result (λ plane. plane ≡ columns_by_node values.entry.now) }
+            ensures { IfOk result (λ plane. plane ≡ entries_by_node values.entry.now) }
         { contexts::filled(alloc, values) },
     );
     Ok((profiles?, contexts?))
 }
 
 /// Both planes of the values of a tree, of many values by a thread each: what `by_profile` and `by_context` give.
-#[tactic(auto, using(crate::proofs::ByHart::as_many_harts, crate::proofs::ByNode::as_many_nodes))]
+#[tactic(auto, using(crate::proofs::ByColumn::as_many_columns, crate::proofs::ByNode::as_many_nodes))]
 pub fn both_planes<R: Threads + Sync>(
     rt: &R,
     alloc: Global,
     values: &Values,
 ) -> Result<(ProfilePlane, ContextPlane), Memory>
-    ensures columns { IfOk result (λ both.
-        (both.0 ≡ columns_by_hart values.now) × (both.1 ≡ columns_by_node values.now)) }
-    ensures lengths { IfOk result (λ both. (length both.0 ≡ values.now.harts) × (length both.1 ≡ values.now.nodes)) }
-    ensures paths { (period : ℕ) (tree : CountedTree) (ps : List HartPath) → values.now ≡ values_of period tree
+    ensures lists { IfOk result (λ both.
+        (both.0 ≡ entries_by_column values.now) × (both.1 ≡ entries_by_node values.now)) }
+    ensures lengths { IfOk result (λ both. (length both.0 ≡ values.now.columns) × (length both.1 ≡ values.now.nodes)) }
+    ensures paths { (period : ℕ) (tree : CountedTree) (ps : List ColumnPath) → values.now ≡ values_of period tree
         → IsTree tree → Alike (paths_in tree) ps → tree.nodes ≡ node_list ps → length (nodes ps) ≤ no_parent
-        → IfOk result (λ both. (both.0 ≡ profile_plane period tree.harts ps)
-        × (both.1 ≡ context_plane period tree.harts ps)) }
+        → IfOk result (λ both. (both.0 ≡ profile_plane period tree.columns ps)
+        × (both.1 ≡ context_plane period tree.columns ps)) }
 {
     values_make_planes();
     both_filled(rt, alloc, values)

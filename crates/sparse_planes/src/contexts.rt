@@ -1,15 +1,15 @@
-//! The values by node. Those of a node stand together, so that each node's are put in order by themselves.
+//! The values by node. Those of a node lie together, so that each node's are put in order by themselves.
 ghost use Rattle.std.specs.Prelude.{◌≡◌, ◌≢◌, ℕ, ◌<◌, ◌≤◌, ◌++◌, ◌==◌, ◌∷◌, [], List, length, map, filter};
 ghost use Rattle.std.specs.Prelude.{slice_index_or, IfOk, OnOk};
 ghost use Rattle.std.specs.List.{flat_map};
 ghost use Rattle.scope_types.specs.Alike.{Alike};
-ghost use Rattle.scope_types.specs.CallPaths.{HartPath};
+ghost use Rattle.scope_types.specs.CallPaths.{ColumnPath};
 ghost use Rattle.tree_types.specs.Database.{node_list};
 ghost use Rattle.tree_types.specs.NodeValues.{kind_rank, values_of};
 ghost use Rattle.tree_types.specs.Nodes.{nodes, no_parent};
 ghost use Rattle.tree_types.specs.Planes.{context_plane, kinds};
 ghost use Rattle.tree_types.specs.Tree.{CountedTree, IsTree, paths_in};
-ghost use Rattle.tree_types.specs.ValueColumns.{columns_by_node, in_context};
+ghost use Rattle.tree_types.specs.ValuePlanes.{entries_by_node, in_context};
 ghost use Rattle.sparse_planes.specs.private.Filling.{of_kind};
 
 use prof_bytes::Memory;
@@ -34,7 +34,7 @@ fn put_value(out: &mut Vec<ContextEntry>, value: NodeValue, kind: Kind) -> Resul
     if is_kind(value, kind) {
         out.push(ContextEntry {
             kind: value.kind,
-            hart: value.hart,
+            column: value.column,
             value: value.value,
         })?;
     }
@@ -77,13 +77,15 @@ fn node_end(values: &[NodeValue], first: usize, node: u32) -> usize
     end
 }
 
-/// The columns of all nodes, one node after another.
+/// The lists of all nodes, one node after another.
 #[tactic(auto, using(crate::proofs::ByNode::no_node))]
 pub fn filled(alloc: Global, values: &Values) -> Result<ContextPlane, Memory>
-    ensures { IfOk result (λ plane. plane ≡ columns_by_node values.now) }
+    ensures { IfOk result (λ plane. plane ≡ entries_by_node values.now) }
 {
     let entries = values.entries();
+    // room: `values.nodes() as usize + 1`, a start for each node, and the end
     let mut starts = Vec::with_capacity(alloc, values.nodes() as usize + 1)?;
+    // room: `entries.len()`, just the entries: a list that grows would take twice as much
     let mut out = Vec::with_capacity(alloc, entries.len())?;
     let mut first = 0;
     starts.push(0)?;
@@ -96,19 +98,19 @@ pub fn filled(alloc: Global, values: &Values) -> Result<ContextPlane, Memory>
     Ok(ContextPlane::of(starts, out))
 }
 
-/// The values of a tree by node: for each node those other than 0, by kind, then hart. In time as there are values and
-/// nodes.
+/// The values of a tree by node: for each node those other than 0, by kind, then column. In time as there are values
+/// and nodes.
 #[tactic(auto, using(crate::proofs::ByNode::as_many_nodes))]
 pub fn by_context<R: Threads + Sync>(
     _rt: &R,
     alloc: Global,
     values: &Values,
 ) -> Result<ContextPlane, Memory>
-    ensures columns { IfOk result (λ plane. plane ≡ columns_by_node values.now) }
+    ensures lists { IfOk result (λ plane. plane ≡ entries_by_node values.now) }
     ensures nodes { IfOk result (λ plane. length plane ≡ values.now.nodes) }
-    ensures paths { (period : ℕ) (tree : CountedTree) (ps : List HartPath) → values.now ≡ values_of period tree
+    ensures paths { (period : ℕ) (tree : CountedTree) (ps : List ColumnPath) → values.now ≡ values_of period tree
         → IsTree tree → Alike (paths_in tree) ps → tree.nodes ≡ node_list ps → length (nodes ps) ≤ no_parent
-        → IfOk result (λ plane. plane ≡ context_plane period tree.harts ps) }
+        → IfOk result (λ plane. plane ≡ context_plane period tree.columns ps) }
 {
     values_make_planes();
     filled(alloc, values)

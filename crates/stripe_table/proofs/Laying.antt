@@ -42,7 +42,7 @@ longer p q k x y f missing of t = let s = q.stripe in let c = q.chunk in let is 
   distinct = λ d. subst (λ (l : List ℕ). occurrences d l ≤ 1) (sym t.names) (still_distinct (length p) c x.names f.distinct f.below missing of.chunk d);
   below = λ d. subst (λ (l : List ℕ). 0 < occurrences d l → d < length p) (sym t.names) (still_below (length p) c x.names f.distinct f.below missing of.chunk d);
   merged = let F : ℕ → List Entry = λ d. dealt p d s in t.merged ∙ ((λ i. f.merged i ++ is i) ∙ sym (ap (flat_map F) t.names ∙ flat_map_snoc F x.names c));
-  counts = λ hart path. let F : ℕ → ℕ = λ d. count_of (dealt p d s) hart path in let a = t.counts hart path in let b = f.counts hart path in let g : count_of q.entries hart path ≡ F c = ap (λ (es : List Entry). count_of es hart path) is in
+  counts = λ column path. let F : ℕ → ℕ = λ d. count_of (dealt p d s) column path in let a = t.counts column path in let b = f.counts column path in let g : count_of q.entries column path ≡ F c = ap (λ (es : List Entry). count_of es column path) is in
       let e : sum_by F y.names ≡ sum_by F x.names + F c = ap (sum_by F) t.names ∙ sum_by_snoc F x.names c in omega arith;
   nodes = λ n. let F : ℕ → Bool = λ d. has_node (all_prefixes (dealt p d s)) n in t.nodes n ∙ ((λ i. f.nodes n i || has_node (all_prefixes (is i)) n) ∙ sym (ap (list_any F) t.names ∙ list_any_snoc F x.names c));
   samples = let F : ℕ → ℕ = λ d. samples_of (dealt p d s) in let a = t.samples in let b = f.samples in let g : samples_of q.entries ≡ F c = ap samples_of is in let e : sum_by F y.names ≡ sum_by F x.names + F c = ap (sum_by F) t.names ∙ sum_by_snoc F x.names c in omega arith;

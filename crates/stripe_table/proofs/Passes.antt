@@ -104,7 +104,7 @@ module _ (p : Chunks) where
 
   empty_fits : (t : ℕ) → Fits p t 0 empty_stripe
   unfolding trie_nodes
-  empty_fits t = record { long = refl; distinct = λ c. omega arith; below = λ c h. absurd (omega arith); merged = refl; counts = λ hart path. refl; nodes = λ n. refl; samples = refl; scopes = omega arith }
+  empty_fits t = record { long = refl; distinct = λ c. omega arith; below = λ c h. absurd (omega arith); merged = refl; counts = λ column path. refl; nodes = λ n. refl; samples = refl; scopes = omega arith }
 
   -- the end: the first pass is the only one that is not spent, and holds nothing
   pub closes : (ws : List ℕ) (xs : List Stripe) (id : ℕ) (v : PassView) → v.live ≡ true → v.first ≡ true → v.hold ≡ Free → v.splits ≡ v.joins → Final (Seen (Ruled p) id v) ws xs

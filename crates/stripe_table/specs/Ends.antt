@@ -3,9 +3,9 @@ use Rattle.std.specs.Prelude.{◌≡◌, ℕ, ◌<◌, List, length, slice_index
 use Rattle.std.specs.List.{flat_map, range_with_len}
 use mathlib.Core.Option.{some}
 use lib.ListN.{get_elem?}
-use Rattle.scope_types.specs.CallPaths.{HartPath, each_path}
+use Rattle.scope_types.specs.CallPaths.{ColumnPath, each_path}
 use Rattle.scope_types.specs.declared.path.Entry.{Entry}
-use Rattle.thread_cct.specs.Plan.{stripes}
+use Rattle.scope_types.specs.Limits.{stripe_count}
 use Rattle.stripe_table.specs.Limits.{Chunks, dealt}
 use Rattle.stripe_table.specs.declared.view.PassView.{PassView}
 use Rattle.stripe_table.specs.declared.stripe.Stripe.{Stripe}
@@ -32,17 +32,17 @@ trie_of all s = (slice_index_or all s empty_stripe).trie
 
 -- each of the sixteen stripes fits the plan, with as many names as it has
 abbrev pub AllFit : Chunks → List Stripe → Type 0
-AllFit plan all = (length all ≡ 16)
-    × ((s : ℕ) → s < 16 → Fits plan s (length (stripe_names all s)) (slice_index_or all s empty_stripe))
+AllFit plan all = (length all ≡ stripe_count)
+    × ((s : ℕ) → s < stripe_count → Fits plan s (length (stripe_names all s)) (slice_index_or all s empty_stripe))
 
 -- the call paths of the pieces that a stripe names: of each chunk that it names, those that the plan deals to it
-abbrev pub paths_named_by : SetValue → ℕ → List HartPath
+abbrev pub paths_named_by : SetValue → ℕ → List ColumnPath
 paths_named_by set s = flat_map (λ c. each_path (dealt set.view.plan c s)) (stripe_names set.stripes s)
 
 -- and of all sixteen stripes, one after the other
-unfoldable pub named_paths : SetValue → List HartPath
-named_paths set = flat_map (paths_named_by set) (range_with_len 0 stripes)
+unfoldable pub named_paths : SetValue → List ColumnPath
+named_paths set = flat_map (paths_named_by set) (range_with_len 0 stripe_count)
 
 -- each stripe names each chunk of the plan
 abbrev pub NamesAll : SetValue → Type 0
-NamesAll set = (c s : ℕ) → c < length set.view.plan → s < stripes → 0 < occurrences c (stripe_names set.stripes s)
+NamesAll set = (c s : ℕ) → c < length set.view.plan → s < stripe_count → 0 < occurrences c (stripe_names set.stripes s)

@@ -8,7 +8,7 @@ use Rattle.stripe_table.specs.Views.{occurrences}
 use Rattle.stripe_table.specs.declared.stripe.Stripe.{Stripe}
 
 -- a stripe fits the plan: it has k names, distinct chunks of the plan, and its trie stands for the entries of the
--- pieces that it names, in order. So for each hart and path its count is the sum over these pieces; its nodes are the
+-- pieces that it names, in order. So for each column and path its count is the sum over these pieces; its nodes are the
 -- nonempty prefixes of these pieces' paths; it has as many samples as these pieces, and no more nodes than they have
 -- scopes
 pub record Fits (plan : Chunks) (s k : ℕ) (x : Stripe) : Type 0 where
@@ -16,8 +16,8 @@ pub record Fits (plan : Chunks) (s k : ℕ) (x : Stripe) : Type 0 where
   pub distinct : (c : ℕ) → occurrences c x.names ≤ 1
   pub below : (c : ℕ) → 0 < occurrences c x.names → c < length plan
   pub merged : x.trie ≡ flat_map (λ c. dealt plan c s) x.names
-  pub counts : (hart : ℕ) (path : Path)
-      → count_of x.trie hart path ≡ sum_by (λ c. count_of (dealt plan c s) hart path) x.names
+  pub counts : (column : ℕ) (path : Path)
+      → count_of x.trie column path ≡ sum_by (λ c. count_of (dealt plan c s) column path) x.names
   pub nodes : (n : Path)
       → has_node (trie_nodes x.trie) n ≡ list_any (λ c. has_node (all_prefixes (dealt plan c s)) n) x.names
   pub samples : samples_of x.trie ≡ sum_by (λ c. samples_of (dealt plan c s)) x.names

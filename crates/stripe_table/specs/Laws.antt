@@ -1,5 +1,6 @@
 -- What holds of every table that the steps reach.
 use Rattle.std.specs.Prelude.{◌≡◌, ◌≢◌, ℕ, ◌+◌, ◌*◌, ◌/◌, ◌%◌, ◌<◌, ◌≤◌, min, true, false, length, slice_index}
+use Rattle.scope_types.specs.Limits.{stripe_count}
 use mathlib.Core.Option.{some}
 use lib.ListN.{get_elem?}
 use Rattle.stripe_table.specs.Limits.{Chunks}
@@ -33,27 +34,27 @@ AllDrawn plan s = (j : ℕ) (v : PassView) → Shows s j v → 0 < v.over → le
 
 -- the word of a stripe is 2 k + 1 exactly where a pass holds the stripe with k pieces, and then no other holds it
 abbrev pub OddIsHeld : Chunks → MergeState → Type 0
-OddIsHeld plan s = (t k : ℕ) → t < 16
+OddIsHeld plan s = (t k : ℕ) → t < stripe_count
     → (stripe_word s t ≡ 2 * k + 1 → (j : ℕ) × HoldsAt s t k j × ((i r : ℕ) → i ≢ j → HoldsAt s t r i → ⊥))
     × ((j : ℕ) → HoldsAt s t k j → stripe_word s t ≡ 2 * k + 1)
 
 -- it is even exactly where no pass holds the stripe
 abbrev pub EvenIsFree : Chunks → MergeState → Type 0
-EvenIsFree plan s = (t : ℕ) → t < 16
+EvenIsFree plan s = (t : ℕ) → t < stripe_count
     → (stripe_word s t % 2 ≡ 0 → (j k : ℕ) → HoldsAt s t k j → ⊥)
     × (((j k : ℕ) → HoldsAt s t k j → ⊥) → stripe_word s t % 2 ≡ 0)
 
 -- half of it is at most the number of chunks
 abbrev pub FewPieces : Chunks → MergeState → Type 0
-FewPieces plan s = (t : ℕ) → t < 16 → stripe_word s t / 2 ≤ length plan
+FewPieces plan s = (t : ℕ) → t < stripe_count → stripe_word s t / 2 ≤ length plan
 
 -- and is the number of pieces that the passes merged into the stripe
 abbrev pub PutsCounted : Chunks → MergeState → Type 0
-PutsCounted plan s = (t : ℕ) → t < 16 → stripe_word s t / 2 ≡ total (done t) s.views
+PutsCounted plan s = (t : ℕ) → t < stripe_count → stripe_word s t / 2 ≡ total (done t) s.views
 
 -- where it is even the stripe is at home, and fits the plan with half as many names
 abbrev pub HomeFits : Chunks → MergeState → Type 0
-HomeFits plan s = (t : ℕ) → t < 16 → stripe_word s t % 2 ≡ 0
+HomeFits plan s = (t : ℕ) → t < stripe_count → stripe_word s t % 2 ≡ 0
     → (x : Stripe) × (get_elem? s.homes t ≡ some (some x)) × Fits plan t (stripe_word s t / 2) x
 
 -- one pass is first and unspent, and its splits less its joins are the other unspent passes; all others have none
@@ -72,7 +73,8 @@ SamePlan plan s = (j : ℕ) (v : PassView) → Shows s j v → v.live ≡ true �
 
 -- and passes owe pieces of it alone
 abbrev pub OwePieces : Chunks → MergeState → Type 0
-OwePieces plan s = (j : ℕ) (v : PassView) → Shows s j v → (c t : ℕ) → 0 < owes c t v → (c < length plan) × (t < 16)
+OwePieces plan s = (j : ℕ) (v : PassView) → Shows s j v → (c t : ℕ) → 0 < owes c t v
+    → (c < length plan) × (t < stripe_count)
 
 -- a first pass that made no other never finds a stripe busy, and a word that it saw has not changed
 abbrev pub AloneIsNeverBusy : Chunks → MergeState → Type 0

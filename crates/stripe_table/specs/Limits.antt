@@ -2,8 +2,8 @@
 use Rattle.std.specs.Prelude.{ℕ, ◌≡◌, ◌<◌, ◌≤◌, List, length, sum_by}
 use Rattle.scope_types.specs.declared.path.Entry.{Entry}
 use Rattle.scope_types.specs.declared.path.Piece.{Piece}
-use Rattle.scope_types.specs.Limits.{most_samples, most_scopes_in_all}
-use Rattle.thread_cct.specs.Plan.{piece_of, most_chunks, stripes}
+use Rattle.scope_types.specs.Limits.{most_samples, most_scopes_in_all, stripe_count}
+use Rattle.thread_cct.specs.Plan.{piece_of, most_chunks}
 use Rattle.path_trie.specs.Trie.{samples_of, entry_scopes}
 
 -- an expanded plan: the entries of each chunk
@@ -23,5 +23,5 @@ dealt plan c s = (piece_of plan c s).entries
 -- the piece is the plan's
 pub record IsPieceOf (plan : Chunks) (piece : Piece) : Type 0 where
   pub chunk : piece.chunk < length plan
-  pub stripe : piece.stripe < stripes
+  pub stripe : piece.stripe < stripe_count
   pub is : piece ≡ piece_of plan piece.chunk piece.stripe

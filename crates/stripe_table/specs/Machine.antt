@@ -2,6 +2,7 @@
 -- the tables that they reach.
 use Rattle.std.specs.Prelude.{◌≡◌, ◌≢◌, ℕ, ◌+◌, ◌*◌, ◌%◌, ◌^◌, ◌<◌, true, false, [], ◌∷◌, ◌++◌, replicate}
 use Rattle.std.specs.Prelude.{slice_index, slice_set}
+use Rattle.scope_types.specs.Limits.{stripe_count}
 use mathlib.Core.Option.{Option, none, some}
 use lib.ListN.{get_elem?}
 use Rattle.atomic_table.specs.Table.{State}
@@ -22,8 +23,8 @@ MergeState = State Stripe PassView
 -- all words 0, all stripes at home and empty, and the first pass
 abbrev pub at_start : Chunks → MergeState
 at_start plan = record {
-  words = replicate 17 0;
-  homes = replicate 16 (some empty_stripe);
+  words = replicate (stripe_count + 1) 0;
+  homes = replicate stripe_count (some empty_stripe);
   views = first_view plan ∷ [];
 }
 
@@ -67,16 +68,17 @@ with_spent s id w other = record {
   views = slice_set (slice_set s.views id w) other spent_view;
 }
 
+-- one atomic step of one pass, from one table to the next
 pub data Step (s s' : MergeState) : Type 0 where
   -- a pass draws a number, by adding 1 to the first word
   claim : (id : ℕ) (v : PassView) → IsPass s id v
       → s' ≡ with_draw s id (after_draw (slice_index s.words 0) v) → Step s s'
   -- a pass that holds nothing reads a stripe's word
-  look : (id : ℕ) (v : PassView) (t : ℕ) → IsPass s id v → v.hold ≡ Free → t < 16
+  look : (id : ℕ) (v : PassView) (t : ℕ) → IsPass s id v → v.hold ≡ Free → t < stripe_count
       → s' ≡ with_view s id (after_look t (stripe_word s t) v) → Step s s'
   -- a pass takes a stripe whose word is still the even number that it saw
   take : (id : ℕ) (v : PassView) (t e : ℕ) (x : Stripe) → IsPass s id v → v.hold ≡ Free → v.last ≡ Saw t e
-      → e % 2 ≡ 0 → t < 16 → stripe_word s t ≡ e → get_elem? s.homes t ≡ some (some x)
+      → e % 2 ≡ 0 → t < stripe_count → stripe_word s t ≡ e → get_elem? s.homes t ≡ some (some x)
       → s' ≡ with_stripe s id (after_take t e v) t (e + 1) none → Step s s'
   -- a pass finds another number than it saw
   miss : (id : ℕ) (v : PassView) (t e : ℕ) → IsPass s id v → v.last ≡ Saw t e → stripe_word s t ≢ e

@@ -8,5 +8,6 @@ pub record StripeValue : Type 0 where
   pub index : ℕ
   pub trie : List Entry
 
+-- a stripe without pieces
 abbrev pub empty_stripe : StripeValue
 empty_stripe = record { names = []; index = 0; trie = [] }

@@ -1,6 +1,7 @@
 -- What a pass shows, and how each step changes it.
 use Rattle.std.specs.Prelude.{ℕ, zero, suc, ◌&&◌, ◌+◌, ◌/◌, ◌%◌, ◌==◌, Bool, true, false, cond}
 use Rattle.std.specs.Prelude.{ltb, leb, length, List, [], ◌∷◌, ◌++◌}
+use Rattle.scope_types.specs.Limits.{stripe_count}
 use Rattle.stripe_table.specs.Limits.{Chunks}
 use Rattle.stripe_table.specs.declared.view.PassView.{PassView}
 use Rattle.stripe_table.specs.declared.view.Hold.{Hold}
@@ -14,6 +15,7 @@ abbrev pub total : {V : Type 0} → (V → ℕ) → List V → ℕ
 total f [] = 0
 total f (v ∷ vs) = f v + total f vs
 
+-- a test as a number
 abbrev pub weight : Bool → ℕ
 weight true = 1
 weight false = 0
@@ -30,6 +32,7 @@ sum_below (suc n) f = f n + sum_below n f
 
 -- ---- pieces that are owed: a chunk and a stripe each
 
+-- whether a piece is that of chunk c and stripe s
 abbrev pub is_piece : ℕ → ℕ → ℕ × ℕ → Bool
 is_piece c s q = (c == q.0) && (s == q.1)
 
@@ -38,7 +41,7 @@ abbrev pub times_piece : ℕ → ℕ → List (ℕ × ℕ) → ℕ
 times_piece c s [] = 0
 times_piece c s (q ∷ qs) = weight (is_piece c s q) + times_piece c s qs
 
--- without one (c, s), where it stands there
+-- without one (c, s), where it is there
 abbrev pub without : ℕ → ℕ → List (ℕ × ℕ) → List (ℕ × ℕ)
 without c s [] = []
 without c s (q ∷ qs) = cond (is_piece c s q) qs (q ∷ without c s qs)
@@ -50,15 +53,19 @@ chunk_pieces c (suc k) = (c, k) ∷ chunk_pieces c k
 
 -- ---- the numbers that a view shows
 
+-- how many chunks the pass drew
 abbrev pub got : PassView → ℕ
 got v = v.got
 
+-- how many numbers past the last chunk it drew
 abbrev pub over : PassView → ℕ
 over v = v.over
 
+-- how many passes it made
 abbrev pub splits : PassView → ℕ
 splits v = v.splits
 
+-- how many passes it took in
 abbrev pub joins : PassView → ℕ
 joins v = v.joins
 
@@ -78,6 +85,7 @@ done s v = occurrences s v.puts
 abbrev pub owes : ℕ → ℕ → PassView → ℕ
 owes c s v = times_piece c s v.owed
 
+-- 1 where stripe s is held, and else 0
 abbrev pub held_once : ℕ → Hold → ℕ
 held_once s Free = 0
 held_once s (Holds t k) = weight (s == t)
@@ -106,6 +114,7 @@ fresh_view is_first chunks = record {
   last = Nothing;
 }
 
+-- the view of the first pass at its start
 abbrev pub first_view : Chunks → PassView
 first_view plan = fresh_view true plan
 
@@ -132,7 +141,7 @@ abbrev pub after_draw : ℕ → PassView → PassView
 after_draw w v = record v {
   got = v.got + weight (ltb w (length v.plan));
   over = v.over + weight (leb (length v.plan) w);
-  owed = v.owed ++ cond (ltb w (length v.plan)) (chunk_pieces w 16) [];
+  owed = v.owed ++ cond (ltb w (length v.plan)) (chunk_pieces w stripe_count) [];
   last = Drew w;
 }
 

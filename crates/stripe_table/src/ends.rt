@@ -9,7 +9,8 @@ ghost use Rattle.stripe_table.specs.Stripe.{empty_stripe};
 ghost use Rattle.stripe_table.specs.Values.{IsPassOf};
 ghost use Rattle.stripe_table.specs.Views.{done, first_view, occurrences, sum_below};
 ghost use Rattle.stripe_table.specs.declared.view.Hold.TheVariants.{Free};
-ghost use Rattle.thread_cct.specs.Plan.{FitsExpansion, expanded, stripes};
+ghost use Rattle.scope_types.specs.Limits.{stripe_count};
+ghost use Rattle.thread_cct.specs.Plan.{FitsExpansion, expanded};
 
 use crate::plays::StripeRule;
 use crate::stripe::Stripe;
@@ -19,13 +20,15 @@ use atomic_table::{Closed, Table};
 use ghost_value::{Determines, GhostValue};
 use path_trie::Trie;
 use prof_bytes::Memory;
+use scope_types::limits::STRIPES;
 use scope_types::{Expand, Piece};
 use std::alloc::{AllocError, Global};
 use std::marker::{Model, PhantomData};
 use std::snapshot::Snapshot;
 use thread_cct::Plan;
 
-const STRIPES: usize = 16;
+/// The words of a table: the next number to draw, and one for each stripe.
+const WORDS: usize = STRIPES + 1;
 
 /// A plan and what expands its paths determine the expanded plan.
 pub(crate) struct Expanded<E> {
@@ -57,8 +60,9 @@ impl Model for StripeSet {
 }
 
 fn empty_stripes(alloc: Global, chunks: u32) -> Result<Vec<Stripe>, Memory>
-    ensures { IfOk result (λ v. v.items ≡ replicate stripes empty_stripe) }
+    ensures { IfOk result (λ v. v.items ≡ replicate stripe_count empty_stripe) }
 {
+    // room: `STRIPES`, the stripes
     let mut all = Vec::with_capacity(alloc, STRIPES)?;
     for _ in 0..STRIPES {
         all.push(Stripe::empty(alloc, chunks)?)?;
@@ -78,22 +82,24 @@ fn open(
     ),
     Memory,
 >
-    ensures { IfOk result (λ t. (t.0.shared.table_id.words ≡ 17) × (t.0.shared.table_id.slots ≡ 16)
-        × (t.1.table_id ≡ t.0.shared.table_id) × (t.1.me ≡ (first_view plan.now.value, []))
+    ensures { IfOk result (λ t. (t.0.shared.table_id.words ≡ stripe_count + 1)
+        × (t.0.shared.table_id.slots ≡ stripe_count) × (t.1.table_id ≡ t.0.shared.table_id)
+        × (t.1.me ≡ (first_view plan.now.value, []))
         × (t.0.shared.key ≡ plan.now)) }
 {
     let all = empty_stripes(alloc, chunks)?;
-    match Table::new(alloc, &[0; 17], all, plan) {
+    match Table::new(alloc, &[0; WORDS], all, plan) {
         Ok(made) => Ok(made),
-        // the table's two allocations are all that can fail
+        // out of memory: the table's two allocations are all that can fail, and its refusal
+        // has no error of the allocator in it
         Err(_) => Err(Memory::from(AllocError)),
     }
 }
 
 /// The stripes of a closed table, in order.
 fn gather(mut closed: Closed<Stripe, Global>, mut into: Vec<Stripe>) -> Vec<Stripe>
-    requires { IsFull closed.slots × (slots_len closed.slots ≡ 16) × (into.items ≡ [])
-        × (16 ≤ vec_capacity into) }
+    requires { IsFull closed.slots × (slots_len closed.slots ≡ stripe_count) × (into.items ≡ [])
+        × (stripe_count ≤ vec_capacity into) }
     ensures { result.items ≡ slots_items closed.slots }
 {
     let mut i = 0;
@@ -117,6 +123,7 @@ impl Stripes {
             × IsPassOf r.0 r.1 × (r.1.view ≡ first_view r.0.plan)) }
     {
         let key = GhostValue::of::<Plan<'_>, E, Expanded<E>>(plan, expand);
+        // room: `STRIPES`, the stripes of the closed table, so that `close` can't fail
         let spare = Vec::with_capacity(alloc, STRIPES)?;
         let chunks = plan.chunks();
         let (table, seat) = open(alloc, chunks, &key)?;
@@ -134,11 +141,12 @@ impl Stripes {
         requires first { (pass.view.first ≡ true) × (pass.view.hold ≡ Free)
             × (pass.view.splits ≡ pass.view.joins) }
         ensures view { result.view ≡ pass.view }
-        ensures fits { (s : ℕ) → s < stripes → FitsAt self.plan result.stripes s (done s pass.view) }
-        ensures names { (s : ℕ) → s < stripes → length (stripe_names result.stripes s) ≡ done s pass.view }
+        ensures fits { (s : ℕ) → s < stripe_count → FitsAt self.plan result.stripes s (done s pass.view) }
+        ensures names { (s : ℕ) → s < stripe_count → length (stripe_names result.stripes s) ≡ done s pass.view }
+        ensures all { AllFit result.view.plan result.stripes }
         ensures drawn { 0 < pass.view.over → length self.plan ≤ pass.view.got }
         ensures busy { pass.view.splits ≡ 0 → pass.view.busy ≡ 0 }
-        ensures sum { sum_below 16 (λ s. done s pass.view) ≡ length pass.view.puts }
+        ensures sum { sum_below stripe_count (λ s. done s pass.view) ≡ length pass.view.puts }
     {
         let closer = Snapshot::of(&pass);
         let Stripes {
@@ -158,7 +166,7 @@ impl Stripes {
 impl StripeSet {
     /// The chunks that a stripe has its pieces of, in the order in which they were merged.
     pub fn names(&self, stripe: u32) -> &[u32]
-        requires { stripe < stripes }
+        requires { stripe < stripe_count }
         ensures names { result.now ≡ stripe_names self.now.stripes stripe }
         ensures fits { AllFit self.now.view.plan self.now.stripes }
     {
@@ -168,7 +176,7 @@ impl StripeSet {
 
     /// The trie of a stripe's pieces.
     pub fn trie(&self, stripe: u32) -> &Trie
-        requires { stripe < stripes }
+        requires { stripe < stripe_count }
         ensures trie { result.now ≡ trie_of self.now.stripes stripe }
         ensures fits { AllFit self.now.view.plan self.now.stripes }
         ensures limited { IsLimited self.now.view.plan }

@@ -2,7 +2,7 @@
 //! it back, and none ever waits (the counterpart of the locks in HPCToolkit's hpcprof).
 //!
 //! It promises that after all passes have joined, each stripe has exactly the pieces that it names, each once, in
-//! whatever order they came. Below stand `path_trie`, `thread_cct`, `ghost_value` and the kit's `atomic_table`.
+//! whatever order they came. Below lie `path_trie`, `thread_cct`, `ghost_value` and the kit's `atomic_table`.
 #![tactic(auto)]
 
 mod ends;

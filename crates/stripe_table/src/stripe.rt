@@ -83,6 +83,7 @@ impl Stripe {
         ensures ok { OnOk result (TakesIn self.old piece.now self.new) }
         ensures err { OnErr result (self.new ≡ self.old) }
     {
+        // room: `1`, the chunk's name, so that nothing fails after the merge
         self.names.reserve(1)?;
         self.trie.merge(piece)?;
         self.names.push_reserved(piece.chunk);
@@ -90,7 +91,7 @@ impl Stripe {
         Ok(())
     }
 
-    /// Where a chunk stands among the names. Walks over them only where the chunk may be there.
+    /// Where a chunk is among the names. Walks over them only where the chunk may be there.
     fn index(&self, chunk: u32) -> Option<usize>
         ensures { MatchOption result (occurrences chunk self.now.names ≡ 0)
             (λ index. (index < length self.now.names) × (slice_index self.now.names index ≡ chunk)) }
@@ -144,7 +145,7 @@ fn is_unmarked(marks: &[bool], chunk: u32) -> bool
     }
 }
 
-/// Where a name stands.
+/// Where a name is.
 fn index_of(names: &[u32], name: u32) -> Option<usize>
     ensures { MatchOption result (occurrences name names.now ≡ 0)
         (λ index. (index < length names.now) × (slice_index names.now index ≡ name)) }

@@ -5,7 +5,7 @@ ghost use Rattle.stripe_table.specs.Limits.{IsPieceOf};
 ghost use Rattle.stripe_table.specs.Values.{IsPassOf};
 ghost use Rattle.stripe_table.specs.Views.{after_draw, after_join, after_put_back, after_split, fresh_view, owes};
 ghost use Rattle.stripe_table.specs.declared.view.Hold.TheVariants.{Free, Holds};
-ghost use Rattle.thread_cct.specs.Plan.{stripes};
+ghost use Rattle.scope_types.specs.Limits.{stripe_count};
 
 use crate::plays::{Fork, StripeRule};
 use crate::steps::{draw, lay_at, let_go_at, take_at};
@@ -18,8 +18,10 @@ use scope_types::Piece;
 use std::alloc::Global;
 use std::marker::Model;
 
-pub(crate) type Board = Shared<Stripe, PassView, GhostValue<ExpandedPlan>, StripeRule>;
+/// What all threads share of a table.
+pub(crate) type SharedTable = Shared<Stripe, PassView, GhostValue<ExpandedPlan>, StripeRule>;
 
+/// A pass's seat at a table, by which it reads and changes the table's words and slots.
 pub(crate) type PassSeat = Seat<Stripe, PassView>;
 
 /// Sixteen stripes of a plan, which passes share. Contracts see the table and the expanded plan.
@@ -86,7 +88,7 @@ impl Stripes {
         ensures of { IsPassOf self.now pass.new }
         ensures drawn { (w : ℕ) × (pass.new.view ≡ after_draw w pass.old.view)
             × MatchOption result (length self.now.plan ≤ w) (λ c. (c ≡ w) × (c < length self.now.plan)) }
-        ensures owed { IfSome result (λ c. (s : ℕ) → s < stripes → 0 < owes c s pass.new.view) }
+        ensures owed { IfSome result (λ c. (s : ℕ) → s < stripe_count → 0 < owes c s pass.new.view) }
     {
         self.next_chunk(pass)
     }
@@ -109,7 +111,7 @@ impl Stripes {
     pub(crate) fn take(&self, pass: &mut Pass, stripe: u32) -> Take
         requires of { IsPassOf self.now pass.old }
         requires free { pass.old.view.hold ≡ Free }
-        requires stripe { stripe < stripes }
+        requires stripe { stripe < stripe_count }
         ensures of { IsPassOf self.now pass.new }
         ensures took { Took stripe pass.old.view pass.new.view result }
     {

@@ -65,12 +65,12 @@ fn one_frame(alloc: Global, pc: u32) -> Result<RawPath, Memory> {
     Ok(RawPath::of(End::Whole, frames))
 }
 
-/// One hart with 128 paths of one frame.
+/// One column with 128 paths of one frame.
 fn paths(alloc: Global) -> Result<Ccts, Refused<TooManyFrames>> {
     let mut ccts = Ccts::start(alloc, 1)?;
     for number in 0..128u32 {
         let raw = one_frame(alloc, 0x1_0000 + 4 * number)?;
-        if 0 < ccts.harts() {
+        if 0 < ccts.columns() {
             ccts.add(0, &raw)?;
         }
     }

@@ -5,9 +5,10 @@ use Rattle.std.specs.Prelude.{filter, is_none, take, unwrap_or}
 use Rattle.std.specs.List.{flat_map}
 use Rattle.elf_image.specs.Image.{FunctionSymbol}
 use Rattle.scope_types.specs.declared.scope.LineId.TheVariants.{Address}
-use Rattle.tree_types.specs.TopDown.{address_text, line_label, printed, spaces}
+use Rattle.prof_bytes.specs.Printing.{address_text, printed}
+use Rattle.tree_types.specs.TopDown.{line_label, spaces}
 use Rattle.dwarf_inline.specs.declared.subroutine.Subroutine.{Subroutine}
-use Rattle.dwarf_forms.specs.declared.name.TheConstants.{MAX_NAME_BYTES}
+use Rattle.scope_types.specs.Limits.{most_name_bytes}
 use Rattle.dwarf_inline.specs.Structure.{ProgramStructure, proc_name}
 use Rattle.scope_find.specs.Found.{Numbered, ProgramScopes, item_ranges, naming_of, numbered, subprogram_at}
 use Rattle.scope_find.specs.Laws.{item_descendants}
@@ -33,9 +34,11 @@ ranges_tail s item = codes " " ++ ranges_text (item_ranges s item) ++ codes "\n"
 abbrev pub has_ranges : Subroutine → Bool
 has_ranges item = nat_lt 0 item.range_count
 
+-- a subprogram is listed where one of its ranges counts
 abbrev pub is_listed_subprogram : Numbered → Bool
 is_listed_subprogram i = not i.1.inlined && has_ranges i.1
 
+-- an inlined subroutine is listed where one of its ranges counts
 abbrev pub is_listed_inline : Numbered → Bool
 is_listed_inline i = i.1.inlined && has_ranges i.1
 
@@ -61,11 +64,13 @@ abbrev pub inline_line : ProgramScopes → ℕ → Subroutine → List ℕ
 inline_line p level item = spaces (2 * level) ++ codes "inline " ++ printed (proc_name p.structure item.identity)
     ++ codes " called at " ++ line_label (naming_of p) (unwrap_or item.call (Address 0)) ++ ranges_tail p.structure item
 
+-- the lines of what is inlined into a subprogram, in section order
 abbrev pub inline_lines : ProgramScopes → Numbered → List ℕ
 inline_lines p i =
     flat_map (λ j. inline_line p (inlined_level p.structure i.0 j.0) j.1)
     (filter is_listed_inline (item_descendants p.structure i))
 
+-- a subprogram with what is inlined into it
 abbrev pub subprogram_lines : ProgramScopes → Numbered → List ℕ
 subprogram_lines p i = subprogram_line p i.1 ++ inline_lines p i
 
@@ -75,8 +80,9 @@ subprogram_lines p i = subprogram_line p i.1 ++ inline_lines p i
 abbrev pub is_listed_symbol : ProgramStructure → FunctionSymbol → Bool
 is_listed_symbol s function = is_none (subprogram_at s function.start)
 
+-- the name of a function symbol, cut, and its range
 abbrev pub symbol_line : FunctionSymbol → List ℕ
-symbol_line function = codes "symbol " ++ printed (take MAX_NAME_BYTES function.name) ++ codes " "
+symbol_line function = codes "symbol " ++ printed (take most_name_bytes function.name) ++ codes " "
     ++ range_text (function.start, function.start + function.size) ++ codes "\n"
 
 -- ---- the listing

@@ -11,10 +11,9 @@ ghost use Rattle.struct_listing.specs.private.Parts.{inline_part, scopes_of};
 use crate::program::Program;
 use crate::ranges::put_tail;
 use dwarf_inline::Subroutine;
-use prof_bytes::{Memory, put_decimal};
+use prof_bytes::{Memory, put_address, put_place, put_printed};
 use scope_types::LineId;
 use std::alloc::Global;
-use view_tables::{put_address, put_printed};
 
 /// Closes the inlined subroutines that end up to a number.
 fn close_ended(ends: &mut Vec<u32>, number: u32)
@@ -57,9 +56,7 @@ fn put_call(
     match call {
         LineId::Row { table, file, line } => {
             let name = program.lines.file_name(alloc, table, file)?;
-            put_printed(out, name.bytes())?;
-            out.extend_from_slice(b":")?;
-            put_decimal(out, u64::from(line))
+            put_place(out, name.bytes(), line)
         }
         LineId::Address(address) => put_address(out, address),
     }

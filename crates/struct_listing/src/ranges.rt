@@ -5,8 +5,7 @@ ghost use Rattle.struct_listing.specs.Listing.{range_text, ranges_tail, ranges_t
 ghost use Rattle.struct_listing.specs.private.Parts.{separator};
 
 use dwarf_inline::{Structure, Subroutine};
-use prof_bytes::Memory;
-use view_tables::put_address;
+use prof_bytes::{Memory, put_address};
 
 /// The addresses from a start up to an end.
 pub(crate) fn put_range(out: &mut Vec<u8>, start: u32, end: u32) -> Result<(), Memory>

@@ -10,9 +10,8 @@ use crate::inlines::put_inlines;
 use crate::program::Program;
 use crate::ranges::put_tail;
 use dwarf_inline::Subroutine;
-use prof_bytes::Memory;
+use prof_bytes::{Memory, put_printed};
 use std::alloc::Global;
-use view_tables::put_printed;
 
 /// The line of a subprogram.
 fn put_line(out: &mut Vec<u8>, program: Program<'_>, item: Subroutine) -> Result<(), Memory>

@@ -11,12 +11,11 @@ ghost use Rattle.struct_listing.specs.private.Holders.{unheld_part};
 
 use crate::ranges::put_range;
 use address_ranges::{AddressRange, HasRange, RangeTable};
-use dwarf_forms::cut_name;
 use dwarf_inline::{Structure, Subroutine};
 use elf_image::{Function, Image};
-use prof_bytes::Memory;
+use prof_bytes::{Memory, put_printed};
+use scope_types::cut_name;
 use std::alloc::Global;
-use view_tables::put_printed;
 
 /// A range of a subprogram.
 #[derive(Clone, Copy, Debug)]

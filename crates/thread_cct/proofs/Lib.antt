@@ -4,7 +4,7 @@ pub mod Tables
 pub mod Samples
 pub mod Counts
 pub mod Putting
-mod Hands
+mod DealtEntries
 mod Located
 pub mod PlanLaws
 mod Mergeable

@@ -1,4 +1,4 @@
--- Where the paths of each hart stand in the plan, and how many there are.
+-- Where the paths of each column are in the plan, and how many there are.
 use Rattle.std.proofs.Common.{◌≡◌, ℕ, zero, suc, ◌+◌, ◌-◌, ◌*◌, ◌<◌, ◌≤◌, ◌^◌, cond, List, [], ◌∷◌, ◌++◌, length, map, take, drop, ◌/◌, get_or, sum_by, All, Some, Ok, Err, refl, sym, ap, subst, ◌∙◌, arith, inl, inr}
 use Rattle.std.specs.Prelude.{slice_get, slice_index_or, min}
 use Rattle.std.specs.List.{flat_map, enumerate_from}
@@ -15,7 +15,7 @@ use Rattle.scope_types.specs.declared.scope.Scope.{Scope}
 use Rattle.scope_types.specs.Raw.{Raw}
 use Rattle.scope_types.specs.Distinct.{path_scopes, scopes_in, samples_in}
 use Rattle.scope_types.specs.Limits.{most_scopes_in_all, most_samples}
-use Rattle.thread_cct.specs.Plan.{PlannedPath, Planned, paths_of_hart, plan_of, planned_scopes, few_scopes, too_many_scopes, FitsExpansion, expanded, expanded_path}
+use Rattle.thread_cct.specs.Plan.{PlannedPath, Planned, paths_of_column, plan_of, planned_scopes, few_scopes, too_many_scopes, FitsExpansion, expanded, expanded_path}
 use Rattle.thread_cct.specs.private.Index.{first_paths, IsIndexed, IsLastFrom}
 use Rattle.thread_cct.proofs.Paths.{HasCount, count_of, paths_below}
 
@@ -25,25 +25,25 @@ Tables = List (List Counted)
 abbrev sizes : Tables → ℕ
 sizes tables = sum_by (λ (t : List Counted). length t) tables
 
-abbrev pub columns : ℕ → Tables → List PlannedPath
-columns first tables = flat_map paths_of_hart (enumerate_from first tables)
+abbrev pub paths_from : ℕ → Tables → List PlannedPath
+paths_from first tables = flat_map paths_of_column (enumerate_from first tables)
 
 abbrev pub planned : ℕ → Counted → PlannedPath
-planned hart c = record { hart = hart; path = c.path; count = c.count }
+planned column c = record { column = column; path = c.path; count = c.count }
 
 -- ---- how many
 
-columns_length : (first : ℕ) (tables : Tables) → length (columns first tables) ≡ sizes tables
-columns_length first [] = refl
-columns_length first (t ∷ tables) =
-    let parts = length-append (paths_of_hart (first, t)) (columns (first + 1) tables) in
+paths_from_length : (first : ℕ) (tables : Tables) → length (paths_from first tables) ≡ sizes tables
+paths_from_length first [] = refl
+paths_from_length first (t ∷ tables) =
+    let parts = length-append (paths_of_column (first, t)) (paths_from (first + 1) tables) in
     let own = length-map t (planned first) in
-    let rest = columns_length (first + 1) tables in
+    let rest = paths_from_length (first + 1) tables in
     let all = sum_by-cons (λ (t : List Counted). length t) t tables in
     omega (arith, parts, own, rest, all)
 
 pub plan_length : (tables : Tables) → length (plan_of tables).paths ≡ sum_by (λ t. length t) tables
-plan_length tables = columns_length 0 tables
+plan_length tables = paths_from_length 0 tables
 
 sizes_few : (tables : Tables) → All (All HasCount) tables → sizes tables ≤ samples_in tables
 sizes_few [] all = omega arith
@@ -79,28 +79,28 @@ firsts_last before (u ∷ tables) t =
     let same : before + length u + sizes tables ≡ before + sizes (u ∷ tables) = omega (arith, parts) in
     ap (λ (ns : List ℕ). before ∷ ns) (firsts_last (before + length u) tables t ∙ ap (λ (n : ℕ). first_paths (before + length u) tables ++ n ∷ []) same)
 
--- one hart more
-pub firsts_more : (tables : Tables) (hart : ℕ) (firsts new : List ℕ) (paths : ℕ) → hart < length tables → firsts ≡ first_paths 0 (take hart tables) → paths ≡ sum_by (λ t. length t) (take hart tables) → new ≡ firsts ++ paths ∷ []
-    → new ≡ first_paths 0 (take (hart + 1) tables)
-firsts_more tables hart firsts new paths lt so_far count put =
-    let none : paths ≡ 0 + sizes (take hart tables) = omega (arith, count) in
-    put ∙ ap (λ (ns : List ℕ). ns ++ paths ∷ []) so_far ∙ ap (λ (n : ℕ). first_paths 0 (take hart tables) ++ n ∷ []) none
-    ∙ sym (firsts_last 0 (take hart tables) (get_or tables hart [])) ∙ ap (first_paths 0) (sym (take_more tables hart [] lt))
+-- one column more
+pub firsts_more : (tables : Tables) (column : ℕ) (firsts new : List ℕ) (paths : ℕ) → column < length tables → firsts ≡ first_paths 0 (take column tables) → paths ≡ sum_by (λ t. length t) (take column tables) → new ≡ firsts ++ paths ∷ []
+    → new ≡ first_paths 0 (take (column + 1) tables)
+firsts_more tables column firsts new paths lt so_far count put =
+    let none : paths ≡ 0 + sizes (take column tables) = omega (arith, count) in
+    put ∙ ap (λ (ns : List ℕ). ns ++ paths ∷ []) so_far ∙ ap (λ (n : ℕ). first_paths 0 (take column tables) ++ n ∷ []) none
+    ∙ sym (firsts_last 0 (take column tables) (get_or tables column [])) ∙ ap (first_paths 0) (sym (take_more tables column [] lt))
 
-sum_one_more : (f : List Counted → ℕ) (tables : Tables) (hart : ℕ) → hart < length tables → sum_by f (take (hart + 1) tables) ≡ sum_by f (take hart tables) + f (get_or tables hart [])
-sum_one_more f tables hart lt =
-    let parts = sum_by-append f (take hart tables) (get_or tables hart [] ∷ []) in
-    let last = sum_by-cons f (get_or tables hart []) [] in
-    ap (sum_by f) (take_more tables hart [] lt) ∙ omega (arith, parts, last)
+sum_one_more : (f : List Counted → ℕ) (tables : Tables) (column : ℕ) → column < length tables → sum_by f (take (column + 1) tables) ≡ sum_by f (take column tables) + f (get_or tables column [])
+sum_one_more f tables column lt =
+    let parts = sum_by-append f (take column tables) (get_or tables column [] ∷ []) in
+    let last = sum_by-cons f (get_or tables column []) [] in
+    ap (sum_by f) (take_more tables column [] lt) ∙ omega (arith, parts, last)
 
-pub paths_more_of : (tables : Tables) (hart paths more : ℕ) → hart < length tables → paths ≡ sum_by (λ t. length t) (take hart tables) → more ≡ length (slice_index_or tables hart [])
-    → paths + more ≡ sum_by (λ t. length t) (take (hart + 1) tables)
-paths_more_of tables hart paths more lt so_far is = let one = sum_one_more (λ t. length t) tables hart lt in omega (arith, one, so_far, is)
+pub paths_more_of : (tables : Tables) (column paths more : ℕ) → column < length tables → paths ≡ sum_by (λ t. length t) (take column tables) → more ≡ length (slice_index_or tables column [])
+    → paths + more ≡ sum_by (λ t. length t) (take (column + 1) tables)
+paths_more_of tables column paths more lt so_far is = let one = sum_one_more (λ t. length t) tables column lt in omega (arith, one, so_far, is)
 
-pub paths_fit : (tables : Tables) (hart paths more : ℕ) → hart < length tables → paths ≡ sum_by (λ t. length t) (take hart tables) → more ≡ length (slice_index_or tables hart [])
+pub paths_fit : (tables : Tables) (column paths more : ℕ) → column < length tables → paths ≡ sum_by (λ t. length t) (take column tables) → more ≡ length (slice_index_or tables column [])
     → samples_in tables ≤ most_samples → All (All (λ c. 0 < c.count)) tables → paths + more < 2 ^ 32
-paths_fit tables hart paths more lt so_far is few counted =
-    let some = sum_by_more_le (λ (t : List Counted). length t) tables hart [] lt in
+paths_fit tables column paths more lt so_far is few counted =
+    let some = sum_by_more_le (λ (t : List Counted). length t) tables column [] lt in
     let all = sizes_few tables counted in
     omega (arith, some, all, so_far, is, few)
 
@@ -109,11 +109,11 @@ paths_fit tables hart paths more lt so_far is few counted =
 abbrev top : ℕ
 top = 2 ^ 64 - 1
 
-pub scopes_more : (call_path : Raw → List Scope) (tables : Tables) (hart scopes more : ℕ) → hart < length tables → scopes ≡ min (sum_by (sum_by (path_scopes call_path)) (take hart tables)) (2 ^ 64 - 1)
-    → more ≡ min (sum_by (path_scopes call_path) (slice_index_or tables hart [])) (2 ^ 64 - 1)
-    → min (scopes + more) (2 ^ 64 - 1) ≡ min (sum_by (sum_by (path_scopes call_path)) (take (hart + 1) tables)) (2 ^ 64 - 1)
-scopes_more call_path tables hart scopes more lt so_far is =
-    let one = sum_one_more (sum_by (path_scopes call_path)) tables hart lt in
+pub scopes_more : (call_path : Raw → List Scope) (tables : Tables) (column scopes more : ℕ) → column < length tables → scopes ≡ min (sum_by (sum_by (path_scopes call_path)) (take column tables)) (2 ^ 64 - 1)
+    → more ≡ min (sum_by (path_scopes call_path) (slice_index_or tables column [])) (2 ^ 64 - 1)
+    → min (scopes + more) (2 ^ 64 - 1) ≡ min (sum_by (sum_by (path_scopes call_path)) (take (column + 1) tables)) (2 ^ 64 - 1)
+scopes_more call_path tables column scopes more lt so_far is =
+    let one = sum_one_more (sum_by (path_scopes call_path)) tables column lt in
     omega (arith, one, so_far, is)
 
 pub own_scopes_more : (call_path : Raw → List Scope) (cs : List Counted) (i scopes more : ℕ) (c : Counted) → i < length cs → slice_get cs i ≡ Some c → more ≡ length (call_path c.path) → more < 2 ^ 64
@@ -127,28 +127,28 @@ own_scopes_more call_path cs i scopes more c lt at is small so_far =
     ap (sum_by (path_scopes call_path)) (take_more cs i c lt) ∙ parts ∙ ap (λ (n : ℕ). sum_by (path_scopes call_path) (take i cs) + n) (omega (arith, last) ∙ ap (path_scopes call_path) same) in
     omega (arith, one, so_far, is, small)
 
-column_scopes : (call_path : Raw → List Scope) (hart : ℕ) (cs : List Counted) → sum_by (λ (p : PlannedPath). length (call_path p.path)) (map (planned hart) cs) ≡ sum_by (path_scopes call_path) cs
-column_scopes call_path hart [] = refl
-column_scopes call_path hart (c ∷ cs) =
+table_scopes : (call_path : Raw → List Scope) (column : ℕ) (cs : List Counted) → sum_by (λ (p : PlannedPath). length (call_path p.path)) (map (planned column) cs) ≡ sum_by (path_scopes call_path) cs
+table_scopes call_path column [] = refl
+table_scopes call_path column (c ∷ cs) =
     let f : PlannedPath → ℕ = λ p. length (call_path p.path) in
-    let a = sum_by-cons f (planned hart c) (map (planned hart) cs) in
+    let a = sum_by-cons f (planned column c) (map (planned column) cs) in
     let b = sum_by-cons (path_scopes call_path) c cs in
-    let rest = column_scopes call_path hart cs in
+    let rest = table_scopes call_path column cs in
     omega (arith, a, b, rest)
 
-columns_scopes : (call_path : Raw → List Scope) (first : ℕ) (tables : Tables) → sum_by (λ (p : PlannedPath). length (call_path p.path)) (columns first tables) ≡ scopes_in call_path tables
-columns_scopes call_path first [] = refl
-columns_scopes call_path first (t ∷ tables) =
+tables_scopes : (call_path : Raw → List Scope) (first : ℕ) (tables : Tables) → sum_by (λ (p : PlannedPath). length (call_path p.path)) (paths_from first tables) ≡ scopes_in call_path tables
+tables_scopes call_path first [] = refl
+tables_scopes call_path first (t ∷ tables) =
     let f : PlannedPath → ℕ = λ p. length (call_path p.path) in
-    let a = sum_by-append f (map (planned first) t) (columns (first + 1) tables) in
+    let a = sum_by-append f (map (planned first) t) (paths_from (first + 1) tables) in
     let b = sum_by-cons (sum_by (path_scopes call_path)) t tables in
-    let own = column_scopes call_path first t in
-    let rest = columns_scopes call_path (first + 1) tables in
+    let own = table_scopes call_path first t in
+    let rest = tables_scopes call_path (first + 1) tables in
     omega (arith, a, b, own, rest)
 
 -- the plan's scopes are those of the counted paths
 pub scopes_planned : (call_path : Raw → List Scope) (tables : Tables) → planned_scopes call_path (plan_of tables) ≡ scopes_in call_path tables
-scopes_planned call_path tables = columns_scopes call_path 0 tables
+scopes_planned call_path tables = tables_scopes call_path 0 tables
 
 -- ---- the path with a number
 
@@ -162,27 +162,27 @@ get_right [] ys i k at = let same : i ≡ k = omega arith in ap (slice_get ys) s
 get_right (x ∷ xs) ys zero k at = absurd (omega arith)
 get_right (x ∷ xs) ys (suc i) k at = get_right xs ys i k (omega arith)
 
--- that a hart's paths hold the one with a number
-pub record Located (tables : Tables) (first before number hart : ℕ) : Type 0 where
-  pub hart_in : hart < length tables
-  pub from : get_or (first_paths before tables) hart 0 ≤ number
-  pub inside : number - get_or (first_paths before tables) hart 0 < length (get_or tables hart [])
-  pub is : (c : Counted) → slice_get (get_or tables hart []) (number - get_or (first_paths before tables) hart 0) ≡ Some c
-      → slice_get (columns first tables) (number - before) ≡ Some (planned (first + hart) c)
+-- that a column's paths hold the one with a number
+pub record Located (tables : Tables) (first before number column : ℕ) : Type 0 where
+  pub column_in : column < length tables
+  pub from : get_or (first_paths before tables) column 0 ≤ number
+  pub inside : number - get_or (first_paths before tables) column 0 < length (get_or tables column [])
+  pub is : (c : Counted) → slice_get (get_or tables column []) (number - get_or (first_paths before tables) column 0) ≡ Some c
+      → slice_get (paths_from first tables) (number - before) ≡ Some (planned (first + column) c)
 
-located : (tables : Tables) (first before number hart : ℕ) → before ≤ number → number < before + sizes tables
-    → IsLastFrom (first_paths before tables) number hart → hart < length tables → Located tables first before number hart
-located [] first before number hart le lt last few = absurd (omega arith)
+located : (tables : Tables) (first before number column : ℕ) → before ≤ number → number < before + sizes tables
+    → IsLastFrom (first_paths before tables) number column → column < length tables → Located tables first before number column
+located [] first before number column le lt last few = absurd (omega arith)
 located (t ∷ tables) first before number zero le lt last few =
     let parts = sum_by-cons (λ (t : List Counted). length t) t tables in
     let within : number - before < length t = in_first tables parts last.above lt in
     record {
-      hart_in = few;
+      column_in = few;
       from = le;
       inside = within;
       is = λ c at.
           let same : first + 0 ≡ first = omega arith in
-          get_left (map (planned first) t) (columns (first + 1) tables) (number - before) (planned first c) (slice_get-map (planned first) t (number - before) ∙ ap (option_map (planned first)) at)
+          get_left (map (planned first) t) (paths_from (first + 1) tables) (number - before) (planned first c) (slice_get-map (planned first) t (number - before) ∙ ap (option_map (planned first)) at)
           ∙ ap (λ (n : ℕ). Some (planned n c)) (sym same);
     }
   where
@@ -190,34 +190,34 @@ located (t ∷ tables) first before number zero le lt last few =
         → number < before + sizes (t ∷ rest) → number - before < length t
     in_first [] parts high lt = omega (arith, parts, lt)
     in_first (u ∷ rest) parts high lt = (let next : number < before + length t = high 1 (omega arith) (omega arith) in omega (arith, next))
-located (t ∷ tables) first before number (suc hart) le lt last few =
+located (t ∷ tables) first before number (suc column) le lt last few =
     let parts = sum_by-cons (λ (t : List Counted). length t) t tables in
     let long = firsts_length (before + length t) tables in
     let next : get_or (first_paths (before + length t) tables) 0 0 ≤ number = last.below 1 (omega arith) (omega (arith, long, few)) in
     let past : before + length t ≤ number = (let from = firsts_from (before + length t) tables 0 0 (omega (arith, few)) in omega (arith, next, from)) in
-    let rest = located tables (first + 1) (before + length t) number hart past (omega (arith, parts, lt))
+    let rest = located tables (first + 1) (before + length t) number column past (omega (arith, parts, lt))
     (record { below = λ i less inside. last.below (suc i) (omega arith) (omega arith); above = λ i less inside. last.above (suc i) (omega arith) (omega arith) }) (omega (arith, few)) in
     record {
-      hart_in = few;
+      column_in = few;
       from = rest.from;
       inside = rest.inside;
       is = λ c at.
           let own = length-map t (planned first) in
-          let same : first + 1 + hart ≡ first + suc hart = omega arith in
-          get_right (map (planned first) t) (columns (first + 1) tables) (number - before) (number - (before + length t)) (omega (arith, past, own))
+          let same : first + 1 + column ≡ first + suc column = omega arith in
+          get_right (map (planned first) t) (paths_from (first + 1) tables) (number - before) (number - (before + length t)) (omega (arith, past, own))
           ∙ rest.is c at ∙ ap (λ (n : ℕ). Some (planned n c)) same;
     }
 
--- the hart of a path of the plan, and its place among the hart's paths
-pub found : (tables : Tables) (numbers : List ℕ) (paths number hart : ℕ) → IsIndexed tables numbers paths → number < length (plan_of tables).paths → IsLastFrom numbers number hart → hart < length numbers
-    → Located tables 0 0 number hart
-found tables numbers paths number hart index inside last few =
+-- the column of a path of the plan, and its place among the column's paths
+pub found : (tables : Tables) (numbers : List ℕ) (paths number column : ℕ) → IsIndexed tables numbers paths → number < length (plan_of tables).paths → IsLastFrom numbers number column → column < length numbers
+    → Located tables 0 0 number column
+found tables numbers paths number column index inside last few =
     let long = ap length index.firsts in
     let all = firsts_length 0 tables in
     let size = plan_length tables in
-    located tables 0 0 number hart (omega arith) (omega (arith, inside, size)) (subst (λ (ns : List ℕ). IsLastFrom ns number hart) index.firsts last) (omega (arith, long, all, few))
+    located tables 0 0 number column (omega arith) (omega (arith, inside, size)) (subst (λ (ns : List ℕ). IsLastFrom ns number column) index.firsts last) (omega (arith, long, all, few))
 
--- the first hart's paths begin at 0
+-- the first column's paths begin at 0
 pub begins_low : (tables : Tables) (numbers : List ℕ) (paths number : ℕ) → IsIndexed tables numbers paths → number < length (plan_of tables).paths
     → (0 < length numbers) × (get_or numbers 0 0 ≤ number)
 begins_low [] numbers paths number index inside = absurd (omega arith)
@@ -237,33 +237,33 @@ numbers_rise tables numbers paths index i j d le lt =
 
 -- ---- the plan itself
 
-pub refused : (call_path : Raw → List Scope) (tables : Tables) (hart scopes : ℕ) → length tables ≤ hart → scopes ≡ min (sum_by (sum_by (path_scopes call_path)) (take hart tables)) (2 ^ 64 - 1) → most_scopes_in_all < scopes
+pub refused : (call_path : Raw → List Scope) (tables : Tables) (column scopes : ℕ) → length tables ≤ column → scopes ≡ min (sum_by (sum_by (path_scopes call_path)) (take column tables)) (2 ^ 64 - 1) → most_scopes_in_all < scopes
     → few_scopes call_path tables ≡ Err too_many_scopes
-refused call_path tables hart scopes le is many =
-    let all = ap (λ (ts : Tables). scopes_in call_path ts) (take_all hart tables le) in
+refused call_path tables column scopes le is many =
+    let all = ap (λ (ts : Tables). scopes_in call_path ts) (take_all column tables le) in
     let lots : most_scopes_in_all < scopes_in call_path tables = omega (arith, all, is, many) in
     ap (λ b. cond b (Err too_many_scopes) (Ok (plan_of tables))) (lt-ltb most_scopes_in_all (scopes_in call_path tables) lots)
 
 small_enough : (n scopes : ℕ) → scopes ≡ min n top → scopes ≤ most_scopes_in_all → n ≤ most_scopes_in_all
 small_enough n scopes is few = omega arith
 
-pub accepted : (call_path : Raw → List Scope) (tables : Tables) (hart scopes : ℕ) → length tables ≤ hart → scopes ≡ min (sum_by (sum_by (path_scopes call_path)) (take hart tables)) (2 ^ 64 - 1) → scopes ≤ most_scopes_in_all
+pub accepted : (call_path : Raw → List Scope) (tables : Tables) (column scopes : ℕ) → length tables ≤ column → scopes ≡ min (sum_by (sum_by (path_scopes call_path)) (take column tables)) (2 ^ 64 - 1) → scopes ≤ most_scopes_in_all
     → (few_scopes call_path tables ≡ Ok (plan_of tables)) × FitsExpansion (plan_of tables) call_path
-accepted call_path tables hart scopes le is few =
-    let all = ap (λ (ts : Tables). scopes_in call_path ts) (take_all hart tables le) in
+accepted call_path tables column scopes le is few =
+    let all = ap (λ (ts : Tables). scopes_in call_path ts) (take_all column tables le) in
     let some : scopes_in call_path tables ≤ most_scopes_in_all = small_enough (scopes_in call_path tables) scopes (is ∙ ap (λ (n : ℕ). min n (2 ^ 64 - 1)) all) few in
     let planned_few = scopes_planned call_path tables in
     (ap (λ b. cond b (Err too_many_scopes) (Ok (plan_of tables))) (le-ltb most_scopes_in_all (scopes_in call_path tables) some), record { few = omega (arith, some, planned_few) })
 
-pub indexed : (tables : Tables) (hart paths : ℕ) (numbers : List ℕ) → length tables ≤ hart → length tables < 2 ^ 32 → numbers ≡ first_paths 0 (take hart tables) → paths ≡ sum_by (λ t. length t) (take hart tables)
+pub indexed : (tables : Tables) (column paths : ℕ) (numbers : List ℕ) → length tables ≤ column → length tables < 2 ^ 32 → numbers ≡ first_paths 0 (take column tables) → paths ≡ sum_by (λ t. length t) (take column tables)
     → samples_in tables ≤ most_samples → All (All (λ c. 0 < c.count)) tables → IsIndexed tables numbers paths
-indexed tables hart paths numbers le harts so_far is few counted =
-    let all = ap sizes (take_all hart tables le) in
+indexed tables column paths numbers le columns so_far is few counted =
+    let all = ap sizes (take_all column tables le) in
     let long = plan_length tables in
     let some = sizes_few tables counted in
     record {
-      harts = harts;
-      firsts = so_far ∙ ap (first_paths 0) (take_all hart tables le);
+      columns = columns;
+      firsts = so_far ∙ ap (first_paths 0) (take_all column tables le);
       is = omega (arith, all, long, is);
       few = omega (arith, all, is, some);
       samples = few;
@@ -271,69 +271,69 @@ indexed tables hart paths numbers le harts so_far is few counted =
 
 pub ruleset starting = (firsts_more, paths_more_of, paths_fit, scopes_more, refused, indexed)
 
--- what a look-up of the plan stands on: the hart's first number is `begin`
-pub record Placed (tables : Tables) (number hart begin : ℕ) : Type 0 where
-  pub hart_in : hart < length tables
+-- what a look-up of the plan rests on: the column's first number is `begin`
+pub record Placed (tables : Tables) (number column begin : ℕ) : Type 0 where
+  pub column_in : column < length tables
   pub from : begin ≤ number
-  pub inside : number - begin < length (slice_index_or tables hart [])
-  pub is : (c : Counted) → slice_get (slice_index_or tables hart []) (number - begin) ≡ Some c → slice_get (plan_of tables).paths number ≡ Some (record { hart = hart; path = c.path; count = c.count })
+  pub inside : number - begin < length (slice_index_or tables column [])
+  pub is : (c : Counted) → slice_get (slice_index_or tables column []) (number - begin) ≡ Some c → slice_get (plan_of tables).paths number ≡ Some (record { column = column; path = c.path; count = c.count })
 
-pub placed : (tables : Tables) (now : Planned) (numbers shown : List ℕ) (paths number hart begin : ℕ) → IsIndexed tables numbers paths → plan_of tables ≡ now → number < length now.paths → shown ≡ numbers
-    → IsLastFrom shown number hart → hart < length shown → begin ≡ get_or numbers hart begin → Placed tables number hart begin
-placed tables now numbers shown paths number hart begin index view inside same last few is =
+pub placed : (tables : Tables) (now : Planned) (numbers shown : List ℕ) (paths number column begin : ℕ) → IsIndexed tables numbers paths → plan_of tables ≡ now → number < length now.paths → shown ≡ numbers
+    → IsLastFrom shown number column → column < length shown → begin ≡ get_or numbers column begin → Placed tables number column begin
+placed tables now numbers shown paths number column begin index view inside same last few is =
     let own : number < length (plan_of tables).paths = subst (λ (p : Planned). number < length p.paths) (sym view) inside in
-    let few_here : hart < length numbers = subst (λ (ns : List ℕ). hart < length ns) same few in
-    let loc = found tables numbers paths number hart index own (subst (λ (ns : List ℕ). IsLastFrom ns number hart) same last) few_here in
-    let begins : begin ≡ get_or (first_paths 0 tables) hart 0 = is ∙ get_or_default numbers hart begin 0 few_here ∙ ap (λ (ns : List ℕ). get_or ns hart 0) index.firsts in
+    let few_here : column < length numbers = subst (λ (ns : List ℕ). column < length ns) same few in
+    let loc = found tables numbers paths number column index own (subst (λ (ns : List ℕ). IsLastFrom ns number column) same last) few_here in
+    let begins : begin ≡ get_or (first_paths 0 tables) column 0 = is ∙ get_or_default numbers column begin 0 few_here ∙ ap (λ (ns : List ℕ). get_or ns column 0) index.firsts in
     record {
-      hart_in = loc.hart_in;
+      column_in = loc.column_in;
       from = subst (λ (b : ℕ). b ≤ number) (sym begins) loc.from;
-      inside = subst (λ (b : ℕ). number - b < length (slice_index_or tables hart [])) (sym begins) loc.inside;
+      inside = subst (λ (b : ℕ). number - b < length (slice_index_or tables column [])) (sym begins) loc.inside;
       is = λ c at.
           let none : number - 0 ≡ number = omega arith in
-          let first : 0 + hart ≡ hart = omega arith in
+          let first : 0 + column ≡ column = omega arith in
           ap (slice_get (plan_of tables).paths) (sym none)
-          ∙ loc.is c (subst (λ (b : ℕ). slice_get (slice_index_or tables hart []) (number - b) ≡ Some c) begins at)
+          ∙ loc.is c (subst (λ (b : ℕ). slice_get (slice_index_or tables column []) (number - b) ≡ Some c) begins at)
           ∙ ap (λ (n : ℕ). Some (planned n c)) first;
     }
 
--- ---- what stands in the plan
+-- ---- what is in the plan
 
-column_counts : (hart : ℕ) (cs : List Counted) → sum_by (λ (p : PlannedPath). p.count) (map (planned hart) cs) ≡ sum_by count_of cs
-column_counts hart [] = refl
-column_counts hart (c ∷ cs) =
-    let a = sum_by-cons (λ (p : PlannedPath). p.count) (planned hart c) (map (planned hart) cs) in
+table_counts : (column : ℕ) (cs : List Counted) → sum_by (λ (p : PlannedPath). p.count) (map (planned column) cs) ≡ sum_by count_of cs
+table_counts column [] = refl
+table_counts column (c ∷ cs) =
+    let a = sum_by-cons (λ (p : PlannedPath). p.count) (planned column c) (map (planned column) cs) in
     let b = sum_by-cons count_of c cs in
-    let rest = column_counts hart cs in
+    let rest = table_counts column cs in
     omega (arith, a, b, rest)
 
-columns_counts : (first : ℕ) (tables : Tables) → sum_by (λ (p : PlannedPath). p.count) (columns first tables) ≡ samples_in tables
-columns_counts first [] = refl
-columns_counts first (t ∷ tables) =
-    let a = sum_by-append (λ (p : PlannedPath). p.count) (map (planned first) t) (columns (first + 1) tables) in
+tables_counts : (first : ℕ) (tables : Tables) → sum_by (λ (p : PlannedPath). p.count) (paths_from first tables) ≡ samples_in tables
+tables_counts first [] = refl
+tables_counts first (t ∷ tables) =
+    let a = sum_by-append (λ (p : PlannedPath). p.count) (map (planned first) t) (paths_from (first + 1) tables) in
     let b = sum_by-cons (sum_by count_of) t tables in
-    let own = column_counts first t in
-    let rest = columns_counts (first + 1) tables in
+    let own = table_counts first t in
+    let rest = tables_counts (first + 1) tables in
     omega (arith, a, b, own, rest)
 
 pub counts_planned : (tables : Tables) (now : Planned) (numbers : List ℕ) (paths : ℕ) → IsIndexed tables numbers paths → plan_of tables ≡ now → sum_by (λ p. p.count) now.paths ≤ most_samples
 counts_planned tables now numbers paths index view =
-    let all = columns_counts 0 tables in
+    let all = tables_counts 0 tables in
     let few = index.samples in
     subst (λ (p : Planned). sum_by (λ p. p.count) p.paths ≤ most_samples) view (omega (arith, all, few))
 
-columns_below : (first : ℕ) (tables : Tables) → All (λ (p : PlannedPath). p.hart < first + length tables) (columns first tables)
-columns_below first [] = All-nil (λ (p : PlannedPath). p.hart < first + 0)
-columns_below first (t ∷ tables) =
-    let P : PlannedPath → Type 0 = λ p. p.hart < first + length (t ∷ tables) in
-    All-append P (map (planned first) t) (columns (first + 1) tables)
+tables_below : (first : ℕ) (tables : Tables) → All (λ (p : PlannedPath). p.column < first + length tables) (paths_from first tables)
+tables_below first [] = All-nil (λ (p : PlannedPath). p.column < first + 0)
+tables_below first (t ∷ tables) =
+    let P : PlannedPath → Type 0 = λ p. p.column < first + length (t ∷ tables) in
+    All-append P (map (planned first) t) (paths_from (first + 1) tables)
     (All-map P (planned first) t (λ i d lt. omega arith))
-    (All-weaker (λ (p : PlannedPath). p.hart < first + 1 + length tables) P (λ p h. omega arith) (columns (first + 1) tables) (columns_below (first + 1) tables))
+    (All-weaker (λ (p : PlannedPath). p.column < first + 1 + length tables) P (λ p h. omega arith) (paths_from (first + 1) tables) (tables_below (first + 1) tables))
 
-pub harts_planned : (tables : Tables) (now : Planned) (harts : ℕ) → plan_of tables ≡ now → harts ≡ length tables → All (λ p. p.hart < harts) now.paths
-harts_planned tables now harts view is =
-    subst (λ (p : Planned). All (λ p. p.hart < harts) p.paths) view
-    (subst (λ (n : ℕ). All (λ (p : PlannedPath). p.hart < n) (columns 0 tables)) (let none : 0 + length tables ≡ harts = omega arith in none) (columns_below 0 tables))
+pub columns_planned : (tables : Tables) (now : Planned) (columns : ℕ) → plan_of tables ≡ now → columns ≡ length tables → All (λ p. p.column < columns) now.paths
+columns_planned tables now columns view is =
+    subst (λ (p : Planned). All (λ p. p.column < columns) p.paths) view
+    (subst (λ (n : ℕ). All (λ (p : PlannedPath). p.column < n) (paths_from 0 tables)) (let none : 0 + length tables ≡ columns = omega arith in none) (tables_below 0 tables))
 
 -- the first paths' numbers, as a call shows them
 pub shown_low : (tables : Tables) (now : Planned) (numbers shown : List ℕ) (paths number : ℕ) → IsIndexed tables numbers paths → plan_of tables ≡ now → number < length now.paths → shown ≡ numbers
@@ -346,11 +346,11 @@ pub shown_rise : (tables : Tables) (numbers shown : List ℕ) (paths : ℕ) → 
 shown_rise tables numbers shown paths index same =
     subst (λ (ns : List ℕ). (i j d : ℕ) → i ≤ j → j < length ns → get_or ns i d ≤ get_or ns j d) (sym same) (numbers_rise tables numbers paths index)
 
-pub few_harts : (tables : Tables) (numbers shown : List ℕ) (paths hart : ℕ) → IsIndexed tables numbers paths → shown ≡ numbers → hart < length shown → hart < 2 ^ 32
-few_harts tables numbers shown paths hart index same lt =
+pub few_columns : (tables : Tables) (numbers shown : List ℕ) (paths column : ℕ) → IsIndexed tables numbers paths → shown ≡ numbers → column < length shown → column < 2 ^ 32
+few_columns tables numbers shown paths column index same lt =
     let long = ap length (same ∙ index.firsts) in
     let all = firsts_length 0 tables in
-    let few = index.harts in
+    let few = index.columns in
     omega (arith, long, all, few, lt)
 
 -- how many chunks there are

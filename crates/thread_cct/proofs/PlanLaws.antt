@@ -12,12 +12,12 @@ use Rattle.scope_types.specs.declared.path.Entry.{Entry}
 use Rattle.scope_types.specs.declared.path.Piece.{Piece}
 use Rattle.scope_types.specs.declared.scope.Scope.{Scope}
 use Rattle.scope_types.specs.Alike.{Alike}
-use Rattle.scope_types.specs.CallPaths.{HartPath, entry_path, each_path}
-use Rattle.scope_types.specs.Distinct.{HartRaw, distinct, each_of_hart, each_sample}
+use Rattle.scope_types.specs.CallPaths.{ColumnPath, entry_path, each_path}
+use Rattle.scope_types.specs.Distinct.{ColumnRaw, distinct, each_of_column, each_sample}
 use Rattle.scope_types.specs.Key.{stripe, path_key}
 use Rattle.scope_types.specs.Raw.{Raw}
 use Rattle.thread_cct.specs.Plan.{PlannedPath, Planned, plan_of, chunks_in, chunk_of, expanded, expanded_path, expanded_paths, piece_of, pieces_of, all_entries}
-use Rattle.thread_cct.proofs.Located.{Tables, columns, planned}
+use Rattle.thread_cct.proofs.Located.{Tables, paths_from, planned}
 use Rattle.thread_cct.proofs.Samples.{samples_alike}
 
 -- ---- sums
@@ -148,9 +148,9 @@ pieces_alike plan call_path = record { same = λ t. pieces_add_up plan call_path
 
 -- ---- the paths of all samples
 
-pub each_counted : (t : HartPath → Bool) (es : List Entry) → count_by t (each_path es) ≡ sum_by (λ e. count_by t (replicate e.count (entry_path e))) es
+pub each_counted : (t : ColumnPath → Bool) (es : List Entry) → count_by t (each_path es) ≡ sum_by (λ e. count_by t (replicate e.count (entry_path e))) es
 unfolding each_path
-each_counted t es = sum-flat_map (λ (p : HartPath). cond (t p) 1 0) (λ (e : Entry). replicate e.count (entry_path e)) es
+each_counted t es = sum-flat_map (λ (p : ColumnPath). cond (t p) 1 0) (λ (e : Entry). replicate e.count (entry_path e)) es
 
 pub paths_alike : (plan : Planned) (call_path : Raw → List Scope) → Alike (each_path (all_entries (expanded plan call_path))) (each_path (expanded_paths call_path plan))
 paths_alike plan call_path = record {
@@ -161,41 +161,41 @@ paths_alike plan call_path = record {
 }
 
 module _ (call_path : Raw → List Scope) where
-  abbrev sampled : HartRaw → HartPath
-  sampled s = record { hart = s.hart; path = call_path s.raw }
+  abbrev sampled : ColumnRaw → ColumnPath
+  sampled s = record { column = s.column; path = call_path s.raw }
 
-  map-replicate : (n : ℕ) (s : HartRaw) → map sampled (replicate n s) ≡ replicate n (sampled s)
+  map-replicate : (n : ℕ) (s : ColumnRaw) → map sampled (replicate n s) ≡ replicate n (sampled s)
   map-replicate zero s = refl
-  map-replicate (suc n) s = ap (λ (ps : List HartPath). sampled s ∷ ps) (map-replicate n s)
+  map-replicate (suc n) s = ap (λ (ps : List ColumnPath). sampled s ∷ ps) (map-replicate n s)
 
-  column_paths : (hart : ℕ) (cs : List Counted) → each_path (map (expanded_path call_path) (map (planned hart) cs)) ≡ map sampled (each_of_hart (hart, cs))
+  table_paths : (column : ℕ) (cs : List Counted) → each_path (map (expanded_path call_path) (map (planned column) cs)) ≡ map sampled (each_of_column (column, cs))
   unfolding each_path
-  column_paths hart [] = refl
-  column_paths hart (c ∷ cs) =
-      ap (λ (ps : List HartPath). replicate c.count (record { hart = hart; path = call_path c.path }) ++ ps) (column_paths hart cs)
-      ∙ ap (λ (ps : List HartPath). ps ++ map sampled (each_of_hart (hart, cs))) (sym (map-replicate c.count (record { hart = hart; raw = c.path })))
-      ∙ sym (map-append sampled (replicate c.count (record { hart = hart; raw = c.path })) (each_of_hart (hart, cs)))
+  table_paths column [] = refl
+  table_paths column (c ∷ cs) =
+      ap (λ (ps : List ColumnPath). replicate c.count (record { column = column; path = call_path c.path }) ++ ps) (table_paths column cs)
+      ∙ ap (λ (ps : List ColumnPath). ps ++ map sampled (each_of_column (column, cs))) (sym (map-replicate c.count (record { column = column; raw = c.path })))
+      ∙ sym (map-append sampled (replicate c.count (record { column = column; raw = c.path })) (each_of_column (column, cs)))
 
-  columns_paths : (first : ℕ) (tables : Tables) → each_path (map (expanded_path call_path) (columns first tables)) ≡ map sampled (flat_map each_of_hart (enumerate_from first tables))
+  tables_paths : (first : ℕ) (tables : Tables) → each_path (map (expanded_path call_path) (paths_from first tables)) ≡ map sampled (flat_map each_of_column (enumerate_from first tables))
   unfolding each_path
-  columns_paths first [] = refl
-  columns_paths first (t ∷ tables) =
-      let rest : List PlannedPath = columns (first + 1) tables in
+  tables_paths first [] = refl
+  tables_paths first (t ∷ tables) =
+      let rest : List PlannedPath = paths_from (first + 1) tables in
       ap each_path (map-append (expanded_path call_path) (map (planned first) t) rest)
       ∙ flat_map-append (λ (e : Entry). replicate e.count (entry_path e)) (map (expanded_path call_path) (map (planned first) t)) (map (expanded_path call_path) rest)
-      ∙ (λ i. column_paths first t i ++ columns_paths (first + 1) tables i)
-      ∙ sym (map-append sampled (each_of_hart (first, t)) (flat_map each_of_hart (enumerate_from (first + 1) tables)))
+      ∙ (λ i. table_paths first t i ++ tables_paths (first + 1) tables i)
+      ∙ sym (map-append sampled (each_of_column (first, t)) (flat_map each_of_column (enumerate_from (first + 1) tables)))
 
   pub planned_paths : (tables : Tables) → each_path (expanded_paths call_path (plan_of tables)) ≡ map sampled (each_sample tables)
-  planned_paths tables = columns_paths 0 tables
+  planned_paths tables = tables_paths 0 tables
 
-pub pieces_hold_samples : (harts : ℕ) (samples : List HartRaw) (call_path : Raw → List Scope) → All (λ s. s.hart < harts) samples
-    → Alike (each_path (all_entries (expanded (plan_of (distinct harts samples)) call_path))) (map (λ s. record { hart = s.hart; path = call_path s.raw }) samples)
-pieces_hold_samples harts samples call_path own = record {
+pub pieces_hold_samples : (columns : ℕ) (samples : List ColumnRaw) (call_path : Raw → List Scope) → All (λ s. s.column < columns) samples
+    → Alike (each_path (all_entries (expanded (plan_of (distinct columns samples)) call_path))) (map (λ s. record { column = s.column; path = call_path s.raw }) samples)
+pieces_hold_samples columns samples call_path own = record {
   same = λ t.
-      (paths_alike (plan_of (distinct harts samples)) call_path).same t
-      ∙ ap (count_by t) (planned_paths call_path (distinct harts samples))
-      ∙ (samples_alike harts samples (sampled call_path) own).same t;
+      (paths_alike (plan_of (distinct columns samples)) call_path).same t
+      ∙ ap (count_by t) (planned_paths call_path (distinct columns samples))
+      ∙ (samples_alike columns samples (sampled call_path) own).same t;
 }
 
 pub ruleset plan_laws = (as_many_chunks, chunks_whole, pieces_add_up, pieces_alike, paths_alike, planned_paths, pieces_hold_samples)

@@ -1,4 +1,4 @@
--- The plan of a merge: the distinct raw paths of all harts, dealt out in chunks, and what they expand to.
+-- The plan of a merge: the distinct raw paths of all columns, dealt out in chunks, and what they expand to.
 use Rattle.std.specs.Prelude.{ℕ, ◌+◌, ◌*◌, ◌/◌, ◌<◌, ◌≤◌, ◌==◌, nat_lt, List, [], length, map, filter, sum_by}
 use Rattle.std.specs.Prelude.{take, drop, slice_index_or, All, Result, Ok, Err, if◌then◌else◌}
 use Rattle.std.specs.List.{flat_map, enumerate_from, range_with_len}
@@ -9,27 +9,27 @@ use Rattle.scope_types.specs.declared.scope.Scope.{Scope}
 use Rattle.scope_types.specs.Raw.{Raw}
 use Rattle.scope_types.specs.Distinct.{scopes_in}
 use Rattle.scope_types.specs.Key.{stripe}
-use Rattle.scope_types.specs.Limits.{most_scopes_in_all}
+use Rattle.scope_types.specs.Limits.{most_scopes_in_all, stripe_count}
 use Rattle.thread_cct.specs.declared.merge_plan.TooManyScopes.{TooManyScopes}
 
--- a distinct raw path of a hart, and how many samples have it
+-- a distinct raw path of a column, and how many samples have it
 pub record PlannedPath : Type 0 where
-  pub hart : ℕ
+  pub column : ℕ
   pub path : Raw
   pub count : ℕ
 
--- how many harts there are, and their distinct raw paths, hart by hart
+-- how many columns there are, and their distinct raw paths, column by column
 pub record Planned : Type 0 where
-  pub harts : ℕ
+  pub columns : ℕ
   pub paths : List PlannedPath
 
--- the paths of a hart, which is given by its number
-abbrev pub paths_of_hart : ℕ × List Counted → List PlannedPath
-paths_of_hart column = map (λ c. record { hart = column.0; path = c.path; count = c.count }) column.1
+-- the paths of a column, which is given by its number
+abbrev pub paths_of_column : ℕ × List Counted → List PlannedPath
+paths_of_column numbered = map (λ c. record { column = numbered.0; path = c.path; count = c.count }) numbered.1
 
--- the plan of counted paths, which stand hart by hart, in order of first sample
+-- the plan of counted paths, which lie column by column, in order of first sample
 abbrev pub plan_of : List (List Counted) → Planned
-plan_of tables = record { harts = length tables; paths = flat_map paths_of_hart (enumerate_from 0 tables) }
+plan_of tables = record { columns = length tables; paths = flat_map paths_of_column (enumerate_from 0 tables) }
 
 -- ---- the limit on scopes
 
@@ -41,6 +41,7 @@ planned_scopes call_path plan = sum_by (λ p. length (call_path p.path)) plan.pa
 pub record FitsExpansion (plan : Planned) (call_path : Raw → List Scope) : Type 0 where
   pub few : planned_scopes call_path plan ≤ most_scopes_in_all
 
+-- the refusal of one scope too many
 abbrev pub too_many_scopes : TooManyScopes
 too_many_scopes = record {}
 
@@ -69,7 +70,7 @@ chunk_of xs chunk = take chunk_paths (drop (chunk_paths * chunk) xs)
 
 -- a path of the plan, expanded
 abbrev pub expanded_path : (Raw → List Scope) → PlannedPath → Entry
-expanded_path call_path p = record { hart = p.hart; count = p.count; path = call_path p.path }
+expanded_path call_path p = record { column = p.column; count = p.count; path = call_path p.path }
 
 -- all paths of the plan, expanded
 abbrev pub expanded_paths : (Raw → List Scope) → Planned → List Entry
@@ -87,25 +88,21 @@ piece_of chunks chunk number = record {
   entries = filter (λ e. stripe e.path == number) (slice_index_or chunks chunk []);
 }
 
--- how many stripes there are
-abbrev pub stripes : ℕ
-stripes = 16
-
 -- the pieces of a chunk, one for each stripe
 abbrev pub pieces_of : List (List Entry) → ℕ → List Piece
-pieces_of chunks chunk = map (piece_of chunks chunk) (range_with_len 0 stripes)
+pieces_of chunks chunk = map (piece_of chunks chunk) (range_with_len 0 stripe_count)
 
 -- the entries of all pieces
 abbrev pub all_entries : List (List Entry) → List Entry
 all_entries chunks = flat_map (λ chunk. flat_map (λ piece. piece.entries) (pieces_of chunks chunk))
     (range_with_len 0 (length chunks))
 
--- the entry counts samples: some, of one of a given number of harts, at a path that has scopes
-pub record CountsSamples (harts : ℕ) (e : Entry) : Type 0 where
+-- the entry counts samples: some, of one of a given number of columns, at a path that has scopes
+pub record CountsSamples (columns : ℕ) (e : Entry) : Type 0 where
   pub some : 0 < e.count
   pub path : 0 < length e.path
-  pub hart : e.hart < harts
+  pub column : e.column < columns
 
--- whether an expanded plan can be merged: each of its entries counts samples of one of a given number of harts
-pub record IsMergeable (chunks : List (List Entry)) (harts : ℕ) : Type 0 where
-  pub entries : All (All (CountsSamples harts)) chunks
+-- whether an expanded plan can be merged: each of its entries counts samples of one of a given number of columns
+pub record IsMergeable (chunks : List (List Entry)) (columns : ℕ) : Type 0 where
+  pub entries : All (All (CountsSamples columns)) chunks

@@ -1,19 +1,17 @@
 ghost use Rattle.std.specs.Prelude.{◌≡◌, ◌+◌, ◌<◌, ◌∷◌, ◌++◌, [], false, if◌then◌else◌, List, length, slice_get};
 ghost use Rattle.std.specs.Prelude.{Some, IfOk, OnOk, OnErr, All, ◌≤◌, replicate};
 ghost use Rattle.prof_bytes.specs.Outcome.{Gives};
-ghost use Rattle.scope_types.specs.Distinct.{HartRaw, distinct, frames_in, samples_in};
+ghost use Rattle.scope_types.specs.Distinct.{ColumnRaw, distinct, frames_in, samples_in};
 ghost use Rattle.scope_types.specs.Limits.{most_frames_in_all, most_samples};
-ghost use Rattle.thread_cct.specs.Adding.{with_path, with_sample, count_sample, few_frames, has_path, of_hart};
-ghost use Rattle.thread_cct.specs.Adding.{samples_of_hart};
+ghost use Rattle.thread_cct.specs.Adding.{with_path, with_sample, count_sample, few_frames, has_path, of_column};
+ghost use Rattle.thread_cct.specs.Adding.{samples_of_column};
 
 use crate::table::PathTable;
 use prof_bytes::{Fail, Memory};
+use scope_types::limits::MOST_FRAMES_IN_ALL;
 use scope_types::{Counted, RawPath};
 use std::alloc::Global;
 use std::marker::Model;
-
-/// The most frames that all distinct raw paths may have together.
-const MOST_FRAMES_IN_ALL: u64 = 4_194_304;
 
 /// A new raw path would make the frames of all distinct raw paths more than 4,194,304.
 #[derive(Clone, Copy, Debug, PartialEq, Eq, Drop)]
@@ -29,7 +27,7 @@ impl From<TooManyFrames> for Fail<TooManyFrames> {
     }
 }
 
-/// For each hart, by its number from 0, the distinct raw paths of its samples in order of first sample, each
+/// For each column, by its number from 0, the distinct raw paths of its samples in order of first sample, each
 /// with its count.
 #[derive(Drop)]
 pub struct Ccts {
@@ -58,55 +56,57 @@ fn copied(alloc: Global, raw: &RawPath) -> Result<RawPath, Memory>
     Ok(RawPath::of(raw.end(), frames))
 }
 
-/// Counts a sample whose path its hart has already, and says whether it has.
+/// Counts a sample whose path its column has already, and says whether it has.
 #[tactic(auto, using(crate::proofs::Tables::table_steps))]
-fn count_again(tables: &mut Vec<PathTable>, hart: usize, raw: &RawPath) -> bool
-    requires hart { hart < length tables.old.items }
+fn count_again(tables: &mut Vec<PathTable>, column: usize, raw: &RawPath) -> bool
+    requires column { column < length tables.old.items }
     requires few { samples_in tables.old.items < most_samples }
-    ensures found { result ≡ has_path raw.now (of_hart tables.old.items hart) }
+    ensures found { result ≡ has_path raw.now (of_column tables.old.items column) }
     ensures counted { tables.new.items
-        ≡ (if result then count_sample tables.old.items (record { hart = hart; raw = raw.now }) else tables.old.items) }
+        ≡ (if result then count_sample tables.old.items (record { column = column; raw = raw.now })
+        else tables.old.items) }
 {
-    tables[hart].count_again(raw)
+    tables[column].count_again(raw)
 }
 
-/// Counts a sample whose path is new to its hart.
+/// Counts a sample whose path is new to its column.
 #[tactic(auto, using(crate::proofs::Tables::table_steps))]
-fn put_path(tables: &mut Vec<PathTable>, hart: usize, raw: RawPath) -> Result<(), Memory>
-    requires hart { hart < length tables.old.items }
-    requires new { has_path raw (of_hart tables.old.items hart) ≡ false }
-    ensures ok { OnOk result (tables.new.items ≡ count_sample tables.old.items (record { hart = hart; raw = raw })) }
+fn put_path(tables: &mut Vec<PathTable>, column: usize, raw: RawPath) -> Result<(), Memory>
+    requires column { column < length tables.old.items }
+    requires new { has_path raw (of_column tables.old.items column) ≡ false }
+    ensures ok { OnOk result (tables.new.items
+        ≡ count_sample tables.old.items (record { column = column; raw = raw })) }
     ensures err { OnErr result (tables.new.items ≡ tables.old.items) }
 {
-    tables[hart].put(raw)
+    tables[column].put(raw)
 }
 
-/// Puts a counted path that is new to its hart.
+/// Puts a counted path that is new to its column.
 fn put_last(
     tables: &mut Vec<PathTable>,
-    hart: usize,
+    column: usize,
     raw: RawPath,
     count: u32,
 ) -> Result<(), Memory>
-    requires hart { hart < length tables.old.items }
-    requires new { has_path raw (of_hart tables.old.items hart) ≡ false }
+    requires column { column < length tables.old.items }
+    requires new { has_path raw (of_column tables.old.items column) ≡ false }
     ensures ok { OnOk result (tables.new.items
-        ≡ with_path tables.old.items hart (record { path = raw; count = count })) }
+        ≡ with_path tables.old.items column (record { path = raw; count = count })) }
     ensures err { OnErr result (tables.new.items ≡ tables.old.items) }
 {
-    tables[hart].put_counted(raw, count)
+    tables[column].put_counted(raw, count)
 }
 
 impl Ccts {
-    /// No samples, for a given number of harts.
+    /// No samples, for a given number of columns.
     #[tactic(auto, using(crate::proofs::Tables::starting_steps, crate::proofs::Putting::all_empty))]
-    pub fn start(alloc: Global, harts: u32) -> Result<Ccts, Memory>
-        ensures distinct { IfOk result (λ ccts. ccts ≡ distinct harts []) }
-        ensures empty { IfOk result (λ ccts. ccts ≡ replicate harts []) }
+    pub fn start(alloc: Global, columns: u32) -> Result<Ccts, Memory>
+        ensures distinct { IfOk result (λ ccts. ccts ≡ distinct columns []) }
+        ensures empty { IfOk result (λ ccts. ccts ≡ replicate columns []) }
         ensures samples { IfOk result (λ ccts. samples_in ccts ≡ 0) }
     {
         let mut tables = Vec::new(alloc);
-        for _ in 0..harts {
+        for _ in 0..columns {
             tables.push(PathTable::new(alloc))?;
         }
         Ok(Ccts {
@@ -116,9 +116,9 @@ impl Ccts {
         })
     }
 
-    /// How many harts there are.
-    pub fn harts(&self) -> u32
-        ensures harts { result ≡ length self.now }
+    /// How many columns there are.
+    pub fn columns(&self) -> u32
+        ensures columns { result ≡ length self.now }
         ensures samples { samples_in self.now ≤ most_samples }
         ensures counted { All (All (λ c. 0 < c.count)) self.now }
         ensures frames { frames_in self.now ≤ most_frames_in_all }
@@ -126,79 +126,79 @@ impl Ccts {
         self.tables.len() as u32
     }
 
-    /// Adds a sample of a hart with this raw path. `TooManyFrames` comes exactly where the path is new to its
-    /// hart and the frames of all distinct paths would be more than 4,194,304. Nothing is changed then, and
+    /// Adds a sample of a column with this raw path. `TooManyFrames` comes exactly where the path is new to its
+    /// column and the frames of all distinct paths would be more than 4,194,304. Nothing is changed then, and
     /// nothing where memory runs out.
     #[tactic(auto, using(crate::proofs::Tables::adding_steps))]
-    pub fn add(&mut self, hart: u32, raw: &RawPath) -> Result<(), Fail<TooManyFrames>>
-        requires hart { hart < length self.old }
+    pub fn add(&mut self, column: u32, raw: &RawPath) -> Result<(), Fail<TooManyFrames>>
+        requires column { column < length self.old }
         requires few { samples_in self.old < most_samples }
         ensures answer { Gives (λ done. self.new) result
-            (with_sample self.old (record { hart = hart; raw = raw.now })) }
+            (with_sample self.old (record { column = column; raw = raw.now })) }
         ensures err { OnErr result (self.new ≡ self.old) }
-        ensures harts { length self.new ≡ length self.old }
+        ensures columns { length self.new ≡ length self.old }
         ensures samples { OnOk result (samples_in self.new ≡ samples_in self.old + 1) }
         // the samples added so far and this one more give the counts of all
-        ensures all { (samples : List HartRaw) → self.old ≡ distinct (length self.old) samples
+        ensures all { (samples : List ColumnRaw) → self.old ≡ distinct (length self.old) samples
             → Gives (λ done. self.new) result
-            (few_frames (distinct (length self.old) (samples ++ record { hart = hart; raw = raw.now } ∷ []))) }
+            (few_frames (distinct (length self.old) (samples ++ record { column = column; raw = raw.now } ∷ []))) }
     {
-        if count_again(&mut self.tables, hart as usize, raw) {
+        if count_again(&mut self.tables, column as usize, raw) {
             return Ok(());
         }
         let frames = self.frames + raw.frames().len() as u64;
-        if frames > MOST_FRAMES_IN_ALL {
+        if frames > u64::from(MOST_FRAMES_IN_ALL) {
             return Err(Fail::Fault(TooManyFrames));
         }
         let path = copied(self.alloc, raw)?;
-        put_path(&mut self.tables, hart as usize, path)?;
+        put_path(&mut self.tables, column as usize, path)?;
         self.frames = frames;
         Ok(())
     }
 
-    /// Whether a hart has this raw path.
-    pub fn has(&self, hart: u32, raw: &RawPath) -> bool
-        requires { hart < length self.now }
-        ensures { result ≡ has_path raw.now (of_hart self.now hart) }
+    /// Whether a column has this raw path.
+    pub fn has(&self, column: u32, raw: &RawPath) -> bool
+        requires { column < length self.now }
+        ensures { result ≡ has_path raw.now (of_column self.now column) }
     {
-        self.tables[hart as usize].has(raw)
+        self.tables[column as usize].has(raw)
     }
 
-    /// Puts a raw path that is new to its hart last, with its count. Where memory runs out nothing is changed.
+    /// Puts a raw path that is new to its column last, with its count. Where memory runs out nothing is changed.
     #[tactic(auto, using(crate::proofs::Putting::putting_steps))]
-    pub fn put(&mut self, hart: u32, raw: RawPath, count: u32) -> Result<(), Memory>
-        requires hart { hart < length self.old }
-        requires new { has_path raw (of_hart self.old hart) ≡ false }
+    pub fn put(&mut self, column: u32, raw: RawPath, count: u32) -> Result<(), Memory>
+        requires column { column < length self.old }
+        requires new { has_path raw (of_column self.old column) ≡ false }
         requires count { 0 < count }
         requires few { samples_in self.old + count ≤ most_samples }
         requires frames { frames_in self.old + length raw.frames ≤ most_frames_in_all }
-        ensures ok { OnOk result (self.new ≡ with_path self.old hart (record { path = raw; count = count })) }
+        ensures ok { OnOk result (self.new ≡ with_path self.old column (record { path = raw; count = count })) }
         ensures err { OnErr result (self.new ≡ self.old) }
-        ensures harts { length self.new ≡ length self.old }
+        ensures columns { length self.new ≡ length self.old }
         ensures samples { OnOk result (samples_in self.new ≡ samples_in self.old + count) }
         ensures paths { OnOk result (frames_in self.new ≡ frames_in self.old + length raw.frames) }
     {
         let frames = self.frames + raw.frames().len() as u64;
-        put_last(&mut self.tables, hart as usize, raw, count)?;
+        put_last(&mut self.tables, column as usize, raw, count)?;
         self.frames = frames;
         Ok(())
     }
 
-    /// How many distinct raw paths a hart has.
+    /// How many distinct raw paths a column has.
     #[tactic(auto, using(crate::proofs::Tables::few_paths))]
-    pub fn len(&self, hart: u32) -> u32
-        requires { hart < length self.now }
-        ensures { result ≡ length (of_hart self.now hart) }
+    pub fn len(&self, column: u32) -> u32
+        requires { column < length self.now }
+        ensures { result ≡ length (of_column self.now column) }
     {
-        self.tables[hart as usize].len() as u32
+        self.tables[column as usize].len() as u32
     }
 
-    /// How many samples a hart has.
-    pub fn samples(&self, hart: u32) -> u64
-        requires { hart < length self.now }
-        ensures { result ≡ samples_of_hart self.now hart }
+    /// How many samples a column has.
+    pub fn samples(&self, column: u32) -> u64
+        requires { column < length self.now }
+        ensures { result ≡ samples_of_column self.now column }
     {
-        let table = &self.tables[hart as usize];
+        let table = &self.tables[column as usize];
         let mut samples: u64 = 0;
         for index in 0..table.len() {
             let (_, count) = table.entry(index);
@@ -207,25 +207,26 @@ impl Ccts {
         samples
     }
 
-    /// A copy of a hart's distinct raw path at an index, with its count.
-    pub fn path(&self, hart: u32, index: u32) -> Result<Counted, Memory>
-        requires hart { hart < length self.now }
-        requires index { index < length (of_hart self.now hart) }
-        ensures { IfOk result (λ counted. slice_get (of_hart self.now hart) index ≡ Some counted) }
+    /// A copy of a column's distinct raw path at an index, with its count.
+    pub fn path(&self, column: u32, index: u32) -> Result<Counted, Memory>
+        requires column { column < length self.now }
+        requires index { index < length (of_column self.now column) }
+        ensures { IfOk result (λ counted. slice_get (of_column self.now column) index ≡ Some counted) }
     {
-        let (raw, count) = self.entry(hart, index);
+        let (raw, count) = self.entry(column, index);
         Ok(Counted {
             path: copied(self.alloc, raw)?,
             count,
         })
     }
 
-    /// A hart's distinct raw path at an index, and its count.
-    pub(crate) fn entry(&self, hart: u32, index: u32) -> (&RawPath, u32)
-        requires hart { hart < length self.now }
-        requires index { index < length (of_hart self.now hart) }
-        ensures { slice_get (of_hart self.now hart) index ≡ Some (record { path = result.0.now; count = result.1 }) }
+    /// A column's distinct raw path at an index, and its count.
+    pub(crate) fn entry(&self, column: u32, index: u32) -> (&RawPath, u32)
+        requires column { column < length self.now }
+        requires index { index < length (of_column self.now column) }
+        ensures { slice_get (of_column self.now column) index
+            ≡ Some (record { path = result.0.now; count = result.1 }) }
     {
-        self.tables[hart as usize].entry(index as usize)
+        self.tables[column as usize].entry(index as usize)
     }
 }

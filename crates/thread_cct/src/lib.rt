@@ -1,9 +1,9 @@
-//! The raw paths of samples, counted hart by hart: what the calling context trees of the threads are made
+//! The raw paths of samples, counted column by column: what the calling context trees of the threads are made
 //! of (HPCToolkit's manual, "Calling Context Tree"); and the plan of their merge.
 //!
-//! It promises that of the samples that were added each hart has its distinct raw paths in order of first
+//! It promises that of the samples that were added each column has its distinct raw paths in order of first
 //! sample, each with its count; and that a plan cuts these into chunks of 64, and each chunk, expanded to call
-//! paths, into the pieces of sixteen stripes, so that the pieces have each path once. Below stand `scope_types`,
+//! paths, into the pieces of sixteen stripes, so that the pieces have each path once. Below lie `scope_types`,
 //! `prof_bytes` and `indexmap`.
 //!
 //! A loop that adds the samples of a run one by one keeps, of the samples so far, that `Ccts` is `distinct` of

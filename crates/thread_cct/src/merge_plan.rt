@@ -3,22 +3,20 @@ ghost use Rattle.std.specs.Prelude.{◌≡◌, ℕ, ◌-◌, ◌<◌, ◌≤◌,
 ghost use Rattle.std.specs.Prelude.{slice_get, slice_index};
 ghost use Rattle.prof_bytes.specs.Outcome.{Gives};
 ghost use Rattle.scope_types.specs.Distinct.{path_scopes};
-ghost use Rattle.scope_types.specs.Limits.{most_samples};
-ghost use Rattle.thread_cct.specs.Adding.{of_hart};
+ghost use Rattle.scope_types.specs.Limits.{most_samples, stripe_count};
+ghost use Rattle.thread_cct.specs.Adding.{of_column};
 ghost use Rattle.thread_cct.specs.Plan.{FitsExpansion, chunks_in, expanded, expanded_path, few_scopes, most_chunks};
-ghost use Rattle.thread_cct.specs.Plan.{piece_of, pieces_of, stripes};
+ghost use Rattle.thread_cct.specs.Plan.{piece_of, pieces_of};
 ghost use Rattle.thread_cct.specs.private.Index.{IsLastFrom};
 ghost use Rattle.std.specs.List.Sorted.{IsNonDecreasing};
 
 use crate::ccts::Ccts;
-use crate::dealt::{Pieces, deal, empty_hands};
+use crate::dealt::{Pieces, deal, empty_lists};
 use prof_bytes::{Fail, Memory};
+use scope_types::limits::MOST_SCOPES_IN_ALL;
 use scope_types::{Entry, Expand, RawPath};
 use std::alloc::Global;
 use std::marker::Model;
-
-/// The most scopes that the call paths of all distinct raw paths may have together.
-const MOST_SCOPES_IN_ALL: u64 = 8_388_608;
 
 /// How many paths a chunk of the plan has; the last may have fewer.
 const CHUNK_PATHS: u32 = 64;
@@ -37,12 +35,12 @@ impl From<TooManyScopes> for Fail<TooManyScopes> {
     }
 }
 
-/// The distinct raw paths of all harts with their counts, hart by hart in order of first sample, in chunks of 64.
-/// Contracts see the number of harts and the list of the paths.
+/// The distinct raw paths of all columns with their counts, column by column in order of first sample, in chunks of 64.
+/// Contracts see the number of columns and the list of the paths.
 #[derive(Drop)]
 pub struct Plan<'a> {
     ccts: &'a Ccts,
-    /// The number of each hart's first path.
+    /// The number of each column's first path.
     firsts: Vec<u32>,
     paths: u32,
 }
@@ -58,14 +56,14 @@ impl<'a> Model for Plan<'a> {
     ghost invariant = { λ plan. IsIndexed plan.ccts.now plan.firsts.items plan.paths };
 }
 
-/// How many scopes the call paths of a hart's distinct raw paths have together, or 2^64 - 1 where they have more.
-fn scopes_of<E: Expand>(ccts: &Ccts, expand: &E, hart: u32) -> u64
-    requires { hart < length ccts.now }
-    ensures { result ≡ min (sum_by (path_scopes (E.call_path expand.now)) (of_hart ccts.now hart)) (2 ^ 64 - 1) }
+/// How many scopes the call paths of a column's distinct raw paths have together, or 2^64 - 1 where they have more.
+fn scopes_of<E: Expand>(ccts: &Ccts, expand: &E, column: u32) -> u64
+    requires { column < length ccts.now }
+    ensures { result ≡ min (sum_by (path_scopes (E.call_path expand.now)) (of_column ccts.now column)) (2 ^ 64 - 1) }
 {
     let mut scopes: u64 = 0;
-    for index in 0..ccts.len(hart) {
-        let (raw, _) = ccts.entry(hart, index);
+    for index in 0..ccts.len(column) {
+        let (raw, _) = ccts.entry(column, index);
         scopes = scopes.saturating_add(expand.length(raw));
     }
     scopes
@@ -97,12 +95,12 @@ impl<'a> Plan<'a> {
         let mut firsts = Vec::new(alloc);
         let mut paths: u32 = 0;
         let mut scopes: u64 = 0;
-        for hart in 0..ccts.harts() {
+        for column in 0..ccts.columns() {
             firsts.push(paths)?;
-            paths += ccts.len(hart);
-            scopes = scopes.saturating_add(scopes_of(ccts, expand, hart));
+            paths += ccts.len(column);
+            scopes = scopes.saturating_add(scopes_of(ccts, expand, column));
         }
-        if scopes > MOST_SCOPES_IN_ALL {
+        if scopes > u64::from(MOST_SCOPES_IN_ALL) {
             return Err(Fail::Fault(TooManyScopes));
         }
         Ok(Plan {
@@ -121,24 +119,24 @@ impl<'a> Plan<'a> {
         (self.paths + (CHUNK_PATHS - 1)) / CHUNK_PATHS
     }
 
-    /// How many harts there are. Each hart in the plan is below that, and each path has a sample at least.
-    pub fn harts(&self) -> u32
-        ensures harts { result ≡ self.now.harts }
-        ensures below { All (λ p. p.hart < result) self.now.paths }
+    /// How many columns there are. Each column in the plan is below that, and each path has a sample at least.
+    pub fn columns(&self) -> u32
+        ensures columns { result ≡ self.now.columns }
+        ensures below { All (λ p. p.column < result) self.now.paths }
         ensures counted { All (λ p. 0 < p.count) self.now.paths }
     {
-        self.ccts.harts()
+        self.ccts.columns()
     }
 
-    /// The path of the plan with this number: its hart, the raw path and its count.
+    /// The path of the plan with this number: its column, the raw path and its count.
     fn path(&self, number: u32) -> (u32, &RawPath, u32)
         requires { number < length self.now.paths }
         ensures { slice_get self.now.paths number
-            ≡ Some (record { hart = result.0; path = result.1.now; count = result.2 }) }
+            ≡ Some (record { column = result.0; path = result.1.now; count = result.2 }) }
     {
-        let hart = last_from(self.firsts.as_slice(), number);
-        let (raw, count) = self.ccts.entry(hart as u32, number - self.firsts[hart]);
-        (hart as u32, raw, count)
+        let column = last_from(self.firsts.as_slice(), number);
+        let (raw, count) = self.ccts.entry(column as u32, number - self.firsts[column]);
+        (column as u32, raw, count)
     }
 
     /// The path with this number, expanded.
@@ -149,9 +147,13 @@ impl<'a> Plan<'a> {
         ensures entry { IfOk result (λ entry.
             slice_get (map (expanded_path (E.call_path expand.now)) self.now.paths) number ≡ Some entry) }
     {
-        let (hart, raw, count) = self.path(number);
+        let (column, raw, count) = self.path(number);
         let path = expand.expand(memo, raw)?;
-        Ok(Entry { hart, count, path })
+        Ok(Entry {
+            column,
+            count,
+            path,
+        })
     }
 
     /// The sixteen pieces of a chunk: its paths, expanded, dealt to the stripes by their keys.
@@ -166,16 +168,16 @@ impl<'a> Plan<'a> {
         requires memo { E.fits expand.now memo.old }
         ensures memo { E.fits expand.now memo.new }
         ensures pieces { IfOk result (λ pieces. pieces ≡ pieces_of (expanded self.now (E.call_path expand.now)) chunk) }
-        ensures each { IfOk result (λ pieces. (stripe : ℕ) → stripe < stripes
+        ensures each { IfOk result (λ pieces. (stripe : ℕ) → stripe < stripe_count
             → slice_get pieces stripe ≡ Some (piece_of (expanded self.now (E.call_path expand.now)) chunk stripe)) }
     {
         let paths = self.paths;
-        let mut hands = empty_hands(alloc)?;
+        let mut lists = empty_lists(alloc)?;
         let first = chunk * CHUNK_PATHS;
         for index in 0..CHUNK_PATHS.min(paths - first) {
             let entry = self.entry(expand, memo, first + index)?;
-            deal(&mut hands, entry)?;
+            deal(&mut lists, entry)?;
         }
-        Pieces::of(alloc, chunk, hands)
+        Pieces::of(alloc, chunk, lists)
     }
 }

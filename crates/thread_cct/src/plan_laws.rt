@@ -2,7 +2,7 @@ ghost use Rattle.std.specs.Prelude.{◌≡◌, ℕ, ◌<◌, List, length, map, 
 ghost use Rattle.std.specs.List.{flat_map};
 ghost use Rattle.scope_types.specs.Alike.{Alike};
 ghost use Rattle.scope_types.specs.CallPaths.{each_path};
-ghost use Rattle.scope_types.specs.Distinct.{HartRaw, distinct, each_sample, scopes_in};
+ghost use Rattle.scope_types.specs.Distinct.{ColumnRaw, distinct, each_sample, scopes_in};
 ghost use Rattle.scope_types.specs.Raw.{Raw};
 ghost use Rattle.scope_types.specs.declared.frame.Counted.{Counted};
 ghost use Rattle.scope_types.specs.declared.path.Entry.{Entry};
@@ -24,10 +24,10 @@ pub fn pieces_make_the_plan()
         → Alike (all_entries (expanded plan call_path)) (expanded_paths call_path plan) }
     ensures paths { (plan : Planned) (call_path : Raw → List Scope)
         → Alike (each_path (all_entries (expanded plan call_path))) (each_path (expanded_paths call_path plan)) }
-    ensures samples { (harts : ℕ) (samples : List HartRaw) (call_path : Raw → List Scope)
-        → All (λ s. s.hart < harts) samples
-        → Alike (each_path (all_entries (expanded (plan_of (distinct harts samples)) call_path)))
-        (map (λ s. record { hart = s.hart; path = call_path s.raw }) samples) }
+    ensures samples { (columns : ℕ) (samples : List ColumnRaw) (call_path : Raw → List Scope)
+        → All (λ s. s.column < columns) samples
+        → Alike (each_path (all_entries (expanded (plan_of (distinct columns samples)) call_path)))
+        (map (λ s. record { column = s.column; path = call_path s.raw }) samples) }
 {}
 
 /// The plan's paths are the counted ones: their scopes, and the call paths of what is counted, in order.
@@ -37,12 +37,12 @@ pub fn plans_hold_counted_paths()
         → planned_scopes call_path (plan_of tables) ≡ scopes_in call_path tables }
     ensures paths { (tables : List (List Counted)) (call_path : Raw → List Scope)
         → each_path (expanded_paths call_path (plan_of tables))
-        ≡ map (λ s. record { hart = s.hart; path = call_path s.raw }) (each_sample tables) }
+        ≡ map (λ s. record { column = s.column; path = call_path s.raw }) (each_sample tables) }
 {}
 
-/// A plan whose paths are counted and are of a given number of harts can be merged, where no call path is empty.
+/// A plan whose paths are counted and are of a given number of columns can be merged, where no call path is empty.
 pub fn plans_can_be_merged()
-    ensures { (plan : Planned) (call_path : Raw → List Scope) (harts : ℕ)
-        → All (λ p. 0 < p.count) plan.paths → All (λ p. p.hart < harts) plan.paths
-        → ((raw : Raw) → 0 < length (call_path raw)) → IsMergeable (expanded plan call_path) harts }
+    ensures { (plan : Planned) (call_path : Raw → List Scope) (columns : ℕ)
+        → All (λ p. 0 < p.count) plan.paths → All (λ p. p.column < columns) plan.paths
+        → ((raw : Raw) → 0 < length (call_path raw)) → IsMergeable (expanded plan call_path) columns }
 {}

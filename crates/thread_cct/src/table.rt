@@ -1,4 +1,4 @@
-//! The distinct raw paths of one hart. A table by hashing finds them.
+//! The distinct raw paths of one column. A table by hashing finds them.
 ghost use Rattle.std.specs.Prelude.{◌≡◌, ◌<◌, ◌-◌, ◌^◌, ◌++◌, ◌∷◌, [], true, false, if◌then◌else◌, length, slice_get};
 ghost use Rattle.std.specs.Prelude.{sum_by, Some, OnOk, OnErr, MatchOption};
 ghost use Rattle.thread_cct.specs.Adding.{count_one, has_path};
@@ -71,7 +71,7 @@ impl PathTable {
         self.counts.len()
     }
 
-    /// Whether a path stands at an index.
+    /// Whether a path is at an index.
     #[inline(always)]
     #[tactic(auto, using(crate::proofs::Entries::path_at_index))]
     fn is_at(&self, index: usize, raw: &RawPath) -> bool

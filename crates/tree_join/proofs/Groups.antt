@@ -291,7 +291,7 @@ module _ (nodes : List Node) (flags : List Bool) (siblings : List Sibling) (g : 
         | false ↦ λ off. run_children off
       ] refl
 
--- ---- where a group stands
+-- ---- where a group is
 
 pub rises : (xs : List Sibling) → AllPairs (λ a b. sibling_order a b ≡ Less) xs → IsNonDecreasingBy (λ (s : Sibling). s.slot) xs
 rises xs up i j d le lt =

@@ -1,4 +1,4 @@
--- The nodes that are next in walks, and which of them stands first.
+-- The nodes that are next in walks, and which of them is first.
 use Rattle.std.proofs.Common.{◌≡◌, ℕ, ◌+◌, ◌<◌, ◌≤◌, ◌==◌, ◌||◌, ◌&&◌, ◌⊎◌, nat_lt, inl, inr, Bool, true, false, List, [], ◌∷◌, ◌++◌, length, AllPairs, Less, Equal, Greater, Ordering, refl, sym, ap, ap₂, subst, ◌∙◌, arith, true≢false}
 use Rattle.std.specs.Ordering.{is_lt, ordering_reverse}
 use Rattle.std.proofs.lemmas.Bool.{cases_order, eq-eqb, ne_eqb, lt-ltb, le-ltb}
@@ -58,7 +58,7 @@ asym a b e f =
       ])
     ]
 
--- what stands before a node stands before what doesn't
+-- what comes before a node comes before what doesn't
 pub before_last : (a b c : Node) → node_before a b ≡ true → node_before c b ≡ false → node_before a c ≡ true
 before_last a b c e f =
     let not : Before c b → ⊥ = λ g. true≢false (sym (before_from c b g) ∙ f) in
@@ -82,7 +82,7 @@ before_last a b c e f =
 pub before_itself : (a : Node) → node_before a a ≡ false
 before_itself a = elim (node_before a a) as (λ b. node_before a a ≡ b → node_before a a ≡ false) [ true ↦ λ e. absurd (asym a a e e) | false ↦ λ e. e ] refl
 
--- what stands before no node stands before none that is earlier
+-- what comes before no node comes before none that is earlier
 pub none_earlier : (h n f : Node) → node_before n f ≡ true → node_before h f ≡ false → node_before h n ≡ false
 none_earlier h n f e g =
     elim (node_before h n) as (λ b. node_before h n ≡ b → node_before h n ≡ false) [ true ↦ λ k. absurd (asym h n k (before_last n f h e g)) | false ↦ λ k. k ] refl

@@ -83,7 +83,7 @@ module _ (order nodes : List Node) (numbers : List ℕ) (ends : List PathEnd) (r
   abbrev done : List Path
   done = tree_paths order
 
-  module _ (node hart : ℕ) (lt : node < length order) where
+  module _ (node column : ℕ) (lt : node < length order) where
     abbrev q : Path
     q = path_or_none done node
 
@@ -117,35 +117,35 @@ module _ (order nodes : List Node) (numbers : List ℕ) (ends : List PathEnd) (r
     if_some (suc n) b = ap (λ t. cond t (cond b (suc n) 0) 0) (lt-ltb 0 (suc n) (omega arith))
 
     abbrev test : Entry → Bool
-    test x = (x.hart == hart) && same_path q x.path
+    test x = (x.column == column) && same_path q x.path
 
-    one_end : (e : PathEnd) → IsIndex e.node (length nodes) → cond (counts_some e) (cond (owns node hart (count_of_end numbers e)) e.count 0) 0 ≡ cond (test (counted_entry own_paths e)) e.count 0
+    one_end : (e : PathEnd) → IsIndex e.node (length nodes) → cond (counts_some e) (cond (owns node column (count_of_end numbers e)) e.count 0) 0 ≡ cond (test (counted_entry own_paths e)) e.count 0
     one_end e index =
         elim (cases_eq e.node no_parent) [
           | inl none ↦
-              ap (λ b. cond (not b && nat_lt 0 e.count) (cond (owns node hart (count_of_end numbers e)) e.count 0) 0) (eq-eqb e.node no_parent none)
-              ∙ sym (ap (λ b. cond b e.count 0) (ap (λ (p : Path). (e.hart == hart) && same_path q p) (path_none own_paths e.node none) ∙ ap (λ b. (e.hart == hart) && b) (path_false q [] q_some) ∙ and_none (e.hart == hart)))
+              ap (λ b. cond (not b && nat_lt 0 e.count) (cond (owns node column (count_of_end numbers e)) e.count 0) 0) (eq-eqb e.node no_parent none)
+              ∙ sym (ap (λ b. cond b e.count 0) (ap (λ (p : Path). (e.column == column) && same_path q p) (path_none own_paths e.node none) ∙ ap (λ b. (e.column == column) && b) (path_false q [] q_some) ∙ and_none (e.column == column)))
           | inr inner ↦
-              ap (λ b. cond (not b && nat_lt 0 e.count) (cond (owns node hart (count_of_end numbers e)) e.count 0) 0) (ne_eqb e.node no_parent inner)
-              ∙ if_some e.count (owns node hart (count_of_end numbers e))
-              ∙ ap (λ b. cond b e.count 0) (and_swap (number_given numbers e.node == node) (e.hart == hart) ∙ ap (λ b. (e.hart == hart) && b) (sym (number_same e.node (index inner))) ∙ ap (λ (p : Path). (e.hart == hart) && same_path q p) (sym (inner_at own_paths e.node inner)))
+              ap (λ b. cond (not b && nat_lt 0 e.count) (cond (owns node column (count_of_end numbers e)) e.count 0) 0) (ne_eqb e.node no_parent inner)
+              ∙ if_some e.count (owns node column (count_of_end numbers e))
+              ∙ ap (λ b. cond b e.count 0) (and_swap (number_given numbers e.node == node) (e.column == column) ∙ ap (λ b. (e.column == column) && b) (sym (number_same e.node (index inner))) ∙ ap (λ (p : Path). (e.column == column) && same_path q p) (sym (inner_at own_paths e.node inner)))
         ]
 
-    first_count : (e : PathEnd) (rest : List PathEnd) → count_at (counts_of numbers (e ∷ rest)) node hart ≡ cond (counts_some e) (cond (owns node hart (count_of_end numbers e)) e.count 0) 0 + count_at (counts_of numbers rest) node hart
+    first_count : (e : PathEnd) (rest : List PathEnd) → count_at (counts_of numbers (e ∷ rest)) node column ≡ cond (counts_some e) (cond (owns node column (count_of_end numbers e)) e.count 0) 0 + count_at (counts_of numbers rest) node column
     first_count e rest =
-        elim (counts_some e) as (λ b. count_at (map (count_of_end numbers) (cond b (e ∷ filter counts_some rest) (filter counts_some rest))) node hart ≡ cond b (cond (owns node hart (count_of_end numbers e)) e.count 0) 0 + count_at (counts_of numbers rest) node hart) [
-          | true ↦ count_cons (count_of_end numbers e) (counts_of numbers rest) node hart
+        elim (counts_some e) as (λ b. count_at (map (count_of_end numbers) (cond b (e ∷ filter counts_some rest) (filter counts_some rest))) node column ≡ cond b (cond (owns node column (count_of_end numbers e)) e.count 0) 0 + count_at (counts_of numbers rest) node column) [
+          | true ↦ count_cons (count_of_end numbers e) (counts_of numbers rest) node column
           | false ↦ omega arith
         ]
 
-    first_entry : (x : Entry) (rest : List Entry) → count_of (x ∷ rest) hart q ≡ cond (test x) x.count 0 + count_of rest hart q
+    first_entry : (x : Entry) (rest : List Entry) → count_of (x ∷ rest) column q ≡ cond (test x) x.count 0 + count_of rest column q
     first_entry x rest =
-        elim (test x) as (λ b. samples_of (cond b (x ∷ entries_with_path rest hart q) (entries_with_path rest hart q)) ≡ cond b x.count 0 + count_of rest hart q) [
-          | true ↦ sum_by-cons entry_count x (entries_with_path rest hart q)
+        elim (test x) as (λ b. samples_of (cond b (x ∷ entries_with_path rest column q) (entries_with_path rest column q)) ≡ cond b x.count 0 + count_of rest column q) [
+          | true ↦ sum_by-cons entry_count x (entries_with_path rest column q)
           | false ↦ omega arith
         ]
 
-    counts_same : (xs : List PathEnd) → All (λ e. IsIndex e.node (length nodes)) xs → count_at (counts_of numbers xs) node hart ≡ count_of (map (counted_entry own_paths) xs) hart q
+    counts_same : (xs : List PathEnd) → All (λ e. IsIndex e.node (length nodes)) xs → count_at (counts_of numbers xs) node column ≡ count_of (map (counted_entry own_paths) xs) column q
     counts_same [] all = refl
     counts_same (e ∷ xs) all =
         let P : PathEnd → Type 0 = λ e. IsIndex e.node (length nodes) in
@@ -204,30 +204,30 @@ module _ (parts : List (List Entry)) (walkers : List Walker) (order : List Node)
     one_numbered : (i : ℕ) (d : Walker) → i < length walkers → Numbered order (nodes_in (get_or walkers i d)) (get_or walkers i d).numbers.items
     one_numbered i d lt = number_is order (get_or walkers i d) (is.each i d lt) (ended i d lt)
 
-    module _ (node hart : ℕ) (lt : node < length order) where
+    module _ (node column : ℕ) (lt : node < length order) where
       abbrev q_at : Path
       q_at = path_or_none (tree_paths order) node
 
       abbrev Same : Walker → Type 0
-      Same w = count_at (counts_of w.numbers.items w.ends.now) node hart ≡ count_of (walked_entries w) hart q_at
+      Same w = count_at (counts_of w.numbers.items w.ends.now) node column ≡ count_of (walked_entries w) column q_at
 
       each_same : All Same walkers
       each_same i d i_lt =
           let w : Walker = get_or walkers i d in
           let own = is.each i d i_lt in
-          counts_same order (nodes_in w) w.numbers.items w.ends.now rooted (one_numbered i d i_lt) node hart lt w.ends.now own.ends_in
+          counts_same order (nodes_in w) w.numbers.items w.ends.now rooted (one_numbered i d i_lt) node column lt w.ends.now own.ends_in
 
-      all_same : (ws : List Walker) → All Same ws → count_at (all_counts ws) node hart ≡ sum_by (λ es. count_of es hart q_at) (map walked_entries ws)
+      all_same : (ws : List Walker) → All Same ws → count_at (all_counts ws) node column ≡ sum_by (λ es. count_of es column q_at) (map walked_entries ws)
       all_same [] all = refl
       all_same (w ∷ ws) all =
-          count_append (counts_of w.numbers.items w.ends.now) (all_counts ws) node hart ∙ ap₂ (λ (a b : ℕ). a + b) (All-head Same w ws all) (all_same ws (All-tail Same w ws all))
-          ∙ sym (sum_by-cons (λ es. count_of es hart q_at) (walked_entries w) (map walked_entries ws))
+          count_append (counts_of w.numbers.items w.ends.now) (all_counts ws) node column ∙ ap₂ (λ (a b : ℕ). a + b) (All-head Same w ws all) (all_same ws (All-tail Same w ws all))
+          ∙ sym (sum_by-cons (λ es. count_of es column q_at) (walked_entries w) (map walked_entries ws))
 
-      counts_are : count_at sums node hart ≡ sum_by (λ es. count_of es hart (nth_path (nodes_of_all parts) node)) parts
+      counts_are : count_at sums node column ≡ sum_by (λ es. count_of es column (nth_path (nodes_of_all parts) node)) parts
       counts_are =
-          s.same node hart ∙ all_same walkers each_same
-          ∙ ap (sum_by (λ es. count_of es hart q_at)) is.parts_are
-          ∙ ap (λ (ps : List Path). sum_by (λ es. count_of es hart (nth_path ps node)) parts) (done_is parts walkers order is ended)
+          s.same node column ∙ all_same walkers each_same
+          ∙ ap (sum_by (λ es. count_of es column q_at)) is.parts_are
+          ∙ ap (λ (ps : List Path). sum_by (λ es. count_of es column (nth_path ps node)) parts) (done_is parts walkers order is ended)
 
     counts_hold : (P : NodeCount → Type 0) → ((w : Walker) (e : PathEnd) → Numbered order (nodes_in w) w.numbers.items → IsIndex e.node (length (nodes_in w)) → counts_some e ≡ true → P (count_of_end w.numbers.items e)) → All P (all_counts walkers)
     counts_hold P holds =
@@ -235,48 +235,48 @@ module _ (parts : List (List Entry)) (walkers : List Walker) (order : List Node)
         (λ i d lt. counts_all order (nodes_in (get_or walkers i d)) (get_or walkers i d).numbers.items (get_or walkers i d).ends.now rooted (one_numbered i d lt) P (is.each i d lt).ends_in
         (λ e index on. holds (get_or walkers i d) e (one_numbered i d lt) index on))
 
-    module _ (harts : ℕ) (below : All (λ es. All (λ (e : Entry). 0 < e.count → e.hart < harts) es) parts) where
-      from_entries : (paths : List Path) (xs : List PathEnd) → All (λ (e : Entry). 0 < e.count → e.hart < harts) (map (counted_entry paths) xs) → All (λ (e : PathEnd). 0 < e.count → e.hart < harts) xs
-      from_entries paths [] all = All-nil (λ e. 0 < e.count → e.hart < harts)
+    module _ (columns : ℕ) (below : All (λ es. All (λ (e : Entry). 0 < e.count → e.column < columns) es) parts) where
+      from_entries : (paths : List Path) (xs : List PathEnd) → All (λ (e : Entry). 0 < e.count → e.column < columns) (map (counted_entry paths) xs) → All (λ (e : PathEnd). 0 < e.count → e.column < columns) xs
+      from_entries paths [] all = All-nil (λ e. 0 < e.count → e.column < columns)
       from_entries paths (x ∷ xs) all =
-          let P : Entry → Type 0 = λ e. 0 < e.count → e.hart < harts in
-          All-cons (λ e. 0 < e.count → e.hart < harts) x xs (All-head P (counted_entry paths x) (map (counted_entry paths) xs) all)
+          let P : Entry → Type 0 = λ e. 0 < e.count → e.column < columns in
+          All-cons (λ e. 0 < e.count → e.column < columns) x xs (All-head P (counted_entry paths x) (map (counted_entry paths) xs) all)
           (from_entries paths xs (All-tail P (counted_entry paths x) (map (counted_entry paths) xs) all))
 
-      of_walkers : (ws : List Walker) → All (λ es. All (λ (e : Entry). 0 < e.count → e.hart < harts) es) (map walked_entries ws) → All (λ w. All (λ (c : NodeCount). c.hart < harts) (counts_of w.numbers.items w.ends.now)) ws
-      of_walkers [] all = All-nil (λ w. All (λ (c : NodeCount). c.hart < harts) (counts_of w.numbers.items w.ends.now))
+      of_walkers : (ws : List Walker) → All (λ es. All (λ (e : Entry). 0 < e.count → e.column < columns) es) (map walked_entries ws) → All (λ w. All (λ (c : NodeCount). c.column < columns) (counts_of w.numbers.items w.ends.now)) ws
+      of_walkers [] all = All-nil (λ w. All (λ (c : NodeCount). c.column < columns) (counts_of w.numbers.items w.ends.now))
       of_walkers (w ∷ ws) all =
-          let P : List Entry → Type 0 = λ es. All (λ (e : Entry). 0 < e.count → e.hart < harts) es in
+          let P : List Entry → Type 0 = λ es. All (λ (e : Entry). 0 < e.count → e.column < columns) es in
           let own = from_entries (tree_paths (nodes_in w)) w.ends.now (All-head P (walked_entries w) (map walked_entries ws) all) in
-          All-cons (λ w. All (λ (c : NodeCount). c.hart < harts) (counts_of w.numbers.items w.ends.now)) w ws
-          (All-map (λ c. c.hart < harts) (count_of_end w.numbers.items) (filter counts_some w.ends.now)
-          (All-weaker (λ e. (0 < e.count → e.hart < harts) × (counts_some e ≡ true)) (λ e. e.hart < harts) (λ e both. both.0 (some_is e both.1).1) (filter counts_some w.ends.now)
-          (filter_passes (λ e. 0 < e.count → e.hart < harts) counts_some w.ends.now own)))
+          All-cons (λ w. All (λ (c : NodeCount). c.column < columns) (counts_of w.numbers.items w.ends.now)) w ws
+          (All-map (λ c. c.column < columns) (count_of_end w.numbers.items) (filter counts_some w.ends.now)
+          (All-weaker (λ e. (0 < e.count → e.column < columns) × (counts_some e ≡ true)) (λ e. e.column < columns) (λ e both. both.0 (some_is e both.1).1) (filter counts_some w.ends.now)
+          (filter_passes (λ e. 0 < e.count → e.column < columns) counts_some w.ends.now own)))
           (of_walkers ws (All-tail P (walked_entries w) (map walked_entries ws) all))
 
       abbrev pub joined_tree : CountedTree
-      joined_tree = record { harts = harts; nodes = order; counts = sums }
+      joined_tree = record { columns = columns; nodes = order; counts = sums }
 
       pub tree_is : IsTree joined_tree
       tree_is = record {
         few = (let few = order_few parts walkers order is in omega arith);
         preorder = in_order parts walkers order is;
         nodes = s.nodes (length order) (counts_hold (λ c. c.node < length order) (λ w e numbered index on. (numbered e.node (index (some_is e on).0)).0));
-        harts = s.harts harts (flat_all (λ c. c.hart < harts) (λ w. counts_of w.numbers.items w.ends.now) walkers (of_walkers walkers (subst (All (λ es. All (λ (e : Entry). 0 < e.count → e.hart < harts) es)) (sym is.parts_are) below)));
+        columns = s.columns columns (flat_all (λ c. c.column < columns) (λ w. counts_of w.numbers.items w.ends.now) walkers (of_walkers walkers (subst (All (λ es. All (λ (e : Entry). 0 < e.count → e.column < columns) es)) (sym is.parts_are) below)));
         some = s.some (counts_hold (λ c. 0 < c.count) (λ w e numbered index on. (some_is e on).1));
         ascend = s.ascend;
       }
 
-      pub tree_made : IsTreeOf parts harts joined_tree
+      pub tree_made : IsTreeOf parts columns joined_tree
       tree_made =
           let nodes = order_is parts walkers order is ended in
           record {
-            harts_are = refl;
+            columns_are = refl;
             nodes = nodes;
             counts = counts_are;
             few = tree_is.few;
-            paths = paths_several parts harts joined_tree tree_is refl nodes counts_are;
+            paths = paths_several parts columns joined_tree tree_is refl nodes counts_are;
           }
 
-pub tree_from : (parts : List (List Entry)) (harts : ℕ) (made tree : CountedTree) → tree ≡ made → IsTreeOf parts harts made → IsTreeOf parts harts tree
-tree_from parts harts made tree is of = subst (IsTreeOf parts harts) (sym is) of
+pub tree_from : (parts : List (List Entry)) (columns : ℕ) (made tree : CountedTree) → tree ≡ made → IsTreeOf parts columns made → IsTreeOf parts columns tree
+tree_from parts columns made tree is of = subst (IsTreeOf parts columns) (sym is) of

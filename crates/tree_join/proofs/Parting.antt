@@ -8,7 +8,7 @@ use Rattle.scope_types.proofs.Orders.{scope_order_total, scope_order_tells}
 use Rattle.tree_types.specs.Paths.{Path}
 use Rattle.tree_join.specs.private.Walk.{Parts}
 
--- what stands before a path stands before what extends it
+-- what comes before a path comes before what extends it
 pub less_longer : (a b r : Path) → path_order a b ≡ Less → path_order a (b ++ r) ≡ Less
 less_longer [] [] r e = absurd cc
 less_longer [] (t ∷ b) r e = refl
@@ -58,7 +58,7 @@ siblings_part f s t less = record {
   less = less;
 }
 
--- what stands between a path and its child goes on from the path with a smaller scope, and so does what extends it
+-- what lies between a path and its child goes on from the path with a smaller scope, and so does what extends it
 pub between : (f p : Path) (t : Scope) (r : Path) → path_order f p ≡ Less → path_order p (f ++ t ∷ []) ≡ Less → Parts (p ++ r) (f ++ t ∷ [])
 between [] [] t r e g = absurd cc
 between [] (u ∷ p) t r e g =

@@ -10,7 +10,7 @@ use Rattle.std.proofs.lemmas.List.FromFn.{get_or-range_with_len, length-range_wi
 use Rattle.prof_bytes.specs.declared.fail.Memory.{Memory}
 use Rattle.scope_types.specs.declared.path.Entry.{Entry}
 use Rattle.scope_types.specs.Alike.{Alike}
-use Rattle.scope_types.specs.CallPaths.{HartPath, entry_path, each_path}
+use Rattle.scope_types.specs.CallPaths.{ColumnPath, entry_path, each_path}
 use Rattle.scope_types.specs.Key.{stripe}
 use Rattle.scope_types.specs.Limits.{most_samples, most_scopes_in_all}
 use Rattle.thread_cct.specs.Plan.{CountsSamples, IsMergeable}
@@ -32,7 +32,7 @@ use Rattle.tree_join.proofs.Several.{entries_in, parts_of, sum_parts}
 each_flat : {X : Type 0} (f : X → List Entry) (xs : List X) → each_path (flat_map f xs) ≡ flat_map (λ x. each_path (f x)) xs
 unfolding each_path
 each_flat f [] = refl
-each_flat f (x ∷ xs) = flat_map-append (λ (e : Entry). replicate e.count (entry_path e)) (f x) (flat_map f xs) ∙ ap (λ (ps : List HartPath). each_path (f x) ++ ps) (each_flat f xs)
+each_flat f (x ∷ xs) = flat_map-append (λ (e : Entry). replicate e.count (entry_path e)) (f x) (flat_map f xs) ∙ ap (λ (ps : List ColumnPath). each_path (f x) ++ ps) (each_flat f xs)
 
 flat_all : {X Y : Type 0} (P : Y → Type 0) (f : X → List Y) → ((x : X) → All P (f x)) → (xs : List X) → All P (flat_map f xs)
 flat_all P f each [] = All-nil P
@@ -65,17 +65,17 @@ module _ (plan : Chunks) (P : Entry → Type 0) (all : All (All P) plan) where
   dealt_all : (s c : ℕ) → All P (dealt plan c s)
   dealt_all s c = All-filter (λ e. stripe e.path == s) P (get_or plan c []) (at_chunk c)
 
-module _ (set : SetValue) (harts : ℕ) (plan : IsMergeable set.view.plan harts) where
-  all_own : All (IsOwn harts) (named_paths set)
+module _ (set : SetValue) (columns : ℕ) (plan : IsMergeable set.view.plan columns) where
+  all_own : All (IsOwn columns) (named_paths set)
   unfolding named_paths
   all_own =
-      flat_all (IsOwn harts) (paths_named_by set)
-      (λ s. flat_all (IsOwn harts) (λ c. each_path (dealt set.view.plan c s)) (λ c. each_own harts (dealt set.view.plan c s) (dealt_all set.view.plan (CountsSamples harts) plan.entries s c)) (stripe_names set.stripes s))
+      flat_all (IsOwn columns) (paths_named_by set)
+      (λ s. flat_all (IsOwn columns) (λ c. each_path (dealt set.view.plan c s)) (λ c. each_own columns (dealt set.view.plan c s) (dealt_all set.view.plan (CountsSamples columns) plan.entries s c)) (stripe_names set.stripes s))
       (range_with_len 0 16)
 
-  pub named_own : All (λ p. 0 < length p.path) (named_paths set) × All (λ p. p.hart < harts) (named_paths set)
+  pub named_own : All (λ p. 0 < length p.path) (named_paths set) × All (λ p. p.column < columns) (named_paths set)
   named_own =
-      (All-weaker (IsOwn harts) (λ p. 0 < length p.path) (λ p own. own.1) (named_paths set) all_own, All-weaker (IsOwn harts) (λ p. p.hart < harts) (λ p own. own.0) (named_paths set) all_own)
+      (All-weaker (IsOwn columns) (λ p. 0 < length p.path) (λ p own. own.1) (named_paths set) all_own, All-weaker (IsOwn columns) (λ p. p.column < columns) (λ p own. own.0) (named_paths set) all_own)
 
 each_long : (es : List Entry) → length (each_path es) ≡ sum_by (λ e. e.count) es
 unfolding each_path
@@ -157,30 +157,30 @@ module _ (set : SetValue) (ts : List (Bor (List Entry))) (tries : parts_of ts �
       subst (λ (n : ℕ). n ≤ most_scopes_in_all) (ap (sum_by (λ (es : List Entry). length (trie_nodes es))) (sym tries) ∙ sum_parts (λ es. length (trie_nodes es)) entries_in ts)
       (parts_nodes set fit limited)
 
-  module _ (harts : ℕ) (plan : IsMergeable set.view.plan harts) where
-    tries_all : (us : List (Bor (List Entry))) → All (All (CountsSamples harts)) (parts_of us) → All (λ t. All (λ e. 0 < e.count → e.hart < harts) t.now) us
-    tries_all [] all = All-nil (λ t. All (λ e. 0 < e.count → e.hart < harts) t.now)
+  module _ (columns : ℕ) (plan : IsMergeable set.view.plan columns) where
+    tries_all : (us : List (Bor (List Entry))) → All (All (CountsSamples columns)) (parts_of us) → All (λ t. All (λ e. 0 < e.count → e.column < columns) t.now) us
+    tries_all [] all = All-nil (λ t. All (λ e. 0 < e.count → e.column < columns) t.now)
     tries_all (u ∷ us) all =
-        let P : List Entry → Type 0 = All (CountsSamples harts) in
-        All-cons (λ t. All (λ e. 0 < e.count → e.hart < harts) t.now) u us
-        (All-weaker (CountsSamples harts) (λ e. 0 < e.count → e.hart < harts) (λ e own more. own.hart) (entries_in u) (All-head P (entries_in u) (parts_of us) all))
+        let P : List Entry → Type 0 = All (CountsSamples columns) in
+        All-cons (λ t. All (λ e. 0 < e.count → e.column < columns) t.now) u us
+        (All-weaker (CountsSamples columns) (λ e. 0 < e.count → e.column < columns) (λ e own more. own.column) (entries_in u) (All-head P (entries_in u) (parts_of us) all))
         (tries_all us (All-tail P (entries_in u) (parts_of us) all))
 
-    own : All (All (CountsSamples harts)) (parts_of ts)
-    own = subst (All (All (CountsSamples harts))) (sym tries) (parts_all set fit (CountsSamples harts) plan.entries)
+    own : All (All (CountsSamples columns)) (parts_of ts)
+    own = subst (All (All (CountsSamples columns))) (sym tries) (parts_all set fit (CountsSamples columns) plan.entries)
 
-    pub tries_harts : All (λ t. All (λ e. 0 < e.count → e.hart < harts) t.now) ts
-    tries_harts = tries_all ts own
+    pub tries_columns : All (λ t. All (λ e. 0 < e.count → e.column < columns) t.now) ts
+    tries_columns = tries_all ts own
 
-    module _ (r : Result CountedTree Memory) (few : IfOk r (λ tree. length tree.nodes < no_parent)) (joined : All (CountsSamples harts) (flat_map (λ es. es) (parts_of ts)) → IfOk r (HasPaths (flat_map (λ es. es) (parts_of ts)))) where
+    module _ (r : Result CountedTree Memory) (few : IfOk r (λ tree. length tree.nodes < no_parent)) (joined : All (CountsSamples columns) (flat_map (λ es. es) (parts_of ts)) → IfOk r (HasPaths (flat_map (λ es. es) (parts_of ts)))) where
       -- the tree has these paths
-      abbrev Has : List HartPath → CountedTree → Type 0
+      abbrev Has : List ColumnPath → CountedTree → Type 0
       Has ps tree = Alike (paths_in tree) ps × (tree.nodes ≡ node_list ps)
 
       has_named : IfOk r (Has (named_paths set))
       has_named =
-          subst (λ (ps : List HartPath). IfOk r (Has ps)) (ap (λ (parts : List (List Entry)). each_path (flat_map (λ es. es) parts)) tries ∙ parts_paths set fit)
-          (joined (flat_parts_all (CountsSamples harts) (parts_of ts) own))
+          subst (λ (ps : List ColumnPath). IfOk r (Has ps)) (ap (λ (parts : List (List Entry)). each_path (flat_map (λ es. es) parts)) tries ∙ parts_paths set fit)
+          (joined (flat_parts_all (CountsSamples columns) (parts_of ts) own))
 
       pub named_alike : IfOk r (λ tree. Alike (paths_in tree) (named_paths set))
       named_alike = first r has_named

@@ -5,7 +5,7 @@ use Rattle.std.proofs.lemmas.List.Elements.{All-nil, All-append, All-head, All-r
 use Rattle.scope_types.specs.declared.path.Entry.{Entry}
 use Rattle.scope_types.specs.Alike.{Alike}
 use Rattle.thread_cct.specs.Plan.{CountsSamples}
-use Rattle.scope_types.specs.CallPaths.{HartPath, entry_path, each_path}
+use Rattle.scope_types.specs.CallPaths.{ColumnPath, entry_path, each_path}
 use Rattle.tree_types.specs.Database.{node_list}
 use Rattle.tree_types.specs.Nodes.{nodes, no_parent}
 use Rattle.tree_types.specs.Paths.{Path}
@@ -23,26 +23,26 @@ use Rattle.tree_join.specs.Join.{joined_nodes, nodes_of_all}
 abbrev pub HasPaths : List Entry → CountedTree → Type 0
 HasPaths es tree = Alike (paths_in tree) (each_path es) × (tree.nodes ≡ node_list (each_path es))
 
-module _ (harts : ℕ) where
-  -- a path that has scopes, of a hart that there is
-  abbrev pub IsOwn : HartPath → Type 0
-  IsOwn p = (p.hart < harts) × (0 < length p.path)
+module _ (columns : ℕ) where
+  -- a path that has scopes, of a column that there is
+  abbrev pub IsOwn : ColumnPath → Type 0
+  IsOwn p = (p.column < columns) × (0 < length p.path)
 
-  pub each_own : (es : List Entry) → All (CountsSamples harts) es → All IsOwn (each_path es)
+  pub each_own : (es : List Entry) → All (CountsSamples columns) es → All IsOwn (each_path es)
   unfolding each_path
   each_own [] all = All-nil IsOwn
   each_own (e ∷ es) all =
-      let first = All-head (CountsSamples harts) e es all in
-      All-append IsOwn (replicate e.count (entry_path e)) (each_path es) (All-replicate IsOwn e.count (entry_path e) (first.hart, first.path))
-      (each_own es (All-tail (CountsSamples harts) e es all))
+      let first = All-head (CountsSamples columns) e es all in
+      All-append IsOwn (replicate e.count (entry_path e)) (each_path es) (All-replicate IsOwn e.count (entry_path e) (first.column, first.path))
+      (each_own es (All-tail (CountsSamples columns) e es all))
 
 module _ (es : List Entry) (tree : CountedTree) (is : IsTree tree) (nodes_are : tree.nodes ≡ map (trie_node (joined_nodes es)) (joined_nodes es))
-    (counts_are : (node hart : ℕ) → node < length tree.nodes → count_at tree.counts node hart ≡ count_of es hart (nth_path (joined_nodes es) node)) (all : All (CountsSamples tree.harts) es) where
-  abbrev ps : List HartPath
+    (counts_are : (node column : ℕ) → node < length tree.nodes → count_at tree.counts node column ≡ count_of es column (nth_path (joined_nodes es) node)) (all : All (CountsSamples tree.columns) es) where
+  abbrev ps : List ColumnPath
   ps = each_path es
 
   joined_is : joined_nodes es ≡ nodes ps
-  joined_is = nodes_of_samples es (All-weaker (CountsSamples tree.harts) (λ e. 0 < e.count) (λ e c. c.some) es all)
+  joined_is = nodes_of_samples es (All-weaker (CountsSamples tree.columns) (λ e. 0 < e.count) (λ e c. c.some) es all)
 
   listed : tree.nodes ≡ node_list ps
   listed = nodes_are ∙ ap (λ (ns : List Path). map (trie_node ns) ns) joined_is
@@ -53,29 +53,29 @@ module _ (es : List Entry) (tree : CountedTree) (is : IsTree tree) (nodes_are : 
   paths_are : tree_paths tree.nodes ≡ nodes ps
   paths_are = ap tree_paths listed ∙ tree_paths_is ps few
 
-  own : All (IsOwn tree.harts) ps
-  own = each_own tree.harts es all
+  own : All (IsOwn tree.columns) ps
+  own = each_own tree.columns es all
 
-  counted : (node hart : ℕ) → node < length tree.nodes → count_at tree.counts node hart ≡ count_below ends_here ps hart (node_path tree.nodes node)
-  counted node hart lt =
-      counts_are node hart lt ∙ counts_of_samples es hart (nth_path (joined_nodes es) node)
-      ∙ ap (λ (ns : List Path). count_below ends_here ps hart (get_or ns node [])) (joined_is ∙ sym paths_are)
+  counted : (node column : ℕ) → node < length tree.nodes → count_at tree.counts node column ≡ count_below ends_here ps column (node_path tree.nodes node)
+  counted node column lt =
+      counts_are node column lt ∙ counts_of_samples es column (nth_path (joined_nodes es) node)
+      ∙ ap (λ (ns : List Path). count_below ends_here ps column (get_or ns node [])) (joined_is ∙ sym paths_are)
 
   pub paths_joined : HasPaths es tree
   paths_joined =
-      (paths_made tree ps is listed few (All-weaker (IsOwn tree.harts) (λ p. p.hart < tree.harts) (λ p o. o.0) ps own) (All-weaker (IsOwn tree.harts) (λ p. 0 < length p.path) (λ p o. o.1) ps own) counted, listed)
+      (paths_made tree ps is listed few (All-weaker (IsOwn tree.columns) (λ p. p.column < tree.columns) (λ p o. o.0) ps own) (All-weaker (IsOwn tree.columns) (λ p. 0 < length p.path) (λ p o. o.1) ps own) counted, listed)
 
 -- the entries of several tries, one after the other
 abbrev pub all_in : List (List Entry) → List Entry
 all_in parts = flat_map (λ es. es) parts
 
-pub paths_several : (parts : List (List Entry)) (harts : ℕ) (tree : CountedTree) → IsTree tree → tree.harts ≡ harts → tree.nodes ≡ map (trie_node (nodes_of_all parts)) (nodes_of_all parts)
-    → ((node hart : ℕ) → node < length tree.nodes → count_at tree.counts node hart ≡ sum_by (λ es. count_of es hart (nth_path (nodes_of_all parts) node)) parts)
-    → All (CountsSamples harts) (all_in parts) → HasPaths (all_in parts) tree
-paths_several parts harts tree is harts_are nodes counts all =
+pub paths_several : (parts : List (List Entry)) (columns : ℕ) (tree : CountedTree) → IsTree tree → tree.columns ≡ columns → tree.nodes ≡ map (trie_node (nodes_of_all parts)) (nodes_of_all parts)
+    → ((node column : ℕ) → node < length tree.nodes → count_at tree.counts node column ≡ sum_by (λ es. count_of es column (nth_path (nodes_of_all parts) node)) parts)
+    → All (CountsSamples columns) (all_in parts) → HasPaths (all_in parts) tree
+paths_several parts columns tree is columns_are nodes counts all =
     let same : nodes_of_all parts ≡ joined_nodes (all_in parts) = sym (nodes_of_parts parts) in
     paths_joined (all_in parts) tree is (nodes ∙ ap (λ (ns : List Path). map (trie_node ns) ns) same)
-    (λ node hart lt.
-    counts node hart lt ∙ sym (counts_of_parts parts hart (nth_path (nodes_of_all parts) node))
-    ∙ ap (λ (ns : List Path). count_of (all_in parts) hart (nth_path ns node)) same)
-    (subst (λ (h : ℕ). All (CountsSamples h) (all_in parts)) (sym harts_are) all)
+    (λ node column lt.
+    counts node column lt ∙ sym (counts_of_parts parts column (nth_path (nodes_of_all parts) node))
+    ∙ ap (λ (ns : List Path). count_of (all_in parts) column (nth_path ns node)) same)
+    (subst (λ (h : ℕ). All (CountsSamples h) (all_in parts)) (sym columns_are) all)

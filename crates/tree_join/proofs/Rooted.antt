@@ -1,4 +1,4 @@
--- Nodes that stand after their parents, each path once.
+-- Nodes that follow their parents, each path once.
 use Rattle.std.proofs.Common.{◌≡◌, ℕ, ◌<◌, inl, inr, cond, List, [], ◌∷◌, ◌++◌, length, get_or, sym, ap, ◌∙◌}
 use Rattle.std.proofs.lemmas.Bool.{cases_eq, ne_eqb}
 use Rattle.tree_types.specs.declared.content.Node.{Node}

@@ -6,8 +6,8 @@ use Rattle.std.proofs.lemmas.List.Elements.{All-cons, All-contains, All-nil, All
 use Rattle.scope_types.specs.declared.path.Entry.{Entry}
 use Rattle.scope_types.specs.declared.scope.Scope.{Scope}
 use Rattle.scope_types.specs.Alike.{Alike}
-use Rattle.scope_types.specs.CallPaths.{HartPath, entry_path, each_path}
-use Rattle.scope_types.specs.Distinct.{HartRaw, distinct}
+use Rattle.scope_types.specs.CallPaths.{ColumnPath, entry_path, each_path}
+use Rattle.scope_types.specs.Distinct.{ColumnRaw, distinct}
 use Rattle.scope_types.specs.Key.{stripe}
 use Rattle.scope_types.specs.Raw.{Raw}
 use Rattle.thread_cct.specs.Plan.{CountsSamples, IsMergeable, all_entries, expanded, plan_of}
@@ -27,16 +27,16 @@ use Rattle.tree_join.proofs.Parts.{flat_parts_all, parts_all, parts_paths}
 
 -- ---- the tries and the pieces
 
-pub nodes_named : (set : SetValue) (harts : ℕ) → AllFit set.view.plan set.stripes → IsMergeable set.view.plan harts → nodes (named_paths set) ≡ nodes_of_all (stripe_parts set)
-nodes_named set harts fit plan =
+pub nodes_named : (set : SetValue) (columns : ℕ) → AllFit set.view.plan set.stripes → IsMergeable set.view.plan columns → nodes (named_paths set) ≡ nodes_of_all (stripe_parts set)
+nodes_named set columns fit plan =
     let es : List Entry = flat_map (λ es. es) (stripe_parts set) in
-    let own : All (CountsSamples harts) es = flat_parts_all (CountsSamples harts) (stripe_parts set) (parts_all set fit (CountsSamples harts) plan.entries) in
-    ap nodes (sym (parts_paths set fit)) ∙ sym (nodes_of_samples es (All-weaker (CountsSamples harts) (λ e. 0 < e.count) (λ e c. c.some) es own)) ∙ nodes_of_parts (stripe_parts set)
+    let own : All (CountsSamples columns) es = flat_parts_all (CountsSamples columns) (stripe_parts set) (parts_all set fit (CountsSamples columns) plan.entries) in
+    ap nodes (sym (parts_paths set fit)) ∙ sym (nodes_of_samples es (All-weaker (CountsSamples columns) (λ e. 0 < e.count) (λ e c. c.some) es own)) ∙ nodes_of_parts (stripe_parts set)
 
-pub counts_named : (set : SetValue) → AllFit set.view.plan set.stripes → (hart : ℕ) (path : Path) → count_below ends_here (named_paths set) hart path ≡ sum_by (λ es. count_of es hart path) (stripe_parts set)
-counts_named set fit hart path =
-    ap (λ (ps : List HartPath). count_below ends_here ps hart path) (sym (parts_paths set fit)) ∙ sym (counts_of_samples (flat_map (λ es. es) (stripe_parts set)) hart path)
-    ∙ counts_of_parts (stripe_parts set) hart path
+pub counts_named : (set : SetValue) → AllFit set.view.plan set.stripes → (column : ℕ) (path : Path) → count_below ends_here (named_paths set) column path ≡ sum_by (λ es. count_of es column path) (stripe_parts set)
+counts_named set fit column path =
+    ap (λ (ps : List ColumnPath). count_below ends_here ps column path) (sym (parts_paths set fit)) ∙ sym (counts_of_samples (flat_map (λ es. es) (stripe_parts set)) column path)
+    ∙ counts_of_parts (stripe_parts set) column path
 
 filter_true : (p : Entry → Bool) (xs : List Entry) → All (λ e. p e ≡ true) (filter p xs)
 filter_true p [] = All-nil (λ e. p e ≡ true)
@@ -54,7 +54,7 @@ pub ruleset named_laws = (nodes_named, counts_named, own_stripe)
 -- ---- where each stripe names each chunk
 
 module _ (set : SetValue) (fit : AllFit set.view.plan set.stripes) where
-  module _ (t : HartPath → Bool) where
+  module _ (t : ColumnPath → Bool) where
     abbrev passing : Entry → ℕ
     passing e = count_by t (replicate e.count (entry_path e))
 
@@ -77,19 +77,19 @@ module _ (set : SetValue) (fit : AllFit set.view.plan set.stripes) where
 pub plan_named : (set : SetValue) → AllFit set.view.plan set.stripes → NamesAll set → Alike (named_paths set) (each_path (all_entries set.view.plan))
 plan_named set fit all = named_are_all set fit all
 
-module _ (set : SetValue) (harts : ℕ) (samples : List HartRaw) (call_path : Raw → List Scope) (fit : AllFit set.view.plan set.stripes) (all : NamesAll set)
-    (is : set.view.plan ≡ expanded (plan_of (distinct harts samples)) call_path) (below : All (λ s. s.hart < harts) samples) where
+module _ (set : SetValue) (columns : ℕ) (samples : List ColumnRaw) (call_path : Raw → List Scope) (fit : AllFit set.view.plan set.stripes) (all : NamesAll set)
+    (is : set.view.plan ≡ expanded (plan_of (distinct columns samples)) call_path) (below : All (λ s. s.column < columns) samples) where
   pub samples_named : Alike (named_paths set) (sampled_paths call_path samples)
   samples_named = record {
     same = λ t.
         (named_are_all set fit all).same t ∙ ap (λ (plan : Chunks). count_by t (each_path (all_entries plan))) is
-        ∙ (pieces_hold_samples harts samples call_path below).same t;
+        ∙ (pieces_hold_samples columns samples call_path below).same t;
   }
 
   pub sample_nodes : nodes (named_paths set) ≡ nodes (sampled_paths call_path samples)
   sample_nodes = nodes_alike (named_paths set) (sampled_paths call_path samples) samples_named
 
-  pub sample_values : (period hart : ℕ) (n : Path) (kind : Kind) → value period (named_paths set) hart n kind ≡ value period (sampled_paths call_path samples) hart n kind
-  sample_values period hart n kind = values_alike period (named_paths set) (sampled_paths call_path samples) samples_named hart n kind
+  pub sample_values : (period column : ℕ) (n : Path) (kind : Kind) → value period (named_paths set) column n kind ≡ value period (sampled_paths call_path samples) column n kind
+  sample_values period column n kind = values_alike period (named_paths set) (sampled_paths call_path samples) samples_named column n kind
 
 pub ruleset sample_laws = (plan_named, samples_named, sample_nodes, sample_values)

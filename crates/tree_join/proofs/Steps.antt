@@ -135,7 +135,7 @@ module _ (order : List Node) (w : Walker) (is : IsWalker order w) where
       (subst (λ (x : List ℕ). WalksTrie w.children w.ends.now x v.stack.items (order ++ n ∷ [])) (sym a.numbers)
       (subst (λ (x : List ℕ). WalksTrie w.children w.ends.now (set w.numbers.items a.index (length order)) x (order ++ n ∷ [])) (sym a.stack) new)))
 
-  -- the walk stays, where the node stands before all that is next in it
+  -- the walk stays, where the node comes before all that is next in it
   module _ (ascend : AllPairs (λ a b. path_order a b ≡ Less) (tree_paths order)) (some : (i : ℕ) → i < length order → path_or_none (tree_paths order) i ≡ [] → ⊥) (few : length order ≤ most_scopes_in_all)
       (n : Node) (own : Path) (next : Next order n own) (before : Leads n w) where
     leads_head : (o : Option Node) → head_node w ≡ o → IfSome o (λ h. node_before n h ≡ true) → (j : ℕ) → j < length stack → path_order own (path_or_none paths (get_or stack j 0)) ≡ Less
@@ -206,7 +206,7 @@ module _ (parts : List (List Entry)) (walkers : List Walker) (order : List Node)
     new_long : length order_new ≡ length order + 1
     new_long = length-append order (n ∷ [])
 
-    -- a walk whose next node this is has gone on, and another stays, before whose next node this one stands
+    -- a walk whose next node this is has gone on, and another stays, before whose next node this one comes
     abbrev Moves : Walker → Walker → Type 0
     Moves u v = ((head_node u ≡ Some n) × Advances (length order) u v) ⊎ ((v ≡ u) × Leads n u)
 
@@ -218,7 +218,7 @@ module _ (parts : List (List Entry)) (walkers : List Walker) (order : List Node)
     is_new u v u_is (inl on) = goes_on order u u_is v n order_few on.0 on.1
     is_new u v u_is (inr off) = subst (IsWalker order_new) (sym off.0) (stays order u u_is is.ascend some_path order_few n own next off.1)
 
-    -- where the node doesn't stand after what is next in a walk, and is another one, it stands before it
+    -- where the node doesn't come after what is next in a walk, and is another one, it comes before it
     pub leads_other : (i : ℕ) (e : Walker) → i < length walkers → (head_node (get_or walkers i e) ≢ Some n) → NotAfter n (get_or walkers i e) → Leads n (get_or walkers i e)
     leads_other i e i_lt apart last = by_head (head_node u) refl last
       where

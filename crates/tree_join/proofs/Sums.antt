@@ -1,4 +1,4 @@
--- Counts by node and hart, added up one by one.
+-- Counts by node and column, added up one by one.
 use Rattle.std.proofs.Common.{◌≡◌, ℕ, suc, ◌+◌, ◌-◌, ◌<◌, ◌≤◌, ◌≢◌, ◌^◌, ◌==◌, ◌&&◌, inl, inr, Bool, true, false, cond, List, [], ◌∷◌, ◌++◌, length, get_or, take, filter, sum_by, All, AllPairs, Less, Equal, Greater, Ordering, refl, sym, ap, ap₂, subst, ◌∙◌, arith, true≢false, length-append, Result, Ok, Err, IfOk, Vec, Global}
 use Rattle.std.specs.Cmp.{IsTotalOrder}
 use Rattle.std.specs.Cmp.Lexicographic.{slice_cmp}
@@ -27,10 +27,10 @@ abbrev count_in : NodeCount → ℕ
 count_in c = c.count
 
 abbrev pub owns : ℕ → ℕ → NodeCount → Bool
-owns node hart c = c.node == node && c.hart == hart
+owns node column c = c.node == node && c.column == column
 
 count_order_total : IsTotalOrder count_order
-count_order_total = on_total (λ (c : NodeCount). c.node ∷ c.hart ∷ []) nat_list_cmp_total
+count_order_total = on_total (λ (c : NodeCount). c.node ∷ c.column ∷ []) nat_list_cmp_total
 
 -- ---- sums over lists
 
@@ -43,29 +43,29 @@ filter_sum t (x ∷ xs) =
       | false ↦ filter_sum t xs ∙ (omega arith)
     ] ∙ sym (sum_by-cons g x xs)
 
-pub count_moved : (xs ys : List NodeCount) (node hart : ℕ) → IsPermutation xs ys → count_at ys node hart ≡ count_at xs node hart
-count_moved xs ys node hart moved =
-    filter_sum (owns node hart) ys ∙ sum_by-IsPermutation (λ (c : NodeCount). cond (owns node hart c) c.count 0) xs ys moved ∙ sym (filter_sum (owns node hart) xs)
+pub count_moved : (xs ys : List NodeCount) (node column : ℕ) → IsPermutation xs ys → count_at ys node column ≡ count_at xs node column
+count_moved xs ys node column moved =
+    filter_sum (owns node column) ys ∙ sum_by-IsPermutation (λ (c : NodeCount). cond (owns node column c) c.count 0) xs ys moved ∙ sym (filter_sum (owns node column) xs)
 
-pub count_append : (xs ys : List NodeCount) (node hart : ℕ) → count_at (xs ++ ys) node hart ≡ count_at xs node hart + count_at ys node hart
-count_append xs ys node hart = ap (sum_by count_in) (filter-append (owns node hart) xs ys) ∙ sum_by-append count_in (filter (owns node hart) xs) (filter (owns node hart) ys)
+pub count_append : (xs ys : List NodeCount) (node column : ℕ) → count_at (xs ++ ys) node column ≡ count_at xs node column + count_at ys node column
+count_append xs ys node column = ap (sum_by count_in) (filter-append (owns node column) xs ys) ∙ sum_by-append count_in (filter (owns node column) xs) (filter (owns node column) ys)
 
-one_count : (c : NodeCount) (node hart : ℕ) → count_at (c ∷ []) node hart ≡ cond (owns node hart c) c.count 0
-one_count c node hart = filter_sum (owns node hart) (c ∷ []) ∙ sum_by-cons (λ (d : NodeCount). cond (owns node hart d) d.count 0) c [] ∙ (omega arith)
+one_count : (c : NodeCount) (node column : ℕ) → count_at (c ∷ []) node column ≡ cond (owns node column c) c.count 0
+one_count c node column = filter_sum (owns node column) (c ∷ []) ∙ sum_by-cons (λ (d : NodeCount). cond (owns node column d) d.count 0) c [] ∙ (omega arith)
 
 -- ---- one more
 
 abbrev with_last : List NodeCount → NodeCount → List NodeCount
 with_last sums last = sums ++ last ∷ []
 
-order_right : (a b c : NodeCount) → b.node ≡ c.node → b.hart ≡ c.hart → count_order a b ≡ count_order a c
-order_right a b c node hart = ap₂ (λ (n h : ℕ). slice_cmp nat_cmp (a.node ∷ a.hart ∷ []) (n ∷ h ∷ [])) node hart
+order_right : (a b c : NodeCount) → b.node ≡ c.node → b.column ≡ c.column → count_order a b ≡ count_order a c
+order_right a b c node column = ap₂ (λ (n h : ℕ). slice_cmp nat_cmp (a.node ∷ a.column ∷ []) (n ∷ h ∷ [])) node column
 
 -- what has been added up: the first counts of a list, and the last sum is of the last of them
 pub record SoFar (counts sums : List NodeCount) (last : NodeCount) (k : ℕ) : Type 0 where
   pub are : AreSums (take k counts) (with_last sums last)
   pub node : (d : NodeCount) → last.node ≡ (get_or counts (k - 1) d).node
-  pub hart : (d : NodeCount) → last.hart ≡ (get_or counts (k - 1) d).hart
+  pub column : (d : NodeCount) → last.column ≡ (get_or counts (k - 1) d).column
 
 module _ (counts sums : List NodeCount) (last c : NodeCount) (k : ℕ) (so_far : SoFar counts sums last k) (some : 0 < k) (lt : k < length counts) (is : c ≡ get_or counts k c)
     (sorted : AllPairs (λ a b. count_order b a ≢ Less) counts) where
@@ -78,7 +78,7 @@ module _ (counts sums : List NodeCount) (last c : NodeCount) (k : ℕ) (so_far :
   old_long : length (with_last sums last) ≡ length sums + 1
   old_long = length-append sums (last ∷ [])
 
-  -- all sums stand before what the last one stands before
+  -- all sums come before what the last one comes before
   before_last : (j : ℕ) (d : NodeCount) → j < length sums → count_order (get_or sums j d) last ≡ Less
   before_last j d j_lt =
       ap₂ (λ (a b : NodeCount). count_order a b) (sym (get_or-append sums (last ∷ []) d j j_lt)) (sym (get_or-append_seam sums last [] d))
@@ -89,8 +89,8 @@ module _ (counts sums : List NodeCount) (last c : NodeCount) (k : ℕ) (so_far :
       ap₂ (λ (a b : NodeCount). count_order a b) (sym (get_or-append sums (last ∷ []) d i (omega arith))) (sym (get_or-append sums (last ∷ []) d j j_lt))
       ∙ so_far.are.ascend i j d below (let long = old_long in omega arith)
 
-  -- the same node and hart again
-  module _ (node : last.node ≡ c.node) (hart : last.hart ≡ c.hart) where
+  -- the same node and column again
+  module _ (node : last.node ≡ c.node) (column : last.column ≡ c.column) where
     abbrev sum : NodeCount
     sum = grown last c
 
@@ -107,7 +107,7 @@ module _ (counts sums : List NodeCount) (last c : NodeCount) (k : ℕ) (so_far :
         let x = one_count sum n h in
         let y = one_count last n h in
         let z = one_count c n h in
-        let keys : owns n h last ≡ owns n h c = ap₂ (λ (i j : ℕ). (i == n) && (j == h)) node hart in
+        let keys : owns n h last ≡ owns n h c = ap₂ (λ (i j : ℕ). (i == n) && (j == h)) node column in
         let parts : cond (owns n h last) (last.count + c.count) 0 ≡ cond (owns n h last) last.count 0 + cond (owns n h c) c.count 0 =
         subst (λ (b : Bool). cond (owns n h last) (last.count + c.count) 0 ≡ cond (owns n h last) last.count 0 + cond b c.count 0) keys (both (owns n h last)) in
         omega arith
@@ -147,23 +147,23 @@ module _ (counts sums : List NodeCount) (last c : NodeCount) (k : ℕ) (so_far :
         same = same_count;
         total = same_total;
         nodes = λ n all. swapped (λ x. x.node < n) (λ a b. a) (so_far.are.nodes n (front_of (λ x. x.node < n) all)) all;
-        harts = λ n all. swapped (λ x. x.hart < n) (λ a b. a) (so_far.are.harts n (front_of (λ x. x.hart < n) all)) all;
+        columns = λ n all. swapped (λ x. x.column < n) (λ a b. a) (so_far.are.columns n (front_of (λ x. x.column < n) all)) all;
         some = λ all. swapped (λ x. 0 < x.count) (λ a b. omega arith) (so_far.are.some (front_of (λ x. 0 < x.count) all)) all;
       };
       node = λ d. node ∙ ap (λ (x : NodeCount). x.node) (at d);
-      hart = λ d. hart ∙ ap (λ (x : NodeCount). x.hart) (at d);
+      column = λ d. column ∙ ap (λ (x : NodeCount). x.column) (at d);
     }
       where
         at : (d : NodeCount) → c ≡ get_or counts (k + 1 - 1) d
         at d = is ∙ get_or_default counts k c d lt ∙ ap (λ (j : ℕ). get_or counts j d) (omega arith)
 
-  -- another node or hart
-  module _ (apart : (last.node ≡ c.node → last.hart ≡ c.hart → ⊥)) where
+  -- another node or column
+  module _ (apart : (last.node ≡ c.node → last.column ≡ c.column → ⊥)) where
     last_less : count_order last c ≡ Less
     last_less =
         let previous : NodeCount = get_or counts (k - 1) c in
         let in_order : count_order c previous ≢ Less = λ less. sorted (k - 1) k c (omega arith) lt (ap (λ (x : NodeCount). count_order x previous) (sym is) ∙ less) in
-        let to_last : count_order c last ≡ count_order c previous = order_right c last previous (so_far.node c) (so_far.hart c) in
+        let to_last : count_order c last ≡ count_order c previous = order_right c last previous (so_far.node c) (so_far.column c) in
         elim (count_order last c) as (λ o. count_order last c ≡ o → o ≡ Less) [
           | Less ↦ λ e. refl
           | Equal ↦ λ e. (let keys = tied last c e in absurd (apart keys.0 keys.1))
@@ -175,11 +175,11 @@ module _ (counts sums : List NodeCount) (last c : NodeCount) (k : ℕ) (so_far :
         firsts Equal p e = (refl, e)
         firsts Greater p e = absurd cc
 
-        tied : (a b : NodeCount) → count_order a b ≡ Equal → (a.node ≡ b.node) × (a.hart ≡ b.hart)
+        tied : (a b : NodeCount) → count_order a b ≡ Equal → (a.node ≡ b.node) × (a.column ≡ b.column)
         tied a b e =
-            let parts = firsts (nat_cmp a.node b.node) (ordering_then (nat_cmp a.hart b.hart) Equal) e in
-            let rest = firsts (nat_cmp a.hart b.hart) Equal parts.1 in
-            (nat_equal a.node b.node parts.0, nat_equal a.hart b.hart rest.0)
+            let parts = firsts (nat_cmp a.node b.node) (ordering_then (nat_cmp a.column b.column) Equal) e in
+            let rest = firsts (nat_cmp a.column b.column) Equal parts.1 in
+            (nat_equal a.node b.node parts.0, nat_equal a.column b.column rest.0)
 
     new_up : AllPairs (λ a b. count_order a b ≡ Less) (with_last (with_last sums last) c)
     new_up =
@@ -202,11 +202,11 @@ module _ (counts sums : List NodeCount) (last c : NodeCount) (k : ℕ) (so_far :
         same = λ n h. count_append (with_last sums last) (c ∷ []) n h ∙ ap (λ (m : ℕ). m + count_at (c ∷ []) n h) (so_far.are.same n h) ∙ sym (count_append front (c ∷ []) n h) ∙ ap (λ (l : List NodeCount). count_at l n h) (sym more);
         total = sum_by-append count_in (with_last sums last) (c ∷ []) ∙ ap (λ (m : ℕ). m + counts_in (c ∷ [])) so_far.are.total ∙ sym (sum_by-append count_in front (c ∷ [])) ∙ ap counts_in (sym more);
         nodes = λ n all. new_all (λ x. x.node < n) (so_far.are.nodes n) all;
-        harts = λ n all. new_all (λ x. x.hart < n) (so_far.are.harts n) all;
+        columns = λ n all. new_all (λ x. x.column < n) (so_far.are.columns n) all;
         some = λ all. new_all (λ x. 0 < x.count) so_far.are.some all;
       };
       node = λ d. ap (λ (x : NodeCount). x.node) (at d);
-      hart = λ d. ap (λ (x : NodeCount). x.hart) (at d);
+      column = λ d. ap (λ (x : NodeCount). x.column) (at d);
     }
       where
         at : (d : NodeCount) → c ≡ get_or counts (k + 1 - 1) d
@@ -224,10 +224,10 @@ module _ (counts sums : List NodeCount) (last c : NodeCount) (k : ℕ) (so_far :
 -- ---- what a sort leaves
 
 abbrev pair_order : NodeCount → NodeCount → Ordering
-pair_order a b = ordering_then (nat_cmp a.node b.node) (nat_cmp a.hart b.hart)
+pair_order a b = ordering_then (nat_cmp a.node b.node) (nat_cmp a.column b.column)
 
 pair_same : (a b : NodeCount) → pair_order a b ≡ count_order a b
-pair_same a b = ap (ordering_then (nat_cmp a.node b.node)) (no_more (nat_cmp a.hart b.hart))
+pair_same a b = ap (ordering_then (nat_cmp a.node b.node)) (no_more (nat_cmp a.column b.column))
   where
     no_more : (o : Ordering) → o ≡ ordering_then o Equal
     no_more Less = refl
@@ -246,14 +246,14 @@ summed_moved old new sums moved are = record {
   same = λ n h. are.same n h ∙ count_moved old new n h moved;
   total = are.total ∙ sum_by-IsPermutation count_in old new moved;
   nodes = λ n all. are.nodes n (All-permutation (λ c. c.node < n) old new moved all);
-  harts = λ n all. are.harts n (All-permutation (λ c. c.hart < n) old new moved all);
+  columns = λ n all. are.columns n (All-permutation (λ c. c.column < n) old new moved all);
   some = λ all. are.some (All-permutation (λ c. 0 < c.count) old new moved all);
 }
 
 -- ---- a step of the loop
 
 module _ (counts rest sums sums_new : List NodeCount) (first last last_new d : NodeCount) (k : ℕ) (split : counts ≡ first ∷ rest) (so_far : SoFar counts sums last (k + 1)) (lt : k < length rest)
-    (sorted : AllPairs (λ a b. count_order b a ≢ Less) counts) (test : Bool) (tested : test ≡ ((last.node == (get_or rest k d).node) && (last.hart == (get_or rest k d).hart))) where
+    (sorted : AllPairs (λ a b. count_order b a ≢ Less) counts) (test : Bool) (tested : test ≡ ((last.node == (get_or rest k d).node) && (last.column == (get_or rest k d).column))) where
   abbrev c : NodeCount
   c = get_or rest k d
 
@@ -265,9 +265,9 @@ module _ (counts rest sums sums_new : List NodeCount) (first last last_new d : N
 
   pub same_at : test ≡ true → sums_new ≡ sums → last_new ≡ grown last c → SoFar counts sums_new last_new (k + 1 + 1)
   same_at on sums_is last_is =
-      let keys = both_true (last.node == c.node) (last.hart == c.hart) (sym tested ∙ on) in
+      let keys = both_true (last.node == c.node) (last.column == c.column) (sym tested ∙ on) in
       subst (λ (l : List NodeCount). SoFar counts l last_new (k + 1 + 1)) (sym sums_is) (subst (λ (x : NodeCount). SoFar counts sums x (k + 1 + 1)) (sym last_is)
-      (same_key counts sums last c (k + 1) so_far (omega arith) in_counts is_next sorted (equal last.node c.node keys.0) (equal last.hart c.hart keys.1)))
+      (same_key counts sums last c (k + 1) so_far (omega arith) in_counts is_next sorted (equal last.node c.node keys.0) (equal last.column c.column keys.1)))
     where
       both_true : (s t : Bool) → (s && t) ≡ true → (s ≡ true) × (t ≡ true)
       both_true true t e = (refl, e)
@@ -279,15 +279,15 @@ module _ (counts rest sums sums_new : List NodeCount) (first last last_new d : N
   pub new_at : test ≡ false → sums_new ≡ sums ++ last ∷ [] → last_new ≡ c → SoFar counts sums_new last_new (k + 1 + 1)
   new_at off sums_is last_is =
       subst (λ (l : List NodeCount). SoFar counts l last_new (k + 1 + 1)) (sym sums_is) (subst (λ (x : NodeCount). SoFar counts (sums ++ last ∷ []) x (k + 1 + 1)) (sym last_is)
-      (new_key counts sums last c (k + 1) so_far (omega arith) in_counts is_next sorted (λ node hart. true≢false (sym (ap₂ (λ (s t : Bool). s && t) (eq-eqb last.node c.node node) (eq-eqb last.hart c.hart hart)) ∙ sym tested ∙ off))))
+      (new_key counts sums last c (k + 1) so_far (omega arith) in_counts is_next sorted (λ node column. true≢false (sym (ap₂ (λ (s t : Bool). s && t) (eq-eqb last.node c.node node) (eq-eqb last.column c.column column)) ∙ sym tested ∙ off))))
 
 pub summed_ok : (old new seen : List NodeCount) (r : Result (Vec NodeCount Global) Memory) → IsPermutation old new → seen ≡ new → IfOk r (λ v. AreSums seen v.items) → IfOk r (λ v. AreSums old v.items)
 summed_ok old new seen (Ok v) moved is are = summed_moved old new v.items moved (subst (λ (l : List NodeCount). AreSums l v.items) is are)
 summed_ok old new seen (Err e) moved is are = tt
 
 -- one count more, first
-pub count_cons : (c : NodeCount) (xs : List NodeCount) (node hart : ℕ) → count_at (c ∷ xs) node hart ≡ cond (owns node hart c) c.count 0 + count_at xs node hart
-count_cons c xs node hart = count_append (c ∷ []) xs node hart ∙ ap (λ (n : ℕ). n + count_at xs node hart) (one_count c node hart)
+pub count_cons : (c : NodeCount) (xs : List NodeCount) (node column : ℕ) → count_at (c ∷ xs) node column ≡ cond (owns node column c) c.count 0 + count_at xs node column
+count_cons c xs node column = count_append (c ∷ []) xs node column ∙ ap (λ (n : ℕ). n + count_at xs node column) (one_count c node column)
 
 pub moved_from : (start old new : List NodeCount) → old ≡ start → IsPermutation old new → IsPermutation start new
 moved_from start old new is moved = subst (λ (l : List NodeCount). IsPermutation l new) is moved

@@ -239,7 +239,7 @@ module _ (nodes : List Node) (are : AreNodes nodes) where
             | inr le ↦ subst P (sym (kid_at j le)) (λ inner e. own_number (ap (number_given numbers_new) (sym (kid_is j le lt).1) ∙ e))
           ]
 
-      -- what is in order stands before a node of the stack
+      -- what is in order comes before a node of the stack
       ahead_rest : (i j : ℕ) → i < length order_new → j < length rest → path_order (path_or_none (tree_paths order_new) i) (path_or_none paths (get_or rest j 0)) ≡ Less
       ahead_rest i j lt less =
           let long = order_long in let stack = stack_long in

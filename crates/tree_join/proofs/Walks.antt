@@ -107,7 +107,7 @@ pub record Running (at : ℕ) (first : List Walker) (start : List Node) (walkers
   pub others : (i : ℕ) (d : Walker) → i ≢ at → get_or walkers i d ≡ get_or first i d
   pub longer : length start ≤ length order
 
--- what stands before the first of the others' nodes stands before each
+-- what comes before the first of the others' nodes comes before each
 pub run_leads : (at : ℕ) (first walkers : List Walker) (start order : List Node) (limit : Option (ℕ × Node)) (node : Node) → Running at first start walkers order → FirstBut first at (length first) limit
     → IfSome limit (λ other. node_before node other.1 ≡ true) → (i : ℕ) (d : Walker) → i < length walkers → i ≢ at → Leads node (get_or walkers i d)
 run_leads at first walkers start order limit node run but before i d i_lt apart =

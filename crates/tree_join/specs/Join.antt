@@ -1,8 +1,8 @@
 -- Merged entries as a tree in preorder.
 use Rattle.std.specs.Prelude.{List, map}
 use Rattle.std.specs.List.{flat_map, range_with_len}
-use Rattle.scope_types.specs.CallPaths.{HartPath}
-use Rattle.scope_types.specs.Distinct.{HartRaw}
+use Rattle.scope_types.specs.CallPaths.{ColumnPath}
+use Rattle.scope_types.specs.Distinct.{ColumnRaw}
 use Rattle.scope_types.specs.Raw.{Raw}
 use Rattle.scope_types.specs.declared.path.Entry.{Entry}
 use Rattle.scope_types.specs.declared.scope.Scope.{Scope}
@@ -10,7 +10,7 @@ use Rattle.scope_types.specs.Order.{path_order}
 use Rattle.tree_types.specs.Ascending.{ascending}
 use Rattle.tree_types.specs.Paths.{Path}
 use Rattle.path_trie.specs.Trie.{trie_nodes}
-use Rattle.thread_cct.specs.Plan.{stripes}
+use Rattle.scope_types.specs.Limits.{stripe_count}
 use Rattle.stripe_table.specs.Ends.{SetValue, trie_of}
 
 -- the nodes of merged entries in the order of their paths, which is preorder
@@ -23,8 +23,8 @@ nodes_of_all parts = ascending path_order (flat_map trie_nodes parts)
 
 -- the entries that the sixteen stripes' tries stand for, stripe by stripe
 unfoldable pub stripe_parts : SetValue → List (List Entry)
-stripe_parts set = map (trie_of set.stripes) (range_with_len 0 stripes)
+stripe_parts set = map (trie_of set.stripes) (range_with_len 0 stripe_count)
 
 -- the call paths of samples, in order
-abbrev pub sampled_paths : (Raw → List Scope) → List HartRaw → List HartPath
-sampled_paths call_path samples = map (λ s. record { hart = s.hart; path = call_path s.raw }) samples
+abbrev pub sampled_paths : (Raw → List Scope) → List ColumnRaw → List ColumnPath
+sampled_paths call_path samples = map (λ s. record { column = s.column; path = call_path s.raw }) samples

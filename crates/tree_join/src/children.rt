@@ -1,4 +1,4 @@
-//! The children of a trie's nodes. Most nodes have one child, which stands right after them; the children of all
+//! The children of a trie's nodes. Most nodes have one child, which lies right after them; the children of all
 //! others are sorted.
 ghost use Rattle.std.specs.Prelude.{◌≡◌, ◌+◌, ◌≤◌, ◌++◌, ◌==◌, ◌&&◌, nat_lt, length, map, reverse, filter, AllPairs};
 ghost use Rattle.std.specs.Prelude.{IfOk, OnOk};
@@ -23,13 +23,14 @@ pub struct Sibling {
     pub index: u32,
 }
 
-/// For each index, whether a node that stands elsewhere has its parent right before that index.
+/// For each index, whether a node that lies elsewhere has its parent right before that index.
 fn branching_slots(alloc: Global, nodes: &[Node]) -> Result<Vec<bool>, Memory>
     requires before { StandBefore nodes.now }
     requires few { length nodes.now ≤ most_scopes_in_all }
     ensures len { IfOk result (λ flags. length flags.items ≡ length nodes.now + 1) }
     ensures marks { IfOk result (λ flags. MarksBranches nodes.now flags.items) }
 {
+    // room: `nodes.len() + 1`, a flag for each index up to the end
     let mut flags = vec![in alloc; false; nodes.len() + 1]?;
     for (index, node) in nodes.iter().enumerate() {
         let slot = node.parent.wrapping_add(1) as usize;
@@ -92,7 +93,7 @@ fn sort(siblings: &mut Vec<Sibling>)
     siblings.sort_unstable();
 }
 
-/// The siblings of the nodes at whose parents' next indices a flag stands, in order.
+/// The siblings of the nodes at whose parents' next indices a flag is set, in order.
 fn sorted_siblings(alloc: Global, nodes: &[Node], flags: &[bool]) -> Result<Vec<Sibling>, Memory>
     requires before { StandBefore nodes.now }
     requires few { length nodes.now ≤ most_scopes_in_all }

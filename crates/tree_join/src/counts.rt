@@ -1,4 +1,4 @@
-//! The counts of nodes and harts, in order.
+//! The counts of nodes and columns, in order.
 ghost use Rattle.std.specs.Prelude.{◌≡◌, ◌≤◌, ◌≢◌, ◌==◌, ◌&&◌, ◌++◌, length, All, AllPairs, IfOk, OnOk};
 ghost use Rattle.std.specs.List.Sorted.{IsPermutation};
 ghost use Rattle.std.specs.declared.cmp.Ordering.TheVariants.{Less};
@@ -22,7 +22,7 @@ fn put_counts(counts: &mut Vec<NodeCount>, ends: &[PathEnd], numbers: &[u32]) ->
         if end.node != NO_PARENT && end.count > 0 {
             counts.push(NodeCount {
                 node: numbers[end.node as usize],
-                hart: end.hart,
+                column: end.column,
                 count: end.count,
             })?;
         }
@@ -42,22 +42,22 @@ fn numbered_counts(alloc: Global, walkers: &[Walker]) -> Result<Vec<NodeCount>, 
     Ok(counts)
 }
 
-/// Sorts counts by node, then hart.
+/// Sorts counts by node, then column.
 fn sort(counts: &mut Vec<NodeCount>)
     ensures moved { IsPermutation counts.old.items counts.new.items }
     ensures sorted { AllPairs (λ a b. count_order b a ≢ Less) counts.new.items }
 {
-    counts.sort_unstable_by_key(|c| (c.node, c.hart));
+    counts.sort_unstable_by_key(|c| (c.node, c.column));
 }
 
-/// Whether two counts are of one node and hart.
+/// Whether two counts are of one node and column.
 fn is_same_pair(a: &NodeCount, b: &NodeCount) -> bool
-    ensures { result ≡ (a.now.node == b.now.node && a.now.hart == b.now.hart) }
+    ensures { result ≡ (a.now.node == b.now.node && a.now.column == b.now.column) }
 {
-    a.node == b.node && a.hart == b.hart
+    a.node == b.node && a.column == b.column
 }
 
-/// Adds up sorted counts of one node and hart.
+/// Adds up sorted counts of one node and column.
 fn add_up(alloc: Global, counts: &[NodeCount]) -> Result<Vec<NodeCount>, Memory>
     requires sorted { AllPairs (λ a b. count_order b a ≢ Less) counts.now }
     requires few { counts_in counts.now ≤ most_samples }
@@ -80,7 +80,7 @@ fn add_up(alloc: Global, counts: &[NodeCount]) -> Result<Vec<NodeCount>, Memory>
     Ok(sums)
 }
 
-/// The counts of the ends of all tries that were walked over, those of each node and hart added up, in order.
+/// The counts of the ends of all tries that were walked over, those of each node and column added up, in order.
 pub fn summed(alloc: Global, walkers: &[Walker]) -> Result<Vec<NodeCount>, Memory>
     requires indices { All HasIndices walkers.now }
     requires few { counts_in (all_counts walkers.now) ≤ most_samples }

@@ -1,7 +1,7 @@
 ghost use Rattle.std.specs.Prelude.{◌≡◌, ℕ, ◌<◌, List, sum_by, All, Contains};
 ghost use Rattle.scope_types.specs.Alike.{Alike};
 ghost use Rattle.scope_types.specs.CallPaths.{each_path};
-ghost use Rattle.scope_types.specs.Distinct.{HartRaw, distinct};
+ghost use Rattle.scope_types.specs.Distinct.{ColumnRaw, distinct};
 ghost use Rattle.scope_types.specs.Key.{stripe};
 ghost use Rattle.scope_types.specs.Raw.{Raw};
 ghost use Rattle.scope_types.specs.declared.path.Entry.{Entry};
@@ -19,10 +19,11 @@ ghost use Rattle.tree_join.specs.Join.{nodes_of_all, sampled_paths, stripe_parts
 /// The pieces that the stripes name have the nodes of the stripes' tries, and the sums of their counts.
 #[tactic(auto, using(crate::proofs::Sampled::named_laws))]
 pub fn stripes_hold_their_pieces()
-    ensures nodes { (set : SetValue) (harts : ℕ) → AllFit set.view.plan set.stripes
-        → IsMergeable set.view.plan harts → nodes (named_paths set) ≡ nodes_of_all (stripe_parts set) }
-    ensures counts { (set : SetValue) → AllFit set.view.plan set.stripes → (hart : ℕ) (path : Path)
-        → count_below ends_here (named_paths set) hart path ≡ sum_by (λ es. count_of es hart path) (stripe_parts set) }
+    ensures nodes { (set : SetValue) (columns : ℕ) → AllFit set.view.plan set.stripes
+        → IsMergeable set.view.plan columns → nodes (named_paths set) ≡ nodes_of_all (stripe_parts set) }
+    ensures counts { (set : SetValue) → AllFit set.view.plan set.stripes → (column : ℕ) (path : Path)
+        → count_below ends_here (named_paths set) column path
+        ≡ sum_by (λ es. count_of es column path) (stripe_parts set) }
     // a path is dealt to one stripe alone, and only prefixes are in several
     ensures own { (plan : Chunks) (chunk s : ℕ) (e : Entry) → Contains (dealt plan chunk s) e → stripe e.path ≡ s }
 {}
@@ -33,17 +34,20 @@ pub fn stripes_hold_their_pieces()
 pub fn stripes_hold_the_samples()
     ensures whole { (set : SetValue) → AllFit set.view.plan set.stripes → NamesAll set
         → Alike (named_paths set) (each_path (all_entries set.view.plan)) }
-    ensures samples { (set : SetValue) (harts : ℕ) (samples : List HartRaw) (call_path : Raw → List Scope)
+    ensures samples { (set : SetValue) (columns : ℕ) (samples : List ColumnRaw) (call_path : Raw → List Scope)
         → AllFit set.view.plan set.stripes → NamesAll set
-        → set.view.plan ≡ expanded (plan_of (distinct harts samples)) call_path → All (λ s. s.hart < harts) samples
+        → set.view.plan ≡ expanded (plan_of (distinct columns samples)) call_path
+        → All (λ s. s.column < columns) samples
         → Alike (named_paths set) (sampled_paths call_path samples) }
-    ensures nodes { (set : SetValue) (harts : ℕ) (samples : List HartRaw) (call_path : Raw → List Scope)
+    ensures nodes { (set : SetValue) (columns : ℕ) (samples : List ColumnRaw) (call_path : Raw → List Scope)
         → AllFit set.view.plan set.stripes → NamesAll set
-        → set.view.plan ≡ expanded (plan_of (distinct harts samples)) call_path → All (λ s. s.hart < harts) samples
+        → set.view.plan ≡ expanded (plan_of (distinct columns samples)) call_path
+        → All (λ s. s.column < columns) samples
         → nodes (named_paths set) ≡ nodes (sampled_paths call_path samples) }
-    ensures values { (set : SetValue) (harts : ℕ) (samples : List HartRaw) (call_path : Raw → List Scope)
+    ensures values { (set : SetValue) (columns : ℕ) (samples : List ColumnRaw) (call_path : Raw → List Scope)
         → AllFit set.view.plan set.stripes → NamesAll set
-        → set.view.plan ≡ expanded (plan_of (distinct harts samples)) call_path → All (λ s. s.hart < harts) samples
-        → (period hart : ℕ) (n : Path) (kind : Kind)
-        → value period (named_paths set) hart n kind ≡ value period (sampled_paths call_path samples) hart n kind }
+        → set.view.plan ≡ expanded (plan_of (distinct columns samples)) call_path
+        → All (λ s. s.column < columns) samples
+        → (period column : ℕ) (n : Path) (kind : Kind)
+        → value period (named_paths set) column n kind ≡ value period (sampled_paths call_path samples) column n kind }
 {}

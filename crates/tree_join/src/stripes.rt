@@ -30,18 +30,18 @@ fn tries_of(alloc: Global, set: &StripeSet) -> Result<Vec<&Trie>, Memory>
     Ok(tries)
 }
 
-/// The tree of all stripes together, for a given number of harts: its paths are those of the pieces that the stripes
+/// The tree of all stripes together, for a given number of columns: its paths are those of the pieces that the stripes
 /// name.
-pub fn join_stripes(alloc: Global, stripes: &StripeSet, harts: u32) -> Result<Tree, Memory>
-    requires plan { IsMergeable stripes.now.view.plan harts }
-    ensures harts { IfOk result (λ tree. tree.harts ≡ harts) }
+pub fn join_stripes(alloc: Global, stripes: &StripeSet, columns: u32) -> Result<Tree, Memory>
+    requires plan { IsMergeable stripes.now.view.plan columns }
+    ensures columns { IfOk result (λ tree. tree.columns ≡ columns) }
     ensures nodes { IfOk result (λ tree. tree.nodes ≡ node_list (named_paths stripes.now)) }
     ensures few { IfOk result (λ tree. length (nodes (named_paths stripes.now)) ≤ no_parent) }
     ensures paths { IfOk result (λ tree. Alike (paths_in tree) (named_paths stripes.now)) }
     ensures samples { IfOk result (λ _. length (named_paths stripes.now) ≤ most_samples) }
     ensures own { All (λ p. 0 < length p.path) (named_paths stripes.now)
-        × All (λ p. p.hart < harts) (named_paths stripes.now) }
+        × All (λ p. p.column < columns) (named_paths stripes.now) }
 {
     let tries = tries_of(alloc, stripes)?;
-    join_tries(alloc, tries.as_slice(), harts)
+    join_tries(alloc, tries.as_slice(), columns)
 }

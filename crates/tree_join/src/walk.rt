@@ -66,7 +66,7 @@ fn put_first(walkers: &mut [Walker], node: Node, order: &mut Vec<Node>) -> Resul
     Ok(())
 }
 
-/// Puts the node that is next in one walk in order. It stands before those of the others.
+/// Puts the node that is next in one walk in order. It comes before those of the others.
 fn put_own(
     walkers: &mut [Walker],
     at: usize,
@@ -90,7 +90,7 @@ fn put_own(
     Ok(())
 }
 
-/// The node that is next in a walk, if it stands before another one.
+/// The node that is next in a walk, if it comes before another one.
 fn leading(walker: &Walker, limit: Option<(usize, Node)>) -> Option<Node>
     requires { IsReady walker.now }
     ensures { IfSome result (λ node. (head_node walker.now ≡ Some node)
@@ -103,7 +103,7 @@ fn leading(walker: &Walker, limit: Option<(usize, Node)>) -> Option<Node>
     }
 }
 
-/// Puts nodes of one walk in order, as long as they stand before what is next in the others.
+/// Puts nodes of one walk in order, as long as they come before what is next in the others.
 fn put_run(walkers: &mut [Walker], at: usize, order: &mut Vec<Node>) -> Result<(), Memory>
     requires walking { Walking (map walked_entries walkers.old) walkers.old order.old.items }
     requires at { at < length walkers.old }

@@ -53,10 +53,11 @@ fn in_order(nodes: &[Node], numbers: &[u32], index: u32) -> Node
 fn no_numbers(alloc: Global, count: usize) -> Result<Vec<u32>, Memory>
     ensures { IfOk result (λ numbers. numbers.items ≡ replicate count no_parent) }
 {
+    // room: `count`, a number for each node
     Ok(vec![in alloc; NO_PARENT; count]?)
 }
 
-/// Whether a node stands before another, where both are the next ones of walks.
+/// Whether a node comes before another, where both are the next ones of walks.
 pub fn is_before(a: &Node, b: &Node) -> bool
     ensures { result ≡ node_before a.now b.now }
 {

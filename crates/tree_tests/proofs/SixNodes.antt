@@ -19,7 +19,7 @@ six = record { parent = 4294967295; scope = Root Thread } ∷ record { parent = 
     ∷ record { parent = 2; scope = Proc (Sym 65568) } ∷ record { parent = 3; scope = Stmt (Address 65572) } ∷ record { parent = 1; scope = Stmt (Address 65544) } ∷ []
 
 abbrev pub three : List NodeCount
-three = record { node = 4; hart = 0; count = 2 } ∷ record { node = 4; hart = 1; count = 1 } ∷ record { node = 5; hart = 0; count = 3 } ∷ []
+three = record { node = 4; column = 0; count = 2 } ∷ record { node = 4; column = 1; count = 1 } ∷ record { node = 5; column = 0; count = 3 } ∷ []
 
 in_order : IsStrictlySortedBy path_order (tree_paths six)
 unfolding tree_paths IsStrictlySortedBy
@@ -38,20 +38,20 @@ parents (suc (suc (suc (suc zero)))) d lt apart = omega arith
 parents (suc (suc (suc (suc (suc zero))))) d lt apart = omega arith
 parents (suc (suc (suc (suc (suc (suc i)))))) d lt apart = absurd (omega arith)
 
-pub is_tree : (nodes : List Node) (counts : List NodeCount) → nodes ≡ six → counts ≡ three → IsTree (record { harts = 2; nodes = nodes; counts = counts })
+pub is_tree : (nodes : List Node) (counts : List NodeCount) → nodes ≡ six → counts ≡ three → IsTree (record { columns = 2; nodes = nodes; counts = counts })
 is_tree nodes counts n c =
-    subst (λ (ns : List Node). IsTree (record { harts = 2; nodes = ns; counts = counts })) (sym n)
-    (subst (λ (cs : List NodeCount). IsTree (record { harts = 2; nodes = six; counts = cs })) (sym c)
+    subst (λ (ns : List Node). IsTree (record { columns = 2; nodes = ns; counts = counts })) (sym n)
+    (subst (λ (cs : List NodeCount). IsTree (record { columns = 2; nodes = six; counts = cs })) (sym c)
     (record {
       few = omega arith;
       preorder = record { parents = parents; ascend = pairs_from_sorted path_order (tree_paths six) in_order };
       nodes = each (λ c. c.node < 6) (omega arith) (omega arith) (omega arith);
-      harts = each (λ c. c.hart < 2) (omega arith) (omega arith) (omega arith);
+      columns = each (λ c. c.column < 2) (omega arith) (omega arith) (omega arith);
       some = each (λ c. 0 < c.count) (omega arith) (omega arith) (omega arith);
       ascend = pairs_from_sorted count_order three counts_in_order;
     }))
   where
-    each : (P : NodeCount → Type 0) → P (record { node = 4; hart = 0; count = 2 }) → P (record { node = 4; hart = 1; count = 1 }) → P (record { node = 5; hart = 0; count = 3 }) → All P three
+    each : (P : NodeCount → Type 0) → P (record { node = 4; column = 0; count = 2 }) → P (record { node = 4; column = 1; count = 1 }) → P (record { node = 5; column = 0; count = 3 }) → All P three
     each P a b c =
-        All-cons P (record { node = 4; hart = 0; count = 2 }) (record { node = 4; hart = 1; count = 1 } ∷ record { node = 5; hart = 0; count = 3 } ∷ []) a
-        (All-cons P (record { node = 4; hart = 1; count = 1 }) (record { node = 5; hart = 0; count = 3 } ∷ []) b (All-cons P (record { node = 5; hart = 0; count = 3 }) [] c (All-nil P)))
+        All-cons P (record { node = 4; column = 0; count = 2 }) (record { node = 4; column = 1; count = 1 } ∷ record { node = 5; column = 0; count = 3 } ∷ []) a
+        (All-cons P (record { node = 4; column = 1; count = 1 }) (record { node = 5; column = 0; count = 3 } ∷ []) b (All-cons P (record { node = 5; column = 0; count = 3 }) [] c (All-nil P)))

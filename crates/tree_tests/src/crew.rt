@@ -4,7 +4,7 @@ ghost use Rattle.std.specs.Prelude.{◌≡◌, IfOk};
 ghost use Rattle.merge_crew.specs.Merged.{IsOfPlan, IsWhole};
 ghost use Rattle.thread_cct.specs.Plan.{FitsExpansion, expanded};
 
-use crate::plan::one_hart;
+use crate::plan::one_column;
 use merge_crew::{Crew, Crews, WorkCrew, merge_all};
 use prof_bytes::{Fail, Memory};
 use prof_devices::{Gate, OpenGate};
@@ -14,6 +14,7 @@ use std::sync::atomic::{AtomicBool, AtomicU32, Ordering};
 use std::test::Fail as Failed;
 use std::thread;
 use std::thread::Threads;
+use test_crews::EmptyCrew;
 use thread_cct::{Ccts, Plan, TooManyFrames, TooManyScopes};
 
 /// Expands a frame to its address, in a procedure without a name.
@@ -53,9 +54,9 @@ impl Expand for Nameless {
     }
 }
 
-/// One hart with 64 paths of one frame for each chunk, of up to seven. The pieces are empty but for stripe 6.
+/// One column with 64 paths of one frame for each chunk, of up to seven. The pieces are empty but for stripe 6.
 fn paths(alloc: Global, chunks: u32) -> Result<Ccts, Fail<TooManyFrames>> {
-    one_hart(alloc, 0x1_0000, 4, chunks.min(7) * 64)
+    one_column(alloc, 0x1_0000, 4, chunks.min(7) * 64)
 }
 
 /// The first stripe that doesn't name each of the chunks once.
@@ -150,34 +151,6 @@ impl Gate for Meeting {
             }
             None => self.other.store(true, Ordering::SeqCst),
         }
-    }
-}
-
-/// A crew that hands out stripes that no worker filled.
-#[derive(Drop)]
-struct EmptyCrew {
-    gate: OpenGate,
-}
-
-impl Crews for EmptyCrew {
-    ghost use Rattle.std.specs.Prelude.{◌≡◌, false};
-
-    type Gate = OpenGate;
-
-    ghost whole = { λ _. false };
-
-    ghost gives = { λ _ crew. (crew.merged ≡ 0) × (crew.busy_left ≡ 0) × (crew.present ≡ 0) × (crew.settled ≡ 0) };
-
-    fn gate(&self) -> &OpenGate {
-        &self.gate
-    }
-
-    fn hand_out<F: FnOnce() -> Result<Crew, Memory>>(
-        &self,
-        _crew: Crew,
-        unfilled: F,
-    ) -> Result<Crew, Memory> {
-        unfilled()
     }
 }
 
@@ -350,7 +323,7 @@ fn merged_elsewhere<R: Threads + Sync>(
 ) -> Result<Crew, Fail<TooManyScopes>> {
     let expand = Nameless { alloc };
     let plan = Plan::of(alloc, ccts, &expand)?;
-    let crews = EmptyCrew { gate: OpenGate };
+    let crews = EmptyCrew::new();
     Ok(crews.merge(rt, alloc, &plan, &expand, 2)?)
 }
 

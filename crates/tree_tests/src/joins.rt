@@ -13,42 +13,42 @@ const PARTIAL: Scope = Scope::Root(RootKind::Partial);
 /// scopes, and one has no samples.
 static ROWS: [Row; 8] = [
     Row {
-        hart: 0,
+        column: 0,
         count: 1,
         path: &[PARTIAL, G, NEXT_IN_F],
     },
     Row {
-        hart: 0,
+        column: 0,
         count: 1,
         path: &[ROOT, G, IN_F],
     },
     Row {
-        hart: 1,
+        column: 1,
         count: 3,
         path: &[ROOT, F, NEXT_IN_F],
     },
     Row {
-        hart: 0,
+        column: 0,
         count: 2,
         path: &[ROOT, F, IN_F],
     },
     Row {
-        hart: 1,
+        column: 1,
         count: 1,
         path: &[ROOT, F, NEXT_IN_F],
     },
     Row {
-        hart: 1,
+        column: 1,
         count: 7,
         path: &[ROOT],
     },
     Row {
-        hart: 1,
+        column: 1,
         count: 4,
         path: &[],
     },
     Row {
-        hart: 2,
+        column: 2,
         count: 0,
         path: &[ROOT, F],
     },
@@ -96,27 +96,27 @@ static NODES: [Node; 9] = [
 static COUNTS: [NodeCount; 5] = [
     NodeCount {
         node: 0,
-        hart: 1,
+        column: 1,
         count: 7,
     },
     NodeCount {
         node: 2,
-        hart: 0,
+        column: 0,
         count: 2,
     },
     NodeCount {
         node: 3,
-        hart: 1,
+        column: 1,
         count: 4,
     },
     NodeCount {
         node: 5,
-        hart: 0,
+        column: 0,
         count: 1,
     },
     NodeCount {
         node: 8,
-        hart: 0,
+        column: 0,
         count: 1,
     },
 ];
@@ -125,27 +125,27 @@ static COUNTS: [NodeCount; 5] = [
 static JOINED_COUNTS: [NodeCount; 5] = [
     NodeCount {
         node: 0,
-        hart: 1,
+        column: 1,
         count: 14,
     },
     NodeCount {
         node: 2,
-        hart: 0,
+        column: 0,
         count: 7,
     },
     NodeCount {
         node: 3,
-        hart: 1,
+        column: 1,
         count: 4,
     },
     NodeCount {
         node: 5,
-        hart: 0,
+        column: 0,
         count: 2,
     },
     NodeCount {
         node: 8,
-        hart: 0,
+        column: 0,
         count: 1,
     },
 ];
@@ -153,11 +153,11 @@ static JOINED_COUNTS: [NodeCount; 5] = [
 /// What of a tree is another than these.
 pub(crate) fn other_part(
     tree: &Tree,
-    harts: u32,
+    columns: u32,
     nodes: &[Node],
     counts: &[NodeCount],
 ) -> Option<&'static str> {
-    if tree.harts() != harts {
+    if tree.columns() != columns {
         return Some("the number of harts");
     }
     if tree.nodes() != nodes {

@@ -1,12 +1,12 @@
 //! Measurement files: the bytes of a small one, written and read, and where what is not one has its first fault.
-use crate::plan::one_hart;
+use crate::plan::one_column;
 use measure_file::{MeasureFault, MeasureHead, read_measure, write_measure};
 use prof_bytes::{Fail, Memory};
 use std::alloc::Global;
 use std::test::Fail as Failed;
 use thread_cct::{Ccts, TooManyFrames};
 
-/// The program has 168 bytes and begins at 0x10000. Its one hart has four samples, 5 instructions apart.
+/// The program has 168 bytes and begins at 0x10000. Its one column has four samples, 5 instructions apart.
 static MEASUREMENT: [u8; 92] =
     *b"HPCRUNM1\xa8\x00\x00\x00\x00\x00\x01\x00\x05\x00\x00\x00\x01\x00\x00\x00\x04\x00\x00\x00\
 \x01\x00\x00\x00\x00\x00\x00\x00\x01\x00\x00\x00\x10\x00\x01\x00\
@@ -105,8 +105,8 @@ fn wrong_front(alloc: Global) -> Result<Option<usize>, Memory> {
 
 /// Whether samples are written as the file's bytes.
 fn are_written(alloc: Global, head: &MeasureHead, ccts: &Ccts) -> Result<bool, Memory> {
-    let harts = ccts.harts();
-    if head.period == 0 || harts == 0 || harts > 16 {
+    let columns = ccts.columns();
+    if head.period == 0 || columns == 0 || columns > 16 {
         return Ok(false);
     }
     let text = write_measure(alloc, head, ccts)?;
@@ -124,7 +124,7 @@ fn is_written_again(alloc: Global) -> Result<bool, Memory> {
 
 /// Whether the four samples are written as the file's bytes.
 fn four_samples_are_written(alloc: Global) -> Result<bool, Fail<TooManyFrames>> {
-    let ccts = one_hart(alloc, 0x1_0010, 20, 4)?;
+    let ccts = one_column(alloc, 0x1_0010, 20, 4)?;
     Ok(are_written(alloc, &HEAD, &ccts)?)
 }
 

@@ -90,28 +90,28 @@ impl Expand for Innermost {
 }
 
 /// No samples yet.
-fn started(alloc: Global, harts: u32) -> Result<Ccts, Memory>
-    ensures harts { IfOk result (λ ccts. length ccts ≡ harts) }
+fn started(alloc: Global, columns: u32) -> Result<Ccts, Memory>
+    ensures columns { IfOk result (λ ccts. length ccts ≡ columns) }
     ensures samples { IfOk result (λ ccts. samples_in ccts ≡ 0) }
 {
     samples_are_counted();
-    Ccts::start(alloc, harts)
+    Ccts::start(alloc, columns)
 }
 
 /// Adds a sample of one frame.
-fn add(alloc: Global, ccts: &mut Ccts, hart: u32, pc: u32) -> Result<(), Fail<TooManyFrames>>
-    requires hart { hart < length ccts.old }
+fn add(alloc: Global, ccts: &mut Ccts, column: u32, pc: u32) -> Result<(), Fail<TooManyFrames>>
+    requires column { column < length ccts.old }
     requires few { samples_in ccts.old < 1000 }
-    ensures harts { length ccts.new ≡ length ccts.old }
+    ensures columns { length ccts.new ≡ length ccts.old }
     ensures samples { IfOk result (λ _. samples_in ccts.new ≡ samples_in ccts.old + 1) }
 {
     let mut frames = Vec::new(alloc);
     frames.push(Frame { pc })?;
-    ccts.add(hart, &RawPath::of(End::Whole, frames))
+    ccts.add(column, &RawPath::of(End::Whole, frames))
 }
 
-/// One hart with up to 500 samples, the first at an address and each next one a number of bytes after it.
-pub(crate) fn one_hart(
+/// One column with up to 500 samples, the first at an address and each next one a number of bytes after it.
+pub(crate) fn one_column(
     alloc: Global,
     first: u32,
     apart: u32,
@@ -127,7 +127,7 @@ pub(crate) fn one_hart(
     Ok(ccts)
 }
 
-/// Samples of hart 0 at 1000 to 1064, and of hart 1 at 2000, 2001 and 2000.
+/// Samples of column 0 at 1000 to 1064, and of column 1 at 2000, 2001 and 2000.
 pub(crate) fn samples(alloc: Global) -> Result<Ccts, Fail<TooManyFrames>> {
     let mut ccts = started(alloc, 2)?;
     for offset in 0..65u32 {
@@ -139,7 +139,7 @@ pub(crate) fn samples(alloc: Global) -> Result<Ccts, Fail<TooManyFrames>> {
     Ok(ccts)
 }
 
-/// The harts, counts and addresses of entries.
+/// The columns, counts and addresses of entries.
 fn shown(alloc: Global, entries: &[Entry]) -> Result<Vec<(u32, u32, u32)>, Memory> {
     let mut shown = Vec::new(alloc);
     for entry in entries {
@@ -147,7 +147,7 @@ fn shown(alloc: Global, entries: &[Entry]) -> Result<Vec<(u32, u32, u32)>, Memor
             [_, Scope::Proc(ProcId::Sym(pc)), ..] => *pc,
             _ => 0,
         };
-        shown.push((entry.hart, entry.count, pc))?;
+        shown.push((entry.column, entry.count, pc))?;
     }
     Ok(shown)
 }
@@ -222,10 +222,10 @@ fn lent<T: Sync>(value: &T) -> &T {
     value
 }
 
-/// The chunks and harts of a plan, and the first piece that is another one.
+/// The chunks and columns of a plan, and the first piece that is another one.
 fn other_part(alloc: Global, plan: &Plan<'_>) -> Result<(u32, u32, Option<(u32, u32)>), Memory> {
     let other = other_piece(alloc, plan, &mut NoMemo)?;
-    Ok((lent(plan).chunks(), plan.harts(), other))
+    Ok((lent(plan).chunks(), plan.columns(), other))
 }
 
 /// The same for the plan of samples.
@@ -263,11 +263,11 @@ fn other_limit_of_none(alloc: Global) -> Result<Option<u64>, Memory> {
 /// How many scopes each call path of one sample may have.
 const LIMITS_OF_ONE: [(u64, bool); 2] = [(8_388_608, true), (8_388_609, false)];
 
-/// How many scopes each call path of 67 may have, hart 1's among them: 8,388,601 scopes in all, and 8,388,668.
+/// How many scopes each call path of 67 may have, column 1's among them: 8,388,601 scopes in all, and 8,388,668.
 const LIMITS: [(u64, bool); 3] = [(125_203, true), (125_204, false), (u64::MAX, false)];
 
 fn other_limit_of_one(alloc: Global) -> Result<Option<u64>, Fail<TooManyFrames>> {
-    let ccts = one_hart(alloc, 4, 0, 1)?;
+    let ccts = one_column(alloc, 4, 0, 1)?;
     Ok(other_limit(alloc, &ccts, &LIMITS_OF_ONE)?)
 }
 

@@ -1,4 +1,4 @@
-//! The planes of the values of a tree of six nodes and two harts, derived by hand.
+//! The planes of the values of a tree of six nodes and two columns, derived by hand.
 ghost use Rattle.std.specs.Prelude.{◌≡◌, length, IfOk};
 
 use crate::sums::six_values;
@@ -15,7 +15,7 @@ const S: Kind = Kind::Frame;
 
 const I: Kind = Kind::Inclusive;
 
-/// The columns of two harts, of the six nodes' values with a period of 10.
+/// The lists of two columns, of the six nodes' values with a period of 10.
 static PROFILES: [&[(u32, Kind, u64)]; 2] = [
     &[
         (0, I, 50),
@@ -43,7 +43,7 @@ static PROFILES: [&[(u32, Kind, u64)]; 2] = [
     ],
 ];
 
-/// The columns of the six nodes.
+/// The lists of the six nodes.
 static CONTEXTS: [&[(Kind, u32, u64)]; 6] = [
     &[(I, 0, 50), (I, 1, 10)],
     &[(S, 0, 30), (I, 0, 50), (I, 1, 10)],
@@ -60,47 +60,53 @@ static CONTEXTS: [&[(Kind, u32, u64)]; 6] = [
     &[(E, 0, 30), (S, 0, 30), (I, 0, 30)],
 ];
 
-/// Whether a hart's column has these nodes, kinds and values.
-fn is_profile(column: &[ProfileEntry], wanted: &[(u32, Kind, u64)]) -> bool {
-    if column.len() != wanted.len() {
+/// Whether a column has these nodes, kinds and values.
+fn is_profile(entries: &[ProfileEntry], wanted: &[(u32, Kind, u64)]) -> bool {
+    if entries.len() != wanted.len() {
         return false;
     }
-    for i in 0..column.len() {
+    for i in 0..entries.len() {
         let (node, kind, value) = wanted[i];
-        if column[i] != (ProfileEntry { node, kind, value }) {
+        if entries[i] != (ProfileEntry { node, kind, value }) {
             return false;
         }
     }
     true
 }
 
-/// Whether a node's column has these kinds, harts and values.
-fn is_context(column: &[ContextEntry], wanted: &[(Kind, u32, u64)]) -> bool {
-    if column.len() != wanted.len() {
+/// Whether a node's list has these kinds, columns and values.
+fn is_context(entries: &[ContextEntry], wanted: &[(Kind, u32, u64)]) -> bool {
+    if entries.len() != wanted.len() {
         return false;
     }
-    for i in 0..column.len() {
-        let (kind, hart, value) = wanted[i];
-        if column[i] != (ContextEntry { kind, hart, value }) {
+    for i in 0..entries.len() {
+        let (kind, column, value) = wanted[i];
+        if entries[i]
+            != (ContextEntry {
+                kind,
+                column,
+                value,
+            })
+        {
             return false;
         }
     }
     true
 }
 
-/// The first hart whose column is another one than the table's.
+/// The first column whose list is another one than the table's.
 fn other_profile(plane: &ProfilePlane) -> Option<u32>
     requires { length plane.now ≡ 2 }
 {
-    for hart in 0..2u32 {
-        if !is_profile(plane.hart(hart), PROFILES[hart as usize]) {
-            return Some(hart);
+    for column in 0..2u32 {
+        if !is_profile(plane.column(column), PROFILES[column as usize]) {
+            return Some(column);
         }
     }
     None
 }
 
-/// The first node whose column is another one than the table's.
+/// The first node whose list is another one than the table's.
 fn other_context(plane: &ContextPlane) -> Option<u32>
     requires { length plane.now ≡ 6 }
 {
@@ -112,7 +118,7 @@ fn other_context(plane: &ContextPlane) -> Option<u32>
     None
 }
 
-/// The plane by hart.
+/// The plane by column.
 fn profiles<R: Threads + Sync>(rt: &R, alloc: Global) -> Result<ProfilePlane, Memory>
     ensures { IfOk result (λ plane. length plane ≡ 2) }
 {
@@ -128,21 +134,21 @@ fn contexts<R: Threads + Sync>(rt: &R, alloc: Global) -> Result<ContextPlane, Me
     by_context(rt, alloc, &values)
 }
 
-/// How many harts the plane by hart has, and the first whose column is another one.
-fn harts<R: Threads + Sync>(rt: &R, alloc: Global) -> Result<(u32, Option<u32>), Memory> {
+/// How many columns the plane by column has, and the first whose list is another one.
+fn columns<R: Threads + Sync>(rt: &R, alloc: Global) -> Result<(u32, Option<u32>), Memory> {
     let plane = profiles(rt, alloc)?;
-    Ok((plane.harts(), other_profile(&plane)))
+    Ok((plane.columns(), other_profile(&plane)))
 }
 
-/// How many nodes the plane by node has, and the first whose column is another one.
+/// How many nodes the plane by node has, and the first whose list is another one.
 fn nodes<R: Threads + Sync>(rt: &R, alloc: Global) -> Result<(u32, Option<u32>), Memory> {
     let plane = contexts(rt, alloc)?;
     Ok((plane.nodes(), other_context(&plane)))
 }
 
 #[test]
-fn columns_by_hand(rt: HostRuntime) -> Result<(), Fail> {
-    let found = (harts(&rt, rt.alloc())?, nodes(&rt, rt.alloc())?);
+fn planes_by_hand(rt: HostRuntime) -> Result<(), Fail> {
+    let found = (columns(&rt, rt.alloc())?, nodes(&rt, rt.alloc())?);
     assert_eq!(rt; found, ((2, None), (6, None)));
     Ok(())
 }

@@ -1,7 +1,8 @@
 //! Trees of stripes: of such as nobody merged into, and of such as have the whole plan.
 ghost use Rattle.std.specs.Prelude.{◌≡◌, ℕ, ◌<◌, length, IfOk, Some, slice_get};
 ghost use Rattle.scope_types.specs.Raw.{Raw};
-ghost use Rattle.thread_cct.specs.Plan.{FitsExpansion, expanded, piece_of, stripes};
+ghost use Rattle.scope_types.specs.Limits.{stripe_count};
+ghost use Rattle.thread_cct.specs.Plan.{FitsExpansion, expanded, piece_of};
 ghost use Rattle.stripe_table.specs.Limits.{IsPieceOf};
 
 use crate::joins::other_part;
@@ -37,7 +38,7 @@ fn joined<E: Expand>(
 {
     plans_can_be_merged();
     let _same = expand;
-    join_stripes(alloc, set, plan.harts())
+    join_stripes(alloc, set, plan.columns())
 }
 
 /// Merges a piece into its stripe, unless the stripe names its chunk.
@@ -54,7 +55,7 @@ fn settle(set: &mut StripeSet, piece: &Piece) -> Result<(), Memory>
 /// Merges the pieces of a chunk, each into its stripe.
 fn settle_pieces(set: &mut StripeSet, pieces: &Pieces, chunk: u32) -> Result<(), Memory>
     requires chunk { chunk < length set.old.view.plan }
-    requires pieces { (stripe : ℕ) → stripe < stripes
+    requires pieces { (stripe : ℕ) → stripe < stripe_count
         → slice_get pieces.now stripe ≡ Some (piece_of set.old.view.plan chunk stripe) }
     ensures { set.new.view ≡ set.old.view }
 {
@@ -92,7 +93,7 @@ fn put(
 ) -> Result<(), Memory>
     requires { number < 1000 }
 {
-    let (hart, count, pc) = sampled;
+    let (column, count, pc) = sampled;
     nodes.push(Node {
         parent: 0,
         scope: Scope::Proc(ProcId::Sym(pc)),
@@ -103,7 +104,7 @@ fn put(
     })?;
     counts.push(NodeCount {
         node: 2 + 2 * number,
-        hart,
+        column,
         count,
     })?;
     Ok(())

@@ -1,4 +1,4 @@
-//! The values of a tree of six nodes and two harts.
+//! The values of a tree of six nodes and two columns.
 ghost use Rattle.std.specs.Prelude.{◌≡◌, ◌≤◌, length, IfOk};
 ghost use Rattle.tree_types.specs.Tree.{counts_in};
 
@@ -40,22 +40,22 @@ static NODES: [Node; 6] = [
 static COUNTS: [NodeCount; 3] = [
     NodeCount {
         node: 4,
-        hart: 0,
+        column: 0,
         count: 2,
     },
     NodeCount {
         node: 4,
-        hart: 1,
+        column: 1,
         count: 1,
     },
     NodeCount {
         node: 5,
-        hart: 0,
+        column: 0,
         count: 3,
     },
 ];
 
-/// The nodes' values by hart, with a period of 10: exclusive, frame, inclusive.
+/// The nodes' values by column, with a period of 10: exclusive, frame, inclusive.
 static VALUES: [[[u64; 3]; 2]; 6] = [
     [[0, 0, 50], [0, 0, 10]],
     [[0, 30, 50], [0, 0, 10]],
@@ -68,7 +68,7 @@ static VALUES: [[[u64; 3]; 2]; 6] = [
 /// The tree of these nodes and counts.
 pub(crate) fn six_nodes(alloc: Global) -> Result<Tree, Memory>
     ensures nodes { IfOk result (λ tree. length tree.nodes ≡ 6) }
-    ensures harts { IfOk result (λ tree. tree.harts ≡ 2) }
+    ensures columns { IfOk result (λ tree. tree.columns ≡ 2) }
     ensures paths { IfOk result (λ tree. counts_in tree.counts ≤ 6) }
 {
     let mut nodes = Vec::new(alloc);
@@ -82,25 +82,25 @@ pub(crate) fn six_nodes(alloc: Global) -> Result<Tree, Memory>
 #[tactic(auto, unfolding(tree_types::specs::NodeValues::values_of))]
 pub(crate) fn six_values(alloc: Global) -> Result<Values, Memory>
     ensures nodes { IfOk result (λ values. values.nodes ≡ 6) }
-    ensures harts { IfOk result (λ values. values.harts ≡ 2) }
+    ensures columns { IfOk result (λ values. values.columns ≡ 2) }
 {
     let tree = six_nodes(alloc)?;
     sums(alloc, &tree, 10)
 }
 
-/// The values of a node for a hart.
-fn values_at(values: &Values, node: u32, hart: u32) -> Option<[u64; 3]> {
-    if node >= values.nodes() || hart >= values.harts() {
+/// The values of a node for a column.
+fn values_at(values: &Values, node: u32, column: u32) -> Option<[u64; 3]> {
+    if node >= values.nodes() || column >= values.columns() {
         return None;
     }
     Some([
-        values.value(node, hart, Kind::Exclusive),
-        values.value(node, hart, Kind::Frame),
-        values.value(node, hart, Kind::Inclusive),
+        values.value(node, column, Kind::Exclusive),
+        values.value(node, column, Kind::Frame),
+        values.value(node, column, Kind::Inclusive),
     ])
 }
 
-/// The first node and hart with other values than the table's.
+/// The first node and column with other values than the table's.
 fn other_values(values: &Values) -> Option<(u32, u32)> {
     for node in 0..6u32 {
         let row = VALUES[node as usize];
@@ -114,13 +114,13 @@ fn other_values(values: &Values) -> Option<(u32, u32)> {
     None
 }
 
-/// The harts of the tree, and the paths of hart 1 that end at node 4 and at node 3.
-fn harts_and_paths(alloc: Global) -> Result<(u32, u64, u64), Memory> {
+/// The columns of the tree, and the paths of column 1 that end at node 4 and at node 3.
+fn columns_and_paths(alloc: Global) -> Result<(u32, u64, u64), Memory> {
     let tree = six_nodes(alloc)?;
-    Ok((tree.harts(), tree.count(4, 1), tree.count(3, 1)))
+    Ok((tree.columns(), tree.count(4, 1), tree.count(3, 1)))
 }
 
-/// The first node and hart with other values, and how many values there are other than 0.
+/// The first node and column with other values, and how many values there are other than 0.
 fn other_values_of_the_tree(alloc: Global) -> Result<(Option<(u32, u32)>, usize), Memory> {
     let values = six_values(alloc)?;
     Ok((other_values(&values), values.entries().len()))
@@ -129,7 +129,7 @@ fn other_values_of_the_tree(alloc: Global) -> Result<(Option<(u32, u32)>, usize)
 #[test]
 fn values_of_a_tree(rt: HostRuntime) -> Result<(), Fail> {
     let found = (
-        harts_and_paths(rt.alloc())?,
+        columns_and_paths(rt.alloc())?,
         other_values_of_the_tree(rt.alloc())?,
     );
     assert_eq!(rt; found, ((2, 1, 0), (None, 20)));

@@ -10,7 +10,7 @@ use tree_types::{NO_PARENT, Node};
 
 /// An entry of a piece, as a test's table has it.
 pub(crate) struct Row {
-    pub(crate) hart: u32,
+    pub(crate) column: u32,
     pub(crate) count: u32,
     pub(crate) path: &'static [Scope],
 }
@@ -27,17 +27,17 @@ pub(crate) const NEXT_IN_F: Scope = Scope::Stmt(LineId::Address(0x1_0008));
 
 static FIRST: [Row; 3] = [
     Row {
-        hart: 0,
+        column: 0,
         count: 2,
         path: &[ROOT, F, IN_F],
     },
     Row {
-        hart: 1,
+        column: 1,
         count: 3,
         path: &[ROOT, F, NEXT_IN_F],
     },
     Row {
-        hart: 1,
+        column: 1,
         count: 1,
         path: &[ROOT, F, NEXT_IN_F],
     },
@@ -46,22 +46,22 @@ static FIRST: [Row; 3] = [
 /// The last path has no scopes, and the one before it ends at a root.
 pub(crate) static SECOND: [Row; 4] = [
     Row {
-        hart: 0,
+        column: 0,
         count: 5,
         path: &[ROOT, F, IN_F],
     },
     Row {
-        hart: 0,
+        column: 0,
         count: 1,
         path: &[ROOT, G, IN_F],
     },
     Row {
-        hart: 1,
+        column: 1,
         count: 7,
         path: &[ROOT],
     },
     Row {
-        hart: 1,
+        column: 1,
         count: 4,
         path: &[],
     },
@@ -97,42 +97,42 @@ static NODES: [Node; 6] = [
 static ENDS: [PathEnd; 7] = [
     PathEnd {
         node: 2,
-        hart: 0,
+        column: 0,
         count: 2,
     },
     PathEnd {
         node: 3,
-        hart: 1,
+        column: 1,
         count: 3,
     },
     PathEnd {
         node: 3,
-        hart: 1,
+        column: 1,
         count: 1,
     },
     PathEnd {
         node: 2,
-        hart: 0,
+        column: 0,
         count: 5,
     },
     PathEnd {
         node: 5,
-        hart: 0,
+        column: 0,
         count: 1,
     },
     PathEnd {
         node: 0,
-        hart: 1,
+        column: 1,
         count: 7,
     },
     PathEnd {
         node: NO_PARENT,
-        hart: 1,
+        column: 1,
         count: 4,
     },
 ];
 
-/// A node, a hart, and how many of its samples end there.
+/// A node, a column, and how many of its samples end there.
 static COUNTS: [(u32, u32, u64); 8] = [
     (0, 0, 0),
     (0, 1, 7),
@@ -146,24 +146,24 @@ static COUNTS: [(u32, u32, u64); 8] = [
 
 fn entry(alloc: Global, row: &Row) -> Result<Entry, Memory>
     ensures count { IfOk result (λ e. e.count ≤ 100) }
-    ensures hart { IfOk result (λ e. e.hart < 3) }
+    ensures column { IfOk result (λ e. e.column < 3) }
     ensures path { IfOk result (λ e. length e.path ≤ 16) }
 {
     let mut scopes = Vec::new(alloc);
     scopes.extend_from_slice(&row.path[..row.path.len().min(16)])?;
     Ok(Entry {
-        hart: row.hart.min(2),
+        column: row.column.min(2),
         count: row.count.min(100),
         path: ScopePath::of(scopes),
     })
 }
 
-/// A piece of up to a hundred short paths of three harts.
+/// A piece of up to a hundred short paths of three columns.
 pub(crate) fn piece(alloc: Global, rows: &[Row]) -> Result<Piece, Memory>
     requires { length rows.now ≤ 100 }
     ensures samples { IfOk result (λ p. samples_of p.entries ≤ 10000) }
     ensures scopes { IfOk result (λ p. entry_scopes p.entries ≤ 1600) }
-    ensures harts { IfOk result (λ p. All (λ e. 0 < e.count → e.hart < 3) p.entries) }
+    ensures columns { IfOk result (λ p. All (λ e. 0 < e.count → e.column < 3) p.entries) }
 {
     let mut entries = Vec::new(alloc);
     for row in rows {
@@ -180,7 +180,7 @@ pub(crate) fn piece(alloc: Global, rows: &[Row]) -> Result<Piece, Memory>
 pub(crate) fn trie_of(alloc: Global, rows: &[Row]) -> Result<Trie, Memory>
     ensures samples { IfOk result (λ t. samples_of t ≤ 10000) }
     ensures nodes { IfOk result (λ t. length (trie_nodes t) ≤ 1600) }
-    ensures harts { IfOk result (λ t. All (λ e. 0 < e.count → e.hart < 3) t) }
+    ensures columns { IfOk result (λ t. All (λ e. 0 < e.count → e.column < 3) t) }
 {
     let piece = piece(alloc, &rows[..rows.len().min(100)])?;
     let mut trie = Trie::empty(alloc);
@@ -208,11 +208,11 @@ fn nodes_of_the_first(alloc: Global) -> Result<u32, Memory> {
     Ok(trie.len())
 }
 
-/// The first node and hart with another count.
+/// The first node and column with another count.
 fn other_count(trie: &Trie) -> Option<(u32, u32)> {
-    for (node, hart, count) in &COUNTS {
-        if *node >= trie.len() || trie.count(*node, *hart) != *count {
-            return Some((*node, *hart));
+    for (node, column, count) in &COUNTS {
+        if *node >= trie.len() || trie.count(*node, *column) != *count {
+            return Some((*node, *column));
         }
     }
     None
@@ -232,7 +232,7 @@ fn other_part(trie: &Trie) -> Option<&'static str> {
     None
 }
 
-/// What of the trie of both pieces is another than in the tables, and the first node and hart with another count.
+/// What of the trie of both pieces is another than in the tables, and the first node and column with another count.
 fn other_in_both(alloc: Global) -> Result<(Option<&'static str>, Option<(u32, u32)>), Memory> {
     let trie = trie_of_both(alloc)?;
     Ok((other_part(&trie), other_count(&trie)))

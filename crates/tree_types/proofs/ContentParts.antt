@@ -2,7 +2,7 @@
 use Rattle.std.proofs.Common.{◌≡◌, ◌≤◌, true, ℕ, All, List, [], ◌∷◌, count_by, length, map, get_or, AllPairs, Ordering, Less, refl, sym, ap, subst, ◌∙◌, ◌<◌, arith}
 use Rattle.std.proofs.lemmas.List.{get_or-map, length-map}
 use Rattle.std.proofs.lemmas.List.FromFn.{length-map-range_with_len}
-use Rattle.scope_types.specs.CallPaths.{HartPath}
+use Rattle.scope_types.specs.CallPaths.{ColumnPath}
 use Rattle.scope_types.specs.declared.scope.ProcId.{ProcId}
 use Rattle.tree_types.specs.declared.content.Content.{Content}
 use Rattle.tree_types.specs.declared.content.Names.{Names}
@@ -11,7 +11,7 @@ use Rattle.tree_types.specs.declared.content.ProcName.{ProcName}
 use Rattle.tree_types.specs.Nodes.{nodes, no_parent}
 use Rattle.tree_types.specs.Naming.{Naming, FileId, proc_order, file_order, procs_used, files_used}
 use Rattle.tree_types.specs.NamesAscend.{NamesAscend}
-use Rattle.tree_types.specs.Planes.{profile_plane, context_plane, hart_column, node_column}
+use Rattle.tree_types.specs.Planes.{profile_plane, context_plane, profile_entries, context_entries}
 use Rattle.tree_types.specs.Database.{node_list, names_used, content_of, naming_in}
 use Rattle.tree_types.specs.PathsOf.{paths_of}
 use Rattle.tree_types.specs.OfContent.{IsOfPaths, IsProfile}
@@ -32,7 +32,7 @@ pairs_map R key f own ks up i j d less inside =
     let at : (k : ℕ) → k < length ks → key (get_or (map f ks) k d) ≡ get_or ks k (key d) = λ k lt. ap key (get_or-map f ks k (key d) d lt) ∙ own (get_or ks k (key d)) in
     (λ t. R (at i (omega arith) t) (at j within t)) ∙ up i j (key d) less within
 
-pub used_names_ascend : (naming : Naming) (ps : List HartPath) → NamesAscend (names_used naming ps)
+pub used_names_ascend : (naming : Naming) (ps : List ColumnPath) → NamesAscend (names_used naming ps)
 unfolding procs_used files_used
 used_names_ascend naming ps = record {
   procs = pairs_map proc_order (λ (p : ProcName). p.id) (λ (id : ProcId). record { id = id; name = naming.proc_name id }) (λ id. refl) (procs_used (nodes ps)) (pairs_from_sorted proc_order (procs_used (nodes ps)) (sorted_ascending proc_order_total _));
@@ -45,22 +45,22 @@ pub own_nodes : (c : Content) → IsOfPaths c → c.nodes ≡ node_list (paths_o
 unfolding content_of
 own_nodes c own = sym (ap (λ (x : Content). x.nodes) own)
 
-pub own_profiles : (c : Content) → IsOfPaths c → c.profiles ≡ profile_plane c.period c.harts (paths_of c)
+pub own_profiles : (c : Content) → IsOfPaths c → c.profiles ≡ profile_plane c.period c.columns (paths_of c)
 unfolding content_of
 own_profiles c own = sym (ap (λ (x : Content). x.profiles) own)
 
-pub own_contexts : (c : Content) → IsOfPaths c → c.contexts ≡ context_plane c.period c.harts (paths_of c)
+pub own_contexts : (c : Content) → IsOfPaths c → c.contexts ≡ context_plane c.period c.columns (paths_of c)
 unfolding content_of
 own_contexts c own = sym (ap (λ (x : Content). x.contexts) own)
 
 pub own_node_count : (c : Content) → IsOfPaths c → length c.nodes ≡ length (nodes (paths_of c))
 own_node_count c own = ap length (own_nodes c own) ∙ nodes_listed (paths_of c)
 
-pub own_column_count : (c : Content) → IsOfPaths c → length c.contexts ≡ length c.nodes
-own_column_count c own = ap length (own_contexts c own) ∙ length-map (nodes (paths_of c)) (node_column c.period c.harts (paths_of c)) ∙ sym (own_node_count c own)
+pub own_list_count : (c : Content) → IsOfPaths c → length c.contexts ≡ length c.nodes
+own_list_count c own = ap length (own_contexts c own) ∙ length-map (nodes (paths_of c)) (context_entries c.period c.columns (paths_of c)) ∙ sym (own_node_count c own)
 
-pub own_hart_count : (c : Content) → IsOfPaths c → length c.profiles ≡ c.harts
-own_hart_count c own = ap length (own_profiles c own) ∙ length-map-range_with_len (hart_column c.period (paths_of c)) 0 c.harts
+pub own_column_count : (c : Content) → IsOfPaths c → length c.profiles ≡ c.columns
+own_column_count c own = ap length (own_profiles c own) ∙ length-map-range_with_len (profile_entries c.period (paths_of c)) 0 c.columns
 
 own_names : (c : Content) → IsOfPaths c → names_used (naming_in c.names) (paths_of c) ≡ c.names
 unfolding content_of
@@ -81,14 +81,14 @@ all_counted {X} (x ∷ xs) =
 as_long : {X : Type 0} (xs ys : List X) → Alike xs ys → length xs ≡ length ys
 as_long xs ys alike = sym (all_counted xs) ∙ alike.same (λ x. true) ∙ all_counted ys
 
-pub profile_of_paths : (period harts : ℕ) (naming : Naming) (ps : List HartPath) → 0 < period → length (nodes ps) ≤ no_parent → All (λ p. 0 < length p.path) ps → All (λ p. p.hart < harts) ps
-    → length ps ≤ most_samples → IsProfile (content_of period harts naming ps)
+pub profile_of_paths : (period columns : ℕ) (naming : Naming) (ps : List ColumnPath) → 0 < period → length (nodes ps) ≤ no_parent → All (λ p. 0 < length p.path) ps → All (λ p. p.column < columns) ps
+    → length ps ≤ most_samples → IsProfile (content_of period columns naming ps)
 unfolding content_of
-profile_of_paths period harts naming ps positive few some below samples = record {
+profile_of_paths period columns naming ps positive few some below samples = record {
   period = positive;
-  own = of_paths period harts naming ps positive few some below;
-  samples = (let long = as_long (paths_of (content_of period harts naming ps)) ps (paths_alike period harts naming ps positive few some below) in omega (arith, long, samples));
+  own = of_paths period columns naming ps positive few some below;
+  samples = (let long = as_long (paths_of (content_of period columns naming ps)) ps (paths_alike period columns naming ps positive few some below) in omega (arith, long, samples));
   nodes = (let long = nodes_listed ps in omega (arith, long, few));
 }
 
-pub ruleset part_laws = (own_nodes, own_profiles, own_contexts, own_column_count, own_hart_count, own_names_ascend, used_names_ascend, profile_of_paths)
+pub ruleset part_laws = (own_nodes, own_profiles, own_contexts, own_list_count, own_column_count, own_names_ascend, used_names_ascend, profile_of_paths)

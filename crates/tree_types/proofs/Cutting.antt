@@ -1,10 +1,10 @@
--- Columns that are cut from one list.
+-- Lists that are cut from one list.
 use Rattle.std.proofs.Common.{◌≡◌, ℕ, zero, suc, ◌+◌, ◌-◌, ◌<◌, ◌≤◌, List, [], ◌∷◌, ◌++◌, length, get_or, take, drop, refl, ap, ◌∙◌, arith, length-append, length-drop, take_all, inl, inr}
 use Rattle.std.proofs.lemmas.Bool.{cases_order}
 use Rattle.std.proofs.lemmas.List.{get_or_default, take-append-le, drop-append-le}
 use Rattle.std.proofs.lemmas.List.Quantifiers.{all_pairs_push}
 use Rattle.std.proofs.Math.Seq.{drop-append_seam}
-use Rattle.tree_types.specs.Columns.{AreStarts, cut}
+use Rattle.tree_types.specs.Lists.{AreStarts, cut}
 
 -- ---- starts
 
@@ -21,11 +21,11 @@ up_to_last starts n i d are lt = elim (cases_order i (length starts - 1)) [
   | inr (inr more) ↦ absurd (omega arith)
 ]
 
--- no column yet
+-- no list yet
 pub no_starts : AreStarts (0 ∷ []) 0
 no_starts = record { some = omega arith; first = refl; rise = λ i j d less lt. absurd (omega arith); last = refl }
 
--- another column after the others
+-- another list after the others
 pub starts_more : (starts : List ℕ) (n last : ℕ) → AreStarts starts n → n ≤ last → AreStarts (starts ++ last ∷ []) last
 starts_more starts n last are le = record {
   some = (let long = length-append starts (last ∷ []) in omega arith);
@@ -45,19 +45,19 @@ starts_more starts n last are le = record {
         let same : length (s ∷ starts ++ last ∷ []) - 1 ≡ suc (length (starts ++ last ∷ []) - 1) = omega arith in
         ap (λ (k : ℕ). get_or (s ∷ starts ++ last ∷ []) k 0) same ∙ last_is starts
 
--- ---- columns
+-- ---- cells
 
 module _ {X : Type 0} where
-  pub column_count : (starts : List ℕ) (xs : List X) → length (cut starts xs) ≡ length starts - 1
+  pub list_count : (starts : List ℕ) (xs : List X) → length (cut starts xs) ≡ length starts - 1
   unfolding cut
-  column_count [] xs = refl
-  column_count (from ∷ []) xs = refl
-  column_count (from ∷ upto ∷ starts) xs = (let rest = column_count (upto ∷ starts) xs in omega arith)
+  list_count [] xs = refl
+  list_count (from ∷ []) xs = refl
+  list_count (from ∷ upto ∷ starts) xs = (let rest = list_count (upto ∷ starts) xs in omega arith)
 
-  pub column_is : (starts : List ℕ) (xs : List X) (i : ℕ) (d : ℕ) → i < length (cut starts xs)
+  pub list_is : (starts : List ℕ) (xs : List X) (i : ℕ) (d : ℕ) → i < length (cut starts xs)
       → get_or (cut starts xs) i [] ≡ take (get_or starts (i + 1) d - get_or starts i d) (drop (get_or starts i d) xs)
   unfolding cut
-  column_is starts xs i d lt = let long = column_count starts xs in at_index starts i (omega arith)
+  list_is starts xs i d lt = let long = list_count starts xs in at_index starts i (omega arith)
     where
       at_index : (starts : List ℕ) (i : ℕ) → i + 1 < length starts
           → get_or (cut starts xs) i [] ≡ take (get_or starts (i + 1) d - get_or starts i d) (drop (get_or starts i d) xs)
@@ -69,36 +69,36 @@ module _ {X : Type 0} where
           at_index (upto ∷ starts) i (omega arith)
           ∙ ap (λ (k : ℕ). take (get_or (from ∷ upto ∷ starts) k d - get_or (upto ∷ starts) i d) (drop (get_or (upto ∷ starts) i d) xs)) same
 
-  pub column_bounds : (starts : List ℕ) (xs : List X) (i : ℕ) (d : ℕ) → AreStarts starts (length xs) → i < length (cut starts xs)
+  pub list_bounds : (starts : List ℕ) (xs : List X) (i : ℕ) (d : ℕ) → AreStarts starts (length xs) → i < length (cut starts xs)
       → (i + 1 < length starts) × (get_or starts i d ≤ get_or starts (i + 1) d) × (get_or starts (i + 1) d ≤ length xs)
-  column_bounds starts xs i d are lt =
-      let long = column_count starts xs in
+  list_bounds starts xs i d are lt =
+      let long = list_count starts xs in
       let inside : i + 1 < length starts = omega arith in
       (inside, are.rise i (i + 1) d (omega arith) inside, up_to_last starts (length xs) (i + 1) d are inside)
 
-  pub no_columns : (xs : List X) → cut (0 ∷ []) xs ≡ []
+  pub no_lists : (xs : List X) → cut (0 ∷ []) xs ≡ []
   unfolding cut
-  no_columns xs = refl
+  no_lists xs = refl
 
-  -- another column after the others
-  pub cut_more : (starts : List ℕ) (xs column : List X) (last : ℕ) → AreStarts starts (length xs) → last ≡ length xs + length column
-      → cut (starts ++ last ∷ []) (xs ++ column) ≡ cut starts xs ++ column ∷ []
+  -- another list after the others
+  pub cut_more : (starts : List ℕ) (xs list : List X) (last : ℕ) → AreStarts starts (length xs) → last ≡ length xs + length list
+      → cut (starts ++ last ∷ []) (xs ++ list) ≡ cut starts xs ++ list ∷ []
   unfolding cut
-  cut_more starts xs column last are end =
+  cut_more starts xs list last are end =
       behind starts are.some (λ i d lt. up_to_last starts (length xs) i d are lt) are.last
     where
       behind : (starts : List ℕ) → 0 < length starts → ((i d : ℕ) → i < length starts → get_or starts i d ≤ length xs) → get_or starts (length starts - 1) 0 ≡ length xs
-          → cut (starts ++ last ∷ []) (xs ++ column) ≡ cut starts xs ++ column ∷ []
+          → cut (starts ++ last ∷ []) (xs ++ list) ≡ cut starts xs ++ list ∷ []
       behind [] some up e = absurd (omega arith)
       behind (from ∷ []) some up e =
-          let is : drop from (xs ++ column) ≡ column = ap (λ (k : ℕ). drop k (xs ++ column)) e ∙ drop-append_seam xs column in
-          ap (λ (l : List X). take (last - from) l ∷ []) is ∙ ap (λ (l : List X). l ∷ []) (take_all (last - from) column (omega arith))
+          let is : drop from (xs ++ list) ≡ list = ap (λ (k : ℕ). drop k (xs ++ list)) e ∙ drop-append_seam xs list in
+          ap (λ (l : List X). take (last - from) l ∷ []) is ∙ ap (λ (l : List X). l ∷ []) (take_all (last - from) list (omega arith))
       behind (from ∷ upto ∷ starts) some up e =
           let here : from ≤ length xs = up 0 0 (omega arith) in
           let next : upto ≤ length xs = up 1 0 (omega arith) in
           let long = length-drop from xs in
-          let is : take (upto - from) (drop from (xs ++ column)) ≡ take (upto - from) (drop from xs) =
-          ap (take (upto - from)) (drop-append-le from xs column here) ∙ take-append-le (upto - from) (drop from xs) column (omega arith) in
+          let is : take (upto - from) (drop from (xs ++ list)) ≡ take (upto - from) (drop from xs) =
+          ap (take (upto - from)) (drop-append-le from xs list here) ∙ take-append-le (upto - from) (drop from xs) list (omega arith) in
           let same : suc (length (upto ∷ starts) - 1) ≡ length (from ∷ upto ∷ starts) - 1 = omega arith in
-          ap (λ (l : List X). l ∷ cut (upto ∷ starts ++ last ∷ []) (xs ++ column)) is
+          ap (λ (l : List X). l ∷ cut (upto ∷ starts ++ last ∷ []) (xs ++ list)) is
           ∙ ap (λ (l : List (List X)). take (upto - from) (drop from xs) ∷ l) (behind (upto ∷ starts) (omega arith) (λ i d lt. up (suc i) d (omega arith)) (ap (λ (k : ℕ). get_or (from ∷ upto ∷ starts) k 0) same ∙ e))

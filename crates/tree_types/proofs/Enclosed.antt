@@ -15,7 +15,7 @@ use Rattle.tree_types.proofs.Parents.{prefix_less, less_is_not_equal, less_is_no
 use Rattle.tree_types.proofs.TreeLaws.{numbers_tell}
 use Rattle.tree_types.proofs.TreeValues.{shorter_prefix, some_path, root_is, inner_is, parent_before}
 
--- what stands between a path and one that extends it extends the path too
+-- what lies between a path and one that extends it extends the path too
 pub between : (x y : Path) (s : Scope) → path_order x y ≡ Less → path_order y (x ++ s ∷ []) ≡ Less → (r : Path) × (y ≡ x ++ r)
 between [] y s above below = (y, refl)
 between (u ∷ x) [] s above below = absurd (no above)

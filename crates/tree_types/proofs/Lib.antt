@@ -7,19 +7,14 @@ pub mod Totals
 pub mod Parents
 pub mod FourRows
 pub mod TwentyRows
-pub mod Putting
 pub mod InlinedRows
-pub mod Columns
 pub mod Cutting
 pub mod TreePaths
 pub mod PathsAgain
 pub mod CalledRows
 pub mod Pieces
 pub mod NamesAgain
-pub mod ContextColumns
-pub mod NamesUsed
 pub mod Numbers
-pub mod PlaneSteps
 pub mod Bounds
 pub mod Entries
 mod Searched

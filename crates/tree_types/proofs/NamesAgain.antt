@@ -7,7 +7,7 @@ use Rattle.std.specs.Ordering.{eq_by_cmp}
 use Rattle.std.proofs.lemmas.Cmp.{on_total, nat_list_cmp_total}
 use Rattle.std.proofs.lemmas.List.Folds.{list_any_at}
 use Rattle.std.proofs.lemmas.List.Elements.{recursion_from_All, All-contains_itself}
-use Rattle.scope_types.specs.CallPaths.{HartPath}
+use Rattle.scope_types.specs.CallPaths.{ColumnPath}
 use Rattle.scope_types.specs.declared.scope.RootKind.TheVariants.{Thread, Partial}
 use Rattle.scope_types.specs.declared.scope.ProcId.{ProcId}
 use Rattle.scope_types.specs.declared.scope.LineId.{LineId}
@@ -25,7 +25,8 @@ use Rattle.tree_types.specs.Paths.{Path}
 use Rattle.tree_types.specs.Nodes.{nodes, no_parent, own_scope}
 use Rattle.tree_types.specs.Naming.{Naming, FileId, proc_order, file_order, line_files, scope_procs, scope_files, procs_used, files_used}
 use Rattle.tree_types.specs.Database.{names_used, content_of, proc_named, file_named, naming_in}
-use Rattle.tree_types.specs.TopDown.{printed, line_label, label, header, table_row, percent, over_harts, node_row, top_down}
+use Rattle.prof_bytes.specs.Printing.{printed}
+use Rattle.tree_types.specs.TopDown.{line_label, label, header, table_row, percent, over_columns, node_row, top_down}
 use Rattle.tree_types.specs.OfContent.{IsOfPaths, content_table}
 use Rattle.tree_types.specs.PathsOf.{paths_of}
 use Rattle.tree_types.proofs.Sorting.{has, has_itself, has_ascending, equal_from_is, all_weaker, has-from_Contains}
@@ -124,7 +125,7 @@ named_proc id name = record { id = id; name = name }
 abbrev named_file : FileId → List ℕ → FileName
 named_file f name = record { table = f.0; file = f.1; name = name }
 
-names_again : (naming : Naming) (ps : List HartPath) → names_used (naming_in (names_used naming ps)) ps ≡ names_used naming ps
+names_again : (naming : Naming) (ps : List ColumnPath) → names_used (naming_in (names_used naming ps)) ps ≡ names_used naming ps
 names_again naming ps =
     let us : List ProcId = procs_used (nodes ps) in let fs : List FileId = files_used (nodes ps) in
     let own : Naming = naming_in (names_used naming ps) in
@@ -136,55 +137,55 @@ names_again naming ps =
     (each (λ f. named_file f (own.file_name f.0 f.1) ≡ named_file f (naming.file_name f.0 f.1)) fs (λ f c. ap (named_file f) (file_found naming fs f (has-from_Contains file_order_total file_order_tells f fs c)))) in
     λ i. record { procs = p i; files = f i }
 
-own_names_content : (period harts : ℕ) (naming : Naming) (ps : List HartPath) → content_of period harts (naming_in (names_used naming ps)) ps ≡ content_of period harts naming ps
+own_names_content : (period columns : ℕ) (naming : Naming) (ps : List ColumnPath) → content_of period columns (naming_in (names_used naming ps)) ps ≡ content_of period columns naming ps
 unfolding content_of
-own_names_content period harts naming ps = ap (λ (x : Names). record (content_of period harts naming ps) { names = x }) (names_again naming ps)
+own_names_content period columns naming ps = ap (λ (x : Names). record (content_of period columns naming ps) { names = x }) (names_again naming ps)
 
-abbrev row_with : ℕ → ℕ → List HartPath → Path → List ℕ → List ℕ
-row_with period harts ps n text =
-    let inclusive = over_harts period harts ps n Inclusive in
-    table_row (decimal inclusive) (percent inclusive (period * length ps)) (decimal (over_harts period harts ps n Frame)) (length n - 1) text
+abbrev row_with : ℕ → ℕ → List ColumnPath → Path → List ℕ → List ℕ
+row_with period columns ps n text =
+    let inclusive = over_columns period columns ps n Inclusive in
+    table_row (decimal inclusive) (percent inclusive (period * length ps)) (decimal (over_columns period columns ps n Frame)) (length n - 1) text
 
-pub own_names_table : (period harts : ℕ) (naming : Naming) (ps : List HartPath) → top_down period harts (naming_in (names_used naming ps)) ps ≡ top_down period harts naming ps
+pub own_names_table : (period columns : ℕ) (naming : Naming) (ps : List ColumnPath) → top_down period columns (naming_in (names_used naming ps)) ps ≡ top_down period columns naming ps
 unfolding top_down
-own_names_table period harts naming ps =
+own_names_table period columns naming ps =
     let own : Naming = naming_in (names_used naming ps) in
-    ap (λ (x : List ℕ). header ++ x) (flat_map_same (node_row period harts own ps) (node_row period harts naming ps) (nodes ps) (each (λ n. node_row period harts own ps n ≡ node_row period harts naming ps n) (nodes ps) (λ n c.
+    ap (λ (x : List ℕ). header ++ x) (flat_map_same (node_row period columns own ps) (node_row period columns naming ps) (nodes ps) (each (λ n. node_row period columns own ps n ≡ node_row period columns naming ps n) (nodes ps) (λ n c.
     let l : label own (own_scope n) ≡ label naming (own_scope n) =
     label_same own naming (own_scope n) (λ id h. proc_found naming (procs_used (nodes ps)) id (proc_used (nodes ps) n id c h)) (λ f h. file_found naming (files_used (nodes ps)) f (file_used (nodes ps) n f c h)) in
-    λ i. row_with period harts ps n (l i))))
+    λ i. row_with period columns ps n (l i))))
 
 -- a content is that of its own paths under its own names, and so is the table
-pub content_is_own : (period harts : ℕ) (naming : Naming) (ps : List HartPath) → 0 < period → length (nodes ps) ≤ no_parent → All (λ p. 0 < length p.path) ps → All (λ p. p.hart < harts) ps
-    → content_of period harts (naming_in (names_used naming ps)) (paths_of (content_of period harts naming ps)) ≡ content_of period harts naming ps
-content_is_own period harts naming ps positive few some below =
-    content_alike period harts (naming_in (names_used naming ps)) (paths_of (content_of period harts naming ps)) ps (paths_alike period harts naming ps positive few some below) ∙ own_names_content period harts naming ps
+pub content_is_own : (period columns : ℕ) (naming : Naming) (ps : List ColumnPath) → 0 < period → length (nodes ps) ≤ no_parent → All (λ p. 0 < length p.path) ps → All (λ p. p.column < columns) ps
+    → content_of period columns (naming_in (names_used naming ps)) (paths_of (content_of period columns naming ps)) ≡ content_of period columns naming ps
+content_is_own period columns naming ps positive few some below =
+    content_alike period columns (naming_in (names_used naming ps)) (paths_of (content_of period columns naming ps)) ps (paths_alike period columns naming ps positive few some below) ∙ own_names_content period columns naming ps
 
-pub table_is_own : (period harts : ℕ) (naming : Naming) (ps : List HartPath) → 0 < period → length (nodes ps) ≤ no_parent → All (λ p. 0 < length p.path) ps → All (λ p. p.hart < harts) ps
-    → top_down period harts (naming_in (names_used naming ps)) (paths_of (content_of period harts naming ps)) ≡ top_down period harts naming ps
-table_is_own period harts naming ps positive few some below =
-    table_alike period harts (naming_in (names_used naming ps)) (paths_of (content_of period harts naming ps)) ps (paths_alike period harts naming ps positive few some below) ∙ own_names_table period harts naming ps
+pub table_is_own : (period columns : ℕ) (naming : Naming) (ps : List ColumnPath) → 0 < period → length (nodes ps) ≤ no_parent → All (λ p. 0 < length p.path) ps → All (λ p. p.column < columns) ps
+    → top_down period columns (naming_in (names_used naming ps)) (paths_of (content_of period columns naming ps)) ≡ top_down period columns naming ps
+table_is_own period columns naming ps positive few some below =
+    table_alike period columns (naming_in (names_used naming ps)) (paths_of (content_of period columns naming ps)) ps (paths_alike period columns naming ps positive few some below) ∙ own_names_table period columns naming ps
 
-names_are : (period harts : ℕ) (naming : Naming) (ps : List HartPath) → (content_of period harts naming ps).names ≡ names_used naming ps
+names_are : (period columns : ℕ) (naming : Naming) (ps : List ColumnPath) → (content_of period columns naming ps).names ≡ names_used naming ps
 unfolding content_of
-names_are period harts naming ps = refl
+names_are period columns naming ps = refl
 
-period_is : (period harts : ℕ) (naming : Naming) (ps : List HartPath) → (content_of period harts naming ps).period ≡ period
+period_is : (period columns : ℕ) (naming : Naming) (ps : List ColumnPath) → (content_of period columns naming ps).period ≡ period
 unfolding content_of
-period_is period harts naming ps = refl
+period_is period columns naming ps = refl
 
-harts_are : (period harts : ℕ) (naming : Naming) (ps : List HartPath) → (content_of period harts naming ps).harts ≡ harts
+columns_are : (period columns : ℕ) (naming : Naming) (ps : List ColumnPath) → (content_of period columns naming ps).columns ≡ columns
 unfolding content_of
-harts_are period harts naming ps = refl
+columns_are period columns naming ps = refl
 
-pub of_paths : (period harts : ℕ) (naming : Naming) (ps : List HartPath) → 0 < period → length (nodes ps) ≤ no_parent → All (λ p. 0 < length p.path) ps → All (λ p. p.hart < harts) ps → IsOfPaths (content_of period harts naming ps)
-of_paths period harts naming ps positive few some below =
-    let c : Content = content_of period harts naming ps in
-    (λ i. content_of (period_is period harts naming ps i) (harts_are period harts naming ps i) (naming_in (names_are period harts naming ps i)) (paths_of c)) ∙ content_is_own period harts naming ps positive few some below
+pub of_paths : (period columns : ℕ) (naming : Naming) (ps : List ColumnPath) → 0 < period → length (nodes ps) ≤ no_parent → All (λ p. 0 < length p.path) ps → All (λ p. p.column < columns) ps → IsOfPaths (content_of period columns naming ps)
+of_paths period columns naming ps positive few some below =
+    let c : Content = content_of period columns naming ps in
+    (λ i. content_of (period_is period columns naming ps i) (columns_are period columns naming ps i) (naming_in (names_are period columns naming ps i)) (paths_of c)) ∙ content_is_own period columns naming ps positive few some below
 
-pub table_is : (period harts : ℕ) (naming : Naming) (ps : List HartPath) → 0 < period → length (nodes ps) ≤ no_parent → All (λ p. 0 < length p.path) ps → All (λ p. p.hart < harts) ps → content_table (content_of period harts naming ps) ≡ top_down period harts naming ps
-table_is period harts naming ps positive few some below =
-    let c : Content = content_of period harts naming ps in
-    (λ i. top_down (period_is period harts naming ps i) (harts_are period harts naming ps i) (naming_in (names_are period harts naming ps i)) (paths_of c)) ∙ table_is_own period harts naming ps positive few some below
+pub table_is : (period columns : ℕ) (naming : Naming) (ps : List ColumnPath) → 0 < period → length (nodes ps) ≤ no_parent → All (λ p. 0 < length p.path) ps → All (λ p. p.column < columns) ps → content_table (content_of period columns naming ps) ≡ top_down period columns naming ps
+table_is period columns naming ps positive few some below =
+    let c : Content = content_of period columns naming ps in
+    (λ i. top_down (period_is period columns naming ps i) (columns_are period columns naming ps i) (naming_in (names_are period columns naming ps i)) (paths_of c)) ∙ table_is_own period columns naming ps positive few some below
 
 pub ruleset own_laws = (paths_alike, of_paths, table_is)

@@ -10,7 +10,7 @@ use Rattle.std.proofs.lemmas.List.Sums.{sum_by-cons, sum_by-append}
 use Rattle.std.proofs.lemmas.List.Sorted.{sum_by-IsPermutation}
 use Rattle.std.proofs.lemmas.List.Elements.{recursion_from_All, All-contains_itself}
 use Rattle.prof_bytes.proofs.Tests.{and_true, and_false}
-use Rattle.scope_types.specs.CallPaths.{HartPath}
+use Rattle.scope_types.specs.CallPaths.{ColumnPath}
 use Rattle.scope_types.specs.Order.{path_order}
 use Rattle.scope_types.proofs.Orders.{path_order_total, path_order_tells}
 use Rattle.tree_types.specs.declared.content.Content.{Content}
@@ -19,8 +19,8 @@ use Rattle.tree_types.specs.declared.content.Kind.TheVariants.{Frame, Inclusive}
 use Rattle.tree_types.specs.declared.content.ProfileEntry.{ProfileEntry}
 use Rattle.tree_types.specs.Paths.{Path, prefixes, after_prefix, rest_passes}
 use Rattle.tree_types.specs.Nodes.{nodes, no_parent, own_scope, parent_number}
-use Rattle.tree_types.specs.Values.{value, ends_here, counts_for, count_below, harts_below}
-use Rattle.tree_types.specs.Planes.{kinds, profile_entry, context_entry, node_values, other_than_zero, hart_column, node_column}
+use Rattle.tree_types.specs.Values.{value, ends_here, counts_for, count_below, columns_below}
+use Rattle.tree_types.specs.Planes.{kinds, profile_entry, context_entry, node_values, other_than_zero, profile_entries, context_entries}
 use Rattle.tree_types.specs.Naming.{Naming, procs_used, files_used}
 use Rattle.tree_types.specs.Database.{content_of}
 use Rattle.tree_types.specs.PathsOf.{entry_paths, is_exclusive, paths_of}
@@ -71,22 +71,22 @@ count_copies q (suc k) x =
 pub count_by-flat_map : {X Y : Type 0} (q : Y → Bool) (f : X → List Y) (xs : List X) → count_by q (flat_map f xs) ≡ sum_by (λ x. count_by q (f x)) xs
 count_by-flat_map q f xs = sum_by-flat_map (λ y. one (q y)) f xs
 
-abbrev pub at_hart : ℕ → Path → HartPath
-at_hart hart path = record { hart = hart; path = path }
+abbrev pub at_column : ℕ → Path → ColumnPath
+at_column column path = record { column = column; path = path }
 
 -- what counts below n
-abbrev counts : (Path → Bool) → ℕ → Path → HartPath → Bool
-counts test hart n p = (p.hart == hart) && rest_passes test (after_prefix n p.path)
+abbrev counts : (Path → Bool) → ℕ → Path → ColumnPath → Bool
+counts test column n p = (p.column == column) && rest_passes test (after_prefix n p.path)
 
-module _ (period : ℕ) (ps : List HartPath) (positive : 0 < period) (q : HartPath → Bool) where
+module _ (period : ℕ) (ps : List ColumnPath) (positive : 0 < period) (q : ColumnPath → Bool) where
   abbrev from_entry : ℕ → ProfileEntry → ℕ
-  from_entry hart e = count_by q (entry_paths period (nodes ps) hart e)
+  from_entry column e = count_by q (entry_paths period (nodes ps) column e)
 
-  no_value : (hart : ℕ) (e : ProfileEntry) → not (e.value == 0) ≡ false → from_entry hart e ≡ 0
-  no_value hart e none =
+  no_value : (column : ℕ) (e : ProfileEntry) → not (e.value == 0) ≡ false → from_entry column e ≡ 0
+  no_value column e none =
       let z : e.value ≡ 0 = eqb-true e.value 0 (not_not (e.value == 0) none) in
-      elim (is_exclusive e.kind) as (λ b. count_by q (cond b (replicate (e.value / period) (at_hart hart (get_or (nodes ps) e.node []))) []) ≡ 0) [
-        | true ↦ ap (λ (k : ℕ). count_by q (replicate k (at_hart hart (get_or (nodes ps) e.node [])))) (ap (λ (v : ℕ). v / period) z ∙ zero_over period)
+      elim (is_exclusive e.kind) as (λ b. count_by q (cond b (replicate (e.value / period) (at_column column (get_or (nodes ps) e.node []))) []) ≡ 0) [
+        | true ↦ ap (λ (k : ℕ). count_by q (replicate k (at_column column (get_or (nodes ps) e.node [])))) (ap (λ (v : ℕ). v / period) z ∙ zero_over period)
         | false ↦ refl
       ]
     where
@@ -97,33 +97,33 @@ module _ (period : ℕ) (ps : List HartPath) (positive : 0 < period) (q : HartPa
       zero_over : (p : ℕ) → 0 / p ≡ 0
       zero_over p = omega arith
 
-  from_node : (hart : ℕ) (x : ℕ × Path) → sum_by (from_entry hart) (node_values period ps hart x) ≡ one (q (at_hart hart (get_or (nodes ps) x.0 []))) * count_below ends_here ps hart x.1
-  from_node hart x =
-      let y : HartPath = at_hart hart (get_or (nodes ps) x.0 []) in
-      let k : ℕ = count_below ends_here ps hart x.1 in
+  from_node : (column : ℕ) (x : ℕ × Path) → sum_by (from_entry column) (node_values period ps column x) ≡ one (q (at_column column (get_or (nodes ps) x.0 []))) * count_below ends_here ps column x.1
+  from_node column x =
+      let y : ColumnPath = at_column column (get_or (nodes ps) x.0 []) in
+      let k : ℕ = count_below ends_here ps column x.1 in
       let whole : (period * k) / period ≡ k = ap (λ (v : ℕ). v / period) (mul_comm period k) ∙ mul-div_cancel k positive in
-      let a : sum_by (from_entry hart) (node_values period ps hart x) ≡ count_by q (replicate ((period * k) / period) y) = three (count_by q (replicate ((period * k) / period) y)) in
+      let a : sum_by (from_entry column) (node_values period ps column x) ≡ count_by q (replicate ((period * k) / period) y) = three (count_by q (replicate ((period * k) / period) y)) in
       a ∙ ap (λ (j : ℕ). count_by q (replicate j y)) whole ∙ count_copies q k y
     where
       three : (n : ℕ) → ((0 + n) + 0) + 0 ≡ n
       three n = omega arith
 
-  from_hart : (hart : ℕ) → sum_by (from_entry hart) (hart_column period ps hart) ≡ sum_by (λ m. one (q (at_hart hart m)) * count_below ends_here ps hart m) (nodes ps)
-  unfolding hart_column
-  from_hart hart =
-      sum_by-filter (from_entry hart) (λ e. not (e.value == 0)) (no_value hart) (flat_map (node_values period ps hart) (enumerate_from 0 (nodes ps)))
-      ∙ sum_by-flat_map (from_entry hart) (node_values period ps hart) (enumerate_from 0 (nodes ps))
-      ∙ (λ i. sum_by (λ x. from_node hart x i) (enumerate_from 0 (nodes ps)))
-      ∙ looked_up (λ a b. one (q (at_hart hart a)) * count_below ends_here ps hart b) (nodes ps) 0 (nodes ps) (λ k lt. ap (λ (j : ℕ). get_or (nodes ps) j []) (let e : 0 + k ≡ k = omega arith in e))
+  from_column : (column : ℕ) → sum_by (from_entry column) (profile_entries period ps column) ≡ sum_by (λ m. one (q (at_column column m)) * count_below ends_here ps column m) (nodes ps)
+  unfolding profile_entries
+  from_column column =
+      sum_by-filter (from_entry column) (λ e. not (e.value == 0)) (no_value column) (flat_map (node_values period ps column) (enumerate_from 0 (nodes ps)))
+      ∙ sum_by-flat_map (from_entry column) (node_values period ps column) (enumerate_from 0 (nodes ps))
+      ∙ (λ i. sum_by (λ x. from_node column x i) (enumerate_from 0 (nodes ps)))
+      ∙ looked_up (λ a b. one (q (at_column column a)) * count_below ends_here ps column b) (nodes ps) 0 (nodes ps) (λ k lt. ap (λ (j : ℕ). get_or (nodes ps) j []) (let e : 0 + k ≡ k = omega arith in e))
 
-  pub from_all : (harts : ℕ) (naming : Naming) → length (nodes ps) ≤ no_parent → count_by q (paths_of (content_of period harts naming ps)) ≡ sum_by (λ h. sum_by (λ m. one (q (at_hart h m)) * count_below ends_here ps h m) (nodes ps)) (harts_below harts)
+  pub from_all : (columns : ℕ) (naming : Naming) → length (nodes ps) ≤ no_parent → count_by q (paths_of (content_of period columns naming ps)) ≡ sum_by (λ h. sum_by (λ m. one (q (at_column h m)) * count_below ends_here ps h m) (nodes ps)) (columns_below columns)
   unfolding paths_of content_of
-  from_all harts naming few =
-      ap (λ (t : List Path). count_by q (flat_map (λ column. flat_map (entry_paths period t column.0) column.1) (enumerate_from 0 (map (hart_column period ps) (harts_below harts))))) (tree_paths_is ps few)
-      ∙ count_by-flat_map q (λ (column : ℕ × List ProfileEntry). flat_map (entry_paths period (nodes ps) column.0) column.1) (enumerate_from 0 (map (hart_column period ps) (harts_below harts)))
-      ∙ (λ i. sum_by (λ (column : ℕ × List ProfileEntry). count_by-flat_map q (entry_paths period (nodes ps) column.0) column.1 i) (enumerated (hart_column period ps) 0 harts i))
-      ∙ sum_by-map (λ (column : ℕ × List ProfileEntry). sum_by (from_entry column.0) column.1) (λ h. (h, hart_column period ps h)) (harts_below harts)
-      ∙ (λ i. sum_by (λ h. from_hart h i) (harts_below harts))
+  from_all columns naming few =
+      ap (λ (t : List Path). count_by q (flat_map (λ numbered. flat_map (entry_paths period t numbered.0) numbered.1) (enumerate_from 0 (map (profile_entries period ps) (columns_below columns))))) (tree_paths_is ps few)
+      ∙ count_by-flat_map q (λ (list : ℕ × List ProfileEntry). flat_map (entry_paths period (nodes ps) list.0) list.1) (enumerate_from 0 (map (profile_entries period ps) (columns_below columns)))
+      ∙ (λ i. sum_by (λ (list : ℕ × List ProfileEntry). count_by-flat_map q (entry_paths period (nodes ps) list.0) list.1 i) (enumerated (profile_entries period ps) 0 columns i))
+      ∙ sum_by-map (λ (list : ℕ × List ProfileEntry). sum_by (from_entry list.0) list.1) (λ h. (h, profile_entries period ps h)) (columns_below columns)
+      ∙ (λ i. sum_by (λ h. from_column h i) (columns_below columns))
 
 one_times_count : {X : Type 0} (b : Bool) (t : X → Bool) (xs : List X) → one b * count_by t xs ≡ count_by (λ x. b && t x) xs
 one_times_count true t xs = omega arith
@@ -133,76 +133,76 @@ empty_is : (r : Path) → ends_here r ≡ true → r ≡ []
 empty_is [] e = refl
 empty_is (s ∷ r) e = absurd (true≢false (sym e))
 
--- a path is counted at its own hart and node
-at_own : (q : HartPath → Bool) (h : ℕ) (p : HartPath) (m : Path) → (q (at_hart h m) && counts ends_here h m p) ≡ (eq_by_cmp path_order p.path m && ((p.hart == h) && q p))
+-- a path is counted at its own column and node
+at_own : (q : ColumnPath → Bool) (h : ℕ) (p : ColumnPath) (m : Path) → (q (at_column h m) && counts ends_here h m p) ≡ (eq_by_cmp path_order p.path m && ((p.column == h) && q p))
 at_own q h p m =
-    bool_same (q (at_hart h m) && counts ends_here h m p) (eq_by_cmp path_order p.path m && ((p.hart == h) && q p))
+    bool_same (q (at_column h m) && counts ends_here h m p) (eq_by_cmp path_order p.path m && ((p.column == h) && q p))
     (λ k.
-    let a = and_parts (q (at_hart h m)) (counts ends_here h m p) k in
-    let b = and_parts (p.hart == h) (rest_passes ends_here (after_prefix m p.path)) a.1 in
+    let a = and_parts (q (at_column h m)) (counts ends_here h m p) k in
+    let b = and_parts (p.column == h) (rest_passes ends_here (after_prefix m p.path)) a.1 in
     let c = passes_is ends_here (after_prefix m p.path) b.1 in
     let path_is : p.path ≡ m = after_is m p.path c.0 c.1 ∙ ap (λ (x : Path). m ++ x) (empty_is c.0 c.2) ∙ append-nil m in
-    let hart_is : p.hart ≡ h = eqb-true p.hart h b.0 in
-    and_from (eq_by_cmp path_order p.path m) ((p.hart == h) && q p)
+    let column_is : p.column ≡ h = eqb-true p.column h b.0 in
+    and_from (eq_by_cmp path_order p.path m) ((p.column == h) && q p)
     (subst (λ (z : Path). eq_by_cmp path_order p.path z ≡ true) path_is (ap is_eq (tied_itself path_order_total p.path)))
-    (and_from (p.hart == h) (q p) b.0 ((λ i. q (at_hart (hart_is i) (path_is i))) ∙ a.0)))
+    (and_from (p.column == h) (q p) b.0 ((λ i. q (at_column (column_is i) (path_is i))) ∙ a.0)))
     (λ k.
-    let a = and_parts (eq_by_cmp path_order p.path m) ((p.hart == h) && q p) k in
-    let b = and_parts (p.hart == h) (q p) a.1 in
+    let a = and_parts (eq_by_cmp path_order p.path m) ((p.column == h) && q p) k in
+    let b = and_parts (p.column == h) (q p) a.1 in
     let path_is : p.path ≡ m = path_order_tells p.path m (equal_from_is (path_order p.path m) a.0) in
-    let hart_is : p.hart ≡ h = eqb-true p.hart h b.0 in
+    let column_is : p.column ≡ h = eqb-true p.column h b.0 in
     let after_own : after_prefix m p.path ≡ after_prefix m (m ++ []) = ap (after_prefix m) (path_is ∙ sym (append-nil m)) in
-    and_from (q (at_hart h m)) (counts ends_here h m p) ((λ i. q (at_hart (sym hart_is i) (sym path_is i))) ∙ b.1)
-    (and_from (p.hart == h) (rest_passes ends_here (after_prefix m p.path)) b.0 (ap (rest_passes ends_here) (after_own ∙ after_again m []))))
+    and_from (q (at_column h m)) (counts ends_here h m p) ((λ i. q (at_column (sym column_is i) (sym path_is i))) ∙ b.1)
+    (and_from (p.column == h) (rest_passes ends_here (after_prefix m p.path)) b.0 (ap (rest_passes ends_here) (after_own ∙ after_again m []))))
 
--- each path of the list is a node, which stands in the list once
+-- each path of the list is a node, which is in the list once
 once_in : (ns : List Path) (x : Path) (b : Bool) → IsStrictlySortedBy path_order ns → has path_order x ns ≡ true → count_by (λ m. eq_by_cmp path_order x m && b) ns ≡ one b
 once_in ns x true sorted there = (λ i. count_by (λ m. and_true (eq_by_cmp path_order x m) i) ns) ∙ count_once path_order_tells x ns sorted there
 once_in ns x false sorted there = count_never (λ m. eq_by_cmp path_order x m && false) ns (λ m. and_false (eq_by_cmp path_order x m))
 
-of_hart : (q : HartPath → Bool) (h : ℕ) (ns : List Path) → IsStrictlySortedBy path_order ns → (qs : List HartPath) → AllByRecursion (λ p. has path_order p.path ns ≡ true) qs
-    → sum_by (λ p. count_by (λ m. q (at_hart h m) && counts ends_here h m p) ns) qs ≡ count_by (λ p. (p.hart == h) && q p) qs
-of_hart q h ns sorted [] all = refl
-of_hart q h ns sorted (p ∷ qs) all =
-    let f = λ (p : HartPath). count_by (λ m. q (at_hart h m) && counts ends_here h m p) ns in
-    let t = λ (p : HartPath). (p.hart == h) && q p in
+of_column : (q : ColumnPath → Bool) (h : ℕ) (ns : List Path) → IsStrictlySortedBy path_order ns → (qs : List ColumnPath) → AllByRecursion (λ p. has path_order p.path ns ≡ true) qs
+    → sum_by (λ p. count_by (λ m. q (at_column h m) && counts ends_here h m p) ns) qs ≡ count_by (λ p. (p.column == h) && q p) qs
+of_column q h ns sorted [] all = refl
+of_column q h ns sorted (p ∷ qs) all =
+    let f = λ (p : ColumnPath). count_by (λ m. q (at_column h m) && counts ends_here h m p) ns in
+    let t = λ (p : ColumnPath). (p.column == h) && q p in
     let here : f p ≡ one (t p) = (λ i. count_by (λ m. at_own q h p m i) ns) ∙ once_in ns p.path (t p) sorted all.0 in
-    sum_by-cons f p qs ∙ (λ i. here i + of_hart q h ns sorted qs all.1 i) ∙ sym (count_by-cons t p qs)
+    sum_by-cons f p qs ∙ (λ i. here i + of_column q h ns sorted qs all.1 i) ∙ sym (count_by-cons t p qs)
 
-over_harts : (q : HartPath → Bool) (harts : ℕ) (qs : List HartPath) → AllByRecursion (λ p. p.hart < harts) qs
-    → sum_by (λ p. count_by (λ h. (p.hart == h) && q p) (harts_below harts)) qs ≡ count_by q qs
-over_harts q harts [] all = refl
-over_harts q harts (p ∷ qs) all =
-    let f = λ (p : HartPath). count_by (λ h. (p.hart == h) && q p) (harts_below harts) in
-    sum_by-cons f p qs ∙ (λ i. once (q p) i + over_harts q harts qs all.1 i) ∙ sym (count_by-cons q p qs)
+over_columns : (q : ColumnPath → Bool) (columns : ℕ) (qs : List ColumnPath) → AllByRecursion (λ p. p.column < columns) qs
+    → sum_by (λ p. count_by (λ h. (p.column == h) && q p) (columns_below columns)) qs ≡ count_by q qs
+over_columns q columns [] all = refl
+over_columns q columns (p ∷ qs) all =
+    let f = λ (p : ColumnPath). count_by (λ h. (p.column == h) && q p) (columns_below columns) in
+    sum_by-cons f p qs ∙ (λ i. once (q p) i + over_columns q columns qs all.1 i) ∙ sym (count_by-cons q p qs)
   where
-    once : (b : Bool) → count_by (λ h. (p.hart == h) && b) (harts_below harts) ≡ one b
-    once true = (λ i. count_by (λ h. and_true (p.hart == h) i) (harts_below harts)) ∙ one_within 0 harts p.hart (omega arith) (let k = all.0 in omega arith)
-    once false = count_never (λ h. (p.hart == h) && false) (harts_below harts) (λ h. and_false (p.hart == h))
+    once : (b : Bool) → count_by (λ h. (p.column == h) && b) (columns_below columns) ≡ one b
+    once true = (λ i. count_by (λ h. and_true (p.column == h) i) (columns_below columns)) ∙ one_within 0 columns p.column (omega arith) (let k = all.0 in omega arith)
+    once false = count_never (λ h. (p.column == h) && false) (columns_below columns) (λ h. and_false (p.column == h))
 
--- where each path is a node and each hart is below the number of harts, the counts at the nodes are all
-pub counted_at_nodes : (ns : List Path) (harts : ℕ) (q : HartPath → Bool) (qs : List HartPath) → IsStrictlySortedBy path_order ns → AllByRecursion (λ p. has path_order p.path ns ≡ true) qs → AllByRecursion (λ p. p.hart < harts) qs
-    → sum_by (λ h. sum_by (λ m. one (q (at_hart h m)) * count_below ends_here qs h m) ns) (harts_below harts) ≡ count_by q qs
+-- where each path is a node and each column is below the number of columns, the counts at the nodes are all
+pub counted_at_nodes : (ns : List Path) (columns : ℕ) (q : ColumnPath → Bool) (qs : List ColumnPath) → IsStrictlySortedBy path_order ns → AllByRecursion (λ p. has path_order p.path ns ≡ true) qs → AllByRecursion (λ p. p.column < columns) qs
+    → sum_by (λ h. sum_by (λ m. one (q (at_column h m)) * count_below ends_here qs h m) ns) (columns_below columns) ≡ count_by q qs
 unfolding count_below
-counted_at_nodes ns harts q qs sorted there below =
-    let each : (h : ℕ) → sum_by (λ m. one (q (at_hart h m)) * count_below ends_here qs h m) ns ≡ count_by (λ p. (p.hart == h) && q p) qs = λ h.
-    (λ i. sum_by (λ m. one_times_count (q (at_hart h m)) (counts ends_here h m) qs i) ns)
-    ∙ sums_swap (λ (m : Path) (p : HartPath). q (at_hart h m) && counts ends_here h m p) ns qs ∙ of_hart q h ns sorted qs there in
-    (λ i. sum_by (λ h. each h i) (harts_below harts))
-    ∙ sums_swap (λ (h : ℕ) (p : HartPath). (p.hart == h) && q p) (harts_below harts) qs
-    ∙ over_harts q harts qs below
+counted_at_nodes ns columns q qs sorted there below =
+    let each : (h : ℕ) → sum_by (λ m. one (q (at_column h m)) * count_below ends_here qs h m) ns ≡ count_by (λ p. (p.column == h) && q p) qs = λ h.
+    (λ i. sum_by (λ m. one_times_count (q (at_column h m)) (counts ends_here h m) qs i) ns)
+    ∙ sums_swap (λ (m : Path) (p : ColumnPath). q (at_column h m) && counts ends_here h m p) ns qs ∙ of_column q h ns sorted qs there in
+    (λ i. sum_by (λ h. each h i) (columns_below columns))
+    ∙ sums_swap (λ (h : ℕ) (p : ColumnPath). (p.column == h) && q p) (columns_below columns) qs
+    ∙ over_columns q columns qs below
 
 -- the paths of a content count as the paths that it was made of
-pub counts_again : (period harts : ℕ) (naming : Naming) (ps : List HartPath) (q : HartPath → Bool) → 0 < period → length (nodes ps) ≤ no_parent → All (λ p. 0 < length p.path) ps → All (λ p. p.hart < harts) ps
-    → count_by q (paths_of (content_of period harts naming ps)) ≡ count_by q ps
-counts_again period harts naming ps q positive few some below =
+pub counts_again : (period columns : ℕ) (naming : Naming) (ps : List ColumnPath) (q : ColumnPath → Bool) → 0 < period → length (nodes ps) ≤ no_parent → All (λ p. 0 < length p.path) ps → All (λ p. p.column < columns) ps
+    → count_by q (paths_of (content_of period columns naming ps)) ≡ count_by q ps
+counts_again period columns naming ps q positive few some below =
     let ns : List Path = nodes ps in
-    let there : AllByRecursion (λ (p : HartPath). has path_order p.path ns ≡ true) ps =
-    are_nodes ps ps (recursion_from_All (Contains ps) ps (All-contains_itself ps)) (recursion_from_All (λ (p : HartPath). 0 < length p.path) ps some) in
-    from_all period ps positive q harts naming few
-    ∙ counted_at_nodes ns harts q ps (sorted_nodes ps) there (recursion_from_All (λ (p : HartPath). p.hart < harts) ps below)
+    let there : AllByRecursion (λ (p : ColumnPath). has path_order p.path ns ≡ true) ps =
+    are_nodes ps ps (recursion_from_All (Contains ps) ps (All-contains_itself ps)) (recursion_from_All (λ (p : ColumnPath). 0 < length p.path) ps some) in
+    from_all period ps positive q columns naming few
+    ∙ counted_at_nodes ns columns q ps (sorted_nodes ps) there (recursion_from_All (λ (p : ColumnPath). p.column < columns) ps below)
   where
-    are_nodes : (ps qs : List HartPath) → AllByRecursion (Contains ps) qs → AllByRecursion (λ (p : HartPath). 0 < length p.path) qs → AllByRecursion (λ (p : HartPath). has path_order p.path (nodes ps) ≡ true) qs
+    are_nodes : (ps qs : List ColumnPath) → AllByRecursion (Contains ps) qs → AllByRecursion (λ (p : ColumnPath). 0 < length p.path) qs → AllByRecursion (λ (p : ColumnPath). has path_order p.path (nodes ps) ≡ true) qs
     are_nodes ps [] all some = tt
     are_nodes ps (q ∷ qs) all some =
         (has-from_Contains path_order_total path_order_tells q.path (nodes ps) (prefix_is_node ps q q.path all.0 (record { some = some.0; rest = []; parts = sym (append-nil q.path) })), are_nodes ps qs all.1 some.1)
@@ -224,76 +224,76 @@ same_any t xs ys e = bool_same (list_any t xs) (list_any t ys) (λ k. from xs ys
     from : (xs ys : List _) → count_by t xs ≡ count_by t ys → list_any t xs ≡ true → list_any t ys ≡ true
     from xs ys e k = true_from_ne_false (list_any t ys) (λ f. let a = count_some t xs k in let b = count_none t ys f in absurd (omega arith))
 
-pub nodes_alike : (ps qs : List HartPath) → Alike ps qs → nodes ps ≡ nodes qs
+pub nodes_alike : (ps qs : List ColumnPath) → Alike ps qs → nodes ps ≡ nodes qs
 nodes_alike ps qs alike =
     same_sorted path_order_total path_order_tells (nodes ps) (nodes qs) (sorted_nodes ps) (sorted_nodes qs) (λ n.
     has_nodes ps n ∙ same_any (λ p. has path_order n (prefixes p.path)) ps qs (alike.same (λ p. has path_order n (prefixes p.path))) ∙ sym (has_nodes qs n))
 
-pub values_alike : (period : ℕ) (ps qs : List HartPath) → Alike ps qs → (hart : ℕ) (n : Path) (kind : Kind) → value period ps hart n kind ≡ value period qs hart n kind
+pub values_alike : (period : ℕ) (ps qs : List ColumnPath) → Alike ps qs → (column : ℕ) (n : Path) (kind : Kind) → value period ps column n kind ≡ value period qs column n kind
 unfolding count_below
-values_alike period ps qs alike hart n kind = ap (λ (k : ℕ). period * k) (alike.same (counts (counts_for kind) hart n))
+values_alike period ps qs alike column n kind = ap (λ (k : ℕ). period * k) (alike.same (counts (counts_for kind) column n))
 
-pub all_count : (ps : List HartPath) → count_by (λ (p : HartPath). true) ps ≡ length ps
+pub all_count : (ps : List ColumnPath) → count_by (λ (p : ColumnPath). true) ps ≡ length ps
 all_count [] = refl
-all_count (p ∷ ps) = let a = count_by-cons (λ (p : HartPath). true) p ps in let b = all_count ps in omega arith
+all_count (p ∷ ps) = let a = count_by-cons (λ (p : ColumnPath). true) p ps in let b = all_count ps in omega arith
 
 -- a content, and a table, from the nodes and the values alone
 abbrev content_from : ℕ → ℕ → Naming → List Path → (ℕ → Path → Kind → ℕ) → Content
-content_from period harts naming ns v = record {
+content_from period columns naming ns v = record {
   period = period;
-  harts = harts;
+  columns = columns;
   names = record {
     procs = map (λ id. record { id = id; name = naming.proc_name id }) (procs_used ns);
     files = map (λ f. record { table = f.0; file = f.1; name = naming.file_name f.0 f.1 }) (files_used ns);
   };
   nodes = map (λ n. record { parent = parent_number ns n; scope = own_scope n }) ns;
-  profiles = map (λ hart. other_than_zero (flat_map (λ (n : ℕ × Path). map (λ kind. profile_entry n.0 kind (v hart n.1 kind)) kinds) (enumerate_from 0 ns))) (harts_below harts);
-  contexts = map (λ n. flat_map (λ kind. filter (λ e. not (e.value == 0)) (map (λ hart. context_entry kind hart (v hart n kind)) (harts_below harts))) kinds) ns;
+  profiles = map (λ column. other_than_zero (flat_map (λ (n : ℕ × Path). map (λ kind. profile_entry n.0 kind (v column n.1 kind)) kinds) (enumerate_from 0 ns))) (columns_below columns);
+  contexts = map (λ n. flat_map (λ kind. filter (λ e. not (e.value == 0)) (map (λ column. context_entry kind column (v column n kind)) (columns_below columns))) kinds) ns;
 }
 
-content_is : (period harts : ℕ) (naming : Naming) (ps : List HartPath) → content_of period harts naming ps ≡ content_from period harts naming (nodes ps) (value period ps)
-unfolding content_of hart_column node_column
-content_is period harts naming ps = refl
+content_is : (period columns : ℕ) (naming : Naming) (ps : List ColumnPath) → content_of period columns naming ps ≡ content_from period columns naming (nodes ps) (value period ps)
+unfolding content_of profile_entries context_entries
+content_is period columns naming ps = refl
 
-pub content_alike : (period harts : ℕ) (naming : Naming) (ps qs : List HartPath) → Alike ps qs → content_of period harts naming ps ≡ content_of period harts naming qs
-content_alike period harts naming ps qs alike =
-    content_is period harts naming ps
-    ∙ (λ i. content_from period harts naming (nodes_alike ps qs alike i) (λ hart n kind. values_alike period ps qs alike hart n kind i))
-    ∙ sym (content_is period harts naming qs)
+pub content_alike : (period columns : ℕ) (naming : Naming) (ps qs : List ColumnPath) → Alike ps qs → content_of period columns naming ps ≡ content_of period columns naming qs
+content_alike period columns naming ps qs alike =
+    content_is period columns naming ps
+    ∙ (λ i. content_from period columns naming (nodes_alike ps qs alike i) (λ column n kind. values_alike period ps qs alike column n kind i))
+    ∙ sym (content_is period columns naming qs)
 
 abbrev table_from : ℕ → ℕ → Naming → List Path → (ℕ → Path → Kind → ℕ) → ℕ → List ℕ
-table_from period harts naming ns v samples =
+table_from period columns naming ns v samples =
     header ++ flat_map (λ n.
-    let inclusive = sum_by (λ hart. v hart n Inclusive) (harts_below harts) in
-    table_row (decimal inclusive) (percent inclusive (period * samples)) (decimal (sum_by (λ hart. v hart n Frame) (harts_below harts))) (length n - 1) (label naming (own_scope n))) ns
+    let inclusive = sum_by (λ column. v column n Inclusive) (columns_below columns) in
+    table_row (decimal inclusive) (percent inclusive (period * samples)) (decimal (sum_by (λ column. v column n Frame) (columns_below columns))) (length n - 1) (label naming (own_scope n))) ns
 
-table_is : (period harts : ℕ) (naming : Naming) (ps : List HartPath) → top_down period harts naming ps ≡ table_from period harts naming (nodes ps) (value period ps) (length ps)
+table_is : (period columns : ℕ) (naming : Naming) (ps : List ColumnPath) → top_down period columns naming ps ≡ table_from period columns naming (nodes ps) (value period ps) (length ps)
 unfolding top_down
-table_is period harts naming ps = refl
+table_is period columns naming ps = refl
 
-pub table_alike : (period harts : ℕ) (naming : Naming) (ps qs : List HartPath) → Alike ps qs → top_down period harts naming ps ≡ top_down period harts naming qs
-table_alike period harts naming ps qs alike =
+pub table_alike : (period columns : ℕ) (naming : Naming) (ps qs : List ColumnPath) → Alike ps qs → top_down period columns naming ps ≡ top_down period columns naming qs
+table_alike period columns naming ps qs alike =
     let samples : length ps ≡ length qs = sym (all_count ps) ∙ alike.same (λ p. true) ∙ all_count qs in
-    table_is period harts naming ps
-    ∙ (λ i. table_from period harts naming (nodes_alike ps qs alike i) (λ hart n kind. values_alike period ps qs alike hart n kind i) (samples i))
-    ∙ sym (table_is period harts naming qs)
+    table_is period columns naming ps
+    ∙ (λ i. table_from period columns naming (nodes_alike ps qs alike i) (λ column n kind. values_alike period ps qs alike column n kind i) (samples i))
+    ∙ sym (table_is period columns naming qs)
 
 -- the paths of a content have its content, and the table of the paths that it was made of
-pub content_again : (period harts : ℕ) (naming : Naming) (ps : List HartPath) → 0 < period → length (nodes ps) ≤ no_parent → All (λ p. 0 < length p.path) ps → All (λ p. p.hart < harts) ps
-    → content_of period harts naming (paths_of (content_of period harts naming ps)) ≡ content_of period harts naming ps
-content_again period harts naming ps positive few some below =
-    content_alike period harts naming (paths_of (content_of period harts naming ps)) ps (record { same = λ t. counts_again period harts naming ps t positive few some below })
+pub content_again : (period columns : ℕ) (naming : Naming) (ps : List ColumnPath) → 0 < period → length (nodes ps) ≤ no_parent → All (λ p. 0 < length p.path) ps → All (λ p. p.column < columns) ps
+    → content_of period columns naming (paths_of (content_of period columns naming ps)) ≡ content_of period columns naming ps
+content_again period columns naming ps positive few some below =
+    content_alike period columns naming (paths_of (content_of period columns naming ps)) ps (record { same = λ t. counts_again period columns naming ps t positive few some below })
 
-pub table_again : (period harts : ℕ) (naming : Naming) (ps : List HartPath) → 0 < period → length (nodes ps) ≤ no_parent → All (λ p. 0 < length p.path) ps → All (λ p. p.hart < harts) ps
-    → top_down period harts naming (paths_of (content_of period harts naming ps)) ≡ top_down period harts naming ps
-table_again period harts naming ps positive few some below =
-    table_alike period harts naming (paths_of (content_of period harts naming ps)) ps (record { same = λ t. counts_again period harts naming ps t positive few some below })
+pub table_again : (period columns : ℕ) (naming : Naming) (ps : List ColumnPath) → 0 < period → length (nodes ps) ≤ no_parent → All (λ p. 0 < length p.path) ps → All (λ p. p.column < columns) ps
+    → top_down period columns naming (paths_of (content_of period columns naming ps)) ≡ top_down period columns naming ps
+table_again period columns naming ps positive few some below =
+    table_alike period columns naming (paths_of (content_of period columns naming ps)) ps (record { same = λ t. counts_again period columns naming ps t positive few some below })
 
-pub alike_from_permutation : (ps qs : List HartPath) → IsPermutation ps qs → Alike ps qs
+pub alike_from_permutation : (ps qs : List ColumnPath) → IsPermutation ps qs → Alike ps qs
 alike_from_permutation ps qs h = record { same = λ t. sym (sum_by-IsPermutation (λ p. one (t p)) ps qs h) }
 
-pub paths_alike : (period harts : ℕ) (naming : Naming) (ps : List HartPath) → 0 < period → length (nodes ps) ≤ no_parent → All (λ p. 0 < length p.path) ps → All (λ p. p.hart < harts) ps → Alike (paths_of (content_of period harts naming ps)) ps
-paths_alike period harts naming ps positive few some below = record { same = λ t. counts_again period harts naming ps t positive few some below }
+pub paths_alike : (period columns : ℕ) (naming : Naming) (ps : List ColumnPath) → 0 < period → length (nodes ps) ≤ no_parent → All (λ p. 0 < length p.path) ps → All (λ p. p.column < columns) ps → Alike (paths_of (content_of period columns naming ps)) ps
+paths_alike period columns naming ps positive few some below = record { same = λ t. counts_again period columns naming ps t positive few some below }
 
 pub ruleset content_laws = (content_again, table_again, paths_alike)
 

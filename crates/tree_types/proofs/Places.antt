@@ -1,4 +1,4 @@
--- Counts by node and hart, and values by node, hart and kind.
+-- Counts by node and column, and values by node, column and kind.
 use Rattle.std.proofs.Common.{◌≡◌, ℕ, ◌==◌, ◌&&◌, List, [], ◌∷◌, length, get_or, AllPairs, Result, Ordering, Less, Equal, Greater, is_eq, refl, sym, ap, subst, ◌∙◌, arith}
 use Rattle.std.specs.Prelude.{MatchResult}
 use Rattle.std.specs.Cmp.Lexicographic.{slice_cmp}
@@ -41,25 +41,25 @@ then_grouped Less b c = refl
 then_grouped Equal b c = ap (ordering_then b) (sym (then_end c))
 then_grouped Greater b c = refl
 
-pub found_count : (counts : List NodeCount) (node hart : ℕ) (r : Result ℕ ℕ) → AllPairs (λ a b. count_order a b ≡ Less) counts → IsSearchInRange r (length counts)
-    → IsBinarySearchResult (λ c. ordering_then (nat_cmp c.node node) (nat_cmp c.hart hart)) counts r
-    → MatchResult r (λ i. (d : NodeCount) → count_at counts node hart ≡ (get_or counts i d).count) (λ i. NodeCount → count_at counts node hart ≡ 0)
-found_count counts node hart r ascend in_range found =
-    let as_list : (c : NodeCount) → ordering_then (nat_cmp c.node node) (nat_cmp c.hart hart) ≡ slice_cmp nat_cmp (c.node ∷ c.hart ∷ []) (node ∷ hart ∷ []) =
-    λ c. ap (ordering_then (nat_cmp c.node node)) (sym (then_end (nat_cmp c.hart hart))) in
-    let by_list : IsBinarySearchResult (λ c. slice_cmp nat_cmp (c.node ∷ c.hart ∷ []) (node ∷ hart ∷ [])) counts r =
+pub found_count : (counts : List NodeCount) (node column : ℕ) (r : Result ℕ ℕ) → AllPairs (λ a b. count_order a b ≡ Less) counts → IsSearchInRange r (length counts)
+    → IsBinarySearchResult (λ c. ordering_then (nat_cmp c.node node) (nat_cmp c.column column)) counts r
+    → MatchResult r (λ i. (d : NodeCount) → count_at counts node column ≡ (get_or counts i d).count) (λ i. NodeCount → count_at counts node column ≡ 0)
+found_count counts node column r ascend in_range found =
+    let as_list : (c : NodeCount) → ordering_then (nat_cmp c.node node) (nat_cmp c.column column) ≡ slice_cmp nat_cmp (c.node ∷ c.column ∷ []) (node ∷ column ∷ []) =
+    λ c. ap (ordering_then (nat_cmp c.node node)) (sym (then_end (nat_cmp c.column column))) in
+    let by_list : IsBinarySearchResult (λ c. slice_cmp nat_cmp (c.node ∷ c.column ∷ []) (node ∷ column ∷ [])) counts r =
     subst (λ (ord : NodeCount → Ordering). IsBinarySearchResult ord counts r) (λ i c. as_list c i) found in
-    found_amount nat_list_cmp_total nat_lists_apart (λ (c : NodeCount). c.node ∷ c.hart ∷ []) (node ∷ hart ∷ [])
-    (λ c. c.node == node && c.hart == hart) (λ c. same_pair c.node c.hart node hart) (λ c. c.count) counts ascend r in_range by_list
+    found_amount nat_list_cmp_total nat_lists_apart (λ (c : NodeCount). c.node ∷ c.column ∷ []) (node ∷ column ∷ [])
+    (λ c. c.node == node && c.column == column) (λ c. same_pair c.node c.column node column) (λ c. c.count) counts ascend r in_range by_list
 
-pub found_value : (entries : List NodeValue) (node hart : ℕ) (kind : Kind) (r : Result ℕ ℕ) → AllPairs (λ a b. value_order a b ≡ Less) entries → IsSearchInRange r (length entries)
-    → IsBinarySearchResult (λ v. ordering_then (ordering_then (nat_cmp v.node node) (nat_cmp v.hart hart)) (nat_cmp (kind_rank v.kind) (kind_rank kind))) entries r
-    → MatchResult r (λ i. (d : NodeValue) → value_at entries node hart kind ≡ (get_or entries i d).value) (λ i. NodeValue → value_at entries node hart kind ≡ 0)
-found_value entries node hart kind r ascend in_range found =
-    let as_list : (v : NodeValue) → ordering_then (ordering_then (nat_cmp v.node node) (nat_cmp v.hart hart)) (nat_cmp (kind_rank v.kind) (kind_rank kind))
-    ≡ slice_cmp nat_cmp (v.node ∷ v.hart ∷ kind_rank v.kind ∷ []) (node ∷ hart ∷ kind_rank kind ∷ []) =
-    λ v. then_grouped (nat_cmp v.node node) (nat_cmp v.hart hart) (nat_cmp (kind_rank v.kind) (kind_rank kind)) in
-    let by_list : IsBinarySearchResult (λ v. slice_cmp nat_cmp (v.node ∷ v.hart ∷ kind_rank v.kind ∷ []) (node ∷ hart ∷ kind_rank kind ∷ [])) entries r =
+pub found_value : (entries : List NodeValue) (node column : ℕ) (kind : Kind) (r : Result ℕ ℕ) → AllPairs (λ a b. value_order a b ≡ Less) entries → IsSearchInRange r (length entries)
+    → IsBinarySearchResult (λ v. ordering_then (ordering_then (nat_cmp v.node node) (nat_cmp v.column column)) (nat_cmp (kind_rank v.kind) (kind_rank kind))) entries r
+    → MatchResult r (λ i. (d : NodeValue) → value_at entries node column kind ≡ (get_or entries i d).value) (λ i. NodeValue → value_at entries node column kind ≡ 0)
+found_value entries node column kind r ascend in_range found =
+    let as_list : (v : NodeValue) → ordering_then (ordering_then (nat_cmp v.node node) (nat_cmp v.column column)) (nat_cmp (kind_rank v.kind) (kind_rank kind))
+    ≡ slice_cmp nat_cmp (v.node ∷ v.column ∷ kind_rank v.kind ∷ []) (node ∷ column ∷ kind_rank kind ∷ []) =
+    λ v. then_grouped (nat_cmp v.node node) (nat_cmp v.column column) (nat_cmp (kind_rank v.kind) (kind_rank kind)) in
+    let by_list : IsBinarySearchResult (λ v. slice_cmp nat_cmp (v.node ∷ v.column ∷ kind_rank v.kind ∷ []) (node ∷ column ∷ kind_rank kind ∷ [])) entries r =
     subst (λ (ord : NodeValue → Ordering). IsBinarySearchResult ord entries r) (λ i v. as_list v i) found in
-    found_amount nat_list_cmp_total nat_lists_apart (λ (v : NodeValue). v.node ∷ v.hart ∷ kind_rank v.kind ∷ []) (node ∷ hart ∷ kind_rank kind ∷ [])
-    (λ v. v.node == node && (v.hart == hart && kind_rank v.kind == kind_rank kind)) (λ v. same_triple v.node v.hart (kind_rank v.kind) node hart (kind_rank kind)) (λ v. v.value) entries ascend r in_range by_list
+    found_amount nat_list_cmp_total nat_lists_apart (λ (v : NodeValue). v.node ∷ v.column ∷ kind_rank v.kind ∷ []) (node ∷ column ∷ kind_rank kind ∷ [])
+    (λ v. v.node == node && (v.column == column && kind_rank v.kind == kind_rank kind)) (λ v. same_triple v.node v.column (kind_rank v.kind) node column (kind_rank kind)) (λ v. v.value) entries ascend r in_range by_list

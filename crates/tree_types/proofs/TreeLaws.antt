@@ -10,7 +10,7 @@ use Rattle.std.proofs.lemmas.List.Elements.{All-tail, Contains-get_or}
 use Rattle.std.proofs.lemmas.List.Folds.{sum_by-replicate}
 use Rattle.std.proofs.lemmas.List.Sums.{sum_by-append, sum_by-cons}
 use Rattle.prof_bytes.proofs.Tests.{and_swap}
-use Rattle.scope_types.specs.CallPaths.{HartPath}
+use Rattle.scope_types.specs.CallPaths.{ColumnPath}
 use Rattle.scope_types.specs.Order.{path_order}
 use Rattle.scope_types.proofs.Orders.{path_order_total}
 use Rattle.tree_types.specs.declared.content.Node.{Node}
@@ -35,10 +35,10 @@ use Rattle.tree_types.proofs.TreePaths.{tree_paths_is}
 abbrev listed : List Path → Path → Node
 listed ns n = record { parent = parent_number ns n; scope = own_scope n }
 
-pub nodes_listed : (ps : List HartPath) → length (node_list ps) ≡ length (nodes ps)
+pub nodes_listed : (ps : List ColumnPath) → length (node_list ps) ≡ length (nodes ps)
 nodes_listed ps = length-map (nodes ps) (λ n. record { parent = parent_number (nodes ps) n; scope = own_scope n })
 
-pub listed_in_preorder : (ps : List HartPath) → length (nodes ps) ≤ no_parent → IsPreorder (node_list ps)
+pub listed_in_preorder : (ps : List ColumnPath) → length (nodes ps) ≤ no_parent → IsPreorder (node_list ps)
 listed_in_preorder ps few = record {
   parents = before;
   ascend = subst (λ (ns : List Path). AllPairs (λ m n. path_order m n ≡ Less) ns) (sym (tree_paths_is ps few)) (nodes_ascend ps);
@@ -99,22 +99,22 @@ sum-filter-cons test c cs = elim (test c) as (λ b. sum_by (λ c. c.count) (cond
 ]
 
 module _ (nodes : List Node) where
-  ends_counted : (cs : List NodeCount) (i hart : ℕ) → AllPairs (λ m n. path_order m n ≡ Less) (tree_paths nodes) → i < length (tree_paths nodes) → All (λ c. c.node < length (tree_paths nodes)) cs
-      → count_by (λ p. p.hart == hart && rest_passes ends_here (after_prefix (node_path nodes i) p.path)) (flat_map (λ c. replicate c.count (counted_path nodes c)) cs)
-      ≡ sum_by (λ c. c.count) (filter (λ c. c.node == i && c.hart == hart) cs)
-  ends_counted [] i hart ascend lt inside = refl
-  ends_counted (c ∷ cs) i hart ascend lt inside =
-      let test : HartPath → Bool = λ p. p.hart == hart && rest_passes ends_here (after_prefix (node_path nodes i) p.path) in
-      let mine : NodeCount → Bool = λ c. c.node == i && c.hart == hart in
+  ends_counted : (cs : List NodeCount) (i column : ℕ) → AllPairs (λ m n. path_order m n ≡ Less) (tree_paths nodes) → i < length (tree_paths nodes) → All (λ c. c.node < length (tree_paths nodes)) cs
+      → count_by (λ p. p.column == column && rest_passes ends_here (after_prefix (node_path nodes i) p.path)) (flat_map (λ c. replicate c.count (counted_path nodes c)) cs)
+      ≡ sum_by (λ c. c.count) (filter (λ c. c.node == i && c.column == column) cs)
+  ends_counted [] i column ascend lt inside = refl
+  ends_counted (c ∷ cs) i column ascend lt inside =
+      let test : ColumnPath → Bool = λ p. p.column == column && rest_passes ends_here (after_prefix (node_path nodes i) p.path) in
+      let mine : NodeCount → Bool = λ c. c.node == i && c.column == column in
       let here : c.node < length (tree_paths nodes) = inside 0 c (omega arith) in
       let same : test (counted_path nodes c) ≡ mine c =
-      ap (λ b. c.hart == hart && b) (ends_by_number (tree_paths nodes) ascend c.node i here lt) ∙ and_swap (c.hart == hart) (c.node == i) in
+      ap (λ b. c.column == column && b) (ends_by_number (tree_paths nodes) ascend c.node i here lt) ∙ and_swap (c.column == column) (c.node == i) in
       let parts : count_by test (flat_map (λ c. replicate c.count (counted_path nodes c)) (c ∷ cs))
       ≡ count_by test (replicate c.count (counted_path nodes c)) + count_by test (flat_map (λ c. replicate c.count (counted_path nodes c)) cs) =
-      sum_by-append (λ (p : HartPath). one (test p)) (replicate c.count (counted_path nodes c)) (flat_map (λ c. replicate c.count (counted_path nodes c)) cs) in
+      sum_by-append (λ (p : ColumnPath). one (test p)) (replicate c.count (counted_path nodes c)) (flat_map (λ c. replicate c.count (counted_path nodes c)) cs) in
       let first : count_by test (replicate c.count (counted_path nodes c)) ≡ c.count * one (mine c) =
-      sum_by-replicate (λ (p : HartPath). one (test p)) c.count (counted_path nodes c) ∙ ap (λ b. c.count * one b) same in
-      let rest = ends_counted cs i hart ascend lt (All-tail (λ c. c.node < length (tree_paths nodes)) c cs inside) in
+      sum_by-replicate (λ (p : ColumnPath). one (test p)) c.count (counted_path nodes c) ∙ ap (λ b. c.count * one b) same in
+      let rest = ends_counted cs i column ascend lt (All-tail (λ c. c.node < length (tree_paths nodes)) c cs inside) in
       parts ∙ ap (λ (n : ℕ). n + count_by test (flat_map (λ c. replicate c.count (counted_path nodes c)) cs)) first ∙ ap (λ (n : ℕ). c.count * one (mine c) + n) rest
       ∙ sym (sum-filter-cons mine c cs)
 
@@ -127,12 +127,12 @@ module _ (nodes : List Node) where
 
 -- ---- what the counts of a tree are
 
-pub counts_are_paths : (t : CountedTree) (node hart : ℕ) → IsTree t → node < length t.nodes → count_at t.counts node hart ≡ count_below ends_here (paths_in t) hart (node_path t.nodes node)
+pub counts_are_paths : (t : CountedTree) (node column : ℕ) → IsTree t → node < length t.nodes → count_at t.counts node column ≡ count_below ends_here (paths_in t) column (node_path t.nodes node)
 unfolding paths_in count_below
-counts_are_paths t node hart tree lt =
+counts_are_paths t node column tree lt =
     let long = as_many_paths t.nodes in
     let inside : All (λ c. c.node < length (tree_paths t.nodes)) t.counts = λ i d below. (let n = tree.nodes i d below in omega arith) in
-    sym (ends_counted t.nodes t.counts node hart tree.preorder.ascend (omega arith) inside)
+    sym (ends_counted t.nodes t.counts node column tree.preorder.ascend (omega arith) inside)
 
 pub paths_in_tree : (t : CountedTree) → length (paths_in t) ≡ counts_in t.counts
 unfolding paths_in

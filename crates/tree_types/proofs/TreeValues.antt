@@ -9,7 +9,7 @@ use Rattle.std.proofs.lemmas.List.Elements.{All-nil, All-append, All-head, All-t
 use Rattle.std.proofs.lemmas.List.FromFn.{length-map-range_with_len, get_or-map-range_with_len}
 use Rattle.std.proofs.lemmas.List.Sums.{sum_by-cons, count_by-le-length}
 use Rattle.prof_bytes.proofs.Tests.{and_true}
-use Rattle.scope_types.specs.CallPaths.{HartPath}
+use Rattle.scope_types.specs.CallPaths.{ColumnPath}
 use Rattle.scope_types.specs.declared.scope.Scope.{Scope}
 use Rattle.scope_types.specs.Order.{path_order}
 use Rattle.scope_types.proofs.Orders.{path_order_total, path_order_tells}
@@ -146,7 +146,7 @@ module _ (t : CountedTree) (tree : IsTree t) where
         | inr part ↦ shorter part.0 part.1
       ]
 
-  abbrev HasPrefixes : HartPath → Type 0
+  abbrev HasPrefixes : ColumnPath → Type 0
   HasPrefixes p = (m : Path) → IsNonemptyPrefix m p.path → has path_order m paths ≡ true
 
   all_prefixes : (cs : List NodeCount) → All (λ c. c.node < size) cs → All HasPrefixes (flat_map (λ c. replicate c.count (counted_path t.nodes c)) cs)
@@ -199,7 +199,7 @@ module _ (t : CountedTree) (tree : IsTree t) where
 
     -- what a later node adds to its parent
     abbrev pub added : ℕ → ℕ → ℕ → ℕ
-    added hart i j = cond ((parent j == i) && test (scope j)) (count_below whole (paths_in t) hart (path j)) 0
+    added column i j = cond ((parent j == i) && test (scope j)) (count_below whole (paths_in t) column (path j)) 0
 
     all_by_number : paths ≡ map path (range_with_len 0 size)
     all_by_number = same_lists paths (map path (range_with_len 0 size)) (long ∙ sym (length-map-range_with_len path 0 size))
@@ -207,38 +207,38 @@ module _ (t : CountedTree) (tree : IsTree t) where
         let l = long in
         get_or_default paths k d [] lt ∙ sym (get_or-map-range_with_len path 0 size k k d (omega (arith, lt, l)) (omega arith)))
 
-    not_added : (hart i j : ℕ) → i < size → j ≤ i → added hart i j ≡ 0
-    not_added hart i j lt le =
+    not_added : (column i j : ℕ) → i < size → j ≤ i → added column i j ≡ 0
+    not_added column i j lt le =
         let no : (parent j == i) ≡ false = ne_eqb (parent j) i (λ e. elim (cases_eq (parent j) no_parent) [
           | inl root ↦ (let few = tree.few in absurd (omega (arith, few, root, e)))
           | inr inner ↦ (let before = parent_before j (omega arith) inner in absurd (omega (arith, before, e)))
         ]) in
-        ap (λ b. cond (b && test (scope j)) (count_below whole (paths_in t) hart (path j)) 0) no
+        ap (λ b. cond (b && test (scope j)) (count_below whole (paths_in t) column (path j)) 0) no
 
     -- a node's count is its own and what the later nodes add to it
-    pub counts_from_children : (hart i : ℕ) → i < size
-        → count_below whole (paths_in t) hart (path i) ≡ count_at t.counts i hart + sum_by (added hart i) (range_with_len (i + 1) (size - (i + 1)))
-    counts_from_children hart i lt =
-        let f : Path → ℕ = λ m. count_below whole (paths_in t) hart m in
+    pub counts_from_children : (column i : ℕ) → i < size
+        → count_below whole (paths_in t) column (path i) ≡ count_at t.counts i column + sum_by (added column i) (range_with_len (i + 1) (size - (i + 1)))
+    counts_from_children column i lt =
+        let f : Path → ℕ = λ m. count_below whole (paths_in t) column m in
         let q : Path → Bool = λ m. rest_passes child (after_prefix (path i) m) in
-        let all = count_splits_in child whole test splits paths sorted (paths_in t) hart (path i) prefixes_in in
-        let own = counts_are_paths t i hart tree lt in
+        let all = count_splits_in child whole test splits paths sorted (paths_in t) column (path i) prefixes_in in
+        let own = counts_are_paths t i column tree lt in
         let by_number : sum_by f (filter q paths) ≡ sum_by (λ j. cond (q (path j)) (f (path j)) 0) (range_with_len 0 size) =
         ap (λ (ns : List Path). sum_by f (filter q ns)) all_by_number ∙ sum-filter-map q f path (range_with_len 0 size) in
-        let by_parent : sum_by (λ j. cond (q (path j)) (f (path j)) 0) (range_with_len 0 size) ≡ sum_by (added hart i) (range_with_len 0 size) =
-        sum_same (λ j. cond (q (path j)) (f (path j)) 0) (added hart i) 0 size (λ j le below. ap (λ b. cond b (f (path j)) 0) (child_is i j lt (omega arith))) in
+        let by_parent : sum_by (λ j. cond (q (path j)) (f (path j)) 0) (range_with_len 0 size) ≡ sum_by (added column i) (range_with_len 0 size) =
+        sum_same (λ j. cond (q (path j)) (f (path j)) 0) (added column i) 0 size (λ j le below. ap (λ b. cond b (f (path j)) 0) (child_is i j lt (omega arith))) in
         let parts : size ≡ (i + 1) + (size - (i + 1)) = omega arith in
-        let later : sum_by (added hart i) (range_with_len 0 size) ≡ sum_by (added hart i) (range_with_len (0 + (i + 1)) (size - (i + 1))) =
-        ap (λ (n : ℕ). sum_by (added hart i) (range_with_len 0 n)) parts ∙ sum_past (added hart i) 0 (i + 1) (size - (i + 1)) (λ j le below. not_added hart i j lt (omega arith)) in
+        let later : sum_by (added column i) (range_with_len 0 size) ≡ sum_by (added column i) (range_with_len (0 + (i + 1)) (size - (i + 1))) =
+        ap (λ (n : ℕ). sum_by (added column i) (range_with_len 0 n)) parts ∙ sum_past (added column i) 0 (i + 1) (size - (i + 1)) (λ j le below. not_added column i j lt (omega arith)) in
         let at : 0 + (i + 1) ≡ i + 1 = omega arith in
-        let start = ap (λ (n : ℕ). sum_by (added hart i) (range_with_len n (size - (i + 1)))) at in
+        let start = ap (λ (n : ℕ). sum_by (added column i) (range_with_len n (size - (i + 1)))) at in
         omega (arith, all, own, by_number, by_parent, later, start)
 
   -- no count is above the number of all paths
-  pub count_few : (whole : Path → Bool) (hart i : ℕ) → count_below whole (paths_in t) hart (path i) ≤ counts_in t.counts
+  pub count_few : (whole : Path → Bool) (column i : ℕ) → count_below whole (paths_in t) column (path i) ≤ counts_in t.counts
   unfolding count_below
-  count_few whole hart i =
-      let some = count_by-le-length (λ (p : HartPath). p.hart == hart && rest_passes whole (after_prefix (path i) p.path)) (paths_in t) in
+  count_few whole column i =
+      let some = count_by-le-length (λ (p : ColumnPath). p.column == column && rest_passes whole (after_prefix (path i) p.path)) (paths_in t) in
       let all = paths_in_tree t in
       omega (arith, some, all)
 
@@ -246,20 +246,20 @@ abbrev any_scope : Scope → Bool
 any_scope s = true
 
 abbrev passing : CountedTree → ℕ → ℕ → ℕ
-passing t hart j = count_below anything (paths_in t) hart (node_path t.nodes j)
+passing t column j = count_below anything (paths_in t) column (node_path t.nodes j)
 
-pub inclusive_counts : (t : CountedTree) → IsTree t → (hart i : ℕ) → i < length t.nodes
-    → passing t hart i ≡ count_at t.counts i hart + sum_by (λ j. cond ((node_at t.nodes j).parent == i) (passing t hart j) 0) (nodes_behind t.nodes i)
-inclusive_counts t tree hart i lt =
-    counts_from_children t tree is_single anything any_scope inclusive_splits hart i lt
-    ∙ ap (λ (n : ℕ). count_at t.counts i hart + n)
-    (sum_same (λ j. cond (((node_at t.nodes j).parent == i) && true) (passing t hart j) 0) (λ j. cond ((node_at t.nodes j).parent == i) (passing t hart j) 0) (i + 1) (length t.nodes - (i + 1))
-    (λ j le below. ap (λ b. cond b (passing t hart j) 0) (and_true ((node_at t.nodes j).parent == i))))
+pub inclusive_counts : (t : CountedTree) → IsTree t → (column i : ℕ) → i < length t.nodes
+    → passing t column i ≡ count_at t.counts i column + sum_by (λ j. cond ((node_at t.nodes j).parent == i) (passing t column j) 0) (nodes_behind t.nodes i)
+inclusive_counts t tree column i lt =
+    counts_from_children t tree is_single anything any_scope inclusive_splits column i lt
+    ∙ ap (λ (n : ℕ). count_at t.counts i column + n)
+    (sum_same (λ j. cond (((node_at t.nodes j).parent == i) && true) (passing t column j) 0) (λ j. cond ((node_at t.nodes j).parent == i) (passing t column j) 0) (i + 1) (length t.nodes - (i + 1))
+    (λ j le below. ap (λ b. cond b (passing t column j) 0) (and_true ((node_at t.nodes j).parent == i))))
 
-pub frame_counts : (t : CountedTree) → IsTree t → (hart i : ℕ) → i < length t.nodes
-    → count_below within_frame (paths_in t) hart (node_path t.nodes i)
-    ≡ count_at t.counts i hart
-    + sum_by (λ j. cond (((node_at t.nodes j).parent == i) && not (is_proc (node_at t.nodes j).scope)) (count_below within_frame (paths_in t) hart (node_path t.nodes j)) 0) (nodes_behind t.nodes i)
-frame_counts t tree hart i lt = counts_from_children t tree is_single_inner within_frame (λ s. not (is_proc s)) frame_splits hart i lt
+pub frame_counts : (t : CountedTree) → IsTree t → (column i : ℕ) → i < length t.nodes
+    → count_below within_frame (paths_in t) column (node_path t.nodes i)
+    ≡ count_at t.counts i column
+    + sum_by (λ j. cond (((node_at t.nodes j).parent == i) && not (is_proc (node_at t.nodes j).scope)) (count_below within_frame (paths_in t) column (node_path t.nodes j)) 0) (nodes_behind t.nodes i)
+frame_counts t tree column i lt = counts_from_children t tree is_single_inner within_frame (λ s. not (is_proc s)) frame_splits column i lt
 
 pub ruleset count_laws = (inclusive_counts, frame_counts, count_few)

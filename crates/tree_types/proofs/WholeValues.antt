@@ -1,4 +1,4 @@
--- The values of a tree are in order, and have the value of each node, hart and kind.
+-- The values of a tree are in order, and have the value of each node, column and kind.
 use Rattle.std.proofs.Common.{◌≡◌, ℕ, zero, suc, ◌+◌, ◌<◌, ◌≤◌, ◌==◌, ◌&&◌, Bool, true, false, not, cond, List, [], ◌∷◌, ◌++◌, length, filter, sum_by, Less, Equal, All, AllPairs, refl, sym, ap, subst, ◌∙◌, arith, inl, inr}
 use Rattle.std.specs.Prelude.{◌≢◌}
 use Rattle.std.specs.List.{flat_map, range_with_len}
@@ -12,7 +12,7 @@ use Rattle.std.proofs.lemmas.List.Sums.{sum_by-cons}
 use Rattle.tree_types.specs.declared.content.Kind.{Kind}
 use Rattle.tree_types.specs.declared.content.Kind.TheVariants.{Exclusive, Frame, Inclusive}
 use Rattle.tree_types.specs.declared.node_values.NodeValue.{NodeValue}
-use Rattle.tree_types.specs.NodeValues.{AreValues, value_order, value_at, kind_rank, node_value, values_for_hart, values_at_node, nonzero, values_of}
+use Rattle.tree_types.specs.NodeValues.{AreValues, value_order, value_at, kind_rank, node_value, values_for_column, values_at_node, nonzero, values_of}
 use Rattle.tree_types.specs.Tree.{CountedTree, node_path, paths_in}
 use Rattle.tree_types.specs.Values.{value}
 use Rattle.tree_types.proofs.PathsAgain.{sum_by-flat_map}
@@ -58,17 +58,17 @@ tied_number : (m n : ℕ) → m ≡ n → nat_cmp m n ≡ Equal
 tied_number m n e = ap (nat_cmp m) (sym e) ∙ tied_itself nat_cmp_total m
 
 by_node : (x y : NodeValue) → x.node < y.node → value_order x y ≡ Less
-by_node x y lt = ap (λ o. ordering_then o (ordering_then (nat_cmp x.hart y.hart) (ordering_then (nat_cmp (kind_rank x.kind) (kind_rank y.kind)) Equal))) (less_number x.node y.node lt)
+by_node x y lt = ap (λ o. ordering_then o (ordering_then (nat_cmp x.column y.column) (ordering_then (nat_cmp (kind_rank x.kind) (kind_rank y.kind)) Equal))) (less_number x.node y.node lt)
 
-by_hart : (x y : NodeValue) → x.node ≡ y.node → x.hart < y.hart → value_order x y ≡ Less
-by_hart x y e lt =
-    ap (λ o. ordering_then o (ordering_then (nat_cmp x.hart y.hart) (ordering_then (nat_cmp (kind_rank x.kind) (kind_rank y.kind)) Equal))) (tied_number x.node y.node e)
-    ∙ ap (λ o. ordering_then o (ordering_then (nat_cmp (kind_rank x.kind) (kind_rank y.kind)) Equal)) (less_number x.hart y.hart lt)
+by_column : (x y : NodeValue) → x.node ≡ y.node → x.column < y.column → value_order x y ≡ Less
+by_column x y e lt =
+    ap (λ o. ordering_then o (ordering_then (nat_cmp x.column y.column) (ordering_then (nat_cmp (kind_rank x.kind) (kind_rank y.kind)) Equal))) (tied_number x.node y.node e)
+    ∙ ap (λ o. ordering_then o (ordering_then (nat_cmp (kind_rank x.kind) (kind_rank y.kind)) Equal)) (less_number x.column y.column lt)
 
-by_kind : (x y : NodeValue) → x.node ≡ y.node → x.hart ≡ y.hart → kind_rank x.kind < kind_rank y.kind → value_order x y ≡ Less
+by_kind : (x y : NodeValue) → x.node ≡ y.node → x.column ≡ y.column → kind_rank x.kind < kind_rank y.kind → value_order x y ≡ Less
 by_kind x y e h lt =
-    ap (λ o. ordering_then o (ordering_then (nat_cmp x.hart y.hart) (ordering_then (nat_cmp (kind_rank x.kind) (kind_rank y.kind)) Equal))) (tied_number x.node y.node e)
-    ∙ ap (λ o. ordering_then o (ordering_then (nat_cmp (kind_rank x.kind) (kind_rank y.kind)) Equal)) (tied_number x.hart y.hart h)
+    ap (λ o. ordering_then o (ordering_then (nat_cmp x.column y.column) (ordering_then (nat_cmp (kind_rank x.kind) (kind_rank y.kind)) Equal))) (tied_number x.node y.node e)
+    ∙ ap (λ o. ordering_then o (ordering_then (nat_cmp (kind_rank x.kind) (kind_rank y.kind)) Equal)) (tied_number x.column y.column h)
     ∙ ap (λ o. ordering_then o Equal) (less_number (kind_rank x.kind) (kind_rank y.kind) lt)
 
 abbrev Before : NodeValue → NodeValue → Type 0
@@ -78,30 +78,30 @@ module _ (period : ℕ) (t : CountedTree) where
   abbrev one : ℕ → ℕ → Kind → NodeValue
   one = node_value period t
 
-  three_in_order : (node hart : ℕ) → AllPairs Before (values_for_hart period t node hart)
-  three_in_order node hart =
-      let a = one node hart Exclusive in let b = one node hart Frame in let c = one node hart Inclusive in
+  three_in_order : (node column : ℕ) → AllPairs Before (values_for_column period t node column)
+  three_in_order node column =
+      let a = one node column Exclusive in let b = one node column Frame in let c = one node column Inclusive in
       AllPairs-cons Before a (b ∷ c ∷ [])
       (All-cons (Before a) b (c ∷ []) (by_kind a b refl refl (omega arith)) (All-cons (Before a) c [] (by_kind a c refl refl (omega arith)) (All-nil (Before a))))
       (AllPairs-cons Before b (c ∷ []) (All-cons (Before b) c [] (by_kind b c refl refl (omega arith)) (All-nil (Before b))) (AllPairs-cons Before c [] (All-nil (Before c)) (no_pairs Before)))
 
-  three_own : (node hart : ℕ) → All (λ v. (v.node ≡ node) × (v.hart ≡ hart)) (values_for_hart period t node hart)
-  three_own node hart =
-      let P : NodeValue → Type 0 = λ v. (v.node ≡ node) × (v.hart ≡ hart) in
-      All-cons P (one node hart Exclusive) (one node hart Frame ∷ one node hart Inclusive ∷ []) (refl, refl)
-      (All-cons P (one node hart Frame) (one node hart Inclusive ∷ []) (refl, refl) (All-cons P (one node hart Inclusive) [] (refl, refl) (All-nil P)))
+  three_own : (node column : ℕ) → All (λ v. (v.node ≡ node) × (v.column ≡ column)) (values_for_column period t node column)
+  three_own node column =
+      let P : NodeValue → Type 0 = λ v. (v.node ≡ node) × (v.column ≡ column) in
+      All-cons P (one node column Exclusive) (one node column Frame ∷ one node column Inclusive ∷ []) (refl, refl)
+      (All-cons P (one node column Frame) (one node column Inclusive ∷ []) (refl, refl) (All-cons P (one node column Inclusive) [] (refl, refl) (All-nil P)))
 
-  node_ranged : (node : ℕ) → All (λ v. (v.node ≡ node) × (0 ≤ v.hart) × (v.hart < 0 + t.harts)) (values_at_node period t node) × AllPairs Before (values_at_node period t node)
+  node_ranged : (node : ℕ) → All (λ v. (v.node ≡ node) × (0 ≤ v.column) × (v.column < 0 + t.columns)) (values_at_node period t node) × AllPairs Before (values_at_node period t node)
   node_ranged node =
-      ranged Before (λ v. v.node ≡ node) (λ v. v.hart) (values_for_hart period t node) (λ x y p q lt. by_hart x y (p ∙ sym q) lt) (three_own node) (three_in_order node) 0 t.harts
+      ranged Before (λ v. v.node ≡ node) (λ v. v.column) (values_for_column period t node) (λ x y p q lt. by_column x y (p ∙ sym q) lt) (three_own node) (three_in_order node) 0 t.columns
 
   abbrev whole : List NodeValue
   whole = flat_map (values_at_node period t) (range_with_len 0 (length t.nodes))
 
-  all_ranged : All (λ v. (v.hart < t.harts) × (0 ≤ v.node) × (v.node < 0 + length t.nodes)) whole × AllPairs Before whole
+  all_ranged : All (λ v. (v.column < t.columns) × (0 ≤ v.node) × (v.node < 0 + length t.nodes)) whole × AllPairs Before whole
   all_ranged =
-      ranged Before (λ v. v.hart < t.harts) (λ v. v.node) (values_at_node period t) (λ x y p q lt. by_node x y lt)
-      (λ node. All-weaker (λ (v : NodeValue). (v.node ≡ node) × (0 ≤ v.hart) × (v.hart < 0 + t.harts)) (λ v. (v.hart < t.harts) × (v.node ≡ node)) (λ v h. let l = h.2 in (omega arith, h.0)) (values_at_node period t node) (node_ranged node).0)
+      ranged Before (λ v. v.column < t.columns) (λ v. v.node) (values_at_node period t) (λ x y p q lt. by_node x y lt)
+      (λ node. All-weaker (λ (v : NodeValue). (v.node ≡ node) × (0 ≤ v.column) × (v.column < 0 + t.columns)) (λ v. (v.column < t.columns) × (v.node ≡ node)) (λ v h. let l = h.2 in (omega arith, h.0)) (values_at_node period t node) (node_ranged node).0)
       (λ node. (node_ranged node).1) 0 (length t.nodes)
 
   all_some : (vs : List NodeValue) → All (λ v. 0 < v.value) (nonzero vs)
@@ -117,17 +117,17 @@ module _ (period : ℕ) (t : CountedTree) where
   pub are_values : AreValues (values_of period t)
   unfolding values_of
   are_values = record {
-    nodes = All-filter (λ (v : NodeValue). not (v.value == 0)) (λ v. v.node < length t.nodes) whole (All-weaker (λ (v : NodeValue). (v.hart < t.harts) × (0 ≤ v.node) × (v.node < 0 + length t.nodes)) (λ v. v.node < length t.nodes) (λ v h. let l = h.2 in omega arith) whole all_ranged.0);
-    harts = All-filter (λ (v : NodeValue). not (v.value == 0)) (λ v. v.hart < t.harts) whole (All-weaker (λ (v : NodeValue). (v.hart < t.harts) × (0 ≤ v.node) × (v.node < 0 + length t.nodes)) (λ v. v.hart < t.harts) (λ v h. h.0) whole all_ranged.0);
+    nodes = All-filter (λ (v : NodeValue). not (v.value == 0)) (λ v. v.node < length t.nodes) whole (All-weaker (λ (v : NodeValue). (v.column < t.columns) × (0 ≤ v.node) × (v.node < 0 + length t.nodes)) (λ v. v.node < length t.nodes) (λ v h. let l = h.2 in omega arith) whole all_ranged.0);
+    columns = All-filter (λ (v : NodeValue). not (v.value == 0)) (λ v. v.column < t.columns) whole (All-weaker (λ (v : NodeValue). (v.column < t.columns) × (0 ≤ v.node) × (v.node < 0 + length t.nodes)) (λ v. v.column < t.columns) (λ v h. h.0) whole all_ranged.0);
     some = all_some whole;
     ascend = AllPairs-filter Before (λ v. not (v.value == 0)) whole all_ranged.1;
   }
 
-  -- ---- the value of a node, hart and kind
+  -- ---- the value of a node, column and kind
 
-  module _ (node hart : ℕ) (kind : Kind) where
+  module _ (node column : ℕ) (kind : Kind) where
     abbrev mine : NodeValue → Bool
-    mine v = v.node == node && (v.hart == hart && kind_rank v.kind == kind_rank kind)
+    mine v = v.node == node && (v.column == column && kind_rank v.kind == kind_rank kind)
 
     abbrev amount : NodeValue → ℕ
     amount v = cond (mine v) v.value 0
@@ -153,23 +153,23 @@ module _ (period : ℕ) (t : CountedTree) where
         drop true e = e
         drop false e = refl
 
-    three_amounts : (n h : ℕ) → sum_by amount (values_for_hart period t n h) ≡ amount (one n h Exclusive) + amount (one n h Frame) + amount (one n h Inclusive)
+    three_amounts : (n h : ℕ) → sum_by amount (values_for_column period t n h) ≡ amount (one n h Exclusive) + amount (one n h Frame) + amount (one n h Inclusive)
     three_amounts n h =
         let a = sum_by-cons amount (one n h Exclusive) (one n h Frame ∷ one n h Inclusive ∷ []) in
         let b = sum_by-cons amount (one n h Frame) (one n h Inclusive ∷ []) in
         let c = sum_by-cons amount (one n h Inclusive) [] in
         omega (arith, a, b, c)
 
-    other_node : (n h : ℕ) → n ≢ node → sum_by amount (values_for_hart period t n h) ≡ 0
+    other_node : (n h : ℕ) → n ≢ node → sum_by amount (values_for_column period t n h) ≡ 0
     other_node n h apart =
-        let no : (k : Kind) → amount (one n h k) ≡ 0 = λ k. ap (λ b. cond (b && (h == hart && kind_rank k == kind_rank kind)) (one n h k).value 0) (ne_eqb n node apart) in
+        let no : (k : Kind) → amount (one n h k) ≡ 0 = λ k. ap (λ b. cond (b && (h == column && kind_rank k == kind_rank kind)) (one n h k).value 0) (ne_eqb n node apart) in
         let a = no Exclusive in let b = no Frame in let c = no Inclusive in
         three_amounts n h ∙ omega (arith, a, b, c)
 
-    other_hart : (n h : ℕ) → h ≢ hart → sum_by amount (values_for_hart period t n h) ≡ 0
-    other_hart n h apart =
+    other_column : (n h : ℕ) → h ≢ column → sum_by amount (values_for_column period t n h) ≡ 0
+    other_column n h apart =
         let no : (k : Kind) → amount (one n h k) ≡ 0 = λ k.
-        ap (λ b. cond (n == node && (b && kind_rank k == kind_rank kind)) (one n h k).value 0) (ne_eqb h hart apart) ∙ ap (λ b. cond b (one n h k).value 0) (and_false (n == node)) in
+        ap (λ b. cond (n == node && (b && kind_rank k == kind_rank kind)) (one n h k).value 0) (ne_eqb h column apart) ∙ ap (λ b. cond b (one n h k).value 0) (and_false (n == node)) in
         let a = no Exclusive in let b = no Frame in let c = no Inclusive in
         three_amounts n h ∙ omega (arith, a, b, c)
       where
@@ -177,14 +177,14 @@ module _ (period : ℕ) (t : CountedTree) where
         and_false true = refl
         and_false false = refl
 
-    own_amount : sum_by amount (values_for_hart period t node hart) ≡ value period (paths_in t) hart (node_path t.nodes node) kind
+    own_amount : sum_by amount (values_for_column period t node column) ≡ value period (paths_in t) column (node_path t.nodes node) kind
     own_amount =
-        let is : (k : Kind) → amount (one node hart k) ≡ cond (kind_rank k == kind_rank kind) (one node hart k).value 0 = λ k.
-        ap (λ b. cond (b && (hart == hart && kind_rank k == kind_rank kind)) (one node hart k).value 0) (eq-eqb node node refl) ∙ ap (λ b. cond (b && kind_rank k == kind_rank kind) (one node hart k).value 0) (eq-eqb hart hart refl) in
+        let is : (k : Kind) → amount (one node column k) ≡ cond (kind_rank k == kind_rank kind) (one node column k).value 0 = λ k.
+        ap (λ b. cond (b && (column == column && kind_rank k == kind_rank kind)) (one node column k).value 0) (eq-eqb node node refl) ∙ ap (λ b. cond (b && kind_rank k == kind_rank kind) (one node column k).value 0) (eq-eqb column column refl) in
         let a = is Exclusive in let b = is Frame in let c = is Inclusive in
-        three_amounts node hart ∙ (λ i. a i + b i + c i) ∙ by_case kind
+        three_amounts node column ∙ (λ i. a i + b i + c i) ∙ by_case kind
       where
-        by_case : (kind : Kind) → cond (0 == kind_rank kind) (one node hart Exclusive).value 0 + cond (1 == kind_rank kind) (one node hart Frame).value 0 + cond (2 == kind_rank kind) (one node hart Inclusive).value 0 ≡ (one node hart kind).value
+        by_case : (kind : Kind) → cond (0 == kind_rank kind) (one node column Exclusive).value 0 + cond (1 == kind_rank kind) (one node column Frame).value 0 + cond (2 == kind_rank kind) (one node column Inclusive).value 0 ≡ (one node column kind).value
         by_case Exclusive = omega arith
         by_case Frame = omega arith
         by_case Inclusive = omega arith
@@ -205,17 +205,17 @@ module _ (period : ℕ) (t : CountedTree) where
         above : (a x : ℕ) → a ≢ x → a ≤ x → a + 1 ≤ x
         above a x apart le = omega arith
 
-    pub value_is : node < length t.nodes → hart < t.harts → value_at (values_of period t).entries node hart kind ≡ value period (paths_in t) hart (node_path t.nodes node) kind
+    pub value_is : node < length t.nodes → column < t.columns → value_at (values_of period t).entries node column kind ≡ value period (paths_in t) column (node_path t.nodes node) kind
     unfolding values_of
     value_is ltn lth =
-        let at_node : (n : ℕ) → sum_by amount (values_at_node period t n) ≡ sum_by (λ h. sum_by amount (values_for_hart period t n h)) (range_with_len 0 t.harts) = λ n.
-        sum_by-flat_map amount (values_for_hart period t n) (range_with_len 0 t.harts) in
+        let at_node : (n : ℕ) → sum_by amount (values_at_node period t n) ≡ sum_by (λ h. sum_by amount (values_for_column period t n h)) (range_with_len 0 t.columns) = λ n.
+        sum_by-flat_map amount (values_for_column period t n) (range_with_len 0 t.columns) in
         kept_amount whole
         ∙ sum_by-flat_map amount (values_at_node period t) (range_with_len 0 (length t.nodes))
         ∙ sum_one (λ n. sum_by amount (values_at_node period t n)) node 0 (length t.nodes) (omega arith) (omega arith)
-        (λ n apart. at_node n ∙ no_sum (λ h. sum_by amount (values_for_hart period t n h)) 0 t.harts (λ h le. other_node n h apart))
+        (λ n apart. at_node n ∙ no_sum (λ h. sum_by amount (values_for_column period t n h)) 0 t.columns (λ h le. other_node n h apart))
         ∙ at_node node
-        ∙ sum_one (λ h. sum_by amount (values_for_hart period t node h)) hart 0 t.harts (omega arith) (omega arith) (λ h apart. other_hart node h apart)
+        ∙ sum_one (λ h. sum_by amount (values_for_column period t node h)) column 0 t.columns (omega arith) (omega arith) (λ h apart. other_column node h apart)
         ∙ own_amount
 
 pub ruleset value_laws = (are_values, value_is)

@@ -2,7 +2,7 @@
 use Rattle.std.specs.Prelude.{ℕ, List, map, [], ◌∷◌, if◌then◌else◌}
 use Rattle.std.specs.Ordering.{is_eq}
 use Rattle.scope_types.specs.declared.scope.ProcId.{ProcId}
-use Rattle.scope_types.specs.CallPaths.{HartPath}
+use Rattle.scope_types.specs.CallPaths.{ColumnPath}
 use Rattle.tree_types.specs.declared.content.Content.{Content}
 use Rattle.tree_types.specs.declared.content.Names.{Names}
 use Rattle.tree_types.specs.declared.content.Node.{Node}
@@ -13,25 +13,25 @@ use Rattle.tree_types.specs.Planes.{profile_plane, context_plane}
 use Rattle.tree_types.specs.Naming.{Naming, proc_order, file_order, procs_used, files_used}
 
 -- the nodes in preorder, each with its parent's number and its own scope
-abbrev pub node_list : List HartPath → List Node
+abbrev pub node_list : List ColumnPath → List Node
 node_list paths = map (λ n. record { parent = parent_number (nodes paths) n; scope = own_scope n }) (nodes paths)
 
 -- the names of the procedures and files that the nodes' scopes use, ascending
-abbrev pub names_used : Naming → List HartPath → Names
+abbrev pub names_used : Naming → List ColumnPath → Names
 names_used naming paths = record {
   procs = map (λ id. record { id = id; name = naming.proc_name id }) (procs_used (nodes paths));
   files = map (λ f. record { table = f.0; file = f.1; name = naming.file_name f.0 f.1 }) (files_used (nodes paths));
 }
 
--- period, harts, names, paths: the whole content
-unfoldable pub content_of : ℕ → ℕ → Naming → List HartPath → Content
-content_of period harts naming paths = record {
+-- period, columns, names, paths: the whole content
+unfoldable pub content_of : ℕ → ℕ → Naming → List ColumnPath → Content
+content_of period columns naming paths = record {
   period = period;
-  harts = harts;
+  columns = columns;
   names = names_used naming paths;
   nodes = node_list paths;
-  profiles = profile_plane period harts paths;
-  contexts = context_plane period harts paths;
+  profiles = profile_plane period columns paths;
+  contexts = context_plane period columns paths;
 }
 
 -- the name of the first entry for a procedure, and for a file
@@ -39,6 +39,7 @@ abbrev pub proc_named : List ProcName → ProcId → List ℕ
 proc_named [] id = []
 proc_named (p ∷ ps) id = if is_eq (proc_order id p.id) then p.name else proc_named ps id
 
+-- and that of a file
 abbrev pub file_named : List FileName → ℕ → ℕ → List ℕ
 file_named [] table file = []
 file_named (f ∷ fs) table file = if is_eq (file_order (table, file) (f.table, f.file)) then f.name

@@ -22,7 +22,7 @@ pub enum Kind {
     Inclusive,
 }
 
-/// A value of a hart at a node: the node's number in preorder, and the value in retired instructions.
+/// A value of a column at a node: the node's number in preorder, and the value in retired instructions.
 #[derive(Clone, Copy, Debug, PartialEq, Eq, Drop)]
 pub struct ProfileEntry {
     pub node: u32,
@@ -30,11 +30,11 @@ pub struct ProfileEntry {
     pub value: u64,
 }
 
-/// A value of a node for a hart: the hart's number, and the value in retired instructions.
+/// A value of a node for a column: the column's number, and the value in retired instructions.
 #[derive(Clone, Copy, Debug, PartialEq, Eq, Drop)]
 pub struct ContextEntry {
     pub kind: Kind,
-    pub hart: u32,
+    pub column: u32,
     pub value: u64,
 }
 
@@ -60,12 +60,12 @@ pub struct Names {
     pub files: Listed<FileName>,
 }
 
-/// What a database holds: the period in retired instructions, the number of harts, the names, the
-/// nodes in preorder, and the values other than 0 by hart and by node.
+/// What a database holds: the period in retired instructions, the number of columns, the names, the
+/// nodes in preorder, and the values other than 0 by column and by node.
 #[derive(Debug, Drop)]
 pub struct Content {
     pub period: u32,
-    pub harts: u32,
+    pub columns: u32,
     pub names: Names,
     pub nodes: Listed<Node>,
     pub profiles: ProfilePlane,

@@ -1,28 +1,22 @@
 //! The calling context tree: its nodes and their values, the database's content, and the definitions
 //! of both over plain lists of call paths.
 //!
-//! It promises what the nodes, the values, the planes and the content of a list of call paths are,
-//! with their laws, and plain bodies that compute just that; and what a tree with counts and its values
-//! are. Views and attribution are those of HPCToolkit's manual: exclusive and inclusive cost of a calling
-//! context. Below stand `scope_types` and `prof_bytes`.
+//! It promises what the nodes, the values, the planes and the content of a list of call paths are, with their laws;
+//! and what a tree with counts and its values are. Views and attribution are those of HPCToolkit's manual: exclusive
+//! and inclusive cost of a calling context. Below lie `scope_types` and `prof_bytes`.
 #![tactic(auto)]
 
 mod ascending;
-mod build;
 mod content;
 mod content_laws;
 mod counted_tree;
 mod laws;
 mod lookup;
-mod named;
 mod node_values;
-mod plain;
-mod plane_columns;
 mod planes;
 mod tree_laws;
 
 pub use ascending::ascend;
-pub use build::content_of_paths;
 pub use content::{
     Content, ContextEntry, FileName, Kind, NO_PARENT, Names, Node, ProcName, ProfileEntry,
 };
@@ -34,10 +28,7 @@ pub use laws::{
     values_add_up,
 };
 pub use lookup::{find_file, find_proc};
-pub use named::{files_of, procs_of};
 pub use node_values::{NodeValue, Values};
-pub use plain::{node_list_of, nodes_of, own_scope_of, rest_after, total_of, value_of};
-pub use plane_columns::{column_of, context_column_of};
 pub use planes::{ContextPlane, ProfilePlane};
 pub use tree_laws::{
     parents_enclose, tree_counts_add_up, tree_has_values, trees_hold_paths, values_make_planes,

@@ -6,21 +6,21 @@ ghost use Rattle.tree_types.specs.NodeValues.{AreValues, kind_rank, value_at, va
 use crate::content::Kind;
 use std::marker::Model;
 
-/// A value of a hart at a node, in retired instructions.
+/// A value of a column at a node, in retired instructions.
 #[derive(Clone, Copy, Debug, PartialEq, Eq, Drop)]
 pub struct NodeValue {
     pub node: u32,
-    pub hart: u32,
+    pub column: u32,
     pub kind: Kind,
     pub value: u64,
 }
 
-/// The values other than 0 of the nodes of a tree, by node, hart and kind. Contracts see how many nodes and harts
+/// The values other than 0 of the nodes of a tree, by node, column and kind. Contracts see how many nodes and columns
 /// there are, and the list of the values.
 #[derive(Debug, Drop)]
 pub struct Values {
     nodes: u32,
-    harts: u32,
+    columns: u32,
     entries: Vec<NodeValue>,
 }
 
@@ -29,10 +29,11 @@ impl Model for Values {
 
     ghost Value = { NodeValues };
 
-    ghost view = { λ values. record { nodes = values.nodes; harts = values.harts; entries = values.entries.items } };
+    ghost view = { λ values.
+        record { nodes = values.nodes; columns = values.columns; entries = values.entries.items } };
 
     ghost invariant = { λ values.
-        AreValues (record { nodes = values.nodes; harts = values.harts; entries = values.entries.items }) };
+        AreValues (record { nodes = values.nodes; columns = values.columns; entries = values.entries.items }) };
 }
 
 fn rank(kind: Kind) -> u8
@@ -45,14 +46,14 @@ fn rank(kind: Kind) -> u8
     }
 }
 
-/// The value of a kind of a node for a hart among values in order.
-fn value_among(entries: &[NodeValue], node: u32, hart: u32, kind: Kind) -> u64
+/// The value of a kind of a node for a column among values in order.
+fn value_among(entries: &[NodeValue], node: u32, column: u32, kind: Kind) -> u64
     requires { AllPairs (λ a b. value_order a b ≡ Less) entries.now }
-    ensures { result ≡ value_at entries.now node hart kind }
+    ensures { result ≡ value_at entries.now node column kind }
 {
     match entries.binary_search_by_key(
-        &(node, hart, rank(kind)),
-        |v| (v.node, v.hart, rank(v.kind)),
+        &(node, column, rank(kind)),
+        |v| (v.node, v.column, rank(v.kind)),
     ) {
         Ok(index) => entries[index].value,
         Err(_) => 0,
@@ -61,13 +62,13 @@ fn value_among(entries: &[NodeValue], node: u32, hart: u32, kind: Kind) -> u64
 
 impl Values {
     /// The values with these entries. Takes no memory.
-    pub fn of(nodes: u32, harts: u32, entries: Vec<NodeValue>) -> Values
-        requires { AreValues (record { nodes = nodes; harts = harts; entries = entries.items }) }
-        ensures { result ≡ record { nodes = nodes; harts = harts; entries = entries.items } }
+    pub fn of(nodes: u32, columns: u32, entries: Vec<NodeValue>) -> Values
+        requires { AreValues (record { nodes = nodes; columns = columns; entries = entries.items }) }
+        ensures { result ≡ record { nodes = nodes; columns = columns; entries = entries.items } }
     {
         Values {
             nodes,
-            harts,
+            columns,
             entries,
         }
     }
@@ -79,14 +80,14 @@ impl Values {
         self.nodes
     }
 
-    /// How many harts there are.
-    pub fn harts(&self) -> u32
-        ensures { result ≡ self.now.harts }
+    /// How many columns there are.
+    pub fn columns(&self) -> u32
+        ensures { result ≡ self.now.columns }
     {
-        self.harts
+        self.columns
     }
 
-    /// The values other than 0, by node, then hart, then kind.
+    /// The values other than 0, by node, then column, then kind.
     pub fn entries(&self) -> &[NodeValue]
         ensures entries { result.now ≡ self.now.entries }
         ensures values { AreValues self.now }
@@ -94,13 +95,13 @@ impl Values {
         self.entries.as_slice()
     }
 
-    /// The value of a kind of a node for a hart, in retired instructions, in time as the logarithm of the number of
+    /// The value of a kind of a node for a column, in retired instructions, in time as the logarithm of the number of
     /// entries.
-    pub fn value(&self, node: u32, hart: u32, kind: Kind) -> u64
+    pub fn value(&self, node: u32, column: u32, kind: Kind) -> u64
         requires node { node < self.now.nodes }
-        requires hart { hart < self.now.harts }
-        ensures { result ≡ value_at self.now.entries node hart kind }
+        requires column { column < self.now.columns }
+        ensures { result ≡ value_at self.now.entries node column kind }
     {
-        value_among(self.entries.as_slice(), node, hart, kind)
+        value_among(self.entries.as_slice(), node, column, kind)
     }
 }

@@ -1,13 +1,13 @@
-//! The two planes of values: one list of entries each, with the starts of its columns.
+//! The two planes of values: one list of entries each, with the starts of its lists.
 ghost use Rattle.std.specs.Prelude.{◌≡◌, ◌<◌, ◌^◌, [], length, slice_index_or};
-ghost use Rattle.tree_types.specs.Columns.{AreStarts, cut};
+ghost use Rattle.tree_types.specs.Lists.{AreStarts, cut};
 
 use crate::content::{ContextEntry, ProfileEntry};
 use std::marker::Model;
 
-/// The column with this index.
-#[tactic(auto, using(crate::proofs::Cutting::column_bounds, crate::proofs::Cutting::column_is))]
-fn column<'a, T>(starts: &[u64], entries: &'a [T], index: usize) -> &'a [T]
+/// The list with this index.
+#[tactic(auto, using(crate::proofs::Cutting::list_bounds, crate::proofs::Cutting::list_is))]
+fn list_at<'a, T>(starts: &[u64], entries: &'a [T], index: usize) -> &'a [T]
     requires starts { AreStarts starts.now (length entries.now) }
     requires index { index < length (cut starts.now entries.now) }
     ensures { result.now ≡ slice_index_or (cut starts.now entries.now) index [] }
@@ -17,109 +17,101 @@ fn column<'a, T>(starts: &[u64], entries: &'a [T], index: usize) -> &'a [T]
     &entries[from..upto]
 }
 
-/// How many columns there are.
-#[tactic(auto, using(crate::proofs::Cutting::column_count))]
-fn columns<T>(starts: &[u64], entries: &[T]) -> usize
+/// How many lists there are.
+#[tactic(auto, using(crate::proofs::Cutting::list_count))]
+fn number_of_lists<T>(starts: &[u64], entries: &[T]) -> usize
     requires { AreStarts starts.now (length entries.now) }
     ensures { result ≡ length (cut starts.now entries.now) }
 {
     starts.len() - 1
 }
 
-/// The values other than 0 by hart. Contracts see a list of columns, one for each hart.
+/// Values other than 0, list by list: of each column, or of each node. Contracts see the lists.
 #[derive(Debug, Drop)]
-pub struct ProfilePlane {
+pub struct Plane<T> {
     starts: Vec<u64>,
-    entries: Vec<ProfileEntry>,
+    entries: Vec<T>,
 }
 
-impl Model for ProfilePlane {
+impl<T> Model for Plane<T> {
     ghost use Rattle.std.specs.Prelude.{List, length};
-    ghost use Rattle.tree_types.specs.Columns.{AreStarts, cut};
-    ghost use Rattle.tree_types.specs.declared.content.ProfileEntry.{ProfileEntry};
+    ghost use Rattle.tree_types.specs.Lists.{AreStarts, cut};
 
-    ghost Value = { List (List ProfileEntry) };
+    ghost Value = { List (List T) };
 
     ghost view = { λ plane. cut plane.starts.items plane.entries.items };
 
     ghost invariant = { λ plane. AreStarts plane.starts.items (length plane.entries.items) };
 }
 
-impl ProfilePlane {
-    /// The plane whose columns are cut from these entries. The last start is the number of entries. Takes no memory.
-    pub fn of(starts: Vec<u64>, entries: Vec<ProfileEntry>) -> ProfilePlane
+impl<T> Plane<T> {
+    /// The plane whose lists are cut from these entries. The last start is the number of entries. Takes no memory.
+    pub fn of(starts: Vec<u64>, entries: Vec<T>) -> Plane<T>
         requires { AreStarts starts.items (length entries.items) }
         ensures { result ≡ cut starts.items entries.items }
     {
-        ProfilePlane { starts, entries }
+        Plane { starts, entries }
     }
 
-    /// How many harts there are.
-    pub fn harts(&self) -> u32
+    /// How many lists there are.
+    fn len(&self) -> u32
         requires { length self.now < 2 ^ 32 }
         ensures { result ≡ length self.now }
     {
-        columns(self.starts.as_slice(), self.entries.as_slice()) as u32
+        number_of_lists(self.starts.as_slice(), self.entries.as_slice()) as u32
     }
 
-    /// The values of a hart, by node, then kind.
-    pub fn hart(&self, hart: u32) -> &[ProfileEntry]
-        requires { hart < length self.now }
-        ensures { result.now ≡ slice_index_or self.now hart [] }
+    /// The list with this index.
+    fn list(&self, index: u32) -> &[T]
+        requires { index < length self.now }
+        ensures { result.now ≡ slice_index_or self.now index [] }
     {
-        column(
+        list_at(
             self.starts.as_slice(),
             self.entries.as_slice(),
-            hart as usize,
+            index as usize,
         )
     }
 }
 
-/// The values other than 0 by node. Contracts see a list of columns, one for each node.
-#[derive(Debug, Drop)]
-pub struct ContextPlane {
-    starts: Vec<u64>,
-    entries: Vec<ContextEntry>,
-}
+/// The values other than 0 by column.
+pub type ProfilePlane = Plane<ProfileEntry>;
 
-impl Model for ContextPlane {
-    ghost use Rattle.std.specs.Prelude.{List, length};
-    ghost use Rattle.tree_types.specs.Columns.{AreStarts, cut};
-    ghost use Rattle.tree_types.specs.declared.content.ContextEntry.{ContextEntry};
-
-    ghost Value = { List (List ContextEntry) };
-
-    ghost view = { λ plane. cut plane.starts.items plane.entries.items };
-
-    ghost invariant = { λ plane. AreStarts plane.starts.items (length plane.entries.items) };
-}
-
-impl ContextPlane {
-    /// The plane whose columns are cut from these entries. The last start is the number of entries. Takes no memory.
-    pub fn of(starts: Vec<u64>, entries: Vec<ContextEntry>) -> ContextPlane
-        requires { AreStarts starts.items (length entries.items) }
-        ensures { result ≡ cut starts.items entries.items }
+impl Plane<ProfileEntry> {
+    /// How many columns there are.
+    pub fn columns(&self) -> u32
+        requires { length self.now < 2 ^ 32 }
+        ensures { result ≡ length self.now }
     {
-        ContextPlane { starts, entries }
+        self.len()
     }
 
+    /// The values of a column, by node, then kind.
+    pub fn column(&self, column: u32) -> &[ProfileEntry]
+        requires { column < length self.now }
+        ensures { result.now ≡ slice_index_or self.now column [] }
+    {
+        self.list(column)
+    }
+}
+
+/// The values other than 0 by node.
+pub type ContextPlane = Plane<ContextEntry>;
+
+impl Plane<ContextEntry> {
     /// How many nodes there are.
     pub fn nodes(&self) -> u32
         requires { length self.now < 2 ^ 32 }
         ensures { result ≡ length self.now }
     {
-        columns(self.starts.as_slice(), self.entries.as_slice()) as u32
+        self.len()
     }
 
-    /// The values of a node, by kind, then hart.
+    /// The values of a node, by kind, then column.
     pub fn node(&self, node: u32) -> &[ContextEntry]
         requires { node < length self.now }
         ensures { result.now ≡ slice_index_or self.now node [] }
     {
-        column(
-            self.starts.as_slice(),
-            self.entries.as_slice(),
-            node as usize,
-        )
+        self.list(node)
     }
 }

@@ -1,7 +1,7 @@
 ghost use Rattle.std.specs.Prelude.{◌≡◌, ◌≢◌, ℕ, ◌+◌, ◌<◌, ◌≤◌, ◌==◌, ◌&&◌, not};
 ghost use Rattle.std.specs.Prelude.{if◌then◌else◌, Bool, List, length, sum_by};
 ghost use Rattle.scope_types.specs.Alike.{Alike};
-ghost use Rattle.scope_types.specs.CallPaths.{HartPath};
+ghost use Rattle.scope_types.specs.CallPaths.{ColumnPath};
 ghost use Rattle.tree_types.specs.Database.{node_list};
 ghost use Rattle.tree_types.specs.Nodes.{nodes, no_parent};
 ghost use Rattle.tree_types.specs.PathsOf.{tree_paths};
@@ -10,41 +10,41 @@ ghost use Rattle.tree_types.specs.Tree.{nodes_behind, paths_in};
 ghost use Rattle.tree_types.specs.Paths.{Path, is_proc};
 ghost use Rattle.tree_types.specs.NodeValues.{AreValues, value_at, values_of};
 ghost use Rattle.tree_types.specs.Planes.{context_plane, profile_plane};
-ghost use Rattle.tree_types.specs.ValueColumns.{columns_by_hart, columns_by_node};
+ghost use Rattle.tree_types.specs.ValuePlanes.{entries_by_column, entries_by_node};
 ghost use Rattle.tree_types.specs.Values.{anything, count_below, ends_here, value, within_frame};
 ghost use Rattle.tree_types.specs.declared.content.Kind.{Kind};
 
-/// The nodes of call paths stand in preorder, and their paths are those nodes again. The counts of a tree are those
+/// The nodes of call paths are in preorder, and their paths are those nodes again. The counts of a tree are those
 /// of the paths that end in it.
 #[tactic(auto, using(crate::proofs::TreeLaws::tree_laws))]
 pub fn trees_hold_paths()
-    ensures preorder { (ps : List HartPath) → length (nodes ps) ≤ no_parent → IsPreorder (node_list ps) }
-    ensures paths { (ps : List HartPath) → length (nodes ps) ≤ no_parent → tree_paths (node_list ps) ≡ nodes ps }
-    ensures long { (ps : List HartPath) → length (node_list ps) ≡ length (nodes ps) }
-    ensures counts { (tree : CountedTree) (node hart : ℕ) → IsTree tree → node < length tree.nodes
-        → count_at tree.counts node hart ≡ count_below ends_here (paths_in tree) hart (node_path tree.nodes node) }
+    ensures preorder { (ps : List ColumnPath) → length (nodes ps) ≤ no_parent → IsPreorder (node_list ps) }
+    ensures paths { (ps : List ColumnPath) → length (nodes ps) ≤ no_parent → tree_paths (node_list ps) ≡ nodes ps }
+    ensures long { (ps : List ColumnPath) → length (node_list ps) ≡ length (nodes ps) }
+    ensures counts { (tree : CountedTree) (node column : ℕ) → IsTree tree → node < length tree.nodes
+        → count_at tree.counts node column ≡ count_below ends_here (paths_in tree) column (node_path tree.nodes node) }
     ensures all { (tree : CountedTree) → length (paths_in tree) ≡ counts_in tree.counts }
 {}
 
-/// A node's count is its own and its children's, which stand after it: of the paths that pass there, and of those
+/// A node's count is its own and its children's, which follow it: of the paths that pass there, and of those
 /// that end within the node's frame. No count is above the number of all paths.
 #[tactic(auto, using(crate::proofs::TreeValues::count_laws))]
 pub fn tree_counts_add_up()
-    ensures inclusive { (tree : CountedTree) → IsTree tree → (hart node : ℕ) → node < length tree.nodes
-        → count_below anything (paths_in tree) hart (node_path tree.nodes node)
-        ≡ count_at tree.counts node hart
+    ensures inclusive { (tree : CountedTree) → IsTree tree → (column node : ℕ) → node < length tree.nodes
+        → count_below anything (paths_in tree) column (node_path tree.nodes node)
+        ≡ count_at tree.counts node column
         + sum_by (λ other. if (node_at tree.nodes other).parent == node
-        then count_below anything (paths_in tree) hart (node_path tree.nodes other) else 0)
+        then count_below anything (paths_in tree) column (node_path tree.nodes other) else 0)
         (nodes_behind tree.nodes node) }
-    ensures frame { (tree : CountedTree) → IsTree tree → (hart node : ℕ) → node < length tree.nodes
-        → count_below within_frame (paths_in tree) hart (node_path tree.nodes node)
-        ≡ count_at tree.counts node hart
+    ensures frame { (tree : CountedTree) → IsTree tree → (column node : ℕ) → node < length tree.nodes
+        → count_below within_frame (paths_in tree) column (node_path tree.nodes node)
+        ≡ count_at tree.counts node column
         + sum_by (λ other.
         if (node_at tree.nodes other).parent == node && not (is_proc (node_at tree.nodes other).scope)
-        then count_below within_frame (paths_in tree) hart (node_path tree.nodes other) else 0)
+        then count_below within_frame (paths_in tree) column (node_path tree.nodes other) else 0)
         (nodes_behind tree.nodes node) }
-    ensures few { (tree : CountedTree) → IsTree tree → (test : Path → Bool) (hart node : ℕ)
-        → count_below test (paths_in tree) hart (node_path tree.nodes node) ≤ counts_in tree.counts }
+    ensures few { (tree : CountedTree) → IsTree tree → (test : Path → Bool) (column node : ℕ)
+        → count_below test (paths_in tree) column (node_path tree.nodes node) ≤ counts_in tree.counts }
 {}
 
 /// A node between a parent and its child has a parent, and that is no smaller: all nodes up to a child lie below its
@@ -56,23 +56,23 @@ pub fn parents_enclose()
         → ((node_at tree.nodes node).parent ≢ no_parent) × (first ≤ (node_at tree.nodes node).parent) }
 {}
 
-/// The values of a tree are in order, and each node, hart and kind has its own.
+/// The values of a tree are in order, and each node, column and kind has its own.
 #[tactic(auto, using(crate::proofs::WholeValues::value_laws))]
 pub fn tree_has_values()
     ensures order { (period : ℕ) (tree : CountedTree) → AreValues (values_of period tree) }
-    ensures each { (period : ℕ) (tree : CountedTree) (node hart : ℕ) (kind : Kind)
-        → node < length tree.nodes → hart < tree.harts
-        → value_at (values_of period tree).entries node hart kind
-        ≡ value period (paths_in tree) hart (node_path tree.nodes node) kind }
+    ensures each { (period : ℕ) (tree : CountedTree) (node column : ℕ) (kind : Kind)
+        → node < length tree.nodes → column < tree.columns
+        → value_at (values_of period tree).entries node column kind
+        ≡ value period (paths_in tree) column (node_path tree.nodes node) kind }
 {}
 
-/// The columns of a tree's values are the planes of its paths, and of all lists with the same paths equally often.
+/// The lists of a tree's values are the planes of its paths, and of all lists with the same paths equally often.
 #[tactic(auto, using(crate::proofs::ValuePlanes::plane_laws))]
 pub fn values_make_planes()
-    ensures profiles { (period : ℕ) (tree : CountedTree) (ps : List HartPath) → Alike (paths_in tree) ps
+    ensures profiles { (period : ℕ) (tree : CountedTree) (ps : List ColumnPath) → Alike (paths_in tree) ps
         → tree.nodes ≡ node_list ps → length (nodes ps) ≤ no_parent
-        → columns_by_hart (values_of period tree) ≡ profile_plane period tree.harts ps }
-    ensures contexts { (period : ℕ) (tree : CountedTree) (ps : List HartPath) → Alike (paths_in tree) ps
+        → entries_by_column (values_of period tree) ≡ profile_plane period tree.columns ps }
+    ensures contexts { (period : ℕ) (tree : CountedTree) (ps : List ColumnPath) → Alike (paths_in tree) ps
         → tree.nodes ≡ node_list ps → length (nodes ps) ≤ no_parent
-        → columns_by_node (values_of period tree) ≡ context_plane period tree.harts ps }
+        → entries_by_node (values_of period tree) ≡ context_plane period tree.columns ps }
 {}

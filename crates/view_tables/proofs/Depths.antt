@@ -7,7 +7,7 @@ use Rattle.std.proofs.lemmas.Bool.{cases_eq, cases_lt}
 use Rattle.std.proofs.lemmas.Cmp.{tied_itself}
 use Rattle.std.proofs.lemmas.List.{get_or-map}
 use Rattle.std.proofs.lemmas.List.Elements.{Contains-get_or}
-use Rattle.scope_types.specs.CallPaths.{HartPath}
+use Rattle.scope_types.specs.CallPaths.{ColumnPath}
 use Rattle.scope_types.specs.Order.{path_order}
 use Rattle.scope_types.specs.declared.scope.Scope.{Scope}
 use Rattle.scope_types.proofs.Orders.{path_order_total}
@@ -26,9 +26,9 @@ use Rattle.tree_types.proofs.TreeLaws.{numbers_tell}
 use Rattle.tree_types.proofs.TreePaths.{own_scope_only}
 use Rattle.tree_types.proofs.TreeValues.{shorter_prefix}
 use Rattle.view_tables.specs.private.Rows.{IsNumber, LiesBelow, number_before, path_of_node}
-use Rattle.view_tables.proofs.ColumnSums.{as_many_nodes}
+use Rattle.view_tables.proofs.EntrySums.{as_many_nodes}
 
-module _ (ps : List HartPath) (few : length (nodes ps) ≤ no_parent) where
+module _ (ps : List ColumnPath) (few : length (nodes ps) ≤ no_parent) where
   abbrev path : ℕ → Path
   path i = node (nodes ps) i
 
@@ -130,7 +130,7 @@ module _ (ps : List HartPath) (few : length (nodes ps) ≤ no_parent) where
       below : (p m : ℕ) → p < suc m → p ≢ m → p < m
       below p m lt apart = omega arith
 
-  -- a node that a path's extension stands before stands no earlier than the path
+  -- a node that a path's extension comes before is no earlier than the path
   not_before : (a p : ℕ) (r : Path) → a < length (nodes ps) → p < length (nodes ps) → path p ≡ path a ++ r → a ≤ p
   not_before a p r lta ltp parts = elim (cases_lt p a) [
     | inl lt ↦ absurd (never r parts (nodes_ascend ps p a [] lt lta))
@@ -195,7 +195,7 @@ below_is_node c at to profile lies apart =
 
 pub parent_lies_below : (c : Content) (at to : ℕ) (d : Node) → IsProfile c → LiesBelow c at to → at ≢ to → LiesBelow c (get_or c.nodes at d).parent to
 parent_lies_below c at to d profile lies apart =
-    let ps : List HartPath = paths_of c in
+    let ps : List ColumnPath = paths_of c in
     let few = few_nodes c profile in
     let lt = below_is_node c at to profile lies apart in
     let inside : at < length (nodes ps) = omega (arith, lt, as_many_nodes c profile) in
@@ -210,13 +210,13 @@ parent_lies_below c at to d profile lies apart =
 
 pub one_shorter : (c : Content) (at : ℕ) (d : Node) → IsProfile c → at < length c.nodes → length (path_of_node c at) ≡ length (path_of_node c (get_or c.nodes at d).parent) + 1
 one_shorter c at d profile lt =
-    let ps : List HartPath = paths_of c in
+    let ps : List ColumnPath = paths_of c in
     let inside : at < length (nodes ps) = omega (arith, lt, as_many_nodes c profile) in
     let s = step ps (few_nodes c profile) at inside in
     ap length s.1 ∙ length-append (path_of_node c (parent_number (nodes ps) (path_of_node c at))) (s.0 ∷ [])
     ∙ ap (λ (k : ℕ). length (path_of_node c k) + 1) (sym (parent_is c at d profile lt))
 
--- what stands in place of a root's parent has no scope
+-- what is in place of a root's parent has no scope
 pub no_depth : (c : Content) → IsProfile c → 0 ≡ length (path_of_node c no_parent)
 no_depth c profile = sym (ap length (no_path (paths_of c) (few_nodes c profile)))
 
@@ -243,7 +243,7 @@ before_number c (suc m) le = inr (omega arith)
 
 pub before_lies_below : (c : Content) (i : ℕ) (d : Node) → IsProfile c → i < length c.nodes → LiesBelow c (number_before i) (get_or c.nodes i d).parent
 before_lies_below c i d profile lt =
-    let ps : List HartPath = paths_of c in
+    let ps : List ColumnPath = paths_of c in
     let few = few_nodes c profile in
     let inside : i < length (nodes ps) = omega (arith, lt, as_many_nodes c profile) in
     let still = before_lies ps few i inside in

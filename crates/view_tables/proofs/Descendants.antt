@@ -7,7 +7,7 @@ use Rattle.std.proofs.lemmas.List.{get_or-set_same, get_or-set_other, length-set
 use Rattle.tree_types.specs.declared.content.Content.{Content}
 use Rattle.tree_types.specs.OfContent.{IsProfile}
 use Rattle.view_tables.specs.private.Frames.{AreEnds, IsEnd, parent_at}
-use Rattle.view_tables.proofs.ColumnSums.{as_many_columns}
+use Rattle.view_tables.proofs.EntrySums.{as_many_lists}
 use Rattle.view_tables.proofs.Depths.{enclosed_at}
 use Rattle.view_tables.proofs.Ups.{preorder}
 
@@ -118,4 +118,4 @@ one_more c number end ends are lt is = record {
 
 pub ruleset end_steps = (run_first, run_ends, run_goes_on, run_rises)
 
-pub ruleset all_steps = (none_yet, one_more, as_many_columns)
+pub ruleset all_steps = (none_yet, one_more, as_many_lists)

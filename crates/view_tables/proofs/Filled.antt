@@ -1,4 +1,4 @@
--- Values at the right of their columns.
+-- Values at the right of their cells.
 use Rattle.std.proofs.Common.{◌≡◌, ℕ, suc, ◌+◌, ◌-◌, ◌*◌, ◌/◌, ◌%◌, ◌^◌, ◌≤◌, List, [], ◌∷◌, ◌++◌, length, take, drop, set, codes, decimal, refl, sym, ap, ◌∙◌, arith, append-nil, append_assoc, length-append}
 use Rattle.std.proofs.Math.Seq.{drop-append-add, take-append-add}
 use Rattle.std.proofs.lemmas.Fmt.{decimal_digit}
@@ -6,7 +6,7 @@ use Rattle.std.proofs.lemmas.List.{take-append-drop, take-replicate, drop-replic
 use Rattle.tree_types.specs.TopDown.{percent, right, spaces}
 use Rattle.view_tables.proofs.TextLengths.{right_long, share_length, short_share, short_value, short_whole}
 
--- digits that are written over blanks up to an end, after what stands before the blanks
+-- digits that are written over blanks up to an end, after what comes before the blanks
 filled : (new old front digits : List ℕ) (start from end more : ℕ) → length front ≡ from → from ≤ start → old ≡ front ++ spaces (end - from + more) → start + length digits ≡ end
     → drop start new ≡ digits ++ drop end old → take start new ≡ take start old → new ≡ (front ++ right (end - from) digits) ++ spaces more
 filled new old front digits start from end more long inside is ends written before =
@@ -22,7 +22,7 @@ filled new old front digits start from end more long inside is ends written befo
     regroup : (a b c d : List ℕ) → (a ++ b) ++ (c ++ d) ≡ (a ++ (b ++ c)) ++ d
     regroup a b c d = simp append_assoc
 
--- a column that is wider by a blank
+-- a cell that is wider by a blank
 one_wider : (width : ℕ) (bytes : List ℕ) → length bytes ≤ width → right (width + 1) bytes ≡ spaces 1 ++ right width bytes
 one_wider width bytes le = ap (λ (n : ℕ). spaces n ++ bytes) (let e : width + 1 - length bytes ≡ suc (width - length bytes) = omega (arith, le) in e)
 
@@ -39,7 +39,7 @@ share_is part total within =
     same_blanks : 5 - length (decimal (part * 1000 / total / 10)) ≡ 7 - length (percent part total)
     same_blanks = let long = share_length part total in omega (arith, long)
 
--- the text of the columns, after each of its three numbers
+-- the text of the cells, after each of its three numbers
 pub values_filled : (one two three : List ℕ) (s1 s2 s3 first total third : ℕ) → total ≤ 2 ^ 52 → first ≤ total → third ≤ total
     → s1 + length (decimal first) ≡ 16 → drop s1 one ≡ decimal first ++ drop 16 (spaces 40) → take s1 one ≡ take s1 (spaces 40)
     → s2 + length (decimal (first * 1000 / total / 10)) ≡ 21 → drop s2 two ≡ decimal (first * 1000 / total / 10) ++ drop 21 one → take s2 two ≡ take s2 one

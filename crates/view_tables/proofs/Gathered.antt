@@ -7,7 +7,7 @@ use Rattle.tree_types.specs.declared.content.Content.{Content}
 use Rattle.view_tables.specs.declared.occurrence.Occurrence.{Occurrence}
 use Rattle.view_tables.specs.declared.occurrence.View.{View}
 use Rattle.view_tables.specs.private.Occurrences.{Held, all_occurrences, has_frame, held, node_items, occurrence_at, ups}
-use Rattle.view_tables.proofs.ColumnSums.{as_many_columns}
+use Rattle.view_tables.proofs.EntrySums.{as_many_lists}
 
 range_more : (a n : ℕ) → range_with_len a (n + 1) ≡ range_with_len a n ++ (a + n) ∷ []
 range_more a zero = ap (λ (k : ℕ). k ∷ []) (let e : a ≡ a + 0 = omega arith in e)
@@ -41,4 +41,4 @@ module _ (view : View) (c : Content) where
   pub occurrence_all : (occurrences : List Occurrence) (number : ℕ) → so_far occurrences number → number ≡ length c.nodes → map (held view c) occurrences ≡ all_occurrences view c
   occurrence_all occurrences number before end = before ∙ ap (λ (n : ℕ). flat_map (occurrence_at view c) (range_with_len 0 n)) end
 
-pub ruleset occurrence_steps = (occurrence_put, occurrence_pass, occurrence_all, as_many_columns)
+pub ruleset occurrence_steps = (occurrence_put, occurrence_pass, occurrence_all, as_many_lists)

@@ -25,7 +25,7 @@ use Rattle.view_tables.proofs.ViewOrders.{item_order_total, item_order_tells, ro
 
 -- ---- the rows of a chain
 
--- the items that stand in some sequence
+-- the items that are in some sequence
 list_any_flat : {X Y : Type 0} (p : Y → Bool) (f : X → List Y) (xs : List X) → list_any p (flat_map f xs) ≡ list_any (λ x. list_any p (f x)) xs
 list_any_flat p f [] = refl
 list_any_flat p f (x ∷ xs) = list_any-append p (f x) (flat_map f xs) ∙ ap (λ b. list_any p (f x) || b) (list_any_flat p f xs)

@@ -1,6 +1,6 @@
 pub mod NamesFound
 pub mod Blanks
-pub mod ColumnSums
+pub mod EntrySums
 pub mod Depths
 pub mod TextLengths
 pub mod Filled

@@ -11,7 +11,7 @@ use Rattle.tree_types.specs.declared.content.FileName.{FileName}
 use Rattle.tree_types.specs.Naming.{proc_order, file_order}
 use Rattle.tree_types.specs.Database.{proc_named, file_named}
 
--- the first that fits stands where it was found
+-- the first that fits is where it was found
 found_at : {X : Type 0} (t : X → Bool) (xs : List X) (i : ℕ) (d : X) → position t xs ≡ Some i → i < length xs → find t xs ≡ Some (get_or xs i d)
 found_at t xs i d e lt =
     let at : position_or_len t xs ≡ i = grind (arith, common_steps) in

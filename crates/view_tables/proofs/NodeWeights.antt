@@ -5,7 +5,7 @@ use Rattle.std.proofs.Math.ListN.{get_or-eq_default}
 use Rattle.std.proofs.lemmas.Bool.{cases_eq, cases_lt, lt-ltb, le-ltb}
 use Rattle.std.proofs.lemmas.List.{get_or_default, get_or_push, get_or_append_left, get_or-set_same, get_or-set_other, length-set}
 use Rattle.std.proofs.lemmas.List.Sums.{sum_by-cons, sum_by_more}
-use Rattle.scope_types.specs.CallPaths.{HartPath}
+use Rattle.scope_types.specs.CallPaths.{ColumnPath}
 use Rattle.tree_types.specs.declared.content.Content.{Content}
 use Rattle.tree_types.specs.declared.content.ContextEntry.{ContextEntry}
 use Rattle.tree_types.specs.declared.content.Kind.TheVariants.{Exclusive}
@@ -15,8 +15,8 @@ use Rattle.tree_types.specs.Nodes.{nodes}
 use Rattle.tree_types.specs.OfContent.{IsProfile}
 use Rattle.tree_types.specs.Paths.{Path}
 use Rattle.tree_types.specs.PathsOf.{paths_of, tree_paths}
-use Rattle.tree_types.specs.TopDown.{over_harts}
-use Rattle.tree_types.specs.Values.{count_below, ends_here, harts_below}
+use Rattle.tree_types.specs.TopDown.{over_columns}
+use Rattle.tree_types.specs.Values.{count_below, ends_here, columns_below}
 use Rattle.tree_types.proofs.ContentParts.{own_nodes}
 use Rattle.tree_types.proofs.Counting.{one, sum_by-add, sum_by-zero}
 use Rattle.tree_types.proofs.PathsAgain.{all_count, from_all, sum_by-map}
@@ -28,7 +28,7 @@ use Rattle.view_tables.specs.Views.{Sequences}
 use Rattle.view_tables.specs.private.Frames.{AreCosts, AreSums, AreWeights, weight_moved, parent_at, sum_below, weight_if, weighed}
 use Rattle.view_tables.specs.private.Occurrences.{has_frame, sample_at, view_sample, ups}
 use Rattle.view_tables.specs.private.Rows.{amount, path_of_node, total_value}
-use Rattle.view_tables.proofs.ColumnSums.{as_many_columns, as_many_nodes, value_is, value_within}
+use Rattle.view_tables.proofs.EntrySums.{as_many_lists, as_many_nodes, value_is, value_within}
 use Rattle.view_tables.proofs.Covered.{sum_at, sum_more, sum_none, sum_same}
 use Rattle.view_tables.proofs.Cuts.{no_frame_skips}
 use Rattle.view_tables.proofs.Descendants.{parent_less}
@@ -74,24 +74,24 @@ ups_is c number profile =
     let few = profile.nodes in
     ap (λ (ps : List Path). reverse (get_or ps number [])) (ap tree_paths (own_nodes c profile.own) ∙ tree_paths_is (paths_of c) (omega (arith, many, few)))
 
-counts_are : (c : Content) (q : HartPath → Bool) → IsProfile c
-    → count_by q (paths_of c) ≡ sum_by (λ h. sum_by (λ m. one (q (record { hart = h; path = m })) * count_below ends_here (paths_of c) h m) (nodes (paths_of c))) (harts_below c.harts)
+counts_are : (c : Content) (q : ColumnPath → Bool) → IsProfile c
+    → count_by q (paths_of c) ≡ sum_by (λ h. sum_by (λ m. one (q (record { column = h; path = m })) * count_below ends_here (paths_of c) h m) (nodes (paths_of c))) (columns_below c.columns)
 counts_are c q profile =
     let many = as_many_nodes c profile in
     let few = profile.nodes in
     ap (λ (x : Content). count_by q (paths_of x)) (sym profile.own)
-    ∙ from_all c.period (paths_of c) profile.period q c.harts (naming_in c.names) (omega (arith, many, few))
+    ∙ from_all c.period (paths_of c) profile.period q c.columns (naming_in c.names) (omega (arith, many, few))
 
 -- the values of all samples whose paths pass
 pub costs_weigh : (c : Content) (costs : List ℕ) (q : Path → Bool) → IsProfile c → AreCosts c costs → length costs ≡ length c.nodes
     → c.period * count_by (λ p. q (reverse p.path)) (paths_of c) ≡ weighed (λ number. q (ups c number)) costs (length c.nodes)
 costs_weigh c costs q profile are long =
-    let ps : List HartPath = paths_of c in
+    let ps : List ColumnPath = paths_of c in
     let ns : List Path = nodes ps in
     let many = as_many_nodes c profile in
-    let g : Path → ℕ = λ m. cond (q (reverse m)) (over_harts c.period c.harts ps m Exclusive) 0 in
+    let g : Path → ℕ = λ m. cond (q (reverse m)) (over_columns c.period c.columns ps m Exclusive) 0 in
     ap (λ n. c.period * n) (counts_are c (λ p. q (reverse p.path)) profile)
-    ∙ sums_turned c.period (λ (m : Path). q (reverse m)) (λ h m. count_below ends_here ps h m) (harts_below c.harts) ns
+    ∙ sums_turned c.period (λ (m : Path). q (reverse m)) (λ h m. count_below ends_here ps h m) (columns_below c.columns) ns
     ∙ ap (sum_by g) (sym (take_all (length ns) ns (omega arith)))
     ∙ sum_list g ns [] (length ns) (omega arith)
     ∙ sum_same (λ j. g (get_or ns j [])) (weight_if (λ number. q (ups c number)) costs) (length ns)
@@ -101,27 +101,27 @@ costs_weigh c costs q profile are long =
 pub no_costs : (c : Content) → AreCosts c []
 no_costs c = record { each = λ number lt. absurd (omega arith) }
 
-pub costs_more : (c : Content) (costs : List ℕ) (number cost : ℕ) (column : List ContextEntry) → IsProfile c → AreCosts c costs → number ≡ length costs → number < length c.nodes
-    → column ≡ get_or c.contexts number [] → cost ≡ sum_by (amount Exclusive) column → AreCosts c (costs ++ cost ∷ [])
-costs_more c costs number cost column profile are next lt at is =
+pub costs_more : (c : Content) (costs : List ℕ) (number cost : ℕ) (entries : List ContextEntry) → IsProfile c → AreCosts c costs → number ≡ length costs → number < length c.nodes
+    → entries ≡ get_or c.contexts number [] → cost ≡ sum_by (amount Exclusive) entries → AreCosts c (costs ++ cost ∷ [])
+costs_more c costs number cost entries profile are next lt at is =
     let more : length (costs ++ cost ∷ []) ≡ length costs + 1 = length-append costs (cost ∷ []) in
-    let own : cost ≡ over_harts c.period c.harts (paths_of c) (path_of_node c number) Exclusive = is ∙ ap (sum_by (amount Exclusive)) at ∙ value_is c number Exclusive profile lt in
+    let own : cost ≡ over_columns c.period c.columns (paths_of c) (path_of_node c number) Exclusive = is ∙ ap (sum_by (amount Exclusive)) at ∙ value_is c number Exclusive profile lt in
     record {
       each = λ k inside. elim (cases_lt k (length costs)) [
         | inl old ↦ get_or_append_left costs (cost ∷ []) 0 k old ∙ are.each k old
         | inr ge ↦
             let same : k ≡ length costs = omega (arith, more, inside, ge) in
-            get_or_push costs cost 0 k (sym same) ∙ own ∙ ap (λ (j : ℕ). over_harts c.period c.harts (paths_of c) (path_of_node c j) Exclusive) (next ∙ sym same)
+            get_or_push costs cost 0 k (sym same) ∙ own ∙ ap (λ (j : ℕ). over_columns c.period c.columns (paths_of c) (path_of_node c j) Exclusive) (next ∙ sym same)
       ];
     }
 
-pub cost_few : (c : Content) (number : ℕ) (column : List ContextEntry) → IsProfile c → number < length c.nodes → total_value c ≤ 2 ^ 52 → column ≡ get_or c.contexts number [] → sum_by (amount Exclusive) column ≤ 2 ^ 52
-cost_few c number column profile lt small at =
+pub cost_few : (c : Content) (number : ℕ) (entries : List ContextEntry) → IsProfile c → number < length c.nodes → total_value c ≤ 2 ^ 52 → entries ≡ get_or c.contexts number [] → sum_by (amount Exclusive) entries ≤ 2 ^ 52
+cost_few c number entries profile lt small at =
     let few = value_within c number Exclusive profile lt in
     let is = ap (sum_by (amount Exclusive)) at in
     omega (arith, few, is, small)
 
-pub ruleset cost_steps = (no_costs, costs_more, cost_few, as_many_columns)
+pub ruleset cost_steps = (no_costs, costs_more, cost_few, as_many_lists)
 
 -- ---- weights that move
 
@@ -129,7 +129,7 @@ pub weights_first : (view : View) (c : Content) (costs : List ℕ) (from : ℕ) 
 weights_first view c costs from profile are long end = record {
   long = long;
   samples = λ test none.
-      ap (λ n. c.period * n) (sum_by-map (λ (s : Sequences). one (test s)) (λ (p : HartPath). view_sample view (naming_in c.names) (reverse p.path)) (paths_of c))
+      ap (λ n. c.period * n) (sum_by-map (λ (s : Sequences). one (test s)) (λ (p : ColumnPath). view_sample view (naming_in c.names) (reverse p.path)) (paths_of c))
       ∙ costs_weigh c costs (λ p. test (view_sample view (naming_in c.names) p)) profile are long;
   none = λ number low plain. get_or-eq_default costs 0 (omega (arith, long, low, end));
   few = (
@@ -285,7 +285,7 @@ both_small ws number to x y lt inside small is from =
     let is_moving = from ∙ get_or_default ws number y 0 lt in
     omega (arith, moving, there, is_there, is_moving)
 
-pub ruleset weight_steps = (weights_first, weights_moved, weights_stay, weights_small, as_many_columns)
+pub ruleset weight_steps = (weights_first, weights_moved, weights_stay, weights_small, as_many_lists)
 
 -- ---- sums
 

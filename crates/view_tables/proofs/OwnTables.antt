@@ -10,7 +10,7 @@ use Rattle.std.proofs.lemmas.List.{take_more, take-append-drop}
 use Rattle.std.proofs.lemmas.List.Folds.{Any-from_list_any, list_any_at}
 use Rattle.std.proofs.lemmas.List.Sorted.{Contains-permutation, IsPermutation-reverse, IsPermutation-sym}
 use Rattle.scope_types.specs.Alike.{Alike}
-use Rattle.scope_types.specs.CallPaths.{HartPath}
+use Rattle.scope_types.specs.CallPaths.{ColumnPath}
 use Rattle.scope_types.specs.declared.scope.ProcId.{ProcId}
 use Rattle.scope_types.specs.declared.scope.LineId.{LineId}
 use Rattle.scope_types.specs.declared.scope.LineId.TheVariants.{Row, Address}
@@ -26,7 +26,8 @@ use Rattle.tree_types.specs.Naming.{Naming, FileId, proc_order, file_order, scop
 use Rattle.tree_types.specs.Nodes.{nodes, no_parent, own_scope}
 use Rattle.tree_types.specs.Paths.{Path}
 use Rattle.tree_types.specs.PathsOf.{paths_of}
-use Rattle.tree_types.specs.TopDown.{percent, printed, table_row}
+use Rattle.prof_bytes.specs.Printing.{printed}
+use Rattle.tree_types.specs.TopDown.{percent, table_row}
 use Rattle.tree_types.proofs.Counting.{one, count_by-cons, count_none}
 use Rattle.tree_types.proofs.NamesAgain.{each, flat_map_same, map_same, proc_order_total, proc_order_tells, file_order_total, file_order_tells, of_paths}
 use Rattle.tree_types.proofs.NodeLaws.{prefix_is_node}
@@ -222,7 +223,7 @@ module _ (a b : Naming) where
   frames_same (Stmt line ∷ outer) all = λ i. (map (λ id. file_same line all.0.1 i ∷ Procedure id ∷ line_item line ∷ []) (frame_proc outer) ++ []) ++ frames_same outer all.1 i
 
   -- all items of samples, each sample's labels being the same
-  items_labels : (f : HartPath → Sequences) (ps : List HartPath) → AllByRecursion (λ p. AllByRecursion SameLabels (f p)) ps → (item : Item) → Contains (all_items (map f ps)) item → SameLabel item
+  items_labels : (f : ColumnPath → Sequences) (ps : List ColumnPath) → AllByRecursion (λ p. AllByRecursion SameLabels (f p)) ps → (item : Item) → Contains (all_items (map f ps)) item → SameLabel item
   items_labels f ps all item c = all_at (all_items (map f ps)) (all_joined SameLabel (λ sample. flat_map (λ items. items) sample) (map f ps)
       (all_mapped (λ sample. SameLabels (flat_map (λ items. items) sample)) f ps
       (all_weaker (λ p. AllByRecursion SameLabels (f p)) (λ p. SameLabels (flat_map (λ items. items) (f p))) (λ p h. all_joined SameLabel (λ items. items) (f p) h) ps all))) c.0 item c.1 c.2
@@ -233,17 +234,17 @@ module _ (a b : Naming) where
       all_at (x ∷ xs) all (suc k) item lt at = all_at xs all.1 k item (omega arith) at
 
   -- all call paths' scopes have the same names, from the outermost scope down and back
-  abbrev SamePaths : List HartPath → Type 0
+  abbrev SamePaths : List ColumnPath → Type 0
   SamePaths ps = AllByRecursion (λ p. AllByRecursion SameNames (reverse p.path)) ps
 
-  callers_named : (period depth : ℕ) (ps : List HartPath) → SamePaths ps → callers period a depth ps ≡ callers period b depth ps
+  callers_named : (period depth : ℕ) (ps : List ColumnPath) → SamePaths ps → callers period a depth ps ≡ callers period b depth ps
   unfolding callers
   callers_named period depth ps all =
       ap (λ (text : List ℕ). view_header ++ text) (rows_text_named period a b (codes "<- ") (map call_chains ps)
       (items_labels call_chains ps (all_weaker (λ p. AllByRecursion SameNames (reverse p.path)) (λ p. AllByRecursion SameLabels (call_chains p)) (λ p h. chain_labels (reverse p.path) h) ps all))
       (depth + 1) [])
 
-  flat_named : (period : ℕ) (ps : List HartPath) → SamePaths ps → flat period a ps ≡ flat period b ps
+  flat_named : (period : ℕ) (ps : List ColumnPath) → SamePaths ps → flat period a ps ≡ flat period b ps
   unfolding flat
   flat_named period ps all =
       let same : map (frames a) ps ≡ map (frames b) ps =
@@ -272,9 +273,9 @@ named_proc naming id = record { id = id; name = naming.proc_name id }
 abbrev named_file : Naming → FileId → NamedFile
 named_file naming f = record { table = f.0; file = f.1; name = naming.file_name f.0 f.1 }
 
-module _ (ps : List HartPath) (a b : Naming) (same : names_used a ps ≡ names_used b ps) where
+module _ (ps : List ColumnPath) (a b : Naming) (same : names_used a ps ≡ names_used b ps) where
   -- the node that ends with a scope of a path
-  node_of : (p : HartPath) (s : Scope) → Contains ps p → Contains p.path s → (n : Path) × Contains (nodes ps) n × (own_scope n ≡ s)
+  node_of : (p : ColumnPath) (s : Scope) → Contains ps p → Contains p.path s → (n : Path) × Contains (nodes ps) n × (own_scope n ≡ s)
   node_of p s there c =
       let n : Path = take (c.0 + 1) p.path in
       let parts : n ≡ take c.0 p.path ++ s ∷ [] = take_more p.path c.0 s c.1 ∙ ap (λ (x : Scope). take c.0 p.path ++ x ∷ []) c.2 in (
@@ -309,7 +310,7 @@ module _ (ps : List HartPath) (a b : Naming) (same : names_used a ps ≡ names_u
   named_same f h =
       ap (λ (x : NamedFile). x.name) (same_at file_order_tells (named_file a) (named_file b) (files_used (nodes ps)) f (ap (λ (names : Names). names.files) same) h)
 
-  scope_same : (p : HartPath) (s : Scope) → Contains ps p → Contains p.path s → SameNames a b s
+  scope_same : (p : ColumnPath) (s : Scope) → Contains ps p → Contains p.path s → SameNames a b s
   scope_same p s there c =
       let n = node_of p s there c in (
         each (λ id. a.proc_name id ≡ b.proc_name id) (scope_procs s) (λ id d.
@@ -326,12 +327,12 @@ module _ (ps : List HartPath) (a b : Naming) (same : names_used a ps ≡ names_u
 
 -- ---- the tables of a content
 
-module _ (period harts : ℕ) (naming : Naming) (ps : List HartPath) (positive : 0 < period) (few : length (nodes ps) ≤ no_parent) (some : All (λ p. 0 < length p.path) ps) (below : All (λ p. p.hart < harts) ps) where
+module _ (period columns : ℕ) (naming : Naming) (ps : List ColumnPath) (positive : 0 < period) (few : length (nodes ps) ≤ no_parent) (some : All (λ p. 0 < length p.path) ps) (below : All (λ p. p.column < columns) ps) where
   abbrev c : Content
-  c = content_of period harts naming ps
+  c = content_of period columns naming ps
 
   alike : Alike (paths_of c) ps
-  alike = paths_alike period harts naming ps positive few some below
+  alike = paths_alike period columns naming ps positive few some below
 
   period_is : c.period ≡ period
   unfolding content_of
@@ -340,7 +341,7 @@ module _ (period harts : ℕ) (naming : Naming) (ps : List HartPath) (positive :
   names_again : names_used (naming_in c.names) (paths_of c) ≡ names_used naming (paths_of c)
   unfolding content_of
   names_again =
-      ap (λ (c : Content). c.names) (of_paths period harts naming ps positive few some below)
+      ap (λ (c : Content). c.names) (of_paths period columns naming ps positive few some below)
       ∙ (λ i. record {
         procs = map (named_proc naming) (procs_used (sym (nodes_alike (paths_of c) ps alike) i));
         files = map (named_file naming) (files_used (sym (nodes_alike (paths_of c) ps alike) i));
@@ -360,8 +361,8 @@ module _ (period harts : ℕ) (naming : Naming) (ps : List HartPath) (positive :
       ∙ flat_named (naming_in c.names) naming period (paths_of c) (same_paths (paths_of c) (naming_in c.names) naming names_again)
       ∙ ap (λ (text : List ℕ). view_header ++ text) (rows_text_alike period naming [] (map (frames naming) (paths_of c)) (map (frames naming) ps) (alike_mapped (frames naming) (paths_of c) ps alike) 3 [])
 
-pub callers_again : (period harts depth : ℕ) (naming : Naming) (ps : List HartPath) → 0 < period → length (nodes ps) ≤ no_parent → All (λ p. 0 < length p.path) ps → All (λ p. p.hart < harts) ps
-    → callers (content_of period harts naming ps).period (naming_in (content_of period harts naming ps).names) depth (paths_of (content_of period harts naming ps)) ≡ callers period naming depth ps
-callers_again period harts depth naming ps positive few some below = callers_of_content period harts naming ps positive few some below depth
+pub callers_again : (period columns depth : ℕ) (naming : Naming) (ps : List ColumnPath) → 0 < period → length (nodes ps) ≤ no_parent → All (λ p. 0 < length p.path) ps → All (λ p. p.column < columns) ps
+    → callers (content_of period columns naming ps).period (naming_in (content_of period columns naming ps).names) depth (paths_of (content_of period columns naming ps)) ≡ callers period naming depth ps
+callers_again period columns depth naming ps positive few some below = callers_of_content period columns naming ps positive few some below depth
 
 pub ruleset own_tables = (callers_again, flat_of_content)

@@ -19,7 +19,7 @@ use Rattle.view_tables.specs.Flat.{frame_proc}
 use Rattle.view_tables.specs.Views.{Procedure}
 use Rattle.view_tables.specs.private.Frames.{AreHeads, IsHead, SameProcs, head_above, scope_at, stops}
 use Rattle.view_tables.specs.private.Occurrences.{ups}
-use Rattle.view_tables.proofs.ColumnSums.{as_many_columns}
+use Rattle.view_tables.proofs.EntrySums.{as_many_lists}
 use Rattle.view_tables.proofs.Ups.{preorder, ups_at, ups_past}
 
 same_again : (view : View) (scopes : Path) → SameProcs view scopes scopes
@@ -95,7 +95,7 @@ heads_more view c heads number head are next lt is =
       ];
     }
 
-pub ruleset all_steps = (no_heads, heads_more, as_many_columns)
+pub ruleset all_steps = (no_heads, heads_more, as_many_lists)
 
 -- ---- what the search finds
 

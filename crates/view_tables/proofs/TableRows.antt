@@ -11,18 +11,18 @@ use Rattle.tree_types.specs.Nodes.{nodes, own_scope}
 use Rattle.tree_types.specs.OfContent.{IsProfile, content_table}
 use Rattle.tree_types.specs.Paths.{Path}
 use Rattle.tree_types.specs.PathsOf.{paths_of}
-use Rattle.tree_types.specs.TopDown.{header, label, node_row, over_harts, top_down}
+use Rattle.tree_types.specs.TopDown.{header, label, node_row, over_columns, top_down}
 use Rattle.tree_types.proofs.ContentParts.{own_names_ascend}
 use Rattle.tree_types.proofs.Totals.{within_total}
 use Rattle.prof_bytes.proofs.Appending.{append_more, two_parts}
 use Rattle.view_tables.specs.private.Rows.{path_of_node, shown_row, row_text, rows_below, total_value}
-use Rattle.view_tables.proofs.ColumnSums.{as_many_columns, as_many_nodes, some_total}
+use Rattle.view_tables.proofs.EntrySums.{as_many_lists, as_many_nodes, some_total}
 use Rattle.view_tables.proofs.Depths.{before_number, no_depth, number_after}
 use Rattle.view_tables.proofs.TextLengths.{row_parts, values_long}
 
 -- the row of a node, by its path
 abbrev path_row : Content → Path → List ℕ
-path_row c n = node_row c.period c.harts (naming_in c.names) (paths_of c) n
+path_row c n = node_row c.period c.columns (naming_in c.names) (paths_of c) n
 
 pub names_ascend : (c : Content) → IsProfile c → NamesAscend c.names
 names_ascend c profile = own_names_ascend c profile.own
@@ -41,12 +41,12 @@ pub all_rows : (c : Content) (start middle out : List ℕ) (number : ℕ) → Is
     → middle ≡ start ++ header → out ≡ middle ++ rows_below c number → out ≡ start ++ content_table c
 unfolding top_down
 all_rows c start middle out number profile le first rest =
-    let past : length (nodes (paths_of c)) ≤ number = omega (arith, le, as_many_nodes c profile, as_many_columns c profile) in
+    let past : length (nodes (paths_of c)) ≤ number = omega (arith, le, as_many_nodes c profile, as_many_lists c profile) in
     two_parts start middle out header (flat_map (path_row c) (nodes (paths_of c))) first
     (rest ∙ ap (λ (ns : List Path). middle ++ flat_map (path_row c) ns) (take_all number (nodes (paths_of c)) past))
 
 pub nodes_few : (c : Content) → IsProfile c → length c.contexts < 2 ^ 32
-nodes_few c profile = omega (arith, profile.nodes, as_many_columns c profile)
+nodes_few c profile = omega (arith, profile.nodes, as_many_lists c profile)
 
 -- ---- lengths
 
@@ -55,9 +55,9 @@ pub row_long : (c : Content) (number : ℕ) → IsProfile c → number < length 
     → length (row_text c.names (shown_row c number)) ≡ length (label (naming_in c.names) (own_scope (path_of_node c number))) + (43 + 2 * (length (path_of_node c number) - 1))
 row_long c number profile lt small =
     let n : Path = path_of_node c number in
-    let within : (kind : Kind) → over_harts c.period c.harts (paths_of c) n kind ≤ total_value c = within_total c.period c.harts (paths_of c) n in
+    let within : (kind : Kind) → over_columns c.period c.columns (paths_of c) n kind ≤ total_value c = within_total c.period c.columns (paths_of c) n in
     row_parts _ (label (naming_in c.names) (own_scope n)) (length n - 1)
-    (values_long (over_harts c.period c.harts (paths_of c) n Inclusive) (total_value c) (over_harts c.period c.harts (paths_of c) n Frame) (some_total c number profile lt) small (within Inclusive) (within Frame))
+    (values_long (over_columns c.period c.columns (paths_of c) n Inclusive) (total_value c) (over_columns c.period c.columns (paths_of c) n Frame) (some_total c number profile lt) small (within Inclusive) (within Frame))
 
 pub rows_grow : (c : Content) (number : ℕ) → IsProfile c → number < length c.nodes
     → length (rows_below c (number + 1)) ≡ length (rows_below c number) + length (row_text c.names (shown_row c number))
@@ -71,8 +71,8 @@ whole_long c number profile le =
 
 pub ruleset length_steps = (before_number, number_after)
 
-pub ruleset whole_length = (nodes_few, as_many_columns)
+pub ruleset whole_length = (nodes_few, as_many_lists)
 
 pub ruleset row_steps = (names_ascend, own_names_ascend)
 
-pub ruleset table_steps = (row_more, all_rows, nodes_few, as_many_columns, no_depth, number_after)
+pub ruleset table_steps = (row_more, all_rows, nodes_few, as_many_lists, no_depth, number_after)

@@ -10,7 +10,8 @@ use Rattle.scope_types.specs.declared.scope.LineId.{LineId}
 use Rattle.scope_types.specs.declared.scope.LineId.TheVariants.{Row, Address}
 use Rattle.scope_types.specs.declared.scope.Scope.TheVariants.{Proc, Inline, Call}
 use Rattle.tree_types.specs.Naming.{Naming}
-use Rattle.tree_types.specs.TopDown.{label, line_label, percent, printed, right, spaces}
+use Rattle.prof_bytes.specs.Printing.{printed}
+use Rattle.tree_types.specs.TopDown.{label, line_label, percent, right, spaces}
 use Rattle.view_tables.specs.private.Lengths.{capped}
 
 pub capped_sum : (a b : ℕ) → min (capped a + capped b) (2 ^ 64 - 1) ≡ capped (a + b)
@@ -52,7 +53,7 @@ short_share part total within = let long = share_length part total in let whole 
 pub short_value : (value : ℕ) → value ≤ 2 ^ 52 → length (decimal value) ≤ 16
 short_value value le = length-decimal-le 16 value (omega arith) (omega (arith, le)) (omega (arith, le))
 
--- no value is wider than its column
+-- no value is wider than its cell
 pub values_long : (first total third : ℕ) → 0 < total → total ≤ 2 ^ 52 → first ≤ total → third ≤ total
     → length (right 16 (decimal first) ++ spaces 1 ++ right 6 (percent first total) ++ spaces 1 ++ right 16 (decimal third)) ≡ 40
 values_long first total third some small one three =

@@ -4,7 +4,7 @@ use Rattle.std.specs.List.{flat_map}
 use Rattle.std.proofs.lemmas.Bool.{and_parts, lt-ltb, ltb-true, or_left}
 use Rattle.std.proofs.lemmas.List.{length-append, length-map, reverse-append}
 use Rattle.std.proofs.lemmas.List.Elements.{All-append, All-head, All-map, All-nil, All-tail, All-weaker}
-use Rattle.scope_types.specs.CallPaths.{HartPath}
+use Rattle.scope_types.specs.CallPaths.{ColumnPath}
 use Rattle.scope_types.specs.Expansion.{FoundAt, call_path, expansion, frame_scopes, pc_of, root_of}
 use Rattle.scope_types.specs.Raw.{Raw}
 use Rattle.scope_types.specs.declared.scope.LineId.{LineId}
@@ -55,7 +55,7 @@ chain_goes_on : (items : List Item) → 0 < length items → goes_on [] (tails i
 chain_goes_on [] some = absurd (omega arith)
 chain_goes_on (a ∷ items) some = or_left (nat_lt 0 (length (a ∷ items))) false (lt-ltb 0 (length (a ∷ items)) (omega arith))
 
-pub callers_add_up : (period : ℕ) (ps : List HartPath) → All HasFrame ps → sum_by (λ r. r.exclusive) (rows_under period (map call_chains ps) []) ≡ period * length ps
+pub callers_add_up : (period : ℕ) (ps : List ColumnPath) → All HasFrame ps → sum_by (λ r. r.exclusive) (rows_under period (map call_chains ps) []) ≡ period * length ps
 callers_add_up period ps all =
     add_up period (map call_chains ps) []
     ∙ ap (λ (n : ℕ). period * n) (all_counted (goes_on []) call_chains ps (All-weaker HasFrame (λ p. goes_on [] (call_chains p) ≡ true) (λ p e. chain_goes_on (procs_up (reverse p.path)) (has_proc (reverse p.path) e)) ps all))
@@ -91,14 +91,14 @@ module _ (naming : Naming) where
       and_true true = refl
       and_true false = refl
 
-  pub row_adds_up : (period : ℕ) (ps : List HartPath) (chain : List Item) → length chain < 3
+  pub row_adds_up : (period : ℕ) (ps : List ColumnPath) (chain : List Item) → length chain < 3
       → sum_by (λ r. r.exclusive) (rows_under period (map (frames naming) ps) chain) ≡ period * count_by (ends chain) (map (frames naming) ps)
   row_adds_up period ps chain short =
       add_up period (map (frames naming) ps) chain
       ∙ ap (λ (n : ℕ). period * n) (count_same (goes_on chain) (ends chain) (map (frames naming) ps)
       (All-map (λ (sample : Sequences). goes_on chain sample ≡ ends chain sample) (frames naming) ps (λ i d lt. begun_goes_on chain (frames naming (get_or ps i d)) short (triples (reverse (get_or ps i d).path)))))
 
-  module _ (period : ℕ) (ps : List HartPath) where
+  module _ (period : ℕ) (ps : List ColumnPath) where
     abbrev samples : List Sequences
     samples = map (frames naming) ps
 
@@ -159,6 +159,6 @@ expansion_ends : (found_at : ℕ → FoundAt) (root : RootKind) (pcs : List ℕ)
 expansion_ends found_at root [] some = absurd (omega arith)
 expansion_ends found_at root (pc ∷ callers) some = frame_ends (Root root ∷ flat_map (λ caller. frame_scopes Call (found_at caller)) (reverse callers)) (found_at pc)
 
-pub paths_have_frames : (found_at : ℕ → FoundAt) (raw : Raw) (hart : ℕ) → 0 < length raw.frames → HasFrame (record { hart = hart; path = call_path found_at raw })
-paths_have_frames found_at raw hart some =
+pub paths_have_frames : (found_at : ℕ → FoundAt) (raw : Raw) (column : ℕ) → 0 < length raw.frames → HasFrame (record { column = column; path = call_path found_at raw })
+paths_have_frames found_at raw column some =
     (let long = length-map raw.frames pc_of in expansion_ends found_at (root_of raw.end) (map pc_of raw.frames) (omega (arith, long, some)))

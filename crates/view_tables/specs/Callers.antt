@@ -1,7 +1,7 @@
 -- The callers table of a list of call paths: the bottom-up view of HPCToolkit's manual.
 use Rattle.std.specs.Prelude.{ℕ, ◌+◌, List, [], ◌∷◌, map, codes, reverse}
 use Rattle.std.specs.List.{flat_map}
-use Rattle.scope_types.specs.CallPaths.{HartPath}
+use Rattle.scope_types.specs.CallPaths.{ColumnPath}
 use Rattle.scope_types.specs.declared.scope.Scope.{Scope}
 use Rattle.scope_types.specs.declared.scope.Scope.TheVariants.{Proc}
 use Rattle.tree_types.specs.Naming.{Naming}
@@ -22,11 +22,11 @@ abbrev pub tails : List Item → Sequences
 tails [] = []
 tails (a ∷ items) = (a ∷ items) ∷ tails items
 
--- each frame's procedure, with its callers: the run pk, .., p1, p0 stands in a path where one of these lists begins
+-- each frame's procedure, with its callers: the run pk, .., p1, p0 is in a path where one of these lists begins
 -- with p0, p1, .., pk, and the path ends with it where the innermost frame's list does
-abbrev pub call_chains : HartPath → Sequences
+abbrev pub call_chains : ColumnPath → Sequences
 call_chains p = tails (procs_up (reverse p.path))
 
 -- the heads, and the rows of the chains p0, .., pk with k at most the depth
-unfoldable pub callers : ℕ → Naming → ℕ → List HartPath → List ℕ
+unfoldable pub callers : ℕ → Naming → ℕ → List ColumnPath → List ℕ
 callers period naming depth paths = view_table period naming (codes "<- ") (map call_chains paths) (depth + 1)

@@ -2,7 +2,7 @@
 -- lines.
 use Rattle.std.specs.Prelude.{ℕ, List, [], ◌∷◌, ◌++◌, map, codes, reverse}
 use Rattle.std.specs.List.{flat_map}
-use Rattle.scope_types.specs.CallPaths.{HartPath}
+use Rattle.scope_types.specs.CallPaths.{ColumnPath}
 use Rattle.scope_types.specs.declared.scope.LineId.{LineId}
 use Rattle.scope_types.specs.declared.scope.LineId.TheVariants.{Row, Address}
 use Rattle.scope_types.specs.declared.scope.ProcId.{ProcId}
@@ -41,14 +41,15 @@ call_line (Call line) = line ∷ []
 call_line (Stmt line) = line ∷ []
 call_line s = []
 
--- the frames, from the innermost scope up. A frame is what stands from a procedure down to its call or statement
+-- the frames, from the innermost scope up. A frame is what lies from a procedure down to its call or statement
 abbrev pub frames_up : Naming → Path → Sequences
 frames_up naming [] = []
 frames_up naming (s ∷ outer) = flat_map (λ line. frame_at naming line outer) (call_line s) ++ frames_up naming outer
 
-abbrev pub frames : Naming → HartPath → Sequences
+-- the sequences of a call path in the flat table: one for each of its frames
+abbrev pub frames : Naming → ColumnPath → Sequences
 frames naming p = frames_up naming (reverse p.path)
 
 -- the heads, and the rows of the files, of their procedures and of their lines
-unfoldable pub flat : ℕ → Naming → List HartPath → List ℕ
+unfoldable pub flat : ℕ → Naming → List ColumnPath → List ℕ
 flat period naming paths = view_table period naming [] (map (frames naming) paths) 3

@@ -11,7 +11,8 @@ use Rattle.scope_types.specs.declared.scope.ProcId.{ProcId}
 use Rattle.scope_types.specs.Words.{proc_words}
 use Rattle.tree_types.specs.Ascending.{ascending}
 use Rattle.tree_types.specs.Naming.{Naming}
-use Rattle.tree_types.specs.TopDown.{address_text, percent, printed, table_row}
+use Rattle.prof_bytes.specs.Printing.{address_text, printed}
+use Rattle.tree_types.specs.TopDown.{percent, table_row}
 
 -- ---- items
 
@@ -33,6 +34,7 @@ item_words (Instruction address) = 3 ∷ address ∷ []
 abbrev pub item_order : Item → Item → Ordering
 item_order a b = slice_cmp nat_cmp (item_words a) (item_words b)
 
+-- items that tie in their order, and so are one
 abbrev pub same_item : Item → Item → Bool
 same_item a b = is_eq (item_order a b)
 
@@ -42,7 +44,7 @@ same_item a b = is_eq (item_order a b)
 abbrev pub Sequences : Type 0
 Sequences = List (List Item)
 
--- whether the chain stands at the front of the items
+-- whether the chain is at the front of the items
 abbrev pub begins_with : List Item → List Item → Bool
 begins_with [] items = true
 begins_with (a ∷ chain) [] = false
@@ -95,7 +97,7 @@ item_label naming (Procedure id) = printed (naming.proc_name id)
 item_label naming (SourceLine line) = codes "line " ++ decimal line
 item_label naming (Instruction address) = address_text address
 
--- what stands before the label, at the first level nothing
+-- what comes before the label, at the first level nothing
 abbrev pub mark_at : List ℕ → ℕ → List ℕ
 mark_at mark level = if level == 0 then [] else mark
 
@@ -111,7 +113,7 @@ view_rows period naming mark samples (suc levels) chain =
     flat_map (λ r. view_row naming mark (period * length samples) (length chain) r
     ++ view_rows period naming mark samples levels (chain ++ r.item ∷ [])) (rows_under period samples chain)
 
--- the heads of the columns
+-- the row of the heads
 abbrev pub view_header : List ℕ
 view_header = table_row (codes "inclusive") (codes "%") (codes "exclusive") 0 (codes "scope")
 

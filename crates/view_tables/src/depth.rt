@@ -5,7 +5,7 @@ ghost use Rattle.view_tables.specs.private.Rows.{IsNumber, LiesBelow, number_bef
 
 use tree_types::{Content, NO_PARENT, Node};
 
-/// The number before; before the first what stands in place of a root's parent.
+/// The number before; before the first what is in place of a root's parent.
 pub fn before(number: u32) -> u32
     ensures { result ≡ number_before number }
 {

@@ -40,6 +40,7 @@ pub fn ends_in(alloc: Global, content: &Content) -> Result<Vec<u32>, Memory>
 {
     let mut number = content.contexts.nodes();
     let mut ends = Vec::new(alloc);
+    // room: `number as usize`, an end for each node
     ends.resize(number as usize, 0)?;
     while number > 0 {
         number -= 1;

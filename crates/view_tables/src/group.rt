@@ -44,7 +44,7 @@ fn split_all<'a>(
     Ok(splits)
 }
 
-/// What the occurrences of a chain are cut into, sorted by the items. Of one item they stand in the order of their
+/// What the occurrences of a chain are cut into, sorted by the items. Of one item they are in the order of their
 /// frames.
 #[tactic(auto, using(crate::proofs::Halved::sort_steps))]
 pub fn splits_of<'a>(

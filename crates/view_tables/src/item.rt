@@ -15,8 +15,8 @@ pub enum ItemRef<'a> {
     Instruction(u32),
 }
 
-/// A row of a view: its values in retired instructions, and its item. Rows stand by their inclusive values, the largest
-/// first, then by their items.
+/// A row of a view: its values in retired instructions, and its item. Rows are ordered by their inclusive values, the
+/// largest first, then by their items.
 #[derive(Clone, Copy, Debug, PartialEq, Eq, PartialOrd, Ord, Drop)]
 pub struct RowRef<'a> {
     pub inclusive: Reverse<u64>,

@@ -1,37 +1,12 @@
 //! How scopes are called in their rows.
-ghost use Rattle.std.specs.Prelude.{◌≡◌, ◌∷◌, ◌++◌, [], OnOk};
+ghost use Rattle.std.specs.Prelude.{◌≡◌, ◌++◌, OnOk};
 ghost use Rattle.tree_types.specs.Database.{file_named, naming_in, proc_named};
 ghost use Rattle.tree_types.specs.NamesAscend.{NamesAscend};
-ghost use Rattle.tree_types.specs.TopDown.{label, line_label, printed};
+ghost use Rattle.tree_types.specs.TopDown.{label, line_label};
 
-use crate::text::put_address;
-use prof_bytes::{Memory, put_decimal};
+use prof_bytes::{Memory, put_address, put_place, put_printed};
 use scope_types::{LineId, ProcId, RootKind, Scope};
 use tree_types::{Names, find_file, find_proc};
-
-fn printed_byte(byte: u8) -> u8
-    ensures { printed (byte ∷ []) ≡ result ∷ [] }
-{
-    if byte < 32 || byte == 127 { b'?' } else { byte }
-}
-
-fn make_printed(name: &mut [u8])
-    ensures { name.new ≡ printed name.old }
-{
-    for byte in name.iter_mut() {
-        *byte = printed_byte(*byte);
-    }
-}
-
-/// A name as it is printed: bytes below 32 and 127 as a question mark.
-pub fn put_printed(out: &mut Vec<u8>, name: &[u8]) -> Result<(), Memory>
-    ensures { OnOk result (out.new.items ≡ out.old.items ++ printed name.now) }
-{
-    let start = out.len();
-    out.extend_from_slice(name)?;
-    make_printed(&mut out.as_mut_slice()[start..]);
-    Ok(())
-}
 
 /// The name of a procedure; none where the names don't have it.
 #[tactic(auto, using(crate::proofs::NamesFound::proc_steps))]
@@ -63,11 +38,7 @@ fn put_line_label(out: &mut Vec<u8>, names: &Names, line: LineId) -> Result<(), 
     ensures { OnOk result (out.new.items ≡ out.old.items ++ line_label (naming_in names.now) line) }
 {
     match line {
-        LineId::Row { table, file, line } => {
-            put_printed(out, file_name(names, table, file))?;
-            out.extend_from_slice(b":")?;
-            put_decimal(out, u64::from(line))
-        }
+        LineId::Row { table, file, line } => put_place(out, file_name(names, table, file), line),
         LineId::Address(address) => put_address(out, address),
     }
 }

@@ -1,5 +1,5 @@
 ghost use Rattle.std.specs.Prelude.{◌≡◌, ℕ, ◌*◌, ◌<◌, ◌≤◌, List, [], length, map, count_by, sum_by, All};
-ghost use Rattle.scope_types.specs.CallPaths.{HartPath};
+ghost use Rattle.scope_types.specs.CallPaths.{ColumnPath};
 ghost use Rattle.scope_types.specs.Expansion.{FoundAt, call_path};
 ghost use Rattle.scope_types.specs.Raw.{Raw};
 ghost use Rattle.tree_types.specs.Database.{content_of, naming_in};
@@ -14,16 +14,17 @@ ghost use Rattle.view_tables.specs.Views.{Item, Sequences, ends, holds_chain, ro
 /// The callers table and the flat table of a content are those of the call paths that it was made of.
 #[tactic(auto, using(crate::proofs::OwnTables::own_tables))]
 pub fn tables_are_of_call_paths()
-    ensures callers { (period harts depth : ℕ) (naming : Naming) (ps : List HartPath)
+    ensures callers { (period columns depth : ℕ) (naming : Naming) (ps : List ColumnPath)
         → 0 < period → length (nodes ps) ≤ no_parent
-        → All (λ p. 0 < length p.path) ps → All (λ p. p.hart < harts) ps
-        → callers (content_of period harts naming ps).period (naming_in (content_of period harts naming ps).names) depth
-        (paths_of (content_of period harts naming ps)) ≡ callers period naming depth ps }
-    ensures flat { (period harts : ℕ) (naming : Naming) (ps : List HartPath)
+        → All (λ p. 0 < length p.path) ps → All (λ p. p.column < columns) ps
+        → callers (content_of period columns naming ps).period
+        (naming_in (content_of period columns naming ps).names) depth
+        (paths_of (content_of period columns naming ps)) ≡ callers period naming depth ps }
+    ensures flat { (period columns : ℕ) (naming : Naming) (ps : List ColumnPath)
         → 0 < period → length (nodes ps) ≤ no_parent
-        → All (λ p. 0 < length p.path) ps → All (λ p. p.hart < harts) ps
-        → flat (content_of period harts naming ps).period (naming_in (content_of period harts naming ps).names)
-        (paths_of (content_of period harts naming ps)) ≡ flat period naming ps }
+        → All (λ p. 0 < length p.path) ps → All (λ p. p.column < columns) ps
+        → flat (content_of period columns naming ps).period (naming_in (content_of period columns naming ps).names)
+        (paths_of (content_of period columns naming ps)) ≡ flat period naming ps }
 {}
 
 /// The exclusive values of the rows right under a chain add up to the period times the number of samples whose
@@ -34,18 +35,18 @@ pub fn tables_are_of_call_paths()
 pub fn exclusive_values_add_up()
     ensures under { (period : ℕ) (samples : List Sequences) (chain : List Item)
         → sum_by (λ r. r.exclusive) (rows_under period samples chain) ≡ period * count_by (goes_on chain) samples }
-    ensures callers { (period : ℕ) (paths : List HartPath) → All HasFrame paths
+    ensures callers { (period : ℕ) (paths : List ColumnPath) → All HasFrame paths
         → sum_by (λ r. r.exclusive) (rows_under period (map call_chains paths) []) ≡ period * length paths }
-    ensures row { (period : ℕ) (naming : Naming) (paths : List HartPath) (chain : List Item) → length chain < 3
+    ensures row { (period : ℕ) (naming : Naming) (paths : List ColumnPath) (chain : List Item) → length chain < 3
         → sum_by (λ r. r.exclusive) (rows_under period (map (frames naming) paths) chain)
         ≡ period * count_by (ends chain) (map (frames naming) paths) }
-    ensures flat { (period : ℕ) (naming : Naming) (paths : List HartPath) (level : ℕ) → All HasFrame paths → level < 3
+    ensures flat { (period : ℕ) (naming : Naming) (paths : List ColumnPath) (level : ℕ) → All HasFrame paths → level < 3
         → exclusive_at period (map (frames naming) paths) level [] ≡ period * length paths }
-    ensures paths { (found_at : ℕ → FoundAt) (raw : Raw) (hart : ℕ) → 0 < length raw.frames
-        → HasFrame (record { hart = hart; path = call_path found_at raw }) }
+    ensures paths { (found_at : ℕ → FoundAt) (raw : Raw) (column : ℕ) → 0 < length raw.frames
+        → HasFrame (record { column = column; path = call_path found_at raw }) }
 {}
 
-/// A row's inclusive value is at least its exclusive one, and at most that of the chain which it stands under.
+/// A row's inclusive value is at least its exclusive one, and at most that of the chain which it lies under.
 /// Inclusive values don't add up, since a sample counts for each of the rows that its frames' sequences hold.
 pub fn inclusive_values_are_within()
     ensures exclusive { (period : ℕ) (samples : List Sequences) (chain : List Item)

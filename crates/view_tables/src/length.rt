@@ -19,7 +19,8 @@ use tree_types::{Content, Names};
 /// The header's length.
 const HEADER: u64 = 48;
 
-/// The length of a root's row without its label: the columns, of which no value is wider than its own, and a line feed.
+/// The length of a root's row without its label: the cells, of which each is as wide as it is laid out, and a line
+/// feed.
 const COLUMNS: u64 = 43;
 
 /// How many digits a number has.

@@ -3,11 +3,11 @@
 //! It promises that the top-down table, the callers table and the flat table of a content are byte for byte those of
 //! their definitions (HPCToolkit's manual, "Top-down view", "Bottom-up view" and "Flat view"): a header, and rows with
 //! values, shares of the total and labels. The top-down table has a row for each node; the callers table one for each
-//! procedure and, under it, its chains of callers; the flat table one for each file, procedure and line. Below stand
+//! procedure and, under it, its chains of callers; the flat table one for each file, procedure and line. Below lie
 //! the tree's definitions and the content.
 #![tactic(auto)]
 
-mod columns;
+mod cells;
 mod depth;
 mod ends;
 mod frames;
@@ -21,14 +21,11 @@ mod length;
 mod occurrence;
 mod row;
 mod table;
-mod text;
 mod values;
 mod view;
 mod weights;
 
-pub use label::put_printed;
 pub use laws::{exclusive_values_add_up, inclusive_values_are_within, tables_are_of_call_paths};
 pub use length::{top_down_length, top_down_length_by_two};
 pub use table::{put_top_down, top_down};
-pub use text::put_address;
 pub use view::{callers, flat};

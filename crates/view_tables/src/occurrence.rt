@@ -1,4 +1,4 @@
-//! Frames of a content, by the nodes where they stand, and the items that a view groups them by.
+//! Frames of a content, by the nodes where they are, and the items that a view groups them by.
 ghost use Rattle.std.specs.Prelude.{◌≡◌, ◌+◌, ◌<◌, ◌∷◌, [], drop, length, MatchOption};
 ghost use Rattle.tree_types.specs.Database.{naming_in};
 ghost use Rattle.tree_types.specs.NamesAscend.{NamesAscend};

@@ -4,7 +4,7 @@ ghost use Rattle.tree_types.specs.Nodes.{own_scope};
 ghost use Rattle.tree_types.specs.OfContent.{IsProfile};
 ghost use Rattle.view_tables.specs.private.Rows.{path_of_node, shown_row, total_value};
 
-use crate::values::column_sum;
+use crate::values::entry_sum;
 use scope_types::Scope;
 use tree_types::{Content, Kind};
 
@@ -30,7 +30,7 @@ pub fn scope_at(content: &Content, number: u32) -> Scope
 }
 
 /// The row of a node whose path has `depth` scopes.
-#[tactic(auto, using(crate::proofs::ColumnSums::value_steps))]
+#[tactic(auto, using(crate::proofs::EntrySums::value_steps))]
 pub fn row_at(content: &Content, number: u32, depth: u32, total: u64) -> TableRow
     requires profile { IsProfile content.now }
     requires number { number < length content.now.nodes }
@@ -44,11 +44,11 @@ pub fn row_at(content: &Content, number: u32, depth: u32, total: u64) -> TableRo
     ensures inclusive { result.inclusive ≤ result.total }
     ensures frame { result.frame ≤ result.total }
 {
-    let column = content.contexts.node(number);
+    let entries = content.contexts.node(number);
     TableRow {
-        inclusive: column_sum(column, Kind::Inclusive),
+        inclusive: entry_sum(entries, Kind::Inclusive),
         total,
-        frame: column_sum(column, Kind::Frame),
+        frame: entry_sum(entries, Kind::Frame),
         level: depth - 1,
         scope: scope_at(content, number),
     }

@@ -3,7 +3,7 @@ ghost use Rattle.std.specs.Prelude.{◌≡◌, ◌<◌, ◌≤◌, ◌^◌, ◌+
 ghost use Rattle.tree_types.specs.OfContent.{IsProfile, content_table};
 ghost use Rattle.view_tables.specs.private.Rows.{path_of_node, shown_row, row_text, total_value};
 
-use crate::columns::{put_header, put_row};
+use crate::cells::{put_header, put_row};
 use crate::depth::depth_after;
 use crate::row::row_at;
 use crate::values::total_of;

@@ -1,4 +1,4 @@
-//! The values of a node over all harts, and how many paths there are.
+//! The values of a node over all columns, and how many paths there are.
 ghost use Rattle.std.specs.Prelude.{◌≡◌, ◌<◌, ◌≤◌, ◌^◌, length, sum_by};
 ghost use Rattle.scope_types.specs.Limits.{most_samples};
 ghost use Rattle.tree_types.specs.OfContent.{IsProfile};
@@ -13,13 +13,13 @@ fn amount_of(e: &ContextEntry, kind: Kind) -> u64
     if e.kind == kind { e.value } else { 0 }
 }
 
-/// The values of one kind in a node's column, summed up over the harts.
-pub fn column_sum(column: &[ContextEntry], kind: Kind) -> u64
-    requires { sum_by (amount kind) column.now ≤ 2 ^ 52 }
-    ensures { result ≡ sum_by (amount kind) column.now }
+/// The values of one kind in a node's list, summed up over the columns.
+pub fn entry_sum(entries: &[ContextEntry], kind: Kind) -> u64
+    requires { sum_by (amount kind) entries.now ≤ 2 ^ 52 }
+    ensures { result ≡ sum_by (amount kind) entries.now }
 {
     let mut sum: u64 = 0;
-    for e in column {
+    for e in entries {
         sum += amount_of(e, kind);
     }
     sum
@@ -36,33 +36,33 @@ fn samples_of(period: u32, e: &ProfileEntry) -> u64
     }
 }
 
-fn hart_samples(period: u32, column: &[ProfileEntry]) -> u64
+fn column_samples(period: u32, entries: &[ProfileEntry]) -> u64
     requires period { 0 < period }
-    requires few { sum_by (counted_by period) column.now ≤ most_samples }
-    ensures { result ≡ sum_by (counted_by period) column.now }
+    requires few { sum_by (counted_by period) entries.now ≤ most_samples }
+    ensures { result ≡ sum_by (counted_by period) entries.now }
 {
     let mut count: u64 = 0;
-    for e in column {
+    for e in entries {
         count += samples_of(period, e);
     }
     count
 }
 
 /// How many paths a content holds.
-#[tactic(auto, using(crate::proofs::ColumnSums::sample_steps))]
+#[tactic(auto, using(crate::proofs::EntrySums::sample_steps))]
 fn path_count(content: &Content) -> u64
     requires { IsProfile content.now }
     ensures { result ≡ length (paths_of content.now) }
 {
     let mut count: u64 = 0;
-    for hart in 0..content.harts {
-        count += hart_samples(content.period, content.profiles.hart(hart));
+    for column in 0..content.columns {
+        count += column_samples(content.period, content.profiles.column(column));
     }
     count
 }
 
 /// The period. The total of all paths, which is as many times this, takes no more than 16 digits.
-#[tactic(auto, using(crate::proofs::ColumnSums::total_steps))]
+#[tactic(auto, using(crate::proofs::EntrySums::total_steps))]
 pub fn period_of(content: &Content) -> u32
     requires { IsProfile content.now }
     ensures period { result ≡ content.now.period }
@@ -72,7 +72,7 @@ pub fn period_of(content: &Content) -> u32
 }
 
 /// The period times the number of paths.
-#[tactic(auto, using(crate::proofs::ColumnSums::total_steps))]
+#[tactic(auto, using(crate::proofs::EntrySums::total_steps))]
 pub fn total_of(content: &Content) -> u64
     requires { IsProfile content.now }
     ensures total { result ≡ total_value content.now }

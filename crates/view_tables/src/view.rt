@@ -14,20 +14,19 @@ ghost use Rattle.view_tables.specs.private.Occurrences.{items_seen, mark_of};
 ghost use Rattle.view_tables.specs.private.Occurrences.{row_seen, content_samples};
 ghost use Rattle.view_tables.specs.private.Rows.{total_value};
 
-use crate::columns::{put_spaces, put_values};
+use crate::cells::{put_spaces, put_values};
 use crate::frames::{Frames, frames_in};
 use crate::gather::occurrences_in;
 use crate::group::{group_of, rows_of, splits_of};
 use crate::item::{ItemRef, RowRef};
-use crate::label::{proc_name, put_printed};
+use crate::label::proc_name;
 use crate::occurrence::{Occurrence, Split, View};
-use crate::text::put_address;
 use crate::values::total_of;
-use prof_bytes::{Memory, Text, put_decimal};
+use prof_bytes::{Memory, Text, put_address, put_decimal, put_printed};
 use std::alloc::Global;
 use tree_types::{Content, Names};
 
-/// The heads of the columns.
+/// The row of the heads.
 fn put_view_header(out: &mut Vec<u8>) -> Result<(), Memory>
     ensures { OnOk result (out.new.items ≡ out.old.items ++ view_header) }
 {

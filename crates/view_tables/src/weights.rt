@@ -5,7 +5,7 @@ ghost use Rattle.view_tables.specs.private.Frames.{AreCosts, AreHeads, AreSums, 
 ghost use Rattle.view_tables.specs.private.Rows.{total_value};
 
 use crate::occurrence::{View, is_occurrence};
-use crate::values::column_sum;
+use crate::values::entry_sum;
 use prof_bytes::Memory;
 use std::alloc::Global;
 use tree_types::{Content, Kind};
@@ -20,7 +20,7 @@ fn costs_in(alloc: Global, content: &Content) -> Result<Vec<u64>, Memory>
 {
     let mut costs = Vec::new(alloc);
     for number in 0..content.contexts.nodes() {
-        costs.push(column_sum(content.contexts.node(number), Kind::Exclusive))?;
+        costs.push(entry_sum(content.contexts.node(number), Kind::Exclusive))?;
     }
     Ok(costs)
 }
@@ -38,7 +38,7 @@ fn pass_up(weights: &mut Vec<u64>, number: u32, parent: u32)
     }
 }
 
-/// The weight of each frame; 0 for other nodes. From the last node to the first, what stands at a node without a frame
+/// The weight of each frame; 0 for other nodes. From the last node to the first, what is at a node without a frame
 /// is passed to its parent.
 #[tactic(auto, using(crate::proofs::NodeWeights::weight_steps))]
 pub fn weights_in(

@@ -16,6 +16,7 @@ pub record Known : Type 0 where
   pub offset : ℕ
   pub cie : Result (Option Cie) FrameFault
 
+-- an entry as a CIE
 abbrev pub known : List ℕ → Extent → Known
 known section e = record { offset = e.offset; cie = cie_of section e }
 
@@ -35,6 +36,7 @@ forms_of_cie section (Ok (Some cie)) = forms_after (after_cie section cie)
 abbrev pub forms_seen : InitialCfaForms → CfaForms
 forms_seen forms = record { current = forms.current; remembered = reverse forms.remembered.items }
 
+-- a CIE as the code keeps it
 abbrev pub seen_cie : KnownCie → Known
 seen_cie c = record { offset = c.offset; cie = c.cie }
 

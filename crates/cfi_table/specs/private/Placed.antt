@@ -38,6 +38,7 @@ pub record IsFdeIn (section : List ℕ) (fde : Fde) : Type 0 where
   pub own : IsWithin section fde.instructions
   pub initial : IsWithin section fde.cie.initial_instructions
 
+-- an entry's instructions lie in the section, if it is an FDE
 abbrev pub IsEntryIn : List ℕ → FrameEntry → Type 0
 IsEntryIn section entries.PassedOver = Unit {0}
 IsEntryIn section (entries.Cie cie) = Unit {0}

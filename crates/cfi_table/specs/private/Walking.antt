@@ -20,6 +20,7 @@ pub record IsAtRow (section : List ℕ) (fde : Fde) (initial : List Rule) (s : F
   pub states : (address : ℕ) → start ≤ address → after_fde (Some address) section fde
       ≡ resumed (Some address) initial fde.cie.factors input s
 
+-- the next row, if there is one, begins with the state of its address
 abbrev pub AreRows : List ℕ → Fde → List Rule → FrameState → Input FrameFault → Option ℕ → Type 0
 AreRows section fde initial s input next = IfSome next (IsAtRow section fde initial s input)
 

@@ -20,6 +20,7 @@ use Rattle.prof_bytes.specs.Number.{word_sum}
 use Rattle.cfi_unwind.specs.Caller.{Words, is_expression, is_unmapped, recovered, recovered_all}
 use Rattle.cfi_unwind.specs.private.Stepwise.{caller_at, caller_from, caller_if}
 
+-- the register has the same value in the caller
 abbrev pub is_kept : Rule → Bool
 is_kept rules.Kept = true
 is_kept rules.Undefined = false
@@ -28,6 +29,7 @@ is_kept (rules.Sum offset) = false
 is_kept (rules.Copy source) = false
 is_kept rules.Expression = false
 
+-- the register is saved where no word can be loaded
 abbrev pub is_unmapped_register : Words → ℕ → RegisterRule → Bool
 is_unmapped_register words cfa each = is_unmapped words cfa each.rule
 
@@ -44,6 +46,7 @@ pub record RecoversOver (words : Words) (registers : List ℕ) (cfa : ℕ) (few 
   pub mapped : list_any (is_unmapped_register words cfa) few ≡ list_any (is_unmapped words cfa) regs
   pub made : recovered_each words registers cfa few registers ≡ recovered_all words registers cfa regs
 
+-- the registers' rules recover what all rules do, over every memory and canonical frame address
 abbrev pub Recovers : List RegisterRule → List Rule → Type 0
 Recovers few regs = (words : Words) (registers : List ℕ) (cfa : ℕ) → length registers ≡ 32
     → RecoversOver words registers cfa few regs
@@ -58,26 +61,28 @@ pub record AreSaved (saved : List SavedRegister) (regs : List Rule) : Type 0 whe
   pub expression : list_any is_expression regs ≡ false
 
 -- the canonical frame address is so far above x2, and x1 has the return address
-abbrev pub usual : ℕ → FrameLayout
-usual cfa_offset = record { cfa_register = 2; cfa_offset = cfa_offset; return_register = 1 }
+abbrev pub usual_layout : ℕ → FrameLayout
+usual_layout cfa_offset = record { cfa_register = 2; cfa_offset = cfa_offset; return_register = 1 }
 
 -- x1 alone is not kept, and saved
-abbrev pub returned : ℕ → List RegisterRule
-returned offset = record { register = 1; rule = rules.Saved offset } ∷ []
+abbrev pub return_address_saved : ℕ → List RegisterRule
+return_address_saved offset = record { register = 1; rule = rules.Saved offset } ∷ []
 
+-- CFA = register + offset
 abbrev pub cfa_by : List ℕ → FrameLayout → ℕ
 cfa_by registers layout = word_sum (get_or registers layout.cfa_register 0) layout.cfa_offset
 
 -- the caller has these registers but x0, which is 0, and x2, which is the canonical frame address
-abbrev pub left_with : List ℕ → ℕ → ℕ → Unwound
-left_with registers cfa return_register = caller_at (slice_set (slice_set registers 0 0) 2 cfa) return_register
+abbrev pub caller_with_cfa : List ℕ → ℕ → ℕ → Unwound
+caller_with_cfa registers cfa return_register = caller_at (slice_set (slice_set registers 0 0) 2 cfa) return_register
 
 -- what is found over a canonical frame address
 abbrev pub unwound_over : Words → List ℕ → ℕ → List RegisterRule → ℕ → Unwound
 unwound_over words registers return_register few cfa =
     if list_any (is_unmapped_register words cfa) few then Ends (Partial causes.Unmapped)
-    else left_with (recovered_each words registers cfa few registers) cfa return_register
+    else caller_with_cfa (recovered_each words registers cfa few registers) cfa return_register
 
+-- what is found by a layout, and the rules of the registers that are not kept
 abbrev pub unwound_with : Words → List ℕ → FrameLayout → List RegisterRule → Unwound
 unwound_with words registers layout few = unwound_over words registers layout.return_register few
     (cfa_by registers layout)
@@ -86,7 +91,7 @@ unwound_with words registers layout few = unwound_over words registers layout.re
 abbrev pub unwound_by : Words → List ℕ → UnwindRule → Unwound
 unwound_by words registers (unwind_rules.Ends end) = Ends end
 unwound_by words registers (unwind_rules.ReturnSaved cfa_offset offset) =
-    unwound_with words registers (usual cfa_offset) (returned offset)
+    unwound_with words registers (usual_layout cfa_offset) (return_address_saved offset)
 unwound_by words registers (unwind_rules.Saved layout saved) =
     unwound_with words registers layout (map saved_rule saved)
 unwound_by words registers (unwind_rules.Mixed layout few) = unwound_with words registers layout few.items
@@ -101,6 +106,7 @@ abbrev pub FollowsSome : UnwindRule → Rules → Type 0
 FollowsSome unwind_rule found = (words : Words) (registers : List ℕ) → length registers ≡ 32
     → unwound_by words registers unwind_rule ≡ caller_from words registers found
 
+-- the same where there may be no rules
 abbrev pub FollowsRules : UnwindRule → Option Rules → Type 0
 FollowsRules unwind_rule found = (words : Words) (registers : List ℕ) → length registers ≡ 32
     → unwound_by words registers unwind_rule ≡ caller_if words registers found

@@ -4,6 +4,7 @@ use Rattle.std.specs.Ordering.{nat_cmp}
 use Rattle.std.specs.BTreeMap.{get, BTreeMap}
 use Rattle.dwarf_forms.specs.declared.declaration.Abbrev.{Abbrev}
 
+-- the index of a declaration by its code
 abbrev pub Indices : Type 0
 Indices = BTreeMap ℕ ℕ
 

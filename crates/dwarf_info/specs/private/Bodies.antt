@@ -1,4 +1,4 @@
--- Where a reader stands after a unit's header.
+-- Where a reader is after a unit's header.
 use Rattle.std.specs.Prelude.{◌≡◌, ℕ}
 use Rattle.prof_bytes.specs.Fields.{Input}
 use Rattle.dwarf_info.specs.declared.fault.InfoFault.{InfoFault}

@@ -9,6 +9,7 @@ use Rattle.dwarf_info.specs.Entries.{entries_from}
 use Rattle.dwarf_info.specs.Units.{declared_in, unit_body, entries_in}
 use Rattle.dwarf_info.specs.private.Starts.{IsCountUpTo}
 
+-- the offsets of entries
 abbrev pub offsets_of : List InfoEntry → List ℕ
 offsets_of entries = map (λ e. e.offset) entries
 

@@ -5,10 +5,11 @@ use Rattle.dwarf_info.specs.declared.info.Located.{Located}
 use Rattle.dwarf_info.specs.Queries.{UnitEntry, unit_entry}
 use Rattle.dwarf_info.specs.Units.{DebugInfo}
 
--- the unit and the offset
+-- an entry's unit and offset
 abbrev pub own_unit : UnitEntry → UnitContext × ℕ
 own_unit e = (e.context, e.entry.offset)
 
+-- the unit and the offset that were found
 abbrev pub found_unit : Located → UnitContext × ℕ
 found_unit at = (at.context, at.offset)
 

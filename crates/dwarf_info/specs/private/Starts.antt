@@ -2,7 +2,7 @@
 use Rattle.std.specs.Prelude.{◌≡◌, ◌<◌, ◌≤◌, ◌+◌, ◌*◌, ◌^◌, ℕ, Bool, true, false, List, [], ◌∷◌, length, take, Some}
 use Rattle.std.specs.Prelude.{slice_get, slice_index_or}
 
--- the offsets of the flags that are set, where the first flag stands at an offset
+-- the offsets of the flags that are set, where the first flag is that of an offset
 unfoldable pub set_from : ℕ → List Bool → List ℕ
 set_from offset [] = []
 set_from offset (true ∷ flags) = offset ∷ set_from (offset + 1) flags

@@ -1,4 +1,4 @@
--- Where entries end, and how many items stand before an index, as lists.
+-- Where entries end, and how many items are before an index, as lists.
 use Rattle.std.specs.Prelude.{◌≡◌, ℕ, ◌+◌, ◌<◌, ◌≤◌, List, drop, take, length, count_by, slice_index, slice_index_or}
 use Rattle.std.specs.Prelude.{filter}
 use Rattle.std.specs.List.{take_while, enumerate_from}

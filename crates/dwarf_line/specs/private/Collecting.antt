@@ -14,6 +14,7 @@ pub record Collected : Type 0 where
   pub table : ℕ
   pub rows : List LineRow
 
+-- a sequence, if it counts
 abbrev pub if_counted : List Segment → Sequence → List Sequence
 if_counted segments q = filter (is_counted segments) (q ∷ [])
 
@@ -25,6 +26,7 @@ with_row c row =
       rows = [];
     } else record c { rows = c.rows ++ row ∷ [] }
 
+-- an opcode's row is taken, where it appends one
 abbrev pub with_effect : Collected → Option LineRow → Collected
 with_effect c row = fold with_row c (option_to_list row)
 

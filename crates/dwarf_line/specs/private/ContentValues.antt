@@ -10,6 +10,7 @@ use Rattle.dwarf_line.specs.declared.names.EntryFormat.{EntryFormat}
 use Rattle.dwarf_line.specs.declared.names.EntryValues.{EntryValues}
 use Rattle.dwarf_line.specs.Names.{LineRead, entry_values_from, first_value_of}
 
+-- the path and the directory index, where the entry has them (DW_LNCT_path, DW_LNCT_directory_index)
 pub record ContentValues : Type 0 where
   pub path : Option FormValue
   pub directory_index : Option FormValue
@@ -19,6 +20,7 @@ abbrev pub held_values : EntryValues → ContentValues
 held_values values =
     record { path = option_map form_value values.path; directory_index = option_map form_value values.directory_index }
 
+-- the first value of each of the two content types
 abbrev pub content_values_of : List (ℕ × FormValue) → ContentValues
 content_values_of values = record {
   path = first_value_of DW_LNCT_path values;

@@ -25,8 +25,8 @@ abbrev pub listed_forms : AddressEncoding → AlignmentFactors → Input FrameFa
 listed_forms addresses factors input k = listed_by execute_forms (length (left_of input.at)) addresses factors input k
 
 -- instructions, written after other bytes
-abbrev pub put_behind : {S : Type 0} → List ℕ → List CallFrameInstruction × S → List ℕ × S
-put_behind out r = (out ++ flat_map encoded r.0, r.1)
+abbrev pub written_after : {S : Type 0} → List ℕ → List CallFrameInstruction × S → List ℕ × S
+written_after out r = (out ++ flat_map encoded r.0, r.1)
 
 -- ---- what is kept of each CIE
 
@@ -40,9 +40,11 @@ pub record KnownEh : Type 0 where
   pub offset : ℕ
   pub cie : Result (Option EhCie) FrameFault
 
+-- an entry as a CIE
 abbrev pub known_eh : List ℕ → Extent → KnownEh
 known_eh section e = record { offset = e.offset; cie = eh_cie_of section e }
 
+-- a CIE as the code keeps it
 abbrev pub seen_eh_cie : KnownEhCie → KnownEh
 seen_eh_cie c = record { offset = c.offset; cie = Ok c.cie }
 
@@ -52,6 +54,7 @@ AreInitialForms section address None forms = Unit {0}
 AreInitialForms section address (Some cie) forms = (initial : List CallFrameInstruction × FrameState)
     × (cie_instructions section address cie ≡ Ok initial) × (forms_seen forms ≡ forms_of initial.1)
 
+-- its offset lies in the section, and the forms are those after it
 pub record IsKnownEh (section : List ℕ) (address : ℕ) (c : KnownEhCie) : Type 0 where
   pub within : c.offset ≤ length section
   pub forms : AreInitialForms section address c.cie c.initial_forms

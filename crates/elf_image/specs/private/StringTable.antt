@@ -7,10 +7,11 @@ use Rattle.elf_image.specs.Fields.{is_zero}
 unfoldable pub first_zero : List ℕ → ℕ → ℕ
 first_zero bytes start = start + position_or_len is_zero (drop start bytes)
 
--- bytes a block
+-- the bytes of a block
 abbrev pub block : ℕ
 block = 64
 
+-- the number of blocks of a string table, of which the last one may have fewer bytes or none
 abbrev pub blocks : List ℕ → ℕ
 blocks bytes = length bytes / block + 1
 

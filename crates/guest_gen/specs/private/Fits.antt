@@ -3,6 +3,7 @@ use Rattle.std.specs.Prelude.{ℕ, ◌+◌, ◌<◌, ◌≤◌, List, length}
 use Rattle.guest_gen.specs.declared.code.DrawnFunction.{DrawnFunction}
 use Rattle.guest_gen.specs.declared.file.Sizes.{Sizes}
 
+-- each part has at most 65,536 bytes
 pub record AreFew (sizes : Sizes) : Type 0 where
   pub code : sizes.code ≤ 65536
   pub frames : sizes.frames ≤ 65536

@@ -9,15 +9,15 @@ use Rattle.sample_clock.specs.declared.clock.Sample.{Sample}
 use Rattle.sample_clock.specs.Samples.{Paths}
 use Rattle.sample_clock.specs.Clock.{Sampling, Given, IsOver, AreTooMany}
 use Rattle.scope_types.specs.declared.frame.Counted.{Counted}
-use Rattle.scope_types.specs.Distinct.{HartRaw, distinct, samples_in}
-use Rattle.hpc_top.specs.declared.status.InputFault.{InputFault}
-use Rattle.hpc_top.specs.declared.status.InputFault.TheVariants.{TooManySamples}
+use Rattle.scope_types.specs.Distinct.{ColumnRaw, distinct, samples_in}
+use Rattle.command_line.specs.declared.status.InputFault.{InputFault}
+use Rattle.command_line.specs.declared.status.InputFault.TheVariants.{TooManySamples}
 use Rattle.hpc_top.specs.Samples.{sampled, few_samples}
 
 -- ---- counting
 
 -- the samples that are to come
-abbrev pub raws_to_come : Paths → Sampling → List HartRaw
+abbrev pub raws_to_come : Paths → Sampling → List ColumnRaw
 raws_to_come path_of s = sampled path_of s.period (to_come s.machine)
 
 -- one more than there may be
@@ -25,6 +25,7 @@ pub record Exceeds (path_of : Paths) (fault : InputFault) (old new : Sampling) :
   pub is : fault ≡ TooManySamples
   pub many : AreTooMany path_of old new
 
+-- why counting stops: there is one sample more than there may be, or memory ran out
 abbrev pub Stops : Paths → Fail InputFault → Sampling → Sampling → Type 0
 Stops path_of (fails.Fault fault) old new = Exceeds path_of fault old new
 Stops path_of (fails.Memory memory) old new = Unit {0}
@@ -40,7 +41,7 @@ pub record AllCounted (path_of : Paths) (harts : ℕ) (ccts : List (List Counted
   pub few : few_samples harts (raws_to_come path_of old) ≡ Ok (raws_to_come path_of old)
   pub counts : ccts ≡ distinct harts (raws_to_come path_of old)
   pub all : samples_in ccts ≡ length (raws_to_come path_of old)
-  pub of_harts : All (λ s. s.hart < harts) (raws_to_come path_of old)
+  pub of_harts : All (λ s. s.column < harts) (raws_to_come path_of old)
   pub ended : new.machine.state ≡ (to_come old.machine).final
 
 -- what counting the samples gives

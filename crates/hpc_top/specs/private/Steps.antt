@@ -2,13 +2,15 @@
 use Rattle.std.specs.Prelude.{◌≡◌, ℕ, ◌≤◌, ◌⊎◌, List, [], ◌∷◌, length, Option, Result, Ok, Err, IsTrue}
 use Rattle.prof_bytes.specs.declared.text.Text.{Text}
 use Rattle.prof_devices.specs.Outside.{ShelfState, SinkState, Fails, Appends, AppendsPart}
-use Rattle.hpc_top.specs.declared.status.InputFault.{InputFault}
+use Rattle.command_line.specs.declared.status.InputFault.{InputFault}
 use Rattle.hpc_top.specs.declared.status.Stop.{Stop}
 use Rattle.hpc_top.specs.declared.status.Stop.TheVariants.{Input, Device, Memory}
-use Rattle.hpc_top.specs.declared.status.Place.TheVariants.{Read, Store, Print}
-use Rattle.hpc_top.specs.declared.status.Prepared.{Prepared}
+use Rattle.command_line.specs.declared.status.Place.TheVariants.{Read, Store, Print}
 use Rattle.hpc_top.specs.Product.{Product}
-use Rattle.hpc_top.specs.Task.{Task, Wanted, limited_bytes, contents, verdict}
+use Rattle.command_line.specs.declared.kind.FileKind.{FileKind}
+use Rattle.command_line.specs.Kind.{Wanted, file_limit, kinds_of}
+use Rattle.command_line.specs.Request.{Request}
+use Rattle.hpc_top.specs.Verdict.{limited_bytes, contents, verdict}
 use Rattle.hpc_top.specs.Outcome.{Call, Storing, Printing, Finished, ReadFailed, StoreFailed, PrintFailed}
 
 -- ---- fetches
@@ -25,33 +27,31 @@ FetchStops Failed old new wanted (Memory memory) = new ≡ old
 -- one file is fetched
 abbrev pub Fetches : ShelfState → ShelfState → Wanted → Result Text Stop → Type 0
 Fetches old new w (Ok text) =
-    (new ≡ old) × (length text ≤ w.limit) × (IsTrue old.known → limited_bytes old.files w ≡ Ok text)
+    (new ≡ old) × (length text ≤ file_limit w.file) × (IsTrue old.known → limited_bytes old.files w ≡ Ok text)
 Fetches old new w (Err stop) = FetchStops (Fails old.reads new.reads w.name) old new (limited_bytes old.files w) stop
 
--- one text for each file, and within its limit
-abbrev pub AreWithin : List (List ℕ) → List Wanted → Type 0
+-- one text for each file of these kinds, and within its limit
+abbrev pub AreWithin : List (List ℕ) → List FileKind → Type 0
 AreWithin [] [] = Unit {0}
-AreWithin (text ∷ texts) (w ∷ ws) = (length text ≤ w.limit) × AreWithin texts ws
-AreWithin [] (w ∷ ws) = ⊥
+AreWithin (text ∷ texts) (file ∷ files) = (length text ≤ file_limit file) × AreWithin texts files
+AreWithin [] (file ∷ files) = ⊥
 AreWithin (text ∷ texts) [] = ⊥
 
 -- all files of a command are fetched, in their order
 abbrev pub FetchesAll : ShelfState → ShelfState → List Wanted → Result (List (List ℕ)) Stop → Type 0
 FetchesAll old new wants (Ok texts) =
-    (new ≡ old) × AreWithin texts wants × (IsTrue old.known → contents old.files wants ≡ Ok texts)
+    (new ≡ old) × AreWithin texts (kinds_of wants) × (IsTrue old.known → contents old.files wants ≡ Ok texts)
 FetchesAll old new wants (Err stop) = FetchStops (ReadFailed wants old new) old new (contents old.files wants) stop
 
--- what is to be stored and put
-abbrev pub ready : Prepared → Product
-ready prepared = record { stored = prepared.stored; text = prepared.text }
-
 -- the fetches of a command and what is made of them
-abbrev pub Prepares : Task → ShelfState → ShelfState → Result Prepared Stop → Type 0
-Prepares task old new (Ok made) = (new ≡ old) × (IsTrue old.known → verdict task old.files ≡ Ok (ready made))
-Prepares task old new (Err stop) = FetchStops (ReadFailed task.wants old new) old new (verdict task old.files) stop
+abbrev pub Prepares : Request → ShelfState → ShelfState → Result Product Stop → Type 0
+Prepares request old new (Ok made) = (new ≡ old) × (IsTrue old.known → verdict request old.files ≡ Ok made)
+Prepares request old new (Err stop) =
+    FetchStops (ReadFailed request.reads old new) old new (verdict request old.files) stop
 
 -- ---- the end of a command
 
+-- why a put stops
 abbrev pub TextStops : SinkState → SinkState → List ℕ → Stop → Type 0
 TextStops out out' text (Input fault) = ⊥
 TextStops out out' text (Device Read) = ⊥
@@ -66,6 +66,7 @@ PutsText out out' text (Ok _) =
     (IsTrue out.known → Appends out.taken out'.taken text) × (out' ≡ record out { taken = out'.taken })
 PutsText out out' text (Err stop) = TextStops out out' text stop
 
+-- why a delivery stops
 abbrev pub DeliveryStops : Option (List ℕ) → Product → Call → Stop → Type 0
 DeliveryStops name product call (Input fault) = ⊥
 DeliveryStops name product call (Device Read) = ⊥

@@ -1,5 +1,6 @@
 -- What a worker counts, beside what its pass shows.
 use Rattle.std.specs.Prelude.{◌≡◌, ℕ, ◌+◌, ◌*◌, ◌<◌, ◌≤◌, ◌⊎◌, ◌^◌, None, true, length}
+use Rattle.scope_types.specs.Limits.{stripe_count}
 use Rattle.stripe_table.specs.Values.{StripesValue, IsPassOf}
 use Rattle.stripe_table.specs.declared.view.Hold.TheVariants.{Free}
 use Rattle.merge_crew.specs.declared.work.Worker.{Worker}
@@ -15,8 +16,8 @@ pub record Counts (stripes : StripesValue) (left : ℕ) (w : Worker) : Type 0 wh
   pub merged : w.merged ≡ length w.pass.view.puts
   pub busy : 64 * w.busy_left ≤ w.pass.view.busy
   pub present : w.present ≡ w.pass.view.met
-  pub few : pieces_counted w + left ≤ 16 * w.pass.view.got
-  pub all : w.failed ≡ None → pieces_counted w + left ≡ 16 * w.pass.view.got
+  pub few : pieces_counted w + left ≤ stripe_count * w.pass.view.got
+  pub all : w.failed ≡ None → pieces_counted w + left ≡ stripe_count * w.pass.view.got
 
 -- it has made and taken in no pass since
 pub record KeepsPasses (w w' : Worker) : Type 0 where

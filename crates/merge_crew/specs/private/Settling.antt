@@ -1,5 +1,6 @@
 -- Marks of the chunks that stripes name, and what settling does to the names.
 use Rattle.std.specs.Prelude.{◌≡◌, ℕ, ◌<◌, Bool, false, ltb, List, [], length, slice_index_or}
+use Rattle.scope_types.specs.Limits.{stripe_count}
 use Rattle.stripe_table.specs.Ends.{stripe_names}
 use Rattle.stripe_table.specs.Views.{occurrences, sum_below}
 use Rattle.stripe_table.specs.declared.stripe.Stripe.{Stripe}
@@ -25,12 +26,12 @@ pub record MarksChunks (chunks : ℕ) (names : List ℕ) (marks : List Bool) : T
 
 -- the marks of each stripe
 pub record MarksAll (chunks : ℕ) (all : List Stripe) (marks : List (List Bool)) : Type 0 where
-  pub count : length marks ≡ 16
-  pub each : (s : ℕ) → s < 16 → MarksChunks chunks (stripe_names all s) (slice_index_or marks s [])
+  pub count : length marks ≡ stripe_count
+  pub each : (s : ℕ) → s < stripe_count → MarksChunks chunks (stripe_names all s) (slice_index_or marks s [])
 
 -- how many names the sixteen stripes have
 abbrev pub name_count : List Stripe → ℕ
-name_count all = sum_below 16 (λ s. length (stripe_names all s))
+name_count all = sum_below stripe_count (λ s. length (stripe_names all s))
 
 -- the stripes name the chunk c as often as before
 abbrev pub SameNames : List Stripe → List Stripe → ℕ → Type 0

@@ -7,7 +7,7 @@ use Rattle.tree_types.specs.declared.content.Kind.{Kind}
 use Rattle.tree_types.specs.declared.content.Kind.TheVariants.{Exclusive, Frame, Inclusive}
 use Rattle.tree_types.specs.declared.node_values.NodeValue.{NodeValue}
 use Rattle.tree_types.specs.NodeValues.{nonzero}
-use Rattle.metric_sums.specs.declared.hart_sums.Sum.{Sum}
+use Rattle.metric_sums.specs.declared.column_sums.Sum.{Sum}
 use Rattle.metric_sums.specs.declared.ancestors.OpenNode.{OpenNode}
 use Rattle.metric_sums.specs.private.Sums.{handed_up, sum_of_both, no_paths}
 
@@ -16,6 +16,7 @@ abbrev pub is_node : ℕ → Option OpenNode → Bool
 is_node node None = false
 is_node node (Some o) = o.node == node
 
+-- whether the last of the ancestors is this node
 abbrev pub ends_with : ℕ → List OpenNode → Bool
 ends_with node ancestors = is_node node (slice_get ancestors (length ancestors - 1))
 
@@ -26,8 +27,8 @@ LeavesAncestors node old new (Some sums) = old ≡ new ++ record { node = node; 
 
 -- the sums of a node: those of the last of the ancestors, or new ones
 abbrev pub SumsOf : ℕ → ℕ → List OpenNode → List OpenNode → List Sum → Type 0
-SumsOf harts node old new sums = (old ≡ new ++ record { node = node; sums = sums } ∷ [])
-    ⊎ ((ends_with node old ≡ false) × (new ≡ old) × (sums ≡ replicate harts no_paths))
+SumsOf columns node old new sums = (old ≡ new ++ record { node = node; sums = sums } ∷ [])
+    ⊎ ((ends_with node old ≡ false) × (new ≡ old) × (sums ≡ replicate columns no_paths))
 
 -- sums that are joined to another node's
 abbrev pub IsJoined : Scope → List Sum → List Sum → List Sum → Type 0
@@ -50,15 +51,18 @@ HandsUp parent scope sums old new =
 
 -- ---- the values of sums
 
+-- the value of so many paths, in retired instructions
 abbrev pub value_of_kind : ℕ → ℕ → ℕ → Kind → ℕ → NodeValue
-value_of_kind period node hart kind paths = record { node = node; hart = hart; kind = kind; value = period * paths }
+value_of_kind period node column kind paths =
+    record { node = node; column = column; kind = kind; value = period * paths }
 
+-- the three values of a node's sum
 abbrev pub sum_values : ℕ → ℕ → ℕ → Sum → List NodeValue
-sum_values period node hart s = value_of_kind period node hart Exclusive s.exclusive
-    ∷ value_of_kind period node hart Frame s.frame ∷ value_of_kind period node hart Inclusive s.inclusive ∷ []
+sum_values period node column s = value_of_kind period node column Exclusive s.exclusive
+    ∷ value_of_kind period node column Frame s.frame ∷ value_of_kind period node column Inclusive s.inclusive ∷ []
 
--- those of the harts from one on
+-- those of the columns from one on
 abbrev pub values_of_sums : ℕ → ℕ → List Sum → ℕ → ℕ → List NodeValue
 values_of_sums period node sums first count =
-    nonzero (flat_map (λ hart. sum_values period node hart (slice_index_or sums hart no_paths))
+    nonzero (flat_map (λ column. sum_values period node column (slice_index_or sums column no_paths))
     (range_with_len first count))

@@ -19,9 +19,11 @@ use Rattle.path_trie.specs.Trie.{IsIndex, path_at, counted_entry, trie_nodes, sa
 abbrev pub Key : Type 0
 Key = ℕ × Scope
 
+-- the nodes that do not lie right after their parents: the index of each by its key
 abbrev pub Branches : Type 0
 Branches = List (Key × ℕ)
 
+-- the same parent and the same scope
 abbrev pub same_key : Key → Key → Bool
 same_key a b = a.0 == b.0 && scopes.eq a.1 b.1
 
@@ -29,12 +31,15 @@ same_key a b = a.0 == b.0 && scopes.eq a.1 b.1
 abbrev pub branch_at : Branches → Key → Option ℕ
 branch_at branches key = lookup (same_key key) branches
 
+-- what a look-up past the last node gives
 abbrev pub no_node : Node
 no_node = record { parent = no_parent; scope = Root Thread }
 
+-- the node with an index
 abbrev pub linked_node : List Node → ℕ → Node
 linked_node nodes i = slice_index_or nodes i no_node
 
+-- the node with this parent and this scope
 abbrev pub node_with : ℕ → Scope → Node
 node_with parent scope = record { parent = parent; scope = scope }
 
@@ -59,7 +64,7 @@ pub record Rooted (nodes : List Node) : Type 0 where
   pub once : (i j : ℕ) → i < length nodes → j < length nodes
       → slice_index_or (tree_paths nodes) i [] ≡ slice_index_or (tree_paths nodes) j [] → i ≡ j
 
--- and those of them that do not stand right after their parents, by key
+-- and those of them that do not lie right after their parents, by key
 pub record Linked (nodes : List Node) (branches : Branches) : Type 0 where
   pub rooted : Rooted nodes
   pub listed : (i : ℕ) → i < length nodes → i ≢ next_index (linked_node nodes i).parent
@@ -76,12 +81,13 @@ pub record Extends (old new : List Path) : Type 0 where
 abbrev pub last_one : List Node → ℕ → ℕ
 last_one nodes index = if next_index index == length nodes then 1 else 0
 
+-- the entries that ends at nodes count
 abbrev pub entries_at : List Node → List PathEnd → List Entry
 entries_at nodes ends = map (counted_entry (tree_paths nodes)) ends
 
--- an end of a hart at a node
+-- an end of a column at a node
 abbrev pub ends_at : ℕ → ℕ → PathEnd → Bool
-ends_at node hart e = e.node == node && e.hart == hart
+ends_at node column e = e.node == node && e.column == column
 
 -- what holds of the nodes and the ends
 pub record IsTrie (nodes : List Node) (branches : Branches) (ends : List PathEnd) : Type 0 where

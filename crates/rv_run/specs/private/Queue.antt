@@ -26,18 +26,19 @@ abbrev pub HaveRoom : MachineState → List Slice → Type 0
 HaveRoom s left = (hart : ℕ) → (hart_of s hart).retired + instructions left ≤ most_instructions
 
 -- the first slice has an instruction that its hart can do
-abbrev pub IsNext : MachineState → Slice → Type 0
-IsNext s slice = (0 < slice.count) × (is_running (hart_of s slice.hart) ≡ true)
+abbrev pub CanGoOn : MachineState → Slice → Type 0
+CanGoOn s slice = (0 < slice.count) × (is_running (hart_of s slice.hart) ≡ true)
 
-abbrev pub StandsAt : MachineState → List Slice → Type 0
-StandsAt s [] = Unit {0}
-StandsAt s (slice ∷ rest) = IsNext s slice
+-- the first of these slices has one
+abbrev pub FirstCanGoOn : MachineState → List Slice → Type 0
+FirstCanGoOn s [] = Unit {0}
+FirstCanGoOn s (slice ∷ rest) = CanGoOn s slice
 
--- a machine that stands at its next instruction, if there is one
+-- a machine before its next instruction, if there is one
 pub record IsReady (p : Progress) : Type 0 where
   pub harts : AreOfHarts (length p.state.harts) p.left
   pub room : HaveRoom p.state p.left
-  pub stands : StandsAt p.state p.left
+  pub next : FirstCanGoOn p.state p.left
 
 -- a given number of instructions of one hart were carried out, each of which retired by itself
 pub record Passing (hart many : ℕ) (old new : MachineState) : Type 0 where

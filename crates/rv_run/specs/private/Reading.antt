@@ -16,10 +16,12 @@ to_read unread = numbered_lines (unread.done + 1) unread.rest
 abbrev pub all_lines : Unread → ℕ
 all_lines unread = unread.done + length unread.rest
 
+-- the first element, if there is one
 abbrev pub first_or_none : {X : Type 0} → List X → Option X
 first_or_none [] = None
 first_or_none (x ∷ rest) = Some x
 
+-- the elements after the first
 abbrev pub rest_of : {X : Type 0} → List X → List X
 rest_of [] = []
 rest_of (x ∷ rest) = rest
@@ -28,5 +30,6 @@ rest_of (x ∷ rest) = rest
 abbrev pub numbered_line : Line → NumberedLine
 numbered_line line = record { number = line.number; bytes = line.bytes.now }
 
+-- and a line that there may be
 abbrev pub line_told : Option Line → Option NumberedLine
 line_told line = option_map numbered_line line

@@ -19,6 +19,7 @@ pub record IsNext (period retired next : ℕ) : Type 0 where
   pub above : retired < next
   pub least : next ≤ retired + period
 
+-- a clock knows the ordinal of each hart's next sample
 pub record IsClock (s : Sampling) (next : List ℕ) : Type 0 where
   pub some : 0 < s.period
   pub fits : s.period < 2 ^ 32
@@ -29,7 +30,7 @@ pub record IsClock (s : Sampling) (next : List ℕ) : Type 0 where
 
 -- no sample was met, and there may be more
 pub record NoneMet (old new : Sampling) : Type 0 where
-  pub stands : Unsampled old new
+  pub carried : Unsampled old new
   pub met : new.met ≡ old.met
   pub few : old.met ≤ most_samples
 
@@ -52,19 +53,21 @@ pub record OneSampled (path_of : Paths) (sample : Sample) (old new : Sampling) :
 
 -- some were carried out that are not sampled, one at least
 pub record SomeUnsampled (old new : Sampling) : Type 0 where
-  pub stands : Unsampled old new
-  pub some : 0 < length stands.passed
+  pub carried : Unsampled old new
+  pub some : 0 < length carried.passed
   pub met : new.met ≡ old.met
 
 -- memory ran out; some may have been carried out before that are not sampled
 pub record BrokeOff (old new : Sampling) : Type 0 where
-  pub stands : Unsampled old new
+  pub carried : Unsampled old new
   pub met : new.met ≡ old.met
 
+-- the run has ended
 pub record Ended (old new : Sampling) : Type 0 where
   pub ended : to_come old.machine ≡ finished old.machine.state
   pub same : new ≡ old
 
+-- what comes next of a run was carried out
 abbrev pub Advances : Paths → Result Advance Memory → Sampling → Sampling → Type 0
 Advances path_of (Ok advances.End) old new = Ended old new
 Advances path_of (Ok advances.Unsampled) old new = SomeUnsampled old new

@@ -1,4 +1,4 @@
--- The intervals of addresses at which the same items stand, and what is kept for each.
+-- The intervals of addresses that the same items hold, and what is kept for each.
 use Rattle.std.specs.Prelude.{◌≡◌, ℕ, ◌<◌, ◌≤◌, nat_le, List, [], ◌∷◌, ◌++◌, length, map, find, reverse, take, drop}
 use Rattle.std.specs.Prelude.{Option, Some, None, slice_get, slice_index_or, All, Vec}
 use Rattle.std.specs.Global.{Global}
@@ -14,6 +14,7 @@ use Rattle.scope_find.specs.private.Spans.{IsOpenAfter, IsOpenAt, IsProcedureAt,
 
 -- ---- lists of numbers
 
+-- lists as contracts see them
 abbrev pub numbers_of : List (Vec ℕ Global) → List (List ℕ)
 numbers_of lists = map (λ v. v.items) lists
 
@@ -42,6 +43,7 @@ pub record IsRightInterval (s : ProgramStructure) (lists : List (List ℕ)) (add
   pub known : All (λ number. number < length s.items) numbers
   pub calls : items_at s numbers ≡ calls_at s address p.subprogram
 
+-- no interval holds an address without a subprogram, and else the interval that does is right
 abbrev pub IsRightAt : ProgramStructure → List (List ℕ) → ℕ → Option AddressInterval → Type 0
 IsRightAt s lists address None = subprogram_at s address ≡ None
 IsRightAt s lists address (Some p) = IsRightInterval s lists address p

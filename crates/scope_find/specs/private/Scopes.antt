@@ -10,6 +10,7 @@ use Rattle.scope_find.specs.Symbols.{procedure_by_symbol}
 use Rattle.scope_find.specs.Found.{inline_scope}
 use Rattle.scope_find.specs.private.Spans.{item_at}
 
+-- the number of the subprogram of an interval, if it has one
 abbrev pub subprogram_of : Option AddressInterval → Option ℕ
 subprogram_of None = None
 subprogram_of (Some p) = p.subprogram
@@ -24,5 +25,6 @@ abbrev pub procedure_by : ProgramStructure → ProgramImage → ℕ → Option �
 procedure_by s image address None = procedure_by_symbol image address
 procedure_by s image address (Some number) = Die (item_at s number).identity
 
+-- the inlined calls with these numbers
 abbrev pub scopes_by : ProgramStructure → List ℕ → List (ProcId × LineId)
 scopes_by s numbers = map (λ number. inline_scope (item_at s number)) numbers

@@ -17,23 +17,29 @@ pub record IsSpan (s : ProgramStructure) (q : Span) : Type 0 where
   pub kind : q.inlined ≡ item.inlined
   pub counted : Contains (item_ranges s item) (q.start, q.end)
 
+-- a range of an item as a span
 abbrev pub span_of : Numbered → ℕ × ℕ → Span
 span_of i r = record { inlined = i.1.inlined; item = i.0; start = r.0; end = r.1 }
 
 -- ---- events
 
+-- the event where a span starts
 abbrev pub starting : Span → Event
 starting q = record { address = q.start; span = q }
 
+-- the event where a span ends
 abbrev pub ending : Span → Event
 ending q = record { address = q.end; span = q }
 
+-- a range's two events
 abbrev pub range_events : Numbered → ℕ × ℕ → List Event
 range_events i r = starting (span_of i r) ∷ ending (span_of i r) ∷ []
 
+-- the events of all ranges of an item
 abbrev pub item_events : ProgramStructure → Numbered → List Event
 item_events s i = flat_map (range_events i) (item_ranges s i.1)
 
+-- the events of all items
 abbrev pub all_events : ProgramStructure → List Event
 all_events s = flat_map (item_events s) (numbered s)
 
@@ -60,6 +66,7 @@ pub record IsOpenAfter (events : List Event) (held : List Span) : Type 0 where
   pub lasting : (q : Span) → Contains held q → Contains events (ending q) → ⊥
   pub all : (q : Span) → Contains events (starting q) → (Contains events (ending q) → ⊥) → Contains held q
 
+-- these are spans of items
 abbrev pub AreSpans : ProgramStructure → List Span → Type 0
 AreSpans s held = (q : Span) → Contains held q → IsSpan s q
 
@@ -72,9 +79,11 @@ pub record IsOpenAt (s : ProgramStructure) (held : List Span) (address : ℕ) : 
 
 -- ---- the first item of a kind, from a number on, with an open range
 
+-- no open span of a kind is of an item with this number or a later one
 abbrev pub NoneOpen : List Span → Bool → ℕ → Type 0
 NoneOpen held inlined low = (q : Span) → Contains held q → q.inlined ≡ inlined → q.item < low
 
+-- of the items of a kind from the number `low` on, `number` is the first that has an open span
 pub record IsFirstOpen (held : List Span) (inlined : Bool) (low number : ℕ) : Type 0 where
   pub span : Span
   pub there : Contains held span
@@ -85,6 +94,7 @@ pub record IsFirstOpen (held : List Span) (inlined : Bool) (low number : ℕ) : 
 
 -- ---- the procedure at an address, and the calls inlined there
 
+-- the item with that number is the first subprogram that holds the address
 pub record IsProcedure (s : ProgramStructure) (address number : ℕ) : Type 0 where
   pub item : Subroutine
   pub there : slice_get s.items number ≡ Some item
@@ -95,9 +105,11 @@ abbrev pub IsProcedureAt : ProgramStructure → ℕ → Option ℕ → Type 0
 IsProcedureAt s address None = subprogram_at s address ≡ None
 IsProcedureAt s address (Some number) = IsProcedure s address number
 
+-- the calls that are inlined at an address, of the items from `low` up to `end`
 abbrev pub inlined_from : ProgramStructure → ℕ → ℕ → ℕ → List Subroutine
 inlined_from s address low end = inlined_before s address end (drop low (numbered s))
 
+-- the item with that number is the first of these calls, and the others are inlined into it
 pub record IsInlinedNext (s : ProgramStructure) (address low end number : ℕ) : Type 0 where
   pub item : Subroutine
   pub there : slice_get s.items number ≡ Some item
@@ -108,6 +120,7 @@ abbrev pub IsNextInlined : ProgramStructure → ℕ → ℕ → ℕ → Option �
 IsNextInlined s address low end None = inlined_from s address low end ≡ []
 IsNextInlined s address low end (Some number) = IsInlinedNext s address low end number
 
+-- the item that a number past the end gives
 abbrev pub no_item : Subroutine
 no_item = record {
   offset = 0;
@@ -119,6 +132,7 @@ no_item = record {
   range_count = 0;
 }
 
+-- the item with a number
 abbrev pub item_at : ProgramStructure → ℕ → Subroutine
 item_at s number = slice_index_or s.items number no_item
 

@@ -22,8 +22,8 @@ pub record HasRoom (x : StripeValue) (piece : Piece) : Type 0 where
 pub record TakesIn (x : StripeValue) (piece : Piece) (y : StripeValue) : Type 0 where
   pub names : y.names ≡ x.names ++ piece.chunk ∷ []
   pub merged : y.trie ≡ x.trie ++ piece.entries
-  pub counts : (hart : ℕ) (path : Path)
-      → count_of y.trie hart path ≡ count_of x.trie hart path + count_of piece.entries hart path
+  pub counts : (column : ℕ) (path : Path)
+      → count_of y.trie column path ≡ count_of x.trie column path + count_of piece.entries column path
   pub nodes : (n : Path)
       → has_node (trie_nodes y.trie) n ≡ (has_node (trie_nodes x.trie) n || has_node (all_prefixes piece.entries) n)
   pub samples : samples_of y.trie ≡ samples_of x.trie + samples_of piece.entries

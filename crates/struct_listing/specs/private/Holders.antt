@@ -10,9 +10,11 @@ use Rattle.scope_find.specs.Found.{item_ranges}
 use Rattle.struct_listing.specs.declared.symbols.CodeRange.{CodeRange}
 use Rattle.struct_listing.specs.Listing.{symbol_line}
 
+-- a range as the code holds it
 abbrev pub code_range : ℕ × ℕ → CodeRange
 code_range r = record { start = r.0; end = r.1 }
 
+-- the addresses of a range that the code holds
 abbrev pub code_range_of : CodeRange → AddressRange
 code_range_of r = record { start = r.start; end = r.end }
 

@@ -13,7 +13,7 @@ use Rattle.struct_listing.specs.Listing.{is_listed_subprogram, is_listed_symbol,
 abbrev pub scopes_of : Program → ProgramScopes
 scopes_of p = record { structure = p.structure.now; lines = p.lines.now; image = p.image.now }
 
--- what stands before the range with an index
+-- what comes before the range with an index
 abbrev pub separator : ℕ → List ℕ
 separator at = if nat_lt 0 at then codes "," else []
 

@@ -10,9 +10,11 @@ use Rattle.tree_types.specs.declared.content.Node.{Node}
 use Rattle.path_trie.specs.private.Linked.{linked_node, next_index}
 use Rattle.tree_join.specs.declared.children.Sibling.{Sibling}
 
+-- the index right after the parent of a node
 abbrev pub slot_at : List Node → ℕ → ℕ
 slot_at nodes i = next_index (linked_node nodes i).parent
 
+-- whether a flag is set
 abbrev pub flag_at : List Bool → ℕ → Bool
 flag_at flags i = slice_index_or flags i false
 
@@ -20,7 +22,7 @@ flag_at flags i = slice_index_or flags i false
 abbrev pub sibling_at : List Node → ℕ → Sibling
 sibling_at nodes i = record { slot = slot_at nodes i; scope = (linked_node nodes i).scope; index = i }
 
--- the nodes below k at whose parents' next indices a flag stands
+-- the nodes below k at whose parents' next indices a flag is set
 abbrev pub siblings_below : List Node → List Bool → ℕ → List Sibling
 siblings_below nodes flags zero = []
 siblings_below nodes flags (suc k) = if flag_at flags (slot_at nodes k)
@@ -31,7 +33,7 @@ abbrev pub sibling_order : Sibling → Sibling → Ordering
 sibling_order a b = ordering_then (nat_cmp a.slot b.slot)
     (ordering_then (scope_order a.scope b.scope) (nat_cmp a.index b.index))
 
--- where no flag stands, the one child is right after its parent
+-- where no flag is set, the one child is right after its parent
 abbrev pub MarksBranches : List Node → List Bool → Type 0
 MarksBranches nodes flags = (i : ℕ) → i < length nodes → flag_at flags (slot_at nodes i) ≡ false → slot_at nodes i ≡ i
 
@@ -57,7 +59,7 @@ group_at siblings slot = filter (λ s. s.slot == slot) siblings
 abbrev pub indices_down : List Sibling → List ℕ
 indices_down group = map (λ s. s.index) (reverse group)
 
--- the child that stands right after a node
+-- the child that lies right after a node
 abbrev pub run_child : List Node → ℕ → List ℕ
 run_child nodes parent =
     let next = next_index parent in

@@ -11,13 +11,13 @@ use Rattle.tree_types.specs.Tree.{CountedTree, count_at, paths_in}
 use Rattle.path_trie.specs.Trie.{trie_node, nth_path, count_of}
 use Rattle.tree_join.specs.Join.{nodes_of_all}
 
--- the tree of these entries, for a given number of harts
-pub record IsTreeOf (parts : List (List Entry)) (harts : ℕ) (tree : CountedTree) : Type 0 where
-  pub harts_are : tree.harts ≡ harts
+-- the tree of these entries, for a given number of columns
+pub record IsTreeOf (parts : List (List Entry)) (columns : ℕ) (tree : CountedTree) : Type 0 where
+  pub columns_are : tree.columns ≡ columns
   pub nodes : tree.nodes ≡ map (trie_node (nodes_of_all parts)) (nodes_of_all parts)
-  pub counts : (node hart : ℕ) → node < length tree.nodes
-      → count_at tree.counts node hart ≡ sum_by (λ es. count_of es hart (nth_path (nodes_of_all parts) node)) parts
+  pub counts : (node column : ℕ) → node < length tree.nodes
+      → count_at tree.counts node column ≡ sum_by (λ es. count_of es column (nth_path (nodes_of_all parts) node)) parts
   pub few : length tree.nodes < no_parent
-  pub paths : All (CountsSamples harts) (flat_map (λ es. es) parts)
+  pub paths : All (CountsSamples columns) (flat_map (λ es. es) parts)
       → Alike (paths_in tree) (each_path (flat_map (λ es. es) parts))
       × (tree.nodes ≡ node_list (each_path (flat_map (λ es. es) parts)))

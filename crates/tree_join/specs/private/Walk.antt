@@ -36,6 +36,7 @@ renumbered nodes numbers index =
       scope = (linked_node nodes index).scope;
     }
 
+-- the path with an index, and else no scopes
 abbrev pub path_or_none : List Path → ℕ → Path
 path_or_none paths i = slice_index_or paths i []
 
@@ -82,6 +83,7 @@ pub record Walks (nodes : List Node) (numbers stack : List ℕ) (order : List No
       → (j : ℕ) × (j < length stack)
       × IsBelow (path_or_none (tree_paths nodes) (slice_index_or stack j 0)) (path_or_none (tree_paths nodes) q)
 
+-- the nodes of the trie that is walked over
 abbrev pub nodes_in : Walker → List Node
 nodes_in w = w.children.nodes.now
 
@@ -89,6 +91,7 @@ nodes_in w = w.children.nodes.now
 abbrev pub walked_entries : Walker → List Entry
 walked_entries w = map (counted_entry (tree_paths (nodes_in w))) w.ends.now
 
+-- the node with the index that is next, if one is, with its parent's number
 abbrev pub next_node : List Node → List ℕ → Option ℕ → Option Node
 next_node nodes numbers None = None
 next_node nodes numbers (Some index) = Some (renumbered nodes numbers index)
@@ -105,7 +108,7 @@ pub record IsReady (w : Walker) : Type 0 where
   pub indices : All (λ p. p < length (nodes_in w)) w.stack.items
   pub before : (i : ℕ) → i < length (nodes_in w) → IsIndex (linked_node (nodes_in w) i).parent i
 
--- a walk over a trie, of whose nodes those that are numbered stand in order
+-- a walk over a trie, of whose nodes those that are numbered are in order
 pub record WalksTrie (children : Children) (ends : List PathEnd) (numbers stack : List ℕ) (order : List Node)
     : Type 0 where
   pub groups : Groups children.nodes.now children.flags.items children.siblings.items
@@ -114,6 +117,7 @@ pub record WalksTrie (children : Children) (ends : List PathEnd) (numbers stack 
   pub ends_in : All (λ e. IsIndex e.node (length children.nodes.now)) ends
   pub walks : Walks children.nodes.now numbers stack order
 
+-- the same of a walker's fields
 abbrev pub IsWalker : List Node → Walker → Type 0
 IsWalker order w = WalksTrie w.children w.ends.now w.numbers.items w.stack.items order
 
@@ -126,7 +130,7 @@ pub record Walking (parts : List (List Entry)) (walkers : List Walker) (order : 
   pub among : (i : ℕ) → i < length order → Contains (flat_map trie_nodes parts) (path_or_none (tree_paths order) i)
   pub few : length (flat_map trie_nodes parts) ≤ most_scopes_in_all
 
--- whether a node stands before another, where both are next: the one whose parent is deeper, and below one parent
+-- whether a node comes before another, where both are next: the one whose parent is deeper, and below one parent
 -- the one with the smaller scope
 abbrev pub node_before : Node → Node → Bool
 node_before a b = nat_lt (next_index b.parent) (next_index a.parent)
@@ -155,11 +159,11 @@ pub record PassUpTo (k : ℕ) (node : Node) (number : ℕ) (old new : List Walke
       → Passes node number (slice_index_or old i d) (slice_index_or new i d)
   pub rest : (i : ℕ) (d : Walker) → k ≤ i → slice_index_or new i d ≡ slice_index_or old i d
 
--- a node that stands before what is next in a walk, if anything is
+-- a node that comes before what is next in a walk, if anything is
 abbrev pub Leads : Node → Walker → Type 0
 Leads node w = IfSome (head_node w) (λ h. node_before node h ≡ true)
 
--- a node before which nothing stands that is next in a walk
+-- a node before which nothing comes that is next in a walk
 abbrev pub NotAfter : Node → Walker → Type 0
 NotAfter node w = IfSome (head_node w) (λ h. node_before h node ≡ false)
 

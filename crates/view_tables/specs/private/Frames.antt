@@ -8,7 +8,7 @@ use Rattle.tree_types.specs.declared.content.Kind.TheVariants.{Exclusive}
 use Rattle.tree_types.specs.Nodes.{no_parent}
 use Rattle.tree_types.specs.Paths.{Path}
 use Rattle.tree_types.specs.PathsOf.{paths_of}
-use Rattle.tree_types.specs.TopDown.{over_harts}
+use Rattle.tree_types.specs.TopDown.{over_columns}
 use Rattle.tree_types.specs.Tree.{node_at}
 use Rattle.view_tables.specs.declared.frames.Frames.{Frames}
 use Rattle.view_tables.specs.declared.occurrence.View.{View}
@@ -23,6 +23,7 @@ use Rattle.view_tables.specs.private.Rows.{path_of_node, total_value}
 abbrev pub parent_at : Content → ℕ → ℕ
 parent_at c number = (node_at c.nodes number).parent
 
+-- the own scope of the node with a number
 abbrev pub scope_at : Content → ℕ → Scope
 scope_at c number = (node_at c.nodes number).scope
 
@@ -49,6 +50,7 @@ pub record IsHead (view : View) (c : Content) (number head : ℕ) : Type 0 where
   pub same : SameProcs view (ups c number) (ups c head)
   pub stop : head < length c.nodes → stops view (scope_at c head) ≡ true
 
+-- the heads of the first nodes, one for each
 pub record AreHeads (view : View) (c : Content) (heads : List ℕ) : Type 0 where
   pub long : length heads ≤ length c.nodes
   pub each : (number : ℕ) → number < length heads → IsHead view c number (head_above heads number)
@@ -82,10 +84,10 @@ weight_if test weights number = if test number then slice_index weights number e
 abbrev pub weighed : (ℕ → Bool) → List ℕ → ℕ → ℕ
 weighed test weights n = sum_below (weight_if test weights) n
 
--- the exclusive value of each node, over all harts
+-- the exclusive value of each node, over all columns
 pub record AreCosts (c : Content) (costs : List ℕ) : Type 0 where
   pub each : (number : ℕ) → number < length costs
-      → slice_index costs number ≡ over_harts c.period c.harts (paths_of c) (path_of_node c number) Exclusive
+      → slice_index costs number ≡ over_columns c.period c.columns (paths_of c) (path_of_node c number) Exclusive
 
 -- weights that stand for the samples, where from a number on only frames have some
 pub record AreWeights (view : View) (c : Content) (from : ℕ) (weights : List ℕ) : Type 0 where

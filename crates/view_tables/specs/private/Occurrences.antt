@@ -22,15 +22,18 @@ use Rattle.view_tables.specs.Flat.{call_line, frame_at, frame_proc, frames_up}
 
 -- ---- items and rows of the code
 
+-- the item that the code's item is
 abbrev pub item_seen : ItemRef → Item
 item_seen (File name) = views.File name.now
 item_seen (Procedure id) = views.Procedure id
 item_seen (SourceLine line) = views.SourceLine line
 item_seen (Instruction address) = views.Instruction address
 
+-- and those of a list
 abbrev pub items_seen : List ItemRef → List Item
 items_seen items = map item_seen items
 
+-- the row that the code's row is
 abbrev pub row_seen : RowRef → ViewRow
 row_seen r = record { inclusive = r.inclusive.0; item = item_seen r.item; exclusive = r.exclusive }
 
@@ -49,6 +52,7 @@ view_sample Flat naming scopes = frames_up naming scopes
 abbrev pub sample_at : View → Content → ℕ → Sequences
 sample_at view c number = view_sample view (naming_in c.names) (ups c number)
 
+-- the first of a sample's sequences, and else no items
 abbrev pub first_sequence : Sequences → List Item
 first_sequence [] = []
 first_sequence (items ∷ sample) = items
@@ -68,6 +72,7 @@ node_items view c number = frame_items view (naming_in c.names) (ups c number) 0
 abbrev pub items_left : View → Content → Occurrence → List Item
 items_left view c p = frame_items view (naming_in c.names) (ups c p.node) p.level
 
+-- whether a list has an element
 abbrev pub is_some_list : {X : Type 0} → List X → Bool
 is_some_list [] = false
 is_some_list (x ∷ xs) = true
@@ -85,6 +90,7 @@ has_frame Flat (s ∷ outer) = is_some_list (call_line s) && is_some_list (frame
 abbrev pub Held : Type 0
 Held = ℕ × List Item
 
+-- an occurrence as its frame and its items
 abbrev pub held : View → Content → Occurrence → Held
 held view c p = (p.frame, items_left view c p)
 
@@ -93,9 +99,11 @@ abbrev pub cut_one : ℕ → List Item → List (Item × Held)
 cut_one frame [] = []
 cut_one frame (a ∷ items) = (a, (frame, items)) ∷ []
 
+-- what all occurrences are cut into
 abbrev pub cuts : List Held → List (Item × Held)
 cuts hs = flat_map (λ h. cut_one h.0 h.1) hs
 
+-- what the code's split is
 abbrev pub cut_of : View → Content → Split → Item × Held
 cut_of view c s = (item_seen s.item, held view c s.rest)
 
@@ -103,15 +111,18 @@ cut_of view c s = (item_seen s.item, held view c s.rest)
 abbrev pub of_item : Item → List (Item × Held) → List Held
 of_item item cs = map (λ s. s.1) (filter (λ s. same_item item s.0) cs)
 
+-- what a chain leaves of occurrences: those that begin with it, without it
 abbrev pub narrowed : List Item → List Held → List Held
 narrowed [] hs = hs
 narrowed (a ∷ chain) hs = narrowed chain (of_item a (cuts hs))
 
 -- ---- all occurrences of a content
 
+-- the occurrence of a node's frame, if the node has one
 abbrev pub occurrence_at : View → Content → ℕ → List Held
 occurrence_at view c number = if has_frame view (ups c number) then (number, node_items view c number) ∷ [] else []
 
+-- those of all nodes, in their order
 abbrev pub all_occurrences : View → Content → List Held
 all_occurrences view c = flat_map (occurrence_at view c) (range_with_len 0 (length c.nodes))
 
@@ -132,7 +143,7 @@ AreSplits view c chain splits = (item : Item)
 abbrev pub AreByItem : List Split → Type 0
 AreByItem splits = IsSortedByKey (λ s. item_seen s.item) item_order splits
 
--- what stands before the labels below the first level
+-- what comes before the labels below the first level
 abbrev pub mark_of : View → List ℕ
 mark_of Callers = codes "<- "
 mark_of Flat = []

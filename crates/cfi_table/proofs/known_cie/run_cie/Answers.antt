@@ -11,8 +11,8 @@ pub returns-in_err-run : goal.returns-in_err-run
 returns-in_err-run c =
     let P : Result CfaForms FrameFault → Type 0 = λ r. FailsBy c.in_err-run.field-0.0 r in
     let failed : FailsBy c.in_err-run.field-0.0 (forms_after (after_cie c.args.section.now c.args.cie.now)) =
-    subst P (sym (cie_forms c.args.section.now c.args.cie.now)) (rw (c.instructions-reader.ensures.reader, c.none-checker.ensures) at c.in_err-run.ensures) in
+    subst P (sym (cie_forms c.args.section.now c.args.cie.now)) (rw (c.instructions-reader.ensures.reader, c.new-checker.ensures) at c.in_err-run.ensures) in
     search rules
 
 pub returns : goal.returns
-returns c = cie_forms c.args.section.now c.args.cie.now ∙ (rw (c.instructions-reader.ensures.reader, c.none-checker.ensures) at c.in_ok-run.ensures)
+returns c = cie_forms c.args.section.now c.args.cie.now ∙ (rw (c.instructions-reader.ensures.reader, c.new-checker.ensures) at c.in_ok-run.ensures)

@@ -5,9 +5,9 @@ use Rattle.cfi_unwind.proofs.unwind_rule.load_each.Goals as goal
 
 pub loop-each-preserved : goal.loop-each-preserved
 loop-each-preserved g c = record {
-  near = c.in-Some.ensures.near;
+  slice = c.in-Some.ensures.slice;
   recovering =
-      subst (λ values. RecoveringEach (g.L.Look.words c.args.memory.now) c.args.registers.now c.args.cfa (map saved_rule c.args.saved.now) (c.loop-each.each-index + 1) values) (sym c.put.ensures)
+      subst (λ values. RecoveringEach (g.L.Look.words c.args.memory.now) c.args.registers.now c.args.cfa (map saved_rule c.args.saved.now) (c.loop-each.each-index + 1) values) (sym c.set_register.ensures)
       (loads_next (g.L.Look.words c.args.memory.now) c.args.registers.now c.args.cfa c.args.saved.now c.loop-each.each-index c.loop-each.registers c.in-Some.value _ c.loop-each-test.true c.in-Some.ensures.word c.loop-each.invariant.recovering);
 }
 

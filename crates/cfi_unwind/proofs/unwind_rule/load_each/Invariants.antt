@@ -6,6 +6,6 @@ use Rattle.cfi_unwind.proofs.unwind_rule.load_each.Given as goal
 
 abbrev pub invariant-loop-each : goal.invariant-loop-each
 invariant-loop-each g l = record {
-  near : HasWords (g.L.Look.words l.memory) l.near;
+  slice : HasWords (g.L.Look.words l.memory) l.slice;
   recovering : RecoveringEach (g.L.Look.words l.memory) l.initial.registers l.cfa (map saved_rule l.saved) l.each-index l.registers;
 }

@@ -1,7 +1,7 @@
 use Rattle.std.proofs.Common.{rules, arith}
 use Rattle.prof_bytes.specs.Outcome.{FailsBy, viewed}
 use Rattle.cfi_table.specs.private.Checking.{execute_forms}
-use Rattle.eh_frame.specs.private.Checked.{listed_forms, put_behind}
+use Rattle.eh_frame.specs.private.Checked.{listed_forms, written_after}
 use Rattle.eh_frame.proofs.Listed.{begins, keeps_short, turns, shortens, fails_by, ends_here, put_short}
 use Rattle.eh_frame.proofs.instructions.translate_instructions.Goals as goal
 
@@ -21,7 +21,7 @@ loop-checker-preserved c =
 
 pub returns-in_err-instruction-clause-gives : goal.returns-in_err-instruction-clause-gives
 returns-in_err-instruction-clause-gives c =
-    let failed : FailsBy c.in_err-instruction.field-0.0 (viewed (put_behind c.args.out.now.items) (listed_forms c.args.addresses.now c.args.factors.now c.args.reader.now c.args.checker.now)) =
+    let failed : FailsBy c.in_err-instruction.field-0.0 (viewed (written_after c.args.out.now.items) (listed_forms c.args.addresses.now c.args.factors.now c.args.reader.now c.args.checker.now)) =
     fails_by execute_forms c.args.addresses.now c.args.factors.now c.args.reader.now c.loop-checker.reader c.args.checker.now c.loop-checker.checker c.args.out.now.items c.loop-checker.out.items c.in_err-instruction.field-0.0 (let lt = c.loop-checker-test.true in omega arith) c.in_err-instruction.ensures c.loop-checker.invariant in
     search rules
 

@@ -2,7 +2,7 @@ use Rattle.std.proofs.Common.{◌≡◌, ◌++◌, ◌∷◌, [], length, sym, s
 use Rattle.std.proofs.lemmas.Result.{err_from_is_err_and}
 use Rattle.sample_clock.specs.Clock.{Sampling, Given}
 use Rattle.scope_types.specs.Distinct.{distinct}
-use Rattle.hpc_top.specs.Samples.{hart_raw}
+use Rattle.hpc_top.specs.Samples.{column_raw}
 use Rattle.hpc_top.proofs.Collecting.{SoFar, so_far_first, so_far_hart, so_far_room, so_far_counts, so_far_more, so_far_refused, so_far_over, so_far_stops, given_by, over_by}
 use Rattle.hpc_top.proofs.collect.collect.Goals as goal
 
@@ -12,7 +12,7 @@ loop-sample-init g c = so_far_first _ c.args.harts c.args.samples.now _ c.requir
 pub count_sample-requires-clause-hart : goal.count_sample-requires-clause-hart
 count_sample-requires-clause-hart g c =
     so_far_hart (g.U.Unwind.path_of c.args.unwinder.now) c.args.harts c.args.samples.now c.loop-sample.samples c.next_sample.new.samples c.loop-sample.ccts c.loop-sample.invariant c.in-Ok-Some.sample
-    (given_by (g.U.Unwind.path_of c.args.unwinder.now) c.in-Ok-Some.field-0 c.in-Ok-Some.sample c.loop-sample.samples c.next_sample.new.samples c.in-Ok-Some.field-0-is c.in-Ok-Some.ensures.answer) (c.samples_are_counted.ensures.harts c.args.harts c.loop-sample.invariant.done)
+    (given_by (g.U.Unwind.path_of c.args.unwinder.now) c.in-Ok-Some.field-0 c.in-Ok-Some.sample c.loop-sample.samples c.next_sample.new.samples c.in-Ok-Some.field-0-is c.in-Ok-Some.ensures.answer) (c.samples_are_counted.ensures.columns c.args.harts c.loop-sample.invariant.done)
 
 pub count_sample-requires-clause-few : goal.count_sample-requires-clause-few
 count_sample-requires-clause-few g c =
@@ -32,7 +32,7 @@ pub loop-sample-preserved : goal.loop-sample-preserved
 loop-sample-preserved g c =
     let given : Given (g.U.Unwind.path_of c.args.unwinder.now) c.in-Ok-Some.sample c.loop-sample.samples c.next_sample.new.samples =
     given_by (g.U.Unwind.path_of c.args.unwinder.now) c.in-Ok-Some.field-0 c.in-Ok-Some.sample c.loop-sample.samples c.next_sample.new.samples c.in-Ok-Some.field-0-is c.in-Ok-Some.ensures.answer in
-    let many : length (distinct c.args.harts c.loop-sample.invariant.done) ≡ c.args.harts = c.samples_are_counted.ensures.harts c.args.harts c.loop-sample.invariant.done in
+    let many : length (distinct c.args.harts c.loop-sample.invariant.done) ≡ c.args.harts = c.samples_are_counted.ensures.columns c.args.harts c.loop-sample.invariant.done in
     subst (λ (s : Sampling). SoFar (g.U.Unwind.path_of c.args.unwinder.now) c.args.harts c.args.samples.now s c.count_sample.new.ccts) (sym c.take_back.ensures)
     (so_far_more (g.U.Unwind.path_of c.args.unwinder.now) c.args.harts c.args.samples.now c.loop-sample.samples c.next_sample.new.samples c.loop-sample.ccts c.loop-sample.invariant c.in-Ok-Some.sample given many c.count_sample.new.ccts c.in-Ok-Some.ensures.last
     (c.in_ok-count_sample-in-Ok-Some.ensures.counts c.loop-sample.invariant.done (so_far_counts (g.U.Unwind.path_of c.args.unwinder.now) c.args.harts c.args.samples.now c.loop-sample.samples c.next_sample.new.samples c.loop-sample.ccts c.loop-sample.invariant c.in-Ok-Some.sample given many))
@@ -43,8 +43,8 @@ returns-in_err-count_sample-in-Ok-Some g c =
     let p = err_from_is_err_and c.from_residual-in_err-count_sample-in-Ok-Some.result c.from_residual-in_err-count_sample-in-Ok-Some.ensures.1 in
     let given : Given (g.U.Unwind.path_of c.args.unwinder.now) c.in-Ok-Some.sample c.loop-sample.samples c.next_sample.new.samples =
     given_by (g.U.Unwind.path_of c.args.unwinder.now) c.in-Ok-Some.field-0 c.in-Ok-Some.sample c.loop-sample.samples c.next_sample.new.samples c.in-Ok-Some.field-0-is c.in-Ok-Some.ensures.answer in
-    let many : length (distinct c.args.harts c.loop-sample.invariant.done) ≡ c.args.harts = c.samples_are_counted.ensures.harts c.args.harts c.loop-sample.invariant.done in
+    let many : length (distinct c.args.harts c.loop-sample.invariant.done) ≡ c.args.harts = c.samples_are_counted.ensures.columns c.args.harts c.loop-sample.invariant.done in
     rw (p.1, p.2)
     (so_far_refused (g.U.Unwind.path_of c.args.unwinder.now) c.args.harts c.args.samples.now c.loop-sample.samples c.next_sample.new.samples c.loop-sample.ccts c.loop-sample.invariant c.in-Ok-Some.sample given many _
     (c.in_err-count_sample-in-Ok-Some.ensures.counts c.loop-sample.invariant.done (so_far_counts (g.U.Unwind.path_of c.args.unwinder.now) c.args.harts c.args.samples.now c.loop-sample.samples c.next_sample.new.samples c.loop-sample.ccts c.loop-sample.invariant c.in-Ok-Some.sample given many))
-    (c.samples_are_counted.ensures.grow c.args.harts (c.loop-sample.invariant.done ++ hart_raw c.in-Ok-Some.sample ∷ [])))
+    (c.samples_are_counted.ensures.grow c.args.harts (c.loop-sample.invariant.done ++ column_raw c.in-Ok-Some.sample ∷ [])))

@@ -1,11 +1,12 @@
-use Rattle.std.proofs.Common.{sym, subst}
-use Rattle.hpc_top.specs.declared.request.Request.{Request}
-use Rattle.hpc_top.specs.Task.{task_of}
-use Rattle.hpc_top.specs.private.Steps.{Prepares}
-use Rattle.hpc_top.specs.private.Views.{view_request}
+use Rattle.std.proofs.Common.{ℕ, ◌∙◌, List, ap, map, subst, sym}
+use Rattle.command_line.specs.declared.kind.Want.{Want}
+use Rattle.command_line.specs.Kind.{kinds_of, view_want}
+use Rattle.command_line.specs.Request.{kinds_read}
+use Rattle.hpc_top.specs.private.Steps.{AreWithin}
+use Rattle.hpc_top.proofs.Fetching.{of_kinds}
 use Rattle.hpc_top.proofs.prepare.prepare.Goals as goal
 
-pub returns-in-Drill : goal.returns-in-Drill
-returns-in-Drill g c =
-    subst (λ (r : Request). Prepares (task_of (view_request r)) (g.F.Shelf.shown c.args.shelf.now) (g.F.Shelf.shown c.args.shelf.now) c.prepare_drill.result) (sym c.in-Drill.is)
-    (c.prepare_drill.ensures (g.F.Shelf.shown c.args.shelf.now))
+pub make-requires-clause-files : goal.make-requires-clause-files
+make-requires-clause-files g c κs within =
+    subst (λ (texts : List (List ℕ)). AreWithin texts (kinds_read c.args.request.now.command)) (sym c.items-2.ensures)
+    (of_kinds _ _ _ c.in_ok-texts.ensures.1 (ap (λ (ws : List Want). kinds_of (map view_want ws)) c.items.ensures ∙ c.requires.valid.files))

@@ -7,5 +7,5 @@ returns-clause-distinct c = samples_distinct
 pub returns-clause-many : goal.returns-clause-many
 returns-clause-many c = samples_many
 
-pub returns-clause-harts : goal.returns-clause-harts
-returns-clause-harts c = samples_own
+pub returns-clause-columns : goal.returns-clause-columns
+returns-clause-columns c = samples_own

@@ -6,6 +6,6 @@ use Rattle.measure_file.proofs.read.read_paths.Given as goal
 abbrev pub invariant-loop : goal.invariant-loop
 invariant-loop l =
     record {
-      read : times (λ i. measured_path_from l.hart) (l.count - l.counter) l.counter l.paths l.cursor ≡ times (λ i. measured_path_from l.hart) l.count 0 l.initial.paths l.initial.cursor;
-      harts : length l.paths ≡ length l.initial.paths;
+      read : times (λ i. measured_path_from l.column) (l.count - l.counter) l.counter l.paths l.cursor ≡ times (λ i. measured_path_from l.column) l.count 0 l.initial.paths l.initial.cursor;
+      columns : length l.paths ≡ length l.initial.paths;
     }

@@ -12,16 +12,16 @@ loop-done-init c =
 
 pub of-requires : goal.of-requires
 of-requires c =
-    let made = all_made c.args.period c.args.tree.now c.counts.ensures.tree c.requires (length c.nodes-nodes.result.now) c.loop-done.done c.harts.result c.loop-done.walk.left c.loop-done.walk.ancestors.items c.loop-done.walk.out.items c.turned.result.items
-    (ap length c.nodes-nodes.ensures.nodes) (omega arith) c.loop-done.invariant c.harts.ensures.harts c.turned.ensures in
+    let made = all_made c.args.period c.args.tree.now c.counts.ensures.tree c.requires (length c.nodes-nodes.result.now) c.loop-done.done c.columns.result c.loop-done.walk.left c.loop-done.walk.ancestors.items c.loop-done.walk.out.items c.turned.result.items
+    (ap length c.nodes-nodes.ensures.nodes) (omega arith) c.loop-done.invariant c.columns.ensures.columns c.turned.ensures in
     subst AreValues made (are_values c.args.period c.args.tree.now)
 
 pub returns-clause-values : goal.returns-clause-values
 returns-clause-values c =
     c.of.ensures
-    ∙ sym (all_made c.args.period c.args.tree.now c.counts.ensures.tree c.requires (length c.nodes-nodes.result.now) c.loop-done.done c.harts.result c.loop-done.walk.left c.loop-done.walk.ancestors.items c.loop-done.walk.out.items c.turned.result.items
-    (ap length c.nodes-nodes.ensures.nodes) (omega arith) c.loop-done.invariant c.harts.ensures.harts c.turned.ensures)
+    ∙ sym (all_made c.args.period c.args.tree.now c.counts.ensures.tree c.requires (length c.nodes-nodes.result.now) c.loop-done.done c.columns.result c.loop-done.walk.left c.loop-done.walk.ancestors.items c.loop-done.walk.out.items c.turned.result.items
+    (ap length c.nodes-nodes.ensures.nodes) (omega arith) c.loop-done.invariant c.columns.ensures.columns c.turned.ensures)
 
 pub returns-clause-each : goal.returns-clause-each
-returns-clause-each c node hart kind ltn lth =
-    ap (λ (v : NodeValues). value_at v.entries node hart kind) (returns-clause-values c) ∙ value_is c.args.period c.args.tree.now node hart kind ltn lth
+returns-clause-each c node column kind ltn lth =
+    ap (λ (v : NodeValues). value_at v.entries node column kind) (returns-clause-values c) ∙ value_is c.args.period c.args.tree.now node column kind ltn lth

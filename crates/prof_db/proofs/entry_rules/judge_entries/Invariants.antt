@@ -6,7 +6,7 @@ use Rattle.prof_db.proofs.entry_rules.judge_entries.Given as goal
 
 abbrev pub invariant-loop-i : goal.invariant-loop-i
 invariant-loop-i l = record {
-  kept : first_broken 6 (entry_breaks l.period l.harts l.nodes l.entries) (λ i. (entry_at l.entries i).offset) l.i (length l.entries - l.i) ≡ entries_kept l.period l.harts l.nodes l.entries;
+  kept : first_broken 6 (entry_breaks l.period l.columns l.nodes l.entries) (λ i. (entry_at l.entries i).offset) l.i (length l.entries - l.i) ≡ entries_kept l.period l.columns l.nodes l.entries;
   sum : l.samples ≡ sum_by (entry_samples l.period) (take l.i l.entries);
   few : l.samples ≤ most_samples;
 }

@@ -3,4 +3,4 @@ use Rattle.prof_db.proofs.FieldSteps.{stands_from}
 use Rattle.prof_db.proofs.plane_fields.judge_contexts.Goals as goal
 
 pub returns : goal.returns
-returns c = stands_from 7 (plane_fields context_fields c.args.plane.now) _ _ _ _ c.fork-ahead.ensures c.same_context_columns.ensures
+returns c = stands_from 7 (plane_fields context_fields c.args.plane.now) _ _ _ _ c.fork-ahead.ensures c.same_context_lists.ensures

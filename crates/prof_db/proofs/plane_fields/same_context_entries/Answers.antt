@@ -8,7 +8,7 @@ use Rattle.prof_db.proofs.FieldSteps.{fields_more, fields_differ, fields_end}
 use Rattle.prof_db.proofs.plane_fields.same_context_entries.Goals as goal
 
 abbrev none : ContextEntry
-none = record { kind = Exclusive; hart = 0; value = 0 }
+none = record { kind = Exclusive; column = 0; value = 0 }
 
 pub returns-in_err-same_context_entry : goal.returns-in_err-same_context_entry
 returns-in_err-same_context_entry c =

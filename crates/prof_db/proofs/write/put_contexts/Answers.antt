@@ -12,10 +12,10 @@ loop-node-preserved c =
     let before = c.loop-node-test.true in
     let lt : c.loop-node.node < length c.args.plane.now = omega (arith, many, before) in
     append_more (with_count context_entry_bytes) _ _ _ c.args.plane.now c.loop-node.node c.node.result.now lt
-    (c.node.ensures ∙ get_or_default c.args.plane.now c.loop-node.node [] c.node.result.now lt) c.loop-node.invariant c.in_ok-put_context_column.ensures
+    (c.node.ensures ∙ get_or_default c.args.plane.now c.loop-node.node [] c.node.result.now lt) c.loop-node.invariant c.in_ok-put_context_list.ensures
 
 pub returns : goal.returns
 returns c =
     let many = c.nodes-node-end.ensures in
     let past = c.loop-node-test.false in
-    c.loop-node.invariant ∙ ap (λ (columns : List (List ContextEntry)). c.args.out.now.items ++ flat_map (with_count context_entry_bytes) columns) (take_all c.loop-node.node c.args.plane.now (omega (arith, many, past)))
+    c.loop-node.invariant ∙ ap (λ (lists : List (List ContextEntry)). c.args.out.now.items ++ flat_map (with_count context_entry_bytes) lists) (take_all c.loop-node.node c.args.plane.now (omega (arith, many, past)))

@@ -13,5 +13,5 @@ returns c =
     let procs : word c.count-procs.result ≡ word (length content.names.procs) = c.count-procs.ensures ∙ ap (λ (xs : List ProcName). word (length xs)) c.items.ensures in
     let files : word c.count-files.result ≡ word (length content.names.files) = c.count-files.ensures ∙ ap (λ (xs : List FileName). word (length xs)) c.items-2.ensures in
     let nodes : word c.count-nodes.result ≡ word (length content.nodes) = c.count-nodes.ensures ∙ ap (λ (xs : List Node). word (length xs)) c.items-3.ensures in
-    two_parts _ _ _ (codes "HPCPROF1") (words (content.period ∷ content.harts ∷ c.count-procs.result ∷ c.count-files.result ∷ c.count-nodes.result ∷ [])) c.in_ok-extend_from_slice.ensures.items c.in_ok-put_words.ensures
-    ∙ (λ i. c.args.out.now.items ++ (codes "HPCPROF1" ++ (word content.period ++ (word content.harts ++ (procs i ++ (files i ++ (nodes i ++ [])))))))
+    two_parts _ _ _ (codes "HPCPROF1") (words (content.period ∷ content.columns ∷ c.count-procs.result ∷ c.count-files.result ∷ c.count-nodes.result ∷ [])) c.in_ok-extend_from_slice.ensures.items c.in_ok-put_words.ensures
+    ∙ (λ i. c.args.out.now.items ++ (codes "HPCPROF1" ++ (word content.period ++ (word content.columns ++ (procs i ++ (files i ++ (nodes i ++ [])))))))

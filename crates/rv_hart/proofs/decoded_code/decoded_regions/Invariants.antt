@@ -2,4 +2,4 @@ use Rattle.rv_hart.specs.private.Decoding.{AreCode}
 use Rattle.rv_hart.proofs.decoded_code.decoded_regions.Given as goal
 
 abbrev pub invariant-loop-region : goal.invariant-loop-region
-invariant-loop-region l = AreCode l.paged.file.now l.paged.regions l.codes.items
+invariant-loop-region l = AreCode l.memory l.codes.items

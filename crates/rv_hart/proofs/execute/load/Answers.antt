@@ -1,6 +1,6 @@
 use Rattle.std.proofs.Common.{ℕ, Option, sym, ap, ◌∙◌}
 use Rattle.rv_hart.specs.Step.{state, loads}
-use Rattle.rv_hart.specs.private.Paging.{word_address}
+use Rattle.rv_hart.specs.private.Indexing.{word_address}
 use Rattle.rv_hart.proofs.execute.load.Goals as goal
 
 pub returns-in-Some-clause-ends : goal.returns-in-Some-clause-ends

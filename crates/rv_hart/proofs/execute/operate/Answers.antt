@@ -1,7 +1,7 @@
 use Rattle.std.proofs.Common.{ℕ, ap, ap₂, ◌∙◌}
 use Rattle.rv_hart.specs.Arithmetic.{computed}
 use Rattle.rv_hart.specs.Step.{computes}
-use Rattle.rv_hart.specs.private.Paging.{state_at}
+use Rattle.rv_hart.specs.private.Indexing.{state_at}
 use Rattle.rv_hart.proofs.execute.operate.Goals as goal
 
 pub returns-clause-ends : goal.returns-clause-ends

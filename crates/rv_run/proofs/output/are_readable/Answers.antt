@@ -2,7 +2,7 @@ use Rattle.std.proofs.Common.{◌≡◌, ◌+◌, ◌^◌, ◌&&◌, Bool, false
 use Rattle.std.proofs.Math.Bool.{and-false}
 use Rattle.std.specs.Option.{is_some}
 use Rattle.elf_image.specs.declared.elf.TheConstants.{PF_R}
-use Rattle.rv_hart.specs.AddressSpace.{may}
+use Rattle.rv_memory.specs.AddressSpace.{may}
 use Rattle.rv_run.proofs.Ranges.{one-unreadable, one-more-readable, loads-none, loads-some}
 use Rattle.rv_run.proofs.output.are_readable.Goals as goal
 

@@ -1,5 +1,5 @@
 use Rattle.std.proofs.Common.{◌≡◌, ◌++◌, map, filter, take}
-use Rattle.tree_types.specs.ValueColumns.{in_context}
+use Rattle.tree_types.specs.ValuePlanes.{in_context}
 use Rattle.sparse_planes.specs.private.Filling.{of_kind}
 use Rattle.sparse_planes.proofs.contexts.put_kind.Given as goal
 

@@ -3,4 +3,4 @@ use Rattle.stripe_table.proofs.Allowed.{claim_allowed}
 use Rattle.stripe_table.proofs.steps.draw.Goals as goal
 
 pub fetch_add-requires : goal.fetch_add-requires
-fetch_add-requires c = (search rules, search rules, claim_allowed c.args.board.now.key.value _ _ _ c.requires.3)
+fetch_add-requires c = (search rules, search rules, claim_allowed c.args.table.now.key.value _ _ _ c.requires.3)

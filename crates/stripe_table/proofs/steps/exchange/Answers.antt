@@ -7,7 +7,7 @@ use Rattle.atomic_table.specs.Table.{Me}
 use Rattle.stripe_table.proofs.steps.exchange.Goals as goal
 
 pub compare_exchange-word-requires : goal.compare_exchange-word-requires
-compare_exchange-word-requires c = let r = c.requires in (search rules, search rules, take_allowed c.args.board.now.key.value _ _ _ _ _ r.0.0.3 r.0.1 r.2 r.3 r.1)
+compare_exchange-word-requires c = let r = c.requires in (search rules, search rules, take_allowed c.args.table.now.key.value _ _ _ _ _ r.0.0.3 r.0.1 r.2 r.3 r.1)
 
 pub returns-then-word-seen : goal.returns-then-word-seen
 returns-then-word-seen c = let e = c.compare_exchange-word.ensures in let t = (e.2 c.args.stripe refl).0 c.if-word-seen.true in

@@ -7,7 +7,7 @@ use Rattle.tree_join.proofs.counts.add_up.Goals.{then-is_same_pair, else-is_same
 
 pub loop-count-preserved : goal.loop-count-preserved
 loop-count-preserved c =
-    let none : NodeCount = record { node = 0; hart = 0; count = 0 } in
+    let none : NodeCount = record { node = 0; column = 0; count = 0 } in
     elim c.if-is_same_pair.branch [
       | then-is_same_pair w ↦
           same_at _ _ _ _ _ _ _ none c.loop-count.count-index c.in-Some.ensures.cases.0 c.loop-count.invariant c.loop-count-test.true c.requires.sorted _ c.is_same_pair.ensures

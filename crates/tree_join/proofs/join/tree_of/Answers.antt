@@ -11,8 +11,8 @@ pub summed-requires-clause-few : goal.summed-requires-clause-few
 summed-requires-clause-few c = few_samples _ _ _ c.in_ok-nodes.ensures.walking c.requires.samples
 
 pub of-requires : goal.of-requires
-of-requires c = tree_is _ _ _ c.in_ok-nodes.ensures.walking c.in_ok-nodes.ensures.ended _ c.in_ok-counts.ensures c.args.harts c.requires.harts
+of-requires c = tree_is _ _ _ c.in_ok-nodes.ensures.walking c.in_ok-nodes.ensures.ended _ c.in_ok-counts.ensures c.args.columns c.requires.columns
 
 pub returns : goal.returns
 returns c =
-    tree_from _ _ _ _ c.of.ensures (tree_made _ _ _ c.in_ok-nodes.ensures.walking c.in_ok-nodes.ensures.ended _ c.in_ok-counts.ensures c.args.harts c.requires.harts)
+    tree_from _ _ _ _ c.of.ensures (tree_made _ _ _ c.in_ok-nodes.ensures.walking c.in_ok-nodes.ensures.ended _ c.in_ok-counts.ensures c.args.columns c.requires.columns)

@@ -6,5 +6,5 @@ abbrev pub invariant-loop-row : goal.invariant-loop-row
 invariant-loop-row l = record {
   samples : samples_of l.entries.items ≤ 100 * l.row-index;
   scopes : entry_scopes l.entries.items ≤ 16 * l.row-index;
-  harts : All (λ e. 0 < e.count → e.hart < 3) l.entries.items;
+  columns : All (λ e. 0 < e.count → e.column < 3) l.entries.items;
 }

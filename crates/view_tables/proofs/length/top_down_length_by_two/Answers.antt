@@ -1,6 +1,6 @@
 use Rattle.std.proofs.Common.{◌≡◌, length, refl, arith}
 use Rattle.view_tables.specs.private.Rows.{rows_below}
-use Rattle.view_tables.proofs.ColumnSums.{as_many_columns}
+use Rattle.view_tables.proofs.EntrySums.{as_many_lists}
 use Rattle.view_tables.proofs.TableRows.{whole_long}
 use Rattle.view_tables.proofs.length.top_down_length_by_two.Goals as goal
 
@@ -19,5 +19,5 @@ returns g c =
 pub join-first-requires-after_bounds : goal.join-first-requires-after_bounds
 join-first-requires-after_bounds g c κs within =
     let all = c.nodes-nodes.ensures in
-    let many = as_many_columns c.args.content.now c.requires in
+    let many = as_many_lists c.args.content.now c.requires in
     ((c.requires, omega (arith, all, many)), (c.requires, omega arith, omega (arith, all, many)))

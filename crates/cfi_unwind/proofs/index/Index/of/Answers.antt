@@ -1,7 +1,8 @@
+use Rattle.cfi_table.specs.Frames.{descriptions, rules_at}
 use Rattle.cfi_unwind.proofs.index.Index.of.Goals as goal
 
-pub returns-then-end_whole_in : goal.returns-then-end_whole_in
-returns-then-end_whole_in c = c.end_whole_in.ensures c.if-end_whole_in.true c.args.table.now c.by_rules-index.ensures
+pub returns-then-end_in_region : goal.returns-then-end_in_region
+returns-then-end_in_region c = c.end_in_region.ensures c.if-end_in_region.true (rules_at (descriptions c.args.table.now)) c.by_rules-index.ensures
 
-pub returns-else-end_whole_in : goal.returns-else-end_whole_in
-returns-else-end_whole_in c = c.none.ensures.ready (record { frames = c.args.table.now; region = c.args.region })
+pub returns-else-end_in_region : goal.returns-else-end_in_region
+returns-else-end_in_region c = c.none.ensures.ready (record { rules = rules_at (descriptions c.args.table.now); region = c.args.region })

@@ -15,5 +15,5 @@ returns-in_default-clause-end c _ = rw (← c.self.view_is) (ended c.self.inside
 pub returns-clause-due : goal.returns-clause-due
 returns-clause-due c =
     ap₂ (λ (pc ordinal : ℕ). Some (record { hart = c.in-Some.slice.hart; pc = pc; ordinal = ordinal })) (c.pc.ensures ∙ ap (λ (h : HartState). h.pc) c.core-core.ensures) (ap (λ (n : ℕ). n + 1) (c.retired.ensures ∙ ap (λ (h : HartState). h.retired) c.core-core.ensures))
-    ∙ due-first c.self.inside.environment c.self.inside.queue c.in-Some.slice c.self.invariant.stands (sym c.first.ensures ∙ c.in-Some.is)
+    ∙ due-first c.self.inside.environment c.self.inside.queue c.in-Some.slice c.self.invariant.next (sym c.first.ensures ∙ c.in-Some.is)
     ∙ ap (λ (p : Progress). first_due (to_come p).instants) c.self.view_is

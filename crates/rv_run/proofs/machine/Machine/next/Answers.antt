@@ -9,13 +9,13 @@ use Rattle.rv_run.proofs.machine.Machine.next.Goals as goal
 pub act-requires-clause-room : goal.act-requires-clause-room
 act-requires-clause-room c =
     let due : IsDue c.self.inside.environment c.self.inside.queue c.in-Some.due =
-    due-is c.self.inside.environment c.self.inside.queue c.in-Some.due c.self.invariant.stands (sym c.in-Some.is ∙ c.due.ensures.due ∙ ap (λ (p : Progress). first_due (to_come p).instants) (sym c.self.view_is)) in
+    due-is c.self.inside.environment c.self.inside.queue c.in-Some.due c.self.invariant.next (sym c.in-Some.is ∙ c.due.ensures.due ∙ ap (λ (p : Progress). first_due (to_come p).instants) (sym c.self.view_is)) in
     room-for c.self.inside.environment c.self.inside.queue c.in-Some.due.hart c.self.invariant.room due.some
 
 pub take_off-requires : goal.take_off-requires
 take_off-requires c =
     let due : IsDue c.self.inside.environment c.self.inside.queue c.in-Some.due =
-    due-is c.self.inside.environment c.self.inside.queue c.in-Some.due c.self.invariant.stands (sym c.in-Some.is ∙ c.due.ensures.due ∙ ap (λ (p : Progress). first_due (to_come p).instants) (sym c.self.view_is)) in
+    due-is c.self.inside.environment c.self.inside.queue c.in-Some.due c.self.invariant.next (sym c.in-Some.is ∙ c.due.ensures.due ∙ ap (λ (p : Progress). first_due (to_come p).instants) (sym c.self.view_is)) in
     due.some
 
 pub skip_idle-requires : goal.skip_idle-requires
@@ -30,17 +30,17 @@ invariant_of-self-2 c =
     let within : c.in-Some.due.hart < length c.self.inside.environment.harts = subst (λ (p : Progress). c.in-Some.due.hart < length p.state.harts) (sym c.self.view_is) c.in-Some.ensures.hart in
     let counts : CountsRetired c.in-Some.due.hart c.in_ok-retired.retired c.self.inside.environment c.act.new.self = counts-of c.in-Some.due.hart c.self.inside.environment c.act.new.self c.in_ok-retired.retired c.in_ok-retired.ensures.ok within in
     let due : IsDue c.self.inside.environment c.self.inside.queue c.in-Some.due =
-    due-is c.self.inside.environment c.self.inside.queue c.in-Some.due c.self.invariant.stands (sym c.in-Some.is ∙ c.due.ensures.due ∙ ap (λ (p : Progress). first_due (to_come p).instants) (sym c.self.view_is)) in
+    due-is c.self.inside.environment c.self.inside.queue c.in-Some.due c.self.invariant.next (sym c.in-Some.is ∙ c.due.ensures.due ∙ ap (λ (p : Progress). first_due (to_come p).instants) (sym c.self.view_is)) in
     record {
       harts = c.skip_idle.ensures.harts;
       room = c.skip_idle.ensures.room (subst (HaveRoom c.act.new.self) (sym c.take_off.ensures) (room-less c.self.inside.environment c.act.new.self c.self.inside.queue c.in-Some.due.hart c.in_ok-retired.retired due.some c.self.invariant.room counts));
-      stands = c.skip_idle.ensures.stands;
+      next = c.skip_idle.ensures.next;
     }
 
 pub returns-clause-ok : goal.returns-clause-ok
 returns-clause-ok c =
     let due : IsDue c.self.inside.environment c.self.inside.queue c.in-Some.due =
-    due-is c.self.inside.environment c.self.inside.queue c.in-Some.due c.self.invariant.stands (sym c.in-Some.is ∙ c.due.ensures.due ∙ ap (λ (p : Progress). first_due (to_come p).instants) (sym c.self.view_is)) in
+    due-is c.self.inside.environment c.self.inside.queue c.in-Some.due c.self.invariant.next (sym c.in-Some.is ∙ c.due.ensures.due ∙ ap (λ (p : Progress). first_due (to_come p).instants) (sym c.self.view_is)) in
     subst
     (λ (p : Progress). WentOn (record { hart = c.in-Some.due.hart; ordinal = c.in-Some.due.ordinal; pc = c.in-Some.due.pc; retired = c.in_ok-retired.retired }) p (record { state = c.act.new.self; left = c.skip_idle.new.self }))
     c.self.view_is

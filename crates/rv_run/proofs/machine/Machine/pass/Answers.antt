@@ -6,24 +6,24 @@ use Rattle.rv_run.specs.declared.machine.Moment.{Moment}
 use Rattle.rv_run.specs.State.{MachineState}
 use Rattle.rv_run.specs.private.Reading.{first_or_none}
 use Rattle.rv_run.specs.Progress.{Progress, Went, CountsBy, PassDone, Broke, count_of_first, first_due, to_come, retires_plainly}
-use Rattle.rv_run.specs.private.Queue.{AreOfHarts, HaveRoom, IsNext, Passing, StopsBy, less}
+use Rattle.rv_run.specs.private.Queue.{AreOfHarts, HaveRoom, CanGoOn, Passing, StopsBy, less}
 use Rattle.rv_run.proofs.Slices.{IsDue, due-is, less-are-of}
-use Rattle.rv_run.proofs.Passing.{went-hart, slice-hart, stands-first, stops-first, passed-one, passed-many, broke-many, room-passed, first-count}
+use Rattle.rv_run.proofs.Passing.{went-hart, slice-hart, first-can, stops-first, passed-one, passed-many, broke-many, room-passed, first-count}
 use Rattle.rv_run.proofs.machine.Machine.pass.Goals as goal
 
 pub returns-in_default-clause-ok : goal.returns-in_default-clause-ok
 returns-in_default-clause-ok c =
     let due : IsDue c.self.inside.environment c.self.inside.queue c.args.due.now =
-    due-is c.self.inside.environment c.self.inside.queue c.args.due.now c.self.invariant.stands (c.requires.due ∙ ap (λ (p : Progress). first_due (to_come p).instants) (sym c.self.view_is)) in
+    due-is c.self.inside.environment c.self.inside.queue c.args.due.now c.self.invariant.next (c.requires.due ∙ ap (λ (p : Progress). first_due (to_come p).instants) (sym c.self.view_is)) in
     absurd (let e : None ≡ Some (record { hart = c.args.due.now.hart; count = count_of_first c.self.inside.queue }) = sym c.in_default.is ∙ c.first.ensures ∙ due.first_is in cc)
 
 pub returns-then-count-eq0-clause-ok : goal.returns-then-count-eq0-clause-ok
 returns-then-count-eq0-clause-ok c =
     let environment : MachineState = c.self.inside.environment in
     let first : first_or_none c.self.inside.queue ≡ Some c.in-Some.slice = sym c.first.ensures ∙ c.in-Some.is in
-    let next : IsNext c.self.inside.environment c.in-Some.slice = stands-first c.self.inside.environment c.self.inside.queue c.in-Some.slice c.self.invariant.stands first in
+    let next : CanGoOn c.self.inside.environment c.in-Some.slice = first-can c.self.inside.environment c.self.inside.queue c.in-Some.slice c.self.invariant.next first in
     let due : IsDue c.self.inside.environment c.self.inside.queue c.args.due.now =
-    due-is c.self.inside.environment c.self.inside.queue c.args.due.now c.self.invariant.stands (c.requires.due ∙ ap (λ (p : Progress). first_due (to_come p).instants) (sym c.self.view_is)) in
+    due-is c.self.inside.environment c.self.inside.queue c.args.due.now c.self.invariant.next (c.requires.due ∙ ap (λ (p : Progress). first_due (to_come p).instants) (sym c.self.view_is)) in
     let hart : c.in-Some.slice.hart ≡ c.args.due.now.hart = slice-hart c.self.inside.environment c.self.inside.queue c.args.due.now c.in-Some.slice due first in
     let same : c.steps-count.new.self ≡ c.self.inside.environment = (c.steps-count.ensures.passed next.1).none c.if-count-eq0.true in
     let back : record { state = c.steps-count.new.self; left = c.self.inside.queue } ≡ c.args.self.now = ap (λ (s : MachineState). record { state = s; left = c.self.inside.queue }) same ∙ c.self.view_is in
@@ -42,7 +42,7 @@ returns-then-count-eq0-clause-ok c =
 pub skip_idle-requires : goal.skip_idle-requires
 skip_idle-requires c =
     let first : first_or_none c.self.inside.queue ≡ Some c.in-Some.slice = sym c.first.ensures ∙ c.in-Some.is in
-    let next : IsNext c.self.inside.environment c.in-Some.slice = stands-first c.self.inside.environment c.self.inside.queue c.in-Some.slice c.self.invariant.stands first in
+    let next : CanGoOn c.self.inside.environment c.in-Some.slice = first-can c.self.inside.environment c.self.inside.queue c.in-Some.slice c.self.invariant.next first in
     subst (λ (l : List Slice). AreOfHarts (length c.steps-count.new.self.harts) l) (sym c.take_off.ensures)
     (subst (λ (n : ℕ). AreOfHarts n (less c.steps-count.result.0 c.self.inside.queue)) (sym (c.steps-count.ensures.passed next.1).harts) (less-are-of (length c.self.inside.environment.harts) c.steps-count.result.0 c.self.inside.queue c.self.invariant.harts))
 
@@ -54,33 +54,33 @@ room_left s new left less_left slice hart many asked most first is few had p tak
 pub invariant_of-self-2 : goal.invariant_of-self-2
 invariant_of-self-2 c =
     let first : first_or_none c.self.inside.queue ≡ Some c.in-Some.slice = sym c.first.ensures ∙ c.in-Some.is in
-    let next : IsNext c.self.inside.environment c.in-Some.slice = stands-first c.self.inside.environment c.self.inside.queue c.in-Some.slice c.self.invariant.stands first in
+    let next : CanGoOn c.self.inside.environment c.in-Some.slice = first-can c.self.inside.environment c.self.inside.queue c.in-Some.slice c.self.invariant.next first in
     record {
       harts = c.skip_idle.ensures.harts;
       room = c.skip_idle.ensures.room
           (room_left c.self.inside.environment c.steps-count.new.self c.self.inside.queue c.take_off.new.self c.in-Some.slice c.in-Some.slice.hart c.steps-count.result.0 c.min.result c.args.most first c.min.ensures c.steps-count.ensures.few c.self.invariant.room
           (c.steps-count.ensures.passed next.1) c.take_off.ensures);
-      stands = c.skip_idle.ensures.stands;
+      next = c.skip_idle.ensures.next;
     }
 
 pub invariant_of-self-in_err-last-2 : goal.invariant_of-self-in_err-last-2
 invariant_of-self-in_err-last-2 c =
     let first : first_or_none c.self.inside.queue ≡ Some c.in-Some.slice = sym c.first.ensures ∙ c.in-Some.is in
-    let next : IsNext c.self.inside.environment c.in-Some.slice = stands-first c.self.inside.environment c.self.inside.queue c.in-Some.slice c.self.invariant.stands first in
+    let next : CanGoOn c.self.inside.environment c.in-Some.slice = first-can c.self.inside.environment c.self.inside.queue c.in-Some.slice c.self.invariant.next first in
     record {
       harts = c.skip_idle.ensures.harts;
       room = c.skip_idle.ensures.room
           (room_left c.self.inside.environment c.steps-count.new.self c.self.inside.queue c.take_off.new.self c.in-Some.slice c.in-Some.slice.hart c.steps-count.result.0 c.min.result c.args.most first c.min.ensures c.steps-count.ensures.few c.self.invariant.room
           (c.steps-count.ensures.passed next.1) c.take_off.ensures);
-      stands = c.skip_idle.ensures.stands;
+      next = c.skip_idle.ensures.next;
     }
 
 pub returns-clause-ok : goal.returns-clause-ok
 returns-clause-ok c =
     let due : IsDue c.self.inside.environment c.self.inside.queue c.args.due.now =
-    due-is c.self.inside.environment c.self.inside.queue c.args.due.now c.self.invariant.stands (c.requires.due ∙ ap (λ (p : Progress). first_due (to_come p).instants) (sym c.self.view_is)) in
+    due-is c.self.inside.environment c.self.inside.queue c.args.due.now c.self.invariant.next (c.requires.due ∙ ap (λ (p : Progress). first_due (to_come p).instants) (sym c.self.view_is)) in
     let first : first_or_none c.self.inside.queue ≡ Some c.in-Some.slice = sym c.first.ensures ∙ c.in-Some.is in
-    let next : IsNext c.self.inside.environment c.in-Some.slice = stands-first c.self.inside.environment c.self.inside.queue c.in-Some.slice c.self.invariant.stands first in
+    let next : CanGoOn c.self.inside.environment c.in-Some.slice = first-can c.self.inside.environment c.self.inside.queue c.in-Some.slice c.self.invariant.next first in
     subst (λ (p : Progress). PassDone c.args.due.now.hart c.args.most p (record { state = c.steps-count.new.self; left = c.skip_idle.new.self })) c.self.view_is
     (passed-many c.args.due.now.hart c.steps-count.result.0 c.min.result c.args.most c.self.inside.environment c.steps-count.new.self c.self.inside.queue c.take_off.new.self c.skip_idle.new.self c.in-Some.slice
     (c.steps-count.ensures.passed next.1) first (slice-hart c.self.inside.environment c.self.inside.queue c.args.due.now c.in-Some.slice due first) c.min.ensures c.steps-count.ensures.few (omega (arith, c.if-count-eq0.false))
@@ -93,9 +93,9 @@ where_err (Err e) is = is
 pub returns-in_err-last-2-clause-err : goal.returns-in_err-last-2-clause-err
 returns-in_err-last-2-clause-err c =
     let due : IsDue c.self.inside.environment c.self.inside.queue c.args.due.now =
-    due-is c.self.inside.environment c.self.inside.queue c.args.due.now c.self.invariant.stands (c.requires.due ∙ ap (λ (p : Progress). first_due (to_come p).instants) (sym c.self.view_is)) in
+    due-is c.self.inside.environment c.self.inside.queue c.args.due.now c.self.invariant.next (c.requires.due ∙ ap (λ (p : Progress). first_due (to_come p).instants) (sym c.self.view_is)) in
     let first : first_or_none c.self.inside.queue ≡ Some c.in-Some.slice = sym c.first.ensures ∙ c.in-Some.is in
-    let next : IsNext c.self.inside.environment c.in-Some.slice = stands-first c.self.inside.environment c.self.inside.queue c.in-Some.slice c.self.invariant.stands first in
+    let next : CanGoOn c.self.inside.environment c.in-Some.slice = first-can c.self.inside.environment c.self.inside.queue c.in-Some.slice c.self.invariant.next first in
     where_err c.from_residual-in_err-last-2.result
     (subst (λ (p : Progress). Broke c.args.due.now.hart c.args.most p (record { state = c.steps-count.new.self; left = c.skip_idle.new.self })) c.self.view_is
     (broke-many c.args.due.now.hart c.steps-count.result.0 c.min.result c.args.most c.self.inside.environment c.steps-count.new.self c.self.inside.queue c.take_off.new.self c.skip_idle.new.self c.in-Some.slice

@@ -42,3 +42,6 @@ invariant_of-result c = let kept : c.of-closer.result.value ≡ c.args.pass = c.
         λ t lt. subst (λ (p : Chunks). Fits p t (length (stripe_names c.gather.result.items t)) (get_or c.gather.result.items t empty_stripe)) same (fits_there c.args.self.plan c.gather.result.items t _ ((last c).1 t lt)),
       );
     }
+
+pub returns-clause-all : goal.returns-clause-all
+returns-clause-all c = (invariant_of-result c).fit

@@ -6,5 +6,5 @@ use Rattle.thread_cct.proofs.ccts.Ccts.put.Goals as goal
 pub invariant_of-self-2 : goal.invariant_of-self-2
 invariant_of-self-2 c =
     let counted : Counted = record { path = c.args.raw; count = c.args.count } in
-    put_within c.self.inside.tables.items _ _ c.args.hart counted c.self.inside.frames _ c.self.view_is c.requires.hart c.self.invariant c.requires.count c.frames.ensures.count.some c.requires.few c.requires.frames
+    put_within c.self.inside.tables.items _ _ c.args.column counted c.self.inside.frames _ c.self.view_is c.requires.column c.self.invariant c.requires.count c.frames.ensures.count.some c.requires.few c.requires.frames
     (ap length c.frames.ensures.frames) c.in_ok-put_last.ensures.ok

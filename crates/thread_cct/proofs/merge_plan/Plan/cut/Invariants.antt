@@ -5,6 +5,6 @@ use Rattle.thread_cct.proofs.merge_plan.Plan.cut.Given as goal
 
 abbrev pub invariant-loop-index : goal.invariant-loop-index
 invariant-loop-index g l = record {
-  hands : l.hands.items ≡ dealt (take l.index (drop l.first (map (expanded_path (g.E.Expand.call_path l.expand)) l.self.paths)));
+  lists : l.lists.items ≡ dealt (take l.index (drop l.first (map (expanded_path (g.E.Expand.call_path l.expand)) l.self.paths)));
   memo : g.E.Expand.fits l.expand l.memo;
 }

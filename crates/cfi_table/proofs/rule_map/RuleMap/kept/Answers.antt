@@ -1,5 +1,0 @@
-use Rattle.cfi_table.proofs.Changed.{none_changed}
-use Rattle.cfi_table.proofs.rule_map.RuleMap.kept.Goals as goal
-
-pub invariant_of-result : goal.invariant_of-result
-invariant_of-result c = none_changed

@@ -1,0 +1,4 @@
+pub mod Kind
+pub mod Request
+pub mod Words
+pub mod Message

@@ -1,0 +1,351 @@
+use elf_image::{Function, Image, read_image};
+use prof_bytes::Memory;
+use std::alloc::Global;
+use std::fmt::Write;
+use std::test::Fail;
+use test_programs::rows::{bytes_of, changed, cut};
+
+mod files;
+mod refused;
+
+fn answer(alloc: Global, file: &[u8]) -> Result<String, Memory> {
+    if file.len() > 1 << 26 {
+        return Ok(String::new(alloc));
+    }
+    match read_image(alloc, file) {
+        Ok(_) => Ok(String::from_str(alloc, "accepted")?),
+        Err(prof_bytes::Fail::Memory(memory)) => Err(memory),
+        Err(prof_bytes::Fail::Fault(fault)) => {
+            Ok(format!(in alloc; "{:?} {}", fault.rule, fault.offset)?)
+        }
+    }
+}
+
+/// Whether a file is answered with this text.
+fn answer_is(alloc: Global, file: &[u8], wanted: &[u8]) -> Result<bool, Memory> {
+    let found = answer(alloc, file)?;
+    Ok(found.as_str().as_bytes() == wanted)
+}
+
+fn holds(alloc: Global, hex: &[u8], row: &refused::Row) -> Result<bool, Memory> {
+    let file = changed(alloc, hex, row.1.as_bytes())?;
+    answer_is(alloc, &file, row.2.as_bytes())
+}
+
+/// The first row that does not hold.
+fn failing(
+    alloc: Global,
+    hex: &[u8],
+    rows: &[refused::Row],
+) -> Result<Option<&'static str>, Memory> {
+    for row in rows {
+        if !holds(alloc, hex, row)? {
+            return Ok(Some(row.0));
+        }
+    }
+    Ok(None)
+}
+
+#[test]
+fn the_header_is_refused(rt: HostRuntime) -> Result<(), Fail> {
+    let other = failing(rt.alloc(), files::straight(), &refused::HEADER_ROWS)?;
+    assert_eq!(rt; other, None);
+    Ok(())
+}
+
+#[test]
+fn segments_are_refused(rt: HostRuntime) -> Result<(), Fail> {
+    let other = failing(rt.alloc(), files::segments(), &refused::SEGMENT_ROWS)?;
+    assert_eq!(rt; other, None);
+    Ok(())
+}
+
+#[test]
+fn sections_are_refused(rt: HostRuntime) -> Result<(), Fail> {
+    let other = failing(rt.alloc(), files::names(), &refused::SECTION_ROWS)?;
+    assert_eq!(rt; other, None);
+    Ok(())
+}
+
+#[test]
+fn symbols_are_refused(rt: HostRuntime) -> Result<(), Fail> {
+    let other = failing(rt.alloc(), files::recursive(), &refused::SYMBOL_ROWS)?;
+    assert_eq!(rt; other, None);
+    Ok(())
+}
+
+/// Whether a front of a file is refused at its end.
+fn ends_at(alloc: Global, front: &[u8], length: usize) -> Result<bool, Memory> {
+    let expected = format!(in alloc; "NotElf {length}")?;
+    answer_is(alloc, front, expected.as_str().as_bytes())
+}
+
+/// The length of the first front of the file that is shorter than its header and not refused at its end.
+fn other_front(alloc: Global, file: &[u8]) -> Result<Option<usize>, Memory> {
+    for length in 0..52usize {
+        let front = file.get(..length).unwrap_or(&[]);
+        if !ends_at(alloc, front, length)? {
+            return Ok(Some(length));
+        }
+    }
+    Ok(None)
+}
+
+/// The length of the first short front of the straight program that is not refused at its end.
+fn other_short_file(alloc: Global) -> Result<Option<usize>, Memory> {
+    let file = bytes_of(alloc, files::straight())?;
+    other_front(alloc, &file)
+}
+
+/// Whether a file that ends within its section headers is refused by their offset.
+fn cut_sections_are_refused(alloc: Global) -> Result<bool, Memory> {
+    let file = bytes_of(alloc, files::recursive())?;
+    answer_is(alloc, file.get(..473).unwrap_or(&[]), b"HeaderPlace 32")
+}
+
+/// The first of two files that is not refused for where its section headers or segments lie.
+fn other_file(alloc: Global) -> Result<Option<&'static str>, Memory> {
+    if !cut_sections_are_refused(alloc)? {
+        return Ok(Some("cut within the section headers"));
+    }
+    failing(
+        alloc,
+        files::overlap(),
+        &[("lld, code over the headers", "", "SegmentPlace 116")],
+    )
+}
+
+#[test]
+fn short_files_are_refused(rt: HostRuntime) -> Result<(), Fail> {
+    let length = other_short_file(rt.alloc())?;
+    let file = other_file(rt.alloc())?;
+    assert_eq!(rt; (length, file), (None, None));
+    Ok(())
+}
+
+fn name(out: &mut String, bytes: &[u8]) -> Result<(), Memory> {
+    for byte in bytes {
+        out.push(char::from(byte % 128))?;
+    }
+    out.push_str("\n")?;
+    Ok(())
+}
+
+/// Writes each segment.
+fn segments(out: &mut String, image: &Image<'_>) -> Result<(), Memory> {
+    for s in image.segments() {
+        write!(
+            out,
+            "{:x} {:x} {} {:x} {:x}\n",
+            s.start, s.end, s.flags, s.offset, s.filled
+        )?;
+    }
+    Ok(())
+}
+
+fn function_line(out: &mut String, function: &Function<'_>) -> Result<(), Memory> {
+    write!(out, "{:x} {} ", function.start, function.size)?;
+    name(out, function.name)
+}
+
+/// Writes each function.
+fn functions(out: &mut String, image: &Image<'_>) -> Result<(), Memory> {
+    for function in image.functions() {
+        function_line(out, function)?;
+    }
+    Ok(())
+}
+
+/// Writes the sizes of sections.
+fn sizes(out: &mut String, image: &Image<'_>) -> Result<(), Memory> {
+    let names: [&[u8]; 5] = [b".text", b".data", b".bss", b".debug_frame", b".debug_info"];
+    for name in &names {
+        write!(out, "{} ", image.section(name).len())?;
+    }
+    Ok(())
+}
+
+/// The functions at these addresses.
+fn functions_at(out: &mut String, image: &Image<'_>, addresses: &[u32]) -> Result<(), Memory> {
+    for pc in addresses {
+        match image.function_at(*pc) {
+            Some(function) => name(out, function.name)?,
+            None => out.push_str("none\n")?,
+        }
+    }
+    Ok(())
+}
+
+/// The entry and the length, the segments and the functions, a line each.
+fn parts(out: &mut String, image: &Image<'_>) -> Result<(), Memory> {
+    write!(out, "entry {:x} length {}\n", image.entry(), image.length())?;
+    segments(out, image)?;
+    functions(out, image)
+}
+
+/// What the image has, a line each, and after it the sizes and the functions at these addresses.
+fn texts(out: &mut String, image: &Image<'_>, addresses: &[u32]) -> Result<(), Memory> {
+    parts(out, image)?;
+    sizes(out, image)?;
+    functions_at(out, image, addresses)
+}
+
+/// Ranges, of which some count.
+static RANGES: [(u32, u32); 8] = [
+    (0x30000, 0x30008),
+    (0x30008, 0x30018),
+    (0x30004, 0x3000c),
+    (0x30004, 0x30004),
+    (0x30008, 0x30004),
+    (0x10000, 0x10004),
+    (0x30010, 0x30019),
+    (0x2ffff, 0x30001),
+];
+
+/// Which of them count.
+fn counted_ranges(out: &mut String, image: &Image<'_>) -> Result<(), Memory> {
+    for (low, high) in &RANGES {
+        write!(out, "{} ", image.counts(*low, *high))?;
+    }
+    Ok(())
+}
+
+/// Which of the ranges count, whether one past 2^32 does, and whether no segment holds the end of the last.
+fn counts(out: &mut String, image: &Image<'_>) -> Result<(), Memory> {
+    counted_ranges(out, image)?;
+    let far = image.counts_from(0xffff_ffff, 2);
+    write!(out, "{far} {}", image.segment_at(0x30018).is_none())?;
+    Ok(())
+}
+
+/// What is written of an image: all its texts, their end, or which ranges count.
+#[derive(Clone, Copy)]
+enum Wanted {
+    Texts(&'static str),
+    End(&'static str),
+    Counts(&'static str),
+}
+
+/// Writes what is asked of an image.
+fn written(
+    out: &mut String,
+    image: &Image<'_>,
+    addresses: &[u32],
+    wanted: Wanted,
+) -> Result<(), Memory> {
+    match wanted {
+        Wanted::Texts(_) | Wanted::End(_) => texts(out, image, addresses),
+        Wanted::Counts(_) => counts(out, image),
+    }
+}
+
+/// Whether a text is what is wanted.
+fn is_wanted(text: &str, wanted: Wanted) -> bool {
+    match wanted {
+        Wanted::Texts(whole) | Wanted::Counts(whole) => text == whole,
+        Wanted::End(end) => text.ends_with(end),
+    }
+}
+
+/// Whether what is written of the image is what is wanted.
+fn image_shows(
+    alloc: Global,
+    image: &Image<'_>,
+    addresses: &[u32],
+    wanted: Wanted,
+) -> Result<bool, Memory> {
+    let mut out = String::new(alloc);
+    written(&mut out, image, addresses, wanted)?;
+    Ok(is_wanted(out.as_str(), wanted))
+}
+
+/// Whether what is written of the file's image is what is wanted.
+fn file_shows(
+    alloc: Global,
+    file: &[u8],
+    addresses: &[u32],
+    wanted: Wanted,
+) -> Result<bool, Memory> {
+    if file.len() > 1 << 26 {
+        return Ok(false);
+    }
+    match read_image(alloc, file) {
+        Ok(image) => image_shows(alloc, &image, addresses, wanted),
+        Err(prof_bytes::Fail::Memory(memory)) => Err(memory),
+        Err(prof_bytes::Fail::Fault(_)) => Ok(false),
+    }
+}
+
+/// Whether what is written of the file with these changes is what is wanted.
+fn shows(
+    alloc: Global,
+    hex: &[u8],
+    changes: &[u8],
+    addresses: &[u32],
+    wanted: Wanted,
+) -> Result<bool, Memory> {
+    let file = changed(alloc, hex, changes)?;
+    file_shows(alloc, &file, addresses, wanted)
+}
+
+/// Whether the file of GNU ld shows what readelf says of it.
+fn gnu_shows(alloc: Global) -> Result<bool, Memory> {
+    let wanted = Wanted::Texts(
+        "entry 10000 length 792\nff60 10024 5 0 c4\n10030 10050 6 c4 c\n10010 20 sum\n10000 16 _start\n36 12 0 80 0 none\n_start\nsum\nnone\n",
+    );
+    let addresses = [0xffff, 0x1000f, 0x10010, 0x10024];
+    shows(alloc, files::gnu(), b"", &addresses, wanted)
+}
+
+/// Whether the file of lld shows what readelf says of it.
+fn lld_shows(alloc: Global) -> Result<bool, Memory> {
+    let wanted = Wanted::Texts(
+        "entry 100e4 length 772\n10000 100d4 4 0 d4\n100e4 1010c 5 d4 28\n1011c 1013c 6 fc c\n100e4 20 _start\n100f8 20 sum\n40 12 0 68 0 none\n_start\nsum\n",
+    );
+    let addresses = [0x100e3, 0x100f7, 0x100f8];
+    shows(alloc, files::lld(), b"", &addresses, wanted)
+}
+
+/// What readelf says of the headers, the sizes of the sections and the function symbols.
+#[test]
+fn files_of_gnu_ld_and_lld(rt: HostRuntime) -> Result<(), Fail> {
+    assert!(rt; gnu_shows(rt.alloc())?);
+    assert!(rt; lld_shows(rt.alloc())?);
+    Ok(())
+}
+
+/// Whether the addresses in the outer function alone, and after both, have their functions.
+fn outer_shows(alloc: Global) -> Result<bool, Memory> {
+    let wanted = Wanted::End("0 0 0 44 0 _start\nnone\n");
+    let addresses = [0x10014, 0x10030];
+    shows(alloc, files::recursive(), b"200=48", &addresses, wanted)
+}
+
+/// Whether the addresses before, in and after the inner function have their functions.
+fn inner_shows(alloc: Global) -> Result<bool, Memory> {
+    let changes = b"196=16 200=8 212=0 216=48";
+    let wanted = Wanted::End("0 0 0 44 0 f\n_start\nf\n");
+    let addresses = [0x1000c, 0x10014, 0x10018];
+    shows(alloc, files::recursive(), changes, &addresses, wanted)
+}
+
+/// The first in symbol order holds an address, also where functions nest.
+#[test]
+fn nested_functions(rt: HostRuntime) -> Result<(), Fail> {
+    assert!(rt; outer_shows(rt.alloc())?);
+    assert!(rt; inner_shows(rt.alloc())?);
+    Ok(())
+}
+
+/// Whether the ranges count that should: of two segments that touch, and of one that cannot be executed.
+fn counted(alloc: Global) -> Result<bool, Memory> {
+    let changes = b"188=8 190=3 204=5";
+    let wanted = Wanted::Counts("true true false false false false false false false true");
+    shows(alloc, files::segments(), changes, &[], wanted)
+}
+
+#[test]
+fn ranges_that_count(rt: HostRuntime) -> Result<(), Fail> {
+    assert!(rt; counted(rt.alloc())?);
+    Ok(())
+}

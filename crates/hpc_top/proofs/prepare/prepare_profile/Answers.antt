@@ -1,9 +1,0 @@
-use Rattle.std.proofs.Common.{◌≡◌, ◌∙◌, ℕ, List, ap, length}
-use Rattle.hpc_top.specs.Task.{Wanted}
-use Rattle.hpc_top.proofs.Fetching.{within_length}
-use Rattle.hpc_top.proofs.prepare.prepare_profile.Goals as goal
-
-pub unreachable-requires : goal.unreachable-requires
-unreachable-requires g c =
-    let three : length c.in_ok-texts.texts ≡ 3 = within_length _ _ c.in_ok-texts.ensures.1 ∙ ap (λ (ws : List Wanted). length ws) c.profile_wants-wants.ensures in
-    c.in_default.ensures.other (ap (λ (ts : List (List ℕ)). length ts) c.items.ensures ∙ three)

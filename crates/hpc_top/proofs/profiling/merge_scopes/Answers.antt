@@ -1,0 +1,11 @@
+use Rattle.std.proofs.Common.{subst}
+use Rattle.scope_find.specs.Found.{ProgramScopes}
+use Rattle.hpc_top.specs.Merged.{merging}
+use Rattle.hpc_top.specs.commands.Profile.{profiled}
+use Rattle.hpc_top.specs.private.Profiling.{Profiles}
+use Rattle.hpc_top.proofs.profiling.merge_scopes.Goals as goal
+
+pub returns : goal.returns
+returns g c m count =
+    subst (λ (p : ProgramScopes). Profiles (merging (g.C.Crews.gives c.args.crews.now) (g.C.Crews.whole c.args.crews.now) c.args.job.now.workers) c.args.job.now.period c.merge_run.result (profiled p m)) c.in_ok-finder.ensures
+    (c.merge_run.ensures m count)

@@ -1,0 +1,59 @@
+-- What a command makes of its files: a product, or the first refusal.
+use Rattle.std.specs.Prelude.{ℕ, List, [], ◌∷◌, length, Result, Ok, Err, if◌then◌else◌, nat_lt}
+use Rattle.prof_bytes.specs.Outcome.{◌>>=◌}
+use Rattle.prof_devices.specs.Files.{Files, file_bytes}
+use Rattle.command_line.specs.declared.kind.FileKind.TheVariants as kinds
+use Rattle.command_line.specs.declared.request.Command.{Command}
+use Rattle.command_line.specs.declared.request.Command.TheVariants.{Profile, Run, Prof, Struct, View, Drill}
+use Rattle.command_line.specs.declared.status.InputFault.{InputFault}
+use Rattle.command_line.specs.declared.status.InputFault.TheVariants.{TooLong}
+use Rattle.command_line.specs.Kind.{Wanted, file_limit}
+use Rattle.command_line.specs.Request.{Request}
+use Rattle.hpc_top.specs.Product.{Product}
+use Rattle.hpc_top.specs.commands.Profile.{profile_makes}
+use Rattle.hpc_top.specs.commands.Run.{run_makes}
+use Rattle.hpc_top.specs.commands.Prof.{prof_makes}
+use Rattle.hpc_top.specs.commands.Structure.{struct_makes}
+use Rattle.hpc_top.specs.commands.View.{view_makes}
+use Rattle.hpc_top.specs.commands.Drill.{drill_makes}
+
+-- ---- the files
+
+-- the most bytes of a program
+abbrev pub program_limit : ℕ
+program_limit = file_limit kinds.Program
+
+-- the most bytes of a schedule
+abbrev pub schedule_limit : ℕ
+schedule_limit = file_limit kinds.Schedule
+
+-- the bytes of a file, unless it is too long
+abbrev pub limited_bytes : Files → Wanted → Result (List ℕ) InputFault
+limited_bytes files w =
+    if nat_lt (file_limit w.file) (length (file_bytes files w.name)) then Err (TooLong w.file (file_limit w.file))
+    else Ok (file_bytes files w.name)
+
+-- the contents of the files in their order, or the first that is too long
+abbrev pub contents : Files → List Wanted → Result (List (List ℕ)) InputFault
+contents files [] = Ok []
+contents files (w ∷ ws) = do
+  bytes ← limited_bytes files w
+  rest ← contents files ws
+  Ok (bytes ∷ rest)
+
+-- ---- what is made of them
+
+-- what a command makes of the contents of its files, which come in the order in which they are wanted
+abbrev pub makes : Command → List (List ℕ) → Result Product InputFault
+makes (Profile period workers) texts = profile_makes period texts
+makes (Run period) texts = run_makes period texts
+makes (Prof workers) texts = prof_makes texts
+makes Struct texts = struct_makes texts
+makes (View table) texts = view_makes table texts
+makes (Drill number workers) texts = drill_makes number texts
+
+-- accepted, with its product, or the first refusal
+abbrev pub verdict : Request → Files → Result Product InputFault
+verdict request files = do
+  texts ← contents files request.reads
+  makes request.command texts

@@ -1,0 +1,46 @@
+-- `prof` as a function of its files: the database and the table of a measurement, or the first refusal.
+use Rattle.std.specs.Prelude.{ℕ, ◌==◌, ◌&&◌, List, [], ◌∷◌, length, Result, Ok, Err, if◌then◌else◌}
+use Rattle.prof_bytes.specs.Outcome.{◌>>=◌}
+use Rattle.elf_image.specs.Image.{ProgramImage}
+use Rattle.measure_file.specs.declared.head.MeasureHead.{MeasureHead}
+use Rattle.measure_file.specs.Reading.{measurement_in}
+use Rattle.scope_types.specs.declared.frame.Counted.{Counted}
+use Rattle.scope_types.specs.Distinct.{each_sample}
+use Rattle.command_line.specs.declared.status.InputFault.{InputFault}
+use Rattle.command_line.specs.declared.status.InputFault.TheVariants.{Measurement, WrongProgram}
+use Rattle.hpc_top.specs.Attribution.{attributed, attribution_of}
+use Rattle.hpc_top.specs.Faulted.{faulted}
+use Rattle.hpc_top.specs.Product.{Product, no_product}
+use Rattle.hpc_top.specs.Program.{program}
+use Rattle.hpc_top.specs.Scopes.{program_scopes}
+
+-- the measurement, or the first fault of its file
+abbrev pub measurement : List ℕ → Result (MeasureHead × List (List Counted)) InputFault
+measurement bytes = faulted (λ fault. Measurement fault.offset) (measurement_in bytes)
+
+-- the measurement is one of this program: the length of its file and its entry are the same
+abbrev pub of_program : ProgramImage → MeasureHead → Result MeasureHead InputFault
+of_program image head =
+    if head.length == length image.file && head.entry == image.entry then Ok head
+    else Err (WrongProgram head.length head.entry (length image.file) image.entry)
+
+-- the product of a program and the samples of a measurement, each raw path as often as it is counted; or the first
+-- refusal of the program's debug information
+abbrev pub attributed_code : ProgramImage → ℕ → List (List Counted) → Result Product InputFault
+attributed_code image period tables = do
+  scopes ← program_scopes image
+  a ← attributed scopes (length tables) (each_sample tables)
+  Ok (attribution_of period a)
+
+-- the product of a program and a measurement, or the first of their refusals
+unfoldable pub prof_product : List ℕ → List ℕ → Result Product InputFault
+prof_product elf bytes = do
+  (head, tables) ← measurement bytes
+  image ← program elf
+  head ← of_program image head
+  attributed_code image head.period tables
+
+-- the same of the contents of the command's files
+abbrev pub prof_makes : List (List ℕ) → Result Product InputFault
+prof_makes (elf ∷ measurement ∷ []) = prof_product elf measurement
+prof_makes texts = Ok no_product

@@ -1,0 +1,67 @@
+-- `profile` as a function of its files: what is stored and what is put, or the first refusal.
+use Rattle.std.specs.Prelude.{ℕ, List, [], ◌∷◌, ◌++◌, Result, Ok}
+use Rattle.prof_bytes.specs.Outcome.{◌>>=◌}
+use Rattle.elf_image.specs.Image.{ProgramImage}
+use Rattle.cfi_table.specs.Frames.{FrameDescription}
+use Rattle.rv_run.specs.Schedule.{Scheduled}
+use Rattle.scope_find.specs.Found.{ProgramScopes}
+use Rattle.scope_types.specs.CallPaths.{ColumnPath}
+use Rattle.command_line.specs.declared.status.InputFault.{InputFault}
+use Rattle.hpc_top.specs.Attribution.{Attributed, attributed, attribution_from, call_paths_of}
+use Rattle.hpc_top.specs.Measured.{Measured, lines_of, measured}
+use Rattle.hpc_top.specs.Product.{Product, no_product}
+use Rattle.hpc_top.specs.Program.{scheduled, program, frame_information}
+use Rattle.hpc_top.specs.Scopes.{program_scopes}
+
+-- ---- the run
+
+-- a run, measured, and its samples, attributed
+pub record Profiled : Type 0 where
+  pub measured : Measured
+  pub attributed : Attributed
+
+-- a run that was measured, unless its samples have too many scopes
+abbrev pub profiled : ProgramScopes → Measured → Result Profiled InputFault
+profiled scopes m = do
+  a ← attributed scopes m.harts m.samples
+  Ok (record { measured = m; attributed = a })
+
+-- the run of a program whose call frame information and debug information were read
+abbrev pub profiled_program : ProgramImage → List FrameDescription → ProgramScopes → Scheduled → List ℕ → ℕ
+    → Result Profiled InputFault
+profiled_program image described scopes schedule input period = do
+  m ← measured image described schedule input period
+  profiled scopes m
+
+-- the run of a program, an input and a schedule, or the first of their refusals
+unfoldable pub profiled_of : List ℕ → List ℕ → List ℕ → ℕ → Result Profiled InputFault
+profiled_of elf input schedule period = do
+  schedule ← scheduled schedule
+  image ← program elf
+  described ← frame_information image
+  scopes ← program_scopes image
+  profiled_program image described scopes schedule input period
+
+-- ---- the product
+
+-- the product whose database and table are those of these paths, with the lines on the run before the table
+abbrev pub product_from : ℕ → Profiled → List ColumnPath → Product
+product_from period p paths = record {
+  stored = (attribution_from period p.attributed paths).stored;
+  text = lines_of period p.measured ++ (attribution_from period p.attributed paths).text;
+}
+
+-- the product of a run is that of all its samples
+abbrev pub product_of : ℕ → Profiled → Product
+product_of period p = product_from period p (call_paths_of p.attributed)
+
+-- the product of a program, an input and a schedule, or the first of their refusals
+unfoldable pub profile_of : List ℕ → List ℕ → List ℕ → ℕ → Result Product InputFault
+profile_of elf input schedule period = do
+  p ← profiled_of elf input schedule period
+  Ok (product_of period p)
+
+-- the same of the contents of the command's files
+abbrev pub profile_makes : ℕ → List (List ℕ) → Result Product InputFault
+profile_makes period (elf ∷ input ∷ schedule ∷ []) = profile_of elf input schedule period
+profile_makes period texts = Ok no_product

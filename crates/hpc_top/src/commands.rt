@@ -1,0 +1,39 @@
+//! The commands, a module for each: what it makes of the contents of its files, or their first refusal.
+ghost use Rattle.command_line.specs.Request.{IsCommand, kinds_read};
+ghost use Rattle.prof_bytes.specs.Outcome.{Gives};
+ghost use Rattle.hpc_top.specs.Verdict.{makes};
+ghost use Rattle.hpc_top.specs.private.Steps.{AreWithin};
+
+pub mod drill;
+pub mod prof;
+pub mod profile;
+pub mod run;
+pub mod structure;
+pub mod view;
+
+use crate::product::Product;
+use command_line::{Command, InputFault};
+use prof_bytes::{Fail, Text};
+use prof_devices::Gate;
+use std::thread::Threads;
+
+/// What a command makes of the contents of its files, which come in the order in which it reads them.
+pub fn make<R: Threads + Sync + AllocGlobal, G: Gate>(
+    rt: &R,
+    command: Command,
+    texts: &[Text],
+    gate: &G,
+) -> Result<Product, Fail<InputFault>>
+    requires numbers { IsCommand command }
+    requires files { AreWithin texts.now (kinds_read command) }
+    ensures { Gives (λ p. p) result (makes command texts.now) }
+{
+    match command {
+        Command::Profile { period, workers } => profile::make(rt, period, workers, texts, gate),
+        Command::Run { period } => run::make(rt.alloc(), period, texts),
+        Command::Prof { workers } => prof::make(rt, workers, texts, gate),
+        Command::Struct => structure::make(rt.alloc(), texts),
+        Command::View { table } => view::make(rt.alloc(), table, texts),
+        Command::Drill { number, workers } => drill::make(rt, number, workers, texts, gate),
+    }
+}

@@ -1,0 +1,107 @@
+//! `drill`: the guest of a number, profiled, in four lines.
+ghost use Rattle.std.specs.Prelude.{◌≡◌, ◌≤◌, IfOk, IsTrue, length};
+ghost use Rattle.prof_bytes.specs.Outcome.{Gives};
+ghost use Rattle.prof_db.specs.Spelling.{database_spelling};
+ghost use Rattle.run_report.specs.Drill.{drill_lines, retired_by};
+ghost use Rattle.tree_types.specs.OfContent.{IsProfile};
+ghost use Rattle.hpc_top.specs.Job.{IsJob};
+ghost use Rattle.hpc_top.specs.Measured.{Measured};
+ghost use Rattle.hpc_top.specs.commands.Drill.{drill_makes, drill_product, drilled};
+ghost use Rattle.hpc_top.specs.private.Counting.{IsCount};
+ghost use Rattle.hpc_top.specs.private.Profiling.{files_of};
+
+use crate::commands::profile::Job;
+use crate::product::{Product, nothing, text_alone};
+use crate::profiling::{ProfiledRun, profile_run};
+use command_line::InputFault;
+use guest_gen::guest;
+use merge_crew::{Crews, WorkCrew};
+use prof_bytes::{Fail, Memory, Text};
+use prof_db::{profiles_are_writable, write_db};
+use prof_devices::Gate;
+use run_report::{all_retired, all_samples, drill_lines};
+use std::alloc::Global;
+use std::thread::Threads;
+use tree_types::counts_decide;
+
+/// The four lines on what was profiled, whose database is made for its length and its fold.
+fn lines(alloc: Global, number: u32, profiled: &ProfiledRun<'_>) -> Result<Text, Memory>
+    requires profile { IsProfile profiled.now.merged.content }
+    requires counted { (m : Measured) × IsCount m profiled.now.run }
+    ensures { (m : Measured) → IsCount m profiled.now.run → IfOk result (λ text. text
+        ≡ drill_lines number (retired_by m.final) (length m.samples) (length profiled.now.merged.content.nodes)
+        (database_spelling profiled.now.merged.content)) }
+{
+    profiles_are_writable();
+    let content = &profiled.merged.content;
+    let database = write_db(alloc, content)?;
+    let ccts = &profiled.run.ccts;
+    let retired = all_retired(ccts.columns(), profiled.run.samples.machine());
+    let nodes = content.nodes.items().len() as u64;
+    drill_lines(
+        alloc,
+        number,
+        retired,
+        all_samples(ccts),
+        nodes,
+        database.bytes(),
+    )
+}
+
+/// The four lines on a profile of these files, or their first refusal.
+fn drill_job<R: Threads + Sync, C: Crews>(
+    rt: &R,
+    alloc: Global,
+    number: u32,
+    job: &Job<'_>,
+    crews: &C,
+) -> Result<Product, Fail<InputFault>>
+    requires job { IsJob job.now }
+    requires whole { IsTrue (C.whole crews.now) }
+    ensures { Gives (λ p. p) result (drilled number (files_of job.now)) }
+{
+    counts_decide();
+    let profiled = profile_run(rt, alloc, job, crews)?;
+    let text = lines(alloc, number, &profiled)?;
+    Ok(text_alone(alloc, text))
+}
+
+/// The four lines on a profile of a number's guest, or the first refusal of its files.
+#[tactic(auto, unfolding(crate::specs::commands::Drill::drill_product))]
+fn drill_guest<R: Threads + Sync + AllocGlobal, C: Crews>(
+    rt: &R,
+    number: u32,
+    workers: u32,
+    crews: &C,
+) -> Result<Product, Fail<InputFault>>
+    requires workers { (1 ≤ workers) × (workers ≤ 16) }
+    requires whole { IsTrue (C.whole crews.now) }
+    ensures { Gives (λ p. p) result (drill_product number) }
+{
+    let files = guest(rt.alloc(), number)?;
+    let job = Job {
+        elf: files.elf.bytes(),
+        input: files.input.bytes(),
+        schedule: files.schedule.bytes(),
+        period: files.period,
+        workers,
+    };
+    drill_job(rt, rt.alloc(), number, &job, crews)
+}
+
+/// What `drill` makes, which has no files.
+pub fn make<R: Threads + Sync + AllocGlobal, G: Gate>(
+    rt: &R,
+    number: u32,
+    workers: u32,
+    texts: &[Text],
+    gate: &G,
+) -> Result<Product, Fail<InputFault>>
+    requires workers { (1 ≤ workers) × (workers ≤ 16) }
+    ensures { Gives (λ p. p) result (drill_makes number texts.now) }
+{
+    let [] = texts else {
+        return Ok(nothing(rt.alloc()));
+    };
+    drill_guest(rt, number, workers, &WorkCrew::of(gate))
+}

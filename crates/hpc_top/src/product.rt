@@ -1,0 +1,47 @@
+//! What a command makes.
+ghost use Rattle.std.specs.Prelude.{◌≡◌};
+ghost use Rattle.hpc_top.specs.Made.{product_in};
+ghost use Rattle.hpc_top.specs.Product.{no_product, only_text};
+
+use crate::status::Made;
+use prof_bytes::Text;
+use std::alloc::Global;
+
+/// What a command makes: the bytes of the file that it stores, where it stores one, and the text that it puts.
+#[derive(Drop)]
+pub struct Product {
+    pub stored: Text,
+    pub text: Text,
+}
+
+/// A text that is put; nothing is stored.
+pub fn text_alone(alloc: Global, text: Text) -> Product
+    ensures { result ≡ only_text text }
+{
+    Product {
+        stored: Text::from_vec(Vec::new(alloc)),
+        text,
+    }
+}
+
+/// Nothing at all.
+pub fn nothing(alloc: Global) -> Product
+    ensures { result ≡ no_product }
+{
+    text_alone(alloc, Text::from_vec(Vec::new(alloc)))
+}
+
+/// What was made, to be stored and put.
+pub fn product_of(made: Made) -> Product
+    ensures { result ≡ product_in made }
+{
+    let Made {
+        database,
+        report,
+        ..
+    } = made;
+    Product {
+        stored: database,
+        text: report,
+    }
+}

@@ -1,0 +1,143 @@
+//! A run that is profiled: its samples counted and merged, before `profile` makes its report of it, or `drill` its lines.
+ghost use Rattle.std.specs.Prelude.{◌≡◌, ◌<◌, ◌≤◌, Ok};
+ghost use Rattle.cfi_table.specs.Frames.{descriptions};
+ghost use Rattle.hpc_top.specs.Job.{IsJob};
+ghost use Rattle.hpc_top.specs.Measured.{Measured};
+ghost use Rattle.hpc_top.specs.Merged.{merging};
+ghost use Rattle.hpc_top.specs.Program.{program, scheduled};
+ghost use Rattle.hpc_top.specs.commands.Profile.{profiled, profiled_of, profiled_program};
+ghost use Rattle.hpc_top.specs.private.Counting.{IsCount};
+ghost use Rattle.hpc_top.specs.private.Profiling.{Profiles};
+
+use crate::commands::profile::Job;
+use crate::counting::{CountedRun, count_run};
+use crate::merged::{Merge, Merged, merge_samples};
+use crate::program::{frames_of, program_of, schedule_of};
+use crate::scopes::scopes_of;
+use cfi_table::FrameTable;
+use command_line::InputFault;
+use dwarf_inline::Structure;
+use dwarf_line::LineTable;
+use elf_image::Image;
+use merge_crew::Crews;
+use prof_bytes::Fail;
+use rv_run::Schedule;
+use scope_find::Finder;
+use std::alloc::Global;
+use std::thread::Threads;
+
+/// A counted run, and what was merged of its samples.
+#[derive(Drop)]
+pub struct ProfiledRun<'a> {
+    pub run: CountedRun<'a>,
+    pub merged: Merged,
+}
+
+/// What is merged of a run's samples, unless these have too many scopes.
+fn merge_run<'a, R: Threads + Sync, C: Crews>(
+    rt: &R,
+    alloc: Global,
+    merge: &Merge<'_, C>,
+    finder: &Finder<'_>,
+    run: CountedRun<'a>,
+) -> Result<ProfiledRun<'a>, Fail<InputFault>>
+    requires period { 0 < merge.now.period }
+    requires workers { (1 ≤ merge.now.workers) × (merge.now.workers ≤ 16) }
+    ensures { (m : Measured) → IsCount m run.entry
+        → Profiles (merging (C.gives merge.now.crews.now) (C.whole merge.now.crews.now) merge.now.workers)
+        merge.now.period result (profiled finder.now m) }
+{
+    let merged = merge_samples(rt, alloc, merge, finder, &run.ccts)?;
+    Ok(ProfiledRun { run, merged })
+}
+
+/// What is merged of a run's samples by a program's debug information, unless these have too many scopes.
+fn merge_scopes<'a, R: Threads + Sync, C: Crews>(
+    rt: &R,
+    alloc: Global,
+    job: &Job<'_>,
+    crews: &C,
+    image: &Image<'_>,
+    lines: &LineTable<'_>,
+    structure: &Structure<'_>,
+    run: CountedRun<'a>,
+) -> Result<ProfiledRun<'a>, Fail<InputFault>>
+    requires job { IsJob job.now }
+    ensures { (m : Measured) → IsCount m run.entry
+        → Profiles (merging (C.gives crews.now) (C.whole crews.now) job.now.workers) job.now.period
+        result (profiled (record { structure = structure.now; lines = lines.now; image = image.now }) m) }
+{
+    let finder = Finder::of(alloc, structure, lines, image)?;
+    let merge = Merge {
+        crews,
+        workers: job.workers,
+        period: job.period,
+    };
+    merge_run(rt, alloc, &merge, &finder, run)
+}
+
+/// What is profiled of a program that was read, or the first refusal of its run.
+fn profile_program<'a, R: Threads + Sync, C: Crews>(
+    rt: &R,
+    alloc: Global,
+    job: &Job<'_>,
+    crews: &C,
+    schedule: Schedule,
+    image: &Image<'a>,
+    table: &FrameTable,
+    lines: &LineTable<'_>,
+    structure: &Structure<'_>,
+) -> Result<ProfiledRun<'a>, Fail<InputFault>>
+    requires job { IsJob job.now }
+    ensures { Profiles (merging (C.gives crews.now) (C.whole crews.now) job.now.workers) job.now.period
+        result
+        (profiled_program image.now (descriptions table.now)
+        (record { structure = structure.now; lines = lines.now; image = image.now }) schedule job.now.input.now
+        job.now.period) }
+{
+    let counted = count_run(alloc, image, table, schedule, job.input, job.period)?;
+    merge_scopes(rt, alloc, job, crews, image, lines, structure, counted)
+}
+
+/// What is profiled of a job whose schedule and program were read, or the first refusal of its call frame information,
+/// its debug information or its run.
+#[tactic(auto, unfolding(crate::specs::commands::Profile::profiled_of))]
+fn profile_image<'a, R: Threads + Sync, C: Crews>(
+    rt: &R,
+    alloc: Global,
+    job: &Job<'_>,
+    crews: &C,
+    schedule: Schedule,
+    image: &Image<'a>,
+) -> Result<ProfiledRun<'a>, Fail<InputFault>>
+    requires schedule { scheduled job.now.schedule.now ≡ Ok schedule }
+    requires program { program job.now.elf.now ≡ Ok image.now }
+    requires job { IsJob job.now }
+    ensures { Profiles (merging (C.gives crews.now) (C.whole crews.now) job.now.workers) job.now.period
+        result
+        (profiled_of job.now.elf.now job.now.input.now job.now.schedule.now job.now.period) }
+{
+    let table = frames_of(alloc, image)?;
+    let (lines, structure) = scopes_of(alloc, image)?;
+    profile_program(
+        rt, alloc, job, crews, schedule, image, &table, &lines, &structure,
+    )
+}
+
+/// What is profiled of a job, or the first refusal of its files.
+#[tactic(auto, unfolding(crate::specs::commands::Profile::profiled_of))]
+pub fn profile_run<'a, R: Threads + Sync, C: Crews>(
+    rt: &R,
+    alloc: Global,
+    job: &Job<'a>,
+    crews: &C,
+) -> Result<ProfiledRun<'a>, Fail<InputFault>>
+    requires job { IsJob job.now }
+    ensures { Profiles (merging (C.gives crews.now) (C.whole crews.now) job.now.workers) job.now.period
+        result
+        (profiled_of job.now.elf.now job.now.input.now job.now.schedule.now job.now.period) }
+{
+    let schedule = schedule_of(alloc, job.schedule)?;
+    let image = program_of(alloc, job.elf)?;
+    profile_image(rt, alloc, job, crews, schedule, &image)
+}

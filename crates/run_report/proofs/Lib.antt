@@ -1,0 +1,3 @@
+pub mod HartLines
+pub mod Retired
+pub mod Counting

@@ -1,0 +1,11 @@
+//! A run as text: the lines that stand before its table, and the four lines of a drill.
+//!
+//! It promises that the texts are byte for byte those of the definitions, of the run's samples, and that they are cut off
+//! nowhere. Their layout is this program's own. Below stand the machine, the counted samples, and the bytes.
+#![tactic(auto)]
+
+mod drill;
+mod lines;
+
+pub use drill::{all_retired, drill_lines};
+pub use lines::{all_samples, run_lines};

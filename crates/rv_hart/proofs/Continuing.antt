@@ -1,0 +1,40 @@
+-- How a hart goes on among the words that are kept.
+use Rattle.std.proofs.Common.{◌≡◌, ◌≢◌, ℕ, Some, option_map, Result, Ok, Err, IfOk, refl, sym, subst, ◌∙◌}
+use Rattle.prof_bytes.specs.declared.fail.Memory.{Memory}
+use Rattle.rv_table.specs.declared.inst.Op.{Op}
+use Rattle.rv_table.specs.declared.inst.Op.TheVariants as ops
+use Rattle.rv_table.specs.declared.inst.Inst.{Inst}
+use Rattle.rv_table.specs.Table.{decoded}
+use Rattle.rv_hart.specs.declared.execute.Continuation.{Continuation}
+use Rattle.rv_hart.specs.declared.execute.Continuation.TheVariants as continuation
+use Rattle.rv_hart.specs.declared.outcome.Stepped.{Stepped}
+use Rattle.rv_hart.specs.Step.{State, carried_out, fetched, step_of}
+use Rattle.rv_hart.specs.private.Continuing.{step_ended, Continues, ContinuesBy}
+use Rattle.rv_hart.proofs.Runs.{kept-step}
+
+-- an operation other than that
+pub going : {op other : Op} (count old new : ℕ) (how : Continuation) → op ≡ other → other ≢ ops.Illegal → Continues count old new how → ContinuesBy op count old new how
+going count old new how same differs goes = (λ e. absurd (differs (sym same ∙ e)), λ _. goes)
+
+pub going-not : {op : Op} (count old new : ℕ) → op ≡ ops.Illegal → ContinuesBy op count old new continuation.Illegal
+going-not count old new same = (λ _. refl, λ other. absurd (other same))
+
+pub going-store : {op other : Op} (count old new : ℕ) (r : Result Continuation Memory) → op ≡ other → other ≢ ops.Illegal → IfOk r (λ how. (count : ℕ) → Continues count old new how) → IfOk r (ContinuesBy op count old new)
+going-store count old new (Ok how) same differs goes = (λ e. absurd (differs (sym same ∙ e)), λ _. goes count)
+going-store count old new (Err e) same differs goes = tt
+
+-- what continues otherwise is an instruction
+pub other-than : {op : Op} (count old new : ℕ) (how other : Continuation) → how ≡ other → other ≢ continuation.Illegal → ContinuesBy op count old new how → op ≢ ops.Illegal
+other-than count old new how other same differs goes none = differs (sym same ∙ goes.0 none)
+
+-- and continues in its way
+pub continues-as : {op : Op} (count old new : ℕ) (how other : Continuation) → how ≡ other → other ≢ continuation.Illegal → ContinuesBy op count old new how → Continues count old new other
+continues-as count old new how other same differs goes = subst (Continues count old new) same (goes.1 (other-than count old new how other same differs goes))
+
+pub ended-as : {t : State} {how other : Continuation} {r : State × Stepped} → how ≡ other → ◌≡◌ {A = State × Stepped} (t, step_ended how) r → ◌≡◌ {A = State × Stepped} (t, step_ended other) r
+ended-as {t} {how} {other} {r} same is = subst (λ (w : Continuation). ◌≡◌ {A = State × Stepped} (t, step_ended w) r) same is
+
+-- so it is the step of the word that is fetched
+pub stepped-as : (s t : State) (inst : Inst) (count old new : ℕ) (how other : Continuation) → how ≡ other → other ≢ continuation.Illegal → ContinuesBy inst.op count old new how → ◌≡◌ {A = State × Stepped} (t, step_ended how) (carried_out inst s) → (inst.op ≢ ops.Illegal → option_map decoded (fetched s) ≡ Some inst) → ◌≡◌ {A = State × Stepped} (t, step_ended other) (step_of s)
+stepped-as s t inst count old new how other same differs goes is word =
+    ended-as same is ∙ sym (kept-step s inst (word (other-than count old new how other same differs goes)))

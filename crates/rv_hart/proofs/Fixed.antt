@@ -1,0 +1,168 @@
+-- What may not be written does not change.
+use Rattle.std.proofs.Common.{◌≡◌, ℕ, zero, suc, ◌+◌, ◌*◌, ◌-◌, ◌/◌, ◌%◌, ◌^◌, ◌<◌, ◌≤◌, ◌==◌, ◌&&◌, Bool, true, false, not, cond, List, map, length, slice_index, Option, Some, None, option_map, Result, Ok, Err, IfOk, OnErr, nat_le, nat_lt, int_lt, refl, sym, ap, ap₂, subst, ◌∙◌, arith}
+use Rattle.std.specs.List.{range_with_len}
+use Rattle.std.proofs.lemmas.Bool.{leb-true, ltb-true, and_parts}
+use Rattle.std.proofs.lemmas.List.{ext_get_or}
+use Rattle.std.proofs.lemmas.List.FromFn.{get_or-map-range_with_len, length-map-range_with_len}
+use Rattle.prof_bytes.specs.declared.fail.Memory.{Memory}
+use Rattle.prof_bytes.specs.Number.{number_bytes, number_in, word_sum}
+use Rattle.elf_image.specs.declared.part.Segment.{Segment}
+use Rattle.elf_image.specs.declared.elf.TheConstants.{PF_W}
+use Rattle.rv_table.specs.declared.inst.Op.{Op}
+use Rattle.rv_table.specs.declared.inst.Op.TheVariants as ops
+use Rattle.rv_table.specs.declared.inst.Inst.{Inst}
+use Rattle.rv_table.specs.Fields.{sign_extended}
+use Rattle.rv_table.specs.Table.{decoded}
+use Rattle.rv_memory.specs.AddressSpace.{AddressSpace, byte_at, byte_after, fetched_at, is_fetched_from, may, may_all, region_at, stored, written}
+use Rattle.rv_memory.proofs.Bytes.{byte-each}
+use Rattle.rv_memory.proofs.Contiguous.{all-each}
+use Rattle.rv_hart.specs.declared.outcome.Stepped.{Stepped}
+use Rattle.rv_hart.specs.declared.outcome.Cause.TheVariants as cause
+use Rattle.rv_hart.specs.declared.decoded_code.DecodedCode.{DecodedCode}
+use Rattle.rv_hart.specs.Arithmetic.{signed}
+use Rattle.rv_hart.specs.Running.{after_steps, Ran}
+use Rattle.rv_hart.specs.Step.{State, rs1_value, rs2_value, address, operand, trapped, retired, jumps, continues_at, branches, loads, finishes_store, executed, fetched, after_fetch, step_of}
+use Rattle.rv_hart.specs.private.Decoding.{KeepsFixed, IsDecodedAt, IsCode, AreCode}
+
+pub fixed-same : (m : AddressSpace) → KeepsFixed m m
+fixed-same m = record { regions = refl; bytes = λ at low fixed. refl }
+
+fixed-twice : (m n o : AddressSpace) → KeepsFixed m n → KeepsFixed n o → KeepsFixed m o
+fixed-twice m n o first second = record {
+  regions = second.regions ∙ first.regions;
+  bytes = λ at low fixed. second.bytes at low (ap (λ (r : List Segment). may PF_W r at) first.regions ∙ fixed) ∙ first.bytes at low fixed;
+}
+
+-- ---- a store
+
+-- whether an address is one of those written
+out-of : (start at count : ℕ) → (start ≤ at → at < start + count → ⊥) → (nat_le start at && nat_lt at (start + count)) ≡ false
+out-of start at count none = by_case (nat_le start at && nat_lt at (start + count)) refl
+  where
+    by_case : (b : Bool) → (nat_le start at && nat_lt at (start + count)) ≡ b → (nat_le start at && nat_lt at (start + count)) ≡ false
+    by_case false e = e
+    by_case true e = let tests = and_parts _ _ e in absurd (none (leb-true start at tests.0) (ltb-true at (start + count) tests.1))
+
+byte-kept : (m : AddressSpace) (start at : ℕ) (bytes : List ℕ) → may_all PF_W m start (length bytes) ≡ true → at < 2 ^ 32 → may PF_W m.regions at ≡ false → byte_at (written m start bytes) at ≡ byte_at m at
+byte-kept m start at bytes granted low fixed =
+    byte-each (byte_after m start bytes) at low
+    ∙ ap (λ (t : Bool). cond t (slice_index bytes (at - start)) (byte_at m at))
+    (out-of start at (length bytes) (λ above below.
+    let same : start + (at - start) ≡ at = omega (arith, above) in
+    let writable : may PF_W m.regions at ≡ true = ap (may PF_W m.regions) (sym same) ∙ all-each (may PF_W m.regions) start (length bytes) (at - start) granted (omega (arith, above, below)) in
+    let clash : true ≡ false = sym writable ∙ fixed in
+    absurd cc))
+
+stored-fixed : (m : AddressSpace) (start : ℕ) (bytes : List ℕ) → KeepsFixed m (stored m start bytes).1
+stored-fixed m start bytes = by_case (may_all PF_W m start (length bytes)) refl
+  where
+    by_case : (b : Bool) → may_all PF_W m start (length bytes) ≡ b → KeepsFixed m (stored m start bytes).1
+    by_case true e =
+        subst (λ (t : Bool). let q : Bool × AddressSpace = cond t (true, written m start bytes) (false, m) in KeepsFixed m q.1) (sym e)
+        record { regions = refl; bytes = λ at low fixed. byte-kept m start at bytes e low fixed }
+    by_case false e =
+        subst (λ (t : Bool). let q : Bool × AddressSpace = cond t (true, written m start bytes) (false, m) in KeepsFixed m q.1) (sym e) (fixed-same m)
+
+pub store-fixed : (m n : AddressSpace) (start : ℕ) (bytes : List ℕ) (r : Result Bool Memory) → IfOk r (λ answer. ◌≡◌ {A = Bool × AddressSpace} (answer, n) (stored m start bytes)) → OnErr r (n ≡ m) → KeepsFixed m n
+store-fixed m n start bytes (Ok answer) ok err = subst (λ (q : Bool × AddressSpace). KeepsFixed m q.1) (sym ok) (stored-fixed m start bytes)
+store-fixed m n start bytes (Err e) ok err = subst (KeepsFixed m) (sym err) (fixed-same m)
+
+-- ---- a step
+
+abbrev pub FixedBy : State → State × Stepped → Type 0
+FixedBy s r = KeepsFixed s.memory r.0.memory
+
+jump : (inst : Inst) (target : ℕ) (s : State) → FixedBy s (jumps inst target s)
+jump inst target s =
+    elim (target % 4 == 0) as (λ b. FixedBy s (cond b (retired inst (word_sum s.pc 4) target s) (trapped cause.Target s))) [ true ↦ fixed-same s.memory | false ↦ fixed-same s.memory ]
+
+branch : (inst : Inst) (test : Bool) (s : State) → FixedBy s (branches inst test s)
+branch inst true s =
+    elim (word_sum s.pc inst.imm % 4 == 0) as (λ b. FixedBy s (cond b (continues_at (word_sum s.pc inst.imm) s) (trapped cause.Target s))) [ true ↦ fixed-same s.memory | false ↦ fixed-same s.memory ]
+branch inst false s = fixed-same s.memory
+
+load : (inst : Inst) (number : Option ℕ) (s : State) → FixedBy s (loads inst number s)
+load inst None s = fixed-same s.memory
+load inst (Some n) s = fixed-same s.memory
+
+put : (answer : Bool × AddressSpace) (s : State) → KeepsFixed s.memory answer.1 → FixedBy s (finishes_store answer s)
+put (true, m) s kept = kept
+put (false, m) s kept = fixed-same s.memory
+
+store : (inst : Inst) (size : ℕ) (s : State) → FixedBy s (finishes_store (stored s.memory (address inst s) (number_bytes size (rs2_value inst s))) s)
+store inst size s =
+    put (stored s.memory (address inst s) (number_bytes size (rs2_value inst s))) s (stored-fixed s.memory (address inst s) (number_bytes size (rs2_value inst s)))
+
+by_operation : (op : Op) (inst : Inst) (s : State) → FixedBy s (executed op inst s)
+by_operation ops.Illegal inst s = fixed-same s.memory
+by_operation ops.Lui inst s = fixed-same s.memory
+by_operation ops.Auipc inst s = fixed-same s.memory
+by_operation ops.Jal inst s = jump inst (word_sum s.pc inst.imm) s
+by_operation ops.Jalr inst s = jump inst (word_sum (rs1_value inst s) inst.imm / 2 * 2) s
+by_operation ops.Beq inst s = branch inst (rs1_value inst s == rs2_value inst s) s
+by_operation ops.Bne inst s = branch inst (not (rs1_value inst s == rs2_value inst s)) s
+by_operation ops.Blt inst s = branch inst (int_lt (signed (rs1_value inst s)) (signed (rs2_value inst s))) s
+by_operation ops.Bge inst s = branch inst (not (int_lt (signed (rs1_value inst s)) (signed (rs2_value inst s)))) s
+by_operation ops.Bltu inst s = branch inst (nat_lt (rs1_value inst s) (rs2_value inst s)) s
+by_operation ops.Bgeu inst s = branch inst (not (nat_lt (rs1_value inst s) (rs2_value inst s))) s
+by_operation ops.Lb inst s = load inst (option_map (sign_extended 8) (operand inst 1 s)) s
+by_operation ops.Lh inst s = load inst (option_map (sign_extended 16) (operand inst 2 s)) s
+by_operation ops.Lw inst s = load inst (operand inst 4 s) s
+by_operation ops.Lbu inst s = load inst (operand inst 1 s) s
+by_operation ops.Lhu inst s = load inst (operand inst 2 s) s
+by_operation ops.Sb inst s = store inst 1 s
+by_operation ops.Sh inst s = store inst 2 s
+by_operation ops.Sw inst s = store inst 4 s
+by_operation ops.Fence inst s = fixed-same s.memory
+by_operation ops.Ecall inst s = fixed-same s.memory
+by_operation ops.Ebreak inst s = fixed-same s.memory
+by_operation _ inst s = fixed-same s.memory
+
+by_word : (word : Option ℕ) (s : State) → FixedBy s (after_fetch word s)
+by_word None s = fixed-same s.memory
+by_word (Some word) s = by_operation (decoded word).op (decoded word) s
+
+steps-fixed : (count : ℕ) (s : State) → KeepsFixed s.memory (after_steps count s).memory
+unfolding after_steps
+steps-fixed zero s = fixed-same s.memory
+steps-fixed (suc count) s =
+    fixed-twice s.memory (after_steps count s).memory (step_of (after_steps count s)).0.memory (steps-fixed count s)
+    (by_word (fetched (after_steps count s)) (after_steps count s))
+
+pub ran-fixed : (count : ℕ) (s t : State) → Ran count s t → KeepsFixed s.memory t.memory
+ran-fixed count s t ran = subst (λ (u : State). KeepsFixed s.memory u.memory) (sym ran.state) (steps-fixed count s)
+
+-- ---- what is decoded
+
+number-kept : (m n : AddressSpace) (at : ℕ) → KeepsFixed m n → at + 4 ≤ 2 ^ 32 → ((i : ℕ) → i < 4 → may PF_W m.regions (at + i) ≡ false) → map (byte_at n) (range_with_len at 4) ≡ map (byte_at m) (range_with_len at 4)
+number-kept m n at kept low fixed =
+    ext_get_or 0 (map (byte_at n) (range_with_len at 4)) (map (byte_at m) (range_with_len at 4))
+    (length-map-range_with_len (byte_at n) at 4 ∙ sym (length-map-range_with_len (byte_at m) at 4))
+    (λ i within.
+    let few : i < 4 = omega (arith, within, length-map-range_with_len (byte_at n) at 4) in
+    get_or-map-range_with_len (byte_at n) at 4 i (at + i) 0 few refl
+    ∙ kept.bytes (at + i) (omega (arith, few, low)) (fixed i few)
+    ∙ sym (get_or-map-range_with_len (byte_at m) at 4 i (at + i) 0 few refl))
+
+fetched-kept : (m n : AddressSpace) (at : ℕ) → KeepsFixed m n → at + 4 ≤ 2 ^ 32 → ((i : ℕ) → i < 4 → may PF_W m.regions (at + i) ≡ false) → fetched_at n at ≡ fetched_at m at
+fetched-kept m n at kept low fixed =
+    ap₂ (λ (r : List Segment) (b : List ℕ). cond (at % 4 == 0 && is_fetched_from at (region_at r at)) (Some (number_in 4 b)) None) kept.regions (number-kept m n at kept low fixed)
+
+decoded-kept : (m n : AddressSpace) (at : ℕ) (inst : Inst) → KeepsFixed m n → IsDecodedAt m at inst → IsDecodedAt n at inst
+decoded-kept m n at inst kept is = record {
+  low = is.low;
+  fixed = λ i few. ap (λ (r : List Segment). may PF_W r (at + i)) kept.regions ∙ is.fixed i few;
+  word = ap (option_map decoded) (fetched-kept m n at kept is.low is.fixed) ∙ is.word;
+  registers = is.registers;
+}
+
+pub code-kept : (m n : AddressSpace) (base : ℕ) (items : List Inst) → KeepsFixed m n → IsCode m base items → IsCode n base items
+code-kept m n base items kept is = record {
+  aligned = is.aligned;
+  words = is.words;
+  ended = is.ended;
+  decoded = λ k d few. decoded-kept m n (base + 4 * k) _ kept (is.decoded k d few);
+}
+
+pub codes-kept : (m n : AddressSpace) (codes : List DecodedCode) → KeepsFixed m n → AreCode m codes → AreCode n codes
+codes-kept m n codes kept all = λ k d few. code-kept m n _ _ kept (all k d few)

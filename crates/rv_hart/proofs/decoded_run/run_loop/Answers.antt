@@ -1,0 +1,126 @@
+use Rattle.std.proofs.Common.{◌≡◌, ◌≢◌, true, false, ◌-◌, ◌<◌, suc, inl, inr, length, refl, sym, ap, subst, ◌∙◌, arith}
+use Rattle.std.proofs.lemmas.Bool.Decides.{leb_tells}
+use Rattle.rv_table.specs.declared.inst.Inst.{Inst}
+use Rattle.rv_table.specs.declared.inst.Op.TheVariants as ops
+use Rattle.rv_hart.specs.declared.execute.Continuation.TheVariants as continuation
+use Rattle.rv_hart.specs.declared.outcome.Stepped.TheVariants as stepped
+use Rattle.rv_hart.specs.declared.outcome.Cause.TheVariants as cause
+use Rattle.rv_hart.specs.Running.{Ran}
+use Rattle.rv_hart.specs.Step.{State, StoresNow, is_store, step_of}
+use Rattle.rv_hart.specs.private.Decoding.{IsWordAt, IsCode}
+use Rattle.rv_hart.specs.private.Continuing.{Continues}
+use Rattle.rv_hart.specs.private.Indexing.{state_at}
+use Rattle.rv_hart.proofs.Decoded.{words-at, word-here}
+use Rattle.rv_hart.proofs.Fixed.{ran-fixed, code-kept}
+use Rattle.rv_hart.proofs.Continuing.{ended-as, continues-as, stepped-as}
+use Rattle.rv_hart.proofs.Runs.{ran-start, ran-next, kept-stores}
+use Rattle.rv_hart.proofs.Unchanged.{unchanged, unchanged-word, ends-again}
+use Rattle.rv_hart.proofs.decoded_run.run_loop.Goals as goal
+
+pub loop-left-init : goal.loop-left-init
+loop-left-init c = record {
+  few = omega arith;
+  ran = ran-start c.args.most (state_at c.args.base c.args.index.now c.args.hart.now c.args.memory.now);
+  word = λ _. c.requires.first.0;
+  some = λ _. c.requires.first.1;
+}
+
+pub carry_out-requires-clause-registers : goal.carry_out-requires-clause-registers
+carry_out-requires-clause-registers c =
+    (word-here c.loop-left.memory c.args.base c.args.items.now c.loop-left.index c.word_at-inst.result.now (c.loop-left.invariant.word c.loop-left-test.true) c.word_at-inst.ensures).registers
+
+pub loop-left-preserved : goal.loop-left-preserved
+loop-left-preserved c =
+    let first : State = state_at c.args.base c.args.index.now c.args.hart.now c.args.memory.now in
+    let s : State = state_at c.args.base c.loop-left.index c.loop-left.hart c.loop-left.memory in
+    let t : State = state_at c.args.base c.carry_out.new.index c.carry_out.new.hart c.carry_out.new.memory in
+    let inst : Inst = c.word_at-inst.result.now in
+    let at : IsWordAt c.loop-left.memory c.args.base c.args.items.now c.loop-left.index inst =
+    word-here c.loop-left.memory c.args.base c.args.items.now c.loop-left.index inst (c.loop-left.invariant.word c.loop-left-test.true) c.word_at-inst.ensures in
+    let step : (t, stepped.Retired) ≡ step_of s =
+    stepped-as s t inst (length c.args.items.now) c.loop-left.index c.carry_out.new.index c.in-Ok-Next.field-0 continuation.Next c.in-Ok-Next.field-0-is (λ e. absurd cc) c.in-Ok-Next.ensures.goes c.in-Ok-Next.ensures.ok at.word in
+    let goes : Continues (length c.args.items.now) c.loop-left.index c.carry_out.new.index continuation.Next =
+    continues-as (length c.args.items.now) c.loop-left.index c.carry_out.new.index c.in-Ok-Next.field-0 continuation.Next c.in-Ok-Next.field-0-is (λ e. absurd cc) c.in-Ok-Next.ensures.goes in
+    let other : inst.op ≢ ops.Illegal = λ e. let clash : continuation.Next ≡ continuation.Illegal = sym c.in-Ok-Next.field-0-is ∙ c.in-Ok-Next.ensures.goes.0 e in absurd cc in
+    let within : c.carry_out.new.index < length c.args.items.now = goes (at.followed other) in
+    let ran : Ran (c.args.most - (c.loop-left.left - 1)) first t =
+    ran-next c.args.most c.loop-left.left first s t stepped.Retired c.loop-left-test.true c.loop-left.invariant.few c.loop-left.invariant.ran step refl in
+    record {
+      few = omega (arith, c.loop-left.invariant.few);
+      ran = ran;
+      word = λ more.
+          let code : IsCode c.args.memory.now c.args.base c.args.items.now = c.requires.words (omega (arith, more, c.loop-left.invariant.few)) in
+          (within, words-at c.carry_out.new.memory c.args.base c.args.items.now (code-kept c.args.memory.now c.carry_out.new.memory c.args.base c.args.items.now (ran-fixed _ first t ran) code) c.carry_out.new.index within);
+      some = λ same. absurd (omega (arith, same, c.loop-left.invariant.few, c.loop-left-test.true));
+    }
+
+pub returns-in-Ok-Outside-clause-ran : goal.returns-in-Ok-Outside-clause-ran
+returns-in-Ok-Outside-clause-ran c =
+    let s : State = state_at c.args.base c.loop-left.index c.loop-left.hart c.loop-left.memory in
+    let t : State = state_at c.args.base c.carry_out.new.index c.carry_out.new.hart c.carry_out.new.memory in
+    let inst : Inst = c.word_at-inst.result.now in
+    let at : IsWordAt c.loop-left.memory c.args.base c.args.items.now c.loop-left.index inst =
+    word-here c.loop-left.memory c.args.base c.args.items.now c.loop-left.index inst (c.loop-left.invariant.word c.loop-left-test.true) c.word_at-inst.ensures in
+    let step : (t, stepped.Retired) ≡ step_of s =
+    stepped-as s t inst (length c.args.items.now) c.loop-left.index c.carry_out.new.index c.in-Ok-Outside.field-0 continuation.Outside c.in-Ok-Outside.field-0-is (λ e. absurd cc) c.in-Ok-Outside.ensures.goes c.in-Ok-Outside.ensures.ok at.word in
+    ran-next c.args.most c.loop-left.left (state_at c.args.base c.args.index.now c.args.hart.now c.args.memory.now) s t stepped.Retired c.loop-left-test.true c.loop-left.invariant.few c.loop-left.invariant.ran step refl
+
+pub returns-in-Ok-Illegal-clause-ran : goal.returns-in-Ok-Illegal-clause-ran
+returns-in-Ok-Illegal-clause-ran c =
+    let s : State = state_at c.args.base c.loop-left.index c.loop-left.hart c.loop-left.memory in
+    let t : State = state_at c.args.base c.carry_out.new.index c.carry_out.new.hart c.carry_out.new.memory in
+    subst (Ran (c.args.most - c.loop-left.left) (state_at c.args.base c.args.index.now c.args.hart.now c.args.memory.now))
+    (sym (unchanged-word c.word_at-inst.result.now s t cause.Illegal (ended-as c.in-Ok-Illegal.field-0-is c.in-Ok-Illegal.ensures.ok)))
+    c.loop-left.invariant.ran
+
+pub returns-in-Ok-Illegal-clause-some : goal.returns-in-Ok-Illegal-clause-some
+returns-in-Ok-Illegal-clause-some c _ =
+    elim (leb_tells (suc c.loop-left.left) c.args.most) [
+      | inl less ↦ less.1
+      | inr most ↦
+          let m = most.1 in
+          let inst : Inst = c.word_at-inst.result.now in
+          let other : inst.op ≢ ops.Illegal = subst (λ (i : Inst). i.op ≢ ops.Illegal) (sym (c.word_at-inst.ensures inst)) (c.loop-left.invariant.some (omega (arith, m, c.loop-left.invariant.few)) inst) in
+          absurd (subst (Continues (length c.args.items.now) c.loop-left.index c.carry_out.new.index) c.in-Ok-Illegal.field-0-is (c.in-Ok-Illegal.ensures.goes.1 other))
+    ]
+
+pub returns-in-Ok-Stopped-clause-ran : goal.returns-in-Ok-Stopped-clause-ran
+returns-in-Ok-Stopped-clause-ran c =
+    let s : State = state_at c.args.base c.loop-left.index c.loop-left.hart c.loop-left.memory in
+    let t : State = state_at c.args.base c.carry_out.new.index c.carry_out.new.hart c.carry_out.new.memory in
+    let inst : Inst = c.word_at-inst.result.now in
+    let at : IsWordAt c.loop-left.memory c.args.base c.args.items.now c.loop-left.index inst =
+    word-here c.loop-left.memory c.args.base c.args.items.now c.loop-left.index inst (c.loop-left.invariant.word c.loop-left-test.true) c.word_at-inst.ensures in
+    let step : (t, c.in-Ok-Stopped.how) ≡ step_of s =
+    stepped-as s t inst (length c.args.items.now) c.loop-left.index c.carry_out.new.index c.in-Ok-Stopped.field-0 (continuation.Stopped c.in-Ok-Stopped.how) c.in-Ok-Stopped.field-0-is (λ e. absurd cc) c.in-Ok-Stopped.ensures.goes c.in-Ok-Stopped.ensures.ok at.word in
+    let goes : Continues (length c.args.items.now) c.loop-left.index c.carry_out.new.index (continuation.Stopped c.in-Ok-Stopped.how) =
+    continues-as (length c.args.items.now) c.loop-left.index c.carry_out.new.index c.in-Ok-Stopped.field-0 (continuation.Stopped c.in-Ok-Stopped.how) c.in-Ok-Stopped.field-0-is (λ e. absurd cc) c.in-Ok-Stopped.ensures.goes in
+    subst (Ran (c.args.most - c.loop-left.left) (state_at c.args.base c.args.index.now c.args.hart.now c.args.memory.now))
+    (sym (unchanged s t c.in-Ok-Stopped.how step goes.0))
+    c.loop-left.invariant.ran
+
+pub returns-in-Ok-Stopped-clause-ends : goal.returns-in-Ok-Stopped-clause-ends
+returns-in-Ok-Stopped-clause-ends c differs =
+    let s : State = state_at c.args.base c.loop-left.index c.loop-left.hart c.loop-left.memory in
+    let t : State = state_at c.args.base c.carry_out.new.index c.carry_out.new.hart c.carry_out.new.memory in
+    let inst : Inst = c.word_at-inst.result.now in
+    let at : IsWordAt c.loop-left.memory c.args.base c.args.items.now c.loop-left.index inst =
+    word-here c.loop-left.memory c.args.base c.args.items.now c.loop-left.index inst (c.loop-left.invariant.word c.loop-left-test.true) c.word_at-inst.ensures in
+    let step : (t, c.in-Ok-Stopped.how) ≡ step_of s =
+    stepped-as s t inst (length c.args.items.now) c.loop-left.index c.carry_out.new.index c.in-Ok-Stopped.field-0 (continuation.Stopped c.in-Ok-Stopped.how) c.in-Ok-Stopped.field-0-is (λ e. absurd cc) c.in-Ok-Stopped.ensures.goes c.in-Ok-Stopped.ensures.ok at.word in
+    ends-again s t c.in-Ok-Stopped.how step differs
+
+pub returns-in-Ok-Stopped-clause-some : goal.returns-in-Ok-Stopped-clause-some
+returns-in-Ok-Stopped-clause-some c retired =
+    let goes : Continues (length c.args.items.now) c.loop-left.index c.carry_out.new.index (continuation.Stopped c.in-Ok-Stopped.how) =
+    continues-as (length c.args.items.now) c.loop-left.index c.carry_out.new.index c.in-Ok-Stopped.field-0 (continuation.Stopped c.in-Ok-Stopped.how) c.in-Ok-Stopped.field-0-is (λ e. absurd cc) c.in-Ok-Stopped.ensures.goes in
+    absurd (goes.0 (let same : c.in-Ok-Stopped.how ≡ stepped.Retired = cc in same))
+
+pub returns-in-Err-clause-memory : goal.returns-in-Err-clause-memory
+returns-in-Err-clause-memory c =
+    let s : State = state_at c.args.base c.loop-left.index c.loop-left.hart c.loop-left.memory in
+    let inst : Inst = c.word_at-inst.result.now in
+    let at : IsWordAt c.loop-left.memory c.args.base c.args.items.now c.loop-left.index inst =
+    word-here c.loop-left.memory c.args.base c.args.items.now c.loop-left.index inst (c.loop-left.invariant.word c.loop-left-test.true) c.word_at-inst.ensures in
+    let other : inst.op ≢ ops.Illegal = λ e. let clash : false ≡ true = sym (ap is_store e) ∙ c.in-Err.ensures.store in absurd cc in
+    subst StoresNow (sym c.in-Err.ensures.err) (kept-stores s inst (at.word other) c.in-Err.ensures.store c.in-Err.ensures.retires)

@@ -1,7 +1,0 @@
-use Rattle.std.proofs.Common.{◌≡◌, ℕ, ◌+◌, ◌*◌, ◌^◌, ◌<◌, length, get_or}
-use Rattle.rv_hart.specs.private.Paging.{paged_byte}
-use Rattle.rv_hart.proofs.paged_memory.PagedMemory.page_by_bytes.Given as goal
-
-abbrev pub invariant-loop-offset : goal.invariant-loop-offset
-invariant-loop-offset l =
-    (length l.bytes.items ≡ l.offset) × ((i : ℕ) → i < l.offset → get_or l.bytes.items i 0 ≡ paged_byte l.self (l.number * 2 ^ 12 + i))

@@ -1,6 +1,0 @@
-use Rattle.std.proofs.Common.{◌∙◌}
-use Rattle.rv_hart.proofs.Near.{found-within}
-use Rattle.rv_hart.proofs.paged_memory.PagedMemory.region.Goals as goal
-
-pub returns-clause-within : goal.returns-clause-within
-returns-clause-within c = found-within c.args.at c.args.self.now.regions c.copied.result (c.copied.ensures ∙ c.first.ensures)

@@ -1,0 +1,9 @@
+pub mod Bytes
+pub mod Contiguous
+pub mod Put
+pub mod Whole
+pub mod Regions
+pub mod Filling
+pub mod Lending
+pub mod PageBytes
+pub mod PageCache

@@ -1,0 +1,2 @@
+pub mod AddressSpace
+pub mod private

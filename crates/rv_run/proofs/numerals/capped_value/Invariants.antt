@@ -1,6 +1,0 @@
-use Rattle.std.proofs.Common.{◌≡◌, ◌^◌, min, take}
-use Rattle.rv_run.specs.Numerals.{decimal_value}
-use Rattle.rv_run.proofs.numerals.capped_value.Given as goal
-
-abbrev pub invariant-loop-byte : goal.invariant-loop-byte
-invariant-loop-byte l = l.value ≡ min (decimal_value (take l.byte-index l.word)) (2 ^ 40)

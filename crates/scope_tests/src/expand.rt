@@ -1,0 +1,212 @@
+//! Call paths of a worked program with inlined code in two pieces, two levels deep, by its debug information; and that
+//! a path is the same whatever an expander's memo keeps.
+use dwarf_info::Info;
+use dwarf_inline::Structure;
+use dwarf_line::LineTable;
+use elf_image::Image;
+use prof_bytes::Memory;
+use scope_expand::Expander;
+use scope_find::Finder;
+use scope_types::{
+    End, Expand, Frame, LineId, PartialCause, ProcId, RawPath, RootKind, Scope, ScopePath,
+};
+use std::alloc::Global;
+use std::test::Fail;
+use test_programs::program::{Question, Sections, UNREADABLE, Unread, holds_in, structure_of};
+use test_programs::worked::{FILE, LINE, SECTIONS};
+
+/// A raw path whose frames stand at these addresses, the innermost first.
+fn raw_of(alloc: Global, end: End, pcs: &[u32]) -> Result<RawPath, Unread> {
+    let mut frames = Vec::new(alloc);
+    for pc in pcs {
+        frames.push(Frame { pc: *pc })?;
+    }
+    if frames.is_empty() || frames.len() > 512 {
+        return Err(UNREADABLE);
+    }
+    Ok(RawPath::of(end, frames))
+}
+
+/// A line of the table's first file.
+fn line(line: u32) -> LineId {
+    LineId::Row {
+        table: 0,
+        file: 0,
+        line,
+    }
+}
+
+/// Three frames: at line 7; at line 8 within `outer`; and, where no line is known, within `inner` within `outer`.
+fn nested() -> [Scope; 10] {
+    [
+        Scope::Root(RootKind::Partial),
+        Scope::Proc(ProcId::Die(0x21)),
+        Scope::Call(line(7)),
+        Scope::Proc(ProcId::Die(0x21)),
+        Scope::Inline {
+            callee: ProcId::Die(0x19),
+            call: line(3),
+        },
+        Scope::Call(line(8)),
+        Scope::Proc(ProcId::Die(0x21)),
+        Scope::Inline {
+            callee: ProcId::Die(0x19),
+            call: line(3),
+        },
+        Scope::Inline {
+            callee: ProcId::Die(0x11),
+            call: line(11),
+        },
+        Scope::Stmt(LineId::Address(0x1_0024)),
+    ]
+}
+
+/// No procedure and no line.
+static OUTSIDE: [Scope; 3] = [
+    Scope::Root(RootKind::Thread),
+    Scope::Proc(ProcId::Nameless),
+    Scope::Stmt(LineId::Address(0x2_0000)),
+];
+
+fn has_scopes(path: Result<ScopePath, Memory>, scopes: &[Scope]) -> Result<bool, Memory> {
+    Ok(path?.scopes() == scopes)
+}
+
+/// Whether a path has these scopes, with a fresh memo and again with the same one, and as many as its length says.
+fn is_path(expander: &Expander<'_>, raw: &RawPath, scopes: &[Scope]) -> Result<bool, Memory> {
+    let mut memo = expander.fresh()?;
+    let first = has_scopes(expander.expand(&mut memo, raw), scopes)?;
+    let second = has_scopes(expander.expand(&mut memo, raw), scopes)?;
+    Ok(first && second && expander.length(raw) == scopes.len() as u64)
+}
+
+/// Whether this is the path, with a fresh memo and again with the same one.
+fn is_same_path(
+    expander: &Expander<'_>,
+    raw: &RawPath,
+    path: Result<ScopePath, Memory>,
+) -> Result<bool, Memory> {
+    is_path(expander, raw, path?.scopes())
+}
+
+/// 512 frames at 512 addresses.
+fn long_raw(alloc: Global) -> Result<RawPath, Unread> {
+    let mut pcs = Vec::new(alloc);
+    for k in 0..512u32 {
+        pcs.push(0x1_0000 + 4 * k)?;
+    }
+    raw_of(alloc, End::Whole, &pcs)
+}
+
+/// Whether 512 frames have one path, twice with one memo and once with a fresh one.
+fn long_path_is_one(alloc: Global, expander: &Expander<'_>) -> Result<bool, Unread> {
+    let raw = long_raw(alloc)?;
+    let mut memo = expander.fresh()?;
+    Ok(is_same_path(expander, &raw, expander.expand(&mut memo, &raw))?)
+}
+
+/// The first of 5,000 addresses in turn, and then the first again, whose path is another with a memo of those before it
+/// than with a fresh one.
+fn other_in_turn(alloc: Global, expander: &Expander<'_>) -> Result<Option<u32>, Unread> {
+    let mut memo = expander.fresh()?;
+    for k in 0..5_001u32 {
+        let pc = 0x1_0000 + 4 * (k % 5_000);
+        let raw = raw_of(alloc, End::Whole, &[pc])?;
+        if !is_same_path(expander, &raw, expander.expand(&mut memo, &raw))? {
+            return Ok(Some(pc));
+        }
+    }
+    Ok(None)
+}
+
+/// Paths of the worked program.
+enum Case {
+    Nested,
+    Outside,
+    Long,
+    InTurn,
+}
+
+/// Whether inlined calls of a caller and of the innermost frame are scopes of their path.
+fn nested_is_path(alloc: Global, expander: &Expander<'_>) -> Result<bool, Unread> {
+    let end = End::Partial(PartialCause::NoFde);
+    let raw = raw_of(alloc, end, &[0x1_0024, 0x1_000c, 0x1_0004])?;
+    Ok(is_path(expander, &raw, &nested())?)
+}
+
+/// Whether an address outside the program has no procedure and no line.
+fn outside_is_path(alloc: Global, expander: &Expander<'_>) -> Result<bool, Unread> {
+    let raw = raw_of(alloc, End::Whole, &[0x2_0000])?;
+    Ok(is_path(expander, &raw, &OUTSIDE)?)
+}
+
+/// Whether a case's paths are as wanted.
+fn paths_are(alloc: Global, expander: &Expander<'_>, case: &Case) -> Result<bool, Unread> {
+    match case {
+        Case::Nested => nested_is_path(alloc, expander),
+        Case::Outside => outside_is_path(alloc, expander),
+        Case::Long => long_path_is_one(alloc, expander),
+        Case::InTurn => Ok(other_in_turn(alloc, expander)?.is_none()),
+    }
+}
+
+/// The same by what this finder finds.
+fn paths_by(alloc: Global, finder: &Finder<'_>, case: &Case) -> Result<bool, Unread> {
+    paths_are(alloc, &Expander::of(alloc, finder), case)
+}
+
+/// The same in a program of this structure.
+fn paths_in(
+    alloc: Global,
+    structure: &Structure<'_>,
+    lines: &LineTable<'_>,
+    image: &Image<'_>,
+    case: &Case,
+) -> Result<bool, Unread> {
+    let finder = Finder::of(alloc, structure, lines, image)?;
+    paths_by(alloc, &finder, case)
+}
+
+impl Question for Case {
+    fn holds(
+        &self,
+        alloc: Global,
+        info: &Info<'_>,
+        lines: &LineTable<'_>,
+        image: &Image<'_>,
+    ) -> Result<bool, Unread> {
+        let structure = structure_of(alloc, info, lines, image)?;
+        paths_in(alloc, &structure, lines, image, self)
+    }
+}
+
+static CASES: [(&str, Case); 4] = [
+    (
+        "inlined calls of a caller and of the innermost frame",
+        Case::Nested,
+    ),
+    ("an address outside the program", Case::Outside),
+    ("512 frames", Case::Long),
+    ("5,000 addresses in turn", Case::InTurn),
+];
+
+/// The first case that does not hold of a program with these sections.
+fn failing(alloc: Global, sections: &Sections) -> Result<Option<&'static str>, Unread> {
+    for (what, case) in &CASES {
+        if !holds_in(alloc, FILE, sections, case)? {
+            return Ok(Some(*what));
+        }
+    }
+    Ok(None)
+}
+
+/// The first case that does not hold of the worked program.
+fn failing_in_worked(alloc: Global) -> Result<Option<&'static str>, Unread> {
+    failing(alloc, &Sections::of(alloc, LINE, SECTIONS)?)
+}
+
+#[test]
+fn paths_of_inlined_code_with_any_memo(rt: HostRuntime) -> Result<(), Fail> {
+    assert_eq!(rt; failing_in_worked(rt.alloc())?, None);
+    Ok(())
+}

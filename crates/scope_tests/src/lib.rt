@@ -1,0 +1,14 @@
+//! Tests of the structure of a program, the scopes at its addresses, its listing, and call paths expanded by them.
+//!
+//! It has no code of its own, as all crates of tests. The expected values come from addr2line, LLVM's tools and the
+//! definitions. Below lie the readers of debug information, what finds scopes by them, and the programs that tests share.
+#![tactic(auto)]
+
+#[cfg(test)]
+mod expand;
+#[cfg(test)]
+mod listing;
+#[cfg(test)]
+mod scopes;
+#[cfg(test)]
+mod structure;
