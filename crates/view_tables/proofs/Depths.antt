@@ -25,7 +25,8 @@ use Rattle.tree_types.proofs.Parents.{has_parent, prefix_less, less_is_not_equal
 use Rattle.tree_types.proofs.TreeLaws.{numbers_tell}
 use Rattle.tree_types.proofs.TreePaths.{own_scope_only}
 use Rattle.tree_types.proofs.TreeValues.{shorter_prefix}
-use Rattle.view_tables.specs.private.Rows.{IsNumber, LiesBelow, number_before, path_of_node}
+use Rattle.view_tables.specs.private.Values.{path_of_node}
+use Rattle.view_tables.specs.private.top.Rows.{IsNumber, LiesBelow, number_before}
 use Rattle.view_tables.proofs.EntrySums.{as_many_nodes}
 
 module _ (ps : List ColumnPath) (few : length (nodes ps) ≤ no_parent) where

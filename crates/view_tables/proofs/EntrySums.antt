@@ -26,7 +26,7 @@ use Rattle.tree_types.proofs.Bounds.{small_product}
 use Rattle.tree_types.proofs.ContentParts.{own_contexts, own_node_count, own_list_count, own_column_count}
 use Rattle.tree_types.proofs.PathsAgain.{sum_by-filter, sum_by-flat_map, sum_by-map}
 use Rattle.tree_types.proofs.Totals.{within_total}
-use Rattle.view_tables.specs.private.Rows.{amount, path_of_node, counted_by, total_value}
+use Rattle.view_tables.specs.private.Values.{amount, path_of_node, counted_by, total_value}
 
 -- ---- a node's list
 

@@ -4,7 +4,7 @@ use Rattle.std.proofs.Math.Seq.{drop-append-add, take-append-add}
 use Rattle.std.proofs.lemmas.Fmt.{decimal_digit}
 use Rattle.std.proofs.lemmas.List.{take-append-drop, take-replicate, drop-replicate, set-append_right}
 use Rattle.tree_types.specs.TopDown.{percent, right, spaces}
-use Rattle.view_tables.proofs.TextLengths.{right_long, share_length, short_share, short_value, short_whole}
+use Rattle.view_tables.proofs.CellWidths.{right_long, share_length, short_share, short_value, short_whole}
 
 -- digits that are written over blanks up to an end, after what comes before the blanks
 filled : (new old front digits : List ℕ) (start from end more : ℕ) → length front ≡ from → from ≤ start → old ≡ front ++ spaces (end - from + more) → start + length digits ≡ end

@@ -1,4 +1,4 @@
--- Names that are looked up by the index of the first that fits.
+-- The names of a content: they ascend, and they are looked up by the index of the first that fits.
 use Rattle.std.proofs.Common.{◌≡◌, ℕ, ◌<◌, ◌≤◌, Bool, true, false, cond, List, [], ◌∷◌, length, get_or, Option, Some, None, is_eq, find, slice_get, refl, sym, ap, ◌∙◌, arith}
 use Rattle.std.specs.Prelude.{position}
 use Rattle.std.specs.List.{position_or_len}
@@ -6,9 +6,13 @@ use Rattle.std.proofs.lemmas.Grind.{common_steps}
 use Rattle.std.proofs.lemmas.List.Folds.{find_at}
 use Rattle.std.proofs.lemmas.Option.{slice_get-get_or, slice_get_past}
 use Rattle.scope_types.specs.declared.scope.ProcId.{ProcId}
+use Rattle.tree_types.specs.declared.content.Content.{Content}
 use Rattle.tree_types.specs.declared.content.ProcName.{ProcName}
 use Rattle.tree_types.specs.declared.content.FileName.{FileName}
 use Rattle.tree_types.specs.Naming.{proc_order, file_order}
+use Rattle.tree_types.specs.NamesAscend.{NamesAscend}
+use Rattle.tree_types.specs.OfContent.{IsProfile}
+use Rattle.tree_types.proofs.ContentParts.{own_names_ascend}
 use Rattle.tree_types.specs.Database.{proc_named, file_named}
 
 -- the first that fits is where it was found
@@ -53,6 +57,9 @@ file_is fs table file i f found lt at =
 
 pub file_none : (fs : List FileName) (table file : ℕ) → position (λ f. is_eq (file_order (table, file) (f.table, f.file))) fs ≡ None → [] ≡ file_named fs table file
 file_none fs table file found = sym (ap file_name_or_none (found_none (λ f. is_eq (file_order (table, file) (f.table, f.file))) fs found)) ∙ file_by_find fs table file
+
+pub names_ascend : (c : Content) → IsProfile c → NamesAscend c.names
+names_ascend c profile = own_names_ascend c profile.own
 
 pub ruleset proc_steps = (proc_is, proc_none)
 

@@ -6,7 +6,6 @@ use Rattle.tree_types.specs.declared.content.Content.{Content}
 use Rattle.tree_types.specs.declared.content.Kind.{Kind}
 use Rattle.tree_types.specs.declared.content.Kind.TheVariants.{Frame, Inclusive}
 use Rattle.tree_types.specs.Database.{naming_in}
-use Rattle.tree_types.specs.NamesAscend.{NamesAscend}
 use Rattle.tree_types.specs.Nodes.{nodes, own_scope}
 use Rattle.tree_types.specs.OfContent.{IsProfile, content_table}
 use Rattle.tree_types.specs.Paths.{Path}
@@ -15,17 +14,17 @@ use Rattle.tree_types.specs.TopDown.{header, label, node_row, over_columns, top_
 use Rattle.tree_types.proofs.ContentParts.{own_names_ascend}
 use Rattle.tree_types.proofs.Totals.{within_total}
 use Rattle.prof_bytes.proofs.Appending.{append_more, two_parts}
-use Rattle.view_tables.specs.private.Rows.{path_of_node, shown_row, row_text, rows_below, total_value}
+use Rattle.view_tables.specs.private.Values.{path_of_node, total_value}
+use Rattle.view_tables.specs.private.top.Rows.{shown_row, row_text, rows_below}
 use Rattle.view_tables.proofs.EntrySums.{as_many_lists, as_many_nodes, some_total}
+use Rattle.view_tables.proofs.NamesFound.{names_ascend}
 use Rattle.view_tables.proofs.Depths.{before_number, no_depth, number_after}
-use Rattle.view_tables.proofs.TextLengths.{row_parts, values_long}
+use Rattle.view_tables.proofs.TextLengths.{row_parts}
+use Rattle.view_tables.proofs.CellWidths.{values_long}
 
 -- the row of a node, by its path
 abbrev path_row : Content → Path → List ℕ
 path_row c n = node_row c.period c.columns (naming_in c.names) (paths_of c) n
-
-pub names_ascend : (c : Content) → IsProfile c → NamesAscend c.names
-names_ascend c profile = own_names_ascend c profile.own
 
 pub row_more : (c : Content) (start out after : List ℕ) (number : ℕ) → IsProfile c → number < length c.nodes
     → out ≡ start ++ rows_below c number → after ≡ out ++ row_text c.names (shown_row c number) → after ≡ start ++ rows_below c (number + 1)

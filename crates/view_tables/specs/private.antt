@@ -1,4 +1,3 @@
-pub mod Rows
-pub mod Lengths
-pub mod Occurrences
-pub mod Frames
+pub mod Values
+pub mod top
+pub mod groups

@@ -1,14 +1,9 @@
 //! The cells of a table's rows.
 ghost use Rattle.std.specs.Prelude.{◌≡◌, ◌<◌, ◌≤◌, ◌^◌, ◌++◌, decimal, OnOk};
-ghost use Rattle.tree_types.specs.NamesAscend.{NamesAscend};
-ghost use Rattle.tree_types.specs.TopDown.{header, percent, right, spaces};
-ghost use Rattle.view_tables.specs.private.Rows.{row_text};
+ghost use Rattle.tree_types.specs.TopDown.{percent, right, spaces};
 
-use crate::label::put_label;
-use crate::row::TableRow;
 use itoa::write_digits;
 use prof_bytes::Memory;
-use tree_types::Names;
 
 /// As many blanks as are appended at once.
 static BLANKS: [u8; 2048] = [b' '; 2048];
@@ -32,14 +27,6 @@ pub fn put_spaces(out: &mut Vec<u8>, count: usize) -> Result<(), Memory>
     put_few_spaces(out, count % 2048)
 }
 
-/// The row of the heads.
-pub fn put_header(out: &mut Vec<u8>) -> Result<(), Memory>
-    ensures { OnOk result (out.new.items ≡ out.old.items ++ header) }
-{
-    out.extend_from_slice(b"       inclusive      %            frame  scope\n")?;
-    Ok(())
-}
-
 /// The cells of values: a value, its share of a total that is not 0, in tenths of a percent and rounded down, another
 /// value. No value is above the total.
 pub fn put_values(out: &mut Vec<u8>, first: u64, total: u64, third: u64) -> Result<(), Memory>
@@ -58,21 +45,5 @@ pub fn put_values(out: &mut Vec<u8>, first: u64, total: u64, third: u64) -> Resu
     text[22] = b'0' + (tenths % 10) as u8;
     write_digits(third, &mut text, 40);
     out.extend_from_slice(&text)?;
-    Ok(())
-}
-
-/// A row with the names of its scope.
-pub fn put_row(out: &mut Vec<u8>, names: &Names, row: &TableRow) -> Result<(), Memory>
-    requires names { NamesAscend names.now }
-    requires some { 0 < row.now.total }
-    requires small { row.now.total ≤ 2 ^ 52 }
-    requires inclusive { row.now.inclusive ≤ row.now.total }
-    requires frame { row.now.frame ≤ row.now.total }
-    ensures { OnOk result (out.new.items ≡ out.old.items ++ row_text names.now row.now) }
-{
-    put_values(out, row.inclusive, row.total, row.frame)?;
-    put_spaces(out, 2 + 2 * row.level as usize)?;
-    put_label(out, names, row.scope)?;
-    out.extend_from_slice(b"\n")?;
     Ok(())
 }

@@ -8,24 +8,12 @@
 #![tactic(auto)]
 
 mod cells;
-mod depth;
-mod ends;
-mod frames;
-mod gather;
-mod group;
-mod heads;
-mod item;
-mod label;
+mod groups;
 mod laws;
-mod length;
-mod occurrence;
-mod row;
-mod table;
+mod names;
+mod top;
 mod values;
-mod view;
-mod weights;
 
+pub use groups::{callers, flat};
 pub use laws::{exclusive_values_add_up, inclusive_values_are_within, tables_are_of_call_paths};
-pub use length::{top_down_length, top_down_length_by_two};
-pub use table::{put_top_down, top_down};
-pub use view::{callers, flat};
+pub use top::{put_top_down, top_down, top_down_length, top_down_length_by_two};

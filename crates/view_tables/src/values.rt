@@ -3,7 +3,7 @@ ghost use Rattle.std.specs.Prelude.{◌≡◌, ◌<◌, ◌≤◌, ◌^◌, leng
 ghost use Rattle.scope_types.specs.Limits.{most_samples};
 ghost use Rattle.tree_types.specs.OfContent.{IsProfile};
 ghost use Rattle.tree_types.specs.PathsOf.{paths_of};
-ghost use Rattle.view_tables.specs.private.Rows.{amount, counted_by, total_value};
+ghost use Rattle.view_tables.specs.private.Values.{amount, counted_by, total_value};
 
 use tree_types::{Content, ContextEntry, Kind, ProfileEntry};
 

@@ -1,7 +1,7 @@
 use Rattle.std.proofs.Common.{◌≡◌, List, ℕ, ◌+◌, ◌*◌, ◌/◌, ◌%◌, ◌++◌, length, set, ap, arith, ◌∙◌}
 use Rattle.std.proofs.lemmas.List.{length-set}
 use Rattle.view_tables.proofs.Filled.{values_filled}
-use Rattle.view_tables.proofs.TextLengths.{short_value, short_whole}
+use Rattle.view_tables.proofs.CellWidths.{short_value, short_whole}
 use Rattle.view_tables.proofs.cells.put_values.Goals as goal
 
 pub write_digits-requires : goal.write_digits-requires

@@ -1,5 +1,5 @@
 use Rattle.std.proofs.Common.{◌≡◌, sum_by, take}
-use Rattle.view_tables.specs.private.Rows.{counted_by}
+use Rattle.view_tables.specs.private.Values.{counted_by}
 use Rattle.view_tables.proofs.values.column_samples.Given as goal
 
 abbrev pub invariant-loop-e : goal.invariant-loop-e

@@ -1,5 +1,0 @@
-use Rattle.view_tables.proofs.Gathered.{so_far}
-use Rattle.view_tables.proofs.gather.occurrences_in.Given as goal
-
-abbrev pub invariant-loop-number : goal.invariant-loop-number
-invariant-loop-number l = so_far l.view l.content l.occurrences.items l.number

@@ -1,6 +1,0 @@
-use Rattle.std.proofs.Common.{◌≡◌, ◌+◌, drop}
-use Rattle.view_tables.proofs.Covered.{left}
-use Rattle.view_tables.proofs.group.covered.Given as goal
-
-abbrev pub invariant-loop-s : goal.invariant-loop-s
-invariant-loop-s l = l.sum + left l.frames.ends.items l.frames.sums.items l.reach (drop l.s-index l.group) ≡ left l.frames.ends.items l.frames.sums.items 0 l.group

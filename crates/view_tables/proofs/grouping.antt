@@ -1,0 +1,12 @@
+pub mod Ups
+pub mod Searches
+pub mod Descendants
+pub mod Covered
+pub mod Cuts
+pub mod NodeWeights
+pub mod Narrowed
+pub mod Gathered
+pub mod Groups
+pub mod Halved
+pub mod ViewTexts
+pub mod SortedSeen

@@ -1,9 +1,0 @@
-use Rattle.std.proofs.Common.{◌≡◌, ◌++◌, length}
-use Rattle.view_tables.specs.private.Rows.{number_before, path_of_node, rows_below}
-use Rattle.view_tables.proofs.table.put_top_down.Given as goal
-
-abbrev pub invariant-loop-number : goal.invariant-loop-number
-invariant-loop-number l = record {
-  depth : l.depth ≡ length (path_of_node l.content (number_before l.number));
-  rows : l.out.items ≡ l.initial.out.items ++ rows_below l.content l.number;
-}

@@ -1,0 +1,2 @@
+-- The rows of the top-down table.
+pub mod Rows
