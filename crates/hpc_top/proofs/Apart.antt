@@ -1,53 +1,42 @@
 -- A profile made by a run that is measured and the attribution of its measurement.
-use Rattle.std.proofs.Common.{◌≡◌, ℕ, ◌<◌, ◌≤◌, ◌^◌, ◌==◌, ◌&&◌, nat_lt, Bool, true, false, cond, List, ◌++◌, length, map, take, All, Result, Ok, Err, refl, sym, ap, ap₂, subst, ◌∙◌, arith, take_all}
-use Rattle.std.specs.List.{range_with_len}
+use Rattle.std.proofs.Common.{◌≡◌, ℕ, ◌<◌, ◌==◌, ◌&&◌, nat_lt, Bool, true, false, cond, List, ◌++◌, length, map, All, Result, Ok, Err, refl, sym, ap, ap₂, subst, ◌∙◌, arith}
 use Rattle.std.proofs.lemmas.Bool.Decides.{nat_tests}
-use Rattle.prof_bytes.specs.Number.{IsBytes}
 use Rattle.prof_bytes.specs.Outcome.{◌>>=◌}
 use Rattle.prof_bytes.proofs.Outcomes.{bind_ok, ok_same}
 use Rattle.elf_image.specs.Image.{ProgramImage}
 use Rattle.cfi_table.specs.Frames.{FrameDescription}
-use Rattle.cfi_unwind.specs.Caller.{Unwinding}
-use Rattle.cfi_unwind.specs.Path.{unwinding_of, path_of as unwound_by}
 use Rattle.measure_file.specs.declared.fault.MeasureFault.{MeasureFault}
 use Rattle.measure_file.specs.declared.head.MeasureHead.{MeasureHead}
-use Rattle.measure_file.specs.Measurable.{AreMeasured, AreSampled, IsHead, IsMeasurable}
+use Rattle.measure_file.specs.Measurable.{AreMeasured, AreSampled}
 use Rattle.measure_file.specs.Reading.{measurement_in}
-use Rattle.measure_file.specs.Spelling.{measurement_spelling}
 use Rattle.prof_db.specs.Spelling.{database_spelling}
-use Rattle.rv_run.specs.Run.{Run, run_of}
 use Rattle.rv_run.specs.Schedule.{Scheduled}
-use Rattle.rv_run.specs.State.{first_state}
-use Rattle.sample_clock.specs.Samples.{Paths}
 use Rattle.scope_find.specs.Found.{ProgramScopes, found_at, naming_of}
 use Rattle.scope_types.specs.declared.frame.Counted.{Counted}
 use Rattle.scope_types.specs.declared.scope.Scope.{Scope}
 use Rattle.scope_types.specs.Alike.{Alike}
 use Rattle.scope_types.specs.CallPaths.{ColumnPath}
-use Rattle.scope_types.specs.Distinct.{ColumnRaw, distinct, each_sample, frames_in, scopes_in}
+use Rattle.scope_types.specs.Distinct.{ColumnRaw, distinct, each_sample, scopes_in}
 use Rattle.scope_types.specs.Expansion.{call_path}
-use Rattle.scope_types.specs.Limits.{most_frames_in_all, most_scopes_in_all, most_samples}
+use Rattle.scope_types.specs.Limits.{most_scopes_in_all}
 use Rattle.scope_types.specs.Raw.{Raw}
 use Rattle.tree_types.specs.Database.{content_of}
 use Rattle.tree_types.specs.TopDown.{top_down}
 use Rattle.command_line.specs.declared.status.InputFault.{InputFault}
-use Rattle.command_line.specs.declared.status.InputFault.TheVariants.{Measurement, TooManyFrames, TooManySamples, WrongProgram}
-use Rattle.command_line.specs.Words.{most_period}
+use Rattle.command_line.specs.declared.status.InputFault.TheVariants.{Measurement, WrongProgram}
 use Rattle.hpc_top.specs.Apart.{IsApart, RunThenProf}
 use Rattle.hpc_top.specs.Attribution.{Attributed, attributed, attribution_of, call_paths_of}
 use Rattle.hpc_top.specs.Faulted.{faulted}
-use Rattle.hpc_top.specs.Measured.{Measured, lines_of, measured, measured_run}
+use Rattle.hpc_top.specs.Measured.{Measured, lines_of, measured}
 use Rattle.hpc_top.specs.Program.{frame_information, program, scheduled}
-use Rattle.hpc_top.specs.Samples.{few_samples, sample_path, sampled, within_frames, within_samples}
+use Rattle.hpc_top.specs.Samples.{sample_path}
 use Rattle.hpc_top.specs.Scopes.{program_scopes}
-use Rattle.hpc_top.specs.Verdict.{program_limit}
 use Rattle.hpc_top.specs.commands.Prof.{attributed_code, of_program, prof_product}
 use Rattle.hpc_top.specs.commands.Profile.{Profiled, product_of, profile_of, profiled, profiled_of, profiled_program}
 use Rattle.hpc_top.specs.commands.Run.{head_of, measurement_of, run_product}
-use Rattle.hpc_top.proofs.Collecting.{at_most, tested_ok}
 use Rattle.hpc_top.proofs.Products.{ContentsAlike, TablesAlike, attributed_as, scopes_decide}
-use Rattle.hpc_top.proofs.Scheduled.{entry_low, program_loaded, scheduled_own}
-use Rattle.hpc_top.proofs.Addresses.{IsOf, PathsHaveFrames, PathsHaveWords, low_first, samples_frames, samples_own, samples_words, slices_of}
+use Rattle.hpc_top.proofs.Addresses.{PathsHaveFrames, PathsHaveWords}
+use Rattle.hpc_top.proofs.Ran.{Countable, RunParts, Written, head_is, sampled_are}
 
 same_number : (n : ℕ) → (n == n) ≡ true
 same_number n = grind (arith, nat_tests)
@@ -67,7 +56,7 @@ pub record Parts (elf input schedule : List ℕ) (period : ℕ) (p : Profiled) :
   pub measured_is : measured image described slices input period ≡ Ok p.measured
   pub attributed_is : attributed scopes p.measured.harts p.measured.samples ≡ Ok p.attributed
 
-parts : (elf input schedule : List ℕ) (period : ℕ) (p : Profiled) → profiled_of elf input schedule period ≡ Ok p → Parts elf input schedule period p
+pub parts : (elf input schedule : List ℕ) (period : ℕ) (p : Profiled) → profiled_of elf input schedule period ≡ Ok p → Parts elf input schedule period p
 unfolding profiled_of
 parts elf input schedule period p is =
     let slices = bind_ok (scheduled schedule) (λ slices. program elf >>= λ image. frame_information image >>= λ described. program_scopes image >>= λ scopes. profiled_program image described scopes slices input period) p is in
@@ -98,6 +87,17 @@ of_another period image = Err (WrongProgram (length image.file) image.entry (len
 module _ (elf input schedule : List ℕ) (period : ℕ) (p : Profiled) (parts_of : Parts elf input schedule period p) where
   abbrev m : Measured
   m = p.measured
+
+  abbrev pub run_parts : RunParts elf input schedule period m
+  run_parts = record {
+    slices = parts_of.slices;
+    image = parts_of.image;
+    described = parts_of.described;
+    slices_is = parts_of.slices_is;
+    program_is = parts_of.program_is;
+    frames_is = parts_of.frames_is;
+    measured_is = parts_of.measured_is;
+  }
 
   run_is : run_product elf input schedule period ≡ Ok (measurement_of parts_of.image period m)
   unfolding run_product
@@ -165,13 +165,7 @@ module _ (elf input schedule : List ℕ) (period : ℕ) (p : Profiled) (parts_of
       text = ap (λ (table : List ℕ). lines_of period m ++ table) (sym table_same);
     }
 
--- what measure_file's laws and those of counted samples say
-abbrev pub Written : Type 0
-Written = (head : MeasureHead) (tables : List (List Counted)) → IsMeasurable head tables → measurement_in (measurement_spelling head tables) ≡ Ok (head, tables)
-
-abbrev pub Countable : Type 0
-Countable = (harts : ℕ) (samples : List ColumnRaw) → AreSampled harts samples → AreMeasured (distinct harts samples)
-
+-- what the laws of counted samples say
 abbrev pub CountedAgain : Type 0
 CountedAgain = (tables : List (List Counted)) → AreMeasured tables → distinct (length tables) (each_sample tables) ≡ tables
 
@@ -181,53 +175,6 @@ EachHart = (harts : ℕ) (samples : List ColumnRaw) → length (distinct harts s
 abbrev pub SamplesAlike : Type 0
 SamplesAlike = (harts : ℕ) (samples : List ColumnRaw) (call_path : ColumnRaw → ColumnPath) → All (λ s. s.column < harts) samples → Alike (map call_path (each_sample (distinct harts samples))) (map call_path samples)
 
--- ---- what a measurement may hold
-
--- few samples are all samples
-few_are : (harts : ℕ) (all samples : List ColumnRaw) → few_samples harts all ≡ Ok samples → (all ≡ samples) × (length all ≤ most_samples) × (frames_in (distinct harts all) ≤ most_frames_in_all)
-few_are harts all samples is =
-    let f = bind_ok (within_frames (distinct harts (take most_samples all))) (λ _. within_samples all) samples is in
-    let frames = tested_ok (nat_lt most_frames_in_all (frames_in (distinct harts (take most_samples all)))) TooManyFrames (distinct harts (take most_samples all)) f.0 f.1 in
-    let many = tested_ok (nat_lt most_samples (length all)) TooManySamples all samples f.2 in
-    let few : length all ≤ most_samples = at_most most_samples (length all) many.0 in
-    (many.1, few, subst (λ (l : List ColumnRaw). frames_in (distinct harts l) ≤ most_frames_in_all) (take_all most_samples all few) (at_most most_frames_in_all (frames_in (distinct harts (take most_samples all))) frames.0))
-
--- what is measured of a run are its few samples
-measured_few : (path_of : Paths) (period harts : ℕ) (run : Run) (m : Measured) → measured_run path_of period harts run ≡ Ok m → (few_samples harts (sampled path_of period run) ≡ Ok m.samples) × (m.harts ≡ harts)
-unfolding measured_run
-measured_few path_of period harts run m is =
-    let few = bind_ok (few_samples harts (sampled path_of period run)) (λ samples. Ok (record { harts = harts; samples = samples; final = run.final })) m is in
-    subst (λ (q : Measured). (few_samples harts (sampled path_of period run) ≡ Ok q.samples) × (q.harts ≡ harts)) (ok_same (record { harts = harts; samples = few.0; final = run.final }) m few.2) (few.1, refl)
-
-module _ (elf input schedule : List ℕ) (period : ℕ) (p : Profiled) (parts_of : Parts elf input schedule period p) (bytes : IsBytes elf) (frames : PathsHaveFrames) (words : PathsHaveWords) where
-  sampled_are : AreSampled p.measured.harts p.measured.samples
-  sampled_are =
-      let harts : ℕ = parts_of.slices.harts in
-      let run : Run = run_of parts_of.image parts_of.slices input in
-      let u : Unwinding = unwinding_of parts_of.described parts_of.image in
-      let all : List ColumnRaw = sampled (unwound_by u) period run in
-      let own = scheduled_own schedule parts_of.slices parts_of.slices_is in
-      let instants : All (IsOf harts) run.instants = slices_of harts parts_of.slices.slices (first_state parts_of.image harts input) own.slices (low_first parts_of.image.entry harts (range_with_len 0 harts) (entry_low elf parts_of.image parts_of.program_is bytes)) in
-      let m = measured_few (unwound_by u) period harts run p.measured parts_of.measured_is in
-      let few = few_are harts all p.measured.samples m.0 in
-      subst (λ (n : ℕ). AreSampled n p.measured.samples) (sym m.1) (subst (AreSampled harts) few.0 (record {
-        some = own.some;
-        few = own.few;
-        own = samples_own u period harts run instants;
-        paths = samples_frames u period harts run instants frames;
-        addresses = samples_words u period harts run instants words;
-        sampled = few.1;
-        frames = few.2;
-      }))
-
-  head_is : length elf ≤ program_limit → 1 ≤ period → period ≤ most_period → IsHead (head_of parts_of.image period)
-  head_is short some most = record {
-    length = subst (λ (q : ProgramImage). length q.file < 2 ^ 32) (program_loaded elf parts_of.image parts_of.program_is) (let l : length elf < 2 ^ 32 = omega (arith, short) in l);
-    entry = entry_low elf parts_of.image parts_of.program_is bytes;
-    period = omega (arith, most);
-    some = some;
-  }
-
 pub apart : PathsHaveFrames → PathsHaveWords → Written → Countable → CountedAgain → EachHart → SamplesAlike → ContentsAlike → TablesAlike → RunThenProf
 unfolding profile_of
 apart frames words written countable counted_again each_hart samples_alike contents tables_alike elf input schedule period whole bytes short some most is =
@@ -236,9 +183,9 @@ apart frames words written countable counted_again each_hart samples_alike conte
     let harts : ℕ = p.0.measured.harts in
     let samples : List ColumnRaw = p.0.measured.samples in
     let expand : Raw → List Scope = call_path (found_at made.scopes) in
-    let here : AreSampled harts samples = sampled_are elf input schedule period p.0 made bytes frames words in
+    let here : AreSampled harts samples = sampled_are elf input schedule period p.0.measured (run_parts elf input schedule period p.0 made) bytes frames words in
     let measured : AreMeasured (distinct harts samples) = countable harts samples here in
     subst (IsApart elf input schedule period) (ok_same (product_of period p.0) whole p.2)
     (both elf input schedule period p.0 made contents tables_alike (each_hart harts samples) (samples_alike harts samples (sample_path expand) here.own)
-    (written (head_of made.image period) (distinct harts samples) (record { words = head_is elf input schedule period p.0 made bytes frames words short some most; counts = measured }))
+    (written (head_of made.image period) (distinct harts samples) (record { words = head_is elf input schedule period p.0.measured (run_parts elf input schedule period p.0 made) bytes short some most; counts = measured }))
     (counted_again (distinct harts samples) measured))

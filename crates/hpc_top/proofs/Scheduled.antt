@@ -9,8 +9,7 @@ use Rattle.prof_bytes.specs.Number.{IsBytes, number_in}
 use Rattle.prof_bytes.specs.Outcome.{◌>>=◌}
 use Rattle.elf_image.specs.Fields.{number_of, word_at}
 use Rattle.elf_image.specs.Image.{ProgramImage}
-use Rattle.elf_image.specs.Reading.{checked_header, image_of, image_of_file, checked_sections, checked_all_segments, checked_symbols}
-use Rattle.elf_image.specs.Headers.{symbol_table}
+use Rattle.elf_image.specs.Reading.{image_of, image_of_file}
 use Rattle.rv_run.specs.declared.schedule.Slice.{Slice}
 use Rattle.rv_run.specs.declared.schedule.ScheduleFault.{ScheduleFault}
 use Rattle.prof_bytes.specs.Numerals.{decimal_in, decimal_value, is_decimal}
@@ -20,6 +19,7 @@ use Rattle.command_line.specs.declared.status.InputFault.TheVariants.{Schedule, 
 use Rattle.hpc_top.specs.Program.{program, scheduled}
 use Rattle.hpc_top.proofs.Faults.{from_faulted}
 use Rattle.prof_bytes.proofs.Outcomes.{bind_ok, ok_same}
+use Rattle.hpc_top.proofs.LowImages.{was_checked}
 
 some_same : {X : Type 0} (x y : X) → ◌≡◌ {A = Option X} (Some x) (Some y) → x ≡ y
 some_same x y is = cc
@@ -99,17 +99,8 @@ scheduled_own bytes s is = schedule_own (length (lines bytes) + 1) (entries (num
 
 -- ---- programs
 
-image_loaded : (elf : List ℕ) (image : ProgramImage) → image_of elf ≡ Ok image → image_of_file elf ≡ image
-unfolding image_of
-image_loaded elf image is =
-    let a = bind_ok (checked_header elf) (λ _. checked_all_segments elf >>= λ _. checked_sections elf >>= λ _. checked_symbols elf (symbol_table elf) >>= λ _. Ok (image_of_file elf)) image is in
-    let b = bind_ok (checked_all_segments elf) (λ _. checked_sections elf >>= λ _. checked_symbols elf (symbol_table elf) >>= λ _. Ok (image_of_file elf)) image a.2 in
-    let c = bind_ok (checked_sections elf) (λ _. checked_symbols elf (symbol_table elf) >>= λ _. Ok (image_of_file elf)) image b.2 in
-    let d = bind_ok (checked_symbols elf (symbol_table elf)) (λ _. Ok (image_of_file elf)) image c.2 in
-    ok_same (image_of_file elf) image d.2
-
 pub program_loaded : (elf : List ℕ) (image : ProgramImage) → program elf ≡ Ok image → image_of_file elf ≡ image
-program_loaded elf image is = image_loaded elf image (from_faulted Program (image_of elf) image is)
+program_loaded elf image is = (was_checked elf image (from_faulted Program (image_of elf) image is)).1
 
 word_low : (file : List ℕ) (offset : ℕ) → IsBytes file → word_at file offset < 2 ^ 32
 unfolding number_of

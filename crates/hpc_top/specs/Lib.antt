@@ -13,4 +13,5 @@ pub mod Follows
 pub mod Made
 pub mod Merged
 pub mod Apart
+pub mod Databases
 pub mod private

@@ -22,6 +22,7 @@ mod scopes;
 mod shown_laws;
 mod status;
 mod steps;
+mod stored_laws;
 mod table;
 
 pub use call::hpc_main;
@@ -30,3 +31,4 @@ pub use commands::profile::{Job, profile};
 pub use laws::profile_is_run_then_prof;
 pub use shown_laws::views_are_of_call_paths;
 pub use status::Made;
+pub use stored_laws::{databases_are_of_samples, measurements_are_of_runs};

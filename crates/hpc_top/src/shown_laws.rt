@@ -14,9 +14,8 @@ use prof_db::call_paths_are_stored;
 use tree_types::content_holds_its_paths;
 use view_tables::tables_are_of_call_paths;
 
-/// Each table of a content is that of the call paths that it was made of. So of the database that `profile` or `prof`
-/// stores of samples, `view` puts the tables of the samples' call paths: its top-down table is the one that was put
-/// when the database was stored.
+/// Each table of a content is that of the call paths that it was made of. So of the database of call paths within the
+/// format's limits, `view` puts the tables of these call paths.
 pub fn views_are_of_call_paths()
     ensures content { (table : ViewTable) (period harts : ℕ) (naming : Naming) (paths : List ColumnPath)
         → 0 < period → length (nodes paths) ≤ no_parent

@@ -1,0 +1,37 @@
+//! What is so of the files that commands store.
+ghost use Rattle.hpc_top.specs.Databases.{ProfilesStoreDatabases, ProfsStoreDatabases, RunsStoreMeasurements};
+
+use crate::shown_laws::views_are_of_call_paths;
+use cfi_unwind::paths_have_frames;
+use measure_file::{
+    measurements_count_samples, read_is_written, samples_are_measured, written_is_read,
+};
+use prof_db::call_paths_are_stored;
+use thread_cct::samples_are_counted;
+use tree_types::{counts_decide, nodes_are_few};
+
+/// Each database that an accepted `profile` or `prof` stores is read as the content of its samples' call paths, and
+/// `view` puts the tables of these paths: the limits of a job keep it within those of the format.
+pub fn databases_are_of_samples()
+    ensures profile { ProfilesStoreDatabases }
+    ensures prof { ProfsStoreDatabases }
+{
+    views_are_of_call_paths();
+    call_paths_are_stored();
+    paths_have_frames();
+    read_is_written();
+    measurements_count_samples();
+    samples_are_counted();
+    counts_decide();
+    nodes_are_few();
+}
+
+/// Each measurement that an accepted `run` stores is read as the counted raw paths of the run, and `prof` doesn't find it
+/// at fault, also where `profile` of the same files would be refused.
+pub fn measurements_are_of_runs()
+    ensures { RunsStoreMeasurements }
+{
+    paths_have_frames();
+    samples_are_measured();
+    written_is_read();
+}
