@@ -1,6 +1,6 @@
 mod Loops
 mod Turns
-mod Lengths
+pub mod Lengths
 mod Names
 mod Parts
 mod Steps

@@ -1,0 +1,11 @@
+mod Spelled
+mod Schedules
+mod Empty
+mod Runs
+mod Samples
+mod Instructions
+mod Frames
+mod Parts
+mod Places
+mod Programs
+mod Sections
