@@ -23,3 +23,4 @@ pub mod FewNodes
 pub mod PathNumbers
 pub mod ScopesRead
 pub mod StoredSamples
+pub mod Refused
