@@ -85,17 +85,17 @@ fault_text (Database offset rule) = codes "database rule " ++ decimal rule ++ co
 -- ---- the lines
 
 -- the device that failed
-abbrev pub place_text : Place → List ℕ
-place_text Read = codes "device read"
-place_text Store = codes "device store"
-place_text Print = codes "device print"
+abbrev pub device_text : Place → List ℕ
+device_text Read = codes "device read"
+device_text Store = codes "device store"
+device_text Print = codes "device print"
 
 -- the line of an answer
 abbrev pub line_of : Status → List ℕ
 line_of Done = []
 line_of Usage = usage_text
 line_of (Input fault) = codes "hpc: " ++ fault_text fault ++ codes "\n"
-line_of (Device place) = codes "hpc: " ++ place_text place ++ codes "\n"
+line_of (Device place) = codes "hpc: " ++ device_text place ++ codes "\n"
 line_of (Memory memory) = codes "hpc: memory\n"
 
 -- a front of the line was put, and the whole of it unless a count of failures rose

@@ -1,26 +1,20 @@
 //! The one line of each answer.
 ghost use Rattle.std.specs.Prelude.{◌≡◌, Some, IfOk, string_bytes};
 ghost use Rattle.command_line.specs.Kind.{row_of};
-ghost use Rattle.command_line.specs.Message.{fault_text, info_offset, info_text, place_text, rule_text};
-ghost use Rattle.command_line.specs.Message.{structure_offset, structure_text};
-ghost use Rattle.command_line.specs.Message.{line_of, PutsLine, Says, StaysOrMemory};
+ghost use Rattle.command_line.specs.Message.{fault_text, info_offset, info_text, device_text, rule_text};
+ghost use Rattle.command_line.specs.Message.{structure_offset, structure_text, line_of, PutsLine, Says, StaysOrMemory};
 
 use crate::kind::{FileKind, row_of};
 use crate::status::{InputFault, Place, Status};
+use crate::words::USAGE;
 use dwarf_info::InfoFault;
 use dwarf_inline::StructureFault;
 use elf_image::ElfRule;
 use prof_bytes::Memory;
 use prof_devices::{Put, Sink};
+use scope_types::limits::{MOST_FRAMES_IN_ALL, MOST_SAMPLES, MOST_SCOPES_IN_ALL};
 use std::alloc::Global;
 use std::fmt;
-
-/// How many samples a run may have, and how many frames and scopes the distinct call paths of these.
-const MOST_SAMPLES: u32 = 1 << 20;
-
-const MOST_FRAMES: u32 = 1 << 22;
-
-const MOST_SCOPES: u32 = 1 << 23;
 
 impl fmt::Display for FileKind {
     ghost output = { λ file. Some (row_of file).word };
@@ -114,8 +108,8 @@ impl fmt::Display for InputFault {
                 write!(f, "structure {rule} at {offset}")
             }
             InputFault::TooManySamples => write!(f, "more than {MOST_SAMPLES} samples"),
-            InputFault::TooManyFrames => write!(f, "more than {MOST_FRAMES} frames"),
-            InputFault::TooManyScopes => write!(f, "more than {MOST_SCOPES} scopes"),
+            InputFault::TooManyFrames => write!(f, "more than {MOST_FRAMES_IN_ALL} frames"),
+            InputFault::TooManyScopes => write!(f, "more than {MOST_SCOPES_IN_ALL} scopes"),
             InputFault::Measurement { offset } => write!(f, "measurement at {offset}"),
             InputFault::WrongProgram {
                 kept_length,
@@ -134,7 +128,7 @@ impl fmt::Display for InputFault {
 }
 
 impl fmt::Display for Place {
-    ghost output = { λ place. Some (place_text place) };
+    ghost output = { λ place. Some (device_text place) };
 
     fn fmt<W: fmt::Write>(&self, f: &mut fmt::Formatter<W>) -> fmt::Result {
         match self {
@@ -151,11 +145,6 @@ fn put_line<E: Sink>(err: &mut E, line: &[u8])
 {
     let _: Put = err.put(line);
 }
-
-/// All commands with their words.
-const USAGE: &str =
-    "usage: hpc profile ELF INPUT SCHEDULE PERIOD WORKERS DB | run ELF INPUT SCHEDULE PERIOD MEASURE \
-     | prof ELF MEASURE WORKERS DB | struct ELF | view DB top|callers|flat | drill NUMBER WORKERS\n";
 
 fn line(alloc: Global, status: Status) -> Result<String, Memory>
     ensures { IfOk result (λ line. string_bytes line ≡ line_of status) }

@@ -5,9 +5,9 @@ ghost use Rattle.std.specs.Option.{option_copied};
 ghost use Rattle.prof_bytes.specs.Numerals.{decimal_in};
 ghost use Rattle.command_line.specs.Kind.{kinds_of, view_want};
 ghost use Rattle.command_line.specs.Request.{AreWorkers, IsCommand, IsValid, kinds_read, view_request};
-ghost use Rattle.command_line.specs.Words.{wanted, asked, drill_words, is_file_name, may_be_file_name, most_number, of_both};
-ghost use Rattle.command_line.specs.Words.{period_in, prof_words, profile_words, request_of, run_words, struct_words};
-ghost use Rattle.command_line.specs.Words.{table_named, view_words, workers_in};
+ghost use Rattle.command_line.specs.Words.{wanted, asked, drill_words, is_file_name, may_be_file_name, most_number};
+ghost use Rattle.command_line.specs.Words.{of_both, period_in, prof_words, profile_words, request_of, run_words};
+ghost use Rattle.command_line.specs.Words.{struct_words, table_named, view_words, workers_in};
 ghost use Rattle.command_line.specs.declared.kind.FileKind.TheVariants as kinds;
 ghost use Rattle.command_line.specs.declared.request.Command.TheVariants as commands;
 
@@ -245,6 +245,11 @@ fn read_drill<'a>(alloc: Global, words: &'a [Text]) -> Result<Option<Request<'a>
     };
     asked(alloc, drill_command(number, workers), &[], None)
 }
+
+/// All commands with their words.
+pub const USAGE: &str =
+    "usage: hpc profile ELF INPUT SCHEDULE PERIOD WORKERS DB | run ELF INPUT SCHEDULE PERIOD MEASURE \
+     | prof ELF MEASURE WORKERS DB | struct ELF | view DB top|callers|flat | drill NUMBER WORKERS\n";
 
 /// What the words ask for; `None` where the command line is invalid. The request's numbers are within their bounds, and
 /// its files are of the command's kinds.
