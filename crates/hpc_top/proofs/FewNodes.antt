@@ -28,13 +28,13 @@ abbrev pub NodesFew : Type 0
 NodesFew = (entries : List Entry) → length (nodes (each_path entries)) ≤ sum_by (λ e. length e.path) entries
 
 module _ (expand : Raw → List Scope) where
-  abbrev entry_of : ℕ → Counted → Entry
-  entry_of column c = record { column = column; count = c.count; path = expand c.path }
+  abbrev distinct_entry : ℕ → Counted → Entry
+  distinct_entry column c = record { column = column; count = c.count; path = expand c.path }
 
   -- the entries of distinct paths, column by column
-  abbrev entries_of : ℕ → Tables → List Entry
-  entries_of first [] = []
-  entries_of first (t ∷ tables) = map (entry_of first) t ++ entries_of (first + 1) tables
+  abbrev distinct_entries : ℕ → Tables → List Entry
+  distinct_entries first [] = []
+  distinct_entries first (t ∷ tables) = map (distinct_entry first) t ++ distinct_entries (first + 1) tables
 
   copies : {X Y : Type 0} (f : X → Y) (n : ℕ) (x : X) → map f (replicate n x) ≡ replicate n (f x)
   copies f zero x = refl
@@ -43,28 +43,28 @@ module _ (expand : Raw → List Scope) where
   abbrev path_copies : Entry → List ColumnPath
   path_copies e = replicate e.count (entry_path e)
 
-  column_paths : (column : ℕ) (cs : List Counted) → map (sample_path expand) (each_of_column (column, cs)) ≡ flat_map path_copies (map (entry_of column) cs)
+  column_paths : (column : ℕ) (cs : List Counted) → map (sample_path expand) (each_of_column (column, cs)) ≡ flat_map path_copies (map (distinct_entry column) cs)
   column_paths column [] = refl
   column_paths column (c ∷ cs) =
       let s : ColumnRaw = record { column = column; raw = c.path } in
       map-append (sample_path expand) (replicate c.count s) (each_of_column (column, cs))
       ∙ ap₂ (λ (a b : List ColumnPath). a ++ b) (copies (sample_path expand) c.count s) (column_paths column cs)
 
-  paths_each : (first : ℕ) (tables : Tables) → map (sample_path expand) (flat_map each_of_column (enumerate_from first tables)) ≡ flat_map path_copies (entries_of first tables)
+  paths_each : (first : ℕ) (tables : Tables) → map (sample_path expand) (flat_map each_of_column (enumerate_from first tables)) ≡ flat_map path_copies (distinct_entries first tables)
   paths_each first [] = refl
   paths_each first (t ∷ tables) =
       map-append (sample_path expand) (each_of_column (first, t)) (flat_map each_of_column (enumerate_from (first + 1) tables))
       ∙ ap₂ (λ (a b : List ColumnPath). a ++ b) (column_paths first t) (paths_each (first + 1) tables)
-      ∙ sym (flat_map-append path_copies (map (entry_of first) t) (entries_of (first + 1) tables))
+      ∙ sym (flat_map-append path_copies (map (distinct_entry first) t) (distinct_entries (first + 1) tables))
 
   abbrev scopes_of : Entry → ℕ
   scopes_of e = length e.path
 
-  scopes_each : (first : ℕ) (tables : Tables) → sum_by scopes_of (entries_of first tables) ≡ scopes_in expand tables
+  scopes_each : (first : ℕ) (tables : Tables) → sum_by scopes_of (distinct_entries first tables) ≡ scopes_in expand tables
   scopes_each first [] = refl
   scopes_each first (t ∷ tables) =
-      let parts = sum_by-append scopes_of (map (entry_of first) t) (entries_of (first + 1) tables) in
-      let one : sum_by scopes_of (map (entry_of first) t) ≡ sum_by (path_scopes expand) t = sum_by-map scopes_of (entry_of first) t in
+      let parts = sum_by-append scopes_of (map (distinct_entry first) t) (distinct_entries (first + 1) tables) in
+      let one : sum_by scopes_of (map (distinct_entry first) t) ≡ sum_by (path_scopes expand) t = sum_by-map scopes_of (distinct_entry first) t in
       let rest = scopes_each (first + 1) tables in
       let all = sum_by-cons (sum_by (path_scopes expand)) t tables in
       omega (arith, parts, one, rest, all)
@@ -74,10 +74,10 @@ module _ (expand : Raw → List Scope) where
   unfolding each_path
   few_nodes samples_alike nodes_alike nodes_few harts samples own =
       let tables : Tables = distinct harts samples in
-      let each : nodes (map (sample_path expand) (each_sample tables)) ≡ nodes (each_path (entries_of 0 tables)) = ap nodes (paths_each 0 tables) in
+      let each : nodes (map (sample_path expand) (each_sample tables)) ≡ nodes (each_path (distinct_entries 0 tables)) = ap nodes (paths_each 0 tables) in
       let same : nodes (map (sample_path expand) (each_sample tables)) ≡ nodes (map (sample_path expand) samples) =
       nodes_alike (map (sample_path expand) (each_sample tables)) (map (sample_path expand) samples) (samples_alike harts samples (sample_path expand) own) in
-      let long : length (nodes (map (sample_path expand) samples)) ≡ length (nodes (each_path (entries_of 0 tables))) = ap (λ (ns : List Path). length ns) (sym same ∙ each) in
-      let few = nodes_few (entries_of 0 tables) in
+      let long : length (nodes (map (sample_path expand) samples)) ≡ length (nodes (each_path (distinct_entries 0 tables))) = ap (λ (ns : List Path). length ns) (sym same ∙ each) in
+      let few = nodes_few (distinct_entries 0 tables) in
       let scopes = scopes_each 0 tables in
       omega (arith, long, few, scopes)

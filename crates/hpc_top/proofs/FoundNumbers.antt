@@ -21,8 +21,9 @@ use Rattle.scope_types.specs.Limits.{most_name_bytes}
 use Rattle.scope_types.specs.Words.{proc_words, line_words}
 use Rattle.tree_types.specs.Naming.{unknown_procedure}
 use Rattle.scope_find.specs.Found.{Numbered, ProgramScopes, found_at, inline_scope, inlined_before, inlined_into, inlines_at, item_holds, name_of_proc, naming_of, numbered, procedure_at, subprogram_at}
-use Rattle.hpc_top.proofs.SmallNumbers.{AreScopesOf, AreSmall, HasShortNames, HasSmallNumbers}
+use Rattle.hpc_top.proofs.SmallNumbers.{AreScopesOf, AreWords, HasShortNames, HasSmallNumbers}
 use Rattle.scope_find.specs.Symbols.{name_or_unnamed, symbol_procedure}
+use Rattle.prof_db.specs.Stored.{IsShort, IsWord}
 use Rattle.hpc_top.proofs.EachOf.{each_append, each_drop, each_found, each_map, each_numbered, each_reversed, each_weaker, each_zip, ok_is}
 use Rattle.hpc_top.proofs.EntryOffsets.{entries_within}
 use Rattle.hpc_top.proofs.ItemNumbers.{AreSmallParts, IsSmallItem, IsSmallLine, line_or_address, row_small, structure_small}
@@ -46,9 +47,6 @@ module _ (most : ℕ) (few : most < 2 ^ 32) where
   line_small sequences at all = sequence_line_small at _ (each_found (IsSmallSequence most) _ sequences all)
 
 -- ---- scopes
-
-abbrev IsWord : ℕ → Type 0
-IsWord n = n < 2 ^ 32
 
 abbrev IsSmallProc : ProcId → Type 0
 IsSmallProc procedure = AllByRecursion IsWord (proc_words procedure)
@@ -103,16 +101,13 @@ module _ (p : ProgramScopes) (low : IsLowImage p.image) (items : AllByRecursion 
       let is = each_found (λ (i : Numbered). IsSmallItem i.1) (λ (i : Numbered). not i.1.inlined && item_holds p.structure address i.1) (numbered p.structure) each_item in
       record {
         procedure = All-from_recursion IsWord (proc_words (procedure_at p address at)) (procedure_small address at is);
-        inlines = All-from_recursion (λ (i : ProcId × LineId). AreSmall (proc_words i.0 ++ line_words i.1)) (inlines_at p address at)
-            (each_weaker IsSmallInline (λ (i : ProcId × LineId). AreSmall (proc_words i.0 ++ line_words i.1)) (λ i is. All-from_recursion IsWord (proc_words i.0 ++ line_words i.1) is) (inlines_at p address at) (inlines_small address at));
+        inlines = All-from_recursion (λ (i : ProcId × LineId). AreWords (proc_words i.0 ++ line_words i.1)) (inlines_at p address at)
+            (each_weaker IsSmallInline (λ (i : ProcId × LineId). AreWords (proc_words i.0 ++ line_words i.1)) (λ i is. All-from_recursion IsWord (proc_words i.0 ++ line_words i.1) is) (inlines_at p address at) (inlines_small address at));
         line = All-from_recursion IsWord (line_words (unwrap_or (line_at p.lines.sequences address) (Address address)))
             (line_or_address (line_at p.lines.sequences address) address (line_small most few p.lines.sequences address sequences) small);
       }
 
 -- ---- names
-
-abbrev IsShort : List ℕ → Type 0
-IsShort name = length name ≤ most_name_bytes
 
 cut_short : (name : List ℕ) → IsShort (take most_name_bytes name)
 cut_short name = (let long = length-take most_name_bytes name in omega (arith, long))

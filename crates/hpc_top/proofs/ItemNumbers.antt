@@ -1,5 +1,5 @@
 -- The identities and calls of items have numbers of 32 bits, and their names are short.
-use Rattle.std.proofs.Common.{◌≡◌, ℕ, ◌^◌, ◌<◌, ◌≤◌, ◌==◌, ◌&&◌, ◌||◌, pos, negsuc, Bool, true, false, cond, nat_lt, nat_le, List, [], ◌∷◌, length, slice_get, is_some, Option, Some, None, IfSome, option_and_then, IfOk, refl, arith}
+use Rattle.std.proofs.Common.{◌≡◌, ℕ, ◌^◌, ◌<◌, ◌≤◌, ◌==◌, ◌&&◌, ◌||◌, pos, negsuc, Bool, true, false, cond, nat_lt, nat_le, List, [], ◌∷◌, slice_get, is_some, Option, Some, None, IfSome, option_and_then, IfOk, refl, arith}
 use Rattle.std.specs.List.{AllByRecursion, list_any}
 use Rattle.std.specs.Option.{option_map_or, unwrap_or}
 use Rattle.std.specs.Prelude.{if◌then◌else◌}
@@ -23,10 +23,8 @@ use Rattle.scope_types.specs.declared.scope.LineId.{LineId}
 use Rattle.scope_types.specs.declared.scope.LineId.TheVariants.{Row, Address}
 use Rattle.scope_types.specs.Limits.{most_name_bytes}
 use Rattle.scope_types.specs.Words.{line_words}
+use Rattle.prof_db.specs.Stored.{IsShort, IsWord}
 use Rattle.hpc_top.proofs.EachOf.{ok_then, each_got, each_mapped, each_passes}
-
-abbrev IsWord : ℕ → Type 0
-IsWord n = n < 2 ^ 32
 
 no_word : IsWord 0
 no_word = omega arith
@@ -109,7 +107,7 @@ IsSmallItem item = (item.identity < 2 ^ 32) × IfSome item.call IsSmallLine
 -- the items and their names
 pub record AreSmallParts (s : ProgramStructure) : Type 0 where
   pub items : AllByRecursion IsSmallItem s.items
-  pub names : AllByRecursion (λ name. length name ≤ most_name_bytes) s.names
+  pub names : AllByRecursion IsShort s.names
 
 -- tables whose offsets have 32 bits
 abbrev pub AreSmallTables : List TableNames → Type 0
@@ -159,7 +157,7 @@ module _ (info : DebugInfo) (lines : Lines) (image : ProgramImage) (entries : Al
         elim (is_inlined e.1) as (λ b. IfSome (cond b (call_at info lines e.0 (counted_ranges info image e.0)) None) IsSmallLine) [ true ↦ call | false ↦ tt ],
       )
 
-  name_short : (e : Indexed) → length (entry_name info e.0) ≤ most_name_bytes
+  name_short : (e : Indexed) → IsShort (entry_name info e.0)
   name_short e = (let long = length-take most_name_bytes (unwrap_or (name_of info (identity info e.0)) unnamed) in omega (arith, long))
 
   pub structure_small : IfOk (structure_of info lines image) AreSmallParts
@@ -167,5 +165,5 @@ module _ (info : DebugInfo) (lines : Lines) (image : ProgramImage) (entries : Al
   structure_small =
       ok_then AreSmallParts (checked_items info (item_entries info)) _ (λ _. record {
         items = each_mapped IsSmallItem (item_of info lines image) item_small (item_entries info);
-        names = each_mapped (λ (name : List ℕ). length name ≤ most_name_bytes) (λ (e : Indexed). entry_name info e.0) name_short (item_entries info);
+        names = each_mapped IsShort (λ (e : Indexed). entry_name info e.0) name_short (item_entries info);
       })

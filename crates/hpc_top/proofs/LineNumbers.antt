@@ -16,6 +16,7 @@ use Rattle.dwarf_line.specs.Headers.{Header, ProgramEncoding, header_from}
 use Rattle.dwarf_line.specs.Programs.{plain_row, row_appended, start, line_advance, special, skipped_from, registers_from, standard_from, extended, extended_opcode_from, by_opcode, opcode_from, rows_from, matrix_from}
 use Rattle.dwarf_line.specs.Sequences.{is_counted, sequence_range, sequences_from}
 use Rattle.dwarf_line.specs.Lines.{Lines, TableNames, TableRead, lines_at, line_table_of, line_tables_of, table_by}
+use Rattle.prof_db.specs.Stored.{IsWord}
 use Rattle.hpc_top.proofs.EachOf.{Domain, Range, ok_then, ok_on, ok_if, some_if, each_append, each_filter, each_weaker}
 
 abbrev In : Type 0
@@ -33,9 +34,6 @@ OpcodeEffect = Range row_appended
 
 abbrev pub Sequence : Type 0
 Sequence = Domain sequence_range
-
-abbrev IsWord : ℕ → Type 0
-IsWord n = n < 2 ^ 32
 
 mod_word : (n : ℕ) → IsWord (n % 2 ^ 32)
 mod_word n = omega arith
@@ -120,26 +118,26 @@ module _ (encoding : ProgramEncoding) (r : LineRegisters) (small : AreSmallRegis
 
 -- ---- rows and sequences
 
-abbrev AreRows : List LineRow → Type 0
-AreRows rows = AllByRecursion IsSmallRow rows
+abbrev AreSmallRows : List LineRow → Type 0
+AreSmallRows rows = AllByRecursion IsSmallRow rows
 
-with_row : (row : Option LineRow) (rows : List LineRow) → IfSome row IsSmallRow → AreRows rows → AreRows (option_to_list row ++ rows)
-with_row None rows is all = all
-with_row (Some row) rows is all = (is, all)
+rows_with : (row : Option LineRow) (rows : List LineRow) → IfSome row IsSmallRow → AreSmallRows rows → AreSmallRows (option_to_list row ++ rows)
+rows_with None rows is all = all
+rows_with (Some row) rows is all = (is, all)
 
-rows_small : (encoding : ProgramEncoding) (room : ℕ) (r : LineRegisters) (input : In) → AreSmallRegisters r → IfOk (rows_from encoding room r input) AreRows
+rows_small : (encoding : ProgramEncoding) (room : ℕ) (r : LineRegisters) (input : In) → AreSmallRegisters r → IfOk (rows_from encoding room r input) AreSmallRows
 unfolding rows_from
 rows_small encoding zero r input small = tt
 rows_small encoding (suc room) r input small =
-    ok_if AreRows (length (left_of input.at) == 0) _ _ tt
-    (ok_on SmallEffect AreRows (opcode_from encoding r input) _ (opcode_small encoding r small input) (λ effect is.
-    ok_on AreRows AreRows (rows_from encoding room effect.0.registers effect.1) _ (rows_small encoding room effect.0.registers effect.1 is.1) (λ rows all. with_row effect.0.row rows is.0 all)))
+    ok_if AreSmallRows (length (left_of input.at) == 0) _ _ tt
+    (ok_on SmallEffect AreSmallRows (opcode_from encoding r input) _ (opcode_small encoding r small input) (λ effect is.
+    ok_on AreSmallRows AreSmallRows (rows_from encoding room effect.0.registers effect.1) _ (rows_small encoding room effect.0.registers effect.1 is.1) (λ rows all. rows_with effect.0.row rows is.0 all)))
 
 -- a sequence of a table, of small rows
 abbrev IsOfTable : ℕ → Sequence → Type 0
 IsOfTable table q = (q.table ≡ table) × AllByRecursion IsSmallRow q.rows
 
-sequences_small : (table : ℕ) (before rows : List LineRow) → AreRows before → AreRows rows → AllByRecursion (IsOfTable table) (sequences_from table before rows)
+sequences_small : (table : ℕ) (before rows : List LineRow) → AreSmallRows before → AreSmallRows rows → AllByRecursion (IsOfTable table) (sequences_from table before rows)
 unfolding sequences_from
 sequences_small table before [] seen all = tt
 sequences_small table before (row ∷ rows) seen all =
@@ -165,7 +163,7 @@ AreSmallReads most tables = AllByRecursion (IsSmallRead most) tables
 table_small : (segments : List Segment) (most offset : ℕ) (header : Option Header) → offset ≤ most → IfOk (table_by segments offset header) (AreSmallReads most)
 table_small segments most offset None le = tt
 table_small segments most offset (Some header) le =
-    ok_on AreRows (AreSmallReads most) (matrix_from header.encoding header.program) _ (rows_small header.encoding (length (left_of header.program.at)) start header.program (one_word, one_word)) (λ rows all.
+    ok_on AreSmallRows (AreSmallReads most) (matrix_from header.encoding header.program) _ (rows_small header.encoding (length (left_of header.program.at)) start header.program (one_word, one_word)) (λ rows all.
     let each : AllByRecursion (IsSmallSequence most) (sequences_from offset [] rows) =
     each_weaker (IsOfTable offset) (IsSmallSequence most) (λ q is. ((let same = is.0 in omega (arith, same, le)), is.1)) (sequences_from offset [] rows) (sequences_small offset [] rows tt all) in
     ((le, each_filter (IsSmallSequence most) (is_counted segments) (sequences_from offset [] rows) each), tt))

@@ -3,7 +3,7 @@ use Rattle.std.proofs.Common.{ℕ, ◌^◌, ◌<◌, List, [], ◌∷◌, ◌++�
 use Rattle.std.specs.List.{AllByRecursion, flat_map}
 use Rattle.std.proofs.lemmas.List.Elements.{All-append, All-cons, All-map, All-nil, recursion_from_All}
 use Rattle.prof_db.specs.Stored.{HasWordNumbers, IsWord}
-use Rattle.hpc_top.proofs.SmallNumbers.{AreSmall, HasSmallNumbers}
+use Rattle.hpc_top.proofs.SmallNumbers.{AreWords, HasSmallNumbers}
 use Rattle.hpc_top.proofs.EachOf.{each_reversed}
 use Rattle.scope_types.specs.declared.scope.LineId.{LineId}
 use Rattle.scope_types.specs.declared.scope.ProcId.{ProcId}
@@ -20,19 +20,19 @@ root_small : (root : RootKind) → HasWordNumbers (Root root)
 root_small Thread = All-cons IsWord 0 (0 ∷ []) (omega arith) (All-cons IsWord 0 [] (omega arith) (All-nil IsWord))
 root_small Partial = All-cons IsWord 0 (1 ∷ []) (omega arith) (All-cons IsWord 1 [] (omega arith) (All-nil IsWord))
 
-proc_small : (procedure : ProcId) → AreSmall (proc_words procedure) → HasWordNumbers (Proc procedure)
+proc_small : (procedure : ProcId) → AreWords (proc_words procedure) → HasWordNumbers (Proc procedure)
 proc_small procedure small = All-cons IsWord 1 (proc_words procedure) (omega arith) small
 
-inline_small : (callee : ProcId) (call : LineId) → AreSmall (proc_words callee ++ line_words call) → HasWordNumbers (Inline callee call)
+inline_small : (callee : ProcId) (call : LineId) → AreWords (proc_words callee ++ line_words call) → HasWordNumbers (Inline callee call)
 inline_small callee call small = All-cons IsWord 2 (proc_words callee ++ line_words call) (omega arith) small
 
-call_small : (line : LineId) → AreSmall (line_words line) → HasWordNumbers (Call line)
+call_small : (line : LineId) → AreWords (line_words line) → HasWordNumbers (Call line)
 call_small line small = All-cons IsWord 3 (line_words line) (omega arith) small
 
-statement_small : (line : LineId) → AreSmall (line_words line) → HasWordNumbers (Stmt line)
+statement_small : (line : LineId) → AreWords (line_words line) → HasWordNumbers (Stmt line)
 statement_small line small = All-cons IsWord 4 (line_words line) (omega arith) small
 
-frame_small : (last : LineId → Scope) (found : FoundAt) → ((line : LineId) → AreSmall (line_words line) → HasWordNumbers (last line)) → HasSmallNumbers found → All HasWordNumbers (frame_scopes last found)
+frame_small : (last : LineId → Scope) (found : FoundAt) → ((line : LineId) → AreWords (line_words line) → HasWordNumbers (last line)) → HasSmallNumbers found → All HasWordNumbers (frame_scopes last found)
 frame_small last found each is =
     let inlines : List Scope = map (λ i. Inline i.0 i.1) found.inlines in
     All-cons HasWordNumbers (Proc found.procedure) (inlines ++ last found.line ∷ []) (proc_small found.procedure is.procedure)
